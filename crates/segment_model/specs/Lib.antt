@@ -1,2 +1,5 @@
 pub mod Bytes
 pub mod Meant
+pub mod Options
+pub mod Segments
+pub mod Sockets

@@ -1,0 +1,182 @@
+-- Datagrams as values: the fields of the IP header and of TCP, their spelling and checksums.
+use Rattle.std.specs.Prelude.{ℕ, ◌+◌, ◌-◌, ◌*◌, ◌/◌, ◌%◌, ◌==◌, nat_lt, Bool, true, false, not, ◌&&◌, ◌||◌, List, [], ◌∷◌, ◌++◌, length, take, drop, slice_index, slice_range, if◌then◌else◌}
+use Rattle.ao_base.specs.declared.address.Address.{Address}
+use Rattle.ao_base.specs.declared.address.Address.TheVariants.{V4, V6}
+use Rattle.ao_base.specs.declared.address.Socket.{Socket}
+use Rattle.segment_model.specs.Bytes.{put2, put4}
+use Rattle.segment_model.specs.Sockets.{octets}
+use Rattle.segment_model.specs.Options.{Options, Listed, ShortLength, PastEnd, options_of}
+
+-- the fields of an IP header but its addresses and lengths (RFC 791, section 3.1; RFC 8200, section 3)
+pub data IpHeader : Type 0 where
+  Ipv4 : (service : ℕ) (identification : ℕ) (flags : ℕ) (ttl : ℕ) (checksum : ℕ) (options : List ℕ) → IpHeader
+  Ipv6 : (class_flow : ℕ) (hops : ℕ) → IpHeader
+
+-- a datagram; the area is the bytes of the TCP options (RFC 9293, section 3.1)
+pub record Segment : Type 0 where
+  pub ip : IpHeader
+  pub source : Socket
+  pub destination : Socket
+  pub sequence : ℕ
+  pub acknowledgement : ℕ
+  pub reserved : ℕ
+  pub flags : ℕ
+  pub window : ℕ
+  pub checksum : ℕ
+  pub urgent : ℕ
+  pub area : List ℕ
+  pub payload : List ℕ
+
+-- the sum of 16-bit words, an odd length filled with a zero byte
+abbrev pub words_sum : List ℕ → ℕ
+words_sum [] = 0
+words_sum (x ∷ []) = x * 256
+words_sum (x ∷ y ∷ rest) = x * 256 + y + words_sum rest
+
+-- the one's complement sum is ffff (RFC 1071)
+unfoldable pub sums : List ℕ → Bool
+sums bytes = let s = words_sum bytes in nat_lt 0 s && (s % 65535 == 0)
+
+-- the complement of the one's complement sum
+unfoldable pub complement_of : List ℕ → ℕ
+complement_of bytes = let s = words_sum bytes in if s == 0 then 65535 else (if s % 65535 == 0 then 0 else 65535 - s % 65535)
+
+-- the length of the TCP header with its options and the payload (RFC 9293, section 3.1)
+abbrev pub tcp_length : Segment → ℕ
+tcp_length d = 20 + length d.area + length d.payload
+
+-- the pseudo-header, and then the rest (RFC 9293, section 3.1; RFC 8200, section 8.1)
+abbrev pub pseudo_of : IpHeader → Segment → List ℕ → List ℕ
+pseudo_of (Ipv4 service identification flags ttl checksum options) d rest = octets d.source.address ++ (octets d.destination.address ++ (0 ∷ 6 ∷ put2 (tcp_length d) rest))
+pseudo_of (Ipv6 class_flow hops) d rest = octets d.source.address ++ (octets d.destination.address ++ put4 (tcp_length d) (0 ∷ 0 ∷ 0 ∷ 6 ∷ rest))
+
+-- the pseudo-header of a datagram, and then the rest
+unfoldable pub pseudo : Segment → List ℕ → List ℕ
+pseudo d rest = pseudo_of d.ip d rest
+
+-- the 20 bytes of the TCP header with this checksum, and then the rest
+unfoldable pub header : Segment → ℕ → List ℕ → List ℕ
+header d checksum rest =
+    put2 d.source.port (put2 d.destination.port (put4 d.sequence (put4 d.acknowledgement
+    ((80 + 4 * length d.area + d.reserved) ∷ d.flags ∷ put2 d.window (put2 checksum (put2 d.urgent rest))))))
+
+-- the TCP header with this checksum, the options and the payload
+unfoldable pub tcp_bytes : Segment → ℕ → List ℕ
+tcp_bytes d checksum = header d checksum (d.area ++ d.payload)
+
+-- the TCP checksum that a sender writes (RFC 9293, section 3.1)
+unfoldable pub checksum_of : Segment → ℕ
+checksum_of d = complement_of (pseudo d (tcp_bytes d 0))
+
+-- the TCP checksum is right
+unfoldable pub good : Segment → Bool
+good d = sums (pseudo d (tcp_bytes d d.checksum))
+
+-- the IP header, and then the TCP bytes
+abbrev pub spell_as : IpHeader → Segment → List ℕ → List ℕ
+spell_as (Ipv4 service identification flags ttl checksum options) d tcp =
+    (69 + length options / 4) ∷ service ∷ put2 (20 + length options + tcp_length d) (put2 identification
+    ((64 * flags) ∷ 0 ∷ ttl ∷ 6 ∷ put2 checksum (octets d.source.address ++ (octets d.destination.address ++ (options ++ tcp)))))
+spell_as (Ipv6 class_flow hops) d tcp =
+    put4 (1610612736 + class_flow) (put2 (tcp_length d) (6 ∷ hops ∷ octets d.source.address ++ (octets d.destination.address ++ tcp)))
+
+-- the bytes of a datagram (RFC 791, section 3.1; RFC 8200, section 3; RFC 9293, section 3.1)
+unfoldable pub spell : Segment → List ℕ
+spell d = spell_as d.ip d (tcp_bytes d d.checksum)
+
+-- the flag with this bit is set (RFC 9293, section 3.1)
+abbrev pub has : Segment → ℕ → Bool
+has d bit = (d.flags / bit) % 2 == 1
+
+-- 1 for true, 0 for false
+abbrev pub bit_of : Bool → ℕ
+bit_of true = 1
+bit_of false = 0
+
+-- what the segment takes of the sequence space: the payload's length plus 1 for SYN plus 1 for FIN (RFC 9293, section 3.4)
+abbrev pub segment_length : Segment → ℕ
+segment_length d = length d.payload + bit_of (has d 2) + bit_of (has d 1)
+
+-- why bytes are no datagram, in the order of the tests
+pub data Fault : Type 0 where
+  Truncated : Fault
+  Version : Fault
+  HeaderLength : Fault
+  HeaderChecksum : Fault
+  Fragment : Fault
+  NotTcp : Fault
+  ExtensionHeader : Fault
+  DataOffset : Fault
+  OptionShort : (place : ℕ) → Fault
+  OptionPast : (place : ℕ) → Fault
+
+-- a datagram, or why there is none
+pub data Reading : Type 0 where
+  Bad : (fault : Fault) → Reading
+  Read : (segment : Segment) → Reading
+
+-- the big-endian number of two bytes, or of four, from a place on
+abbrev pub two_at : List ℕ → ℕ → ℕ
+two_at b i = slice_index b i * 256 + slice_index b (i + 1)
+
+-- the number of four bytes from a place on
+abbrev pub four_at : List ℕ → ℕ → ℕ
+four_at b i = two_at b i * 65536 + two_at b (i + 2)
+
+-- the ninth test: the option area has no fault
+abbrev pub with_options : Segment → Options → Reading
+with_options d (Listed list) = Read d
+with_options d (ShortLength p) = Bad (OptionShort p)
+with_options d (PastEnd p) = Bad (OptionPast p)
+
+-- the TCP header, with the eighth test on the data offset
+abbrev pub read_tcp : IpHeader → Address → Address → List ℕ → Reading
+read_tcp ip source destination t =
+    let size = 4 * (slice_index t 12 / 16) in
+    if nat_lt (length t) 20 || nat_lt size 20 || nat_lt (length t) size then Bad DataOffset
+    else (let area = slice_range t 20 size in
+    with_options
+    (record {
+      ip = ip;
+      source = record { address = source; port = two_at t 0 };
+      destination = record { address = destination; port = two_at t 2 };
+      sequence = four_at t 4;
+      acknowledgement = four_at t 8;
+      reserved = slice_index t 12 % 16;
+      flags = slice_index t 13;
+      window = two_at t 14;
+      checksum = two_at t 16;
+      urgent = two_at t 18;
+      area = area;
+      payload = drop size t;
+    })
+    (options_of area))
+
+-- the IPv4 header, with its tests in order (RFC 791, section 3.1)
+abbrev pub read_v4 : List ℕ → Reading
+read_v4 b =
+    let size = 4 * (slice_index b 0 % 16) in
+    let total = two_at b 2 in
+    if nat_lt (length b) 20 || nat_lt (length b) total then Bad Truncated
+    else (if nat_lt size 20 || nat_lt total size then Bad HeaderLength
+    else (if not (sums (take size b)) then Bad HeaderChecksum
+    else (if not (two_at b 6 % 16384 == 0) then Bad Fragment
+    else (if not (slice_index b 9 == 6) then Bad NotTcp
+    else read_tcp (Ipv4 (slice_index b 1) (two_at b 4) (slice_index b 6 / 64) (slice_index b 8) (two_at b 10) (slice_range b 20 size))
+    (V4 (slice_range b 12 16)) (V4 (slice_range b 16 20)) (slice_range b size total)))))
+
+-- the IPv6 header, with its tests in order (RFC 8200, section 3)
+abbrev pub read_v6 : List ℕ → Reading
+read_v6 b =
+    let size = two_at b 4 in
+    let next = slice_index b 6 in
+    if nat_lt (length b) 40 || nat_lt (length b) (40 + size) then Bad Truncated
+    else (if (next == 0) || (next == 43) || (next == 44) || (next == 60) then Bad ExtensionHeader
+    else (if not (next == 6) then Bad NotTcp
+    else read_tcp (Ipv6 (four_at b 0 % 268435456) (slice_index b 7)) (V6 (slice_range b 8 24)) (V6 (slice_range b 24 40)) (slice_range b 40 (40 + size))))
+
+-- the datagram that a prefix of the bytes spells, or the first of the nine faults
+unfoldable pub reading : List ℕ → Reading
+reading [] = Bad Truncated
+reading (first ∷ rest) =
+    if first / 16 == 4 then read_v4 (first ∷ rest) else (if first / 16 == 6 then read_v6 (first ∷ rest) else Bad Version)
