@@ -1,0 +1,5 @@
+pub mod Addresses
+pub mod Algorithms
+pub mod Decimals
+pub mod Hexadecimal
+pub mod Lines

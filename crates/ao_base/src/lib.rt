@@ -3,13 +3,23 @@
 #![tactic(auto)]
 
 mod address;
+mod address_text;
 mod algorithm;
+mod decimal;
 mod end;
+mod hexadecimal;
 mod line_kind;
+mod lines;
 mod list;
+mod print;
 
 pub use address::{Address, Pair, Socket};
+pub use address_text::{print_address, read_address};
 pub use algorithm::Algorithm;
+pub use decimal::read_decimal;
 pub use end::End;
+pub use hexadecimal::{HexProblem, read_hex};
 pub use line_kind::LineKind;
+pub use lines::{Cut, next_line, next_word};
 pub use list::{Bytes, Numbers, Words};
+pub use print::{push_decimal, push_hex};
