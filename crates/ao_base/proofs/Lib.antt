@@ -1,3 +1,4 @@
 pub mod LineLaws
 pub mod DecimalLaws
 pub mod HexadecimalLaws
+pub mod AddressLaws

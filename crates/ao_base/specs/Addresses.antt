@@ -1,12 +1,12 @@
 -- Addresses as text.
-use Rattle.std.specs.Prelude.{ℕ, ◌==◌, ◌&&◌, ◌||◌, not, nat_lt, Bool, cond, List, [], ◌∷◌, ◌++◌, length, slice_index, Option, Some, None, option_map, decimal, if◌then◌else◌}
+use Rattle.std.specs.Prelude.{ℕ, ◌==◌, nat_lt, Bool, false, cond, List, [], ◌∷◌, ◌++◌, length, Option, Some, None, option_map, decimal}
 use Rattle.ao_base.specs.declared.address.Address.{Address}
 use Rattle.ao_base.specs.declared.address.Address.TheVariants.{V4, V6}
 use Rattle.ao_base.specs.Decimals.{decimal_of}
 use Rattle.ao_base.specs.Hexadecimal.{bytes_of_hex, hex_of}
 use Rattle.ao_base.specs.Lines.{onto_first}
 
--- the dot between the decimals
+-- a dot
 abbrev pub is_dot : ℕ → Bool
 is_dot byte = byte == 46
 
@@ -15,36 +15,41 @@ unfoldable pub between_dots : List ℕ → List (List ℕ)
 between_dots [] = [] ∷ []
 between_dots (byte ∷ word) = cond (is_dot byte) ([] ∷ between_dots word) (onto_first byte (between_dots word))
 
--- the number, if it is one of 0 to 255 that is written without a leading zero
-abbrev pub octet_or : List ℕ → Option ℕ → Option ℕ
-octet_or word None = None
-octet_or word (Some n) = if nat_lt n 256 && (length word == 1 || not (slice_index word 0 == 48)) then Some n else None
+-- a zero in front of further digits
+abbrev pub has_leading_zero : List ℕ → Bool
+has_leading_zero (first ∷ next ∷ word) = first == 48
+has_leading_zero _ = false
+
+-- the number, where it is at most 255
+abbrev pub below_256 : Option ℕ → Option ℕ
+below_256 None = None
+below_256 (Some n) = cond (nat_lt n 256) (Some n) None
 
 -- a decimal 0 to 255 without leading zeros
 unfoldable pub octet_of : List ℕ → Option ℕ
-octet_of word = octet_or word (decimal_of word)
+octet_of word = cond (has_leading_zero word) None (below_256 (decimal_of word))
 
--- four numbers, where all four are there
+-- the address of four numbers, where all four are there
 abbrev pub four : Option ℕ → Option ℕ → Option ℕ → Option ℕ → Option Address
 four (Some a) (Some b) (Some c) (Some d) = Some (V4 (a ∷ b ∷ c ∷ d ∷ []))
 four _ _ _ _ = None
 
--- four decimals 0 to 255 without leading zeros
+-- exactly four decimals 0 to 255 without leading zeros
 unfoldable pub dotted_of : List (List ℕ) → Option Address
 dotted_of (a ∷ b ∷ c ∷ d ∷ []) = four (octet_of a) (octet_of b) (octet_of c) (octet_of d)
 dotted_of _ = None
 
 -- four decimals joined by dots, or 32 hexadecimal digits
 unfoldable pub address_of : List ℕ → Option Address
-address_of word = if length word == 32 then option_map V6 (bytes_of_hex word) else dotted_of (between_dots word)
+address_of word = cond (length word == 32) (option_map V6 (bytes_of_hex word)) (dotted_of (between_dots word))
 
 -- numbers in decimal with dots between them
 abbrev pub dotted_text : List ℕ → List ℕ
 dotted_text [] = []
 dotted_text (n ∷ []) = decimal n
-dotted_text (n ∷ m ∷ rest) = decimal n ++ 46 ∷ dotted_text (m ∷ rest)
+dotted_text (n ∷ m ∷ numbers) = decimal n ++ 46 ∷ dotted_text (m ∷ numbers)
 
--- the same forms, in lower case
+-- the same two forms, hexadecimal in lower case
 unfoldable pub address_text : Address → List ℕ
 address_text (V4 numbers) = dotted_text numbers
 address_text (V6 bytes) = hex_of bytes

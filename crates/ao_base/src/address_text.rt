@@ -1,8 +1,6 @@
 //! Addresses as text.
-ghost use Rattle.std.specs.Prelude.{◌≡◌, position, ℕ, Option, Some, None, IfOk, List, take, drop, ◌+◌, ◌<◌, length, MatchOption};
-ghost use Rattle.std.specs.List.{position_or_len};
-ghost use Rattle.ao_base.specs.Addresses.{address_of, address_text, between_dots, dotted_of, is_dot, octet_of};
-ghost use Rattle.ao_base.specs.declared.address.Address.TheVariants.{V4, V6};
+ghost use Rattle.std.specs.Prelude.{◌≡◌, [], ◌∷◌, ◌++◌, decimal, position, IfOk, OnOk, MatchOption};
+ghost use Rattle.ao_base.specs.Addresses.{address_of, address_text, between_dots, dotted_of, dotted_text, four, has_leading_zero, is_dot, octet_of};
 
 use crate::address::Address;
 use crate::decimal::read_decimal;
@@ -15,60 +13,108 @@ use std::alloc::{AllocError, Global};
 pub fn read_address(word: &[u8]) -> Option<Address>
     ensures { result ≡ address_of word.now }
 {
-    if word.len() == 32 {
-        let mut bytes = [0u8; 16];
-        return match hex::decode_to_slice(word, &mut bytes) {
-            Ok(()) => Some(Address::V6(bytes)),
-            Err(_) => None,
-        };
+    if word.len() != 32 {
+        return read_dotted(word);
     }
-    read_dotted(word)
+    let mut bytes = [0u8; 16];
+    match hex::decode_to_slice(word, &mut bytes) {
+        Ok(()) => Some(Address::V6(bytes)),
+        Err(_) => None,
+    }
 }
 
 fn read_dotted(word: &[u8]) -> Option<Address>
     ensures { result ≡ dotted_of (between_dots word.now) }
 {
-    let first = dot_at(word)?;
-    let rest = &word[first + 1..];
-    let second = dot_at(rest)?;
-    let last = &rest[second + 1..];
-    let third = dot_at(last)?;
-    let a = read_octet(&word[..first])?;
-    let b = read_octet(&rest[..second])?;
-    let c = read_octet(&last[..third])?;
-    let d = read_octet(&last[third + 1..])?;
+    let (a, others) = split_dot(word)?;
+    let (b, others) = split_dot(others)?;
+    let (c, d) = split_dot(others)?;
+    match split_dot(d) {
+        Some(_) => None,
+        None => read_four(a, b, c, d),
+    }
+}
+
+fn read_four(a: &[u8], b: &[u8], c: &[u8], d: &[u8]) -> Option<Address>
+    ensures { result ≡ four (octet_of a.now) (octet_of b.now) (octet_of c.now) (octet_of d.now) }
+{
+    let a = read_octet(a)?;
+    let b = read_octet(b)?;
+    let c = read_octet(c)?;
+    let d = read_octet(d)?;
     Some(Address::V4([a, b, c, d]))
 }
 
+#[tactic(auto, unfolding(crate::specs::Addresses::octet_of))]
 fn read_octet(word: &[u8]) -> Option<u8>
     ensures { result ≡ octet_of word.now }
 {
+    if has_leading_zero(word) {
+        return None;
+    }
     match read_decimal(word) {
-        Some(number) if number < 256 && (word.len() == 1 || word[0] != b'0') => Some(number as u8),
-        _ => None,
+        Some(number) => {
+            if number < 256 {
+                Some(number as u8)
+            } else {
+                None
+            }
+        }
+        None => None,
+    }
+}
+
+fn has_leading_zero(word: &[u8]) -> bool
+    ensures { result ≡ has_leading_zero word.now }
+{
+    match word {
+        [first, _, ..] => *first == b'0',
+        _ => false,
+    }
+}
+
+// What stands before and after the first dot.
+fn split_dot(word: &[u8]) -> Option<(&[u8], &[u8])>
+    ensures { MatchOption result (between_dots word.now ≡ word.now ∷ []) (λ parts. between_dots word.now ≡ parts.0.now ∷ between_dots parts.1.now) }
+{
+    match dot_at(word) {
+        Some(place) => Some((&word[..place], &word[place + 1..])),
+        None => None,
     }
 }
 
 fn dot_at(word: &[u8]) -> Option<usize>
-    ensures place { result ≡ position is_dot word.now }
+    ensures { result ≡ position is_dot word.now }
 {
     word.iter().position(|byte| *byte == b'.')
 }
 
-/// The address as text, in the forms that `read_address` reads, in lower case.
+/// The address as text, in the forms that `read_address` reads, hexadecimal in lower case.
 pub fn print_address(alloc: Global, address: &Address) -> Result<Bytes, AllocError>
     ensures { IfOk result (λ text. text ≡ address_text address.now) }
 {
     let mut text = Vec::new(alloc);
     match address {
-        Address::V4(numbers) => {
-            push_decimal(&mut text, u64::from(numbers[0]))?;
-            for number in &numbers[1..] {
-                text.push(b'.')?;
-                push_decimal(&mut text, u64::from(*number))?;
-            }
-        }
+        Address::V4(numbers) => push_dotted(&mut text, numbers)?,
         Address::V6(bytes) => push_hex(&mut text, bytes.as_slice())?,
     }
     Ok(Bytes::from_vec(text))
+}
+
+fn push_dotted(text: &mut Vec<u8>, numbers: &[u8; 4]) -> Result<(), AllocError>
+    ensures { OnOk result (text.new.items ≡ text.old.items ++ dotted_text numbers.now) }
+{
+    push_decimal(text, u64::from(numbers[0]))?;
+    push_after_dot(text, numbers[1])?;
+    push_after_dot(text, numbers[2])?;
+    push_after_dot(text, numbers[3])?;
+    Ok(())
+}
+
+fn push_after_dot(text: &mut Vec<u8>, number: u8) -> Result<(), AllocError>
+    ensures { OnOk result (text.new.items ≡ text.old.items ++ 46 ∷ decimal number) }
+{
+    text.push(b'.')?;
+    push_decimal(text, u64::from(number))?;
+    Ok(())
 }

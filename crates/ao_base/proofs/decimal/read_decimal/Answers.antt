@@ -1,6 +1,4 @@
-use Rattle.std.proofs.Common.{◌≡◌, ◌<◌, ◌≤◌, true, false, sym, ◌∙◌, arith}
-use Rattle.std.proofs.lemmas.Bool.{not-true, not-false}
-use Rattle.std.specs.Str.Parse.{ParsesUnsigned}
+use Rattle.std.proofs.Common.{sym, ◌∙◌, arith}
 use Rattle.ao_base.proofs.DecimalLaws.{none_long, none_other, parsed, digits_utf8, all_digits}
 use Rattle.ao_base.proofs.decimal.read_decimal.Goals as goal
 
@@ -12,7 +10,7 @@ returns-then-not-is_digits c = sym (none_other c.args.word.now (sym (all_digits 
 
 pub returns-in-Ok : goal.returns-in-Ok
 returns-in-Ok c = c.ok.ensures.value ∙ parsed c.args.word.now c.parse.result (rw c.in-Ok.ensures.cases.0 at c.parse.ensures.value.0) (omega arith)
-  (sym (all_digits c.args.word.now) ∙ cc)
+    (sym (all_digits c.args.word.now) ∙ cc)
 
 pub returns-in-Err : goal.returns-in-Err
 returns-in-Err c = absurd (c.in-Err.ensures.cases.0 (digits_utf8 c.args.word.now (sym (all_digits c.args.word.now) ∙ cc)))

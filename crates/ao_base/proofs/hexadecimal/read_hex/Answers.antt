@@ -1,4 +1,4 @@
-use Rattle.std.proofs.Common.{◌≡◌, ◌<◌, ◌≤◌, true, false, sym, ◌∙◌, arith, refl}
+use Rattle.std.proofs.Common.{sym, ◌∙◌, arith, refl}
 use Rattle.std.proofs.lemmas.Option.{none-some}
 use Rattle.ao_base.proofs.HexadecimalLaws.{odd_none, other_none, digits_some, decoded}
 use Rattle.ao_base.proofs.hexadecimal.read_hex.Goals as goal
@@ -20,7 +20,7 @@ returns-in-Ok-clause-not_hex c = (
 
 pub returns-in-Err-clause-not_hex : goal.returns-in-Err-clause-not_hex
 returns-in-Err-clause-not_hex c =
-  let some = digits_some c.args.word.now (omega arith) cc in (
-  λ h. absurd (cc h),
-  λ none. absurd (none-some _ (sym none ∙ some.1)),
-)
+    let some = digits_some c.args.word.now (omega arith) cc in (
+      λ h. absurd (cc h),
+      λ none. absurd (none-some _ (sym none ∙ some.1)),
+    )

@@ -1,4 +1,3 @@
-use Rattle.std.proofs.Common.{◌∙◌, ap, length, unwrap_or}
 use Rattle.ao_base.specs.Lines.{is_blank}
 use Rattle.ao_base.proofs.LineLaws.{place_or_length}
 use Rattle.ao_base.proofs.lines.word_length.Goals as goal
