@@ -2,3 +2,5 @@ pub mod LineLaws
 pub mod DecimalLaws
 pub mod HexadecimalLaws
 pub mod AddressLaws
+pub mod Pieces
+pub mod Sides

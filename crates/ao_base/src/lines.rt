@@ -1,5 +1,5 @@
 //! Lines of a text and words of a line.
-ghost use Rattle.std.specs.Prelude.{◌≡◌, ℕ, ◌≤◌, ◌<◌, List, [], not, length, drop, position, MatchOption};
+ghost use Rattle.std.specs.Prelude.{◌≡◌, ℕ, ◌+◌, ◌≤◌, ◌<◌, min, List, [], not, length, drop, position, MatchOption};
 ghost use Rattle.std.specs.List.{position_or_len, prefix_len};
 ghost use Rattle.ao_base.specs.Lines.{is_blank, is_newline, lines_of, words_of, IsNextLine, IsNextWord};
 
@@ -14,8 +14,8 @@ pub struct Cut {
 /// line is left.
 ///
 /// A line ends at a newline byte or at the end of the text, and a last line without bytes isn't
-/// one. `after` is the end of the line without its newline, so the next line begins at `after + 1`,
-/// or nothing is left where that is past the end.
+/// one. `after` is the end of the line without its newline, and the next line begins where `past_line`
+/// says.
 pub fn next_line(text: &[u8], from: usize) -> Option<Cut>
     requires { from ≤ length text.now }
     ensures { MatchOption result (lines_of (drop from text.now) ≡ []) (λ cut. IsNextLine text.now from cut) }
@@ -28,6 +28,16 @@ pub fn next_line(text: &[u8], from: usize) -> Option<Cut>
         first: from,
         after: from + line_length(rest),
     })
+}
+
+/// Where the line after one that ends at `after` begins: past its newline, or the end of the text.
+/// `after` is at most the length of the text.
+pub fn past_line(text: &[u8], after: usize) -> usize
+    requires { after ≤ length text.now }
+    ensures place { result ≡ min (after + 1) (length text.now) }
+    ensures rest { drop result text.now ≡ drop (after + 1) text.now }
+{
+    if after < text.len() { after + 1 } else { after }
 }
 
 /// The first word at or after `from`, which is at most the length of the line; None exactly where

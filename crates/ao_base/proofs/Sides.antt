@@ -1,0 +1,71 @@
+-- Calls of a source or a sink, one after another.
+use Rattle.std.proofs.Common.{◌≡◌, ℕ, ◌+◌, List, [], ◌++◌, take, drop, Option, Some, None, refl, sym, ap, ◌∙◌, arith, append_assoc}
+use Rattle.std.proofs.lemmas.List.{append-nil}
+use Rattle.std.proofs.Math.Seq.{take-add}
+use Rattle.std.specs.Io.KnownBytes.{Appends, Consumes, Keeps}
+use Rattle.ao_base.specs.Outside.{Side, Gave, Took, Counts, Rose}
+
+pub counts_none : (a : Side) → Counts a a
+counts_none a = record { later = omega arith; small = λ h. h }
+
+pub counts_more : (a b c : Side) → Counts a b → Counts b c → Counts a c
+counts_more a b c x y = record { later = omega arith; small = λ h. y.small (x.small h) }
+
+pub rose_after : (a b c : Side) → Counts a b → Rose b c → Rose a c
+rose_after a b c x y = omega arith
+
+pub rose_before : (a b c : Side) → Rose a b → Counts b c → Rose a c
+rose_before a b c x y = omega arith
+
+pub consumes_none : (o : Option (List ℕ)) → Consumes o o []
+consumes_none None = tt
+consumes_none (Some xs) = refl
+
+pub consumes_more : (a b c : Option (List ℕ)) (xs ys : List ℕ) → Consumes a b xs → Consumes b c ys → Consumes a c (xs ++ ys)
+consumes_more None b c xs ys x y = tt
+consumes_more (Some r) None c xs ys x y = absurd x
+consumes_more (Some r) (Some s) None xs ys x y = absurd y
+consumes_more (Some r) (Some s) (Some t) xs ys x y = x ∙ (ap (λ l. xs ++ l) y ∙ sym (append_assoc xs ys t))
+
+pub keeps_consumes : (a b : Option (List ℕ)) → Keeps a b → Consumes a b []
+keeps_consumes None b k = tt
+keeps_consumes (Some r) None k = absurd k
+keeps_consumes (Some r) (Some s) k = sym k
+
+pub appends_none : (o : Option (List ℕ)) → Appends o o []
+appends_none None = tt
+appends_none (Some xs) = sym (append-nil xs)
+
+pub appends_more : (a b c : Option (List ℕ)) (xs ys : List ℕ) → Appends a b xs → Appends b c ys → Appends a c (xs ++ ys)
+appends_more None b c xs ys x y = tt
+appends_more (Some r) None c xs ys x y = absurd x
+appends_more (Some r) (Some s) None xs ys x y = absurd y
+appends_more (Some r) (Some s) (Some t) xs ys x y = y ∙ (ap (λ l. l ++ ys) x ∙ append_assoc r xs ys)
+
+pub keeps_appends : (a b : Option (List ℕ)) → Keeps a b → Appends a b []
+keeps_appends None b k = tt
+keeps_appends (Some r) None k = absurd k
+keeps_appends (Some r) (Some s) k = k ∙ sym (append-nil r)
+
+pub gave_none : (a : Side) → Gave [] a a
+gave_none a = record { bytes = consumes_none a.bytes; counts = counts_none a }
+
+pub took_none : (a : Side) → Took [] a a
+took_none a = record { bytes = appends_none a.bytes; counts = counts_none a }
+
+pub gave_more : (xs ys : List ℕ) (a b c : Side) → Gave xs a b → Gave ys b c → Gave (xs ++ ys) a c
+gave_more xs ys a b c x y = record { bytes = consumes_more a.bytes b.bytes c.bytes xs ys x.bytes y.bytes; counts = counts_more a b c x.counts y.counts }
+
+pub took_more : (xs ys : List ℕ) (a b c : Side) → Took xs a b → Took ys b c → Took (xs ++ ys) a c
+took_more xs ys a b c x y = record { bytes = appends_more a.bytes b.bytes c.bytes xs ys x.bytes y.bytes; counts = counts_more a b c x.counts y.counts }
+
+pub gave_and_none : (xs : List ℕ) (a b c : Side) → Gave xs a b → Gave [] b c → Gave xs a c
+gave_and_none xs a b c x y = let e : xs ++ [] ≡ xs = append-nil xs in rw e at (gave_more xs [] a b c x y)
+
+pub took_and_none : (xs : List ℕ) (a b c : Side) → Took xs a b → Took [] b c → Took xs a c
+took_and_none xs a b c x y = let e : xs ++ [] ≡ xs = append-nil xs in rw e at (took_more xs [] a b c x y)
+
+pub took_piece : (bytes : List ℕ) (at n : ℕ) (a b c : Side) → Took (take at bytes) a b → Took (take n (drop at bytes)) b c → Took (take (at + n) bytes) a c
+took_piece bytes at n a b c x y =
+    let e : take (at + n) bytes ≡ take at bytes ++ take n (drop at bytes) = take-add at n bytes in
+    rw e (took_more (take at bytes) (take n (drop at bytes)) a b c x y)

@@ -1,0 +1,51 @@
+-- A source and a sink in memory, whose calls fail where they are told to.
+use Rattle.std.specs.Prelude.{◌≡◌, ◌↔◌, ℕ, ◌+◌, ◌-◌, ◌<◌, ◌≤◌, ◌⊎◌, min, List, [], ◌++◌, Contains, length, take, drop, Result, IfOk, IfErr, IsErr, Some}
+use Rattle.ao_base.specs.Outside.{Side}
+
+-- what a source in memory is: the bytes left, the most that a call gives, the numbers of the calls that fail, the number of the last call, the faults
+pub record GivingState : Type 0 where
+  pub left : List ℕ
+  pub piece : ℕ
+  pub failing : List ℕ
+  pub calls : ℕ
+  pub faults : ℕ
+
+-- what a sink in memory is: the bytes held, the most that it can hold, the numbers of the calls that fail, the number of the last call, the faults
+pub record TakingState : Type 0 where
+  pub held : List ℕ
+  pub room : ℕ
+  pub failing : List ℕ
+  pub calls : ℕ
+  pub faults : ℕ
+
+-- the number after: calls are numbered from 1, and all from 2^64 - 1 on have that number
+abbrev pub one_later : ℕ → ℕ
+one_later n = min (n + 1) 18446744073709551615
+
+-- a source in memory tells its bytes
+abbrev pub giving_side : GivingState → Side
+giving_side s = record { bytes = Some s.left; faults = s.faults }
+
+-- a sink in memory tells its bytes
+abbrev pub taking_side : TakingState → Side
+taking_side s = record { bytes = Some s.held; faults = s.faults }
+
+-- one call of `read` with a buffer that held `old` and holds `new`
+pub record Gives {E : Type 0} (before now : GivingState) (old new : List ℕ) (result : Result ℕ E) : Type 0 where
+  pub fails : IsErr result ↔ Contains before.failing (one_later before.calls)
+  pub least : IfOk result (λ k. k ≡ min (min before.piece (length old)) (length before.left))
+  pub buffer : IfOk result (λ k. new ≡ take k before.left ++ drop k old)
+  pub after : IfOk result (λ k. now ≡ record before { left = drop k before.left; calls = one_later before.calls })
+  pub faulty : IfErr result (λ _. now ≡ record before { calls = one_later before.calls; faults = one_later before.faults })
+
+-- one call of `write` with the bytes `buf`
+pub record Takes {E : Type 0} (before now : TakingState) (buf : List ℕ) (result : Result ℕ E) : Type 0 where
+  pub fails : IsErr result ↔ (Contains before.failing (one_later before.calls) ⊎ ((0 < length buf) × (length before.held ≡ before.room)))
+  pub least : IfOk result (λ k. k ≡ min (length buf) (before.room - length before.held))
+  pub after : IfOk result (λ k. now ≡ record before { held = before.held ++ take k buf; calls = one_later before.calls })
+  pub faulty : IfErr result (λ _. now ≡ record before { calls = one_later before.calls; faults = one_later before.faults })
+
+-- within its room, and with no call told to fail a fault only where it is full
+pub record IsTaking (s : TakingState) : Type 0 where
+  pub within : length s.held ≤ s.room
+  pub full : s.failing ≡ [] → 0 < s.faults → length s.held ≡ s.room

@@ -1,0 +1,53 @@
+-- What a contract says of a source or a sink.
+use Rattle.std.specs.Prelude.{◌≡◌, ℕ, ◌+◌, ◌^◌, ◌<◌, ◌≤◌, min, List, [], length, take, Option, Result, IfOk, IfErr}
+use Rattle.std.specs.Io.KnownBytes.{Appends, Consumes}
+use Rattle.std.specs.Io.KnownBytes.{IsAtEnd as is_at_end}
+
+-- the bytes that a source has left or a sink holds, where it tells them, and its count of faults
+pub record Side : Type 0 where
+  pub bytes : Option (List ℕ)
+  pub faults : ℕ
+
+-- the count rose, or stands at 2^64 - 1
+abbrev pub Rose : Side → Side → Type 0
+Rose before now = min (before.faults + 1) 18446744073709551615 ≤ now.faults
+
+-- no byte is left, where the source tells them
+abbrev pub IsAtEnd : Side → Type 0
+IsAtEnd side = is_at_end side.bytes
+
+-- a count never falls, and stays at most 2^64 - 1
+pub record Counts (before now : Side) : Type 0 where
+  pub later : before.faults ≤ now.faults
+  pub small : before.faults < 2 ^ 64 → now.faults < 2 ^ 64
+
+-- the source gave these bytes, the next ones, and no others
+pub record Gave (given : List ℕ) (before now : Side) : Type 0 where
+  pub bytes : Consumes before.bytes now.bytes given
+  pub counts : Counts before now
+
+-- the sink took these bytes after what it held, and no others
+pub record Took (taken : List ℕ) (before now : Side) : Type 0 where
+  pub bytes : Appends before.bytes now.bytes taken
+  pub counts : Counts before now
+
+-- one call of `read`, after which the buffer holds `buf`
+pub record Reads {E : Type 0} (before now : Side) (buf : List ℕ) (result : Result ℕ E) : Type 0 where
+  pub room : IfOk result (λ k. k ≤ length buf)
+  pub gave : IfOk result (λ k. Gave (take k buf) before now)
+  pub ends : IfOk result (λ k. k ≡ 0 → 0 < length buf → IsAtEnd now)
+  pub failed : IfErr result (λ _. Gave [] before now × Rose before now)
+
+-- one call of `write` with the bytes `buf`
+pub record Writes {E : Type 0} (before now : Side) (buf : List ℕ) (result : Result ℕ E) : Type 0 where
+  pub room : IfOk result (λ k. k ≤ length buf)
+  pub some : IfOk result (λ k. 0 < length buf → 0 < k)
+  pub took : IfOk result (λ k. Took (take k buf) before now)
+  pub failed : IfErr result (λ _. Took [] before now × Rose before now)
+
+-- the first n bytes were written: all of them at Ok, and at a fault fewer
+pub record WritesAll {E : Type 0} (before now : Side) (bytes : List ℕ) (n : ℕ) (result : Result (Unit {0}) E) : Type 0 where
+  pub within : n ≤ length bytes
+  pub took : Took (take n bytes) before now
+  pub whole : IfOk result (λ _. n ≡ length bytes)
+  pub failed : IfErr result (λ _. (n < length bytes) × Rose before now)

@@ -1,0 +1,73 @@
+//! Readers and writers of std as sources and sinks.
+ghost use Rattle.std.specs.Prelude.{◌≡◌, ℕ};
+ghost use Rattle.ao_base.specs.Outside.{Side, Reads, Writes};
+
+use crate::outside::{Failed, Sink, Source};
+use std::io::{Read, Write};
+
+/// A reader as a source. Its count of faults, 0 when made, is raised at each error of the reader, up
+/// to 2^64 - 1. It tells its bytes where the reader does.
+#[derive(Drop)]
+pub struct ReadSource<R> {
+    reader: R,
+    faults: u64,
+}
+
+impl<R: Read> ReadSource<R> {
+    pub fn new(reader: R) -> ReadSource<R>
+        ensures { result ≡ record { reader = reader; faults = 0 } }
+    {
+        ReadSource { reader, faults: 0 }
+    }
+}
+
+impl<R: Read> Source for ReadSource<R> {
+    ghost side = { λ s. record { bytes = R.remaining s.reader; faults = s.faults } };
+
+    fn read(&mut self, buf: &mut [u8]) -> Result<usize, Failed> {
+        match self.reader.read(buf) {
+            Ok(n) => Ok(n),
+            Err(_) => {
+                self.faults = self.faults.saturating_add(1);
+                Err(Failed)
+            }
+        }
+    }
+}
+
+/// A writer as a sink. Its count of faults, 0 when made, is raised at each error of the writer and
+/// where it takes no byte of a piece that isn't empty, up to 2^64 - 1. It tells its bytes where the
+/// writer does.
+#[derive(Drop)]
+pub struct WriteSink<W> {
+    writer: W,
+    faults: u64,
+}
+
+impl<W: Write> WriteSink<W> {
+    pub fn new(writer: W) -> WriteSink<W>
+        ensures { result ≡ record { writer = writer; faults = 0 } }
+    {
+        WriteSink { writer, faults: 0 }
+    }
+}
+
+impl<W: Write> Sink for WriteSink<W> {
+    ghost side = { λ s. record { bytes = W.contents s.writer; faults = s.faults } };
+
+    fn write(&mut self, buf: &[u8]) -> Result<usize, Failed> {
+        match self.writer.write(buf) {
+            Ok(n) => {
+                if n == 0 && !buf.is_empty() {
+                    self.faults = self.faults.saturating_add(1);
+                    return Err(Failed);
+                }
+                Ok(n)
+            }
+            Err(_) => {
+                self.faults = self.faults.saturating_add(1);
+                Err(Failed)
+            }
+        }
+    }
+}
