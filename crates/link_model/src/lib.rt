@@ -2,3 +2,7 @@
 //! run. Definitions, and the theorems over every setup and every list of events, which stand as
 //! contracts of empty functions.
 #![tactic(auto)]
+
+mod headline;
+
+pub use headline::delivers_in_order;

@@ -1,1 +1,4 @@
+pub mod Fields
+pub mod Found
 pub mod Nearest
+pub mod Shapes

@@ -1,0 +1,35 @@
+-- What holds of every run.
+use Rattle.std.specs.Prelude.{◌≡◌, ℕ, ◌<◌, ◌^◌, List, [], ◌++◌, Option, Some, None, ⊤}
+use Rattle.std.specs.List.{AllByRecursion}
+use Rattle.ao_base.specs.declared.end.End.{End}
+use Rattle.endpoint_model.specs.States.{ready}
+use Rattle.link_model.specs.Events.{Event, Clock, Start, Give, Fill, Send, Deliver, Inject, Alter, Take, Dump}
+use Rattle.link_model.specs.Worlds.{Session, World, side, partner, forgeries}
+
+-- initial sequence numbers are 32-bit numbers (RFC 9293, section 3.4.1)
+abbrev pub EventFits : Event → Type 0
+EventFits (Clock e seconds) = ⊤
+EventFits (Start e isn peer) = (isn < 2 ^ 32) × (peer < 2 ^ 32)
+EventFits (Give e piece) = ⊤
+EventFits (Fill e count byte) = ⊤
+EventFits (Send e) = ⊤
+EventFits (Deliver e name) = ⊤
+EventFits (Inject e bytes) = ⊤
+EventFits (Alter e name place mask fix) = ⊤
+EventFits (Take e count) = ⊤
+EventFits (Dump name) = ⊤
+
+-- the list begins the other
+abbrev pub IsPrefixOf : List ℕ → List ℕ → Type 0
+IsPrefixOf xs ys = (rest : List ℕ) × (xs ++ rest ≡ ys)
+
+-- the bytes begin what was given to the partner; without a partner there are none
+abbrev pub ComesFrom : Option Session → List ℕ → Type 0
+ComesFrom None bytes = bytes ≡ []
+ComesFrom (Some t) bytes = IsPrefixOf bytes t.state.given
+
+-- where no forgery is counted: what each session of each end took, and then what is ready there, begins what its partner was given
+abbrev pub DeliversInOrder : World → Type 0
+DeliversInOrder w =
+    forgeries w.history ≡ 0 → (e : End)
+    → AllByRecursion (λ (s : Session). ComesFrom (partner w e s.state) (s.state.taken ++ ready s.state)) (side w e).sessions

@@ -1,0 +1,15 @@
+//! What holds of every run.
+ghost use Rattle.std.specs.Prelude.{List};
+ghost use Rattle.std.specs.List.{AllByRecursion};
+ghost use Rattle.link_model.specs.Events.{Event};
+ghost use Rattle.link_model.specs.Headline.{EventFits, DeliversInOrder};
+ghost use Rattle.link_model.specs.Runs.{run};
+ghost use Rattle.link_model.specs.Worlds.{Setup};
+
+/// Where a run counts no forgery, the bytes that each session took, and then those that are ready
+/// there, begin the bytes that were given to its partner; a session without a partner has neither.
+/// It holds for every setup and every list of events, whatever is delivered, lost, repeated,
+/// reordered, altered or injected. The premise says that initial sequence numbers are of 32 bits.
+pub fn delivers_in_order()
+    ensures { (setup : Setup) (events : List Event) → AllByRecursion EventFits events → DeliversInOrder (run setup events) }
+{}
