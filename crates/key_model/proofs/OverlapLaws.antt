@@ -1,23 +1,28 @@
 -- The test for overlap is the relation, and the two rows that are found are the least.
-use Rattle.std.proofs.Common.{◌≡◌, inl, inr, ℕ, zero, suc, ◌+◌, ◌-◌, ◌<◌, ◌≤◌, max, min, Bool, true, false, List, [], ◌∷◌, length, get_or, Option, Some, None, refl, sym, subst, ap, cond, arith}
+use Rattle.std.proofs.Common.{rules, Decides, ◌≡◌, inl, inr, ℕ, zero, suc, ◌+◌, ◌-◌, ◌<◌, ◌≤◌, max, min, Bool, true, false, List, [], ◌∷◌, length, get_or, Option, Some, None, refl, sym, subst, ap, cond, arith}
 use Rattle.std.specs.List.{list_any, position_from}
 use Rattle.std.proofs.lemmas.Bool.{and_parts, and_from, or_cases, or_left, or_right, eqb-true, eq-eqb, leb-true, le-leb, cases_order}
-use Rattle.std.proofs.lemmas.Slice.Eq.{bytes_eq-Decides}
+use Rattle.std.proofs.lemmas.Slice.Eq.{compares_Decides}
 use Rattle.ao_base.specs.declared.address.Address.{Address}
 use Rattle.ao_base.specs.declared.address.Address.TheVariants.{V4, V6}
 use Rattle.ao_base.specs.declared.address.Pair.{Pair}
 use Rattle.key_model.specs.declared.lifetime.Lifetime.{Lifetime}
 use Rattle.key_model.specs.Lifetimes.{contains}
-use Rattle.key_model.specs.Rows.{Row, same_address, names, fits_port, matches, sendable, acceptable}
+use Rattle.segment_model.specs.Bytes.{same_bytes}
+use Rattle.segment_model.specs.Sockets.{same_address}
+use Rattle.key_model.specs.Rows.{Row, names, fits_port, matches, sendable, acceptable}
 use Rattle.key_model.specs.Overlaps.{BothAccept, BothSend, Overlap, peer_meets, peers_meet, ports_meet, lives_meet, pairs_meet, accepts_meet, sends_meet, overlaps, IsValid, Two, first_of, first_overlap, overlap_at, IsFirstOverlap}
 
+same_bytes-Decides : (a b : List ℕ) → Decides (same_bytes a b) (a ≡ b)
+same_bytes-Decides = compares_Decides same_bytes (search rules)
+
 pub same_address-refl : (a : Address) → same_address a a ≡ true
-same_address-refl (V4 a) = (bytes_eq-Decides a a).1 refl
-same_address-refl (V6 a) = (bytes_eq-Decides a a).1 refl
+same_address-refl (V4 a) = (same_bytes-Decides a a).1 refl
+same_address-refl (V6 a) = (same_bytes-Decides a a).1 refl
 
 pub same_address-true : (a b : Address) → same_address a b ≡ true → a ≡ b
-same_address-true (V4 a) (V4 b) h = ap V4 ((bytes_eq-Decides a b).0 h)
-same_address-true (V6 a) (V6 b) h = ap V6 ((bytes_eq-Decides a b).0 h)
+same_address-true (V4 a) (V4 b) h = ap V4 ((same_bytes-Decides a b).0 h)
+same_address-true (V6 a) (V6 b) h = ap V6 ((same_bytes-Decides a b).0 h)
 same_address-true (V4 a) (V6 b) h = absurd (cc)
 same_address-true (V6 a) (V4 b) h = absurd (cc)
 

@@ -4,7 +4,8 @@ use Rattle.std.specs.List.{list_any, position_from, AllPairs}
 use Rattle.ao_base.specs.declared.address.Address.{Address}
 use Rattle.ao_base.specs.declared.address.Pair.{Pair}
 use Rattle.key_model.specs.declared.lifetime.Lifetime.{Lifetime}
-use Rattle.key_model.specs.Rows.{Row, same_address, receives, sends, sendable, acceptable}
+use Rattle.segment_model.specs.Sockets.{same_address}
+use Rattle.key_model.specs.Rows.{Row, receives, sends, sendable, acceptable}
 
 -- both rows may take for the pair at the time, under one RecvID
 pub record BothAccept (a b : Row) (pair : Pair) (time : ℕ) : Type 0 where

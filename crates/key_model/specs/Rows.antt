@@ -1,11 +1,10 @@
 -- Rows and tables of keys, and which rows are usable (RFC 7210).
 use Rattle.std.specs.Prelude.{ℕ, ◌==◌, ◌&&◌, Bool, true, false, List, Option, Some, None}
 use Rattle.std.specs.List.{list_any}
-use Rattle.std.specs.Str.{bytes_eq}
 use Rattle.ao_base.specs.declared.address.Address.{Address}
-use Rattle.ao_base.specs.declared.address.Address.TheVariants.{V4, V6}
 use Rattle.ao_base.specs.declared.address.Pair.{Pair}
 use Rattle.ao_base.specs.declared.algorithm.Algorithm.{Algorithm}
+use Rattle.segment_model.specs.Sockets.{same_address}
 use Rattle.key_model.specs.declared.direction.Direction.{Direction}
 use Rattle.key_model.specs.declared.direction.Direction.TheVariants.{Receive, Send, Both, Disabled}
 use Rattle.key_model.specs.declared.lifetime.Lifetime.{Lifetime}
@@ -30,13 +29,6 @@ pub record Table : Type 0 where
   pub name : List ℕ
   pub address : Address
   pub rows : List Row
-
--- one address
-abbrev pub same_address : Address → Address → Bool
-same_address (V4 a) (V4 b) = bytes_eq a b
-same_address (V6 a) (V6 b) = bytes_eq a b
-same_address (V4 a) (V6 b) = false
-same_address (V6 a) (V4 b) = false
 
 -- a peer is the address
 abbrev pub names : Option Address → Address → Bool

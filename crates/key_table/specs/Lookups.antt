@@ -1,10 +1,10 @@
 -- What the look-ups of a table answer, in the numbers of its rows.
-use Rattle.std.specs.Prelude.{ℕ, ◌==◌, ◌&&◌, Bool, true, false, List, Option, Some, None, option_map}
+use Rattle.std.specs.Prelude.{ℕ, Bool, true, false, List, Option, Some, None}
 use Rattle.ao_base.specs.declared.address.Pair.{Pair}
 use Rattle.key_model.specs.declared.direction.Direction.{Direction}
 use Rattle.key_model.specs.declared.lifetime.Lifetime.{Lifetime}
 use Rattle.key_model.specs.Rows.{Row, receives, sends, sendable, acceptable}
-use Rattle.key_model.specs.Choices.{Numbered, send_start, accept_start, sendable_as, acceptable_as, accept_row, has_id}
+use Rattle.key_model.specs.Choices.{Numbered, sendable_as, acceptable_as, accept_row, has_id}
 use Rattle.key_table.specs.declared.want.Want.{Want}
 use Rattle.key_table.specs.declared.want.Want.TheVariants.{Send, Take}
 use Rattle.key_table.specs.declared.table.Accept.{Accept}

@@ -1,7 +1,8 @@
 //! A row of a key table.
 ghost use Rattle.std.specs.Prelude.{◌≡◌, ◌≤◌, length};
 ghost use Rattle.std.specs.List.{list_any};
-ghost use Rattle.key_model.specs.Rows.{same_address, names, fits_port, matches, receives, sends};
+ghost use Rattle.segment_model.specs.Sockets.{same_address};
+ghost use Rattle.key_model.specs.Rows.{names, fits_port, matches, receives, sends};
 ghost use Rattle.key_model.specs.Choices.{takes_as};
 ghost use Rattle.key_table.specs.Lookups.{usable, start_of, goes, id_of, lifetime_of, usable_as};
 
@@ -33,21 +34,19 @@ impl Model for Row {
 
     ghost Value = { Entry };
 
-    ghost view = {
-        λ r. record {
-            recv_id = r.recv_id;
-            send_id = r.send_id;
-            peers = r.peers.items;
-            local_port = r.local_port;
-            peer_port = r.peer_port;
-            algorithm = r.algorithm;
-            master = r.master.items;
-            with_options = r.with_options;
-            direction = r.direction;
-            sending = r.sending;
-            accepting = r.accepting;
-        }
-    };
+    ghost view = { λ r. record {
+      recv_id = r.recv_id;
+      send_id = r.send_id;
+      peers = r.peers.items;
+      local_port = r.local_port;
+      peer_port = r.peer_port;
+      algorithm = r.algorithm;
+      master = r.master.items;
+      with_options = r.with_options;
+      direction = r.direction;
+      sending = r.sending;
+      accepting = r.accepting;
+    } };
 
     ghost invariant = { λ r. (1 ≤ length r.master.items) × (length r.master.items ≤ 255) };
 }

@@ -54,7 +54,11 @@ fn later<'a>(want: Want, one: Option<Numbered<'a>>, two: Numbered<'a>) -> Number
 {
     match one {
         Some(one) => {
-            if one.row.lifetime(want).first < two.row.lifetime(want).first { two } else { one }
+            if one.row.lifetime(want).first < two.row.lifetime(want).first {
+                two
+            } else {
+                one
+            }
         }
         None => two,
     }
@@ -68,7 +72,14 @@ fn latest(rows: &[Row], want: Want, pair: &Pair, now: u64) -> Option<u8>
     let mut found: Option<Numbered> = None;
     for (i, row) in rows.iter().enumerate() {
         if row.is_usable(want, pair, now) {
-            found = Some(later(want, found, Numbered { number: (i + 1) as u8, row }));
+            found = Some(later(
+                want,
+                found,
+                Numbered {
+                    number: (i + 1) as u8,
+                    row,
+                },
+            ));
         }
     }
     match found {

@@ -1,7 +1,8 @@
 //! The tables of all nodes.
 ghost use Rattle.std.specs.Prelude.{◌≡◌, ◌≤◌, ◌-◌, ◌∷◌, [], length, slice_index_or, option_map, IfOk, false};
 ghost use Rattle.std.specs.List.{find};
-ghost use Rattle.key_model.specs.Rows.{Table as Sheet, same_address, same_place};
+ghost use Rattle.segment_model.specs.Sockets.{same_address};
+ghost use Rattle.key_model.specs.Rows.{Table as Sheet, same_place};
 ghost use Rattle.key_model.specs.Shared.{shared_row, shared_tables};
 
 use crate::row::{Row, is_same_address};
