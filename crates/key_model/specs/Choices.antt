@@ -1,0 +1,89 @@
+-- Which of the usable rows of a table is chosen.
+use Rattle.std.specs.Prelude.{◌≡◌, ℕ, ◌+◌, ◌-◌, ◌≤◌, ◌<◌, ◌==◌, ◌&&◌, nat_lt, Bool, true, false, List, [], ◌∷◌, length, slice_index_or, Option, Some, None, if◌then◌else◌}
+use Rattle.std.specs.List.{list_any, All}
+use Rattle.ao_base.specs.declared.address.Pair.{Pair}
+use Rattle.key_model.specs.Rows.{Row, matches, receives, sendable, acceptable}
+
+-- a row with its number
+pub record Numbered : Type 0 where
+  pub number : ℕ
+  pub row : Row
+
+-- of two rows in order, the one with the later start; the earlier row where they are equal
+abbrev pub later : (Row → ℕ) → Option Numbered → Option Numbered → Option Numbered
+later start None two = two
+later start (Some one) None = Some one
+later start (Some one) (Some two) = if nat_lt (start one.row) (start two.row) then Some two else Some one
+
+-- the row, where it qualifies
+abbrev pub qualified : (Row → Bool) → ℕ → Row → Option Numbered
+qualified good n r = if good r then Some (record { number = n; row = r }) else None
+
+-- the row with the greatest start among those that qualify, the first row having number n; ties go to the lowest
+abbrev pub latest : (Row → Bool) → (Row → ℕ) → ℕ → List Row → Option Numbered
+latest good start n [] = None
+latest good start n (r ∷ rs) = later start (qualified good n r) (latest good start (n + 1) rs)
+
+abbrev pub or_else : Option Numbered → Option Numbered → Option Numbered
+or_else None two = two
+or_else (Some one) two = Some one
+
+-- the lowest row that qualifies, the first row having number n
+abbrev pub lowest : (Row → Bool) → ℕ → List Row → Option Numbered
+lowest good n [] = None
+lowest good n (r ∷ rs) = or_else (qualified good n r) (lowest good (n + 1) rs)
+
+abbrev pub send_start : Row → ℕ
+send_start r = r.sending.first
+
+abbrev pub accept_start : Row → ℕ
+accept_start r = r.accepting.first
+
+-- the sendable row with the greatest send start (RFC 7210, section 3)
+abbrev pub send_row : List Row → Pair → ℕ → Option Numbered
+send_row rows pair now = latest (sendable pair now) send_start 1 rows
+
+-- the acceptable row with the greatest accept start
+abbrev pub next_row : List Row → Pair → ℕ → Option Numbered
+next_row rows pair now = latest (acceptable pair now) accept_start 1 rows
+
+-- the row is sendable, and has this SendID
+abbrev pub sendable_as : Pair → ℕ → ℕ → Row → Bool
+sendable_as pair id now r = sendable pair now r && (r.send_id == id)
+
+-- the row is acceptable, and has this RecvID
+abbrev pub acceptable_as : Pair → ℕ → ℕ → Row → Bool
+acceptable_as pair id now r = acceptable pair now r && (r.recv_id == id)
+
+-- the sendable row with this SendID (RFC 5925, section 6.1)
+abbrev pub named_send : List Row → Pair → ℕ → ℕ → Option Numbered
+named_send rows pair id now = lowest (sendable_as pair id now) 1 rows
+
+-- the acceptable row with this RecvID (RFC 5925, section 7.5)
+abbrev pub accept_row : List Row → Pair → ℕ → ℕ → Option Numbered
+accept_row rows pair id now = lowest (acceptable_as pair id now) 1 rows
+
+-- the row takes for the pair under this RecvID, at whatever time
+abbrev pub takes_as : Pair → ℕ → Row → Bool
+takes_as pair id r = matches r pair && (receives r.direction && (r.recv_id == id))
+
+-- some row takes for the pair under this RecvID
+abbrev pub has_id : List Row → Pair → ℕ → Bool
+has_id rows pair id = list_any (takes_as pair id) rows
+
+-- this row of the table qualifies, has the greatest start, and is the lowest with it
+pub record IsLatest (good : Row → Bool) (start : Row → ℕ) (rows : List Row) (n : Numbered) : Type 0 where
+  pub low : 1 ≤ n.number
+  pub high : n.number ≤ length rows
+  pub here : (d : Row) → slice_index_or rows (n.number - 1) d ≡ n.row
+  pub qualifies : good n.row ≡ true
+  pub greatest : All (λ r. good r ≡ true → start r ≤ start n.row) rows
+  pub lowest : (k : ℕ) (d : Row) → k + 1 < n.number → good (slice_index_or rows k d) ≡ true → start (slice_index_or rows k d) < start n.row
+
+-- this row of the table qualifies, and none before it does
+pub record IsLowest (good : Row → Bool) (rows : List Row) (n : Numbered) : Type 0 where
+  pub low : 1 ≤ n.number
+  pub high : n.number ≤ length rows
+  pub here : (d : Row) → slice_index_or rows (n.number - 1) d ≡ n.row
+  pub qualifies : good n.row ≡ true
+  pub before : (k : ℕ) (d : Row) → k + 1 < n.number → good (slice_index_or rows k d) ≡ false

@@ -1,0 +1,121 @@
+//! The tables of all nodes.
+ghost use Rattle.std.specs.Prelude.{◌≡◌, ◌≤◌, ◌-◌, ◌∷◌, [], length, slice_index_or, option_map, IfOk, false};
+ghost use Rattle.std.specs.List.{find};
+ghost use Rattle.segment_model.specs.Sockets.{same_address};
+ghost use Rattle.key_model.specs.Rows.{Table as Sheet, same_place};
+ghost use Rattle.key_model.specs.Shared.{shared_row, shared_tables};
+
+use crate::row::{Row, is_same_address};
+use crate::table::Table;
+use ao_base::{Address, Algorithm};
+use key_model::{Direction, LATEST, Lifetime};
+use std::alloc::{AllocError, Global};
+use std::marker::Model;
+
+/// The nodes of a key file in its order, at most 16, each with its table.
+#[derive(Debug, Drop)]
+pub struct Tables {
+    pub(crate) items: Vec<Table>,
+}
+
+impl Model for Tables {
+    ghost use Rattle.std.specs.Prelude.{◌≤◌, length, List};
+    ghost use Rattle.key_model.specs.Rows.{Table as Sheet};
+
+    ghost Value = { List Sheet };
+
+    ghost view = { λ t. t.items.items };
+
+    ghost invariant = { λ t. length t.items.items ≤ 16 };
+}
+
+fn shared_row(alloc: Global, algorithm: Algorithm, master: &[u8]) -> Result<Row, AllocError>
+    requires low { 1 ≤ length master.now }
+    requires high { length master.now ≤ 255 }
+    ensures { IfOk result (λ r. r ≡ shared_row algorithm master.now) }
+{
+    let mut peers = Vec::new(alloc);
+    peers.push(None)?;
+    let always = Lifetime {
+        first: 0,
+        last: LATEST,
+    };
+    Ok(Row {
+        recv_id: 0,
+        send_id: 0,
+        peers,
+        local_port: None,
+        peer_port: None,
+        algorithm,
+        master: Vec::from_slice(alloc, master)?,
+        with_options: true,
+        direction: Direction::Both,
+        sending: always,
+        accepting: always,
+    })
+}
+
+fn table_of(alloc: Global, name: &[u8], address: Address, row: Row) -> Result<Table, AllocError>
+    ensures { IfOk result (λ t. t ≡ record { name = name.now; address = address; rows = row ∷ [] }) }
+{
+    let mut rows = Vec::new(alloc);
+    rows.push(row)?;
+    Ok(Table {
+        name: Vec::from_slice(alloc, name)?,
+        address,
+        rows,
+    })
+}
+
+impl Tables {
+    /// The tables of two nodes `a` and `b` that share one master key of 1 to 255 bytes: each has
+    /// one row with ids 0, any peer, any port, direction both and all times, with options.
+    pub fn shared(
+        alloc: Global,
+        a: Address,
+        b: Address,
+        algorithm: Algorithm,
+        master: &[u8],
+    ) -> Result<Tables, AllocError>
+        requires differ { same_address a b ≡ false }
+        requires low { 1 ≤ length master.now }
+        requires high { length master.now ≤ 255 }
+        ensures { IfOk result (λ t. t ≡ shared_tables a b algorithm master.now) }
+    {
+        let mut items = Vec::new(alloc);
+        let row = shared_row(alloc, algorithm, master)?;
+        items.push(table_of(alloc, b"a", a, row)?)?;
+        let row = shared_row(alloc, algorithm, master)?;
+        items.push(table_of(alloc, b"b", b, row)?)?;
+        Ok(Tables { items })
+    }
+
+    /// The table of the node with this address. `None` exactly where no node has it.
+    pub fn table(&self, address: &Address) -> Option<&Table>
+        ensures { option_map (λ t. t.now) result ≡ find (same_place address.now) self.now }
+    {
+        for table in &self.items {
+            if is_same_address(&table.address(), address) {
+                return Some(table);
+            }
+        }
+        None
+    }
+
+    /// How many nodes there are, at most 16.
+    pub fn nodes(&self) -> u8
+        ensures value { result ≡ length self.now }
+        ensures limit { result ≤ 16 }
+    {
+        self.items.len() as u8
+    }
+
+    /// The table of the node of that number, from 1.
+    pub fn node(&self, n: u8) -> &Table
+        requires low { 1 ≤ n }
+        requires high { n ≤ length self.now }
+        ensures { (d : Sheet) → result.now ≡ slice_index_or self.now (n - 1) d }
+    {
+        &self.items[n as usize - 1]
+    }
+}
