@@ -1,13 +1,14 @@
 -- Worked reports, computed: five bytes arrive.
 use Rattle.std.proofs.Common.{◌≡◌, ℕ, List, [], ◌∷◌, ◌++◌, replicate, codes, refl}
 use Rattle.std.specs.Fmt.{digits}
+use Rattle.hex.specs.Hex.{encode_with}
 use Rattle.sha1.specs.Sha1.{sha1, digest_bytes, hash_after, compress, rounds, schedule, first_words}
 use Rattle.ao_base.specs.declared.address.Address.TheVariants.{V4}
 use Rattle.ao_base.specs.declared.algorithm.Algorithm.TheVariants.{HmacSha1}
 use Rattle.ao_base.specs.declared.end.End.TheVariants.{A, B}
 use Rattle.segment_model.specs.Bytes.{put2, put4}
 use Rattle.segment_model.specs.Options.{options_of, find_ao}
-use Rattle.segment_model.specs.Segments.{sums, complement_of, pseudo, header, tcp_bytes, checksum_of, good, spell, reading}
+use Rattle.segment_model.specs.Segments.{sums, complement_of, pseudo, header, tcp_bytes, checksum_of, good, spell, first_fault, fields, reading}
 use Rattle.mac_model.specs.Hmac.{block_key, hmac}
 use Rattle.mac_model.specs.Contexts.{context, context_of}
 use Rattle.mac_model.specs.MacInput.{mac_input}
@@ -36,5 +37,5 @@ five_bytes : report head (Start A 100 200 ∷ Start B 200 100 ∷ Give A (codes 
     ≡ lines (codes "1 ok" ∷ codes "2 ok" ∷ codes "3 ok" ∷ codes "4 sent 1 AP seq 101 ack 201 len 5 key 0 next 0" ∷ codes "5 taken" ∷ codes "6 took 68656c6c6f"
     ∷ codes "session a 1 isn 100 peer 200 established given 5 delivered 0 open" ∷ codes "session b 1 isn 200 peer 100 established given 0 delivered 5 open"
     ∷ codes "segments 1 forgeries 0" ∷ [])
-unfolding digits sha1 digest_bytes hash_after compress rounds schedule first_words put2 put4 options_of find_ao sums complement_of pseudo header tcp_bytes checksum_of good spell reading block_key hmac context context_of mac_input traffic_key mac judge ready keep arrive to_emit emit summary report
+unfolding digits sha1 digest_bytes hash_after compress rounds schedule first_words put2 put4 options_of find_ao sums complement_of pseudo header tcp_bytes checksum_of good spell first_fault fields reading encode_with block_key hmac context context_of mac_input traffic_key mac judge ready keep arrive to_emit emit summary report
 five_bytes = refl

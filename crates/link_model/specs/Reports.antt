@@ -1,7 +1,8 @@
 -- The text of a run.
-use Rattle.std.specs.Prelude.{ℕ, suc, ◌+◌, ◌/◌, ◌%◌, ◌==◌, nat_lt, Bool, true, false, List, [], ◌∷◌, ◌++◌, length, decimal, codes, Option, Some, None, if◌then◌else◌}
+use Rattle.std.specs.Prelude.{ℕ, suc, ◌+◌, ◌==◌, Bool, true, false, List, [], ◌∷◌, ◌++◌, length, decimal, codes, Option, Some, None, if◌then◌else◌}
 use Rattle.ao_base.specs.declared.end.End.{End}
 use Rattle.ao_base.specs.declared.end.End.TheVariants.{A, B}
+use Rattle.ao_base.specs.Hexadecimal.{hex_of}
 use Rattle.segment_model.specs.Segments.{Fault, Truncated, Version, HeaderLength, HeaderChecksum, Fragment, NotTcp, ExtensionHeader, DataOffset, OptionShort, OptionPast}
 use Rattle.endpoint_model.specs.Verdicts.{Refusal, NoAo, TwoAo, WithMd5, NoTuple, MacLength, NoContext, BadMac}
 use Rattle.endpoint_model.specs.States.{Phase, Established}
@@ -9,15 +10,6 @@ use Rattle.endpoint_model.specs.Arrivals.{Arrival, Bad, Foreign, Checksum, Refus
 use Rattle.link_model.specs.Events.{Event, Outcome, Done, Sent, Answered, Took, Image, IsnUsed, NoSession, NoSegment, NoPlace, Full, Idle}
 use Rattle.link_model.specs.Worlds.{Setup, Session, Made, World, forgeries, segments}
 use Rattle.link_model.specs.Runs.{empty, run, outcomes_from}
-
--- a digit of hexadecimal, in lower case
-abbrev pub hex_digit : ℕ → ℕ
-hex_digit d = if nat_lt d 10 then 48 + d else 87 + d
-
--- bytes as two digits each
-abbrev pub hex : List ℕ → List ℕ
-hex [] = []
-hex (b ∷ bytes) = hex_digit (b / 16) ∷ hex_digit (b % 16) ∷ hex bytes
 
 -- the text of a refusal
 abbrev pub refusal_text : Refusal → List ℕ
@@ -72,7 +64,7 @@ sent_text m =
 -- bytes as digits, or a sign for none
 abbrev pub hex_or_none : List ℕ → List ℕ
 hex_or_none [] = codes "-"
-hex_or_none (b ∷ bytes) = hex (b ∷ bytes)
+hex_or_none (b ∷ bytes) = hex_of (b ∷ bytes)
 
 -- the end of the stream is reached
 abbrev pub end_mark : Bool → List ℕ
@@ -85,7 +77,7 @@ outcome_text Done = codes "ok"
 outcome_text (Sent m) = sent_text m
 outcome_text (Answered answer) = answer_text answer
 outcome_text (Took bytes shown) = codes "took " ++ (hex_or_none bytes ++ end_mark shown)
-outcome_text (Image bytes) = codes "datagram " ++ hex bytes
+outcome_text (Image bytes) = codes "datagram " ++ hex_of bytes
 outcome_text IsnUsed = codes "isn-used"
 outcome_text NoSession = codes "no-session"
 outcome_text NoSegment = codes "no-segment"

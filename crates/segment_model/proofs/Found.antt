@@ -1,18 +1,13 @@
 -- A TCP-AO option that is found lies in its area.
-use Rattle.std.proofs.Common.{◌≡◌, ℕ, zero, suc, ◌+◌, ◌-◌, ◌≤◌, ◌==◌, nat_lt, Bool, true, false, ◌&&◌, ◌||◌, List, [], ◌∷◌, length, take, drop, if◌then◌else◌, refl, subst, arith, length-take, length-drop}
+use Rattle.std.proofs.Common.{◌≡◌, ℕ, zero, suc, ◌+◌, ◌-◌, ◌≤◌, ◌==◌, nat_lt, Bool, true, false, ◌&&◌, ◌||◌, List, [], ◌∷◌, length, take, drop, if◌then◌else◌, refl, sym, subst, arith, length-take, length-drop}
 use Rattle.std.proofs.lemmas.Bool.Decides.{nat_tests}
 use Rattle.std.specs.List.{AllByRecursion}
-use Rattle.segment_model.specs.Options.{Opt, Options, Listed, ShortLength, PastEnd, and_then, options_from, options_of, of_kind, listed, Ao, One, ao_of, found, find_ao}
+use Rattle.segment_model.specs.Options.{Opt, Options, Listed, ShortLength, PastEnd, and_then, least, Front, NoMore, Ending, TooShort, TooLong, Leading, front, by_front, options_from, options_of, of_kind, listed, Ao, One, ao_of, found, find_ao}
 use Rattle.segment_model.proofs.Fields.{eqb_is, lt_not}
 
 -- an option of kind 29 has its two ids, and lies before this end
 abbrev pub Within : ℕ → Opt → Type 0
 Within end o = o.kind ≡ 29 → (2 ≤ length o.body) × (o.place + 2 + length o.body ≤ end)
-
--- by cases on a test
-pub by_test : (P : Options → Type 0) (b : Bool) (t u : Options) → (b ≡ true → P t) → (b ≡ false → P u) → P (if b then t else u)
-by_test P true t u one two = one refl
-by_test P false t u one two = two refl
 
 -- all options of a list that may be faulty
 abbrev pub AllListed : (Opt → Type 0) → Options → Type 0
@@ -28,37 +23,61 @@ within-longer one two [] le h = tt
 within-longer one two (o ∷ os) le h =
     ((λ is. let r = h.0 is in let low = r.1 in (r.0, omega arith)), within-longer one two os le h.1)
 
-short_size : (size : ℕ) (b : Bool) → (nat_lt size 2 || (b && nat_lt size 4)) ≡ false → b ≡ true → 4 ≤ size
-short_size size b e is = grind (arith, nat_tests)
+-- what is known of what stands at the front of an area
+abbrev pub Bounds : Front → List ℕ → Type 0
+Bounds (Leading kind body size rest) area = (size + length rest ≡ length area) × (kind ≡ 29 → (2 ≤ length body) × (2 + length body ≤ size))
+Bounds NoMore area = Unit {0}
+Bounds Ending area = Unit {0}
+Bounds TooShort area = Unit {0}
+Bounds TooLong area = Unit {0}
 
-same-eqb : (x y : ℕ) → x ≡ y → (x == y) ≡ true
-same-eqb x y e = grind (arith, nat_tests)
+-- by cases on a test
+by_test : (P : Front → Type 0) (b : Bool) (t u : Front) → (b ≡ true → P t) → (b ≡ false → P u) → P (if b then t else u)
+by_test P true t u one two = one refl
+by_test P false t u one two = two refl
+
+least_ao : (kind : ℕ) → kind ≡ 29 → least kind ≡ 4
+least_ao kind e = subst (λ (k : ℕ). least k ≡ 4) (sym e) refl
+
+least_two : (kind : ℕ) → 2 ≤ least kind
+least_two kind = elim (kind == 29) as (λ b. 2 ≤ (if b then 4 else 2)) [ true ↦ omega arith | false ↦ omega arith ]
+
+long_bounds : (kind size : ℕ) (rest : List ℕ) → least kind ≤ size → size ≤ length rest + 2
+    → Bounds (Leading kind (take (size - 2) rest) size (drop (size - 2) rest)) (kind ∷ size ∷ rest)
+long_bounds kind size rest low high =
+    let two = least_two kind in
+    let d = length-drop (size - 2) rest in
+    let t = length-take (size - 2) rest in
+    (omega arith, λ e. let four = least_ao kind e in (omega arith, omega arith))
+
+front_bounds : (area : List ℕ) → Bounds (front area) area
+front_bounds [] = tt
+front_bounds (zero ∷ rest) = tt
+front_bounds (suc zero ∷ rest) = (omega arith, λ (e : 1 ≡ 29). absurd (cc))
+front_bounds (suc (suc k) ∷ []) = tt
+front_bounds (suc (suc k) ∷ size ∷ rest) =
+    let P : Front → Type 0 = λ f. Bounds f (suc (suc k) ∷ size ∷ rest) in
+    by_test P (nat_lt size (least (suc (suc k)))) TooShort _ (λ is. tt) (λ long.
+    by_test P (nat_lt (length rest + 2) size) TooLong _ (λ is. tt) (λ fits.
+    long_bounds (suc (suc k)) size rest (lt_not size (least (suc (suc k))) long) (lt_not (length rest + 2) size fits)))
+
+within_front : (f : Front) (k p : ℕ) (area : List ℕ) → Bounds f area
+    → ((q : ℕ) (rest : List ℕ) → AllListed (Within (q + length rest)) (options_from k q rest))
+    → AllListed (Within (p + length area)) (by_front f p (options_from k))
+within_front NoMore k p area h others = tt
+within_front Ending k p area h others = ((λ (at : 0 ≡ 29). absurd (cc)), tt)
+within_front TooShort k p area h others = tt
+within_front TooLong k p area h others = tt
+within_front (Leading kind body size rest) k p area h others =
+    let sizes = h.0 in
+    let end = p + length area in
+    all_and (Within end) (record { kind = kind; body = body; place = p }) (options_from k (p + size) rest)
+    (λ at. let r = h.1 at in let one = r.0 in let two = r.1 in (one, omega arith))
+    (within-longer (p + size + length rest) end (listed (options_from k (p + size) rest)) (omega arith) (others (p + size) rest))
 
 pub all_within : (k p : ℕ) (area : List ℕ) → AllListed (Within (p + length area)) (options_from k p area)
 all_within zero p area = tt
-all_within (suc k) p [] = tt
-all_within (suc k) p (kind ∷ []) =
-    let W = Within (p + length (kind ∷ [])) in
-    by_test (AllListed W) (nat_lt kind 2) _ _ (λ low. ((λ (is : kind ≡ 29). absurd (grind (arith, nat_tests))), tt)) (λ high. tt)
-all_within (suc k) p (kind ∷ size ∷ rest) =
-    let end = p + length (kind ∷ size ∷ rest) in
-    let W = Within end in
-    by_test (AllListed W) (kind == 0) _ _ (λ is. ((λ (at : 0 ≡ 29). absurd (cc)), tt)) (λ not_end.
-    by_test (AllListed W) (kind == 1) _ _
-    (λ is. all_and W (record { kind = 1; body = []; place = p }) (options_from k (p + 1) (size ∷ rest)) (λ (at : 1 ≡ 29). absurd (cc))
-    (within-longer (p + 1 + length (size ∷ rest)) end (listed (options_from k (p + 1) (size ∷ rest))) (omega arith) (all_within k (p + 1) (size ∷ rest))))
-    (λ not_pad.
-    by_test (AllListed W) (nat_lt size 2 || ((kind == 29) && nat_lt size 4)) _ _ (λ is. tt) (λ long.
-    by_test (AllListed W) (nat_lt (length rest + 2) size) _ _ (λ is. tt) (λ fits.
-    let room = lt_not (length rest + 2) size fits in
-    let body = take (size - 2) rest in
-    let left = drop (size - 2) rest in
-    let body_is = length-take (size - 2) rest in
-    let left_is = length-drop (size - 2) rest in
-    let two : 2 ≤ size = grind (arith, nat_tests) in
-    all_and W (record { kind = kind; body = body; place = p }) (options_from k (p + size) left)
-    (λ (at : kind ≡ 29). let four = short_size size (kind == 29) long (same-eqb kind 29 at) in (omega arith, omega arith))
-    (within-longer (p + size + length left) end (listed (options_from k (p + size) left)) (omega arith) (all_within k (p + size) left))))))
+all_within (suc k) p area = within_front (front area) k p area (front_bounds area) (λ q rest. all_within k q rest)
 
 -- an option among those of a kind
 kind_if : (P : Opt → Type 0) (o : Opt) (os : List Opt) (b : Bool) → (b ≡ true → P o) → AllByRecursion P os → AllByRecursion P (if b then o ∷ os else os)

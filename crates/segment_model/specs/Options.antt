@@ -19,22 +19,48 @@ and_then o (Listed list) = Listed (o ∷ list)
 and_then o (ShortLength p) = ShortLength p
 and_then o (PastEnd p) = PastEnd p
 
+-- the least length that an option of this kind may give (RFC 9293, section 3.2; RFC 5925, section 2.2)
+abbrev pub least : ℕ → ℕ
+least kind = if kind == 29 then 4 else 2
+
+-- what stands at the front of an area: nothing, kind 0, a fault, or an option with its size and the bytes behind it
+pub data Front : Type 0 where
+  NoMore : Front
+  Ending : Front
+  TooShort : Front
+  TooLong : Front
+  Leading : (kind : ℕ) (body : List ℕ) (size : ℕ) (rest : List ℕ) → Front
+
+-- kinds 0 and 1 are one byte; every other option has kind, length and body (RFC 9293, section 3.2)
+abbrev pub front : List ℕ → Front
+front [] = NoMore
+front (zero ∷ rest) = Ending
+front (suc zero ∷ rest) = Leading 1 [] 1 rest
+front (suc (suc k) ∷ []) = TooLong
+front (suc (suc k) ∷ size ∷ rest) =
+    if nat_lt size (least (suc (suc k))) then TooShort
+    else (if nat_lt (length rest + 2) size then TooLong else Leading (suc (suc k)) (take (size - 2) rest) size (drop (size - 2) rest))
+
+-- the options from a place on, where this stands there and the others are known
+abbrev pub by_front : Front → ℕ → (ℕ → List ℕ → Options) → Options
+by_front NoMore p others = Listed []
+by_front Ending p others = Listed (record { kind = 0; body = []; place = p } ∷ [])
+by_front TooShort p others = ShortLength p
+by_front TooLong p others = PastEnd p
+by_front (Leading kind body size rest) p others = and_then (record { kind = kind; body = body; place = p }) (others (p + size) rest)
+
 -- the options of an area from a place on; the first argument bounds their number
 abbrev pub options_from : ℕ → ℕ → List ℕ → Options
 options_from zero p area = Listed []
-options_from (suc k) p [] = Listed []
-options_from (suc k) p (kind ∷ []) =
-    if nat_lt kind 2 then Listed (record { kind = kind; body = []; place = p } ∷ []) else PastEnd p
-options_from (suc k) p (kind ∷ size ∷ rest) =
-    if kind == 0 then Listed (record { kind = 0; body = []; place = p } ∷ [])
-    else (if kind == 1 then and_then (record { kind = 1; body = []; place = p }) (options_from k (p + 1) (size ∷ rest))
-    else (if nat_lt size 2 || ((kind == 29) && nat_lt size 4) then ShortLength p
-    else (if nat_lt (length rest + 2) size then PastEnd p
-    else and_then (record { kind = kind; body = take (size - 2) rest; place = p }) (options_from k (p + size) (drop (size - 2) rest)))))
+options_from (suc k) p area = by_front (front area) p (options_from k)
+
+-- the options of an area that begins at a place
+abbrev pub options_at : ℕ → List ℕ → Options
+options_at p area = options_from (length area) p area
 
 -- the options of an area up to and with kind 0 (RFC 9293, section 3.2)
 unfoldable pub options_of : List ℕ → Options
-options_of area = options_from (length area) 0 area
+options_of area = options_at 0 area
 
 -- the options of this kind
 abbrev pub of_kind : ℕ → List Opt → List Opt
@@ -46,6 +72,22 @@ abbrev pub listed : Options → List Opt
 listed (Listed list) = list
 listed (ShortLength p) = []
 listed (PastEnd p) = []
+
+-- an option without its place
+pub record Plain : Type 0 where
+  pub kind : ℕ
+  pub body : List ℕ
+
+-- the options without their places
+abbrev pub plains : List Opt → List Plain
+plains [] = []
+plains (o ∷ os) = record { kind = o.kind; body = o.body } ∷ plains os
+
+-- there is no fault
+abbrev pub AreListed : Options → Type 0
+AreListed (Listed list) = Unit {0}
+AreListed (ShortLength p) = ⊥
+AreListed (PastEnd p) = ⊥
 
 -- the first option of kind 2 with a body of two bytes
 abbrev pub mss_among : List Opt → Option ℕ

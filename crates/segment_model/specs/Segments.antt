@@ -1,5 +1,5 @@
 -- Datagrams as values: the fields of the IP header and of TCP, their spelling and checksums.
-use Rattle.std.specs.Prelude.{ℕ, ◌+◌, ◌-◌, ◌*◌, ◌/◌, ◌%◌, ◌==◌, nat_lt, Bool, true, false, not, ◌&&◌, ◌||◌, List, [], ◌∷◌, ◌++◌, length, take, drop, slice_index, slice_range, if◌then◌else◌}
+use Rattle.std.specs.Prelude.{ℕ, ◌+◌, ◌-◌, ◌*◌, ◌/◌, ◌%◌, ◌==◌, nat_lt, Bool, true, false, not, ◌&&◌, ◌||◌, List, [], ◌∷◌, ◌++◌, length, take, drop, slice_index, slice_range, Option, Some, None, if◌then◌else◌}
 use Rattle.ao_base.specs.declared.address.Address.{Address}
 use Rattle.ao_base.specs.declared.address.Address.TheVariants.{V4, V6}
 use Rattle.ao_base.specs.declared.address.Socket.{Socket}
@@ -123,20 +123,66 @@ two_at b i = slice_index b i * 256 + slice_index b (i + 1)
 abbrev pub four_at : List ℕ → ℕ → ℕ
 four_at b i = two_at b i * 65536 + two_at b (i + 2)
 
--- the ninth test: the option area has no fault
-abbrev pub with_options : Segment → Options → Reading
-with_options d (Listed list) = Read d
-with_options d (ShortLength p) = Bad (OptionShort p)
-with_options d (PastEnd p) = Bad (OptionPast p)
+-- a test with its fault, and the tests behind it
+abbrev pub refuse : Bool → Fault → Option Fault → Option Fault
+refuse test fault others = if test then Some fault else others
 
--- the TCP header, with the eighth test on the data offset
-abbrev pub read_tcp : IpHeader → Address → Address → List ℕ → Reading
-read_tcp ip source destination t =
+-- the ninth test: the option area has no fault
+abbrev pub option_fault : Options → Option Fault
+option_fault (Listed list) = None
+option_fault (ShortLength p) = Some (OptionShort p)
+option_fault (PastEnd p) = Some (OptionPast p)
+
+-- the eighth and the ninth test, over the TCP bytes (RFC 9293, section 3.1)
+abbrev pub tcp_fault : List ℕ → Option Fault
+tcp_fault t =
     let size = 4 * (slice_index t 12 / 16) in
-    if nat_lt (length t) 20 || nat_lt size 20 || nat_lt (length t) size then Bad DataOffset
-    else (let area = slice_range t 20 size in
-    with_options
-    (record {
+    refuse (nat_lt (length t) 20) DataOffset
+    (refuse (nat_lt size 20) DataOffset
+    (refuse (nat_lt (length t) size) DataOffset
+    (option_fault (options_of (slice_range t 20 size)))))
+
+-- the tests of a datagram over IPv4, in order (RFC 791, section 3.1)
+abbrev pub v4_fault : List ℕ → Option Fault
+v4_fault b =
+    let size = 4 * (slice_index b 0 % 16) in
+    let total = two_at b 2 in
+    refuse (nat_lt (length b) 20) Truncated
+    (refuse (nat_lt (length b) total) Truncated
+    (refuse (nat_lt size 20) HeaderLength
+    (refuse (nat_lt total size) HeaderLength
+    (refuse (not (sums (take size b))) HeaderChecksum
+    (refuse (not (two_at b 6 % 16384 == 0)) Fragment
+    (refuse (not (slice_index b 9 == 6)) NotTcp
+    (tcp_fault (slice_range b size total))))))))
+
+-- the next header of an extension header: hop-by-hop options, routing, fragment, destination options (RFC 8200, section 4)
+abbrev pub is_extension : ℕ → Bool
+is_extension next = (next == 0) || (next == 43) || (next == 44) || (next == 60)
+
+-- the tests of a datagram over IPv6, in order (RFC 8200, section 3)
+abbrev pub v6_fault : List ℕ → Option Fault
+v6_fault b =
+    let size = two_at b 4 in
+    let next = slice_index b 6 in
+    refuse (nat_lt (length b) 40) Truncated
+    (refuse (nat_lt (length b) (40 + size)) Truncated
+    (refuse (not ((next == 6) || is_extension next)) NotTcp
+    (refuse (is_extension next) ExtensionHeader
+    (tcp_fault (slice_range b 40 (40 + size))))))
+
+-- the first of the nine tests that holds
+unfoldable pub first_fault : List ℕ → Option Fault
+first_fault [] = Some Truncated
+first_fault (first ∷ rest) =
+    refuse (not ((first / 16 == 4) || (first / 16 == 6))) Version
+    (if first / 16 == 4 then v4_fault (first ∷ rest) else v6_fault (first ∷ rest))
+
+-- the fields of the TCP bytes (RFC 9293, section 3.1)
+abbrev pub tcp_fields : IpHeader → Address → Address → List ℕ → Segment
+tcp_fields ip source destination t =
+    let size = 4 * (slice_index t 12 / 16) in
+    record {
       ip = ip;
       source = record { address = source; port = two_at t 0 };
       destination = record { address = destination; port = two_at t 2 };
@@ -147,36 +193,31 @@ read_tcp ip source destination t =
       window = two_at t 14;
       checksum = two_at t 16;
       urgent = two_at t 18;
-      area = area;
+      area = slice_range t 20 size;
       payload = drop size t;
-    })
-    (options_of area))
+    }
 
--- the IPv4 header, with its tests in order (RFC 791, section 3.1)
-abbrev pub read_v4 : List ℕ → Reading
-read_v4 b =
+-- the fields of a datagram over IPv4 (RFC 791, section 3.1)
+abbrev pub v4_fields : List ℕ → Segment
+v4_fields b =
     let size = 4 * (slice_index b 0 % 16) in
-    let total = two_at b 2 in
-    if nat_lt (length b) 20 || nat_lt (length b) total then Bad Truncated
-    else (if nat_lt size 20 || nat_lt total size then Bad HeaderLength
-    else (if not (sums (take size b)) then Bad HeaderChecksum
-    else (if not (two_at b 6 % 16384 == 0) then Bad Fragment
-    else (if not (slice_index b 9 == 6) then Bad NotTcp
-    else read_tcp (Ipv4 (slice_index b 1) (two_at b 4) (slice_index b 6 / 64) (slice_index b 8) (two_at b 10) (slice_range b 20 size))
-    (V4 (slice_range b 12 16)) (V4 (slice_range b 16 20)) (slice_range b size total)))))
+    tcp_fields (Ipv4 (slice_index b 1) (two_at b 4) (slice_index b 6 / 64) (slice_index b 8) (two_at b 10) (slice_range b 20 size))
+    (V4 (slice_range b 12 16)) (V4 (slice_range b 16 20)) (slice_range b size (two_at b 2))
 
--- the IPv6 header, with its tests in order (RFC 8200, section 3)
-abbrev pub read_v6 : List ℕ → Reading
-read_v6 b =
-    let size = two_at b 4 in
-    let next = slice_index b 6 in
-    if nat_lt (length b) 40 || nat_lt (length b) (40 + size) then Bad Truncated
-    else (if (next == 0) || (next == 43) || (next == 44) || (next == 60) then Bad ExtensionHeader
-    else (if not (next == 6) then Bad NotTcp
-    else read_tcp (Ipv6 (four_at b 0 % 268435456) (slice_index b 7)) (V6 (slice_range b 8 24)) (V6 (slice_range b 24 40)) (slice_range b 40 (40 + size))))
+-- the fields of a datagram over IPv6 (RFC 8200, section 3)
+abbrev pub v6_fields : List ℕ → Segment
+v6_fields b =
+    tcp_fields (Ipv6 (four_at b 0 % 268435456) (slice_index b 7)) (V6 (slice_range b 8 24)) (V6 (slice_range b 24 40)) (slice_range b 40 (40 + two_at b 4))
+
+-- the fields of a datagram, each at its place
+unfoldable pub fields : List ℕ → Segment
+fields b = if slice_index b 0 / 16 == 4 then v4_fields b else v6_fields b
+
+-- the fault, or the segment where there is none
+abbrev pub read_unless : Option Fault → Segment → Reading
+read_unless None d = Read d
+read_unless (Some fault) d = Bad fault
 
 -- the datagram that a prefix of the bytes spells, or the first of the nine faults
 unfoldable pub reading : List ℕ → Reading
-reading [] = Bad Truncated
-reading (first ∷ rest) =
-    if first / 16 == 4 then read_v4 (first ∷ rest) else (if first / 16 == 6 then read_v6 (first ∷ rest) else Bad Version)
+reading b = read_unless (first_fault b) (fields b)

@@ -1,0 +1,100 @@
+-- Which bytes spell which datagram (RFC 791, section 3.1; RFC 8200, section 3; RFC 9293, section 3.1).
+use Rattle.std.specs.Prelude.{◌≡◌, ℕ, ◌+◌, ◌-◌, ◌*◌, ◌/◌, ◌%◌, ◌==◌, ◌<◌, ◌≤◌, true, IsTrue, List, [], ◌∷◌, ◌++◌, length, take, drop, slice_index, if◌then◌else◌}
+use Rattle.ao_base.specs.declared.address.Address.{Address}
+use Rattle.ao_base.specs.declared.address.Address.TheVariants.{V4, V6}
+use Rattle.segment_model.specs.Bytes.{put2, put4}
+use Rattle.segment_model.specs.Options.{AreListed, options_of}
+use Rattle.segment_model.specs.Segments.{IpHeader, Ipv4, Ipv6, Segment, sums, complement_of, checksum_of, good, spell_as, spell, tcp_length}
+
+-- numbers below 256
+abbrev pub AreBytes : List ℕ → Type 0
+AreBytes xs = (i : ℕ) → slice_index xs i < 256
+
+-- bytes of whole 32-bit words, ten at most
+pub record IsArea (xs : List ℕ) : Type 0 where
+  pub words : length xs % 4 ≡ 0
+  pub most : length xs ≤ 40
+  pub bytes : AreBytes xs
+
+-- an address of IPv4, or of IPv6
+abbrev pub IsV4 : Address → Type 0
+IsV4 (V4 bytes) = (length bytes ≡ 4) × AreBytes bytes
+IsV4 (V6 bytes) = ⊥
+
+abbrev pub IsV6 : Address → Type 0
+IsV6 (V4 bytes) = ⊥
+IsV6 (V6 bytes) = (length bytes ≡ 16) × AreBytes bytes
+
+-- the fields of an IPv4 header fit their places: no fragment, and its words sum to ffff (RFC 791, section 3.1)
+pub record FitsV4 (d : Segment) (service identification flags ttl checksum : ℕ) (options : List ℕ) : Type 0 where
+  pub service_fits : service < 256
+  pub identification_fits : identification < 65536
+  pub flags_fit : flags < 4
+  pub ttl_fits : ttl < 256
+  pub checksum_fits : checksum < 65536
+  pub options_fit : IsArea options
+  pub source : IsV4 d.source.address
+  pub destination : IsV4 d.destination.address
+  pub total : 20 + length options + tcp_length d < 65536
+  pub right : sums (spell_as d.ip d []) ≡ true
+
+-- the fields of an IPv6 header fit their places (RFC 8200, section 3)
+pub record FitsV6 (d : Segment) (class_flow hops : ℕ) : Type 0 where
+  pub class_flow_fits : class_flow < 268435456
+  pub hops_fit : hops < 256
+  pub source : IsV6 d.source.address
+  pub destination : IsV6 d.destination.address
+  pub total : tcp_length d < 65536
+
+abbrev pub FitsIp : IpHeader → Segment → Type 0
+FitsIp (Ipv4 service identification flags ttl checksum options) d = FitsV4 d service identification flags ttl checksum options
+FitsIp (Ipv6 class_flow hops) d = FitsV6 d class_flow hops
+
+-- each field of a datagram fits its place, and its option area has no fault (RFC 9293, section 3.1)
+pub record Fits (d : Segment) : Type 0 where
+  pub ip : FitsIp d.ip d
+  pub source_port : d.source.port < 65536
+  pub destination_port : d.destination.port < 65536
+  pub sequence : d.sequence < 4294967296
+  pub acknowledgement : d.acknowledgement < 4294967296
+  pub reserved : d.reserved < 16
+  pub flags : d.flags < 256
+  pub window : d.window < 65536
+  pub checksum : d.checksum < 65536
+  pub urgent : d.urgent < 65536
+  pub area : IsArea d.area
+  pub listed : AreListed (options_of d.area)
+  pub payload : AreBytes d.payload
+
+-- the bytes are a datagram's: IP header, TCP header, options and payload (RFC 791, section 3.1; RFC 8200, section 3; RFC 9293, section 3.1)
+pub record Spells (d : Segment) (bytes : List ℕ) : Type 0 where
+  pub fits : Fits d
+  pub spelled : bytes ≡ spell d
+
+-- the TCP checksum is right (RFC 9293, section 3.1)
+abbrev pub Good : Segment → Type 0
+Good d = IsTrue (good d)
+
+-- a datagram with its TCP checksum set right (RFC 9293, section 3.1)
+abbrev pub finished : Segment → Segment
+finished d = record d { checksum = checksum_of d }
+
+-- TCP bytes with this checksum in their header (RFC 9293, section 3.1)
+abbrev pub with_checksum : List ℕ → ℕ → List ℕ
+with_checksum t checksum = take 16 t ++ put2 checksum (drop 18 t)
+
+-- the bytes of the IP header where it has no options (RFC 791, section 3.1; RFC 8200, section 3)
+abbrev pub ip_length : List ℕ → ℕ
+ip_length b = if slice_index b 0 / 16 == 4 then 20 else 40
+
+-- the pseudo-header of a datagram's bytes whose IP header has no options, and then the rest (RFC 9293, section 3.1; RFC 8200, section 8.1)
+abbrev pub pseudo_of_bytes : List ℕ → List ℕ → List ℕ
+pseudo_of_bytes b rest =
+    if slice_index b 0 / 16 == 4 then take 8 (drop 12 b) ++ (0 ∷ 6 ∷ put2 (length b - 20) rest)
+    else take 32 (drop 8 b) ++ put4 (length b - 40) (0 ∷ 0 ∷ 0 ∷ 6 ∷ rest)
+
+-- a datagram's bytes with the TCP checksum set right, whatever else they hold (RFC 9293, section 3.1)
+unfoldable pub with_right_checksum : List ℕ → List ℕ
+with_right_checksum b =
+    let t = drop (ip_length b) b in
+    take (ip_length b) b ++ with_checksum t (complement_of (pseudo_of_bytes b (with_checksum t 0)))

@@ -1,0 +1,2 @@
+//! Datagrams of IP and TCP, read in place and written in place.
+#![tactic(auto)]
