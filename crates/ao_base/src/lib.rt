@@ -16,6 +16,8 @@ mod memory;
 mod outside;
 mod print;
 mod quiet;
+#[cfg(test)]
+mod tests;
 mod whole;
 
 pub use adapters::{ReadSource, WriteSink};

@@ -1,0 +1,97 @@
+use crate::{
+    Address, Bytes, MemSink, MemSource, Numbers, QuietSource, ReadProblem, ReadSource, WriteSink,
+    print_address, push_decimal, push_hex, read_address, read_all, read_hex, write_all,
+};
+use std::alloc::{AllocError, Global};
+use std::test::Fail;
+
+fn bytes_of(alloc: Global, text: &[u8]) -> Result<Bytes, AllocError> {
+    Ok(Bytes::from_vec(Vec::from_slice(alloc, text)?))
+}
+
+fn numbers_of(alloc: Global, numbers: &[u64]) -> Result<Numbers, AllocError> {
+    Ok(Numbers::from_vec(Vec::from_slice(alloc, numbers)?))
+}
+
+#[test]
+fn hexadecimal_is_read_in_either_case(rt: HostRuntime) -> Result<(), Fail> {
+    let bytes = read_hex(rt.alloc(), b"00fFA5".as_slice())?;
+    assert_eq!(rt; bytes.as_slice(), [0u8, 255, 165].as_slice());
+    Ok(())
+}
+
+#[test]
+fn addresses_are_printed_in_both_forms(rt: HostRuntime) -> Result<(), Fail> {
+    let text = print_address(rt.alloc(), &Address::V4([0, 9, 10, 255]))?;
+    assert_eq!(rt; text.as_slice(), b"0.9.10.255".as_slice());
+    let six = read_address(b"20010DB8000000000000000000000001".as_slice()).ok_or("no address")?;
+    let text = print_address(rt.alloc(), &six)?;
+    assert_eq!(rt;
+        text.as_slice(),
+        b"20010db8000000000000000000000001".as_slice()
+    );
+    Ok(())
+}
+
+#[test]
+fn printed_pieces_stand_one_after_another(rt: HostRuntime) -> Result<(), Fail> {
+    let mut out = Vec::from_slice(rt.alloc(), b"len ")?;
+    push_decimal(&mut out, 1460)?;
+    out.push(b' ')?;
+    push_hex(&mut out, [10u8, 254].as_slice())?;
+    assert_eq!(rt; out.as_slice(), b"len 1460 0afe".as_slice());
+    Ok(())
+}
+
+#[test]
+fn a_source_is_read_to_its_end_in_pieces(rt: HostRuntime) -> Result<(), Fail> {
+    let failing = numbers_of(rt.alloc(), [].as_slice())?;
+    let mut src = MemSource::new(bytes_of(rt.alloc(), b"hello")?, 2, failing);
+    assert_eq!(rt;
+        read_all(rt.alloc(), &mut src, 5)?.as_slice(),
+        b"hello".as_slice()
+    );
+    let mut src = QuietSource::new(bytes_of(rt.alloc(), b"hello")?);
+    let long = read_all(rt.alloc(), &mut src, 4);
+    assert!(rt; matches!(long, Err(ReadProblem::TooLong)));
+    let mut src = ReadSource::new(b"hello".as_slice());
+    assert_eq!(rt;
+        read_all(rt.alloc(), &mut src, 9)?.as_slice(),
+        b"hello".as_slice()
+    );
+    Ok(())
+}
+
+#[test]
+fn a_read_that_fails_in_the_middle_is_a_fault(rt: HostRuntime) -> Result<(), Fail> {
+    let failing = numbers_of(rt.alloc(), [2].as_slice())?;
+    let mut src = MemSource::new(bytes_of(rt.alloc(), b"hello")?, 2, failing);
+    let read = read_all(rt.alloc(), &mut src, 9);
+    assert!(rt; matches!(read, Err(ReadProblem::Fault)));
+    assert_eq!(rt;
+        read_all(rt.alloc(), &mut src, 9)?.as_slice(),
+        b"llo".as_slice()
+    );
+    Ok(())
+}
+
+#[test]
+fn a_sink_holds_what_fits(rt: HostRuntime) -> Result<(), Fail> {
+    let mut sink = MemSink::new(rt.alloc(), 7, numbers_of(rt.alloc(), [].as_slice())?)?;
+    write_all(&mut sink, b"hello".as_slice())?;
+    assert!(rt; write_all(&mut sink, b"you".as_slice()).is_err());
+    assert_eq!(rt; sink.bytes(), b"helloyo".as_slice());
+    let mut sink = MemSink::new(rt.alloc(), 7, numbers_of(rt.alloc(), [1].as_slice())?)?;
+    assert!(rt; write_all(&mut sink, b"hello".as_slice()).is_err());
+    assert_eq!(rt; sink.bytes(), b"".as_slice());
+    Ok(())
+}
+
+#[test]
+fn a_writer_gets_the_bytes(rt: HostRuntime) -> Result<(), Fail> {
+    let mut text = Vec::new(rt.alloc());
+    let mut sink = WriteSink::new(&mut text);
+    write_all(&mut sink, b"hello".as_slice())?;
+    assert_eq!(rt; text.as_slice(), b"hello".as_slice());
+    Ok(())
+}
