@@ -146,6 +146,7 @@ data_ok setup e w s k (Some q) some knows h =
           destination = refl;
           input = refl;
           sequence = refl;
+          low = h.next_low;
           number_fits = omega arith;
           sealed = refl;
           written = refl;

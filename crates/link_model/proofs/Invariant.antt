@@ -55,6 +55,7 @@ pub record MadeBy (setup : Setup) (maker : End) (s : EndState) (m : Made) : Type
   pub destination : draft.destination ≡ (pair_of setup maker).remote
   pub input : m.emission.input ≡ mac_input m.emission.number draft ao true
   pub sequence : m.emission.number % 4294967296 ≡ draft.sequence
+  pub low : s.iss + 1 ≤ m.emission.number
   pub number_fits : m.emission.number + length draft.payload ≤ 2 ^ 63
   pub sealed : m.emission.segment ≡ with_checksum
       (record draft {
@@ -73,10 +74,10 @@ pub record MadeOk (setup : Setup) (maker : End) (sessions : List Session) (m : M
   pub by : MadeBy setup maker session.state m
 
 -- all entries are as made
-abbrev pub AllMade : Setup → World → List Happening → Type 0
-AllMade setup w [] = ⊤
-AllMade setup w (Sending m ∷ past) = MadeOk setup m.maker (side w m.maker).sessions m × AllMade setup w past
-AllMade setup w (Coming r ∷ past) = AllMade setup w past
+abbrev pub AllMadeOk : Setup → World → List Happening → Type 0
+AllMadeOk setup w [] = ⊤
+AllMadeOk setup w (Sending m ∷ past) = MadeOk setup m.maker (side w m.maker).sessions m × AllMadeOk setup w past
+AllMadeOk setup w (Coming r ∷ past) = AllMadeOk setup w past
 
 -- the session's partner is one of these, and this is so of it
 pub record OfPartner (others : List Session) (s : EndState) (P : EndState → Type 0) : Type 0 where
@@ -101,7 +102,7 @@ AllFromPartner others sessions = AllByRecursion (λ (s : Session). FromPartner o
 
 -- the facts that each step keeps together
 pub record Inv (setup : Setup) (w : World) : Type 0 where
-  pub made : AllMade setup w w.history
+  pub made : AllMadeOk setup w w.history
   pub sound : (e : End) → AllSound (side w e).sessions
   pub origin : forgeries w.history ≡ 0 → (e : End) → AllFromPartner (side w (other e)).sessions (side w e).sessions
 

@@ -9,7 +9,7 @@ use Rattle.endpoint_model.specs.Verdicts.{Passed}
 use Rattle.endpoint_model.specs.States.{EndState, first}
 use Rattle.link_model.specs.Worlds.{other, Setup, Session, Side, Happening, Sending, Coming, World, side, find, forged, forgeries}
 use Rattle.link_model.specs.Steps.{Act, add, put, acted, act_on}
-use Rattle.link_model.proofs.Invariant.{GivenAt, Later, Sound, MadeBy, MadeOk, AllMade, OfPartner, FromPartner, AllSound, AllFromPartner, Inv, Grows, Carries}
+use Rattle.link_model.proofs.Invariant.{GivenAt, Later, Sound, MadeBy, MadeOk, AllMadeOk, OfPartner, FromPartner, AllSound, AllFromPartner, Inv, Grows, Carries}
 use Rattle.link_model.proofs.Origins.{given-later, all_made-grows, find_sound, found_made, none_forged, byte_origin}
 
 pub later_refl : (s : EndState) → Later s s
@@ -77,7 +77,7 @@ NewMade setup e sessions (Some (Sending m)) = (m.maker ≡ e) × MadeOk setup e 
 NewMade setup e sessions (Some (Coming r)) = ⊤
 
 made_add : (setup : Setup) (v : World) (e : End) (happened : Option Happening) (history : List Happening)
-    → NewMade setup e (side v e).sessions happened → AllMade setup v history → AllMade setup v (add happened history)
+    → NewMade setup e (side v e).sessions happened → AllMadeOk setup v history → AllMadeOk setup v (add happened history)
 made_add setup v e None history new h = h
 made_add setup v e (Some (Sending m)) history new h = (subst (λ (f : End). MadeOk setup f (side v f).sessions m) (sym new.0) new.1, h)
 made_add setup v e (Some (Coming r)) history new h = h
@@ -162,7 +162,7 @@ x_fits others s all h from =
     let small : s.x < 2 ^ 64 = omega arith in small)
     (no_more s.x (first s.irs))
 
-brought : (setup : Setup) (w : World) (e : End) (s : EndState) (happened : Option Happening) (p b : ℕ) → AllMade setup w w.history → Sound s → s.x < 2 ^ 64
+brought : (setup : Setup) (w : World) (e : End) (s : EndState) (happened : Option Happening) (p b : ℕ) → AllMadeOk setup w w.history → Sound s → s.x < 2 ^ 64
     → forgeries (add happened w.history) ≡ 0 → Brings setup e s happened p b → OfPartner (side w (other e)).sessions s (λ t. GivenAt t p b)
 brought setup w e s None p b made sound small none h = absurd h
 brought setup w e s (Some (Sending m)) p b made sound small none h = absurd h

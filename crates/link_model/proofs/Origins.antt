@@ -1,5 +1,5 @@
 -- Where a received byte comes from, where no forgery is counted.
-use Rattle.std.proofs.Common.{◌≡◌, ℕ, ◌+◌, ◌%◌, ◌^◌, ◌<◌, ◌==◌, Bool, true, false, ◌&&◌, ◌||◌, List, [], ◌∷◌, length, slice_get, Option, Some, if◌then◌else◌, refl, sym, ap, ◌∙◌, subst, arith}
+use Rattle.std.proofs.Common.{◌≡◌, ℕ, ◌≤◌, ◌+◌, ◌%◌, ◌^◌, ◌<◌, ◌==◌, Bool, true, false, ◌&&◌, ◌||◌, List, [], ◌∷◌, length, slice_get, Option, Some, if◌then◌else◌, refl, sym, ap, ◌∙◌, subst, arith}
 use Rattle.ao_base.specs.declared.address.Address.{Address}
 use Rattle.ao_base.specs.declared.address.Address.TheVariants.{V4, V6}
 use Rattle.ao_base.specs.declared.address.Socket.{Socket}
@@ -17,7 +17,7 @@ use Rattle.endpoint_model.specs.Verdicts.{same_key, Passed}
 use Rattle.endpoint_model.specs.States.{EndState}
 use Rattle.link_model.specs.Worlds.{other, same_end, Setup, pair_of, Session, Made, Happening, Sending, Coming, World, side, find, accounts_for, was_made, forged}
 use Rattle.link_model.proofs.Lists.{slice_get-append}
-use Rattle.link_model.proofs.Invariant.{GivenAt, Later, Sound, MadeBy, MadeOk, AllMade, OfPartner, AllSound, Grows, Passing, Carries}
+use Rattle.link_model.proofs.Invariant.{GivenAt, Later, Sound, MadeBy, MadeOk, AllMadeOk, OfPartner, AllSound, Grows, Passing, Carries}
 
 pub given-later : (old new : EndState) (p b : ℕ) → Later old new → GivenAt old p b → GivenAt new p b
 given-later old new p b l (j, at, byte) =
@@ -43,6 +43,7 @@ made-later setup maker old new m l h =
       destination = h.destination;
       input = h.input;
       sequence = h.sequence;
+      low = subst (λ (n : ℕ). n + 1 ≤ m.emission.number) (sym l.iss) h.low;
       number_fits = h.number_fits;
       sealed = h.sealed;
       written = h.written;
@@ -56,7 +57,7 @@ made_ok-grows setup maker old new m g h =
     record { session = r.0; found = r.1; by = made-later setup maker h.session.state r.0.state m r.2 h.by }
 
 pub all_made-grows : (setup : Setup) (w v : World) (history : List Happening) → ((e : End) → Grows (side w e).sessions (side v e).sessions)
-    → AllMade setup w history → AllMade setup v history
+    → AllMadeOk setup w history → AllMadeOk setup v history
 all_made-grows setup w v [] g h = h
 all_made-grows setup w v (Sending m ∷ past) g h =
     (made_ok-grows setup m.maker (side w m.maker).sessions (side v m.maker).sessions m (g m.maker) h.0, all_made-grows setup w v past g h.1)
@@ -91,7 +92,7 @@ found_or : (setup : Setup) (w : World) (at : End) (passed : Passed) (m : Made) (
 found_or setup w at passed m true c says h more f = record { made = m; accounts = says; ok = h }
 found_or setup w at passed m false c says h more f = more f
 
-pub found_made : (setup : Setup) (w : World) (at : End) (passed : Passed) (past : List Happening) → was_made at passed past ≡ true → AllMade setup w past → Found setup w at passed
+pub found_made : (setup : Setup) (w : World) (at : End) (passed : Passed) (past : List Happening) → was_made at passed past ≡ true → AllMadeOk setup w past → Found setup w at passed
 found_made setup w at passed [] e h = absurd (cc)
 found_made setup w at passed (Coming r ∷ past) e h = found_made setup w at passed past e h
 found_made setup w at passed (Sending m ∷ past) e h =

@@ -1,10 +1,12 @@
 -- What holds of every run.
-use Rattle.std.specs.Prelude.{◌≡◌, ℕ, ◌<◌, ◌^◌, List, [], ◌++◌, Option, Some, None, ⊤}
+use Rattle.std.specs.Prelude.{◌≡◌, ℕ, ◌+◌, ◌%◌, ◌<◌, ◌≤◌, ◌^◌, List, [], ◌∷◌, ◌++◌, length, Option, Some, None, ⊤}
 use Rattle.std.specs.List.{AllByRecursion}
 use Rattle.ao_base.specs.declared.end.End.{End}
+use Rattle.segment_model.specs.Segments.{spell}
 use Rattle.endpoint_model.specs.States.{ready}
+use Rattle.endpoint_model.specs.Emissions.{slice_at}
 use Rattle.link_model.specs.Events.{Event, Clock, Start, Give, Fill, Send, Deliver, Inject, Alter, Take, Dump}
-use Rattle.link_model.specs.Worlds.{Session, World, side, partner, forgeries}
+use Rattle.link_model.specs.Worlds.{Session, Made, Happening, Sending, Coming, World, side, find, partner, forgeries}
 
 -- initial sequence numbers are 32-bit numbers (RFC 9293, section 3.4.1)
 abbrev pub EventFits : Event → Type 0
@@ -33,3 +35,18 @@ abbrev pub DeliversInOrder : World → Type 0
 DeliversInOrder w =
     forgeries w.history ≡ 0 → (e : End)
     → AllByRecursion (λ (s : Session). ComesFrom (partner w e s.state) (s.state.taken ++ ready s.state)) (side w e).sessions
+
+-- all segments that were made are so
+abbrev pub AllMade : (Made → Type 0) → List Happening → Type 0
+AllMade P [] = ⊤
+AllMade P (Sending m ∷ past) = P m × AllMade P past
+AllMade P (Coming r ∷ past) = AllMade P past
+
+-- a segment carries, at its number, the bytes given to its session at that place; its datagram spells it
+pub record Carried (w : World) (m : Made) : Type 0 where
+  pub session : Session
+  pub found : find (side w m.maker).sessions m.isn ≡ Some session
+  pub place : session.state.iss + 1 ≤ m.emission.number
+  pub payload : m.emission.segment.payload ≡ slice_at session.state m.emission.number (length m.emission.segment.payload)
+  pub sequence : m.emission.segment.sequence ≡ m.emission.number % 2 ^ 32
+  pub bytes : m.bytes ≡ spell m.emission.segment

@@ -2,7 +2,7 @@
 ghost use Rattle.std.specs.Prelude.{List};
 ghost use Rattle.std.specs.List.{AllByRecursion};
 ghost use Rattle.link_model.specs.Events.{Event};
-ghost use Rattle.link_model.specs.Headline.{EventFits, DeliversInOrder};
+ghost use Rattle.link_model.specs.Headline.{EventFits, DeliversInOrder, AllMade, Carried};
 ghost use Rattle.link_model.specs.Runs.{run};
 ghost use Rattle.link_model.specs.Worlds.{Setup};
 
@@ -12,4 +12,11 @@ ghost use Rattle.link_model.specs.Worlds.{Setup};
 /// reordered, altered or injected. The premise says that initial sequence numbers are of 32 bits.
 pub fn delivers_in_order()
     ensures { (setup : Setup) (events : List Event) → AllByRecursion EventFits events → DeliversInOrder (run setup events) }
+{}
+
+/// Each segment that an end made carries, at its number, the bytes that were given to its session
+/// at that place, and its datagram is the spelling of that segment. The premise says that initial
+/// sequence numbers are of 32 bits.
+pub fn carries_given()
+    ensures { (setup : Setup) (events : List Event) → AllByRecursion EventFits events → AllMade (Carried (run setup events)) (run setup events).history }
 {}

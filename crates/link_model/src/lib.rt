@@ -4,5 +4,7 @@
 #![tactic(auto)]
 
 mod headline;
+mod runs;
 
-pub use headline::delivers_in_order;
+pub use headline::{carries_given, delivers_in_order};
+pub use runs::runs_go_on;
