@@ -1,0 +1,2 @@
+pub mod EventLoop
+pub mod TextParts

@@ -1,0 +1,115 @@
+-- What the words of a line say, from the left, or the kind of the first faulty one. Our own format.
+use Rattle.std.specs.Prelude.{◌≡◌, ℕ, ◌&&◌, nat_le, nat_lt, if◌then◌else◌, Bool, true, false, List, [], ◌∷◌, length, codes, Option, Some, None, Result, Ok, Err}
+use Rattle.std.specs.Str.{bytes_eq}
+use Rattle.ao_base.specs.declared.address.Address.{Address}
+use Rattle.ao_base.specs.declared.algorithm.Algorithm.{Algorithm}
+use Rattle.ao_base.specs.declared.end.End.{End}
+use Rattle.ao_base.specs.declared.end.End.TheVariants.{A, B}
+use Rattle.ao_base.specs.declared.line_kind.LineKind.{LineKind}
+use Rattle.ao_base.specs.declared.line_kind.LineKind.TheVariants.{Word, Number, Hex, Range}
+use Rattle.link_script.specs.declared.fault.Refusal.{Refusal}
+use Rattle.link_script.specs.declared.fault.Refusal.TheVariants as refusal
+use Rattle.ao_base.specs.Addresses.{address_of}
+use Rattle.ao_base.specs.Algorithms.{algorithm_of}
+use Rattle.ao_base.specs.Decimals.{decimal_of}
+use Rattle.ao_base.specs.Hexadecimal.{bytes_of_hex}
+
+-- one reading after another, up to the first fault
+infixl 10 ◌>>=◌
+abbrev pub ◌>>=◌ : {A B F : Type 0} → Result A F → (A → Result B F) → Result B F
+(Ok x) >>= f = f x
+(Err e) >>= f = Err e
+
+-- what a word says, and the words after it
+pub record Taken (A : Type 0) : Type 0 where
+  pub value : A
+  pub rest : List (List ℕ)
+
+-- a value that may be missing, or the fault
+abbrev pub or_fault : {A : Type 0} → Option A → LineKind → Result A LineKind
+or_fault (Some x) kind = Ok x
+or_fault None kind = Err kind
+
+-- the next word, which may not be missing
+unfoldable pub word_in : List (List ℕ) → Result (Taken (List ℕ)) LineKind
+word_in [] = Err Word
+word_in (w ∷ ws) = Ok (record { value = w; rest = ws })
+
+-- no word is surplus
+unfoldable pub nothing_in : List (List ℕ) → Result (Unit {0}) LineKind
+nothing_in [] = Ok tt
+nothing_in (w ∷ ws) = Err Word
+
+-- a word that is what a reading makes of it, or else is of the kind
+abbrev pub word_as : {A : Type 0} → (List ℕ → Option A) → LineKind → List (List ℕ) → Result (Taken A) LineKind
+word_as meaning kind ws = do
+  w ← word_in ws
+  x ← or_fault (meaning w.value) kind
+  Ok (record { value = x; rest = w.rest })
+
+-- `a` or `b`
+unfoldable pub end_of : List ℕ → Option End
+end_of w = if bytes_eq w (codes "a") then Some A else if bytes_eq w (codes "b") then Some B else None
+
+-- `keep` or `fix`
+unfoldable pub fixing_of : List ℕ → Option Bool
+fixing_of w = if bytes_eq w (codes "keep") then Some false else if bytes_eq w (codes "fix") then Some true else None
+
+unfoldable pub end_in : List (List ℕ) → Result (Taken End) LineKind
+end_in ws = word_as end_of Word ws
+
+unfoldable pub fixing_in : List (List ℕ) → Result (Taken Bool) LineKind
+fixing_in ws = word_as fixing_of Word ws
+
+unfoldable pub address_in : List (List ℕ) → Result (Taken Address) LineKind
+address_in ws = word_as address_of Word ws
+
+unfoldable pub algorithm_in : List (List ℕ) → Result (Taken Algorithm) LineKind
+algorithm_in ws = word_as algorithm_of Word ws
+
+-- the word itself
+unfoldable pub literal_in : List ℕ → List (List ℕ) → Result (Taken (Unit {0})) LineKind
+literal_in text ws = word_as (λ w. if bytes_eq w text then Some tt else None) Word ws
+
+-- within the range, or a fault of it
+abbrev pub within : {A : Type 0} → ℕ → ℕ → ℕ → A → Result A LineKind
+within low high n x = if nat_le low n && nat_le n high then Ok x else Err Range
+
+-- a decimal from low to high
+unfoldable pub number_in : ℕ → ℕ → List (List ℕ) → Result (Taken ℕ) LineKind
+number_in low high ws = do
+  n ← word_as decimal_of Number ws
+  within low high n.value n
+
+-- from low to high bytes in hexadecimal
+unfoldable pub hex_in : ℕ → ℕ → List (List ℕ) → Result (Taken (List ℕ)) LineKind
+hex_in low high ws = do
+  bytes ← word_as bytes_of_hex Hex ws
+  within low high (length bytes.value) bytes
+
+-- at least one byte in hexadecimal
+unfoldable pub some_hex_in : List (List ℕ) → Result (Taken (List ℕ)) LineKind
+some_hex_in ws = do
+  bytes ← word_as bytes_of_hex Hex ws
+  if nat_lt 0 (length bytes.value) then Ok bytes else Err Range
+
+-- a byte of two digits
+abbrev pub first_of : List ℕ → ℕ
+first_of [] = 0
+first_of (b ∷ bs) = b
+
+unfoldable pub byte_in : List (List ℕ) → Result (Taken ℕ) LineKind
+byte_in ws = do
+  bytes ← hex_in 1 1 ws
+  Ok (record { value = first_of bytes.value; rest = bytes.rest })
+
+-- what a reading answered, with the words that are left
+abbrev pub gives : {A F : Type 0} → Result A F → List (List ℕ) → Result (Taken A) F
+gives (Ok x) rest = Ok (record { value = x; rest = rest })
+gives (Err e) rest = Err e
+
+-- what a reading that takes memory answered is what is said, unless memory ran out
+abbrev pub Tells : {A : Type 0} → Result A Refusal → Result A LineKind → Type 0
+Tells (Ok x) said = said ≡ Ok x
+Tells (Err refusal.Memory) said = Unit {0}
+Tells (Err (refusal.Kind kind)) said = said ≡ Err kind

@@ -1,0 +1,19 @@
+//! The link file: two sockets, perhaps a shared key, and the events of a link, one a line. It is
+//! read line by line and word by word, so that a mistake is named by its line and kind, and a
+//! script is printed as a file that is read again as this script.
+#![tactic(auto)]
+
+mod event;
+mod fault;
+mod line_events;
+mod line_words;
+mod printing;
+mod reading;
+mod saying;
+mod script;
+
+pub use event::{Event, Events};
+pub use fault::ScriptFault;
+pub use printing::print_script;
+pub use reading::read_script;
+pub use script::{Script, SharedKey};

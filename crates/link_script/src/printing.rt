@@ -1,0 +1,181 @@
+//! A script, printed as a link file.
+ghost use Rattle.std.specs.Prelude.{◌≡◌, ◌++◌, ◌∷◌, [], OnOk, IfOk, codes, decimal, map, option_map};
+ghost use Rattle.ao_base.specs.Addresses.{address_text};
+ghost use Rattle.ao_base.specs.Hexadecimal.{hex_of};
+ghost use Rattle.link_script.specs.Printed.{end_text, event_words, fixing_text, key_lines, line_text, lines_text, script_lines, socket_words, text_of, title_words};
+
+use super::event::Event;
+use super::script::{Script, SharedKey};
+use ao_base::{Bytes, End, Socket, print_address, push_decimal, push_hex};
+use std::alloc::{AllocError, Global};
+
+fn push_text(out: &mut Vec<u8>, text: &[u8]) -> Result<(), AllocError>
+    ensures { OnOk result (out.new.items ≡ out.old.items ++ text.now) }
+{
+    out.extend_from_slice(text)
+}
+
+/// A space, and then a number in decimal.
+fn push_number(out: &mut Vec<u8>, number: u64) -> Result<(), AllocError>
+    ensures { OnOk result (out.new.items ≡ out.old.items ++ 32 ∷ decimal number) }
+{
+    out.push(b' ')?;
+    push_decimal(out, number)
+}
+
+/// A space, and then bytes in hexadecimal.
+fn push_bytes(out: &mut Vec<u8>, bytes: &[u8]) -> Result<(), AllocError>
+    ensures { OnOk result (out.new.items ≡ out.old.items ++ 32 ∷ hex_of bytes.now) }
+{
+    out.push(b' ')?;
+    push_hex(out, bytes)
+}
+
+/// A space, and then an end.
+fn push_end(out: &mut Vec<u8>, end: End) -> Result<(), AllocError>
+    ensures { OnOk result (out.new.items ≡ out.old.items ++ 32 ∷ end_text end) }
+{
+    out.push(b' ')?;
+    match end {
+        End::A => out.push(b'a')?,
+        End::B => out.push(b'b')?,
+    }
+    Ok(())
+}
+
+/// A space, and then `keep` or `fix`.
+fn push_fixing(out: &mut Vec<u8>, fixing: bool) -> Result<(), AllocError>
+    ensures { OnOk result (out.new.items ≡ out.old.items ++ 32 ∷ fixing_text fixing) }
+{
+    if fixing {
+        push_text(out, b" fix")
+    } else {
+        push_text(out, b" keep")
+    }
+}
+
+/// The name of an event, and the end that it is about.
+fn push_name(out: &mut Vec<u8>, name: &[u8], end: End) -> Result<(), AllocError>
+    ensures { OnOk result (out.new.items ≡ out.old.items ++ (name.now ++ 32 ∷ end_text end)) }
+{
+    push_text(out, name)?;
+    push_end(out, end)
+}
+
+/// The words of an event, and a newline.
+#[tactic(auto, unfolding(crate::specs::Printed::event_words))]
+fn push_event(out: &mut Vec<u8>, event: &Event) -> Result<(), AllocError>
+    ensures { OnOk result (out.new.items ≡ out.old.items ++ line_text (event_words event.now)) }
+{
+    match event {
+        Event::Clock(end, seconds) => {
+            push_name(out, b"clock", *end)?;
+            push_number(out, *seconds)?;
+        }
+        Event::Start(end, own, peer) => {
+            push_name(out, b"start", *end)?;
+            push_number(out, u64::from(*own))?;
+            push_number(out, u64::from(*peer))?;
+        }
+        Event::Give(end, bytes) => {
+            push_name(out, b"give", *end)?;
+            push_bytes(out, bytes.as_slice())?;
+        }
+        Event::Fill(end, count, byte) => {
+            push_name(out, b"fill", *end)?;
+            push_number(out, u64::from(*count))?;
+            push_bytes(out, &[*byte])?;
+        }
+        Event::Send(end) => push_name(out, b"send", *end)?,
+        Event::Deliver(end, segment) => {
+            push_name(out, b"deliver", *end)?;
+            push_number(out, u64::from(*segment))?;
+        }
+        Event::Inject(end, bytes) => {
+            push_name(out, b"inject", *end)?;
+            push_bytes(out, bytes.as_slice())?;
+        }
+        Event::Alter(end, segment, place, mask, fixing) => {
+            push_name(out, b"alter", *end)?;
+            push_number(out, u64::from(*segment))?;
+            push_number(out, u64::from(*place))?;
+            push_bytes(out, &[*mask])?;
+            push_fixing(out, *fixing)?;
+        }
+        Event::Take(end, count) => {
+            push_name(out, b"take", *end)?;
+            push_number(out, u64::from(*count))?;
+        }
+        Event::Dump(segment) => {
+            push_text(out, b"dump")?;
+            push_number(out, u64::from(*segment))?;
+        }
+    }
+    out.push(b'\n')?;
+    Ok(())
+}
+
+#[tactic(auto, unfolding(crate::specs::Printed::title_words))]
+fn push_title(out: &mut Vec<u8>) -> Result<(), AllocError>
+    ensures { OnOk result (out.new.items ≡ out.old.items ++ line_text title_words) }
+{
+    push_text(out, b"aotcp-link 1\n")
+}
+
+#[tactic(auto, unfolding(crate::specs::Printed::socket_words))]
+fn push_socket(
+    alloc: Global,
+    out: &mut Vec<u8>,
+    name: &[u8],
+    socket: &Socket,
+) -> Result<(), AllocError>
+    ensures { OnOk result (out.new.items ≡ out.old.items ++ line_text (socket_words name.now socket.now)) }
+{
+    push_text(out, name)?;
+    out.push(b' ')?;
+    let address = print_address(alloc, &socket.address)?;
+    push_text(out, address.as_slice())?;
+    push_number(out, u64::from(socket.port))?;
+    out.push(b'\n')?;
+    Ok(())
+}
+
+#[tactic(auto, unfolding(crate::specs::Printed::key_lines, crate::specs::Printed::lines_text))]
+fn push_key(out: &mut Vec<u8>, shared: Option<&SharedKey>) -> Result<(), AllocError>
+    ensures { OnOk result (out.new.items ≡ out.old.items ++ lines_text (key_lines (option_map (λ k. k.now) shared.entry))) }
+{
+    if let Some(key) = shared {
+        push_text(out, b"shared ")?;
+        push_text(out, key.alg.name())?;
+        push_bytes(out, key.master.as_slice())?;
+        out.push(b'\n')?;
+    }
+    Ok(())
+}
+
+fn push_events(out: &mut Vec<u8>, events: &[Event]) -> Result<(), AllocError>
+    ensures { OnOk result (out.new.items ≡ out.old.items ++ lines_text (map event_words events.now)) }
+{
+    for event in events {
+        push_event(out, event)?;
+    }
+    Ok(())
+}
+
+/// The text of a script: its head and a line for each event, words with one space between them,
+/// hexadecimal in lower case.
+///
+/// The script is one that a link file can say: `IsScript` tells the ranges. The text is read again
+/// as this script, `with_keys` where it has no shared key.
+#[tactic(auto, unfolding(crate::specs::Printed::text_of, crate::specs::Printed::script_lines, crate::specs::Printed::lines_text))]
+pub fn print_script(alloc: Global, script: &Script) -> Result<Bytes, AllocError>
+    ensures text { IfOk result (λ text. text ≡ text_of script.now) }
+{
+    let mut out = Vec::new(alloc);
+    push_title(&mut out)?;
+    push_socket(alloc, &mut out, b"a", &script.a)?;
+    push_socket(alloc, &mut out, b"b", &script.b)?;
+    push_key(&mut out, script.shared.as_ref())?;
+    push_events(&mut out, script.events.as_slice())?;
+    Ok(Bytes::from_vec(out))
+}
