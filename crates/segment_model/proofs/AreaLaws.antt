@@ -1,8 +1,8 @@
 -- The options that are read are those of the grammar.
-use Rattle.std.proofs.Common.{◌≡◌, ℕ, zero, suc, ◌+◌, ◌-◌, ◌<◌, ◌≤◌, false, nat_lt, List, [], ◌∷◌, ◌++◌, length, take, drop, refl, sym, ap, add-zero, subst, ◌∙◌, arith, inl, inr, append_assoc}
+use Rattle.std.proofs.Common.{◌≡◌, ℕ, zero, suc, ◌+◌, ◌-◌, ◌<◌, ◌≤◌, false, nat_lt, List, [], ◌∷◌, ◌++◌, length, take, drop, refl, sym, ap, subst, ◌∙◌, arith, inl, inr, append_assoc}
 use Rattle.std.proofs.lemmas.List.{length-append, take-append-drop, length-take, take_at, drop_at, append-nil}
 use Rattle.std.proofs.lemmas.Bool.{cases_lt, le-ltb, lt-ltb}
-use Rattle.segment_model.specs.Options.{Opt, Options, Listed, ShortLength, PastEnd, and_then, least, Front, NoMore, Ending, TooShort, TooLong, Leading, front, by_front, options_at, options_of, listed, AreListed}
+use Rattle.segment_model.specs.Options.{Opt, Options, Listed, ShortLength, PastEnd, and_then, least, Front, NoMore, Ending, TooShort, TooLong, Leading, front, options_at, options_of, listed, AreListed}
 use Rattle.segment_model.specs.Areas.{spell_option, spell_options, IsOpen, Open, ending, AreaAt, Area, Refused, FaultFrom, FaultAt}
 use Rattle.segment_model.proofs.Walks.{step, leads, goes, ending_at, nothing_at, short_at, long_at, not_short, not_long}
 
@@ -76,14 +76,20 @@ area_step (Leading kind body size rest) p bs e t l ih =
     let o : Opt = opt p kind body in
     let r = ih (p + size) rest (leads bs kind body size rest e).less g.behind in
     let at : p + size ≡ p + length (spell_option o) = ap (λ (k : ℕ). p + k) (t.2 p) in
-    let L : List Opt = listed (options_at (p + size) rest) in
-    (r.0, subst (λ (list : List Opt). AreaAt p list r.0 bs) (sym g.list) (elim r.1 [
-      | inl a ↦ inl ((t.0 p, refl, subst (λ (q : ℕ). Open q L) at a.0), a.1, t.1 p ∙ ap (λ (x : List ℕ). spell_option o ++ x) a.2)
-      | inr b ↦
-          let far : p + size + length (spell_options b.0) ≡ p + length (spell_option o ++ spell_options b.0) = omega (arith, at, length-append (spell_option o) (spell_options b.0)) in
-          inr (o ∷ b.0, (t.0 p, refl, subst (λ (q : ℕ). Open q b.0) at b.1), ap (λ (x : List Opt). o ∷ x) (b.2 ∙ ap (λ (q : ℕ). b.0 ++ ending q ∷ []) far),
-            t.1 p ∙ (ap (λ (x : List ℕ). spell_option o ++ x) b.3 ∙ sym (append_assoc (spell_option o) (spell_options b.0) (0 ∷ r.0))))
-    ]))
+    let L : List Opt = listed (options_at (p + size) rest) in (
+      r.0,
+      subst (λ (list : List Opt). AreaAt p list r.0 bs) (sym g.list) (elim r.1 [
+        | inl a ↦ inl ((t.0 p, refl, subst (λ (q : ℕ). Open q L) at a.0), a.1, t.1 p ∙ ap (λ (x : List ℕ). spell_option o ++ x) a.2)
+        | inr b ↦
+            let far : p + size + length (spell_options b.0) ≡ p + length (spell_option o ++ spell_options b.0) = omega (arith, at, length-append (spell_option o) (spell_options b.0)) in
+            inr (
+              o ∷ b.0,
+              (t.0 p, refl, subst (λ (q : ℕ). Open q b.0) at b.1),
+              ap (λ (x : List Opt). o ∷ x) (b.2 ∙ ap (λ (q : ℕ). b.0 ++ ending q ∷ []) far),
+              t.1 p ∙ (ap (λ (x : List ℕ). spell_option o ++ x) b.3 ∙ sym (append_assoc (spell_option o) (spell_options b.0) (0 ∷ r.0))),
+            )
+      ]),
+    )
 
 area_found : (n p : ℕ) (bs : List ℕ) → length bs ≤ n → AreListed (options_at p bs) → (tail : List ℕ) × AreaAt p (listed (options_at p bs)) tail bs
 area_found zero p bs h l = area_step (front bs) p bs refl (tells bs) l (λ q rest lt m. absurd (omega arith))

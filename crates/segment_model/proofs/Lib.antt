@@ -1,6 +1,11 @@
+pub mod Again
 pub mod AreaLaws
+pub mod ByteLaws
 pub mod Fields
 pub mod Found
 pub mod Nearest
+pub mod Read
 pub mod Shapes
+pub mod SpellLaws
+pub mod SumLaws
 pub mod Walks

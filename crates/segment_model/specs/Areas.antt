@@ -1,6 +1,6 @@
 -- Option areas as a grammar (RFC 9293, section 3.2): which bytes spell which options, and where a fault stands.
 use Rattle.std.specs.Prelude.{◌≡◌, ℕ, ◌+◌, ◌<◌, ◌≤◌, ◌⊎◌, List, [], ◌∷◌, ◌++◌, length, nat_lt, if◌then◌else◌}
-use Rattle.segment_model.specs.Options.{Opt, Options, Listed, ShortLength, PastEnd, least}
+use Rattle.segment_model.specs.Options.{Opt, Options, ShortLength, PastEnd, least}
 
 -- the bytes of an option: its kind, and from kind 2 on its length and body (RFC 9293, section 3.2)
 abbrev pub spell_option : Opt → List ℕ

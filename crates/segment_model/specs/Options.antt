@@ -1,5 +1,5 @@
 -- TCP options (RFC 9293, section 3.2), and the TCP-AO option among them (RFC 5925, section 2.2).
-use Rattle.std.specs.Prelude.{ℕ, zero, suc, ◌+◌, ◌-◌, ◌*◌, ◌==◌, nat_lt, ◌&&◌, ◌||◌, List, [], ◌∷◌, length, take, drop, slice_index, Option, Some, None, if◌then◌else◌}
+use Rattle.std.specs.Prelude.{ℕ, zero, suc, ◌+◌, ◌-◌, ◌*◌, ◌==◌, nat_lt, ◌&&◌, List, [], ◌∷◌, length, take, drop, slice_index, Option, Some, None, if◌then◌else◌}
 
 -- an option, with the place of its kind byte in the area (RFC 9293, section 3.2)
 pub record Opt : Type 0 where

@@ -1,5 +1,5 @@
 -- Which bytes spell which datagram (RFC 791, section 3.1; RFC 8200, section 3; RFC 9293, section 3.1).
-use Rattle.std.specs.Prelude.{◌≡◌, ℕ, ◌+◌, ◌-◌, ◌*◌, ◌/◌, ◌%◌, ◌==◌, ◌<◌, ◌≤◌, true, IsTrue, List, [], ◌∷◌, ◌++◌, length, take, drop, slice_index, if◌then◌else◌}
+use Rattle.std.specs.Prelude.{◌≡◌, ℕ, ◌+◌, ◌-◌, ◌/◌, ◌%◌, ◌==◌, ◌<◌, ◌≤◌, true, IsTrue, List, [], ◌∷◌, ◌++◌, length, take, drop, slice_index, if◌then◌else◌}
 use Rattle.ao_base.specs.declared.address.Address.{Address}
 use Rattle.ao_base.specs.declared.address.Address.TheVariants.{V4, V6}
 use Rattle.segment_model.specs.Bytes.{put2, put4}
@@ -87,14 +87,18 @@ with_checksum t checksum = take 16 t ++ put2 checksum (drop 18 t)
 abbrev pub ip_length : List ℕ → ℕ
 ip_length b = if slice_index b 0 / 16 == 4 then 20 else 40
 
+-- both addresses in a datagram's bytes (RFC 791, section 3.1; RFC 8200, section 3)
+abbrev pub addresses_in : List ℕ → List ℕ
+addresses_in b = if slice_index b 0 / 16 == 4 then take 8 (drop 12 b) else take 32 (drop 8 b)
+
 -- the pseudo-header of a datagram's bytes whose IP header has no options, and then the rest (RFC 9293, section 3.1; RFC 8200, section 8.1)
-abbrev pub pseudo_of_bytes : List ℕ → List ℕ → List ℕ
-pseudo_of_bytes b rest =
-    if slice_index b 0 / 16 == 4 then take 8 (drop 12 b) ++ (0 ∷ 6 ∷ put2 (length b - 20) rest)
-    else take 32 (drop 8 b) ++ put4 (length b - 40) (0 ∷ 0 ∷ 0 ∷ 6 ∷ rest)
+abbrev pub pseudo_in : List ℕ → List ℕ → List ℕ
+pseudo_in b rest =
+    if slice_index b 0 / 16 == 4 then addresses_in b ++ (0 ∷ 6 ∷ put2 (length b - 20) rest)
+    else addresses_in b ++ put4 (length b - 40) (0 ∷ 0 ∷ 0 ∷ 6 ∷ rest)
 
 -- a datagram's bytes with the TCP checksum set right, whatever else they hold (RFC 9293, section 3.1)
 unfoldable pub with_right_checksum : List ℕ → List ℕ
 with_right_checksum b =
     let t = drop (ip_length b) b in
-    take (ip_length b) b ++ with_checksum t (complement_of (pseudo_of_bytes b (with_checksum t 0)))
+    take (ip_length b) b ++ with_checksum t (complement_of (pseudo_in b (with_checksum t 0)))

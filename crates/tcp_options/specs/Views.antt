@@ -1,5 +1,5 @@
 -- The values of this crate as those of the definitions.
-use Rattle.std.specs.Prelude.{◌≡◌, ℕ, List, [], ◌∷◌, length, Option, Some, None, ◌==◌, ◌&&◌, slice_index, drop, ◌+◌, ◌*◌, ◌≤◌, if◌then◌else◌}
+use Rattle.std.specs.Prelude.{◌≡◌, ℕ, List, [], ◌∷◌, length, Option, Some, None, ◌==◌, ◌&&◌, slice_index, ◌+◌, ◌*◌, ◌≤◌, if◌then◌else◌}
 use Rattle.segment_model.specs.Options.{Plain, Front, NoMore, Ending, TooShort, TooLong, Leading}
 use Rattle.segment_model.specs.Options as book
 use Rattle.tcp_options.specs.declared.iter.Opt.{Opt}

@@ -11,4 +11,4 @@ mod options;
 
 pub use ao::{AoFound, AoOption};
 pub use iter::{Opt, OptionIter};
-pub use options::{OptionFault, Options, read_options};
+pub use options::{OptionFault, Options, options_over, read_options};

@@ -1,6 +1,7 @@
 //! An option area without a fault.
-ghost use Rattle.std.specs.Prelude.{◌≡◌, ℕ, List, ◌≤◌, length, Option, Some, None, IfOk, IfErr, MatchResult};
+ghost use Rattle.std.specs.Prelude.{◌≡◌, ℕ, List, ◌≤◌, length, Option, Some, None, IfOk, IfErr, IsOk, MatchResult};
 ghost use Rattle.segment_model.specs.Options.{AreListed, options_of, listed, mss_among, plains};
+ghost use Rattle.segment_model.specs.Options as book;
 ghost use Rattle.segment_model.specs.Areas.{Area, FaultAt};
 ghost use Rattle.tcp_options.specs.Views.{FaultIs, fault_of, mss_or, view_opt};
 
@@ -64,12 +65,22 @@ pub fn read_options(area: &[u8]) -> Result<Options<'_>, OptionFault>
     ensures area { IfOk result (λ options. options ≡ area.now) }
     ensures exact { MatchResult result (λ _. AreListed (options_of area.now)) (λ fault. options_of area.now ≡ fault_of fault) }
     ensures options { IfOk result (λ _. (tail : List ℕ) × Area (listed (options_of area.now)) tail area.now) }
+    ensures only { (list : List book.Opt) (tail : List ℕ) → Area list tail area.now → IsOk result × (listed (options_of area.now) ≡ list) }
     ensures fault { IfErr result (λ fault. FaultAt area.now (fault_of fault)) }
 {
     match fault_in(area) {
         None => Ok(Options { area }),
         Some(fault) => Err(fault),
     }
+}
+
+/// The options of an area that is known to have no fault, of at most 40 bytes.
+pub fn options_over(area: &[u8]) -> Options<'_>
+    requires most { length area.now ≤ 40 }
+    requires listed { AreListed (options_of area.now) }
+    ensures { result ≡ area.now }
+{
+    Options { area }
 }
 
 fn mss_of_option(option: Opt<'_>) -> Option<u16>

@@ -1,6 +1,6 @@
-use Rattle.std.proofs.Common.{refl, ap, sym, ◌∙◌, arith}
+use Rattle.std.proofs.Common.{refl, ◌∙◌, arith}
 use Rattle.segment_model.proofs.Walks.{goes, leads}
-use Rattle.tcp_options.proofs.KindLaws.{none_at_end, none_in_none, kind_first, kind_passed}
+use Rattle.tcp_options.proofs.KindLaws.{kind_first, kind_passed}
 use Rattle.tcp_options.proofs.ao.first_of.Goals as goal
 
 pub returns-then-option-kind : goal.returns-then-option-kind
@@ -11,6 +11,8 @@ returns-then-option-kind c =
 pub loop-option-preserved : goal.loop-option-preserved
 loop-option-preserved c =
     let i = c.loop-option.invariant in
-    let l = leads c.loop-option.rest.now _ _ _ _ c.in-Leading.ensures in
-    (omega (arith, l.sizes, i.0), (goes c.loop-option.place c.loop-option.rest.now _ _ _ _ c.in-Leading.ensures i.1).behind,
-      kind_passed c.args.kind c.loop-option.place c.loop-option.rest.now _ _ _ _ c.in-Leading.ensures i.1 c.if-option-kind.false ∙ i.2)
+    let l = leads c.loop-option.rest.now _ _ _ _ c.in-Leading.ensures in (
+      omega (arith, l.sizes, i.0),
+      (goes c.loop-option.place c.loop-option.rest.now _ _ _ _ c.in-Leading.ensures i.1).behind,
+      kind_passed c.args.kind c.loop-option.place c.loop-option.rest.now _ _ _ _ c.in-Leading.ensures i.1 c.if-option-kind.false ∙ i.2,
+    )

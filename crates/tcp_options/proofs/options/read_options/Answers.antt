@@ -1,7 +1,7 @@
-use Rattle.segment_model.specs.Options.{ShortLength, PastEnd}
-use Rattle.tcp_options.specs.declared.options.OptionFault.TheVariants as faults
-use Rattle.segment_model.proofs.AreaLaws.{area_of}
-use Rattle.tcp_options.proofs.KindLaws.{fault_stands}
+use Rattle.std.proofs.Common.{refl, ap}
+use Rattle.segment_model.specs.Options.{listed}
+use Rattle.segment_model.proofs.AreaLaws.{area_of, area_is}
+use Rattle.tcp_options.proofs.KindLaws.{fault_stands, not_both}
 use Rattle.tcp_options.proofs.options.read_options.Goals as goal
 
 pub returns-in-None-clause-options : goal.returns-in-None-clause-options
@@ -9,3 +9,9 @@ returns-in-None-clause-options c = area_of c.args.area.now c.in-None.ensures
 
 pub returns-in-Some-clause-fault : goal.returns-in-Some-clause-fault
 returns-in-Some-clause-fault c = fault_stands c.args.area.now c.in-Some.fault c.in-Some.ensures
+
+pub returns-in-None-clause-only : goal.returns-in-None-clause-only
+returns-in-None-clause-only c = λ list tail a. (refl, ap listed (area_is list tail c.args.area.now a))
+
+pub returns-in-Some-clause-only : goal.returns-in-Some-clause-only
+returns-in-Some-clause-only c = λ list tail a. absurd (not_both c.args.area.now list c.in-Some.fault (area_is list tail c.args.area.now a) c.in-Some.ensures)

@@ -1,2 +1,0 @@
-//! Datagrams of IP and TCP, read in place and written in place.
-#![tactic(auto)]
