@@ -9,7 +9,7 @@ use Rattle.segment_model.proofs.Shapes.{SameKind}
 use Rattle.mac_model.specs.Contexts.{context}
 use Rattle.mac_model.specs.MacInput.{mac_input}
 use Rattle.mac_model.specs.Keys.{traffic_key, mac}
-use Rattle.mac_model.proofs.Meaning.{Placed}
+use Rattle.mac_model.proofs.Telling.{Placed}
 use Rattle.endpoint_model.specs.Verdicts.{Passed}
 use Rattle.endpoint_model.specs.States.{EndState, first, bytes_from, ready_at}
 use Rattle.endpoint_model.specs.Emissions.{shared, written_area, with_checksum}

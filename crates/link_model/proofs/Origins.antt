@@ -12,7 +12,7 @@ use Rattle.segment_model.proofs.Fields.{eqb_is, same_bytes_tells, some_is}
 use Rattle.segment_model.proofs.Shapes.{SameKind}
 use Rattle.mac_model.specs.Contexts.{context}
 use Rattle.mac_model.specs.Meaning.{SameFamily}
-use Rattle.mac_model.proofs.Meaning.{Told, told, context_law}
+use Rattle.mac_model.proofs.Telling.{Told, told, context_law}
 use Rattle.endpoint_model.specs.Verdicts.{same_key, Passed}
 use Rattle.endpoint_model.specs.States.{EndState}
 use Rattle.link_model.specs.Worlds.{other, same_end, Setup, pair_of, Session, Made, Happening, Sending, Coming, World, side, find, accounts_for, was_made, forged}

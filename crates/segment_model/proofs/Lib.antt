@@ -1,5 +1,6 @@
 pub mod Again
 pub mod AreaLaws
+pub mod Blanked
 pub mod ByteLaws
 pub mod Fields
 pub mod Found

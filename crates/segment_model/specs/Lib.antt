@@ -1,6 +1,5 @@
 pub mod Areas
 pub mod Bytes
-pub mod Fixing
 pub mod Meant
 pub mod Options
 pub mod Segments
