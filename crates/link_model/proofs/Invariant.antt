@@ -100,10 +100,16 @@ AllSound sessions = AllByRecursion (λ (s : Session). Sound s.state) sessions
 abbrev pub AllFromPartner : List Session → List Session → Type 0
 AllFromPartner others sessions = AllByRecursion (λ (s : Session). FromPartner others s.state) sessions
 
+-- each session has an initial sequence number of its own
+abbrev pub Distinct : List Session → Type 0
+Distinct [] = ⊤
+Distinct (s ∷ rest) = (find rest s.state.iss ≡ None) × Distinct rest
+
 -- the facts that each step keeps together
 pub record Inv (setup : Setup) (w : World) : Type 0 where
   pub made : AllMadeOk setup w w.history
   pub sound : (e : End) → AllSound (side w e).sessions
+  pub distinct : (e : End) → Distinct (side w e).sessions
   pub origin : forgeries w.history ≡ 0 → (e : End) → AllFromPartner (side w (other e)).sessions (side w e).sessions
 
 -- each session is still found, and only went on

@@ -9,7 +9,7 @@ use Rattle.endpoint_model.specs.Verdicts.{Passed}
 use Rattle.endpoint_model.specs.States.{EndState, first}
 use Rattle.link_model.specs.Worlds.{other, Setup, Session, Side, Happening, Sending, Coming, World, side, find, forged, forgeries}
 use Rattle.link_model.specs.Steps.{Act, add, put, acted, act_on}
-use Rattle.link_model.proofs.Invariant.{GivenAt, Later, Sound, MadeBy, MadeOk, AllMadeOk, OfPartner, FromPartner, AllSound, AllFromPartner, Inv, Grows, Carries}
+use Rattle.link_model.proofs.Invariant.{GivenAt, Later, Sound, MadeBy, MadeOk, AllMadeOk, OfPartner, FromPartner, AllSound, AllFromPartner, Distinct, Inv, Grows, Carries}
 use Rattle.link_model.proofs.Origins.{given-later, all_made-grows, find_sound, found_made, none_forged, byte_origin}
 
 pub later_refl : (s : EndState) → Later s s
@@ -83,23 +83,25 @@ made_add setup v e (Some (Sending m)) history new h = (subst (λ (f : End). Made
 made_add setup v e (Some (Coming r)) history new h = h
 
 pub put_keeps : (setup : Setup) (w : World) (e : End) (now : Side) (happened : Option Happening) → Inv setup w → Grows (side w e).sessions now.sessions
-    → NewMade setup e now.sessions happened → AllSound now.sessions
+    → NewMade setup e now.sessions happened → AllSound now.sessions → Distinct now.sessions
     → (forgeries (add happened w.history) ≡ 0 → AllFromPartner (side w (other e)).sessions now.sessions) → Inv setup (put w e now happened)
-put_keeps setup w A now happened inv g new sound origin =
+put_keeps setup w A now happened inv g new sound distinct origin =
     let v = put w A now happened in
     let grows : (f : End) → Grows (side w f).sessions (side v f).sessions = both (λ f. Grows (side w f).sessions (side v f).sessions) g (grows_refl w.b.sessions) in
     record {
       made = made_add setup v A happened w.history new (all_made-grows setup w v w.history grows inv.made);
       sound = both (λ f. AllSound (side v f).sessions) sound (inv.sound B);
+      distinct = both (λ f. Distinct (side v f).sessions) distinct (inv.distinct B);
       origin = λ none. both (λ f. AllFromPartner (side v (other f)).sessions (side v f).sessions) (origin none)
           (all_from-grows w.a.sessions now.sessions w.b.sessions g (inv.origin (fewer_forgeries happened w.history none) B));
     }
-put_keeps setup w B now happened inv g new sound origin =
+put_keeps setup w B now happened inv g new sound distinct origin =
     let v = put w B now happened in
     let grows : (f : End) → Grows (side w f).sessions (side v f).sessions = both (λ f. Grows (side w f).sessions (side v f).sessions) (grows_refl w.a.sessions) g in
     record {
       made = made_add setup v B happened w.history new (all_made-grows setup w v w.history grows inv.made);
       sound = both (λ f. AllSound (side v f).sessions) (inv.sound A) sound;
+      distinct = both (λ f. Distinct (side v f).sessions) (inv.distinct A) distinct;
       origin = λ none. both (λ f. AllFromPartner (side v (other f)).sessions (side v f).sessions)
           (all_from-grows w.b.sessions now.sessions w.a.sessions g (inv.origin (fewer_forgeries happened w.history none) A)) (origin none);
     }
@@ -123,7 +125,7 @@ pub record ActOk (setup : Setup) (e : End) (s : EndState) (act : Act) : Type 0 w
   pub made : NewBy setup e act.state act.happened
   pub bytes : (p b : ℕ) → act.state.received p ≡ Some b → (s.received p ≡ Some b) ⊎ Brings setup e s act.happened p b
 
-find_own : (u : Session) (rest : List Session) (b : Bool) → (u.state.iss == u.state.iss) ≡ b → (if b then Some u else find rest u.state.iss) ≡ Some u
+pub find_own : (u : Session) (rest : List Session) (b : Bool) → (u.state.iss == u.state.iss) ≡ b → (if b then Some u else find rest u.state.iss) ≡ Some u
 find_own u rest true h = refl
 find_own u rest false h = absurd (grind (arith, nat_tests))
 
@@ -176,6 +178,7 @@ pub act_keeps : (setup : Setup) (w : World) (e : End) (sessions : List Session) 
 act_keeps setup w e [] call is inv ok = inv
 act_keeps setup w e (s ∷ rest) call is inv ok =
     let sound : AllSound (s ∷ rest) = subst AllSound is (inv.sound e) in
+    let apart : Distinct (s ∷ rest) = subst Distinct is (inv.distinct e) in
     let act = call s.state in
     let done : ActOk setup e s.state act = ok s.state sound.0 in
     let u = acted s act in
@@ -184,6 +187,7 @@ act_keeps setup w e (s ∷ rest) call is inv ok =
     (subst (λ (l : List Session). Grows l (u ∷ rest)) (sym is) (grows_head s u rest done.later))
     (new_made setup e u rest act.happened done.made)
     (done.sound, sound.1)
+    (subst (λ (n : ℕ). find rest n ≡ None) (sym done.later.iss) apart.0, apart.1)
     (λ none.
     let old : AllFromPartner others (s ∷ rest) = subst (λ (l : List Session). AllFromPartner others l) is (inv.origin (fewer_forgeries act.happened w.history none) e) in
     let small = x_fits others s.state (inv.sound (other e)) sound.0 old.0 in (

@@ -13,7 +13,7 @@ use Rattle.link_model.specs.Runs.{empty, run_from, run}
 use Rattle.link_model.specs.Steps.{Stepped, begin, deliver, alter, step, put, on_live, come}
 use Rattle.link_model.specs.Worlds.{other, Setup, Session, Made, World, side, find, is_known, known_by, partner_among, segment_named}
 use Rattle.link_model.proofs.Calls.{choose, given_ok, took_ok, send_ok, come_ok, started-sound}
-use Rattle.link_model.proofs.Invariant.{GivenAt, Sound, OfPartner, FromPartner, AllSound, AllFromPartner, Inv}
+use Rattle.link_model.proofs.Invariant.{GivenAt, Sound, OfPartner, FromPartner, AllSound, AllFromPartner, Distinct, Inv}
 use Rattle.link_model.proofs.Keeping.{grows_refl, grows_new, put_keeps, act_keeps}
 use Rattle.link_model.proofs.Lists.{bytes_from-add, prefix_from}
 use Rattle.link_model.proofs.Origins.{find_isn}
@@ -24,12 +24,12 @@ begin_keeps setup w e isn peer (Some used) is a b inv = inv
 begin_keeps setup w e isn peer None is a b inv =
     let new : Session = record { state = started isn peer; end_shown = false } in
     put_keeps setup w e (record { clock = (side w e).clock; sessions = new ∷ (side w e).sessions }) None inv (grows_new new (side w e).sessions is) tt
-    (started-sound isn peer a b, inv.sound e)
+    (started-sound isn peer a b, inv.sound e) (is, inv.distinct e)
     (λ none. (record { bytes = λ p b r. absurd (cc) }, inv.origin none e))
 
 clock_keeps : (setup : Setup) (w : World) (e : End) (seconds : ℕ) → Inv setup w → Inv setup (put w e (record { clock = seconds; sessions = (side w e).sessions }) None)
 clock_keeps setup w e seconds inv =
-    put_keeps setup w e (record { clock = seconds; sessions = (side w e).sessions }) None inv (grows_refl (side w e).sessions) tt (inv.sound e) (λ none. inv.origin none e)
+    put_keeps setup w e (record { clock = seconds; sessions = (side w e).sessions }) None inv (grows_refl (side w e).sessions) tt (inv.sound e) (inv.distinct e) (λ none. inv.origin none e)
 
 come_keeps : (setup : Setup) (w : World) (e : End) (bytes : List ℕ) → Inv setup w → Inv setup (on_live w e (come setup e w bytes)).world
 come_keeps setup w e bytes inv = act_keeps setup w e (side w e).sessions _ refl inv (come_ok setup e w bytes)
@@ -60,11 +60,15 @@ run_keeps setup w [] f inv = inv
 run_keeps setup w (event ∷ events) f inv = run_keeps setup (step setup w event).world events f.1 (step_keeps setup w event f.0 inv)
 
 pub begins : (setup : Setup) → Inv setup empty
-begins setup = record { made = tt; sound = both_sound; origin = λ none. both_origin }
+begins setup = record { made = tt; sound = both_sound; distinct = both_distinct; origin = λ none. both_origin }
   where
     both_sound : (e : End) → AllSound (side empty e).sessions
     both_sound A = tt
     both_sound B = tt
+
+    both_distinct : (e : End) → Distinct (side empty e).sessions
+    both_distinct A = tt
+    both_distinct B = tt
 
     both_origin : (e : End) → AllFromPartner (side empty (other e)).sessions (side empty e).sessions
     both_origin A = tt

@@ -3,10 +3,10 @@ use Rattle.std.specs.Prelude.{◌≡◌, ℕ, ◌+◌, ◌%◌, ◌<◌, ◌≤�
 use Rattle.std.specs.List.{AllByRecursion}
 use Rattle.ao_base.specs.declared.end.End.{End}
 use Rattle.segment_model.specs.Segments.{spell}
-use Rattle.endpoint_model.specs.States.{ready}
+use Rattle.endpoint_model.specs.States.{EndState, ready}
 use Rattle.endpoint_model.specs.Emissions.{slice_at}
 use Rattle.link_model.specs.Events.{Event, Clock, Start, Give, Fill, Send, Deliver, Inject, Alter, Take, Dump}
-use Rattle.link_model.specs.Worlds.{Session, Made, Happening, Sending, Coming, World, side, find, partner, forgeries}
+use Rattle.link_model.specs.Worlds.{Session, Made, Happening, Sending, Coming, World, other, side, find, partner, forgeries}
 
 -- initial sequence numbers are 32-bit numbers (RFC 9293, section 3.4.1)
 abbrev pub EventFits : Event → Type 0
@@ -29,6 +29,19 @@ IsPrefixOf xs ys = (rest : List ℕ) × (xs ++ rest ≡ ys)
 abbrev pub ComesFrom : Option Session → List ℕ → Type 0
 ComesFrom None bytes = bytes ≡ []
 ComesFrom (Some t) bytes = IsPrefixOf bytes t.state.given
+
+-- two sessions of the two ends are partners: each knows the other's initial sequence number as its peer's
+pub record ArePartners (s t : EndState) : Type 0 where
+  pub here : s.irs ≡ Some t.iss
+  pub there : t.irs ≡ Some s.iss
+
+-- a session of one end has at most one partner among the sessions of the other
+abbrev pub OnePartner : World → Type 0
+OnePartner w = (e : End) (s : EndState) → AllByRecursion (λ (t : Session). ArePartners s t.state → partner w e s ≡ Some t) (side w (other e)).sessions
+
+-- a partner is one of the other end's sessions
+abbrev pub PartnerIsOne : World → Type 0
+PartnerIsOne w = (e : End) (s : EndState) (t : Session) → partner w e s ≡ Some t → ArePartners s t.state × (find (side w (other e)).sessions t.state.iss ≡ Some t)
 
 -- where no forgery is counted: what each session of each end took, and then what is ready there, begins what its partner was given
 abbrev pub DeliversInOrder : World → Type 0

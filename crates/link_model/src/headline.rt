@@ -2,9 +2,9 @@
 ghost use Rattle.std.specs.Prelude.{List};
 ghost use Rattle.std.specs.List.{AllByRecursion};
 ghost use Rattle.link_model.specs.Events.{Event};
-ghost use Rattle.link_model.specs.Headline.{EventFits, DeliversInOrder, AllMade, Carried};
+ghost use Rattle.link_model.specs.Headline.{EventFits, OnePartner, PartnerIsOne, DeliversInOrder, AllMade, Carried};
 ghost use Rattle.link_model.specs.Runs.{run};
-ghost use Rattle.link_model.specs.Worlds.{Setup};
+ghost use Rattle.link_model.specs.Worlds.{Setup, World};
 
 /// Where a run counts no forgery, the bytes that each session took, and then those that are ready
 /// there, begin the bytes that were given to its partner; a session without a partner has neither.
@@ -19,4 +19,12 @@ pub fn delivers_in_order()
 /// sequence numbers are of 32 bits.
 pub fn carries_given()
     ensures { (setup : Setup) (events : List Event) → AllByRecursion EventFits events → AllMade (Carried (run setup events)) (run setup events).history }
+{}
+
+/// A session has at most one partner: the other end's session that knows its initial sequence
+/// number as its peer's, and whose initial sequence number it knows. The premise says that initial
+/// sequence numbers are of 32 bits.
+pub fn one_partner()
+    ensures found { (w : World) → PartnerIsOne w }
+    ensures only { (setup : Setup) (events : List Event) → AllByRecursion EventFits events → OnePartner (run setup events) }
 {}

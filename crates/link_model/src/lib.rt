@@ -6,5 +6,5 @@
 mod headline;
 mod runs;
 
-pub use headline::{carries_given, delivers_in_order};
+pub use headline::{carries_given, delivers_in_order, one_partner};
 pub use runs::runs_go_on;
