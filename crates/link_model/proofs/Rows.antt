@@ -1,11 +1,8 @@
 -- Worked reports, each computed from the definitions. The datagrams are those of an independent program.
-use Rattle.std.proofs.Common.{◌≡◌, ℕ, true, false, List, [], ◌∷◌, ◌++◌, replicate, codes, refl}
+use Rattle.std.proofs.Common.{◌≡◌, true, false, [], ◌∷◌, codes, refl}
 use Rattle.std.specs.Fmt.{digits}
 use Rattle.hex.specs.Hex.{encode_with}
 use Rattle.sha1.specs.Sha1.{sha1, digest_bytes, hash_after, compress, rounds, schedule, first_words}
-use Rattle.ao_base.specs.declared.address.Address.TheVariants.{V4, V6}
-use Rattle.ao_base.specs.declared.algorithm.Algorithm.{Algorithm}
-use Rattle.ao_base.specs.declared.algorithm.Algorithm.TheVariants.{HmacSha1, AesCmac}
 use Rattle.ao_base.specs.declared.end.End.TheVariants.{A, B}
 use Rattle.segment_model.specs.Bytes.{put2, put4}
 use Rattle.segment_model.specs.Options.{options_of, find_ao}
@@ -21,35 +18,9 @@ use Rattle.endpoint_model.specs.States.{ready, keep}
 use Rattle.endpoint_model.specs.Arrivals.{arrive}
 use Rattle.endpoint_model.specs.Emissions.{to_emit, emit}
 use Rattle.link_model.specs.Alterations.{altered}
-use Rattle.link_model.specs.Worlds.{Setup}
 use Rattle.link_model.specs.Events.{Clock, Start, Give, Fill, Send, Deliver, Inject, Alter, Take, Dump}
 use Rattle.link_model.specs.Reports.{summary, report}
-
-abbrev head_of : Algorithm → Setup
-head_of algorithm =
-    record {
-      a = record { address = V4 (10 ∷ 0 ∷ 0 ∷ 1 ∷ []); port = 1000 };
-      b = record { address = V4 (10 ∷ 0 ∷ 0 ∷ 2 ∷ []); port = 2000 };
-      key = record { algorithm = algorithm; master = replicate 20 11 };
-    }
-
-abbrev head : Setup
-head = head_of HmacSha1
-
-abbrev head_aes : Setup
-head_aes = head_of AesCmac
-
-abbrev head_v6 : Setup
-head_v6 =
-    record {
-      a = record { address = V6 (32 ∷ 1 ∷ 13 ∷ 184 ∷ replicate 11 0 ++ 1 ∷ []); port = 1000 };
-      b = record { address = V6 (32 ∷ 1 ∷ 13 ∷ 184 ∷ replicate 11 0 ++ 2 ∷ []); port = 2000 };
-      key = record { algorithm = HmacSha1; master = replicate 20 11 };
-    }
-
-abbrev lines : List (List ℕ) → List ℕ
-lines [] = []
-lines (l ∷ ls) = l ++ 10 ∷ lines ls
+use Rattle.link_model.proofs.Heads.{head, head_aes, head_v6, lines}
 
 -- five bytes arrive
 five_bytes_arrive : report head (Start A 100 200 ∷ Start B 200 100 ∷ Give A (codes "hello") ∷ Send A ∷ Deliver B 1 ∷ Take B 100 ∷ Dump 1 ∷ [])
