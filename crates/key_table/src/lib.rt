@@ -26,3 +26,6 @@ pub use row::Row;
 pub use table::{Accept, Table};
 pub use tables::Tables;
 pub use time::read_time;
+
+#[cfg(test)]
+mod tests;
