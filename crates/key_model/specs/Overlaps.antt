@@ -44,7 +44,7 @@ lives_meet a b = nat_le (max a.first b.first) (min a.last b.last)
 
 -- some pair matches both rows
 abbrev pub pairs_meet : Row → Row → Bool
-pairs_meet a b = peers_meet a.peers b.peers && (ports_meet a.local_port b.local_port && ports_meet a.peer_port b.peer_port)
+pairs_meet a b = (ports_meet a.local_port b.local_port && ports_meet a.peer_port b.peer_port) && peers_meet a.peers b.peers
 
 -- both take under one RecvID in a common second
 abbrev pub accepts_meet : Row → Row → Bool
@@ -56,7 +56,7 @@ sends_meet a b = (sends a.direction && sends b.direction) && ((a.send_id == b.se
 
 -- the test of Overlap, by the columns of the two rows
 unfoldable pub overlaps : Row → Row → Bool
-overlaps a b = pairs_meet a b && (accepts_meet a b || sends_meet a b)
+overlaps a b = (accepts_meet a b || sends_meet a b) && pairs_meet a b
 
 -- a table is valid where no two of its rows overlap
 abbrev pub IsValid : List Row → Type 0

@@ -86,7 +86,7 @@ fn is_fitting(wanted: Option<u16>, port: u16) -> bool
     }
 }
 
-fn is_receiving(direction: Direction) -> bool
+pub(crate) fn is_receiving(direction: Direction) -> bool
     ensures { result ≡ receives direction }
 {
     match direction {
@@ -97,7 +97,7 @@ fn is_receiving(direction: Direction) -> bool
     }
 }
 
-fn is_sending(direction: Direction) -> bool
+pub(crate) fn is_sending(direction: Direction) -> bool
     ensures { result ≡ sends direction }
 {
     match direction {
