@@ -1,5 +1,5 @@
 -- Events read one after another, as a loop reads them.
-use Rattle.std.proofs.Common.{◌≡◌, List, [], ◌∷◌, ◌++◌, Result, Ok, Err, refl, sym, ◌∙◌}
+use Rattle.std.proofs.Common.{◌≡◌, List, [], ◌∷◌, ◌++◌, Result, Ok, refl, sym, ◌∙◌}
 use Rattle.link_script.specs.declared.event.Event.{Event}
 use Rattle.link_script.specs.declared.fault.ScriptFault.{ScriptFault}
 use Rattle.link_script.specs.declared.fault.ScriptFault.TheVariants as fault

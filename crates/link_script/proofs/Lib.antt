@@ -1,2 +1,10 @@
 pub mod EventLoop
 pub mod TextParts
+pub mod PlainWords
+pub mod LinesBack
+pub mod WordsBack
+pub mod EventsBack
+pub mod ScriptBack
+pub mod WordRanges
+pub mod EventRanges
+pub mod ScriptRanges

@@ -3,3 +3,4 @@ pub mod Lines
 pub mod EventLines
 pub mod Script
 pub mod Printed
+pub mod Scripts

@@ -1,5 +1,5 @@
 -- The lines of a text that say something. Our own format.
-use Rattle.std.specs.Prelude.{ℕ, ◌+◌, ◌==◌, not, if◌then◌else◌, Bool, true, false, List, [], ◌∷◌}
+use Rattle.std.specs.Prelude.{ℕ, ◌+◌, ◌==◌, not, if◌then◌else◌, Bool, false, List, [], ◌∷◌}
 use Rattle.ao_base.specs.Lines.{words_of}
 
 -- a line with words: its number among all lines, from 1, and its words

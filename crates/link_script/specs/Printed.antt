@@ -1,7 +1,5 @@
 -- The text of a script, and which scripts a link file can say. Our own format.
-use Rattle.std.specs.Prelude.{◌≡◌, ℕ, ◌+◌, ◌<◌, ◌≤◌, Bool, true, false, List, [], ◌∷◌, ◌++◌, length, map, codes, Option, Some, None, decimal, All, count_by}
-use Rattle.ao_base.specs.declared.address.Address.{Address}
-use Rattle.ao_base.specs.declared.address.Address.TheVariants.{V4, V6}
+use Rattle.std.specs.Prelude.{ℕ, Bool, true, false, List, [], ◌∷◌, ◌++◌, map, codes, Option, Some, None, decimal}
 use Rattle.ao_base.specs.declared.address.Socket.{Socket}
 use Rattle.ao_base.specs.declared.end.End.{End}
 use Rattle.ao_base.specs.declared.end.End.TheVariants.{A, B}
@@ -12,7 +10,6 @@ use Rattle.link_script.specs.declared.event.Event.{Event}
 use Rattle.link_script.specs.declared.event.Event.TheVariants.{Clock, Start, Give, Fill, Send, Deliver, Inject, Alter, Take, Dump}
 use Rattle.link_script.specs.declared.script.SharedKey.{SharedKey}
 use Rattle.link_script.specs.declared.script.Script.{Script}
-use Rattle.link_script.specs.Script.{are_two_of_a_family, starts}
 
 -- words with a space between them, and a newline at the end
 abbrev pub line_text : List (List ℕ) → List ℕ
@@ -20,14 +17,17 @@ line_text [] = 10 ∷ []
 line_text (w ∷ []) = w ++ 10 ∷ []
 line_text (w ∷ v ∷ ws) = w ++ 32 ∷ line_text (v ∷ ws)
 
+-- lines, one after another
 unfoldable pub lines_text : List (List (List ℕ)) → List ℕ
 lines_text [] = []
 lines_text (l ∷ ls) = line_text l ++ lines_text ls
 
+-- the name of an end
 abbrev pub end_text : End → List ℕ
 end_text A = codes "a"
 end_text B = codes "b"
 
+-- whether a checksum is set
 abbrev pub fixing_text : Bool → List ℕ
 fixing_text false = codes "keep"
 fixing_text true = codes "fix"
@@ -45,9 +45,11 @@ event_words (Alter e segment place mask fixing) = codes "alter" ∷ end_text e �
 event_words (Take e count) = codes "take" ∷ end_text e ∷ decimal count ∷ []
 event_words (Dump segment) = codes "dump" ∷ decimal segment ∷ []
 
+-- the words of the first line
 unfoldable pub title_words : List (List ℕ)
 title_words = codes "aotcp-link" ∷ codes "1" ∷ []
 
+-- the words of the line of an end's socket
 unfoldable pub socket_words : List ℕ → Socket → List (List ℕ)
 socket_words name s = name ∷ address_text s.address ∷ decimal s.port ∷ []
 

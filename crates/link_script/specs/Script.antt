@@ -1,5 +1,5 @@
 -- The script that a link file is, or its first fault. Our own format.
-use Rattle.std.specs.Prelude.{◌≡◌, ℕ, ◌+◌, ◌||◌, ◌&&◌, not, nat_lt, if◌then◌else◌, Bool, true, false, List, [], ◌∷◌, ◌++◌, length, codes, Option, Some, None, Result, Ok, Err}
+use Rattle.std.specs.Prelude.{◌≡◌, ℕ, ◌+◌, ◌&&◌, not, nat_lt, if◌then◌else◌, Bool, true, false, List, [], ◌∷◌, ◌++◌, length, codes, Option, Some, None, Result, Ok, Err}
 use Rattle.std.specs.List.{list_any}
 use Rattle.std.specs.Str.{bytes_eq}
 use Rattle.ao_base.specs.declared.address.Address.{Address}
@@ -16,7 +16,7 @@ use Rattle.link_script.specs.declared.fault.ScriptFault.TheVariants as fault
 use Rattle.link_script.specs.declared.script.SharedKey.{SharedKey}
 use Rattle.link_script.specs.declared.script.Script.{Script}
 use Rattle.ao_base.specs.Lines.{lines_of}
-use Rattle.link_script.specs.Words.{◌>>=◌, word_in, nothing_in, literal_in, address_in, algorithm_in, number_in, hex_in, end_of}
+use Rattle.link_script.specs.Words.{◌>>=◌, nothing_in, literal_in, address_in, algorithm_in, number_in, hex_in, end_of}
 use Rattle.link_script.specs.EventLines.{event_of}
 use Rattle.link_script.specs.Lines.{Line, saying_from}
 
@@ -63,11 +63,12 @@ shared_key_of ws = do
   no_more ← nothing_in master.rest
   Ok (record { alg = algorithm.value; master = master.value })
 
--- what the next line says; every fault of it is of one kind, and a missing line has the number after all lines
+-- what a line says, every fault of it being of one kind
 abbrev pub at_line : {A : Type 0} → ℕ → LineKind → List Line → Result A LineKind → Result (Left A) ScriptFault
 at_line n kind rest (Ok x) = Ok (record { value = x; rest = rest })
 at_line n kind rest (Err e) = Err (fault.Line n kind)
 
+-- what the next line says; one that is missing has the number after all lines
 unfoldable pub line_in : {A : Type 0} → ℕ → LineKind → (List (List ℕ) → Result A LineKind) → List Line → Result (Left A) ScriptFault
 line_in missing kind meaning [] = Err (fault.Line missing kind)
 line_in missing kind meaning (l ∷ ls) = at_line l.number kind ls (meaning l.words)
@@ -84,26 +85,29 @@ unfoldable pub is_shared : List (List ℕ) → Bool
 is_shared [] = false
 is_shared (w ∷ ws) = bytes_eq w (codes "shared")
 
--- the event starts the end
+-- the same end
 abbrev pub same_end : End → End → Bool
 same_end A A = true
 same_end A B = false
 same_end B A = false
 same_end B B = true
 
+-- the event starts the end
 unfoldable pub starts : End → Event → Bool
 starts end (event.Start other own peer) = same_end end other
 starts end _ = false
 
--- the line is `start` of an end that an earlier event starts
+-- an earlier event starts the end
 abbrev pub end_started : List Event → Option End → Bool
 end_started before (Some end) = list_any (λ e. starts end e) before
 end_started before None = false
 
+-- the end that the words begin with
 abbrev pub end_in_front : List (List ℕ) → Option End
 end_in_front [] = None
 end_in_front (w ∷ ws) = end_of w
 
+-- the line is `start` of an end that an earlier event starts
 unfoldable pub restarts : List Event → List (List ℕ) → Bool
 restarts before [] = false
 restarts before (w ∷ ws) = bytes_eq w (codes "start") && end_started before (end_in_front ws)
@@ -144,11 +148,12 @@ abbrev pub leaves : {A : Type 0} → Result A ScriptFault → List Line → Resu
 leaves (Ok x) rest = Ok (record { value = x; rest = rest })
 leaves (Err e) rest = Err e
 
--- what the reader answered is what is said, unless memory ran out
+-- the fault is the one that is said, unless memory ran out
 abbrev pub Fails : {A : Type 0} → ScriptFault → Result A ScriptFault → Type 0
 Fails fault.Memory said = Unit {0}
 Fails e said = said ≡ Err e
 
+-- what the reader answered is what is said, unless memory ran out
 abbrev pub Answers : {A : Type 0} → Result A ScriptFault → Result A ScriptFault → Type 0
 Answers (Ok x) said = said ≡ Ok x
 Answers (Err e) said = Fails e said

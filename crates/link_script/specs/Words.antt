@@ -55,49 +55,54 @@ end_of w = if bytes_eq w (codes "a") then Some A else if bytes_eq w (codes "b") 
 unfoldable pub fixing_of : List ℕ → Option Bool
 fixing_of w = if bytes_eq w (codes "keep") then Some false else if bytes_eq w (codes "fix") then Some true else None
 
+-- an end in front
 unfoldable pub end_in : List (List ℕ) → Result (Taken End) LineKind
 end_in ws = word_as end_of Word ws
 
+-- whether a checksum is set
 unfoldable pub fixing_in : List (List ℕ) → Result (Taken Bool) LineKind
 fixing_in ws = word_as fixing_of Word ws
 
+-- an address in front
 unfoldable pub address_in : List (List ℕ) → Result (Taken Address) LineKind
 address_in ws = word_as address_of Word ws
 
+-- an algorithm in front, by its name (RFC 5926, section 3.2)
 unfoldable pub algorithm_in : List (List ℕ) → Result (Taken Algorithm) LineKind
 algorithm_in ws = word_as algorithm_of Word ws
 
--- the word itself
+-- this very text in front
 unfoldable pub literal_in : List ℕ → List (List ℕ) → Result (Taken (Unit {0})) LineKind
 literal_in text ws = word_as (λ w. if bytes_eq w text then Some tt else None) Word ws
 
--- within the range, or a fault of it
+-- the value, if the number is within the range
 abbrev pub within : {A : Type 0} → ℕ → ℕ → ℕ → A → Result A LineKind
 within low high n x = if nat_le low n && nat_le n high then Ok x else Err Range
 
--- a decimal from low to high
+-- a decimal from low to high in front
 unfoldable pub number_in : ℕ → ℕ → List (List ℕ) → Result (Taken ℕ) LineKind
 number_in low high ws = do
   n ← word_as decimal_of Number ws
   within low high n.value n
 
--- from low to high bytes in hexadecimal
+-- from low to high bytes in hexadecimal in front
 unfoldable pub hex_in : ℕ → ℕ → List (List ℕ) → Result (Taken (List ℕ)) LineKind
 hex_in low high ws = do
   bytes ← word_as bytes_of_hex Hex ws
   within low high (length bytes.value) bytes
 
--- at least one byte in hexadecimal
+-- at least one byte in hexadecimal in front
 unfoldable pub some_hex_in : List (List ℕ) → Result (Taken (List ℕ)) LineKind
 some_hex_in ws = do
   bytes ← word_as bytes_of_hex Hex ws
   if nat_lt 0 (length bytes.value) then Ok bytes else Err Range
 
--- a byte of two digits
+-- the first byte
 abbrev pub first_of : List ℕ → ℕ
 first_of [] = 0
 first_of (b ∷ bs) = b
 
+-- a byte of two digits in front
 unfoldable pub byte_in : List (List ℕ) → Result (Taken ℕ) LineKind
 byte_in ws = do
   bytes ← hex_in 1 1 ws

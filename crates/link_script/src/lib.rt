@@ -17,3 +17,6 @@ pub use fault::ScriptFault;
 pub use printing::print_script;
 pub use reading::read_script;
 pub use script::{Script, SharedKey};
+
+#[cfg(test)]
+mod tests;

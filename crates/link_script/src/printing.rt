@@ -1,7 +1,10 @@
 //! A script, printed as a link file.
-ghost use Rattle.std.specs.Prelude.{◌≡◌, ◌++◌, ◌∷◌, [], OnOk, IfOk, codes, decimal, map, option_map};
+ghost use Rattle.std.specs.Prelude.{◌≡◌, ◌++◌, ◌∷◌, [], OnOk, IfOk, codes, decimal, map, option_map, Ok};
+ghost use Rattle.std.specs.Option.{is_none};
 ghost use Rattle.ao_base.specs.Addresses.{address_text};
 ghost use Rattle.ao_base.specs.Hexadecimal.{hex_of};
+ghost use Rattle.link_script.specs.Script.{script_of};
+ghost use Rattle.link_script.specs.Scripts.{IsScript};
 ghost use Rattle.link_script.specs.Printed.{end_text, event_words, fixing_text, key_lines, line_text, lines_text, script_lines, socket_words, text_of, title_words};
 
 use super::event::Event;
@@ -62,55 +65,60 @@ fn push_name(out: &mut Vec<u8>, name: &[u8], end: End) -> Result<(), AllocError>
     push_end(out, end)
 }
 
-/// The words of an event, and a newline.
+/// The name of an event, the end that it is about, and a number.
+fn push_numbered(out: &mut Vec<u8>, name: &[u8], end: End, number: u64) -> Result<(), AllocError>
+    ensures { OnOk result (out.new.items ≡ out.old.items ++ (name.now ++ 32 ∷ (end_text end ++ 32 ∷ decimal number))) }
+{
+    push_name(out, name, end)?;
+    push_number(out, number)
+}
+
+/// The words of an event that brings bytes to an end.
+fn push_load(out: &mut Vec<u8>, name: &[u8], end: End, bytes: &Bytes) -> Result<(), AllocError>
+    ensures { OnOk result (out.new.items ≡ out.old.items ++ (name.now ++ 32 ∷ (end_text end ++ 32 ∷ hex_of bytes.now))) }
+{
+    push_name(out, name, end)?;
+    push_bytes(out, bytes.as_slice())
+}
+
+/// The words of an event.
 #[tactic(auto, unfolding(crate::specs::Printed::event_words))]
+fn push_words(out: &mut Vec<u8>, event: &Event) -> Result<(), AllocError>
+    ensures { OnOk result (out.new.items ++ 10 ∷ [] ≡ out.old.items ++ line_text (event_words event.now)) }
+{
+    match event {
+        Event::Clock(end, seconds) => push_numbered(out, b"clock", *end, *seconds),
+        Event::Start(end, own, peer) => {
+            push_numbered(out, b"start", *end, u64::from(*own))?;
+            push_number(out, u64::from(*peer))
+        }
+        Event::Give(end, bytes) => push_load(out, b"give", *end, bytes),
+        Event::Fill(end, count, byte) => {
+            push_numbered(out, b"fill", *end, u64::from(*count))?;
+            push_bytes(out, &[*byte])
+        }
+        Event::Send(end) => push_name(out, b"send", *end),
+        Event::Deliver(end, segment) => push_numbered(out, b"deliver", *end, u64::from(*segment)),
+        Event::Inject(end, bytes) => push_load(out, b"inject", *end, bytes),
+        Event::Alter(end, segment, place, mask, fixing) => {
+            push_numbered(out, b"alter", *end, u64::from(*segment))?;
+            push_number(out, u64::from(*place))?;
+            push_bytes(out, &[*mask])?;
+            push_fixing(out, *fixing)
+        }
+        Event::Take(end, count) => push_numbered(out, b"take", *end, u64::from(*count)),
+        Event::Dump(segment) => {
+            push_text(out, b"dump")?;
+            push_number(out, u64::from(*segment))
+        }
+    }
+}
+
+/// The words of an event, and a newline.
 fn push_event(out: &mut Vec<u8>, event: &Event) -> Result<(), AllocError>
     ensures { OnOk result (out.new.items ≡ out.old.items ++ line_text (event_words event.now)) }
 {
-    match event {
-        Event::Clock(end, seconds) => {
-            push_name(out, b"clock", *end)?;
-            push_number(out, *seconds)?;
-        }
-        Event::Start(end, own, peer) => {
-            push_name(out, b"start", *end)?;
-            push_number(out, u64::from(*own))?;
-            push_number(out, u64::from(*peer))?;
-        }
-        Event::Give(end, bytes) => {
-            push_name(out, b"give", *end)?;
-            push_bytes(out, bytes.as_slice())?;
-        }
-        Event::Fill(end, count, byte) => {
-            push_name(out, b"fill", *end)?;
-            push_number(out, u64::from(*count))?;
-            push_bytes(out, &[*byte])?;
-        }
-        Event::Send(end) => push_name(out, b"send", *end)?,
-        Event::Deliver(end, segment) => {
-            push_name(out, b"deliver", *end)?;
-            push_number(out, u64::from(*segment))?;
-        }
-        Event::Inject(end, bytes) => {
-            push_name(out, b"inject", *end)?;
-            push_bytes(out, bytes.as_slice())?;
-        }
-        Event::Alter(end, segment, place, mask, fixing) => {
-            push_name(out, b"alter", *end)?;
-            push_number(out, u64::from(*segment))?;
-            push_number(out, u64::from(*place))?;
-            push_bytes(out, &[*mask])?;
-            push_fixing(out, *fixing)?;
-        }
-        Event::Take(end, count) => {
-            push_name(out, b"take", *end)?;
-            push_number(out, u64::from(*count))?;
-        }
-        Event::Dump(segment) => {
-            push_text(out, b"dump")?;
-            push_number(out, u64::from(*segment))?;
-        }
-    }
+    push_words(out, event)?;
     out.push(b'\n')?;
     Ok(())
 }
@@ -169,7 +177,9 @@ fn push_events(out: &mut Vec<u8>, events: &[Event]) -> Result<(), AllocError>
 /// as this script, `with_keys` where it has no shared key.
 #[tactic(auto, unfolding(crate::specs::Printed::text_of, crate::specs::Printed::script_lines, crate::specs::Printed::lines_text))]
 pub fn print_script(alloc: Global, script: &Script) -> Result<Bytes, AllocError>
+    requires { IsScript script.now }
     ensures text { IfOk result (λ text. text ≡ text_of script.now) }
+    ensures read_again { IfOk result (λ text. script_of (is_none script.now.shared) text ≡ Ok script.now) }
 {
     let mut out = Vec::new(alloc);
     push_title(&mut out)?;

@@ -1,8 +1,10 @@
 //! A link file, read from its first line to its last.
-ghost use Rattle.std.specs.Prelude.{◌≡◌, ◌+◌, [], ◌∷◌, codes, true, false};
+ghost use Rattle.std.specs.Prelude.{◌≡◌, [], codes, IfOk};
 ghost use Rattle.std.specs.List.{list_any};
+ghost use Rattle.std.specs.Option.{is_none};
 ghost use Rattle.ao_base.specs.declared.line_kind.LineKind.TheVariants as line_kind;
 ghost use Rattle.link_script.specs.Words.{Tells};
+ghost use Rattle.link_script.specs.Scripts.{IsScript};
 ghost use Rattle.link_script.specs.Script.{Answers, leaves, end_in_front, are_two_of_a_family, end_started, event_at, events_from, is_shared, key_in, line_in, peer_of, restarts, same_end, script_of, shared_key_of, socket_of, starts, title_of};
 
 use super::event::{Event, Events};
@@ -235,14 +237,8 @@ fn events(alloc: Global, lines: &mut SayingLines) -> Result<Events, ScriptFault>
     Ok(Events::from_vec(events))
 }
 
-/// The script of a link file, `with_keys` where its keys come from a key file.
-///
-/// `Ok` exactly where the text is in the grammar. `TooManyLines` exactly where it has more than
-/// 20,000 lines; else `Line` is the first faulty line, counted from 1 among all lines, with the
-/// kind of its first faulty word, and a line of the head that is missing has the number after all
-/// lines. `Memory` only for want of memory.
 #[tactic(auto, unfolding(crate::specs::Script::script_of, crate::specs::Script::script_in))]
-pub fn read_script(alloc: Global, with_keys: bool, text: &[u8]) -> Result<Script, ScriptFault>
+fn read(alloc: Global, with_keys: bool, text: &[u8]) -> Result<Script, ScriptFault>
     ensures { Answers result (script_of with_keys text.now) }
 {
     let Some(count) = count_lines(text) else {
@@ -261,4 +257,18 @@ pub fn read_script(alloc: Global, with_keys: bool, text: &[u8]) -> Result<Script
         shared,
         events,
     })
+}
+
+/// The script of a link file, `with_keys` where its keys come from a key file.
+///
+/// `Ok` exactly where the text is in the grammar. `TooManyLines` exactly where it has more than
+/// 20,000 lines; else `Line` is the first faulty line, counted from 1 among all lines, with the
+/// kind of its first faulty word, and a line of the head that is missing has the number after all
+/// lines. `Memory` only for want of memory.
+pub fn read_script(alloc: Global, with_keys: bool, text: &[u8]) -> Result<Script, ScriptFault>
+    ensures read { Answers result (script_of with_keys text.now) }
+    ensures grammar { IfOk result IsScript }
+    ensures key { IfOk result (λ script. is_none script.shared ≡ with_keys) }
+{
+    read(alloc, with_keys, text)
 }

@@ -146,6 +146,7 @@ pub record SpelledBy (b : List ℕ) (d : Segment) (head end : ℕ) : Type 0 wher
   pub header_bytes : take head b ≡ spell_as d.ip d []
   pub tcp : slice_range b head end ≡ tcp_bytes d d.checksum
   pub long : tcp_length d ≡ end - head
+  pub least : 20 ≤ head
   pub order : head + 20 ≤ end
   pub room : end ≤ length b
 
@@ -243,6 +244,7 @@ v4_fits b h version e =
       header_bytes = header_is;
       tcp = f.bytes;
       long = omega arith;
+      least = omega arith;
       order = omega arith;
       room = whole;
     }
@@ -352,6 +354,7 @@ v6_fits b h version e =
       header_bytes = header_is;
       tcp = f.bytes;
       long = omega arith;
+      least = omega arith;
       order = omega arith;
       room = whole;
     }

@@ -7,13 +7,16 @@ ghost use Rattle.tcp_options.specs.Views.{FaultIs, fault_of, mss_or, view_opt};
 
 use crate::iter::{Cut, Opt, OptionIter, cut_front, iter_over};
 use std::marker::Model;
+use thiserror::Error;
 
 /// Why bytes are no option area, with the place of the faulty option's kind byte.
-#[derive(Clone, Copy, Debug, PartialEq, Eq)]
+#[derive(Clone, Copy, Debug, Error, PartialEq, Eq)]
 pub enum OptionFault {
     /// A length byte below 2, or below 4 for TCP-AO.
+    #[error("option with a short length at {0}")]
     ShortLength(u8),
     /// No length byte, or an option that reaches past the area.
+    #[error("option past the end at {0}")]
     PastEnd(u8),
 }
 

@@ -1,4 +1,4 @@
-use Rattle.std.proofs.Common.{◌≡◌, [], sym, ◌∙◌}
+use Rattle.std.proofs.Common.{[]}
 use Rattle.std.proofs.lemmas.Result.{err_from_is_err_and}
 use Rattle.link_script.specs.Script.{events_from}
 use Rattle.link_script.proofs.EventLoop.{event_read, event_refused, events_read}

@@ -1,0 +1,5 @@
+pub mod DraftLaws
+pub mod PartLaws
+pub mod ReadLaws
+pub mod SetLaws
+pub mod WriteLaws

@@ -1,0 +1,7 @@
+use Rattle.std.proofs.Common.{ap, ◌∙◌}
+use Rattle.segment_model.specs.Segments.{Segment}
+use Rattle.tcp_segment.proofs.ReadLaws.{sequence_in}
+use Rattle.tcp_segment.proofs.datagram.Datagram.sequence.Goals as goal
+
+pub returns : goal.returns
+returns c = c.four.ensures ∙ sequence_in c.self.inside.bytes.now c.self.inside.places c.self.invariant ∙ ap (λ (d : Segment). d.sequence) c.self.view_is

@@ -1,0 +1,7 @@
+use Rattle.std.proofs.Common.{refl}
+use Rattle.segment_model.specs.Bytes.{put2}
+use Rattle.tcp_segment.proofs.writing.ipv4_start.Goals as goal
+
+pub returns : goal.returns
+unfolding put2
+returns c = rw (c.to_be_bytes.ensures, c.to_be_bytes-2.ensures) refl

@@ -1,0 +1,6 @@
+pub mod Lending
+pub mod Parts
+pub mod Places
+pub mod Sums
+pub mod Views
+pub mod Writing

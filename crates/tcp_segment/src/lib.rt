@@ -1,0 +1,17 @@
+//! Datagrams of IP and TCP in place (RFC 791, RFC 8200, RFC 9293).
+//!
+//! `read_datagram` borrows the parts of a datagram from the caller's bytes, or names the first of
+//! nine faults. `write_datagram` lays a datagram out in a caller's buffer, whose payload and MAC are
+//! then filled in, and `finish` sets its checksum. No call takes memory or copies a datagram.
+#![tactic(auto)]
+
+mod datagram;
+mod parts;
+mod reading;
+mod sums;
+mod writing;
+
+pub use datagram::{Datagram, read_datagram};
+pub use reading::DatagramFault;
+pub use sums::fix_checksum;
+pub use writing::{DatagramMut, Draft, Head, write_datagram};

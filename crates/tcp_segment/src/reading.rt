@@ -1,0 +1,157 @@
+//! The nine tests of a datagram.
+ghost use Rattle.std.specs.Prelude.{◌≡◌, ℕ, List, ◌+◌, ◌*◌, ◌/◌, ◌%◌, ◌<◌, ◌≤◌, length, slice_index, Some, None, MatchResult};
+ghost use Rattle.segment_model.specs.Segments.{tcp_fault, v4_fault, v6_fault, first_fault, two_at, is_extension};
+ghost use Rattle.tcp_segment.specs.Places.{PlacedBy, Placed};
+ghost use Rattle.tcp_segment.specs.Views.{fault_of};
+
+use crate::sums::{is_right, two};
+use tcp_options::{OptionFault, read_options};
+use thiserror::Error;
+
+/// Why bytes are no datagram: the first of these tests that holds.
+#[derive(Clone, Copy, Debug, Error, PartialEq, Eq)]
+pub enum DatagramFault {
+    /// Fewer bytes than the IP header or its length field says.
+    #[error("truncated")]
+    Truncated,
+    /// Neither IPv4 nor IPv6.
+    #[error("neither IPv4 nor IPv6")]
+    Version,
+    /// An IPv4 header of less than 20 bytes, or of more than the total length.
+    #[error("faulty header length")]
+    HeaderLength,
+    /// An IPv4 header whose words don't sum to ffff.
+    #[error("wrong header checksum")]
+    HeaderChecksum,
+    /// A fragment of a datagram over IPv4.
+    #[error("fragment")]
+    Fragment,
+    /// Another protocol than TCP.
+    #[error("not TCP")]
+    NotTcp,
+    /// An extension header of IPv6.
+    #[error("extension header")]
+    ExtensionHeader,
+    /// A data offset below the TCP header's length, or past the datagram's end.
+    #[error("faulty data offset")]
+    DataOffset,
+    /// A fault in the TCP options.
+    #[error("{0}")]
+    BadOption(OptionFault),
+}
+
+/// Where the TCP header and the payload begin, and the datagram ends.
+#[derive(Clone, Copy)]
+pub(crate) struct Places {
+    pub header: usize,
+    pub payload: usize,
+    pub end: usize,
+}
+
+/// The length of the TCP header with its options.
+fn tcp_header_length(tcp: &[u8]) -> Result<usize, DatagramFault>
+    ensures { MatchResult result (λ n. (n ≡ 4 * (slice_index tcp.now 12 / 16)) × (tcp_fault tcp.now ≡ None)) (λ fault. tcp_fault tcp.now ≡ Some (fault_of fault)) }
+{
+    if tcp.len() < 20 {
+        return Err(DatagramFault::DataOffset);
+    }
+    let length = 4 * (tcp[12] / 16) as usize;
+    if length < 20 {
+        return Err(DatagramFault::DataOffset);
+    }
+    if tcp.len() < length {
+        return Err(DatagramFault::DataOffset);
+    }
+    match read_options(&tcp[20..length]) {
+        Ok(_) => Ok(length),
+        Err(fault) => Err(DatagramFault::BadOption(fault)),
+    }
+}
+
+fn read_v4(bytes: &[u8]) -> Result<Places, DatagramFault>
+    ensures { MatchResult result (λ places. PlacedBy bytes.now (4 * (slice_index bytes.now 0 % 16)) (two_at bytes.now 2) places × (v4_fault bytes.now ≡ None)) (λ fault. v4_fault bytes.now ≡ Some (fault_of fault)) }
+{
+    if bytes.len() < 20 {
+        return Err(DatagramFault::Truncated);
+    }
+    let end = two(bytes, 2) as usize;
+    if bytes.len() < end {
+        return Err(DatagramFault::Truncated);
+    }
+    let header = 4 * (bytes[0] % 16) as usize;
+    if header < 20 {
+        return Err(DatagramFault::HeaderLength);
+    }
+    if end < header {
+        return Err(DatagramFault::HeaderLength);
+    }
+    if !is_right(&bytes[..header]) {
+        return Err(DatagramFault::HeaderChecksum);
+    }
+    if two(bytes, 6) % 16384 != 0 {
+        return Err(DatagramFault::Fragment);
+    }
+    if bytes[9] != 6 {
+        return Err(DatagramFault::NotTcp);
+    }
+    match tcp_header_length(&bytes[header..end]) {
+        Ok(length) => Ok(Places {
+            header,
+            payload: header + length,
+            end,
+        }),
+        Err(fault) => Err(fault),
+    }
+}
+
+fn is_extension_header(next: u8) -> bool
+    ensures { result ≡ is_extension next }
+{
+    next == 0 || next == 43 || next == 44 || next == 60
+}
+
+fn read_v6(bytes: &[u8]) -> Result<Places, DatagramFault>
+    ensures { MatchResult result (λ places. PlacedBy bytes.now 40 (40 + two_at bytes.now 4) places × (v6_fault bytes.now ≡ None)) (λ fault. v6_fault bytes.now ≡ Some (fault_of fault)) }
+{
+    if bytes.len() < 40 {
+        return Err(DatagramFault::Truncated);
+    }
+    let end = 40 + two(bytes, 4) as usize;
+    if bytes.len() < end {
+        return Err(DatagramFault::Truncated);
+    }
+    let next = bytes[6];
+    let extension = is_extension_header(next);
+    if next != 6 && !extension {
+        return Err(DatagramFault::NotTcp);
+    }
+    if extension {
+        return Err(DatagramFault::ExtensionHeader);
+    }
+    match tcp_header_length(&bytes[40..end]) {
+        Ok(length) => Ok(Places {
+            header: 40,
+            payload: 40 + length,
+            end,
+        }),
+        Err(fault) => Err(fault),
+    }
+}
+
+/// The places of the datagram that a prefix of the bytes is, by the nine tests in their order.
+#[tactic(auto, unfolding(segment_model::specs::Segments::first_fault))]
+pub(crate) fn places_in(bytes: &[u8]) -> Result<Places, DatagramFault>
+    ensures { MatchResult result (λ places. Placed bytes.now places × (first_fault bytes.now ≡ None)) (λ fault. first_fault bytes.now ≡ Some (fault_of fault)) }
+{
+    if bytes.is_empty() {
+        return Err(DatagramFault::Truncated);
+    }
+    let version = bytes[0] / 16;
+    if version == 4 {
+        read_v4(bytes)
+    } else if version == 6 {
+        read_v6(bytes)
+    } else {
+        Err(DatagramFault::Version)
+    }
+}

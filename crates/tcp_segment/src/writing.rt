@@ -1,0 +1,254 @@
+//! Datagrams that are written in place.
+ghost use Rattle.std.specs.Prelude.{◌≡◌, ◌+◌, ◌-◌, ◌*◌, ◌/◌, ◌%◌, ◌≤◌, ◌<◌, ◌++◌, ◌∷◌, List, [], ℕ, length, take, drop, replicate, ◌⊎◌, Option, Some, None};
+ghost use Rattle.std.specs.Borrow.{sem};
+ghost use Rattle.segment_model.specs.Bytes.{put2};
+ghost use Rattle.segment_model.specs.Sockets.{octets};
+ghost use Rattle.segment_model.specs.Segments.{words_sum, complement_of};
+ghost use Rattle.tcp_segment.specs.Lending.{LendsIn};
+ghost use Rattle.tcp_segment.specs.Writing.{ip_start, ip_words, ip_size, tcp_start, mss_option, option_heads, mac_place, header_length, drafted, IsSized, HasNumbers, IsHead, Drafted, IsDrafted, IsLaidOut, IsFinished};
+ghost use Rattle.tcp_segment.specs.declared.writing.Head.{Head};
+
+use crate::datagram::{Datagram, datagram_at};
+use crate::parts::{put, put_zeros};
+use crate::reading::Places;
+use crate::sums::{complement, set_checksum, words};
+use ao_base::{Address, Socket};
+use lent_bytes::Room;
+
+/// What a sender sets in a datagram. The addresses are of one family, and the MAC of TCP-AO has 12
+/// or 16 bytes.
+#[derive(Clone, Copy, Debug)]
+pub struct Head {
+    pub source: Socket,
+    pub destination: Socket,
+    pub sequence: u32,
+    pub acknowledgement: u32,
+    pub flags: u8,
+    pub window: u16,
+    pub mss: Option<u16>,
+    pub key_id: u8,
+    pub rnext: u8,
+    pub mac_length: u8,
+}
+
+/// A datagram in a buffer, whose TCP checksum is still zero.
+#[derive(Drop)]
+pub struct Draft<B> {
+    out: B,
+    header: usize,
+    mac: usize,
+    payload: usize,
+    len: usize,
+}
+
+/// A datagram in a caller's slice.
+pub type DatagramMut<'a> = Draft<&'a mut [u8]>;
+
+/// The bytes of an address.
+fn octets_of(address: &Address) -> &[u8]
+    ensures bytes { result.now ≡ octets address.now }
+    ensures sized { IsSized address.now }
+    ensures most { length result.now ≤ 16 }
+{
+    match address {
+        Address::V4(bytes) => bytes,
+        Address::V6(bytes) => bytes,
+    }
+}
+
+/// An IPv4 header up to its addresses.
+fn ipv4_start(total: u16, checksum: u16) -> [u8; 12]
+    ensures { result ≡ 69 ∷ 0 ∷ put2 total (0 ∷ 0 ∷ 64 ∷ 0 ∷ 64 ∷ 6 ∷ put2 checksum []) }
+{
+    let [t0, t1] = total.to_be_bytes();
+    let [c0, c1] = checksum.to_be_bytes();
+    [69, 0, t0, t1, 0, 0, 64, 0, 64, 6, c0, c1]
+}
+
+/// An IPv6 header up to its addresses.
+fn ipv6_start(length: u16) -> [u8; 8]
+    ensures { result ≡ 96 ∷ 0 ∷ 0 ∷ 0 ∷ put2 length (6 ∷ 64 ∷ []) }
+{
+    let [l0, l1] = length.to_be_bytes();
+    [96, 0, 0, 0, l0, l1, 6, 64]
+}
+
+/// A TCP header over options of this length, its checksum zero.
+fn tcp_start_of(head: &Head, area_length: u8) -> [u8; 20]
+    requires { area_length ≤ 40 }
+    ensures bytes { result ≡ tcp_start head.now area_length }
+    ensures numbers { HasNumbers head.now }
+{
+    let [s0, s1] = head.source.port.to_be_bytes();
+    let [d0, d1] = head.destination.port.to_be_bytes();
+    let [q0, q1, q2, q3] = head.sequence.to_be_bytes();
+    let [a0, a1, a2, a3] = head.acknowledgement.to_be_bytes();
+    let [w0, w1] = head.window.to_be_bytes();
+    let offset = 80 + 4 * area_length;
+    [
+        s0, s1, d0, d1, q0, q1, q2, q3, a0, a1, a2, a3, offset, head.flags, w0, w1, 0, 0, 0, 0,
+    ]
+}
+
+/// The length of the IP header.
+fn ip_length_of(head: &Head) -> usize
+    ensures { result ≡ ip_size head.now.source.address }
+{
+    match head.source.address {
+        Address::V4(_) => 20,
+        Address::V6(_) => 40,
+    }
+}
+
+/// The length of the options in front of the MAC.
+fn heads_length_of(head: &Head) -> usize
+    ensures { result ≡ 4 + length (mss_option head.now.mss) }
+{
+    match head.mss {
+        Some(_) => 8,
+        None => 4,
+    }
+}
+
+/// The checksum of the IPv4 header.
+fn ip_checksum_of(head: &Head, total: u16) -> u16
+    ensures { result ≡ complement_of (ip_words head.now total) }
+{
+    let start = ipv4_start(total, 0);
+    let addresses = words(octets_of(&head.source.address))
+        + words(octets_of(&head.destination.address));
+    complement(words(&start) + addresses)
+}
+
+/// Writes the IP header up to its addresses.
+fn put_ip_start(out: &mut [u8], head: &Head, tcp_length: u16) -> usize
+    requires room { 40 ≤ length out.old }
+    requires small { tcp_length ≤ 1500 }
+    ensures end { result ≡ length (ip_start head.now tcp_length head.now.source.address) }
+    ensures most { result ≤ 12 }
+    ensures front { take result out.new ≡ ip_start head.now tcp_length head.now.source.address }
+    ensures rest { (n : ℕ) → result ≤ n → drop n out.new ≡ drop n out.old }
+{
+    match head.source.address {
+        Address::V4(_) => {
+            let total = 20 + tcp_length;
+            put(out, 0, &ipv4_start(total, ip_checksum_of(head, total)))
+        }
+        Address::V6(_) => put(out, 0, &ipv6_start(tcp_length)),
+    }
+}
+
+/// Writes the MSS, where there is one, and the head of the TCP-AO option.
+fn put_options(out: &mut [u8], at: usize, head: &Head) -> usize
+    requires fits { at + 8 ≤ length out.old }
+    requires mac { head.now.mac_length ≤ 16 }
+    ensures end { result ≡ at + length (option_heads head.now head.now.mac_length) }
+    ensures front { take result out.new ≡ take at out.old ++ option_heads head.now head.now.mac_length }
+    ensures rest { (n : ℕ) → result ≤ n → drop n out.new ≡ drop n out.old }
+{
+    let ao = [29, 4 + head.mac_length, head.key_id, head.rnext];
+    match head.mss {
+        Some(mss) => {
+            let [m0, m1] = mss.to_be_bytes();
+            put(out, at, &[2, 4, m0, m1, ao[0], ao[1], ao[2], ao[3]])
+        }
+        None => put(out, at, &ao),
+    }
+}
+
+/// Lays a datagram out in a buffer: the headers and options of the head, with the payload and the
+/// MAC zero, and the TCP checksum zero until `finish`.
+///
+/// The form is IPv4 with type of service and identification 0, don't fragment, TTL 64 and no
+/// options, or IPv6 with traffic class and flow label 0 and hop limit 64; in TCP the reserved bits
+/// and the urgent pointer are 0, and the options are the MSS where there is one, then TCP-AO,
+/// without padding (RFC 791, RFC 8200, RFC 9293, RFC 5925). The addresses are of one family, the MAC
+/// has 12 or 16 bytes, the payload at most 1,460, the datagram at most 1,500, and the buffer at
+/// least 1,500. The bytes of the buffer behind the datagram stay.
+pub fn write_datagram<'a>(out: &'a mut [u8], head: &Head, payload_len: usize) -> DatagramMut<'a>
+    requires head { IsHead head.now payload_len }
+    requires room { 1500 ≤ length out.old }
+    ensures same_buffer { result.out.ghost_name ≡ out.entry.ghost_name }
+    ensures laid_out { IsLaidOut result }
+    ensures drafted { Drafted result head.now (replicate head.now.mac_length 0) (replicate payload_len 0) (drop (header_length head.now + payload_len) out.old) }
+{
+    let header = ip_length_of(head);
+    let mac = header + 20 + heads_length_of(head);
+    let payload = mac + head.mac_length as usize;
+    let len = payload + payload_len;
+    let area_length = (payload - header - 20) as u8;
+    let at = put_ip_start(out, head, (len - header) as u16);
+    let at = put(out, at, octets_of(&head.source.address));
+    let at = put(out, at, octets_of(&head.destination.address));
+    let at = put(out, at, &tcp_start_of(head, area_length));
+    let at = put_options(out, at, head);
+    put_zeros(out, at, len);
+    Draft {
+        out,
+        header,
+        mac,
+        payload,
+        len,
+    }
+}
+
+impl<'a> Draft<&'a mut [u8]> {
+    /// How many bytes the datagram has.
+    pub fn len(&self) -> usize
+        ensures { result ≡ self.now.len }
+    {
+        self.len
+    }
+
+    /// The datagram as it stands, with its TCP checksum zero.
+    pub fn as_datagram(&self) -> Datagram<'_>
+        requires { IsDrafted self.now }
+        ensures { (h : Head) (mac payload rest : List ℕ) → Drafted self.now h mac payload rest → result ≡ drafted h mac payload }
+    {
+        let places = Places {
+            header: self.header,
+            payload: self.payload,
+            end: self.len,
+        };
+        datagram_at(self.out, places)
+    }
+
+    /// Sets the TCP checksum, and gives the datagram's length. What then stands in front of the
+    /// buffer is good, and is read again as the same head, MAC and payload, whatever follows.
+    pub fn finish(self) -> usize
+        requires { IsLaidOut self }
+        ensures len { result ≡ self.entry.len }
+        ensures finished { (h : Head) (mac payload rest : List ℕ) → Drafted self.entry h mac payload rest → IsFinished h mac payload rest self.exit.0.now }
+    {
+        let header = self.header;
+        let len = self.len;
+        set_checksum(self.out, header, len);
+        len
+    }
+}
+
+impl<B: Room> Draft<B> {
+    /// The payload, for writing.
+    pub fn payload_mut(&mut self) -> &mut [u8]
+        requires order { self.old.payload ≤ self.old.len }
+        requires fits { self.old.len ≤ length (B.bytes self.old.out) }
+        ensures* writes { sem 𝓛 (LendsIn B.row B.bytes B.put self.entry self.old.payload self.old.len result) }
+        ensures part { result.now ≡ take (self.old.len - self.old.payload) (drop self.old.payload (B.bytes self.old.out)) }
+    {
+        let from = self.payload;
+        let to = self.len;
+        self.out.part_mut(from, to)
+    }
+
+    /// The MAC, for writing.
+    pub fn mac_mut(&mut self) -> &mut [u8]
+        requires order { self.old.mac ≤ self.old.payload }
+        requires fits { self.old.payload ≤ length (B.bytes self.old.out) }
+        ensures* writes { sem 𝓛 (LendsIn B.row B.bytes B.put self.entry self.old.mac self.old.payload result) }
+        ensures part { result.now ≡ take (self.old.payload - self.old.mac) (drop self.old.mac (B.bytes self.old.out)) }
+    {
+        let from = self.mac;
+        let to = self.payload;
+        self.out.part_mut(from, to)
+    }
+}
