@@ -14,7 +14,7 @@ xtime b = if nat_lt b 128 then 2 * b else bit_xor (2 * b - 256) 27
 -- the product of two bytes in the field, over so many bits of the second (FIPS 197, 4.2)
 abbrev pub times_bits : ℕ → ℕ → ℕ → ℕ
 times_bits a b zero = 0
-times_bits a b (suc k) = if b % 2 == 1 then bit_xor a (times_bits (xtime a) (b / 2) k) else times_bits (xtime a) (b / 2) k
+times_bits a b (suc k) = bit_xor (if b % 2 == 1 then a else 0) (times_bits (xtime a) (b / 2) k)
 
 unfoldable pub times : ℕ → ℕ → ℕ
 times a b = times_bits a b 8
@@ -77,9 +77,13 @@ aes_rounds [] k state = state
 aes_rounds (rc ∷ []) k state = xor (next_key k rc) (sub_shift state)
 aes_rounds (rc ∷ r2 ∷ rest) k state = let n = next_key k rc in aes_rounds (r2 ∷ rest) n (xor n (mix (sub_shift state)))
 
+-- the round constants (FIPS 197, 5.2)
+abbrev pub round_constants : List ℕ
+round_constants = 1 ∷ 2 ∷ 4 ∷ 8 ∷ 16 ∷ 32 ∷ 64 ∷ 128 ∷ 27 ∷ 54 ∷ []
+
 -- AES-128 on one block (FIPS 197, 5.1)
 unfoldable pub aes : List ℕ → List ℕ → List ℕ
-aes key block = aes_rounds (1 ∷ 2 ∷ 4 ∷ 8 ∷ 16 ∷ 32 ∷ 64 ∷ 128 ∷ 27 ∷ 54 ∷ []) key (xor key block)
+aes key block = aes_rounds round_constants key (xor key block)
 
 abbrev pub shift_left : List ℕ → List ℕ
 shift_left [] = []

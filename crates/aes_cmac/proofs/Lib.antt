@@ -1,0 +1,5 @@
+pub mod TableTest
+pub mod Columns
+pub mod Rounds
+pub mod Doubling
+pub mod Chains

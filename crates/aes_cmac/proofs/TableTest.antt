@@ -1,0 +1,37 @@
+use Rattle.std.proofs.Common.{◌≡◌, ◌<◌, ◌==◌, ◌&&◌, ℕ, zero, suc, Bool, true, List, [], ◌∷◌, get_or, refl, ap₂, arith, eqb-true, inl, inr}
+use Rattle.std.proofs.lemmas.Bool.{cases_eq, and_parts}
+use Rattle.segment_model.specs.Bytes.{put4, same_bytes}
+use Rattle.mac_model.specs.Ciphers.{sbox, inverse, times}
+use Rattle.aes_cmac.specs.Block.{products_of}
+use Rattle.aes_cmac.specs.declared.table.TheConstants.{PRODUCTS}
+
+same_true : (xs ys : List ℕ) → same_bytes xs ys ≡ true → xs ≡ ys
+same_true [] [] h = refl
+same_true [] (y ∷ ys) h = absurd (cc)
+same_true (x ∷ xs) [] h = absurd (cc)
+same_true (x ∷ xs) (y ∷ ys) h =
+    let p = and_parts (x == y) (same_bytes xs ys) h in ap₂ (λ (z : ℕ) (zs : List ℕ). z ∷ zs) (eqb-true x y p.0) (same_true xs ys p.1)
+
+-- a test holds at all numbers below n
+unfoldable all_below : (ℕ → Bool) → ℕ → Bool
+all_below f zero = true
+all_below f (suc n) = f n && all_below f n
+
+all_at : (f : ℕ → Bool) (n : ℕ) → all_below f n ≡ true → (b : ℕ) → b < n → f b ≡ true
+unfolding all_below
+all_at f zero h b lt = absurd (omega arith)
+all_at f (suc n) h b lt =
+    let both = and_parts (f n) (all_below f n) h in
+    elim (cases_eq b n) [ inl same ↦ rw same both.0 | inr other ↦ all_at f n both.1 b (omega arith) ]
+
+-- the table has the products of a byte's substitute at this byte
+abbrev is_right_at : ℕ → Bool
+is_right_at x = same_bytes (put4 (get_or PRODUCTS x 0) []) (products_of (sbox x))
+
+-- the checker computes the rule of the table at all 256 bytes
+all_entries : all_below is_right_at 256 ≡ true
+unfolding all_below put4 sbox inverse times
+all_entries = refl
+
+pub entry_at : (x : ℕ) → x < 256 → put4 (get_or PRODUCTS x 0) [] ≡ products_of (sbox x)
+entry_at x h = same_true _ _ (all_at is_right_at 256 all_entries x h)

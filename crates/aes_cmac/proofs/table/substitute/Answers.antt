@@ -1,0 +1,6 @@
+use Rattle.segment_model.specs.Bytes.{put4}
+use Rattle.aes_cmac.proofs.table.substitute.Goals as goal
+
+pub returns : goal.returns
+unfolding put4
+returns c = let e = c.products.ensures in cc

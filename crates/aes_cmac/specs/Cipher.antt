@@ -1,0 +1,18 @@
+-- What a cipher stands for.
+use Rattle.std.specs.Prelude.{◌≡◌, ℕ, ◌+◌, ◌<◌, List, slice_index, slice_index_or}
+use Rattle.mac_model.specs.Ciphers.{next_key, round_constants}
+use Rattle.aes_cmac.specs.Block.{bytes_of}
+use Rattle.aes_cmac.specs.declared.block.Block.{Block}
+use Rattle.aes_cmac.specs.declared.cipher.Aes128.{Aes128}
+
+abbrev pub empty : Block
+empty = record { first = 0; second = 0; third = 0; fourth = 0 }
+
+-- a round key as bytes
+abbrev pub key_at : List Block → ℕ → List ℕ
+key_at keys i = bytes_of (slice_index_or keys i empty)
+
+-- the cipher has the round keys of this key (FIPS 197, 5.2)
+pub record IsKeyed (cipher : Aes128) (key : List ℕ) : Type 0 where
+  pub first : key_at cipher.keys 0 ≡ key
+  pub next : (i : ℕ) → i < 10 → key_at cipher.keys (i + 1) ≡ next_key (key_at cipher.keys i) (slice_index round_constants i)

@@ -1,0 +1,4 @@
+pub mod Block
+pub mod Cipher
+pub mod Chain
+pub mod Hasher

@@ -1,0 +1,56 @@
+//! AES-128 under one key.
+ghost use Rattle.std.specs.Prelude.{◌≡◌, ℕ, List};
+ghost use Rattle.mac_model.specs.Ciphers.{aes};
+ghost use Rattle.aes_cmac.specs.Block.{bytes_of};
+ghost use Rattle.aes_cmac.specs.Cipher.{IsKeyed};
+
+use crate::block::Block;
+
+/// The number of rounds (FIPS 197, section 5).
+const ROUNDS: usize = 10;
+/// The round constants (FIPS 197, section 5.2).
+const ROUND_CONSTANTS: [u8; ROUNDS] = [0x01, 0x02, 0x04, 0x08, 0x10, 0x20, 0x40, 0x80, 0x1b, 0x36];
+
+/// AES-128 under one key (FIPS 197).
+#[derive(Drop)]
+pub struct Aes128 {
+    keys: [Block; ROUNDS + 1],
+}
+
+impl Aes128 {
+    /// The cipher under a key.
+    pub fn new(key: &[u8; 16]) -> Aes128
+        ensures { IsKeyed result key.now }
+    {
+        Aes128::under(Block::of(key))
+    }
+
+    /// The cipher under a key, as columns.
+    pub fn under(key: Block) -> Aes128
+        ensures { IsKeyed result (bytes_of key) }
+    {
+        let mut keys = [key; ROUNDS + 1];
+        for i in 0..ROUNDS {
+            keys[i + 1] = keys[i].next_key(ROUND_CONSTANTS[i]);
+        }
+        Aes128 { keys }
+    }
+
+    /// The block under the cipher (FIPS 197, section 5.1).
+    pub fn encrypt(&self, block: &[u8; 16]) -> [u8; 16]
+        ensures { (key : List ℕ) → IsKeyed self.now key → result ≡ aes key block.now }
+    {
+        self.encrypt_block(Block::of(block)).to_bytes()
+    }
+
+    /// The block under the cipher, as columns.
+    pub fn encrypt_block(&self, block: Block) -> Block
+        ensures { (key : List ℕ) → IsKeyed self.now key → bytes_of result ≡ aes key (bytes_of block) }
+    {
+        let mut state = self.keys[0].xor(block);
+        for i in 1..ROUNDS {
+            state = state.round(self.keys[i]);
+        }
+        state.last_round(self.keys[ROUNDS])
+    }
+}
