@@ -16,6 +16,7 @@ mod memory;
 mod outside;
 mod print;
 mod quiet;
+mod steps;
 #[cfg(test)]
 mod tests;
 mod whole;
@@ -34,4 +35,5 @@ pub use memory::{MemSink, MemSource};
 pub use outside::{Failed, Sink, Source};
 pub use print::{push_decimal, push_hex};
 pub use quiet::{QuietSink, QuietSource};
+pub use steps::Steps;
 pub use whole::{ReadProblem, read_all, write_all};
