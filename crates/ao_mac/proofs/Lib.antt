@@ -1,0 +1,4 @@
+pub mod FeedLaws
+pub mod Parts
+pub mod SealLaws
+pub mod InputLaws

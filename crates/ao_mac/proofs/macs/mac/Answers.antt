@@ -1,0 +1,15 @@
+use Rattle.ao_mac.proofs.Parts.{mac_of_fed}
+use Rattle.ao_mac.proofs.macs.mac.Goals as goal
+
+pub returns : goal.returns
+returns c = λ number ao is found.
+    let alg = c.args.alg in
+    let key = c.as_slice.result.now in
+    let none = c.under_key-hasher.ensures in
+    let one = c.feed.ensures alg key _ none in
+    let two = c.feed_pseudo_header.ensures alg key _ one in
+    let three = c.feed_header.ensures alg key _ two in
+    let four = c.feed_covered.ensures alg key _ ao three found in
+    let five = c.feed-2.ensures alg key _ four in
+    mac_of_fed alg key c.args.key.now c.finish.result number c.args.sne c.args.datagram.now ao c.args.with_options c.big_endian.result c.payload.result.now
+    (c.finish.ensures alg key _ five) c.as_slice.ensures.bytes is c.big_endian.ensures c.payload.ensures

@@ -1,0 +1,194 @@
+//! Whether the MACs of two segments are computed over the same bytes.
+ghost use Rattle.std.specs.Prelude.{◌≡◌, ◌↔◌, ◌+◌, ◌/◌, ◌≤◌, ◌<◌, ℕ, List, [], length, slice_index, IsTrue};
+ghost use Rattle.segment_model.specs.Options.{Ao, One, find_ao};
+ghost use Rattle.segment_model.specs.Segments.{pseudo, header};
+ghost use Rattle.mac_model.specs.MacInput.{covered, mac_input};
+ghost use Rattle.ao_mac.specs.Macs.{HasAo, IsSameInput};
+
+use crate::macs::tcp_length_of;
+use ao_base::Address;
+use std::marker::Model;
+use tcp_options::{AoFound, AoOption};
+use tcp_segment::Datagram;
+
+/// The options that are covered, the MAC as zeros; seen as their bytes.
+#[derive(Drop)]
+struct Covered<'a> {
+    area: &'a [u8],
+    ao: AoOption<'a>,
+    whole: bool,
+}
+
+impl<'a> Model for Covered<'a> {
+    ghost use Rattle.std.specs.Prelude.{◌+◌, ◌≤◌, ℕ, List, length};
+    ghost use Rattle.mac_model.specs.MacInput.{covered};
+    ghost use Rattle.tcp_options.specs.Views.{view_ao};
+
+    ghost Value = { List ℕ };
+
+    ghost view = { λ c. covered c.whole c.area.now (view_ao c.ao) };
+
+    ghost invariant = { λ c. (c.ao.place + 4 + length c.ao.mac.now ≤ length c.area.now) × (length c.area.now ≤ 40) };
+}
+
+impl<'a> Covered<'a> {
+    /// How many bytes are covered.
+    fn len(&self) -> usize
+        ensures { result ≡ length self.now }
+    {
+        if self.whole {
+            self.area.len()
+        } else {
+            4 + self.ao.mac.len()
+        }
+    }
+
+    /// The byte at an index, and 0 past the end.
+    fn at(&self, index: usize) -> u8
+        ensures { result ≡ slice_index self.now index }
+    {
+        let mac = self.ao.place as usize + 4;
+        let behind = mac + self.ao.mac.len();
+        if self.whole {
+            if index < mac || behind <= index {
+                self.area.get(index).copied().unwrap_or(0)
+            } else {
+                0
+            }
+        } else {
+            match index {
+                0 => 29,
+                1 => 4 + self.ao.mac.len() as u8,
+                2 => self.ao.key_id,
+                3 => self.ao.rnext,
+                _ => 0,
+            }
+        }
+    }
+}
+
+/// Whether the first so many bytes are the same.
+fn same_front(one: &Covered<'_>, other: &Covered<'_>, len: usize) -> bool
+    ensures { IsTrue result ↔ ((k : ℕ) → k < len → slice_index one.now k ≡ slice_index other.now k) }
+{
+    (0..len).all(|index| one.at(index) == other.at(index))
+}
+
+/// Whether the same bytes are covered.
+fn same_covered(one: &Covered<'_>, other: &Covered<'_>) -> bool
+    ensures { IsTrue result ↔ (one.now ≡ other.now) }
+{
+    let len = one.len();
+    if len != other.len() {
+        return false;
+    }
+    same_front(one, other, len)
+}
+
+/// Whether the same options are covered.
+fn same_options(
+    datagram: &Datagram<'_>,
+    with_options: bool,
+    other: &Datagram<'_>,
+    other_with_options: bool,
+) -> bool
+    ensures { (ao other_ao : Ao) → find_ao datagram.now.area ≡ One ao → find_ao other.now.area ≡ One other_ao
+        → (IsTrue result ↔ (covered with_options datagram.now.area ao ≡ covered other_with_options other.now.area other_ao)) }
+{
+    let _lengths = (datagram.length(), other.length());
+    let options = datagram.options();
+    let other_options = other.options();
+    let AoFound::One(ao) = options.find_ao() else {
+        return false;
+    };
+    let AoFound::One(other_ao) = other_options.find_ao() else {
+        return false;
+    };
+    let one = Covered {
+        area: options.area(),
+        ao,
+        whole: with_options,
+    };
+    let two = Covered {
+        area: other_options.area(),
+        ao: other_ao,
+        whole: other_with_options,
+    };
+    same_covered(&one, &two)
+}
+
+/// Whether the bytes are the same.
+fn same_bytes(one: &[u8], other: &[u8]) -> bool
+    ensures { IsTrue result ↔ (one.now ≡ other.now) }
+{
+    one == other
+}
+
+/// Whether the address is the same.
+fn same_address(one: &Address, other: &Address) -> bool
+    ensures { IsTrue result ↔ (one.now ≡ other.now) }
+{
+    one == other
+}
+
+/// Whether the pseudo-header is the same.
+fn same_pseudo_header(datagram: &Datagram<'_>, other: &Datagram<'_>) -> bool
+    ensures { IsTrue result ↔ (pseudo datagram.now [] ≡ pseudo other.now []) }
+{
+    if tcp_length_of(datagram) != tcp_length_of(other) {
+        return false;
+    }
+    if !same_address(&datagram.source().address, &other.source().address) {
+        return false;
+    }
+    same_address(
+        &datagram.destination().address,
+        &other.destination().address,
+    )
+}
+
+/// Whether the TCP header is the same but for its checksum.
+fn same_header(datagram: &Datagram<'_>, other: &Datagram<'_>) -> bool
+    ensures { IsTrue result ↔ (header datagram.now 0 [] ≡ header other.now 0 []) }
+{
+    let header = datagram.header();
+    let other_header = other.header();
+    if !same_bytes(&header[..16], &other_header[..16]) {
+        return false;
+    }
+    same_bytes(&header[18..], &other_header[18..])
+}
+
+/// Whether the MACs of two segments are computed over the same bytes (RFC 5925, section 5.1).
+///
+/// `sne` and `other_sne` are the sequence number extensions; each segment has one TCP-AO option and
+/// none of TCP MD5. With a flag all options of that segment are covered, else its TCP-AO option
+/// alone. What stands in the MAC fields and in the checksums doesn't count. The answer comes at the
+/// first difference.
+pub fn same_input(
+    sne: u32,
+    datagram: &Datagram<'_>,
+    with_options: bool,
+    other_sne: u32,
+    other: &Datagram<'_>,
+    other_with_options: bool,
+) -> bool
+    requires one { HasAo datagram.now }
+    requires other { HasAo other.now }
+    ensures { IsSameInput result sne datagram.now with_options other_sne other.now other_with_options }
+{
+    let _lengths = (datagram.length(), other.length());
+    if sne != other_sne {
+        return false;
+    }
+    if !same_header(datagram, other) {
+        return false;
+    }
+    if !same_pseudo_header(datagram, other) {
+        return false;
+    }
+    if !same_options(datagram, with_options, other, other_with_options) {
+        return false;
+    }
+    same_bytes(datagram.payload(), other.payload())
+}

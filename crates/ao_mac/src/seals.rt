@@ -1,0 +1,37 @@
+//! The MAC of a segment that is being written.
+ghost use Rattle.std.specs.Prelude.{◌≡◌, ◌+◌, ℕ, List, length};
+ghost use Rattle.ao_base.specs.Algorithms.{mac_length_of};
+ghost use Rattle.tcp_segment.specs.Writing.{Drafted, IsDrafted, IsLaidOut};
+ghost use Rattle.tcp_segment.specs.declared.writing.Head.{Head};
+ghost use Rattle.ao_mac.specs.Feeds.{key_length};
+ghost use Rattle.ao_mac.specs.Sealed.{IsSealed};
+
+use crate::macs::mac;
+use ao_base::Algorithm;
+use ao_kdf::TrafficKey;
+use tcp_segment::DatagramMut;
+
+/// Puts the MAC of a segment that is being written into its MAC field (RFC 5925, section 5.1).
+///
+/// `sne` is the sequence number extension. With `with_options` all options are covered, else the
+/// TCP-AO option alone. The headers and the payload stay as they are; what stood in the MAC field
+/// doesn't count. The field has the algorithm's length, and the key is one of the algorithm.
+pub fn seal(
+    key: &TrafficKey,
+    alg: Algorithm,
+    sne: u32,
+    datagram: &mut DatagramMut<'_>,
+    with_options: bool,
+)
+    requires drafted { IsDrafted datagram.old }
+    requires field { datagram.old.mac + mac_length_of alg ≡ datagram.old.payload }
+    requires key { length key.now ≡ key_length alg }
+    ensures same_buffer { datagram.new.out.ghost_name ≡ datagram.old.out.ghost_name }
+    ensures laid_out { IsLaidOut datagram.new }
+    ensures drafted { IsDrafted datagram.new }
+    ensures sealed { (h : Head) (old payload rest : List ℕ) → Drafted datagram.old h old payload rest
+        → IsSealed datagram.new h old payload rest alg key.now sne with_options }
+{
+    let code = mac(key, alg, sne, &datagram.as_datagram(), with_options);
+    datagram.mac_mut().copy_from_slice(code.as_slice());
+}
