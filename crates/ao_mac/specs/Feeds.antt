@@ -7,11 +7,6 @@ use Rattle.aes_cmac.specs.Hasher as cmac
 use Rattle.ao_mac.specs.declared.hasher.Hasher.{Hasher}
 use Rattle.ao_mac.specs.declared.hasher.Hasher.TheVariants as hashers
 
--- the length of a traffic key (RFC 5926, section 3.1)
-abbrev pub key_length : Algorithm → ℕ
-key_length HmacSha1 = 20
-key_length AesCmac = 16
-
 -- the bytes that were fed to a hasher of an algorithm under a key, in whatever pieces
 abbrev pub StandsFor : Hasher → Algorithm → List ℕ → List ℕ → Type 0
 StandsFor (hashers.Hmac h) HmacSha1 key fed = hmac.StandsFor h key fed

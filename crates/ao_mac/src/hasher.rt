@@ -1,8 +1,8 @@
 //! A hasher of either algorithm.
 ghost use Rattle.std.specs.Prelude.{◌≡◌, ◌≤◌, ℕ, List, [], ◌++◌, length, take};
 ghost use Rattle.ao_base.specs.declared.algorithm.Algorithm.{Algorithm};
-ghost use Rattle.mac_model.specs.Keys.{mac};
-ghost use Rattle.ao_mac.specs.Feeds.{key_length, StandsFor};
+ghost use Rattle.mac_model.specs.Keys.{mac, key_length};
+ghost use Rattle.ao_mac.specs.Feeds.{StandsFor};
 
 use aes_cmac::Cmac;
 use ao_base::Algorithm;

@@ -7,7 +7,8 @@ ghost use Rattle.segment_model.specs.Segments.{Segment, pseudo, header, tcp_leng
 ghost use Rattle.segment_model.specs.Spelling.{Fits};
 ghost use Rattle.tcp_options.specs.Views.{view_ao};
 ghost use Rattle.mac_model.specs.MacInput.{covered, mac_input};
-ghost use Rattle.ao_mac.specs.Feeds.{key_length, StandsFor};
+ghost use Rattle.mac_model.specs.Keys.{key_length};
+ghost use Rattle.ao_mac.specs.Feeds.{StandsFor};
 ghost use Rattle.ao_mac.specs.Macs.{HasAo, IsMacOf};
 
 use crate::hasher::{Hasher, feed, finish, under_key};

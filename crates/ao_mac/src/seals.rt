@@ -3,7 +3,7 @@ ghost use Rattle.std.specs.Prelude.{◌≡◌, ◌+◌, ℕ, List, length};
 ghost use Rattle.ao_base.specs.Algorithms.{mac_length_of};
 ghost use Rattle.tcp_segment.specs.Writing.{Drafted, IsDrafted, IsLaidOut};
 ghost use Rattle.tcp_segment.specs.declared.writing.Head.{Head};
-ghost use Rattle.ao_mac.specs.Feeds.{key_length};
+ghost use Rattle.mac_model.specs.Keys.{key_length};
 ghost use Rattle.ao_mac.specs.Sealed.{IsSealed};
 
 use crate::macs::mac;
