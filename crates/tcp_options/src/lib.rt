@@ -8,6 +8,8 @@
 mod ao;
 mod iter;
 mod options;
+#[cfg(test)]
+mod tests;
 
 pub use ao::{AoFound, AoOption};
 pub use iter::{Opt, OptionIter};

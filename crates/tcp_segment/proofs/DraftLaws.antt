@@ -17,9 +17,9 @@ use Rattle.segment_model.proofs.Again.{again}
 use Rattle.tcp_segment.specs.declared.writing.Head.{Head}
 use Rattle.tcp_segment.specs.Places.{IsRead}
 use Rattle.tcp_segment.specs.Sums.{complement_at, checksum_over, IsSet}
-use Rattle.tcp_segment.specs.Writing.{DatagramMut, ip_words, written_ip, ip_start, tcp_start, ip_size, mss_option, option_heads, drafted, OneFamily, HeadFits, Drafted, IsFinished}
+use Rattle.tcp_segment.specs.Writing.{DatagramMut, ip_words, written_ip, ip_start, tcp_start, ip_size, mss_option, mss_length, option_heads, drafted, OneFamily, HeadFits, Drafted, IsFinished}
 use Rattle.tcp_segment.proofs.ReadLaws.{addresses_are}
-use Rattle.tcp_segment.proofs.WriteLaws.{spell_start, start_long, before, parts, heads_long}
+use Rattle.tcp_segment.proofs.WriteLaws.{spell_start, start_long, before, parts, heads_long, mss_long}
 
 -- ---- the option area
 
@@ -57,8 +57,9 @@ area_ao None key rnext mac = rw (area_listed None key rnext mac) refl
 area_ao (Some m) key rnext mac = rw (area_listed (Some m) key rnext mac) refl
 
 -- the TCP-AO option of a draft
-pub drafted_ao : (h : Head) (mac payload : List ℕ) → find_ao (drafted h mac payload).area ≡ One (record { key_id = h.key_id; next_id = h.rnext; mac = mac; place = length (mss_option h.mss) })
-drafted_ao h mac payload = area_ao h.mss h.key_id h.rnext mac
+pub drafted_ao : (h : Head) (mac payload : List ℕ) → find_ao (drafted h mac payload).area ≡ One (record { key_id = h.key_id; next_id = h.rnext; mac = mac; place = mss_length h.mss })
+drafted_ao h mac payload =
+    area_ao h.mss h.key_id h.rnext mac ∙ ap (λ (p : ℕ). One (record { key_id = h.key_id; next_id = h.rnext; mac = mac; place = p })) (mss_long h.mss)
 
 drafted_listed : (h : Head) (mac payload : List ℕ) → AreListed (options_of (drafted h mac payload).area)
 drafted_listed h mac payload = subst AreListed (sym (area_listed h.mss h.key_id h.rnext mac)) tt

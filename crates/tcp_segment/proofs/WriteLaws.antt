@@ -11,7 +11,7 @@ use Rattle.segment_model.specs.Segments.{Segment, words_sum, complement_of, tcp_
 use Rattle.segment_model.proofs.SumLaws.{words_append}
 use Rattle.tcp_segment.specs.declared.writing.Head.{Head}
 use Rattle.tcp_segment.specs.Sums.{complement_at}
-use Rattle.tcp_segment.specs.Writing.{DatagramMut, ip_words, written_ip, ip_start, tcp_start, ip_size, mss_option, option_heads, mac_place, drafted, OneFamily, IsOneFamily, IsSized, Drafted, IsDrafted, IsFinished}
+use Rattle.tcp_segment.specs.Writing.{DatagramMut, ip_words, written_ip, ip_start, tcp_start, ip_size, mss_option, mss_length, option_heads, mac_place, drafted, OneFamily, IsOneFamily, IsSized, Drafted, IsDrafted, IsFinished}
 
 -- ---- addresses
 
@@ -94,13 +94,17 @@ pub tcp_start_long : (h : Head) (n : ℕ) → length (tcp_start h n) ≡ 20
 unfolding put2 put4
 tcp_start_long h n = refl
 
-pub heads_long : (h : Head) (m : ℕ) → length (option_heads h m) ≡ 4 + length (mss_option h.mss)
-heads_long h m = omega (arith, length-append (mss_option h.mss) (29 ∷ (4 + m) ∷ h.key_id ∷ h.rnext ∷ []))
-
-pub mss_long : (o : Option ℕ) → (length (mss_option o) ≡ 0) ⊎ (length (mss_option o) ≡ 4)
+pub mss_long : (o : Option ℕ) → length (mss_option o) ≡ mss_length o
 unfolding put2
-mss_long None = inl refl
-mss_long (Some m) = inr refl
+mss_long None = refl
+mss_long (Some m) = refl
+
+pub mss_cases : (o : Option ℕ) → (mss_length o ≡ 0) ⊎ (mss_length o ≡ 4)
+mss_cases None = inl refl
+mss_cases (Some m) = inr refl
+
+pub heads_long : (h : Head) (m : ℕ) → length (option_heads h m) ≡ 4 + mss_length h.mss
+heads_long h m = omega (arith, length-append (mss_option h.mss) (29 ∷ (4 + m) ∷ h.key_id ∷ h.rnext ∷ []), mss_long h.mss)
 
 pub before_long : (h : Head) (m p : ℕ) → OneFamily h.source.address h.destination.address → length (before h m p) ≡ mac_place h
 before_long h m p f =

@@ -19,6 +19,11 @@ abbrev pub mss_option : Option ℕ → List ℕ
 mss_option None = []
 mss_option (Some mss) = 2 ∷ 4 ∷ put2 mss []
 
+-- its length
+abbrev pub mss_length : Option ℕ → ℕ
+mss_length None = 0
+mss_length (Some mss) = 4
+
 -- the options in front of the MAC: the maximum segment size where there is one, then TCP-AO (RFC 5925, section 2.2)
 abbrev pub option_heads : Head → ℕ → List ℕ
 option_heads h mac_length = mss_option h.mss ++ (29 ∷ (4 + mac_length) ∷ h.key_id ∷ h.rnext ∷ [])
@@ -69,7 +74,7 @@ ip_size (V6 bytes) = 40
 
 -- where the MAC begins
 abbrev pub mac_place : Head → ℕ
-mac_place h = ip_size h.source.address + 24 + length (mss_option h.mss)
+mac_place h = ip_size h.source.address + 24 + mss_length h.mss
 
 -- the bytes of all headers and options
 abbrev pub header_length : Head → ℕ

@@ -9,6 +9,8 @@ mod datagram;
 mod parts;
 mod reading;
 mod sums;
+#[cfg(test)]
+mod tests;
 mod writing;
 
 pub use datagram::{Datagram, read_datagram};

@@ -5,7 +5,7 @@ ghost use Rattle.segment_model.specs.Bytes.{put2};
 ghost use Rattle.segment_model.specs.Sockets.{octets};
 ghost use Rattle.segment_model.specs.Segments.{words_sum, complement_of};
 ghost use Rattle.tcp_segment.specs.Lending.{LendsIn};
-ghost use Rattle.tcp_segment.specs.Writing.{ip_start, ip_words, ip_size, tcp_start, mss_option, option_heads, mac_place, header_length, drafted, IsSized, HasNumbers, IsHead, Drafted, IsDrafted, IsLaidOut, IsFinished};
+ghost use Rattle.tcp_segment.specs.Writing.{ip_start, ip_words, ip_size, tcp_start, mss_length, option_heads, mac_place, header_length, drafted, IsSized, HasNumbers, IsHead, Drafted, IsDrafted, IsLaidOut, IsFinished};
 ghost use Rattle.tcp_segment.specs.declared.writing.Head.{Head};
 
 use crate::datagram::{Datagram, datagram_at};
@@ -102,7 +102,7 @@ fn ip_length_of(head: &Head) -> usize
 
 /// The length of the options in front of the MAC.
 fn heads_length_of(head: &Head) -> usize
-    ensures { result ≡ 4 + length (mss_option head.now.mss) }
+    ensures { result ≡ 4 + mss_length head.now.mss }
 {
     match head.mss {
         Some(_) => 8,
@@ -143,6 +143,7 @@ fn put_options(out: &mut [u8], at: usize, head: &Head) -> usize
     requires fits { at + 8 ≤ length out.old }
     requires mac { head.now.mac_length ≤ 16 }
     ensures end { result ≡ at + length (option_heads head.now head.now.mac_length) }
+    ensures size { result ≡ at + (4 + mss_length head.now.mss) }
     ensures front { take result out.new ≡ take at out.old ++ option_heads head.now head.now.mac_length }
     ensures rest { (n : ℕ) → result ≤ n → drop n out.new ≡ drop n out.old }
 {

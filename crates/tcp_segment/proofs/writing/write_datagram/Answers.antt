@@ -2,17 +2,17 @@ use Rattle.std.proofs.Common.{◌≡◌, ℕ, List, ◌+◌, ◌-◌, ◌++◌, 
 use Rattle.std.proofs.lemmas.List.{length-replicate}
 use Rattle.segment_model.specs.Sockets.{octets}
 use Rattle.segment_model.specs.Segments.{spell}
-use Rattle.tcp_segment.specs.Writing.{drafted, header_length, option_heads, mss_option, ip_start, tcp_start, ip_size}
-use Rattle.tcp_segment.proofs.WriteLaws.{one_family, mss_long, heads_long, before, six_writes, laid_out, start_long, tcp_start_long}
+use Rattle.tcp_segment.specs.Writing.{drafted, header_length, option_heads, mss_length, ip_start, tcp_start, ip_size}
+use Rattle.tcp_segment.proofs.WriteLaws.{one_family, mss_cases, heads_long, before, six_writes, laid_out, start_long, tcp_start_long}
 use Rattle.tcp_segment.proofs.writing.write_datagram.Goals as goal
 
 pub overflow_cast-area_length : goal.overflow_cast-area_length
 overflow_cast-area_length c = let m = c.requires.head.mac in let n = c.heads_length_of.ensures in
-    elim (mss_long c.args.head.now.mss) [ inl s ↦ elim m [ inl e ↦ omega arith | inr e ↦ omega arith ] | inr s ↦ elim m [ inl e ↦ omega arith | inr e ↦ omega arith ] ]
+    elim (mss_cases c.args.head.now.mss) [ inl s ↦ elim m [ inl e ↦ omega arith | inr e ↦ omega arith ] | inr s ↦ elim m [ inl e ↦ omega arith | inr e ↦ omega arith ] ]
 
 pub tcp_start_of-requires : goal.tcp_start_of-requires
 tcp_start_of-requires c = let m = c.requires.head.mac in let n = c.heads_length_of.ensures in
-    elim (mss_long c.args.head.now.mss) [ inl s ↦ elim m [ inl e ↦ omega arith | inr e ↦ omega arith ] | inr s ↦ elim m [ inl e ↦ omega arith | inr e ↦ omega arith ] ]
+    elim (mss_cases c.args.head.now.mss) [ inl s ↦ elim m [ inl e ↦ omega arith | inr e ↦ omega arith ] | inr s ↦ elim m [ inl e ↦ omega arith | inr e ↦ omega arith ] ]
 
 pub returns-clause-drafted : goal.returns-clause-drafted
 returns-clause-drafted c =
@@ -30,7 +30,7 @@ returns-clause-drafted c =
     let family = one_family h.source.address h.destination.address c.requires.head.family c.octets_of.ensures.sized c.octets_of-2.ensures.sized in
     let eh = c.ip_length_of-header.ensures in
     let en = c.heads_length_of.ensures in
-    let lh : length heads ≡ 4 + length (mss_option h.mss) = heads_long h m in
+    let lh : length heads ≡ 4 + mss_length h.mss = heads_long h m in
     let size : len - header ≡ 20 + area + p = omega arith in
     let offset : header + 20 + c.heads_length_of.result + m - header - 20 ≡ area = omega arith in
     let start-is : ip_start h (len - header) h.source.address ≡ start = ap (λ (k : ℕ). ip_start h k h.source.address) size in
