@@ -13,7 +13,7 @@ use Rattle.segment_model.specs.Segments.{Segment, pseudo_of, pseudo, header, spe
 use Rattle.mac_model.specs.Keys.{mac}
 use Rattle.mac_model.specs.MacInput.{covered, mac_input}
 use Rattle.tcp_segment.specs.declared.writing.Head.{Head}
-use Rattle.tcp_segment.specs.Writing.{DatagramMut, written_ip, ip_size, mss_option, option_heads, drafted, Drafted, IsLaidOut}
+use Rattle.tcp_segment.specs.Writing.{DatagramMut, written_ip, ip_size, mss_length, option_heads, drafted, Drafted, IsLaidOut}
 use Rattle.tcp_segment.proofs.DraftLaws.{drafted_ao}
 use Rattle.tcp_segment.proofs.WriteLaws.{before, parts, before_long, heads_long, area_long}
 use Rattle.ao_mac.specs.Macs.{HasAo, IsMacOf}
@@ -50,7 +50,7 @@ lies d h mac payload rest D =
 -- ---- what the MAC is computed over
 
 abbrev ao_in : Head → List ℕ → Ao
-ao_in h mac = record { key_id = h.key_id; next_id = h.rnext; mac = mac; place = length (mss_option h.mss) }
+ao_in h mac = record { key_id = h.key_id; next_id = h.rnext; mac = mac; place = mss_length h.mss }
 
 pub has_ao : (h : Head) (mac payload : List ℕ) → HasAo (drafted h mac payload)
 has_ao h mac payload = (ao_in h mac, drafted_ao h mac payload)
@@ -64,7 +64,7 @@ covers h flag m = covered flag (option_heads h (length m) ++ m) (ao_in h m)
 
 covered_front : (h : Head) (m : List ℕ) → covers h true m ≡ option_heads h (length m) ++ (replicate (length m) 0 ++ [])
 covered_front h m =
-    let place : ℕ = length (mss_option h.mss) in
+    let place : ℕ = mss_length h.mss in
     let long : length (option_heads h (length m)) ≡ 4 + place = heads_long h (length m) in
     let front : take (place + 4) (option_heads h (length m) ++ m) ≡ option_heads h (length m) = take_at (option_heads h (length m)) m (place + 4) (omega arith) in
     let back : drop (place + 4 + length m) (option_heads h (length m) ++ m) ≡ [] = drop_all (place + 4 + length m) (option_heads h (length m) ++ m) (omega (arith, area_long h m)) in
