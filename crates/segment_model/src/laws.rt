@@ -1,0 +1,34 @@
+//! The laws above option areas and datagrams.
+ghost use Rattle.std.specs.Prelude.{◌≡◌, ℕ, List, [], ◌++◌};
+ghost use Rattle.segment_model.specs.Areas.{Area, FaultAt};
+ghost use Rattle.segment_model.specs.Options.{Opt, Listed, ShortLength, PastEnd, options_of, AreListed, listed};
+ghost use Rattle.segment_model.specs.Segments.{Segment, spell, reading, Read};
+ghost use Rattle.segment_model.specs.Spelling.{AreBytes, Fits, Spells, Good, finished};
+
+/// The options that are read are those of the grammar: a list of options exactly where the bytes
+/// are their spellings and a tail, and a fault exactly where the first faulty option stands (RFC
+/// 9293, section 3.2).
+pub fn options_are_the_grammar()
+    ensures read { (bytes : List ℕ) → AreListed (options_of bytes) → (tail : List ℕ) × Area (listed (options_of bytes)) tail bytes }
+    ensures only { (list : List Opt) (tail bytes : List ℕ) → Area list tail bytes → options_of bytes ≡ Listed list }
+    ensures short { (bytes : List ℕ) (place : ℕ) → options_of bytes ≡ ShortLength place → FaultAt bytes (ShortLength place) }
+    ensures only_short { (bytes : List ℕ) (place : ℕ) → FaultAt bytes (ShortLength place) → options_of bytes ≡ ShortLength place }
+    ensures past { (bytes : List ℕ) (place : ℕ) → options_of bytes ≡ PastEnd place → FaultAt bytes (PastEnd place) }
+    ensures only_past { (bytes : List ℕ) (place : ℕ) → FaultAt bytes (PastEnd place) → options_of bytes ≡ PastEnd place }
+{}
+
+/// Spellings are a prefix code: a value has at most one spelling, no two values share one, and no
+/// spelling is a proper prefix of another (RFC 791, RFC 8200, RFC 9293, section 3.1).
+pub fn spellings_are_unique()
+    ensures one_spelling { (d : Segment) (one two : List ℕ) → Spells d one → Spells d two → one ≡ two }
+    ensures one_value { (d e : Segment) (bytes : List ℕ) → Spells d bytes → Spells e bytes → d ≡ e }
+    ensures no_prefix { (d e : Segment) (bytes rest : List ℕ) → Spells d bytes → Spells e (bytes ++ rest) → rest ≡ [] }
+{}
+
+/// Bytes are read as a datagram exactly where a prefix of them spells it. A datagram whose TCP
+/// checksum was set is good, and is read again, whatever follows.
+pub fn reading_is_the_spelling()
+    ensures read { (bytes : List ℕ) (d : Segment) → AreBytes bytes → reading bytes ≡ Read d → (rest : List ℕ) × Fits d × (bytes ≡ spell d ++ rest) }
+    ensures only { (bytes rest : List ℕ) (d : Segment) → Fits d → bytes ≡ spell d ++ rest → reading bytes ≡ Read d }
+    ensures finished { (d : Segment) (rest : List ℕ) → Fits d → Good (finished d) × Fits (finished d) × (reading (spell (finished d) ++ rest) ≡ Read (finished d)) }
+{}
