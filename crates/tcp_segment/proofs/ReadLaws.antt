@@ -52,6 +52,9 @@ pub refuses : (b : List ℕ) (f : Fault) → first_fault b ≡ Some f → readin
 unfolding reading
 refuses b f e = ap (λ (o : Option Fault). read_unless o (fields b)) e
 
+pub no_fault : (b : List ℕ) (f : Fault) → first_fault b ≡ None → first_fault b ≡ Some f → ⊥
+no_fault b f n s = cc
+
 pub spells : (b : List ℕ) (p : Places) → IsRead b p → Spells (fields b) (take (length (spell (fields b))) b)
 spells b p r = record { fits = r.fits; spelled = ap (λ (l : List ℕ). take (length (spell (fields b))) l) r.spelled ∙ take_at (spell (fields b)) (drop p.end b) (length (spell (fields b))) refl }
 

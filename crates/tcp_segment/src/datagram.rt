@@ -1,5 +1,5 @@
 //! A datagram in the caller's bytes.
-ghost use Rattle.std.specs.Prelude.{◌≡◌, ℕ, List, [], ◌+◌, ◌*◌, ◌/◌, ◌%◌, ◌≤◌, ◌<◌, ◌++◌, length, take, drop, slice_index, slice_range, IfOk, IfErr};
+ghost use Rattle.std.specs.Prelude.{◌≡◌, ℕ, List, [], ◌+◌, ◌*◌, ◌/◌, ◌%◌, ◌≤◌, ◌<◌, ◌++◌, length, take, drop, slice_index, slice_range, IfOk, IfErr, IsOkAnd};
 ghost use Rattle.ao_base.specs.declared.address.Address.TheVariants.{V4, V6};
 ghost use Rattle.segment_model.specs.Segments.{Segment, reading, Read, Bad, first_fault, fields, spell, header, good};
 ghost use Rattle.segment_model.specs.Spelling.{AreBytes, Fits, Spells};
@@ -39,7 +39,7 @@ pub fn read_datagram(bytes: &[u8]) -> Result<Datagram<'_>, DatagramFault>
     ensures read { IfOk result (λ datagram. reading bytes.now ≡ Read datagram) }
     ensures refused { IfErr result (λ fault. reading bytes.now ≡ Bad (fault_of fault)) }
     ensures spelled { IfOk result (λ datagram. Spells datagram (take (length (spell datagram)) bytes.now)) }
-    ensures only { (d : Segment) (rest : List ℕ) → Fits d → bytes.now ≡ spell d ++ rest → reading bytes.now ≡ Read d }
+    ensures only { (d : Segment) (rest : List ℕ) → Fits d → bytes.now ≡ spell d ++ rest → IsOkAnd result (λ datagram. datagram ≡ d) }
 {
     match places_in(bytes) {
         Ok(places) => Ok(Datagram { bytes, places }),

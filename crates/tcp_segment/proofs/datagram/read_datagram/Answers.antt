@@ -1,7 +1,8 @@
-use Rattle.std.proofs.Common.{arith}
-use Rattle.segment_model.proofs.SpellLaws.{read_front}
+use Rattle.std.proofs.Common.{ap, ◌∙◌, arith}
+use Rattle.segment_model.specs.Segments.{first_fault, fields}
+use Rattle.segment_model.proofs.Again.{again}
 use Rattle.tcp_segment.specs.Views.{fault_of}
-use Rattle.tcp_segment.proofs.ReadLaws.{is_read, reads, refuses, spells}
+use Rattle.tcp_segment.proofs.ReadLaws.{is_read, no_fault, reads, refuses, spells}
 use Rattle.tcp_segment.proofs.datagram.read_datagram.Goals as goal
 
 pub invariant_of-result : goal.invariant_of-result
@@ -15,10 +16,10 @@ returns-in-Ok-clause-spelled c =
     spells c.args.bytes.now c.in-Ok.places (is_read c.args.bytes.now c.in-Ok.places (λ i. omega (arith, c.type_inv.bytes i)) c.in-Ok.ensures.1 c.in-Ok.ensures.0)
 
 pub returns-in-Ok-clause-only : goal.returns-in-Ok-clause-only
-returns-in-Ok-clause-only c = λ d rest f e. read_front c.args.bytes.now rest d f e
+returns-in-Ok-clause-only c = λ d rest f e. ap fields e ∙ (again d rest f).value
 
 pub returns-in-Err-clause-refused : goal.returns-in-Err-clause-refused
 returns-in-Err-clause-refused c = refuses c.args.bytes.now (fault_of c.in-Err.fault) c.in-Err.ensures
 
 pub returns-in-Err-clause-only : goal.returns-in-Err-clause-only
-returns-in-Err-clause-only c = λ d rest f e. read_front c.args.bytes.now rest d f e
+returns-in-Err-clause-only c = λ d rest f e. absurd (no_fault c.args.bytes.now (fault_of c.in-Err.fault) (ap first_fault e ∙ (again d rest f).none) c.in-Err.ensures)
