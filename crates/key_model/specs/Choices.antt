@@ -24,6 +24,7 @@ abbrev pub latest : (Row → Bool) → (Row → ℕ) → ℕ → List Row → Op
 latest good start n [] = None
 latest good start n (r ∷ rs) = later start (qualified good n r) (latest good start (n + 1) rs)
 
+-- the first that is there
 abbrev pub or_else : Option Numbered → Option Numbered → Option Numbered
 or_else None two = two
 or_else (Some one) two = Some one
@@ -33,6 +34,7 @@ abbrev pub lowest : (Row → Bool) → ℕ → List Row → Option Numbered
 lowest good n [] = None
 lowest good n (r ∷ rs) = or_else (qualified good n r) (lowest good (n + 1) rs)
 
+-- when a row's lifetimes start
 abbrev pub send_start : Row → ℕ
 send_start r = r.sending.first
 

@@ -67,6 +67,6 @@ sendable pair time r = matches r pair && (sends r.direction && contains r.sendin
 abbrev pub acceptable : Pair → ℕ → Row → Bool
 acceptable pair time r = matches r pair && (receives r.direction && contains r.accepting time)
 
--- the row of this address, where some table has it
+-- the table is that of the node with this address
 abbrev pub same_place : Address → Table → Bool
 same_place address t = same_address t.address address

@@ -12,7 +12,7 @@ use std::alloc::Global;
 use std::marker::Model;
 
 /// The keys of a node (RFC 7210): its name, its address and its rows, at most 64, numbered from 1.
-#[derive(Debug, Drop)]
+#[derive(Drop)]
 pub struct Table {
     pub(crate) name: Vec<u8>,
     pub(crate) address: Address,
@@ -154,15 +154,12 @@ impl Table {
     pub fn accept_row(&self, pair: &Pair, key_id: u8, now: u64) -> Accept
         ensures { result ≡ accept_of self.now.rows pair.now key_id now }
     {
+        if !has_taker(self.rows.as_slice(), pair, key_id) {
+            return Accept::Absent;
+        }
         match lowest(self.rows.as_slice(), Want::Take, pair, key_id, now) {
             Some(n) => Accept::Row(n),
-            None => {
-                if has_taker(self.rows.as_slice(), pair, key_id) {
-                    Accept::Expired
-                } else {
-                    Accept::Absent
-                }
-            }
+            None => Accept::Expired,
         }
     }
 
