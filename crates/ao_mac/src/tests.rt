@@ -1,6 +1,6 @@
 //! Segments of RFC 9235 have their MACs, one that is sealed has its MAC, and what two inputs share.
 ghost use Rattle.std.specs.Prelude.{◌≡◌, ◌<◌, ◌≤◌, length, IfSome};
-ghost use Rattle.ao_kdf.specs.Lengths.{key_length_of};
+ghost use Rattle.mac_model.specs.Keys.{key_length};
 ghost use Rattle.tcp_segment.specs.Writing.{IsHead};
 ghost use Rattle.ao_mac.specs.Macs.{HasAo};
 
@@ -147,7 +147,7 @@ fn send(
 ) -> usize
     requires head { IsHead head.now (length payload.now) }
     requires mac { head.now.mac_length ≡ 12 }
-    requires key { length key.now ≡ key_length_of alg }
+    requires key { length key.now ≡ key_length alg }
     requires room { 1500 ≤ length out.old }
     ensures { result ≤ 1500 }
 {

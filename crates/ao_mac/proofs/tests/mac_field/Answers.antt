@@ -1,4 +1,4 @@
-use Rattle.std.proofs.Common.{◌≡◌, sym, ap, ◌∙◌}
+use Rattle.std.proofs.Common.{sym, ap, ◌∙◌}
 use Rattle.segment_model.specs.Options.{find_ao}
 use Rattle.tcp_options.specs.Views.{view_ao}
 use Rattle.ao_mac.proofs.tests.mac_field.Goals as goal
