@@ -9,6 +9,8 @@ mod hasher;
 mod inputs;
 mod macs;
 mod seals;
+#[cfg(test)]
+mod tests;
 
 pub use inputs::same_input;
 pub use macs::{MacBytes, mac};
