@@ -1,5 +1,6 @@
 pub mod Areas
 pub mod Bytes
+pub mod Faults
 pub mod Meant
 pub mod Options
 pub mod Segments

@@ -1,0 +1,55 @@
+-- What the words of a line say, from the left, or the kind of the first faulty one. Our own format.
+use Rattle.std.specs.Prelude.{◌≡◌, ℕ, List, [], ◌∷◌, Option, Some, None, Result, Ok, Err}
+use Rattle.ao_base.specs.declared.line_kind.LineKind.{LineKind}
+use Rattle.ao_base.specs.declared.line_kind.LineKind.TheVariants.{Word, Hex}
+use Rattle.ao_base.specs.Hexadecimal.{bytes_of_hex}
+use Rattle.ao_show.specs.declared.problem.Refusal.{Refusal}
+use Rattle.ao_show.specs.declared.problem.Refusal.TheVariants as refusal
+
+-- one reading after another, up to the first fault
+infixl 10 ◌>>=◌
+abbrev pub ◌>>=◌ : {A B F : Type 0} → Result A F → (A → Result B F) → Result B F
+(Ok x) >>= f = f x
+(Err e) >>= f = Err e
+
+-- what a word says, and the words after it
+pub record Taken (A : Type 0) : Type 0 where
+  pub value : A
+  pub rest : List (List ℕ)
+
+-- a value that may be missing, or the fault
+abbrev pub or_fault : {A : Type 0} → Option A → LineKind → Result A LineKind
+or_fault (Some x) kind = Ok x
+or_fault None kind = Err kind
+
+-- the next word, which may not be missing
+unfoldable pub word_in : List (List ℕ) → Result (Taken (List ℕ)) LineKind
+word_in [] = Err Word
+word_in (w ∷ ws) = Ok (record { value = w; rest = ws })
+
+-- no word is surplus
+unfoldable pub nothing_in : List (List ℕ) → Result (Unit {0}) LineKind
+nothing_in [] = Ok tt
+nothing_in (w ∷ ws) = Err Word
+
+-- a word that is what a reading makes of it, or else is of the kind
+abbrev pub word_as : {A : Type 0} → (List ℕ → Option A) → LineKind → List (List ℕ) → Result (Taken A) LineKind
+word_as meaning kind ws = do
+  w ← word_in ws
+  x ← or_fault (meaning w.value) kind
+  Ok (record { value = x; rest = w.rest })
+
+-- bytes in hexadecimal
+unfoldable pub hex_in : List (List ℕ) → Result (Taken (List ℕ)) LineKind
+hex_in ws = word_as bytes_of_hex Hex ws
+
+-- what a reading answered, with the words that are left
+abbrev pub gives : {A F : Type 0} → Result A F → List (List ℕ) → Result (Taken A) F
+gives (Ok x) rest = Ok (record { value = x; rest = rest })
+gives (Err e) rest = Err e
+
+-- what a reading that takes memory answered is what is said, unless memory ran out
+abbrev pub Tells : {A : Type 0} → Result A Refusal → Result A LineKind → Type 0
+Tells (Ok x) said = said ≡ Ok x
+Tells (Err refusal.Memory) said = Unit {0}
+Tells (Err (refusal.Kind kind)) said = said ≡ Err kind
