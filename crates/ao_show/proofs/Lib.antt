@@ -1,1 +1,4 @@
+pub mod SaidLaws
+pub mod SignedLaws
 pub mod TextLaws
+pub mod VerifyLaws

@@ -1,7 +1,11 @@
 -- What the words of a line say, from the left, or the kind of the first faulty one. Our own format.
-use Rattle.std.specs.Prelude.{◌≡◌, ℕ, List, [], ◌∷◌, Option, Some, None, Result, Ok, Err}
+use Rattle.std.specs.Prelude.{◌≡◌, ℕ, ◌&&◌, ◌||◌, ◌==◌, nat_le, if◌then◌else◌, Bool, true, false, List, [], ◌∷◌, length, codes, Option, Some, None, Result, Ok, Err}
+use Rattle.std.specs.Str.{bytes_eq}
+use Rattle.ao_base.specs.declared.algorithm.Algorithm.{Algorithm}
 use Rattle.ao_base.specs.declared.line_kind.LineKind.{LineKind}
-use Rattle.ao_base.specs.declared.line_kind.LineKind.TheVariants.{Word, Hex}
+use Rattle.ao_base.specs.declared.line_kind.LineKind.TheVariants.{Word, Number, Hex, Range}
+use Rattle.ao_base.specs.Algorithms.{algorithm_of}
+use Rattle.ao_base.specs.Decimals.{decimal_of}
 use Rattle.ao_base.specs.Hexadecimal.{bytes_of_hex}
 use Rattle.ao_show.specs.declared.problem.Refusal.{Refusal}
 use Rattle.ao_show.specs.declared.problem.Refusal.TheVariants as refusal
@@ -42,6 +46,46 @@ word_as meaning kind ws = do
 -- bytes in hexadecimal
 unfoldable pub hex_in : List (List ℕ) → Result (Taken (List ℕ)) LineKind
 hex_in ws = word_as bytes_of_hex Hex ws
+
+-- what passes a test, or a fault of its range
+abbrev pub if_within : {A : Type 0} → Bool → A → Result A LineKind
+if_within true x = Ok x
+if_within false x = Err Range
+
+-- from low to high bytes in hexadecimal
+unfoldable pub sized_hex_in : ℕ → ℕ → List (List ℕ) → Result (Taken (List ℕ)) LineKind
+sized_hex_in low high ws = do
+  bytes ← hex_in ws
+  if_within (nat_le low (length bytes.value) && nat_le (length bytes.value) high) bytes
+
+-- the bytes of a message: a hyphen is the empty one
+abbrev pub message_of : List ℕ → Option (List ℕ)
+message_of w = if bytes_eq w (codes "-") then Some [] else bytes_of_hex w
+
+unfoldable pub message_in : List (List ℕ) → Result (Taken (List ℕ)) LineKind
+message_in ws = word_as message_of Hex ws
+
+-- the context of a traffic key: 20 bytes over IPv4, 44 over IPv6 (RFC 5925, section 5.2)
+unfoldable pub context_in : List (List ℕ) → Result (Taken (List ℕ)) LineKind
+context_in ws = do
+  bytes ← hex_in ws
+  if_within ((length bytes.value == 20) || (length bytes.value == 44)) bytes
+
+-- a decimal below 2^32
+unfoldable pub number_in : List (List ℕ) → Result (Taken ℕ) LineKind
+number_in ws = do
+  n ← word_as decimal_of Number ws
+  if_within (nat_le n.value 4294967295) n
+
+unfoldable pub algorithm_in : List (List ℕ) → Result (Taken Algorithm) LineKind
+algorithm_in ws = word_as algorithm_of Word ws
+
+-- whether all options are under a MAC (RFC 5925, section 3.1)
+unfoldable pub covering_of : List ℕ → Option Bool
+covering_of w = if bytes_eq w (codes "options") then Some true else if bytes_eq w (codes "no-options") then Some false else None
+
+unfoldable pub covering_in : List (List ℕ) → Result (Taken Bool) LineKind
+covering_in ws = word_as covering_of Word ws
 
 -- what a reading answered, with the words that are left
 abbrev pub gives : {A F : Type 0} → Result A F → List (List ℕ) → Result (Taken A) F

@@ -51,3 +51,11 @@ impl From<LineKind> for Refusal {
         Refusal::Kind(kind)
     }
 }
+
+impl From<AllocError> for Refusal {
+    ghost from_gives = { λ _ e. e ≡ refusal.Memory };
+
+    fn from(_e: AllocError) -> Refusal {
+        Refusal::Memory
+    }
+}

@@ -2,7 +2,8 @@ use Rattle.std.proofs.Common.{arith}
 use Rattle.std.proofs.lemmas.Result.{err_from_is_err_and}
 use Rattle.ao_base.specs.Lines.{lines_of}
 use Rattle.ao_show.specs.Lines.{saying_from}
-use Rattle.ao_show.proofs.TextLaws.{never_too_many, same_problem}
+use Rattle.ao_show.proofs.TextLaws.{never_too_many}
+use Rattle.ao_show.proofs.SaidLaws.{same_problem}
 use Rattle.ao_show.proofs.showing.show.Goals as goal
 
 pub returns-in_err-push_lines-clause-too_many : goal.returns-in_err-push_lines-clause-too_many

@@ -1,0 +1,104 @@
+//! The traffic key of a vector.
+ghost use Rattle.std.specs.Prelude.{◌≡◌, ◌+◌, ◌≤◌, ◌<◌, ◌⊎◌, ◌++◌, length};
+ghost use Rattle.ao_base.specs.declared.address.Address.TheVariants.{V4, V6};
+ghost use Rattle.segment_model.specs.Segments.{four_at, two_at};
+ghost use Rattle.segment_model.specs.Sockets.{octets};
+ghost use Rattle.mac_model.specs.Keys.{key_length, traffic_key};
+ghost use Rattle.ao_kdf.specs.Context.{bytes_of};
+
+use ao_base::{Address, Algorithm, Socket, Steps};
+use ao_kdf::{Context, TrafficKey, traffic_key};
+use std::marker::Brand;
+use std::sync::ledger::{Blank, Ledger};
+
+/// The traffic key of a master key for a context, whose steps nobody counts.
+pub(crate) fn key_of(alg: Algorithm, master: &[u8], context: &Context) -> TrafficKey
+    requires some { 1 ≤ length master.now }
+    requires most { length master.now ≤ 255 }
+    ensures key { result ≡ traffic_key alg master.now (bytes_of context.now) }
+    ensures length { length result ≡ key_length alg }
+{
+    key_in::<Brand>(Blank::new(1), alg, master, context)
+}
+
+fn key_in<L: Ledger>(blank: Blank, alg: Algorithm, master: &[u8], context: &Context) -> TrafficKey
+    requires name { blank.name ≡ L.name }
+    requires parts { blank.parts ≡ L.parts }
+    requires part { 0 < blank.parts }
+    requires some { 1 ≤ length master.now }
+    requires most { length master.now ≤ 255 }
+    ensures key { result ≡ traffic_key alg master.now (bytes_of context.now) }
+    ensures length { length result ≡ key_length alg }
+{
+    let mut steps = Steps::<L>::new(blank);
+    traffic_key(alg, master, context, &mut steps)
+}
+
+/// The big-endian number of two bytes.
+fn two(bytes: &[u8], at: usize) -> u16
+    requires { at + 1 < length bytes.now }
+    ensures { result ≡ two_at bytes.now at }
+{
+    u16::from_be_bytes([bytes[at], bytes[at + 1]])
+}
+
+/// The big-endian number of four bytes.
+fn four(bytes: &[u8], at: usize) -> u32
+    requires { at + 3 < length bytes.now }
+    ensures { result ≡ four_at bytes.now at }
+{
+    u32::from_be_bytes([bytes[at], bytes[at + 1], bytes[at + 2], bytes[at + 3]])
+}
+
+fn address_v4(bytes: &[u8]) -> Address
+    requires { length bytes.now ≡ 4 }
+    ensures { result ≡ V4 bytes.now }
+{
+    let mut octets = [0; 4];
+    octets.copy_from_slice(bytes);
+    Address::V4(octets)
+}
+
+fn address_v6(bytes: &[u8]) -> Address
+    requires { length bytes.now ≡ 16 }
+    ensures { result ≡ V6 bytes.now }
+{
+    let mut octets = [0; 16];
+    octets.copy_from_slice(bytes);
+    Address::V6(octets)
+}
+
+/// The context of two addresses, and of the ports and initial sequence numbers in these bytes.
+fn context_with(source: Address, destination: Address, numbers: &[u8]) -> Context
+    requires { length numbers.now ≡ 12 }
+    ensures { bytes_of result ≡ octets source ++ (octets destination ++ numbers.now) }
+{
+    Context {
+        source: Socket {
+            address: source,
+            port: two(numbers, 0),
+        },
+        destination: Socket {
+            address: destination,
+            port: two(numbers, 2),
+        },
+        source_isn: four(numbers, 4),
+        dest_isn: four(numbers, 8),
+    }
+}
+
+/// The context that 20 or 44 bytes spell (RFC 5925, section 5.2).
+pub(crate) fn read_context(bytes: &[u8]) -> Context
+    requires { (length bytes.now ≡ 20) ⊎ (length bytes.now ≡ 44) }
+    ensures { bytes_of result ≡ bytes.now }
+{
+    if bytes.len() == 20 {
+        let (source, rest) = bytes.split_at(4);
+        let (destination, numbers) = rest.split_at(4);
+        context_with(address_v4(source), address_v4(destination), numbers)
+    } else {
+        let (source, rest) = bytes.split_at(16);
+        let (destination, numbers) = rest.split_at(16);
+        context_with(address_v6(source), address_v6(destination), numbers)
+    }
+}
