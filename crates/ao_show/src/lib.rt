@@ -19,3 +19,6 @@ mod writing;
 pub use problem::TextProblem;
 pub use showing::show;
 pub use verifying::{Verified, vectors};
+
+#[cfg(test)]
+mod tests;
