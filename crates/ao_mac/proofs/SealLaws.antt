@@ -49,7 +49,7 @@ lies d h mac payload rest D =
 
 -- ---- what the MAC is computed over
 
-abbrev ao_in : Head → List ℕ → Ao
+abbrev pub ao_in : Head → List ℕ → Ao
 ao_in h mac = record { key_id = h.key_id; next_id = h.rnext; mac = mac; place = mss_length h.mss }
 
 pub has_ao : (h : Head) (mac payload : List ℕ) → HasAo (drafted h mac payload)
@@ -85,7 +85,7 @@ header_blind : (h : Head) (m n payload rest : List ℕ) → length m ≡ length 
 unfolding header
 header_blind h m n payload rest e = rw (area_same h m n e) refl
 
-input_blind : (number : ℕ) (h : Head) (m n payload : List ℕ) (flag : Bool) → length m ≡ length n
+pub input_blind : (number : ℕ) (h : Head) (m n payload : List ℕ) (flag : Bool) → length m ≡ length n
     → mac_input number (drafted h m payload) (ao_in h m) flag ≡ mac_input number (drafted h n payload) (ao_in h n) flag
 unfolding mac_input pseudo
 input_blind number h m n payload flag e =

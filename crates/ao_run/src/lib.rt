@@ -1,0 +1,16 @@
+//! The program as one call: it reads what the words' command reads, makes the command's answer,
+//! writes its output, and tells its text. Its contract says, for every source and sink, which
+//! answer comes with which status, what was read and written, and what holds of every link.
+#![tactic(auto)]
+
+mod command;
+#[cfg(test)]
+mod completeness;
+mod link;
+mod stop;
+#[cfg(test)]
+mod tests;
+mod texts;
+mod top;
+
+pub use top::run;

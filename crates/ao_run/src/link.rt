@@ -1,0 +1,53 @@
+//! The command `link`.
+ghost use Rattle.std.specs.Prelude.{◌≡◌, ◌≤◌, ◌<◌, IsTrue, All, IfOk, false, length, map, Some, Ok};
+ghost use Rattle.link_script.specs.Script.{are_two_of_a_family, script_of};
+ghost use Rattle.link_script.specs.Scripts.{IsEvent};
+ghost use Rattle.link_world.specs.Standing.{StandsFor, event_of, setup_of};
+ghost use Rattle.ao_run.specs.Answer.{linked};
+ghost use Rattle.ao_run.specs.Stops.{Makes};
+
+use crate::stop::{Output, Stop, line_text};
+use link_script::{Event, Script, ScriptFault, read_script};
+use link_world::{Setup, World};
+use std::alloc::{AllocError, Global};
+
+/// The world after all events.
+fn play(alloc: Global, setup: Setup, events: &[Event]) -> Result<World, AllocError>
+    requires family { IsTrue (are_two_of_a_family setup.a.address setup.b.address) }
+    requires least { 1 ≤ length setup.shared.master }
+    requires most { length setup.shared.master ≤ 255 }
+    requires few { length events.now ≤ 20000 }
+    requires range { All IsEvent events.now }
+    ensures { IfOk result (λ w. StandsFor w (setup_of setup) (map event_of events.now)) }
+{
+    let mut world = World::new(alloc, setup)?;
+    for event in events {
+        let _outcome = world.step(alloc, event)?;
+    }
+    Ok(world)
+}
+
+/// The report of a link file that names its shared key; status 1 where the run counts a forgery.
+pub(crate) fn link(alloc: Global, text: &[u8]) -> Result<Output, Stop>
+    ensures { Makes result (linked (script_of false text.now)) }
+{
+    let script = match read_script(alloc, false, text) {
+        Ok(script) => script,
+        Err(ScriptFault::Memory) => return Err(Stop::Memory),
+        Err(ScriptFault::TooManyLines) => return Err(Stop::TooManyLines),
+        Err(ScriptFault::Line(number, kind)) => {
+            return Err(Stop::Line(line_text(alloc, number, kind)?));
+        }
+    };
+    let Script {
+        a,
+        b,
+        shared,
+        events,
+    } = script;
+    let Some(shared) = shared else { unreachable!() };
+    let world = play(alloc, Setup { a, b, shared }, events.as_slice())?;
+    let bytes = world.report(alloc)?;
+    let status = if world.forgeries() == 0 { 0 } else { 1 };
+    Ok(Output { status, bytes })
+}

@@ -1,0 +1,49 @@
+//! The commands `show` and `vectors`.
+ghost use Rattle.ao_show.specs.Show.{show_of};
+ghost use Rattle.ao_show.specs.Verified.{vectors_of};
+ghost use Rattle.ao_run.specs.Answer.{shown, text_refused, verified};
+ghost use Rattle.ao_run.specs.Stops.{Makes, Stopped};
+
+use crate::stop::{Output, Stop, line_text};
+use ao_show::{TextProblem, show, vectors};
+use std::alloc::Global;
+
+/// Why a text has no output.
+fn stop(alloc: Global, problem: TextProblem) -> Stop
+    ensures { Stopped result (text_refused problem) }
+{
+    match problem {
+        TextProblem::Memory => Stop::Memory,
+        TextProblem::TooManyLines => Stop::TooManyLines,
+        TextProblem::Line(number, kind) => match line_text(alloc, number, kind) {
+            Ok(text) => Stop::Line(text),
+            Err(_) => Stop::Memory,
+        },
+    }
+}
+
+/// A line for each datagram of the text.
+pub(crate) fn show_all(alloc: Global, text: &[u8]) -> Result<Output, Stop>
+    ensures { Makes result (shown (show_of text.now)) }
+{
+    match show(alloc, text) {
+        Ok(bytes) => Ok(Output { status: 0, bytes }),
+        Err(problem) => Err(stop(alloc, problem)),
+    }
+}
+
+/// A line for each vector of the text, and the totals; status 1 where one differs.
+pub(crate) fn verify_all(alloc: Global, text: &[u8]) -> Result<Output, Stop>
+    ensures { Makes result (verified (vectors_of text.now)) }
+{
+    match vectors(alloc, text) {
+        Ok(told) => {
+            let status = if told.differing == 0 { 0 } else { 1 };
+            Ok(Output {
+                status,
+                bytes: told.text,
+            })
+        }
+        Err(problem) => Err(stop(alloc, problem)),
+    }
+}

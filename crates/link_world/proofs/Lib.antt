@@ -1,0 +1,16 @@
+pub mod ActLaws
+pub mod AlterLaws
+pub mod ArrivalLaws
+pub mod CheckLaws
+pub mod EmissionLaws
+pub mod EndLaws
+pub mod LogMatches
+pub mod LogLaws
+pub mod MoveLaws
+pub mod PlainLaws
+pub mod Received
+pub mod SentLaws
+pub mod SideLaws
+pub mod SummaryLaws
+pub mod VerdictLaws
+pub mod WrittenLaws

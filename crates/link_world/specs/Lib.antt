@@ -1,0 +1,12 @@
+pub mod Arriving
+pub mod Emitting
+pub mod Ends
+pub mod Histories
+pub mod Outcomes
+pub mod Sent
+pub mod Sides
+pub mod Standing
+pub mod Steps
+pub mod Summaries
+pub mod Verdicts
+pub mod Written

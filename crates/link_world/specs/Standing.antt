@@ -1,0 +1,74 @@
+-- What a world stands for: a setup and the events so far.
+use Rattle.std.specs.Prelude.{◌≡◌, ℕ, ◌<◌, ◌≤◌, List, length}
+use Rattle.ao_base.specs.declared.end.End.{End}
+use Rattle.ao_base.specs.declared.end.End.TheVariants.{A}
+use Rattle.tcp_segment.specs.Writing.{OneFamily}
+use Rattle.link_model.specs.Events as model
+use Rattle.link_model.specs.Reports.{lines_from}
+use Rattle.link_model.specs.Runs.{empty, outcomes_from, run}
+use Rattle.link_model.specs.Worlds.{Setup as Link}
+use Rattle.link_script.specs.declared.event.Event.{Event}
+use Rattle.link_script.specs.declared.event.Event.TheVariants as script
+use Rattle.link_world.specs.declared.world.Setup.{Setup}
+use Rattle.link_world.specs.declared.world.World.{World}
+use Rattle.link_world.specs.Histories.{StandsLog}
+use Rattle.link_world.specs.Sides.{IsSoundLive, StandsSide}
+
+-- the setup of the model
+abbrev pub setup_of : Setup → Link
+setup_of s = record { a = s.a; b = s.b; key = record { algorithm = s.shared.alg; master = s.shared.master } }
+
+-- the event of the model
+abbrev pub event_of : Event → model.Event
+event_of (script.Clock e seconds) = model.Clock e seconds
+event_of (script.Start e own peer) = model.Start e own peer
+event_of (script.Give e bytes) = model.Give e bytes
+event_of (script.Fill e count byte) = model.Fill e count byte
+event_of (script.Send e) = model.Send e
+event_of (script.Deliver e name) = model.Deliver e name
+event_of (script.Inject e bytes) = model.Inject e bytes
+event_of (script.Alter e name place mask fix) = model.Alter e name place mask fix
+event_of (script.Take e count) = model.Take e count
+event_of (script.Dump name) = model.Dump name
+
+-- the end at which an event happens; to show a segment touches neither
+abbrev pub end_of : Event → End
+end_of (script.Clock e seconds) = e
+end_of (script.Start e own peer) = e
+end_of (script.Give e bytes) = e
+end_of (script.Fill e count byte) = e
+end_of (script.Send e) = e
+end_of (script.Deliver e name) = e
+end_of (script.Inject e bytes) = e
+end_of (script.Alter e name place mask fix) = e
+end_of (script.Take e count) = e
+end_of (script.Dump name) = A
+
+-- how many events a world stepped through
+abbrev pub steps_taken : World → ℕ
+steps_taken w = w.steps
+
+-- the parts of a world fit each other: addresses of one family, a master key of 1 to 255 bytes, and no more segments and forgeries than steps
+pub record IsSoundWorld (w : World) : Type 0 where
+  pub family : OneFamily w.setup.a.address w.setup.b.address
+  pub back : OneFamily w.setup.b.address w.setup.a.address
+  pub least : 0 < length w.setup.shared.master
+  pub most : length w.setup.shared.master ≤ 255
+  pub a : IsSoundLive w.a.live
+  pub b : IsSoundLive w.b.live
+  pub made : length w.log.made.items ≤ w.steps
+  pub forged : w.log.forgeries ≤ w.steps
+
+-- a world stands for its setup and for the events that it stepped through
+pub record StandsFor (w : World) (setup : Link) (events : List model.Event) : Type 0 where
+  pub sound : IsSoundWorld w
+  pub setup_is : setup ≡ setup_of w.setup
+  pub steps : w.steps ≡ length events
+  pub a : StandsSide w.a (run setup events).a
+  pub b : StandsSide w.b (run setup events).b
+  pub log : StandsLog setup w.log (run setup events).history
+  pub lines : w.lines.items ≡ lines_from 1 (outcomes_from setup empty events)
+
+-- some setup and events that a world stands for
+abbrev pub IsReached : World → Type 0
+IsReached w = (setup : Link) × (events : List model.Event) × StandsFor w setup events

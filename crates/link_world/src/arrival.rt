@@ -1,0 +1,72 @@
+//! A datagram that comes to an end.
+ghost use Rattle.std.specs.Prelude.{◌≡◌, ◌<◌, ◌≤◌, ◌+◌, ◌&&◌, List, length, IsTrue};
+ghost use Rattle.segment_model.specs.Segments.{reading};
+ghost use Rattle.segment_model.specs.Sockets.{same_socket};
+ghost use Rattle.endpoint_model.specs.Arrivals.{arrive, from_peer};
+ghost use Rattle.endpoint_model.specs.States.{EndState};
+ghost use Rattle.link_model.specs.Worlds.{Happening, Setup, pair_of};
+ghost use Rattle.link_world.specs.Arriving.{Arrives};
+ghost use Rattle.link_world.specs.Ends.{IsSound, Stands};
+ghost use Rattle.link_world.specs.Histories.{StandsLog};
+ghost use Rattle.link_world.specs.Verdicts.{key_of};
+
+use ao_base::{End, Pair, Socket};
+use link_script::SharedKey;
+use tcp_segment::{Datagram, read_datagram};
+
+use crate::check::judge;
+use crate::endpoint::Endpoint;
+use crate::log::Log;
+use crate::outcome::Arrival;
+
+/// Whether two sockets are the same.
+fn same_socket(one: Socket, other: Socket) -> bool
+    ensures same { result ≡ same_socket one other }
+    ensures tells { IsTrue result → one ≡ other }
+{
+    one == other
+}
+
+/// Whether the sockets of a datagram are the connection's, seen from the other end.
+fn from_peer(pair: &Pair, datagram: &Datagram<'_>) -> bool
+    ensures same { result ≡ from_peer pair.now datagram.now }
+    ensures source { IsTrue result → datagram.now.source ≡ pair.now.remote }
+    ensures destination { IsTrue result → datagram.now.destination ≡ pair.now.local }
+{
+    same_socket(datagram.source(), pair.remote) && same_socket(datagram.destination(), pair.local)
+}
+
+/// Takes in a datagram that came to the end, and says what it answers: the first that holds of its
+/// fault, foreign sockets, a wrong checksum, a refusal by the check and its place in the stream
+/// (RFC 9293, section 3.10.7; RFC 5925, section 7.5). One that passed is counted as a forgery where
+/// the other end didn't make it. Only `Taken` changes the end.
+pub(crate) fn arrive(end: &mut Endpoint, log: &mut Log, at: End, pair: &Pair, shared: &SharedKey, bytes: &[u8]) -> Arrival
+    requires sound { IsSound end.old }
+    requires some_key { 0 < length shared.now.master }
+    requires most_key { length shared.now.master ≤ 255 }
+    requires few { log.old.forgeries < 4294967295 }
+    ensures sound { IsSound end.new }
+    ensures made { log.new.made ≡ log.old.made }
+    ensures most { log.new.forgeries ≤ log.old.forgeries + 1 }
+    ensures arrives { (setup : Setup) (s : EndState) (history : List Happening) → setup.key ≡ key_of shared.now → pair_of setup at ≡ pair.now
+        → Stands end.old s → StandsLog setup log.old history
+        → Arrives setup at (arrive setup.key pair.now s (reading bytes.now)) history end.new log.new result }
+{
+    let datagram = match read_datagram(bytes) {
+        Ok(datagram) => datagram,
+        Err(fault) => return Arrival::Bad(fault),
+    };
+    if !from_peer(pair, &datagram) {
+        return Arrival::Foreign;
+    }
+    if !datagram.checksum_ok() {
+        return Arrival::Checksum;
+    }
+    match judge(shared, end.isn, end.peer_isn, &datagram) {
+        Err(why) => Arrival::Refused(why),
+        Ok(passed) => {
+            log.count(at, &passed, &datagram);
+            end.accept(&datagram, &passed)
+        }
+    }
+}
