@@ -1,7 +1,6 @@
 //! The command `link`.
-ghost use Rattle.std.specs.Prelude.{◌≡◌, ◌≤◌, ◌<◌, IsTrue, All, IfOk, false, length, map, Some, Ok};
+ghost use Rattle.std.specs.Prelude.{◌≡◌, ◌≤◌, ◌<◌, IsTrue, IfOk, false, length, map, Some, Ok};
 ghost use Rattle.link_script.specs.Script.{are_two_of_a_family, script_of};
-ghost use Rattle.link_script.specs.Scripts.{IsEvent};
 ghost use Rattle.link_world.specs.Standing.{StandsFor, event_of, setup_of};
 ghost use Rattle.ao_run.specs.Answer.{linked};
 ghost use Rattle.ao_run.specs.Stops.{Makes};
@@ -17,7 +16,6 @@ fn play(alloc: Global, setup: Setup, events: &[Event]) -> Result<World, AllocErr
     requires least { 1 ≤ length setup.shared.master }
     requires most { length setup.shared.master ≤ 255 }
     requires few { length events.now ≤ 20000 }
-    requires range { All IsEvent events.now }
     ensures { IfOk result (λ w. StandsFor w (setup_of setup) (map event_of events.now)) }
 {
     let mut world = World::new(alloc, setup)?;

@@ -12,6 +12,3 @@ play-requires-clause-most c = (key_length c.in-Ok.script.shared c.in-Some.shared
 
 pub play-requires-clause-few : goal.play-requires-clause-few
 play-requires-clause-few c = rw c.as_slice.ensures (few_events c.in-Ok.script c.in-Ok.ensures.grammar)
-
-pub play-requires-clause-range : goal.play-requires-clause-range
-play-requires-clause-range c = rw c.as_slice.ensures c.in-Ok.ensures.grammar.events
