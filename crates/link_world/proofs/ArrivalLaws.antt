@@ -1,11 +1,10 @@
 -- An arrival, test by test.
-use Rattle.std.proofs.Common.{◌≡◌, ℕ, Bool, true, false, ◌∷◌, List, Option, Some, None, refl, sym, ◌∙◌, arith}
+use Rattle.std.proofs.Common.{◌≡◌, Bool, true, false, ◌∷◌, List, Some, None, refl, sym, ◌∙◌, arith}
 use Rattle.ao_base.specs.declared.address.Pair.{Pair}
-use Rattle.ao_base.specs.declared.end.End.{End}
 use Rattle.segment_model.specs.Segments.{Segment, Fault, Reading, Read, Bad as Unread, good}
-use Rattle.endpoint_model.specs.Arrivals.{Bad, Foreign, Checksum, Refused, acceptable, arrive, arrive_judged, from_peer, unmoved}
+use Rattle.endpoint_model.specs.Arrivals.{Bad, Foreign, Checksum, acceptable, arrive, arrive_judged, from_peer, unmoved}
 use Rattle.endpoint_model.specs.States.{EndState}
-use Rattle.endpoint_model.specs.Verdicts.{Key, Verdict, Refuse, Pass, Passed, judge}
+use Rattle.endpoint_model.specs.Verdicts.{Key, Verdict, Pass, Passed, judge}
 use Rattle.link_model.specs.Worlds.{Setup, Happening, Coming, Came, forgeries}
 use Rattle.link_world.specs.declared.log.Log.{Log}
 use Rattle.link_world.specs.Histories.{StandsLog}

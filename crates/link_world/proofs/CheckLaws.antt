@@ -1,5 +1,5 @@
 -- The context of a segment, by its flags.
-use Rattle.std.proofs.Common.{◌≡◌, ℕ, Bool, true, false, Option, Some, refl, arith}
+use Rattle.std.proofs.Common.{◌≡◌, ℕ, true, false, Some, refl}
 use Rattle.segment_model.specs.Segments.{Segment, has}
 use Rattle.mac_model.specs.Contexts.{context, context_of}
 

@@ -1,11 +1,11 @@
 -- What an end sends next.
-use Rattle.std.proofs.Common.{◌≡◌, ℕ, zero, suc, ◌+◌, ◌<◌, ◌%◌, min, List, Option, Some, None, true, false, refl, sym, ap, ◌∙◌, arith}
+use Rattle.std.proofs.Common.{◌≡◌, ℕ, zero, suc, ◌<◌, min, Option, Some, false, refl, sym, ap, ◌∙◌, arith}
 use Rattle.ao_base.specs.declared.address.Pair.{Pair}
 use Rattle.segment_model.specs.Segments.{Segment, has}
 use Rattle.mac_model.specs.Contexts.{context, context_of}
 use Rattle.endpoint_model.specs.Verdicts.{Key}
 use Rattle.endpoint_model.specs.States.{EndState}
-use Rattle.endpoint_model.specs.Emissions.{shared, Draft, Emitted, Quiet, Emits, data_draft, to_emit, to_emit_of, emit, emitted, seal_known, sealed, blank, unsent, effective}
+use Rattle.endpoint_model.specs.Emissions.{shared, Quiet, Emits, data_draft, to_emit, to_emit_of, emit, emitted, seal_known, sealed, blank, unsent, effective}
 
 draft_of : (s : EndState) (k : ℕ) → 0 < k → to_emit_of s k ≡ Some (data_draft s k)
 draft_of s zero h = absurd (omega arith)
@@ -26,5 +26,5 @@ unfolding emit to_emit
 emits_is key pair s k peer e some known =
     let d : to_emit_of s (min (unsent s) (effective pair)) ≡ Some (data_draft s k) = ap (to_emit_of s) (sym e) ∙ draft_of s k some in
     let c : context_of (blank pair s (data_draft s k) (shared key)) (Some s.iss) s.irs ≡ Some (context pair.local pair.remote s.iss peer) =
-        known_context (blank pair s (data_draft s k) (shared key)) s.iss peer s.irs known refl in
+    known_context (blank pair s (data_draft s k) (shared key)) s.iss peer s.irs known refl in
     ap (emitted key pair s) d ∙ ap (seal_known pair s (data_draft s k) (shared key)) c

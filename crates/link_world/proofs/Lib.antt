@@ -13,4 +13,5 @@ pub mod SentLaws
 pub mod SideLaws
 pub mod SummaryLaws
 pub mod VerdictLaws
+pub mod WorldLaws
 pub mod WrittenLaws

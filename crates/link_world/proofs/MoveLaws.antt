@@ -1,15 +1,13 @@
 -- What a segment that is made is in the history, and how it is kept.
-use Rattle.std.proofs.Common.{◌≡◌, ◌≤◌, ℕ, suc, List, ◌∷◌, ◌++◌, length, take, Some, false, refl, sym, ap, ◌∙◌, subst, arith}
+use Rattle.std.proofs.Common.{◌≡◌, ◌≤◌, ℕ, suc, List, ◌++◌, length, take, Some, false, refl, sym, ap, ◌∙◌, subst, arith}
 use Rattle.std.proofs.lemmas.List.{length-take, take-append-le, take-take}
-use Rattle.ao_base.specs.declared.address.Pair.{Pair}
 use Rattle.ao_base.specs.declared.end.End.{End}
 use Rattle.tcp_segment.specs.Writing.{OneFamily}
 use Rattle.endpoint_model.specs.Emissions.{Emission, Emits, emit}
 use Rattle.endpoint_model.specs.States.{EndState}
-use Rattle.endpoint_model.specs.Verdicts.{Key}
 use Rattle.link_model.specs.Events.{Sent}
 use Rattle.link_model.specs.Steps.{Act, made_of, send, sent}
-use Rattle.link_model.specs.Worlds.{Setup, World, pair_of, segments, Sending}
+use Rattle.link_model.specs.Worlds.{Setup, World, pair_of, Sending}
 use Rattle.link_world.specs.declared.endpoint.Endpoint.{Endpoint}
 use Rattle.link_world.specs.declared.log.Kept.{Kept}
 use Rattle.link_world.specs.declared.log.Log.{Log}

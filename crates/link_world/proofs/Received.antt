@@ -1,5 +1,5 @@
 -- Bytes received by number, and the list of them.
-use Rattle.std.proofs.Common.{◌≡◌, ℕ, zero, suc, ◌+◌, ◌-◌, ◌<◌, ◌≤◌, List, [], ◌∷◌, ◌++◌, length, take, drop, min, slice_get, Option, Some, None, unwrap_or, true, false, nat_lt, nat_le, ◌&&◌, refl, sym, ap, ◌∙◌, arith, Bool, if◌then◌else◌}
+use Rattle.std.proofs.Common.{◌≡◌, ℕ, zero, suc, ◌+◌, ◌-◌, ◌<◌, ◌≤◌, List, [], ◌∷◌, ◌++◌, length, drop, slice_get, Option, Some, None, unwrap_or, true, false, nat_lt, nat_le, ◌&&◌, refl, ap, ◌∙◌, arith, Bool, if◌then◌else◌}
 use Rattle.std.proofs.lemmas.Bool.Decides.{nat_tests}
 use Rattle.std.proofs.lemmas.Option.{slice_get_past}
 use Rattle.endpoint_model.specs.States.{EndState, bytes_from, keep, ready_at, ready_count, ready, first, window}
@@ -33,7 +33,7 @@ pub drop-bytes_from : (m : ℕ → Option ℕ) (p c k : ℕ) → c ≤ k → dro
 drop-bytes_from m p c k h =
     let e : k ≡ c + (k - c) = omega arith in
     let both : bytes_from m p k ≡ bytes_from m p c ++ bytes_from m (p + c) (k - c) =
-        ap (λ n. bytes_from m p n) e ∙ bytes_from-add m p c (k - c) in
+    ap (λ n. bytes_from m p n) e ∙ bytes_from-add m p c (k - c) in
     rw both (drop_front _ _ c (length-bytes_from m p c))
 
 -- bytes at the numbers from p on
@@ -43,7 +43,7 @@ listed_from m (y ∷ ys) p h =
     let at : p + 0 ≡ p = omega arith in
     let here : m p ≡ Some y = rw at at (h 0 (omega arith)) in
     let rest : bytes_from m (suc p) (length ys) ≡ ys =
-        listed_from m ys (suc p) (λ i low. let e : suc p + i ≡ p + suc i = omega arith in rw e (h (suc i) (omega arith))) in
+    listed_from m ys (suc p) (λ i low. let e : suc p + i ≡ p + suc i = omega arith in rw e (h (suc i) (omega arith))) in
     let head : unwrap_or (m p) 0 ≡ y = ap (λ o. unwrap_or o 0) here in
     cc
 
@@ -69,9 +69,9 @@ pub bytes_from-keep : (m : ℕ → Option ℕ) (payload : List ℕ) (p k x high 
     → ((n : ℕ) → x ≤ n → m n ≡ None) → bytes_from (keep m x payload x high) p (k + length payload) ≡ bytes_from m p k ++ payload
 bytes_from-keep m payload p k x high e h none =
     let old : bytes_from (keep m x payload x high) p k ≡ bytes_from m p k =
-        same-bytes_from _ _ p k (λ i low lt. keep-below m x payload x high i (omega arith)) in
+    same-bytes_from _ _ p k (λ i low lt. keep-below m x payload x high i (omega arith)) in
     let new : bytes_from (keep m x payload x high) x (length payload) ≡ payload =
-        listed_from (keep m x payload x high) payload x (λ i lt. keep-at m payload x high i (none (x + i) (omega arith)) (omega arith)) in
+    listed_from (keep m x payload x high) payload x (λ i lt. keep-at m payload x high i (none (x + i) (omega arith)) (omega arith)) in
     rw (bytes_from-add, old, e, new) refl
 
 if_none : (b : Bool) → ◌≡◌ {A = Option ℕ} (if b then None else None) None

@@ -1,5 +1,5 @@
 -- A segment that was written is what the end sends.
-use Rattle.std.proofs.Common.{◌≡◌, ℕ, ◌+◌, ◌/◌, List, [], ◌∷◌, ◌++◌, length, take, drop, replicate, Option, Some, None, true, refl, sym, ap, subst, ◌∙◌, arith, append_assoc}
+use Rattle.std.proofs.Common.{◌≡◌, ℕ, ◌+◌, ◌/◌, List, [], ◌++◌, length, take, replicate, Some, true, refl, sym, ap, subst, ◌∙◌, arith}
 use Rattle.std.proofs.lemmas.List.{length-append, append-nil}
 use Rattle.ao_base.specs.declared.address.Pair.{Pair}
 use Rattle.segment_model.specs.Bytes.{put2, put4}
@@ -12,13 +12,13 @@ use Rattle.mac_model.specs.Contexts.{context}
 use Rattle.mac_model.specs.Keys.{mac, traffic_key}
 use Rattle.mac_model.specs.MacInput.{covered, mac_input}
 use Rattle.tcp_segment.specs.declared.writing.Head.{Head}
-use Rattle.tcp_segment.specs.Writing.{drafted, header_length, IsFinished, HeadFits, OneFamily}
+use Rattle.tcp_segment.specs.Writing.{drafted, header_length, OneFamily}
 use Rattle.tcp_segment.proofs.DraftLaws.{drafted_ao}
 use Rattle.tcp_segment.proofs.WriteLaws.{parts, before, before_long}
 use Rattle.ao_mac.proofs.SealLaws.{ao_in, input_blind}
 use Rattle.endpoint_model.specs.Verdicts.{Key}
 use Rattle.endpoint_model.specs.States.{EndState}
-use Rattle.endpoint_model.specs.Emissions.{shared, Draft, Emission, data_draft, sealed, blank, blank_ao, written, with_checksum, seal_of, input_of}
+use Rattle.endpoint_model.specs.Emissions.{shared, Draft, data_draft, sealed, blank_ao, written, with_checksum, seal_of, input_of}
 use Rattle.ao_kdf.specs.Context.{bytes_of}
 use Rattle.link_world.specs.declared.outcome.Made.{Made}
 use Rattle.link_world.specs.Written.{IsWritten, head_of}
@@ -96,9 +96,9 @@ sent_so pair s k peer key m traffic before after t family is w =
     let d : Segment = drafted h w.code out.payload in
     let ctx : List ℕ = context pair.local pair.remote s.iss peer in
     let code : w.code ≡ seal_of pair s out (shared key) ctx =
-        code_is pair s out key key.algorithm traffic w.code refl w.right ∙ ap (λ (l : List ℕ). mac key.algorithm l (input_of pair s out (shared key))) is in
+    code_is pair s out key key.algorithm traffic w.code refl w.right ∙ ap (λ (l : List ℕ). mac key.algorithm l (input_of pair s out (shared key))) is in
     let model : d ≡ written pair s out (shared key) (seal_of pair s out (shared key) ctx) =
-        drafted_is pair s out key w.code refl w.long ∙ ap (written pair s out (shared key)) code in
+    drafted_is pair s out key w.code refl w.long ∙ ap (written pair s out (shared key)) code in
     let seg : finished d ≡ with_checksum (written pair s out (shared key) (seal_of pair s out (shared key) ctx)) = ap finished model in
     let long : length (spell (finished d)) ≡ m.length = finished_long h w.code out.payload family w.long ∙ sym t.length in
     let front : take m.length after ≡ spell (finished d) = ap (take m.length) w.finished_so.bytes ∙ take_exact (spell (finished d)) _ m.length long in
@@ -118,5 +118,5 @@ sent_so pair s k peer key m traffic before after t family is w =
       reads = subst (λ (x : Segment). reading (spell x) ≡ Read x) seg again;
       ao = ao_in h w.code;
       found = subst (λ (x : Segment). find_ao x.area ≡ One (ao_in h w.code)) seg found;
-      input = subst (λ (x : Segment). input_of pair s out (shared key) ≡ mac_input s.next x (ao_in h w.code) true) seg (sym (input_sent pair s out key w.code refl w.long))
+      input = subst (λ (x : Segment). input_of pair s out (shared key) ≡ mac_input s.next x (ao_in h w.code) true) seg (sym (input_sent pair s out key w.code refl w.long));
     }

@@ -1,5 +1,5 @@
 -- What an end that stands for its sessions says of them.
-use Rattle.std.proofs.Common.{◌≡◌, ◌≢◌, ℕ, ◌==◌, Bool, true, false, ◌||◌, List, [], ◌∷◌, ◌++◌, map, reverse, Option, Some, None, if◌then◌else◌, refl, sym, ap, ◌∙◌, subst, arith}
+use Rattle.std.proofs.Common.{◌≡◌, ◌≢◌, ℕ, ◌==◌, Bool, true, false, ◌||◌, List, [], ◌∷◌, map, reverse, Option, Some, None, if◌then◌else◌, refl, ap, ◌∙◌, subst, arith}
 use Rattle.std.specs.Prelude.{is_some}
 use Rattle.std.specs.List.{list_any}
 use Rattle.std.proofs.lemmas.Bool.Decides.{nat_tests}
@@ -9,9 +9,7 @@ use Rattle.link_model.specs.Worlds.{Session, Side as EndSide, find}
 use Rattle.link_world.specs.declared.side.Ended.{Ended}
 use Rattle.link_world.specs.declared.endpoint.Endpoint.{Endpoint}
 use Rattle.link_world.specs.declared.side.Side.{Side}
-use Rattle.link_world.specs.Ends.{Stands}
 use Rattle.link_world.specs.Sides.{Facts, facts_of, kept_facts, Sessions, StandsSide}
-
 
 is_some-if : (b : Bool) (s : Session) (o : Option Session) → is_some (if b then Some s else o) ≡ (b || is_some o)
 is_some-if true s o = refl

@@ -1,11 +1,11 @@
 -- The lines of what is kept of sessions are those of the sessions.
-use Rattle.std.proofs.Common.{◌≡◌, ℕ, suc, ◌+◌, false, List, [], ◌∷◌, ◌++◌, length, map, codes, Some, None, refl, sym, ap, ◌∙◌, subst, arith, append_assoc}
+use Rattle.std.proofs.Common.{◌≡◌, ℕ, suc, ◌+◌, false, List, [], ◌∷◌, ◌++◌, length, map, codes, Some, refl, sym, ap, ◌∙◌, subst, arith, append_assoc}
 use Rattle.std.specs.Prelude.{reverse}
 use Rattle.std.proofs.lemmas.List.{length-map, length-reverse}
 use Rattle.ao_base.specs.declared.end.End.{End}
-use Rattle.endpoint_model.specs.States.{EndState, Established}
+use Rattle.endpoint_model.specs.States.{EndState}
 use Rattle.link_model.specs.Worlds.{Session, Side as EndSide}
-use Rattle.link_model.specs.Reports.{session_text, dropped_text, sessions_text, phase_text}
+use Rattle.link_model.specs.Reports.{dropped_text, sessions_text, phase_text}
 use Rattle.link_world.specs.declared.endpoint.Endpoint.{Endpoint}
 use Rattle.link_world.specs.declared.side.Ended.{Ended}
 use Rattle.link_world.specs.declared.side.Side.{Side}

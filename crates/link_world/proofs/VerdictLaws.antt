@@ -1,12 +1,12 @@
 -- The verdict, test by test.
-use Rattle.std.proofs.Common.{◌≡◌, ◌≢◌, ℕ, ◌==◌, ◌&&◌, Bool, true, false, List, [], ◌∷◌, length, Option, Some, None, refl, sym, ap, ◌∙◌, arith}
+use Rattle.std.proofs.Common.{◌≡◌, ◌≢◌, ℕ, ◌==◌, ◌&&◌, true, false, List, [], ◌∷◌, length, Option, Some, refl, ap, arith}
 use Rattle.std.specs.Prelude.{bytes_eq}
 use Rattle.std.proofs.lemmas.Bool.Decides.{nat_tests}
 use Rattle.segment_model.specs.Bytes.{same_bytes}
 use Rattle.segment_model.specs.Options.{Ao, AoFound, One, find_ao}
 use Rattle.segment_model.specs.Segments.{Segment}
 use Rattle.mac_model.specs.Contexts.{context_of}
-use Rattle.endpoint_model.specs.Verdicts.{Key, Verdict, Refuse, Pass, NoTuple, MacLength, BadMac, judge, judge_ao, judge_context, passed_with, mac_of}
+use Rattle.endpoint_model.specs.Verdicts.{Key, Refuse, Pass, NoTuple, MacLength, BadMac, judge, judge_ao, judge_context, passed_with, mac_of}
 
 pub by_found : (key : Key) (own : ℕ) (peer : Option ℕ) (d : Segment) (f : AoFound) → f ≡ find_ao d.area
     → judge key own peer d ≡ judge_ao key d (context_of d peer (Some own)) f

@@ -1,12 +1,10 @@
 -- A segment that was written is the one that the model makes.
-use Rattle.std.proofs.Common.{◌≡◌, ℕ, ◌+◌, ◌-◌, ◌*◌, ◌/◌, ◌%◌, List, [], ◌∷◌, ◌++◌, length, drop, replicate, Option, Some, None, true, refl, sym, ap, subst, ◌∙◌, arith}
+use Rattle.std.proofs.Common.{◌≡◌, ℕ, ◌+◌, ◌/◌, ◌%◌, List, ◌∷◌, ◌++◌, length, drop, replicate, true, refl, sym, ap, subst, ◌∙◌, arith}
 use Rattle.ao_base.specs.declared.address.Address.{Address}
 use Rattle.ao_base.specs.declared.address.Address.TheVariants.{V4, V6}
 use Rattle.ao_base.specs.declared.address.Pair.{Pair}
 use Rattle.ao_base.specs.declared.algorithm.Algorithm.{Algorithm}
-use Rattle.segment_model.specs.Options.{Ao, One, find_ao}
-use Rattle.segment_model.specs.Segments.{IpHeader, Segment, checksum_of}
-use Rattle.segment_model.specs.Spelling.{finished}
+use Rattle.segment_model.specs.Segments.{IpHeader, Segment}
 use Rattle.mac_model.specs.Keys.{mac}
 use Rattle.mac_model.specs.MacInput.{mac_input}
 use Rattle.tcp_segment.specs.declared.writing.Head.{Head}
@@ -15,7 +13,7 @@ use Rattle.tcp_segment.proofs.DraftLaws.{drafted_ao}
 use Rattle.ao_mac.specs.Macs.{IsMacOf}
 use Rattle.endpoint_model.specs.Verdicts.{Key}
 use Rattle.endpoint_model.specs.States.{EndState, window}
-use Rattle.endpoint_model.specs.Emissions.{Sending, shared, Draft, written_ip, written, blank, blank_ao, input_of, seal_of, with_checksum}
+use Rattle.endpoint_model.specs.Emissions.{shared, Draft, written_ip, written, blank_ao, input_of}
 use Rattle.link_world.specs.Written.{IsWritten, head_of}
 
 pub written_so : (h : Head) (payload : List ℕ) (alg : Algorithm) (key : List ℕ) (sne : ℕ) (before after code : List ℕ)
@@ -52,7 +50,7 @@ drafted_is pair s out key code flags long =
     let h = head_of pair s out.number in
     let size : 20 + length (option_heads h (length code) ++ code) + length out.payload ≡ 36 + length out.payload = omega (arith, long) in
     let ip : head_ip h (20 + length (option_heads h (length code) ++ code) + length out.payload) pair.local.address ≡ written_ip pair (36 + length out.payload) pair.local.address =
-        ap (λ n. head_ip h n pair.local.address) size ∙ same_ip pair s out.number (36 + length out.payload) pair.local.address in
+    ap (λ n. head_ip h n pair.local.address) size ∙ same_ip pair s out.number (36 + length out.payload) pair.local.address in
     let area : option_heads h (length code) ++ code ≡ 29 ∷ 16 ∷ 0 ∷ 0 ∷ code = ap (λ (k : ℕ). 29 ∷ (4 + k) ∷ 0 ∷ 0 ∷ code) long in
     ap (λ (x : IpHeader). laid pair s out x (option_heads h (length code) ++ code) 24) ip
     ∙ ap (λ (a : List ℕ). laid pair s out (written_ip pair (36 + length out.payload) pair.local.address) a 24) area

@@ -1,5 +1,5 @@
 -- What an end stands for.
-use Rattle.std.specs.Prelude.{◌≡◌, ℕ, ◌+◌, ◌-◌, ◌<◌, ◌≤◌, List, length, Option, Some, None}
+use Rattle.std.specs.Prelude.{◌≡◌, ℕ, ◌+◌, ◌≤◌, length, Some, None}
 use Rattle.endpoint_model.specs.States.{EndState, Established, bytes_from, ready_at}
 use Rattle.link_world.specs.declared.endpoint.Endpoint.{Endpoint}
 

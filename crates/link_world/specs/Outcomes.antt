@@ -1,5 +1,5 @@
 -- What the answers of a link stand for.
-use Rattle.std.specs.Prelude.{◌≡◌, ℕ, length, Option}
+use Rattle.std.specs.Prelude.{◌≡◌, ℕ, length}
 use Rattle.tcp_segment.specs.Views.{fault_of}
 use Rattle.endpoint_model.specs.Verdicts as verdict
 use Rattle.endpoint_model.specs.Arrivals as answer

@@ -1,7 +1,7 @@
 -- A segment that an end made, as the model's.
 use Rattle.std.specs.Prelude.{◌≡◌, ℕ, List, length, take, true}
 use Rattle.segment_model.specs.Options.{Ao, One, find_ao}
-use Rattle.segment_model.specs.Segments.{Segment, Read, reading, spell}
+use Rattle.segment_model.specs.Segments.{Read, reading, spell}
 use Rattle.mac_model.specs.MacInput.{mac_input}
 use Rattle.endpoint_model.specs.Emissions.{Emission}
 use Rattle.ao_kdf.specs.Context.{bytes_of}

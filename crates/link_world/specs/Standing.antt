@@ -6,12 +6,15 @@ use Rattle.tcp_segment.specs.Writing.{OneFamily}
 use Rattle.link_model.specs.Events as model
 use Rattle.link_model.specs.Reports.{lines_from}
 use Rattle.link_model.specs.Runs.{empty, outcomes_from, run}
+use Rattle.link_model.specs.Steps.{Stepped}
 use Rattle.link_model.specs.Worlds.{Setup as Link}
 use Rattle.link_script.specs.declared.event.Event.{Event}
 use Rattle.link_script.specs.declared.event.Event.TheVariants as script
 use Rattle.link_world.specs.declared.world.Setup.{Setup}
 use Rattle.link_world.specs.declared.world.World.{World}
+use Rattle.link_world.specs.declared.outcome.Outcome.{Outcome}
 use Rattle.link_world.specs.Histories.{StandsLog}
+use Rattle.link_world.specs.Outcomes.{Shows}
 use Rattle.link_world.specs.Sides.{IsSoundLive, StandsSide}
 
 -- the setup of the model
@@ -48,7 +51,7 @@ end_of (script.Dump name) = A
 abbrev pub steps_taken : World → ℕ
 steps_taken w = w.steps
 
--- the parts of a world fit each other: addresses of one family, a master key of 1 to 255 bytes, and no more segments and forgeries than steps
+-- the parts of a world fit each other: addresses of one family, a master key of 1 to 255 bytes, fewer than 2^32 steps, and no more segments and forgeries than steps
 pub record IsSoundWorld (w : World) : Type 0 where
   pub family : OneFamily w.setup.a.address w.setup.b.address
   pub back : OneFamily w.setup.b.address w.setup.a.address
@@ -56,6 +59,7 @@ pub record IsSoundWorld (w : World) : Type 0 where
   pub most : length w.setup.shared.master ≤ 255
   pub a : IsSoundLive w.a.live
   pub b : IsSoundLive w.b.live
+  pub few : w.steps < 4294967296
   pub made : length w.log.made.items ≤ w.steps
   pub forged : w.log.forgeries ≤ w.steps
 
@@ -72,3 +76,10 @@ pub record StandsFor (w : World) (setup : Link) (events : List model.Event) : Ty
 -- some setup and events that a world stands for
 abbrev pub IsReached : World → Type 0
 IsReached w = (setup : Link) × (events : List model.Event) × StandsFor w setup events
+
+-- what a world keeps of its ends and of the history is that of the model after a step, and the outcome is the step's
+pub record Happens (setup : Link) (after : Stepped) (now : World) (o : Outcome) : Type 0 where
+  pub a : StandsSide now.a after.world.a
+  pub b : StandsSide now.b after.world.b
+  pub log : StandsLog setup now.log after.world.history
+  pub shows : Shows o after.outcome

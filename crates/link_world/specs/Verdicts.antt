@@ -1,5 +1,5 @@
 -- What the check answers, as the verdict of the model.
-use Rattle.std.specs.Prelude.{◌≡◌, ℕ, List, length, Result, Ok, Err}
+use Rattle.std.specs.Prelude.{◌≡◌, length, Result, Ok, Err}
 use Rattle.segment_model.specs.Options.{Ao, One, find_ao}
 use Rattle.segment_model.specs.Segments.{Segment}
 use Rattle.endpoint_model.specs.Verdicts.{Key, Verdict, Refuse, Pass, Passed as Entry, passed_with}

@@ -1,5 +1,5 @@
 -- What a segment that was written leaves in a buffer.
-use Rattle.std.specs.Prelude.{◌≡◌, ℕ, ◌+◌, ◌%◌, List, length, take, drop, replicate, None, true}
+use Rattle.std.specs.Prelude.{◌≡◌, ℕ, ◌+◌, ◌%◌, List, length, drop, replicate, None, true}
 use Rattle.ao_base.specs.declared.algorithm.Algorithm.{Algorithm}
 use Rattle.ao_base.specs.declared.address.Pair.{Pair}
 use Rattle.endpoint_model.specs.States.{EndState, window}

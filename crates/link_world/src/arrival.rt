@@ -10,14 +10,13 @@ ghost use Rattle.link_world.specs.Ends.{IsSound, Stands};
 ghost use Rattle.link_world.specs.Histories.{StandsLog};
 ghost use Rattle.link_world.specs.Verdicts.{key_of};
 
-use ao_base::{End, Pair, Socket};
-use link_script::SharedKey;
-use tcp_segment::{Datagram, read_datagram};
-
 use crate::check::judge;
 use crate::endpoint::Endpoint;
 use crate::log::Log;
 use crate::outcome::Arrival;
+use ao_base::{End, Pair, Socket};
+use link_script::SharedKey;
+use tcp_segment::{Datagram, read_datagram};
 
 /// Whether two sockets are the same.
 fn same_socket(one: Socket, other: Socket) -> bool
@@ -40,7 +39,14 @@ fn from_peer(pair: &Pair, datagram: &Datagram<'_>) -> bool
 /// fault, foreign sockets, a wrong checksum, a refusal by the check and its place in the stream
 /// (RFC 9293, section 3.10.7; RFC 5925, section 7.5). One that passed is counted as a forgery where
 /// the other end didn't make it. Only `Taken` changes the end.
-pub(crate) fn arrive(end: &mut Endpoint, log: &mut Log, at: End, pair: &Pair, shared: &SharedKey, bytes: &[u8]) -> Arrival
+pub(crate) fn arrive(
+    end: &mut Endpoint,
+    log: &mut Log,
+    at: End,
+    pair: &Pair,
+    shared: &SharedKey,
+    bytes: &[u8],
+) -> Arrival
     requires sound { IsSound end.old }
     requires some_key { 0 < length shared.now.master }
     requires most_key { length shared.now.master ≤ 255 }

@@ -11,6 +11,7 @@ ghost use Rattle.ao_mac.specs.Macs.{HasAo};
 ghost use Rattle.tcp_options.specs.Views.{view_found};
 ghost use Rattle.link_world.specs.Verdicts.{Judged, key_of};
 
+use crate::outcome::{Passed, Refusal};
 use ao_base::Steps;
 use ao_kdf::{Context, TrafficKey, traffic_key};
 use ao_mac::mac;
@@ -20,12 +21,13 @@ use std::sync::ledger::{Blank, Ledger};
 use tcp_options::AoFound;
 use tcp_segment::Datagram;
 
-use crate::outcome::{Passed, Refusal};
-
 /// The flags of TCP that the check and the end look at (RFC 9293, section 3.1).
 pub(crate) const FIN: u8 = 0x01;
+
 pub(crate) const SYN: u8 = 0x02;
+
 pub(crate) const RST: u8 = 0x04;
+
 pub(crate) const ACK: u8 = 0x10;
 
 /// Whether a flag is set.
@@ -87,7 +89,12 @@ fn derived<L: Ledger>(blank: Blank, shared: &SharedKey, context: &Context) -> Tr
 }
 
 /// Whether the MAC of a segment is right under the traffic key of a context.
-fn is_right(shared: &SharedKey, context: &Context, datagram: &Datagram<'_>, mac_field: &[u8]) -> bool
+fn is_right(
+    shared: &SharedKey,
+    context: &Context,
+    datagram: &Datagram<'_>,
+    mac_field: &[u8],
+) -> bool
     requires some { 0 < length shared.now.master }
     requires most { length shared.now.master ≤ 255 }
     requires one { HasAo datagram.now }
@@ -108,7 +115,12 @@ fn found<'a>(datagram: &Datagram<'a>) -> AoFound<'a>
 
 /// The first refusal that holds, or what passed: one TCP-AO option and none of TCP MD5, KeyID 0, a
 /// MAC of twelve bytes, and that MAC right under the shared key over all options.
-pub(crate) fn judge(shared: &SharedKey, own_isn: u32, peer_isn: u32, datagram: &Datagram<'_>) -> Result<Passed, Refusal>
+pub(crate) fn judge(
+    shared: &SharedKey,
+    own_isn: u32,
+    peer_isn: u32,
+    datagram: &Datagram<'_>,
+) -> Result<Passed, Refusal>
     requires some { 0 < length shared.now.master }
     requires most { length shared.now.master ≤ 255 }
     ensures { Judged (key_of shared.now) datagram.now result (judge (key_of shared.now) own_isn (Some peer_isn) datagram.now) }

@@ -12,18 +12,16 @@ ghost use Rattle.link_world.specs.Written.{head_of};
 ghost use Rattle.link_world.specs.Sent.{IsSent};
 ghost use Rattle.link_world.specs.Verdicts.{key_of};
 
-use std::alloc::{AllocError, Global};
-
-use ao_base::{Address, Pair};
-use ao_kdf::Context;
-use circular_buffer::HeapCircularBuffer;
-use link_script::SharedKey;
-use tcp_segment::{Datagram, Head};
-
 use crate::check::{ACK, FIN, RST, SYN, has, key_of};
 use crate::outcome::{Arrival, Made, Passed, Sending};
 use crate::segment::write_segment;
 use crate::side::Ended;
+use ao_base::{Address, Pair};
+use ao_kdf::Context;
+use circular_buffer::HeapCircularBuffer;
+use link_script::SharedKey;
+use std::alloc::{AllocError, Global};
+use tcp_segment::{Datagram, Head};
 
 /// How many bytes may be given in all, and how many may be ready.
 pub(crate) const ROOM: usize = 65_535;
@@ -282,7 +280,14 @@ impl Endpoint {
         let context = self.context(pair);
         let key = key_of(shared, &context);
         let payload = self.payload(count);
-        let length = write_segment(out, &head, payload, &key, shared.alg, (number / (1 << 32)) as u32);
+        let length = write_segment(
+            out,
+            &head,
+            payload,
+            &key,
+            shared.alg,
+            (number / (1 << 32)) as u32,
+        );
         Made {
             length,
             sending: Sending {

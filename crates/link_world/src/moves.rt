@@ -9,16 +9,14 @@ ghost use Rattle.link_world.specs.Outcomes.{Shows};
 ghost use Rattle.link_world.specs.Sides.{IsSoundLive, StandsSide};
 ghost use Rattle.link_world.specs.Verdicts.{key_of};
 
-use std::alloc::{AllocError, Global};
-
-use ao_base::{Bytes, End, Pair};
-use link_script::SharedKey;
-
 use crate::alter::altered;
 use crate::arrival::arrive;
 use crate::log::{Kept, Log};
 use crate::outcome::Outcome;
 use crate::side::Side;
+use ao_base::{Bytes, End, Pair};
+use link_script::SharedKey;
+use std::alloc::{AllocError, Global};
 
 /// What is altered in a copy of a segment: the byte at this place, counted from the TCP header, is
 /// xored with this mask; with `fix` the TCP checksum is then set right.
@@ -33,7 +31,14 @@ pub(crate) struct Change {
 const MOST_SEGMENT: usize = 1_500;
 
 /// Lets bytes come to the live session of the end.
-pub(crate) fn come(side: &mut Side, log: &mut Log, at: End, pair: &Pair, shared: &SharedKey, bytes: &[u8]) -> Outcome
+pub(crate) fn come(
+    side: &mut Side,
+    log: &mut Log,
+    at: End,
+    pair: &Pair,
+    shared: &SharedKey,
+    bytes: &[u8],
+) -> Outcome
     requires sound { IsSoundLive side.old.live }
     requires some_key { 0 < length shared.now.master }
     requires most_key { length shared.now.master ≤ 255 }
@@ -52,7 +57,14 @@ pub(crate) fn come(side: &mut Side, log: &mut Log, at: End, pair: &Pair, shared:
 }
 
 /// Lets the live session of the end make a segment, which is kept, or none.
-pub(crate) fn send(side: &mut Side, log: &mut Log, alloc: Global, at: End, pair: &Pair, shared: &SharedKey) -> Result<Outcome, AllocError>
+pub(crate) fn send(
+    side: &mut Side,
+    log: &mut Log,
+    alloc: Global,
+    at: End,
+    pair: &Pair,
+    shared: &SharedKey,
+) -> Result<Outcome, AllocError>
     requires sound { IsSoundLive side.old.live }
     requires family { OneFamily pair.now.local.address pair.now.remote.address }
     requires some_key { 0 < length shared.now.master }
@@ -97,7 +109,15 @@ fn copy_of(log: &Log, alloc: Global, name: u32) -> Result<Option<Bytes>, AllocEr
 }
 
 /// Delivers the segment of this name to the end, as it was made.
-pub(crate) fn deliver(side: &mut Side, log: &mut Log, alloc: Global, at: End, pair: &Pair, shared: &SharedKey, name: u32) -> Result<Outcome, AllocError>
+pub(crate) fn deliver(
+    side: &mut Side,
+    log: &mut Log,
+    alloc: Global,
+    at: End,
+    pair: &Pair,
+    shared: &SharedKey,
+    name: u32,
+) -> Result<Outcome, AllocError>
     requires sound { IsSoundLive side.old.live }
     requires some_key { 0 < length shared.now.master }
     requires most_key { length shared.now.master ≤ 255 }
@@ -117,7 +137,16 @@ pub(crate) fn deliver(side: &mut Side, log: &mut Log, alloc: Global, at: End, pa
 
 /// Delivers a copy of the segment of this name with the byte at the place, counted from the TCP
 /// header, xored with the mask; with `fix` its TCP checksum is set right.
-pub(crate) fn alter(side: &mut Side, log: &mut Log, alloc: Global, at: End, pair: &Pair, shared: &SharedKey, name: u32, change: Change) -> Result<Outcome, AllocError>
+pub(crate) fn alter(
+    side: &mut Side,
+    log: &mut Log,
+    alloc: Global,
+    at: End,
+    pair: &Pair,
+    shared: &SharedKey,
+    name: u32,
+    change: Change,
+) -> Result<Outcome, AllocError>
     requires sound { IsSoundLive side.old.live }
     requires some_key { 0 < length shared.now.master }
     requires most_key { length shared.now.master ≤ 255 }
@@ -133,7 +162,14 @@ pub(crate) fn alter(side: &mut Side, log: &mut Log, alloc: Global, at: End, pair
     let Some(bytes) = copy_of(log, alloc, name)? else {
         return Ok(Outcome::NoSegment);
     };
-    let Some(copy) = altered(alloc, bytes.as_slice(), change.place, change.mask, change.fix)? else {
+    let Some(copy) = altered(
+        alloc,
+        bytes.as_slice(),
+        change.place,
+        change.mask,
+        change.fix,
+    )?
+    else {
         return Ok(Outcome::NoPlace);
     };
     Ok(come(side, log, at, pair, shared, copy.as_slice()))

@@ -11,7 +11,14 @@ use lent_bytes::Room;
 use tcp_segment::{Head, write_datagram};
 
 /// Writes a segment with its MAC and checksums in front of a buffer, and says how long it is.
-pub(crate) fn write_segment(out: &mut [u8], head: &Head, payload: &[u8], key: &TrafficKey, alg: Algorithm, sne: u32) -> usize
+pub(crate) fn write_segment(
+    out: &mut [u8],
+    head: &Head,
+    payload: &[u8],
+    key: &TrafficKey,
+    alg: Algorithm,
+    sne: u32,
+) -> usize
     requires head { IsHead head.now (length payload.now) }
     requires code { head.now.mac_length ≡ 12 }
     requires room { 1500 ≤ length out.old }

@@ -4,9 +4,8 @@ ghost use Rattle.std.specs.List.{list_any};
 ghost use Rattle.endpoint_model.specs.States.{started};
 ghost use Rattle.link_model.specs.Worlds.{Side as EndSide, find};
 
-use std::alloc::{AllocError, Global};
-
 use crate::endpoint::Endpoint;
+use std::alloc::{AllocError, Global};
 
 /// What the report says of a session that was replaced.
 #[derive(Clone, Copy)]

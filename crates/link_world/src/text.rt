@@ -9,14 +9,12 @@ ghost use Rattle.link_world.specs.Sides.{kept_facts, StandsSide, IsSoundLive};
 ghost use Rattle.link_world.specs.Summaries.{session_line, dropped_lines};
 ghost use Rattle.link_world.specs.Outcomes.{view_refusal, view_arrival, Shows, Tells};
 
-use std::alloc::AllocError;
-
-use ao_base::{End, push_decimal, push_hex};
-use tcp_options::OptionFault;
-use tcp_segment::DatagramFault;
-
 use crate::outcome::{Arrival, Made, Outcome, Refusal};
 use crate::side::{Ended, Side};
+use ao_base::{End, push_decimal, push_hex};
+use std::alloc::AllocError;
+use tcp_options::OptionFault;
+use tcp_segment::DatagramFault;
 
 /// Puts the word behind `out`.
 fn push(out: &mut Vec<u8>, word: &[u8]) -> Result<(), AllocError>
@@ -216,7 +214,13 @@ fn end_letter(end: End) -> &'static [u8]
 
 /// Puts the front of the line of a session behind `out`: its end, its place from 1 on among the
 /// sessions of that end, and its two initial sequence numbers.
-fn push_session_name(out: &mut Vec<u8>, end: End, index: u64, isn: u32, peer_isn: u32) -> Result<(), AllocError>
+fn push_session_name(
+    out: &mut Vec<u8>,
+    end: End,
+    index: u64,
+    isn: u32,
+    peer_isn: u32,
+) -> Result<(), AllocError>
     ensures { OnOk result (out.new.items ≡ out.old.items
         ++ (codes "session " ++ (end_text end ++ (32 ∷ decimal index ++ (codes " isn " ++ (decimal isn ++ (codes " peer " ++ decimal peer_isn))))))) }
 {
@@ -230,7 +234,12 @@ fn push_session_name(out: &mut Vec<u8>, end: End, index: u64, isn: u32, peer_isn
 
 /// Puts the rest of the line of a session behind `out`: its phase and how many bytes were given to
 /// it and taken from it.
-fn push_session_state(out: &mut Vec<u8>, phase: &[u8], given: usize, delivered: u64) -> Result<(), AllocError>
+fn push_session_state(
+    out: &mut Vec<u8>,
+    phase: &[u8],
+    given: usize,
+    delivered: u64,
+) -> Result<(), AllocError>
     ensures { OnOk result (out.new.items ≡ out.old.items
         ++ (32 ∷ phase.now ++ (codes " given " ++ (decimal given ++ (codes " delivered " ++ (decimal delivered ++ codes " open\n")))))) }
 {
@@ -243,7 +252,13 @@ fn push_session_state(out: &mut Vec<u8>, phase: &[u8], given: usize, delivered: 
 }
 
 /// Puts the line of a session behind `out`.
-fn push_session(out: &mut Vec<u8>, end: End, index: u64, phase: &[u8], ended: &Ended) -> Result<(), AllocError>
+fn push_session(
+    out: &mut Vec<u8>,
+    end: End,
+    index: u64,
+    phase: &[u8],
+    ended: &Ended,
+) -> Result<(), AllocError>
     ensures { OnOk result (out.new.items ≡ out.old.items ++ session_line end index phase.now (kept_facts ended.now)) }
 {
     push_session_name(out, end, index, ended.isn, ended.peer_isn)?;
@@ -276,7 +291,11 @@ pub(crate) fn push_sessions(out: &mut Vec<u8>, end: End, side: &Side) -> Result<
 }
 
 /// Puts the last line of the report behind `out`.
-pub(crate) fn push_counts(out: &mut Vec<u8>, segments: u32, forgeries: u32) -> Result<(), AllocError>
+pub(crate) fn push_counts(
+    out: &mut Vec<u8>,
+    segments: u32,
+    forgeries: u32,
+) -> Result<(), AllocError>
     ensures { OnOk result (out.new.items ≡ out.old.items
         ++ (codes "segments " ++ (decimal segments ++ (codes " forgeries " ++ (decimal forgeries ++ codes "\n"))))) }
 {

@@ -13,17 +13,15 @@ ghost use Rattle.link_world.specs.Sides.{IsSoundLive, StandsSide};
 ghost use Rattle.link_world.specs.Standing.{end_of, event_of};
 ghost use Rattle.link_world.specs.Verdicts.{key_of};
 
-use std::alloc::{AllocError, Global};
-
-use ao_base::{Bytes, End, Pair, Socket};
-use link_script::{Event, SharedKey};
-
 use crate::acts::{fill, give, set_clock, start, take};
 use crate::log::Log;
 use crate::moves::{Change, alter, come, deliver, dump, send};
 use crate::outcome::Outcome;
 use crate::side::Side;
 use crate::text::{push_counts, push_line, push_sessions};
+use ao_base::{Bytes, End, Pair, Socket};
+use link_script::{Event, SharedKey};
+use std::alloc::{AllocError, Global};
 
 /// The end at which an event happens; to show a segment touches neither.
 fn end_of(event: &Event) -> End
@@ -44,7 +42,14 @@ fn end_of(event: &Event) -> End
 }
 
 /// An event at an end, with the log of the link.
-fn act(side: &mut Side, log: &mut Log, alloc: Global, pair: &Pair, shared: &SharedKey, event: &Event) -> Result<Outcome, AllocError>
+fn act(
+    side: &mut Side,
+    log: &mut Log,
+    alloc: Global,
+    pair: &Pair,
+    shared: &SharedKey,
+    event: &Event,
+) -> Result<Outcome, AllocError>
     requires sound { IsSoundLive side.old.live }
     requires family { OneFamily pair.now.local.address pair.now.remote.address }
     requires some_key { 0 < length shared.now.master }
@@ -102,7 +107,7 @@ pub struct World {
 }
 
 impl World {
-    ghost use Rattle.link_world.specs.Standing.{IsReached, StandsFor, setup_of, steps_taken};
+    ghost use Rattle.link_world.specs.Standing.{Happens, IsReached, IsSoundWorld, StandsFor, setup_of, steps_taken};
 
     /// A link on which nothing happened yet, both clocks at 0. Its addresses differ and are of one
     /// family, and the master key has 1 to 255 bytes.
@@ -123,6 +128,40 @@ impl World {
         })
     }
 
+    /// What an event does to the end at which it happens, and to the log.
+    fn happen(&mut self, alloc: Global, event: &Event) -> Result<Outcome, AllocError>
+        requires sound { IsSoundWorld self.old }
+        requires known { (setup : Link) × (history : List Happening) × StandsLog setup self.old.log history }
+        requires steps { self.old.steps < 4294967295 }
+        ensures setup { self.new.setup ≡ self.old.setup }
+        ensures lines { self.new.lines ≡ self.old.lines }
+        ensures steps { self.new.steps ≡ self.old.steps }
+        ensures a { IsSoundLive self.new.a.live }
+        ensures b { IsSoundLive self.new.b.live }
+        ensures made { length self.new.log.made.items ≤ length self.old.log.made.items + 1 }
+        ensures forged { self.new.log.forgeries ≤ self.old.log.forgeries + 1 }
+        ensures happens { IfOk result (λ o. (w : Both) → StandsSide self.old.a w.a → StandsSide self.old.b w.b → StandsLog (setup_of self.old.setup) self.old.log w.history
+            → Happens (setup_of self.old.setup) (step (setup_of self.old.setup) w (event_of event.now)) self.new o) }
+    {
+        let shared = &self.setup.shared;
+        match end_of(event) {
+            End::A => {
+                let pair = Pair {
+                    local: self.setup.a,
+                    remote: self.setup.b,
+                };
+                act(&mut self.a, &mut self.log, alloc, &pair, shared, event)
+            }
+            End::B => {
+                let pair = Pair {
+                    local: self.setup.b,
+                    remote: self.setup.a,
+                };
+                act(&mut self.b, &mut self.log, alloc, &pair, shared, event)
+            }
+        }
+    }
+
     /// Steps through one event, and says its outcome. Without memory the link can't go on: nothing is
     /// promised of it.
     pub fn step(&mut self, alloc: Global, event: &Event) -> Result<Outcome, AllocError>
@@ -132,23 +171,7 @@ impl World {
             → StandsFor self.new setup (events ++ event_of event.now ∷ [])) }
         ensures steps { OnOk result (steps_taken self.new ≡ steps_taken self.old + 1) }
     {
-        let shared = &self.setup.shared;
-        let outcome = match end_of(event) {
-            End::A => {
-                let pair = Pair {
-                    local: self.setup.a,
-                    remote: self.setup.b,
-                };
-                act(&mut self.a, &mut self.log, alloc, &pair, shared, event)?
-            }
-            End::B => {
-                let pair = Pair {
-                    local: self.setup.b,
-                    remote: self.setup.a,
-                };
-                act(&mut self.b, &mut self.log, alloc, &pair, shared, event)?
-            }
-        };
+        let outcome = self.happen(alloc, event)?;
         self.steps += 1;
         push_line(&mut self.lines, u64::from(self.steps), &outcome)?;
         Ok(outcome)

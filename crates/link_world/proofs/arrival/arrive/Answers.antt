@@ -1,4 +1,4 @@
-use Rattle.std.proofs.Common.{◌≡◌, ◌≤◌, ◌+◌, List, Some, refl, sym, ap, ◌∙◌, subst}
+use Rattle.std.proofs.Common.{◌≡◌, List, Some, refl, sym, ap, ◌∙◌, subst}
 use Rattle.ao_base.specs.declared.address.Pair.{Pair}
 use Rattle.ao_base.specs.declared.end.End.{End}
 use Rattle.segment_model.specs.Segments.{Segment, reading}
@@ -39,7 +39,7 @@ pub returns-then-not-checksum_ok-clause-arrives : goal.returns-then-not-checksum
 returns-then-not-checksum_ok-clause-arrives c setup s history key pair stands logs =
     quiet setup c.args.at s history _ c.args.end.now c.args.log.now arrival.Checksum
     (of_checksum setup.key c.args.pair.now s (reading c.args.bytes.now) c.in-Ok.datagram c.in-Ok.ensures.read (sym c.if-not-from_peer.ensures.same)
-        (sym c.if-not-checksum_ok.ensures)) stands logs
+    (sym c.if-not-checksum_ok.ensures)) stands logs
 
 -- the verdict from the numbers that the end keeps
 verdict : (k : Key) (s : EndState) (e : Endpoint) (d : Segment) (v : Verdict) (key : Key) → key ≡ k → Stands e s → judge k e.isn (Some e.peer_isn) d ≡ v
@@ -50,8 +50,8 @@ pub returns-in-Err-judge-clause-arrives : goal.returns-in-Err-judge-clause-arriv
 returns-in-Err-judge-clause-arrives c setup s history key pair stands logs =
     quiet setup c.args.at s history _ c.args.end.now c.args.log.now (arrival.Refused c.in-Err-judge.why)
     (of_verdict setup.key c.args.pair.now s (reading c.args.bytes.now) c.in-Ok.datagram (Refuse (view_refusal c.in-Err-judge.why)) c.in-Ok.ensures.read
-        (sym c.if-not-from_peer.ensures.same) (sym c.if-not-checksum_ok.ensures)
-        (verdict (key_of c.args.shared.now) s c.args.end.now c.in-Ok.datagram _ setup.key key stands c.in-Err-judge.ensures)) stands logs
+    (sym c.if-not-from_peer.ensures.same) (sym c.if-not-checksum_ok.ensures)
+    (verdict (key_of c.args.shared.now) s c.args.end.now c.in-Ok.datagram _ setup.key key stands c.in-Err-judge.ensures)) stands logs
 
 pub returns-in-Ok-judge-clause-arrives : goal.returns-in-Ok-judge-clause-arrives
 returns-in-Ok-judge-clause-arrives c setup s history key pair stands logs =
@@ -61,8 +61,8 @@ returns-in-Ok-judge-clause-arrives c setup s history key pair stands logs =
     let source : d.source ≡ (pair_of setup c.args.at).remote = c.if-not-from_peer.ensures.source refl ∙ ap (λ (p : Pair). p.remote) (sym pair) in
     let destination : d.destination ≡ (pair_of setup c.args.at).local = c.if-not-from_peer.ensures.destination refl ∙ ap (λ (p : Pair). p.local) (sym pair) in
     let is = of_verdict setup.key c.args.pair.now s (reading c.args.bytes.now) d (Pass entry) c.in-Ok.ensures.read
-        (sym c.if-not-from_peer.ensures.same) (sym c.if-not-checksum_ok.ensures)
-        (verdict (key_of c.args.shared.now) s c.args.end.now d _ setup.key key stands c.in-Ok-judge.ensures.1) in
+    (sym c.if-not-from_peer.ensures.same) (sym c.if-not-checksum_ok.ensures)
+    (verdict (key_of c.args.shared.now) s c.args.end.now d _ setup.key key stands c.in-Ok-judge.ensures.1) in
     let accepts = c.accept.ensures.accepted s entry stands passes.number in
     rw is (record {
       stands = accepts.stands;

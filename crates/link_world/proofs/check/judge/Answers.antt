@@ -1,7 +1,5 @@
-use Rattle.std.proofs.Common.{◌≡◌, ◌<◌, sym, ap, ◌∙◌, refl, Some, false, true, arith}
-use Rattle.std.specs.Prelude.{bytes_eq}
+use Rattle.std.proofs.Common.{◌<◌, sym, ap, ◌∙◌, refl, Some, arith}
 use Rattle.segment_model.specs.Options.{Absent, Two, WithMd5, One}
-use Rattle.mac_model.specs.Contexts.{context, context_of}
 use Rattle.tcp_options.specs.Views.{view_ao}
 use Rattle.endpoint_model.specs.Verdicts.{judge, passed_with}
 use Rattle.ao_kdf.specs.Context.{bytes_of}
@@ -49,19 +47,20 @@ returns c =
     let d = c.args.datagram.now in
     let ao = view_ao c.in-One.ao in
     let small : d.sequence < 4294967296 = omega (arith, c.sequence-sequence.ensures, c.sequence-sequence.type_inv) in
-    let test = c.is_right.ensures d.sequence ao small (sym c.in-One.ensures) in
-    (passed_with key d ao (bytes_of c.context-context.result),
-    by_found key c.args.own_isn (Some c.args.peer_isn) d (One ao) c.in-One.ensures
-    ∙ ap (λ ctx. Rattle.endpoint_model.specs.Verdicts.judge_ao key d ctx (One ao)) c.context-context.ensures.context
-    ∙ at_context key d (Some (bytes_of c.context-context.result)) ao c.if-ao-ne0.false c.if-ao-ne12.false
-    ∙ right key d (bytes_of c.context-context.result) ao (sym test ∙ c.if-not-is_right.false),
-    record {
-      ao = ao;
-      found = sym c.in-One.ensures;
-      twelve = c.if-ao-ne12.false;
-      entry_is = refl;
-      row = refl;
-      number = sym c.sequence-sequence.ensures ∙ sym c.from.ensures;
-      source = c.context-context.ensures.source;
-      destination = c.context-context.ensures.destination;
-    })
+    let test = c.is_right.ensures d.sequence ao small (sym c.in-One.ensures) in (
+      passed_with key d ao (bytes_of c.context-context.result),
+      by_found key c.args.own_isn (Some c.args.peer_isn) d (One ao) c.in-One.ensures
+          ∙ ap (λ ctx. Rattle.endpoint_model.specs.Verdicts.judge_ao key d ctx (One ao)) c.context-context.ensures.context
+          ∙ at_context key d (Some (bytes_of c.context-context.result)) ao c.if-ao-ne0.false c.if-ao-ne12.false
+          ∙ right key d (bytes_of c.context-context.result) ao (sym test ∙ c.if-not-is_right.false),
+      record {
+        ao = ao;
+        found = sym c.in-One.ensures;
+        twelve = c.if-ao-ne12.false;
+        entry_is = refl;
+        row = refl;
+        number = sym c.sequence-sequence.ensures ∙ sym c.from.ensures;
+        source = c.context-context.ensures.source;
+        destination = c.context-context.ensures.destination;
+      },
+    )

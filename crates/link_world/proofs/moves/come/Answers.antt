@@ -15,8 +15,8 @@ pub returns-in-Some-clause-step : goal.returns-in-Some-clause-step
 returns-in-Some-clause-step c setup w key pair stands logs =
     let l = at_live w c.args.at (come setup c.args.at w c.args.bytes.now) c.args.side.now c.in-Some.end stands c.in-Some.is in
     let a : Arrives setup c.args.at (arrive setup.key (pair_of setup c.args.at) l.state (reading c.args.bytes.now)) w.history c.arrive.new.end c.arrive.new.log c.arrive.result =
-        subst (λ (p : Pair). Arrives setup c.args.at (arrive setup.key p l.state (reading c.args.bytes.now)) w.history c.arrive.new.end c.arrive.new.log c.arrive.result)
-            (sym pair) (c.arrive.ensures.arrives setup l.state w.history key pair l.stands logs) in
+    subst (λ (p : Pair). Arrives setup c.args.at (arrive setup.key p l.state (reading c.args.bytes.now)) w.history c.arrive.new.end c.arrive.new.log c.arrive.result)
+    (sym pair) (c.arrive.ensures.arrives setup l.state w.history key pair l.stands logs) in
     let r = arrive setup.key (pair_of setup c.args.at) l.state (reading c.args.bytes.now) in
     let came : Came = record { at = c.args.at; isn = l.state.iss; clock = (side_of w c.args.at).clock; answer = r.answer; passed = r.passed } in
     record {

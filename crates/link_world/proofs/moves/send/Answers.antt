@@ -1,10 +1,9 @@
-use Rattle.std.proofs.Common.{◌≡◌, refl, sym, ap, ◌∙◌, subst, take, Some, ◌∷◌, false, arith}
+use Rattle.std.proofs.Common.{refl, sym, ap, ◌∙◌, subst, arith}
 use Rattle.ao_base.specs.declared.address.Pair.{Pair}
 use Rattle.tcp_segment.specs.Writing.{OneFamily}
 use Rattle.endpoint_model.specs.Verdicts.{Key}
-use Rattle.link_model.specs.Events as event
 use Rattle.link_model.specs.Steps.{Act, add, made_of, send}
-use Rattle.link_model.specs.Worlds.{Sending, pair_of}
+use Rattle.link_model.specs.Worlds.{pair_of}
 use Rattle.link_world.specs.declared.outcome.Outcome.TheVariants as outcome
 use Rattle.link_world.specs.Emitting.{Makes}
 use Rattle.link_world.specs.Histories.{StandsLog}
@@ -21,19 +20,19 @@ returns-in_ok-name-in-Some-clause-step c setup w key pair stands logs =
     let l = at_live w at call c.args.side.now c.in-Some.end stands c.in-Some.is in
     let own : Makes (key_of c.args.shared.now) c.args.pair.now l.state made c.emit.new.out c.emit.new.self = c.in-Some-emit.ensures.made l.state l.stands in
     let makes : Makes setup.key (pair_of setup at) l.state made c.emit.new.out c.emit.new.self =
-        subst (λ (k : Key). Makes k (pair_of setup at) l.state made c.emit.new.out c.emit.new.self) (sym key)
-            (subst (λ (p : Pair). Makes (key_of c.args.shared.now) p l.state made c.emit.new.out c.emit.new.self) (sym pair) own) in
+    subst (λ (k : Key). Makes k (pair_of setup at) l.state made c.emit.new.out c.emit.new.self) (sym key)
+    (subst (λ (p : Pair). Makes (key_of c.args.shared.now) p l.state made c.emit.new.out c.emit.new.self) (sym pair) own) in
     let family : OneFamily (pair_of setup at).local.address (pair_of setup at).remote.address =
-        subst (λ (p : Pair). OneFamily p.local.address p.remote.address) (sym pair) c.requires.family in
+    subst (λ (p : Pair). OneFamily p.local.address p.remote.address) (sym pair) c.requires.family in
     let is = sends setup at w l.state makes.emission makes.emits in
     let entry = made_of at w l.state makes.emission in
     let kept = kept_so setup at w l.state made c.emit.new.out c.emit.new.self _ family c.in-Some-emit.ensures.length makes refl refl
-        (c.from_vec.ensures ∙ c.truncate.ensures.items
-            ∙ front_of made.length c.resize.new.self.len c.emit.new.out _ _ makes.sent.bytes makes.sent.long
-                (omega (arith, c.in-Some-emit.ensures.length, c.in_ok-resize-in-Some.ensures.len))) in
+    (c.from_vec.ensures ∙ c.truncate.ensures.items
+    ∙ front_of made.length c.resize.new.self.len c.emit.new.out _ _ makes.sent.bytes makes.sent.long
+    (omega (arith, c.in-Some-emit.ensures.length, c.in_ok-resize-in-Some.ensures.len))) in
     let calls : Calls call l.state c.emit.new.self (outcome.Sent c.in_ok-name-in-Some.name made) =
-        calls_by call l.state _ c.emit.new.self (outcome.Sent c.in_ok-name-in-Some.name made) is makes.stands refl
-            (entry, refl, tells_so setup at w l.state made c.emit.new.out c.emit.new.self c.in_ok-name-in-Some.name c.args.log.now makes logs c.in_ok-name-in-Some.ensures.name) in
+    calls_by call l.state _ c.emit.new.self (outcome.Sent c.in_ok-name-in-Some.name made) is makes.stands refl
+    (entry, refl, tells_so setup at w l.state made c.emit.new.out c.emit.new.self c.in_ok-name-in-Some.name c.args.log.now makes logs c.in_ok-name-in-Some.ensures.name) in
     record {
       moved = l.moves _ c.emit.new.self (outcome.Sent c.in_ok-name-in-Some.name made) refl refl refl calls;
       logs = subst (StandsLog setup c.keep.new.self) (sym (l.history ∙ ap (λ (act : Act). add act.happened w.history) is))

@@ -1,6 +1,6 @@
-use Rattle.std.proofs.Common.{rules, ◌≡◌, ◌+◌, ◌-◌, ◌≤◌, ◌++◌, length, take, List, ℕ, arith, min, ap, sym, ◌∙◌, refl, None}
+use Rattle.std.proofs.Common.{◌≡◌, ◌+◌, ◌≤◌, ◌++◌, length, take, arith, ap, ◌∙◌}
 use Rattle.std.proofs.lemmas.List.{length-append, take_all}
-use Rattle.endpoint_model.specs.States.{EndState, keep, ready_at, bytes_from, window, ready_count}
+use Rattle.endpoint_model.specs.States.{ready_at, window}
 use Rattle.link_world.proofs.EndLaws.{ready_count_is, first_is, more_ready}
 use Rattle.link_world.proofs.Received.{keep-beyond}
 use Rattle.circular_buffer.specs.Buffer.{buffer}
@@ -15,7 +15,7 @@ returns-clause-stands c = λ s h.
     let old = c.args.self.now in
     let all : take c.fill_from_slice-count.result c.args.payload.now ≡ c.args.payload.now = rw count (take_all _ _ (omega arith)) in
     let items : c.fill_from_slice-count.new.self ≡ buffer (old.ready.items ++ c.args.payload.now) old.ready.capacity =
-        c.fill_from_slice-count.ensures.items ∙ ap (λ l. buffer (old.ready.items ++ l) old.ready.capacity) all in
+    c.fill_from_slice-count.ensures.items ∙ ap (λ l. buffer (old.ready.items ++ l) old.ready.capacity) all in
     let long : length (old.ready.items ++ c.args.payload.now) ≡ length old.ready.items + length c.args.payload.now = length-append _ _ in
     rw items record {
       iss = h.iss;
@@ -26,5 +26,5 @@ returns-clause-stands c = λ s h.
       x = omega (arith, h.x, count);
       taken = omega (arith, h.taken, long, count);
       ready = more_ready s.received (ready_at s) s.x (window s) old.ready.items c.args.payload.now h.ready (omega (arith, r, f, h.x, h.taken)) room h.beyond;
-      beyond = λ n low. keep-beyond s.received c.args.payload.now s.x _ n (h.beyond n (omega arith)) (omega arith)
+      beyond = λ n low. keep-beyond s.received c.args.payload.now s.x _ n (h.beyond n (omega arith)) (omega arith);
     }

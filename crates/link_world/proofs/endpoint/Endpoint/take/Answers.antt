@@ -1,6 +1,6 @@
-use Rattle.std.proofs.Common.{rules, ◌≡◌, ◌+◌, ◌-◌, ◌≤◌, ◌++◌, length, take, drop, List, ℕ, arith, min, ap, sym, ◌∙◌, refl}
+use Rattle.std.proofs.Common.{◌≡◌, ◌+◌, ◌-◌, ◌≤◌, ◌++◌, length, drop, arith, ap, sym, ◌∙◌}
 use Rattle.std.proofs.lemmas.List.{length-take, length-append, length-drop}
-use Rattle.endpoint_model.specs.States.{EndState, keep, ready_at, bytes_from, window, taking, ready}
+use Rattle.endpoint_model.specs.States.{ready_at, taking}
 use Rattle.link_world.proofs.EndLaws.{ready_is, moved_out, left_ready}
 use Rattle.circular_buffer.specs.Buffer.{buffer}
 use Rattle.link_world.proofs.endpoint.Endpoint.take.Goals as goal
@@ -31,5 +31,5 @@ returns-clause-stands c = λ s h.
       x = h.x;
       taken = omega (arith, all, rest, h.taken, within);
       ready = left_ready s.received (ready_at s) k _ old.ready.items h.ready within (omega (arith, all));
-      beyond = h.beyond
+      beyond = h.beyond;
     }

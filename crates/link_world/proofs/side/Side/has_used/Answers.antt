@@ -1,5 +1,4 @@
-use Rattle.std.proofs.Common.{ap, ◌∙◌}
-use Rattle.std.specs.List.{list_any}
+use Rattle.std.proofs.Common.{◌∙◌}
 use Rattle.link_world.proofs.SideLaws.{used_other}
 use Rattle.link_world.proofs.side.Side.has_used.Goals as goal
 
