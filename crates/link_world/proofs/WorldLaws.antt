@@ -1,20 +1,23 @@
 -- A step of a world, from what happened in it.
-use Rattle.std.proofs.Common.{◌≡◌, ◌+◌, ◌≤◌, ◌<◌, ℕ, suc, List, [], ◌∷◌, ◌++◌, length, Result, Ok, Err, IfOk, OnOk, codes, decimal, refl, sym, ap, ◌∙◌, subst, arith}
+use Rattle.std.proofs.Common.{◌≡◌, ◌+◌, ◌≤◌, ◌<◌, ℕ, suc, List, [], ◌∷◌, ◌++◌, length, Result, Option, Some, Ok, Err, IfOk, OnOk, get_or, slice_get, codes, decimal, refl, sym, ap, ◌∙◌, subst, arith}
 use Rattle.std.proofs.lemmas.List.{append_assoc, length-append}
+use Rattle.std.proofs.lemmas.Option.{slice_get_read}
 use Rattle.tcp_segment.specs.Writing.{OneFamily}
 use Rattle.link_model.specs.Events.{Event}
 use Rattle.ao_base.specs.declared.end.End.TheVariants.{A, B}
 use Rattle.link_model.specs.Reports.{counts_text, lines_from, outcome_line, report, sessions_text, summary}
 use Rattle.link_model.specs.Runs.{empty, outcomes_from, run}
 use Rattle.link_model.specs.Steps.{step}
-use Rattle.link_model.specs.Worlds.{Setup as Link, World as Both, forgeries, segments}
+use Rattle.link_model.specs.Worlds.{Setup as Link, World as Both, Made as Entry, Happening, forgeries, segment_named, segments}
 use Rattle.link_model.proofs.Splits.{lines-more, run-more}
 use Rattle.link_world.specs.declared.outcome.Outcome.{Outcome}
 use Rattle.link_world.specs.declared.world.Setup.{Setup}
 use Rattle.link_world.specs.declared.world.World.{World}
-use Rattle.link_world.specs.Histories.{StandsLog}
+use Rattle.link_world.specs.declared.log.Kept.{Kept}
+use Rattle.link_world.specs.Histories.{Keeps, StandsLog}
 use Rattle.link_world.specs.Sides.{IsSoundLive, StandsSide}
-use Rattle.link_world.specs.Standing.{Happens, IsSoundWorld, StandsFor, setup_of}
+use Rattle.link_world.specs.Standing.{Happens, IsSoundWorld, MadeBy, StandsFor, setup_of}
+use Rattle.link_world.proofs.LogLaws.{NamedAs, named-kept}
 
 -- what holds of an answer holds in other words
 pub ok_more : {T E : Type 0} (r : Result T E) (P Q : T → Type 0) → ((v : T) → P v → Q v) → IfOk r P → IfOk r Q
@@ -82,3 +85,12 @@ summed out one two three w made forged a b c segs counts =
 pub report_is : (setup : Link) (events : List Event) → report setup events ≡ lines_from 1 (outcomes_from setup empty events) ++ summary (run setup events)
 unfolding report
 report_is setup events = refl
+
+made_as : (setup : Link) (o : Option Kept) (e : Option Entry) (k : Kept) → o ≡ Some k → NamedAs setup o e → MadeBy k.maker e
+made_as setup o e k is h = let named : NamedAs setup (Some k) e = subst (λ x. NamedAs setup x e) is h in subst (MadeBy k.maker) (sym named.1) named.2.maker
+
+-- the maker of the entry whose segment is kept at this place
+pub made_by_at : (setup : Link) (kept : List Kept) (history : List Happening) (i : ℕ) (k : Kept) → Keeps setup kept history → i < length kept
+    → k ≡ get_or kept i k → MadeBy k.maker (segment_named (suc i) history)
+made_by_at setup kept history i k keeps within is =
+    made_as setup (slice_get kept i) (segment_named (suc i) history) k (slice_get_read kept (length kept) i k refl within is) (named-kept setup kept history i keeps)

@@ -1,5 +1,5 @@
 -- What a world stands for: a setup and the events so far.
-use Rattle.std.specs.Prelude.{◌≡◌, ℕ, ◌<◌, ◌≤◌, List, length}
+use Rattle.std.specs.Prelude.{◌≡◌, ℕ, ◌<◌, ◌≤◌, List, length, Option, Some, None}
 use Rattle.ao_base.specs.declared.end.End.{End}
 use Rattle.ao_base.specs.declared.end.End.TheVariants.{A}
 use Rattle.tcp_segment.specs.Writing.{OneFamily}
@@ -7,7 +7,7 @@ use Rattle.link_model.specs.Events as model
 use Rattle.link_model.specs.Reports.{lines_from}
 use Rattle.link_model.specs.Runs.{empty, outcomes_from, run}
 use Rattle.link_model.specs.Steps.{Stepped}
-use Rattle.link_model.specs.Worlds.{Setup as Link}
+use Rattle.link_model.specs.Worlds.{Setup as Link, Made as Entry}
 use Rattle.link_script.specs.declared.event.Event.{Event}
 use Rattle.link_script.specs.declared.event.Event.TheVariants as script
 use Rattle.link_world.specs.declared.world.Setup.{Setup}
@@ -50,6 +50,15 @@ end_of (script.Dump name) = A
 -- how many events a world stepped through
 abbrev pub steps_taken : World → ℕ
 steps_taken w = w.steps
+
+-- how many segments a world keeps
+abbrev pub segments_made : World → ℕ
+segments_made w = length w.log.made.items
+
+-- the entry is there, and this end made it
+abbrev pub MadeBy : End → Option Entry → Type 0
+MadeBy e None = ⊥
+MadeBy e (Some m) = m.maker ≡ e
 
 -- the parts of a world fit each other: addresses of one family, a master key of 1 to 255 bytes, fewer than 2^32 steps, and no more segments and forgeries than steps
 pub record IsSoundWorld (w : World) : Type 0 where

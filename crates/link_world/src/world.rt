@@ -5,7 +5,7 @@ ghost use Rattle.link_model.specs.Events.{Event as ModelEvent};
 ghost use Rattle.link_model.specs.Reports.{report, summary};
 ghost use Rattle.link_model.specs.Runs.{run};
 ghost use Rattle.link_model.specs.Steps.{step};
-ghost use Rattle.link_model.specs.Worlds.{Happening, Setup as Link, World as Both, forgeries, pair_of, side as side_of};
+ghost use Rattle.link_model.specs.Worlds.{Happening, Setup as Link, World as Both, forgeries, pair_of, segment_named, segments, side as side_of};
 ghost use Rattle.link_script.specs.Script.{are_two_of_a_family};
 ghost use Rattle.link_script.specs.Scripts.{IsEvent};
 ghost use Rattle.link_world.specs.Histories.{Follows, StandsLog};
@@ -107,7 +107,7 @@ pub struct World {
 }
 
 impl World {
-    ghost use Rattle.link_world.specs.Standing.{Happens, IsReached, IsSoundWorld, StandsFor, setup_of, steps_taken};
+    ghost use Rattle.link_world.specs.Standing.{Happens, IsReached, IsSoundWorld, MadeBy, StandsFor, segments_made, setup_of, steps_taken};
 
     /// A link on which nothing happened yet, both clocks at 0. Its addresses differ and are of one
     /// family, and the master key has 1 to 255 bytes.
@@ -193,6 +193,33 @@ impl World {
         push_sessions(out, End::A, &self.a)?;
         push_sessions(out, End::B, &self.b)?;
         push_counts(out, self.log.made.len() as u32, self.log.forgeries)
+    }
+
+    /// How many segments were made. Each has the next name from 1.
+    pub fn made(&self) -> u32
+        requires reached { IsReached self.now }
+        ensures { (setup : Link) (events : List ModelEvent) → StandsFor self.now setup events → result ≡ segments (run setup events).history }
+    {
+        self.log.made.len() as u32
+    }
+
+    /// The end that made the segment of this name, which is from 1 to `made`.
+    pub fn maker(&self, name: u32) -> End
+        requires least { 1 ≤ name }
+        requires most { name ≤ segments_made self.now }
+        ensures { (setup : Link) (events : List ModelEvent) → StandsFor self.now setup events → MadeBy result (segment_named name (run setup events).history) }
+    {
+        self.log.made.as_slice()[name as usize - 1].maker
+    }
+
+    /// The summary: a line for each session of each end, and the counts of segments and forgeries.
+    pub fn summary(&self, alloc: Global) -> Result<Bytes, AllocError>
+        requires reached { IsReached self.now }
+        ensures { IfOk result (λ text. (setup : Link) (events : List ModelEvent) → StandsFor self.now setup events → text ≡ summary (run setup events)) }
+    {
+        let mut out = Vec::new(alloc);
+        self.push_summary(&mut out)?;
+        Ok(Bytes::from_vec(out))
     }
 
     /// The report of the run: a line for each outcome, a line for each session of each end, and the
