@@ -13,6 +13,8 @@ mod moves;
 mod outcome;
 mod segment;
 mod side;
+#[cfg(test)]
+mod tests;
 mod text;
 mod world;
 
