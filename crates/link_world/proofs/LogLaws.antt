@@ -1,5 +1,5 @@
 -- What the log says of the history that it stands for.
-use Rattle.std.proofs.Common.{◌≡◌, ◌≢◌, ℕ, zero, suc, ◌+◌, ◌-◌, ◌<◌, ◌≤◌, ◌==◌, MatchOption, Bor, Bool, true, false, ◌||◌, List, [], ◌∷◌, ◌++◌, length, slice_get, get_or, Option, Some, None, if◌then◌else◌, refl, sym, ap, ◌∙◌, subst, subst₂, arith, length-append}
+use Rattle.std.proofs.Common.{◌≡◌, ◌≢◌, ℕ, zero, suc, ◌+◌, ◌-◌, ◌<◌, ◌≤◌, ◌==◌, MatchOption, Bor, Bool, true, false, not, ◌||◌, List, [], ◌∷◌, ◌++◌, length, slice_get, get_or, Option, Some, None, if◌then◌else◌, refl, sym, ap, ◌∙◌, subst, subst₂, arith, length-append}
 use Rattle.std.proofs.lemmas.Bool.Decides.{nat_tests}
 use Rattle.std.specs.Slice.{IsItemAt}
 use Rattle.std.proofs.lemmas.Option.{slice_get_read}
@@ -8,9 +8,9 @@ use Rattle.segment_model.specs.Segments.{Segment}
 use Rattle.endpoint_model.specs.Verdicts.{Passed as Entrance}
 use Rattle.link_model.specs.Worlds.{Setup, pair_of, Made as Entry, Came, Happening, Sending, Coming, accounts_for, was_made, forged, segments, segment_named}
 use Rattle.link_world.specs.declared.outcome.Passed.{Passed}
-use Rattle.link_world.specs.declared.log.Kept.{Kept}
+use Rattle.link_world.specs.declared.kept.Kept.{Kept}
 use Rattle.link_world.specs.declared.log.Log.{Log}
-use Rattle.link_world.specs.Histories.{IsKept, Keeps, StandsLog}
+use Rattle.link_world.specs.Histories.{IsKept, Keeps, StandsLog, counted}
 use Rattle.link_world.specs.Verdicts.{PassesWith}
 
 -- as many are kept as were made
@@ -174,6 +174,12 @@ pub count_forged : (setup : Setup) (log new : Log) (history : List Happening) (r
 count_forged setup log new history r at entry a p h w made same =
     let f : forged r.at r.passed history ≡ 1 = forged_is r at entry history a p ∙ ap (λ (b : Bool). let n : ℕ = if b then 0 else 1 in n) (sym w) in
     record { keeps = subst (λ xs. Keeps setup xs history) (ap (λ v. v.items) (sym made)) h.keeps; count = omega (arith, f, h.count, same) }
+
+-- what passed is counted where the other end had not made it
+pub counts : (setup : Setup) (log : Log) (history : List Happening) (r : Came) (at : End) (entry : Entrance) (made : Bool) → r.at ≡ at → r.passed ≡ Some entry
+    → StandsLog setup log history → made ≡ was_made at entry history → StandsLog setup (counted log (not made)) (Coming r ∷ history)
+counts setup log history r at entry true a p h w = count_made setup log log history r at entry a p h w refl refl
+counts setup log history r at entry false a p h w = count_forged setup log (counted log true) history r at entry a p h w refl refl
 
 -- what came and did not pass
 pub stands_unpassed : (setup : Setup) (log : Log) (history : List Happening) (r : Came) → StandsLog setup log history → r.passed ≡ None

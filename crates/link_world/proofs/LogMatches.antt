@@ -28,7 +28,7 @@ use Rattle.link_model.specs.Worlds.{Setup, pair_of, other, same_end, Made as Ent
 use Rattle.ao_kdf.specs.declared.context.Context.{Context}
 use Rattle.ao_kdf.specs.Context.{bytes_of}
 use Rattle.ao_mac.specs.Macs.{IsSameInput}
-use Rattle.link_world.specs.declared.log.Kept.{Kept}
+use Rattle.link_world.specs.declared.kept.Kept.{Kept}
 use Rattle.link_world.specs.declared.outcome.Made.{Made}
 use Rattle.link_world.specs.declared.outcome.Passed.{Passed}
 use Rattle.link_world.specs.Histories.{IsBefore, IsAddressed, IsKept}

@@ -2,6 +2,7 @@
 use Rattle.std.proofs.Common.{◌≡◌, ◌≤◌, ℕ, suc, List, ◌++◌, length, take, Some, false, refl, sym, ap, ◌∙◌, subst, arith}
 use Rattle.std.proofs.lemmas.List.{length-take, take-append-le, take-take}
 use Rattle.ao_base.specs.declared.end.End.{End}
+use Rattle.tcp_segment.specs.Sums.{HasPlainHeader}
 use Rattle.tcp_segment.specs.Writing.{OneFamily}
 use Rattle.endpoint_model.specs.Emissions.{Emission, Emits, emit}
 use Rattle.endpoint_model.specs.States.{EndState}
@@ -9,12 +10,13 @@ use Rattle.link_model.specs.Events.{Sent}
 use Rattle.link_model.specs.Steps.{Act, made_of, send, sent}
 use Rattle.link_model.specs.Worlds.{Setup, World, pair_of, Sending}
 use Rattle.link_world.specs.declared.endpoint.Endpoint.{Endpoint}
-use Rattle.link_world.specs.declared.log.Kept.{Kept}
+use Rattle.link_world.specs.declared.kept.Kept.{Kept}
 use Rattle.link_world.specs.declared.log.Log.{Log}
 use Rattle.link_world.specs.declared.outcome.Made.{Made}
 use Rattle.link_world.specs.Emitting.{Makes}
 use Rattle.link_world.specs.Ends.{Stands}
-use Rattle.link_world.specs.Histories.{IsKept, StandsLog}
+use Rattle.link_world.specs.Histories.{IsAddressed, IsKept, StandsLog}
+use Rattle.link_world.specs.Sent.{IsSent}
 use Rattle.link_world.specs.declared.outcome.Outcome.{Outcome}
 use Rattle.link_world.specs.Outcomes.{Shows, Tells}
 use Rattle.link_world.proofs.ActLaws.{Calls}
@@ -33,16 +35,17 @@ pub kept_so : (setup : Setup) (at : End) (w : World) (s : EndState) (m : Made) (
     → (makes : Makes setup.key (pair_of setup at) s m out after) → k.maker ≡ at → k.made ≡ m → k.bytes ≡ take m.length out
     → IsKept setup k (made_of at w s makes.emission)
 kept_so setup at w s m out after k family most makes maker made bytes =
-    rw (maker, made, bytes) (record {
-      maker = refl;
-      sent = sent_prefix m makes.emission out makes.sent;
-      bytes = sym makes.sent.bytes;
-      key = emit_key setup.key (pair_of setup at) s makes.emission makes.emits;
-      source = makes.source;
-      destination = makes.destination;
-      plain = plain_made setup.key (pair_of setup at) s m out after family most makes;
-      addressed = emit_addressed setup.key (pair_of setup at) s makes.emission makes.emits;
-    })
+    let e = makes.emission in
+    record {
+      maker = sym maker;
+      sent = subst (λ (x : Made). IsSent x e k.bytes) (sym made) (subst (λ (b : List ℕ). IsSent m e b) (sym bytes) (sent_prefix m e out makes.sent));
+      bytes = sym (bytes ∙ makes.sent.bytes);
+      key = emit_key setup.key (pair_of setup at) s e makes.emits;
+      source = ap (λ (x : Made). x.context.source) made ∙ makes.source ∙ ap (λ (x : End). (pair_of setup x).local) (sym maker);
+      destination = ap (λ (x : Made). x.context.destination) made ∙ makes.destination ∙ ap (λ (x : End). (pair_of setup x).remote) (sym maker);
+      plain = subst HasPlainHeader (sym bytes) (plain_made setup.key (pair_of setup at) s m out after family most makes);
+      addressed = subst (λ (x : End). IsAddressed (pair_of setup x) e) (sym maker) (emit_addressed setup.key (pair_of setup at) s e makes.emits);
+    }
 
 -- what is told of it
 pub tells_so : (setup : Setup) (at : End) (w : World) (s : EndState) (m : Made) (out : List ℕ) (after : Endpoint) (name : ℕ) (log : Log)

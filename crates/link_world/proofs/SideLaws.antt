@@ -1,6 +1,7 @@
 -- What an end that stands for its sessions says of them.
 use Rattle.std.proofs.Common.{◌≡◌, ◌≢◌, ℕ, ◌==◌, Bool, true, false, ◌||◌, List, [], ◌∷◌, map, reverse, Option, Some, None, if◌then◌else◌, refl, ap, ◌∙◌, subst, arith}
 use Rattle.std.specs.Prelude.{is_some}
+use Rattle.std.specs.Option.{ForSome}
 use Rattle.std.specs.List.{list_any}
 use Rattle.std.proofs.lemmas.Bool.Decides.{nat_tests}
 use Rattle.std.proofs.lemmas.Grind.{reverse_onto}
@@ -9,7 +10,8 @@ use Rattle.link_model.specs.Worlds.{Session, Side as EndSide, find}
 use Rattle.link_world.specs.declared.side.Ended.{Ended}
 use Rattle.link_world.specs.declared.endpoint.Endpoint.{Endpoint}
 use Rattle.link_world.specs.declared.side.Side.{Side}
-use Rattle.link_world.specs.Sides.{Facts, facts_of, kept_facts, Sessions, StandsSide}
+use Rattle.link_world.specs.Ends.{IsSound}
+use Rattle.link_world.specs.Sides.{Facts, facts_of, IsSoundLive, kept_facts, Sessions, StandsSide}
 
 is_some-if : (b : Bool) (s : Session) (o : Option Session) → is_some (if b then Some s else o) ≡ (b || is_some o)
 is_some-if true s o = refl
@@ -63,3 +65,12 @@ pub used_other : (d : Side) (m : EndSide) (isn : ℕ) (e : Endpoint) → d.live 
 used_other d m isn e some ne h =
     let test : (e.isn == isn) ≡ false = grind (arith, nat_tests) in
     rw test at (used_with d m isn e some h)
+
+-- the parts of a live end fit, where there is one
+pub live_sound : (o : Option Endpoint) → ForSome o (λ e. IsSound e) → IsSoundLive o
+live_sound None h = tt
+live_sound (Some e) h = h e refl
+
+pub sound_live : (o : Option Endpoint) → IsSoundLive o → ForSome o (λ e. IsSound e)
+sound_live None h = λ e is. absurd (cc)
+sound_live (Some s) h = λ e is. let same : s ≡ e = cc in subst IsSound same h

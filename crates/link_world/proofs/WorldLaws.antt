@@ -2,7 +2,6 @@
 use Rattle.std.proofs.Common.{◌≡◌, ◌+◌, ◌≤◌, ◌<◌, ℕ, suc, List, [], ◌∷◌, ◌++◌, length, Result, Option, Some, Ok, Err, IfOk, OnOk, get_or, slice_get, codes, decimal, refl, sym, ap, ◌∙◌, subst, arith}
 use Rattle.std.proofs.lemmas.List.{append_assoc, length-append}
 use Rattle.std.proofs.lemmas.Option.{slice_get_read}
-use Rattle.tcp_segment.specs.Writing.{OneFamily}
 use Rattle.link_model.specs.Events.{Event}
 use Rattle.ao_base.specs.declared.end.End.TheVariants.{A, B}
 use Rattle.link_model.specs.Reports.{counts_text, lines_from, outcome_line, report, sessions_text, summary}
@@ -13,10 +12,10 @@ use Rattle.link_model.proofs.Splits.{lines-more, run-more}
 use Rattle.link_world.specs.declared.outcome.Outcome.{Outcome}
 use Rattle.link_world.specs.declared.world.Setup.{Setup}
 use Rattle.link_world.specs.declared.world.World.{World}
-use Rattle.link_world.specs.declared.log.Kept.{Kept}
+use Rattle.link_world.specs.declared.kept.Kept.{Kept}
 use Rattle.link_world.specs.Histories.{Keeps, StandsLog}
-use Rattle.link_world.specs.Sides.{IsSoundLive, StandsSide}
-use Rattle.link_world.specs.Standing.{Happens, IsSoundWorld, MadeBy, StandsFor, setup_of}
+use Rattle.link_world.specs.Sides.{StandsSide}
+use Rattle.link_world.specs.Standing.{Happens, MadeBy, StandsFor, setup_of}
 use Rattle.link_world.proofs.LogLaws.{NamedAs, named-kept}
 
 -- what holds of an answer holds in other words
@@ -24,33 +23,16 @@ pub ok_more : {T E : Type 0} (r : Result T E) (P Q : T → Type 0) → ((v : T) 
 ok_more (Ok v) P Q f h = f v h
 ok_more (Err e) P Q f h = h
 
--- the parts still fit after a step
-pub sound_after : (old now : World) → IsSoundWorld old → now.setup ≡ old.setup → now.steps ≡ old.steps + 1 → IsSoundLive now.a.live → IsSoundLive now.b.live
-    → length now.log.made.items ≤ length old.log.made.items + 1 → now.log.forgeries ≤ old.log.forgeries + 1 → old.steps < 4294967295 → IsSoundWorld now
-sound_after old now h same steps a b made forged few =
-    record {
-      family = subst (λ (s : Setup). OneFamily s.a.address s.b.address) (sym same) h.family;
-      back = subst (λ (s : Setup). OneFamily s.b.address s.a.address) (sym same) h.back;
-      least = rw same h.least;
-      most = rw same h.most;
-      a = a;
-      b = b;
-      few = omega (arith, steps, few);
-      made = let before = h.made in omega (arith, steps, made, before);
-      forged = let before = h.forged in omega (arith, steps, forged, before);
-    }
-
 -- a world that goes on stands for one more event
-pub stepped : (old now : World) (setup : Link) (events : List Event) (e : Event) (o : Outcome) → StandsFor old setup events → IsSoundWorld now → now.setup ≡ old.setup
+pub stepped : (old now : World) (setup : Link) (events : List Event) (e : Event) (o : Outcome) → StandsFor old setup events → now.setup ≡ old.setup
     → now.steps ≡ old.steps + 1 → Happens setup (step setup (run setup events) e) now o
     → now.lines.items ≡ old.lines.items ++ outcome_line now.steps (step setup (run setup events) e).outcome → StandsFor now setup (events ++ e ∷ [])
-stepped old now setup events e o h sound same steps happens line =
+stepped old now setup events e o h same steps happens line =
     let more = run-more setup events e in
     let count : length (events ++ e ∷ []) ≡ length events + 1 = length-append events (e ∷ []) in
     let before = h.steps in
     let number : now.steps ≡ suc (length events) = omega (arith, steps, before) in
     record {
-      sound = sound;
       setup_is = h.setup_is ∙ ap setup_of (sym same);
       steps = omega (arith, steps, before, count);
       a = subst (λ (w : Both). StandsSide now.a w.a) (sym more) happens.a;

@@ -1,5 +1,5 @@
 -- What is kept of everything that was made and that came.
-use Rattle.std.specs.Prelude.{◌≡◌, ℕ, ◌%◌, suc, Option, Some, None, List, [], ◌∷◌, ◌++◌, length}
+use Rattle.std.specs.Prelude.{◌≡◌, ℕ, ◌+◌, ◌%◌, suc, Bool, true, false, List, [], ◌∷◌, ◌++◌, length}
 use Rattle.ao_base.specs.declared.address.Address.{Address}
 use Rattle.ao_base.specs.declared.address.Address.TheVariants.{V4, V6}
 use Rattle.ao_base.specs.declared.address.Pair.{Pair}
@@ -12,7 +12,7 @@ use Rattle.link_model.specs.Worlds.{Setup, World, pair_of, Made as Entry, Happen
 use Rattle.link_world.specs.declared.outcome.Outcome.{Outcome}
 use Rattle.link_world.specs.declared.side.Side.{Side}
 use Rattle.link_world.specs.Steps.{Moved}
-use Rattle.link_world.specs.declared.log.Kept.{Kept}
+use Rattle.link_world.specs.declared.kept.Kept.{Kept}
 use Rattle.link_world.specs.declared.log.Log.{Log}
 use Rattle.link_world.specs.Sent.{IsSent}
 
@@ -52,14 +52,12 @@ pub record StandsLog (setup : Setup) (log : Log) (history : List Happening) : Ty
   pub keeps : Keeps setup log.made.items history
   pub count : log.forgeries ≡ forgeries history
 
+-- the log with one more forgery, where there was one
+abbrev pub counted : Log → Bool → Log
+counted log true = record log { forgeries = log.forgeries + 1 }
+counted log false = log
+
 -- a side and the log after an event at an end, with its outcome, are those of the model's step
 pub record Follows (setup : Setup) (w : World) (after : Stepped) (e : End) (d : Side) (log : Log) (o : Outcome) : Type 0 where
   pub moved : Moved w after e d o
   pub logs : StandsLog setup log after.world.history
-
--- a copy of the bytes of an entry, or none where there is none
-abbrev pub IsCopy : Option (List ℕ) → Option Entry → Type 0
-IsCopy None None = Unit {0}
-IsCopy None (Some m) = ⊥
-IsCopy (Some bytes) None = ⊥
-IsCopy (Some bytes) (Some m) = (bytes ≡ m.bytes) × HasPlainHeader bytes

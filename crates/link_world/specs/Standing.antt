@@ -1,8 +1,7 @@
 -- What a world stands for: a setup and the events so far.
-use Rattle.std.specs.Prelude.{◌≡◌, ℕ, ◌<◌, ◌≤◌, List, length, Option, Some, None}
+use Rattle.std.specs.Prelude.{◌≡◌, ℕ, List, length, Option, Some, None}
 use Rattle.ao_base.specs.declared.end.End.{End}
 use Rattle.ao_base.specs.declared.end.End.TheVariants.{A}
-use Rattle.tcp_segment.specs.Writing.{OneFamily}
 use Rattle.link_model.specs.Events as model
 use Rattle.link_model.specs.Reports.{lines_from}
 use Rattle.link_model.specs.Runs.{empty, outcomes_from, run}
@@ -15,7 +14,7 @@ use Rattle.link_world.specs.declared.world.World.{World}
 use Rattle.link_world.specs.declared.outcome.Outcome.{Outcome}
 use Rattle.link_world.specs.Histories.{StandsLog}
 use Rattle.link_world.specs.Outcomes.{Shows}
-use Rattle.link_world.specs.Sides.{IsSoundLive, StandsSide}
+use Rattle.link_world.specs.Sides.{StandsSide}
 
 -- the setup of the model
 abbrev pub setup_of : Setup → Link
@@ -60,31 +59,14 @@ abbrev pub MadeBy : End → Option Entry → Type 0
 MadeBy e None = ⊥
 MadeBy e (Some m) = m.maker ≡ e
 
--- the parts of a world fit each other: addresses of one family, a master key of 1 to 255 bytes, fewer than 2^32 steps, and no more segments and forgeries than steps
-pub record IsSoundWorld (w : World) : Type 0 where
-  pub family : OneFamily w.setup.a.address w.setup.b.address
-  pub back : OneFamily w.setup.b.address w.setup.a.address
-  pub least : 0 < length w.setup.shared.master
-  pub most : length w.setup.shared.master ≤ 255
-  pub a : IsSoundLive w.a.live
-  pub b : IsSoundLive w.b.live
-  pub few : w.steps < 4294967296
-  pub made : length w.log.made.items ≤ w.steps
-  pub forged : w.log.forgeries ≤ w.steps
-
 -- a world stands for its setup and for the events that it stepped through
 pub record StandsFor (w : World) (setup : Link) (events : List model.Event) : Type 0 where
-  pub sound : IsSoundWorld w
   pub setup_is : setup ≡ setup_of w.setup
   pub steps : w.steps ≡ length events
   pub a : StandsSide w.a (run setup events).a
   pub b : StandsSide w.b (run setup events).b
   pub log : StandsLog setup w.log (run setup events).history
   pub lines : w.lines.items ≡ lines_from 1 (outcomes_from setup empty events)
-
--- some setup and events that a world stands for
-abbrev pub IsReached : World → Type 0
-IsReached w = (setup : Link) × (events : List model.Event) × StandsFor w setup events
 
 -- what a world keeps of its ends and of the history is that of the model after a step, and the outcome is the step's
 pub record Happens (setup : Link) (after : Stepped) (now : World) (o : Outcome) : Type 0 where

@@ -8,6 +8,8 @@ mod alter;
 mod arrival;
 mod check;
 mod endpoint;
+mod happening;
+mod kept;
 mod log;
 mod moves;
 mod outcome;

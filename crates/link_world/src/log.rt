@@ -4,26 +4,20 @@ ghost use Rattle.endpoint_model.specs.Verdicts.{Passed as Entrance};
 ghost use Rattle.link_model.specs.Worlds.{Setup, Made as Entry, Came, Happening, Sending, Coming, pair_of, segment_named, accounts_for, was_made};
 ghost use Rattle.ao_kdf.specs.Context.{bytes_of};
 ghost use Rattle.ao_mac.specs.Macs.{HasAo, IsSameInput};
-ghost use Rattle.link_world.specs.declared.log.Kept.{Kept};
+ghost use Rattle.link_world.specs.declared.kept.Kept.{Kept};
 ghost use Rattle.link_world.specs.declared.log.Log.{Log};
-ghost use Rattle.link_world.specs.Histories.{IsKept, StandsLog};
+ghost use Rattle.link_world.specs.Histories.{IsKept, StandsLog, counted};
+ghost use Rattle.link_world.specs.Arriving.{outcome_of, was_forged};
 ghost use Rattle.link_world.specs.Verdicts.{PassesWith};
 
-use crate::outcome::{Made, Passed};
-use ao_base::{Bytes, End};
+use crate::kept::Kept;
+use crate::outcome::{Answered, Outcome, Passed};
+use ao_base::End;
 use ao_kdf::Context;
 use ao_mac::same_input;
 use std::alloc::{AllocError, Global};
 use tcp_options::AoFound;
 use tcp_segment::{Datagram, read_datagram};
-
-/// A segment that was made.
-#[derive(Drop)]
-pub(crate) struct Kept {
-    pub(crate) maker: End,
-    pub(crate) made: Made,
-    pub(crate) bytes: Bytes,
-}
 
 /// All segments that were made, in order, and how many arrivals were forgeries.
 #[derive(Drop)]
@@ -146,18 +140,32 @@ impl Log {
         false
     }
 
-    /// Counts a datagram that passed at an end, where the other end didn't make what passed.
-    pub(crate) fn count(&mut self, at: End, passed: &Passed, datagram: &Datagram<'_>)
+    /// Whether what passed at an end is a forgery: the other end didn't make it.
+    pub(crate) fn is_forged(&self, at: End, passed: &Passed, datagram: &Datagram<'_>) -> bool
+        ensures { (setup : Setup) (history : List Happening) (entry : Entrance) (r : Came) → r.at ≡ at → r.passed ≡ Some entry
+            → StandsLog setup self.now history → PassesWith setup.key datagram.now passed.now entry
+            → datagram.now.source ≡ (pair_of setup at).remote → datagram.now.destination ≡ (pair_of setup at).local
+            → StandsLog setup (counted self.now result) (Coming r ∷ history) }
+    {
+        !self.was_made(at, passed, datagram)
+    }
+
+    /// Counts a forgery, where what came is one, and gives the outcome: without a session nothing came.
+    pub(crate) fn count(&mut self, answered: Option<Answered>) -> Outcome
         requires { self.old.forgeries < 4294967295 }
         ensures made { self.new.made ≡ self.old.made }
         ensures most { self.new.forgeries ≤ self.old.forgeries + 1 }
-        ensures stands { (setup : Setup) (history : List Happening) (entry : Entrance) (r : Came) → r.at ≡ at → r.passed ≡ Some entry
-            → StandsLog setup self.old history → PassesWith setup.key datagram.now passed.now entry
-            → datagram.now.source ≡ (pair_of setup at).remote → datagram.now.destination ≡ (pair_of setup at).local
-            → StandsLog setup self.new (Coming r ∷ history) }
+        ensures log { self.new ≡ counted self.old (was_forged answered) }
+        ensures outcome { result ≡ outcome_of answered }
     {
-        if !self.was_made(at, passed, datagram) {
-            self.forgeries += 1;
+        match answered {
+            None => Outcome::NoSession,
+            Some(came) => {
+                if came.forged {
+                    self.forgeries += 1;
+                }
+                Outcome::Arrival(came.answer)
+            }
         }
     }
 }

@@ -4,15 +4,17 @@ ghost use Rattle.tcp_segment.specs.Writing.{OneFamily};
 ghost use Rattle.link_model.specs.Events.{Send, Deliver, Alter};
 ghost use Rattle.link_model.specs.Steps.{come, image_of, on_live, step};
 ghost use Rattle.link_model.specs.Worlds.{Happening, Setup, World, pair_of, segment_named, side as side_of};
-ghost use Rattle.link_world.specs.Histories.{Follows, IsCopy, StandsLog};
+ghost use Rattle.link_world.specs.Arriving.{outcome_of, was_forged};
+ghost use Rattle.link_world.specs.Histories.{Follows, StandsLog, counted};
 ghost use Rattle.link_world.specs.Outcomes.{Shows};
 ghost use Rattle.link_world.specs.Sides.{IsSoundLive, StandsSide};
 ghost use Rattle.link_world.specs.Verdicts.{key_of};
 
 use crate::alter::altered;
 use crate::arrival::arrive;
-use crate::log::{Kept, Log};
-use crate::outcome::Outcome;
+use crate::kept::Kept;
+use crate::log::Log;
+use crate::outcome::{Answered, Outcome};
 use crate::side::Side;
 use ao_base::{Bytes, End, Pair};
 use link_script::SharedKey;
@@ -30,8 +32,31 @@ pub(crate) struct Change {
 /// The most bytes of a segment that an end makes.
 const MOST_SEGMENT: usize = 1_500;
 
-/// Lets bytes come to the live session of the end.
-pub(crate) fn come(
+/// Lets bytes come to the live session of the end; None without a session.
+fn come(
+    side: &mut Side,
+    log: &Log,
+    at: End,
+    pair: &Pair,
+    shared: &SharedKey,
+    bytes: &[u8],
+) -> Option<Answered>
+    requires sound { IsSoundLive side.old.live }
+    requires some_key { 0 < length shared.now.master }
+    requires most_key { length shared.now.master ≤ 255 }
+    ensures sound { IsSoundLive side.new.live }
+    ensures step { (setup : Setup) (w : World) → setup.key ≡ key_of shared.now → pair_of setup at ≡ pair.now
+        → StandsSide side.old (side_of w at) → StandsLog setup log.now w.history
+        → Follows setup w (on_live w at (come setup at w bytes.now)) at side.new (counted log.now (was_forged result)) (outcome_of result) }
+{
+    match &mut side.live {
+        None => None,
+        Some(end) => Some(arrive(end, log, at, pair, shared, bytes)),
+    }
+}
+
+/// Lets bytes come to the live session of the end, and counts what came.
+pub(crate) fn inject(
     side: &mut Side,
     log: &mut Log,
     at: End,
@@ -50,10 +75,8 @@ pub(crate) fn come(
         → StandsSide side.old (side_of w at) → StandsLog setup log.old w.history
         → Follows setup w (on_live w at (come setup at w bytes.now)) at side.new log.new result }
 {
-    match &mut side.live {
-        None => Outcome::NoSession,
-        Some(end) => Outcome::Arrival(arrive(end, log, at, pair, shared, bytes)),
-    }
+    let answered = come(side, log, at, pair, shared, bytes);
+    log.count(answered)
 }
 
 /// Lets the live session of the end make a segment, which is kept, or none.
@@ -96,28 +119,15 @@ pub(crate) fn send(
     }
 }
 
-/// A copy of the bytes of the segment of this name, from 1 on.
-fn copy_of(log: &Log, alloc: Global, name: u32) -> Result<Option<Bytes>, AllocError>
-    ensures { IfOk result (λ o. (setup : Setup) (history : List Happening) → StandsLog setup log.now history → IsCopy o (segment_named name history)) }
-{
-    let Some(kept) = log.named(name) else {
-        return Ok(None);
-    };
-    let mut copy = Vec::new(alloc);
-    copy.extend_from_slice(kept.bytes.as_slice())?;
-    Ok(Some(Bytes::from_vec(copy)))
-}
-
-/// Delivers the segment of this name to the end, as it was made.
+/// Delivers the segment of this name to the end, as it was made. Its bytes are borrowed from the log.
 pub(crate) fn deliver(
     side: &mut Side,
     log: &mut Log,
-    alloc: Global,
     at: End,
     pair: &Pair,
     shared: &SharedKey,
     name: u32,
-) -> Result<Outcome, AllocError>
+) -> Outcome
     requires sound { IsSoundLive side.old.live }
     requires some_key { 0 < length shared.now.master }
     requires most_key { length shared.now.master ≤ 255 }
@@ -125,14 +135,15 @@ pub(crate) fn deliver(
     ensures sound { IsSoundLive side.new.live }
     ensures made { log.new.made ≡ log.old.made }
     ensures most { log.new.forgeries ≤ log.old.forgeries + 1 }
-    ensures step { IfOk result (λ o. (setup : Setup) (w : World) → setup.key ≡ key_of shared.now → pair_of setup at ≡ pair.now
+    ensures step { (setup : Setup) (w : World) → setup.key ≡ key_of shared.now → pair_of setup at ≡ pair.now
         → StandsSide side.old (side_of w at) → StandsLog setup log.old w.history
-        → Follows setup w (step setup w (Deliver at name)) at side.new log.new o) }
+        → Follows setup w (step setup w (Deliver at name)) at side.new log.new result }
 {
-    let Some(bytes) = copy_of(log, alloc, name)? else {
-        return Ok(Outcome::NoSegment);
+    let Some(kept) = log.named(name) else {
+        return Outcome::NoSegment;
     };
-    Ok(come(side, log, at, pair, shared, bytes.as_slice()))
+    let answered = come(side, log, at, pair, shared, kept.bytes.as_slice());
+    log.count(answered)
 }
 
 /// Delivers a copy of the segment of this name with the byte at the place, counted from the TCP
@@ -151,7 +162,6 @@ pub(crate) fn alter(
     requires some_key { 0 < length shared.now.master }
     requires most_key { length shared.now.master ≤ 255 }
     requires few { log.old.forgeries < 4294967295 }
-    requires known { (setup : Setup) × (history : List Happening) × StandsLog setup log.old history }
     ensures sound { IsSoundLive side.new.live }
     ensures made { log.new.made ≡ log.old.made }
     ensures most { log.new.forgeries ≤ log.old.forgeries + 1 }
@@ -159,12 +169,12 @@ pub(crate) fn alter(
         → StandsSide side.old (side_of w at) → StandsLog setup log.old w.history
         → Follows setup w (step setup w (Alter at name change.place change.mask change.fix)) at side.new log.new o) }
 {
-    let Some(bytes) = copy_of(log, alloc, name)? else {
+    let Some(kept) = log.named(name) else {
         return Ok(Outcome::NoSegment);
     };
     let Some(copy) = altered(
         alloc,
-        bytes.as_slice(),
+        kept.bytes.as_slice(),
         change.place,
         change.mask,
         change.fix,
@@ -172,16 +182,18 @@ pub(crate) fn alter(
     else {
         return Ok(Outcome::NoPlace);
     };
-    Ok(come(side, log, at, pair, shared, copy.as_slice()))
+    Ok(inject(side, log, at, pair, shared, copy.as_slice()))
 }
 
-/// Shows the segment of this name.
+/// Shows the segment of this name: a copy of its bytes.
 pub(crate) fn dump(log: &Log, alloc: Global, name: u32) -> Result<Outcome, AllocError>
     ensures step { IfOk result (λ o. (setup : Setup) (history : List Happening) → StandsLog setup log.now history
         → Shows o (image_of (segment_named name history))) }
 {
-    let Some(bytes) = copy_of(log, alloc, name)? else {
+    let Some(kept) = log.named(name) else {
         return Ok(Outcome::NoSegment);
     };
-    Ok(Outcome::Image(bytes))
+    let mut copy = Vec::new(alloc);
+    copy.extend_from_slice(kept.bytes.as_slice())?;
+    Ok(Outcome::Image(Bytes::from_vec(copy)))
 }

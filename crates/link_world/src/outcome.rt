@@ -48,6 +48,14 @@ pub enum Arrival {
     Taken,
 }
 
+/// What came of a datagram: the answer, and whether it passed the check although the other end
+/// hadn't made what passed.
+#[derive(Clone, Copy)]
+pub(crate) struct Answered {
+    pub(crate) answer: Arrival,
+    pub(crate) forged: bool,
+}
+
 /// The key that a segment was sent with: its row and the two ids in the segment.
 #[derive(Clone, Copy, Debug, PartialEq, Eq)]
 pub struct Sending {

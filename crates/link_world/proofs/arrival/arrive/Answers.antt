@@ -1,4 +1,4 @@
-use Rattle.std.proofs.Common.{◌≡◌, List, Some, refl, sym, ap, ◌∙◌, subst}
+use Rattle.std.proofs.Common.{◌≡◌, List, Some, false, refl, sym, ap, ◌∙◌, subst}
 use Rattle.ao_base.specs.declared.address.Pair.{Pair}
 use Rattle.ao_base.specs.declared.end.End.{End}
 use Rattle.segment_model.specs.Segments.{Segment, reading}
@@ -9,6 +9,7 @@ use Rattle.endpoint_model.specs.Verdicts.{Key, Verdict, Refuse, Pass, judge}
 use Rattle.link_model.specs.Worlds.{Happening, Setup, pair_of}
 use Rattle.link_world.specs.declared.endpoint.Endpoint.{Endpoint}
 use Rattle.link_world.specs.declared.log.Log.{Log}
+use Rattle.link_world.specs.declared.outcome.Answered.{Answered}
 use Rattle.link_world.specs.declared.outcome.Arrival.{Arrival}
 use Rattle.link_world.specs.declared.outcome.Arrival.TheVariants as arrival
 use Rattle.link_world.specs.Arriving.{Arrives}
@@ -20,24 +21,25 @@ use Rattle.link_world.proofs.ArrivalLaws.{of_fault, of_foreign, of_checksum, of_
 use Rattle.link_world.proofs.arrival.arrive.Goals as goal
 
 -- nothing passed: the end and the log stay, and the answer is this one
-quiet : (setup : Setup) (at : End) (s : EndState) (history : List Happening) (r : Arrived) (e : Endpoint) (log : Log) (answer : Arrival)
-    → r ≡ unmoved s (view_arrival answer) → Stands e s → StandsLog setup log history → Arrives setup at r history e log answer
-quiet setup at s history r e log answer is stands logs =
-    rw is (record { stands = stands; answers = refl; logged = λ came here none. logs_quiet setup log history came logs none })
+quiet : (setup : Setup) (at : End) (s : EndState) (history : List Happening) (r : Arrived) (e : Endpoint) (log : Log) (answer : Arrival) (came : Answered)
+    → came ≡ record { answer = answer; forged = false } → r ≡ unmoved s (view_arrival answer) → Stands e s → StandsLog setup log history
+    → Arrives setup at r history e log came
+quiet setup at s history r e log answer came so is stands logs =
+    rw (so, is) (record { stands = stands; answers = refl; logged = λ c here none. logs_quiet setup log history c logs none })
 
 pub returns-in-Err-clause-arrives : goal.returns-in-Err-clause-arrives
 returns-in-Err-clause-arrives c setup s history key pair stands logs =
-    quiet setup c.args.at s history _ c.args.end.now c.args.log.now (arrival.Bad c.in-Err.fault)
+    quiet setup c.args.at s history _ c.args.end.now c.args.log.now (arrival.Bad c.in-Err.fault) c.unpassed.result c.unpassed.ensures
     (of_fault setup.key c.args.pair.now s (reading c.args.bytes.now) (fault_of c.in-Err.fault) c.in-Err.ensures.refused) stands logs
 
 pub returns-then-not-from_peer-clause-arrives : goal.returns-then-not-from_peer-clause-arrives
 returns-then-not-from_peer-clause-arrives c setup s history key pair stands logs =
-    quiet setup c.args.at s history _ c.args.end.now c.args.log.now arrival.Foreign
+    quiet setup c.args.at s history _ c.args.end.now c.args.log.now arrival.Foreign c.unpassed-then-not-from_peer.result c.unpassed-then-not-from_peer.ensures
     (of_foreign setup.key c.args.pair.now s (reading c.args.bytes.now) c.in-Ok.datagram c.in-Ok.ensures.read (sym c.if-not-from_peer.ensures.same)) stands logs
 
 pub returns-then-not-checksum_ok-clause-arrives : goal.returns-then-not-checksum_ok-clause-arrives
 returns-then-not-checksum_ok-clause-arrives c setup s history key pair stands logs =
-    quiet setup c.args.at s history _ c.args.end.now c.args.log.now arrival.Checksum
+    quiet setup c.args.at s history _ c.args.end.now c.args.log.now arrival.Checksum c.unpassed-then-not-checksum_ok.result c.unpassed-then-not-checksum_ok.ensures
     (of_checksum setup.key c.args.pair.now s (reading c.args.bytes.now) c.in-Ok.datagram c.in-Ok.ensures.read (sym c.if-not-from_peer.ensures.same)
     (sym c.if-not-checksum_ok.ensures)) stands logs
 
@@ -48,7 +50,7 @@ verdict k s e d v key is stands judged = rw (is, stands.iss, stands.irs) judged
 
 pub returns-in-Err-judge-clause-arrives : goal.returns-in-Err-judge-clause-arrives
 returns-in-Err-judge-clause-arrives c setup s history key pair stands logs =
-    quiet setup c.args.at s history _ c.args.end.now c.args.log.now (arrival.Refused c.in-Err-judge.why)
+    quiet setup c.args.at s history _ c.args.end.now c.args.log.now (arrival.Refused c.in-Err-judge.why) c.unpassed-in-Err-judge.result c.unpassed-in-Err-judge.ensures
     (of_verdict setup.key c.args.pair.now s (reading c.args.bytes.now) c.in-Ok.datagram (Refuse (view_refusal c.in-Err-judge.why)) c.in-Ok.ensures.read
     (sym c.if-not-from_peer.ensures.same) (sym c.if-not-checksum_ok.ensures)
     (verdict (key_of c.args.shared.now) s c.args.end.now c.in-Ok.datagram _ setup.key key stands c.in-Err-judge.ensures)) stands logs
@@ -67,5 +69,5 @@ returns-in-Ok-judge-clause-arrives c setup s history key pair stands logs =
     rw is (record {
       stands = accepts.stands;
       answers = accepts.answers;
-      logged = λ came here told_so. c.count.ensures.stands setup history entry came here (told_so ∙ told s d entry) logs passes source destination;
+      logged = λ came here told_so. c.is_forged.ensures setup history entry came here (told_so ∙ told s d entry) logs passes source destination;
     })

@@ -1,5 +1,6 @@
-use Rattle.std.proofs.Common.{refl, sym, ap, ◌∙◌, subst, arith}
+use Rattle.std.proofs.Common.{◌≡◌, take, Some, refl, sym, ap, ◌∙◌, subst, arith}
 use Rattle.ao_base.specs.declared.address.Pair.{Pair}
+use Rattle.tcp_segment.specs.Sums.{HasPlainHeader}
 use Rattle.tcp_segment.specs.Writing.{OneFamily}
 use Rattle.endpoint_model.specs.Verdicts.{Key}
 use Rattle.link_model.specs.Steps.{Act, add, made_of, send}
@@ -7,10 +8,28 @@ use Rattle.link_model.specs.Worlds.{pair_of}
 use Rattle.link_world.specs.declared.outcome.Outcome.TheVariants as outcome
 use Rattle.link_world.specs.Emitting.{Makes}
 use Rattle.link_world.specs.Histories.{StandsLog}
+use Rattle.link_world.specs.Sides.{IsSoundLive}
 use Rattle.link_world.specs.Verdicts.{key_of}
-use Rattle.link_world.proofs.ActLaws.{at_live, Calls}
+use Rattle.link_world.proofs.ActLaws.{at_live, Calls, some_state}
+use Rattle.link_world.proofs.PlainLaws.{plain_made}
 use Rattle.link_world.proofs.MoveLaws.{sends, kept_so, tells_so, names_so, calls_by, front_of}
 use Rattle.link_world.proofs.moves.send.Goals as goal
+
+-- the IP header of what is kept has no options
+pub invariant_of-keep : goal.invariant_of-keep
+invariant_of-keep c =
+    let made = c.in-Some-emit.made in
+    let sound : IsSoundLive (Some c.in-Some.end) = subst IsSoundLive c.in-Some.is c.requires.sound in
+    let some = some_state c.in-Some.end sound in
+    let own : Makes (key_of c.args.shared.now) c.args.pair.now some.0 made c.emit.new.out c.emit.new.self = c.in-Some-emit.ensures.made some.0 some.1 in
+    let bytes : c.from_vec.result ≡ take made.length c.emit.new.out =
+    c.from_vec.ensures ∙ c.truncate.ensures.items
+    ∙ front_of made.length c.resize.new.self.len c.emit.new.out _ _ own.sent.bytes own.sent.long
+    (omega (arith, c.in-Some-emit.ensures.length, c.in_ok-resize-in-Some.ensures.len)) in
+    record {
+      plain = subst HasPlainHeader (sym bytes)
+          (plain_made (key_of c.args.shared.now) c.args.pair.now some.0 made c.emit.new.out c.emit.new.self c.requires.family c.in-Some-emit.ensures.length own);
+    }
 
 pub returns-in_ok-name-in-Some-clause-step : goal.returns-in_ok-name-in-Some-clause-step
 returns-in_ok-name-in-Some-clause-step c setup w key pair stands logs =

@@ -1,12 +1,11 @@
-use Rattle.std.proofs.Common.{◌≡◌, ◌+◌, ◌++◌, sym, ap, subst}
+use Rattle.std.proofs.Common.{◌≡◌, ◌+◌, ◌++◌, sym, subst}
 use Rattle.link_model.specs.Reports.{outcome_line}
 use Rattle.link_model.specs.Runs.{run}
 use Rattle.link_model.specs.Steps.{step}
 use Rattle.link_model.specs.Worlds.{Setup as Link}
-use Rattle.link_world.specs.declared.world.World.{World}
 use Rattle.link_world.specs.Histories.{StandsLog}
 use Rattle.link_world.specs.Standing.{Happens, event_of, setup_of}
-use Rattle.link_world.proofs.WorldLaws.{sound_after, stepped}
+use Rattle.link_world.proofs.WorldLaws.{stepped}
 use Rattle.link_world.proofs.world.World.step.Goals as goal
 
 pub returns-clause-stands : goal.returns-clause-stands
@@ -16,16 +15,13 @@ returns-clause-stands c setup events h =
     let done = c.in_ok-outcome.ensures in
     let w = run setup events in
     let e = event_of c.args.event.now in
-    let now : World = record { setup = new.setup; a = new.a; b = new.b; log = new.log; lines = c.push_line.new.out; steps = new.steps + 1 } in
     let own : Happens (setup_of old.setup) (step (setup_of old.setup) w e) new c.in_ok-outcome.outcome =
     done.happens w h.a h.b (subst (λ (s : Link). StandsLog s old.log w.history) h.setup_is h.log) in
     let so : Happens setup (step setup w e) new c.in_ok-outcome.outcome =
     subst (λ (s : Link). Happens s (step s w e) new c.in_ok-outcome.outcome) (sym h.setup_is) own in
-    let here : Happens setup (step setup w e) now c.in_ok-outcome.outcome = record { a = so.a; b = so.b; log = so.log; shows = so.shows } in
-    let steps : new.steps + 1 ≡ old.steps + 1 = ap (λ n. n + 1) done.steps in
     let told = c.in_ok-push_line.ensures (step setup w e).outcome so.shows in
     let number = c.from.ensures in
     let same = done.lines in
-    let line : c.push_line.new.out.items ≡ old.lines.items ++ outcome_line (new.steps + 1) (step setup w e).outcome = cc in
-    stepped old now setup events e c.in_ok-outcome.outcome h
-    (sound_after old now h.sound done.setup steps done.a done.b done.made done.forged c.requires.steps) done.setup steps here line
+    let line : c.push_line.new.out.items ≡ old.lines.items ++ outcome_line new.steps (step setup w e).outcome = cc in
+    stepped old _ setup events e c.in_ok-outcome.outcome h done.setup done.steps
+    (record { a = so.a; b = so.b; log = so.log; shows = so.shows }) line

@@ -1,7 +1,7 @@
 use Rattle.std.proofs.Common.{sym, subst}
 use Rattle.link_world.specs.Histories.{StandsLog}
 use Rattle.link_world.proofs.WorldLaws.{ok_more}
-use Rattle.link_world.proofs.world.act.Goals as goal
+use Rattle.link_world.proofs.happening.act.Goals as goal
 
 pub returns-in-Clock-clause-step : goal.returns-in-Clock-clause-step
 returns-in-Clock-clause-step c = rw c.in-Clock.is (λ setup w key pair stands logs.
