@@ -1,5 +1,5 @@
 -- What a segment that is made is in the history, and how it is kept.
-use Rattle.std.proofs.Common.{◌≡◌, ◌≤◌, ℕ, suc, List, ◌++◌, length, take, Some, false, refl, sym, ap, ◌∙◌, subst, arith}
+use Rattle.std.proofs.Common.{◌≡◌, ◌≤◌, ℕ, suc, List, ◌++◌, length, take, Some, false, sym, ap, ◌∙◌, subst, arith}
 use Rattle.std.proofs.lemmas.List.{length-take, take-append-le, take-take}
 use Rattle.ao_base.specs.declared.end.End.{End}
 use Rattle.tcp_segment.specs.Sums.{HasPlainHeader}

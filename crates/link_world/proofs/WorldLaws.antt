@@ -1,5 +1,5 @@
 -- A step of a world, from what happened in it.
-use Rattle.std.proofs.Common.{◌≡◌, ◌+◌, ◌≤◌, ◌<◌, ℕ, suc, List, [], ◌∷◌, ◌++◌, length, Result, Option, Some, Ok, Err, IfOk, OnOk, get_or, slice_get, codes, decimal, refl, sym, ap, ◌∙◌, subst, arith}
+use Rattle.std.proofs.Common.{◌≡◌, ◌+◌, ◌<◌, ℕ, suc, List, [], ◌∷◌, ◌++◌, length, Result, Option, Some, Ok, Err, IfOk, OnOk, get_or, slice_get, codes, decimal, refl, sym, ap, ◌∙◌, subst, arith}
 use Rattle.std.proofs.lemmas.List.{append_assoc, length-append}
 use Rattle.std.proofs.lemmas.Option.{slice_get_read}
 use Rattle.link_model.specs.Events.{Event}
@@ -10,7 +10,6 @@ use Rattle.link_model.specs.Steps.{step}
 use Rattle.link_model.specs.Worlds.{Setup as Link, World as Both, Made as Entry, Happening, forgeries, segment_named, segments}
 use Rattle.link_model.proofs.Splits.{lines-more, run-more}
 use Rattle.link_world.specs.declared.outcome.Outcome.{Outcome}
-use Rattle.link_world.specs.declared.world.Setup.{Setup}
 use Rattle.link_world.specs.declared.world.World.{World}
 use Rattle.link_world.specs.declared.kept.Kept.{Kept}
 use Rattle.link_world.specs.Histories.{Keeps, StandsLog}

@@ -1,4 +1,4 @@
-use Rattle.std.proofs.Common.{◌≡◌, ◌+◌, ◌++◌, sym, subst}
+use Rattle.std.proofs.Common.{◌≡◌, ◌++◌, sym, subst}
 use Rattle.link_model.specs.Reports.{outcome_line}
 use Rattle.link_model.specs.Runs.{run}
 use Rattle.link_model.specs.Steps.{step}
