@@ -5,10 +5,11 @@ use Rattle.aes_cmac.specs.Block.{bytes_of}
 use Rattle.aes_cmac.specs.declared.block.Block.{Block}
 use Rattle.aes_cmac.specs.declared.cipher.Aes128.{Aes128}
 
+-- the block of zeros that stands where there is no round key
 abbrev pub empty : Block
 empty = record { first = 0; second = 0; third = 0; fourth = 0 }
 
--- a round key as bytes
+-- the bytes of a round key (FIPS 197, 5.2)
 abbrev pub key_at : List Block → ℕ → List ℕ
 key_at keys i = bytes_of (slice_index_or keys i empty)
 

@@ -32,13 +32,6 @@ pub header-zero : (d : Segment) (sum : ℕ) → header d 0 [] ≡ take 16 (heade
 unfolding header put2 put4
 header-zero d sum = refl
 
--- the input in the order in which it is fed
-pub mac_input-parts : (number : ℕ) (d : Segment) (ao : Ao) (flag : Bool)
-    → mac_input number d ao flag ≡ ((((put4 (number / 4294967296) [] ++ pseudo d []) ++ take 16 (header d d.checksum [])) ++ (0 ∷ 0 ∷ [])) ++ drop 18 (header d d.checksum [])) ++ (covered flag d.area ao ++ d.payload)
-unfolding mac_input
-mac_input-parts number d ao flag =
-    rw (put4-append, pseudo-append, header-append, header-zero d d.checksum) (simp append_assoc)
-
 pseudo_of-v4 : (ip : IpHeader) (d : Segment) (a b : List ℕ) → FitsIp ip d → d.source.address ≡ V4 a → d.destination.address ≡ V4 b
     → pseudo_of ip d [] ≡ a ++ (b ++ (0 ∷ 6 ∷ put2 (tcp_length d) []))
 pseudo_of-v4 (Ipv4 x y t u s o) d a b f one two = rw (one, two) refl

@@ -49,16 +49,19 @@ reads_input (Some Link) = true
 reads_input (Some Show) = true
 reads_input (Some Vectors) = true
 
--- the texts for standard error
+-- the text where the words name no command
 abbrev pub usage : List ℕ
 usage = codes "usage: aotcp link [KEYS] | check KEYS | show | vectors | keys KEYS TIME | lint KEYS LEAD LAG FROM TO | storm SEED COUNT\n"
 
+-- the text where an input has more bytes than one may have
 abbrev pub too_long : List ℕ
 too_long = codes "input: too long\n"
 
+-- the text where an input has more lines than one may have
 abbrev pub too_many_lines : List ℕ
 too_many_lines = codes "input: too many lines\n"
 
+-- the word for the kind of a fault in a line
 abbrev pub kind_text : LineKind → List ℕ
 kind_text Word = codes "word"
 kind_text Number = codes "number"
@@ -67,19 +70,23 @@ kind_text Range = codes "range"
 kind_text Header = codes "header"
 kind_text Shared = codes "shared"
 
+-- the text of a line with a fault: its number, and the kind of the fault
 abbrev pub line_text : ℕ → LineKind → List ℕ
 line_text n kind = codes "input: line " ++ decimal n ++ 32 ∷ kind_text kind ++ 10 ∷ []
 
+-- the text where reading failed
 abbrev pub read_fault : List ℕ
 read_fault = codes "read fault\n"
 
+-- the text where writing failed
 abbrev pub write_fault : List ℕ
 write_fault = codes "write fault\n"
 
+-- the text where memory ran out
 abbrev pub memory : List ℕ
 memory = codes "memory\n"
 
--- nothing is written
+-- the answer with a text for standard error and no output
 abbrev pub refuse : ℕ → List ℕ → Answer
 refuse status text = record { status = status; output = []; text = text }
 

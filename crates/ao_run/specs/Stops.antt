@@ -5,6 +5,7 @@ use Rattle.ao_run.specs.declared.stop.Stop.TheVariants.{Usage, TooLong, TooManyL
 use Rattle.ao_run.specs.declared.stop.Output.{Output}
 use Rattle.ao_run.specs.Answer.{Answer, refuse, usage, too_long, too_many_lines, read_fault, write_fault, memory}
 
+-- the exit status of each way to end without output
 abbrev pub status_of : Stop → ℕ
 status_of Usage = 2
 status_of TooLong = 4
@@ -14,6 +15,7 @@ status_of Read = 5
 status_of Write = 6
 status_of Memory = 7
 
+-- the text that each of them writes to standard error
 abbrev pub text_of : Stop → List ℕ
 text_of Usage = usage
 text_of TooLong = too_long
@@ -23,17 +25,18 @@ text_of Read = read_fault
 text_of Write = write_fault
 text_of Memory = memory
 
--- the output of a status
+-- the answer that an output makes
 abbrev pub done : Output → Answer
 done o = record { status = o.status; output = o.bytes; text = [] }
 
--- what a command made of its input is the answer, unless memory ran out
+-- a command ends without output as the answer does, unless memory ran out; it ends in no other way
 abbrev pub Stopped : Stop → Answer → Type 0
 Stopped Memory a = Unit {0}
 Stopped TooManyLines a = a ≡ refuse 4 too_many_lines
 Stopped (Line text) a = a ≡ refuse 4 text
 Stopped _ a = ⊥
 
+-- what a command made of its input is the answer, and an output has the status 0 or 1
 abbrev pub Makes : Result Output Stop → Answer → Type 0
 Makes (Ok o) a = (a ≡ done o) × (o.status < 2)
 Makes (Err stop) a = Stopped stop a

@@ -29,11 +29,12 @@ said_by meaning (l ∷ ls) = do
 unfoldable pub said_in : {A : Type 0} → (List (List ℕ) → Result A LineKind) → List ℕ → Result (List (Said A)) TextProblem
 said_in meaning text = if nat_lt 20000 (length (lines_of text)) then Err problem.TooManyLines else said_by meaning (saying_from 1 (lines_of text))
 
--- what the call answered is what is said, unless memory ran out
+-- the fault that a call answered is what is said, unless memory ran out
 abbrev pub Fails : {A : Type 0} → TextProblem → Result A TextProblem → Type 0
 Fails problem.Memory said = Unit {0}
 Fails e said = said ≡ Err e
 
+-- what a call answered, a value or a fault, is what is said, unless memory ran out
 abbrev pub Answers : {A : Type 0} → Result A TextProblem → Result A TextProblem → Type 0
 Answers (Ok x) said = said ≡ Ok x
 Answers (Err e) said = Fails e said

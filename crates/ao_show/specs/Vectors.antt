@@ -75,6 +75,7 @@ signed_by d Absent = None
 signed_by d Two = None
 signed_by d WithMd5 = None
 
+-- the datagram that was read, where it has such an option
 abbrev pub signed_in_reading : Reading → Option Signed
 signed_in_reading (Read d) = signed_by d (find_ao d.area)
 signed_in_reading (Bad fault) = None

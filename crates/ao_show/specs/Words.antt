@@ -10,8 +10,8 @@ use Rattle.ao_base.specs.Hexadecimal.{bytes_of_hex}
 use Rattle.ao_show.specs.declared.problem.Refusal.{Refusal}
 use Rattle.ao_show.specs.declared.problem.Refusal.TheVariants as refusal
 
--- one reading after another, up to the first fault
 infixl 10 ◌>>=◌
+-- one reading after another, up to the first fault
 abbrev pub ◌>>=◌ : {A B F : Type 0} → Result A F → (A → Result B F) → Result B F
 (Ok x) >>= f = f x
 (Err e) >>= f = Err e
@@ -62,6 +62,7 @@ sized_hex_in low high ws = do
 abbrev pub message_of : List ℕ → Option (List ℕ)
 message_of w = if bytes_eq w (codes "-") then Some [] else bytes_of_hex w
 
+-- a message in hexadecimal, or a hyphen for the empty one
 unfoldable pub message_in : List (List ℕ) → Result (Taken (List ℕ)) LineKind
 message_in ws = word_as message_of Hex ws
 
@@ -77,6 +78,7 @@ number_in ws = do
   n ← word_as decimal_of Number ws
   if_within (nat_le n.value 4294967295) n
 
+-- the name of an algorithm
 unfoldable pub algorithm_in : List (List ℕ) → Result (Taken Algorithm) LineKind
 algorithm_in ws = word_as algorithm_of Word ws
 
@@ -84,6 +86,7 @@ algorithm_in ws = word_as algorithm_of Word ws
 unfoldable pub covering_of : List ℕ → Option Bool
 covering_of w = if bytes_eq w (codes "options") then Some true else if bytes_eq w (codes "no-options") then Some false else None
 
+-- the word that says whether all options are under a MAC (RFC 5925, section 3.1)
 unfoldable pub covering_in : List (List ℕ) → Result (Taken Bool) LineKind
 covering_in ws = word_as covering_of Word ws
 

@@ -3,7 +3,7 @@ use Rattle.std.specs.Prelude.{ℕ, suc, ◌==◌, Bool, true, false, List, [], �
 use Rattle.ao_base.specs.declared.end.End.{End}
 use Rattle.ao_base.specs.declared.end.End.TheVariants.{A, B}
 use Rattle.ao_base.specs.Hexadecimal.{hex_of}
-use Rattle.segment_model.specs.Segments.{Fault, Truncated, Version, HeaderLength, HeaderChecksum, Fragment, NotTcp, ExtensionHeader, DataOffset, OptionShort, OptionPast}
+pub use Rattle.segment_model.specs.Faults.{fault_text}
 use Rattle.endpoint_model.specs.Verdicts.{Refusal, NoAo, TwoAo, WithMd5, NoTuple, MacLength, NoContext, BadMac}
 use Rattle.endpoint_model.specs.States.{Phase, Established}
 use Rattle.endpoint_model.specs.Arrivals.{Arrival, Bad, Foreign, Checksum, Refused, Window, Taken}
@@ -20,19 +20,6 @@ refusal_text NoTuple = codes "no-tuple"
 refusal_text MacLength = codes "mac-length"
 refusal_text NoContext = codes "no-context"
 refusal_text BadMac = codes "bad-mac"
-
--- the text of a fault
-abbrev pub fault_text : Fault → List ℕ
-fault_text Truncated = codes "truncated"
-fault_text Version = codes "version"
-fault_text HeaderLength = codes "header-length"
-fault_text HeaderChecksum = codes "header-checksum"
-fault_text Fragment = codes "fragment"
-fault_text NotTcp = codes "not-tcp"
-fault_text ExtensionHeader = codes "extension-header"
-fault_text DataOffset = codes "data-offset"
-fault_text (OptionShort p) = codes "option short-length " ++ decimal p
-fault_text (OptionPast p) = codes "option past-end " ++ decimal p
 
 -- the text of an answer to an arrival
 abbrev pub answer_text : Arrival → List ℕ

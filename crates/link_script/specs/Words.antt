@@ -14,8 +14,8 @@ use Rattle.ao_base.specs.Algorithms.{algorithm_of}
 use Rattle.ao_base.specs.Decimals.{decimal_of}
 use Rattle.ao_base.specs.Hexadecimal.{bytes_of_hex}
 
--- one reading after another, up to the first fault
 infixl 10 ◌>>=◌
+-- one reading after another, up to the first fault
 abbrev pub ◌>>=◌ : {A B F : Type 0} → Result A F → (A → Result B F) → Result B F
 (Ok x) >>= f = f x
 (Err e) >>= f = Err e

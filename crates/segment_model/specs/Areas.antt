@@ -17,7 +17,7 @@ pub record IsOpen (o : Opt) : Type 0 where
   pub short : o.kind < 2 → o.body ≡ []
   pub long : 2 ≤ o.kind → least o.kind ≤ 2 + length o.body
 
--- options that don't end the list, each at its place, the first at this one
+-- options that don't end the list, each at its place, the first at this one (RFC 9293, section 3.2)
 abbrev pub Open : ℕ → List Opt → Type 0
 Open p [] = Unit {0}
 Open p (o ∷ os) = IsOpen o × (o.place ≡ p) × Open (p + length (spell_option o)) os
@@ -26,7 +26,7 @@ Open p (o ∷ os) = IsOpen o × (o.place ≡ p) × Open (p + length (spell_optio
 abbrev pub ending : ℕ → Opt
 ending p = record { kind = 0; body = []; place = p }
 
--- the bytes from a place on are these options and then the tail: kind 0 stands at most last, and only behind it is there a tail
+-- the bytes from a place on are these options and then the tail: kind 0 stands at most last, and only behind it is there a tail (RFC 9293, section 3.2)
 abbrev pub AreaAt : ℕ → List Opt → List ℕ → List ℕ → Type 0
 AreaAt p list tail bytes =
     (Open p list × (tail ≡ []) × (bytes ≡ spell_options list))
@@ -36,7 +36,7 @@ AreaAt p list tail bytes =
 abbrev pub Area : List Opt → List ℕ → List ℕ → Type 0
 Area list tail bytes = AreaAt 0 list tail bytes
 
--- the option at the front of these bytes is refused: no length byte, a length below the least, or one past the end
+-- the option at the front of these bytes is refused: no length byte, a length below the least, or one past the end (RFC 9293, section 3.2)
 abbrev pub Refused : List ℕ → ℕ → Options → Type 0
 Refused (kind ∷ size ∷ body) p (ShortLength q) = (q ≡ p) × (2 ≤ kind) × (size < least kind)
 Refused (kind ∷ []) p (PastEnd q) = (q ≡ p) × (2 ≤ kind)

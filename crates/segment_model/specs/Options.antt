@@ -23,7 +23,7 @@ and_then o (PastEnd p) = PastEnd p
 abbrev pub least : ℕ → ℕ
 least kind = if kind == 29 then 4 else 2
 
--- what stands at the front of an area: nothing, kind 0, a fault, or an option with its size and the bytes behind it
+-- what stands at the front of an area: nothing, kind 0, a fault, or an option with its size and the bytes behind it (RFC 9293, section 3.2)
 pub data Front : Type 0 where
   NoMore : Front
   Ending : Front
@@ -89,7 +89,7 @@ AreListed (Listed list) = Unit {0}
 AreListed (ShortLength p) = ⊥
 AreListed (PastEnd p) = ⊥
 
--- the first option of kind 2 with a body of two bytes
+-- the first option of kind 2 with a body of two bytes (RFC 9293, section 3.2)
 abbrev pub mss_among : List Opt → Option ℕ
 mss_among [] = None
 mss_among (o ∷ os) =
@@ -102,18 +102,18 @@ pub record Ao : Type 0 where
   pub mac : List ℕ
   pub place : ℕ
 
--- what was found of TCP-AO
+-- what was found of TCP-AO (RFC 5925, section 2.2)
 pub data AoFound : Type 0 where
   Absent : AoFound
   One : (ao : Ao) → AoFound
   Two : AoFound
   WithMd5 : AoFound
 
--- the fields of an option of kind 29
+-- the fields of an option of kind 29 (RFC 5925, section 2.2)
 abbrev pub ao_of : Opt → Ao
 ao_of o = record { key_id = slice_index o.body 0; next_id = slice_index o.body 1; mac = drop 2 o.body; place = o.place }
 
--- what the options of kind 29 and those of kind 19 say together
+-- what the options of kind 29 and those of kind 19 say together (RFC 5925, section 2.2)
 abbrev pub found : List Opt → List Opt → AoFound
 found [] md5 = Absent
 found (o ∷ p ∷ os) md5 = Two

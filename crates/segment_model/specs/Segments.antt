@@ -27,7 +27,7 @@ pub record Segment : Type 0 where
   pub area : List ℕ
   pub payload : List ℕ
 
--- the sum of 16-bit words, an odd length filled with a zero byte
+-- the sum of 16-bit words, an odd length filled with a zero byte (RFC 1071)
 abbrev pub words_sum : List ℕ → ℕ
 words_sum [] = 0
 words_sum (x ∷ []) = x * 256
@@ -37,7 +37,7 @@ words_sum (x ∷ y ∷ rest) = x * 256 + y + words_sum rest
 unfoldable pub sums : List ℕ → Bool
 sums bytes = let s = words_sum bytes in nat_lt 0 s && (s % 65535 == 0)
 
--- the complement of the one's complement sum
+-- the complement of the one's complement sum (RFC 1071)
 unfoldable pub complement_of : List ℕ → ℕ
 complement_of bytes = let s = words_sum bytes in if s == 0 then 65535 else (if s % 65535 == 0 then 0 else 65535 - s % 65535)
 
@@ -50,17 +50,17 @@ abbrev pub pseudo_of : IpHeader → Segment → List ℕ → List ℕ
 pseudo_of (Ipv4 service identification flags ttl checksum options) d rest = octets d.source.address ++ (octets d.destination.address ++ (0 ∷ 6 ∷ put2 (tcp_length d) rest))
 pseudo_of (Ipv6 class_flow hops) d rest = octets d.source.address ++ (octets d.destination.address ++ put4 (tcp_length d) (0 ∷ 0 ∷ 0 ∷ 6 ∷ rest))
 
--- the pseudo-header of a datagram, and then the rest
+-- the pseudo-header of a datagram, and then the rest (RFC 9293, section 3.1; RFC 8200, section 8.1)
 unfoldable pub pseudo : Segment → List ℕ → List ℕ
 pseudo d rest = pseudo_of d.ip d rest
 
--- the 20 bytes of the TCP header with this checksum, and then the rest
+-- the 20 bytes of the TCP header with this checksum, and then the rest (RFC 9293, section 3.1)
 unfoldable pub header : Segment → ℕ → List ℕ → List ℕ
 header d checksum rest =
     put2 d.source.port (put2 d.destination.port (put4 d.sequence (put4 d.acknowledgement
     ((80 + 4 * length d.area + d.reserved) ∷ d.flags ∷ put2 d.window (put2 checksum (put2 d.urgent rest))))))
 
--- the TCP header with this checksum, the options and the payload
+-- the TCP header with this checksum, the options and the payload (RFC 9293, section 3.1)
 unfoldable pub tcp_bytes : Segment → ℕ → List ℕ
 tcp_bytes d checksum = header d checksum (d.area ++ d.payload)
 
@@ -68,11 +68,11 @@ tcp_bytes d checksum = header d checksum (d.area ++ d.payload)
 unfoldable pub checksum_of : Segment → ℕ
 checksum_of d = complement_of (pseudo d (tcp_bytes d 0))
 
--- the TCP checksum is right
+-- the TCP checksum is right (RFC 9293, section 3.1)
 unfoldable pub good : Segment → Bool
 good d = sums (pseudo d (tcp_bytes d d.checksum))
 
--- the IP header, and then the TCP bytes
+-- the IP header, and then the TCP bytes (RFC 791, section 3.1; RFC 8200, section 3)
 abbrev pub spell_as : IpHeader → Segment → List ℕ → List ℕ
 spell_as (Ipv4 service identification flags ttl checksum options) d tcp =
     (69 + length options / 4) ∷ service ∷ put2 (20 + length options + tcp_length d) (put2 identification
@@ -115,11 +115,11 @@ pub data Reading : Type 0 where
   Bad : (fault : Fault) → Reading
   Read : (segment : Segment) → Reading
 
--- the big-endian number of two bytes, or of four, from a place on
+-- the big-endian number of two bytes from a place on
 abbrev pub two_at : List ℕ → ℕ → ℕ
 two_at b i = slice_index b i * 256 + slice_index b (i + 1)
 
--- the number of four bytes from a place on
+-- the big-endian number of four bytes from a place on
 abbrev pub four_at : List ℕ → ℕ → ℕ
 four_at b i = two_at b i * 65536 + two_at b (i + 2)
 
@@ -127,7 +127,7 @@ four_at b i = two_at b i * 65536 + two_at b (i + 2)
 abbrev pub refuse : Bool → Fault → Option Fault → Option Fault
 refuse test fault others = if test then Some fault else others
 
--- the ninth test: the option area has no fault
+-- the ninth test: the option area has no fault (RFC 9293, section 3.2)
 abbrev pub option_fault : Options → Option Fault
 option_fault (Listed list) = None
 option_fault (ShortLength p) = Some (OptionShort p)
@@ -209,7 +209,7 @@ abbrev pub v6_fields : List ℕ → Segment
 v6_fields b =
     tcp_fields (Ipv6 (four_at b 0 % 268435456) (slice_index b 7)) (V6 (slice_range b 8 24)) (V6 (slice_range b 24 40)) (slice_range b 40 (40 + two_at b 4))
 
--- the fields of a datagram, each at its place
+-- the fields of a datagram, each at its place (RFC 791, section 3.1; RFC 8200, section 3)
 unfoldable pub fields : List ℕ → Segment
 fields b = if slice_index b 0 / 16 == 4 then v4_fields b else v6_fields b
 

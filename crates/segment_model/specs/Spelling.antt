@@ -10,17 +10,18 @@ use Rattle.segment_model.specs.Segments.{IpHeader, Ipv4, Ipv6, Segment, sums, co
 abbrev pub AreBytes : List ℕ → Type 0
 AreBytes xs = (i : ℕ) → slice_index xs i < 256
 
--- bytes of whole 32-bit words, ten at most
+-- the bytes of an option area: whole 32-bit words, ten at most (RFC 791, section 3.1; RFC 9293, section 3.1)
 pub record IsArea (xs : List ℕ) : Type 0 where
   pub words : length xs % 4 ≡ 0
   pub most : length xs ≤ 40
   pub bytes : AreBytes xs
 
--- an address of IPv4, or of IPv6
+-- an address of IPv4 (RFC 791, section 3.1)
 abbrev pub IsV4 : Address → Type 0
 IsV4 (V4 bytes) = (length bytes ≡ 4) × AreBytes bytes
 IsV4 (V6 bytes) = ⊥
 
+-- an address of IPv6 (RFC 8200, section 3)
 abbrev pub IsV6 : Address → Type 0
 IsV6 (V4 bytes) = ⊥
 IsV6 (V6 bytes) = (length bytes ≡ 16) × AreBytes bytes
@@ -46,6 +47,7 @@ pub record FitsV6 (d : Segment) (class_flow hops : ℕ) : Type 0 where
   pub destination : IsV6 d.destination.address
   pub total : tcp_length d < 65536
 
+-- the fields of an IP header fit their places (RFC 791, section 3.1; RFC 8200, section 3)
 abbrev pub FitsIp : IpHeader → Segment → Type 0
 FitsIp (Ipv4 service identification flags ttl checksum options) d = FitsV4 d service identification flags ttl checksum options
 FitsIp (Ipv6 class_flow hops) d = FitsV6 d class_flow hops

@@ -45,7 +45,7 @@ view_found (founds.One o) = book.One (view_ao o)
 view_found founds.Two = book.Two
 view_found founds.WithMd5 = book.WithMd5
 
--- the maximum segment size of an option, or else of those behind it
+-- the maximum segment size of an option, or else of those behind it (RFC 9293, section 3.2)
 abbrev pub mss_or : Plain → Option ℕ → Option ℕ
 mss_or o others =
     if (o.kind == 2) && (length o.body == 2) then Some (slice_index o.body 0 * 256 + slice_index o.body 1) else others
@@ -61,10 +61,11 @@ pub record IsFirst (kind place : ℕ) (area : List ℕ) (h : Hit) : Type 0 where
   pub room : h.behind_place + length h.behind.now ≤ place + length area
   pub ao : kind ≡ 29 → 2 ≤ length h.option.body.now
 
+-- the first option of a kind was found, or there is none of that kind
 abbrev pub HitIs : ℕ → ℕ → List ℕ → Option Hit → Type 0
 HitIs kind place area None = book.of_kind kind (book.listed (book.options_at place area)) ≡ []
 HitIs kind place area (Some h) = IsFirst kind place area h
 
--- the fields of a TCP-AO option
+-- the fields of a TCP-AO option (RFC 5925, section 2.2)
 abbrev pub IsAo : Hit → AoOption → Type 0
 IsAo h a = view_ao a ≡ book.ao_of (hit_option h)
