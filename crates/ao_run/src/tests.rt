@@ -4,10 +4,14 @@
 use crate::run;
 use ao_base::{Bytes, MemSink, MemSource, Numbers, QuietSource, ReadSource, Words, WriteSink};
 use std::alloc::{AllocError, Global};
+use std::io::{self, ErrorKind, Read, Write};
 use std::test::Fail;
 
 const HEAD: &[u8] =
     b"aotcp-link 1\na 10.0.0.1 1000\nb 10.0.0.2 2000\nshared HMAC-SHA-1-96 0b0b0b0b0b0b0b0b0b0b0b0b0b0b0b0b0b0b0b0b\n";
+
+const HEAD_V6: &[u8] =
+    b"aotcp-link 1\na 20010db8000000000000000000000001 1000\nb 20010db8000000000000000000000002 2000\nshared HMAC-SHA-1-96 0b0b0b0b0b0b0b0b0b0b0b0b0b0b0b0b0b0b0b0b\n";
 
 const STARTS: &[u8] = b"start a 100 200\nstart b 200 100\n";
 
@@ -24,6 +28,15 @@ fn joined(alloc: Global, parts: &[&[u8]]) -> Result<Vec<u8>, AllocError> {
     let mut text = Vec::new(alloc);
     for part in parts {
         text.extend_from_slice(part)?;
+    }
+    Ok(text)
+}
+
+/// The piece, this many times.
+fn times(alloc: Global, piece: &[u8], count: u32) -> Result<Vec<u8>, AllocError> {
+    let mut text = Vec::new(alloc);
+    for _ in 0..count {
+        text.extend_from_slice(piece)?;
     }
     Ok(text)
 }
@@ -108,24 +121,139 @@ fn five_bytes_arrive_however_the_file_is_cut(rt: HostRuntime) -> Result<(), Fail
     Ok(())
 }
 
+/// A reader or a writer in memory, the call of which with this number fails.
+#[derive(Drop)]
+struct Halting<T> {
+    inner: T,
+    failing: u64,
+    calls: u64,
+}
+
+impl<T> Halting<T> {
+    fn turn(&mut self) -> io::Result<()> {
+        self.calls = self.calls.saturating_add(1);
+        if self.calls == self.failing {
+            return Err(io::Error::from(ErrorKind::ConnectionReset));
+        }
+        Ok(())
+    }
+}
+
+impl<T: Read> Read for Halting<T> {
+    fn read(&mut self, buf: &mut [u8]) -> io::Result<usize> {
+        self.turn()?;
+        let most = buf.len().min(100);
+        self.inner.read(&mut buf[..most])
+    }
+}
+
+impl<T: Write> Write for Halting<T> {
+    fn write(&mut self, buf: &[u8]) -> io::Result<usize> {
+        self.turn()?;
+        let most = buf.len().min(100);
+        self.inner.write(&buf[..most])
+    }
+
+    fn flush(&mut self) -> io::Result<()> {
+        Ok(())
+    }
+}
+
+/// A word over a reader and a writer in memory, and what it leaves.
+#[derive(Clone, Copy)]
+struct Over {
+    name: &'static str,
+    word: &'static [u8],
+    failing_read: u64,
+    failing_write: u64,
+    status: u8,
+    held: usize,
+    text: &'static [u8],
+}
+
+const OVER: [Over; 5] = [
+    Over {
+        name: "nothing fails",
+        word: b"link",
+        failing_read: 0,
+        failing_write: 0,
+        status: 0,
+        held: FIVE_BYTES_REPORT.len(),
+        text: b"",
+    },
+    Over {
+        name: "the second read fails",
+        word: b"link",
+        failing_read: 2,
+        failing_write: 0,
+        status: 5,
+        held: 0,
+        text: b"read fault\n",
+    },
+    Over {
+        name: "the first write fails",
+        word: b"link",
+        failing_read: 0,
+        failing_write: 1,
+        status: 6,
+        held: 0,
+        text: b"write fault\n",
+    },
+    Over {
+        name: "the second write fails",
+        word: b"link",
+        failing_read: 0,
+        failing_write: 2,
+        status: 6,
+        held: 100,
+        text: b"write fault\n",
+    },
+    Over {
+        name: "no command",
+        word: b"frobnicate",
+        failing_read: 0,
+        failing_write: 0,
+        status: 2,
+        held: 0,
+        text: USAGE,
+    },
+];
+
 #[test]
-fn five_bytes_arrive_through_a_reader_and_writers(rt: HostRuntime) -> Result<(), Fail> {
+fn a_reader_and_writers_do_as_the_memory_does(rt: HostRuntime) -> Result<(), Fail> {
     let file = joined(rt.alloc(), [HEAD, STARTS, FIVE_BYTES].as_slice())?;
-    let words = words_of(rt.alloc(), [b"link".as_slice()].as_slice())?;
-    let mut keys = QuietSource::new(Bytes::from_vec(Vec::new(rt.alloc())));
-    let mut out = Vec::new(rt.alloc());
-    let mut err = Vec::new(rt.alloc());
-    let status = run(
-        rt.alloc(),
-        &words,
-        &mut keys,
-        &mut ReadSource::new(file.as_slice()),
-        &mut WriteSink::new(&mut out),
-        &mut WriteSink::new(&mut err),
-    );
-    assert_eq!(rt; status, 0);
-    assert_eq!(rt; out.as_slice(), FIVE_BYTES_REPORT);
-    assert_eq!(rt; err.as_slice(), b"".as_slice());
+    for over in OVER {
+        let words = words_of(rt.alloc(), [over.word].as_slice())?;
+        let mut keys = QuietSource::new(Bytes::from_vec(Vec::new(rt.alloc())));
+        let reader = Halting {
+            inner: file.as_slice(),
+            failing: over.failing_read,
+            calls: 0,
+        };
+        let mut out = Vec::new(rt.alloc());
+        let mut err = Vec::new(rt.alloc());
+        let writer = Halting {
+            inner: &mut out,
+            failing: over.failing_write,
+            calls: 0,
+        };
+        let status = run(
+            rt.alloc(),
+            &words,
+            &mut keys,
+            &mut ReadSource::new(reader),
+            &mut WriteSink::new(writer),
+            &mut WriteSink::new(&mut err),
+        );
+        let name = over.name;
+        assert_eq!(rt; status, over.status, "{name}");
+        assert_eq!(rt;
+            out.as_slice(),
+            FIVE_BYTES_REPORT.get(..over.held).ok_or("long")?,
+            "{name}"
+        );
+        assert_eq!(rt; err.as_slice(), over.text, "{name}");
+    }
     Ok(())
 }
 
@@ -278,14 +406,21 @@ fn each_event_has_its_outcome(rt: HostRuntime) -> Result<(), Fail> {
             status: 0,
         },
         Row {
-            name: "the image of a made segment",
-            events: b"give a 68656c6c6f\nsend a\ninject b 4500003d00004000400626b90a0000010a00000203e807d000000065000000c99018ffff19e800001d10000073037a961fb45b9cbd84ad9568656c6c6f\ninject b 4500003d00004000400626b90a0000010a00000203e807d000000065000000c99018ffff90b800001d100000d4806c78e08664ca5b0e7bdb68656c6c6f\ninject b 4500003d00004000400626b90a0000010a00000203e807d000000065000000c99018ffff1ae800001d10000072037a961fb45b9cbd84ad9568656c6c6f\ntake b 10\n",
-            outcomes: b"3 ok\n4 sent 1 AP seq 101 ack 201 len 5 key 0 next 0\n5 refused bad-mac\n6 refused bad-mac\n7 taken\n8 took 68656c6c6f\n",
+            name: "the image of a made segment, after one with another MAC and one of other ISNs",
+            events: b"give a 68656c6c6f\nsend a\ndump 1\ninject b 4500003d00004000400626b90a0000010a00000203e807d000000065000000c99018ffff19e800001d10000073037a961fb45b9cbd84ad9568656c6c6f\ninject b 4500003d00004000400626b90a0000010a00000203e807d000000065000000c99018ffff90b800001d100000d4806c78e08664ca5b0e7bdb68656c6c6f\ninject b 4500003d00004000400626b90a0000010a00000203e807d000000065000000c99018ffff1ae800001d10000072037a961fb45b9cbd84ad9568656c6c6f\ntake b 10\n",
+            outcomes: b"3 ok\n4 sent 1 AP seq 101 ack 201 len 5 key 0 next 0\n5 datagram 4500003d00004000400626b90a0000010a00000203e807d000000065000000c99018ffff1ae800001d10000072037a961fb45b9cbd84ad9568656c6c6f\n6 refused bad-mac\n7 refused bad-mac\n8 taken\n9 took 68656c6c6f\n",
             summary: b"session a 1 isn 100 peer 200 established given 5 delivered 0 open\nsession b 1 isn 200 peer 100 established given 0 delivered 5 open\nsegments 1 forgeries 0\n",
             status: 0,
         },
         Row {
             name: "the image of another run",
+            events: b"inject b 4500003d00004000400626b90a0000010a00000203e807d000000065000000c99018ffff1ae800001d10000072037a961fb45b9cbd84ad9568656c6c6f\n",
+            outcomes: b"3 taken\n",
+            summary: b"session a 1 isn 100 peer 200 established given 0 delivered 0 open\nsession b 1 isn 200 peer 100 established given 0 delivered 0 open\nsegments 0 forgeries 1\n",
+            status: 1,
+        },
+        Row {
+            name: "the image of another run, repeated",
             events: b"inject b 4500003d00004000400626b90a0000010a00000203e807d000000065000000c99018ffff1ae800001d10000072037a961fb45b9cbd84ad9568656c6c6f\ninject b 4500003d00004000400626b90a0000010a00000203e807d000000065000000c99018ffff1ae800001d10000072037a961fb45b9cbd84ad9568656c6c6f\ntake b 10\n",
             outcomes: b"3 taken\n4 window\n5 took 68656c6c6f\n",
             summary: b"session a 1 isn 100 peer 200 established given 0 delivered 0 open\nsession b 1 isn 200 peer 100 established given 0 delivered 5 open\nsegments 0 forgeries 2\n",
@@ -344,64 +479,139 @@ fn three_segments_over_ipv6_carry_three_thousand_bytes(rt: HostRuntime) -> Resul
     let told = linked(
         rt.alloc(),
         [
-            b"aotcp-link 1\na 20010db8000000000000000000000001 1000\nb 20010db8000000000000000000000002 2000\nshared HMAC-SHA-1-96 0b0b0b0b0b0b0b0b0b0b0b0b0b0b0b0b0b0b0b0b\n",
+            HEAD_V6,
             STARTS,
             b"fill a 3000 61\nsend a\nsend a\nsend a\nsend a\ndeliver b 1\ndeliver b 2\ndeliver b 3\ntake b 65535\n",
         ]
         .as_slice(),
         CALM,
     )?;
-    let mut report = joined(
+    let bytes = times(rt.alloc(), b"61", 3_000)?;
+    let report = joined(
         rt.alloc(),
         [
             b"1 ok\n2 ok\n3 ok\n4 sent 1 AP seq 101 ack 201 len 1424 key 0 next 0\n5 sent 2 AP seq 1525 ack 201 len 1424 key 0 next 0\n6 sent 3 AP seq 2949 ack 201 len 152 key 0 next 0\n7 idle\n8 taken\n9 taken\n10 taken\n11 took ".as_slice(),
-        ].as_slice(),
-    )?;
-    for _ in 0..3_000 {
-        report.extend_from_slice(b"61")?;
-    }
-    report.extend_from_slice(
-        b"\nsession a 1 isn 100 peer 200 established given 3000 delivered 0 open\nsession b 1 isn 200 peer 100 established given 0 delivered 3000 open\nsegments 3 forgeries 0\n",
+            bytes.as_slice(),
+            b"\nsession a 1 isn 100 peer 200 established given 3000 delivered 0 open\nsession b 1 isn 200 peer 100 established given 0 delivered 3000 open\nsegments 3 forgeries 0\n",
+        ]
+        .as_slice(),
     )?;
     assert_eq!(rt; told.status, 0);
     assert_eq!(rt; told.out.bytes(), report.as_slice());
     Ok(())
 }
 
+/// The image of a made segment over IPv6, before and after its next header.
+const BEFORE_NEXT_HEADER: &[u8] = b"600000000029";
+
+const AFTER_NEXT_HEADER: &[u8] =
+    b"4020010db800000000000000000000000120010db800000000000000000000000203e807d000000065000000c99018ffffc82400001d100000286fb4e4681647812f7321f768656c6c6f";
+
 #[test]
-fn the_second_algorithm_takes_keys_of_each_length(rt: HostRuntime) -> Result<(), Fail> {
-    let keys: [(usize, &[u8]); 4] = [
-        (
-            1,
-            b"4500003900004000400626bd0a0000010a00000203e807d000000065000000c99018ffff7c3b00001d100000518547ac9f0429ef525dc00441",
-        ),
-        (
-            16,
-            b"4500003900004000400626bd0a0000010a00000203e807d000000065000000c99018ffffb28300001d100000f1e568e5e5707cecd12eafe741",
-        ),
-        (
-            17,
-            b"4500003900004000400626bd0a0000010a00000203e807d000000065000000c99018ffffcdec00001d100000a420250446b07ba9efa9a7ad41",
-        ),
-        (
-            255,
-            b"4500003900004000400626bd0a0000010a00000203e807d000000065000000c99018ffff40f800001d1000003e66a5fd7b2ef7bbbac69db541",
-        ),
+fn each_next_header_but_tcp_is_refused(rt: HostRuntime) -> Result<(), Fail> {
+    let next_headers: [(u8, &[u8]); 8] = [
+        (0, b"bad extension-header\n"),
+        (43, b"bad extension-header\n"),
+        (44, b"bad extension-header\n"),
+        (60, b"bad extension-header\n"),
+        (17, b"bad not-tcp\n"),
+        (51, b"bad not-tcp\n"),
+        (59, b"bad not-tcp\n"),
+        (6, b"taken\n"),
     ];
-    for (length, datagram) in keys {
-        let mut file = joined(
-            rt.alloc(),
-            [
-                b"aotcp-link 1\na 10.0.0.1 1000\nb 10.0.0.2 2000\nshared AES-128-CMAC-96 ".as_slice(),
-            ].as_slice(),
-        )?;
-        for _ in 0..length {
-            file.extend_from_slice(b"22")?;
-        }
+    for (next_header, answer) in next_headers {
+        let digits = format!(in rt.alloc(); "{next_header:02x}")?;
         let told = linked(
             rt.alloc(),
             [
-                file.as_slice(),
+                HEAD_V6,
+                STARTS,
+                b"give a 68656c6c6f\nsend a\ninject b ",
+                BEFORE_NEXT_HEADER,
+                digits.as_bytes(),
+                AFTER_NEXT_HEADER,
+            ]
+            .as_slice(),
+            CALM,
+        )?;
+        let report = joined(
+            rt.alloc(),
+            [
+                b"1 ok\n2 ok\n3 ok\n4 sent 1 AP seq 101 ack 201 len 5 key 0 next 0\n5 ",
+                answer,
+                b"session a 1 isn 100 peer 200 established given 5 delivered 0 open\nsession b 1 isn 200 peer 100 established given 0 delivered 0 open\nsegments 1 forgeries 0\n",
+            ]
+            .as_slice(),
+        )?;
+        assert_eq!(rt; told.status, 0, "next header {next_header}");
+        assert_eq!(rt;
+            told.out.bytes(),
+            report.as_slice(),
+            "next header {next_header}"
+        );
+    }
+    Ok(())
+}
+
+const ENDS_V4: &[u8] = b"aotcp-link 1\na 10.0.0.1 1000\nb 10.0.0.2 2000\n";
+
+const ENDS_V6: &[u8] =
+    b"aotcp-link 1\na 20010db8000000000000000000000001 1000\nb 20010db8000000000000000000000002 2000\n";
+
+/// Two ends, the bytes 0x22 of the master key, and the segment that they make.
+const SECOND_ALGORITHM: [(&[u8], u32, &[u8]); 8] = [
+    (
+        ENDS_V4,
+        1,
+        b"4500003900004000400626bd0a0000010a00000203e807d000000065000000c99018ffff7c3b00001d100000518547ac9f0429ef525dc00441",
+    ),
+    (
+        ENDS_V4,
+        16,
+        b"4500003900004000400626bd0a0000010a00000203e807d000000065000000c99018ffffb28300001d100000f1e568e5e5707cecd12eafe741",
+    ),
+    (
+        ENDS_V4,
+        17,
+        b"4500003900004000400626bd0a0000010a00000203e807d000000065000000c99018ffffcdec00001d100000a420250446b07ba9efa9a7ad41",
+    ),
+    (
+        ENDS_V4,
+        255,
+        b"4500003900004000400626bd0a0000010a00000203e807d000000065000000c99018ffff40f800001d1000003e66a5fd7b2ef7bbbac69db541",
+    ),
+    (
+        ENDS_V6,
+        1,
+        b"600000000025064020010db800000000000000000000000120010db800000000000000000000000203e807d000000065000000c99018ffff415500001d100000c5aa4a6bd4de46c7dce95f5541",
+    ),
+    (
+        ENDS_V6,
+        16,
+        b"600000000025064020010db800000000000000000000000120010db800000000000000000000000203e807d000000065000000c99018ffffff0100001d100000f37128cb4a2b41945669abe841",
+    ),
+    (
+        ENDS_V6,
+        17,
+        b"600000000025064020010db800000000000000000000000120010db800000000000000000000000203e807d000000065000000c99018ffffb97900001d1000008fae3ca7857d3e9c02415d2641",
+    ),
+    (
+        ENDS_V6,
+        255,
+        b"600000000025064020010db800000000000000000000000120010db800000000000000000000000203e807d000000065000000c99018fffff83e00001d100000cdcc149c9deff66747d7f27941",
+    ),
+];
+
+#[test]
+fn the_second_algorithm_takes_keys_of_each_length(rt: HostRuntime) -> Result<(), Fail> {
+    for (ends, length, datagram) in SECOND_ALGORITHM {
+        let master = times(rt.alloc(), b"22", length)?;
+        let told = linked(
+            rt.alloc(),
+            [
+                ends,
+                b"shared AES-128-CMAC-96 ",
+                master.as_slice(),
                 b"\n",
                 STARTS,
                 b"give a 41\nsend a\ndump 1\ndeliver b 1\ntake b 1\n",

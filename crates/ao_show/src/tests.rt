@@ -42,7 +42,7 @@ fn datagrams_are_shown_with_their_fields(rt: HostRuntime) -> Result<(), Fail> {
 }
 
 #[test]
-fn each_part_of_a_datagram_is_truncated(rt: HostRuntime) -> Result<(), Fail> {
+fn each_front_part_of_a_datagram_is_truncated(rt: HostRuntime) -> Result<(), Fail> {
     let mut text = Vec::new(rt.alloc());
     let mut expected = Vec::new(rt.alloc());
     for count in 1..60usize {
@@ -53,6 +53,10 @@ fn each_part_of_a_datagram_is_truncated(rt: HostRuntime) -> Result<(), Fail> {
         let line = format!(in rt.alloc(); "{count} bad truncated\n")?;
         expected.extend_from_slice(line.as_bytes())?;
     }
+    text.extend_from_slice(OF_60_BYTES.as_bytes())?;
+    expected.extend_from_slice(
+        b"60 ipv4 10.0.0.1 1000 10.0.0.2 2000 seq 101 ack 201 flags 10 window 65535 urgent 0 len 16 checksum good options 1 1 1 1\n",
+    )?;
     assert_eq!(rt;
         show(rt.alloc(), text.as_slice())?.as_slice(),
         expected.as_slice()
@@ -60,8 +64,8 @@ fn each_part_of_a_datagram_is_truncated(rt: HostRuntime) -> Result<(), Fail> {
     Ok(())
 }
 
-/// How an option area of a kind and the bytes 4, 1 and 2 is shown, where it isn't the usual way.
-fn area_of(alloc: Global, kind: u8) -> Result<String, Fail> {
+/// How the area of a kind and the bytes 4, 1 and 2 is shown.
+fn kind_with_a_body(alloc: Global, kind: u8) -> Result<String, Fail> {
     let text = match kind {
         0 => format!(in alloc; "options 0\n")?,
         1 => format!(in alloc; "1 bad option short-length 1\n")?,
@@ -70,13 +74,56 @@ fn area_of(alloc: Global, kind: u8) -> Result<String, Fail> {
     Ok(text)
 }
 
+/// How the area of a kind and the bytes 2, 1 and 0 is shown.
+fn kind_without_a_body(alloc: Global, kind: u8) -> Result<String, Fail> {
+    let text = match kind {
+        0 => format!(in alloc; "options 0\n")?,
+        1 => format!(in alloc; "1 bad option short-length 1\n")?,
+        29 => format!(in alloc; "1 bad option short-length 0\n")?,
+        _ => format!(in alloc; "options {kind}: 1 0\n")?,
+    };
+    Ok(text)
+}
+
+/// How the area of three bytes 1 and a kind is shown.
+fn kind_at_the_end(alloc: Global, kind: u8) -> Result<String, Fail> {
+    let text = match kind {
+        0 => format!(in alloc; "options 1 1 1 0\n")?,
+        1 => format!(in alloc; "options 1 1 1 1\n")?,
+        _ => format!(in alloc; "1 bad option past-end 3\n")?,
+    };
+    Ok(text)
+}
+
+/// Whether a datagram with this area is shown by a line that ends so.
+fn area_is_shown(alloc: Global, area: &str, ending: &str) -> Result<bool, Fail> {
+    let text = format!(in alloc; "{BEFORE_AREA}{area}")?;
+    let shown = show(alloc, text.as_bytes())?;
+    Ok(shown.as_slice().ends_with(ending.as_bytes()))
+}
+
 #[test]
 fn options_of_each_kind_are_shown(rt: HostRuntime) -> Result<(), Fail> {
+    let alloc = rt.alloc();
     for kind in 0..41u8 {
-        let text = format!(in rt.alloc(); "{BEFORE_AREA}{kind:02x}040102")?;
-        let shown = show(rt.alloc(), text.as_bytes())?;
-        let expected = area_of(rt.alloc(), kind)?;
-        assert!(rt; shown.as_slice().ends_with(expected.as_bytes()), "{kind}");
+        let area = format!(in alloc; "{kind:02x}040102")?;
+        let ending = kind_with_a_body(alloc, kind)?;
+        assert!(rt;
+            area_is_shown(alloc, area.as_str(), ending.as_str())?,
+            "{kind}"
+        );
+        let area = format!(in alloc; "{kind:02x}020100")?;
+        let ending = kind_without_a_body(alloc, kind)?;
+        assert!(rt;
+            area_is_shown(alloc, area.as_str(), ending.as_str())?,
+            "{kind}"
+        );
+        let area = format!(in alloc; "010101{kind:02x}")?;
+        let ending = kind_at_the_end(alloc, kind)?;
+        assert!(rt;
+            area_is_shown(alloc, area.as_str(), ending.as_str())?,
+            "{kind}"
+        );
     }
     Ok(())
 }
@@ -194,7 +241,7 @@ fn keys_and_macs_of_segments_are_compared(rt: HostRuntime) -> Result<(), Fail> {
 }
 
 /// Vectors that are refused, and the kind of the first faulty word.
-const FAULTY_VECTORS: [(&str, LineKind); 24] = [
+const FAULTY_VECTORS: [(&str, LineKind); 29] = [
     ("hmac256 0b - 00", LineKind::Word),
     ("hmac", LineKind::Word),
     ("hmac 0b -", LineKind::Word),
@@ -224,6 +271,18 @@ const FAULTY_VECTORS: [(&str, LineKind); 24] = [
         LineKind::Range,
     ),
     (
+        "segment HMAC-SHA-1-96 0b 100 4294967296 0 options 00",
+        LineKind::Range,
+    ),
+    (
+        "segment HMAC-SHA-1-96 - 100 200 0 options 00",
+        LineKind::Hex,
+    ),
+    (
+        "segment HMAC-SHA-1-96 0b 100 200 0 options -",
+        LineKind::Hex,
+    ),
+    (
         "segment HMAC-SHA-1-96 0b 100 18446744073709551616 0 options 00",
         LineKind::Number,
     ),
@@ -234,6 +293,14 @@ const FAULTY_VECTORS: [(&str, LineKind); 24] = [
     (
         "segment HMAC-SHA-1-96 0b 100 200 0 some-options 00",
         LineKind::Word,
+    ),
+    (
+        "segment HMAC-SHA-1-96 0b 100 200 0 options 4500004100004000400626b50a0000010a00000203e807d000000065000000c9a018ffff56580000020405b41d1001021a7f813be30418e65f8e87a268656c6c",
+        LineKind::Range,
+    ),
+    (
+        "segment HMAC-SHA-1-96 0b 100 200 0 options 4500004800004000400626ae0a0000010a00000203e807d000000065000000c9d010ffffd2a700001d1001020000000000000000000000001d100102000000000000000000000000",
+        LineKind::Range,
     ),
     (
         "segment HMAC-SHA-1-96 0b 100 200 0 options 45 00",
