@@ -23,16 +23,23 @@ pub fn read_hex(alloc: Global, word: &[u8]) -> Result<Bytes, HexProblem>
     ensures bytes { IfOk result (λ bytes. bytes_of_hex word.now ≡ Some bytes) }
     ensures not_hex { IsErrOf result HexProblem.NotHex ↔ (bytes_of_hex word.now ≡ None) }
 {
-    if word.len() % 2 != 0 {
-        return Err(HexProblem::NotHex);
-    }
-    if !is_hex(word) {
-        return Err(HexProblem::NotHex);
-    }
     match hex::decode(alloc, word) {
         Ok(bytes) => Ok(Bytes::from_vec(bytes)),
-        Err(_) => Err(HexProblem::Memory),
+        Err(_) => Err(problem_of(word)),
     }
+}
+
+// Why `hex` gave no bytes. Its error doesn't say: it asks for memory before it looks at the digits.
+fn problem_of(word: &[u8]) -> HexProblem
+    ensures { (result ≡ HexProblem.NotHex) ↔ (bytes_of_hex word.now ≡ None) }
+{
+    if word.len() % 2 != 0 {
+        return HexProblem::NotHex;
+    }
+    if !is_hex(word) {
+        return HexProblem::NotHex;
+    }
+    HexProblem::Memory
 }
 
 fn is_hex(word: &[u8]) -> bool
