@@ -1,13 +1,6 @@
-use Rattle.std.proofs.Common.{sym, ◌∙◌, arith, refl}
-use Rattle.std.proofs.lemmas.Option.{none-some}
-use Rattle.ao_base.proofs.HexadecimalLaws.{decoded}
+use Rattle.std.proofs.Common.{arith, refl}
+use Rattle.ao_base.proofs.HexadecimalLaws.{odd_none}
 use Rattle.ao_base.proofs.hexadecimal.read_hex.Goals as goal
 
-pub returns-in-Ok-clause-bytes : goal.returns-in-Ok-clause-bytes
-returns-in-Ok-clause-bytes c = decoded c.args.word.now _ (rw c.from_vec.ensures c.in-Ok.ensures.ok)
-
-pub returns-in-Ok-clause-not_hex : goal.returns-in-Ok-clause-not_hex
-returns-in-Ok-clause-not_hex c = (
-  λ h. absurd (cc h),
-  λ none. absurd (none-some _ (sym none ∙ decoded c.args.word.now _ c.in-Ok.ensures.ok)),
-)
+pub returns-then-word-ne0-clause-not_hex : goal.returns-then-word-ne0-clause-not_hex
+returns-then-word-ne0-clause-not_hex c = (λ _. odd_none c.args.word.now (omega arith), λ _. refl)
