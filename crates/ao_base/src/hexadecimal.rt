@@ -37,8 +37,8 @@ pub fn read_hex(alloc: Global, word: &[u8]) -> Result<Bytes, HexProblem>
     }
 }
 
-// Whether the word is hexadecimal; its bytes are then in `bytes`. The decoder of `hex` takes a branch
-// at each digit, about seven times as long.
+// Whether the word is hexadecimal; its bytes are then in `bytes`. The decoder of `hex` branches at each
+// digit, which takes several times as long.
 fn decode(word: &[u8], bytes: &mut [u8]) -> bool
     requires { length word.now ≡ 2 * length bytes.old }
     ensures yes { IsTrue result → bytes_of_hex word.now ≡ Some bytes.new }
@@ -66,7 +66,7 @@ fn digit(byte: u8) -> u8
     }
 }
 
-// A word without an even number of digits is no less wrong where memory is missing.
+// Where memory is missing, another byte among the digits still makes the word not hexadecimal.
 fn without_memory(word: &[u8]) -> HexProblem
     requires { length word.now % 2 ≡ 0 }
     ensures { (result ≡ HexProblem.NotHex) ↔ (bytes_of_hex word.now ≡ None) }
