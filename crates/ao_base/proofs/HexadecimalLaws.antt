@@ -1,14 +1,15 @@
 -- What `hex` decodes, and printed bytes are read back.
-use Rattle.std.proofs.Common.{◌≡◌, ℕ, ◌*◌, ◌%◌, true, false, List, [], ◌∷◌, length, Some, None, Result, Ok, Err, refl, sym, ◌∙◌, arith}
+use Rattle.std.proofs.Common.{◌≡◌, ℕ, ◌+◌, ◌*◌, ◌%◌, ◌<◌, ◌≤◌, max, true, false, List, [], ◌∷◌, length, take, drop, slice_index, slice_set, Option, Some, None, is_some, unwrap_or, Result, Ok, Err, refl, sym, ap, ◌∙◌, ⊎_elim, arith}
 use Rattle.std.specs.Char.{is_ascii_hexdigit}
 use Rattle.std.specs.List.{list_all}
 use Rattle.std.specs.Result.{result_ok}
-use Rattle.std.proofs.lemmas.Bool.{both_ways}
+use Rattle.std.proofs.lemmas.Bool.{both_ways, cases_lt}
 use Rattle.std.proofs.lemmas.List.Sums.{AllPass-from_list_all, list_all-from_AllPass}
 use Rattle.std.proofs.lemmas.Bool.Decides.{nat_tests}
-use Rattle.hex.specs.Hex.{decode_of, is_hex_digit, IsBytes}
+use Rattle.hex.specs.Hex.{decode_of, decode_pairs, hex_digit_value, is_hex_digit, pair_value, IsBytes}
 use Rattle.hex.specs.declared.error.FromHexError.{FromHexError}
-use Rattle.hex.proofs.HexLemmas.{decode_of-digits, decode_of-ok, decode_of-encode_lower, length-encode_with}
+use Rattle.hex.proofs.Pairs.{prepend, decode_step, decode_done}
+use Rattle.hex.proofs.HexLemmas.{decode_of-even, decode_of-digits, decode_of-ok, decode_of-encode_lower, length-encode_with}
 use Rattle.ao_base.specs.Hexadecimal.{bytes_of_hex, hex_of}
 
 -- a digit in `hex` is one in std
@@ -45,6 +46,65 @@ digits_some word even digits =
 pub decoded : (word bytes : List ℕ) → decode_of word ≡ Ok bytes → bytes_of_hex word ≡ Some bytes
 unfolding bytes_of_hex
 decoded word bytes e = rw e refl
+
+-- ---- pairs of digits, where 16 is the value of a byte that is none
+
+known : (digit : Option ℕ) (value : ℕ) → value ≡ unwrap_or digit 16 → value < 16 → digit ≡ Some value
+known (Some w) value e small = ap Some (sym e)
+known None value e small = absurd (omega (arith, e))
+
+below : (byte value : ℕ) → hex_digit_value byte ≡ Some value → value < 16
+below byte value h = grind (arith)
+
+unknown : (digit : Option ℕ) (value : ℕ) → ((w : ℕ) → digit ≡ Some w → w < 16) → value ≡ unwrap_or digit 16 → 16 ≤ value → is_some digit ≡ false
+unknown (Some w) value small e great = let s = small w refl in absurd (omega (arith, e))
+unknown None value small e great = refl
+
+-- another byte at a place
+none_at : (word : List ℕ) (place value : ℕ) → place < length word → value ≡ unwrap_or (hex_digit_value (slice_index word place)) 16 →
+    16 ≤ value → bytes_of_hex word ≡ None
+unfolding bytes_of_hex
+none_at word place value within e great =
+    let bad = unknown (hex_digit_value (slice_index word place)) value (below (slice_index word place)) e great in
+    no_result word (decode_of word) (λ bytes h. both_ways _ bad ((decode_of-ok word bytes h).1 place 0 within))
+
+both_read : (a b i high low : ℕ) → high ≡ unwrap_or (hex_digit_value a) 16 → low ≡ unwrap_or (hex_digit_value b) 16 → high < 16 → low < 16 →
+    pair_value a b i ≡ Ok (high * 16 + low)
+both_read a b i high low eh el sh sl =
+    let h = known (hex_digit_value a) high eh sh in
+    let l = known (hex_digit_value b) low el sl in rw (h, l) refl
+
+-- what holds once `i` bytes are written, with the greatest value that was met
+pub record Decoding (word bytes : List ℕ) (i greatest : ℕ) : Type 0 where
+  pub read : greatest < 16 → decode_pairs 0 word ≡ prepend (take i bytes) (decode_pairs (2 * i) (drop (2 * i) word))
+  pub other : 16 ≤ greatest → bytes_of_hex word ≡ None
+
+none_of_three : (word : List ℕ) (greatest a high b low : ℕ) → (16 ≤ greatest → bytes_of_hex word ≡ None) → a < length word → b < length word →
+    high ≡ unwrap_or (hex_digit_value (slice_index word a)) 16 → low ≡ unwrap_or (hex_digit_value (slice_index word b)) 16 →
+    16 ≤ max (max greatest high) low → bytes_of_hex word ≡ None
+none_of_three word greatest a high b low other wa wb eh el great =
+    ⊎_elim
+    (λ small. ⊎_elim (λ small2. none_at word b low wb el (omega arith)) (none_at word a high wa eh) (cases_lt high 16))
+    other
+    (cases_lt greatest 16)
+
+pub decoding_on : (word bytes : List ℕ) (i greatest high low : ℕ) → 2 * i + 1 < length word → i < length bytes →
+    high ≡ unwrap_or (hex_digit_value (slice_index word (2 * i))) 16 → low ≡ unwrap_or (hex_digit_value (slice_index word (2 * i + 1))) 16 →
+    Decoding word bytes i greatest →
+    Decoding word (slice_set bytes i (high % 16 * 16 + low % 16)) (i + 1) (max (max greatest high) low)
+decoding_on word bytes i greatest high low within room eh el before = record {
+  read = λ small.
+      let sh : high < 16 = omega arith in
+      let sl : low < 16 = omega arith in
+      let same : high % 16 * 16 + low % 16 ≡ high * 16 + low = omega arith in
+      rw same (decode_step word bytes i (high * 16 + low) within room (both_read (slice_index word (2 * i)) (slice_index word (2 * i + 1)) (2 * i) high low eh el sh sl) (before.read (omega arith)));
+  other = none_of_three word greatest (2 * i) high (2 * i + 1) low before.other (omega arith) within eh el;
+}
+
+pub decoding_done : (word bytes : List ℕ) (i greatest : ℕ) → length word ≡ 2 * length bytes → length bytes ≤ i → greatest < 16 →
+    Decoding word bytes i greatest → bytes_of_hex word ≡ Some bytes
+decoding_done word bytes i greatest twice all small before =
+    decoded word bytes (decode_of-even word (omega (arith, twice)) ∙ decode_done word bytes i all (omega (arith, twice)) (before.read small))
 
 -- printed bytes are read back
 pub bytes_of_hex-hex_of : (bytes : List ℕ) → IsBytes bytes → bytes_of_hex (hex_of bytes) ≡ Some bytes

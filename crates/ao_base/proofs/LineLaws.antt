@@ -1,15 +1,20 @@
 -- The first line of a text and the first word of a line, and what stays after them.
-use Rattle.std.proofs.Common.{◌≡◌, ℕ, suc, ◌+◌, ◌-◌, ◌<◌, ◌≤◌, ◌==◌, Bool, true, false, not, cond, nat_lt, List, [], ◌∷◌, ◌++◌, length, take, drop, Some, None, unwrap_or, refl, sym, ap, ◌∙◌, arith}
+use Rattle.std.proofs.Common.{◌≡◌, ℕ, suc, ◌+◌, ◌-◌, ◌<◌, ◌≤◌, ◌==◌, Bool, true, false, not, cond, nat_lt, List, [], ◌∷◌, ◌++◌, length, take, drop, Option, Some, None, unwrap_or, refl, sym, ap, ◌∙◌, arith}
 use Rattle.std.proofs.lemmas.List.{drop-drop, length-drop, nil_from_length, append-nil}
-use Rattle.std.proofs.lemmas.List.Sums.{prefix_len-le-length}
+use Rattle.std.proofs.lemmas.List.Sums.{prefix_len-le-length, position_or_len_is}
 use Rattle.std.proofs.lemmas.Bool.{ltb-false, ne_eqb}
 use Rattle.std.specs.Str.Parse.{AllDigits}
 use Rattle.std.proofs.lemmas.Str.Parse.{digit_from_value}
 use Rattle.std.specs.List.{position, position_or_len, prefix_len}
+use Rattle.memchr.specs.Find.{IsFirstByte}
 use Rattle.ao_base.specs.Lines.{is_newline, is_blank, is_apart, onto_first, lines_of, words_of, IsNextLine, IsNextWord}
 
 pub one_more : (n : ℕ) → 1 + n ≡ suc n
 one_more n = omega arith
+
+not_yes : (b : Bool) → (b ≡ true → ⊥) → b ≡ false
+not_yes true h = absurd (h refl)
+not_yes false h = refl
 
 chosen : (b : Bool) (k n : ℕ) → (b ≡ false → k ≡ n) → unwrap_or (cond b (Some k) None) n ≡ k
 chosen true k n h = refl
@@ -20,6 +25,17 @@ pub place_or_length : (p : ℕ → Bool) (xs : List ℕ) → unwrap_or (position
 place_or_length p xs = chosen (nat_lt (position_or_len p xs) (length xs)) (position_or_len p xs) (length xs)
     (λ e. let above : length xs ≤ position_or_len p xs = ltb-false _ _ e in
     let below : position_or_len p xs ≤ length xs = prefix_len-le-length (λ x. not (p x)) xs in omega arith)
+
+-- the first place that a search gives, or the length
+pub first_or_length : (p : ℕ → Bool) (xs : List ℕ) (r : Option ℕ) → IsFirstByte p xs r → unwrap_or r (length xs) ≡ position_or_len p xs
+first_or_length p xs None none =
+    sym (position_or_len_is p xs (length xs) 0 (omega arith) (λ k lt. not_yes _ (none k (omega arith) lt)) (λ lt. absurd (omega arith)))
+first_or_length p xs (Some k) first =
+    sym (position_or_len_is p xs k 0 (let h = first.0.high in omega arith) (λ j lt. not_yes _ (first.0.before j (omega arith) lt)) (λ _. first.1))
+
+pub first_within : (p : ℕ → Bool) (xs : List ℕ) (r : Option ℕ) → IsFirstByte p xs r → unwrap_or r (length xs) ≤ length xs
+first_within p xs None none = omega arith
+first_within p xs (Some k) first = let h = first.0.high in omega arith
 
 not_not : (b : Bool) → not (not b) ≡ b
 not_not true = refl

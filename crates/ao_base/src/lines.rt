@@ -3,6 +3,8 @@ ghost use Rattle.std.specs.Prelude.{◌≡◌, ℕ, ◌+◌, ◌≤◌, ◌<◌,
 ghost use Rattle.std.specs.List.{position_or_len, prefix_len};
 ghost use Rattle.ao_base.specs.Lines.{is_blank, is_newline, lines_of, words_of, IsNextLine, IsNextWord};
 
+use memchr::{memchr, memchr3};
+
 /// A part of a text: the bytes from the place `first` up to and without the place `after`.
 #[derive(Clone, Copy, Debug, PartialEq, Eq)]
 pub struct Cut {
@@ -64,7 +66,7 @@ fn line_length(text: &[u8]) -> usize
     ensures length { result ≡ position_or_len is_newline text.now }
     ensures within { result ≤ length text.now }
 {
-    newline_at(text).unwrap_or(text.len())
+    memchr(b'\n', text).unwrap_or(text.len())
 }
 
 // How many blanks stand in front.
@@ -80,19 +82,7 @@ fn word_length(line: &[u8]) -> usize
     ensures length { result ≡ position_or_len is_blank line.now }
     ensures within { result ≤ length line.now }
 {
-    blank_at(line).unwrap_or(line.len())
-}
-
-fn newline_at(text: &[u8]) -> Option<usize>
-    ensures { result ≡ position is_newline text.now }
-{
-    text.iter().position(|byte| *byte == b'\n')
-}
-
-fn blank_at(line: &[u8]) -> Option<usize>
-    ensures { result ≡ position is_blank line.now }
-{
-    line.iter().position(|byte| is_blank(*byte))
+    memchr3(b' ', b'\t', b'\r', line).unwrap_or(line.len())
 }
 
 fn word_at(line: &[u8]) -> Option<usize>
