@@ -605,12 +605,12 @@ const SECOND_ALGORITHM: [(&[u8], u32, &[u8]); 8] = [
 #[test]
 fn the_second_algorithm_takes_keys_of_each_length(rt: HostRuntime) -> Result<(), Fail> {
     for (ends, length, datagram) in SECOND_ALGORITHM {
+        let shared = joined(rt.alloc(), [ends, b"shared AES-128-CMAC-96 "].as_slice())?;
         let master = times(rt.alloc(), b"22", length)?;
         let told = linked(
             rt.alloc(),
             [
-                ends,
-                b"shared AES-128-CMAC-96 ",
+                shared.as_slice(),
                 master.as_slice(),
                 b"\n",
                 STARTS,
