@@ -388,60 +388,61 @@ struct Row {
     status: u8,
 }
 
+const ROWS: [Row; 7] = [
+    Row {
+        name: "reordered and repeated",
+        events: b"give a 4142\nsend a\ngive a 4344\nsend a\ndeliver b 2\ndeliver b 1\ndeliver b 2\ndeliver b 1\ntake b 10\n",
+        outcomes: b"3 ok\n4 sent 1 AP seq 101 ack 201 len 2 key 0 next 0\n5 ok\n6 sent 2 AP seq 103 ack 201 len 2 key 0 next 0\n7 window\n8 taken\n9 taken\n10 window\n11 took 41424344\n",
+        summary: b"session a 1 isn 100 peer 200 established given 4 delivered 0 open\nsession b 1 isn 200 peer 100 established given 0 delivered 4 open\nsegments 2 forgeries 0\n",
+        status: 0,
+    },
+    Row {
+        name: "hostile datagrams",
+        events: b"inject b 45\ninject b 4500002800004000400626ce0a0000010a00000203e807d000000065000000c95010ffff8eec0000\ninject b 4500002c00004000400626ca0a0000010a00000203e807d000000065000000c96010ffff000000001d050000\ninject b 00\n",
+        outcomes: b"3 bad truncated\n4 refused no-ao\n5 bad option past-end 0\n6 bad version\n",
+        summary: b"session a 1 isn 100 peer 200 established given 0 delivered 0 open\nsession b 1 isn 200 peer 100 established given 0 delivered 0 open\nsegments 0 forgeries 0\n",
+        status: 0,
+    },
+    Row {
+        name: "the image of a made segment, after one with another MAC and one of other ISNs",
+        events: b"give a 68656c6c6f\nsend a\ndump 1\ninject b 4500003d00004000400626b90a0000010a00000203e807d000000065000000c99018ffff19e800001d10000073037a961fb45b9cbd84ad9568656c6c6f\ninject b 4500003d00004000400626b90a0000010a00000203e807d000000065000000c99018ffff90b800001d100000d4806c78e08664ca5b0e7bdb68656c6c6f\ninject b 4500003d00004000400626b90a0000010a00000203e807d000000065000000c99018ffff1ae800001d10000072037a961fb45b9cbd84ad9568656c6c6f\ntake b 10\n",
+        outcomes: b"3 ok\n4 sent 1 AP seq 101 ack 201 len 5 key 0 next 0\n5 datagram 4500003d00004000400626b90a0000010a00000203e807d000000065000000c99018ffff1ae800001d10000072037a961fb45b9cbd84ad9568656c6c6f\n6 refused bad-mac\n7 refused bad-mac\n8 taken\n9 took 68656c6c6f\n",
+        summary: b"session a 1 isn 100 peer 200 established given 5 delivered 0 open\nsession b 1 isn 200 peer 100 established given 0 delivered 5 open\nsegments 1 forgeries 0\n",
+        status: 0,
+    },
+    Row {
+        name: "the image of another run",
+        events: b"inject b 4500003d00004000400626b90a0000010a00000203e807d000000065000000c99018ffff1ae800001d10000072037a961fb45b9cbd84ad9568656c6c6f\n",
+        outcomes: b"3 taken\n",
+        summary: b"session a 1 isn 100 peer 200 established given 0 delivered 0 open\nsession b 1 isn 200 peer 100 established given 0 delivered 0 open\nsegments 0 forgeries 1\n",
+        status: 1,
+    },
+    Row {
+        name: "the image of another run, repeated",
+        events: b"inject b 4500003d00004000400626b90a0000010a00000203e807d000000065000000c99018ffff1ae800001d10000072037a961fb45b9cbd84ad9568656c6c6f\ninject b 4500003d00004000400626b90a0000010a00000203e807d000000065000000c99018ffff1ae800001d10000072037a961fb45b9cbd84ad9568656c6c6f\ntake b 10\n",
+        outcomes: b"3 taken\n4 window\n5 took 68656c6c6f\n",
+        summary: b"session a 1 isn 100 peer 200 established given 0 delivered 0 open\nsession b 1 isn 200 peer 100 established given 0 delivered 5 open\nsegments 0 forgeries 2\n",
+        status: 1,
+    },
+    Row {
+        name: "altered copies",
+        events: b"give a 41\nsend a\nalter b 1 36 01 fix\nalter b 1 36 01 keep\nalter b 1 37 01 fix\ndeliver b 2\ndeliver a 1\n",
+        outcomes: b"3 ok\n4 sent 1 AP seq 101 ack 201 len 1 key 0 next 0\n5 refused bad-mac\n6 checksum\n7 no-place\n8 no-segment\n9 foreign\n",
+        summary: b"session a 1 isn 100 peer 200 established given 1 delivered 0 open\nsession b 1 isn 200 peer 100 established given 0 delivered 0 open\nsegments 1 forgeries 0\n",
+        status: 0,
+    },
+    Row {
+        name: "clocks, a full queue and nothing to send",
+        events: b"clock b 253402300799\nfill a 65535 00\ngive a 01\ntake b 10\nsend b\ndump 1\n",
+        outcomes: b"3 ok\n4 ok\n5 full\n6 took -\n7 idle\n8 no-segment\n",
+        summary: b"session a 1 isn 100 peer 200 established given 65535 delivered 0 open\nsession b 1 isn 200 peer 100 established given 0 delivered 0 open\nsegments 0 forgeries 0\n",
+        status: 0,
+    },
+];
+
 #[test]
 fn each_event_has_its_outcome(rt: HostRuntime) -> Result<(), Fail> {
-    let rows = [
-        Row {
-            name: "reordered and repeated",
-            events: b"give a 4142\nsend a\ngive a 4344\nsend a\ndeliver b 2\ndeliver b 1\ndeliver b 2\ndeliver b 1\ntake b 10\n",
-            outcomes: b"3 ok\n4 sent 1 AP seq 101 ack 201 len 2 key 0 next 0\n5 ok\n6 sent 2 AP seq 103 ack 201 len 2 key 0 next 0\n7 window\n8 taken\n9 taken\n10 window\n11 took 41424344\n",
-            summary: b"session a 1 isn 100 peer 200 established given 4 delivered 0 open\nsession b 1 isn 200 peer 100 established given 0 delivered 4 open\nsegments 2 forgeries 0\n",
-            status: 0,
-        },
-        Row {
-            name: "hostile datagrams",
-            events: b"inject b 45\ninject b 4500002800004000400626ce0a0000010a00000203e807d000000065000000c95010ffff8eec0000\ninject b 4500002c00004000400626ca0a0000010a00000203e807d000000065000000c96010ffff000000001d050000\ninject b 00\n",
-            outcomes: b"3 bad truncated\n4 refused no-ao\n5 bad option past-end 0\n6 bad version\n",
-            summary: b"session a 1 isn 100 peer 200 established given 0 delivered 0 open\nsession b 1 isn 200 peer 100 established given 0 delivered 0 open\nsegments 0 forgeries 0\n",
-            status: 0,
-        },
-        Row {
-            name: "the image of a made segment, after one with another MAC and one of other ISNs",
-            events: b"give a 68656c6c6f\nsend a\ndump 1\ninject b 4500003d00004000400626b90a0000010a00000203e807d000000065000000c99018ffff19e800001d10000073037a961fb45b9cbd84ad9568656c6c6f\ninject b 4500003d00004000400626b90a0000010a00000203e807d000000065000000c99018ffff90b800001d100000d4806c78e08664ca5b0e7bdb68656c6c6f\ninject b 4500003d00004000400626b90a0000010a00000203e807d000000065000000c99018ffff1ae800001d10000072037a961fb45b9cbd84ad9568656c6c6f\ntake b 10\n",
-            outcomes: b"3 ok\n4 sent 1 AP seq 101 ack 201 len 5 key 0 next 0\n5 datagram 4500003d00004000400626b90a0000010a00000203e807d000000065000000c99018ffff1ae800001d10000072037a961fb45b9cbd84ad9568656c6c6f\n6 refused bad-mac\n7 refused bad-mac\n8 taken\n9 took 68656c6c6f\n",
-            summary: b"session a 1 isn 100 peer 200 established given 5 delivered 0 open\nsession b 1 isn 200 peer 100 established given 0 delivered 5 open\nsegments 1 forgeries 0\n",
-            status: 0,
-        },
-        Row {
-            name: "the image of another run",
-            events: b"inject b 4500003d00004000400626b90a0000010a00000203e807d000000065000000c99018ffff1ae800001d10000072037a961fb45b9cbd84ad9568656c6c6f\n",
-            outcomes: b"3 taken\n",
-            summary: b"session a 1 isn 100 peer 200 established given 0 delivered 0 open\nsession b 1 isn 200 peer 100 established given 0 delivered 0 open\nsegments 0 forgeries 1\n",
-            status: 1,
-        },
-        Row {
-            name: "the image of another run, repeated",
-            events: b"inject b 4500003d00004000400626b90a0000010a00000203e807d000000065000000c99018ffff1ae800001d10000072037a961fb45b9cbd84ad9568656c6c6f\ninject b 4500003d00004000400626b90a0000010a00000203e807d000000065000000c99018ffff1ae800001d10000072037a961fb45b9cbd84ad9568656c6c6f\ntake b 10\n",
-            outcomes: b"3 taken\n4 window\n5 took 68656c6c6f\n",
-            summary: b"session a 1 isn 100 peer 200 established given 0 delivered 0 open\nsession b 1 isn 200 peer 100 established given 0 delivered 5 open\nsegments 0 forgeries 2\n",
-            status: 1,
-        },
-        Row {
-            name: "altered copies",
-            events: b"give a 41\nsend a\nalter b 1 36 01 fix\nalter b 1 36 01 keep\nalter b 1 37 01 fix\ndeliver b 2\ndeliver a 1\n",
-            outcomes: b"3 ok\n4 sent 1 AP seq 101 ack 201 len 1 key 0 next 0\n5 refused bad-mac\n6 checksum\n7 no-place\n8 no-segment\n9 foreign\n",
-            summary: b"session a 1 isn 100 peer 200 established given 1 delivered 0 open\nsession b 1 isn 200 peer 100 established given 0 delivered 0 open\nsegments 1 forgeries 0\n",
-            status: 0,
-        },
-        Row {
-            name: "clocks, a full queue and nothing to send",
-            events: b"clock b 253402300799\nfill a 65535 00\ngive a 01\ntake b 10\nsend b\ndump 1\n",
-            outcomes: b"3 ok\n4 ok\n5 full\n6 took -\n7 idle\n8 no-segment\n",
-            summary: b"session a 1 isn 100 peer 200 established given 65535 delivered 0 open\nsession b 1 isn 200 peer 100 established given 0 delivered 0 open\nsegments 0 forgeries 0\n",
-            status: 0,
-        },
-    ];
-    for row in rows {
+    for row in ROWS {
         let told = linked(rt.alloc(), [HEAD, STARTS, row.events].as_slice(), CALM)?;
         let report = joined(
             rt.alloc(),
