@@ -1,4 +1,4 @@
-use Rattle.std.proofs.Common.{◌≡◌, ◌⊎◌, inl, inr, ℕ, ◌<◌, ◌≤◌, List, [], ◌++◌, length, take, min, Some, refl, ap, arith}
+use Rattle.std.proofs.Common.{◌≡◌, ◌⊎◌, inl, inr, ℕ, ◌<◌, ◌≤◌, List, [], ◌++◌, length, take, Some, refl, ap, arith}
 use Rattle.std.proofs.lemmas.List.{length-take}
 use Rattle.ao_base.specs.InMemory.{TakingState, taking_side}
 use Rattle.ao_base.specs.Outside.{Side, Took, Rose}
