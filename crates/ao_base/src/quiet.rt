@@ -48,6 +48,7 @@ impl Source for QuietSource {
         ensures least { result ≡ Ok (min (length buf.old) (length self.old)) }
         ensures buffer { buf.new ≡ take (length buf.old) self.old ++ drop (length self.old) buf.old }
     {
+        // The content has a length of 64 bits, and so has each place in it: the proof sees it here.
         let _total = self.content.as_slice().len();
         let n = give(self.left(), usize::MAX, buf);
         self.at += n;

@@ -95,6 +95,7 @@ fn same_options(
     ensures { (ao other_ao : Ao) → find_ao datagram.now.area ≡ One ao → find_ao other.now.area ≡ One other_ao
         → (IsTrue result ↔ (covered with_options datagram.now.area ao ≡ covered other_with_options other.now.area other_ao)) }
 {
+    // Their clauses say that each field fits its place, on which the proof rests.
     let _lengths = (datagram.length(), other.length());
     let options = datagram.options();
     let other_options = other.options();
@@ -177,6 +178,7 @@ pub fn same_input(
     requires other { HasAo other.now }
     ensures { IsSameInput result sne datagram.now with_options other_sne other.now other_with_options }
 {
+    // Their clauses say that each field fits its place, on which the proof rests.
     let _lengths = (datagram.length(), other.length());
     if sne != other_sne {
         return false;

@@ -73,6 +73,7 @@ pub(crate) fn tcp_length_of(datagram: &Datagram<'_>) -> u16
     ensures length { result ≡ tcp_length datagram.now }
     ensures fits { Fits datagram.now }
 {
+    // Its clause says that each field fits its place, on which the proof rests.
     let _length = datagram.length();
     (20 + datagram.options().area().len() + datagram.payload().len()) as u16
 }
@@ -136,6 +137,7 @@ fn feed_covered(hasher: &mut Hasher, datagram: &Datagram<'_>, with_options: bool
     ensures { (alg : Algorithm) (key fed : List ℕ) (ao : Ao) → StandsFor hasher.old alg key fed → find_ao datagram.now.area ≡ One ao
         → StandsFor hasher.new alg key (fed ++ covered with_options datagram.now.area ao) }
 {
+    // Its clause says that each field fits its place, on which the proof rests.
     let _length = datagram.length();
     let options = datagram.options();
     if let AoFound::One(ao) = options.find_ao() {

@@ -70,6 +70,7 @@ fn accounts_for(kept: &Kept, at: End, passed: &Passed, datagram: &Datagram<'_>) 
     ensures { (setup : Setup) (entry : Entrance) (m : Entry) → IsKept setup kept.now m → PassesWith setup.key datagram.now passed.now entry
         → datagram.now.source ≡ (pair_of setup at).remote → datagram.now.destination ≡ (pair_of setup at).local → result ≡ accounts_for at entry m }
 {
+    // Its clause says that each field fits its place, on which the proof rests.
     let _length = datagram.length();
     if kept.maker == at {
         return false;

@@ -123,6 +123,7 @@ impl World {
     pub fn made(&self) -> u32
         ensures { (setup : Link) (events : List ModelEvent) → StandsFor self.now setup events → result ≡ segments (run setup events).history }
     {
+        // No more segments than steps, and a step count has 32 bits: the proof sees both here.
         let _steps = self.steps;
         self.log.made.len() as u32
     }
