@@ -2,22 +2,13 @@
 //! ends with its status.
 #![tactic(auto)]
 
+mod own_text;
+
 use ao_base::{Bytes, Failed, QuietSource, ReadSource, Words, WriteSink, write_all};
 use ao_run::run;
+use own_text::OwnText;
 use std::process::ExitCode;
 use std::{env, io};
-
-const HELP: &[u8] =
-    b"usage: aotcp link [KEYS] | check KEYS | show | vectors | keys KEYS TIME | lint KEYS LEAD LAG FROM TO | storm SEED COUNT
-
-link reads a link file on standard input and writes the report of its run.
-show reads datagrams in hexadecimal, one a line, and writes their fields.
-vectors reads test vectors and writes whether each is as computed.
-Status 0: done; 1: done, with something amiss; 2: usage; 3: key file; 4: input;
-5: a read failed; 6: a write failed; 7: out of memory.
-";
-
-const VERSION: &[u8] = b"aotcp 0.1.0\n";
 
 /// The words after the program's name; an error where one isn't UTF-8.
 fn words(rt: &HostRuntime) -> io::Result<Words> {
@@ -49,10 +40,9 @@ fn run_words(rt: &HostRuntime, words: &Words) -> u8 {
 }
 
 fn answer(rt: &HostRuntime, words: &Words) -> u8 {
-    match words.as_slice() {
-        [word] if word.as_slice() == b"--help".as_slice() => print(rt, HELP),
-        [word] if word.as_slice() == b"--version".as_slice() => print(rt, VERSION),
-        _ => run_words(rt, words),
+    match OwnText::asked(words) {
+        Some(text) => print(rt, text.bytes()),
+        None => run_words(rt, words),
     }
 }
 

@@ -1,0 +1,15 @@
+-- The two texts that the program tells of itself. Our own formats.
+use Rattle.std.specs.Prelude.{ℕ, if◌then◌else◌, List, [], ◌∷◌, codes, Option, Some, None}
+use Rattle.std.specs.Str.{bytes_eq}
+use Rattle.aotcp.specs.declared.own_text.OwnText.{OwnText}
+use Rattle.aotcp.specs.declared.own_text.OwnText.TheVariants.{Help, Version}
+
+-- what the words ask of the program itself: `--help` or `--version`, as the only word
+abbrev pub asked_by : List (List ℕ) → Option OwnText
+asked_by (word ∷ []) = if bytes_eq word (codes "--help") then Some Help else if bytes_eq word (codes "--version") then Some Version else None
+asked_by _ = None
+
+-- the text that it tells then
+abbrev pub text_of : OwnText → List ℕ
+text_of Help = codes "usage: aotcp link [KEYS] | check KEYS | show | vectors | keys KEYS TIME | lint KEYS LEAD LAG FROM TO | storm SEED COUNT\n\nlink reads a link file on standard input and writes the report of its run.\nshow reads datagrams in hexadecimal, one a line, and writes their fields.\nvectors reads test vectors and writes whether each is as computed.\nStatus 0: done; 1: done, with something amiss; 2: usage; 3: key file; 4: input;\n5: a read failed; 6: a write failed; 7: out of memory.\n"
+text_of Version = codes "aotcp 0.1.0\n"

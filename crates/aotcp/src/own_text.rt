@@ -1,0 +1,45 @@
+//! The two texts that the program tells of itself.
+ghost use Rattle.std.specs.Prelude.{◌≡◌};
+ghost use Rattle.aotcp.specs.OwnTexts.{asked_by, text_of};
+
+use ao_base::Words;
+
+const HELP: &[u8] =
+    b"usage: aotcp link [KEYS] | check KEYS | show | vectors | keys KEYS TIME | lint KEYS LEAD LAG FROM TO | storm SEED COUNT
+
+link reads a link file on standard input and writes the report of its run.
+show reads datagrams in hexadecimal, one a line, and writes their fields.
+vectors reads test vectors and writes whether each is as computed.
+Status 0: done; 1: done, with something amiss; 2: usage; 3: key file; 4: input;
+5: a read failed; 6: a write failed; 7: out of memory.
+";
+
+/// What the words may ask of the program itself.
+#[derive(Clone, Copy, Debug, PartialEq, Eq)]
+pub(crate) enum OwnText {
+    Help,
+    Version,
+}
+
+impl OwnText {
+    /// What the words ask for; None exactly where they aren't `--help` or `--version` alone.
+    pub(crate) fn asked(words: &Words) -> Option<OwnText>
+        ensures { result ≡ asked_by words.now }
+    {
+        match words.as_slice() {
+            [word] if word.as_slice() == b"--help".as_slice() => Some(OwnText::Help),
+            [word] if word.as_slice() == b"--version".as_slice() => Some(OwnText::Version),
+            _ => None,
+        }
+    }
+
+    /// The text.
+    pub(crate) fn bytes(self) -> &'static [u8]
+        ensures { result.now ≡ text_of self }
+    {
+        match self {
+            OwnText::Help => HELP,
+            OwnText::Version => b"aotcp 0.1.0\n",
+        }
+    }
+}
