@@ -3,11 +3,12 @@ ghost use Rattle.std.specs.Prelude.{◌≡◌};
 ghost use Rattle.ao_base.specs.Algorithms.{algorithm_of, mac_length_of, name_of};
 
 /// An algorithm for traffic keys and MACs: HMAC-SHA-1-96 or AES-128-CMAC-96 (RFC 5926, section
-/// 3.2).
+/// 3.2), or HMAC-SHA-256-128 (own).
 #[derive(Clone, Copy, Debug, PartialEq, Eq)]
 pub enum Algorithm {
     HmacSha1,
     AesCmac,
+    HmacSha256,
 }
 
 impl Algorithm {
@@ -19,6 +20,8 @@ impl Algorithm {
             Some(Algorithm::HmacSha1)
         } else if word == b"AES-128-CMAC-96".as_slice() {
             Some(Algorithm::AesCmac)
+        } else if word == b"HMAC-SHA-256-128".as_slice() {
+            Some(Algorithm::HmacSha256)
         } else {
             None
         }
@@ -31,16 +34,18 @@ impl Algorithm {
         match self {
             Algorithm::HmacSha1 => b"HMAC-SHA-1-96".as_slice(),
             Algorithm::AesCmac => b"AES-128-CMAC-96".as_slice(),
+            Algorithm::HmacSha256 => b"HMAC-SHA-256-128".as_slice(),
         }
     }
 
-    /// The number of bytes of a MAC (RFC 5926, section 3.2).
+    /// The number of bytes of a MAC: 12, 12 and 16 (RFC 5926, section 3.2, and own).
     pub fn mac_length(&self) -> u8
         ensures { result ≡ mac_length_of self.now }
     {
         match self {
             Algorithm::HmacSha1 => 12,
             Algorithm::AesCmac => 12,
+            Algorithm::HmacSha256 => 16,
         }
     }
 }

@@ -1,12 +1,12 @@
 -- The headline, from the contract for every command and the theorem on every run.
 use Rattle.std.proofs.Common.{◌≡◌, ◌↔◌, inl, ℕ, ◌==◌, ◌<◌, if◌then◌else◌, List, [], ◌∷◌, ◌++◌, length, codes, Bool, true, false, Result, Ok, refl, sym, ap, ◌∙◌, arith, nat_lt, cond, append_assoc}
 use Rattle.std.proofs.lemmas.Bool.Decides.{nat_tests}
-use Rattle.link_model.specs.Events.{Event as ModelEvent}
-use Rattle.link_model.specs.Reports.{report, summary, lines_from, sessions_text, counts_text}
+use Rattle.narrow_link.specs.Events.{Event as ModelEvent}
+use Rattle.narrow_link.specs.Reports.{report, summary, lines_from, sessions_text, counts_text}
 use Rattle.ao_base.specs.declared.end.End.TheVariants.{A, B}
-use Rattle.link_model.specs.Runs.{empty, run, outcomes_from}
-use Rattle.link_model.specs.Worlds.{Setup}
-use Rattle.link_model.proofs.Theorem.{delivers_in_order}
+use Rattle.narrow_link.specs.Runs.{empty, run, outcomes_from}
+use Rattle.narrow_link.specs.Worlds.{Setup}
+use Rattle.narrow_link.proofs.Theorem.{delivers_in_order}
 use Rattle.link_script.specs.declared.fault.ScriptFault.{ScriptFault}
 use Rattle.link_script.specs.declared.script.Script.{Script}
 use Rattle.link_script.specs.Script.{script_of}

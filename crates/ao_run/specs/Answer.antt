@@ -9,11 +9,11 @@ use Rattle.ao_show.specs.declared.problem.TextProblem.TheVariants as problem
 use Rattle.ao_show.specs.declared.verifying.Verified.{Verified}
 use Rattle.ao_show.specs.Show.{show_of}
 use Rattle.ao_show.specs.Verified.{vectors_of}
-use Rattle.endpoint_model.specs.Verdicts.{Key}
-use Rattle.link_model.specs.Events.{Event}
-use Rattle.link_model.specs.Reports.{report}
-use Rattle.link_model.specs.Runs.{run}
-use Rattle.link_model.specs.Worlds.{Setup, forgeries}
+use Rattle.narrow_endpoint.specs.Verdicts.{Key}
+use Rattle.narrow_link.specs.Events.{Event}
+use Rattle.narrow_link.specs.Reports.{report}
+use Rattle.narrow_link.specs.Runs.{run}
+use Rattle.narrow_link.specs.Worlds.{Setup, forgeries}
 use Rattle.link_script.specs.declared.fault.ScriptFault.{ScriptFault}
 use Rattle.link_script.specs.declared.fault.ScriptFault.TheVariants.{Memory, TooManyLines, Line}
 use Rattle.link_script.specs.declared.script.Script.{Script}

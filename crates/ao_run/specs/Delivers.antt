@@ -3,11 +3,11 @@ use Rattle.std.specs.Prelude.{◌≡◌, ◌↔◌, ℕ, ◌<◌, List, [], ◌�
 use Rattle.std.specs.List.{AllByRecursion}
 use Rattle.ao_base.specs.declared.end.End.{End}
 use Rattle.ao_base.specs.Outside.{Side, Gave, Took, IsAtEnd}
-use Rattle.endpoint_model.specs.States.{ready}
-use Rattle.link_model.specs.Headline.{ComesFrom}
-use Rattle.link_model.specs.Reports.{report, counts_text}
-use Rattle.link_model.specs.Runs.{run}
-use Rattle.link_model.specs.Worlds.{Session, side, partner}
+use Rattle.narrow_endpoint.specs.States.{ready}
+use Rattle.narrow_link.specs.Headline.{ComesFrom}
+use Rattle.narrow_link.specs.Reports.{report, counts_text}
+use Rattle.narrow_link.specs.Runs.{run}
+use Rattle.narrow_link.specs.Worlds.{Session, side, partner}
 use Rattle.link_script.specs.declared.script.Script.{Script}
 use Rattle.link_script.specs.Script.{script_of}
 use Rattle.ao_run.specs.Answer.{setup_of, events_of, forgeries_of}

@@ -3,9 +3,9 @@ use Rattle.std.proofs.Common.{◌≡◌, ℕ, ◌+◌, ◌-◌, ◌≤◌, ◌�
 use Rattle.std.proofs.lemmas.List.{length-replicate}
 use Rattle.ao_base.specs.declared.end.End.{End}
 use Rattle.ao_base.specs.declared.end.End.TheVariants.{A, B}
-use Rattle.endpoint_model.specs.States.{EndState, Established, keep, room}
-use Rattle.link_model.specs.Steps.{Act, act_on, on_live, add, put, quietly}
-use Rattle.link_model.specs.Worlds.{Session, Happening, World, Side as EndSide, other, side as side_of}
+use Rattle.narrow_endpoint.specs.States.{EndState, Established, keep, room}
+use Rattle.narrow_link.specs.Steps.{Act, act_on, on_live, add, put, quietly}
+use Rattle.narrow_link.specs.Worlds.{Session, Happening, World, Side as EndSide, other, side as side_of}
 use Rattle.link_world.specs.declared.endpoint.Endpoint.{Endpoint}
 use Rattle.link_world.specs.declared.outcome.Outcome.{Outcome}
 use Rattle.link_world.specs.declared.outcome.Outcome.TheVariants as outcome
@@ -17,7 +17,7 @@ use Rattle.link_world.specs.Outcomes.{Shows}
 use Rattle.link_world.specs.Steps.{Moved}
 use Rattle.link_world.proofs.EndLaws.{more_ready}
 use Rattle.link_world.proofs.Received.{keep-beyond}
-use Rattle.link_model.specs.Events as event
+use Rattle.narrow_link.specs.Events as event
 
 -- the live session of an end, and those before it
 pub record Live (e : Endpoint) (dropped : List Ended) (sessions : List Session) : Type 0 where

@@ -2,10 +2,10 @@
 use Rattle.std.proofs.Common.{◌≡◌, Bool, true, false, ◌∷◌, List, Some, None, refl, sym, ◌∙◌, arith}
 use Rattle.ao_base.specs.declared.address.Pair.{Pair}
 use Rattle.segment_model.specs.Segments.{Segment, Fault, Reading, Read, Bad as Unread, good}
-use Rattle.endpoint_model.specs.Arrivals.{Bad, Foreign, Checksum, acceptable, arrive, arrive_judged, from_peer, unmoved}
-use Rattle.endpoint_model.specs.States.{EndState}
-use Rattle.endpoint_model.specs.Verdicts.{Key, Verdict, Pass, Passed, judge}
-use Rattle.link_model.specs.Worlds.{Setup, Happening, Coming, Came, forgeries}
+use Rattle.narrow_endpoint.specs.Arrivals.{Bad, Foreign, Checksum, acceptable, arrive, arrive_judged, from_peer, unmoved}
+use Rattle.narrow_endpoint.specs.States.{EndState}
+use Rattle.narrow_endpoint.specs.Verdicts.{Key, Verdict, Pass, Passed, judge}
+use Rattle.narrow_link.specs.Worlds.{Setup, Happening, Coming, Came, forgeries}
 use Rattle.link_world.specs.declared.log.Log.{Log}
 use Rattle.link_world.specs.Histories.{StandsLog}
 

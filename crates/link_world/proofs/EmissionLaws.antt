@@ -3,9 +3,9 @@ use Rattle.std.proofs.Common.{◌≡◌, ℕ, zero, suc, ◌<◌, min, Option, S
 use Rattle.ao_base.specs.declared.address.Pair.{Pair}
 use Rattle.segment_model.specs.Segments.{Segment, has}
 use Rattle.mac_model.specs.Contexts.{context, context_of}
-use Rattle.endpoint_model.specs.Verdicts.{Key}
-use Rattle.endpoint_model.specs.States.{EndState}
-use Rattle.endpoint_model.specs.Emissions.{shared, Quiet, Emits, data_draft, to_emit, to_emit_of, emit, emitted, seal_known, sealed, blank, unsent, effective}
+use Rattle.narrow_endpoint.specs.Verdicts.{Key}
+use Rattle.narrow_endpoint.specs.States.{EndState}
+use Rattle.narrow_endpoint.specs.Emissions.{shared, Quiet, Emits, data_draft, to_emit, to_emit_of, emit, emitted, seal_known, sealed, blank, unsent, effective}
 
 draft_of : (s : EndState) (k : ℕ) → 0 < k → to_emit_of s k ≡ Some (data_draft s k)
 draft_of s zero h = absurd (omega arith)

@@ -2,7 +2,7 @@
 use Rattle.std.proofs.Common.{◌≡◌, ℕ, ◌+◌, ◌-◌, ◌≤◌, List, ◌++◌, length, take, drop, min, Option, None, sym, ap, ◌∙◌, arith}
 use Rattle.std.proofs.lemmas.Grind.{common_steps}
 use Rattle.std.proofs.lemmas.List.{length-drop, length-append}
-use Rattle.endpoint_model.specs.States.{EndState, bytes_from, first, ready_count, ready, keep}
+use Rattle.narrow_endpoint.specs.States.{EndState, bytes_from, first, ready_count, ready, keep}
 use Rattle.link_world.specs.declared.endpoint.Endpoint.{Endpoint}
 use Rattle.link_world.specs.Ends.{Stands}
 use Rattle.link_world.proofs.Received.{drop-bytes_from, bytes_from-keep}

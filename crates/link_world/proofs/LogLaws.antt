@@ -5,8 +5,8 @@ use Rattle.std.specs.Slice.{IsItemAt}
 use Rattle.std.proofs.lemmas.Option.{slice_get_read}
 use Rattle.ao_base.specs.declared.end.End.{End}
 use Rattle.segment_model.specs.Segments.{Segment}
-use Rattle.endpoint_model.specs.Verdicts.{Passed as Entrance}
-use Rattle.link_model.specs.Worlds.{Setup, pair_of, Made as Entry, Came, Happening, Sending, Coming, accounts_for, was_made, forged, segments, segment_named}
+use Rattle.narrow_endpoint.specs.Verdicts.{Passed as Entrance}
+use Rattle.narrow_link.specs.Worlds.{Setup, pair_of, Made as Entry, Came, Happening, Sending, Coming, accounts_for, was_made, forged, segments, segment_named}
 use Rattle.link_world.specs.declared.outcome.Passed.{Passed}
 use Rattle.link_world.specs.declared.kept.Kept.{Kept}
 use Rattle.link_world.specs.declared.log.Log.{Log}

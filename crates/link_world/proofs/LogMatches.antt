@@ -21,10 +21,10 @@ use Rattle.mac_model.specs.Keys.{same_algorithm}
 use Rattle.mac_model.specs.MacInput.{mac_input}
 use Rattle.mac_model.specs.Meaning.{SameFamily}
 use Rattle.mac_model.proofs.Telling.{context_law, opened}
-use Rattle.endpoint_model.specs.Verdicts.{Key, same_key, Passed as Entrance}
-use Rattle.endpoint_model.specs.States.{EndState}
-use Rattle.endpoint_model.specs.Emissions.{Emission, Emits, Draft, Sending, blank, emit, emitted, seal_known, sealed, shared, to_emit, written_ip}
-use Rattle.link_model.specs.Worlds.{Setup, pair_of, other, same_end, Made as Entry, accounts_for}
+use Rattle.narrow_endpoint.specs.Verdicts.{Key, same_key, Passed as Entrance}
+use Rattle.narrow_endpoint.specs.States.{EndState}
+use Rattle.narrow_endpoint.specs.Emissions.{Emission, Emits, Draft, Sending, blank, emit, emitted, seal_known, sealed, shared, to_emit, written_ip}
+use Rattle.narrow_link.specs.Worlds.{Setup, pair_of, other, same_end, Made as Entry, accounts_for}
 use Rattle.ao_kdf.specs.declared.context.Context.{Context}
 use Rattle.ao_kdf.specs.Context.{bytes_of}
 use Rattle.ao_mac.specs.Macs.{IsSameInput}

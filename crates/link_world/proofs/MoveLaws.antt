@@ -4,11 +4,11 @@ use Rattle.std.proofs.lemmas.List.{length-take, take-append-le, take-take}
 use Rattle.ao_base.specs.declared.end.End.{End}
 use Rattle.tcp_segment.specs.Sums.{HasPlainHeader}
 use Rattle.tcp_segment.specs.Writing.{OneFamily}
-use Rattle.endpoint_model.specs.Emissions.{Emission, Emits, emit}
-use Rattle.endpoint_model.specs.States.{EndState}
-use Rattle.link_model.specs.Events.{Sent}
-use Rattle.link_model.specs.Steps.{Act, made_of, send, sent}
-use Rattle.link_model.specs.Worlds.{Setup, World, pair_of, Sending}
+use Rattle.narrow_endpoint.specs.Emissions.{Emission, Emits, emit}
+use Rattle.narrow_endpoint.specs.States.{EndState}
+use Rattle.narrow_link.specs.Events.{Sent}
+use Rattle.narrow_link.specs.Steps.{Act, made_of, send, sent}
+use Rattle.narrow_link.specs.Worlds.{Setup, World, pair_of, Sending}
 use Rattle.link_world.specs.declared.endpoint.Endpoint.{Endpoint}
 use Rattle.link_world.specs.declared.kept.Kept.{Kept}
 use Rattle.link_world.specs.declared.log.Log.{Log}

@@ -10,9 +10,9 @@ use Rattle.segment_model.specs.Sockets.{octets}
 use Rattle.segment_model.specs.Segments.{IpHeader, Ipv4, Ipv6, Segment, spell, spell_as, tcp_bytes, header}
 use Rattle.tcp_segment.specs.Writing.{OneFamily}
 use Rattle.tcp_segment.specs.Sums.{HasPlainHeader}
-use Rattle.endpoint_model.specs.Verdicts.{Key}
-use Rattle.endpoint_model.specs.States.{EndState}
-use Rattle.endpoint_model.specs.Emissions.{Draft, Sending, Emission, Emitted, Quiet, Emits, emit, emitted, to_emit, shared, blank, seal_known, sealed, written_ip}
+use Rattle.narrow_endpoint.specs.Verdicts.{Key}
+use Rattle.narrow_endpoint.specs.States.{EndState}
+use Rattle.narrow_endpoint.specs.Emissions.{Draft, Sending, Emission, Emitted, Quiet, Emits, emit, emitted, to_emit, shared, blank, seal_known, sealed, written_ip}
 use Rattle.mac_model.specs.Contexts.{context_of}
 use Rattle.link_world.specs.declared.endpoint.Endpoint.{Endpoint}
 use Rattle.link_world.specs.declared.outcome.Made.{Made}

@@ -2,7 +2,7 @@
 use Rattle.std.proofs.Common.{◌≡◌, ℕ, zero, suc, ◌+◌, ◌-◌, ◌<◌, ◌≤◌, List, [], ◌∷◌, ◌++◌, length, drop, slice_get, Option, Some, None, unwrap_or, true, false, nat_lt, nat_le, ◌&&◌, refl, ap, ◌∙◌, arith, Bool, if◌then◌else◌}
 use Rattle.std.proofs.lemmas.Bool.Decides.{nat_tests}
 use Rattle.std.proofs.lemmas.Option.{slice_get_past}
-use Rattle.endpoint_model.specs.States.{EndState, bytes_from, keep, ready_at, ready_count, ready, first, window}
+use Rattle.narrow_endpoint.specs.States.{EndState, bytes_from, keep, ready_at, ready_count, ready, first, window}
 
 pub bytes_from-add : (m : ℕ → Option ℕ) (p j k : ℕ) → bytes_from m p (j + k) ≡ bytes_from m p j ++ bytes_from m (p + j) k
 bytes_from-add m p zero k =
@@ -52,7 +52,7 @@ unfolding keep
 keep-below m n payload low high p h =
     let t : nat_le low p ≡ false = grind (arith, nat_tests) in rw t (or_none (m p))
   where
-    or_none : (o : Option ℕ) → Rattle.endpoint_model.specs.States.or_else o None ≡ o
+    or_none : (o : Option ℕ) → Rattle.narrow_endpoint.specs.States.or_else o None ≡ o
     or_none None = refl
     or_none (Some b) = refl
 

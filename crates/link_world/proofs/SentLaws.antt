@@ -16,9 +16,9 @@ use Rattle.tcp_segment.specs.Writing.{drafted, header_length, OneFamily}
 use Rattle.tcp_segment.proofs.DraftLaws.{drafted_ao}
 use Rattle.tcp_segment.proofs.WriteLaws.{parts, before, before_long}
 use Rattle.ao_mac.proofs.SealLaws.{ao_in, input_blind}
-use Rattle.endpoint_model.specs.Verdicts.{Key}
-use Rattle.endpoint_model.specs.States.{EndState}
-use Rattle.endpoint_model.specs.Emissions.{shared, Draft, data_draft, sealed, blank_ao, written, with_checksum, seal_of, input_of}
+use Rattle.narrow_endpoint.specs.Verdicts.{Key}
+use Rattle.narrow_endpoint.specs.States.{EndState}
+use Rattle.narrow_endpoint.specs.Emissions.{shared, Draft, data_draft, sealed, blank_ao, written, with_checksum, seal_of, input_of}
 use Rattle.ao_kdf.specs.Context.{bytes_of}
 use Rattle.link_world.specs.declared.outcome.Made.{Made}
 use Rattle.link_world.specs.Written.{IsWritten, head_of}

@@ -3,9 +3,9 @@ use Rattle.std.proofs.Common.{◌≡◌, ℕ, suc, ◌+◌, false, List, [], ◌
 use Rattle.std.specs.Prelude.{reverse}
 use Rattle.std.proofs.lemmas.List.{length-map, length-reverse}
 use Rattle.ao_base.specs.declared.end.End.{End}
-use Rattle.endpoint_model.specs.States.{EndState}
-use Rattle.link_model.specs.Worlds.{Session, Side as EndSide}
-use Rattle.link_model.specs.Reports.{dropped_text, sessions_text, phase_text}
+use Rattle.narrow_endpoint.specs.States.{EndState}
+use Rattle.narrow_link.specs.Worlds.{Session, Side as EndSide}
+use Rattle.narrow_link.specs.Reports.{dropped_text, sessions_text, phase_text}
 use Rattle.link_world.specs.declared.endpoint.Endpoint.{Endpoint}
 use Rattle.link_world.specs.declared.side.Ended.{Ended}
 use Rattle.link_world.specs.declared.side.Side.{Side}

@@ -6,7 +6,7 @@ use Rattle.segment_model.specs.Bytes.{same_bytes}
 use Rattle.segment_model.specs.Options.{Ao, AoFound, One, find_ao}
 use Rattle.segment_model.specs.Segments.{Segment}
 use Rattle.mac_model.specs.Contexts.{context_of}
-use Rattle.endpoint_model.specs.Verdicts.{Key, Refuse, Pass, NoTuple, MacLength, BadMac, judge, judge_ao, judge_context, passed_with, mac_of}
+use Rattle.narrow_endpoint.specs.Verdicts.{Key, Refuse, Pass, NoTuple, MacLength, BadMac, judge, judge_ao, judge_context, passed_with, mac_of}
 
 pub by_found : (key : Key) (own : ℕ) (peer : Option ℕ) (d : Segment) (f : AoFound) → f ≡ find_ao d.area
     → judge key own peer d ≡ judge_ao key d (context_of d peer (Some own)) f

@@ -2,13 +2,13 @@
 use Rattle.std.proofs.Common.{◌≡◌, ◌+◌, ◌<◌, ℕ, suc, List, [], ◌∷◌, ◌++◌, length, Result, Option, Some, Ok, Err, IfOk, OnOk, get_or, slice_get, codes, decimal, refl, sym, ap, ◌∙◌, subst, arith}
 use Rattle.std.proofs.lemmas.List.{append_assoc, length-append}
 use Rattle.std.proofs.lemmas.Option.{slice_get_read}
-use Rattle.link_model.specs.Events.{Event}
+use Rattle.narrow_link.specs.Events.{Event}
 use Rattle.ao_base.specs.declared.end.End.TheVariants.{A, B}
-use Rattle.link_model.specs.Reports.{counts_text, lines_from, outcome_line, report, sessions_text, summary}
-use Rattle.link_model.specs.Runs.{empty, outcomes_from, run}
-use Rattle.link_model.specs.Steps.{step}
-use Rattle.link_model.specs.Worlds.{Setup as Link, World as Both, Made as Entry, Happening, forgeries, segment_named, segments}
-use Rattle.link_model.proofs.Splits.{lines-more, run-more}
+use Rattle.narrow_link.specs.Reports.{counts_text, lines_from, outcome_line, report, sessions_text, summary}
+use Rattle.narrow_link.specs.Runs.{empty, outcomes_from, run}
+use Rattle.narrow_link.specs.Steps.{step}
+use Rattle.narrow_link.specs.Worlds.{Setup as Link, World as Both, Made as Entry, Happening, forgeries, segment_named, segments}
+use Rattle.narrow_link.proofs.Splits.{lines-more, run-more}
 use Rattle.link_world.specs.declared.outcome.Outcome.{Outcome}
 use Rattle.link_world.specs.declared.world.World.{World}
 use Rattle.link_world.specs.declared.kept.Kept.{Kept}

@@ -11,9 +11,9 @@ use Rattle.tcp_segment.specs.declared.writing.Head.{Head}
 use Rattle.tcp_segment.specs.Writing.{drafted, header_length, option_heads, written_ip as head_ip, IsFinished}
 use Rattle.tcp_segment.proofs.DraftLaws.{drafted_ao}
 use Rattle.ao_mac.specs.Macs.{IsMacOf}
-use Rattle.endpoint_model.specs.Verdicts.{Key}
-use Rattle.endpoint_model.specs.States.{EndState, window}
-use Rattle.endpoint_model.specs.Emissions.{shared, Draft, written_ip, written, blank_ao, input_of}
+use Rattle.narrow_endpoint.specs.Verdicts.{Key}
+use Rattle.narrow_endpoint.specs.States.{EndState, window}
+use Rattle.narrow_endpoint.specs.Emissions.{shared, Draft, written_ip, written, blank_ao, input_of}
 use Rattle.link_world.specs.Written.{IsWritten, head_of}
 
 pub written_so : (h : Head) (payload : List ℕ) (alg : Algorithm) (key : List ℕ) (sne : ℕ) (before after code : List ℕ)

@@ -1,9 +1,9 @@
 -- An end to which a datagram came.
 use Rattle.std.specs.Prelude.{◌≡◌, Bool, false, Option, Some, None, List, ◌∷◌}
 use Rattle.ao_base.specs.declared.end.End.{End}
-use Rattle.endpoint_model.specs.Arrivals.{Arrived}
+use Rattle.narrow_endpoint.specs.Arrivals.{Arrived}
 use Rattle.link_world.specs.declared.endpoint.Endpoint.{Endpoint}
-use Rattle.link_model.specs.Worlds.{Setup, Happening, Coming, Came}
+use Rattle.narrow_link.specs.Worlds.{Setup, Happening, Coming, Came}
 use Rattle.link_world.specs.declared.log.Log.{Log}
 use Rattle.link_world.specs.declared.outcome.Answered.{Answered}
 use Rattle.link_world.specs.declared.outcome.Arrival.{Arrival}

@@ -1,9 +1,9 @@
 -- An end that made a segment.
 use Rattle.std.specs.Prelude.{◌≡◌, ℕ, List}
 use Rattle.ao_base.specs.declared.address.Pair.{Pair}
-use Rattle.endpoint_model.specs.Verdicts.{Key}
-use Rattle.endpoint_model.specs.States.{EndState}
-use Rattle.endpoint_model.specs.Emissions.{Emission, Emits, emit}
+use Rattle.narrow_endpoint.specs.Verdicts.{Key}
+use Rattle.narrow_endpoint.specs.States.{EndState}
+use Rattle.narrow_endpoint.specs.Emissions.{Emission, Emits, emit}
 use Rattle.link_world.specs.declared.endpoint.Endpoint.{Endpoint}
 use Rattle.link_world.specs.declared.outcome.Made.{Made}
 use Rattle.link_world.specs.Ends.{Stands}

@@ -1,6 +1,6 @@
 -- What an end stands for.
 use Rattle.std.specs.Prelude.{◌≡◌, ℕ, ◌+◌, ◌≤◌, length, Some, None}
-use Rattle.endpoint_model.specs.States.{EndState, Established, bytes_from, ready_at}
+use Rattle.narrow_endpoint.specs.States.{EndState, Established, bytes_from, ready_at}
 use Rattle.link_world.specs.declared.endpoint.Endpoint.{Endpoint}
 
 -- the parts of an end fit each other: what was sent was given, what is ready was received, and numbers stay small

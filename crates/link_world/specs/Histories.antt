@@ -4,11 +4,11 @@ use Rattle.ao_base.specs.declared.address.Address.{Address}
 use Rattle.ao_base.specs.declared.address.Address.TheVariants.{V4, V6}
 use Rattle.ao_base.specs.declared.address.Pair.{Pair}
 use Rattle.segment_model.specs.Segments.{IpHeader, Ipv4, Ipv6}
-use Rattle.endpoint_model.specs.Emissions.{Emission}
+use Rattle.narrow_endpoint.specs.Emissions.{Emission}
 use Rattle.tcp_segment.specs.Sums.{HasPlainHeader}
 use Rattle.ao_base.specs.declared.end.End.{End}
-use Rattle.link_model.specs.Steps.{Stepped}
-use Rattle.link_model.specs.Worlds.{Setup, World, pair_of, Made as Entry, Happening, Sending, Coming, forgeries}
+use Rattle.narrow_link.specs.Steps.{Stepped}
+use Rattle.narrow_link.specs.Worlds.{Setup, World, pair_of, Made as Entry, Happening, Sending, Coming, forgeries}
 use Rattle.link_world.specs.declared.outcome.Outcome.{Outcome}
 use Rattle.link_world.specs.declared.side.Side.{Side}
 use Rattle.link_world.specs.Steps.{Moved}

@@ -1,10 +1,10 @@
 -- What the answers of a link stand for.
 use Rattle.std.specs.Prelude.{◌≡◌, ℕ, length}
 use Rattle.tcp_segment.specs.Views.{fault_of}
-use Rattle.endpoint_model.specs.Verdicts as verdict
-use Rattle.endpoint_model.specs.Arrivals as answer
-use Rattle.link_model.specs.Events as event
-use Rattle.link_model.specs.Worlds.{Made as Entry}
+use Rattle.narrow_endpoint.specs.Verdicts as verdict
+use Rattle.narrow_endpoint.specs.Arrivals as answer
+use Rattle.narrow_link.specs.Events as event
+use Rattle.narrow_link.specs.Worlds.{Made as Entry}
 use Rattle.link_world.specs.declared.outcome.Refusal.{Refusal}
 use Rattle.link_world.specs.declared.outcome.Refusal.TheVariants as refusal
 use Rattle.link_world.specs.declared.outcome.Arrival.{Arrival}

@@ -3,7 +3,7 @@ use Rattle.std.specs.Prelude.{◌≡◌, ℕ, List, length, take, true}
 use Rattle.segment_model.specs.Options.{Ao, One, find_ao}
 use Rattle.segment_model.specs.Segments.{Read, reading, spell}
 use Rattle.mac_model.specs.MacInput.{mac_input}
-use Rattle.endpoint_model.specs.Emissions.{Emission}
+use Rattle.narrow_endpoint.specs.Emissions.{Emission}
 use Rattle.ao_kdf.specs.Context.{bytes_of}
 use Rattle.link_world.specs.declared.outcome.Made.{Made}
 

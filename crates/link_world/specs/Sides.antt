@@ -1,6 +1,6 @@
 -- What an end with all its sessions stands for.
 use Rattle.std.specs.Prelude.{◌≡◌, ℕ, Bool, false, List, [], ◌∷◌, length, map, reverse, Option, Some, None}
-use Rattle.link_model.specs.Worlds.{Session, Side as EndSide}
+use Rattle.narrow_link.specs.Worlds.{Session, Side as EndSide}
 use Rattle.link_world.specs.declared.endpoint.Endpoint.{Endpoint}
 use Rattle.link_world.specs.declared.side.Ended.{Ended}
 use Rattle.link_world.specs.declared.side.Side.{Side}

@@ -2,11 +2,11 @@
 use Rattle.std.specs.Prelude.{◌≡◌, ℕ, List, length, Option, Some, None}
 use Rattle.ao_base.specs.declared.end.End.{End}
 use Rattle.ao_base.specs.declared.end.End.TheVariants.{A}
-use Rattle.link_model.specs.Events as model
-use Rattle.link_model.specs.Reports.{lines_from}
-use Rattle.link_model.specs.Runs.{empty, outcomes_from, run}
-use Rattle.link_model.specs.Steps.{Stepped}
-use Rattle.link_model.specs.Worlds.{Setup as Link, Made as Entry}
+use Rattle.narrow_link.specs.Events as model
+use Rattle.narrow_link.specs.Reports.{lines_from}
+use Rattle.narrow_link.specs.Runs.{empty, outcomes_from, run}
+use Rattle.narrow_link.specs.Steps.{Stepped}
+use Rattle.narrow_link.specs.Worlds.{Setup as Link, Made as Entry}
 use Rattle.link_script.specs.declared.event.Event.{Event}
 use Rattle.link_script.specs.declared.event.Event.TheVariants as script
 use Rattle.link_world.specs.declared.world.Setup.{Setup}

@@ -1,8 +1,8 @@
 -- A side after an event at its end.
 use Rattle.std.specs.Prelude.{◌≡◌}
 use Rattle.ao_base.specs.declared.end.End.{End}
-use Rattle.link_model.specs.Steps.{Stepped}
-use Rattle.link_model.specs.Worlds.{World, other, side as side_of}
+use Rattle.narrow_link.specs.Steps.{Stepped}
+use Rattle.narrow_link.specs.Worlds.{World, other, side as side_of}
 use Rattle.link_world.specs.declared.outcome.Outcome.{Outcome}
 use Rattle.link_world.specs.declared.side.Side.{Side}
 use Rattle.link_world.specs.Outcomes.{Shows}

@@ -1,7 +1,7 @@
 -- The lines of sessions, of what is kept of them.
 use Rattle.std.specs.Prelude.{ℕ, suc, List, [], ◌∷◌, ◌++◌, length, codes, decimal}
 use Rattle.ao_base.specs.declared.end.End.{End}
-use Rattle.link_model.specs.Reports.{end_text, number_text, shown_text}
+use Rattle.narrow_link.specs.Reports.{end_text, number_text, shown_text}
 use Rattle.link_world.specs.Sides.{Facts}
 
 -- the line of a session

@@ -2,7 +2,7 @@
 use Rattle.std.specs.Prelude.{◌≡◌, length, Result, Ok, Err}
 use Rattle.segment_model.specs.Options.{Ao, One, find_ao}
 use Rattle.segment_model.specs.Segments.{Segment}
-use Rattle.endpoint_model.specs.Verdicts.{Key, Verdict, Refuse, Pass, Passed as Entry, passed_with}
+use Rattle.narrow_endpoint.specs.Verdicts.{Key, Verdict, Refuse, Pass, Passed as Entry, passed_with}
 use Rattle.link_script.specs.declared.script.SharedKey.{SharedKey}
 use Rattle.ao_kdf.specs.Context.{bytes_of}
 use Rattle.link_world.specs.declared.outcome.Passed.{Passed}

@@ -2,7 +2,7 @@
 use Rattle.std.specs.Prelude.{◌≡◌, ℕ, ◌+◌, ◌%◌, List, length, drop, replicate, None, true}
 use Rattle.ao_base.specs.declared.algorithm.Algorithm.{Algorithm}
 use Rattle.ao_base.specs.declared.address.Pair.{Pair}
-use Rattle.endpoint_model.specs.States.{EndState, window}
+use Rattle.narrow_endpoint.specs.States.{EndState, window}
 use Rattle.tcp_segment.specs.declared.writing.Head.{Head}
 use Rattle.tcp_segment.specs.Writing.{drafted, header_length, IsFinished}
 use Rattle.ao_mac.specs.Macs.{IsMacOf}

@@ -1,9 +1,9 @@
 //! The events at an end by which nothing is made and nothing comes.
 ghost use Rattle.std.specs.Prelude.{◌≡◌, IfOk, OnErr};
 ghost use Rattle.ao_base.specs.declared.end.End.{End};
-ghost use Rattle.link_model.specs.Events.{Clock, Fill as FillEvent, Give as GiveEvent, Start as StartEvent, Take as TakeEvent};
-ghost use Rattle.link_model.specs.Steps.{step};
-ghost use Rattle.link_model.specs.Worlds.{Setup, Side as EndSide, World, side as side_of};
+ghost use Rattle.narrow_link.specs.Events.{Clock, Fill as FillEvent, Give as GiveEvent, Start as StartEvent, Take as TakeEvent};
+ghost use Rattle.narrow_link.specs.Steps.{step};
+ghost use Rattle.narrow_link.specs.Worlds.{Setup, Side as EndSide, World, side as side_of};
 ghost use Rattle.link_world.specs.Sides.{IsSoundLive, StandsSide};
 ghost use Rattle.link_world.specs.Steps.{Moved};
 

@@ -2,7 +2,7 @@
 ghost use Rattle.std.specs.Prelude.{◌≡◌, ◌<◌, length, is_some, IfOk, IfSome};
 ghost use Rattle.segment_model.specs.Spelling.{ip_length};
 ghost use Rattle.tcp_segment.specs.Sums.{HasPlainHeader};
-ghost use Rattle.link_model.specs.Alterations.{has_place, masked as masked_at, altered as altered_so};
+ghost use Rattle.narrow_link.specs.Alterations.{has_place, masked as masked_at, altered as altered_so};
 
 use std::alloc::{AllocError, Global};
 use tcp_segment::fix_checksum;

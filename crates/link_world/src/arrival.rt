@@ -2,9 +2,9 @@
 ghost use Rattle.std.specs.Prelude.{◌≡◌, ◌<◌, ◌≤◌, ◌&&◌, false, List, length, IsTrue};
 ghost use Rattle.segment_model.specs.Segments.{reading};
 ghost use Rattle.segment_model.specs.Sockets.{same_socket};
-ghost use Rattle.endpoint_model.specs.Arrivals.{arrive, from_peer};
-ghost use Rattle.endpoint_model.specs.States.{EndState};
-ghost use Rattle.link_model.specs.Worlds.{Happening, Setup, pair_of};
+ghost use Rattle.narrow_endpoint.specs.Arrivals.{arrive, from_peer};
+ghost use Rattle.narrow_endpoint.specs.States.{EndState};
+ghost use Rattle.narrow_link.specs.Worlds.{Happening, Setup, pair_of};
 ghost use Rattle.link_world.specs.Arriving.{Arrives};
 ghost use Rattle.link_world.specs.Ends.{IsSound, Stands};
 ghost use Rattle.link_world.specs.Histories.{StandsLog};

@@ -1,9 +1,9 @@
 //! One end of a connection: what was given to it and sent, and what came and is ready.
 ghost use Rattle.std.specs.Prelude.{◌≡◌, ◌≢◌, ◌==◌, nat_lt, nat_le, ◌&&◌, not, ◌⊎◌, ◌↔◌, ℕ, ◌+◌, ◌-◌, ◌*◌, ◌<◌, ◌≤◌, ◌^◌, min, List, [], ◌∷◌, ◌++◌, length, take, drop, replicate, IfOk, IfSome, IfNone, OnOk, OnErr, Option, Some, None, true, false, IsTrue};
-ghost use Rattle.endpoint_model.specs.States.{EndState, started, give, take_out, taking, window, room};
-ghost use Rattle.endpoint_model.specs.Arrivals.{arrive_judged, received};
-ghost use Rattle.endpoint_model.specs.Verdicts.{Pass, Passed as Entry};
-ghost use Rattle.endpoint_model.specs.Emissions.{Quiet, data_draft, effective, emit, sealed, shared as under, unsent};
+ghost use Rattle.narrow_endpoint.specs.States.{EndState, started, give, take_out, taking, window, room};
+ghost use Rattle.narrow_endpoint.specs.Arrivals.{arrive_judged, received};
+ghost use Rattle.narrow_endpoint.specs.Verdicts.{Pass, Passed as Entry};
+ghost use Rattle.narrow_endpoint.specs.Emissions.{Quiet, data_draft, effective, emit, sealed, shared as under, unsent};
 ghost use Rattle.segment_model.specs.Segments.{has};
 ghost use Rattle.mac_model.specs.Contexts.{context};
 ghost use Rattle.ao_kdf.specs.Context.{bytes_of};

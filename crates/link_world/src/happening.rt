@@ -1,8 +1,8 @@
 //! What an event does to the end at which it happens.
 ghost use Rattle.std.specs.Prelude.{◌≡◌, ◌<◌, ◌≤◌, ◌+◌, IfOk, IsTrue, length};
 ghost use Rattle.tcp_segment.specs.Writing.{OneFamily};
-ghost use Rattle.link_model.specs.Steps.{step};
-ghost use Rattle.link_model.specs.Worlds.{Setup, World, pair_of, side as side_of};
+ghost use Rattle.narrow_link.specs.Steps.{step};
+ghost use Rattle.narrow_link.specs.Worlds.{Setup, World, pair_of, side as side_of};
 ghost use Rattle.link_script.specs.Script.{are_two_of_a_family};
 ghost use Rattle.link_world.specs.Histories.{Follows, StandsLog};
 ghost use Rattle.link_world.specs.Sides.{IsSoundLive, StandsSide};

@@ -1,7 +1,7 @@
 //! Everything that was made on a link, and how many forgeries were counted.
 ghost use Rattle.std.specs.Prelude.{◌≡◌, ◌↔◌, ◌+◌, ◌<◌, ◌≤◌, ℕ, suc, List, [], ◌∷◌, length, true, IsTrue, Some, None, MatchOption, OnOk, OnErr, IfOk};
-ghost use Rattle.endpoint_model.specs.Verdicts.{Passed as Entrance};
-ghost use Rattle.link_model.specs.Worlds.{Setup, Made as Entry, Came, Happening, Sending, Coming, pair_of, segment_named, accounts_for, was_made};
+ghost use Rattle.narrow_endpoint.specs.Verdicts.{Passed as Entrance};
+ghost use Rattle.narrow_link.specs.Worlds.{Setup, Made as Entry, Came, Happening, Sending, Coming, pair_of, segment_named, accounts_for, was_made};
 ghost use Rattle.ao_kdf.specs.Context.{bytes_of};
 ghost use Rattle.ao_mac.specs.Macs.{HasAo, IsSameInput};
 ghost use Rattle.link_world.specs.declared.kept.Kept.{Kept};

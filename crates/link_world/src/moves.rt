@@ -1,9 +1,9 @@
 //! The events at an end by which a segment is made or a datagram comes.
 ghost use Rattle.std.specs.Prelude.{◌≡◌, ◌<◌, ◌≤◌, ◌+◌, IfOk, List, length};
 ghost use Rattle.tcp_segment.specs.Writing.{OneFamily};
-ghost use Rattle.link_model.specs.Events.{Send, Deliver, Alter};
-ghost use Rattle.link_model.specs.Steps.{come, image_of, on_live, step};
-ghost use Rattle.link_model.specs.Worlds.{Happening, Setup, World, pair_of, segment_named, side as side_of};
+ghost use Rattle.narrow_link.specs.Events.{Send, Deliver, Alter};
+ghost use Rattle.narrow_link.specs.Steps.{come, image_of, on_live, step};
+ghost use Rattle.narrow_link.specs.Worlds.{Happening, Setup, World, pair_of, segment_named, side as side_of};
 ghost use Rattle.link_world.specs.Arriving.{outcome_of, was_forged};
 ghost use Rattle.link_world.specs.Histories.{Follows, StandsLog, counted};
 ghost use Rattle.link_world.specs.Outcomes.{Shows};

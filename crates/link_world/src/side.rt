@@ -1,8 +1,8 @@
 //! An end of a link with all its sessions.
 ghost use Rattle.std.specs.Prelude.{◌≡◌, ◌↔◌, ℕ, List, [], ◌∷◌, IfOk, OnOk, OnErr, Some, None, true, false, IsTrue, is_some, ◌==◌};
 ghost use Rattle.std.specs.List.{list_any};
-ghost use Rattle.endpoint_model.specs.States.{started};
-ghost use Rattle.link_model.specs.Worlds.{Side as EndSide, find};
+ghost use Rattle.narrow_endpoint.specs.States.{started};
+ghost use Rattle.narrow_link.specs.Worlds.{Side as EndSide, find};
 
 use crate::endpoint::Endpoint;
 use std::alloc::{AllocError, Global};

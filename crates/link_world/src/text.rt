@@ -2,9 +2,9 @@
 ghost use Rattle.std.specs.Prelude.{◌≡◌, ℕ, ◌++◌, ◌∷◌, List, [], OnOk, codes, decimal, length, map, reverse};
 ghost use Rattle.ao_base.specs.Hexadecimal.{hex_of};
 ghost use Rattle.tcp_segment.specs.Views.{fault_of};
-ghost use Rattle.link_model.specs.Reports.{fault_text, refusal_text, answer_text, flags_text, number_text, outcome_text, outcome_line, sent_text, hex_or_none, end_mark, end_text, sessions_text};
-ghost use Rattle.link_model.specs.Events as event;
-ghost use Rattle.link_model.specs.Worlds.{Made as Entry, Side as EndSide};
+ghost use Rattle.narrow_link.specs.Reports.{fault_text, refusal_text, answer_text, flags_text, number_text, outcome_text, outcome_line, sent_text, hex_or_none, end_mark, end_text, sessions_text};
+ghost use Rattle.narrow_link.specs.Events as event;
+ghost use Rattle.narrow_link.specs.Worlds.{Made as Entry, Side as EndSide};
 ghost use Rattle.link_world.specs.Sides.{kept_facts, StandsSide, IsSoundLive};
 ghost use Rattle.link_world.specs.Summaries.{session_line, dropped_lines};
 ghost use Rattle.link_world.specs.Outcomes.{view_refusal, view_arrival, Shows, Tells};

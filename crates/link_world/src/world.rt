@@ -1,11 +1,11 @@
 //! A link between two ends.
 ghost use Rattle.std.specs.Prelude.{◌≡◌, ◌<◌, ◌≤◌, ◌+◌, IfOk, IsTrue, List, OnOk, [], ◌∷◌, ◌++◌, length};
 ghost use Rattle.std.specs.Option.{ForSome};
-ghost use Rattle.link_model.specs.Events.{Event as ModelEvent};
-ghost use Rattle.link_model.specs.Reports.{report, summary};
-ghost use Rattle.link_model.specs.Runs.{run};
-ghost use Rattle.link_model.specs.Steps.{step};
-ghost use Rattle.link_model.specs.Worlds.{Setup as Link, World as Both, forgeries, segment_named, segments};
+ghost use Rattle.narrow_link.specs.Events.{Event as ModelEvent};
+ghost use Rattle.narrow_link.specs.Reports.{report, summary};
+ghost use Rattle.narrow_link.specs.Runs.{run};
+ghost use Rattle.narrow_link.specs.Steps.{step};
+ghost use Rattle.narrow_link.specs.Worlds.{Setup as Link, World as Both, forgeries, segment_named, segments};
 ghost use Rattle.link_script.specs.Script.{are_two_of_a_family};
 ghost use Rattle.link_world.specs.Ends.{IsSound};
 ghost use Rattle.link_world.specs.Histories.{StandsLog};

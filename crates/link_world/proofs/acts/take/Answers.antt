@@ -1,8 +1,8 @@
 use Rattle.std.proofs.Common.{◌≡◌, ◌∙◌, ℕ, List, ◌++◌, length, take, drop, false, refl, sym, ap, subst, arith}
 use Rattle.std.proofs.lemmas.Grind.{common_steps}
-use Rattle.endpoint_model.specs.States.{take_out, taking}
-use Rattle.link_model.specs.Events as event
-use Rattle.link_model.specs.Steps.{took}
+use Rattle.narrow_endpoint.specs.States.{take_out, taking}
+use Rattle.narrow_link.specs.Events as event
+use Rattle.narrow_link.specs.Steps.{took}
 use Rattle.link_world.specs.Ends.{Stands}
 use Rattle.link_world.proofs.ActLaws.{moved_quietly}
 use Rattle.link_world.proofs.acts.take.Goals as goal

@@ -3,10 +3,10 @@ use Rattle.ao_base.specs.declared.address.Pair.{Pair}
 use Rattle.ao_base.specs.declared.end.End.{End}
 use Rattle.segment_model.specs.Segments.{Segment, reading}
 use Rattle.tcp_segment.specs.Views.{fault_of}
-use Rattle.endpoint_model.specs.Arrivals.{Arrived, unmoved}
-use Rattle.endpoint_model.specs.States.{EndState}
-use Rattle.endpoint_model.specs.Verdicts.{Key, Verdict, Refuse, Pass, judge}
-use Rattle.link_model.specs.Worlds.{Happening, Setup, pair_of}
+use Rattle.narrow_endpoint.specs.Arrivals.{Arrived, unmoved}
+use Rattle.narrow_endpoint.specs.States.{EndState}
+use Rattle.narrow_endpoint.specs.Verdicts.{Key, Verdict, Refuse, Pass, judge}
+use Rattle.narrow_link.specs.Worlds.{Happening, Setup, pair_of}
 use Rattle.link_world.specs.declared.endpoint.Endpoint.{Endpoint}
 use Rattle.link_world.specs.declared.log.Log.{Log}
 use Rattle.link_world.specs.declared.outcome.Answered.{Answered}

@@ -1,7 +1,7 @@
 use Rattle.std.proofs.Common.{◌<◌, sym, ap, ◌∙◌, refl, Some, arith}
 use Rattle.segment_model.specs.Options.{Absent, Two, WithMd5, One}
 use Rattle.tcp_options.specs.Views.{view_ao}
-use Rattle.endpoint_model.specs.Verdicts.{judge, passed_with}
+use Rattle.narrow_endpoint.specs.Verdicts.{judge, passed_with}
 use Rattle.ao_kdf.specs.Context.{bytes_of}
 use Rattle.link_world.specs.Verdicts.{key_of}
 use Rattle.link_world.proofs.VerdictLaws.{by_found, no_tuple, mac_length, at_context, wrong, right}
@@ -37,7 +37,7 @@ returns-then-not-is_right c =
     let small : d.sequence < 4294967296 = omega (arith, c.sequence-sequence.ensures, c.sequence-sequence.type_inv) in
     let test = c.is_right.ensures d.sequence ao small (sym c.in-One.ensures) in
     by_found key c.args.own_isn (Some c.args.peer_isn) d (One ao) c.in-One.ensures
-    ∙ ap (λ ctx. Rattle.endpoint_model.specs.Verdicts.judge_ao key d ctx (One ao)) c.context-context.ensures.context
+    ∙ ap (λ ctx. Rattle.narrow_endpoint.specs.Verdicts.judge_ao key d ctx (One ao)) c.context-context.ensures.context
     ∙ at_context key d (Some (bytes_of c.context-context.result)) ao c.if-ao-ne0.false c.if-ao-ne12.false
     ∙ wrong key d (bytes_of c.context-context.result) ao (sym test ∙ c.if-not-is_right.true)
 
@@ -50,7 +50,7 @@ returns c =
     let test = c.is_right.ensures d.sequence ao small (sym c.in-One.ensures) in (
       passed_with key d ao (bytes_of c.context-context.result),
       by_found key c.args.own_isn (Some c.args.peer_isn) d (One ao) c.in-One.ensures
-          ∙ ap (λ ctx. Rattle.endpoint_model.specs.Verdicts.judge_ao key d ctx (One ao)) c.context-context.ensures.context
+          ∙ ap (λ ctx. Rattle.narrow_endpoint.specs.Verdicts.judge_ao key d ctx (One ao)) c.context-context.ensures.context
           ∙ at_context key d (Some (bytes_of c.context-context.result)) ao c.if-ao-ne0.false c.if-ao-ne12.false
           ∙ right key d (bytes_of c.context-context.result) ao (sym test ∙ c.if-not-is_right.false),
       record {

@@ -1,10 +1,10 @@
 use Rattle.std.proofs.Common.{refl, sym, ap, subst}
 use Rattle.ao_base.specs.declared.address.Pair.{Pair}
 use Rattle.segment_model.specs.Segments.{reading}
-use Rattle.endpoint_model.specs.Arrivals.{arrive}
-use Rattle.link_model.specs.Events as event
-use Rattle.link_model.specs.Steps.{come}
-use Rattle.link_model.specs.Worlds.{Came, pair_of, side as side_of}
+use Rattle.narrow_endpoint.specs.Arrivals.{arrive}
+use Rattle.narrow_link.specs.Events as event
+use Rattle.narrow_link.specs.Steps.{come}
+use Rattle.narrow_link.specs.Worlds.{Came, pair_of, side as side_of}
 use Rattle.link_world.specs.declared.outcome.Outcome.TheVariants as outcome
 use Rattle.link_world.specs.Arriving.{Arrives}
 use Rattle.link_world.specs.Histories.{StandsLog, counted}

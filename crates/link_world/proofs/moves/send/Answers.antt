@@ -2,9 +2,9 @@ use Rattle.std.proofs.Common.{◌≡◌, take, Some, refl, sym, ap, ◌∙◌, s
 use Rattle.ao_base.specs.declared.address.Pair.{Pair}
 use Rattle.tcp_segment.specs.Sums.{HasPlainHeader}
 use Rattle.tcp_segment.specs.Writing.{OneFamily}
-use Rattle.endpoint_model.specs.Verdicts.{Key}
-use Rattle.link_model.specs.Steps.{Act, add, made_of, send}
-use Rattle.link_model.specs.Worlds.{pair_of}
+use Rattle.narrow_endpoint.specs.Verdicts.{Key}
+use Rattle.narrow_link.specs.Steps.{Act, add, made_of, send}
+use Rattle.narrow_link.specs.Worlds.{pair_of}
 use Rattle.link_world.specs.declared.outcome.Outcome.TheVariants as outcome
 use Rattle.link_world.specs.Emitting.{Makes}
 use Rattle.link_world.specs.Histories.{StandsLog}

@@ -1,5 +1,5 @@
 use Rattle.std.proofs.Common.{◌<◌, ◌∙◌, ap, min, arith}
-use Rattle.endpoint_model.specs.Emissions.{unsent}
+use Rattle.narrow_endpoint.specs.Emissions.{unsent}
 use Rattle.link_world.specs.Verdicts.{key_of}
 use Rattle.link_world.proofs.EmissionLaws.{quiet_is, emits_is}
 use Rattle.link_world.proofs.endpoint.Endpoint.emit.Goals as goal

@@ -1,6 +1,6 @@
 use Rattle.std.proofs.Common.{◌≡◌, ◌+◌, ◌≤◌, ◌++◌, length, take, arith, ap, ◌∙◌}
 use Rattle.std.proofs.lemmas.List.{length-append, take_all}
-use Rattle.endpoint_model.specs.States.{ready_at, window}
+use Rattle.narrow_endpoint.specs.States.{ready_at, window}
 use Rattle.link_world.proofs.EndLaws.{ready_count_is, first_is, more_ready}
 use Rattle.link_world.proofs.Received.{keep-beyond}
 use Rattle.circular_buffer.specs.Buffer.{buffer}

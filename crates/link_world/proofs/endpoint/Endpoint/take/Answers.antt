@@ -1,6 +1,6 @@
 use Rattle.std.proofs.Common.{◌≡◌, ◌+◌, ◌-◌, ◌≤◌, ◌++◌, length, drop, arith, ap, sym, ◌∙◌}
 use Rattle.std.proofs.lemmas.List.{length-take, length-append, length-drop}
-use Rattle.endpoint_model.specs.States.{ready_at, taking}
+use Rattle.narrow_endpoint.specs.States.{ready_at, taking}
 use Rattle.link_world.proofs.EndLaws.{ready_is, moved_out, left_ready}
 use Rattle.circular_buffer.specs.Buffer.{buffer}
 use Rattle.link_world.proofs.endpoint.Endpoint.take.Goals as goal

@@ -1,6 +1,6 @@
 use Rattle.std.proofs.Common.{◌≡◌, ◌+◌, ◌/◌, ℕ, Some, length, refl, sym, ap, ◌∙◌}
 use Rattle.mac_model.specs.Keys.{traffic_key}
-use Rattle.endpoint_model.specs.Emissions.{data_draft}
+use Rattle.narrow_endpoint.specs.Emissions.{data_draft}
 use Rattle.tcp_segment.specs.Writing.{header_length}
 use Rattle.link_world.specs.Verdicts.{key_of}
 use Rattle.link_world.specs.Written.{head_of}

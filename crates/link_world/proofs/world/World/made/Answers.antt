@@ -1,5 +1,5 @@
 use Rattle.std.proofs.Common.{◌≡◌, length, ◌∙◌, sym, arith}
-use Rattle.link_model.specs.Runs.{run}
+use Rattle.narrow_link.specs.Runs.{run}
 use Rattle.link_world.proofs.LogLaws.{segments-kept}
 use Rattle.link_world.proofs.world.World.made.Goals as goal
 

@@ -1,6 +1,6 @@
 use Rattle.std.proofs.Common.{◌≡◌, ◌<◌, ◌-◌, ℕ, suc, length, get_or, ◌∙◌, ap, subst, arith}
-use Rattle.link_model.specs.Runs.{run}
-use Rattle.link_model.specs.Worlds.{segment_named}
+use Rattle.narrow_link.specs.Runs.{run}
+use Rattle.narrow_link.specs.Worlds.{segment_named}
 use Rattle.link_world.specs.declared.kept.Kept.{Kept}
 use Rattle.link_world.specs.Standing.{MadeBy}
 use Rattle.link_world.proofs.WorldLaws.{made_by_at}

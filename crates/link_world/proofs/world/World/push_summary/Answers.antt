@@ -1,4 +1,4 @@
-use Rattle.link_model.specs.Runs.{run}
+use Rattle.narrow_link.specs.Runs.{run}
 use Rattle.link_world.proofs.WorldLaws.{on_ok_more, summed}
 use Rattle.std.proofs.Common.{sym}
 use Rattle.link_world.proofs.world.World.push_summary.Goals as goal

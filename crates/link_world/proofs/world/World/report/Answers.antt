@@ -1,6 +1,6 @@
 use Rattle.std.proofs.Common.{◌≡◌, ◌++◌, ◌∙◌, sym, ap}
-use Rattle.link_model.specs.Reports.{lines_from, summary}
-use Rattle.link_model.specs.Runs.{empty, outcomes_from, run}
+use Rattle.narrow_link.specs.Reports.{lines_from, summary}
+use Rattle.narrow_link.specs.Runs.{empty, outcomes_from, run}
 use Rattle.link_world.proofs.WorldLaws.{report_is}
 use Rattle.link_world.proofs.world.World.report.Goals as goal
 

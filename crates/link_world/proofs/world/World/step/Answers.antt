@@ -1,8 +1,8 @@
 use Rattle.std.proofs.Common.{◌≡◌, ◌++◌, sym, subst}
-use Rattle.link_model.specs.Reports.{outcome_line}
-use Rattle.link_model.specs.Runs.{run}
-use Rattle.link_model.specs.Steps.{step}
-use Rattle.link_model.specs.Worlds.{Setup as Link}
+use Rattle.narrow_link.specs.Reports.{outcome_line}
+use Rattle.narrow_link.specs.Runs.{run}
+use Rattle.narrow_link.specs.Steps.{step}
+use Rattle.narrow_link.specs.Worlds.{Setup as Link}
 use Rattle.link_world.specs.Histories.{StandsLog}
 use Rattle.link_world.specs.Standing.{Happens, event_of, setup_of}
 use Rattle.link_world.proofs.WorldLaws.{stepped}
