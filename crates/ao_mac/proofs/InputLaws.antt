@@ -223,7 +223,7 @@ starts_all (suc k ∷ rest) ao e =
 
 starts : (flag : Bool) (area : List ℕ) (ao : Ao) → find_ao area ≡ One ao → Starts (covered flag area ao)
 starts true area ao e = starts_all area ao e
-starts false area ao e = (28, (4 + length ao.mac) ∷ ao.key_id ∷ ao.next_id ∷ replicate (length ao.mac) 0, refl)
+starts false area ao e = (28, (4 + length ao.mac) ∷ ao.key_id ∷ ao.rnext_key_id ∷ replicate (length ao.mac) 0, refl)
 
 starts_more : (c p : List ℕ) → Starts c → Starts (c ++ p)
 starts_more c p s = (s.0, s.1 ++ p, ap (λ (l : List ℕ). l ++ p) s.2)

@@ -50,7 +50,7 @@ lies d h mac payload rest D =
 -- ---- what the MAC is computed over
 
 abbrev pub ao_in : Head → List ℕ → Ao
-ao_in h mac = record { key_id = h.key_id; next_id = h.rnext; mac = mac; place = mss_length h.mss }
+ao_in h mac = record { key_id = h.key_id; rnext_key_id = h.rnext; mac = mac; place = mss_length h.mss }
 
 pub has_ao : (h : Head) (mac payload : List ℕ) → HasAo (drafted h mac payload)
 has_ao h mac payload = (ao_in h mac, drafted_ao h mac payload)

@@ -1,7 +1,7 @@
 -- What an end sends next.
 use Rattle.std.proofs.Common.{◌≡◌, ℕ, zero, suc, ◌<◌, min, Option, Some, false, refl, sym, ap, ◌∙◌, arith}
 use Rattle.ao_base.specs.declared.address.Pair.{Pair}
-use Rattle.segment_model.specs.Segments.{Segment, has}
+use Rattle.segment_model.specs.Segments.{Segment, has, SYN}
 use Rattle.mac_model.specs.Contexts.{context, context_of}
 use Rattle.narrow_endpoint.specs.Verdicts.{Key}
 use Rattle.narrow_endpoint.specs.States.{EndState}
@@ -15,7 +15,7 @@ pub quiet_is : (key : Key) (pair : Pair) (s : EndState) (k : ℕ) → k ≡ min 
 unfolding emit to_emit
 quiet_is key pair s k e z = let m : min (unsent s) (effective pair) ≡ 0 = sym e ∙ z in rw m refl
 
-known_context : (d : Segment) (own peer : ℕ) (irs : Option ℕ) → irs ≡ Some peer → has d 2 ≡ false
+known_context : (d : Segment) (own peer : ℕ) (irs : Option ℕ) → irs ≡ Some peer → has SYN d ≡ false
     → context_of d (Some own) irs ≡ Some (context d.source d.destination own peer)
 unfolding context_of
 known_context d own peer irs e f = rw (e, f) refl

@@ -59,7 +59,7 @@ tells_so setup at w s m out after name log makes logs named =
       acknowledged = makes.sent.acknowledged;
       payload = makes.sent.payload;
       key_id = makes.sent.key_id;
-      next_id = makes.sent.next_id;
+      rnext_key_id = makes.sent.rnext_key_id;
       row = makes.sent.row;
       length = makes.sent.long;
     }

@@ -39,7 +39,7 @@ pub record Tells (name : ℕ) (m : Made) (entry : Entry) : Type 0 where
   pub acknowledged : entry.emission.acknowledged ≡ m.ack
   pub payload : length entry.emission.segment.payload ≡ m.payload
   pub key_id : entry.emission.sending.key_id ≡ m.sending.key_id
-  pub next_id : entry.emission.sending.next_id ≡ m.sending.rnext
+  pub rnext_key_id : entry.emission.sending.rnext_key_id ≡ m.sending.rnext
   pub row : entry.emission.sending.row ≡ m.sending.row
   pub length : length entry.bytes ≡ m.length
 

@@ -14,7 +14,7 @@ pub record IsSent (m : Made) (e : Emission) (out : List ℕ) : Type 0 where
   pub acknowledged : e.acknowledged ≡ m.ack
   pub payload : length e.segment.payload ≡ m.payload
   pub key_id : e.sending.key_id ≡ m.sending.key_id
-  pub next_id : e.sending.next_id ≡ m.sending.rnext
+  pub rnext_key_id : e.sending.rnext_key_id ≡ m.sending.rnext
   pub row : e.sending.row ≡ m.sending.row
   pub context : e.context ≡ bytes_of m.context
   pub bytes : take m.length out ≡ spell e.segment

@@ -4,7 +4,7 @@ ghost use Rattle.narrow_endpoint.specs.States.{EndState, started, give, take_out
 ghost use Rattle.narrow_endpoint.specs.Arrivals.{arrive_judged, received};
 ghost use Rattle.narrow_endpoint.specs.Verdicts.{Pass, Passed as Entry};
 ghost use Rattle.narrow_endpoint.specs.Emissions.{Quiet, data_draft, effective, emit, sealed, shared as under, unsent};
-ghost use Rattle.segment_model.specs.Segments.{has};
+ghost use Rattle.segment_model.specs.Segments.{has, ACK, FIN, RST, SYN};
 ghost use Rattle.mac_model.specs.Contexts.{context};
 ghost use Rattle.ao_kdf.specs.Context.{bytes_of};
 ghost use Rattle.tcp_segment.specs.Writing.{ip_size, OneFamily};
@@ -329,7 +329,7 @@ impl Endpoint {
 /// Whether the flags are those of a segment that carries data: ACK without SYN, RST and FIN
 /// (RFC 9293, section 3.10.7.4).
 fn is_data(datagram: &Datagram<'_>) -> bool
-    ensures { result ≡ (has datagram.now 16 && not (has datagram.now 2) && not (has datagram.now 4) && not (has datagram.now 1)) }
+    ensures { result ≡ (has ACK datagram.now && not (has SYN datagram.now) && not (has RST datagram.now) && not (has FIN datagram.now)) }
 {
     has(datagram, ACK) && !has(datagram, SYN) && !has(datagram, RST) && !has(datagram, FIN)
 }

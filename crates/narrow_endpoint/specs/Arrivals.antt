@@ -2,7 +2,7 @@
 use Rattle.std.specs.Prelude.{ℕ, ◌+◌, ◌==◌, nat_lt, nat_le, Bool, not, ◌&&◌, List, length, Option, Some, None, if◌then◌else◌}
 use Rattle.ao_base.specs.declared.address.Pair.{Pair}
 use Rattle.segment_model.specs.Sockets.{same_socket}
-use Rattle.segment_model.specs.Segments.{Segment, Fault, Reading, Read, Bad as Unread, good, has}
+use Rattle.segment_model.specs.Segments.{Segment, Fault, Reading, Read, Bad as Unread, good, has, ACK, FIN, RST, SYN}
 use Rattle.narrow_endpoint.specs.Verdicts.{Key, Refusal, Passed, Verdict, Refuse, Pass, judge}
 use Rattle.narrow_endpoint.specs.States.{EndState, window, keep}
 
@@ -33,7 +33,7 @@ received s n payload =
 -- ACK without SYN, RST and FIN, at the number expected, with at least one byte and at most the window (RFC 9293, section 3.10.7.4)
 abbrev pub acceptable : EndState → Segment → ℕ → Bool
 acceptable s d n =
-    has d 16 && not (has d 2) && not (has d 4) && not (has d 1)
+    has ACK d && not (has SYN d) && not (has RST d) && not (has FIN d)
     && (n == s.x) && nat_lt 0 (length d.payload) && nat_le (length d.payload) (window s)
 
 -- only an acceptable segment that passed changes the end

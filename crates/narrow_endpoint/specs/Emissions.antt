@@ -18,11 +18,11 @@ pub record Sending : Type 0 where
   pub row : ℕ
   pub key : Key
   pub key_id : ℕ
-  pub next_id : ℕ
+  pub rnext_key_id : ℕ
 
 -- a shared key is row 1, and both ids are 0
 abbrev pub shared : Key → Sending
-shared key = record { row = 1; key = key; key_id = 0; next_id = 0 }
+shared key = record { row = 1; key = key; key_id = 0; rnext_key_id = 0 }
 
 -- a segment that an end is about to make, and the state after it
 pub record Draft : Type 0 where
@@ -90,7 +90,7 @@ written_ip pair size (V6 bytes) = Ipv6 0 64
 
 -- the option area of the written form: TCP-AO alone (RFC 5925, section 2.2)
 abbrev pub written_area : Sending → List ℕ → List ℕ
-written_area sending m = 29 ∷ 16 ∷ sending.key_id ∷ sending.next_id ∷ m
+written_area sending m = 29 ∷ 16 ∷ sending.key_id ∷ sending.rnext_key_id ∷ m
 
 -- the segment of a draft with this MAC, its checksum still 0
 abbrev pub written : Pair → EndState → Draft → Sending → List ℕ → Segment
@@ -116,7 +116,7 @@ blank pair s out sending = written pair s out sending (replicate 12 0)
 
 -- the TCP-AO option with the MAC zero
 abbrev pub blank_ao : Sending → Ao
-blank_ao sending = record { key_id = sending.key_id; next_id = sending.next_id; mac = replicate 12 0; place = 0 }
+blank_ao sending = record { key_id = sending.key_id; rnext_key_id = sending.rnext_key_id; mac = replicate 12 0; place = 0 }
 
 -- what the MAC of a draft is computed over; a shared key covers the options
 abbrev pub input_of : Pair → EndState → Draft → Sending → List ℕ

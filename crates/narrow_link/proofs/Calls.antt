@@ -9,7 +9,7 @@ use Rattle.ao_base.specs.declared.end.End.{End}
 use Rattle.segment_model.specs.Bytes.{same_bytes}
 use Rattle.segment_model.specs.Sockets.{same_address, same_socket}
 use Rattle.segment_model.specs.Options.{Ao, AoFound, Absent, One, Two, WithMd5 as FoundMd5, find_ao}
-use Rattle.segment_model.specs.Segments.{Segment, Reading, Read, Bad as Unread, good, has, reading}
+use Rattle.segment_model.specs.Segments.{Segment, Reading, Read, Bad as Unread, good, has, reading, ACK, FIN, RST, SYN}
 use Rattle.segment_model.proofs.Fields.{and_tells, eqb_is, le_is, lt_not, some_is, same_bytes_tells}
 use Rattle.segment_model.proofs.Found.{found_within}
 use Rattle.segment_model.proofs.Shapes.{SameKind, Shaped, ShapedIf, reading_shaped}
@@ -223,19 +223,19 @@ or_lt p x = grind arith
 
 -- what the tests of an acceptable segment say
 record Accepted (s : EndState) (d : Segment) (n : ℕ) : Type 0 where
-  no_syn : has d 2 ≡ false
+  no_syn : has SYN d ≡ false
   at_x : n ≡ s.x
   fits : length d.payload ≤ window s
 
 accepted : (s : EndState) (d : Segment) (n : ℕ) → acceptable s d n ≡ true → Accepted s d n
 accepted s d n e =
-    let one = and_tells (has d 16 && not (has d 2) && not (has d 4) && not (has d 1) && (n == s.x) && nat_lt 0 (length d.payload)) (nat_le (length d.payload) (window s)) e in
-    let two = and_tells (has d 16 && not (has d 2) && not (has d 4) && not (has d 1) && (n == s.x)) (nat_lt 0 (length d.payload)) one.0 in
-    let three = and_tells (has d 16 && not (has d 2) && not (has d 4) && not (has d 1)) (n == s.x) two.0 in
-    let four = and_tells (has d 16 && not (has d 2) && not (has d 4)) (not (has d 1)) three.0 in
-    let five = and_tells (has d 16 && not (has d 2)) (not (has d 4)) four.0 in
-    let six = and_tells (has d 16) (not (has d 2)) five.0 in
-    record { no_syn = not_true (has d 2) six.1; at_x = eqb_is n s.x three.1; fits = le_is (length d.payload) (window s) one.1 }
+    let one = and_tells (has ACK d && not (has SYN d) && not (has RST d) && not (has FIN d) && (n == s.x) && nat_lt 0 (length d.payload)) (nat_le (length d.payload) (window s)) e in
+    let two = and_tells (has ACK d && not (has SYN d) && not (has RST d) && not (has FIN d) && (n == s.x)) (nat_lt 0 (length d.payload)) one.0 in
+    let three = and_tells (has ACK d && not (has SYN d) && not (has RST d) && not (has FIN d)) (n == s.x) two.0 in
+    let four = and_tells (has ACK d && not (has SYN d) && not (has RST d)) (not (has FIN d)) three.0 in
+    let five = and_tells (has ACK d && not (has SYN d)) (not (has RST d)) four.0 in
+    let six = and_tells (has ACK d) (not (has SYN d)) five.0 in
+    record { no_syn = not_true (has SYN d) six.1; at_x = eqb_is n s.x three.1; fits = le_is (length d.payload) (window s) one.1 }
 
 received_ok : (setup : Setup) (e : End) (s : EndState) (d : Segment) (p : Passed) → Sound s → p.number ≡ s.x → length d.payload ≤ window s → Passing setup e s p d
     → ArrivedOk setup e s (record { state = received s p.number d.payload; answer = Taken; passed = Some p })
@@ -304,12 +304,12 @@ later_if : (d : Segment) (o : Option ℕ) (own : ℕ) (c : List ℕ) (b : Bool) 
 later_if d o own c true syn off e = absurd (cc)
 later_if d o own c false syn off e = later_known d o own c e
 
-context_later : (d : Segment) (o : Option ℕ) (own : ℕ) (c : List ℕ) → has d 2 ≡ false → context_of d o (Some own) ≡ Some c
+context_later : (d : Segment) (o : Option ℕ) (own : ℕ) (c : List ℕ) → has SYN d ≡ false → context_of d o (Some own) ≡ Some c
     → (q : ℕ) × (o ≡ Some q) × (c ≡ context d.source d.destination q own)
 unfolding context_of
-context_later d o own c off e = later_if d o own c (has d 2) _ off e
+context_later d o own c off e = later_if d o own c (has SYN d) _ off e
 
-passing_of : (setup : Setup) (e : End) (s : EndState) (d : Segment) (p : Passed) → has d 2 ≡ false → p.number ≡ s.x → Shaped d
+passing_of : (setup : Setup) (e : End) (s : EndState) (d : Segment) (p : Passed) → has SYN d ≡ false → p.number ≡ s.x → Shaped d
     → d.source ≡ (pair_of setup e).remote → d.destination ≡ (pair_of setup e).local
     → PassedWith setup.key d (context_of d s.irs (Some s.iss)) (Pass p) → Passing setup e s p d
 passing_of setup e s d p off at shape source destination (ao, c, found, known, is) =

@@ -46,7 +46,7 @@ abbrev pub sent_text : Made → List ℕ
 sent_text m =
     let e = m.emission in
     codes "sent " ++ (decimal m.name ++ (32 ∷ flags_text e.flags ++ (codes " seq " ++ (decimal e.number ++ (codes " ack " ++ (number_text e.acknowledged
-    ++ (codes " len " ++ (decimal (length e.segment.payload) ++ (codes " key " ++ (decimal e.sending.key_id ++ (codes " next " ++ decimal e.sending.next_id)))))))))))
+    ++ (codes " len " ++ (decimal (length e.segment.payload) ++ (codes " key " ++ (decimal e.sending.key_id ++ (codes " next " ++ decimal e.sending.rnext_key_id)))))))))))
 
 -- bytes as digits, or a sign for none
 abbrev pub hex_or_none : List ℕ → List ℕ

@@ -5,7 +5,7 @@ use Rattle.ao_base.specs.declared.address.Pair.{Pair}
 use Rattle.ao_base.specs.declared.end.End.{End}
 use Rattle.ao_base.specs.declared.end.End.TheVariants.{A, B}
 use Rattle.segment_model.specs.Bytes.{same_bytes}
-use Rattle.segment_model.specs.Segments.{Segment, has}
+use Rattle.segment_model.specs.Segments.{Segment, has, ACK, SYN}
 use Rattle.narrow_endpoint.specs.Verdicts.{Key, same_key, Passed}
 use Rattle.narrow_endpoint.specs.States.{EndState}
 use Rattle.narrow_endpoint.specs.Arrivals.{Arrival}
@@ -104,7 +104,7 @@ partner w e s = partner_among (side w (other e)).sessions s.iss s.irs
 -- a segment of session s is addressed to session r of the other end: any, for SYN without ACK; one with the number known as the peer's, for SYN with ACK; else the partner
 abbrev pub addressed : Segment → EndState → EndState → Bool
 addressed d s r =
-    if has d 2 then (if has d 16 then is_known s.irs r.iss else true) else is_known s.irs r.iss && is_known r.irs s.iss
+    if has SYN d then (if has ACK d then is_known s.irs r.iss else true) else is_known s.irs r.iss && is_known r.irs s.iss
 
 -- the other end made this entry, with what passed: the same algorithm, master key, context and MAC input
 abbrev pub accounts_for : End → Passed → Made → Bool

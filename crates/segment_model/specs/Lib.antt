@@ -3,6 +3,7 @@ pub mod Bytes
 pub mod Faults
 pub mod Meant
 pub mod Options
+pub mod Received
 pub mod Segments
 pub mod Sockets
 pub mod Spelling

@@ -1,16 +1,17 @@
 -- The number that a sequence field means, and numbers compared around the ring of 2^32.
 use Rattle.std.specs.Prelude.{◌≡◌, ℕ, ◌+◌, ◌-◌, ◌%◌, ◌<◌, nat_lt, nat_le, Option, Some, None, if◌then◌else◌, ℤ, pos, negsuc, ◌+ℤ◌, ◌-ℤ◌, ◌*ℤ◌, ◌<ℤ◌, ◌≤ℤ◌}
+use Rattle.segment_model.specs.Bytes.{ring}
 
 -- the integer with this remainder modulo 2^32 that lies from 2^31 below to below 2^31 above the expected one; None is below 0 (RFC 5925, section 6.2)
 unfoldable pub meant : ℕ → ℕ → Option ℕ
 meant seq expected =
-    let ahead = (seq + 4294967296 - expected % 4294967296) % 4294967296 in
+    let ahead = (seq + ring - expected % ring) % ring in
     if nat_lt ahead 2147483648 then Some (expected + ahead)
-    else (if nat_le (4294967296 - ahead) expected then Some (expected - (4294967296 - ahead)) else None)
+    else (if nat_le (ring - ahead) expected then Some (expected - (ring - ahead)) else None)
 
 -- two integers with one remainder modulo 2^32
 abbrev pub IsCongruent : ℤ → ℤ → Type 0
-IsCongruent m n = (k : ℤ) × (m ≡ n +ℤ (k *ℤ pos 4294967296))
+IsCongruent m n = (k : ℤ) × (m ≡ n +ℤ (k *ℤ pos ring))
 
 -- a difference from 2^31 below 0 to below 2^31
 abbrev pub IsWithinHalf : ℤ → Type 0
@@ -31,4 +32,4 @@ IsAhead a b d = IsCongruent (pos a -ℤ pos b) d × IsWithinHalf d
 
 -- a sequence number is one of the `size` numbers from `start` on, around the ring (RFC 9293, section 3.4)
 abbrev pub IsInWindow : ℕ → ℕ → ℕ → Type 0
-IsInWindow seq start size = (d : ℕ) × (d < size) × (seq ≡ (start + d) % 4294967296)
+IsInWindow seq start size = (d : ℕ) × (d < size) × (seq ≡ (start + d) % ring)

@@ -98,7 +98,7 @@ mss_among (o ∷ os) =
 -- the TCP-AO option of a segment (RFC 5925, section 2.2)
 pub record Ao : Type 0 where
   pub key_id : ℕ
-  pub next_id : ℕ
+  pub rnext_key_id : ℕ
   pub mac : List ℕ
   pub place : ℕ
 
@@ -111,7 +111,7 @@ pub data AoFound : Type 0 where
 
 -- the fields of an option of kind 29 (RFC 5925, section 2.2)
 abbrev pub ao_of : Opt → Ao
-ao_of o = record { key_id = slice_index o.body 0; next_id = slice_index o.body 1; mac = drop 2 o.body; place = o.place }
+ao_of o = record { key_id = slice_index o.body 0; rnext_key_id = slice_index o.body 1; mac = drop 2 o.body; place = o.place }
 
 -- what the options of kind 29 and those of kind 19 say together (RFC 5925, section 2.2)
 abbrev pub found : List Opt → List Opt → AoFound

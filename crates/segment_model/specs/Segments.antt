@@ -84,9 +84,29 @@ spell_as (Ipv6 class_flow hops) d tcp =
 unfoldable pub spell : Segment → List ℕ
 spell d = spell_as d.ip d (tcp_bytes d d.checksum)
 
--- the flag with this bit is set (RFC 9293, section 3.1)
-abbrev pub has : Segment → ℕ → Bool
-has d bit = (d.flags / bit) % 2 == 1
+-- the flag FIN: the sender has no more bytes (RFC 9293, section 3.1)
+abbrev pub FIN : ℕ
+FIN = 1
+
+-- the flag SYN: the sequence numbers begin (RFC 9293, section 3.1)
+abbrev pub SYN : ℕ
+SYN = 2
+
+-- the flag RST: the connection is reset (RFC 9293, section 3.1)
+abbrev pub RST : ℕ
+RST = 4
+
+-- the flag PSH: the bytes are handed on at once (RFC 9293, section 3.1)
+abbrev pub PSH : ℕ
+PSH = 8
+
+-- the flag ACK: the acknowledgement field says something (RFC 9293, section 3.1)
+abbrev pub ACK : ℕ
+ACK = 16
+
+-- the flag is set (RFC 9293, section 3.1)
+abbrev pub has : ℕ → Segment → Bool
+has flag d = (d.flags / flag) % 2 == 1
 
 -- 1 for true, 0 for false
 abbrev pub bit_of : Bool → ℕ
@@ -95,7 +115,7 @@ bit_of false = 0
 
 -- what the segment takes of the sequence space: the payload's length plus 1 for SYN plus 1 for FIN (RFC 9293, section 3.4)
 abbrev pub segment_length : Segment → ℕ
-segment_length d = length d.payload + bit_of (has d 2) + bit_of (has d 1)
+segment_length d = length d.payload + bit_of (has SYN d) + bit_of (has FIN d)
 
 -- why bytes are no datagram, in the order of the tests
 pub data Fault : Type 0 where

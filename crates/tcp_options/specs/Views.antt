@@ -36,7 +36,7 @@ FaultIs (Some fault) options = options ≡ fault_of fault
 
 -- the TCP-AO option
 abbrev pub view_ao : AoOption → book.Ao
-view_ao o = record { key_id = o.key_id; next_id = o.rnext; mac = o.mac.now; place = o.place }
+view_ao o = record { key_id = o.key_id; rnext_key_id = o.rnext; mac = o.mac.now; place = o.place }
 
 -- what was found of TCP-AO
 abbrev pub view_found : AoFound → book.AoFound

@@ -51,15 +51,15 @@ area_listed (Some m) key rnext mac =
     ))
 
 area_ao : (o : Option ℕ) (key rnext : ℕ) (mac : List ℕ)
-    → find_ao ((mss_option o ++ (29 ∷ (4 + length mac) ∷ key ∷ rnext ∷ [])) ++ mac) ≡ One (record { key_id = key; next_id = rnext; mac = mac; place = length (mss_option o) })
+    → find_ao ((mss_option o ++ (29 ∷ (4 + length mac) ∷ key ∷ rnext ∷ [])) ++ mac) ≡ One (record { key_id = key; rnext_key_id = rnext; mac = mac; place = length (mss_option o) })
 unfolding find_ao put2
 area_ao None key rnext mac = rw (area_listed None key rnext mac) refl
 area_ao (Some m) key rnext mac = rw (area_listed (Some m) key rnext mac) refl
 
 -- the TCP-AO option of a draft
-pub drafted_ao : (h : Head) (mac payload : List ℕ) → find_ao (drafted h mac payload).area ≡ One (record { key_id = h.key_id; next_id = h.rnext; mac = mac; place = mss_length h.mss })
+pub drafted_ao : (h : Head) (mac payload : List ℕ) → find_ao (drafted h mac payload).area ≡ One (record { key_id = h.key_id; rnext_key_id = h.rnext; mac = mac; place = mss_length h.mss })
 drafted_ao h mac payload =
-    area_ao h.mss h.key_id h.rnext mac ∙ ap (λ (p : ℕ). One (record { key_id = h.key_id; next_id = h.rnext; mac = mac; place = p })) (mss_long h.mss)
+    area_ao h.mss h.key_id h.rnext mac ∙ ap (λ (p : ℕ). One (record { key_id = h.key_id; rnext_key_id = h.rnext; mac = mac; place = p })) (mss_long h.mss)
 
 drafted_listed : (h : Head) (mac payload : List ℕ) → AreListed (options_of (drafted h mac payload).area)
 drafted_listed h mac payload = subst AreListed (sym (area_listed h.mss h.key_id h.rnext mac)) tt
