@@ -4,4 +4,5 @@ pub mod DecimalLaws
 pub mod HexadecimalLaws
 pub mod AddressLaws
 pub mod Pieces
+pub mod ReadingOn
 pub mod Sides

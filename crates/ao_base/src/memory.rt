@@ -2,8 +2,8 @@
 ghost use Rattle.std.specs.Prelude.{◌≡◌, ℕ, ◌+◌, ◌<◌, ◌≤◌, ◌++◌, List, [], Some, length, take, drop, min, vec_capacity, IfOk};
 ghost use Rattle.std.specs.List.{list_any};
 ghost use Rattle.std.specs.Prelude.{◌==◌};
-ghost use Rattle.ao_base.specs.InMemory.{GivingState, TakingState, Gives, Takes, IsTaking, giving_side, taking_side, one_later};
-ghost use Rattle.ao_base.specs.Outside.{Side, Reads, Writes};
+ghost use Rattle.ao_base.specs.InMemory.{GivingState, TakingState, Gives, Takes, IsTaking, giving_side, taking_side};
+ghost use Rattle.ao_base.specs.Outside.{Side, Reads, Writes, one_later};
 
 use crate::list::{Bytes, Numbers};
 use crate::outside::{Failed, Sink, Source};
