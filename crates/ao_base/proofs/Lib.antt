@@ -5,4 +5,6 @@ pub mod HexadecimalLaws
 pub mod AddressLaws
 pub mod Pieces
 pub mod ReadingOn
+pub mod BufferLaws
 pub mod Sides
+pub mod Slices

@@ -4,7 +4,12 @@ use Rattle.std.proofs.lemmas.List.{append-nil, length-append}
 use Rattle.std.proofs.Math.Nat.{sub-zero}
 use Rattle.std.proofs.Math.Seq.{take-add}
 use Rattle.std.specs.Io.KnownBytes.{Appends, Consumes, Keeps}
-use Rattle.ao_base.specs.Outside.{Side, Gave, Took, Counts, Rose}
+use Rattle.std.specs.Io.KnownBytes.{IsAtEnd as is_at_end}
+use Rattle.ao_base.specs.Outside.{Side, Gave, Took, Counts, Rose, IsAtEnd, told}
+
+none_told : (bytes : Option (List ℕ)) → is_at_end bytes → told bytes ≡ []
+none_told None end = refl
+none_told (Some xs) end = end
 
 pub counts_none : (a : Side) → Counts 0 a a
 counts_none a = record { later = omega arith; small = λ h. h; quiet = λ most is less. (refl, is ∙ ap Some (sym (sub-zero most))) }
@@ -88,3 +93,18 @@ pub took_piece : (bytes : List ℕ) (at n : ℕ) (a b c : Side) → Took (take a
 took_piece bytes at n a b c x y =
     let e : take (at + n) bytes ≡ take at bytes ++ take n (drop at bytes) = take-add at n bytes in
     rw e (took_more (take at bytes) (take n (drop at bytes)) a b c x y)
+
+-- at its end a source has nothing left that it tells
+pub nothing_told : (side : Side) → IsAtEnd side → told side.bytes ≡ []
+nothing_told side end = none_told side.bytes end
+
+-- what was left is what was given and what is left now
+pub told_given : (before now : Option (List ℕ)) (given left : List ℕ) → before ≡ Some left → Consumes before now given → left ≡ given ++ told now
+told_given None now given left is consumes = absurd (cc)
+told_given (Some xs) None given left is consumes = absurd consumes
+told_given (Some xs) (Some ys) given left is consumes = let same : xs ≡ left = cc in sym same ∙ consumes
+
+-- while fewer bytes go by than was told, the count can't rise
+pub no_rise : (passed most : ℕ) (before now : Side) → Counts passed before now → before.quiet ≡ Some most → passed < most → before.faults < 18446744073709551615 →
+    Rose before now → ⊥
+no_rise passed most before now counts is less few rose = let same = (counts.quiet most is less).0 in omega arith
