@@ -1,9 +1,8 @@
 -- Reads of a source, one after another.
-use Rattle.std.proofs.Common.{◌≡◌, ℕ, ◌+◌, ◌<◌, ◌≤◌, List, [], ◌++◌, length, take, Result, Ok, Err, refl, arith}
+use Rattle.std.proofs.Common.{◌≡◌, ℕ, ◌+◌, ◌<◌, ◌≤◌, List, ◌++◌, length, take, Ok, Err, refl, arith}
 use Rattle.std.proofs.lemmas.List.{length-append, length-take-le, take-append-le}
-use Rattle.ao_base.specs.Outside.{Side, Gave, Rose, Reads}
+use Rattle.ao_base.specs.Outside.{Side, Gave, Reads}
 use Rattle.ao_base.specs.ReadAll.{ReadsAll}
-use Rattle.ao_base.specs.declared.whole.ReadProblem.{ReadProblem}
 use Rattle.ao_base.specs.declared.whole.ReadProblem.TheVariants.{Fault, TooLong, Memory}
 use Rattle.ao_base.proofs.Sides.{gave_more, gave_and_none, rose_after}
 

@@ -1,4 +1,4 @@
--- A source and a sink in memory, whose calls fail where they are told to.
+-- A source and a sink in memory, whose calls fail where they are told to (own).
 use Rattle.std.specs.Prelude.{◌≡◌, ◌↔◌, ℕ, ◌+◌, ◌-◌, ◌<◌, ◌≤◌, ◌⊎◌, min, List, [], ◌++◌, Contains, ◌∷◌, length, take, drop, Option, Some, None, Result, IfOk, IfErr, IsErr}
 use Rattle.ao_base.specs.Outside.{Side, one_later}
 

@@ -1,4 +1,4 @@
--- What a contract says of a source or a sink.
+-- What a contract says of a source or a sink (own).
 use Rattle.std.specs.Prelude.{◌≡◌, ℕ, ◌+◌, ◌-◌, ◌^◌, ◌<◌, ◌≤◌, min, List, [], length, take, Option, Some, None, Result, IfOk, IfErr, MatchResult}
 use Rattle.std.specs.Io.KnownBytes.{Appends, Consumes}
 use Rattle.std.specs.Io.KnownBytes.{IsAtEnd as is_at_end}

@@ -1,4 +1,4 @@
--- Reading a source to its end.
+-- Reading a source to its end (own).
 use Rattle.std.specs.Prelude.{◌≡◌, ◌↔◌, ℕ, ◌+◌, ◌<◌, ◌≤◌, List, length, Result, IfOk, IsErrOf}
 use Rattle.ao_base.specs.Outside.{Side, Gave, Rose, IsAtEnd}
 use Rattle.ao_base.specs.declared.whole.ReadProblem.{ReadProblem}

@@ -14,6 +14,7 @@ pub struct ReadSource<R> {
 }
 
 impl<R: Read> ReadSource<R> {
+    /// The source that gives what the reader has left.
     pub fn new(reader: R) -> ReadSource<R>
         ensures { result ≡ record { reader = reader; faults = 0 } }
     {
@@ -49,6 +50,7 @@ pub struct WriteSink<W> {
 }
 
 impl<W: Write> WriteSink<W> {
+    /// The sink that puts what it takes into the writer.
     pub fn new(writer: W) -> WriteSink<W>
         ensures { result ≡ record { writer = writer; faults = 0 } }
     {

@@ -15,6 +15,8 @@ mod lines;
 mod list;
 mod memory;
 mod outside;
+#[cfg(test)]
+mod over_memory;
 mod print;
 mod quiet;
 mod steps;

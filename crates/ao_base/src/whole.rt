@@ -25,8 +25,8 @@ const BLOCK: usize = 16384;
 /// All bytes that the source has left, to its end. It takes at most `most` + 1 bytes from it.
 ///
 /// Fault comes only where the source's count of faults rose, and TooLong exactly where it gave more
-/// than `most` bytes. So over a source that doesn't fail and has at most `most` bytes left, only want
-/// of memory is in the way.
+/// than `most` bytes. So over a source that doesn't fail, as a `MemSource` of which no call is told to,
+/// and that has at most `most` bytes left, only want of memory is in the way.
 pub fn read_all<S: Source>(alloc: Global, src: &mut S, most: u64) -> Result<Bytes, ReadProblem>
     ensures { (given : List ℕ) × ReadsAll (S.side src.old) (S.side src.new) most given result }
 {
@@ -64,7 +64,8 @@ fn wanted(left: u64) -> usize
 /// Writes all bytes, in as many calls as the sink needs.
 ///
 /// Failed leaves a proper front part of them in the sink, and comes only where its count of faults
-/// rose.
+/// rose: never over a new `MemSink` of which no call is told to fail, with more room than all that is
+/// written to it.
 pub fn write_all<S: Sink>(sink: &mut S, bytes: &[u8]) -> Result<(), Failed>
     ensures { (n : ℕ) × WritesAll (S.side sink.old) (S.side sink.new) bytes.now n result }
 {

@@ -1,4 +1,4 @@
-use Rattle.std.proofs.Common.{◌≡◌, ◌+◌, ◌≤◌, ◌<◌, ◌++◌, length, take, arith}
+use Rattle.std.proofs.Common.{◌++◌, take, arith}
 use Rattle.std.proofs.lemmas.List.{length-take}
 use Rattle.ao_base.proofs.ReadingOn.{read_more, read_whole, read_failed, read_long, read_lost}
 use Rattle.ao_base.proofs.whole.read_all.Goals as goal

@@ -1,5 +1,5 @@
-use Rattle.std.proofs.Common.{◌≡◌, ◌+◌, ◌-◌, ◌<◌, ◌≤◌, [], length, drop, take, refl, sym, ap, ◌∙◌, arith}
-use Rattle.std.proofs.lemmas.List.{length-drop, length-take, with_items_is}
+use Rattle.std.proofs.Common.{◌≡◌, ◌+◌, ◌-◌, [], length, drop, take, refl, sym, ap, ◌∙◌, arith}
+use Rattle.std.proofs.lemmas.List.{length-drop, with_items_is}
 use Rattle.std.specs.Vec.{with_items}
 use Rattle.ao_base.proofs.BufferLaws.{taken_some, taken_none}
 use Rattle.ao_base.proofs.Slices.{part_more, part_same, part_fits}
