@@ -1,0 +1,206 @@
+//! The bytes received, in order or not.
+ghost use Rattle.std.specs.Prelude.{◌≡◌, ℕ, ◌+◌, ◌-◌, ◌^◌, ◌<◌, ◌≤◌, ◌↔◌, ◌++◌, [], ◌∷◌, None, IsTrue, IsSome, IsOk, IfOk, OnOk, OnErr, length, min, drop};
+ghost use Rattle.segment_model.specs.Received.{below_limit, bytes_from};
+ghost use Rattle.stream_buffers.specs.Kept.{IsKept, RunsFrom, Shows, byte_at, forgotten_below, grown, missing_then, ready_count, runs_then, window};
+
+use crate::ring::{LAP, write};
+use crate::run::{Run, Span};
+use crate::walk::{absorb, find};
+use ao_base::Steps;
+use slot_list::Slots;
+use std::alloc::{AllocError, Global};
+use std::marker::Model;
+use std::sync::ledger::Ledger;
+
+/// How many bytes lie from the first one that isn't taken to the end of the window.
+const WINDOW: u64 = 65_535;
+/// How many runs are kept past the first missing position.
+const MOST_RUNS: u32 = 64;
+
+/// More than 64 separate runs would lie past the first missing position.
+#[derive(Clone, Copy, Debug, PartialEq, Eq)]
+pub struct TooManyRuns;
+
+/// The bytes received and not taken: a finite map from positions to bytes, with the first position
+/// that isn't taken and the first missing one.
+#[derive(Drop)]
+pub struct Reassembly {
+    ring: Vec<u8>,
+    from: u64,
+    expected: u64,
+    end: u64,
+    runs: Slots<Run>,
+}
+
+impl Model for Reassembly {
+    ghost use Rattle.stream_buffers.specs.Kept.{Kept, kept_code};
+
+    ghost Value = { Kept };
+
+    ghost coded = { kept_code };
+
+    ghost use Rattle.stream_buffers.specs.Spans.{IsSound, seen};
+
+    ghost view = { λ r. seen r.ring.items r.from r.expected r.runs.pairs };
+
+    ghost invariant = { λ r. IsSound r.ring.items r.from r.expected r.end r.runs };
+}
+
+impl Reassembly {
+    /// Without a byte, and with all its memory.
+    pub fn new(alloc: Global, first: u64) -> Result<Reassembly, AllocError>
+        requires { first ≤ 2 ^ 63 }
+        ensures { IfOk result (λ r. Shows r first first (λ p. None)) }
+    {
+        let ring = vec![in alloc; 0; LAP as usize]?;
+        let runs = Slots::new(alloc, MOST_RUNS)?;
+        Ok(Reassembly {
+            ring,
+            from: first,
+            expected: first,
+            end: first,
+            runs,
+        })
+    }
+
+    /// The first missing position.
+    pub fn expected(&self) -> u64
+        ensures expected { result ≡ self.now.expected }
+        ensures sound { IsKept self.now }
+    {
+        self.expected
+    }
+
+    /// How many bytes are ready to be taken.
+    pub fn ready(&self) -> usize
+        ensures { result ≡ ready_count self.now }
+    {
+        (self.expected - self.from) as usize
+    }
+
+    /// How many positions are open from the first missing one on.
+    pub fn window(&self) -> u16
+        ensures { result ≡ window self.now }
+    {
+        (WINDOW - (self.expected - self.from)) as u16
+    }
+
+    /// Keeps the bytes of a piece at position `number` that lie in the window and below the limit and
+    /// aren't kept yet.
+    pub fn keep<L: Ledger>(
+        &mut self,
+        number: u64,
+        bytes: &[u8],
+        limit: Option<u64>,
+        steps: &mut Steps<L>,
+    ) -> Result<(), TooManyRuns>
+        requires { number + length bytes.now ≤ 2 ^ 63 }
+        ensures variant { IsOk result ↔ (runs_then self.old (grown self.old number bytes.now limit) ≤ 64) }
+        ensures ok { OnOk result (Shows self.new self.old.from
+            (missing_then self.old (grown self.old number bytes.now limit)) (grown self.old number bytes.now limit)) }
+        ensures err { OnErr result (self.new ≡ self.old) }
+        ensures steps { steps.new ≤ steps.old + 65 }
+    {
+        let low = number.max(self.expected);
+        let edge = below(limit, self.from + WINDOW);
+        let high = edge.min(number + bytes.len() as u64);
+        if high <= low {
+            return Ok(());
+        }
+        let piece = &bytes[(low - number) as usize..(high - number) as usize];
+        let found = find(&self.runs, self.expected, low, steps);
+        match found.next {
+            Some(base) if base.span.first <= high => {
+                let span = absorb(
+                    &mut self.ring,
+                    &mut self.runs,
+                    base,
+                    self.expected,
+                    low,
+                    piece,
+                    steps,
+                );
+                self.end = self.end.max(high);
+                if low == self.expected {
+                    self.runs.remove(base.slot);
+                    self.expected = span.end;
+                    return Ok(());
+                }
+                self.runs.set(base.slot, Run::of(span));
+                Ok(())
+            }
+            _ if low == self.expected => {
+                write(&mut self.ring, low, piece, low, high);
+                self.end = self.end.max(high);
+                self.expected = high;
+                Ok(())
+            }
+            _ => {
+                let run = Run::of(Span {
+                    first: low,
+                    end: high,
+                });
+                match self.runs.insert_after(found.last, run) {
+                    Ok(_) => {}
+                    Err(_) => return Err(TooManyRuns),
+                }
+                write(&mut self.ring, low, piece, low, high);
+                self.end = self.end.max(high);
+                Ok(())
+            }
+        }
+    }
+
+    /// Moves the first ready bytes out, as many as fit.
+    pub fn take(&mut self, out: &mut [u8]) -> usize
+        ensures count { result ≡ min (length out.old) (ready_count self.old) }
+        ensures taken { out.new ≡ bytes_from (byte_at self.old) self.old.from result ++ drop result out.old }
+        ensures rest { Shows self.new (self.old.from + result) self.old.expected
+            (forgotten_below (self.old.from + result) (byte_at self.old)) }
+    {
+        let count = out.len().min((self.expected - self.from) as usize);
+        for index in 0..count {
+            out[index] = self.ring[((self.from + index as u64) % LAP) as usize];
+        }
+        self.from += count as u64;
+        count
+    }
+
+    /// Whether some byte at or past a position is kept.
+    pub fn kept_from(&self, position: u64) -> bool
+        ensures { IsTrue result ↔ ((p : ℕ) × (position ≤ p) × IsSome (byte_at self.now p)) }
+    {
+        position < self.end && self.from < self.end
+    }
+
+    /// Forgets all bytes, and begins at another position.
+    pub fn restart(&mut self, first: u64)
+        requires { first ≤ 2 ^ 63 }
+        ensures { Shows self.new first first (λ p. None) }
+    {
+        while let Some(slot) = self.runs.first() {
+            self.runs.remove(slot);
+        }
+        self.from = first;
+        self.expected = first;
+        self.end = first;
+    }
+
+    /// The pool of the runs past the first missing position.
+    pub fn runs(&self) -> &Slots<Run>
+        ensures places { result.now.capacity ≡ 64 }
+        ensures runs { RunsFrom (byte_at self.now) self.now.expected result.now.pairs }
+    {
+        &self.runs
+    }
+}
+
+/// What lies below a limit of what lies below `end`.
+fn below(limit: Option<u64>, end: u64) -> u64
+    ensures { result ≡ below_limit limit end }
+{
+    match limit {
+        Some(limit) => limit.min(end),
+        None => end,
+    }
+}
