@@ -6,11 +6,12 @@ use Rattle.std.proofs.lemmas.Bool.Decides.{nat_tests}
 use Rattle.std.proofs.lemmas.List.{set_at, drop_more}
 use Rattle.slot_list.specs.declared.slot.Slot.{Slot}
 use Rattle.slot_list.specs.Pool.{Pool, pool}
+use Rattle.segment_model.specs.Bytes.{ring}
 use Rattle.stream_buffers.specs.declared.run.Run.{Run}
 use Rattle.stream_buffers.specs.declared.run.Span.{Span}
 use Rattle.segment_model.specs.Received.{bytes_from}
 use Rattle.stream_buffers.specs.Kept.{Kept, byte_at, Shows, RunsFrom, forgotten_below}
-use Rattle.stream_buffers.specs.Spans.{span, span_of, spans_of, all_spans, in_span, in_spans, Apart, IsSound, held, seen}
+use Rattle.stream_buffers.specs.Spans.{span, span_of, spans_of, all_spans, in_span, in_spans, Apart, AreNumbered, IsSound, held, seen}
 use Rattle.stream_buffers.proofs.SpanLaws.{within, is_within, below, above, or_none, none_below, none_above, Apart-order}
 use Rattle.stream_buffers.proofs.Keeping.{byte_at_now, byte_at_seen, none_before, none_after, is_some-held}
 
@@ -23,14 +24,14 @@ last_kept : (from x : ℕ) (ss : List Span) (end : ℕ) → Apart x ss end → f
 last_kept from x [] end h lt = or_left (in_span (end - 1) (span from x)) false (is_within from x (end - 1) (omega arith) (omega (arith, h)))
 last_kept from x (s ∷ ss) end h lt = or_right (in_span (end - 1) (span from x)) _ (last_of x s ss end h)
 
-module _ {ring : List ℕ} {from expected end : ℕ} {slots : Pool Run} {now : Kept} where
-  some_at : (h : IsSound ring from expected end slots) → seen ring from expected slots.pairs ≡ now → (p : ℕ) → is_some (byte_at now p) ≡ in_spans p (all_spans from expected slots.pairs)
-  some_at h e p = ap is_some (byte_at_now h now e p) ∙ is_some-held ring (all_spans from expected slots.pairs) p
+module _ {buffer : List ℕ} {from expected end : ℕ} {slots : Pool Run} {now : Kept} where
+  some_at : (h : IsSound buffer from expected end slots) → seen buffer from expected slots.pairs ≡ now → (p : ℕ) → is_some (byte_at now p) ≡ in_spans p (all_spans from expected slots.pairs)
+  some_at h e p = ap is_some (byte_at_now h now e p) ∙ is_some-held buffer (all_spans from expected slots.pairs) p
 
-  pub some_past : (h : IsSound ring from expected end slots) → seen ring from expected slots.pairs ≡ now → (position : ℕ) → position < end → from < end → (p : ℕ) × (position ≤ p) × IsSome (byte_at now p)
+  pub some_past : (h : IsSound buffer from expected end slots) → seen buffer from expected slots.pairs ≡ now → (position : ℕ) → position < end → from < end → (p : ℕ) × (position ≤ p) × IsSome (byte_at now p)
   some_past h e position lt l = (end - 1, omega arith, some_at h e (end - 1) ∙ last_kept from expected (spans_of expected slots.pairs) end h.apart l)
 
-  pub none_past : (h : IsSound ring from expected end slots) → seen ring from expected slots.pairs ≡ now → (p : ℕ) → IsSome (byte_at now p) → (from ≤ p) × (p < end)
+  pub none_past : (h : IsSound buffer from expected end slots) → seen buffer from expected slots.pairs ≡ now → (p : ℕ) → IsSome (byte_at now p) → (from ≤ p) × (p < end)
   none_past h e p s =
       let i = sym (some_at h e p) ∙ s in
       elim (cases_lt p from) [
@@ -42,8 +43,8 @@ module _ {ring : List ℕ} {from expected end : ℕ} {slots : Pool Run} {now : K
       ]
 
 -- no byte is kept where a reassembly begins
-pub shows_none : (ring : List ℕ) (first : ℕ) (slots : Pool Run) → IsSound ring first first first slots → slots.pairs ≡ [] → Shows (seen ring first first slots.pairs) first first (λ p. None)
-shows_none ring first slots h e = record {
+pub shows_none : (buffer : List ℕ) (first : ℕ) (slots : Pool Run) → IsSound buffer first first first slots → slots.pairs ≡ [] → Shows (seen buffer first first slots.pairs) first first (λ p. None)
+shows_none buffer first slots h e = record {
   from = refl;
   expected = refl;
   bytes = λ p. byte_at_seen h p ∙ cond-false _ _ _ (ap (λ ps. in_spans p (all_spans first first ps)) e ∙ or_none _ false (nothing first p) refl);
@@ -52,33 +53,34 @@ shows_none ring first slots h e = record {
     nothing : (a p : ℕ) → (nat_le a p && nat_lt p a) ≡ false
     nothing a p = grind (arith, nat_tests)
 
-pub sound_none : (ring : List ℕ) (first : ℕ) (slots : Pool Run) → length ring ≡ 65536 → slots.capacity ≡ 64 → slots.pairs ≡ [] → first ≤ 2 ^ 63 → IsSound ring first first first slots
-sound_none ring first slots size cap e le = record {
+pub sound_none : (buffer : List ℕ) (first : ℕ) (slots : Pool Run) → length buffer ≡ 65536 → slots.capacity ≡ 64 → slots.pairs ≡ [] → first ≤ 2 ^ 63 → IsSound buffer first first first slots
+sound_none buffer first slots size cap e le = record {
   size = size;
   capacity = cap;
   few = rw e (omega arith);
   ordered = omega arith;
   apart = rw e refl;
+  numbered = rw e tt;
   near = omega arith;
   within = le;
 }
 
 -- the runs of the pool are those of the bytes
-runs_of_spans : (m : ℕ → Option ℕ) (at low : ℕ) (ps : List (Slot × Run)) (end : ℕ) → Apart low (spans_of at ps) end → ((p : ℕ) → low ≤ p → is_some (m p) ≡ in_spans p (spans_of at ps)) → RunsFrom m low ps
-runs_of_spans m at low [] end h c = λ p le. none_of (m p) (c p le)
+runs_of_spans : (m : ℕ → Option ℕ) (at low : ℕ) (ps : List (Slot × Run)) (end : ℕ) → AreNumbered ps → Apart low (spans_of at ps) end → ((p : ℕ) → low ≤ p → is_some (m p) ≡ in_spans p (spans_of at ps)) → RunsFrom m low ps
+runs_of_spans m at low [] end n h c = λ p le. none_of (m p) (c p le)
   where
     none_of : (o : Option ℕ) → is_some o ≡ false → o ≡ None
     none_of None e = refl
     none_of (Some x) e = absurd (false≢true (sym e))
-runs_of_spans m at low (q ∷ qs) end h c =
+runs_of_spans m at low (q ∷ qs) end n h c =
     let s = span_of at q.1 in (
       s.first,
       h.0,
-      remainder at q.1.first,
+      remainder at q.1.first n.0,
       omega (arith, h.1),
       λ p a b. none_of (m p) (c p a ∙ or_none _ _ (below s.first s.end p b) (none_below s.end (spans_of at qs) end p h.2 (omega (arith, h.1)))),
       λ p a b. c p (omega (arith, h.0)) ∙ or_left _ (in_spans p (spans_of at qs)) (is_within s.first s.end p a b),
-      runs_of_spans m at s.end qs end h.2 (λ p a. c p (omega (arith, h.0, h.1)) ∙ or_skip _ (in_spans p (spans_of at qs)) (above s.first s.end p a)),
+      runs_of_spans m at s.end qs end n.1 h.2 (λ p a. c p (omega (arith, h.0, h.1)) ∙ or_skip _ (in_spans p (spans_of at qs)) (above s.first s.end p a)),
     )
   where
     none_of : (o : Option ℕ) → is_some o ≡ false → o ≡ None
@@ -88,14 +90,14 @@ runs_of_spans m at low (q ∷ qs) end h c =
     or_skip : (x y : Bool) → x ≡ false → (x || y) ≡ y
     or_skip x y e = rw e refl
 
-    remainder : (at k : ℕ) → k % 4294967296 ≡ (at + (k + 4294967296 - at % 4294967296) % 4294967296) % 4294967296
-    remainder at k = omega arith
+    remainder : (at k : ℕ) → k < ring → k ≡ (at + (k + ring - at % ring) % ring) % ring
+    remainder at k lt = omega arith
 
-pub runs_shown : {ring : List ℕ} {from expected end : ℕ} {slots : Pool Run} {now : Kept} (h : IsSound ring from expected end slots) → seen ring from expected slots.pairs ≡ now → RunsFrom (byte_at now) now.expected slots.pairs
-runs_shown {ring} {from} {expected} {end} {slots} {now} h e =
+pub runs_shown : {buffer : List ℕ} {from expected end : ℕ} {slots : Pool Run} {now : Kept} (h : IsSound buffer from expected end slots) → seen buffer from expected slots.pairs ≡ now → RunsFrom (byte_at now) now.expected slots.pairs
+runs_shown {buffer} {from} {expected} {end} {slots} {now} h e =
     let x : expected ≡ now.expected = ap (λ (k : Kept). k.expected) e in
     let P : ℕ → Type 0 = λ n. RunsFrom (byte_at now) n slots.pairs in
-    subst P x (runs_of_spans (byte_at now) expected expected slots.pairs end h.apart (λ p le. some_at h e p ∙ or_skip _ (in_spans p (spans_of expected slots.pairs)) (above from expected p le)))
+    subst P x (runs_of_spans (byte_at now) expected expected slots.pairs end h.numbered h.apart (λ p le. some_at h e p ∙ or_skip _ (in_spans p (spans_of expected slots.pairs)) (above from expected p le)))
   where
     or_skip : (x y : Bool) → x ≡ false → (x || y) ≡ y
     or_skip x y e = rw e refl
@@ -118,17 +120,17 @@ take_more m n k out now y lt e is =
     ∙ (set_at A (get_or out k 0) (drop (k + 1) out) y k (length-bytes_from m n k)
     ∙ (sym (append_assoc A (y ∷ []) (drop (k + 1) out)) ∙ ap (λ xs. xs ++ drop (k + 1) out) (sym next)))
 
-pub ready_byte : {ring : List ℕ} {from expected end : ℕ} {slots : Pool Run} {now : Kept} (h : IsSound ring from expected end slots) → seen ring from expected slots.pairs ≡ now → (p : ℕ) → from ≤ p → p < expected → byte_at now p ≡ Some (get_or ring (p % 65536) 0)
-ready_byte {ring} {from} {expected} {end} {slots} {now} h e p a b = byte_at_now h now e p ∙ cond-true _ _ _ (or_left _ (in_spans p (spans_of expected slots.pairs)) (is_within from expected p a b))
+pub ready_byte : {buffer : List ℕ} {from expected end : ℕ} {slots : Pool Run} {now : Kept} (h : IsSound buffer from expected end slots) → seen buffer from expected slots.pairs ≡ now → (p : ℕ) → from ≤ p → p < expected → byte_at now p ≡ Some (get_or buffer (p % 65536) 0)
+ready_byte {buffer} {from} {expected} {end} {slots} {now} h e p a b = byte_at_now h now e p ∙ cond-true _ _ _ (or_left _ (in_spans p (spans_of expected slots.pairs)) (is_within from expected p a b))
 
 -- what is taken is forgotten
-pub taken_out : (ring : List ℕ) (from to expected end : ℕ) (slots : Pool Run) (now : Kept) (h : IsSound ring from expected end slots) → seen ring from expected slots.pairs ≡ now → from ≤ to → to ≤ expected → IsSound ring to expected end slots → (p : ℕ) → byte_at (seen ring to expected slots.pairs) p ≡ forgotten_below to (byte_at now) p
-taken_out ring from to expected end slots now h e a b h' p =
+pub taken_out : (buffer : List ℕ) (from to expected end : ℕ) (slots : Pool Run) (now : Kept) (h : IsSound buffer from expected end slots) → seen buffer from expected slots.pairs ≡ now → from ≤ to → to ≤ expected → IsSound buffer to expected end slots → (p : ℕ) → byte_at (seen buffer to expected slots.pairs) p ≡ forgotten_below to (byte_at now) p
+taken_out buffer from to expected end slots now h e a b h' p =
     byte_at_seen h' p ∙ elim (cases_lt p to) [
       | inl lt ↦
           cond-false _ _ _ (none_before h' p lt) ∙ sym (cond-false (nat_le to p) (byte_at now p) None (le_no to p lt))
       | inr ge ↦
-          ap (λ t. cond (t || in_spans p (spans_of expected slots.pairs)) (Some (get_or ring (p % 65536) 0)) None) (same to from expected p ge a) ∙ (sym (byte_at_now h now e p) ∙ sym (cond-true (nat_le to p) (byte_at now p) None (le_yes to p ge)))
+          ap (λ t. cond (t || in_spans p (spans_of expected slots.pairs)) (Some (get_or buffer (p % 65536) 0)) None) (same to from expected p ge a) ∙ (sym (byte_at_now h now e p) ∙ sym (cond-true (nat_le to p) (byte_at now p) None (le_yes to p ge)))
     ]
   where
     le_no : (a b : ℕ) → b < a → nat_le a b ≡ false

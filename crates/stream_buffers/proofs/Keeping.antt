@@ -15,39 +15,39 @@ use Rattle.stream_buffers.specs.Spans.{span, span_of, run_of, spans_of, all_span
 use Rattle.stream_buffers.proofs.SpanLaws.{within, is_within, below, above, or_none, none_below, none_above, Apart-order, in_spans-append, spans_of-append, length-spans_of, end_of, Apart-parts, Apart-join, end_below, position-same, spans_of-moves, get_or-tabulate, length-tabulate}
 use Rattle.stream_buffers.proofs.Counting.{first_missing-is, runs-are}
 
-held_in : (ring : List ℕ) (ss : List Span) (p : ℕ) → in_spans p ss ≡ true → held ring ss p ≡ Some (get_or ring (p % 65536) 0)
-held_in ring ss p h = cond-true _ _ _ h
+held_in : (buffer : List ℕ) (ss : List Span) (p : ℕ) → in_spans p ss ≡ true → held buffer ss p ≡ Some (get_or buffer (p % 65536) 0)
+held_in buffer ss p h = cond-true _ _ _ h
 
-held_out : (ring : List ℕ) (ss : List Span) (p : ℕ) → in_spans p ss ≡ false → held ring ss p ≡ None
-held_out ring ss p h = cond-false _ _ _ h
+held_out : (buffer : List ℕ) (ss : List Span) (p : ℕ) → in_spans p ss ≡ false → held buffer ss p ≡ None
+held_out buffer ss p h = cond-false _ _ _ h
 
-pub is_some-held : (ring : List ℕ) (ss : List Span) (p : ℕ) → is_some (held ring ss p) ≡ in_spans p ss
-is_some-held ring ss p = by_test (in_spans p ss) (get_or ring (p % 65536) 0)
+pub is_some-held : (buffer : List ℕ) (ss : List Span) (p : ℕ) → is_some (held buffer ss p) ≡ in_spans p ss
+is_some-held buffer ss p = by_test (in_spans p ss) (get_or buffer (p % 65536) 0)
   where
     by_test : (b : Bool) (x : ℕ) → is_some (cond b (Some x) None) ≡ b
     by_test true x = refl
     by_test false x = refl
 
-module _ {ring : List ℕ} {from expected end : ℕ} {pool' : Pool Run} where
+module _ {buffer : List ℕ} {from expected end : ℕ} {pool' : Pool Run} where
   -- no byte is kept below the first position nor from the window's end on
-  pub none_before : (h : IsSound ring from expected end pool') (p : ℕ) → p < from → in_spans p (all_spans from expected pool'.pairs) ≡ false
+  pub none_before : (h : IsSound buffer from expected end pool') (p : ℕ) → p < from → in_spans p (all_spans from expected pool'.pairs) ≡ false
   none_before h p lt = or_none _ _ (below from expected p lt) (none_below expected (spans_of expected pool'.pairs) end p h.apart (omega (arith, h.ordered)))
 
-  pub none_after : (h : IsSound ring from expected end pool') (p : ℕ) → end ≤ p → in_spans p (all_spans from expected pool'.pairs) ≡ false
+  pub none_after : (h : IsSound buffer from expected end pool') (p : ℕ) → end ≤ p → in_spans p (all_spans from expected pool'.pairs) ≡ false
   none_after h p le = or_none _ _ (above from expected p (omega (arith, Apart-order expected _ end h.apart))) (none_above expected (spans_of expected pool'.pairs) end p h.apart le)
 
-  pub byte_at_seen : (h : IsSound ring from expected end pool') (p : ℕ) → byte_at (seen ring from expected pool'.pairs) p ≡ held ring (all_spans from expected pool'.pairs) p
+  pub byte_at_seen : (h : IsSound buffer from expected end pool') (p : ℕ) → byte_at (seen buffer from expected pool'.pairs) p ≡ held buffer (all_spans from expected pool'.pairs) p
   byte_at_seen h p =
       let ss = all_spans from expected pool'.pairs in
-      let table = tabulate (length ring) (held ring ss) from in
+      let table = tabulate (length buffer) (held buffer ss) from in
       elim (cases_lt p from) [
         | inl lt ↦
-            cond-false _ _ _ (le_no from p lt) ∙ sym (held_out ring ss p (none_before h p lt))
-        | inr ge ↦ cond-true (nat_le from p) (get_or table (p - from) None) None (le_yes from p ge) ∙ (elim (cases_lt (p - from) (length ring)) [
+            cond-false _ _ _ (le_no from p lt) ∙ sym (held_out buffer ss p (none_before h p lt))
+        | inr ge ↦ cond-true (nat_le from p) (get_or table (p - from) None) None (le_yes from p ge) ∙ (elim (cases_lt (p - from) (length buffer)) [
           | inl lt ↦
-              get_or-tabulate (length ring) (held ring ss) from (p - from) lt ∙ ap (held ring ss) (omega arith)
+              get_or-tabulate (length buffer) (held buffer ss) from (p - from) lt ∙ ap (held buffer ss) (omega arith)
           | inr past ↦
-              get_or_past table (p - from) None (omega (arith, length-tabulate (length ring) (held ring ss) from)) ∙ sym (held_out ring ss p (none_after h p (omega (arith, h.size, h.near))))
+              get_or_past table (p - from) None (omega (arith, length-tabulate (length buffer) (held buffer ss) from)) ∙ sym (held_out buffer ss p (none_after h p (omega (arith, h.size, h.near))))
         ])
       ]
     where
@@ -57,10 +57,10 @@ module _ {ring : List ℕ} {from expected end : ℕ} {pool' : Pool Run} where
       le_yes : (a b : ℕ) → a ≤ b → nat_le a b ≡ true
       le_yes a b h = grind (arith, nat_tests)
 
-  pub byte_at_now : (h : IsSound ring from expected end pool') (now : Kept) → seen ring from expected pool'.pairs ≡ now → (p : ℕ) → byte_at now p ≡ held ring (all_spans from expected pool'.pairs) p
+  pub byte_at_now : (h : IsSound buffer from expected end pool') (now : Kept) → seen buffer from expected pool'.pairs ≡ now → (p : ℕ) → byte_at now p ≡ held buffer (all_spans from expected pool'.pairs) p
   byte_at_now h now e p = ap (λ k. byte_at k p) (sym e) ∙ byte_at_seen h p
 
-  seen_kept : (h : IsSound ring from expected end pool') → IsKept (seen ring from expected pool'.pairs)
+  seen_kept : (h : IsSound buffer from expected end pool') → IsKept (seen buffer from expected pool'.pairs)
   seen_kept h =
       let ss = all_spans from expected pool'.pairs in
       let last = Apart-order expected (spans_of expected pool'.pairs) end h.apart in
@@ -68,12 +68,12 @@ module _ {ring : List ℕ} {from expected end : ℕ} {pool' : Pool Run} where
         ordered = h.ordered;
         few = omega (arith, h.near);
         within = omega (arith, h.within);
-        ready = λ p a b. ap is_some (byte_at_seen h p) ∙ (is_some-held ring ss p ∙ or_left (in_span p (span from expected)) _ (is_within from expected p a b));
-        missing = byte_at_seen h expected ∙ held_out ring ss expected (or_none _ _ (above from expected expected (omega arith)) (none_below expected (spans_of expected pool'.pairs) end expected h.apart (omega arith)));
-        far = λ p a. byte_at_seen h p ∙ held_out ring ss p (none_after h p (omega (arith, h.near)));
+        ready = λ p a b. ap is_some (byte_at_seen h p) ∙ (is_some-held buffer ss p ∙ or_left (in_span p (span from expected)) _ (is_within from expected p a b));
+        missing = byte_at_seen h expected ∙ held_out buffer ss expected (or_none _ _ (above from expected expected (omega arith)) (none_below expected (spans_of expected pool'.pairs) end expected h.apart (omega arith)));
+        far = λ p a. byte_at_seen h p ∙ held_out buffer ss p (none_after h p (omega (arith, h.near)));
       }
 
-  pub kept_now : (h : IsSound ring from expected end pool') (now : Kept) → seen ring from expected pool'.pairs ≡ now → IsKept now
+  pub kept_now : (h : IsSound buffer from expected end pool') (now : Kept) → seen buffer from expected pool'.pairs ≡ now → IsKept now
   kept_now h now e = let P : Kept → Type 0 = λ k. IsKept k in subst P e (seen_kept h)
 
 -- a piece kept where nothing is
@@ -120,8 +120,8 @@ keep_is_put m n bytes expected edge low high piece l h e p =
     nothing true o e = e
     nothing false o e = refl
 
-pub is_some-put : (ring : List ℕ) (ss : List Span) (low high : ℕ) (piece : List ℕ) (p : ℕ) → is_some (put (held ring ss) low high piece p) ≡ (in_spans p ss || (nat_le low p && nat_lt p high))
-is_some-put ring ss low high piece p = by_tests (in_spans p ss) (nat_le low p && nat_lt p high) (get_or ring (p % 65536) 0) (get_or piece (p - low) 0)
+pub is_some-put : (buffer : List ℕ) (ss : List Span) (low high : ℕ) (piece : List ℕ) (p : ℕ) → is_some (put (held buffer ss) low high piece p) ≡ (in_spans p ss || (nat_le low p && nat_lt p high))
+is_some-put buffer ss low high piece p = by_tests (in_spans p ss) (nat_le low p && nat_lt p high) (get_or buffer (p % 65536) 0) (get_or piece (p - low) 0)
   where
     by_tests : (b c : Bool) (x y : ℕ) → is_some (first_known (cond b (Some x) None) (cond c (Some y) None)) ≡ (b || c)
     by_tests true c x y = refl
@@ -129,8 +129,8 @@ is_some-put ring ss low high piece p = by_tests (in_spans p ss) (nat_le low p &&
     by_tests false false x y = refl
 
 -- what is filled shows the piece as well
-pub held_put : (ring after : List ℕ) (front old new : List Span) (from low high : ℕ) (piece : List ℕ) → Grown ring after old new low high piece → ((p : ℕ) → in_spans p front ≡ true → p < low) → ((p : ℕ) → in_spans p (front ++ old) ≡ true → (from ≤ p) × (p < from + 65536)) → from ≤ low → high ≤ from + 65536 → (p : ℕ) → held after (front ++ new) p ≡ put (held ring (front ++ old)) low high piece p
-held_put ring after front old new from low high piece g before lap a b p =
+pub held_put : (buffer after : List ℕ) (front old new : List Span) (from low high : ℕ) (piece : List ℕ) → Grown buffer after old new low high piece → ((p : ℕ) → in_spans p front ≡ true → p < low) → ((p : ℕ) → in_spans p (front ++ old) ≡ true → (from ≤ p) × (p < from + 65536)) → from ≤ low → high ≤ from + 65536 → (p : ℕ) → held after (front ++ new) p ≡ put (held buffer (front ++ old)) low high piece p
+held_put buffer after front old new from low high piece g before lap a b p =
     let F = in_spans p front in
     let X = in_spans p old in
     let E = nat_le low p && nat_lt p high in
@@ -141,15 +141,15 @@ held_put ring after front old new from low high piece g before lap a b p =
           (let lt = before p f in
           let r = lap p (fo ∙ or_left F X f) in
           let same = g.bytes from a b p r.0 r.1 ∙ cond-false _ _ _ (and_left E (not X) (below low high p lt)) in
-          held_in after (front ++ new) p (fn ∙ or_left F (in_spans p new) f) ∙ (ap Some same ∙ sym (ap (λ o. first_known o (cond E (Some (get_or piece (p - low) 0)) None)) (held_in ring (front ++ old) p (fo ∙ or_left F X f)))))
+          held_in after (front ++ new) p (fn ∙ or_left F (in_spans p new) f) ∙ (ap Some same ∙ sym (ap (λ o. first_known o (cond E (Some (get_or piece (p - low) 0)) None)) (held_in buffer (front ++ old) p (fo ∙ or_left F X f)))))
       | inr f ↦ elim (cases_Bool X) [
         | inl x ↦
             (let r = lap p (fo ∙ or_right F X x) in
             let same = g.bytes from a b p r.0 r.1 ∙ cond-false _ _ _ (and_right E (not X) (ap not x)) in
             let here = fn ∙ or_right F (in_spans p new) (g.cover p ∙ or_left X E x) in
-            held_in after (front ++ new) p here ∙ (ap Some same ∙ sym (ap (λ o. first_known o (cond E (Some (get_or piece (p - low) 0)) None)) (held_in ring (front ++ old) p (fo ∙ or_right F X x)))))
+            held_in after (front ++ new) p here ∙ (ap Some same ∙ sym (ap (λ o. first_known o (cond E (Some (get_or piece (p - low) 0)) None)) (held_in buffer (front ++ old) p (fo ∙ or_right F X x)))))
         | inr x ↦
-            (let gone = ap (λ o. first_known o (cond E (Some (get_or piece (p - low) 0)) None)) (held_out ring (front ++ old) p (fo ∙ or_none F X f x)) in
+            (let gone = ap (λ o. first_known o (cond E (Some (get_or piece (p - low) 0)) None)) (held_out buffer (front ++ old) p (fo ∙ or_none F X f x)) in
             elim (cases_Bool E) [
               | inl e ↦
                   (let w = within low high p e in

@@ -6,22 +6,23 @@ use Rattle.std.proofs.lemmas.Bool.Decides.{nat_tests}
 use Rattle.std.proofs.lemmas.Option.{same_Some}
 use Rattle.slot_list.specs.declared.slot.Slot.{Slot}
 use Rattle.slot_list.specs.Pool.{Pool, pool}
+use Rattle.segment_model.specs.Bytes.{ring}
 use Rattle.stream_buffers.specs.declared.run.Run.{Run}
 use Rattle.stream_buffers.specs.declared.run.Span.{Span}
 use Rattle.stream_buffers.specs.declared.walk.Placed.{Placed}
 use Rattle.segment_model.specs.Received.{keep, first_known, first_missing, runs, below_limit}
 use Rattle.stream_buffers.specs.Kept.{Kept, byte_at, window, ready_count, grown, missing_then, runs_then, IsKept, Shows}
-use Rattle.stream_buffers.specs.Spans.{span, span_of, run_of, spans_of, all_spans, in_span, in_spans, position_of, Apart, EndBelow, Grown, Writes, IsSound, held, seen, tabulate}
+use Rattle.stream_buffers.specs.Spans.{span, span_of, run_of, spans_of, all_spans, in_span, in_spans, position_of, Apart, EndBelow, AreNumbered, Grown, Writes, IsSound, held, seen, tabulate}
 use Rattle.stream_buffers.specs.Walks.{placed, first_placed, touching_of, EndsFrom, IsReached, IsAbsorbed}
-use Rattle.stream_buffers.proofs.SpanLaws.{within, is_within, below, above, or_none, none_below, none_above, Apart-order, in_spans-append, spans_of-append, length-spans_of, end_of, Apart-parts, Apart-join, end_below, position-same, spans_of-moves}
+use Rattle.stream_buffers.proofs.SpanLaws.{within, is_within, below, above, or_none, none_below, none_above, Apart-order, in_spans-append, spans_of-append, length-spans_of, end_of, Apart-parts, Apart-join, end_below, position-same, spans_of-moves, numbered_front, numbered_back, numbered_join, run_of-numbered}
 use Rattle.stream_buffers.proofs.GrownLaws.{grown_more, grown_none}
 use Rattle.stream_buffers.proofs.Absorbing.{past_edge, reached_apart, grown_empty}
 use Rattle.stream_buffers.proofs.Keeping.{put, byte_at_now, byte_at_seen, none_before, none_after, keep_is_put, is_some-put, is_some-held, held_put, counted}
 
 -- a piece from `low` to `high` is to be kept
-pub record IsOffered (ring : List ℕ) (from expected end : ℕ) (slots : Pool Run) (now : Kept) (n : ℕ) (bytes : List ℕ) (limit : Option ℕ) (low high : ℕ) (piece : List ℕ) : Type 0 where
-  pub sound : IsSound ring from expected end slots
-  pub view : seen ring from expected slots.pairs ≡ now
+pub record IsOffered (buffer : List ℕ) (from expected end : ℕ) (slots : Pool Run) (now : Kept) (n : ℕ) (bytes : List ℕ) (limit : Option ℕ) (low high : ℕ) (piece : List ℕ) : Type 0 where
+  pub sound : IsSound buffer from expected end slots
+  pub view : seen buffer from expected slots.pairs ≡ now
   pub low_is : low ≡ max n expected
   pub high_is : high ≡ min (below_limit limit (from + 65535)) (n + length bytes)
   pub piece_is : piece ≡ take (high - n - (low - n)) (drop (low - n) bytes)
@@ -36,7 +37,7 @@ none_in_front : (at low : ℕ) (before : List (Slot × Run)) (rest : List Span) 
 none_in_front at low [] rest high le h e = refl
 none_in_front at low (p ∷ ps) rest high le h e = absurd (omega (arith, h.0, h.1, e.0))
 
-span_of-run_of : (at : ℕ) (s : Span) → at ≤ s.first → s.first < at + 4294967296 → s.first ≤ s.end → span_of at (run_of s) ≡ s
+span_of-run_of : (at : ℕ) (s : Span) → at ≤ s.first → s.first < at + ring → s.first ≤ s.end → span_of at (run_of s) ≡ s
 span_of-run_of at s a b c =
     let e = position-same at s.first a b in
     ap (λ f. span f (f + (s.end - s.first))) e ∙ ap (span s.first) (omega arith)
@@ -45,26 +46,26 @@ below_limit_le : (limit : Option ℕ) (n : ℕ) → below_limit limit n ≤ n
 below_limit_le None n = omega arith
 below_limit_le (Some l) n = omega arith
 
-module _ {ring : List ℕ} {from expected end : ℕ} {slots : Pool Run} {now : Kept} {n : ℕ} {bytes : List ℕ} {limit : Option ℕ} {low high : ℕ} {piece : List ℕ} where
-  from_is : IsOffered ring from expected end slots now n bytes limit low high piece → now.from ≡ from
+module _ {buffer : List ℕ} {from expected end : ℕ} {slots : Pool Run} {now : Kept} {n : ℕ} {bytes : List ℕ} {limit : Option ℕ} {low high : ℕ} {piece : List ℕ} where
+  from_is : IsOffered buffer from expected end slots now n bytes limit low high piece → now.from ≡ from
   from_is o = ap (λ (k : Kept). k.from) (sym o.view)
 
-  expected_is : IsOffered ring from expected end slots now n bytes limit low high piece → now.expected ≡ expected
+  expected_is : IsOffered buffer from expected end slots now n bytes limit low high piece → now.expected ≡ expected
   expected_is o = ap (λ (k : Kept). k.expected) (sym o.view)
 
-  pub order : IsOffered ring from expected end slots now n bytes limit low high piece → (expected ≤ end) × (end ≤ from + 65535) × (from ≤ expected)
+  pub order : IsOffered buffer from expected end slots now n bytes limit low high piece → (expected ≤ end) × (end ≤ from + 65535) × (from ≤ expected)
   order o = (Apart-order expected (spans_of expected slots.pairs) end o.sound.apart, o.sound.near, o.sound.ordered)
 
-  pub edges : IsOffered ring from expected end slots now n bytes limit low high piece → (expected ≤ low) × (high ≤ from + 65535) × (high ≤ 2 ^ 63) × (end ≤ 2 ^ 63)
+  pub edges : IsOffered buffer from expected end slots now n bytes limit low high piece → (expected ≤ low) × (high ≤ from + 65535) × (high ≤ 2 ^ 63) × (end ≤ 2 ^ 63)
   edges o = (omega (arith, o.low_is), omega (arith, o.high_is, below_limit_le limit (from + 65535)), omega (arith, o.high_is, o.small), o.sound.within)
 
-  pub length_is : IsOffered ring from expected end slots now n bytes limit low high piece → low ≤ high → low + length piece ≡ high
+  pub length_is : IsOffered buffer from expected end slots now n bytes limit low high piece → low ≤ high → low + length piece ≡ high
   length_is o le =
       let e = ap length o.piece_is in
       let k = high - n - (low - n) in
       omega (arith, e, length-take k (drop (low - n) bytes), length-drop (low - n) bytes, o.low_is, o.high_is)
 
-  grown_is : IsOffered ring from expected end slots now n bytes limit low high piece → (p : ℕ) → grown now n bytes limit p ≡ put (held ring (all_spans from expected slots.pairs)) low high piece p
+  grown_is : IsOffered buffer from expected end slots now n bytes limit low high piece → (p : ℕ) → grown now n bytes limit p ≡ put (held buffer (all_spans from expected slots.pairs)) low high piece p
   grown_is o p =
       let t = order o in
       let x = expected_is o in
@@ -75,15 +76,15 @@ module _ {ring : List ℕ} {from expected end : ℕ} {slots : Pool Run} {now : K
       ∙ ap (λ v. first_known v (if nat_le low p && nat_lt p high then Some (get_or piece (p - low) 0) else None)) (byte_at_now o.sound now o.view p)))
 
   -- how many runs then lie past the first missing position, whatever spans they make
-  pub runs_are : (o : IsOffered ring from expected end slots now n bytes limit low high piece) (x : ℕ) (ss : List Span) (e : ℕ) → expected ≤ x → Apart x ss e → e ≤ from + 65535 → ((p : ℕ) → (in_spans p (all_spans from expected slots.pairs) || (nat_le low p && nat_lt p high)) ≡ in_spans p (span from x ∷ ss)) → (missing_then now (grown now n bytes limit) ≡ x) × (runs_then now (grown now n bytes limit) ≡ length ss)
+  pub runs_are : (o : IsOffered buffer from expected end slots now n bytes limit low high piece) (x : ℕ) (ss : List Span) (e : ℕ) → expected ≤ x → Apart x ss e → e ≤ from + 65535 → ((p : ℕ) → (in_spans p (all_spans from expected slots.pairs) || (nat_le low p && nat_lt p high)) ≡ in_spans p (span from x ∷ ss)) → (missing_then now (grown now n bytes limit) ≡ x) × (runs_then now (grown now n bytes limit) ≡ length ss)
   runs_are o x ss e le h near cover =
       let t = order o in
       let f = from_is o in
       counted now (grown now n bytes limit) x ss e (omega (arith, expected_is o)) (omega (arith, expected_is o)) (omega (arith, expected_is o)) h (omega arith) (λ p.
-      ap is_some (grown_is o p) ∙ (is_some-put ring (all_spans from expected slots.pairs) low high piece p ∙ (cover p ∙ ap (λ k. in_spans p (span k x ∷ ss)) (sym f))))
+      ap is_some (grown_is o p) ∙ (is_some-put buffer (all_spans from expected slots.pairs) low high piece p ∙ (cover p ∙ ap (λ k. in_spans p (span k x ∷ ss)) (sym f))))
 
   -- a sound state that has the spans and the bytes shows them
-  pub settled : (o : IsOffered ring from expected end slots now n bytes limit low high piece) (after : List ℕ) (front old new : List Span) (x e : ℕ) (slots' : Pool Run) → all_spans from expected slots.pairs ≡ front ++ old → ((p : ℕ) → in_spans p front ≡ true → p < low) → Grown ring after old new low high piece → IsSound after from x e slots' → expected ≤ x → ((p : ℕ) → in_spans p (all_spans from x slots'.pairs) ≡ in_spans p (front ++ new))
+  pub settled : (o : IsOffered buffer from expected end slots now n bytes limit low high piece) (after : List ℕ) (front old new : List Span) (x e : ℕ) (slots' : Pool Run) → all_spans from expected slots.pairs ≡ front ++ old → ((p : ℕ) → in_spans p front ≡ true → p < low) → Grown buffer after old new low high piece → IsSound after from x e slots' → expected ≤ x → ((p : ℕ) → in_spans p (all_spans from x slots'.pairs) ≡ in_spans p (front ++ new))
       → Shows (seen after from x slots'.pairs) now.from (missing_then now (grown now n bytes limit)) (grown now n bytes limit) × (runs_then now (grown now n bytes limit) ≡ length slots'.pairs)
   settled o after front old new x e slots' parts before g s le same =
       let t = order o in
@@ -98,8 +99,8 @@ module _ {ring : List ℕ} {from expected end : ℕ} {slots : Pool Run} {now : K
           bytes = λ p.
               byte_at_seen s p
               ∙ (ap (λ b. cond b (Some (get_or after (p % 65536) 0)) None) (same p)
-              ∙ (held_put ring after front old new from low high piece g before (λ q i. lap q (old_is q ∙ i)) (omega arith) (omega arith) p
-              ∙ sym (grown_is o p ∙ ap (λ b. first_known (cond b (Some (get_or ring (p % 65536) 0)) None) (if nat_le low p && nat_lt p high then Some (get_or piece (p - low) 0) else None)) (old_is p))));
+              ∙ (held_put buffer after front old new from low high piece g before (λ q i. lap q (old_is q ∙ i)) (omega arith) (omega arith) p
+              ∙ sym (grown_is o p ∙ ap (λ b. first_known (cond b (Some (get_or buffer (p % 65536) 0)) None) (if nat_le low p && nat_lt p high then Some (get_or piece (p - low) 0) else None)) (old_is p))));
         },
         many.1 ∙ length-spans_of x slots'.pairs,
       )
@@ -122,17 +123,23 @@ module _ {ring : List ℕ} {from expected end : ℕ} {slots : Pool Run} {now : K
 abbrev pub front_of : ℕ → ℕ → List (Slot × Run) → List Span
 front_of from expected before = span from expected ∷ spans_of expected before
 
-module _ {ring : List ℕ} {from expected end : ℕ} {slots : Pool Run} {now : Kept} {n : ℕ} {bytes : List ℕ} {limit : Option ℕ} {low high : ℕ} {piece : List ℕ} where
+module _ {buffer : List ℕ} {from expected end : ℕ} {slots : Pool Run} {now : Kept} {n : ℕ} {bytes : List ℕ} {limit : Option ℕ} {low high : ℕ} {piece : List ℕ} where
   -- the runs, parted in front of the piece
-  parted : (o : IsOffered ring from expected end slots now n bytes limit low high piece) (before back : List (Slot × Run)) → slots.pairs ≡ before ++ back → spans_of expected slots.pairs ≡ spans_of expected before ++ spans_of expected back
+  parted : (o : IsOffered buffer from expected end slots now n bytes limit low high piece) (before back : List (Slot × Run)) → slots.pairs ≡ before ++ back → spans_of expected slots.pairs ≡ spans_of expected before ++ spans_of expected back
   parted o before back e = ap (spans_of expected) e ∙ spans_of-append expected before back
 
-  pub apart_parts : (o : IsOffered ring from expected end slots now n bytes limit low high piece) (before back : List (Slot × Run)) → slots.pairs ≡ before ++ back → Apart expected (spans_of expected before) (end_of expected (spans_of expected before)) × Apart (end_of expected (spans_of expected before)) (spans_of expected back) end
+  numbered_before : (o : IsOffered buffer from expected end slots now n bytes limit low high piece) (before back : List (Slot × Run)) → slots.pairs ≡ before ++ back → AreNumbered before
+  numbered_before o before back e = numbered_front before back (subst AreNumbered e o.sound.numbered)
+
+  numbered_after : (o : IsOffered buffer from expected end slots now n bytes limit low high piece) (before back : List (Slot × Run)) → slots.pairs ≡ before ++ back → AreNumbered back
+  numbered_after o before back e = numbered_back before back (subst AreNumbered e o.sound.numbered)
+
+  pub apart_parts : (o : IsOffered buffer from expected end slots now n bytes limit low high piece) (before back : List (Slot × Run)) → slots.pairs ≡ before ++ back → Apart expected (spans_of expected before) (end_of expected (spans_of expected before)) × Apart (end_of expected (spans_of expected before)) (spans_of expected back) end
   apart_parts o before back e =
       let P : List Span → Type 0 = λ ss. Apart expected ss end in
       Apart-parts expected (spans_of expected before) (spans_of expected back) end (subst P (parted o before back e) o.sound.apart)
 
-  front_before : (o : IsOffered ring from expected end slots now n bytes limit low high piece) (before back : List (Slot × Run)) → slots.pairs ≡ before ++ back → EndBelow (spans_of expected before) low → (p : ℕ) → in_spans p (front_of from expected before) ≡ true → p < low
+  front_before : (o : IsOffered buffer from expected end slots now n bytes limit low high piece) (before back : List (Slot × Run)) → slots.pairs ≡ before ++ back → EndBelow (spans_of expected before) low → (p : ℕ) → in_spans p (front_of from expected before) ≡ true → p < low
   front_before o before back e b p t =
       let a = apart_parts o before back e in
       let le = (edges o).0 in
@@ -142,12 +149,12 @@ module _ {ring : List ℕ} {from expected end : ℕ} {slots : Pool Run} {now : K
         | inr ge ↦ absurd (false≢true (sym (or_none (in_span p (span from expected)) (in_spans p (spans_of expected before)) (above from expected p (omega arith)) (none_above expected (spans_of expected before) (end_of expected (spans_of expected before)) p a.0 (omega arith))) ∙ t))
       ]
 
-  all_parted : (o : IsOffered ring from expected end slots now n bytes limit low high piece) (before back : List (Slot × Run)) → slots.pairs ≡ before ++ back → all_spans from expected slots.pairs ≡ front_of from expected before ++ spans_of expected back
+  all_parted : (o : IsOffered buffer from expected end slots now n bytes limit low high piece) (before back : List (Slot × Run)) → slots.pairs ≡ before ++ back → all_spans from expected slots.pairs ≡ front_of from expected before ++ spans_of expected back
   all_parted o before back e = ap (λ ss. span from expected ∷ ss) (parted o before back e)
 
   -- (1) the piece joins a run that stays past the first missing position
-  pub kept_in_place : (o : IsOffered ring from expected end slots now n bytes limit low high piece) → low < high → expected < low → (before : List (Slot × Run)) (slot : Slot) (run : Run) (after : List (Slot × Run)) → slots.pairs ≡ before ++ (slot, run) ∷ after → EndBelow (spans_of expected before) low → (base : Span) → IsReached expected low (low + length piece) base run after
-      → (left : List ℕ) (slots1 slots2 : Pool Run) (steps later : ℕ) (made : Span) (a : IsAbsorbed expected ring left slots.capacity slots1 before slot run after low piece steps later made) → slots2 ≡ pool slots1.capacity (before ++ (slot, run_of made) ∷ a.rest) → length slots2.pairs ≤ slots2.capacity → (top : ℕ) → top ≡ max end high
+  pub kept_in_place : (o : IsOffered buffer from expected end slots now n bytes limit low high piece) → low < high → expected < low → (before : List (Slot × Run)) (slot : Slot) (run : Run) (after : List (Slot × Run)) → slots.pairs ≡ before ++ (slot, run) ∷ after → EndBelow (spans_of expected before) low → (base : Span) → IsReached expected low (low + length piece) base run after
+      → (left : List ℕ) (slots1 slots2 : Pool Run) (steps later : ℕ) (made : Span) (a : IsAbsorbed expected buffer left slots.capacity slots1 before slot run after low piece steps later made) → slots2 ≡ pool slots1.capacity (before ++ (slot, run_of made) ∷ a.rest) → length slots2.pairs ≤ slots2.capacity → (top : ℕ) → top ≡ max end high
       → IsSound left from expected top slots2 × (Shows (seen left from expected slots2.pairs) now.from (missing_then now (grown now n bytes limit)) (grown now n bytes limit) × (runs_then now (grown now n bytes limit) ≡ length slots2.pairs)) × (made.first ≤ made.end) × (made.end - made.first < 2 ^ 32)
   kept_in_place o lh xl before slot run after e b base r left slots1 slots2 steps later made a s2 few2 top t =
       let hi = length_is o (omega arith) in
@@ -174,16 +181,17 @@ module _ {ring : List ℕ} {from expected end : ℕ} {slots : Pool Run} {now : K
         few = omega (arith, few2, cap);
         ordered = o.sound.ordered;
         apart = subst P (sym spans2) (Apart-join expected (spans_of expected before) (made ∷ spans_of expected a.rest) mid top parts.0 (m1, m2, ap1));
+        numbered = subst AreNumbered (sym pairs_are) (numbered_join before ((slot, run_of made) ∷ a.rest) (numbered_before o before ((slot, run) ∷ after) e) (run_of-numbered slot made a.rest (a.numbered (numbered_after o before ((slot, run) ∷ after) e).1)));
         near = omega (arith, c.1, d.1);
         within = omega (arith, d.2, d.3);
       } in
-      let G : ℕ → Type 0 = λ k. Grown ring left (span_of expected run ∷ spans_of expected after) (made ∷ spans_of expected a.rest) low k piece in
+      let G : ℕ → Type 0 = λ k. Grown buffer left (span_of expected run ∷ spans_of expected after) (made ∷ spans_of expected a.rest) low k piece in
       let shown = settled o left (front_of from expected before) (spans_of expected ((slot, run) ∷ after)) (made ∷ spans_of expected a.rest) expected top slots2 (all_parted o before ((slot, run) ∷ after) e) (front_before o before ((slot, run) ∷ after) e b) (subst G hi a.grown) sound (omega arith) (λ p. ap (λ ss. in_spans p (span from expected ∷ ss)) spans2) in
       (sound, shown, omega arith, omega arith)
 
   -- (2) the piece joins the ready bytes and runs
-  pub joined : (o : IsOffered ring from expected end slots now n bytes limit low high piece) → low < high → low ≡ expected → (before : List (Slot × Run)) (slot : Slot) (run : Run) (after : List (Slot × Run)) → slots.pairs ≡ before ++ (slot, run) ∷ after → EndBelow (spans_of expected before) low → (base : Span) → IsReached expected low (low + length piece) base run after
-      → (left : List ℕ) (slots1 slots2 : Pool Run) (steps later : ℕ) (made : Span) (a : IsAbsorbed expected ring left slots.capacity slots1 before slot run after low piece steps later made) → slots2 ≡ pool slots1.capacity (before ++ a.rest) → length slots2.pairs ≤ slots2.capacity → (top : ℕ) → top ≡ max end high
+  pub joined : (o : IsOffered buffer from expected end slots now n bytes limit low high piece) → low < high → low ≡ expected → (before : List (Slot × Run)) (slot : Slot) (run : Run) (after : List (Slot × Run)) → slots.pairs ≡ before ++ (slot, run) ∷ after → EndBelow (spans_of expected before) low → (base : Span) → IsReached expected low (low + length piece) base run after
+      → (left : List ℕ) (slots1 slots2 : Pool Run) (steps later : ℕ) (made : Span) (a : IsAbsorbed expected buffer left slots.capacity slots1 before slot run after low piece steps later made) → slots2 ≡ pool slots1.capacity (before ++ a.rest) → length slots2.pairs ≤ slots2.capacity → (top : ℕ) → top ≡ max end high
       → IsSound left from made.end top slots2 × (Shows (seen left from made.end slots2.pairs) now.from (missing_then now (grown now n bytes limit)) (grown now n bytes limit) × (runs_then now (grown now n bytes limit) ≡ length slots2.pairs))
   joined o lh xl before slot run after e b base r left slots1 slots2 steps later made a s2 few2 top t =
       let hi = length_is o (omega arith) in
@@ -207,10 +215,11 @@ module _ {ring : List ℕ} {from expected end : ℕ} {slots : Pool Run} {now : K
         few = omega (arith, few2, cap);
         ordered = omega (arith, a.end);
         apart = subst P (sym spans2) ap1;
+        numbered = subst AreNumbered (sym pairs_are) (a.numbered (numbered_after o before ((slot, run) ∷ after) e).1);
         near = omega (arith, c.1, d.1);
         within = omega (arith, d.2, d.3);
       } in
-      let G : ℕ → Type 0 = λ k. Grown ring left (span_of expected run ∷ spans_of expected after) (made ∷ spans_of expected a.rest) low k piece in
+      let G : ℕ → Type 0 = λ k. Grown buffer left (span_of expected run ∷ spans_of expected after) (made ∷ spans_of expected a.rest) low k piece in
       let same : (p : ℕ) → in_spans p (all_spans from made.end slots2.pairs) ≡ in_spans p (front_of from expected before ++ made ∷ spans_of expected a.rest) = λ p.
       ap (λ ss. in_spans p (span from made.end ∷ ss)) spans2
       ∙ (ap (λ x. x || in_spans p (spans_of expected a.rest)) (meet from expected made.end p (omega arith) (omega (arith, a.end)) ∙ ap (λ f. (nat_le from p && nat_lt p expected) || (nat_le f p && nat_lt p made.end)) (sym first))
@@ -227,17 +236,17 @@ module _ {ring : List ℕ} {from expected end : ℕ} {slots : Pool Run} {now : K
       meet a x b p h k = grind (arith, nat_tests)
 
 -- a piece that touches no run
-fresh : (ring after : List ℕ) (old : List Span) (low high : ℕ) (piece : List ℕ) → low ≤ high → ((p : ℕ) → p < high → in_spans p old ≡ false) → Writes ring after low high low piece → Grown ring after old (span low high ∷ old) low high piece
-fresh ring after old low high piece le none w =
+fresh : (buffer after : List ℕ) (old : List Span) (low high : ℕ) (piece : List ℕ) → low ≤ high → ((p : ℕ) → p < high → in_spans p old ≡ false) → Writes buffer after low high low piece → Grown buffer after old (span low high ∷ old) low high piece
+fresh buffer after old low high piece le none w =
     let m : min low high ≡ low = omega arith in
     let k : min high high ≡ high = omega arith in
-    let g = grown_empty ring ring old (span low low) high old low (min low high) piece (grown_none ring old low high piece) in
-    let P : ℕ → Type 0 = λ j. Grown ring after old (span low high ∷ old) low j piece in
-    subst P k (grown_more ring ring after old low low high high old low high piece (omega arith) (omega arith) le (omega arith) (omega arith) none g w)
+    let g = grown_empty buffer buffer old (span low low) high old low (min low high) piece (grown_none buffer old low high piece) in
+    let P : ℕ → Type 0 = λ j. Grown buffer after old (span low high ∷ old) low j piece in
+    subst P k (grown_more buffer buffer after old low low high high old low high piece (omega arith) (omega arith) le (omega arith) (omega arith) none g w)
 
-module _ {ring : List ℕ} {from expected end : ℕ} {slots : Pool Run} {now : Kept} {n : ℕ} {bytes : List ℕ} {limit : Option ℕ} {low high : ℕ} {piece : List ℕ} where
+module _ {buffer : List ℕ} {from expected end : ℕ} {slots : Pool Run} {now : Kept} {n : ℕ} {bytes : List ℕ} {limit : Option ℕ} {low high : ℕ} {piece : List ℕ} where
   -- no run behind is reached
-  untouched : (o : IsOffered ring from expected end slots now n bytes limit low high piece) (before after : List (Slot × Run)) → slots.pairs ≡ before ++ after → EndBelow (spans_of expected before) low → low < high → None ≡ touching_of expected high after → Apart high (spans_of expected after) (max end high)
+  untouched : (o : IsOffered buffer from expected end slots now n bytes limit low high piece) (before after : List (Slot × Run)) → slots.pairs ≡ before ++ after → EndBelow (spans_of expected before) low → low < high → None ≡ touching_of expected high after → Apart high (spans_of expected after) (max end high)
   untouched o before after e b lh t =
       let parts = apart_parts o before after e in
       let mid = end_of expected (spans_of expected before) in
@@ -247,7 +256,7 @@ module _ {ring : List ℕ} {from expected end : ℕ} {slots : Pool Run} {now : K
       subst P m (past_edge expected high mid after end t parts.1)
 
   -- (3) the piece joins the ready bytes alone
-  pub appended : (o : IsOffered ring from expected end slots now n bytes limit low high piece) → low < high → low ≡ expected → (before after : List (Slot × Run)) → slots.pairs ≡ before ++ after → EndBelow (spans_of expected before) low → None ≡ touching_of expected high after → (left : List ℕ) → length left ≡ length ring → Writes ring left low high low piece → (top : ℕ) → top ≡ max end high
+  pub appended : (o : IsOffered buffer from expected end slots now n bytes limit low high piece) → low < high → low ≡ expected → (before after : List (Slot × Run)) → slots.pairs ≡ before ++ after → EndBelow (spans_of expected before) low → None ≡ touching_of expected high after → (left : List ℕ) → length left ≡ length buffer → Writes buffer left low high low piece → (top : ℕ) → top ≡ max end high
       → IsSound left from high top slots × (Shows (seen left from high slots.pairs) now.from (missing_then now (grown now n bytes limit)) (grown now n bytes limit) × (runs_then now (grown now n bytes limit) ≡ length slots.pairs))
   appended o lh xl before after e b none left size w top t =
       let d = edges o in
@@ -266,10 +275,11 @@ module _ {ring : List ℕ} {from expected end : ℕ} {slots : Pool Run} {now : K
         few = o.sound.few;
         ordered = omega arith;
         apart = subst P (sym spans2) ap1;
+        numbered = o.sound.numbered;
         near = omega (arith, c.1, d.1);
         within = omega (arith, d.2, d.3);
       } in
-      let g = fresh ring left (spans_of expected after) low high piece (omega arith) (λ p k. none_below high (spans_of expected after) top p ap1 (omega arith)) w in
+      let g = fresh buffer left (spans_of expected after) low high piece (omega arith) (λ p k. none_below high (spans_of expected after) top p ap1 (omega arith)) w in
       let same : (p : ℕ) → in_spans p (all_spans from high slots.pairs) ≡ in_spans p (front_of from expected before ++ span low high ∷ spans_of expected after) = λ p.
       ap (λ ss. in_spans p (span from high ∷ ss)) spans2
       ∙ (ap (λ x. x || in_spans p (spans_of expected after)) (meet from expected high p (omega arith) (omega arith) ∙ ap (λ f. (nat_le from p && nat_lt p expected) || (nat_le f p && nat_lt p high)) (sym xl))
@@ -286,14 +296,14 @@ module _ {ring : List ℕ} {from expected end : ℕ} {slots : Pool Run} {now : K
       meet a x b p h k = grind (arith, nat_tests)
 
   -- the spans with the piece as a run of its own
-  apart_with : (o : IsOffered ring from expected end slots now n bytes limit low high piece) → low < high → expected < low → (before after : List (Slot × Run)) → slots.pairs ≡ before ++ after → EndBelow (spans_of expected before) low → None ≡ touching_of expected high after → Apart expected (spans_of expected before ++ span low high ∷ spans_of expected after) (max end high)
+  apart_with : (o : IsOffered buffer from expected end slots now n bytes limit low high piece) → low < high → expected < low → (before after : List (Slot × Run)) → slots.pairs ≡ before ++ after → EndBelow (spans_of expected before) low → None ≡ touching_of expected high after → Apart expected (spans_of expected before ++ span low high ∷ spans_of expected after) (max end high)
   apart_with o lh xl before after e b none =
       let parts = apart_parts o before after e in
       let mid = end_of expected (spans_of expected before) in
       Apart-join expected (spans_of expected before) (span low high ∷ spans_of expected after) mid (max end high) parts.0 (end_below expected (spans_of expected before) low b xl, lh, untouched o before after e b lh none)
 
   -- (4) the piece is a run of its own
-  pub added : (o : IsOffered ring from expected end slots now n bytes limit low high piece) → low < high → expected < low → (before after : List (Slot × Run)) → slots.pairs ≡ before ++ after → EndBelow (spans_of expected before) low → None ≡ touching_of expected high after → (slot : Slot) (slots2 : Pool Run) → slots2 ≡ pool slots.capacity (before ++ (slot, run_of (span low high)) ∷ after) → length slots2.pairs ≤ slots2.capacity → (left : List ℕ) → length left ≡ length ring → Writes ring left low high low piece → (top : ℕ) → top ≡ max end high
+  pub added : (o : IsOffered buffer from expected end slots now n bytes limit low high piece) → low < high → expected < low → (before after : List (Slot × Run)) → slots.pairs ≡ before ++ after → EndBelow (spans_of expected before) low → None ≡ touching_of expected high after → (slot : Slot) (slots2 : Pool Run) → slots2 ≡ pool slots.capacity (before ++ (slot, run_of (span low high)) ∷ after) → length slots2.pairs ≤ slots2.capacity → (left : List ℕ) → length left ≡ length buffer → Writes buffer left low high low piece → (top : ℕ) → top ≡ max end high
       → IsSound left from expected top slots2 × (Shows (seen left from expected slots2.pairs) now.from (missing_then now (grown now n bytes limit)) (grown now n bytes limit) × (runs_then now (grown now n bytes limit) ≡ length slots2.pairs))
   added o lh xl before after e b none slot slots2 s2 few2 left size w top t =
       let d = edges o in
@@ -309,16 +319,17 @@ module _ {ring : List ℕ} {from expected end : ℕ} {slots : Pool Run} {now : K
         few = omega (arith, few2, cap);
         ordered = o.sound.ordered;
         apart = subst P (sym spans2) (subst R (sym t) (apart_with o lh xl before after e b none));
+        numbered = subst AreNumbered (sym (ap (λ (q : Pool Run). q.pairs) s2)) (numbered_join before ((slot, run_of (span low high)) ∷ after) (numbered_before o before after e) (run_of-numbered slot (span low high) after (numbered_after o before after e)));
         near = omega (arith, c.1, d.1);
         within = omega (arith, d.2, d.3);
       } in
       let u = untouched o before after e b lh none in
-      let g = fresh ring left (spans_of expected after) low high piece (omega arith) (λ p k. none_below high (spans_of expected after) (max end high) p u (omega arith)) w in
+      let g = fresh buffer left (spans_of expected after) low high piece (omega arith) (λ p k. none_below high (spans_of expected after) (max end high) p u (omega arith)) w in
       let shown = settled o left (front_of from expected before) (spans_of expected after) (span low high ∷ spans_of expected after) expected top slots2 (all_parted o before after e) (front_before o before after e b) g sound (omega arith) (λ p. ap (λ ss. in_spans p (span from expected ∷ ss)) spans2) in
       (sound, shown)
 
   -- (5) one run too many
-  pub refused : (o : IsOffered ring from expected end slots now n bytes limit low high piece) → low < high → expected < low → (before after : List (Slot × Run)) → slots.pairs ≡ before ++ after → EndBelow (spans_of expected before) low → None ≡ touching_of expected high after → runs_then now (grown now n bytes limit) ≡ length slots.pairs + 1
+  pub refused : (o : IsOffered buffer from expected end slots now n bytes limit low high piece) → low < high → expected < low → (before after : List (Slot × Run)) → slots.pairs ≡ before ++ after → EndBelow (spans_of expected before) low → None ≡ touching_of expected high after → runs_then now (grown now n bytes limit) ≡ length slots.pairs + 1
   refused o lh xl before after e b none =
       let d = edges o in
       let c = order o in
@@ -336,7 +347,7 @@ module _ {ring : List ℕ} {from expected end : ℕ} {slots : Pool Run} {now : K
       or_swap false false false = refl
 
   -- (6) nothing to keep
-  pub nothing : (o : IsOffered ring from expected end slots now n bytes limit low high piece) → high ≤ low → Shows now now.from (missing_then now (grown now n bytes limit)) (grown now n bytes limit) × (runs_then now (grown now n bytes limit) ≡ length slots.pairs)
+  pub nothing : (o : IsOffered buffer from expected end slots now n bytes limit low high piece) → high ≤ low → Shows now now.from (missing_then now (grown now n bytes limit)) (grown now n bytes limit) × (runs_then now (grown now n bytes limit) ≡ length slots.pairs)
   nothing o hl =
       let c = order o in
       let many = runs_are o expected (spans_of expected slots.pairs) end (omega arith) o.sound.apart o.sound.near (λ p. or_no (in_spans p (all_spans from expected slots.pairs)) _ (none low high p hl)) in (

@@ -13,8 +13,8 @@ use Rattle.stream_buffers.specs.Walks.{first_placed, touching_of, EndsFrom, IsFo
 use Rattle.stream_buffers.proofs.Outcomes.{IsOffered, length_is, apart_parts, kept_in_place, joined, appended, added, refused, placed_first, placed_past, placed_none, edges, order}
 use Rattle.stream_buffers.proofs.SpanLaws.{Apart-order, end_of}
 
-pub offer : {ring : List ℕ} {from expected end : ℕ} {slots : Pool Run} {now : Kept} (n : ℕ) (bytes : List ℕ) (limit : Option ℕ) (low high edge : ℕ) → IsSound ring from expected end slots → seen ring from expected slots.pairs ≡ now → low ≡ max n expected → edge ≡ below_limit limit (from + 65535) → high ≡ min edge (n + length bytes) → n + length bytes ≤ 2 ^ 63
-    → IsOffered ring from expected end slots now n bytes limit low high (take (high - n - (low - n)) (drop (low - n) bytes))
+pub offer : {buffer : List ℕ} {from expected end : ℕ} {slots : Pool Run} {now : Kept} (n : ℕ) (bytes : List ℕ) (limit : Option ℕ) (low high edge : ℕ) → IsSound buffer from expected end slots → seen buffer from expected slots.pairs ≡ now → low ≡ max n expected → edge ≡ below_limit limit (from + 65535) → high ≡ min edge (n + length bytes) → n + length bytes ≤ 2 ^ 63
+    → IsOffered buffer from expected end slots now n bytes limit low high (take (high - n - (low - n)) (drop (low - n) bytes))
 offer n bytes limit low high edge s v l e h k = record {
   sound = s;
   view = v;
@@ -30,8 +30,8 @@ pub record IsPlacedAt (at low high : ℕ) (base : Placed) (pairs : List (Slot ×
   pub below : EndBelow (spans_of at in_list.before) low
   pub walked : later ≡ steps + length in_list.before
 
-module _ {ring : List ℕ} {from expected end : ℕ} {slots : Pool Run} {now : Kept} {n : ℕ} {bytes : List ℕ} {limit : Option ℕ} {low high : ℕ} {piece : List ℕ} {steps later : ℕ} {found : Found} where
-  pub place : (o : IsOffered ring from expected end slots now n bytes limit low high piece) → low < high → (f : IsFound expected low slots.pairs steps later found) → (base : Placed) → found.next ≡ Some base → base.span.first ≤ high → IsPlacedAt expected low (low + length piece) base slots.pairs steps later
+module _ {buffer : List ℕ} {from expected end : ℕ} {slots : Pool Run} {now : Kept} {n : ℕ} {bytes : List ℕ} {limit : Option ℕ} {low high : ℕ} {piece : List ℕ} {steps later : ℕ} {found : Found} where
+  pub place : (o : IsOffered buffer from expected end slots now n bytes limit low high piece) → low < high → (f : IsFound expected low slots.pairs steps later found) → (base : Placed) → found.next ≡ Some base → base.span.first ≤ high → IsPlacedAt expected low (low + length piece) base slots.pairs steps later
   place o lh f base is bh =
       let p = placed_first expected f.after base (sym f.next ∙ is) in
       let e : slots.pairs ≡ f.before ++ (base.slot, p.0) ∷ p.1 = f.parts ∙ ap (λ qs. f.before ++ qs) p.2 in
@@ -68,29 +68,29 @@ at_end expected low high pairs steps later found f is = placed_none expected hig
 
 -- what `absorb` ensures of the run that the piece touches
 abbrev pub Absorbs : ℕ → List ℕ → List ℕ → Pool Run → Pool Run → Placed → ℕ → List ℕ → ℕ → ℕ → Span → Type 0
-Absorbs at ring left slots slots1 base low piece steps later made =
-    At slots.pairs base.slot (λ before x after. IsReached at low (low + length piece) base.span x after → IsAbsorbed at ring left slots.capacity slots1 before base.slot x after low piece steps later made)
+Absorbs at buffer left slots slots1 base low piece steps later made =
+    At slots.pairs base.slot (λ before x after. IsReached at low (low + length piece) base.span x after → IsAbsorbed at buffer left slots.capacity slots1 before base.slot x after low piece steps later made)
 
-module _ {ring : List ℕ} {from expected end : ℕ} {slots : Pool Run} {now : Kept} {n : ℕ} {bytes : List ℕ} {limit : Option ℕ} {low high : ℕ} {piece : List ℕ} {steps mid : ℕ} {base : Placed} where
-  pub absorbed_at : (o : IsOffered ring from expected end slots now n bytes limit low high piece) (p : IsPlacedAt expected low (low + length piece) base slots.pairs steps mid) (was left : List ℕ) (slots1 : Pool Run) (later : ℕ) (made : Span) → Absorbs expected was left slots slots1 base low piece mid later made → was ≡ ring → IsAbsorbed expected ring left slots.capacity slots1 p.in_list.before base.slot p.in_list.run p.in_list.after low piece mid later made
+module _ {buffer : List ℕ} {from expected end : ℕ} {slots : Pool Run} {now : Kept} {n : ℕ} {bytes : List ℕ} {limit : Option ℕ} {low high : ℕ} {piece : List ℕ} {steps mid : ℕ} {base : Placed} where
+  pub absorbed_at : (o : IsOffered buffer from expected end slots now n bytes limit low high piece) (p : IsPlacedAt expected low (low + length piece) base slots.pairs steps mid) (was left : List ℕ) (slots1 : Pool Run) (later : ℕ) (made : Span) → Absorbs expected was left slots slots1 base low piece mid later made → was ≡ buffer → IsAbsorbed expected buffer left slots.capacity slots1 p.in_list.before base.slot p.in_list.run p.in_list.after low piece mid later made
   absorbed_at o p was left slots1 later made a e =
       let l = p.in_list in
       let P : List ℕ → Type 0 = λ r. IsAbsorbed expected r left slots.capacity slots1 l.before base.slot l.run l.after low piece mid later made in
       subst P e (a l.before l.run l.after l.parts l.reached)
 
   -- the run is still in the list
-  pub still_held : (o : IsOffered ring from expected end slots now n bytes limit low high piece) (p : IsPlacedAt expected low (low + length piece) base slots.pairs steps mid) (was left : List ℕ) (slots1 : Pool Run) (later : ℕ) (made : Span) → Absorbs expected was left slots slots1 base low piece mid later made → was ≡ ring → Holds slots1.pairs base.slot
+  pub still_held : (o : IsOffered buffer from expected end slots now n bytes limit low high piece) (p : IsPlacedAt expected low (low + length piece) base slots.pairs steps mid) (was left : List ℕ) (slots1 : Pool Run) (later : ℕ) (made : Span) → Absorbs expected was left slots slots1 base low piece mid later made → was ≡ buffer → Holds slots1.pairs base.slot
   still_held o p was left slots1 later made a e =
       let b = absorbed_at o p was left slots1 later made a e in
       (p.in_list.before, p.in_list.run, b.rest, ap (λ (q : Pool Run). q.pairs) b.pairs)
 
-  pub few_steps : (o : IsOffered ring from expected end slots now n bytes limit low high piece) (p : IsPlacedAt expected low (low + length piece) base slots.pairs steps mid) (was left : List ℕ) (slots1 : Pool Run) (later : ℕ) (made : Span) → Absorbs expected was left slots slots1 base low piece mid later made → was ≡ ring → later ≤ steps + 65
+  pub few_steps : (o : IsOffered buffer from expected end slots now n bytes limit low high piece) (p : IsPlacedAt expected low (low + length piece) base slots.pairs steps mid) (was left : List ℕ) (slots1 : Pool Run) (later : ℕ) (made : Span) → Absorbs expected was left slots slots1 base low piece mid later made → was ≡ buffer → later ≤ steps + 65
   few_steps o p was left slots1 later made a e =
       let b = absorbed_at o p was left slots1 later made a e in
       let l = p.in_list in
       omega (arith, b.counted, p.walked, ap length l.parts, length-append l.before ((base.slot, l.run) ∷ l.after), o.sound.few)
 
-  pub in_place : (o : IsOffered ring from expected end slots now n bytes limit low high piece) → low < high → expected < low → (p : IsPlacedAt expected low (low + length piece) base slots.pairs steps mid) (was left : List ℕ) (slots1 : Pool Run) (later : ℕ) (made : Span) → Absorbs expected was left slots slots1 base low piece mid later made → was ≡ ring
+  pub in_place : (o : IsOffered buffer from expected end slots now n bytes limit low high piece) → low < high → expected < low → (p : IsPlacedAt expected low (low + length piece) base slots.pairs steps mid) (was left : List ℕ) (slots1 : Pool Run) (later : ℕ) (made : Span) → Absorbs expected was left slots slots1 base low piece mid later made → was ≡ buffer
       → (item : Run) → item ≡ run_of made → (slots2 : Pool Run) → At slots1.pairs base.slot (λ before x after. slots2 ≡ pool slots1.capacity (before ++ (base.slot, item) ∷ after)) → IsPool slots2 → (top : ℕ) → top ≡ max end high
       → IsSound left from expected top slots2 × (Shows (seen left from expected slots2.pairs) now.from (missing_then now (grown now n bytes limit)) (grown now n bytes limit) × (runs_then now (grown now n bytes limit) ≡ length slots2.pairs)) × (made.first ≤ made.end) × (made.end - made.first < 2 ^ 32)
   in_place o lh xl p was left slots1 later made a e item is slots2 s pl top t =
@@ -98,7 +98,7 @@ module _ {ring : List ℕ} {from expected end : ℕ} {slots : Pool Run} {now : K
       let l = p.in_list in
       kept_in_place o lh xl l.before base.slot l.run l.after l.parts p.below base.span l.reached left slots1 slots2 mid later made b (s l.before l.run b.rest (ap (λ (q : Pool Run). q.pairs) b.pairs) ∙ ap (λ r. pool slots1.capacity (l.before ++ (base.slot, r) ∷ b.rest)) is) pl.fits top t
 
-  pub to_ready : (o : IsOffered ring from expected end slots now n bytes limit low high piece) → low < high → low ≡ expected → (p : IsPlacedAt expected low (low + length piece) base slots.pairs steps mid) (was left : List ℕ) (slots1 : Pool Run) (later : ℕ) (made : Span) → Absorbs expected was left slots slots1 base low piece mid later made → was ≡ ring
+  pub to_ready : (o : IsOffered buffer from expected end slots now n bytes limit low high piece) → low < high → low ≡ expected → (p : IsPlacedAt expected low (low + length piece) base slots.pairs steps mid) (was left : List ℕ) (slots1 : Pool Run) (later : ℕ) (made : Span) → Absorbs expected was left slots slots1 base low piece mid later made → was ≡ buffer
       → (slots2 : Pool Run) → At slots1.pairs base.slot (λ before x after. slots2 ≡ pool slots1.capacity (before ++ after)) → IsPool slots2 → (top : ℕ) → top ≡ max end high
       → IsSound left from made.end top slots2 × (Shows (seen left from made.end slots2.pairs) now.from (missing_then now (grown now n bytes limit)) (grown now n bytes limit) × (runs_then now (grown now n bytes limit) ≡ length slots2.pairs))
   to_ready o lh xl p was left slots1 later made a e slots2 s pl top t =
@@ -106,7 +106,7 @@ module _ {ring : List ℕ} {from expected end : ℕ} {slots : Pool Run} {now : K
       let l = p.in_list in
       joined o lh xl l.before base.slot l.run l.after l.parts p.below base.span l.reached left slots1 slots2 mid later made b (s l.before l.run b.rest (ap (λ (q : Pool Run). q.pairs) b.pairs)) pl.fits top t
 
-  pub made_fits : (o : IsOffered ring from expected end slots now n bytes limit low high piece) → low < high → (p : IsPlacedAt expected low (low + length piece) base slots.pairs steps mid) (was left : List ℕ) (slots1 : Pool Run) (later : ℕ) (made : Span) → Absorbs expected was left slots slots1 base low piece mid later made → was ≡ ring → (made.first ≤ made.end) × (made.end - made.first < 2 ^ 32)
+  pub made_fits : (o : IsOffered buffer from expected end slots now n bytes limit low high piece) → low < high → (p : IsPlacedAt expected low (low + length piece) base slots.pairs steps mid) (was left : List ℕ) (slots1 : Pool Run) (later : ℕ) (made : Span) → Absorbs expected was left slots slots1 base low piece mid later made → was ≡ buffer → (made.first ≤ made.end) × (made.end - made.first < 2 ^ 32)
   made_fits o lh p was left slots1 later made a e =
       let b = absorbed_at o p was left slots1 later made a e in
       let l = p.in_list in

@@ -3,7 +3,7 @@ ghost use Rattle.std.specs.Prelude.{◌≡◌, ℕ, ◌+◌, ◌-◌, ◌^◌, �
 ghost use Rattle.segment_model.specs.Received.{below_limit, bytes_from};
 ghost use Rattle.stream_buffers.specs.Kept.{IsKept, RunsFrom, Shows, byte_at, forgotten_below, grown, missing_then, ready_count, runs_then, window};
 
-use crate::ring::{LAP, write};
+use crate::buffer::{LAP, write};
 use crate::run::{Run, Span};
 use crate::walk::{absorb, find};
 use ao_base::Steps;
@@ -25,7 +25,7 @@ pub struct TooManyRuns;
 /// that isn't taken and the first missing one.
 #[derive(Drop)]
 pub struct Reassembly {
-    ring: Vec<u8>,
+    buffer: Vec<u8>,
     from: u64,
     expected: u64,
     end: u64,
@@ -41,9 +41,9 @@ impl Model for Reassembly {
 
     ghost use Rattle.stream_buffers.specs.Spans.{IsSound, seen};
 
-    ghost view = { λ r. seen r.ring.items r.from r.expected r.runs.pairs };
+    ghost view = { λ r. seen r.buffer.items r.from r.expected r.runs.pairs };
 
-    ghost invariant = { λ r. IsSound r.ring.items r.from r.expected r.end r.runs };
+    ghost invariant = { λ r. IsSound r.buffer.items r.from r.expected r.end r.runs };
 }
 
 impl Reassembly {
@@ -52,10 +52,10 @@ impl Reassembly {
         requires { first ≤ 2 ^ 63 }
         ensures { IfOk result (λ r. Shows r first first (λ p. None)) }
     {
-        let ring = vec![in alloc; 0; LAP as usize]?;
+        let buffer = vec![in alloc; 0; LAP as usize]?;
         let runs = Slots::new(alloc, MOST_RUNS)?;
         Ok(Reassembly {
-            ring,
+            buffer,
             from: first,
             expected: first,
             end: first,
@@ -112,7 +112,7 @@ impl Reassembly {
         match found.next {
             Some(base) if base.span.first <= high => {
                 let span = absorb(
-                    &mut self.ring,
+                    &mut self.buffer,
                     &mut self.runs,
                     base,
                     self.expected,
@@ -130,7 +130,7 @@ impl Reassembly {
                 Ok(())
             }
             _ if low == self.expected => {
-                write(&mut self.ring, low, piece, low, high);
+                write(&mut self.buffer, low, piece, low, high);
                 self.end = self.end.max(high);
                 self.expected = high;
                 Ok(())
@@ -144,7 +144,7 @@ impl Reassembly {
                     Ok(_) => {}
                     Err(_) => return Err(TooManyRuns),
                 }
-                write(&mut self.ring, low, piece, low, high);
+                write(&mut self.buffer, low, piece, low, high);
                 self.end = self.end.max(high);
                 Ok(())
             }
@@ -160,7 +160,7 @@ impl Reassembly {
     {
         let count = out.len().min((self.expected - self.from) as usize);
         for index in 0..count {
-            out[index] = self.ring[((self.from + index as u64) % LAP) as usize];
+            out[index] = self.buffer[((self.from + index as u64) % LAP) as usize];
         }
         self.from += count as u64;
         count

@@ -15,8 +15,8 @@ loop-index-preserved c =
     let at = c.loop-index.index in
     let m = byte_at c.args.self.now in
     let e : c.args.self.now.from ≡ c.self.inside.from = ap (λ (k : Kept). k.from) (sym c.self.view_is) in
-    let place : (c.self.inside.from + at) % 65536 < length c.self.inside.ring.items = omega (arith, c.self.invariant.size) in
-    let read = get_or_read c.self.inside.ring.items _ c.index.result.now place c.index.ensures 0 in
+    let place : (c.self.inside.from + at) % 65536 < length c.self.inside.buffer.items = omega (arith, c.self.invariant.size) in
+    let read = get_or_read c.self.inside.buffer.items _ c.index.result.now place c.index.ensures 0 in
     let byte : m (c.args.self.now.from + at) ≡ Some c.index.result.now = ap (λ f. m (f + at)) e ∙ (ready_byte c.self.invariant c.self.view_is (c.self.inside.from + at) (omega arith) (omega arith) ∙ ap Some (sym read)) in
     take_more m c.args.self.now.from at c.args.out.now c.loop-index.out c.index.result.now (omega arith) c.loop-index.invariant byte
 
@@ -33,17 +33,18 @@ returns-clause-rest c =
     let e : c.args.self.now.from ≡ s.from = ap (λ (k : Kept). k.from) (sym c.self.view_is) in
     let to = s.from + c.min-count.result in
     let le : to ≤ s.expected = omega (arith, h.ordered) in
-    let h' : IsSound s.ring.items to s.expected s.end s.runs = record {
+    let h' : IsSound s.buffer.items to s.expected s.end s.runs = record {
       size = h.size;
       capacity = h.capacity;
       few = h.few;
       ordered = le;
       apart = h.apart;
+      numbered = h.numbered;
       near = omega (arith, h.near);
       within = h.within;
     } in
     record {
       from = ap (λ f. f + c.min-count.result) (sym e);
       expected = ap (λ (k : Kept). k.expected) c.self.view_is;
-      bytes = λ p. taken_out s.ring.items s.from to s.expected s.end s.runs c.args.self.now h c.self.view_is (omega arith) le h' p ∙ ap (λ f. forgotten_below (f + c.min-count.result) (byte_at c.args.self.now) p) (sym e);
+      bytes = λ p. taken_out s.buffer.items s.from to s.expected s.end s.runs c.args.self.now h c.self.view_is (omega arith) le h' p ∙ ap (λ f. forgotten_below (f + c.min-count.result) (byte_at c.args.self.now) p) (sym e);
     }

@@ -1,22 +1,22 @@
-//! Bytes by position in a ring: position p lies at p modulo the ring's length.
+//! Bytes by position in a buffer: position p lies at p modulo the buffer's length.
 ghost use Rattle.std.specs.Prelude.{◌≡◌, ◌+◌, ◌-◌, ◌^◌, ◌<◌, ◌≤◌, ◌++◌, length, min, take, drop};
 ghost use Rattle.segment_model.specs.Received.{bytes_from};
 ghost use Rattle.stream_buffers.specs.Spans.{Writes};
 
-/// How many bytes lie in a ring.
+/// How many bytes lie in a buffer.
 pub(crate) const LAP: u64 = 65_536;
 
 /// Writes the bytes of a piece that begins at position `low` at the positions from `from` to below
 /// `to`.
-pub(crate) fn write(ring: &mut [u8], low: u64, piece: &[u8], from: u64, to: u64)
-    requires size { length ring.old ≡ 65536 }
+pub(crate) fn write(buffer: &mut [u8], low: u64, piece: &[u8], from: u64, to: u64)
+    requires size { length buffer.old ≡ 65536 }
     requires begins { low ≤ from }
     requires ends { to ≤ low + length piece.now }
-    ensures { Writes ring.old ring.new from to low piece.now }
+    ensures { Writes buffer.old buffer.new from to low piece.now }
 {
     if from < to {
         for position in from..to {
-            ring[(position % LAP) as usize] = piece[(position - low) as usize];
+            buffer[(position % LAP) as usize] = piece[(position - low) as usize];
         }
     }
 }
