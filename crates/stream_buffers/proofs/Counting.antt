@@ -1,12 +1,12 @@
 -- The first missing position, and the separate runs past it.
-use Rattle.std.proofs.Common.{◌≡◌, ◌≢◌, ◌⊎◌, ℕ, zero, suc, ◌+◌, ◌-◌, ◌<◌, ◌≤◌, min, max, Bool, true, false, cond, List, [], ◌∷◌, ◌++◌, length, Option, None, Some, refl, sym, ◌∙◌, ap, subst, inl, inr, arith}
+use Rattle.std.proofs.Common.{◌≡◌, ℕ, zero, suc, ◌+◌, ◌<◌, ◌≤◌, Bool, true, false, cond, List, [], ◌∷◌, length, Option, refl, ◌∙◌, ap, inl, inr, arith}
 use Rattle.std.specs.Prelude.{nat_le, nat_lt, ◌&&◌, ◌||◌, not, is_some, if◌then◌else◌}
-use Rattle.std.proofs.lemmas.Bool.{cases_lt, cases_eq, cond-true, cond-false}
+use Rattle.std.proofs.lemmas.Bool.{cases_lt, cond-true, cond-false}
 use Rattle.std.proofs.lemmas.Bool.Decides.{nat_tests}
 use Rattle.stream_buffers.specs.declared.run.Span.{Span}
 use Rattle.segment_model.specs.Received.{first_missing, runs}
-use Rattle.stream_buffers.specs.Spans.{span, in_span, in_spans, Apart}
-use Rattle.stream_buffers.proofs.SpanLaws.{none_below, Apart-order, below, above, is_within, or_none}
+use Rattle.stream_buffers.specs.Spans.{in_spans, Apart}
+use Rattle.stream_buffers.proofs.SpanLaws.{none_below, Apart-order, below, is_within, or_none}
 
 pub first_missing-is : (m : ℕ → Option ℕ) (n p x : ℕ) → p ≤ x → x ≤ p + n → ((q : ℕ) → p ≤ q → q < x → is_some (m q) ≡ true) → is_some (m x) ≡ false → first_missing m p n ≡ x
 first_missing-is m zero p x a b there gone = omega arith

@@ -1,18 +1,17 @@
 -- What a reassembly shows, and what it shows once a piece is kept as well.
-use Rattle.std.proofs.Common.{◌≡◌, ◌≢◌, ◌⊎◌, ℕ, zero, suc, ◌+◌, ◌-◌, ◌%◌, ◌^◌, ◌<◌, ◌≤◌, min, max, Bool, true, false, cond, List, [], ◌∷◌, ◌++◌, length, get_or, take, drop, set, Option, None, Some, refl, sym, ◌∙◌, ap, subst, inl, inr, arith, append_assoc, length-append}
-use Rattle.std.specs.Prelude.{nat_le, nat_lt, ◌&&◌, ◌||◌, not, is_some, slice_get, if◌then◌else◌}
-use Rattle.std.proofs.lemmas.Bool.{cases_Bool, cases_lt, cases_eq, cond-true, cond-false, and_right, and_left, or_right, or_left, false≢true}
+use Rattle.std.proofs.Common.{◌≡◌, ℕ, ◌+◌, ◌-◌, ◌%◌, ◌<◌, ◌≤◌, min, max, Bool, true, false, cond, List, ◌∷◌, ◌++◌, length, get_or, take, drop, Option, None, Some, refl, sym, ◌∙◌, ap, subst, inl, inr, arith}
+use Rattle.std.specs.Prelude.{nat_le, nat_lt, ◌&&◌, ◌||◌, not, is_some, if◌then◌else◌}
+use Rattle.std.proofs.lemmas.Bool.{cases_Bool, cases_lt, cond-true, cond-false, and_right, and_left, or_right, or_left}
 use Rattle.std.proofs.lemmas.Bool.Decides.{nat_tests}
 use Rattle.std.proofs.lemmas.List.{get_or-take, get_or-drop, get_or_past}
 use Rattle.std.proofs.lemmas.Option.{slice_get-get_or, slice_get_past}
-use Rattle.slot_list.specs.declared.slot.Slot.{Slot}
-use Rattle.slot_list.specs.Pool.{Pool, pool}
+use Rattle.slot_list.specs.Pool.{Pool}
 use Rattle.stream_buffers.specs.declared.run.Run.{Run}
 use Rattle.stream_buffers.specs.declared.run.Span.{Span}
-use Rattle.segment_model.specs.Received.{keep, first_known, first_missing, runs, below_limit}
-use Rattle.stream_buffers.specs.Kept.{Kept, byte_at, window, ready_count, grown, missing_then, runs_then, IsKept, Shows}
-use Rattle.stream_buffers.specs.Spans.{span, span_of, run_of, spans_of, all_spans, in_span, in_spans, position_of, Apart, EndBelow, Grown, Writes, IsSound, held, seen, tabulate}
-use Rattle.stream_buffers.proofs.SpanLaws.{within, is_within, below, above, or_none, none_below, none_above, Apart-order, in_spans-append, spans_of-append, length-spans_of, end_of, Apart-parts, Apart-join, end_below, position-same, spans_of-moves, get_or-tabulate, length-tabulate}
+use Rattle.segment_model.specs.Received.{keep, first_known, runs}
+use Rattle.stream_buffers.specs.Kept.{Kept, byte_at, window, missing_then, runs_then, IsKept}
+use Rattle.stream_buffers.specs.Spans.{span, spans_of, all_spans, in_span, in_spans, Apart, Grown, IsSound, held, seen, tabulate}
+use Rattle.stream_buffers.proofs.SpanLaws.{within, is_within, below, above, or_none, none_below, none_above, Apart-order, in_spans-append, get_or-tabulate, length-tabulate}
 use Rattle.stream_buffers.proofs.Counting.{first_missing-is, runs-are}
 
 held_in : (buffer : List ℕ) (ss : List Span) (p : ℕ) → in_spans p ss ≡ true → held buffer ss p ≡ Some (get_or buffer (p % 65536) 0)

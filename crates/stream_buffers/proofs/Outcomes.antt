@@ -1,23 +1,21 @@
 -- The states that a reassembly comes to when a piece is kept.
-use Rattle.std.proofs.Common.{◌≡◌, ◌≢◌, ◌⊎◌, ℕ, zero, suc, ◌+◌, ◌-◌, ◌%◌, ◌^◌, ◌<◌, ◌≤◌, min, max, Bool, true, false, cond, List, [], ◌∷◌, ◌++◌, length, get_or, take, drop, set, Option, None, Some, refl, sym, ◌∙◌, ap, subst, inl, inr, arith, append_assoc, length-append, length-take, length-drop}
-use Rattle.std.specs.Prelude.{nat_le, nat_lt, ◌&&◌, ◌||◌, not, is_some, slice_get, if◌then◌else◌}
-use Rattle.std.proofs.lemmas.Bool.{cases_Bool, cases_lt, cases_eq, cond-true, cond-false, and_right, and_left, or_right, or_left, false≢true}
+use Rattle.std.proofs.Common.{◌≡◌, ℕ, ◌+◌, ◌-◌, ◌%◌, ◌^◌, ◌<◌, ◌≤◌, min, max, Bool, true, false, cond, List, [], ◌∷◌, ◌++◌, length, get_or, take, drop, Option, None, Some, refl, sym, ◌∙◌, ap, subst, inl, inr, arith, length-append, length-take, length-drop}
+use Rattle.std.specs.Prelude.{nat_le, nat_lt, ◌&&◌, ◌||◌, is_some, if◌then◌else◌}
+use Rattle.std.proofs.lemmas.Bool.{cases_lt, cond-false, false≢true}
 use Rattle.std.proofs.lemmas.Bool.Decides.{nat_tests}
-use Rattle.std.proofs.lemmas.Option.{same_Some}
 use Rattle.slot_list.specs.declared.slot.Slot.{Slot}
 use Rattle.slot_list.specs.Pool.{Pool, pool}
 use Rattle.segment_model.specs.Bytes.{ring}
 use Rattle.stream_buffers.specs.declared.run.Run.{Run}
 use Rattle.stream_buffers.specs.declared.run.Span.{Span}
-use Rattle.stream_buffers.specs.declared.walk.Placed.{Placed}
-use Rattle.segment_model.specs.Received.{keep, first_known, first_missing, runs, below_limit}
-use Rattle.stream_buffers.specs.Kept.{Kept, byte_at, window, ready_count, grown, missing_then, runs_then, IsKept, Shows}
-use Rattle.stream_buffers.specs.Spans.{span, span_of, run_of, spans_of, all_spans, in_span, in_spans, position_of, Apart, EndBelow, AreNumbered, Grown, Writes, IsSound, held, seen, tabulate}
-use Rattle.stream_buffers.specs.Walks.{placed, first_placed, touching_of, EndsFrom, IsReached, IsAbsorbed}
-use Rattle.stream_buffers.proofs.SpanLaws.{within, is_within, below, above, or_none, none_below, none_above, Apart-order, in_spans-append, spans_of-append, length-spans_of, end_of, Apart-parts, Apart-join, end_below, position-same, spans_of-moves, numbered_front, numbered_back, numbered_join, run_of-numbered}
+use Rattle.segment_model.specs.Received.{keep, first_known, below_limit}
+use Rattle.stream_buffers.specs.Kept.{Kept, byte_at, window, grown, missing_then, runs_then, Shows}
+use Rattle.stream_buffers.specs.Spans.{span, span_of, run_of, spans_of, all_spans, in_span, in_spans, Apart, EndBelow, AreNumbered, Grown, Writes, IsSound, held, seen}
+use Rattle.stream_buffers.specs.Walks.{touching_of, IsReached, IsAbsorbed}
+use Rattle.stream_buffers.proofs.SpanLaws.{above, or_none, none_below, none_above, Apart-order, in_spans-append, spans_of-append, length-spans_of, end_of, Apart-parts, Apart-join, end_below, position-same, spans_of-moves, numbered_front, numbered_back, numbered_join, run_of-numbered}
 use Rattle.stream_buffers.proofs.GrownLaws.{grown_more, grown_none}
-use Rattle.stream_buffers.proofs.Absorbing.{past_edge, reached_apart, grown_empty}
-use Rattle.stream_buffers.proofs.Keeping.{put, byte_at_now, byte_at_seen, none_before, none_after, keep_is_put, is_some-put, is_some-held, held_put, counted}
+use Rattle.stream_buffers.proofs.Absorbing.{past_edge, grown_empty}
+use Rattle.stream_buffers.proofs.Keeping.{put, byte_at_now, byte_at_seen, none_before, none_after, keep_is_put, is_some-put, held_put, counted}
 
 -- a piece from `low` to `high` is to be kept
 pub record IsOffered (buffer : List ℕ) (from expected end : ℕ) (slots : Pool Run) (now : Kept) (n : ℕ) (bytes : List ℕ) (limit : Option ℕ) (low high : ℕ) (piece : List ℕ) : Type 0 where
@@ -27,6 +25,12 @@ pub record IsOffered (buffer : List ℕ) (from expected end : ℕ) (slots : Pool
   pub high_is : high ≡ min (below_limit limit (from + 65535)) (n + length bytes)
   pub piece_is : piece ≡ take (high - n - (low - n)) (drop (low - n) bytes)
   pub small : n + length bytes ≤ 2 ^ 63
+
+-- what a reassembly holds once a piece is kept, so that these bytes are
+pub record IsLeft (buffer : List ℕ) (from expected end : ℕ) (slots : Pool Run) (now : Kept) (m : ℕ → Option ℕ) : Type 0 where
+  pub sound : IsSound buffer from expected end slots
+  pub shows : Shows (seen buffer from expected slots.pairs) now.from (missing_then now m) m
+  pub runs_then_is : runs_then now m ≡ length slots.pairs
 
 end_within : (low : ℕ) (ss : List Span) (to : ℕ) → EndBelow ss to → low ≤ to → end_of low ss ≤ to
 end_within low [] to h le = le
@@ -152,11 +156,10 @@ module _ {buffer : List ℕ} {from expected end : ℕ} {slots : Pool Run} {now :
   all_parted : (o : IsOffered buffer from expected end slots now n bytes limit low high piece) (before back : List (Slot × Run)) → slots.pairs ≡ before ++ back → all_spans from expected slots.pairs ≡ front_of from expected before ++ spans_of expected back
   all_parted o before back e = ap (λ ss. span from expected ∷ ss) (parted o before back e)
 
-  -- (1) the piece joins a run that stays past the first missing position
+  -- (1) the piece and the runs that it touches stay past the first missing position
   pub kept_in_place : (o : IsOffered buffer from expected end slots now n bytes limit low high piece) → low < high → expected < low → (before : List (Slot × Run)) (slot : Slot) (run : Run) (after : List (Slot × Run)) → slots.pairs ≡ before ++ (slot, run) ∷ after → EndBelow (spans_of expected before) low → (base : Span) → IsReached expected low (low + length piece) base run after
-      → (left : List ℕ) (slots1 slots2 : Pool Run) (steps later : ℕ) (made : Span) (a : IsAbsorbed expected buffer left slots.capacity slots1 before slot run after low piece steps later made) → slots2 ≡ pool slots1.capacity (before ++ (slot, run_of made) ∷ a.rest) → length slots2.pairs ≤ slots2.capacity → (top : ℕ) → top ≡ max end high
-      → IsSound left from expected top slots2 × (Shows (seen left from expected slots2.pairs) now.from (missing_then now (grown now n bytes limit)) (grown now n bytes limit) × (runs_then now (grown now n bytes limit) ≡ length slots2.pairs)) × (made.first ≤ made.end) × (made.end - made.first < 2 ^ 32)
-  kept_in_place o lh xl before slot run after e b base r left slots1 slots2 steps later made a s2 few2 top t =
+      → (left : List ℕ) (between slots2 : Pool Run) (steps later : ℕ) (made : Span) (a : IsAbsorbed expected buffer left slots.capacity between before slot run after low piece steps later made) → slots2 ≡ pool slots.capacity (before ++ (slot, run_of made) ∷ a.rest) → length slots2.pairs ≤ slots2.capacity → (top : ℕ) → top ≡ max end high → IsLeft left from expected top slots2 now (grown now n bytes limit)
+  kept_in_place o lh xl before slot run after e b base r left between slots2 steps later made a s2 few2 top t =
       let hi = length_is o (omega arith) in
       let d = edges o in
       let c = order o in
@@ -174,7 +177,7 @@ module _ {buffer : List ℕ} {from expected end : ℕ} {slots : Pool Run} {now :
       let pairs_are : slots2.pairs ≡ before ++ (slot, run_of made) ∷ a.rest = ap (λ (q : Pool Run). q.pairs) s2 in
       let spans2 : spans_of expected slots2.pairs ≡ spans_of expected before ++ made ∷ spans_of expected a.rest = ap (spans_of expected) pairs_are ∙ (spans_of-append expected before ((slot, run_of made) ∷ a.rest) ∙ ap (λ s. spans_of expected before ++ s ∷ spans_of expected a.rest) back) in
       let P : List Span → Type 0 = λ ss. Apart expected ss top in
-      let cap : slots2.capacity ≡ 64 = ap (λ (q : Pool Run). q.capacity) s2 ∙ (ap (λ (q : Pool Run). q.capacity) a.pairs ∙ o.sound.capacity) in
+      let cap : slots2.capacity ≡ 64 = ap (λ (q : Pool Run). q.capacity) s2 ∙ o.sound.capacity in
       let sound : IsSound left from expected top slots2 = record {
         size = a.size ∙ o.sound.size;
         capacity = cap;
@@ -187,13 +190,12 @@ module _ {buffer : List ℕ} {from expected end : ℕ} {slots : Pool Run} {now :
       } in
       let G : ℕ → Type 0 = λ k. Grown buffer left (span_of expected run ∷ spans_of expected after) (made ∷ spans_of expected a.rest) low k piece in
       let shown = settled o left (front_of from expected before) (spans_of expected ((slot, run) ∷ after)) (made ∷ spans_of expected a.rest) expected top slots2 (all_parted o before ((slot, run) ∷ after) e) (front_before o before ((slot, run) ∷ after) e b) (subst G hi a.grown) sound (omega arith) (λ p. ap (λ ss. in_spans p (span from expected ∷ ss)) spans2) in
-      (sound, shown, omega arith, omega arith)
+      record { sound = sound; shows = shown.0; runs_then_is = shown.1 }
 
-  -- (2) the piece joins the ready bytes and runs
-  pub joined : (o : IsOffered buffer from expected end slots now n bytes limit low high piece) → low < high → low ≡ expected → (before : List (Slot × Run)) (slot : Slot) (run : Run) (after : List (Slot × Run)) → slots.pairs ≡ before ++ (slot, run) ∷ after → EndBelow (spans_of expected before) low → (base : Span) → IsReached expected low (low + length piece) base run after
-      → (left : List ℕ) (slots1 slots2 : Pool Run) (steps later : ℕ) (made : Span) (a : IsAbsorbed expected buffer left slots.capacity slots1 before slot run after low piece steps later made) → slots2 ≡ pool slots1.capacity (before ++ a.rest) → length slots2.pairs ≤ slots2.capacity → (top : ℕ) → top ≡ max end high
-      → IsSound left from made.end top slots2 × (Shows (seen left from made.end slots2.pairs) now.from (missing_then now (grown now n bytes limit)) (grown now n bytes limit) × (runs_then now (grown now n bytes limit) ≡ length slots2.pairs))
-  joined o lh xl before slot run after e b base r left slots1 slots2 steps later made a s2 few2 top t =
+  -- (2) they become ready
+  pub made_ready : (o : IsOffered buffer from expected end slots now n bytes limit low high piece) → low < high → low ≡ expected → (before : List (Slot × Run)) (slot : Slot) (run : Run) (after : List (Slot × Run)) → slots.pairs ≡ before ++ (slot, run) ∷ after → EndBelow (spans_of expected before) low → (base : Span) → IsReached expected low (low + length piece) base run after
+      → (left : List ℕ) (between slots2 : Pool Run) (steps later : ℕ) (made : Span) (a : IsAbsorbed expected buffer left slots.capacity between before slot run after low piece steps later made) → slots2 ≡ pool slots.capacity (before ++ a.rest) → length slots2.pairs ≤ slots2.capacity → (top : ℕ) → top ≡ max end high → IsLeft left from made.end top slots2 now (grown now n bytes limit)
+  made_ready o lh xl before slot run after e b base r left between slots2 steps later made a s2 few2 top t =
       let hi = length_is o (omega arith) in
       let d = edges o in
       let c = order o in
@@ -208,7 +210,7 @@ module _ {buffer : List ℕ} {from expected end : ℕ} {slots : Pool Run} {now :
       let pairs_are : slots2.pairs ≡ a.rest = ap (λ (q : Pool Run). q.pairs) s2 ∙ ap (λ qs. qs ++ a.rest) empty in
       let spans2 : spans_of made.end slots2.pairs ≡ spans_of expected a.rest = ap (spans_of made.end) pairs_are ∙ moves in
       let P : List Span → Type 0 = λ ss. Apart made.end ss top in
-      let cap : slots2.capacity ≡ 64 = ap (λ (q : Pool Run). q.capacity) s2 ∙ (ap (λ (q : Pool Run). q.capacity) a.pairs ∙ o.sound.capacity) in
+      let cap : slots2.capacity ≡ 64 = ap (λ (q : Pool Run). q.capacity) s2 ∙ o.sound.capacity in
       let sound : IsSound left from made.end top slots2 = record {
         size = a.size ∙ o.sound.size;
         capacity = cap;
@@ -226,7 +228,7 @@ module _ {buffer : List ℕ} {from expected end : ℕ} {slots : Pool Run} {now :
       ∙ (or_assoc (in_span p (span from expected)) (in_span p made) (in_spans p (spans_of expected a.rest))
       ∙ ap (λ ps. in_spans p (front_of from expected ps ++ made ∷ spans_of expected a.rest)) (sym empty))) in
       let shown = settled o left (front_of from expected before) (spans_of expected ((slot, run) ∷ after)) (made ∷ spans_of expected a.rest) made.end top slots2 (all_parted o before ((slot, run) ∷ after) e) (front_before o before ((slot, run) ∷ after) e b) (subst G hi a.grown) sound (omega (arith, a.end)) same in
-      (sound, shown)
+      record { sound = sound; shows = shown.0; runs_then_is = shown.1 }
     where
       or_assoc : (x y z : Bool) → ((x || y) || z) ≡ (x || (y || z))
       or_assoc true y z = refl
@@ -256,8 +258,7 @@ module _ {buffer : List ℕ} {from expected end : ℕ} {slots : Pool Run} {now :
       subst P m (past_edge expected high mid after end t parts.1)
 
   -- (3) the piece joins the ready bytes alone
-  pub appended : (o : IsOffered buffer from expected end slots now n bytes limit low high piece) → low < high → low ≡ expected → (before after : List (Slot × Run)) → slots.pairs ≡ before ++ after → EndBelow (spans_of expected before) low → None ≡ touching_of expected high after → (left : List ℕ) → length left ≡ length buffer → Writes buffer left low high low piece → (top : ℕ) → top ≡ max end high
-      → IsSound left from high top slots × (Shows (seen left from high slots.pairs) now.from (missing_then now (grown now n bytes limit)) (grown now n bytes limit) × (runs_then now (grown now n bytes limit) ≡ length slots.pairs))
+  pub appended : (o : IsOffered buffer from expected end slots now n bytes limit low high piece) → low < high → low ≡ expected → (before after : List (Slot × Run)) → slots.pairs ≡ before ++ after → EndBelow (spans_of expected before) low → None ≡ touching_of expected high after → (left : List ℕ) → length left ≡ length buffer → Writes buffer left low high low piece → (top : ℕ) → top ≡ max end high → IsLeft left from high top slots now (grown now n bytes limit)
   appended o lh xl before after e b none left size w top t =
       let d = edges o in
       let c = order o in
@@ -286,7 +287,7 @@ module _ {buffer : List ℕ} {from expected end : ℕ} {slots : Pool Run} {now :
       ∙ (or_assoc (in_span p (span from expected)) (in_span p (span low high)) (in_spans p (spans_of expected after))
       ∙ ap (λ ps. in_spans p (front_of from expected ps ++ span low high ∷ spans_of expected after)) (sym empty))) in
       let shown = settled o left (front_of from expected before) (spans_of expected after) (span low high ∷ spans_of expected after) high top slots (all_parted o before after e) (front_before o before after e b) g sound (omega arith) same in
-      (sound, shown)
+      record { sound = sound; shows = shown.0; runs_then_is = shown.1 }
     where
       or_assoc : (x y z : Bool) → ((x || y) || z) ≡ (x || (y || z))
       or_assoc true y z = refl
@@ -303,8 +304,7 @@ module _ {buffer : List ℕ} {from expected end : ℕ} {slots : Pool Run} {now :
       Apart-join expected (spans_of expected before) (span low high ∷ spans_of expected after) mid (max end high) parts.0 (end_below expected (spans_of expected before) low b xl, lh, untouched o before after e b lh none)
 
   -- (4) the piece is a run of its own
-  pub added : (o : IsOffered buffer from expected end slots now n bytes limit low high piece) → low < high → expected < low → (before after : List (Slot × Run)) → slots.pairs ≡ before ++ after → EndBelow (spans_of expected before) low → None ≡ touching_of expected high after → (slot : Slot) (slots2 : Pool Run) → slots2 ≡ pool slots.capacity (before ++ (slot, run_of (span low high)) ∷ after) → length slots2.pairs ≤ slots2.capacity → (left : List ℕ) → length left ≡ length buffer → Writes buffer left low high low piece → (top : ℕ) → top ≡ max end high
-      → IsSound left from expected top slots2 × (Shows (seen left from expected slots2.pairs) now.from (missing_then now (grown now n bytes limit)) (grown now n bytes limit) × (runs_then now (grown now n bytes limit) ≡ length slots2.pairs))
+  pub added : (o : IsOffered buffer from expected end slots now n bytes limit low high piece) → low < high → expected < low → (before after : List (Slot × Run)) → slots.pairs ≡ before ++ after → EndBelow (spans_of expected before) low → None ≡ touching_of expected high after → (slot : Slot) (slots2 : Pool Run) → slots2 ≡ pool slots.capacity (before ++ (slot, run_of (span low high)) ∷ after) → length slots2.pairs ≤ slots2.capacity → (left : List ℕ) → length left ≡ length buffer → Writes buffer left low high low piece → (top : ℕ) → top ≡ max end high → IsLeft left from expected top slots2 now (grown now n bytes limit)
   added o lh xl before after e b none slot slots2 s2 few2 left size w top t =
       let d = edges o in
       let c = order o in
@@ -326,7 +326,7 @@ module _ {buffer : List ℕ} {from expected end : ℕ} {slots : Pool Run} {now :
       let u = untouched o before after e b lh none in
       let g = fresh buffer left (spans_of expected after) low high piece (omega arith) (λ p k. none_below high (spans_of expected after) (max end high) p u (omega arith)) w in
       let shown = settled o left (front_of from expected before) (spans_of expected after) (span low high ∷ spans_of expected after) expected top slots2 (all_parted o before after e) (front_before o before after e b) g sound (omega arith) (λ p. ap (λ ss. in_spans p (span from expected ∷ ss)) spans2) in
-      (sound, shown)
+      record { sound = sound; shows = shown.0; runs_then_is = shown.1 }
 
   -- (5) one run too many
   pub refused : (o : IsOffered buffer from expected end slots now n bytes limit low high piece) → low < high → expected < low → (before after : List (Slot × Run)) → slots.pairs ≡ before ++ after → EndBelow (spans_of expected before) low → None ≡ touching_of expected high after → runs_then now (grown now n bytes limit) ≡ length slots.pairs + 1
@@ -369,30 +369,3 @@ module _ {buffer : List ℕ} {from expected end : ℕ} {slots : Pool Run} {now :
       or_else_no : (m : Option ℕ) (b : Bool) (o : Option ℕ) → b ≡ false → m ≡ first_known m (cond b o None)
       or_else_no (Some x) b o e = refl
       or_else_no None b o e = sym (cond-false _ _ _ e)
-
--- the first placed run
-pub placed_first : (at : ℕ) (after : List (Slot × Run)) (base : Placed) → first_placed at after ≡ Some base → (run : Run) × (rest : List (Slot × Run)) × (after ≡ (base.slot, run) ∷ rest) × (base.span ≡ span_of at run)
-placed_first at [] base e = absurd (none_some e)
-  where
-    none_some : {A : Type 0} {x : A} → ◌≡◌ {A = Option A} None (Some x) → ⊥
-    none_some e = cc
-placed_first at (p ∷ ps) base e =
-    let same : placed at p ≡ base = same_Some _ _ e in
-    let P : Placed → Type 0 = λ b. (run : Run) × (rest : List (Slot × Run)) × (p ∷ ps ≡ (b.slot, run) ∷ rest) × (b.span ≡ span_of at run) in
-    subst P same (p.1, ps, refl, refl)
-
-pub placed_past : (at high : ℕ) (after : List (Slot × Run)) (base : Placed) → first_placed at after ≡ Some base → high < base.span.first → ◌≡◌ {A = Option Placed} None (touching_of at high after)
-placed_past at high after base e lt =
-    let f = placed_first at after base e in
-    let P : List (Slot × Run) → Type 0 = λ qs. ◌≡◌ {A = Option Placed} None (touching_of at high qs) in
-    subst P (sym f.2) (sym (cond-false _ _ _ (no (span_of at f.0).first high (rw f.3 at lt))))
-  where
-    no : (a b : ℕ) → b < a → nat_le a b ≡ false
-    no a b h = grind (arith, nat_tests)
-
-pub placed_none : (at high : ℕ) (after : List (Slot × Run)) → first_placed at after ≡ None → ◌≡◌ {A = Option Placed} None (touching_of at high after)
-placed_none at high [] e = refl
-placed_none at high (p ∷ ps) e = absurd (some_none e)
-  where
-    some_none : {A : Type 0} {x : A} → ◌≡◌ {A = Option A} (Some x) None → ⊥
-    some_none e = cc

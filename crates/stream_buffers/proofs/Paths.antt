@@ -1,21 +1,20 @@
 -- The ways through the keeping of a piece.
-use Rattle.std.proofs.Common.{◌≡◌, ◌≢◌, ℕ, zero, suc, ◌+◌, ◌-◌, ◌^◌, ◌<◌, ◌≤◌, min, max, List, [], ◌∷◌, ◌++◌, length, take, drop, Option, None, Some, refl, sym, ◌∙◌, ap, subst, arith, length-append}
+use Rattle.std.proofs.Common.{◌≡◌, ℕ, ◌+◌, ◌-◌, ◌^◌, ◌<◌, ◌≤◌, min, max, List, ◌∷◌, ◌++◌, length, take, drop, Option, sym, ◌∙◌, ap, subst, arith, length-append, refl, inl, inr}
+use Rattle.std.proofs.lemmas.Bool.{cases_lt}
 use Rattle.slot_list.specs.declared.slot.Slot.{Slot}
-use Rattle.slot_list.specs.Pool.{Pool, pool, At, Holds, IsPool}
+use Rattle.slot_list.specs.Pool.{Pool, pool, At, IsPool, last_slot}
+use Rattle.segment_model.specs.Received.{below_limit}
 use Rattle.stream_buffers.specs.declared.run.Run.{Run}
 use Rattle.stream_buffers.specs.declared.run.Span.{Span}
 use Rattle.stream_buffers.specs.declared.walk.Placed.{Placed}
-use Rattle.stream_buffers.specs.declared.walk.Found.{Found}
-use Rattle.segment_model.specs.Received.{below_limit}
-use Rattle.stream_buffers.specs.Kept.{Kept, grown, missing_then, runs_then, Shows}
+use Rattle.stream_buffers.specs.Kept.{Kept, grown, runs_then}
 use Rattle.stream_buffers.specs.Spans.{span, span_of, run_of, spans_of, Apart, EndBelow, Writes, IsSound, seen}
-use Rattle.stream_buffers.specs.Walks.{first_placed, touching_of, EndsFrom, IsFound, IsReached, IsReachedIn, IsAbsorbed}
-use Rattle.stream_buffers.proofs.Outcomes.{IsOffered, length_is, apart_parts, kept_in_place, joined, appended, added, refused, placed_first, placed_past, placed_none, edges, order}
-use Rattle.stream_buffers.proofs.SpanLaws.{Apart-order, end_of}
+use Rattle.stream_buffers.specs.Walks.{IsTouched, IsBetween, IsReached, IsReachedIn, IsJoined}
+use Rattle.stream_buffers.proofs.Outcomes.{IsOffered, IsLeft, length_is, apart_parts, kept_in_place, made_ready, appended, added, refused, edges, order}
 
-pub offer : {buffer : List ℕ} {from expected end : ℕ} {slots : Pool Run} {now : Kept} (n : ℕ) (bytes : List ℕ) (limit : Option ℕ) (low high edge : ℕ) → IsSound buffer from expected end slots → seen buffer from expected slots.pairs ≡ now → low ≡ max n expected → edge ≡ below_limit limit (from + 65535) → high ≡ min edge (n + length bytes) → n + length bytes ≤ 2 ^ 63
+pub offer : {buffer : List ℕ} {from expected end : ℕ} {slots : Pool Run} {now : Kept} {n : ℕ} {bytes : List ℕ} {limit : Option ℕ} {low high edge : ℕ} → IsSound buffer from expected end slots → seen buffer from expected slots.pairs ≡ now → low ≡ max n expected → edge ≡ below_limit limit (from + 65535) → high ≡ min edge (n + length bytes) → n + length bytes ≤ 2 ^ 63
     → IsOffered buffer from expected end slots now n bytes limit low high (take (high - n - (low - n)) (drop (low - n) bytes))
-offer n bytes limit low high edge s v l e h k = record {
+offer {n = n} {bytes = bytes} s v l e h k = record {
   sound = s;
   view = v;
   low_is = l;
@@ -24,96 +23,111 @@ offer n bytes limit low high edge s v l e h k = record {
   small = k;
 }
 
--- the run that the piece touches, and the steps up to it
+-- the bytes of the buffer under another name
+abbrev IsLeftAs : List ℕ → ℕ → ℕ → ℕ → Pool Run → Kept → (ℕ → Option ℕ) → Type 0
+IsLeftAs after from x top slots now m = (held : List ℕ) → held ≡ after → IsLeft held from x top slots now m
+
+left_as : {after : List ℕ} {from x top : ℕ} {slots : Pool Run} {now : Kept} {m : ℕ → Option ℕ} → IsLeft after from x top slots now m → IsLeftAs after from x top slots now m
+left_as {from = from} {x = x} {top = top} {slots = slots} {now = now} {m = m} l held e = let P : List ℕ → Type 0 = λ xs. IsLeft xs from x top slots now m in subst P (sym e) l
+
+pub few_left : {after : List ℕ} {from x top : ℕ} {slots : Pool Run} {now : Kept} {m : ℕ → Option ℕ} → IsLeft after from x top slots now m → runs_then now m ≤ 64
+few_left l = omega (arith, l.runs_then_is, l.sound.few)
+
+-- the run that the piece touches first, and the steps up to it
 pub record IsPlacedAt (at low high : ℕ) (base : Placed) (pairs : List (Slot × Run)) (steps later : ℕ) : Type 0 where
   pub in_list : IsReachedIn at low high base pairs
   pub below : EndBelow (spans_of at in_list.before) low
   pub walked : later ≡ steps + length in_list.before
 
-module _ {buffer : List ℕ} {from expected end : ℕ} {slots : Pool Run} {now : Kept} {n : ℕ} {bytes : List ℕ} {limit : Option ℕ} {low high : ℕ} {piece : List ℕ} {steps later : ℕ} {found : Found} where
-  pub place : (o : IsOffered buffer from expected end slots now n bytes limit low high piece) → low < high → (f : IsFound expected low slots.pairs steps later found) → (base : Placed) → found.next ≡ Some base → base.span.first ≤ high → IsPlacedAt expected low (low + length piece) base slots.pairs steps later
-  place o lh f base is bh =
-      let p = placed_first expected f.after base (sym f.next ∙ is) in
-      let e : slots.pairs ≡ f.before ++ (base.slot, p.0) ∷ p.1 = f.parts ∙ ap (λ qs. f.before ++ qs) p.2 in
-      let a = apart_parts o f.before ((base.slot, p.0) ∷ p.1) e in
-      let E : List (Slot × Run) → Type 0 = λ qs. EndsFrom expected low qs in
-      let from_low : low ≤ (span_of expected p.0).end = subst E p.2 f.from in
-      let first : base.span.first ≡ (span_of expected p.0).first = ap (λ (s : Span). s.first) p.3 in
-      let last : base.span.end ≡ (span_of expected p.0).end = ap (λ (s : Span). s.end) p.3 in
-      let A : ℕ → Type 0 = λ k. Apart k (spans_of expected p.1) end in
+-- what `join` ensures of that run
+abbrev pub Joins : ℕ → List ℕ → List ℕ → Pool Run → Pool Run → Placed → ℕ → List ℕ → ℕ → ℕ → ℕ → Type 0
+Joins at buffer left slots joined base low piece steps later now =
+    At slots.pairs base.slot (λ before x after. IsReached at low (low + length piece) base.span x after → IsJoined at buffer left slots.capacity joined before base.slot x after low piece steps later now)
+
+-- what `write` ensures of the bytes of the whole piece
+abbrev Written : ℕ → ℕ → List ℕ → List ℕ → List ℕ → Type 0
+Written low high piece left was = (length left ≡ length was) × Writes was left low high low piece
+
+module _ {buffer : List ℕ} {from expected end : ℕ} {slots : Pool Run} {now : Kept} {n : ℕ} {bytes : List ℕ} {limit : Option ℕ} {low high : ℕ} {piece : List ℕ} where
+  pub place : (o : IsOffered buffer from expected end slots now n bytes limit low high piece) → low < high → {steps later : ℕ} {base : Placed} → IsTouched expected low high slots.pairs steps later base → IsPlacedAt expected low (low + length piece) base slots.pairs steps later
+  place o lh {base = base} t =
+      let a = apart_parts o t.before ((base.slot, t.run) ∷ t.after) t.parts in
+      let first : base.span.first ≡ (span_of expected t.run).first = ap (λ (s : Span). s.first) t.is in
+      let last : base.span.end ≡ (span_of expected t.run).end = ap (λ (s : Span). s.end) t.is in
+      let A : ℕ → Type 0 = λ k. Apart k (spans_of expected t.after) end in
+      let c = order o in
+      let hi = length_is o (omega arith) in
       record {
         in_list = record {
-          before = f.before;
-          run = p.0;
-          after = p.1;
-          parts = e;
+          before = t.before;
+          run = t.run;
+          after = t.after;
+          parts = t.parts;
           reached = record {
-            is = p.3;
-            begins = omega (arith, length_is o (omega arith));
-            ends = omega arith;
+            is = t.is;
+            begins = omega (arith, t.begins, hi);
+            ends = t.ends;
             proper = omega (arith, a.1.1);
             top = end;
             apart = subst A (sym last) a.1.2;
+            near = omega (arith, c.1, c.2, hi, (edges o).1);
           };
         };
-        below = f.below;
-        walked = f.counted;
+        below = t.below;
+        walked = t.counted;
       }
 
-pub past : (expected low high : ℕ) (pairs : List (Slot × Run)) (steps later : ℕ) (found : Found) (f : IsFound expected low pairs steps later found) → (base : Placed) → found.next ≡ Some base → high < base.span.first → None ≡ touching_of expected high f.after
-past expected low high pairs steps later found f base is lt = placed_past expected high f.after base (sym f.next ∙ is) lt
+  module _ (o : IsOffered buffer from expected end slots now n bytes limit low high piece) (lh : low < high) {steps mid : ℕ} {base : Placed} (t : IsTouched expected low high slots.pairs steps mid base) (was left : List ℕ) (joined : Pool Run) (later x : ℕ) (j : Joins expected was left slots joined base low piece mid later x) (same : was ≡ buffer) where
+    joined_at : (p : IsPlacedAt expected low (low + length piece) base slots.pairs steps mid) → IsJoined expected buffer left slots.capacity joined p.in_list.before base.slot p.in_list.run p.in_list.after low piece mid later x
+    joined_at p =
+        let l = p.in_list in
+        let P : List ℕ → Type 0 = λ r. IsJoined expected r left slots.capacity joined l.before base.slot l.run l.after low piece mid later x in
+        subst P same (j l.before l.run l.after l.parts l.reached)
 
-pub at_end : (expected low high : ℕ) (pairs : List (Slot × Run)) (steps later : ℕ) (found : Found) (f : IsFound expected low pairs steps later found) → found.next ≡ None → None ≡ touching_of expected high f.after
-at_end expected low high pairs steps later found f is = placed_none expected high f.after (sym f.next ∙ is)
+    pub few_steps : later ≤ steps + 65
+    few_steps =
+        let p = place o lh t in
+        let b = joined_at p in
+        let l = p.in_list in
+        omega (arith, b.absorbed.counted, p.walked, ap length l.parts, length-append l.before ((base.slot, l.run) ∷ l.after), o.sound.few)
 
--- what `absorb` ensures of the run that the piece touches
-abbrev pub Absorbs : ℕ → List ℕ → List ℕ → Pool Run → Pool Run → Placed → ℕ → List ℕ → ℕ → ℕ → Span → Type 0
-Absorbs at buffer left slots slots1 base low piece steps later made =
-    At slots.pairs base.slot (λ before x after. IsReached at low (low + length piece) base.span x after → IsAbsorbed at buffer left slots.capacity slots1 before base.slot x after low piece steps later made)
+    -- the piece and the runs that it touches become one
+    pub left_joined : IsPool joined → (top : ℕ) → top ≡ max end high → IsLeftAs left from x top joined now (grown now n bytes limit)
+    left_joined fits top is =
+        let p = place o lh t in
+        let b = joined_at p in
+        let l = p.in_list in
+        let P : ℕ → Type 0 = λ k. IsLeft left from k top joined now (grown now n bytes limit) in
+        left_as (elim (cases_lt expected low) [
+          | inl lt ↦
+              (let r = b.kept lt in
+              subst P (sym r.1) (kept_in_place o lh lt l.before base.slot l.run l.after l.parts p.below base.span l.reached left b.between joined mid later b.made b.absorbed r.0 fits.fits top is))
+          | inr ge ↦
+              (let e : low ≡ expected = omega (arith, (edges o).0) in
+              let r = b.ready e in
+              subst P (sym r.1) (made_ready o lh e l.before base.slot l.run l.after l.parts p.below base.span l.reached left b.between joined mid later b.made b.absorbed r.0 fits.fits top is))
+        ])
 
-module _ {buffer : List ℕ} {from expected end : ℕ} {slots : Pool Run} {now : Kept} {n : ℕ} {bytes : List ℕ} {limit : Option ℕ} {low high : ℕ} {piece : List ℕ} {steps mid : ℕ} {base : Placed} where
-  pub absorbed_at : (o : IsOffered buffer from expected end slots now n bytes limit low high piece) (p : IsPlacedAt expected low (low + length piece) base slots.pairs steps mid) (was left : List ℕ) (slots1 : Pool Run) (later : ℕ) (made : Span) → Absorbs expected was left slots slots1 base low piece mid later made → was ≡ buffer → IsAbsorbed expected buffer left slots.capacity slots1 p.in_list.before base.slot p.in_list.run p.in_list.after low piece mid later made
-  absorbed_at o p was left slots1 later made a e =
-      let l = p.in_list in
-      let P : List ℕ → Type 0 = λ r. IsAbsorbed expected r left slots.capacity slots1 l.before base.slot l.run l.after low piece mid later made in
-      subst P e (a l.before l.run l.after l.parts l.reached)
+  module _ (o : IsOffered buffer from expected end slots now n bytes limit low high piece) (lh : low < high) {steps mid : ℕ} {last : Option Slot} (b : IsBetween expected low high slots.pairs steps mid last) where
+    pub few_steps_between : mid ≤ steps + 65
+    few_steps_between = omega (arith, b.counted, ap length b.parts, length-append b.before b.after, o.sound.few)
 
-  -- the run is still in the list
-  pub still_held : (o : IsOffered buffer from expected end slots now n bytes limit low high piece) (p : IsPlacedAt expected low (low + length piece) base slots.pairs steps mid) (was left : List ℕ) (slots1 : Pool Run) (later : ℕ) (made : Span) → Absorbs expected was left slots slots1 base low piece mid later made → was ≡ buffer → Holds slots1.pairs base.slot
-  still_held o p was left slots1 later made a e =
-      let b = absorbed_at o p was left slots1 later made a e in
-      (p.in_list.before, p.in_list.run, b.rest, ap (λ (q : Pool Run). q.pairs) b.pairs)
+    -- the piece alone becomes ready
+    pub left_ready : low ≡ expected → (was left : List ℕ) → was ≡ buffer → length left ≡ length was → Writes was left low high low piece → (top : ℕ) → top ≡ max end high → IsLeftAs left from high top slots now (grown now n bytes limit)
+    left_ready e was left same size w top is =
+        let P : List ℕ → Type 0 = Written low high piece left in
+        let w' = subst P same (size, w) in
+        left_as (appended o lh e b.before b.after b.parts b.below b.past left w'.0 w'.1 top is)
 
-  pub few_steps : (o : IsOffered buffer from expected end slots now n bytes limit low high piece) (p : IsPlacedAt expected low (low + length piece) base slots.pairs steps mid) (was left : List ℕ) (slots1 : Pool Run) (later : ℕ) (made : Span) → Absorbs expected was left slots slots1 base low piece mid later made → was ≡ buffer → later ≤ steps + 65
-  few_steps o p was left slots1 later made a e =
-      let b = absorbed_at o p was left slots1 later made a e in
-      let l = p.in_list in
-      omega (arith, b.counted, p.walked, ap length l.parts, length-append l.before ((base.slot, l.run) ∷ l.after), o.sound.few)
+    -- it becomes a run of its own
+    pub left_added : expected < low → (slot : Slot) (item : Run) → item ≡ run_of (span low high) → (more : Pool Run) → ((before after : List (Slot × Run)) → slots.pairs ≡ before ++ after → last_slot before ≡ last → more ≡ pool slots.capacity (before ++ (slot, item) ∷ after)) → IsPool more → (was left : List ℕ) → was ≡ buffer → length left ≡ length was → Writes was left low high low piece → (top : ℕ) → top ≡ max end high
+        → IsLeftAs left from expected top more now (grown now n bytes limit)
+    left_added lt slot item item_is more put fits was left same size w top is =
+        let P : List ℕ → Type 0 = Written low high piece left in
+        let w' = subst P same (size, w) in
+        let m : more ≡ pool slots.capacity (b.before ++ (slot, run_of (span low high)) ∷ b.after) = put b.before b.after b.parts b.last_is ∙ ap (λ r. pool slots.capacity (b.before ++ (slot, r) ∷ b.after)) item_is in
+        left_as (added o lh lt b.before b.after b.parts b.below b.past slot more m fits.fits left w'.0 w'.1 top is)
 
-  pub in_place : (o : IsOffered buffer from expected end slots now n bytes limit low high piece) → low < high → expected < low → (p : IsPlacedAt expected low (low + length piece) base slots.pairs steps mid) (was left : List ℕ) (slots1 : Pool Run) (later : ℕ) (made : Span) → Absorbs expected was left slots slots1 base low piece mid later made → was ≡ buffer
-      → (item : Run) → item ≡ run_of made → (slots2 : Pool Run) → At slots1.pairs base.slot (λ before x after. slots2 ≡ pool slots1.capacity (before ++ (base.slot, item) ∷ after)) → IsPool slots2 → (top : ℕ) → top ≡ max end high
-      → IsSound left from expected top slots2 × (Shows (seen left from expected slots2.pairs) now.from (missing_then now (grown now n bytes limit)) (grown now n bytes limit) × (runs_then now (grown now n bytes limit) ≡ length slots2.pairs)) × (made.first ≤ made.end) × (made.end - made.first < 2 ^ 32)
-  in_place o lh xl p was left slots1 later made a e item is slots2 s pl top t =
-      let b = absorbed_at o p was left slots1 later made a e in
-      let l = p.in_list in
-      kept_in_place o lh xl l.before base.slot l.run l.after l.parts p.below base.span l.reached left slots1 slots2 mid later made b (s l.before l.run b.rest (ap (λ (q : Pool Run). q.pairs) b.pairs) ∙ ap (λ r. pool slots1.capacity (l.before ++ (base.slot, r) ∷ b.rest)) is) pl.fits top t
-
-  pub to_ready : (o : IsOffered buffer from expected end slots now n bytes limit low high piece) → low < high → low ≡ expected → (p : IsPlacedAt expected low (low + length piece) base slots.pairs steps mid) (was left : List ℕ) (slots1 : Pool Run) (later : ℕ) (made : Span) → Absorbs expected was left slots slots1 base low piece mid later made → was ≡ buffer
-      → (slots2 : Pool Run) → At slots1.pairs base.slot (λ before x after. slots2 ≡ pool slots1.capacity (before ++ after)) → IsPool slots2 → (top : ℕ) → top ≡ max end high
-      → IsSound left from made.end top slots2 × (Shows (seen left from made.end slots2.pairs) now.from (missing_then now (grown now n bytes limit)) (grown now n bytes limit) × (runs_then now (grown now n bytes limit) ≡ length slots2.pairs))
-  to_ready o lh xl p was left slots1 later made a e slots2 s pl top t =
-      let b = absorbed_at o p was left slots1 later made a e in
-      let l = p.in_list in
-      joined o lh xl l.before base.slot l.run l.after l.parts p.below base.span l.reached left slots1 slots2 mid later made b (s l.before l.run b.rest (ap (λ (q : Pool Run). q.pairs) b.pairs)) pl.fits top t
-
-  pub made_fits : (o : IsOffered buffer from expected end slots now n bytes limit low high piece) → low < high → (p : IsPlacedAt expected low (low + length piece) base slots.pairs steps mid) (was left : List ℕ) (slots1 : Pool Run) (later : ℕ) (made : Span) → Absorbs expected was left slots slots1 base low piece mid later made → was ≡ buffer → (made.first ≤ made.end) × (made.end - made.first < 2 ^ 32)
-  made_fits o lh p was left slots1 later made a e =
-      let b = absorbed_at o p was left slots1 later made a e in
-      let l = p.in_list in
-      let hi = length_is o (omega arith) in
-      let parts = apart_parts o l.before ((base.slot, l.run) ∷ l.after) l.parts in
-      let front = Apart-order expected (spans_of expected l.before) (end_of expected (spans_of expected l.before)) parts.0 in
-      let last = Apart-order made.end (spans_of expected b.rest) (max end (low + length piece)) (b.apart end parts.1.2) in
-      let d = edges o in
-      let c = order o in
-      (omega (arith, b.first, b.end, parts.1.0), omega (arith, b.first, b.end, parts.1.0))
+    -- one run too many
+    pub too_many : expected < low → runs_then now (grown now n bytes limit) ≡ length slots.pairs + 1
+    too_many lt = refused o lh lt b.before b.after b.parts b.below b.past

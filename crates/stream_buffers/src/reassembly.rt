@@ -5,7 +5,7 @@ ghost use Rattle.stream_buffers.specs.Kept.{IsKept, RunsFrom, Shows, byte_at, fo
 
 use crate::buffer::{LAP, write};
 use crate::run::{Run, Span};
-use crate::walk::{absorb, find};
+use crate::walk::{Place, find, join};
 use ao_base::Steps;
 use slot_list::Slots;
 use std::alloc::{AllocError, Global};
@@ -108,10 +108,9 @@ impl Reassembly {
             return Ok(());
         }
         let piece = &bytes[(low - number) as usize..(high - number) as usize];
-        let found = find(&self.runs, self.expected, low, steps);
-        match found.next {
-            Some(base) if base.span.first <= high => {
-                let span = absorb(
+        match find(&self.runs, self.expected, low, high, steps) {
+            Place::Touching(base) => {
+                self.expected = join(
                     &mut self.buffer,
                     &mut self.runs,
                     base,
@@ -121,26 +120,16 @@ impl Reassembly {
                     steps,
                 );
                 self.end = self.end.max(high);
-                if low == self.expected {
-                    self.runs.remove(base.slot);
-                    self.expected = span.end;
-                    return Ok(());
-                }
-                self.runs.set(base.slot, Run::of(span));
                 Ok(())
             }
-            _ if low == self.expected => {
+            Place::Behind(_) if low == self.expected => {
                 write(&mut self.buffer, low, piece, low, high);
-                self.end = self.end.max(high);
                 self.expected = high;
+                self.end = self.end.max(high);
                 Ok(())
             }
-            _ => {
-                let run = Run::of(Span {
-                    first: low,
-                    end: high,
-                });
-                match self.runs.insert_after(found.last, run) {
+            Place::Behind(last) => {
+                match self.runs.insert_after(last, Run::of(Span::new(low, high))) {
                     Ok(_) => {}
                     Err(_) => return Err(TooManyRuns),
                 }

@@ -1,9 +1,8 @@
-use Rattle.std.proofs.Common.{arith, refl, sym, ap, ◌∙◌, ◌≡◌, ◌+◌, ◌≤◌, ◌<◌, ◌%◌, ℕ, ◌++◌, List, Some, Option, length, drop, subst}
+use Rattle.std.proofs.Common.{arith, refl, sym, ap, ◌∙◌, ◌≡◌, ◌+◌, ◌≤◌, ◌<◌, ◌%◌, ℕ, ◌++◌, Some, length, drop, subst}
 use Rattle.std.proofs.lemmas.List.{get_or_read}
 use Rattle.segment_model.specs.Received.{bytes_from}
-use Rattle.stream_buffers.specs.Kept.{Kept, byte_at, Shows, forgotten_below}
+use Rattle.stream_buffers.specs.Kept.{Kept, byte_at, forgotten_below}
 use Rattle.stream_buffers.specs.Spans.{IsSound}
-use Rattle.stream_buffers.proofs.SpanLaws.{Apart-order}
 use Rattle.stream_buffers.proofs.Calls.{take_more, ready_byte, taken_out}
 use Rattle.stream_buffers.proofs.reassembly.Reassembly.take.Goals as goal
 
