@@ -1,7 +1,7 @@
 -- What the other calls show.
-use Rattle.std.proofs.Common.{◌≡◌, ℕ, zero, suc, ◌+◌, ◌-◌, ◌%◌, ◌^◌, ◌<◌, ◌≤◌, Bool, true, false, cond, List, [], ◌∷◌, ◌++◌, length, get_or, drop, set, Option, None, Some, refl, sym, ◌∙◌, ap, subst, inl, inr, arith, append_assoc}
+use Rattle.std.proofs.Common.{◌≡◌, ℕ, zero, suc, ◌+◌, ◌-◌, ◌%◌, ◌^◌, ◌<◌, ◌≤◌, true, false, cond, List, [], ◌∷◌, ◌++◌, length, get_or, drop, set, Option, None, Some, refl, sym, ◌∙◌, ap, subst, inl, inr, arith, append_assoc}
 use Rattle.std.specs.Prelude.{nat_le, nat_lt, ◌&&◌, ◌||◌, is_some, IsSome, unwrap_or}
-use Rattle.std.proofs.lemmas.Bool.{cases_lt, cond-true, cond-false, or_right, or_left, false≢true}
+use Rattle.std.proofs.lemmas.Bool.{le-leb, lt-leb, cases_lt, cond-true, cond-false, or_right, or_left, false≢true}
 use Rattle.std.proofs.lemmas.Bool.Decides.{nat_tests}
 use Rattle.std.proofs.lemmas.List.{set_at, drop_more}
 use Rattle.slot_list.specs.declared.slot.Slot.{Slot}
@@ -12,7 +12,7 @@ use Rattle.stream_buffers.specs.declared.run.Span.{Span}
 use Rattle.segment_model.specs.Received.{bytes_from}
 use Rattle.stream_buffers.specs.Kept.{Kept, byte_at, Shows, RunsFrom, forgotten_below}
 use Rattle.stream_buffers.specs.Spans.{span, span_of, spans_of, all_spans, in_span, in_spans, Apart, AreNumbered, IsSound, seen}
-use Rattle.stream_buffers.proofs.SpanLaws.{is_within, below, above, or_none, none_below}
+use Rattle.stream_buffers.proofs.SpanLaws.{is_within, below, above, or_skip, or_none, none_below}
 use Rattle.stream_buffers.proofs.Keeping.{byte_at_now, byte_at_seen, none_before, none_after, is_some-held}
 
 -- the last kept position
@@ -87,9 +87,6 @@ runs_of_spans m at low (q ∷ qs) end n h c =
     none_of None e = refl
     none_of (Some x) e = absurd (false≢true (sym e))
 
-    or_skip : (x y : Bool) → x ≡ false → (x || y) ≡ y
-    or_skip x y e = rw e refl
-
     remainder : (at k : ℕ) → k < ring → k ≡ (at + (k + ring - at % ring) % ring) % ring
     remainder at k lt = omega arith
 
@@ -98,9 +95,6 @@ runs_shown {buffer} {from} {expected} {end} {slots} {now} h e =
     let x : expected ≡ now.expected = ap (λ (k : Kept). k.expected) e in
     let P : ℕ → Type 0 = λ n. RunsFrom (byte_at now) n slots.pairs in
     subst P x (runs_of_spans (byte_at now) expected expected slots.pairs end h.numbered h.apart (λ p le. some_at h e p ∙ or_skip _ (in_spans p (spans_of expected slots.pairs)) (above from expected p le)))
-  where
-    or_skip : (x y : Bool) → x ≡ false → (x || y) ≡ y
-    or_skip x y e = rw e refl
 
 -- one byte more is taken
 bytes_from-more : (m : ℕ → Option ℕ) (n k : ℕ) → bytes_from m n (suc k) ≡ bytes_from m n k ++ unwrap_or (m (n + k)) 0 ∷ []
@@ -128,16 +122,10 @@ pub taken_out : (buffer : List ℕ) (from to expected end : ℕ) (slots : Pool R
 taken_out buffer from to expected end slots now h e a b h' p =
     byte_at_seen h' p ∙ elim (cases_lt p to) [
       | inl lt ↦
-          cond-false _ _ _ (none_before h' p lt) ∙ sym (cond-false (nat_le to p) (byte_at now p) None (le_no to p lt))
+          cond-false _ _ _ (none_before h' p lt) ∙ sym (cond-false (nat_le to p) (byte_at now p) None (lt-leb to p lt))
       | inr ge ↦
-          ap (λ t. cond (t || in_spans p (spans_of expected slots.pairs)) (Some (get_or buffer (p % 65536) 0)) None) (same to from expected p ge a) ∙ (sym (byte_at_now h now e p) ∙ sym (cond-true (nat_le to p) (byte_at now p) None (le_yes to p ge)))
+          ap (λ t. cond (t || in_spans p (spans_of expected slots.pairs)) (Some (get_or buffer (p % 65536) 0)) None) (same to from expected p ge a) ∙ (sym (byte_at_now h now e p) ∙ sym (cond-true (nat_le to p) (byte_at now p) None (le-leb to p ge)))
     ]
   where
-    le_no : (a b : ℕ) → b < a → nat_le a b ≡ false
-    le_no a b h = grind (arith, nat_tests)
-
-    le_yes : (a b : ℕ) → a ≤ b → nat_le a b ≡ true
-    le_yes a b h = grind (arith, nat_tests)
-
     same : (a b x p : ℕ) → a ≤ p → b ≤ a → (nat_le a p && nat_lt p x) ≡ (nat_le b p && nat_lt p x)
     same a b x p h k = grind (arith, nat_tests)

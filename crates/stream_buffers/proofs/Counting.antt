@@ -1,8 +1,7 @@
 -- The first missing position, and the separate runs past it.
-use Rattle.std.proofs.Common.{◌≡◌, ℕ, zero, suc, ◌+◌, ◌<◌, ◌≤◌, Bool, true, false, cond, List, [], ◌∷◌, length, Option, refl, ◌∙◌, ap, inl, inr, arith}
-use Rattle.std.specs.Prelude.{nat_le, nat_lt, ◌&&◌, ◌||◌, not, is_some, if◌then◌else◌}
-use Rattle.std.proofs.lemmas.Bool.{cases_lt, cond-true, cond-false}
-use Rattle.std.proofs.lemmas.Bool.Decides.{nat_tests}
+use Rattle.std.proofs.Common.{◌≡◌, ℕ, zero, suc, ◌+◌, ◌<◌, ◌≤◌, true, false, List, [], ◌∷◌, length, Option, refl, ◌∙◌, ap, inl, inr, arith}
+use Rattle.std.specs.Prelude.{nat_lt, ◌&&◌, ◌||◌, is_some}
+use Rattle.std.proofs.lemmas.Bool.{le-leb, lt-ltb, le-ltb, cases_lt, cond-true, cond-false}
 use Rattle.stream_buffers.specs.declared.run.Span.{Span}
 use Rattle.segment_model.specs.Received.{first_missing, runs}
 use Rattle.stream_buffers.specs.Spans.{in_spans, Apart}
@@ -23,15 +22,6 @@ first_missing-is m (suc n) p x a b there gone =
 abbrev Starts : ℕ → List Span → Type 0
 Starts p [] = Unit {0}
 Starts p (s ∷ ss) = p ≤ s.first
-
-lt_yes : (a b : ℕ) → a < b → nat_lt a b ≡ true
-lt_yes a b h = grind (arith, nat_tests)
-
-lt_no : (a b : ℕ) → b ≤ a → nat_lt a b ≡ false
-lt_no a b h = grind (arith, nat_tests)
-
-le_yes : (a b : ℕ) → a ≤ b → nat_le a b ≡ true
-le_yes a b h = grind (arith, nat_tests)
 
 abbrev Out : (ℕ → Option ℕ) → ℕ → Type 0
 Out m n = (p low : ℕ) (ss : List Span) (e : ℕ) → Apart low ss e → Starts p ss → e ≤ p + n → ((q : ℕ) → p ≤ q → is_some (m q) ≡ in_spans q ss) → runs m false p n ≡ length ss
@@ -60,7 +50,7 @@ out_more m n out ins p low (t ∷ ts) e h s b c =
           rw no (omega (arith, next)))
       | inr ge ↦
           (let there : is_some (m p) ≡ true = c p (omega arith) ∙ ap (λ x. x || in_spans p ts) (is_within t.first t.end p ge (omega (arith, h.1))) in
-          let next = ins (suc p) t.end ts e (omega (arith, h.1)) h.2 (omega arith) (λ q k. c q (omega arith) ∙ ap (λ x. (x && nat_lt q t.end) || in_spans q ts) (le_yes t.first q (omega arith))) in
+          let next = ins (suc p) t.end ts e (omega (arith, h.1)) h.2 (omega arith) (λ q k. c q (omega arith) ∙ ap (λ x. (x && nat_lt q t.end) || in_spans q ts) (le-leb t.first q (omega arith))) in
           rw there (omega (arith, next)))
     ]
 
@@ -68,12 +58,12 @@ inside_more : (m : ℕ → Option ℕ) (n : ℕ) → Out m n → Inside m n → 
 inside_more m n out ins p end ss e a h b c =
     elim (cases_lt p end) [
       | inl lt ↦
-          (let there : is_some (m p) ≡ true = c p (omega arith) ∙ ap (λ x. x || in_spans p ss) (lt_yes p end lt) in
+          (let there : is_some (m p) ≡ true = c p (omega arith) ∙ ap (λ x. x || in_spans p ss) (lt-ltb p end lt) in
           let next = ins (suc p) end ss e (omega arith) h (omega arith) (λ q k. c q (omega arith)) in
           rw there (omega (arith, next)))
       | inr ge ↦
-          (let no : is_some (m p) ≡ false = c p (omega arith) ∙ or_none _ _ (lt_no p end ge) (none_below end ss e p h (omega arith)) in
-          let next = out (suc p) end ss e h (starts_past ss h) (omega arith) (λ q k. c q (omega arith) ∙ ap (λ x. x || in_spans q ss) (lt_no q end (omega arith))) in
+          (let no : is_some (m p) ≡ false = c p (omega arith) ∙ or_none _ _ (le-ltb p end ge) (none_below end ss e p h (omega arith)) in
+          let next = out (suc p) end ss e h (starts_past ss h) (omega arith) (λ q k. c q (omega arith) ∙ ap (λ x. x || in_spans q ss) (le-ltb q end (omega arith))) in
           rw no (omega (arith, next)))
     ]
   where
@@ -89,16 +79,3 @@ both m (suc n) = let r = both m n in (out_more m n r.0 r.1, inside_more m n r.0 
 pub runs-are : (m : ℕ → Option ℕ) (x n : ℕ) (ss : List Span) (e : ℕ) → Apart x ss e → e ≤ x + n → ((q : ℕ) → x ≤ q → is_some (m q) ≡ in_spans q ss) → runs m false x n ≡ length ss
 runs-are m x n [] e h b c = (both m n).0 x x [] e h tt b c
 runs-are m x n (t ∷ ts) e h b c = (both m n).0 x x (t ∷ ts) e h (omega (arith, h.0)) b c
-
--- both read the map from a position on alone
-pub first_missing-same : (m k : ℕ → Option ℕ) (n p : ℕ) → ((q : ℕ) → p ≤ q → m q ≡ k q) → first_missing m p n ≡ first_missing k p n
-first_missing-same m k zero p h = refl
-first_missing-same m k (suc n) p h =
-    ap (λ o. cond (is_some o) (first_missing m (suc p) n) p) (h p (omega arith))
-    ∙ ap (λ x. cond (is_some (k p)) x p) (first_missing-same m k n (suc p) (λ q le. h q (omega arith)))
-
-pub runs-same : (m k : ℕ → Option ℕ) (inside : Bool) (n p : ℕ) → ((q : ℕ) → p ≤ q → m q ≡ k q) → runs m inside p n ≡ runs k inside p n
-runs-same m k inside zero p h = refl
-runs-same m k inside (suc n) p h =
-    ap (λ o. (if is_some o && not inside then 1 else 0) + runs m (is_some o) (suc p) n) (h p (omega arith))
-    ∙ ap (λ x. (if is_some (k p) && not inside then 1 else 0) + x) (runs-same m k (is_some (k p)) n (suc p) (λ q le. h q (omega arith)))

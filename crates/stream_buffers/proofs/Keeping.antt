@@ -1,7 +1,7 @@
 -- What a reassembly shows, and what it shows once a piece is kept as well.
 use Rattle.std.proofs.Common.{◌≡◌, ℕ, ◌+◌, ◌-◌, ◌%◌, ◌<◌, ◌≤◌, min, max, Bool, true, false, cond, List, ◌∷◌, ◌++◌, length, get_or, take, drop, Option, None, Some, refl, sym, ◌∙◌, ap, subst, inl, inr, arith}
 use Rattle.std.specs.Prelude.{nat_le, nat_lt, ◌&&◌, ◌||◌, not, is_some, if◌then◌else◌}
-use Rattle.std.proofs.lemmas.Bool.{cases_Bool, cases_lt, cond-true, cond-false, and_right, and_left, or_right, or_left}
+use Rattle.std.proofs.lemmas.Bool.{le-leb, lt-leb, cases_Bool, cases_lt, cond-true, cond-false, and_right, and_left, or_right, or_left}
 use Rattle.std.proofs.lemmas.Bool.Decides.{nat_tests}
 use Rattle.std.proofs.lemmas.List.{get_or-take, get_or-drop, get_or_past}
 use Rattle.std.proofs.lemmas.Option.{slice_get-get_or, slice_get_past}
@@ -11,7 +11,7 @@ use Rattle.stream_buffers.specs.declared.run.Span.{Span}
 use Rattle.segment_model.specs.Received.{keep, first_known, runs}
 use Rattle.stream_buffers.specs.Kept.{Kept, byte_at, window, missing_then, runs_then, IsKept}
 use Rattle.stream_buffers.specs.Spans.{span, spans_of, all_spans, in_span, in_spans, Apart, Grown, IsSound, held, seen, tabulate}
-use Rattle.stream_buffers.proofs.SpanLaws.{within, is_within, below, above, or_none, none_below, none_above, Apart-order, in_spans-append, get_or-tabulate, length-tabulate}
+use Rattle.stream_buffers.proofs.SpanLaws.{within, is_within, below, above, or_skip, or_none, none_below, none_above, Apart-order, in_spans-append, get_or-tabulate, length-tabulate}
 use Rattle.stream_buffers.proofs.Counting.{first_missing-is, runs-are}
 
 held_in : (buffer : List ℕ) (ss : List Span) (p : ℕ) → in_spans p ss ≡ true → held buffer ss p ≡ Some (get_or buffer (p % 65536) 0)
@@ -41,20 +41,14 @@ module _ {buffer : List ℕ} {from expected end : ℕ} {pool' : Pool Run} where
       let table = tabulate (length buffer) (held buffer ss) from in
       elim (cases_lt p from) [
         | inl lt ↦
-            cond-false _ _ _ (le_no from p lt) ∙ sym (held_out buffer ss p (none_before h p lt))
-        | inr ge ↦ cond-true (nat_le from p) (get_or table (p - from) None) None (le_yes from p ge) ∙ (elim (cases_lt (p - from) (length buffer)) [
+            cond-false _ _ _ (lt-leb from p lt) ∙ sym (held_out buffer ss p (none_before h p lt))
+        | inr ge ↦ cond-true (nat_le from p) (get_or table (p - from) None) None (le-leb from p ge) ∙ (elim (cases_lt (p - from) (length buffer)) [
           | inl lt ↦
               get_or-tabulate (length buffer) (held buffer ss) from (p - from) lt ∙ ap (held buffer ss) (omega arith)
           | inr past ↦
               get_or_past table (p - from) None (omega (arith, length-tabulate (length buffer) (held buffer ss) from)) ∙ sym (held_out buffer ss p (none_after h p (omega (arith, h.size, h.near))))
         ])
       ]
-    where
-      le_no : (a b : ℕ) → b < a → nat_le a b ≡ false
-      le_no a b h = grind (arith, nat_tests)
-
-      le_yes : (a b : ℕ) → a ≤ b → nat_le a b ≡ true
-      le_yes a b h = grind (arith, nat_tests)
 
   pub byte_at_now : (h : IsSound buffer from expected end pool') (now : Kept) → seen buffer from expected pool'.pairs ≡ now → (p : ℕ) → byte_at now p ≡ held buffer (all_spans from expected pool'.pairs) p
   byte_at_now h now e p = ap (λ k. byte_at k p) (sym e) ∙ byte_at_seen h p
@@ -174,6 +168,3 @@ counted now m x ss e a b c h d cover =
     let n = now.expected + w - x in
     let many : runs m false x n ≡ length ss = runs-are m x n ss e h (omega arith) (λ q i. cover q ∙ or_skip _ (in_spans q ss) (above now.from x q i)) in
     (found, ap (λ y. runs m false y (now.expected + w - y)) found ∙ many)
-  where
-    or_skip : (x y : Bool) → x ≡ false → (x || y) ≡ y
-    or_skip x y e = rw e refl

@@ -12,7 +12,7 @@ use Rattle.segment_model.specs.Received.{keep, first_known, below_limit}
 use Rattle.stream_buffers.specs.Kept.{Kept, byte_at, window, grown, missing_then, runs_then, Shows}
 use Rattle.stream_buffers.specs.Spans.{span, span_of, run_of, spans_of, all_spans, in_span, in_spans, Apart, EndBelow, AreNumbered, Grown, Writes, IsSound, held, seen}
 use Rattle.stream_buffers.specs.Walks.{touching_of, IsReached, IsAbsorbed}
-use Rattle.stream_buffers.proofs.SpanLaws.{above, or_none, none_below, none_above, Apart-order, in_spans-append, spans_of-append, length-spans_of, end_of, Apart-parts, Apart-join, end_below, position-same, spans_of-moves, numbered_front, numbered_back, numbered_join, run_of-numbered}
+use Rattle.stream_buffers.proofs.SpanLaws.{above, or_assoc, or_none, in_span-parted, none_below, none_above, Apart-order, in_spans-append, spans_of-append, length-spans_of, end_of, Apart-parts, Apart-join, end_below, position-same, spans_of-moves, numbered_front, numbered_back, numbered_join, run_of-numbered}
 use Rattle.stream_buffers.proofs.GrownLaws.{grown_more, grown_none}
 use Rattle.stream_buffers.proofs.Absorbing.{past_edge, grown_empty}
 use Rattle.stream_buffers.proofs.Keeping.{put, byte_at_now, byte_at_seen, none_before, none_after, keep_is_put, is_some-put, held_put, counted}
@@ -109,10 +109,6 @@ module _ {buffer : List ℕ} {from expected end : ℕ} {slots : Pool Run} {now :
         many.1 ∙ length-spans_of x slots'.pairs,
       )
     where
-      or_assoc : (x y z : Bool) → ((x || y) || z) ≡ (x || (y || z))
-      or_assoc true y z = refl
-      or_assoc false y z = refl
-
       lap : (q : ℕ) → in_spans q (all_spans from expected slots.pairs) ≡ true → (from ≤ q) × (q < from + 65536)
       lap q i =
           elim (cases_lt q from) [
@@ -224,18 +220,11 @@ module _ {buffer : List ℕ} {from expected end : ℕ} {slots : Pool Run} {now :
       let G : ℕ → Type 0 = λ k. Grown buffer left (span_of expected run ∷ spans_of expected after) (made ∷ spans_of expected a.rest) low k piece in
       let same : (p : ℕ) → in_spans p (all_spans from made.end slots2.pairs) ≡ in_spans p (front_of from expected before ++ made ∷ spans_of expected a.rest) = λ p.
       ap (λ ss. in_spans p (span from made.end ∷ ss)) spans2
-      ∙ (ap (λ x. x || in_spans p (spans_of expected a.rest)) (meet from expected made.end p (omega arith) (omega (arith, a.end)) ∙ ap (λ f. (nat_le from p && nat_lt p expected) || (nat_le f p && nat_lt p made.end)) (sym first))
+      ∙ (ap (λ x. x || in_spans p (spans_of expected a.rest)) (in_span-parted from expected made.end p (omega arith) (omega (arith, a.end)) ∙ ap (λ f. (nat_le from p && nat_lt p expected) || (nat_le f p && nat_lt p made.end)) (sym first))
       ∙ (or_assoc (in_span p (span from expected)) (in_span p made) (in_spans p (spans_of expected a.rest))
       ∙ ap (λ ps. in_spans p (front_of from expected ps ++ made ∷ spans_of expected a.rest)) (sym empty))) in
       let shown = settled o left (front_of from expected before) (spans_of expected ((slot, run) ∷ after)) (made ∷ spans_of expected a.rest) made.end top slots2 (all_parted o before ((slot, run) ∷ after) e) (front_before o before ((slot, run) ∷ after) e b) (subst G hi a.grown) sound (omega (arith, a.end)) same in
       record { sound = sound; shows = shown.0; runs_then_is = shown.1 }
-    where
-      or_assoc : (x y z : Bool) → ((x || y) || z) ≡ (x || (y || z))
-      or_assoc true y z = refl
-      or_assoc false y z = refl
-
-      meet : (a x b p : ℕ) → a ≤ x → x ≤ b → (nat_le a p && nat_lt p b) ≡ ((nat_le a p && nat_lt p x) || (nat_le x p && nat_lt p b))
-      meet a x b p h k = grind (arith, nat_tests)
 
 -- a piece that touches no run
 fresh : (buffer after : List ℕ) (old : List Span) (low high : ℕ) (piece : List ℕ) → low ≤ high → ((p : ℕ) → p < high → in_spans p old ≡ false) → Writes buffer after low high low piece → Grown buffer after old (span low high ∷ old) low high piece
@@ -283,18 +272,11 @@ module _ {buffer : List ℕ} {from expected end : ℕ} {slots : Pool Run} {now :
       let g = fresh buffer left (spans_of expected after) low high piece (omega arith) (λ p k. none_below high (spans_of expected after) top p ap1 (omega arith)) w in
       let same : (p : ℕ) → in_spans p (all_spans from high slots.pairs) ≡ in_spans p (front_of from expected before ++ span low high ∷ spans_of expected after) = λ p.
       ap (λ ss. in_spans p (span from high ∷ ss)) spans2
-      ∙ (ap (λ x. x || in_spans p (spans_of expected after)) (meet from expected high p (omega arith) (omega arith) ∙ ap (λ f. (nat_le from p && nat_lt p expected) || (nat_le f p && nat_lt p high)) (sym xl))
+      ∙ (ap (λ x. x || in_spans p (spans_of expected after)) (in_span-parted from expected high p (omega arith) (omega arith) ∙ ap (λ f. (nat_le from p && nat_lt p expected) || (nat_le f p && nat_lt p high)) (sym xl))
       ∙ (or_assoc (in_span p (span from expected)) (in_span p (span low high)) (in_spans p (spans_of expected after))
       ∙ ap (λ ps. in_spans p (front_of from expected ps ++ span low high ∷ spans_of expected after)) (sym empty))) in
       let shown = settled o left (front_of from expected before) (spans_of expected after) (span low high ∷ spans_of expected after) high top slots (all_parted o before after e) (front_before o before after e b) g sound (omega arith) same in
       record { sound = sound; shows = shown.0; runs_then_is = shown.1 }
-    where
-      or_assoc : (x y z : Bool) → ((x || y) || z) ≡ (x || (y || z))
-      or_assoc true y z = refl
-      or_assoc false y z = refl
-
-      meet : (a x b p : ℕ) → a ≤ x → x ≤ b → (nat_le a p && nat_lt p b) ≡ ((nat_le a p && nat_lt p x) || (nat_le x p && nat_lt p b))
-      meet a x b p h k = grind (arith, nat_tests)
 
   -- the spans with the piece as a run of its own
   apart_with : (o : IsOffered buffer from expected end slots now n bytes limit low high piece) → low < high → expected < low → (before after : List (Slot × Run)) → slots.pairs ≡ before ++ after → EndBelow (spans_of expected before) low → None ≡ touching_of expected high after → Apart expected (spans_of expected before ++ span low high ∷ spans_of expected after) (max end high)

@@ -109,9 +109,6 @@ module _ {buffer : List ℕ} {from expected end : ℕ} {slots : Pool Run} {now :
         ])
 
   module _ (o : IsOffered buffer from expected end slots now n bytes limit low high piece) (lh : low < high) {steps mid : ℕ} {last : Option Slot} (b : IsBetween expected low high slots.pairs steps mid last) where
-    pub few_steps_between : mid ≤ steps + 65
-    few_steps_between = omega (arith, b.counted, ap length b.parts, length-append b.before b.after, o.sound.few)
-
     -- the piece alone becomes ready
     pub left_ready : low ≡ expected → (was left : List ℕ) → was ≡ buffer → length left ≡ length was → Writes was left low high low piece → (top : ℕ) → top ≡ max end high → IsLeftAs left from high top slots now (grown now n bytes limit)
     left_ready e was left same size w top is =
