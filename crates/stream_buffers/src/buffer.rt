@@ -1,9 +1,8 @@
 //! Bytes by position in a buffer: position p lies at p modulo the buffer's length.
-ghost use Rattle.std.specs.Prelude.{◌≡◌, ◌+◌, ◌-◌, ◌^◌, ◌<◌, ◌≤◌, ◌++◌, length, min, take, drop};
-ghost use Rattle.segment_model.specs.Received.{bytes_from};
+ghost use Rattle.std.specs.Prelude.{◌≡◌, ◌+◌, ◌≤◌, length};
 ghost use Rattle.stream_buffers.specs.Spans.{Writes};
 
-/// How many bytes lie in a buffer.
+/// How many bytes lie in a buffer: one more than in the widest window.
 pub(crate) const LAP: u64 = 65_536;
 
 /// Writes the bytes of a piece that begins at position `low` at the positions from `from` to below
@@ -14,9 +13,7 @@ pub(crate) fn write(buffer: &mut [u8], low: u64, piece: &[u8], from: u64, to: u6
     requires ends { to ≤ low + length piece.now }
     ensures { Writes buffer.old buffer.new from to low piece.now }
 {
-    if from < to {
-        for position in from..to {
-            buffer[(position % LAP) as usize] = piece[(position - low) as usize];
-        }
+    for position in from..to {
+        buffer[(position % LAP) as usize] = piece[(position - low) as usize];
     }
 }

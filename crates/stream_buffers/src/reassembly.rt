@@ -12,17 +12,21 @@ use std::alloc::{AllocError, Global};
 use std::marker::Model;
 use std::sync::ledger::Ledger;
 
-/// How many bytes lie from the first one that isn't taken to the end of the window.
+/// How many positions lie from the first one that isn't taken to the end of the window: as many as the
+/// window field can say (RFC 9293, section 3.1).
 const WINDOW: u64 = 65_535;
-/// How many runs are kept past the first missing position.
+/// How many separate runs are kept past the first missing position at most (own).
 const MOST_RUNS: u32 = 64;
 
 /// More than 64 separate runs would lie past the first missing position.
 #[derive(Clone, Copy, Debug, PartialEq, Eq)]
 pub struct TooManyRuns;
 
-/// The bytes received and not taken: a finite map from positions to bytes, with the first position
-/// that isn't taken and the first missing one.
+/// The bytes that were received and aren't taken, seen as a finite map from positions to bytes, with
+/// the first position that isn't taken and the first missing one (RFC 9293, section 3.10.7.4).
+///
+/// The bytes lie in a buffer by their positions. Those from `from` to below `expected` are ready, the
+/// others lie in the runs of the pool, and `end` is one past the last of all.
 #[derive(Drop)]
 pub struct Reassembly {
     buffer: Vec<u8>,
@@ -47,7 +51,8 @@ impl Model for Reassembly {
 }
 
 impl Reassembly {
-    /// Without a byte, and with all its memory.
+    /// One without a byte whose first missing position is `first`, at most 2^63, with all its memory;
+    /// `AllocError` is want of memory.
     pub fn new(alloc: Global, first: u64) -> Result<Reassembly, AllocError>
         requires { first ≤ 2 ^ 63 }
         ensures { IfOk result (λ r. Shows r first first (λ p. None)) }
@@ -63,7 +68,7 @@ impl Reassembly {
         })
     }
 
-    /// The first missing position.
+    /// The first missing position, which is the number expected next (RFC 9293, section 3.3.1).
     pub fn expected(&self) -> u64
         ensures expected { result ≡ self.now.expected }
         ensures sound { IsKept self.now }
@@ -71,22 +76,28 @@ impl Reassembly {
         self.expected
     }
 
-    /// How many bytes are ready to be taken.
+    /// How many bytes are ready to be taken: those in front of the first missing one.
     pub fn ready(&self) -> usize
         ensures { result ≡ ready_count self.now }
     {
         (self.expected - self.from) as usize
     }
 
-    /// How many positions are open from the first missing one on.
+    /// How many positions are open from the first missing one on: 65,535 less the ready bytes (RFC
+    /// 9293, section 3.8.6).
     pub fn window(&self) -> u16
         ensures { result ≡ window self.now }
     {
         (WINDOW - (self.expected - self.from)) as u16
     }
 
-    /// Keeps the bytes of a piece at position `number` that lie in the window and below the limit and
-    /// aren't kept yet.
+    /// Keeps the bytes of a piece whose first position is `number` and which ends at 2^63 at the
+    /// latest: those that lie from the first missing position on, in the window and below `limit`, and
+    /// aren't kept yet. A byte that is kept stays as it is. Those that then follow without a gap are
+    /// ready (RFC 9293, section 3.10.7.4).
+    ///
+    /// `TooManyRuns` exactly where more than 64 separate runs would then lie past the first missing
+    /// position; then nothing changes. It counts at most 65 steps.
     pub fn keep<L: Ledger>(
         &mut self,
         number: u64,
@@ -140,7 +151,8 @@ impl Reassembly {
         }
     }
 
-    /// Moves the first ready bytes out, as many as fit.
+    /// Moves the first ready bytes to the front of `out`, as many as fit, and answers how many they
+    /// are. The rest of `out` stays.
     pub fn take(&mut self, out: &mut [u8]) -> usize
         ensures count { result ≡ min (length out.old) (ready_count self.old) }
         ensures taken { out.new ≡ bytes_from (byte_at self.old) self.old.from result ++ drop result out.old }
@@ -155,14 +167,14 @@ impl Reassembly {
         count
     }
 
-    /// Whether some byte at or past a position is kept.
+    /// Whether some byte at or past a position is kept, ready or not.
     pub fn kept_from(&self, position: u64) -> bool
         ensures { IsTrue result ↔ ((p : ℕ) × (position ≤ p) × IsSome (byte_at self.now p)) }
     {
         position < self.end && self.from < self.end
     }
 
-    /// Forgets all bytes, and begins at another position.
+    /// Forgets all bytes; the first missing position is then `first`, at most 2^63.
     pub fn restart(&mut self, first: u64)
         requires { first ≤ 2 ^ 63 }
         ensures { Shows self.new first first (λ p. None) }
@@ -175,7 +187,8 @@ impl Reassembly {
         self.end = first;
     }
 
-    /// The pool of the runs past the first missing position.
+    /// The pool of 64 places in which the runs are kept. Its items are, in order, the separate runs of
+    /// bytes past the first missing position.
     pub fn runs(&self) -> &Slots<Run>
         ensures places { result.now.capacity ≡ 64 }
         ensures runs { RunsFrom (byte_at self.now) self.now.expected result.now.pairs }
@@ -184,7 +197,7 @@ impl Reassembly {
     }
 }
 
-/// What lies below a limit of what lies below `end`.
+/// The lesser of `end` and a limit, where there is one.
 fn below(limit: Option<u64>, end: u64) -> u64
     ensures { result ≡ below_limit limit end }
 {
