@@ -10,7 +10,8 @@ use Rattle.stream_buffers.specs.declared.walk.Placed.{Placed}
 use Rattle.stream_buffers.specs.Kept.{Kept, grown, runs_then}
 use Rattle.stream_buffers.specs.Spans.{span, span_of, run_of, spans_of, Apart, EndBelow, Writes, IsSound, seen}
 use Rattle.stream_buffers.specs.Walks.{IsTouched, IsBetween, IsReached, IsReachedIn, IsJoined}
-use Rattle.stream_buffers.proofs.Outcomes.{IsOffered, IsLeft, length_is, apart_parts, kept_in_place, made_ready, appended, added, refused, edges, order}
+use Rattle.stream_buffers.proofs.Offered.{IsOffered, IsLeft, length_is, apart_parts, edges, order}
+use Rattle.stream_buffers.proofs.Outcomes.{kept_in_place, made_ready, appended, added, refused}
 
 pub offer : {buffer : List ℕ} {from expected end : ℕ} {slots : Pool Run} {now : Kept} {n : ℕ} {bytes : List ℕ} {limit : Option ℕ} {low high edge : ℕ} → IsSound buffer from expected end slots → seen buffer from expected slots.pairs ≡ now → low ≡ max n expected → edge ≡ below_limit limit (from + 65535) → high ≡ min edge (n + length bytes) → n + length bytes ≤ 2 ^ 63
     → IsOffered buffer from expected end slots now n bytes limit low high (take (high - n - (low - n)) (drop (low - n) bytes))
