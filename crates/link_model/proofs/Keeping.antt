@@ -1,0 +1,356 @@
+-- Each step keeps the facts.
+use Rattle.std.proofs.Common.{◌≡◌, ℕ, ◌+◌, ◌-◌, ◌≤◌, ◌==◌, Bool, true, false, not, List, [], ◌∷◌, ◌++◌, length, take, Option, Some, None, ◌⊎◌, inl, min, if◌then◌else◌, refl, sym, ap, ◌∙◌, subst, arith, append-nil, length-append, length-take, nat_lt}
+use Rattle.std.specs.Prelude.{⊤}
+use Rattle.std.specs.List.{AllByRecursion}
+use Rattle.std.proofs.lemmas.Bool.Decides.{nat_tests}
+use Rattle.ao_base.specs.declared.end.End.{End}
+use Rattle.ao_base.specs.declared.end.End.TheVariants.{A, B}
+use Rattle.segment_model.specs.Segments.{Segment}
+use Rattle.segment_model.specs.Spelling.{AreBytes}
+use Rattle.segment_model.proofs.Fields.{and_tells, eqb_is, lt_not, some_is}
+use Rattle.mac_model.specs.Contexts.{context_of}
+use Rattle.key_model.specs.Lifetimes.{greatest_time}
+use Rattle.key_model.specs.Overlaps.{IsValid}
+use Rattle.key_model.specs.Coordination.{Sending as Using, choose as choose_row}
+use Rattle.endpoint_model.specs.States.{Phase, Listen, SynSent, Closed, EndState, first, limit, bytes_from, ready, is_closed, room, gives, give, close_in, abort}
+use Rattle.endpoint_model.specs.Verdicts.{Passed}
+use Rattle.endpoint_model.specs.Emissions.{Draft, blank, seal_known, keyed, emitted, to_emit, to_resend, emit, resend}
+use Rattle.endpoint_model.proofs.Sound.{choose, Sound, Later, later_refl, steady_later, steady_sound, with_phase, closed_ok}
+use Rattle.endpoint_model.proofs.Lists.{bytes_from-add, length-bytes_from, take-bytes_from}
+use Rattle.endpoint_model.proofs.Stream.{Stream}
+use Rattle.endpoint_model.proofs.Whole.{Whole, whole_phase, closed_kept}
+use Rattle.endpoint_model.proofs.Gains.{Brings, BringsFin, BringsAck}
+use Rattle.endpoint_model.proofs.Carrying.{Carries, MayCarry, emit_carries, resend_carries}
+use Rattle.endpoint_model.proofs.Drafts.{DraftOk, MayDraft, emit_ok, resend_ok}
+use Rattle.endpoint_model.proofs.Written.{join}
+use Rattle.link_model.specs.Events.{Outcome, Done, Idle, Nothing, Full, HasClosed, WithoutKey}
+use Rattle.link_model.specs.Worlds.{Setup, pair_of, Session, Side, Made, Happening, Sending, Coming, World, side, find}
+use Rattle.link_model.specs.Steps.{Act, add, put, with_sessions, acted, act_on, quietly, given, sent, send, send_again, took}
+use Rattle.link_model.specs.Laws.{RowFits}
+use Rattle.link_model.proofs.Invariant.{MadeBy, made-later, MadeOk, AllMadeOk, AllSound, AllWhole, Distinct, Inv, Grows}
+use Rattle.link_model.proofs.Arriving.{Passing}
+
+-- ---- sessions grow
+
+pub grows_refl : (sessions : List Session) → Grows sessions sessions
+grows_refl sessions isn t e = (t, e, later_refl t.state)
+
+head_if : (s u : Session) (rest : List Session) (isn : ℕ) (t : Session) (b : Bool) → Later s.state u.state → (if b then Some s else find rest isn) ≡ Some t
+    → (v : Session) × ((if b then Some u else find rest isn) ≡ Some v) × Later t.state v.state
+head_if s u rest isn t true l e = (u, refl, subst (λ (x : Session). Later x.state u.state) (some_is s t e) l)
+head_if s u rest isn t false l e = (t, e, later_refl t.state)
+
+pub grows_head : (s u : Session) (rest : List Session) → Later s.state u.state → Grows (s ∷ rest) (u ∷ rest)
+grows_head s u rest l isn t e =
+    let r = head_if s u rest isn t (s.state.isn == isn) l e in
+    (r.0, subst (λ (n : ℕ). (if n == isn then Some u else find rest isn) ≡ Some r.0) (sym l.isn) r.1, r.2)
+
+new_if : (u : Session) (rest : List Session) (isn : ℕ) (t : Session) (b : Bool) → (u.state.isn == isn) ≡ b → find rest u.state.isn ≡ None → find rest isn ≡ Some t
+    → (if b then Some u else find rest isn) ≡ Some t
+new_if u rest isn t true h none e = let same : u.state.isn ≡ isn = eqb_is u.state.isn isn h in absurd (cc)
+new_if u rest isn t false h none e = e
+
+pub grows_new : (u : Session) (rest : List Session) → find rest u.state.isn ≡ None → Grows rest (u ∷ rest)
+grows_new u rest none isn t e = (t, new_if u rest isn t (u.state.isn == isn) refl none e, later_refl t.state)
+
+pub made_ok-grows : (setup : Setup) (old new : List Session) (m : Made) → Grows old new → MadeOk setup old m → MadeOk setup new m
+made_ok-grows setup old new m g h =
+    let r = g m.isn h.session h.found in record { session = r.0; found = r.1; by = made-later setup h.session.state r.0.state m r.2 h.by }
+
+pub all_made-grows : (setup : Setup) (w v : World) (history : List Happening) → ((e : End) → Grows (side w e).sessions (side v e).sessions)
+    → AllMadeOk setup w history → AllMadeOk setup v history
+all_made-grows setup w v [] g h = h
+all_made-grows setup w v (Sending m ∷ past) g h =
+    (made_ok-grows setup (side w m.maker).sessions (side v m.maker).sessions m (g m.maker) h.0, all_made-grows setup w v past g h.1)
+all_made-grows setup w v (Coming r ∷ past) g h = all_made-grows setup w v past g h
+
+pub both : (P : End → Type 0) → P A → P B → (e : End) → P e
+both P a b A = a
+both P a b B = b
+
+-- a segment that was just made is one of these sessions'
+abbrev NewMade : Setup → End → List Session → Option Happening → Type 0
+NewMade setup e sessions None = ⊤
+NewMade setup e sessions (Some (Sending m)) = (m.maker ≡ e) × MadeOk setup sessions m
+NewMade setup e sessions (Some (Coming r)) = ⊤
+
+made_add : (setup : Setup) (v : World) (e : End) (happened : Option Happening) (history : List Happening)
+    → NewMade setup e (side v e).sessions happened → AllMadeOk setup v history → AllMadeOk setup v (add happened history)
+made_add setup v e None history new h = h
+made_add setup v e (Some (Sending m)) history new h = (subst (λ (f : End). MadeOk setup (side v f).sessions m) (sym new.0) new.1, h)
+made_add setup v e (Some (Coming r)) history new h = h
+
+-- an end of which this holds
+pub record SideOk (now : Side) : Type 0 where
+  pub sound : AllSound now.sessions
+  pub whole : AllWhole now.sessions
+  pub distinct : Distinct now.sessions
+  pub rows : AllByRecursion RowFits now.rows
+  pub valid : IsValid now.rows
+  pub clock : now.clock ≤ greatest_time
+
+pub side_ok : (setup : Setup) (w : World) (e : End) → Inv setup w → SideOk (side w e)
+side_ok setup w e inv = record { sound = inv.sound e; whole = inv.whole e; distinct = inv.distinct e; rows = inv.rows e; valid = inv.valid e; clock = inv.clock e }
+
+inv_of : (setup : Setup) (v : World) → AllMadeOk setup v v.history → ((e : End) → SideOk (side v e)) → Inv setup v
+inv_of setup v made ok = record { made = made; sound = λ e. (ok e).sound; whole = λ e. (ok e).whole; distinct = λ e. (ok e).distinct; rows = λ e. (ok e).rows; valid = λ e. (ok e).valid; clock = λ e. (ok e).clock }
+
+pub put_keeps : (setup : Setup) (w : World) (e : End) (now : Side) (happened : Option Happening) → Inv setup w → Grows (side w e).sessions now.sessions
+    → NewMade setup e now.sessions happened → SideOk now → Inv setup (put w e now happened)
+put_keeps setup w A now happened inv g new ok =
+    let v = put w A now happened in
+    let grows : (f : End) → Grows (side w f).sessions (side v f).sessions = both (λ f. Grows (side w f).sessions (side v f).sessions) g (grows_refl w.b.sessions) in
+    inv_of setup v (made_add setup v A happened w.history new (all_made-grows setup w v w.history grows inv.made)) (both (λ f. SideOk (side v f)) ok (side_ok setup w B inv))
+put_keeps setup w B now happened inv g new ok =
+    let v = put w B now happened in
+    let grows : (f : End) → Grows (side w f).sessions (side v f).sessions = both (λ f. Grows (side w f).sessions (side v f).sessions) (grows_refl w.a.sessions) g in
+    inv_of setup v (made_add setup v B happened w.history new (all_made-grows setup w v w.history grows inv.made)) (both (λ f. SideOk (side v f)) (side_ok setup w A inv) ok)
+
+-- what a call of a session made
+abbrev pub NewBy : Setup → End → EndState → Option Happening → Type 0
+NewBy setup e s None = ⊤
+NewBy setup e s (Some (Sending m)) = (m.maker ≡ e) × MadeBy setup s m
+NewBy setup e s (Some (Coming r)) = ⊤
+
+-- an arrival that passed, with this segment and number
+abbrev pub HasPassed : Setup → End → EndState → Option Happening → Segment → ℕ → Type 0
+HasPassed setup e s None d n = ⊥
+HasPassed setup e s (Some (Sending m)) d n = ⊥
+HasPassed setup e s (Some (Coming r)) d n = (r.at ≡ e) × (p : Passed) × (r.passed ≡ Some p) × (g : Passing (pair_of setup e) s r.bytes p) × (g.segment ≡ d) × (p.number ≡ n)
+
+-- what a call may bring to the receiving half
+pub record Gained (setup : Setup) (e : End) (s t : EndState) (happened : Option Happening) : Type 0 where
+  pub bytes : (p b : ℕ) → t.received p ≡ Some b → (s.received p ≡ Some b) ⊎ ((d : Segment) × (n : ℕ) × HasPassed setup e s happened d n × Brings d n p b)
+  pub fins : (f : ℕ) → t.fin ≡ Some f → (s.fin ≡ Some f) ⊎ ((d : Segment) × (n : ℕ) × HasPassed setup e s happened d n × BringsFin d n f)
+  pub acks : (t.una ≡ s.una) ⊎ ((t.una ≤ t.isn + 1) ⊎ ((d : Segment) × (n : ℕ) × HasPassed setup e s happened d n × BringsAck d t.una))
+
+-- all that a call may do to a session
+pub record ActOk (setup : Setup) (e : End) (s : EndState) (act : Act) : Type 0 where
+  pub later : Later s act.state
+  pub sound : Sound act.state
+  pub whole : Whole act.state
+  pub made : NewBy setup e act.state act.happened
+  pub gained : Gained setup e s act.state act.happened
+
+pub same_gained : (setup : Setup) (e : End) (s t : EndState) (happened : Option Happening) → t.received ≡ s.received → t.fin ≡ s.fin → t.una ≡ s.una → Gained setup e s t happened
+same_gained setup e s t happened a b c =
+    record { bytes = λ p v r. inl (sym (ap (λ (m : ℕ → Option ℕ). m p) a) ∙ r); fins = λ f r. inl (sym b ∙ r); acks = inl c }
+
+pub find_own : (u : Session) (rest : List Session) (b : Bool) → (u.state.isn == u.state.isn) ≡ b → (if b then Some u else find rest u.state.isn) ≡ Some u
+find_own u rest true h = refl
+find_own u rest false h = absurd (grind (arith, nat_tests))
+
+new_made : (setup : Setup) (e : End) (u : Session) (rest : List Session) (happened : Option Happening) → NewBy setup e u.state happened → NewMade setup e (u ∷ rest) happened
+new_made setup e u rest None h = h
+new_made setup e u rest (Some (Coming r)) h = h
+new_made setup e u rest (Some (Sending m)) h =
+    let isn : u.state.isn ≡ m.isn = h.1.later.isn ∙ h.1.isn in
+    (h.0, record { session = u; found = subst (λ (n : ℕ). find (u ∷ rest) n ≡ Some u) isn (find_own u rest (u.state.isn == u.state.isn) refl); by = h.1 })
+
+pub act_keeps : (setup : Setup) (w : World) (e : End) (sessions : List Session) (call : EndState → Act) → (side w e).sessions ≡ sessions → Inv setup w
+    → ((s : EndState) → Sound s → Whole s → ActOk setup e s (call s)) → Inv setup (act_on w e sessions call).world
+act_keeps setup w e [] call is inv ok = inv
+act_keeps setup w e (s ∷ rest) call is inv ok =
+    let sound : AllSound (s ∷ rest) = subst AllSound is (inv.sound e) in
+    let act = call s.state in
+    let whole : AllWhole (s ∷ rest) = subst AllWhole is (inv.whole e) in
+    let apart : Distinct (s ∷ rest) = subst Distinct is (inv.distinct e) in
+    let done : ActOk setup e s.state act = ok s.state sound.0 whole.0 in
+    let u = acted s act in
+    put_keeps setup w e (with_sessions (side w e) (u ∷ rest)) act.happened inv
+    (subst (λ (l : List Session). Grows l (u ∷ rest)) (sym is) (grows_head s u rest done.later))
+    (new_made setup e u rest act.happened done.made)
+    (record { sound = (done.sound, sound.1); whole = (done.whole, whole.1); distinct = (subst (λ (n : ℕ). find rest n ≡ None) (sym done.later.isn) apart.0, apart.1); rows = inv.rows e; valid = inv.valid e; clock = inv.clock e })
+
+-- ---- the calls
+
+still_ok : (setup : Setup) (e : End) (s : EndState) (outcome : Outcome) → Sound s → Whole s → ActOk setup e s (quietly s outcome)
+still_ok setup e s outcome h whole = record { later = later_refl s; sound = h; whole = whole; made = tt; gained = same_gained setup e s s None refl refl refl }
+
+not_true : (b : Bool) → not b ≡ true → b ≡ false
+not_true true e = absurd (cc)
+not_true false e = refl
+
+not_false : (b : Bool) → not b ≡ false → b ≡ true
+not_false true e = refl
+not_false false e = absurd (cc)
+
+give_ok : (setup : Setup) (e : End) (s : EndState) (piece : List ℕ) → s.closing ≡ false → length piece ≤ room s → AreBytes piece → Sound s → Whole s → ActOk setup e s (quietly (give piece s) Done)
+give_ok setup e s piece unclosed fits bytes h whole =
+    let longer = length-append s.given piece in
+    let few = h.few in
+    let top = h.next_high in
+    record {
+      later = record { isn = refl; peer = λ q e. e; grown = (piece, refl); closed = λ e. absurd (cc); stopped = λ e. e; up = omega arith };
+      sound = record {
+        iss_fits = h.iss_fits;
+        irs_fits = h.irs_fits;
+        few = omega arith;
+        bytes = (join s.given piece (record { at = h.bytes }) (record { at = bytes })).at;
+        next_high = omega arith;
+        unfinished = λ e. let low = h.unfinished e in omega arith;
+        unknown = h.unknown;
+        closed = h.closed;
+        reset = h.reset;
+      };
+      whole = whole;
+      made = tt;
+      gained = same_gained setup e s (give piece s) None refl refl refl;
+    }
+
+pub given_ok : (setup : Setup) (e : End) (piece : List ℕ) (s : EndState) → AreBytes piece → Sound s → Whole s → ActOk setup e s (given piece s)
+given_ok setup e piece s bytes h whole =
+    choose (ActOk setup e s) (not (gives s)) (quietly s HasClosed) _ (λ t. still_ok setup e s HasClosed h whole) (λ t.
+    choose (ActOk setup e s) (nat_lt (room s) (length piece)) (quietly s Full) (quietly (give piece s) Done) (λ full. still_ok setup e s Full h whole) (λ fits.
+    let may = and_tells (not s.closing) (not (is_closed s.phase)) (not_false (gives s) t) in
+    give_ok setup e s piece (not_true s.closing may.0) (lt_not (room s) (length piece) fits) bytes h whole))
+
+took_stream : (o : Option ℕ) (taken : List ℕ) (m : ℕ → Option ℕ) (fin : Option ℕ) (x count : ℕ) → Stream o taken m fin x
+    → Stream o (taken ++ take count (bytes_from m (first o + length taken) (limit fin x - (first o + length taken)))) m fin x
+took_stream o taken m fin x count h =
+    let start = first o + length taken in
+    let left = limit fin x - start in
+    let bytes = take count (bytes_from m start left) in
+    let longer = length-append taken bytes in
+    let some : length bytes ≡ min count (length (bytes_from m start left)) = length-take count (bytes_from m start left) in
+    let all = length-bytes_from m start left in
+    let begun = h.begun in
+    let room = h.room in
+    let more : bytes ≡ bytes_from m start (length bytes) = take-bytes_from m count start left in
+    let both : taken ++ bytes ≡ bytes_from m (first o) (length taken) ++ bytes_from m start (length bytes) =
+    ap (λ l. l ++ bytes) h.took ∙ ap (λ l. bytes_from m (first o) (length taken) ++ l) more in
+    record {
+      begun = omega arith;
+      took = both ∙ sym (bytes_from-add m (first o) (length taken) (length bytes)) ∙ ap (bytes_from m (first o)) (sym longer);
+      filled = h.filled;
+      low = h.low;
+      high = λ p b e. let g = h.high p b e in omega arith;
+      room = omega arith;
+      fin_high = h.fin_high;
+      fin_low = h.fin_low;
+      fin_none = h.fin_none;
+      unknown = h.unknown;
+    }
+
+pub took_ok : (setup : Setup) (e : End) (count : ℕ) (s : EndState) → Sound s → Whole s → ActOk setup e s (took count s)
+unfolding ready
+took_ok setup e count s h whole =
+    record {
+      later = later_refl s;
+      sound = h;
+      whole = record { stream = took_stream s.peer_isn s.taken s.received s.fin s.expected count whole.stream; missing = whole.missing; moved = whole.moved; ends = whole.ends };
+      made = tt;
+      gained = same_gained setup e s (took count s).state None refl refl refl;
+    }
+
+ended_ok : (setup : Setup) (e : End) (s : EndState) → Sound s → Whole s → ActOk setup e s (quietly (record s { phase = Closed }) Done)
+ended_ok setup e s h whole =
+    let t : EndState = record s { phase = Closed } in
+    let st = with_phase s Closed (closed_ok s.phase) in
+    record {
+      later = steady_later s t (omega arith) st;
+      sound = steady_sound s t st h;
+      whole = whole_phase s Closed (closed_kept s.phase) whole;
+      made = tt;
+      gained = same_gained setup e s t None refl refl refl;
+    }
+
+closing_ok : (setup : Setup) (e : End) (s : EndState) → Sound s → Whole s → ActOk setup e s (quietly (record s { closing = true }) Done)
+closing_ok setup e s h whole =
+    record {
+      later = record { isn = refl; peer = λ q e. e; grown = ([], sym (append-nil s.given)); closed = λ e. (refl, refl); stopped = λ e. e; up = omega arith };
+      sound = record {
+        iss_fits = h.iss_fits;
+        irs_fits = h.irs_fits;
+        few = h.few;
+        bytes = h.bytes;
+        next_high = h.next_high;
+        unfinished = h.unfinished;
+        unknown = h.unknown;
+        closed = λ e. refl;
+        reset = h.reset;
+      };
+      whole = whole;
+      made = tt;
+      gained = same_gained setup e s (record s { closing = true }) None refl refl refl;
+    }
+
+pub close_ok : (setup : Setup) (e : End) (s : EndState) (phase : Phase) → Sound s → Whole s → ActOk setup e s (quietly (close_in phase s) Done)
+close_ok setup e s Listen h whole = ended_ok setup e s h whole
+close_ok setup e s SynSent h whole = ended_ok setup e s h whole
+close_ok setup e s _ h whole = closing_ok setup e s h whole
+
+pub abort_ok : (setup : Setup) (e : End) (s : EndState) → Sound s → Whole s → ActOk setup e s (quietly (abort s) Done)
+abort_ok setup e s h whole =
+    record {
+      later = record { isn = refl; peer = λ q e. e; grown = ([], sym (append-nil s.given)); closed = λ e. (e, refl); stopped = λ e. refl; up = omega arith };
+      sound = record {
+        iss_fits = h.iss_fits;
+        irs_fits = h.irs_fits;
+        few = h.few;
+        bytes = h.bytes;
+        next_high = h.next_high;
+        unfinished = λ e. absurd (cc);
+        unknown = λ e. absurd (cc);
+        closed = λ e. absurd (cc);
+        reset = λ e. refl;
+      };
+      whole = whole_phase s Closed (closed_kept s.phase) whole;
+      made = tt;
+      gained = same_gained setup e s (abort s) None refl refl refl;
+    }
+
+-- ---- a segment is made
+
+module _ (setup : Setup) (e : End) (w : World) (rows_fit : AllByRecursion RowFits (side w e).rows) (s : EndState) (sound : Sound s) (whole : Whole s) where
+  quiet_ok : (without : Outcome) → ActOk setup e s (quietly s without)
+  quiet_ok without = still_ok setup e s without sound whole
+
+  sealed_ok : (without : Outcome) (out : Draft) (using : Using) (o : Option (List ℕ)) → DraftOk s out → Carries s out
+      → choose_row s.current (side w e).rows (pair_of setup e) (side w e).clock ≡ Some using
+      → context_of (blank (pair_of setup e) s out using) (Some s.isn) s.peer_isn ≡ o → ActOk setup e s (sent e w s without (seal_known (pair_of setup e) s out using o))
+  sealed_ok without out using None ok carry picked known = quiet_ok without
+  sealed_ok without out using (Some c) ok carry picked known =
+      record {
+        later = ok.later;
+        sound = ok.sound;
+        whole = carry.whole;
+        made = (
+          refl,
+          record {
+            state = s;
+            later = ok.later;
+            sound = sound;
+            whole = whole;
+            draft = out;
+            drafted = ok;
+            carries = carry;
+            sending = using;
+            rows_fit = rows_fit;
+            picked = picked;
+            context = c;
+            known = known;
+            emission = refl;
+            bytes = refl;
+            isn = refl;
+          },
+        );
+        gained = same_gained setup e s (record (out.state) { current = Some using.number }) _ carry.same_received carry.same_fin carry.same_una;
+      }
+
+  keyed_ok : (without : Outcome) (out : Draft) (o : Option Using) → DraftOk s out → Carries s out → choose_row s.current (side w e).rows (pair_of setup e) (side w e).clock ≡ o
+      → ActOk setup e s (sent e w s without (keyed (pair_of setup e) s out o))
+  keyed_ok without out None ok carry picked = quiet_ok WithoutKey
+  keyed_ok without out (Some using) ok carry picked = sealed_ok without out using (context_of (blank (pair_of setup e) s out using) (Some s.isn) s.peer_isn) ok carry picked refl
+
+  emitted_ok : (without : Outcome) (o : Option Draft) → MayDraft s o → MayCarry s o → ActOk setup e s (sent e w s without (emitted (side w e).rows (pair_of setup e) (side w e).clock s o))
+  emitted_ok without None ok carry = quiet_ok without
+  emitted_ok without (Some out) ok carry = keyed_ok without out (choose_row s.current (side w e).rows (pair_of setup e) (side w e).clock) ok carry refl
+
+  pub send_ok : ActOk setup e s (send setup e w s)
+  unfolding emit
+  send_ok = emitted_ok Idle (to_emit (pair_of setup e) s) (emit_ok (pair_of setup e) s sound) (emit_carries (pair_of setup e) s whole)
+
+  pub resend_act_ok : ActOk setup e s (send_again setup e w s)
+  unfolding resend
+  resend_act_ok = emitted_ok Nothing (to_resend (pair_of setup e) s) (resend_ok (pair_of setup e) s sound) (resend_carries (pair_of setup e) s whole)
