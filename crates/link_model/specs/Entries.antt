@@ -9,7 +9,7 @@ use Rattle.mac_model.specs.Keys.{traffic_key, mac}
 use Rattle.key_model.specs.Rows.{Row, sendable}
 use Rattle.endpoint_model.specs.States.{given_end}
 use Rattle.endpoint_model.specs.Emissions.{slice_at}
-use Rattle.link_model.specs.Worlds.{Setup, pair_of, Session, Made, Happening, Sending, Coming, World, side, find}
+use Rattle.link_model.specs.Worlds.{Setup, pair_of, Session, Made, Happening, Making, Coming, World, side, find}
 
 -- a row stands in a table
 abbrev pub StandsIn : List Row → Row → Type 0
@@ -53,5 +53,5 @@ pub record AsMade (setup : Setup) (w : World) (m : Made) : Type 0 where
 -- all segments that were made are so
 abbrev pub AllMade : (Made → Type 0) → List Happening → Type 0
 AllMade P [] = ⊤
-AllMade P (Sending m ∷ past) = P m × AllMade P past
+AllMade P (Making m ∷ past) = P m × AllMade P past
 AllMade P (Coming r ∷ past) = AllMade P past

@@ -12,10 +12,13 @@ use Rattle.key_model.specs.Rows.{Row}
 use Rattle.key_model.specs.Overlaps.{IsValid}
 use Rattle.key_model.specs.Plans.{AlignedFrom, IsGap}
 use Rattle.endpoint_model.specs.States.{EndState, is_closed}
-use Rattle.endpoint_model.specs.Verdicts.{Passed}
-use Rattle.endpoint_model.specs.Arrivals.{Arrival, Bad, Foreign, Checksum, AtClosed, Refused, Unexpected, Window, Challenge, NoAck, BadAck, TooManyRuns, Reset, Taken}
-use Rattle.link_model.specs.Events.{Event, Clock, Connect, Await, Start, Give, Fill, Send, Resend, Deliver, Inject, Alter, Take, Close, Abort, AddRow, Withdraw, Dump, Outcome, Answered}
-use Rattle.link_model.specs.Worlds.{other, Setup, pair_of, rows_of, Session, Made, Came, Happening, Sending, Coming, World, side, find, live, partner, addressed, forgeries, segment_named}
+use Rattle.endpoint_model.specs.Verdicts.{Finding}
+use Rattle.endpoint_model.specs.declared.arrival.Arrival.{Arrival}
+use Rattle.endpoint_model.specs.declared.arrival.Arrival.TheVariants.{Bad, Foreign, Checksum, Closed as AtClosed, Refused, Unexpected, Window, Challenge, NoAck, BadAck, TooManyRuns, Reset, Taken}
+use Rattle.link_model.specs.declared.event.Event.{Event}
+use Rattle.link_model.specs.declared.event.Event.TheVariants.{Clock, Connect, Listen, Start, Give, Fill, Send, Resend, Deliver, Inject, Alter, Take, Close, Abort, AddRow, Withdraw, Dump}
+use Rattle.link_model.specs.Outcomes.{Outcome, Answered}
+use Rattle.link_model.specs.Worlds.{other, Setup, pair_of, rows_of, Session, Made, Came, Happening, Making, Coming, World, side, find, live, partner, addressed, forgeries, segment_named}
 use Rattle.link_model.specs.Steps.{step}
 
 -- the columns of a row fit their places: ids of one byte, a key of bytes (RFC 5925, section 2.2; RFC 7210, section 2)
@@ -42,7 +45,7 @@ pub record SetupFits (setup : Setup) : Type 0 where
 abbrev pub EventFits : Event → Type 0
 EventFits (Clock e seconds) = seconds ≤ greatest_time
 EventFits (Connect e isn) = isn < 2 ^ 32
-EventFits (Await e isn) = isn < 2 ^ 32
+EventFits (Listen e isn) = isn < 2 ^ 32
 EventFits (Start e isn peer) = (isn < 2 ^ 32) × (peer < 2 ^ 32)
 EventFits (Give e piece) = AreBytes piece
 EventFits (Fill e count byte) = byte < 256
@@ -150,7 +153,7 @@ pub record Arrives (setup : Setup) (w : World) (event : Event) (r : Came) : Type
 -- where no forgery is counted: an arrival without SYN that passes says what the session's partner had said before
 abbrev pub HasOrigin : Setup → World → Event → Type 0
 HasOrigin setup w event =
-    forgeries (step setup w event).world.history ≡ 0 → (r : Came) (a : Arrives setup w event r) (p : Passed) (d : Segment)
+    forgeries (step setup w event).world.history ≡ 0 → (r : Came) (a : Arrives setup w event r) (p : Finding) (d : Segment)
     → r.passed ≡ Some p → reading r.bytes ≡ Read d → has SYN d ≡ false
     → (ao : Ao) × (find_ao d.area ≡ One ao) × FromPartner w r.at a.session.state p.number d ao
 

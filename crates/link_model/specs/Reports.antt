@@ -4,10 +4,14 @@ use Rattle.ao_base.specs.declared.end.End.{End}
 use Rattle.ao_base.specs.declared.end.End.TheVariants.{A, B}
 use Rattle.ao_base.specs.Hexadecimal.{hex_of}
 use Rattle.segment_model.specs.Faults.{fault_text}
-use Rattle.endpoint_model.specs.Verdicts.{Refusal, NoAo, TwoAo, WithMd5, NoTuple, Expired, MacLength, NoContext, Range, BadMac}
-use Rattle.endpoint_model.specs.States.{Phase, Listen, SynSent, SynReceived, Established, FinWait1, FinWait2, CloseWait, Closing, LastAck, TimeWait, Closed}
-use Rattle.endpoint_model.specs.Arrivals.{Arrival, Bad, Foreign, Checksum, AtClosed, Refused, Unexpected, Window, Challenge, NoAck, BadAck, TooManyRuns, Reset, Taken}
-use Rattle.link_model.specs.Events.{Event, Outcome, Done, Sent, Answered, Took, Image, Added, IsnUsed, NoSession, NoSegment, NoPlace, Full, HasClosed, WithoutKey, Idle, Nothing, TooManyRows, OverlapWith, NoRow}
+use Rattle.endpoint_model.specs.declared.verdict.Verdict.{Verdict}
+use Rattle.endpoint_model.specs.declared.verdict.Verdict.TheVariants.{Pass, NoAo, TwoAo, WithMd5, NoTuple, Expired, MacLength, NoContext, Range, BadMac}
+use Rattle.endpoint_model.specs.declared.phase.Phase.{Phase}
+use Rattle.endpoint_model.specs.declared.phase.Phase.TheVariants.{Listen, SynSent, SynReceived, Established, FinWait1, FinWait2, CloseWait, Closing, LastAck, TimeWait, Closed}
+use Rattle.endpoint_model.specs.declared.arrival.Arrival.{Arrival}
+use Rattle.endpoint_model.specs.declared.arrival.Arrival.TheVariants.{Bad, Foreign, Checksum, Closed as AtClosed, Refused, Unexpected, Window, Challenge, NoAck, BadAck, TooManyRuns, Reset, Taken}
+use Rattle.link_model.specs.declared.event.Event.{Event}
+use Rattle.link_model.specs.Outcomes.{Outcome, Done, Sent, Answered, Took, Image, Added, IsnUsed, NoSession, NoSegment, NoPlace, Full, HasClosed, WithoutKey, Idle, Nothing, TooManyRows, OverlapWith, NoRow}
 use Rattle.link_model.specs.Worlds.{Setup, Session, Made, World, forgeries, segments}
 use Rattle.link_model.specs.Runs.{empty, run, outcomes_from}
 

@@ -9,8 +9,10 @@ use Rattle.endpoint_model.specs.States.{EndState, connected, listening, started,
 use Rattle.endpoint_model.specs.Arrivals.{Arrived, arrive}
 use Rattle.endpoint_model.specs.Emissions.{Emission, Emitted, Quiet, NoKey, Emits, emit, resend}
 use Rattle.link_model.specs.Alterations.{has_place, altered}
-use Rattle.link_model.specs.Events.{Event, Clock, Connect, Await, Start, Give, Fill, Send, Resend, Deliver, Inject, Alter, Take, Close, Abort, AddRow, Withdraw, Dump, Outcome, Done, Sent, Answered, Took, Image, Added, IsnUsed, NoSession, NoSegment, NoPlace, Full, HasClosed, WithoutKey, Idle, Nothing, TooManyRows, OverlapWith, NoRow}
-use Rattle.link_model.specs.Worlds.{Setup, pair_of, Session, Side, Made, Happening, Sending, Coming, World, side, find, segments, segment_named}
+use Rattle.link_model.specs.declared.event.Event.{Event}
+use Rattle.link_model.specs.declared.event.Event.TheVariants.{Clock, Connect, Listen, Start, Give, Fill, Send, Resend, Deliver, Inject, Alter, Take, Close, Abort, AddRow, Withdraw, Dump}
+use Rattle.link_model.specs.Outcomes.{Outcome, Done, Sent, Answered, Took, Image, Added, IsnUsed, NoSession, NoSegment, NoPlace, Full, HasClosed, WithoutKey, Idle, Nothing, TooManyRows, OverlapWith, NoRow}
+use Rattle.link_model.specs.Worlds.{Setup, pair_of, Session, Side, Made, Happening, Making, Coming, World, side, find, segments, segment_named}
 
 -- the world after an event, and its outcome
 pub record Stepped : Type 0 where
@@ -96,7 +98,7 @@ abbrev pub sent : End → World → EndState → Outcome → Emitted → Act
 sent e w s without Quiet = quietly s without
 sent e w s without NoKey = quietly s WithoutKey
 sent e w s without (Emits out) =
-    let made = made_of e w s out in record { state = out.state; shown = false; happened = Some (Sending made); outcome = Sent made }
+    let made = made_of e w s out in record { state = out.state; shown = false; happened = Some (Making made); outcome = Sent made }
 
 -- the live session sends
 abbrev pub send : Setup → End → World → EndState → Act
@@ -157,7 +159,7 @@ withdraw w e (Some rows) = record { world = put w e (with_rows (side w e) rows) 
 abbrev pub step : Setup → World → Event → Stepped
 step setup w (Clock e seconds) = record { world = put w e (with_clock (side w e) seconds) None; outcome = Done }
 step setup w (Connect e isn) = begin_new w e (connected isn)
-step setup w (Await e isn) = begin_new w e (listening isn)
+step setup w (Listen e isn) = begin_new w e (listening isn)
 step setup w (Start e isn peer) = begin_new w e (started (pair_of setup e) isn peer)
 step setup w (Give e piece) = on_live w e (given piece)
 step setup w (Fill e count byte) = on_live w e (given (replicate count byte))

@@ -7,9 +7,9 @@ use Rattle.ao_base.specs.declared.end.End.TheVariants.{A, B}
 use Rattle.segment_model.specs.Bytes.{same_bytes}
 use Rattle.segment_model.specs.Segments.{Segment, has, ACK, SYN}
 use Rattle.key_model.specs.Rows.{Row}
-use Rattle.endpoint_model.specs.Verdicts.{key_of, same_key, Passed}
+use Rattle.endpoint_model.specs.Verdicts.{key_of, same_key, Finding}
 use Rattle.endpoint_model.specs.States.{EndState}
-use Rattle.endpoint_model.specs.Arrivals.{Arrival}
+use Rattle.endpoint_model.specs.declared.arrival.Arrival.{Arrival}
 use Rattle.endpoint_model.specs.Emissions.{Emission}
 
 -- the other end
@@ -69,11 +69,11 @@ pub record Came : Type 0 where
   pub clock : ℕ
   pub bytes : List ℕ
   pub answer : Arrival
-  pub passed : Option Passed
+  pub passed : Option Finding
 
 -- something that was made, or that came
 pub data Happening : Type 0 where
-  Sending : (made : Made) → Happening
+  Making : (made : Made) → Happening
   Coming : (came : Came) → Happening
 
 -- both ends, and what happened, the newest first
@@ -122,36 +122,36 @@ addressed d s r =
     if has SYN d then (if has ACK d then is_known s.peer_isn r.isn else true) else is_known s.peer_isn r.isn && is_known r.peer_isn s.isn
 
 -- the other end made this entry, with what passed: the same algorithm, master key, context and MAC input
-abbrev pub accounts_for : End → Passed → Made → Bool
+abbrev pub accounts_for : End → Finding → Made → Bool
 accounts_for at p m =
     let e = m.emission in
     same_end m.maker (other at) && same_key (key_of e.sending.row) p.key && same_bytes e.context p.context && same_bytes e.input p.input
 
 -- the other end made an entry with what passed
-abbrev pub was_made : End → Passed → List Happening → Bool
+abbrev pub was_made : End → Finding → List Happening → Bool
 was_made at p [] = false
-was_made at p (Sending m ∷ past) = accounts_for at p m || was_made at p past
+was_made at p (Making m ∷ past) = accounts_for at p m || was_made at p past
 was_made at p (Coming r ∷ past) = was_made at p past
 
 -- 1 where something passed that the other end had not made before
-abbrev pub forged : End → Option Passed → List Happening → ℕ
+abbrev pub forged : End → Option Finding → List Happening → ℕ
 forged at None past = 0
 forged at (Some p) past = if was_made at p past then 0 else 1
 
 -- how many arrivals passed without the other end having made before what passed
 abbrev pub forgeries : List Happening → ℕ
 forgeries [] = 0
-forgeries (Sending m ∷ past) = forgeries past
+forgeries (Making m ∷ past) = forgeries past
 forgeries (Coming r ∷ past) = forged r.at r.passed past + forgeries past
 
 -- how many segments were made
 abbrev pub segments : List Happening → ℕ
 segments [] = 0
-segments (Sending m ∷ past) = suc (segments past)
+segments (Making m ∷ past) = suc (segments past)
 segments (Coming r ∷ past) = segments past
 
 -- the segment with this number
 abbrev pub segment_named : ℕ → List Happening → Option Made
 segment_named n [] = None
-segment_named n (Sending m ∷ past) = if m.name == n then Some m else segment_named n past
+segment_named n (Making m ∷ past) = if m.name == n then Some m else segment_named n past
 segment_named n (Coming r ∷ past) = segment_named n past
