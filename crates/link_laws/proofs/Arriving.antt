@@ -21,10 +21,10 @@ use Rattle.key_model.specs.Coordination.{follow}
 use Rattle.endpoint_model.specs.States.{Phase, Listen, SynSent, EndState, is_closed}
 use Rattle.endpoint_model.specs.Verdicts.{NoTuple, Expired, MacLength, NoContext, Range, BadMac, Passed, Verdict, Refuse, Pass, mac_of, passed_with, judge_number, number_of, judge_context, judge_row, judge_ao, judge}
 use Rattle.endpoint_model.specs.Arrivals.{Arrival, Bad, Foreign, Checksum, AtClosed, Refused, Reset, Arrived, unmoved, heard, after_check, arrive_judged, expected, judged_by, from_peer, arrive_read, arrive}
-use Rattle.endpoint_model.proofs.Sound.{choose, waits, Sound, Later, later_refl, steady_later, steady_sound}
-use Rattle.endpoint_model.proofs.Moves.{MovedOk, after_check_ok}
-use Rattle.endpoint_model.proofs.Gains.{meant_is, Gains, UnheardIn, after_check_gains}
-use Rattle.endpoint_model.proofs.Whole.{Whole, after_check_whole}
+use Rattle.link_laws.proofs.Sound.{choose, waits, Sound, Later, later_refl, steady_later, steady_sound}
+use Rattle.link_laws.proofs.Moves.{MovedOk, after_check_ok}
+use Rattle.link_laws.proofs.Gains.{meant_is, Gains, UnheardIn, after_check_gains}
+use Rattle.link_laws.proofs.Whole.{Whole, after_check_whole}
 
 pub not_true : (b : Bool) → not b ≡ true → b ≡ false
 not_true true e = absurd (cc)

@@ -5,9 +5,9 @@ use Rattle.ao_base.specs.declared.address.Pair.{Pair}
 use Rattle.segment_model.proofs.Fields.{and_tells, eqb_is}
 use Rattle.endpoint_model.specs.States.{Phase, Listen, SynSent, SynReceived, Established, FinWait1, FinWait2, CloseWait, Closing, LastAck, TimeWait, Closed, EndState, given_end}
 use Rattle.endpoint_model.specs.Emissions.{Draft, is_sending, is_silent, is_syn_sent, is_syn_received, unsent, slice_at, effective, rst_draft, syn_draft, syn_ack_draft, data_draft, again_draft, fin_draft, fin_again_draft, ack_draft, to_emit, resends, to_resend}
-use Rattle.endpoint_model.proofs.Sound.{choose}
-use Rattle.endpoint_model.proofs.Lists.{slice_get-take, slice_get-drop}
-use Rattle.endpoint_model.proofs.Whole.{open_now, Whole}
+use Rattle.link_laws.proofs.Sound.{choose}
+use Rattle.link_laws.proofs.Lists.{slice_get-take, slice_get-drop}
+use Rattle.link_laws.proofs.Whole.{open_now, Whole}
 
 -- the session was given this byte at this number
 abbrev pub GivenAt : EndState → ℕ → ℕ → Type 0

@@ -7,10 +7,10 @@ use Rattle.segment_model.proofs.Fields.{and_tells, eqb_is, lt_is, some_is}
 use Rattle.key_model.specs.Rows.{Row}
 use Rattle.key_model.specs.Tables.{Adding, AddedAs, TooMany, OverlapsRow, adding, withdrawn}
 use Rattle.endpoint_model.specs.States.{EndState, first, limit, ready_at, ready_count, bytes_from, ready, passed_fin, at_end, connected, listening, started, tick}
-use Rattle.endpoint_model.proofs.Sound.{choose, Sound, steady_sound}
-use Rattle.endpoint_model.proofs.Whole.{Whole}
-use Rattle.endpoint_model.proofs.Carrying.{GivenAt}
-use Rattle.endpoint_model.proofs.Lists.{bytes_from-add, length-bytes_from}
+use Rattle.link_laws.proofs.Sound.{choose, Sound, steady_sound}
+use Rattle.link_laws.proofs.Whole.{Whole}
+use Rattle.link_laws.proofs.Carrying.{GivenAt}
+use Rattle.link_laws.proofs.Lists.{bytes_from-add, length-bytes_from}
 use Rattle.link_model.specs.Alterations.{has_place, altered}
 use Rattle.link_model.specs.Events.{Event, Clock, Connect, Await, Start, Give, Fill, Send, Resend, Deliver, Inject, Alter, Take, Close, Abort, AddRow, Withdraw, Dump}
 use Rattle.link_model.specs.Headline.{IsPrefixOf, ComesFrom, DeliversInOrder, IsWhole, EndsWhole, AckedBy, Acknowledges}
@@ -18,11 +18,11 @@ use Rattle.link_model.specs.Laws.{SetupFits, EventFits}
 use Rattle.link_model.specs.Worlds.{other, Setup, pair_of, Session, Side, Made, World, side, find, partner_among, segment_named}
 use Rattle.link_model.specs.Steps.{Stepped, Act, put, with_sessions, with_rows, ticked, with_clock, acted, act_on, begin, on_live, come, deliver, alter, add_row, withdraw, step}
 use Rattle.link_model.specs.Runs.{empty, run_from, run}
-use Rattle.link_model.proofs.Invariant.{AllSound, AllWhole, Inv}
-use Rattle.link_model.proofs.Keeping.{both, grows_refl, grows_head, grows_new, same_gained, ActOk, given_ok, took_ok, close_ok, abort_ok, send_ok, resend_act_ok}
-use Rattle.link_model.proofs.Origin.{partner_is}
-use Rattle.link_model.proofs.Running.{ticks, tick_later, repeated, altered_bytes, come_ok, named_bytes, step_keeps, begins_inv, run_inv}
-use Rattle.link_model.proofs.Streams.{FinMade, OfPartner, Received, AllReceived, AllAcked, Heard, put_heard, head_heard}
+use Rattle.link_laws.proofs.Invariant.{AllSound, AllWhole, Inv}
+use Rattle.link_laws.proofs.Keeping.{both, grows_refl, grows_head, grows_new, same_gained, ActOk, given_ok, took_ok, close_ok, abort_ok, send_ok, resend_act_ok}
+use Rattle.link_laws.proofs.Origin.{partner_is}
+use Rattle.link_laws.proofs.Running.{ticks, tick_later, repeated, altered_bytes, come_ok, named_bytes, step_keeps, begins_inv, run_inv}
+use Rattle.link_laws.proofs.Streams.{FinMade, OfPartner, Received, AllReceived, AllAcked, Heard, put_heard, head_heard}
 
 -- ---- each step
 

@@ -10,7 +10,7 @@ use Rattle.segment_model.proofs.ByteLaws.{bytes_drop, bytes_take, nil_bytes}
 use Rattle.segment_model.proofs.Fields.{and_tells, eqb_is, lt_is, lt_not}
 use Rattle.endpoint_model.specs.States.{Phase, Listen, SynSent, SynReceived, Established, FinWait1, FinWait2, CloseWait, Closing, LastAck, TimeWait, Closed, EndState, own_mss, given_end}
 use Rattle.endpoint_model.specs.Emissions.{Draft, is_sending, is_silent, is_syn_sent, is_syn_received, unsent, slice_at, effective, fin_sent, rst_draft, syn_draft, syn_ack_draft, data_draft, again_draft, fin_draft, fin_again_draft, ack_draft, to_emit, resends, to_resend, sets}
-use Rattle.endpoint_model.proofs.Sound.{choose, fin_gone, fin_made, waits, Sound, Later, later_refl}
+use Rattle.link_laws.proofs.Sound.{choose, fin_gone, fin_made, waits, Sound, Later, later_refl}
 
 -- what holds of a segment that an end is about to make
 pub record DraftOk (s : EndState) (out : Draft) : Type 0 where

@@ -10,16 +10,16 @@ use Rattle.key_model.specs.Rows.{Row, sendable}
 use Rattle.key_model.proofs.PlanLaws.{chosen}
 use Rattle.endpoint_model.specs.States.{EndState}
 use Rattle.endpoint_model.specs.Emissions.{slice_at, sets, written, blank, own_ao, with_checksum}
-use Rattle.endpoint_model.proofs.Sound.{Later}
-use Rattle.endpoint_model.proofs.Carrying.{GivenAt}
-use Rattle.endpoint_model.proofs.Written.{area_ao, same_input, same_context}
+use Rattle.link_laws.proofs.Sound.{Later}
+use Rattle.link_laws.proofs.Carrying.{GivenAt}
+use Rattle.link_laws.proofs.Written.{area_ao, same_input, same_context}
 use Rattle.link_model.specs.Entries.{StandsIn, AsMade, AllMade}
 use Rattle.link_model.specs.Events.{Event}
 use Rattle.link_model.specs.Laws.{SetupFits, EventFits}
 use Rattle.link_model.specs.Worlds.{Setup, pair_of, Made, Happening, Sending, Coming, World, side}
 use Rattle.link_model.specs.Runs.{run}
-use Rattle.link_model.proofs.Invariant.{MadeOk, AllMadeOk, mac_in, wired}
-use Rattle.link_model.proofs.Running.{run_inv}
+use Rattle.link_laws.proofs.Invariant.{MadeOk, AllMadeOk, mac_in, wired}
+use Rattle.link_laws.proofs.Running.{run_inv}
 
 stands_more : (r : Row) (rows : List Row) (x : Row) → StandsIn rows x → StandsIn (r ∷ rows) x
 stands_more r rows x (k, low, here) = (suc k, omega arith, here)

@@ -7,8 +7,8 @@ use Rattle.segment_model.specs.Segments.{Segment, has, segment_length, ACK, FIN,
 use Rattle.segment_model.proofs.Fields.{and_tells, eqb_is, le_is, some_is}
 use Rattle.endpoint_model.specs.States.{Phase, Listen, SynSent, SynReceived, Established, TimeWait, EndState, limit, window, keep}
 use Rattle.endpoint_model.specs.Arrivals.{Moved, owing, above, within, fits_window, first_missing, runs, rested, finish, past_fin, pass_fin, fin_of, heard_runs, hear_data, after_own_fin, acked_fin, windowed, acked, go_on, acknowledged, ordinary, syn_alone, syn_ack_alone, after_check}
-use Rattle.endpoint_model.proofs.Moves.{following}
-use Rattle.endpoint_model.proofs.Stream.{fm_low, keep-cases}
+use Rattle.link_laws.proofs.Moves.{following}
+use Rattle.link_laws.proofs.Stream.{fm_low, keep-cases}
 
 -- the payload has this byte for this number
 abbrev pub Brings : Segment → ℕ → ℕ → ℕ → Type 0

@@ -18,11 +18,11 @@ use Rattle.key_model.specs.Coordination.{Sending as Using, choose as choose_row}
 use Rattle.key_model.proofs.PlanLaws.{Chosen, chosen}
 use Rattle.endpoint_model.specs.States.{EndState}
 use Rattle.endpoint_model.specs.Emissions.{Draft, blank, own_ao, written, seal_of, input_of, with_checksum, sealed}
-use Rattle.endpoint_model.proofs.Sound.{Sound, Later, later_then}
-use Rattle.endpoint_model.proofs.Drafts.{DraftOk}
-use Rattle.endpoint_model.proofs.Whole.{Whole}
-use Rattle.endpoint_model.proofs.Carrying.{Carries}
-use Rattle.endpoint_model.proofs.Written.{AreOfFamily, PairFits, zeros, context_bytes, input_bytes, spell_bytes, written_fits}
+use Rattle.link_laws.proofs.Sound.{Sound, Later, later_then}
+use Rattle.link_laws.proofs.Drafts.{DraftOk}
+use Rattle.link_laws.proofs.Whole.{Whole}
+use Rattle.link_laws.proofs.Carrying.{Carries}
+use Rattle.link_laws.proofs.Written.{AreOfFamily, PairFits, zeros, context_bytes, input_bytes, spell_bytes, written_fits}
 use Rattle.link_model.specs.Worlds.{Setup, pair_of, Session, Made, Happening, Sending, Coming, World, side, find}
 use Rattle.link_model.specs.Laws.{RowFits, OneFamily, SetupFits}
 

@@ -15,20 +15,20 @@ use Rattle.key_model.specs.Coordination.{Sending as Using, choose as choose_row}
 use Rattle.endpoint_model.specs.States.{Phase, Listen, SynSent, Closed, EndState, first, limit, bytes_from, ready, is_closed, room, gives, give, close_in, abort}
 use Rattle.endpoint_model.specs.Verdicts.{Passed}
 use Rattle.endpoint_model.specs.Emissions.{Draft, blank, seal_known, keyed, emitted, to_emit, to_resend, emit, resend}
-use Rattle.endpoint_model.proofs.Sound.{choose, Sound, Later, later_refl, steady_later, steady_sound, with_phase, closed_ok}
-use Rattle.endpoint_model.proofs.Lists.{bytes_from-add, length-bytes_from, take-bytes_from}
-use Rattle.endpoint_model.proofs.Stream.{Stream}
-use Rattle.endpoint_model.proofs.Whole.{Whole, whole_phase, closed_kept}
-use Rattle.endpoint_model.proofs.Gains.{Brings, BringsFin, BringsAck}
-use Rattle.endpoint_model.proofs.Carrying.{Carries, MayCarry, emit_carries, resend_carries}
-use Rattle.endpoint_model.proofs.Drafts.{DraftOk, MayDraft, emit_ok, resend_ok}
-use Rattle.endpoint_model.proofs.Written.{join}
+use Rattle.link_laws.proofs.Sound.{choose, Sound, Later, later_refl, steady_later, steady_sound, with_phase, closed_ok}
+use Rattle.link_laws.proofs.Lists.{bytes_from-add, length-bytes_from, take-bytes_from}
+use Rattle.link_laws.proofs.Stream.{Stream}
+use Rattle.link_laws.proofs.Whole.{Whole, whole_phase, closed_kept}
+use Rattle.link_laws.proofs.Gains.{Brings, BringsFin, BringsAck}
+use Rattle.link_laws.proofs.Carrying.{Carries, MayCarry, emit_carries, resend_carries}
+use Rattle.link_laws.proofs.Drafts.{DraftOk, MayDraft, emit_ok, resend_ok}
+use Rattle.link_laws.proofs.Written.{join}
 use Rattle.link_model.specs.Events.{Outcome, Done, Idle, Nothing, Full, HasClosed, WithoutKey}
 use Rattle.link_model.specs.Worlds.{Setup, pair_of, Session, Side, Made, Happening, Sending, Coming, World, side, find}
 use Rattle.link_model.specs.Steps.{Act, add, put, with_sessions, acted, act_on, quietly, given, sent, send, send_again, took}
 use Rattle.link_model.specs.Laws.{RowFits}
-use Rattle.link_model.proofs.Invariant.{MadeBy, made-later, MadeOk, AllMadeOk, AllSound, AllWhole, Distinct, Inv, Grows}
-use Rattle.link_model.proofs.Arriving.{Passing}
+use Rattle.link_laws.proofs.Invariant.{MadeBy, made-later, MadeOk, AllMadeOk, AllSound, AllWhole, Distinct, Inv, Grows}
+use Rattle.link_laws.proofs.Arriving.{Passing}
 
 -- ---- sessions grow
 

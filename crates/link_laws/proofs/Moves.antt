@@ -5,7 +5,7 @@ use Rattle.segment_model.specs.Meant.{meant}
 use Rattle.segment_model.specs.Segments.{Segment, has, segment_length, ACK, FIN, RST, SYN}
 use Rattle.endpoint_model.specs.States.{Phase, Listen, SynSent, SynReceived, Established, TimeWait, Closed, EndState, window, keep, limit}
 use Rattle.endpoint_model.specs.Arrivals.{Unexpected, Window, Challenge, NoAck, BadAck, TooManyRuns, Reset, Taken, Moved, answered, owing, above, within, fits_window, first_missing, runs, rested, finish, past_fin, pass_fin, fin_of, heard_runs, hear_data, after_own_fin, acked_fin, windowed, acked, go_on, acknowledged, ordinary, opened, syn_alone, syn_ack_alone, after_check}
-use Rattle.endpoint_model.proofs.Sound.{choose, waits, Sound, Steady, steady_refl, steady_then, PhaseOk, own_ok, past_ok, closed_ok, established_ok, received_ok, answered_ok, with_phase, learns}
+use Rattle.link_laws.proofs.Sound.{choose, waits, Sound, Steady, steady_refl, steady_then, PhaseOk, own_ok, past_ok, closed_ok, established_ok, received_ok, answered_ok, with_phase, learns}
 
 -- what a segment that passed may do: a steady change; a reset comes of RST alone
 pub record MovedOk (s : EndState) (d : Segment) (r : Moved) : Type 0 where

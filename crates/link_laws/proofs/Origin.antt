@@ -24,17 +24,17 @@ use Rattle.endpoint_model.specs.States.{EndState, gives, room, give}
 use Rattle.endpoint_model.specs.Verdicts.{key_of, same_key, Passed}
 use Rattle.endpoint_model.specs.Arrivals.{arrive}
 use Rattle.endpoint_model.specs.Emissions.{Emitted, Quiet, NoKey, Emits, sets, own_ao, emit, resend}
-use Rattle.endpoint_model.proofs.Sound.{choose, Sound}
-use Rattle.endpoint_model.proofs.Whole.{Whole}
-use Rattle.endpoint_model.proofs.Written.{area_ao}
+use Rattle.link_laws.proofs.Sound.{choose, Sound}
+use Rattle.link_laws.proofs.Whole.{Whole}
+use Rattle.link_laws.proofs.Written.{area_ao}
 use Rattle.link_model.specs.Alterations.{has_place, altered}
 use Rattle.link_model.specs.Events.{Event, Clock, Connect, Await, Start, Give, Fill, Send, Resend, Deliver, Inject, Alter, Take, Close, Abort, AddRow, Withdraw, Dump, Outcome, Idle, Nothing, HasClosed, Full, Done, NoPlace}
 use Rattle.link_model.specs.Worlds.{other, same_end, Setup, pair_of, Session, Side, Made, Came, Happening, Sending, Coming, World, side, find, live, is_known, known_by, partner_among, partner, accounts_for, was_made, forged, forgeries, segment_named}
 use Rattle.link_model.specs.Steps.{Act, add, put, with_rows, with_clock, act_on, on_live, quietly, begin, given, sent, send, send_again, come, took, deliver, alter, add_row, withdraw, step}
 use Rattle.link_model.specs.Laws.{SetupFits, EventFits, IsAmong, Repeats, FromPartner, Arrives, HasOrigin, ResetsByAbort}
-use Rattle.link_model.proofs.Invariant.{MadeBy, MadeOk, AllMadeOk, AllSound, AllWhole, Inv, blank_in, blank_fits}
-use Rattle.link_model.proofs.Arriving.{Passing, ArrivedOk, arrive_ok}
-use Rattle.link_model.proofs.Running.{named_bytes, altered_bytes}
+use Rattle.link_laws.proofs.Invariant.{MadeBy, MadeOk, AllMadeOk, AllSound, AllWhole, Inv, blank_in, blank_fits}
+use Rattle.link_laws.proofs.Arriving.{Passing, ArrivedOk, arrive_ok}
+use Rattle.link_laws.proofs.Running.{named_bytes, altered_bytes}
 
 -- ---- which events are arrivals
 

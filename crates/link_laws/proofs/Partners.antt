@@ -9,10 +9,10 @@ use Rattle.link_model.specs.Headline.{ArePartners, OnePartner, PartnerIsOne}
 use Rattle.link_model.specs.Laws.{SetupFits, EventFits}
 use Rattle.link_model.specs.Runs.{run}
 use Rattle.link_model.specs.Worlds.{other, Setup, Session, World, side, find, is_known, known_by, partner_among}
-use Rattle.link_model.proofs.Invariant.{Distinct}
-use Rattle.link_model.proofs.Keeping.{find_own}
-use Rattle.link_model.proofs.Delivery.{find_isn}
-use Rattle.link_model.proofs.Running.{run_inv}
+use Rattle.link_laws.proofs.Invariant.{Distinct}
+use Rattle.link_laws.proofs.Keeping.{find_own}
+use Rattle.link_laws.proofs.Delivery.{find_isn}
+use Rattle.link_laws.proofs.Running.{run_inv}
 
 -- each session is the one that is found by its number
 abbrev EachFound : List Session → List Session → Type 0

@@ -27,17 +27,17 @@ use Rattle.endpoint_model.specs.States.{EndState, is_closed}
 use Rattle.endpoint_model.specs.Verdicts.{Passed, Pass, mac_of, passed_with, judge_mac, judge_number, number_of, judge_context, judge_row, judge_ao, judge}
 use Rattle.endpoint_model.specs.Arrivals.{Arrival, Foreign, Checksum, AtClosed, Unexpected, Window, Challenge, NoAck, BadAck, TooManyRuns, Reset, Taken, Arrived, unmoved, heard, after_check, arrive_judged, expected, judged_by, from_peer, arrive_read, arrive}
 use Rattle.endpoint_model.specs.Emissions.{Draft, sets, written, blank, own_ao, seal_of, input_of, with_checksum}
-use Rattle.endpoint_model.proofs.Sound.{choose, Sound, Later}
-use Rattle.endpoint_model.proofs.Moves.{MovedOk, after_check_ok}
-use Rattle.endpoint_model.proofs.Drafts.{DraftOk}
-use Rattle.endpoint_model.proofs.Written.{area_ao, same_input, same_context}
+use Rattle.link_laws.proofs.Sound.{choose, Sound, Later}
+use Rattle.link_laws.proofs.Moves.{MovedOk, after_check_ok}
+use Rattle.link_laws.proofs.Drafts.{DraftOk}
+use Rattle.link_laws.proofs.Written.{area_ao, same_input, same_context}
 use Rattle.link_model.specs.Events.{Deliver}
 use Rattle.link_model.specs.Worlds.{other, Setup, pair_of, Session, Made, World, side, find, live, is_known, addressed}
 use Rattle.link_model.specs.Steps.{Act, act_on, come, deliver, step}
 use Rattle.link_model.specs.Laws.{SetupFits, IsNear, RollsOver, IsHeard, IsAdmitted}
-use Rattle.link_model.proofs.Invariant.{AllSound, Inv, mac_in, row_in, wired}
-use Rattle.link_model.proofs.Arriving.{not_true}
-use Rattle.link_model.proofs.Running.{named_ok}
+use Rattle.link_laws.proofs.Invariant.{AllSound, Inv, mac_in, row_in, wired}
+use Rattle.link_laws.proofs.Arriving.{not_true}
+use Rattle.link_laws.proofs.Running.{named_ok}
 
 -- ---- tests
 

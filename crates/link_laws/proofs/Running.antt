@@ -15,22 +15,22 @@ use Rattle.key_model.specs.Overlaps.{IsValid}
 use Rattle.key_model.specs.Tables.{Adding, AddedAs, TooMany, OverlapsRow, adding, withdrawn}
 use Rattle.key_model.proofs.TableLaws.{valid_added, valid_withdrawn, all_added, all_withdrawn}
 use Rattle.endpoint_model.specs.States.{Phase, Listen, SynSent, TimeWait, Closed, EndState, beginning, connected, listening, started, is_due, tick_in, tick}
-use Rattle.endpoint_model.proofs.Sound.{choose, fin_made, Sound, Later, Steady, steady_refl, steady_later, steady_sound, with_phase, closed_ok}
-use Rattle.endpoint_model.proofs.Whole.{open_now, Whole, whole_phase, closed_kept, fresh}
+use Rattle.link_laws.proofs.Sound.{choose, fin_made, Sound, Later, Steady, steady_refl, steady_later, steady_sound, with_phase, closed_ok}
+use Rattle.link_laws.proofs.Whole.{open_now, Whole, whole_phase, closed_kept, fresh}
 use Rattle.endpoint_model.specs.Verdicts.{Passed}
 use Rattle.endpoint_model.specs.Arrivals.{Arrived, arrive}
-use Rattle.endpoint_model.proofs.Gains.{Brings, BringsFin, BringsAck, Gains}
+use Rattle.link_laws.proofs.Gains.{Brings, BringsFin, BringsAck, Gains}
 use Rattle.endpoint_model.specs.Emissions.{is_silent}
-use Rattle.endpoint_model.proofs.Written.{Byted, join, two, cons, nothing}
+use Rattle.link_laws.proofs.Written.{Byted, join, two, cons, nothing}
 use Rattle.link_model.specs.Alterations.{masked, place_in, has_place, altered}
 use Rattle.link_model.specs.Events.{Event, Clock, Connect, Await, Start, Give, Fill, Send, Resend, Deliver, Inject, Alter, Take, Close, Abort, AddRow, Withdraw, Dump}
 use Rattle.link_model.specs.Worlds.{Setup, pair_of, Session, Made, Came, Happening, Sending, Coming, World, side, find, segment_named}
 use Rattle.link_model.specs.Steps.{Stepped, with_sessions, with_rows, ticked, with_clock, begin, on_live, come, deliver, alter, add_row, withdraw, step}
 use Rattle.link_model.specs.Runs.{empty, run_from, run}
 use Rattle.link_model.specs.Laws.{RowFits, SetupFits, EventFits}
-use Rattle.link_model.proofs.Invariant.{MadeOk, AllMadeOk, AllSound, AllWhole, Distinct, Inv, Grows, wired}
-use Rattle.link_model.proofs.Keeping.{grows_refl, grows_head, grows_new, both, put_keeps, Gained, HasPassed, same_gained, ActOk, act_keeps, given_ok, took_ok, close_ok, abort_ok, send_ok, resend_act_ok}
-use Rattle.link_model.proofs.Arriving.{Passing, ArrivedOk, arrive_ok}
+use Rattle.link_laws.proofs.Invariant.{MadeOk, AllMadeOk, AllSound, AllWhole, Distinct, Inv, Grows, wired}
+use Rattle.link_laws.proofs.Keeping.{grows_refl, grows_head, grows_new, both, put_keeps, Gained, HasPassed, same_gained, ActOk, act_keeps, given_ok, took_ok, close_ok, abort_ok, send_ok, resend_act_ok}
+use Rattle.link_laws.proofs.Arriving.{Passing, ArrivedOk, arrive_ok}
 
 -- ---- bytes that come
 

@@ -5,7 +5,7 @@ use Rattle.std.proofs.lemmas.Bool.Decides.{nat_tests}
 use Rattle.segment_model.proofs.Fields.{and_tells, le_is, lt_is, some_is}
 use Rattle.endpoint_model.specs.States.{first, limit, bytes_from, first_known, keep}
 use Rattle.endpoint_model.specs.Arrivals.{first_missing, runs}
-use Rattle.endpoint_model.proofs.Lists.{same-bytes_from}
+use Rattle.link_laws.proofs.Lists.{same-bytes_from}
 
 pub or_lt : (p x : ℕ) → (p < x) ⊎ (x ≤ p)
 or_lt p x = grind arith

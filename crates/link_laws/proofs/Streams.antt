@@ -9,20 +9,20 @@ use Rattle.segment_model.proofs.Fields.{some_is}
 use Rattle.endpoint_model.specs.States.{EndState, first, limit}
 use Rattle.endpoint_model.specs.Verdicts.{Passed}
 use Rattle.endpoint_model.specs.Emissions.{sets}
-use Rattle.endpoint_model.proofs.Sound.{Sound, Later}
-use Rattle.endpoint_model.proofs.Stream.{Stream}
-use Rattle.endpoint_model.proofs.Whole.{Whole}
-use Rattle.endpoint_model.proofs.Gains.{Brings, BringsFin, BringsAck}
-use Rattle.endpoint_model.proofs.Carrying.{GivenAt}
-use Rattle.endpoint_model.proofs.Lists.{slice_get-append}
+use Rattle.link_laws.proofs.Sound.{Sound, Later}
+use Rattle.link_laws.proofs.Stream.{Stream}
+use Rattle.link_laws.proofs.Whole.{Whole}
+use Rattle.link_laws.proofs.Gains.{Brings, BringsFin, BringsAck}
+use Rattle.link_laws.proofs.Carrying.{GivenAt}
+use Rattle.link_laws.proofs.Lists.{slice_get-append}
 use Rattle.link_model.specs.Headline.{GivesFew}
 use Rattle.link_model.specs.Laws.{SetupFits, Repeats}
 use Rattle.link_model.specs.Worlds.{other, Setup, pair_of, Session, Side, Made, Came, Happening, Sending, Coming, World, side, find, forged, forgeries}
 use Rattle.link_model.specs.Steps.{add, put}
-use Rattle.link_model.proofs.Invariant.{MadeBy, Inv, Grows}
-use Rattle.link_model.proofs.Keeping.{both, HasPassed, Gained}
-use Rattle.link_model.proofs.Arriving.{Passing}
-use Rattle.link_model.proofs.Origin.{Origin, origin_of, found_made, none_forged, plain_context}
+use Rattle.link_laws.proofs.Invariant.{MadeBy, Inv, Grows}
+use Rattle.link_laws.proofs.Keeping.{both, HasPassed, Gained}
+use Rattle.link_laws.proofs.Arriving.{Passing}
+use Rattle.link_laws.proofs.Origin.{Origin, origin_of, found_made, none_forged, plain_context}
 
 -- close was called on the session, and its FIN has this number
 abbrev pub FinMade : EndState → ℕ → Type 0

@@ -8,9 +8,9 @@ use Rattle.segment_model.proofs.Fields.{and_tells, eqb_is, le_is, lt_is, lt_not,
 use Rattle.endpoint_model.specs.States.{Phase, Listen, SynSent, SynReceived, Established, FinWait1, FinWait2, CloseWait, Closing, LastAck, TimeWait, Closed, EndState, first, limit, window, keep, hears}
 use Rattle.endpoint_model.specs.Arrivals.{Moved, owing, above, within, fits_window, first_missing, runs, rested, finish, past_fin, pass_fin, fin_of, heard_runs, hear_data, after_own_fin, acked_fin, windowed, acked, go_on, acknowledged, ordinary, syn_alone, syn_ack_alone, after_check}
 use Rattle.endpoint_model.specs.Emissions.{is_silent}
-use Rattle.endpoint_model.proofs.Sound.{waits, Sound}
-use Rattle.endpoint_model.proofs.Moves.{following}
-use Rattle.endpoint_model.proofs.Stream.{Stream, room_of, not_some, fm_stop, runs_none, edge, kept, moved, moved_missing, recorded, passed, or_lt}
+use Rattle.link_laws.proofs.Sound.{waits, Sound}
+use Rattle.link_laws.proofs.Moves.{following}
+use Rattle.link_laws.proofs.Stream.{Stream, room_of, not_some, fm_stop, runs_none, edge, kept, moved, moved_missing, recorded, passed, or_lt}
 
 -- the handshake is over
 abbrev pub open_now : Phase → Bool

@@ -16,7 +16,7 @@ use Rattle.mac_model.specs.MacInput.{covered, mac_input}
 use Rattle.key_model.specs.Coordination.{Sending}
 use Rattle.endpoint_model.specs.States.{EndState, window, own_mss}
 use Rattle.endpoint_model.specs.Emissions.{Draft, sets, ip_words, written_ip, written_area, ao_place, written, blank, own_ao, with_checksum}
-use Rattle.endpoint_model.proofs.Drafts.{DraftOk}
+use Rattle.link_laws.proofs.Drafts.{DraftOk}
 
 -- ---- bytes
 

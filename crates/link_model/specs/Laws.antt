@@ -18,6 +18,7 @@ use Rattle.endpoint_model.specs.declared.arrival.Arrival.TheVariants.{Bad, Forei
 use Rattle.link_model.specs.declared.event.Event.{Event}
 use Rattle.link_model.specs.declared.event.Event.TheVariants.{Clock, Connect, Listen, Start, Give, Fill, Send, Resend, Deliver, Inject, Alter, Take, Close, Abort, AddRow, Withdraw, Dump}
 use Rattle.link_model.specs.Outcomes.{Outcome, Answered}
+use Rattle.link_model.specs.RowLines.{row_of}
 use Rattle.link_model.specs.Worlds.{other, Setup, pair_of, rows_of, Session, Made, Came, Happening, Making, Coming, World, side, find, live, partner, addressed, forgeries, segment_named}
 use Rattle.link_model.specs.Steps.{step}
 
@@ -57,7 +58,7 @@ EventFits (Alter e name place mask fix) = mask < 256
 EventFits (Take e count) = ⊤
 EventFits (Close e) = ⊤
 EventFits (Abort e) = ⊤
-EventFits (AddRow e row) = RowFits row
+EventFits (AddRow e row) = RowFits (row_of row)
 EventFits (Withdraw e number) = ⊤
 EventFits (Dump name) = ⊤
 
@@ -115,7 +116,7 @@ IsAdmitted _ = ⊥
 -- an entry was made in this history
 abbrev pub IsAmong : Made → List Happening → Type 0
 IsAmong m [] = ⊥
-IsAmong m (Sending k ∷ past) = (k ≡ m) ⊎ IsAmong m past
+IsAmong m (Making k ∷ past) = (k ≡ m) ⊎ IsAmong m past
 IsAmong m (Coming r ∷ past) = IsAmong m past
 
 -- a segment with one TCP-AO option says what an entry says (RFC 5925, section 5.1)

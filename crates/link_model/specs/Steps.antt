@@ -12,6 +12,7 @@ use Rattle.link_model.specs.Alterations.{has_place, altered}
 use Rattle.link_model.specs.declared.event.Event.{Event}
 use Rattle.link_model.specs.declared.event.Event.TheVariants.{Clock, Connect, Listen, Start, Give, Fill, Send, Resend, Deliver, Inject, Alter, Take, Close, Abort, AddRow, Withdraw, Dump}
 use Rattle.link_model.specs.Outcomes.{Outcome, Done, Sent, Answered, Took, Image, Added, IsnUsed, NoSession, NoSegment, NoPlace, Full, HasClosed, WithoutKey, Idle, Nothing, TooManyRows, OverlapWith, NoRow}
+use Rattle.link_model.specs.RowLines.{row_of}
 use Rattle.link_model.specs.Worlds.{Setup, pair_of, Session, Side, Made, Happening, Making, Coming, World, side, find, segments, segment_named}
 
 -- the world after an event, and its outcome
@@ -158,8 +159,8 @@ withdraw w e (Some rows) = record { world = put w e (with_rows (side w e) rows) 
 -- the world after an event, and its outcome
 abbrev pub step : Setup → World → Event → Stepped
 step setup w (Clock e seconds) = record { world = put w e (with_clock (side w e) seconds) None; outcome = Done }
-step setup w (Connect e isn) = begin_new w e (connected isn)
-step setup w (Listen e isn) = begin_new w e (listening isn)
+step setup w (Connect e isn) = begin_new w e (connected (pair_of setup e) isn)
+step setup w (Listen e isn) = begin_new w e (listening (pair_of setup e) isn)
 step setup w (Start e isn peer) = begin_new w e (started (pair_of setup e) isn peer)
 step setup w (Give e piece) = on_live w e (given piece)
 step setup w (Fill e count byte) = on_live w e (given (replicate count byte))
@@ -171,6 +172,6 @@ step setup w (Alter e name place mask fix) = alter setup e w place mask fix (seg
 step setup w (Take e count) = on_live w e (took count)
 step setup w (Close e) = on_live w e (λ s. quietly (close s) Done)
 step setup w (Abort e) = on_live w e (λ s. quietly (abort s) Done)
-step setup w (AddRow e row) = add_row w e (adding (side w e).rows row)
+step setup w (AddRow e row) = add_row w e (adding (side w e).rows (row_of row))
 step setup w (Withdraw e number) = withdraw w e (withdrawn (side w e).rows number)
 step setup w (Dump name) = record { world = w; outcome = image_of (segment_named name w.history) }

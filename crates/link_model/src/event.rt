@@ -6,7 +6,7 @@ use std::marker::Model;
 
 /// A row as a link file writes it; it matches every pair. Neither `receive` nor `send` is a row that
 /// is Disabled (RFC 7210, section 2).
-#[derive(Debug, Drop)]
+#[derive(Drop)]
 pub struct RowLine {
     /// The KeyID that it takes.
     pub recv_id: u8,
@@ -27,7 +27,7 @@ pub struct RowLine {
 }
 
 /// What happens at a link. Segments are numbered from 1 in the order in which they are made.
-#[derive(Debug, Drop)]
+#[derive(Drop)]
 pub enum Event {
     /// The clock of the end reads so many seconds since 1970-01-01, at most 253402300799.
     Clock(End, u64),
@@ -67,7 +67,7 @@ pub enum Event {
 }
 
 /// A list of events.
-#[derive(Debug, Drop)]
+#[derive(Drop)]
 pub struct Events {
     items: Vec<Event>,
 }
