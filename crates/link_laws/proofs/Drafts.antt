@@ -1,26 +1,30 @@
 -- What emit and resend make.
 use Rattle.std.proofs.Common.{◌≡◌, ℕ, ◌+◌, ◌-◌, ◌^◌, ◌<◌, ◌≤◌, ◌==◌, min, Bool, true, false, not, ◌&&◌, nat_lt, [], length, drop, Option, Some, None, refl, arith, length-take}
-use Rattle.std.specs.Prelude.{⊤}
+use Rattle.std.specs.Prelude.{⊤, is_some, if◌then◌else◌}
 use Rattle.ao_base.specs.declared.address.Address.{Address}
 use Rattle.ao_base.specs.declared.address.Address.TheVariants.{V4, V6}
 use Rattle.ao_base.specs.declared.address.Pair.{Pair}
-use Rattle.segment_model.specs.Segments.{bit_of}
+use Rattle.segment_model.specs.Segments.{bit_of, FIN, SYN, RST, ACK}
 use Rattle.segment_model.specs.Spelling.{AreBytes}
 use Rattle.segment_model.proofs.ByteLaws.{bytes_drop, bytes_take, nil_bytes}
 use Rattle.segment_model.proofs.Fields.{and_tells, eqb_is, lt_is, lt_not}
-use Rattle.endpoint_model.specs.States.{Phase, Listen, SynSent, SynReceived, Established, FinWait1, FinWait2, CloseWait, Closing, LastAck, TimeWait, Closed, EndState, own_mss, given_end}
-use Rattle.endpoint_model.specs.Emissions.{Draft, is_sending, is_silent, is_syn_sent, is_syn_received, unsent, slice_at, effective, fin_sent, rst_draft, syn_draft, syn_ack_draft, data_draft, again_draft, fin_draft, fin_again_draft, ack_draft, to_emit, resends, to_resend, sets}
-use Rattle.link_laws.proofs.Sound.{choose, fin_gone, fin_made, waits, Sound, Later, later_refl}
+use Rattle.endpoint_model.specs.declared.phase.Phase.{Phase}
+use Rattle.endpoint_model.specs.declared.phase.Phase.TheVariants.{Listen, SynSent, SynReceived, Established, FinWait1, FinWait2, CloseWait, Closing, LastAck, TimeWait, Closed}
+use Rattle.endpoint_model.specs.States.{EndState, own_mss, given_end}
+use Rattle.key_model.specs.Coordination.{Sending}
+use Rattle.endpoint_model.specs.Emissions.{Draft, is_sending, is_silent, is_syn_sent, is_syn_received, unsent, slice_at, fin_sent, rst_draft, syn_draft, syn_ack_draft, data_draft, again_draft, fin_draft, fin_again_draft, ack_draft, window_end, sends_data, sends_fin, fitting, to_emit, resends, unacknowledged, is_blocked, probe, to_resend, sets, most_bytes}
+use Rattle.link_laws.proofs.Tests.{choose, by_bool, and_false}
+use Rattle.link_laws.proofs.Sound.{fin_gone, fin_made, waits, Sound, Later, later_refl}
 
 -- what holds of a segment that an end is about to make
 pub record DraftOk (s : EndState) (out : Draft) : Type 0 where
   pub later : Later s out.state
   pub sound : Sound out.state
   pub flags : out.flags < 256
-  pub syn : sets out.flags 2 ≡ true → (out.number ≡ s.isn) × (out.payload ≡ [])
-  pub fin : sets out.flags 1 ≡ true → (s.closing ≡ true) × (out.payload ≡ []) × (out.number ≡ given_end s)
-  pub rst : sets out.flags 4 ≡ true → (s.aborted ≡ true) × (sets out.flags 2 ≡ false)
-  pub small : out.number + (length out.payload + bit_of (sets out.flags 2) + bit_of (sets out.flags 1)) ≤ 2 ^ 63
+  pub syn : sets out.flags SYN ≡ true → (out.number ≡ s.isn) × (out.payload ≡ [])
+  pub fin : sets out.flags FIN ≡ true → (s.closing ≡ true) × (out.payload ≡ []) × (out.number ≡ given_end s)
+  pub rst : sets out.flags RST ≡ true → (s.aborted ≡ true) × (sets out.flags SYN ≡ false)
+  pub small : out.number + (length out.payload + bit_of (sets out.flags SYN) + bit_of (sets out.flags FIN)) ≤ 2 ^ 63
   pub bytes : AreBytes out.payload
   pub long : length out.payload ≤ 1460
 
@@ -33,15 +37,16 @@ own_low : (a : Address) → own_mss a ≤ 1460
 own_low (V4 bytes) = omega arith
 own_low (V6 bytes) = omega arith
 
-effective_low : (pair : Pair) (s : EndState) → effective pair s ≤ 1460
-effective_low pair s = let low = own_low pair.local.address in omega arith
+-- no segment has more bytes
+pub most_low : (pair : Pair) (s : EndState) (sending : Sending) → most_bytes pair s sending ≤ 1460
+most_low pair s sending = let low = own_low pair.local.address in omega arith
 
 -- the same fields, with another next number
 next_sound : (s : EndState) (next : ℕ) → next ≤ given_end s → Sound s → Sound (record s { next = next })
 next_sound s next high h =
     record {
-      iss_fits = h.iss_fits;
-      irs_fits = h.irs_fits;
+      isn_fits = h.isn_fits;
+      peer_isn_fits = h.peer_isn_fits;
       few = h.few;
       bytes = h.bytes;
       next_high = omega arith;
@@ -58,8 +63,8 @@ rst_ok s owed h =
     record {
       later = later_refl s;
       sound = record {
-        iss_fits = h.iss_fits;
-        irs_fits = h.irs_fits;
+        isn_fits = h.isn_fits;
+        peer_isn_fits = h.peer_isn_fits;
         few = h.few;
         bytes = h.bytes;
         next_high = h.next_high;
@@ -71,7 +76,7 @@ rst_ok s owed h =
       flags = omega arith;
       syn = λ e. absurd (cc);
       fin = λ e. absurd (cc);
-      rst_owed = λ e. (h.reset owed, refl);
+      rst = λ e. (h.reset owed, refl);
       small = omega arith;
       bytes = nil_bytes;
       long = omega arith;
@@ -87,7 +92,7 @@ syn_ok s next high h =
       flags = omega arith;
       syn = λ e. (refl, refl);
       fin = λ e. absurd (cc);
-      rst_owed = λ e. absurd (cc);
+      rst = λ e. absurd (cc);
       small = omega arith;
       bytes = nil_bytes;
       long = omega arith;
@@ -102,7 +107,7 @@ syn_ack_ok s next high h =
       flags = omega arith;
       syn = λ e. (refl, refl);
       fin = λ e. absurd (cc);
-      rst_owed = λ e. absurd (cc);
+      rst = λ e. absurd (cc);
       small = omega arith;
       bytes = nil_bytes;
       long = omega arith;
@@ -118,7 +123,7 @@ ack_ok s h =
       flags = omega arith;
       syn = λ e. absurd (cc);
       fin = λ e. absurd (cc);
-      rst_owed = λ e. absurd (cc);
+      rst = λ e. absurd (cc);
       small = omega arith;
       bytes = nil_bytes;
       long = omega arith;
@@ -140,7 +145,7 @@ data_ok s count fits most h =
       flags = omega arith;
       syn = λ e. absurd (cc);
       fin = λ e. absurd (cc);
-      rst_owed = λ e. absurd (cc);
+      rst = λ e. absurd (cc);
       small = omega arith;
       bytes = slice_bytes s s.next count h.bytes;
       long = omega arith;
@@ -157,7 +162,7 @@ again_ok s count fits most h =
       flags = omega arith;
       syn = λ e. absurd (cc);
       fin = λ e. absurd (cc);
-      rst_owed = λ e. absurd (cc);
+      rst = λ e. absurd (cc);
       small = omega arith;
       bytes = slice_bytes s s.una count h.bytes;
       long = omega arith;
@@ -212,8 +217,8 @@ fin_ok s phase closing all h =
     record {
       later = later_refl s;
       sound = record {
-        iss_fits = h.iss_fits;
-        irs_fits = h.irs_fits;
+        isn_fits = h.isn_fits;
+        peer_isn_fits = h.peer_isn_fits;
         few = h.few;
         bytes = h.bytes;
         next_high = omega arith;
@@ -225,15 +230,11 @@ fin_ok s phase closing all h =
       flags = omega arith;
       syn = λ e. absurd (cc);
       fin = λ e. (closing, refl, omega arith);
-      rst_owed = λ e. absurd (cc);
+      rst = λ e. absurd (cc);
       small = omega arith;
       bytes = nil_bytes;
       long = omega arith;
     }
-
-by_bool : (P : Type 0) (b : Bool) → (b ≡ true → P) → (b ≡ false → P) → P
-by_bool P true one two = one refl
-by_bool P false one two = two refl
 
 fin_again_ok : (s : EndState) → resends s.phase ≡ true → s.una < s.next → given_end s ≤ s.una → Sound s → DraftOk s (fin_again_draft s)
 fin_again_ok s phase sent past h =
@@ -246,34 +247,33 @@ fin_again_ok s phase sent past h =
       flags = omega arith;
       syn = λ e. absurd (cc);
       fin = λ e. (closing, refl, omega arith);
-      rst_owed = λ e. absurd (cc);
+      rst = λ e. absurd (cc);
       small = omega arith;
       bytes = nil_bytes;
       long = omega arith;
     }
 
-pub emit_ok : (pair : Pair) (s : EndState) → Sound s → MayDraft s (to_emit pair s)
+pub sends_data_says : (s : EndState) → sends_data s ≡ true → (is_sending s.phase ≡ true) × (0 < unsent s)
+sends_data_says s t =
+    let one = and_tells (is_sending s.phase) (nat_lt 0 (unsent s)) (and_tells (is_sending s.phase && nat_lt 0 (unsent s)) (nat_lt s.next (window_end s)) t).0 in
+    (one.0, lt_is 0 (unsent s) one.1)
+
+pub sends_fin_says : (s : EndState) → sends_fin s ≡ true → (is_sending s.phase ≡ true) × (s.closing ≡ true) × (unsent s ≡ 0)
+sends_fin_says s t =
+    let one = and_tells (is_sending s.phase && s.closing) (unsent s == 0) (and_tells (is_sending s.phase && s.closing && (unsent s == 0)) (nat_lt s.next (window_end s)) t).0 in
+    let two = and_tells (is_sending s.phase) s.closing one.0 in
+    (two.0, two.1, eqb_is (unsent s) 0 one.1)
+
+pub emit_ok : (s : EndState) (most : ℕ) → most ≤ 1460 → Sound s → MayDraft s (to_emit s most)
 unfolding to_emit
-emit_ok pair s h =
-    let open_to = s.una + s.send_window in
-    let low = effective_low pair s in
+emit_ok s most low h =
     let P = MayDraft s in
     choose P s.rst_owed (Some (rst_draft s)) _ (λ owed. rst_ok s owed h) (λ e1.
     choose P (is_syn_sent s.phase && (s.next == s.isn)) (Some (syn_draft s (record s { next = s.isn + 1 }))) _ (λ t. syn_ok s (s.isn + 1) (omega arith) h) (λ e2.
     choose P (is_syn_received s.phase && (s.next == s.isn)) (Some (syn_ack_draft s (record s { next = s.isn + 1 }))) _ (λ t. syn_ack_ok s (s.isn + 1) (omega arith) h) (λ e3.
-    choose P (is_sending s.phase && nat_lt 0 (unsent s) && nat_lt s.next open_to) (Some (data_draft s (min (unsent s) (min (open_to - s.next) (effective pair s))))) _
-    (λ t.
-    let one = and_tells (is_sending s.phase) (nat_lt 0 (unsent s)) (and_tells (is_sending s.phase && nat_lt 0 (unsent s)) (nat_lt s.next open_to) t).0 in
-    let some = lt_is 0 (unsent s) one.1 in
-    data_ok s (min (unsent s) (min (open_to - s.next) (effective pair s))) (omega arith) (omega arith) h)
-    (λ e4.
-    choose P (is_sending s.phase && s.closing && (unsent s == 0) && nat_lt s.next open_to) (Some (fin_draft s)) _
-    (λ t.
-    let one = and_tells (is_sending s.phase && s.closing) (unsent s == 0) (and_tells (is_sending s.phase && s.closing && (unsent s == 0)) (nat_lt s.next open_to) t).0 in
-    let two = and_tells (is_sending s.phase) s.closing one.0 in
-    let none = eqb_is (unsent s) 0 one.1 in
-    fin_ok s two.0 two.1 (omega arith) h)
-    (λ e5. choose P (s.ack_owed && not (is_silent s.phase)) (Some (ack_draft s)) None (λ t. ack_ok s h) (λ t. tt))))))
+    choose P (sends_data s) (Some (data_draft s (fitting s most))) _ (λ t. let some = (sends_data_says s t).1 in data_ok s (fitting s most) (omega arith) (omega arith) h) (λ e4.
+    choose P (sends_fin s) (Some (fin_draft s)) _ (λ t. let says = sends_fin_says s t in let none = says.2 in fin_ok s says.0 says.1 (omega arith) h) (λ e5.
+    choose P (s.ack_owed && not (is_silent s.phase)) (Some (ack_draft s)) None (λ t. ack_ok s h) (λ t. tt))))))
 
 -- in the phases of a handshake no FIN was made
 syn_sent_open : (phase : Phase) → is_syn_sent phase ≡ true → fin_gone phase ≡ false
@@ -302,36 +302,46 @@ syn_received_open LastAck e = absurd (cc)
 syn_received_open TimeWait e = absurd (cc)
 syn_received_open Closed e = absurd (cc)
 
-and_false : (a b : Bool) → a ≡ true → (a && b) ≡ false → b ≡ false
-and_false true b e f = f
-and_false false b e f = absurd (cc)
+unacknowledged_ok : (s : EndState) (most : ℕ) → most ≤ 1460 → resends s.phase ≡ true → s.una < s.next → Sound s → DraftOk s (unacknowledged s most)
+unacknowledged_ok s most low phase sent h =
+    choose (DraftOk s) (nat_lt s.una (given_end s)) (again_draft s (min (s.next - s.una) most)) (fin_again_draft s)
+    (λ g. again_ok s (min (s.next - s.una) most) (omega arith) (omega arith) h)
+    (λ g. fin_again_ok s phase sent (lt_not s.una (given_end s) g) h)
 
-pub resend_ok : (pair : Pair) (s : EndState) → Sound s → MayDraft s (to_resend pair s)
+probe_ok : (s : EndState) → is_blocked s ≡ true → Sound s → MayDraft s (probe s)
+probe_ok s t h =
+    let P = MayDraft s in
+    let one = and_tells (is_sending s.phase && (s.una == s.next)) (s.send_window == 0) t in
+    let phase = (and_tells (is_sending s.phase) (s.una == s.next) one.0).0 in
+    choose P (nat_lt 0 (unsent s)) (Some (data_draft s 1)) _ (λ g. let some = lt_is 0 (unsent s) g in data_ok s 1 (omega arith) (omega arith) h) (λ g.
+    choose P s.closing (Some (fin_draft s)) None (λ closing. let none = lt_not 0 (unsent s) g in fin_ok s phase closing (omega arith) h) (λ e. tt))
+
+pub resend_ok : (s : EndState) (most : ℕ) → most ≤ 1460 → Sound s → MayDraft s (to_resend s most)
 unfolding to_resend
-resend_ok pair s h =
-    let still = is_sending s.phase && (s.una == s.next) && (s.send_window == 0) in
-    let low = effective_low pair s in
+resend_ok s most low h =
     let P = MayDraft s in
     choose P (is_syn_sent s.phase && nat_lt s.isn s.next) (Some (syn_draft s s)) _
     (λ t. syn_ok s s.next (h.unfinished (syn_sent_open s.phase (and_tells (is_syn_sent s.phase) (nat_lt s.isn s.next) t).0)) h) (λ e1.
     choose P (is_syn_received s.phase && nat_lt s.isn s.next) (Some (syn_ack_draft s s)) _
     (λ t. syn_ack_ok s s.next (h.unfinished (syn_received_open s.phase (and_tells (is_syn_received s.phase) (nat_lt s.isn s.next) t).0)) h) (λ e2.
-    choose P (resends s.phase && nat_lt s.una s.next) _ _
-    (λ t.
-    let one = and_tells (resends s.phase) (nat_lt s.una s.next) t in
-    let sent = lt_is s.una s.next one.1 in
-    choose P (nat_lt s.una (given_end s)) (Some (again_draft s (min (s.next - s.una) (effective pair s)))) (Some (fin_again_draft s))
-    (λ g. again_ok s (min (s.next - s.una) (effective pair s)) (omega arith) (omega arith) h)
-    (λ g. fin_again_ok s one.0 sent (lt_not s.una (given_end s) g) h))
-    (λ e3.
-    choose P (still && nat_lt 0 (unsent s)) (Some (data_draft s 1)) _
-    (λ t. let one = and_tells still (nat_lt 0 (unsent s)) t in let some = lt_is 0 (unsent s) one.1 in data_ok s 1 (omega arith) (omega arith) h)
-    (λ e4.
-    choose P (still && s.closing) (Some (fin_draft s)) None
-    (λ t.
-    let one = and_tells still s.closing t in
-    let two = and_tells (is_sending s.phase && (s.una == s.next)) (s.send_window == 0) one.0 in
-    let three = and_tells (is_sending s.phase) (s.una == s.next) two.0 in
-    let none = lt_not 0 (unsent s) (and_false still (nat_lt 0 (unsent s)) one.0 e4) in
-    fin_ok s three.0 one.1 (omega arith) h)
-    (λ t. tt)))))
+    choose P (resends s.phase && nat_lt s.una s.next) (Some (unacknowledged s most)) _
+    (λ t. let one = and_tells (resends s.phase) (nat_lt s.una s.next) t in unacknowledged_ok s most low one.0 (lt_is s.una s.next one.1) h) (λ e3.
+    choose P (is_blocked s) (probe s) None (λ t. probe_ok s t h) (λ t. tt))))
+
+-- ---- whether there is a draft doesn't depend on the most bytes
+
+same_if : (b : Bool) (x y : Draft) (o p : Option Draft) → is_some o ≡ is_some p → is_some (if b then Some x else o) ≡ is_some (if b then Some y else p)
+same_if true x y o p h = refl
+same_if false x y o p h = h
+
+pub emit_same : (s : EndState) (most : ℕ) → is_some (to_emit s most) ≡ is_some (to_emit s 0)
+unfolding to_emit
+emit_same s most =
+    same_if s.rst_owed _ _ _ _ (same_if (is_syn_sent s.phase && (s.next == s.isn)) _ _ _ _ (same_if (is_syn_received s.phase && (s.next == s.isn)) _ _ _ _
+    (same_if (sends_data s) _ _ _ _ refl)))
+
+pub resend_same : (s : EndState) (most : ℕ) → is_some (to_resend s most) ≡ is_some (to_resend s 0)
+unfolding to_resend
+resend_same s most =
+    same_if (is_syn_sent s.phase && nat_lt s.isn s.next) _ _ _ _ (same_if (is_syn_received s.phase && nat_lt s.isn s.next) _ _ _ _
+    (same_if (resends s.phase && nat_lt s.una s.next) _ _ _ _ refl))

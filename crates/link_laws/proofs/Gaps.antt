@@ -7,10 +7,11 @@ use Rattle.mac_model.specs.Contexts.{context_of}
 use Rattle.key_model.specs.Rows.{Row}
 use Rattle.key_model.specs.Coordination.{Sending, choose}
 use Rattle.key_model.specs.Plans.{has_sendable}
-use Rattle.key_model.proofs.PlanLaws.{choose_none}
+use Rattle.key_model.proofs.SendingLaws.{choose_none}
 use Rattle.endpoint_model.specs.States.{EndState}
-use Rattle.endpoint_model.specs.Emissions.{Draft, Emitted, Quiet, NoKey, Emits, blank, to_emit, to_resend, seal_known, keyed, emitted, emit, resend}
-use Rattle.link_model.specs.Events.{Outcome, WithoutKey, Idle, Nothing, Send, Resend}
+use Rattle.endpoint_model.specs.Emissions.{Draft, Emitted, Quiet, NoKey, Emits, most_bytes, blank, to_emit, to_resend, seal_known, keyed, emitted, emit, resend}
+use Rattle.link_model.specs.Outcomes.{Outcome, WithoutKey, Idle, Nothing}
+use Rattle.link_model.specs.declared.event.Event.TheVariants.{Send, Resend}
 use Rattle.link_model.specs.Worlds.{Setup, pair_of, Session, World, side}
 use Rattle.link_model.specs.Steps.{Act, sent, send, send_again, act_on, step}
 use Rattle.link_model.specs.Laws.{IsCovered}
@@ -24,21 +25,21 @@ known_keyless : (pair : Pair) (s : EndState) (out : Draft) (sending : Sending) (
 known_keyless pair s out sending None is = absurd (cc)
 known_keyless pair s out sending (Some c) is = absurd (cc)
 
-keyed_keyless : (pair : Pair) (s : EndState) (out : Draft) (o : Option Sending) → keyed pair s out o ≡ NoKey → o ≡ None
-keyed_keyless pair s out None is = refl
-keyed_keyless pair s out (Some sending) is = absurd (known_keyless pair s out sending (context_of (blank pair s out sending) (Some s.isn) s.peer_isn) is)
+keyed_keyless : (pair : Pair) (s : EndState) (sending : Sending) (o : Option Draft) → keyed pair s sending o ≡ NoKey → ⊥
+keyed_keyless pair s sending None is = absurd (cc)
+keyed_keyless pair s sending (Some out) is = known_keyless pair s out sending (context_of (blank pair s out sending) (Some s.isn) s.peer_isn) is
 
-emitted_keyless : (rows : List Row) (pair : Pair) (now : ℕ) (s : EndState) (o : Option Draft) → emitted rows pair now s o ≡ NoKey → choose s.current rows pair now ≡ None
-emitted_keyless rows pair now s None is = absurd (cc)
-emitted_keyless rows pair now s (Some out) is = keyed_keyless pair s out (choose s.current rows pair now) is
+emitted_keyless : (pair : Pair) (s : EndState) (draft : ℕ → Option Draft) (o : Option Sending) → emitted pair s draft o ≡ NoKey → o ≡ None
+emitted_keyless pair s draft None is = refl
+emitted_keyless pair s draft (Some sending) is = absurd (keyed_keyless pair s sending (draft (most_bytes pair s sending)) is)
 
 emit_keyless : (rows : List Row) (pair : Pair) (now : ℕ) (s : EndState) → emit rows pair now s ≡ NoKey → choose s.current rows pair now ≡ None
 unfolding emit
-emit_keyless rows pair now s is = emitted_keyless rows pair now s (to_emit pair s) is
+emit_keyless rows pair now s is = emitted_keyless pair s (to_emit s) (choose s.current rows pair now) is
 
 resend_keyless : (rows : List Row) (pair : Pair) (now : ℕ) (s : EndState) → resend rows pair now s ≡ NoKey → choose s.current rows pair now ≡ None
 unfolding resend
-resend_keyless rows pair now s is = emitted_keyless rows pair now s (to_resend pair s) is
+resend_keyless rows pair now s is = emitted_keyless pair s (to_resend s) (choose s.current rows pair now) is
 
 live_keyless : (w : World) (e : End) (sessions : List Session) (call : EndState → Act) → ((s : EndState) → (call s).outcome ≢ WithoutKey) → (act_on w e sessions call).outcome ≢ WithoutKey
 live_keyless w e [] call never is = absurd (cc)

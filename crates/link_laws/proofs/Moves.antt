@@ -3,9 +3,15 @@ use Rattle.std.proofs.Common.{◌≡◌, ℕ, ◌+◌, ◌-◌, ◌%◌, ◌^◌
 use Rattle.ao_base.specs.declared.address.Pair.{Pair}
 use Rattle.segment_model.specs.Meant.{meant}
 use Rattle.segment_model.specs.Segments.{Segment, has, segment_length, ACK, FIN, RST, SYN}
-use Rattle.endpoint_model.specs.States.{Phase, Listen, SynSent, SynReceived, Established, TimeWait, Closed, EndState, window, keep, limit}
-use Rattle.endpoint_model.specs.Arrivals.{Unexpected, Window, Challenge, NoAck, BadAck, TooManyRuns, Reset, Taken, Moved, answered, owing, above, within, fits_window, first_missing, runs, rested, finish, past_fin, pass_fin, fin_of, heard_runs, hear_data, after_own_fin, acked_fin, windowed, acked, go_on, acknowledged, ordinary, opened, syn_alone, syn_ack_alone, after_check}
-use Rattle.link_laws.proofs.Sound.{choose, waits, Sound, Steady, steady_refl, steady_then, PhaseOk, own_ok, past_ok, closed_ok, established_ok, received_ok, answered_ok, with_phase, learns}
+use Rattle.endpoint_model.specs.declared.phase.Phase.{Phase}
+use Rattle.endpoint_model.specs.declared.phase.Phase.TheVariants.{Listen, SynSent, SynReceived, Established, TimeWait, Closed}
+use Rattle.endpoint_model.specs.States.{EndState, window}
+use Rattle.segment_model.specs.Received.{keep, below_limit, first_missing, runs}
+use Rattle.endpoint_model.specs.declared.arrival.Arrival.TheVariants.{Unexpected, Window, Challenge, NoAck, BadAck, TooManyRuns, Reset, Taken}
+use Rattle.endpoint_model.specs.Arrivals.{Moved, answered, owing, above, within, fits_window, rested, finish, past_fin, pass_fin, fin_of, heard_runs, hear_data, after_own_fin, acked_fin, windowed, acked, go_on, acknowledged, ordinary, opened, syn_alone, syn_ack_alone, after_check}
+use Rattle.link_laws.proofs.Tests.{choose, not_false}
+use Rattle.link_laws.proofs.Sound.{waits, Sound, Steady, steady_refl, steady_then, PhaseOk, own_ok, past_ok, closed_ok, established_ok, received_ok, answered_ok, with_phase, learns}
+use Rattle.segment_model.specs.Bytes.{ring}
 
 -- what a segment that passed may do: a steady change; a reset comes of RST alone
 pub record MovedOk (s : EndState) (d : Segment) (r : Moved) : Type 0 where
@@ -60,7 +66,7 @@ heard_ok s t m d n now false h =
 
 hear_ok : (s t : EndState) (d : Segment) (n now : ℕ) (b : Bool) → Steady s t → MovedOk s d (hear_data t d n now b)
 hear_ok s t d n now false h = finish_ok s t d now h
-hear_ok s t d n now true h = heard_ok s t (keep t.received n d.payload t.expected (limit t.fin (t.expected + window t))) d n now _ h
+hear_ok s t d n now true h = heard_ok s t (keep t.received n d.payload t.expected (below_limit t.fin (t.expected + window t))) d n now _ h
 
 windowed_steady : (s : EndState) (old : ℕ) (d : Segment) (k : ℕ) (a : Option ℕ) → Steady s (windowed s old d k a)
 windowed_steady s old d k None = steady_refl s
@@ -126,12 +132,12 @@ after_check_ok pair s c d n now Listen is fits h =
 after_check_ok pair s c d n now SynSent is fits h =
     let t = opened pair (following c s) d n in
     let u : EndState = record t { phase = Established; una = s.isn + 1; wl2 = s.isn + 1; ack_owed = true } in
-    choose (MovedOk s d) (syn_ack_alone d) _ (answered s Unexpected)
-    (λ e. choose (MovedOk s d) (nat_lt s.isn s.next && (d.acknowledgement == (s.isn + 1) % 4294967296)) (answered u Taken) (answered s BadAck)
-    (λ g. taken s d u
-    (learns s n Established (h.unknown (subst (λ p. waits p ≡ true) (sym is) refl)) (fits (syn_of (has SYN d) (has ACK d) (not (has RST d)) (not (has FIN d)) e)) refl (subst (λ p. PhaseOk p Established) (sym is) answered_ok)))
-    (λ g. bad_ack s d s (steady_refl s)))
+    choose (MovedOk s d) (not (syn_ack_alone d)) (answered s Unexpected) _
     (λ e. unexpected s d s (steady_refl s))
+    (λ e. choose (MovedOk s d) (nat_lt s.isn s.next && (d.acknowledgement == (s.isn + 1) % ring)) (answered u Taken) (answered s BadAck)
+    (λ g. taken s d u
+    (learns s n Established (h.unknown (subst (λ p. waits p ≡ true) (sym is) refl)) (fits (syn_of (has SYN d) (has ACK d) (not (has RST d)) (not (has FIN d)) (not_false (syn_ack_alone d) e))) refl (subst (λ p. PhaseOk p Established) (sym is) answered_ok)))
+    (λ g. bad_ack s d s (steady_refl s)))
 after_check_ok pair s c d n now _ is fits h =
     choose (MovedOk s d) (fits_window n (segment_length d) s.expected (window s)) (ordinary s (following c s) d n now) (answered (if has RST d then s else owing s) Window)
     (λ e. ordinary_ok s c d n now)

@@ -6,6 +6,11 @@ use Rattle.ao_base.specs.declared.address.Address.{Address}
 use Rattle.ao_base.specs.declared.address.Address.TheVariants.{V4, V6}
 use Rattle.ao_base.specs.declared.address.Socket.{Socket}
 use Rattle.ao_base.specs.declared.address.Pair.{Pair}
+use Rattle.ao_base.specs.declared.algorithm.Algorithm.{Algorithm}
+use Rattle.ao_base.specs.declared.algorithm.Algorithm.TheVariants.{HmacSha1, AesCmac, HmacSha256}
+use Rattle.ao_base.specs.Algorithms.{mac_length_of}
+use Rattle.std.proofs.lemmas.List.{length-replicate}
+use Rattle.link_model.specs.RowLines.{row_of}
 use Rattle.ao_base.specs.declared.end.End.{End}
 use Rattle.ao_base.specs.declared.end.End.TheVariants.{A, B}
 use Rattle.segment_model.specs.Bytes.{same_bytes}
@@ -15,24 +20,28 @@ use Rattle.segment_model.specs.Spelling.{AreBytes, IsV4, IsV6, FitsIp}
 use Rattle.segment_model.proofs.Fields.{and_tells, some_is, same_bytes_tells}
 use Rattle.mac_model.specs.Contexts.{context, context_of_syn, context_of_later, context_of}
 use Rattle.mac_model.specs.MacInput.{mac_input}
+use Rattle.mac_model.specs.Keys.{same_algorithm}
 use Rattle.mac_model.specs.Meaning.{SameFamily, Numbered}
 use Rattle.mac_model.proofs.Ids.{equal_inputs_equal_meaning}
 use Rattle.mac_model.proofs.Telling.{context_law}
 use Rattle.key_model.specs.Tables.{Adding, AddedAs, TooMany, OverlapsRow, adding, withdrawn}
 use Rattle.key_model.specs.Rows.{Row}
 use Rattle.endpoint_model.specs.States.{EndState, gives, room, give}
-use Rattle.endpoint_model.specs.Verdicts.{key_of, same_key, Passed}
+use Rattle.endpoint_model.specs.Verdicts.{Key, key_of, same_key, Finding}
 use Rattle.endpoint_model.specs.Arrivals.{arrive}
-use Rattle.endpoint_model.specs.Emissions.{Emitted, Quiet, NoKey, Emits, sets, own_ao, emit, resend}
-use Rattle.link_laws.proofs.Sound.{choose, Sound}
+use Rattle.endpoint_model.specs.Emissions.{Emitted, Quiet, NoKey, Emits, sets, no_mac, own_ao, emit, resend}
+use Rattle.link_laws.proofs.Tests.{choose}
+use Rattle.link_laws.proofs.Sound.{Sound}
 use Rattle.link_laws.proofs.Whole.{Whole}
 use Rattle.link_laws.proofs.Written.{area_ao}
 use Rattle.link_model.specs.Alterations.{has_place, altered}
-use Rattle.link_model.specs.Events.{Event, Clock, Connect, Await, Start, Give, Fill, Send, Resend, Deliver, Inject, Alter, Take, Close, Abort, AddRow, Withdraw, Dump, Outcome, Idle, Nothing, HasClosed, Full, Done, NoPlace}
-use Rattle.link_model.specs.Worlds.{other, same_end, Setup, pair_of, Session, Side, Made, Came, Happening, Sending, Coming, World, side, find, live, is_known, known_by, partner_among, partner, accounts_for, was_made, forged, forgeries, segment_named}
+use Rattle.link_model.specs.declared.event.Event.{Event}
+use Rattle.link_model.specs.declared.event.Event.TheVariants.{Clock, Connect, Listen as Await, Start, Give, Fill, Send, Resend, Deliver, Inject, Alter, Take, Close, Abort, AddRow, Withdraw, Dump}
+use Rattle.link_model.specs.Outcomes.{Outcome, Idle, Nothing, HasClosed, Full, Done, NoPlace}
+use Rattle.link_model.specs.Worlds.{other, same_end, Setup, pair_of, Session, Side, Made, Came, Happening, Making, Coming, World, side, find, live, is_known, known_by, partner_among, partner, accounts_for, was_made, forged, forgeries, segment_named}
 use Rattle.link_model.specs.Steps.{Act, add, put, with_rows, with_clock, act_on, on_live, quietly, begin, given, sent, send, send_again, come, took, deliver, alter, add_row, withdraw, step}
 use Rattle.link_model.specs.Laws.{SetupFits, EventFits, IsAmong, Repeats, FromPartner, Arrives, HasOrigin, ResetsByAbort}
-use Rattle.link_laws.proofs.Invariant.{MadeBy, MadeOk, AllMadeOk, AllSound, AllWhole, Inv, blank_in, blank_fits}
+use Rattle.link_laws.proofs.Invariant.{live_sound, live_whole, MadeBy, MadeOk, AllMadeOk, AllSound, AllWhole, Inv, blank_in, blank_fits}
 use Rattle.link_laws.proofs.Arriving.{Passing, ArrivedOk, arrive_ok}
 use Rattle.link_laws.proofs.Running.{named_bytes, altered_bytes}
 
@@ -48,7 +57,7 @@ record CameBy (setup : Setup) (w : World) (r : Came) : Type 0 where
 
 abbrev NotComing : Option Happening → Type 0
 NotComing None = ⊤
-NotComing (Some (Sending m)) = ⊤
+NotComing (Some (Making m)) = ⊤
 NotComing (Some (Coming r)) = ⊥
 
 longer : (h : Happening) (past : List Happening) → past ≡ h ∷ past → ⊥
@@ -56,7 +65,7 @@ longer h past e = let len : length past ≡ suc (length past) = ap (λ (l : List
 
 not_coming : (h : Option Happening) (past : List Happening) (r : Came) → NotComing h → add h past ≡ Coming r ∷ past → ⊥
 not_coming None past r no_one e = longer (Coming r) past e
-not_coming (Some (Sending m)) past r no_one e = absurd (cc)
+not_coming (Some (Making m)) past r no_one e = absurd (cc)
 not_coming (Some (Coming k)) past r no_one e = absurd no_one
 
 put_history : (w : World) (e : End) (now : Side) (h : Option Happening) → (put w e now h).history ≡ add h w.history
@@ -136,27 +145,27 @@ module _ (setup : Setup) (fits : SetupFits setup) where
   came_by w (Take e count) r f inv is = absurd (live_quiet w e (side w e).sessions (took count) r (λ s. tt) is)
   came_by w (Close e) r f inv is = absurd (live_quiet w e (side w e).sessions _ r (λ s. tt) is)
   came_by w (Abort e) r f inv is = absurd (live_quiet w e (side w e).sessions _ r (λ s. tt) is)
-  came_by w (AddRow e row) r f inv is = absurd (add_quiet w e (adding (side w e).rows row) r is)
+  came_by w (AddRow e row) r f inv is = absurd (add_quiet w e (adding (side w e).rows (row_of row)) r is)
   came_by w (Withdraw e n) r f inv is = absurd (withdraw_quiet w e (withdrawn (side w e).rows n) r is)
   came_by w (Dump name) r f inv is = absurd (longer (Coming r) w.history is)
 
 -- ---- the entry that accounts for what passed
 
-pub record Found (setup : Setup) (w : World) (at : End) (p : Passed) (past : List Happening) : Type 0 where
+pub record Found (setup : Setup) (w : World) (at : End) (p : Finding) (past : List Happening) : Type 0 where
   made : Made
   among : IsAmong made past
   accounts : accounts_for at p made ≡ true
   ok : MadeOk setup (side w made.maker).sessions made
 
-found_or : (setup : Setup) (w : World) (at : End) (p : Passed) (m : Made) (past : List Happening) (b c : Bool) → accounts_for at p m ≡ b → MadeOk setup (side w m.maker).sessions m
-    → (c ≡ true → Found setup w at p past) → (b || c) ≡ true → Found setup w at p (Sending m ∷ past)
+found_or : (setup : Setup) (w : World) (at : End) (p : Finding) (m : Made) (past : List Happening) (b c : Bool) → accounts_for at p m ≡ b → MadeOk setup (side w m.maker).sessions m
+    → (c ≡ true → Found setup w at p past) → (b || c) ≡ true → Found setup w at p (Making m ∷ past)
 found_or setup w at p m past true c says h more f = record { made = m; among = inl refl; accounts = says; ok = h }
 found_or setup w at p m past false c says h more f = let k = more f in record { made = k.made; among = inr k.among; accounts = k.accounts; ok = k.ok }
 
-pub found_made : (setup : Setup) (w : World) (at : End) (p : Passed) (past : List Happening) → was_made at p past ≡ true → AllMadeOk setup w past → Found setup w at p past
+pub found_made : (setup : Setup) (w : World) (at : End) (p : Finding) (past : List Happening) → was_made at p past ≡ true → AllMadeOk setup w past → Found setup w at p past
 found_made setup w at p [] e h = absurd (cc)
 found_made setup w at p (Coming r ∷ past) e h = let k = found_made setup w at p past e h in record { made = k.made; among = k.among; accounts = k.accounts; ok = k.ok }
-found_made setup w at p (Sending m ∷ past) e h = found_or setup w at p m past (accounts_for at p m) (was_made at p past) refl h.0 (λ f. found_made setup w at p past f h.1) e
+found_made setup w at p (Making m ∷ past) e h = found_or setup w at p m past (accounts_for at p m) (was_made at p past) refl h.0 (λ f. found_made setup w at p past f h.1) e
 
 maker_is : (maker end : End) → same_end maker end ≡ true → maker ≡ end
 maker_is A A e = refl
@@ -168,9 +177,24 @@ unforged : (b : Bool) → ◌≡◌ {A = ℕ} (if b then 0 else 1) 0 → b ≡ t
 unforged true e = refl
 unforged false e = absurd (cc)
 
-pub none_forged : (at : End) (o : Option Passed) (p : Passed) (past : List Happening) → o ≡ Some p → forged at o past ≡ 0 → was_made at p past ≡ true
+pub none_forged : (at : End) (o : Option Finding) (p : Finding) (past : List Happening) → o ≡ Some p → forged at o past ≡ 0 → was_made at p past ≡ true
 none_forged at None p past e z = absurd (cc)
-none_forged at (Some q) p past e z = subst (λ (x : Passed). was_made at x past ≡ true) (some_is q p e) (unforged (was_made at q past) z)
+none_forged at (Some q) p past e z = subst (λ (x : Finding). was_made at x past ≡ true) (some_is q p e) (unforged (was_made at q past) z)
+
+-- the same key is of the same algorithm
+same_algorithm_tells : (a b : Algorithm) → same_algorithm a b ≡ true → a ≡ b
+same_algorithm_tells HmacSha1 HmacSha1 e = refl
+same_algorithm_tells AesCmac AesCmac e = refl
+same_algorithm_tells HmacSha256 HmacSha256 e = refl
+same_algorithm_tells HmacSha1 AesCmac e = absurd (cc)
+same_algorithm_tells HmacSha1 HmacSha256 e = absurd (cc)
+same_algorithm_tells AesCmac HmacSha1 e = absurd (cc)
+same_algorithm_tells AesCmac HmacSha256 e = absurd (cc)
+same_algorithm_tells HmacSha256 HmacSha1 e = absurd (cc)
+same_algorithm_tells HmacSha256 AesCmac e = absurd (cc)
+
+same_key_algorithm : (k l : Key) → same_key k l ≡ true → k.algorithm ≡ l.algorithm
+same_key_algorithm k l e = same_algorithm_tells k.algorithm l.algorithm (and_tells (same_algorithm k.algorithm l.algorithm) (same_bytes k.master l.master) e).0
 
 -- ---- the family
 
@@ -234,7 +258,7 @@ pub record Origin (setup : Setup) (w : World) (at : End) (s : EndState) (n : ℕ
 is_partner : (setup : Setup) (w : World) (at : End) (s : EndState) (n : ℕ) (d : Segment) (ao : Ao) (o : Origin setup w at s n d ao) → has SYN d ≡ false → partner w at s ≡ Some o.session
 is_partner setup w at s n d ao o plain = let l = o.linked plain in partner_is (side w (other at)).sessions s.isn s.peer_isn l.0 o.session l.1 l.2 l.3
 
-pub origin_of : (setup : Setup) (w : World) (at : End) (s : EndState) (bytes : List ℕ) (p : Passed) → SetupFits setup → Sound s → (g : Passing (pair_of setup at) s bytes p) → Found setup w at p w.history
+pub origin_of : (setup : Setup) (w : World) (at : End) (s : EndState) (bytes : List ℕ) (p : Finding) → SetupFits setup → Sound s → (g : Passing (pair_of setup at) s bytes p) → Found setup w at p w.history
     → Origin setup w at s p.number g.segment g.judged.ao
 origin_of setup w at s bytes p fits sound g f =
     let m = f.made in
@@ -254,15 +278,17 @@ origin_of setup w at s bytes p fits sound g f =
     let source : there.local ≡ d.source = ap (λ (k : Pair). k.local) there_is ∙ turn.0 ∙ sym g.source in
     let destination : there.remote ≡ d.destination = ap (λ (k : Pair). k.remote) there_is ∙ turn.1 ∙ sym g.destination in
     let b = blank_in setup t.state m h in
-    let zero12 : List ℕ = replicate 12 0 in
-    let own = own_ao h.draft h.sending zero12 in
+    let zero_mac : List ℕ = no_mac h.sending in
+    let own = own_ao h.draft h.sending zero_mac in
     let small = h.drafted.small in
     let ours : Numbered h.draft.number b own =
-    record { fits = blank_fits setup t.state m h fits; option = area_ao there (sets h.draft.flags 2) h.sending zero12 refl; number = omega arith; sequence = refl } in
+    record { fits = blank_fits setup t.state m h fits; option = area_ao there (sets h.draft.flags SYN) h.sending zero_mac; number = omega arith; sequence = refl } in
     let theirs : Numbered p.number d j.ao = record { fits = g.fits; option = j.option; number = j.small; sequence = j.number.0 } in
     let family = family_met b.ip d.ip b d ours.fits.ip g.fits.ip (ap (λ (k : Socket). k.address) source) in
     let input : e.input ≡ mac_input h.draft.number b own h.sending.row.with_options = ap (λ x. x.input) h.emission in
-    let same = equal_inputs_equal_meaning h.draft.number p.number b d own j.ao h.sending.row.with_options j.flag ours theirs family (sym j.mac_long)
+    let algorithm : h.sending.row.algorithm ≡ p.key.algorithm = ap (λ x. x.sending.row.algorithm) (sym h.emission) ∙ same_key_algorithm (key_of e.sending.row) p.key three.1 in
+    let long : length zero_mac ≡ length j.ao.mac = length-replicate (mac_length_of h.sending.row.algorithm) 0 ∙ ap mac_length_of algorithm ∙ sym j.mac_long in
+    let same = equal_inputs_equal_meaning h.draft.number p.number b d own j.ao h.sending.row.with_options j.flag ours theirs family long
     (sym input ∙ same_bytes_tells e.input p.input one.1 ∙ j.input) in
     let segment : e.segment.flags ≡ b.flags = ap (λ x. x.segment.flags) h.emission in
     record {
@@ -289,11 +315,11 @@ origin_of setup w at s bytes p fits sound g f =
           let equal : context d.source d.destination told.0 told.1 ≡ context d.source d.destination mine.0 mine.1 =
           ap (λ (k : Socket). context k d.destination told.0 told.1) (sym source) ∙ ap (λ (k : Socket). context there.local k told.0 told.1) (sym destination)
           ∙ sym told.4 ∙ sym c ∙ same_bytes_tells e.context p.context two.1 ∙ mine.4 in
-          let iss_is : h.state.isn ≡ told.0 = some_is h.state.isn told.0 told.2 in
+          let isn_is : h.state.isn ≡ told.0 = some_is h.state.isn told.0 told.2 in
           let own_is : s.isn ≡ mine.1 = some_is s.isn mine.1 mine.3 in
-          let iss_low = h.sound.iss_fits in
-          let own_low = sound.iss_fits in
-          let isns = context_law d.source d.destination told.0 told.1 mine.0 mine.1 (omega arith) (h.sound.irs_fits told.1 told.3) (sound.irs_fits mine.0 mine.2) (omega arith) equal in
+          let isn_low = h.sound.isn_fits in
+          let own_low = sound.isn_fits in
+          let isns = context_law d.source d.destination told.0 told.1 mine.0 mine.1 (omega arith) (h.sound.peer_isn_fits told.1 told.3) (sound.peer_isn_fits mine.0 mine.2) (omega arith) equal in
           let i = isns.0 in
           let k = isns.1 in
           let isn = h.isn in
@@ -309,14 +335,6 @@ origin_of setup w at s bytes p fits sound g f =
 session_is : (a b : Session) → Some a ≡ Some b → a ≡ b
 session_is a b e = cc
 
-live_sound : (sessions : List Session) (r : Session) → live sessions ≡ Some r → AllSound sessions → Sound r.state
-live_sound [] r lives h = absurd (cc)
-live_sound (s ∷ rest) r lives h = subst (λ (x : Session). Sound x.state) (some_is s r lives) h.0
-
-live_whole : (sessions : List Session) (r : Session) → live sessions ≡ Some r → AllWhole sessions → Whole r.state
-live_whole [] r lives h = absurd (cc)
-live_whole (s ∷ rest) r lives h = subst (λ (x : Session). Whole x.state) (some_is s r lives) h.0
-
 segment_is : (d e : Segment) → Read d ≡ Read e → d ≡ e
 segment_is d e is = cc
 
@@ -326,7 +344,7 @@ record Came0 (setup : Setup) (w : World) (r : Came) (s : Session) : Type 0 where
   answer : r.answer ≡ (arrive (side w r.at).rows (pair_of setup r.at) (side w r.at).clock s.state (reading r.bytes)).answer
   passed : r.passed ≡ (arrive (side w r.at).rows (pair_of setup r.at) (side w r.at).clock s.state (reading r.bytes)).passed
   sound : Sound s.state
-  origin : (p : Passed) → r.passed ≡ Some p → (g : Passing (pair_of setup r.at) s.state r.bytes p) → Origin setup w r.at s.state p.number g.segment g.judged.ao
+  origin : (p : Finding) → r.passed ≡ Some p → (g : Passing (pair_of setup r.at) s.state r.bytes p) → Origin setup w r.at s.state p.number g.segment g.judged.ao
 
 came0 : (setup : Setup) → SetupFits setup → (w : World) (event : Event) → EventFits event → Inv setup w → forgeries (step setup w event).world.history ≡ 0 → (r : Came) (a : Arrives setup w event r)
     → Came0 setup w r a.session
@@ -362,7 +380,7 @@ has_origin setup fits w event f inv none r a p d is reads plain =
       made = o.made;
       among = o.among;
       maker = o.maker;
-      isn = sym (o.by.later.isn ∙ o.by.isn);
+      isn = sym (o.by.later.same_isn ∙ o.by.isn);
       repeats = o.repeats;
     } in (
       g.judged.ao,
@@ -378,7 +396,7 @@ resets_by_abort setup fits w event f inv none r a is =
     let g = c.arrived.passing p z.1 in
     let o = c.origin p (c.passed ∙ z.1) g in
     let rst : has RST g.segment ≡ true = z.2 g.segment g.reads in
-    let made_rst : sets o.by.draft.flags 4 ≡ true = ap (λ (k : ℕ). (k / 4) % 2 == 1) o.flags ∙ rst in
-    let stop = o.by.drafted.rst_owed made_rst in
+    let made_rst : sets o.by.draft.flags RST ≡ true = ap (λ (k : ℕ). (k / 4) % 2 == 1) o.flags ∙ rst in
+    let stop = o.by.drafted.rst made_rst in
     let plain : has SYN g.segment ≡ false = ap (λ (k : ℕ). (k / 2) % 2 == 1) (sym o.flags) ∙ stop.1 in
     record { session = o.session; is_partner = is_partner setup w r.at a.session.state p.number g.segment g.judged.ao o plain; aborted = o.by.later.stopped stop.0 }

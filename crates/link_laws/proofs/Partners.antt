@@ -4,14 +4,13 @@ use Rattle.std.specs.List.{AllByRecursion}
 use Rattle.std.proofs.lemmas.Bool.Decides.{nat_tests}
 use Rattle.segment_model.proofs.Fields.{eqb_is, some_is}
 use Rattle.endpoint_model.specs.States.{EndState}
-use Rattle.link_model.specs.Events.{Event}
+use Rattle.link_model.specs.declared.event.Event.{Event}
 use Rattle.link_model.specs.Headline.{ArePartners, OnePartner, PartnerIsOne}
 use Rattle.link_model.specs.Laws.{SetupFits, EventFits}
 use Rattle.link_model.specs.Runs.{run}
 use Rattle.link_model.specs.Worlds.{other, Setup, Session, World, side, find, is_known, known_by, partner_among}
 use Rattle.link_laws.proofs.Invariant.{Distinct}
-use Rattle.link_laws.proofs.Keeping.{find_own}
-use Rattle.link_laws.proofs.Delivery.{find_isn}
+use Rattle.link_laws.proofs.Keeping.{find_own, find_isn}
 use Rattle.link_laws.proofs.Running.{run_inv}
 
 -- each session is the one that is found by its number

@@ -1,14 +1,11 @@
 -- What holds of one state, what only grows, and what an arrival keeps.
-use Rattle.std.proofs.Common.{◌≡◌, ℕ, ◌+◌, ◌^◌, ◌<◌, ◌≤◌, Bool, true, false, List, [], ◌++◌, length, Option, Some, None, if◌then◌else◌, refl, sym, ap, ◌∙◌, subst, arith, append-nil, append_assoc}
+use Rattle.std.proofs.Common.{◌≡◌, ℕ, ◌+◌, ◌^◌, ◌<◌, ◌≤◌, Bool, true, false, List, [], ◌++◌, length, Option, Some, None, refl, sym, ap, ◌∙◌, subst, arith, append-nil, append_assoc}
 use Rattle.segment_model.specs.Spelling.{AreBytes}
 use Rattle.segment_model.proofs.Fields.{some_is}
-use Rattle.endpoint_model.specs.States.{Phase, Listen, SynSent, SynReceived, Established, FinWait1, FinWait2, CloseWait, Closing, LastAck, TimeWait, Closed, EndState}
+use Rattle.endpoint_model.specs.declared.phase.Phase.{Phase}
+use Rattle.endpoint_model.specs.declared.phase.Phase.TheVariants.{Listen, SynSent, SynReceived, Established, FinWait1, FinWait2, CloseWait, Closing, LastAck, TimeWait, Closed}
+use Rattle.endpoint_model.specs.States.{EndState}
 use Rattle.endpoint_model.specs.Arrivals.{past_fin, after_own_fin}
-
--- by cases on a test
-pub choose : {X : Type 0} (P : X → Type 0) (b : Bool) (t u : X) → (b ≡ true → P t) → (b ≡ false → P u) → P (if b then t else u)
-choose P true t u one two = one refl
-choose P false t u one two = two refl
 
 -- the own FIN was made, or the end is closed
 abbrev pub fin_gone : Phase → Bool
@@ -37,8 +34,8 @@ waits _ = false
 
 -- what holds of one state, of the fields that it speaks of alone, so that a change of another one keeps it as it stands
 pub record SoundOf (phase : Phase) (isn : ℕ) (peer_isn : Option ℕ) (next : ℕ) (given : List ℕ) (closing aborted rst : Bool) : Type 0 where
-  pub iss_fits : isn < 2 ^ 32
-  pub irs_fits : (q : ℕ) → peer_isn ≡ Some q → q < 2 ^ 32
+  pub isn_fits : isn < 2 ^ 32
+  pub peer_isn_fits : (q : ℕ) → peer_isn ≡ Some q → q < 2 ^ 32
   pub few : isn + 1 + length given < 2 ^ 63
   pub bytes : AreBytes given
   pub next_high : next ≤ isn + 2 + length given
@@ -51,37 +48,52 @@ abbrev pub Sound : EndState → Type 0
 Sound s = SoundOf s.phase s.isn s.peer_isn s.next s.given s.closing s.aborted s.rst_owed
 
 -- what a session keeps, whatever comes
-pub record LaterOf (isn new_iss : ℕ) (peer_isn new_irs : Option ℕ) (given new_given : List ℕ) (closing new_closing aborted new_aborted : Bool) (x new_x : ℕ) : Type 0 where
-  pub isn : new_iss ≡ isn
-  pub peer : (q : ℕ) → peer_isn ≡ Some q → new_irs ≡ Some q
+pub record LaterOf (isn new_isn : ℕ) (peer_isn new_peer : Option ℕ) (given new_given taken new_taken : List ℕ) (closing new_closing aborted new_aborted : Bool) (fin new_fin : Option ℕ) (x new_x : ℕ) : Type 0 where
+  pub same_isn : new_isn ≡ isn
+  pub peer : (q : ℕ) → peer_isn ≡ Some q → new_peer ≡ Some q
   pub grown : (rest : List ℕ) × (new_given ≡ given ++ rest)
+  pub took : length taken ≤ length new_taken
   pub closed : closing ≡ true → (new_closing ≡ true) × (new_given ≡ given)
   pub stopped : aborted ≡ true → new_aborted ≡ true
+  pub ended : (f : ℕ) → fin ≡ Some f → new_fin ≡ Some f
   pub up : x ≤ new_x
 
 abbrev pub Later : EndState → EndState → Type 0
-Later s t = LaterOf s.isn t.isn s.peer_isn t.peer_isn s.given t.given s.closing t.closing s.aborted t.aborted s.expected t.expected
+Later s t =
+    LaterOf s.isn t.isn s.peer_isn t.peer_isn s.given t.given s.taken t.taken s.closing t.closing s.aborted t.aborted s.fin t.fin s.expected t.expected
 
 pub later_refl : (s : EndState) → Later s s
-later_refl s = record { isn = refl; peer = λ q e. e; grown = ([], sym (append-nil s.given)); closed = λ e. (e, refl); stopped = λ e. e; up = omega arith }
+later_refl s =
+    record {
+      same_isn = refl;
+      peer = λ q e. e;
+      grown = ([], sym (append-nil s.given));
+      took = omega arith;
+      closed = λ e. (e, refl);
+      stopped = λ e. e;
+      ended = λ f e. e;
+      up = omega arith;
+    }
 
 pub later_then : (s t u : EndState) → Later s t → Later t u → Later s u
 later_then s t u a b =
     record {
-      isn = b.isn ∙ a.isn;
+      same_isn = b.same_isn ∙ a.same_isn;
       peer = λ q e. b.peer q (a.peer q e);
       grown = (a.grown.0 ++ b.grown.0, b.grown.1 ∙ ap (λ (l : List ℕ). l ++ b.grown.0) a.grown.1 ∙ append_assoc s.given a.grown.0 b.grown.0);
+      took = (let one = a.took in let two = b.took in omega arith);
       closed = λ e. let one = a.closed e in let two = b.closed one.0 in (two.0, two.1 ∙ one.1);
       stopped = λ e. b.stopped (a.stopped e);
+      ended = λ f e. b.ended f (a.ended f e);
       up = (let one = a.up in let two = b.up in omega arith);
     }
 
 -- a change that an arrival may make, in the fields that Sound speaks of
-pub record SteadyOf (phase new_phase : Phase) (isn new_iss : ℕ) (peer_isn new_irs : Option ℕ) (next new_next : ℕ) (given new_given : List ℕ) (closing new_closing aborted new_aborted rst new_rst : Bool) : Type 0 where
-  pub isn : new_iss ≡ isn
-  pub peer : (q : ℕ) → peer_isn ≡ Some q → new_irs ≡ Some q
-  pub peer_fits : ((q : ℕ) → peer_isn ≡ Some q → q < 2 ^ 32) → (q : ℕ) → new_irs ≡ Some q → q < 2 ^ 32
-  pub waiting : waits new_phase ≡ true → (waits phase ≡ true) × (new_irs ≡ peer_isn)
+pub record SteadyOf (phase new_phase : Phase) (isn new_isn : ℕ) (peer_isn new_peer : Option ℕ) (next new_next : ℕ) (given new_given : List ℕ) (closing new_closing aborted new_aborted rst new_rst : Bool) : Type 0 where
+  pub same_isn : new_isn ≡ isn
+  pub peer : (q : ℕ) → peer_isn ≡ Some q → new_peer ≡ Some q
+  pub peer_fits : ((q : ℕ) → peer_isn ≡ Some q → q < 2 ^ 32) → (q : ℕ) → new_peer ≡ Some q → q < 2 ^ 32
+  pub waiting : waits new_phase ≡ true → (waits phase ≡ true) × (new_peer ≡ peer_isn)
   pub finished : fin_gone new_phase ≡ false → fin_gone phase ≡ false
   pub made : fin_made new_phase ≡ true → fin_made phase ≡ true
   pub same_next : new_next ≡ next
@@ -96,7 +108,7 @@ Steady s t = SteadyOf s.phase t.phase s.isn t.isn s.peer_isn t.peer_isn s.next t
 pub steady_refl : (s : EndState) → Steady s s
 steady_refl s =
     record {
-      isn = refl;
+      same_isn = refl;
       peer = λ q e. e;
       peer_fits = λ h. h;
       waiting = λ e. (e, refl);
@@ -112,7 +124,7 @@ steady_refl s =
 pub steady_then : (s t u : EndState) → Steady s t → Steady t u → Steady s u
 steady_then s t u a b =
     record {
-      isn = b.isn ∙ a.isn;
+      same_isn = b.same_isn ∙ a.same_isn;
       peer = λ q e. b.peer q (a.peer q e);
       peer_fits = λ h. b.peer_fits (a.peer_fits h);
       waiting = λ e. let two = b.waiting e in let one = a.waiting two.0 in (one.0, two.1 ∙ one.1);
@@ -125,28 +137,31 @@ steady_then s t u a b =
       same_rst = b.same_rst ∙ a.same_rst;
     }
 
-pub steady_later : (s t : EndState) → s.expected ≤ t.expected → Steady s t → Later s t
-steady_later s t up h =
+-- a steady change that takes nothing back of the receiving half
+pub steady_later : (s t : EndState) → length s.taken ≤ length t.taken → ((f : ℕ) → s.fin ≡ Some f → t.fin ≡ Some f) → s.expected ≤ t.expected → Steady s t → Later s t
+steady_later s t took ended up h =
     record {
-      isn = h.isn;
+      same_isn = h.same_isn;
       peer = h.peer;
       grown = ([], h.same_given ∙ sym (append-nil s.given));
+      took = took;
       closed = λ e. (h.same_closing ∙ e, h.same_given);
       stopped = λ e. h.same_aborted ∙ e;
+      ended = ended;
       up = up;
     }
 
 pub steady_sound : (s t : EndState) → Steady s t → Sound s → Sound t
 steady_sound s t h g =
-    let isn = h.isn in
+    let isn = h.same_isn in
     let next = h.same_next in
     let long : length t.given ≡ length s.given = ap length h.same_given in
-    let iss_fits = g.iss_fits in
+    let isn_fits = g.isn_fits in
     let few = g.few in
     let next_high = g.next_high in
     record {
-      iss_fits = omega arith;
-      irs_fits = h.peer_fits g.irs_fits;
+      isn_fits = omega arith;
+      peer_isn_fits = h.peer_fits g.peer_isn_fits;
       few = omega arith;
       bytes = subst AreBytes (sym h.same_given) g.bytes;
       next_high = omega arith;
@@ -207,7 +222,7 @@ answered_ok = record { waiting = λ e. absurd (cc); finished = λ e. refl; made 
 pub with_phase : (s : EndState) (new : Phase) → PhaseOk s.phase new → Steady s (record s { phase = new })
 with_phase s new ok =
     record {
-      isn = refl;
+      same_isn = refl;
       peer = λ q e. e;
       peer_fits = λ h. h;
       waiting = λ e. (ok.waiting e, refl);
@@ -224,7 +239,7 @@ with_phase s new ok =
 pub learns : (s : EndState) (n : ℕ) (new : Phase) → s.peer_isn ≡ None → n < 2 ^ 32 → waits new ≡ false → PhaseOk s.phase new → Steady s (record s { peer_isn = Some n; phase = new })
 learns s n new none fits told ok =
     record {
-      isn = refl;
+      same_isn = refl;
       peer = λ q e. absurd (cc);
       peer_fits = λ h q e. subst (λ k. k < 2 ^ 32) (some_is n q e) fits;
       waiting = λ e. absurd (cc);

@@ -3,8 +3,8 @@ use Rattle.std.proofs.Common.{◌≡◌, ℕ, zero, suc, ◌+◌, ◌-◌, ◌<�
 use Rattle.std.specs.Prelude.{is_some}
 use Rattle.std.proofs.lemmas.Bool.Decides.{nat_tests}
 use Rattle.segment_model.proofs.Fields.{and_tells, le_is, lt_is, some_is}
-use Rattle.endpoint_model.specs.States.{first, limit, bytes_from, first_known, keep}
-use Rattle.endpoint_model.specs.Arrivals.{first_missing, runs}
+use Rattle.endpoint_model.specs.States.{first}
+use Rattle.segment_model.specs.Received.{below_limit, bytes_from, first_known, keep, first_missing, runs}
 use Rattle.link_laws.proofs.Lists.{same-bytes_from}
 
 pub or_lt : (p x : ℕ) → (p < x) ⊎ (x ≤ p)
@@ -32,12 +32,12 @@ keep-old m n payload low high p b e = rw e
 
 -- what holds of the bytes that a session received, of its fin, and of a position x up to which they stand in order
 pub record Stream (peer_isn : Option ℕ) (taken : List ℕ) (m : ℕ → Option ℕ) (fin : Option ℕ) (x : ℕ) : Type 0 where
-  pub begun : first peer_isn + length taken ≤ limit fin x
+  pub begun : first peer_isn + length taken ≤ below_limit fin x
   pub took : taken ≡ bytes_from m (first peer_isn) (length taken)
-  pub filled : (p : ℕ) → first peer_isn ≤ p → p < limit fin x → (b : ℕ) × (m p ≡ Some b)
+  pub filled : (p : ℕ) → first peer_isn ≤ p → p < below_limit fin x → (b : ℕ) × (m p ≡ Some b)
   pub low : (p b : ℕ) → m p ≡ Some b → first peer_isn ≤ p
   pub high : (p b : ℕ) → m p ≡ Some b → p < first peer_isn + length taken + 65535
-  pub room : limit fin x ≤ first peer_isn + length taken + 65535
+  pub room : below_limit fin x ≤ first peer_isn + length taken + 65535
   pub fin_high : (f : ℕ) → fin ≡ Some f → x ≤ f + 1
   pub fin_low : (f : ℕ) → fin ≡ Some f → first peer_isn ≤ f
   pub fin_none : (f p : ℕ) → fin ≡ Some f → f ≤ p → m p ≡ None
@@ -106,7 +106,7 @@ runs_none m p (suc k) i e low high =
 
 -- the room for bytes
 abbrev pub room_of : Option ℕ → List ℕ → Option ℕ → ℕ → ℕ
-room_of peer_isn taken fin x = 65535 - (limit fin x - (first peer_isn + length taken))
+room_of peer_isn taken fin x = 65535 - (below_limit fin x - (first peer_isn + length taken))
 
 between : (low high n p : ℕ) → (nat_le low p && nat_lt p high && nat_le n p) ≡ true → (low ≤ p) × (p < high) × (n ≤ p)
 between low high n p e =
@@ -127,27 +127,27 @@ pub not_some : (o : Option ℕ) → ((b : ℕ) → o ≡ Some b → ⊥) → o �
 not_some None h = refl
 not_some (Some b) h = absurd (h b refl)
 
-limit_le : (fin : Option ℕ) (x : ℕ) → limit fin x ≤ x
+limit_le : (fin : Option ℕ) (x : ℕ) → below_limit fin x ≤ x
 limit_le None x = omega arith
 limit_le (Some f) x = omega arith
 
-below_limit : (fin : Option ℕ) (f x p : ℕ) → fin ≡ Some f → p < limit fin x → p < f
-below_limit fin f x p e h = let g : p < limit (Some f) x = subst (λ (o : Option ℕ). p < limit o x) e h in omega arith
+under_limit : (fin : Option ℕ) (f x p : ℕ) → fin ≡ Some f → p < below_limit fin x → p < f
+under_limit fin f x p e h = let g : p < below_limit (Some f) x = subst (λ (o : Option ℕ). p < below_limit o x) e h in omega arith
 
 -- positions that are kept lie where there is room
-keep_high : (fin : Option ℕ) (start x p : ℕ) → start ≤ limit fin x → limit fin x ≤ start + 65535 → ((f : ℕ) → fin ≡ Some f → x ≤ f + 1)
-    → x ≤ p → p < limit fin (x + (65535 - (limit fin x - start))) → p < start + 65535
+keep_high : (fin : Option ℕ) (start x p : ℕ) → start ≤ below_limit fin x → below_limit fin x ≤ start + 65535 → ((f : ℕ) → fin ≡ Some f → x ≤ f + 1)
+    → x ≤ p → p < below_limit fin (x + (65535 - (below_limit fin x - start))) → p < start + 65535
 keep_high None start x p a b c low high = omega arith
 keep_high (Some f) start x p a b c low high = let h = c f refl in omega arith
 
 pub kept : (q : ℕ) (taken : List ℕ) (m : ℕ → Option ℕ) (fin : Option ℕ) (x n : ℕ) (payload : List ℕ) → Stream (Some q) taken m fin x
-    → Stream (Some q) taken (keep m n payload x (limit fin (x + room_of (Some q) taken fin x))) fin x
+    → Stream (Some q) taken (keep m n payload x (below_limit fin (x + room_of (Some q) taken fin x))) fin x
 kept q taken m fin x n payload h =
-    let top = limit fin (x + room_of (Some q) taken fin x) in
+    let top = below_limit fin (x + room_of (Some q) taken fin x) in
     let new = keep m n payload x top in
     let begun = h.begun in
     let le = limit_le fin x in
-    let old : (p : ℕ) → q + 1 ≤ p → p < limit fin x → (b : ℕ) × (m p ≡ Some b) × (new p ≡ Some b) =
+    let old : (p : ℕ) → q + 1 ≤ p → p < below_limit fin x → (b : ℕ) × (m p ≡ Some b) × (new p ≡ Some b) =
     λ p low high. let f = h.filled p low high in (f.0, f.1, keep-old m n payload x top p f.0 f.1) in
     record {
       begun = h.begun;
@@ -165,22 +165,22 @@ kept q taken m fin x n payload h =
       fin_none = λ f p e low.
           not_some (new p) (λ b is.
           ⊎_elim (λ (a : m p ≡ Some b). let none = h.fin_none f p e low in absurd (cc))
-          (λ (a : (x ≤ p) × (p < top)). let lt = below_limit fin f (x + room_of (Some q) taken fin x) p e a.1 in absurd (omega arith))
+          (λ (a : (x ≤ p) × (p < top)). let lt = under_limit fin f (x + room_of (Some q) taken fin x) p e a.1 in absurd (omega arith))
           (keep-bounds m n payload x top p b is));
       unknown = λ e. absurd (cc);
     }
 
 -- x moves to the first missing position
-moved_room : (fin : Option ℕ) (start x y : ℕ) → start ≤ limit fin x → limit fin x ≤ start + 65535 → ((f : ℕ) → fin ≡ Some f → x ≤ f + 1)
-    → x ≤ y → y ≤ x + (65535 - (limit fin x - start)) → limit fin y ≤ start + 65535
+moved_room : (fin : Option ℕ) (start x y : ℕ) → start ≤ below_limit fin x → below_limit fin x ≤ start + 65535 → ((f : ℕ) → fin ≡ Some f → x ≤ f + 1)
+    → x ≤ y → y ≤ x + (65535 - (below_limit fin x - start)) → below_limit fin y ≤ start + 65535
 moved_room None start x y a b c low high = omega arith
 moved_room (Some f) start x y a b c low high = let h = c f refl in omega arith
 
-limit_mono : (fin : Option ℕ) (x y : ℕ) → x ≤ y → limit fin x ≤ limit fin y
+limit_mono : (fin : Option ℕ) (x y : ℕ) → x ≤ y → below_limit fin x ≤ below_limit fin y
 limit_mono None x y h = h
 limit_mono (Some f) x y h = omega arith
 
-split_limit : (fin : Option ℕ) (x y p : ℕ) → p < limit fin y → (p < limit fin x) ⊎ ((x ≤ p) × (p < y))
+split_limit : (fin : Option ℕ) (x y p : ℕ) → p < below_limit fin y → (p < below_limit fin x) ⊎ ((x ≤ p) × (p < y))
 split_limit None x y p h = ⊎_elim (λ (a : p < x). inl a) (λ (a : x ≤ p). inr (a, h)) (or_lt p x)
 split_limit (Some f) x y p h = ⊎_elim (λ (a : p < x). inl (omega arith)) (λ (a : x ≤ p). inr (a, omega arith)) (or_lt p x)
 
@@ -197,7 +197,7 @@ moved q taken m fin x h =
       begun = omega arith;
       took = h.took;
       filled = λ p a b.
-          ⊎_elim (λ (c : p < limit fin x). h.filled p a c) (λ (c : (x ≤ p) × (p < y)). fm_some m x w p c.0 c.1) (split_limit fin x y p b);
+          ⊎_elim (λ (c : p < below_limit fin x). h.filled p a c) (λ (c : (x ≤ p) × (p < y)). fm_some m x w p c.0 c.1) (split_limit fin x y p b);
       low = h.low;
       high = h.high;
       room = moved_room fin (q + 1 + length taken) x y h.begun h.room h.fin_high low high;
@@ -208,7 +208,7 @@ moved q taken m fin x h =
     }
 
 -- a position past all room has no byte
-pub edge : (fin : Option ℕ) (start x : ℕ) → start ≤ limit fin x → start + 65535 ≤ x + (65535 - (limit fin x - start))
+pub edge : (fin : Option ℕ) (start x : ℕ) → start ≤ below_limit fin x → start + 65535 ≤ x + (65535 - (below_limit fin x - start))
 edge None start x a = omega arith
 edge (Some f) start x a = omega arith
 

@@ -4,10 +4,11 @@ use Rattle.std.specs.List.{AllByRecursion}
 use Rattle.ao_base.specs.declared.end.End.{End}
 use Rattle.ao_base.specs.declared.end.End.TheVariants.{A, B}
 use Rattle.segment_model.specs.Options.{Ao}
-use Rattle.segment_model.specs.Segments.{Segment, has, SYN}
+use Rattle.segment_model.specs.Segments.{Segment, has, SYN, FIN, ACK}
 use Rattle.segment_model.proofs.Fields.{some_is}
-use Rattle.endpoint_model.specs.States.{EndState, first, limit}
-use Rattle.endpoint_model.specs.Verdicts.{Passed}
+use Rattle.endpoint_model.specs.States.{EndState, first}
+use Rattle.segment_model.specs.Received.{below_limit}
+use Rattle.endpoint_model.specs.Verdicts.{Finding}
 use Rattle.endpoint_model.specs.Emissions.{sets}
 use Rattle.link_laws.proofs.Sound.{Sound, Later}
 use Rattle.link_laws.proofs.Stream.{Stream}
@@ -17,12 +18,13 @@ use Rattle.link_laws.proofs.Carrying.{GivenAt}
 use Rattle.link_laws.proofs.Lists.{slice_get-append}
 use Rattle.link_model.specs.Headline.{GivesFew}
 use Rattle.link_model.specs.Laws.{SetupFits, Repeats}
-use Rattle.link_model.specs.Worlds.{other, Setup, pair_of, Session, Side, Made, Came, Happening, Sending, Coming, World, side, find, forged, forgeries}
+use Rattle.link_model.specs.Worlds.{other, Setup, pair_of, Session, Side, Made, Came, Happening, Making, Coming, World, side, find, forged, forgeries}
 use Rattle.link_model.specs.Steps.{add, put}
 use Rattle.link_laws.proofs.Invariant.{MadeBy, Inv, Grows}
 use Rattle.link_laws.proofs.Keeping.{both, HasPassed, Gained}
 use Rattle.link_laws.proofs.Arriving.{Passing}
 use Rattle.link_laws.proofs.Origin.{Origin, origin_of, found_made, none_forged, plain_context}
+use Rattle.segment_model.specs.Bytes.{ring}
 
 -- close was called on the session, and its FIN has this number
 abbrev pub FinMade : EndState → ℕ → Type 0
@@ -63,13 +65,13 @@ pub record Heard (w : World) : Type 0 where
 
 given-later : (old new : EndState) (p b : ℕ) → Later old new → GivenAt old p b → GivenAt new p b
 given-later old new p b l (j, at, byte) =
-    let same = l.isn in
+    let same = l.same_isn in
     (j, omega arith, subst (λ (g : List ℕ). slice_get g j ≡ Some b) (sym l.grown.1) (slice_get-append old.given l.grown.0 j b byte))
 
 fin-later : (old new : EndState) (f : ℕ) → Later old new → FinMade old f → FinMade new f
 fin-later old new f l (closing, at) =
     let c = l.closed closing in
-    let isn = l.isn in
+    let isn = l.same_isn in
     let len : length new.given ≡ length old.given = ap length c.1 in
     (c.0, omega arith)
 
@@ -80,7 +82,7 @@ of-grows others now s P more g o =
 
 of-later : (others : List Session) (old new : EndState) (P : EndState → Type 0) → Later old new → OfPartner others old P → OfPartner others new P
 of-later others old new P l o =
-    record { peer = o.peer; knows = l.peer o.peer o.knows; session = o.session; found = o.found; back = o.back ∙ ap (λ n. Some n) (sym l.isn); what = o.what }
+    record { peer = o.peer; knows = l.peer o.peer o.knows; session = o.session; found = o.found; back = o.back ∙ ap (λ n. Some n) (sym l.same_isn); what = o.what }
 
 of-map : (others : List Session) (s : EndState) (P Q : EndState → Type 0) → ((t : EndState) → t.peer_isn ≡ Some s.isn → P t → Q t) → OfPartner others s P → OfPartner others s Q
 of-map others s P Q f o = record { peer = o.peer; knows = o.knows; session = o.session; found = o.found; back = o.back; what = f o.session.state o.back o.what }
@@ -107,12 +109,12 @@ all_acked-grows others now (s ∷ rest) g h = (acked-grows others now s.state g 
 
 fewer_forgeries : (happened : Option Happening) (history : List Happening) → forgeries (add happened history) ≡ 0 → forgeries history ≡ 0
 fewer_forgeries None history e = e
-fewer_forgeries (Some (Sending m)) history e = e
+fewer_forgeries (Some (Making m)) history e = e
 fewer_forgeries (Some (Coming r)) history e = omega arith
 
 -- ---- what an arrival brings was made by the partner
 
-passed_origin : (setup : Setup) (w : World) (e : End) (s : EndState) (r : Came) (p : Passed) → SetupFits setup → Inv setup w → Sound s → forgeries (Coming r ∷ w.history) ≡ 0 → r.at ≡ e → r.passed ≡ Some p
+passed_origin : (setup : Setup) (w : World) (e : End) (s : EndState) (r : Came) (p : Finding) → SetupFits setup → Inv setup w → Sound s → forgeries (Coming r ∷ w.history) ≡ 0 → r.at ≡ e → r.passed ≡ Some p
     → (g : Passing (pair_of setup e) s r.bytes p) → Origin setup w e s p.number g.segment g.judged.ao
 passed_origin setup w e s r p fits inv sound none at passed g =
     let zero_now : forged r.at r.passed w.history ≡ 0 = omega arith in
@@ -126,7 +128,7 @@ Says setup Q P = (d : Segment) (n : ℕ) (ao : Ao) → Q d n → (t : EndState) 
 brought : (setup : Setup) (w : World) (e : End) (s : EndState) (happened : Option Happening) (d : Segment) (n : ℕ) (Q : Segment → ℕ → Type 0) (P : EndState → Type 0) → SetupFits setup → Inv setup w → Sound s
     → forgeries (add happened w.history) ≡ 0 → HasPassed setup e s happened d n → Q d n → ((c : Segment) (k : ℕ) → Q c k → has SYN c ≡ false) → Says setup Q P → OfPartner (side w (other e)).sessions s P
 brought setup w e s None d n Q P fits inv sound none h q plain says = absurd h
-brought setup w e s (Some (Sending m)) d n Q P fits inv sound none h q plain says = absurd h
+brought setup w e s (Some (Making m)) d n Q P fits inv sound none h q plain says = absurd h
 brought setup w e s (Some (Coming r)) d n Q P fits inv sound none (at, p, passed, g, segment, number) q plain says =
     let o = passed_origin setup w e s r p fits inv sound none at passed g in
     let here : Q g.segment p.number = subst (λ (c : Segment). Q c p.number) (sym segment) (subst (λ (k : ℕ). Q d k) (sym number) q) in
@@ -160,9 +162,9 @@ fin_says setup f d n ao x t m h flags same =
 
 -- the partner acknowledged a number with this remainder
 abbrev Told : ℕ → EndState → Type 0
-Told una t = (a : ℕ) × (a % 4294967296 ≡ una % 4294967296) × (a ≤ t.expected) × ((q : ℕ) → t.peer_isn ≡ Some q → q + 1 ≤ a)
+Told una t = (a : ℕ) × (a % ring ≡ una % ring) × (a ≤ t.expected) × ((q : ℕ) → t.peer_isn ≡ Some q → q + 1 ≤ a)
 
-low_limit : (n : ℕ) (fin : Option ℕ) (x : ℕ) → n ≤ limit fin x → n ≤ x
+low_limit : (n : ℕ) (fin : Option ℕ) (x : ℕ) → n ≤ below_limit fin x → n ≤ x
 low_limit n None x h = h
 low_limit n (Some f) x h = omega arith
 
@@ -176,9 +178,9 @@ ack_is false x e = absurd (cc)
 ack_says : (setup : Setup) (una : ℕ) → Says setup (λ d n. BringsAck d una) (λ t. Told una t)
 ack_says setup una d n ao x t m h flags same =
     let s = h.state in
-    let acks : sets h.draft.flags 16 ≡ true = ap (λ (k : ℕ). (k / 16) % 2 == 1) flags ∙ x.1 in
-    let plain : sets h.draft.flags 2 ≡ false = ap (λ (k : ℕ). (k / 2) % 2 == 1) flags ∙ x.0 in
-    let made_ack : m.emission.segment.acknowledgement ≡ s.expected % 4294967296 = ap (λ e. e.segment.acknowledgement) h.emission ∙ ack_is (sets h.draft.flags 16) (s.expected % 4294967296) acks in
+    let acks : sets h.draft.flags ACK ≡ true = ap (λ (k : ℕ). (k / 16) % 2 == 1) flags ∙ x.1 in
+    let plain : sets h.draft.flags SYN ≡ false = ap (λ (k : ℕ). (k / 2) % 2 == 1) flags ∙ x.0 in
+    let made_ack : m.emission.segment.acknowledgement ≡ s.expected % ring = ap (λ e. e.segment.acknowledgement) h.emission ∙ ack_is (sets h.draft.flags ACK) (s.expected % ring) acks in
     let told = plain_context _ (Some s.isn) s.peer_isn h.context plain h.known in
     let knows : s.peer_isn ≡ Some told.1 = told.3 in
     let low = stream_low s.peer_isn s.taken s.received s.fin s.expected h.whole.stream in
@@ -191,7 +193,7 @@ ack_says setup una d n ao x t m h flags same =
 
 -- ---- one session changes
 
-not_past : (a una isn x given : ℕ) → a % 4294967296 ≡ una % 4294967296 → a ≤ x → isn + 1 ≤ a → una ≤ isn + 2 + given → given < 2 ^ 31 → una ≤ x
+not_past : (a una isn x given : ℕ) → a % ring ≡ una % ring → a ≤ x → isn + 1 ≤ a → una ≤ isn + 2 + given → given < 2 ^ 31 → una ≤ x
 not_past a una isn x given same le low high few = omega arith
 
 module _ (setup : Setup) (fits : SetupFits setup) (w : World) (e : End) (inv : Inv setup w) (s u : EndState) (happened : Option Happening) (sound : Sound s) (l : Later s u) (gained : Gained setup e s u happened)
@@ -217,7 +219,7 @@ module _ (setup : Setup) (fits : SetupFits setup) (w : World) (e : End) (inv : I
   head_acked : Sound u → Whole u → length u.given < 2 ^ 31 → Acked (side w (other e)).sessions s → Acked (side w (other e)).sessions u
   head_acked sound_u whole_u few old =
       let others = (side w (other e)).sessions in
-      let isn = l.isn in
+      let isn = l.same_isn in
       let una = whole_u.ends.una_high in
       let next = sound_u.next_high in
       ⊎_elim

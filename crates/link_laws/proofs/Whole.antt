@@ -5,12 +5,17 @@ use Rattle.ao_base.specs.declared.address.Pair.{Pair}
 use Rattle.segment_model.specs.Meant.{meant}
 use Rattle.segment_model.specs.Segments.{Segment, has, segment_length, ACK, FIN, RST, SYN}
 use Rattle.segment_model.proofs.Fields.{and_tells, eqb_is, le_is, lt_is, lt_not, some_is}
-use Rattle.endpoint_model.specs.States.{Phase, Listen, SynSent, SynReceived, Established, FinWait1, FinWait2, CloseWait, Closing, LastAck, TimeWait, Closed, EndState, first, limit, window, keep, hears}
-use Rattle.endpoint_model.specs.Arrivals.{Moved, owing, above, within, fits_window, first_missing, runs, rested, finish, past_fin, pass_fin, fin_of, heard_runs, hear_data, after_own_fin, acked_fin, windowed, acked, go_on, acknowledged, ordinary, syn_alone, syn_ack_alone, after_check}
+use Rattle.endpoint_model.specs.declared.phase.Phase.{Phase}
+use Rattle.endpoint_model.specs.declared.phase.Phase.TheVariants.{Listen, SynSent, SynReceived, Established, FinWait1, FinWait2, CloseWait, Closing, LastAck, TimeWait, Closed}
+use Rattle.endpoint_model.specs.States.{EndState, first, window, hears}
+use Rattle.segment_model.specs.Received.{below_limit, keep, first_missing, runs}
+use Rattle.endpoint_model.specs.Arrivals.{Moved, owing, above, within, fits_window, rested, finish, past_fin, pass_fin, fin_of, heard_runs, hear_data, after_own_fin, acked_fin, windowed, acked, go_on, acknowledged, ordinary, syn_alone, syn_ack_alone, after_check}
 use Rattle.endpoint_model.specs.Emissions.{is_silent}
+use Rattle.link_laws.proofs.Tests.{not_true}
 use Rattle.link_laws.proofs.Sound.{waits, Sound}
 use Rattle.link_laws.proofs.Moves.{following}
 use Rattle.link_laws.proofs.Stream.{Stream, room_of, not_some, fm_stop, runs_none, edge, kept, moved, moved_missing, recorded, passed, or_lt}
+use Rattle.segment_model.specs.Bytes.{ring}
 
 -- the handshake is over
 abbrev pub open_now : Phase → Bool
@@ -21,21 +26,22 @@ open_now Closed = false
 open_now _ = true
 
 -- what is known of the peer, and what is acknowledged
-pub record EndsOf (phase : Phase) (isn : ℕ) (peer_isn : Option ℕ) (una next : ℕ) : Type 0 where
+pub record EndsOf (phase : Phase) (isn : ℕ) (peer_isn : Option ℕ) (una next : ℕ) (rst : Bool) : Type 0 where
   pub una_low : isn ≤ una
   pub una_high : una ≤ next
   pub begun : open_now phase ≡ true → isn + 1 ≤ una
   pub known : is_silent phase ≡ false → (q : ℕ) × (peer_isn ≡ Some q)
+  pub resets : rst ≡ true → (q : ℕ) × (peer_isn ≡ Some q)
 
 -- the receiving half: bytes in order up to x, no byte at x, x past the FIN once it has come to it
-pub record WholeOf (phase : Phase) (isn : ℕ) (peer_isn : Option ℕ) (una next : ℕ) (taken : List ℕ) (m : ℕ → Option ℕ) (fin : Option ℕ) (x : ℕ) : Type 0 where
+pub record WholeOf (phase : Phase) (isn : ℕ) (peer_isn : Option ℕ) (una next : ℕ) (rst : Bool) (taken : List ℕ) (m : ℕ → Option ℕ) (fin : Option ℕ) (x : ℕ) : Type 0 where
   pub stream : Stream peer_isn taken m fin x
   pub missing : m x ≡ None
   pub moved : (f : ℕ) → fin ≡ Some f → x ≡ f → ⊥
-  pub ends : EndsOf phase isn peer_isn una next
+  pub ends : EndsOf phase isn peer_isn una next rst
 
 abbrev pub Whole : EndState → Type 0
-Whole s = WholeOf s.phase s.isn s.peer_isn s.una s.next s.taken s.received s.fin s.expected
+Whole s = WholeOf s.phase s.isn s.peer_isn s.una s.next s.rst_owed s.taken s.received s.fin s.expected
 
 -- a change of phase that keeps what is said of phases
 pub record PhaseKept (old new : Phase) : Type 0 where
@@ -74,11 +80,12 @@ past_kept Closed = kept_phase Closed
 pub closed_kept : (phase : Phase) → PhaseKept phase Closed
 closed_kept phase = record { opens = λ e. absurd (cc); knows = λ e. absurd (cc) }
 
-ends_phase : (old new : Phase) (isn : ℕ) (peer_isn : Option ℕ) (una next : ℕ) → PhaseKept old new → EndsOf old isn peer_isn una next → EndsOf new isn peer_isn una next
-ends_phase old new isn peer_isn una next ok h = record { una_low = h.una_low; una_high = h.una_high; begun = λ e. h.begun (ok.opens e); known = λ e. h.known (ok.knows e) }
+ends_phase : (old new : Phase) (isn : ℕ) (peer_isn : Option ℕ) (una next : ℕ) (rst : Bool) → PhaseKept old new → EndsOf old isn peer_isn una next rst → EndsOf new isn peer_isn una next rst
+ends_phase old new isn peer_isn una next rst ok h =
+    record { una_low = h.una_low; una_high = h.una_high; begun = λ e. h.begun (ok.opens e); known = λ e. h.known (ok.knows e); resets = h.resets }
 
 pub whole_phase : (s : EndState) (new : Phase) → PhaseKept s.phase new → Whole s → Whole (record s { phase = new })
-whole_phase s new ok h = record { stream = h.stream; missing = h.missing; moved = h.moved; ends = ends_phase s.phase new s.isn s.peer_isn s.una s.next ok h.ends }
+whole_phase s new ok h = record { stream = h.stream; missing = h.missing; moved = h.moved; ends = ends_phase s.phase new s.isn s.peer_isn s.una s.next s.rst_owed ok h.ends }
 
 pick : (b : Bool) (t u : EndState) → (b ≡ true → Whole t) → (b ≡ false → Whole u) → Whole (if b then t else u)
 pick true t u f g = f refl
@@ -97,17 +104,17 @@ finish_whole s now h = rested_whole s now s.phase s.deadline h
 
 -- the bytes are kept, and x moves to the first missing number
 heard : (o : Option ℕ) (taken : List ℕ) (m : ℕ → Option ℕ) (fin : Option ℕ) (x n : ℕ) (payload : List ℕ) → (q : ℕ) × (o ≡ Some q) → Stream o taken m fin x
-    → let new = keep m n payload x (limit fin (x + room_of o taken fin x)) in
+    → let new = keep m n payload x (below_limit fin (x + room_of o taken fin x)) in
     let y = first_missing new x (room_of o taken fin x) in Stream o taken new fin y × (new y ≡ None)
 heard None taken m fin x n payload known h = absurd (cc)
 heard (Some q) taken m fin x n payload known h =
     let k = kept q taken m fin x n payload h in
-    let new = keep m n payload x (limit fin (x + room_of (Some q) taken fin x)) in
+    let new = keep m n payload x (below_limit fin (x + room_of (Some q) taken fin x)) in
     (moved q taken new fin x k, moved_missing q taken new fin x k)
 
 -- a FIN is recorded only where no byte stands at or past it
 fin_whole : (o : Option ℕ) (taken : List ℕ) (m : ℕ → Option ℕ) (fin : Option ℕ) (x y f : ℕ) (b : Bool) → (q : ℕ) × (o ≡ Some q)
-    → first o + length taken ≤ limit fin x → y ≡ first_missing m x (room_of o taken fin x)
+    → first o + length taken ≤ below_limit fin x → y ≡ first_missing m x (room_of o taken fin x)
     → (b ≡ true → (x ≤ f) × (f < x + room_of o taken fin x) × (runs m false f (x + room_of o taken fin x - f) ≡ 0))
     → Stream o taken m fin y → Stream o taken m (fin_of fin b f) y
 fin_whole None taken m fin x y f b known begun is says h = absurd (cc)
@@ -138,19 +145,19 @@ eqb_not : (x y : ℕ) → (x == y) ≡ false → x ≡ y → ⊥
 eqb_not x y e f = grind (arith, nat_tests)
 
 pass_if : (t : EndState) (f : ℕ) (b : Bool) → (f == t.expected) ≡ b → t.fin ≡ Some f → Stream t.peer_isn t.taken t.received t.fin t.expected → t.received t.expected ≡ None
-    → EndsOf t.phase t.isn t.peer_isn t.una t.next → Whole (if b then record t { expected = f + 1; phase = past_fin t.phase } else t)
+    → EndsOf t.phase t.isn t.peer_isn t.una t.next t.rst_owed → Whole (if b then record t { expected = f + 1; phase = past_fin t.phase } else t)
 pass_if t f true is e stream missing ends =
     record {
       stream = passed_any t.peer_isn t.taken t.received t.fin t.expected f e (eqb_is f t.expected is) stream;
       missing = stream.fin_none f (f + 1) e (omega arith);
       moved = λ g e2 at. let same : f ≡ g = some_is f g (sym e ∙ e2) in absurd (omega arith);
-      ends = ends_phase t.phase (past_fin t.phase) t.isn t.peer_isn t.una t.next (past_kept t.phase) ends;
+      ends = ends_phase t.phase (past_fin t.phase) t.isn t.peer_isn t.una t.next t.rst_owed (past_kept t.phase) ends;
     }
 pass_if t f false is e stream missing ends =
     record { stream = stream; missing = missing; moved = λ g e2 at. let same : f ≡ g = some_is f g (sym e ∙ e2) in eqb_not f t.expected is (same ∙ sym at); ends = ends }
 
 pass_whole : (t : EndState) (o : Option ℕ) → t.fin ≡ o → Stream t.peer_isn t.taken t.received t.fin t.expected → t.received t.expected ≡ None
-    → EndsOf t.phase t.isn t.peer_isn t.una t.next → Whole (pass_fin t o)
+    → EndsOf t.phase t.isn t.peer_isn t.una t.next t.rst_owed → Whole (pass_fin t o)
 pass_whole t None e stream missing ends = record { stream = stream; missing = missing; moved = λ g e2 at. absurd (cc); ends = ends }
 pass_whole t (Some f) e stream missing ends = pass_if t f (f == t.expected) refl e stream missing ends
 
@@ -162,10 +169,10 @@ record_says a b f low high k e is =
     (le_is low f three.0, lt_is f high three.1, eqb_is k 0 (sym is ∙ one.1))
 
 hear_if : (s : EndState) (d : Segment) (n now : ℕ) (b : Bool) → (q : ℕ) × (s.peer_isn ≡ Some q) → Whole s
-    → Whole (heard_runs s (keep s.received n d.payload s.expected (limit s.fin (s.expected + window s))) d n now b).state
+    → Whole (heard_runs s (keep s.received n d.payload s.expected (below_limit s.fin (s.expected + window s))) d n now b).state
 hear_if s d n now true known h = h
 hear_if s d n now false known h =
-    let m = keep s.received n d.payload s.expected (limit s.fin (s.expected + window s)) in
+    let m = keep s.received n d.payload s.expected (below_limit s.fin (s.expected + window s)) in
     let f = n + length d.payload in
     let records = has FIN d && within f s.expected (s.expected + window s) && (runs m false f (s.expected + window s - f) == 0) in
     let t : EndState = record s { received = m; fin = fin_of s.fin records f; ack_owed = true; expected = first_missing m s.expected (window s) } in
@@ -208,7 +215,7 @@ go_on_whole s old d n now a h =
 una_whole : (s : EndState) (a : ℕ) → s.una < a → a ≤ s.next → Whole s → Whole (record s { una = a })
 una_whole s a more top h =
     let low = h.ends.una_low in
-    record { stream = h.stream; missing = h.missing; moved = h.moved; ends = record { una_low = omega arith; una_high = top; begun = λ p. omega arith; known = h.ends.known } }
+    record { stream = h.stream; missing = h.missing; moved = h.moved; ends = record { una_low = omega arith; una_high = top; begun = λ p. omega arith; known = h.ends.known; resets = h.ends.resets } }
 
 acked_whole : (s : EndState) (o : Option ℕ) → above o s.next ≡ false → Whole s → Whole (acked s o)
 acked_whole s None e h = h
@@ -224,16 +231,12 @@ established_whole s a true up e is t h =
       stream = h.stream;
       missing = h.missing;
       moved = h.moved;
-      ends = record { una_low = omega arith; una_high = lt_not s.next a e; begun = λ p. omega arith; known = λ p. h.ends.known (ap is_silent is) };
+      ends = record { una_low = omega arith; una_high = lt_not s.next a e; begun = λ p. omega arith; known = λ p. h.ends.known (ap is_silent is); resets = h.ends.resets };
     }
 
 established_any : (s : EndState) (o : Option ℕ) → above o s.una ≡ true → above o s.next ≡ false → s.phase ≡ SynReceived → Whole s → Whole (record (acked s o) { phase = Established })
 established_any s None up e is h = absurd (cc)
 established_any s (Some a) up e is h = established_whole s a (nat_lt s.una a) up e is up h
-
-not_true : (b : Bool) → not b ≡ true → b ≡ false
-not_true true e = absurd (cc)
-not_true false e = refl
 
 acknowledged_whole : (s : EndState) (d : Segment) (n now : ℕ) (a : Option ℕ) (phase : Phase) → s.phase ≡ phase → Whole s → Whole (acknowledged s d n now a phase).state
 acknowledged_whole s d n now a SynReceived is h =
@@ -272,12 +275,12 @@ nothing_heard : (taken : List ℕ) (m : ℕ → Option ℕ) (fin : Option ℕ) (
 nothing_heard taken m fin x h =
     let u = h.unknown refl in
     let x_is = u.0 in
-    let begun : 0 + length taken ≤ limit None x = subst (λ (o : Option ℕ). 0 + length taken ≤ limit o x) u.1 h.begun in
+    let begun : 0 + length taken ≤ below_limit None x = subst (λ (o : Option ℕ). 0 + length taken ≤ below_limit o x) u.1 h.begun in
     (omega arith, u.1, u.2)
 
 -- the peer's initial sequence number is learned
-learned : (s : EndState) (n una next : ℕ) (phase : Phase) → s.peer_isn ≡ None → Whole s → EndsOf phase s.isn (Some n) una next
-    → WholeOf phase s.isn (Some n) una next s.taken s.received s.fin (n + 1)
+learned : (s : EndState) (n una next : ℕ) (phase : Phase) → s.peer_isn ≡ None → Whole s → EndsOf phase s.isn (Some n) una next s.rst_owed
+    → WholeOf phase s.isn (Some n) una next s.rst_owed s.taken s.received s.fin (n + 1)
 learned s n una next phase none h ends =
     let u = nothing_heard s.taken s.received s.fin s.expected (subst (λ (o : Option ℕ). Stream o s.taken s.received s.fin s.expected) none h.stream) in
     record { stream = fresh n s.taken s.received s.fin u.0 u.1 u.2; missing = u.2 (n + 1); moved = λ f e at. let no_fin = u.1 in absurd (cc); ends = ends }
@@ -289,16 +292,15 @@ after_check_whole pair s c d n now Listen is sound h =
     (λ e.
     let v = h.ends in
     learned s n s.una s.next SynReceived (sound.unknown (ap waits is)) h
-    (record { una_low = v.una_low; una_high = v.una_high; begun = λ p. absurd (cc); known = λ p. (n, refl) }))
+    (record { una_low = v.una_low; una_high = v.una_high; begun = λ p. absurd (cc); known = λ p. (n, refl); resets = λ p. (n, refl) }))
     (λ e. h)
 after_check_whole pair s c d n now SynSent is sound h =
-    pick_moved (syn_ack_alone d) _ _
-    (λ e. pick_moved (nat_lt s.isn s.next && (d.acknowledgement == (s.isn + 1) % 4294967296)) _ _
+    pick_moved (not (syn_ack_alone d)) _ _ (λ e. h)
+    (λ e. pick_moved (nat_lt s.isn s.next && (d.acknowledgement == (s.isn + 1) % ring)) _ _
     (λ g.
-    let sent = lt_is s.isn s.next (and_tells (nat_lt s.isn s.next) (d.acknowledgement == (s.isn + 1) % 4294967296) g).0 in
+    let sent = lt_is s.isn s.next (and_tells (nat_lt s.isn s.next) (d.acknowledgement == (s.isn + 1) % ring) g).0 in
     learned s n (s.isn + 1) s.next Established (sound.unknown (ap waits is)) h
-    (record { una_low = omega arith; una_high = omega arith; begun = λ p. omega arith; known = λ p. (n, refl) }))
+    (record { una_low = omega arith; una_high = omega arith; begun = λ p. omega arith; known = λ p. (n, refl); resets = λ p. (n, refl) }))
     (λ g. h))
-    (λ e. h)
 after_check_whole pair s c d n now _ is sound h =
     pick_moved (fits_window n (segment_length d) s.expected (window s)) _ _ (λ e. ordinary_whole s c d n now h) (λ e. pick (has RST d) s (owing s) (λ e. h) (λ e. h))
