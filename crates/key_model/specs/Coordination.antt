@@ -1,10 +1,12 @@
--- Which key an end sends with, and how it follows what its peer asks for (RFC 5925, sections 6.1, 7.4 and 7.5).
-use Rattle.std.specs.Prelude.{ℕ, ◌+◌, ◌==◌, Bool, List, [], ◌∷◌, Option, Some, None, if◌then◌else◌}
+-- Key coordination: which key an end sends with, and how it follows the RNextKeyID that it hears (RFC 5925, section 6.1).
+use Rattle.std.specs.Prelude.{ℕ, ◌+◌, ◌==◌, Bool, List, [], ◌∷◌, Option, Some, None, option_map, if◌then◌else◌}
+use Rattle.std.specs.Option.{option_or}
 use Rattle.ao_base.specs.declared.address.Pair.{Pair}
 use Rattle.key_model.specs.Rows.{Row, sendable}
-use Rattle.key_model.specs.Choices.{Numbered, qualified, or_else, send_row, next_row, named_send}
+use Rattle.key_model.specs.Choices.{Numbered, qualified, send_row, next_row, named_send}
+use Rattle.key_model.specs.Lookups.{number_of}
 
--- the key to send with and the two ids to send (RFC 5925, section 7.4)
+-- the row to send with, and the KeyID and RNextKeyID that go with it (RFC 5925, section 7.4)
 pub record Sending : Type 0 where
   pub number : ℕ
   pub row : Row
@@ -21,27 +23,29 @@ abbrev pub still_current : Option ℕ → List Row → Pair → ℕ → Option N
 still_current None rows pair now = None
 still_current (Some number) rows pair now = numbered (sendable pair now) 1 number rows
 
--- the RecvID of the row that is preferred for what comes, else of the own row (RFC 5925, section 7.4)
-abbrev pub asked_id : Option Numbered → Row → ℕ
-asked_id None own = own.recv_id
-asked_id (Some next) own = next.row.recv_id
+-- the current row while it is sendable, else the sendable row with the greatest send start (RFC 5925, section 7.4, and own)
+abbrev pub row_to_send : Option ℕ → List Row → Pair → ℕ → Option Numbered
+row_to_send current rows pair now = option_or (still_current current rows pair now) (send_row rows pair now)
 
--- a row with the ids that are sent with it
-abbrev pub sending_by : Option Numbered → Option Numbered → Option Sending
-sending_by next None = None
-sending_by next (Some n) =
-    Some (record { number = n.number; row = n.row; key_id = n.row.send_id; rnext_key_id = asked_id next n.row })
+-- the RecvID of the row that is preferred for what comes in, else of the own row (RFC 5925, section 7.4, and own)
+abbrev pub rnext_key_id_of : Option Numbered → Row → ℕ
+rnext_key_id_of None own = own.recv_id
+rnext_key_id_of (Some preferred) own = preferred.row.recv_id
 
--- the current row while it is sendable, else the one with the latest start (RFC 5925, section 7.4)
+-- a row with the two ids that go with it
+abbrev pub sending_by : Option Numbered → Numbered → Sending
+sending_by preferred n =
+    record { number = n.number; row = n.row; key_id = n.row.send_id; rnext_key_id = rnext_key_id_of preferred n.row }
+
+-- what a segment is sent with, where some row is sendable (RFC 5925, sections 6.1 and 7.4)
 unfoldable pub choose : Option ℕ → List Row → Pair → ℕ → Option Sending
-choose current rows pair now =
-    sending_by (next_row rows pair now) (or_else (still_current current rows pair now) (send_row rows pair now))
+choose current rows pair now = option_map (sending_by (next_row rows pair now)) (row_to_send current rows pair now)
 
--- the number of a row, else the one before
-abbrev pub number_or : Option Numbered → Option ℕ → Option ℕ
-number_or None before = before
-number_or (Some n) before = Some n.number
+-- the current row after that choice: the one that is sent with, else the one before
+abbrev pub current_after : Option ℕ → Option Sending → Option ℕ
+current_after before None = before
+current_after before (Some s) = Some s.number
 
--- the current row after an RNextKeyID was heard: the sendable row with this SendID, if there is one (RFC 5925, sections 6.1 and 7.5)
+-- the current row after an RNextKeyID was heard: the sendable row with this SendID, else the one before (RFC 5925, sections 6.1 and 7.5)
 unfoldable pub follow : Option ℕ → List Row → Pair → ℕ → ℕ → Option ℕ
-follow current rows pair id now = number_or (named_send rows pair id now) current
+follow current rows pair id now = option_or (number_of (named_send rows pair id now)) current

@@ -1,13 +1,13 @@
 -- Two ends with all their sessions and their tables, and everything that was made and that came.
 use Rattle.std.specs.Prelude.{ℕ, suc, ◌+◌, ◌==◌, Bool, true, false, ◌&&◌, ◌||◌, List, [], ◌∷◌, Option, Some, None, if◌then◌else◌}
-use Rattle.ao_base.specs.declared.address.Address.{Address}
 use Rattle.ao_base.specs.declared.address.Socket.{Socket}
 use Rattle.ao_base.specs.declared.address.Pair.{Pair}
 use Rattle.ao_base.specs.declared.end.End.{End}
 use Rattle.ao_base.specs.declared.end.End.TheVariants.{A, B}
 use Rattle.segment_model.specs.Bytes.{same_bytes}
 use Rattle.segment_model.specs.Segments.{Segment, has, ACK, SYN}
-use Rattle.key_model.specs.Rows.{Row, Table, same_place}
+use Rattle.key_model.specs.Plans.{rows_at}
+use Rattle.key_model.specs.Rows.{Row, Table}
 use Rattle.endpoint_model.specs.Verdicts.{key_of, same_key, Finding}
 use Rattle.endpoint_model.specs.States.{EndState}
 use Rattle.endpoint_model.specs.declared.arrival.Arrival.{Arrival}
@@ -31,11 +31,6 @@ pub record Setup : Type 0 where
   pub b : Socket
   pub a_rows : List Row
   pub b_rows : List Row
-
--- the rows of the first table of the node with this address; none where no node has it
-abbrev pub rows_at : List Table → Address → List Row
-rows_at [] address = []
-rows_at (t ∷ ts) address = if same_place address t then t.rows else rows_at ts address
 
 -- the link of two sockets over the tables of a key file
 abbrev pub setup_of : List Table → Socket → Socket → Setup
