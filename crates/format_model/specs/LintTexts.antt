@@ -12,14 +12,8 @@ use Rattle.key_model.specs.Rows.{Table}
 use Rattle.line_model.specs.Said.{Said}
 use Rattle.line_model.specs.Texts.{numbered_text, end_text}
 use Rattle.line_model.specs.Words.{◌>>=◌, Taken, address_in, number_in, socket_in, nothing_in}
+use Rattle.format_model.specs.declared.command.Plan.{Plan}
 use Rattle.format_model.specs.LinkFiles.{are_two_of_a_family}
-
--- how long before and after its sending a row must be accepted, and over which times a row must be sendable, in seconds
-pub record Plan : Type 0 where
-  pub lead : ℕ
-  pub lag : ℕ
-  pub from : ℕ
-  pub to : ℕ
 
 -- an address of the first one's family that differs from it
 abbrev pub address_beside : Address → List (List ℕ) → Result (Taken Address) LineKind

@@ -3,6 +3,12 @@
 //! error. Definitions, and the plain types that they and the code share.
 #![tactic(auto)]
 
+mod command;
+mod node;
 mod script;
+mod timed;
 
+pub use command::{Command, Plan};
+pub use node::{Act, NodeEvent, NodeEvents, NodeScript};
 pub use script::{Script, SharedKey};
+pub use timed::{TimedEvent, TimedEvents, TimedScript};
