@@ -3,6 +3,9 @@ use Rattle.std.proofs.Common.{◌≡◌, ◌≤◌, ℕ, zero, suc, ◌+◌, leb
 use Rattle.std.specs.List.{All}
 use Rattle.std.proofs.lemmas.Bool.Decides.{nat_tests}
 use Rattle.toml.specs.Data.{Data, string, integer, float, boolean, datetime, array, table, Items, no_items, item, Members, get_member}
+use Rattle.ao_base.specs.declared.address.Address.{Address}
+use Rattle.ao_base.specs.declared.algorithm.Algorithm.{Algorithm}
+use Rattle.key_model.specs.Shared.{shared_row, shared_tables}
 use Rattle.key_model.specs.Rows.{Row, Table, node_limit, row_limit}
 use Rattle.key_model.specs.Overlaps.{TwoRows, first_overlap, AreApart, IsValid}
 use Rattle.key_model.proofs.OverlapLaws.{first_overlap-none}
@@ -160,3 +163,18 @@ document_valid (Some ms) tables h = if_valid (only (codes "node" ∷ []) ms) (no
 pub tables_of-valid : (text : List ℕ) (tables : List Table) → tables_of text ≡ Ok tables → All Valid tables
 unfolding tables_of
 tables_of-valid text tables h = document_valid (document_of text) tables h
+
+-- ---- tables that no file wrote
+
+pub empty-valid : IsValid []
+empty-valid = record { apart = λ i j d less within. absurd (omega arith); limit = omega arith }
+
+one-valid : (r : Row) → IsValid (r ∷ [])
+one-valid r = record { apart = λ i j d less within. absurd (omega arith); limit = omega arith }
+
+pub shared-valid : (a b : Address) (algorithm : Algorithm) (master : List ℕ) → All Valid (shared_tables a b algorithm master)
+shared-valid a b algorithm master =
+    let r = shared_row algorithm master in
+    let at_a : Table = record { name = codes "a"; address = a; rows = r ∷ [] } in
+    let at_b : Table = record { name = codes "b"; address = b; rows = r ∷ [] } in
+    all_cons Valid at_a (at_b ∷ []) (one-valid r) (all_cons Valid at_b [] (one-valid r) none_valid)
