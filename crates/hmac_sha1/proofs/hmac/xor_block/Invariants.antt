@@ -1,6 +1,6 @@
 use Rattle.std.proofs.Common.{◌≡◌, ◌++◌, take, drop, map}
 use Rattle.std.specs.Prelude.{bit_xor}
-use Rattle.hmac_sha1.proofs.xor_block.Given as goal
+use Rattle.hmac_sha1.proofs.hmac.xor_block.Given as goal
 
 abbrev pub invariant-loop-byte : goal.invariant-loop-byte
 invariant-loop-byte l =
