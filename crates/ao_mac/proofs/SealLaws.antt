@@ -5,8 +5,6 @@ use Rattle.std.proofs.lemmas.List.{length-append, take_at, drop_all}
 use Rattle.ao_base.specs.declared.address.Address.{Address}
 use Rattle.ao_base.specs.declared.address.Address.TheVariants.{V4, V6}
 use Rattle.ao_base.specs.declared.algorithm.Algorithm.{Algorithm}
-use Rattle.ao_base.specs.declared.algorithm.Algorithm.TheVariants.{HmacSha1, AesCmac}
-use Rattle.ao_base.specs.Algorithms.{mac_length_of}
 use Rattle.segment_model.specs.Bytes.{put4}
 use Rattle.segment_model.specs.Options.{Ao, AoFound, One, find_ao}
 use Rattle.segment_model.specs.Segments.{Segment, pseudo_of, pseudo, header, spell}
@@ -109,10 +107,6 @@ mac_blind bytes alg key sne h m n payload flag e is = λ number ao f found.
     ∙ ap (λ (x : Ao). mac alg key (mac_input number (drafted h n payload) x flag)) same)
 
 -- ---- the MAC is put in
-
-pub length_is : (alg : Algorithm) → mac_length_of alg ≡ 12
-length_is HmacSha1 = refl
-length_is AesCmac = refl
 
 -- the MAC that was computed over a draft stands in it
 pub sealed : (d : DatagramMut) (h : Head) (old payload rest w bytes : List ℕ) (s : Segment) (alg : Algorithm) (key : List ℕ) (sne : ℕ) (flag : Bool)

@@ -1,5 +1,6 @@
 //! The MAC of a segment.
 ghost use Rattle.std.specs.Prelude.{◌≡◌, ◌≤◌, ◌+◌, ◌-◌, ◌*◌, ◌/◌, ◌^◌, ◌<◌, ℕ, Bool, List, [], ◌∷◌, ◌++◌, length, take, drop, replicate};
+ghost use Rattle.ao_base.specs.Algorithms.{mac_length_of};
 ghost use Rattle.ao_base.specs.declared.algorithm.Algorithm.{Algorithm};
 ghost use Rattle.segment_model.specs.Bytes.{put2, put4};
 ghost use Rattle.segment_model.specs.Options.{Ao, One, find_ao};
@@ -12,38 +13,14 @@ ghost use Rattle.ao_mac.specs.Feeds.{StandsFor};
 ghost use Rattle.ao_mac.specs.Macs.{HasAo, IsMacOf};
 
 use crate::hasher::{Hasher, feed, finish, under_key};
+use crate::mac_bytes::MacBytes;
 use ao_base::{Address, Algorithm};
 use ao_kdf::TrafficKey;
-use std::marker::Model;
 use tcp_options::{AoFound, AoOption};
 use tcp_segment::Datagram;
 
 /// Zero bytes, as many as an option can have.
 const ZEROS: [u8; 40] = [0; 40];
-
-/// A MAC; seen as the list of its bytes.
-#[derive(Drop)]
-pub struct MacBytes {
-    bytes: [u8; 12],
-}
-
-impl Model for MacBytes {
-    ghost use Rattle.std.specs.Prelude.{ℕ, List};
-
-    ghost Value = { List ℕ };
-
-    ghost view = { λ m. m.bytes };
-}
-
-impl MacBytes {
-    /// The bytes, in the order in which they are sent.
-    pub fn as_slice(&self) -> &[u8]
-        ensures bytes { result.now ≡ self.now }
-        ensures length { length result.now ≡ 12 }
-    {
-        &self.bytes
-    }
-}
 
 /// Feeds the pseudo-header of IPv4 (RFC 9293, section 3.1).
 fn feed_pseudo_v4(hasher: &mut Hasher, source: &[u8; 4], destination: &[u8; 4], length: u16)
@@ -172,7 +149,8 @@ pub fn mac(
 ) -> MacBytes
     requires one { HasAo datagram.now }
     requires key { length key.now ≡ key_length alg }
-    ensures { IsMacOf result alg key.now sne datagram.now with_options }
+    ensures mac { IsMacOf result alg key.now sne datagram.now with_options }
+    ensures length { length result ≡ mac_length_of alg }
 {
     let mut hasher = under_key(alg, key.as_slice());
     feed(&mut hasher, &big_endian(sne));
@@ -180,7 +158,5 @@ pub fn mac(
     feed_header(&mut hasher, datagram);
     feed_covered(&mut hasher, datagram, with_options);
     feed(&mut hasher, datagram.payload());
-    MacBytes {
-        bytes: finish(hasher),
-    }
+    finish(hasher)
 }

@@ -1,6 +1,6 @@
 -- Traffic keys and MACs have their algorithm's length.
-use Rattle.std.proofs.Common.{◌≡◌, ℕ, zero, suc, ◌-◌, ◌*◌, ◌/◌, ◌≤◌, ◌==◌, min, Bool, true, false, List, [], ◌∷◌, ◌++◌, length, take, drop, replicate, slice_index, if◌then◌else◌, refl, arith, length-append, length-take}
-use Rattle.std.specs.Prelude.{bit_xor}
+use Rattle.std.proofs.Common.{◌≡◌, ℕ, zero, suc, ◌-◌, ◌*◌, ◌/◌, ◌≤◌, ◌==◌, min, Bool, true, false, List, [], ◌∷◌, ◌++◌, length, take, drop, replicate, slice_index, if◌then◌else◌, refl, inl, inr, arith, length-append, length-take}
+use Rattle.std.specs.Prelude.{◌⊎◌, bit_xor}
 use Rattle.std.specs.Int.{w32, to_be_bytes}
 use Rattle.sha1.specs.Sha1 as one
 use Rattle.sha2.specs.Sha256 as two
@@ -114,3 +114,9 @@ unfolding mac
 length-mac HmacSha1 key input h = front 12 20 (hmac one.sha1 key input) (omega arith) (length-hmac one.sha1 20 key input length-sha1)
 length-mac AesCmac key input h = front 12 16 (cmac key input) (omega arith) (length-cmac key input h)
 length-mac HmacSha256 key input h = front 16 32 (hmac two.sha256 key input) (omega arith) (length-hmac two.sha256 32 key input length-sha256)
+
+-- the lengths of a MAC that a written datagram has room for
+pub twelve_or_sixteen : (a : Algorithm) → (mac_length_of a ≡ 12) ⊎ (mac_length_of a ≡ 16)
+twelve_or_sixteen HmacSha1 = inl refl
+twelve_or_sixteen AesCmac = inl refl
+twelve_or_sixteen HmacSha256 = inr refl
