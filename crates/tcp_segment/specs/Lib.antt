@@ -2,5 +2,4 @@ pub mod Lending
 pub mod Parts
 pub mod Places
 pub mod Sums
-pub mod Views
 pub mod Writing

@@ -14,6 +14,6 @@ mod tests;
 mod writing;
 
 pub use datagram::{Datagram, read_datagram};
-pub use reading::DatagramFault;
+pub use segment_model::DatagramFault;
 pub use sums::fix_checksum;
 pub use writing::{DatagramMut, Draft, Head, write_datagram};
