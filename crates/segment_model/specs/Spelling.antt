@@ -2,7 +2,7 @@
 use Rattle.std.specs.Prelude.{◌≡◌, ℕ, ◌+◌, ◌-◌, ◌/◌, ◌%◌, ◌==◌, ◌<◌, ◌≤◌, true, IsTrue, List, [], ◌∷◌, ◌++◌, length, take, drop, slice_index, if◌then◌else◌}
 use Rattle.ao_base.specs.declared.address.Address.{Address}
 use Rattle.ao_base.specs.declared.address.Address.TheVariants.{V4, V6}
-use Rattle.segment_model.specs.Bytes.{put2, put4}
+use Rattle.segment_model.specs.Bytes.{put2, put4, ring}
 use Rattle.segment_model.specs.Options.{AreListed, options_of}
 use Rattle.segment_model.specs.Segments.{IpHeader, Ipv4, Ipv6, Segment, sums, complement_of, checksum_of, good, spell_as, spell, tcp_length}
 
@@ -57,8 +57,8 @@ pub record Fits (d : Segment) : Type 0 where
   pub ip : FitsIp d.ip d
   pub source_port : d.source.port < 65536
   pub destination_port : d.destination.port < 65536
-  pub sequence : d.sequence < 4294967296
-  pub acknowledgement : d.acknowledgement < 4294967296
+  pub sequence : d.sequence < ring
+  pub acknowledgement : d.acknowledgement < ring
   pub reserved : d.reserved < 16
   pub flags : d.flags < 256
   pub window : d.window < 65536
