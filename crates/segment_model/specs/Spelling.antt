@@ -77,9 +77,13 @@ pub record Spells (d : Segment) (bytes : List ℕ) : Type 0 where
 abbrev pub Good : Segment → Type 0
 Good d = IsTrue (good d)
 
+-- a datagram with this TCP checksum (RFC 9293, section 3.1)
+abbrev pub with_sum : Segment → ℕ → Segment
+with_sum d checksum = record d { checksum = checksum }
+
 -- a datagram with its TCP checksum set right (RFC 9293, section 3.1)
 abbrev pub finished : Segment → Segment
-finished d = record d { checksum = checksum_of d }
+finished d = with_sum d (checksum_of d)
 
 -- TCP bytes with this checksum in their header (RFC 9293, section 3.1)
 abbrev pub with_checksum : List ℕ → ℕ → List ℕ

@@ -1,3 +1,4 @@
+pub mod Drafts
 pub mod Lending
 pub mod Parts
 pub mod Places
