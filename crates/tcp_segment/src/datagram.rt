@@ -4,11 +4,11 @@ ghost use Rattle.ao_base.specs.declared.address.Address.TheVariants.{V4, V6};
 ghost use Rattle.segment_model.specs.Segments.{Segment, reading, Read, Bad, first_fault, fields, spell, header, good};
 ghost use Rattle.segment_model.specs.Spelling.{AreBytes, Fits, Spells};
 ghost use Rattle.tcp_segment.specs.Places.{IsRead};
-ghost use Rattle.tcp_segment.specs.Views.{fault_of};
 
-use crate::reading::{DatagramFault, Places, places_in};
+use crate::reading::{Places, places_in};
 use crate::sums::{address_sum, four, two, words};
 use ao_base::{Address, Socket};
+use segment_model::DatagramFault;
 use std::marker::Model;
 use tcp_options::{Options, options_over};
 
@@ -37,7 +37,7 @@ impl<'a> Model for Datagram<'a> {
 /// end are left unread. A wrong TCP checksum is no fault: `checksum_ok` tells.
 pub fn read_datagram(bytes: &[u8]) -> Result<Datagram<'_>, DatagramFault>
     ensures read { IfOk result (λ datagram. reading bytes.now ≡ Read datagram) }
-    ensures refused { IfErr result (λ fault. reading bytes.now ≡ Bad (fault_of fault)) }
+    ensures refused { IfErr result (λ fault. reading bytes.now ≡ Bad fault) }
     ensures spelled { IfOk result (λ datagram. Spells datagram (take (length (spell datagram)) bytes.now)) }
     ensures only { (d : Segment) (rest : List ℕ) → Fits d → bytes.now ≡ spell d ++ rest → IsOkAnd result (λ datagram. datagram ≡ d) }
 {
