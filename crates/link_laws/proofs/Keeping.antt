@@ -20,10 +20,11 @@ use Rattle.endpoint_model.specs.Verdicts.{Finding}
 use Rattle.endpoint_model.specs.Emissions.{Draft, Emitted, Quiet, NoKey, is_silent, most_bytes, blank, seal_known, keyed, emitted, to_emit, to_resend, emit, resend}
 use Rattle.link_laws.proofs.Tests.{choose, not_true, not_false}
 use Rattle.link_laws.proofs.Ended.{at_end-later}
-use Rattle.link_laws.proofs.Sound.{Sound, Later, later_refl, steady_later, steady_sound, with_phase, closed_ok}
+use Rattle.link_laws.proofs.Sound.{Sound, Later, later_refl, steady_later, steady_sound, with_phase}
+use Rattle.link_laws.proofs.Phases.{closed_ok, closed_kept, resets_speaks}
 use Rattle.link_laws.proofs.Lists.{bytes_from-add, length-bytes_from, take-bytes_from}
 use Rattle.link_laws.proofs.Stream.{Stream}
-use Rattle.link_laws.proofs.Whole.{Whole, whole_phase, closed_kept}
+use Rattle.link_laws.proofs.Whole.{Whole, whole_phase}
 use Rattle.link_laws.proofs.Gains.{Brings, BringsFin, BringsAck}
 use Rattle.link_laws.proofs.Carrying.{Carries, MayCarry, emit_carries, resend_carries}
 use Rattle.link_laws.proofs.Drafts.{DraftOk, MayDraft, most_low, emit_ok, resend_ok}
@@ -308,20 +309,6 @@ close_ok setup e s Listen h whole = ended_ok setup e s h whole
 close_ok setup e s SynSent h whole = ended_ok setup e s h whole
 close_ok setup e s Closed h whole = still_ok setup e s Done h whole
 close_ok setup e s _ h whole = closing_ok setup e s h whole
-
--- a RST is owed only where the peer knows of the end
-resets_speaks : (phase : Phase) (sent : Bool) → abort_resets phase sent ≡ true → is_silent phase ≡ false
-resets_speaks SynReceived sent e = refl
-resets_speaks Established sent e = refl
-resets_speaks FinWait1 sent e = refl
-resets_speaks FinWait2 sent e = refl
-resets_speaks CloseWait sent e = refl
-resets_speaks Listen sent e = absurd (cc)
-resets_speaks SynSent sent e = absurd (cc)
-resets_speaks Closing sent e = absurd (cc)
-resets_speaks LastAck sent e = absurd (cc)
-resets_speaks TimeWait sent e = absurd (cc)
-resets_speaks Closed sent e = absurd (cc)
 
 or_true : (P : Type 0) (a b : Bool) → (a ≡ true → P) → (b ≡ true → P) → (a || b) ≡ true → P
 or_true P true b one two e = one refl

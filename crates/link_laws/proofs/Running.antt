@@ -19,8 +19,9 @@ use Rattle.endpoint_model.specs.declared.phase.Phase.TheVariants.{Listen, SynSen
 use Rattle.endpoint_model.specs.States.{EndState, beginning, connected, listening, started, is_due, tick_in, tick}
 use Rattle.link_laws.proofs.Tests.{choose}
 use Rattle.link_laws.proofs.Ended.{at_end-later}
-use Rattle.link_laws.proofs.Sound.{fin_made, Sound, Later, Steady, steady_refl, steady_later, steady_sound, with_phase, closed_ok}
-use Rattle.link_laws.proofs.Whole.{open_now, Whole, whole_phase, closed_kept, fresh}
+use Rattle.link_laws.proofs.Sound.{Sound, Later, Steady, steady_refl, steady_later, steady_sound, with_phase}
+use Rattle.link_laws.proofs.Phases.{fin_made, open_now, closed_ok, closed_kept}
+use Rattle.link_laws.proofs.Whole.{Whole, whole_phase, fresh}
 use Rattle.endpoint_model.specs.Verdicts.{Finding}
 use Rattle.endpoint_model.specs.Arrivals.{Arrived, arrive}
 use Rattle.link_laws.proofs.Gains.{Brings, BringsFin, BringsAck, Gains}

@@ -12,18 +12,11 @@ use Rattle.segment_model.specs.Received.{below_limit, keep, first_missing, runs}
 use Rattle.endpoint_model.specs.Arrivals.{Moved, owing, above, within, fits_window, rested, finish, past_fin, pass_fin, fin_of, heard_runs, hear_data, after_own_fin, acked_fin, windowed, acked, go_on, acknowledged, ordinary, syn_alone, syn_ack_alone, after_check}
 use Rattle.endpoint_model.specs.Emissions.{is_silent}
 use Rattle.link_laws.proofs.Tests.{not_true}
-use Rattle.link_laws.proofs.Sound.{waits, Sound}
+use Rattle.link_laws.proofs.Phases.{waits, open_now, PhaseKept, own_kept, past_kept, closed_kept, hears_speaks}
+use Rattle.link_laws.proofs.Sound.{Sound}
 use Rattle.link_laws.proofs.Moves.{following}
 use Rattle.link_laws.proofs.Stream.{Stream, room_of, not_some, fm_stop, runs_none, edge, kept, moved, moved_missing, recorded, passed, or_lt}
 use Rattle.segment_model.specs.Bytes.{ring}
-
--- the handshake is over
-abbrev pub open_now : Phase → Bool
-open_now Listen = false
-open_now SynSent = false
-open_now SynReceived = false
-open_now Closed = false
-open_now _ = true
 
 -- what is known of the peer, and what is acknowledged
 pub record EndsOf (phase : Phase) (isn : ℕ) (peer_isn : Option ℕ) (una next : ℕ) (rst : Bool) : Type 0 where
@@ -42,43 +35,6 @@ pub record WholeOf (phase : Phase) (isn : ℕ) (peer_isn : Option ℕ) (una next
 
 abbrev pub Whole : EndState → Type 0
 Whole s = WholeOf s.phase s.isn s.peer_isn s.una s.next s.rst_owed s.taken s.received s.fin s.expected
-
--- a change of phase that keeps what is said of phases
-pub record PhaseKept (old new : Phase) : Type 0 where
-  pub opens : open_now new ≡ true → open_now old ≡ true
-  pub knows : is_silent new ≡ false → is_silent old ≡ false
-
-kept_phase : (phase : Phase) → PhaseKept phase phase
-kept_phase phase = record { opens = λ e. e; knows = λ e. e }
-
-own_kept : (phase : Phase) → PhaseKept phase (after_own_fin phase)
-own_kept FinWait1 = record { opens = λ e. e; knows = λ e. e }
-own_kept Closing = record { opens = λ e. e; knows = λ e. e }
-own_kept LastAck = record { opens = λ e. absurd (cc); knows = λ e. absurd (cc) }
-own_kept Listen = kept_phase Listen
-own_kept SynSent = kept_phase SynSent
-own_kept SynReceived = kept_phase SynReceived
-own_kept Established = kept_phase Established
-own_kept FinWait2 = kept_phase FinWait2
-own_kept CloseWait = kept_phase CloseWait
-own_kept TimeWait = kept_phase TimeWait
-own_kept Closed = kept_phase Closed
-
-past_kept : (phase : Phase) → PhaseKept phase (past_fin phase)
-past_kept Established = record { opens = λ e. e; knows = λ e. e }
-past_kept FinWait1 = record { opens = λ e. e; knows = λ e. e }
-past_kept FinWait2 = record { opens = λ e. e; knows = λ e. e }
-past_kept Listen = kept_phase Listen
-past_kept SynSent = kept_phase SynSent
-past_kept SynReceived = kept_phase SynReceived
-past_kept Closing = kept_phase Closing
-past_kept LastAck = kept_phase LastAck
-past_kept CloseWait = kept_phase CloseWait
-past_kept TimeWait = kept_phase TimeWait
-past_kept Closed = kept_phase Closed
-
-pub closed_kept : (phase : Phase) → PhaseKept phase Closed
-closed_kept phase = record { opens = λ e. absurd (cc); knows = λ e. absurd (cc) }
 
 ends_phase : (old new : Phase) (isn : ℕ) (peer_isn : Option ℕ) (una next : ℕ) (rst : Bool) → PhaseKept old new → EndsOf old isn peer_isn una next rst → EndsOf new isn peer_isn una next rst
 ends_phase old new isn peer_isn una next rst ok h =
@@ -185,19 +141,6 @@ hear_whole : (s : EndState) (d : Segment) (n now : ℕ) (b : Bool) → (b ≡ tr
 hear_whole s d n now false known h = finish_whole s now h
 hear_whole s d n now true known h = hear_if s d n now _ (known refl) h
 
-hears_known : (phase : Phase) → hears phase ≡ true → is_silent phase ≡ false
-hears_known Established e = refl
-hears_known FinWait1 e = refl
-hears_known FinWait2 e = refl
-hears_known Listen e = absurd (cc)
-hears_known SynSent e = absurd (cc)
-hears_known SynReceived e = absurd (cc)
-hears_known CloseWait e = absurd (cc)
-hears_known Closing e = absurd (cc)
-hears_known LastAck e = absurd (cc)
-hears_known TimeWait e = absurd (cc)
-hears_known Closed e = absurd (cc)
-
 windowed_whole : (s : EndState) (old : ℕ) (d : Segment) (k : ℕ) (a : Option ℕ) → Whole s → Whole (windowed s old d k a)
 windowed_whole s old d k None h = h
 windowed_whole s old d k (Some a) h = pick _ (record s { send_window = d.window; wl1 = k; wl2 = a }) s (λ e. h) (λ e. h)
@@ -210,7 +153,7 @@ go_on_whole s old d n now a h =
     let w = windowed s old d n a in
     let t = acked_fin w a in
     let done = acked_fin_whole w a (windowed_whole s old d n a h) in
-    hear_whole t d n now _ (λ e. done.ends.known (hears_known t.phase (and_tells (hears t.phase) (nat_lt 0 (length d.payload) || has FIN d) e).0)) done
+    hear_whole t d n now _ (λ e. done.ends.known (hears_speaks t.phase (and_tells (hears t.phase) (nat_lt 0 (length d.payload) || has FIN d) e).0)) done
 
 una_whole : (s : EndState) (a : ℕ) → s.una < a → a ≤ s.next → Whole s → Whole (record s { una = a })
 una_whole s a more top h =
