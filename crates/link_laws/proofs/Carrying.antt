@@ -1,5 +1,5 @@
 -- What the segments that an end makes carry, and the receiving half after them.
-use Rattle.std.proofs.Common.{◌≡◌, ℕ, ◌+◌, ◌-◌, ◌≤◌, ◌==◌, min, Bool, true, false, not, ◌&&◌, nat_lt, drop, slice_get, Option, Some, None, ◌⊎◌, inl, inr, refl, arith}
+use Rattle.std.proofs.Common.{◌≡◌, ℕ, ◌+◌, ◌-◌, ◌≤◌, ◌==◌, min, Bool, true, false, not, ◌&&◌, nat_lt, drop, slice_get, Option, Some, None, ◌⊎◌, inl, inr, refl, sym, subst, arith, List}
 use Rattle.std.specs.Prelude.{⊤}
 use Rattle.ao_base.specs.declared.address.Pair.{Pair}
 use Rattle.segment_model.specs.Segments.{SYN, ACK}
@@ -10,13 +10,20 @@ use Rattle.endpoint_model.specs.States.{EndState, given_end}
 use Rattle.endpoint_model.specs.Emissions.{Draft, is_sending, is_silent, is_syn_sent, is_syn_received, unsent, slice_at, rst_draft, syn_draft, syn_ack_draft, data_draft, again_draft, fin_draft, fin_again_draft, ack_draft, sends_data, sends_fin, fitting, to_emit, resends, unacknowledged, is_blocked, probe, to_resend, sets}
 use Rattle.link_laws.proofs.Tests.{choose, not_true}
 use Rattle.link_laws.proofs.Drafts.{sends_data_says, sends_fin_says}
-use Rattle.link_laws.proofs.Lists.{slice_get-take, slice_get-drop}
+use Rattle.link_laws.proofs.Lists.{slice_get-append, slice_get-take, slice_get-drop}
 use Rattle.link_laws.proofs.Phases.{sending_open, sending_speaks, resends_open, resends_speaks, syn_received_speaks}
+use Rattle.link_laws.proofs.Sound.{Later}
 use Rattle.link_laws.proofs.Whole.{Whole}
 
 -- the session was given this byte at this number
 abbrev pub GivenAt : EndState → ℕ → ℕ → Type 0
 GivenAt s p b = (j : ℕ) × (p ≡ s.isn + 1 + j) × (slice_get s.given j ≡ Some b)
+
+-- what was given stays so
+pub given-later : (old new : EndState) (p b : ℕ) → Later old new → GivenAt old p b → GivenAt new p b
+given-later old new p b l (j, at, byte) =
+    let same = l.same_isn in
+    (j, omega arith, subst (λ (g : List ℕ). slice_get g j ≡ Some b) (sym l.grown.1) (slice_get-append old.given l.grown.0 j b byte))
 
 -- the context of a segment with these flags is known: for SYN without ACK always, else with the peer's initial sequence number
 abbrev pub TellsContext : ℕ → Option ℕ → Type 0

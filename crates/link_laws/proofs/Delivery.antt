@@ -24,8 +24,10 @@ use Rattle.link_model.specs.Worlds.{other, Setup, pair_of, Session, Side, Made, 
 use Rattle.link_model.specs.Steps.{Stepped, Act, put, with_sessions, with_rows, ticked, with_clock, acted, act_on, begin, on_live, come, deliver, alter, add_row, withdraw, step}
 use Rattle.link_model.specs.Runs.{empty, run_from, run}
 use Rattle.link_laws.proofs.Invariant.{AllSound, AllWhole, Inv}
-use Rattle.link_laws.proofs.Keeping.{both, grows_refl, grows_head, grows_new, same_gained, ActOk, given_ok, took_ok, close_ok, abort_ok, send_ok, resend_act_ok}
-use Rattle.link_laws.proofs.Origin.{partner_is}
+use Rattle.link_laws.proofs.Sessions.{both, grows_refl, grows_head, grows_new}
+use Rattle.link_laws.proofs.Keeping.{same_gained, ActOk}
+use Rattle.link_laws.proofs.Calls.{given_ok, took_ok, close_ok, abort_ok}
+use Rattle.link_laws.proofs.Making.{send_ok, resend_act_ok}
 use Rattle.link_laws.proofs.Running.{ticks, tick_later, altered_bytes, come_ok, named_bytes, step_keeps, begins_inv, run_inv}
 use Rattle.link_laws.proofs.Streams.{FinMade, OfPartner, Received, AllReceived, AllAcked, Heard, put_heard, head_heard}
 

@@ -14,7 +14,7 @@ use Rattle.endpoint_model.specs.States.{EndState}
 use Rattle.endpoint_model.specs.Emissions.{slice_at, sets, written, blank, own_ao}
 use Rattle.segment_model.specs.Spelling.{finished}
 use Rattle.link_laws.proofs.Sound.{Later}
-use Rattle.link_laws.proofs.Carrying.{GivenAt}
+use Rattle.link_laws.proofs.Carrying.{GivenAt, given-later}
 use Rattle.link_laws.proofs.Written.{area_ao, same_input, same_context}
 use Rattle.link_model.specs.Entries.{StandsIn, AcknowledgesAs, AsMade, AllMade, Carried}
 use Rattle.link_model.specs.declared.event.Event.{Event}
@@ -81,17 +81,6 @@ slice_is t n (x ∷ payload) carried =
     let place = given.1 in
     let index : given.0 ≡ n - (t.isn + 1) + i = omega arith in
     subst (λ (j : ℕ). slice_get t.given j ≡ Some b) index given.2))
-
--- what is got from the beginning of a list is got from a longer one
-get-append : (xs ys : List ℕ) (k b : ℕ) → slice_get xs k ≡ Some b → slice_get (xs ++ ys) k ≡ Some b
-get-append [] ys k b e = absurd (cc)
-get-append (x ∷ xs) ys zero b e = e
-get-append (x ∷ xs) ys (suc k) b e = get-append xs ys k b e
-
-given-later : (old new : EndState) (p b : ℕ) → Later old new → GivenAt old p b → GivenAt new p b
-given-later old new p b l (j, at, byte) =
-    let same = l.same_isn in
-    (j, omega arith, subst (λ (g : List ℕ). slice_get g j ≡ Some b) (sym l.grown.1) (get-append old.given l.grown.0 j b byte))
 
 -- what a segment with this flag or without it acknowledges
 acknowledges_as : (b : Bool) (a : ℕ) (d : Segment) → has ACK d ≡ b → d.acknowledgement ≡ (if b then a % ring else 0) → AcknowledgesAs (if b then Some a else None) d

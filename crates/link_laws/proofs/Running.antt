@@ -37,7 +37,10 @@ use Rattle.link_model.specs.Steps.{Stepped, with_sessions, with_rows, ticked, wi
 use Rattle.link_model.specs.Runs.{empty, run_from, run}
 use Rattle.link_model.specs.Laws.{RowFits, SetupFits, EventFits}
 use Rattle.link_laws.proofs.Invariant.{MadeOk, AllMadeOk, AllSound, AllWhole, AllShown, Distinct, Inv, Grows, wired}
-use Rattle.link_laws.proofs.Keeping.{grows_refl, grows_head, grows_new, both, put_keeps, Gained, HasPassed, same_gained, ActOk, act_keeps, given_ok, took_ok, close_ok, abort_ok, send_ok, resend_act_ok}
+use Rattle.link_laws.proofs.Sessions.{grows_refl, grows_head, grows_new, both}
+use Rattle.link_laws.proofs.Keeping.{put_keeps, Gained, HasPassed, same_gained, ActOk, act_keeps}
+use Rattle.link_laws.proofs.Calls.{given_ok, took_ok, close_ok, abort_ok}
+use Rattle.link_laws.proofs.Making.{send_ok, resend_act_ok}
 use Rattle.link_laws.proofs.Arriving.{Passing, ArrivedOk, arrive_ok}
 
 -- ---- bytes that come

@@ -14,14 +14,15 @@ use Rattle.link_laws.proofs.Sound.{Sound, Later}
 use Rattle.link_laws.proofs.Stream.{Stream}
 use Rattle.link_laws.proofs.Whole.{Whole}
 use Rattle.link_laws.proofs.Gains.{Brings, BringsFin, BringsAck}
-use Rattle.link_laws.proofs.Carrying.{GivenAt}
+use Rattle.link_laws.proofs.Carrying.{GivenAt, given-later}
 use Rattle.link_laws.proofs.Lists.{slice_get-append}
 use Rattle.link_model.specs.Headline.{GivesFew}
 use Rattle.link_model.specs.Laws.{SetupFits, Repeats}
 use Rattle.link_model.specs.Worlds.{other, Setup, pair_of, Session, Side, Made, Came, Happening, Making, Coming, World, side, find, forged, forgeries}
 use Rattle.link_model.specs.Steps.{add, put}
 use Rattle.link_laws.proofs.Invariant.{MadeBy, Inv, Grows}
-use Rattle.link_laws.proofs.Keeping.{both, HasPassed, Gained}
+use Rattle.link_laws.proofs.Sessions.{both}
+use Rattle.link_laws.proofs.Keeping.{HasPassed, Gained}
 use Rattle.link_laws.proofs.Arriving.{Passing}
 use Rattle.link_laws.proofs.Origin.{Origin, origin_of, found_made, none_forged, plain_context}
 use Rattle.segment_model.specs.Bytes.{ring}
@@ -62,11 +63,6 @@ pub record Heard (w : World) : Type 0 where
   pub acks : forgeries w.history ≡ 0 → GivesFew w → (e : End) → AllAcked (side w (other e)).sessions (side w e).sessions
 
 -- ---- what stays so
-
-given-later : (old new : EndState) (p b : ℕ) → Later old new → GivenAt old p b → GivenAt new p b
-given-later old new p b l (j, at, byte) =
-    let same = l.same_isn in
-    (j, omega arith, subst (λ (g : List ℕ). slice_get g j ≡ Some b) (sym l.grown.1) (slice_get-append old.given l.grown.0 j b byte))
 
 fin-later : (old new : EndState) (f : ℕ) → Later old new → FinMade old f → FinMade new f
 fin-later old new f l (closing, at) =

@@ -1,0 +1,101 @@
+-- A segment that is made keeps the facts.
+use Rattle.std.proofs.Common.{◌≡◌, ℕ, ◌+◌, ◌-◌, ◌≤◌, ◌==◌, Bool, true, false, not, ◌||◌, List, [], ◌∷◌, ◌++◌, length, take, Option, Some, None, ◌⊎◌, inl, min, if◌then◌else◌, refl, sym, ap, ◌∙◌, subst, arith, append-nil, length-append, length-take, nat_lt}
+use Rattle.std.specs.Prelude.{⊤, is_some}
+use Rattle.std.specs.List.{AllByRecursion}
+use Rattle.std.proofs.lemmas.Bool.Decides.{nat_tests}
+use Rattle.ao_base.specs.declared.end.End.{End}
+use Rattle.ao_base.specs.declared.end.End.TheVariants.{A, B}
+use Rattle.segment_model.specs.Segments.{Segment}
+use Rattle.segment_model.specs.Spelling.{AreBytes}
+use Rattle.segment_model.proofs.Fields.{and_tells, eqb_is, lt_not, some_is}
+use Rattle.mac_model.specs.Contexts.{context_of}
+use Rattle.key_model.specs.Lifetimes.{greatest_time}
+use Rattle.key_model.specs.Overlaps.{IsValid}
+use Rattle.key_model.specs.Coordination.{Sending as Using, choose as choose_row}
+use Rattle.endpoint_model.specs.declared.phase.Phase.{Phase}
+use Rattle.endpoint_model.specs.declared.phase.Phase.TheVariants.{Listen, SynSent, SynReceived, Established, FinWait1, FinWait2, CloseWait, Closing, LastAck, TimeWait, Closed}
+use Rattle.endpoint_model.specs.States.{EndState, first, ready, is_closed, room, gives, give, taking, at_end, close_in, abort_resets, abort}
+use Rattle.segment_model.specs.Received.{below_limit, bytes_from}
+use Rattle.endpoint_model.specs.Verdicts.{Finding}
+use Rattle.endpoint_model.specs.Emissions.{Draft, Emitted, Quiet, NoKey, is_silent, most_bytes, blank, seal_known, keyed, emitted, to_emit, to_resend, emit, resend}
+use Rattle.link_laws.proofs.Tests.{choose, not_true, not_false}
+use Rattle.link_laws.proofs.Ended.{at_end-later}
+use Rattle.link_laws.proofs.Sound.{Sound, Later, later_refl, steady_later, steady_sound, with_phase}
+use Rattle.link_laws.proofs.Phases.{closed_ok, closed_kept, resets_speaks}
+use Rattle.link_laws.proofs.Lists.{bytes_from-add, length-bytes_from, take-bytes_from}
+use Rattle.link_laws.proofs.Stream.{Stream}
+use Rattle.link_laws.proofs.Whole.{Whole, whole_phase}
+use Rattle.link_laws.proofs.Gains.{Brings, BringsFin, BringsAck}
+use Rattle.link_laws.proofs.Carrying.{Carries, MayCarry, emit_carries, resend_carries}
+use Rattle.link_laws.proofs.Drafts.{DraftOk, MayDraft, most_low, emit_ok, resend_ok}
+use Rattle.link_laws.proofs.ByteLists.{join}
+use Rattle.link_model.specs.Outcomes.{Outcome, Done, Idle, Nothing, Full, HasClosed, WithoutKey}
+use Rattle.link_model.specs.Worlds.{Setup, pair_of, Session, Side, Made, Happening, Making, Coming, World, side, find}
+use Rattle.link_model.specs.Steps.{Act, add, put, with_sessions, acted, act_on, quietly, given, sent, send, send_again, took}
+use Rattle.link_model.specs.Laws.{RowFits}
+use Rattle.link_laws.proofs.Invariant.{MadeBy, made-later, MadeOk, AllMadeOk, AllSound, AllWhole, AllShown, Distinct, Inv, Grows}
+use Rattle.link_laws.proofs.Arriving.{Passing}
+use Rattle.link_laws.proofs.Keeping.{same_gained, ActOk}
+use Rattle.link_laws.proofs.Calls.{still_ok}
+
+module _ (setup : Setup) (e : End) (w : World) (rows_fit : AllByRecursion RowFits (side w e).rows) (s : EndState) (sound : Sound s) (whole : Whole s) where
+  quiet_ok : (without : Outcome) → ActOk setup e s (quietly s without)
+  quiet_ok without = still_ok setup e s without sound whole
+
+  sealed_ok : (without : Outcome) (out : Draft) (using : Using) (o : Option (List ℕ)) → DraftOk s out → Carries s out
+      → choose_row s.current (side w e).rows (pair_of setup e) (side w e).clock ≡ Some using
+      → context_of (blank (pair_of setup e) s out using) (Some s.isn) s.peer_isn ≡ o → ActOk setup e s (sent e w s without (seal_known (pair_of setup e) s out using o))
+  sealed_ok without out using None ok carry picked known = quiet_ok without
+  sealed_ok without out using (Some c) ok carry picked known =
+      record {
+        later = ok.later;
+        sound = ok.sound;
+        whole = carry.whole;
+        shown = λ t. absurd (cc);
+        made = (
+          refl,
+          record {
+            state = s;
+            later = ok.later;
+            sound = sound;
+            whole = whole;
+            draft = out;
+            drafted = ok;
+            carries = carry;
+            sending = using;
+            rows_fit = rows_fit;
+            picked = picked;
+            context = c;
+            known = known;
+            emission = refl;
+            bytes = refl;
+            isn = refl;
+          },
+        );
+        gained = same_gained setup e s (record (out.state) { current = Some using.number }) _ carry.same_received carry.same_fin carry.same_una;
+      }
+
+  keyed_ok : (without : Outcome) (using : Using) (o : Option Draft) → MayDraft s o → MayCarry s o → choose_row s.current (side w e).rows (pair_of setup e) (side w e).clock ≡ Some using
+      → ActOk setup e s (sent e w s without (keyed (pair_of setup e) s using o))
+  keyed_ok without using None ok carry picked = quiet_ok without
+  keyed_ok without using (Some out) ok carry picked = sealed_ok without out using (context_of (blank (pair_of setup e) s out using) (Some s.isn) s.peer_isn) ok carry picked refl
+
+  emitted_ok : (without : Outcome) (draft : ℕ → Option Draft) (o : Option Using) → ((most : ℕ) → most ≤ 1460 → MayDraft s (draft most)) → ((most : ℕ) → MayCarry s (draft most))
+      → choose_row s.current (side w e).rows (pair_of setup e) (side w e).clock ≡ o → ActOk setup e s (sent e w s without (emitted (pair_of setup e) s draft o))
+  emitted_ok without draft None ok carry picked =
+      choose (λ (x : Emitted). ActOk setup e s (sent e w s without x)) (is_some (draft 0)) NoKey Quiet (λ t. quiet_ok WithoutKey) (λ t. quiet_ok without)
+  emitted_ok without draft (Some using) ok carry picked =
+      let most = most_bytes (pair_of setup e) s using in
+      keyed_ok without using (draft most) (ok most (most_low (pair_of setup e) s using)) (carry most) picked
+
+  pub send_ok : ActOk setup e s (send setup e w s)
+  unfolding emit
+  send_ok =
+      emitted_ok Idle (to_emit s) (choose_row s.current (side w e).rows (pair_of setup e) (side w e).clock)
+      (λ most low. emit_ok s most low sound) (λ most. emit_carries s most whole) refl
+
+  pub resend_act_ok : ActOk setup e s (send_again setup e w s)
+  unfolding resend
+  resend_act_ok =
+      emitted_ok Nothing (to_resend s) (choose_row s.current (side w e).rows (pair_of setup e) (side w e).clock)
+      (λ most low. resend_ok s most low sound) (λ most. resend_carries s most whole) refl
