@@ -20,7 +20,7 @@ use Rattle.mac_model.specs.MacInput.{mac_input}
 use Rattle.mac_model.specs.Keys.{traffic_key, mac}
 use Rattle.key_model.specs.Rows.{Row, sendable}
 use Rattle.key_model.specs.Choices.{Numbered, accept_row}
-use Rattle.key_model.specs.Coordination.{Sending as Using, follow, choose as choose_row}
+use Rattle.key_model.specs.Coordination.{Sending, follow, choose as choose_row}
 use Rattle.key_model.specs.Plans.{mirrored, IsMet, AlignedFrom}
 use Rattle.key_model.proofs.OverlapLaws.{same_address-refl}
 use Rattle.key_model.proofs.SendingLaws.{chosen}

@@ -30,6 +30,7 @@ use Rattle.endpoint_model.specs.States.{EndState, gives, room, give}
 use Rattle.endpoint_model.specs.Verdicts.{Key, key_of, same_key, Finding}
 use Rattle.endpoint_model.specs.Arrivals.{arrive}
 use Rattle.endpoint_model.specs.Emissions.{Emitted, Quiet, NoKey, Emits, sets, no_mac, own_ao, emit, resend}
+use Rattle.link_laws.proofs.ByteLists.{altered_bytes}
 use Rattle.link_laws.proofs.Tests.{choose}
 use Rattle.link_laws.proofs.Sound.{Sound}
 use Rattle.link_laws.proofs.Whole.{Whole}
@@ -43,7 +44,7 @@ use Rattle.link_model.specs.Steps.{Act, add, put, with_rows, with_clock, act_on,
 use Rattle.link_model.specs.Laws.{SetupFits, EventFits, IsAmong, Repeats, FromPartner, Arrives, HasOrigin, ResetsByAbort}
 use Rattle.link_laws.proofs.Invariant.{live_sound, live_whole, MadeBy, MadeOk, AllMadeOk, AllSound, AllWhole, Inv, blank_in, blank_fits}
 use Rattle.link_laws.proofs.Arriving.{Passing, ArrivedOk, arrive_ok}
-use Rattle.link_laws.proofs.Running.{named_bytes, altered_bytes}
+use Rattle.link_laws.proofs.Running.{named_bytes}
 
 -- bytes that came to the live session of an end
 pub record CameBy (setup : Setup) (w : World) (r : Came) : Type 0 where

@@ -14,7 +14,7 @@ use Rattle.link_laws.proofs.Whole.{Whole}
 use Rattle.link_laws.proofs.Carrying.{GivenAt}
 use Rattle.link_laws.proofs.Lists.{bytes_from-add, length-bytes_from}
 use Rattle.link_model.specs.RowLines.{row_of}
-use Rattle.link_laws.proofs.ByteLists.{repeated}
+use Rattle.link_laws.proofs.ByteLists.{altered_bytes, repeated}
 use Rattle.link_model.specs.Alterations.{has_place, altered}
 use Rattle.link_model.specs.declared.event.Event.{Event}
 use Rattle.link_model.specs.declared.event.Event.TheVariants.{Clock, Connect, Listen as Await, Start, Give, Fill, Send, Resend, Deliver, Inject, Alter, Take, Close, Abort, AddRow, Withdraw, Dump}
@@ -28,7 +28,7 @@ use Rattle.link_laws.proofs.Sessions.{both, grows_refl, grows_head, grows_new}
 use Rattle.link_laws.proofs.Keeping.{same_gained, ActOk}
 use Rattle.link_laws.proofs.Calls.{given_ok, took_ok, close_ok, abort_ok}
 use Rattle.link_laws.proofs.Making.{send_ok, resend_act_ok}
-use Rattle.link_laws.proofs.Running.{ticks, tick_later, altered_bytes, come_ok, named_bytes, step_keeps, begins_inv, run_inv}
+use Rattle.link_laws.proofs.Running.{ticks, tick_later, come_ok, named_bytes, step_keeps, begins_inv, run_inv}
 use Rattle.link_laws.proofs.Streams.{FinMade, OfPartner, Received, AllReceived, AllAcked, Heard, put_heard, head_heard}
 
 -- ---- each step

@@ -103,28 +103,28 @@ as_made_by setup w m fits ok =
     let d = finished (written pair s out h.sending the_mac) in
     let segment : m.emission.segment ≡ d = ap (λ x. x.segment) h.emission in
     let number : m.emission.number ≡ out.number = ap (λ x. x.number) h.emission in
-    let using : m.emission.sending ≡ h.sending = ap (λ x. x.sending) h.emission in
+    let sending : m.emission.sending ≡ h.sending = ap (λ x. x.sending) h.emission in
     let context_is : m.emission.context ≡ h.context = ap (λ x. x.context) h.emission in
     let row = chosen (StandsIn m.rows) s.current m.rows pair m.clock h.sending (all_stand m.rows) h.picked in
     let ao = own_ao out h.sending the_mac in
     let flags : m.emission.segment.flags ≡ out.flags = ap (λ x. x.segment.flags) h.emission in
     let payload : m.emission.segment.payload ≡ out.payload = ap (λ x. x.segment.payload) h.emission in
     let small = h.drafted.small in
-    let long = wire.mac_long ∙ ap (λ x. mac_length_of x.row.algorithm) using in
+    let long = wire.mac_long ∙ ap (λ x. mac_length_of x.row.algorithm) sending in
     let carried : (i b : ℕ) → slice_get out.payload i ≡ Some b → GivenAt t (out.number + i) b = λ i b e. given-later s t (out.number + i) b h.later (h.carries.carried i b e) in
     record {
       session = ok.session;
       found = ok.found;
       row = record {
-        stands = subst (λ x. StandsIn m.rows x.row) (sym using) row.of;
-        may = ap (λ x. sendable pair m.clock x.row) using ∙ row.may;
-        key_id = ap (λ x. x.key_id) using ∙ row.key_id ∙ ap (λ x. x.row.send_id) (sym using);
+        stands = subst (λ x. StandsIn m.rows x.row) (sym sending) row.of;
+        may = ap (λ x. sendable pair m.clock x.row) sending ∙ row.may;
+        key_id = ap (λ x. x.key_id) sending ∙ row.key_id ∙ ap (λ x. x.row.send_id) (sym sending);
       };
       written = record {
         state = s;
         draft = out;
         mac = the_mac;
-        form = segment ∙ ap (λ x. finished (written pair s out x the_mac)) (sym using);
+        form = segment ∙ ap (λ x. finished (written pair s out x the_mac)) (sym sending);
         flags = ap (λ x. x.flags) h.emission ∙ sym flags;
         acknowledged = subst (λ x. AcknowledgesAs x.acknowledged x.segment) (sym h.emission) (acknowledges_as (sets out.flags ACK) s.expected d refl refl);
       };
@@ -138,12 +138,12 @@ as_made_by setup w m fits ok =
             ∙ ap (λ (k : ℕ). context_of (blank pair s out h.sending) (Some k) s.peer_isn) h.later.same_isn ∙ h.known ∙ ap (λ c. Some c) (sym context_is));
         ao = ao;
         option = ap (λ x. find_ao x.area) segment ∙ area_ao pair (sets out.flags SYN) h.sending the_mac;
-        key_id = ap (λ x. x.key_id) (sym using);
-        rnext_key_id = ap (λ x. x.rnext_key_id) (sym using);
+        key_id = ap (λ x. x.key_id) (sym sending);
+        rnext_key_id = ap (λ x. x.rnext_key_id) (sym sending);
         input =
             ap (λ x. x.input) h.emission ∙ sym (same_input pair s out h.sending the_mac out.number h.sending.row.with_options long)
             ∙ ap (λ (k : ℕ). mac_input k d ao h.sending.row.with_options) (sym number) ∙ ap (λ x. mac_input m.emission.number x ao h.sending.row.with_options) (sym segment)
-            ∙ ap (λ x. mac_input m.emission.number m.emission.segment ao x.row.with_options) (sym using);
+            ∙ ap (λ x. mac_input m.emission.number m.emission.segment ao x.row.with_options) (sym sending);
         mac = ap (λ e. mac e.sending.row.algorithm (traffic_key e.sending.row.algorithm e.sending.row.master e.context) e.input) (sym h.emission);
       };
       place = record {

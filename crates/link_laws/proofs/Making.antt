@@ -11,7 +11,7 @@ use Rattle.segment_model.proofs.Fields.{and_tells, eqb_is, lt_not, some_is}
 use Rattle.mac_model.specs.Contexts.{context_of}
 use Rattle.key_model.specs.Lifetimes.{greatest_time}
 use Rattle.key_model.specs.Overlaps.{IsValid}
-use Rattle.key_model.specs.Coordination.{Sending as Using, choose as choose_row}
+use Rattle.key_model.specs.Coordination.{Sending, choose as choose_row}
 use Rattle.endpoint_model.specs.declared.phase.Phase.{Phase}
 use Rattle.endpoint_model.specs.declared.phase.Phase.TheVariants.{Listen, SynSent, SynReceived, Established, FinWait1, FinWait2, CloseWait, Closing, LastAck, TimeWait, Closed}
 use Rattle.endpoint_model.specs.States.{EndState, first, ready, is_closed, room, gives, give, taking, at_end, close_in, abort_resets, abort}
@@ -42,11 +42,11 @@ module _ (setup : Setup) (e : End) (w : World) (rows_fit : AllByRecursion RowFit
   quiet_ok : (without : Outcome) → ActOk setup e s (quietly s without)
   quiet_ok without = still_ok setup e s without sound whole
 
-  sealed_ok : (without : Outcome) (out : Draft) (using : Using) (o : Option (List ℕ)) → DraftOk s out → Carries s out
-      → choose_row s.current (side w e).rows (pair_of setup e) (side w e).clock ≡ Some using
-      → context_of (blank (pair_of setup e) s out using) (Some s.isn) s.peer_isn ≡ o → ActOk setup e s (sent e w s without (seal_known (pair_of setup e) s out using o))
-  sealed_ok without out using None ok carry picked known = quiet_ok without
-  sealed_ok without out using (Some c) ok carry picked known =
+  sealed_ok : (without : Outcome) (out : Draft) (sending : Sending) (o : Option (List ℕ)) → DraftOk s out → Carries s out
+      → choose_row s.current (side w e).rows (pair_of setup e) (side w e).clock ≡ Some sending
+      → context_of (blank (pair_of setup e) s out sending) (Some s.isn) s.peer_isn ≡ o → ActOk setup e s (sent e w s without (seal_known (pair_of setup e) s out sending o))
+  sealed_ok without out sending None ok carry picked known = quiet_ok without
+  sealed_ok without out sending (Some c) ok carry picked known =
       record {
         later = ok.later;
         sound = ok.sound;
@@ -62,7 +62,7 @@ module _ (setup : Setup) (e : End) (w : World) (rows_fit : AllByRecursion RowFit
             draft = out;
             drafted = ok;
             carries = carry;
-            sending = using;
+            sending = sending;
             rows_fit = rows_fit;
             picked = picked;
             context = c;
@@ -72,21 +72,21 @@ module _ (setup : Setup) (e : End) (w : World) (rows_fit : AllByRecursion RowFit
             isn = refl;
           },
         );
-        gained = same_gained setup e s (record (out.state) { current = Some using.number }) _ carry.same_received carry.same_fin carry.same_una;
+        gained = same_gained setup e s (record (out.state) { current = Some sending.number }) _ carry.same_received carry.same_fin carry.same_una;
       }
 
-  keyed_ok : (without : Outcome) (using : Using) (o : Option Draft) → MayDraft s o → MayCarry s o → choose_row s.current (side w e).rows (pair_of setup e) (side w e).clock ≡ Some using
-      → ActOk setup e s (sent e w s without (keyed (pair_of setup e) s using o))
-  keyed_ok without using None ok carry picked = quiet_ok without
-  keyed_ok without using (Some out) ok carry picked = sealed_ok without out using (context_of (blank (pair_of setup e) s out using) (Some s.isn) s.peer_isn) ok carry picked refl
+  keyed_ok : (without : Outcome) (sending : Sending) (o : Option Draft) → MayDraft s o → MayCarry s o → choose_row s.current (side w e).rows (pair_of setup e) (side w e).clock ≡ Some sending
+      → ActOk setup e s (sent e w s without (keyed (pair_of setup e) s sending o))
+  keyed_ok without sending None ok carry picked = quiet_ok without
+  keyed_ok without sending (Some out) ok carry picked = sealed_ok without out sending (context_of (blank (pair_of setup e) s out sending) (Some s.isn) s.peer_isn) ok carry picked refl
 
-  emitted_ok : (without : Outcome) (draft : ℕ → Option Draft) (o : Option Using) → ((most : ℕ) → most ≤ 1460 → MayDraft s (draft most)) → ((most : ℕ) → MayCarry s (draft most))
+  emitted_ok : (without : Outcome) (draft : ℕ → Option Draft) (o : Option Sending) → ((most : ℕ) → most ≤ 1460 → MayDraft s (draft most)) → ((most : ℕ) → MayCarry s (draft most))
       → choose_row s.current (side w e).rows (pair_of setup e) (side w e).clock ≡ o → ActOk setup e s (sent e w s without (emitted (pair_of setup e) s draft o))
   emitted_ok without draft None ok carry picked =
       choose (λ (x : Emitted). ActOk setup e s (sent e w s without x)) (is_some (draft 0)) NoKey Quiet (λ t. quiet_ok WithoutKey) (λ t. quiet_ok without)
-  emitted_ok without draft (Some using) ok carry picked =
-      let most = most_bytes (pair_of setup e) s using in
-      keyed_ok without using (draft most) (ok most (most_low (pair_of setup e) s using)) (carry most) picked
+  emitted_ok without draft (Some sending) ok carry picked =
+      let most = most_bytes (pair_of setup e) s sending in
+      keyed_ok without sending (draft most) (ok most (most_low (pair_of setup e) s sending)) (carry most) picked
 
   pub send_ok : ActOk setup e s (send setup e w s)
   unfolding emit

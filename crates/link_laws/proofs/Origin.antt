@@ -21,7 +21,7 @@ use Rattle.segment_model.proofs.Fields.{and_tells, some_is, same_bytes_tells}
 use Rattle.mac_model.specs.Contexts.{context, context_of_syn, context_of_later, context_of}
 use Rattle.mac_model.specs.MacInput.{mac_input}
 use Rattle.mac_model.specs.Keys.{same_algorithm}
-use Rattle.mac_model.specs.Meaning.{SameFamily, Numbered}
+use Rattle.mac_model.specs.Meaning.{SameFamily, Numbered, SameMeaning}
 use Rattle.mac_model.proofs.Ids.{equal_inputs_equal_meaning}
 use Rattle.mac_model.proofs.Telling.{context_law}
 use Rattle.key_model.specs.Tables.{Adding, AddedAs, TooMany, OverlapsRow, adding, withdrawn}
@@ -43,58 +43,10 @@ use Rattle.link_model.specs.Steps.{Act, add, put, with_rows, with_clock, act_on,
 use Rattle.link_model.specs.Laws.{SetupFits, EventFits, IsAmong, Repeats, FromPartner, Arrives, HasOrigin, ResetsByAbort}
 use Rattle.link_laws.proofs.Invariant.{live_sound, live_whole, MadeBy, MadeOk, AllMadeOk, AllSound, AllWhole, Inv, blank_in, blank_fits}
 use Rattle.link_laws.proofs.Arriving.{Passing, ArrivedOk, arrive_ok}
-use Rattle.link_laws.proofs.Running.{named_bytes, altered_bytes}
+use Rattle.link_laws.proofs.Running.{named_bytes}
+use Rattle.link_laws.proofs.Accounts.{Found, found_made, none_forged, Accounts, accounts_tell}
 use Rattle.link_laws.proofs.Comings.{came_by}
 use Rattle.link_laws.proofs.Sessions.{partner_is}
-
--- ---- the entry that accounts for what passed
-
-pub record Found (setup : Setup) (w : World) (at : End) (p : Finding) (past : List Happening) : Type 0 where
-  made : Made
-  among : IsAmong made past
-  accounts : accounts_for at p made ≡ true
-  ok : MadeOk setup (side w made.maker).sessions made
-
-found_or : (setup : Setup) (w : World) (at : End) (p : Finding) (m : Made) (past : List Happening) (b c : Bool) → accounts_for at p m ≡ b → MadeOk setup (side w m.maker).sessions m
-    → (c ≡ true → Found setup w at p past) → (b || c) ≡ true → Found setup w at p (Making m ∷ past)
-found_or setup w at p m past true c says h more f = record { made = m; among = inl refl; accounts = says; ok = h }
-found_or setup w at p m past false c says h more f = let k = more f in record { made = k.made; among = inr k.among; accounts = k.accounts; ok = k.ok }
-
-pub found_made : (setup : Setup) (w : World) (at : End) (p : Finding) (past : List Happening) → was_made at p past ≡ true → AllMadeOk setup w past → Found setup w at p past
-found_made setup w at p [] e h = absurd (cc)
-found_made setup w at p (Coming r ∷ past) e h = let k = found_made setup w at p past e h in record { made = k.made; among = k.among; accounts = k.accounts; ok = k.ok }
-found_made setup w at p (Making m ∷ past) e h = found_or setup w at p m past (accounts_for at p m) (was_made at p past) refl h.0 (λ f. found_made setup w at p past f h.1) e
-
-maker_is : (maker end : End) → same_end maker end ≡ true → maker ≡ end
-maker_is A A e = refl
-maker_is A B e = absurd (cc)
-maker_is B A e = absurd (cc)
-maker_is B B e = refl
-
-unforged : (b : Bool) → ◌≡◌ {A = ℕ} (if b then 0 else 1) 0 → b ≡ true
-unforged true e = refl
-unforged false e = absurd (cc)
-
-pub none_forged : (at : End) (o : Option Finding) (p : Finding) (past : List Happening) → o ≡ Some p → forged at o past ≡ 0 → was_made at p past ≡ true
-none_forged at None p past e z = absurd (cc)
-none_forged at (Some q) p past e z = subst (λ (x : Finding). was_made at x past ≡ true) (some_is q p e) (unforged (was_made at q past) z)
-
--- the same key is of the same algorithm
-same_algorithm_tells : (a b : Algorithm) → same_algorithm a b ≡ true → a ≡ b
-same_algorithm_tells HmacSha1 HmacSha1 e = refl
-same_algorithm_tells AesCmac AesCmac e = refl
-same_algorithm_tells HmacSha256 HmacSha256 e = refl
-same_algorithm_tells HmacSha1 AesCmac e = absurd (cc)
-same_algorithm_tells HmacSha1 HmacSha256 e = absurd (cc)
-same_algorithm_tells AesCmac HmacSha1 e = absurd (cc)
-same_algorithm_tells AesCmac HmacSha256 e = absurd (cc)
-same_algorithm_tells HmacSha256 HmacSha1 e = absurd (cc)
-same_algorithm_tells HmacSha256 AesCmac e = absurd (cc)
-
-same_key_algorithm : (k l : Key) → same_key k l ≡ true → k.algorithm ≡ l.algorithm
-same_key_algorithm k l e = same_algorithm_tells k.algorithm l.algorithm (and_tells (same_algorithm k.algorithm l.algorithm) (same_bytes k.master l.master) e).0
-
--- ---- the family
 
 not_both : (a : Address) → IsV4 a → IsV6 a → ⊥
 not_both (V4 bytes) h g = absurd g
@@ -143,49 +95,84 @@ pub record Origin (setup : Setup) (w : World) (at : End) (s : EndState) (n : ℕ
 is_partner : (setup : Setup) (w : World) (at : End) (s : EndState) (n : ℕ) (d : Segment) (ao : Ao) (o : Origin setup w at s n d ao) → has SYN d ≡ false → partner w at s ≡ Some o.session
 is_partner setup w at s n d ao o plain = let l = o.linked plain in partner_is (side w (other at)).sessions s.isn s.peer_isn l.0 o.session l.1 l.2 l.3
 
+-- the sockets of what passed are those of the maker
+sockets_met : (setup : Setup) (at e : End) (s : EndState) (bytes : List ℕ) (p : Finding) → e ≡ other at → (g : Passing (pair_of setup at) s bytes p)
+    → ((pair_of setup e).local ≡ g.segment.source) × ((pair_of setup e).remote ≡ g.segment.destination)
+sockets_met setup at e s bytes p maker g =
+    let there = ap (pair_of setup) maker in
+    let turn = seen setup at in
+    (ap (λ (k : Pair). k.local) there ∙ (turn.0 ∙ sym g.source), ap (λ (k : Pair). k.remote) there ∙ (turn.1 ∙ sym g.destination))
+
+-- what an entry and what passed say is the same
+meaning_met : (setup : Setup) (t : EndState) (m : Made) (h : MadeBy setup t m) (at : End) (s : EndState) (bytes : List ℕ) (p : Finding) → SetupFits setup → Accounts at p m
+    → (g : Passing (pair_of setup at) s bytes p)
+    → SameMeaning h.draft.number p.number (blank_in setup t m h) g.segment (own_ao h.draft h.sending (no_mac h.sending)) g.judged.ao
+meaning_met setup t m h at s bytes p fits same g =
+    let there = pair_of setup m.maker in
+    let d = g.segment in
+    let j = g.judged in
+    let b = blank_in setup t m h in
+    let zero_mac = no_mac h.sending in
+    let own = own_ao h.draft h.sending zero_mac in
+    let small = h.drafted.small in
+    let ours : Numbered h.draft.number b own =
+    record { fits = blank_fits setup t m h fits; option = area_ao there (sets h.draft.flags SYN) h.sending zero_mac; number = omega arith; sequence = refl } in
+    let theirs : Numbered p.number d j.ao = record { fits = g.fits; option = j.option; number = j.small; sequence = j.number.0 } in
+    let source = (sockets_met setup at m.maker s bytes p same.maker g).0 in
+    let family = family_met b.ip d.ip b d ours.fits.ip g.fits.ip (ap (λ (k : Socket). k.address) source) in
+    let algorithm : h.sending.row.algorithm ≡ p.key.algorithm = ap (λ x. x.sending.row.algorithm) (sym h.emission) ∙ same.algorithm in
+    let long : length zero_mac ≡ length j.ao.mac = length-replicate (mac_length_of h.sending.row.algorithm) 0 ∙ (ap mac_length_of algorithm ∙ sym j.mac_long) in
+    let input : mac_input h.draft.number b own h.sending.row.with_options ≡ mac_input p.number d j.ao j.flag = sym (ap (λ x. x.input) h.emission) ∙ (same.input ∙ j.input) in
+    equal_inputs_equal_meaning h.draft.number p.number b d own j.ao h.sending.row.with_options j.flag ours theirs family long input
+
+-- the numbers by which both ends know the connection
+record Linked (m : Made) (t s : EndState) : Type 0 where
+  peer : ℕ
+  knows : s.peer_isn ≡ Some peer
+  isn : m.isn ≡ peer
+  back : t.peer_isn ≡ Some s.isn
+
+-- without SYN the context of an entry is that of the one connection
+linked_met : (setup : Setup) (t : EndState) (m : Made) (h : MadeBy setup t m) (at : End) (s : EndState) (bytes : List ℕ) (p : Finding) → Sound s → Accounts at p m
+    → (g : Passing (pair_of setup at) s bytes p) → has SYN (blank_in setup t m h) ≡ false → has SYN g.segment ≡ false → Linked m t s
+linked_met setup t m h at s bytes p sound same g bare plain =
+    let d = g.segment in
+    let there = pair_of setup m.maker in
+    let mine = plain_context d s.peer_isn (Some s.isn) p.context plain g.judged.context in
+    let told = plain_context (blank_in setup t m h) (Some h.state.isn) h.state.peer_isn h.context bare h.known in
+    let c : h.context ≡ p.context = ap (λ x. x.context) (sym h.emission) ∙ same.context in
+    let sockets = sockets_met setup at m.maker s bytes p same.maker g in
+    let turned : context there.local there.remote told.0 told.1 ≡ context d.source d.destination told.0 told.1 =
+    ap (λ (k : Socket). context k there.remote told.0 told.1) sockets.0 ∙ ap (λ (k : Socket). context d.source k told.0 told.1) sockets.1 in
+    let equal : context d.source d.destination told.0 told.1 ≡ context d.source d.destination mine.0 mine.1 = sym turned ∙ (sym told.4 ∙ (c ∙ mine.4)) in
+    let isn_is : h.state.isn ≡ told.0 = some_is h.state.isn told.0 told.2 in
+    let own_is : s.isn ≡ mine.1 = some_is s.isn mine.1 mine.3 in
+    let isn_low = h.sound.isn_fits in
+    let own_low = sound.isn_fits in
+    let isns =
+    context_law d.source d.destination told.0 told.1 mine.0 mine.1 (omega arith) (h.sound.peer_isn_fits told.1 told.3) (sound.peer_isn_fits mine.0 mine.2) (omega arith) equal in
+    let same_isn = isns.0 in
+    let isn = h.isn in
+    record { peer = mine.0; knows = mine.2; isn = omega arith; back = h.later.peer told.1 told.3 ∙ ap (λ n. Some n) (isns.1 ∙ sym own_is) }
+
 pub origin_of : (setup : Setup) (w : World) (at : End) (s : EndState) (bytes : List ℕ) (p : Finding) → SetupFits setup → Sound s → (g : Passing (pair_of setup at) s bytes p) → Found setup w at p w.history
     → Origin setup w at s p.number g.segment g.judged.ao
 origin_of setup w at s bytes p fits sound g f =
     let m = f.made in
-    let e = m.emission in
-    let d = g.segment in
-    let j = g.judged in
-    let ok = f.ok in
-    let h = ok.by in
-    let t = ok.session in
-    let one = and_tells (same_end m.maker (other at) && same_key (key_of e.sending.row) p.key && same_bytes e.context p.context) (same_bytes e.input p.input) f.accounts in
-    let two = and_tells (same_end m.maker (other at) && same_key (key_of e.sending.row) p.key) (same_bytes e.context p.context) one.0 in
-    let three = and_tells (same_end m.maker (other at)) (same_key (key_of e.sending.row) p.key) two.0 in
-    let maker : m.maker ≡ other at = maker_is m.maker (other at) three.0 in
-    let there = pair_of setup m.maker in
-    let there_is : there ≡ pair_of setup (other at) = ap (pair_of setup) maker in
-    let turn = seen setup at in
-    let source : there.local ≡ d.source = ap (λ (k : Pair). k.local) there_is ∙ turn.0 ∙ sym g.source in
-    let destination : there.remote ≡ d.destination = ap (λ (k : Pair). k.remote) there_is ∙ turn.1 ∙ sym g.destination in
-    let b = blank_in setup t.state m h in
-    let zero_mac : List ℕ = no_mac h.sending in
-    let own = own_ao h.draft h.sending zero_mac in
-    let small = h.drafted.small in
-    let ours : Numbered h.draft.number b own =
-    record { fits = blank_fits setup t.state m h fits; option = area_ao there (sets h.draft.flags SYN) h.sending zero_mac; number = omega arith; sequence = refl } in
-    let theirs : Numbered p.number d j.ao = record { fits = g.fits; option = j.option; number = j.small; sequence = j.number.0 } in
-    let family = family_met b.ip d.ip b d ours.fits.ip g.fits.ip (ap (λ (k : Socket). k.address) source) in
-    let input : e.input ≡ mac_input h.draft.number b own h.sending.row.with_options = ap (λ x. x.input) h.emission in
-    let algorithm : h.sending.row.algorithm ≡ p.key.algorithm = ap (λ x. x.sending.row.algorithm) (sym h.emission) ∙ same_key_algorithm (key_of e.sending.row) p.key three.1 in
-    let long : length zero_mac ≡ length j.ao.mac = length-replicate (mac_length_of h.sending.row.algorithm) 0 ∙ ap mac_length_of algorithm ∙ sym j.mac_long in
-    let same = equal_inputs_equal_meaning h.draft.number p.number b d own j.ao h.sending.row.with_options j.flag ours theirs family long
-    (sym input ∙ same_bytes_tells e.input p.input one.1 ∙ j.input) in
-    let segment : e.segment.flags ≡ b.flags = ap (λ x. x.segment.flags) h.emission in
+    let t = f.ok.session in
+    let h = f.ok.by in
+    let accounts = accounts_tell at p m f.accounts in
+    let same = meaning_met setup t.state m h at s bytes p fits accounts g in
     record {
       made = m;
       among = f.among;
-      maker = maker;
+      maker = accounts.maker;
       session = t;
       by = h;
       flags = same.flags;
       repeats = record {
         number = ap (λ x. x.number) h.emission ∙ same.number;
-        flags = segment ∙ same.flags;
+        flags = ap (λ x. x.segment.flags) h.emission ∙ same.flags;
         acknowledgement = ap (λ x. x.segment.acknowledgement) h.emission ∙ same.acknowledgement;
         window = ap (λ x. x.segment.window) h.emission ∙ same.window;
         key_id = ap (λ x. x.sending.key_id) h.emission ∙ same.key_id;
@@ -193,26 +180,9 @@ origin_of setup w at s bytes p fits sound g f =
         payload = ap (λ x. x.segment.payload) h.emission ∙ same.payload;
       };
       linked = λ plain.
-          let mine = plain_context d s.peer_isn (Some s.isn) p.context plain j.context in
-          let bare : has SYN b ≡ false = ap (λ (k : ℕ). (k / 2) % 2 == 1) same.flags ∙ plain in
-          let told = plain_context b (Some h.state.isn) h.state.peer_isn h.context bare h.known in
-          let c : e.context ≡ h.context = ap (λ x. x.context) h.emission in
-          let equal : context d.source d.destination told.0 told.1 ≡ context d.source d.destination mine.0 mine.1 =
-          ap (λ (k : Socket). context k d.destination told.0 told.1) (sym source) ∙ ap (λ (k : Socket). context there.local k told.0 told.1) (sym destination)
-          ∙ sym told.4 ∙ sym c ∙ same_bytes_tells e.context p.context two.1 ∙ mine.4 in
-          let isn_is : h.state.isn ≡ told.0 = some_is h.state.isn told.0 told.2 in
-          let own_is : s.isn ≡ mine.1 = some_is s.isn mine.1 mine.3 in
-          let isn_low = h.sound.isn_fits in
-          let own_low = sound.isn_fits in
-          let isns = context_law d.source d.destination told.0 told.1 mine.0 mine.1 (omega arith) (h.sound.peer_isn_fits told.1 told.3) (sound.peer_isn_fits mine.0 mine.2) (omega arith) equal in
-          let i = isns.0 in
-          let k = isns.1 in
-          let isn = h.isn in
-          let at_q : m.isn ≡ mine.0 = omega arith in
-          let found : find (side w (other at)).sessions mine.0 ≡ Some t =
-          ap (find (side w (other at)).sessions) (sym at_q) ∙ ap (λ (x : End). find (side w x).sessions m.isn) (sym maker) ∙ ok.found in
-          let back : t.state.peer_isn ≡ Some s.isn = h.later.peer told.1 told.3 ∙ ap (λ n. Some n) (k ∙ sym own_is) in
-          (mine.0, mine.2, found, back);
+          let l = linked_met setup t.state m h at s bytes p sound accounts g (ap (λ (k : ℕ). (k / 2) % 2 == 1) same.flags ∙ plain) plain in
+          let others = (side w (other at)).sessions in
+          (l.peer, l.knows, ap (find others) (sym l.isn) ∙ (ap (λ (x : End). find (side w x).sessions m.isn) (sym accounts.maker) ∙ f.ok.found), l.back);
     }
 
 -- ---- the laws

@@ -29,7 +29,7 @@ use Rattle.link_laws.proofs.Keeping.{same_gained, ActOk}
 use Rattle.link_laws.proofs.Calls.{given_ok, took_ok, close_ok, abort_ok}
 use Rattle.link_laws.proofs.Making.{send_ok, resend_act_ok}
 use Rattle.link_laws.proofs.Sessions.{partner_is}
-use Rattle.link_laws.proofs.Running.{ticks, tick_later, altered_bytes, come_ok, named_bytes, step_keeps, begins_inv, run_inv}
+use Rattle.link_laws.proofs.Running.{ticks, tick_later, come_ok, named_bytes, step_keeps, begins_inv, run_inv}
 use Rattle.link_laws.proofs.Delivery.{run_heard}
 use Rattle.link_laws.proofs.Ended.{past_fin_known}
 use Rattle.link_laws.proofs.Streams.{FinMade, OfPartner, Received, AllReceived, AllAcked, Heard, put_heard, head_heard}

@@ -20,7 +20,7 @@ use Rattle.mac_model.specs.MacInput.{mac_input}
 use Rattle.mac_model.specs.Keys.{traffic_key, mac}
 use Rattle.key_model.specs.Rows.{Row, sendable}
 use Rattle.key_model.specs.Choices.{Numbered, accept_row}
-use Rattle.key_model.specs.Coordination.{Sending as Using, follow, choose as choose_row}
+use Rattle.key_model.specs.Coordination.{Sending, follow, choose as choose_row}
 use Rattle.key_model.specs.Plans.{mirrored, IsMet, AlignedFrom}
 use Rattle.key_model.proofs.OverlapLaws.{same_address-refl}
 use Rattle.key_model.proofs.SendingLaws.{chosen}
@@ -86,29 +86,29 @@ turned setup B = refl
 -- ---- one delivery
 
 -- a segment in the written form, as it is made: all that its receiver needs of it
-record Sent (pair : Pair) (st : EndState) (out : Draft) (using : Using) (c : List ℕ) : Type 0 where
+record Sent (pair : Pair) (st : EndState) (out : Draft) (sending : Sending) (c : List ℕ) : Type 0 where
   sound : Sound st
   drafted : DraftOk st out
-  known : context_of (blank pair st out using) (Some st.isn) st.peer_isn ≡ Some c
-  key_id : using.key_id ≡ using.row.send_id
-  mac_long : length (seal_of pair st out using c) ≡ mac_length_of using.row.algorithm
-  right : good (finished (written pair st out using (seal_of pair st out using c))) ≡ true
+  known : context_of (blank pair st out sending) (Some st.isn) st.peer_isn ≡ Some c
+  key_id : sending.key_id ≡ sending.row.send_id
+  mac_long : length (seal_of pair st out sending c) ≡ mac_length_of sending.row.algorithm
+  right : good (finished (written pair st out sending (seal_of pair st out sending c))) ≡ true
 
 -- the MAC that the receiver computes is the sender's
-mac_met : (pair : Pair) (st : EndState) (out : Draft) (using : Using) (c : List ℕ) (r : Numbered) → length (seal_of pair st out using c) ≡ mac_length_of using.row.algorithm
-    → r.row.algorithm ≡ using.row.algorithm → r.row.master ≡ using.row.master → r.row.with_options ≡ using.row.with_options
-    → let m = seal_of pair st out using c in
-    same_bytes m (mac_of (found_with r (finished (written pair st out using m)) (own_ao out using m) c out.number)) ≡ true
-mac_met pair st out using c r long algorithm master flag =
-    let m = seal_of pair st out using c in
-    let d = finished (written pair st out using m) in
-    let ao = own_ao out using m in
-    let input : mac_input out.number d ao r.row.with_options ≡ input_of pair st out using =
-    ap (mac_input out.number d ao) flag ∙ same_input pair st out using m out.number using.row.with_options long in
+mac_met : (pair : Pair) (st : EndState) (out : Draft) (sending : Sending) (c : List ℕ) (r : Numbered) → length (seal_of pair st out sending c) ≡ mac_length_of sending.row.algorithm
+    → r.row.algorithm ≡ sending.row.algorithm → r.row.master ≡ sending.row.master → r.row.with_options ≡ sending.row.with_options
+    → let m = seal_of pair st out sending c in
+    same_bytes m (mac_of (found_with r (finished (written pair st out sending m)) (own_ao out sending m) c out.number)) ≡ true
+mac_met pair st out sending c r long algorithm master flag =
+    let m = seal_of pair st out sending c in
+    let d = finished (written pair st out sending m) in
+    let ao = own_ao out sending m in
+    let input : mac_input out.number d ao r.row.with_options ≡ input_of pair st out sending =
+    ap (mac_input out.number d ao) flag ∙ same_input pair st out sending m out.number sending.row.with_options long in
     let is : mac r.row.algorithm (traffic_key r.row.algorithm r.row.master c) (mac_input out.number d ao r.row.with_options) ≡ m =
     ap (λ (a : Algorithm). mac a (traffic_key a r.row.master c) (mac_input out.number d ao r.row.with_options)) algorithm
-    ∙ ap (λ (k : List ℕ). mac using.row.algorithm (traffic_key using.row.algorithm k c) (mac_input out.number d ao r.row.with_options)) master
-    ∙ ap (mac using.row.algorithm (traffic_key using.row.algorithm using.row.master c)) input in
+    ∙ ap (λ (k : List ℕ). mac sending.row.algorithm (traffic_key sending.row.algorithm k c) (mac_input out.number d ao r.row.with_options)) master
+    ∙ ap (mac sending.row.algorithm (traffic_key sending.row.algorithm sending.row.master c)) input in
     subst (λ (l : List ℕ). same_bytes m l ≡ true) (sym is) (same_bytes-refl m)
 
 -- the number that the receiver finds is the sender's
@@ -146,10 +146,10 @@ to_plain : (b : Bool) (x y : Bool) (z : Bool) → b ≡ false → (if b then x e
 to_plain true x y z e h = absurd (cc)
 to_plain false x y z e h = (and_tells y z h).1
 
-counted : (pair : Pair) (st : EndState) (out : Draft) (using : Using) (m : List ℕ) (t s : EndState) → Sound st → DraftOk st out
-    → addressed (finished (written pair st out using m)) t s ≡ true → (sets out.flags SYN ≡ false → IsNear out.number s.expected) → Counted s (finished (written pair st out using m)) out.number
-counted pair st out using m t s sound ok to near =
-    let d = finished (written pair st out using m) in
+counted : (pair : Pair) (st : EndState) (out : Draft) (sending : Sending) (m : List ℕ) (t s : EndState) → Sound st → DraftOk st out
+    → addressed (finished (written pair st out sending m)) t s ≡ true → (sets out.flags SYN ≡ false → IsNear out.number s.expected) → Counted s (finished (written pair st out sending m)) out.number
+counted pair st out sending m t s sound ok to near =
+    let d = finished (written pair st out sending m) in
     by_bool (Counted s d out.number) (has SYN d)
     (λ syn.
     let at = (ok.syn syn).0 in
@@ -162,33 +162,33 @@ counted pair st out using m t s sound ok to near =
     record { expects = expects_known (has SYN d) (number_expected s s.peer_isn) s.expected x; number = plain_number d out.number s.expected (number_expected s s.peer_isn) x plain refl (near plain); syn = λ e. absurd (cc) })
 
 -- a segment in the written form passes under a row that meets the sender's
-sent_heard : (rows : List Row) (pair there : Pair) (now : ℕ) (s t st : EndState) (out : Draft) (using : Using) (c : List ℕ) → Sent there st out using c → Later st t → mirrored there ≡ pair
-    → Meets rows pair using.row.send_id now using.row → Sound s → is_closed s.phase ≡ false
-    → addressed (finished (written there st out using (seal_of there st out using c))) t s ≡ true → (sets out.flags SYN ≡ false → IsNear out.number s.expected)
-    → IsHeard (arrive_read rows pair now s (Read (finished (written there st out using (seal_of there st out using c))))).answer
-sent_heard rows pair there now s t st out using c h later turn met sound awake to near =
-    let m = seal_of there st out using c in
-    let d = finished (written there st out using m) in
-    let ao = own_ao out using m in
+sent_heard : (rows : List Row) (pair there : Pair) (now : ℕ) (s t st : EndState) (out : Draft) (sending : Sending) (c : List ℕ) → Sent there st out sending c → Later st t → mirrored there ≡ pair
+    → Meets rows pair sending.row.send_id now sending.row → Sound s → is_closed s.phase ≡ false
+    → addressed (finished (written there st out sending (seal_of there st out sending c))) t s ≡ true → (sets out.flags SYN ≡ false → IsNear out.number s.expected)
+    → IsHeard (arrive_read rows pair now s (Read (finished (written there st out sending (seal_of there st out sending c))))).answer
+sent_heard rows pair there now s t st out sending c h later turn met sound awake to near =
+    let m = seal_of there st out sending c in
+    let d = finished (written there st out sending m) in
+    let ao = own_ao out sending m in
     let syn = sets out.flags SYN in
     let r = met.numbered in
-    let n = counted there st out using m t s h.sound h.drafted to near in
+    let n = counted there st out sending m t s h.sound h.drafted to near in
     let small = h.drafted.small in
     let isn : t.isn ≡ st.isn = later.same_isn in
-    let key = same_key_tells r.row using.row met.key in
+    let key = same_key_tells r.row sending.row met.key in
     let to_isn : (if has SYN d then (if has ACK d then is_known t.peer_isn s.isn else true) else is_known t.peer_isn s.isn && is_known s.peer_isn st.isn) ≡ true =
     subst (λ (k : ℕ). (if has SYN d then (if has ACK d then is_known t.peer_isn s.isn else true) else is_known t.peer_isn s.isn && is_known s.peer_isn k) ≡ true) isn to in
     let known : context_of d s.peer_isn (Some s.isn) ≡ Some c =
-    context_met d st.isn st.peer_isn t.peer_isn s.isn s.peer_isn c (same_context there st out using m (Some st.isn) st.peer_isn ∙ h.known) later.peer to_isn in
+    context_met d st.isn st.peer_isn t.peer_isn s.isn s.peer_isn c (same_context there st out sending m (Some st.isn) st.peer_isn ∙ h.known) later.peer to_isn in
     let all : Passes rows pair now s d ao r c out.number = record {
-      option = area_ao there syn using m;
+      option = area_ao there syn sending m;
       accepts = ap (λ k. accept_row rows pair k now) h.key_id ∙ met.accepts;
       long = h.mac_long ∙ ap mac_length_of (sym key.algorithm);
       known = known;
       expects = n.expects;
       number = n.number;
       range = grind (arith, nat_tests);
-      right = mac_met there st out using c r h.mac_long key.algorithm key.master key.flag;
+      right = mac_met there st out sending c r h.mac_long key.algorithm key.master key.flag;
     } in
     let verdict = judged_pass rows pair now s d ao r c out.number all in
     let ours : from_peer pair d ≡ true = subst (λ (p : Pair). from_peer p d ≡ true) turn (rw (same_socket-refl there.local, same_socket-refl there.remote) refl) in
@@ -200,7 +200,7 @@ live_admitted : (w : World) (e : End) (sessions : List Session) (call : EndState
 live_admitted w e [] call r lives h = absurd (cc)
 live_admitted w e (s ∷ rest) call r lives h = subst (λ (x : Session). IsAdmitted (call x.state).outcome) (sym (some_is s r lives)) h
 
-met_row : (P : Row → Type 0) (current : Option ℕ) (rows : List Row) (pair : Pair) (now : ℕ) (s : Using) → AllByRecursion P rows → choose_row current rows pair now ≡ Some s → P s.row × (sendable pair now s.row ≡ true)
+met_row : (P : Row → Type 0) (current : Option ℕ) (rows : List Row) (pair : Pair) (now : ℕ) (s : Sending) → AllByRecursion P rows → choose_row current rows pair now ≡ Some s → P s.row × (sendable pair now s.row ≡ true)
 met_row P current rows pair now s h e = let c = chosen P current rows pair now s h e in (c.of, c.may)
 
 session_is : (a b : Session) → Some a ≡ Some b → a ≡ b

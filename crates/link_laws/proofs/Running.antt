@@ -26,7 +26,7 @@ use Rattle.endpoint_model.specs.Verdicts.{Finding}
 use Rattle.endpoint_model.specs.Arrivals.{Arrived, arrive}
 use Rattle.link_laws.proofs.Gains.{Brings, BringsFin, BringsAck, Gains}
 use Rattle.endpoint_model.specs.Emissions.{is_silent}
-use Rattle.link_laws.proofs.ByteLists.{Byted, join, two, cons, taken, dropped, repeated}
+use Rattle.link_laws.proofs.ByteLists.{repeated, altered_bytes}
 use Rattle.ao_base.specs.declared.address.Pair.{Pair}
 use Rattle.link_model.specs.RowLines.{row_of}
 use Rattle.link_model.specs.Alterations.{masked, place_in, has_place, altered}
@@ -42,29 +42,6 @@ use Rattle.link_laws.proofs.Keeping.{put_keeps, Gained, HasPassed, same_gained, 
 use Rattle.link_laws.proofs.Calls.{given_ok, took_ok, close_ok, abort_ok}
 use Rattle.link_laws.proofs.Making.{send_ok, resend_act_ok}
 use Rattle.link_laws.proofs.Arriving.{Passing, ArrivedOk, arrive_ok}
-
--- ---- bytes that come
-
-set_bytes : (xs : List ℕ) (i v : ℕ) → v < 256 → Byted xs → Byted (slice_set xs i v)
-set_bytes [] i v low h = h
-set_bytes (x ∷ xs) zero v low h = cons v xs low (record { at = λ j. h.at (suc j) })
-set_bytes (x ∷ xs) (suc i) v low h = cons x (slice_set xs i v) (h.at 0) (set_bytes xs i v low (record { at = λ j. h.at (suc j) }))
-
-masked_bytes : (b : List ℕ) (i mask : ℕ) → mask < 256 → Byted b → Byted (masked b i mask)
-masked_bytes b i mask low h = set_bytes b i (bit_xor (slice_index b i) mask) (xor_of_8 (slice_index b i) mask (h.at i) low) h
-
-summed : (b : List ℕ) → Byted b → Byted (with_right_checksum b)
-unfolding with_right_checksum
-summed b h =
-    let t = drop (ip_length b) b in
-    let tb = dropped b (ip_length b) h in
-    join (take (ip_length b) b) _ (taken b (ip_length b) h) (join (take 16 t) _ (taken t 16 tb) (two (complement_of (pseudo_in b (with_sum t 0))) (drop 18 t) (dropped t 18 tb)))
-
-pub altered_bytes : (b : List ℕ) (place mask : ℕ) (fix : Bool) → mask < 256 → Byted b → Byted (altered b place mask fix)
-unfolding altered
-altered_bytes b place mask fix low h =
-    let copy = masked_bytes b (place_in b place) mask low h in
-    choose Byted fix (with_right_checksum (masked b (place_in b place) mask)) (masked b (place_in b place) mask) (λ t. summed (masked b (place_in b place) mask) copy) (λ t. copy)
 
 -- ---- the clock
 

@@ -11,7 +11,7 @@ use Rattle.segment_model.proofs.Fields.{and_tells, eqb_is, lt_not, some_is}
 use Rattle.mac_model.specs.Contexts.{context_of}
 use Rattle.key_model.specs.Lifetimes.{greatest_time}
 use Rattle.key_model.specs.Overlaps.{IsValid}
-use Rattle.key_model.specs.Coordination.{Sending as Using, choose as choose_row}
+use Rattle.key_model.specs.Coordination.{Sending, choose as choose_row}
 use Rattle.endpoint_model.specs.declared.phase.Phase.{Phase}
 use Rattle.endpoint_model.specs.declared.phase.Phase.TheVariants.{Listen, SynSent, SynReceived, Established, FinWait1, FinWait2, CloseWait, Closing, LastAck, TimeWait, Closed}
 use Rattle.endpoint_model.specs.States.{EndState, first, ready, is_closed, room, gives, give, taking, at_end, close_in, abort_resets, abort}

@@ -24,7 +24,8 @@ use Rattle.link_laws.proofs.Invariant.{MadeBy, Inv, Grows}
 use Rattle.link_laws.proofs.Sessions.{both}
 use Rattle.link_laws.proofs.Keeping.{HasPassed, Gained}
 use Rattle.link_laws.proofs.Arriving.{Passing}
-use Rattle.link_laws.proofs.Origin.{Origin, origin_of, found_made, none_forged, plain_context}
+use Rattle.link_laws.proofs.Origin.{Origin, origin_of, plain_context}
+use Rattle.link_laws.proofs.Accounts.{found_made, none_forged}
 use Rattle.segment_model.specs.Bytes.{ring}
 
 -- close was called on the session, and its FIN has this number
