@@ -1,48 +1,25 @@
 -- What makes the check pass.
-use Rattle.std.proofs.Common.{◌≡◌, ℕ, ◌+◌, ◌-◌, ◌%◌, ◌≤◌, ◌^◌, ◌<◌, ◌==◌, Bool, true, false, not, ◌&&◌, List, [], ◌∷◌, length, Option, Some, None, ◌⊎◌, inl, inr, ⊎_elim, if◌then◌else◌, refl, sym, ap, ◌∙◌, subst, arith, nat_lt, nat_le}
+use Rattle.std.proofs.Common.{◌≡◌, ℕ, ◌+◌, ◌-◌, ◌%◌, ◌≤◌, ◌<◌, ◌==◌, Bool, true, false, not, ◌&&◌, List, [], ◌∷◌, length, Option, Some, None, ◌⊎◌, ⊎_elim, if◌then◌else◌, refl, sym, ap, ◌∙◌, arith, nat_lt, nat_le}
 use Rattle.std.specs.Prelude.{is_some}
-use Rattle.std.specs.List.{AllByRecursion}
 use Rattle.std.proofs.lemmas.Bool.Decides.{nat_tests}
 use Rattle.ao_base.specs.declared.address.Socket.{Socket}
 use Rattle.ao_base.specs.declared.address.Pair.{Pair}
-use Rattle.ao_base.specs.declared.algorithm.Algorithm.{Algorithm}
-use Rattle.ao_base.specs.declared.end.End.{End}
-use Rattle.ao_base.specs.declared.end.End.TheVariants.{A, B}
 use Rattle.ao_base.specs.Algorithms.{mac_length_of}
 use Rattle.segment_model.specs.Bytes.{same_bytes, ring}
 use Rattle.segment_model.specs.Meant.{meant}
 use Rattle.segment_model.specs.Sockets.{same_socket}
 use Rattle.segment_model.specs.Options.{Ao, One, find_ao}
-use Rattle.segment_model.specs.Segments.{Segment, Read, reading, good, has, segment_length, ACK, SYN}
-use Rattle.segment_model.proofs.Fields.{and_tells, eqb_is, some_is}
+use Rattle.segment_model.specs.Segments.{Segment, has, segment_length, ACK, SYN}
+use Rattle.segment_model.proofs.Fields.{and_tells}
 use Rattle.mac_model.specs.Contexts.{context, context_known, context_of_syn, context_of_later, context_of}
-use Rattle.mac_model.specs.MacInput.{mac_input}
-use Rattle.mac_model.specs.Keys.{traffic_key, mac}
-use Rattle.key_model.specs.Rows.{Row, sendable}
+use Rattle.key_model.specs.Rows.{Row}
 use Rattle.key_model.specs.Choices.{Numbered, accept_row}
-use Rattle.key_model.specs.Coordination.{Sending, follow, choose as choose_row}
-use Rattle.key_model.specs.Plans.{mirrored, IsMet, AlignedFrom}
 use Rattle.key_model.proofs.OverlapLaws.{same_address-refl}
-use Rattle.key_model.proofs.SendingLaws.{chosen}
-use Rattle.key_model.proofs.PlanLaws.{Meets, meets, same_key_tells}
-use Rattle.endpoint_model.specs.States.{EndState, is_closed}
-use Rattle.endpoint_model.specs.Verdicts.{Finding, Admit, mac_of, found_with, judge_mac, judge_number, number_of, judge_context, judge_row, judge_ao, judge}
-use Rattle.endpoint_model.specs.declared.arrival.Arrival.{Arrival}
-use Rattle.endpoint_model.specs.declared.arrival.Arrival.TheVariants.{Foreign, Checksum, Closed as AtClosed, Unexpected, Window, Challenge, NoAck, BadAck, TooManyRuns, Reset, Taken}
-use Rattle.endpoint_model.specs.Arrivals.{Arrived, unmoved, heard, after_check, arrive_judged, number_expected, judged_by, from_peer, arrive_read, arrive}
-use Rattle.endpoint_model.specs.Emissions.{Draft, sets, written, blank, own_ao, seal_of, input_of}
-use Rattle.segment_model.specs.Spelling.{finished}
-use Rattle.link_laws.proofs.Tests.{choose, by_bool, not_true, eqb_refl}
-use Rattle.link_laws.proofs.Sound.{Sound, Later}
-use Rattle.link_laws.proofs.Moves.{MovedOk, after_check_ok}
-use Rattle.link_laws.proofs.Drafts.{DraftOk}
-use Rattle.link_laws.proofs.Written.{area_ao, same_input, same_context}
-use Rattle.link_model.specs.declared.event.Event.TheVariants.{Deliver}
-use Rattle.link_model.specs.Worlds.{other, Setup, pair_of, Session, Made, World, side, find, live, is_known, addressed}
-use Rattle.link_model.specs.Steps.{Act, act_on, come, deliver, step}
-use Rattle.link_model.specs.Laws.{SetupFits, IsNear, RollsOver, IsHeard, IsAdmitted}
-use Rattle.link_laws.proofs.Invariant.{live_sound, live_whole, AllSound, Inv, mac_in, row_in, wired}
-use Rattle.link_laws.proofs.Running.{named_ok}
+use Rattle.endpoint_model.specs.States.{EndState}
+use Rattle.endpoint_model.specs.Verdicts.{Admit, mac_of, found_with, judge_mac, judge_number, number_of, judge_context, judge_row, judge_ao, judge}
+use Rattle.endpoint_model.specs.Arrivals.{number_expected, judged_by}
+use Rattle.link_laws.proofs.Tests.{choose}
+use Rattle.link_model.specs.Worlds.{is_known}
 use Rattle.link_laws.proofs.Sessions.{known_is}
 
 pub same_bytes-refl : (xs : List ℕ) → same_bytes xs xs ≡ true

@@ -1,11 +1,8 @@
 -- What the segments that an end makes carry, and the receiving half after them.
-use Rattle.std.proofs.Common.{◌≡◌, ℕ, ◌+◌, ◌-◌, ◌≤◌, ◌==◌, min, Bool, true, false, not, ◌&&◌, nat_lt, drop, slice_get, Option, Some, None, ◌⊎◌, inl, inr, refl, sym, subst, arith, List}
+use Rattle.std.proofs.Common.{◌≡◌, ℕ, ◌+◌, ◌-◌, ◌≤◌, ◌==◌, min, true, false, not, ◌&&◌, nat_lt, drop, slice_get, Option, Some, None, ◌⊎◌, inl, inr, refl, sym, subst, arith, List}
 use Rattle.std.specs.Prelude.{⊤}
-use Rattle.ao_base.specs.declared.address.Pair.{Pair}
 use Rattle.segment_model.specs.Segments.{SYN, ACK}
 use Rattle.segment_model.proofs.Fields.{and_tells, eqb_is}
-use Rattle.endpoint_model.specs.declared.phase.Phase.{Phase}
-use Rattle.endpoint_model.specs.declared.phase.Phase.TheVariants.{Listen, SynSent, SynReceived, Established, FinWait1, FinWait2, CloseWait, Closing, LastAck, TimeWait, Closed}
 use Rattle.endpoint_model.specs.States.{EndState, given_end}
 use Rattle.endpoint_model.specs.Emissions.{Draft, is_sending, is_silent, is_syn_sent, is_syn_received, unsent, slice_at, rst_draft, syn_draft, syn_ack_draft, data_draft, again_draft, fin_draft, fin_again_draft, ack_draft, sends_data, sends_fin, fitting, to_emit, resends, unacknowledged, is_blocked, probe, to_resend, sets}
 use Rattle.link_laws.proofs.Tests.{choose, not_true}

@@ -1,49 +1,26 @@
 -- Which events are arrivals, and of what.
-use Rattle.std.proofs.Common.{◌≡◌, ℕ, suc, ◌/◌, ◌%◌, ◌<◌, ◌==◌, Bool, true, false, not, ◌&&◌, ◌||◌, List, [], ◌∷◌, length, replicate, Option, Some, None, inl, inr, if◌then◌else◌, refl, sym, ap, ◌∙◌, subst, arith, nat_lt}
+use Rattle.std.proofs.Common.{◌≡◌, ℕ, suc, ◌<◌, Bool, true, false, not, List, [], ◌∷◌, length, replicate, Option, Some, None, if◌then◌else◌, refl, sym, ap, ◌∙◌, subst, arith, nat_lt}
 use Rattle.std.specs.Prelude.{⊤}
-use Rattle.std.proofs.lemmas.Bool.Decides.{nat_tests}
-use Rattle.ao_base.specs.declared.address.Address.{Address}
-use Rattle.ao_base.specs.declared.address.Address.TheVariants.{V4, V6}
-use Rattle.ao_base.specs.declared.address.Socket.{Socket}
-use Rattle.ao_base.specs.declared.address.Pair.{Pair}
-use Rattle.ao_base.specs.declared.algorithm.Algorithm.{Algorithm}
-use Rattle.ao_base.specs.declared.algorithm.Algorithm.TheVariants.{HmacSha1, AesCmac, HmacSha256}
-use Rattle.ao_base.specs.Algorithms.{mac_length_of}
-use Rattle.std.proofs.lemmas.List.{length-replicate}
 use Rattle.link_model.specs.RowLines.{row_of}
 use Rattle.ao_base.specs.declared.end.End.{End}
 use Rattle.ao_base.specs.declared.end.End.TheVariants.{A, B}
-use Rattle.segment_model.specs.Bytes.{same_bytes}
-use Rattle.segment_model.specs.Options.{Ao, One, find_ao}
-use Rattle.segment_model.specs.Segments.{IpHeader, Ipv4, Ipv6, Segment, Read, reading, has, RST, SYN}
-use Rattle.segment_model.specs.Spelling.{AreBytes, IsV4, IsV6, FitsIp}
-use Rattle.segment_model.proofs.Fields.{and_tells, some_is, same_bytes_tells}
-use Rattle.mac_model.specs.Contexts.{context, context_of_syn, context_of_later, context_of}
-use Rattle.mac_model.specs.MacInput.{mac_input}
-use Rattle.mac_model.specs.Keys.{same_algorithm}
-use Rattle.mac_model.specs.Meaning.{SameFamily, Numbered}
-use Rattle.mac_model.proofs.Ids.{equal_inputs_equal_meaning}
-use Rattle.mac_model.proofs.Telling.{context_law}
+use Rattle.segment_model.specs.Segments.{reading}
+use Rattle.segment_model.specs.Spelling.{AreBytes}
 use Rattle.key_model.specs.Tables.{Adding, AddedAs, TooMany, OverlapsRow, adding, withdrawn}
 use Rattle.key_model.specs.Rows.{Row}
 use Rattle.endpoint_model.specs.States.{EndState, gives, room, give}
-use Rattle.endpoint_model.specs.Verdicts.{Key, key_of, same_key, Finding}
 use Rattle.endpoint_model.specs.Arrivals.{arrive}
-use Rattle.endpoint_model.specs.Emissions.{Emitted, Quiet, NoKey, Emits, sets, no_mac, own_ao, emit, resend}
+use Rattle.endpoint_model.specs.Emissions.{Emitted, Quiet, NoKey, Emits, emit, resend}
 use Rattle.link_laws.proofs.ByteLists.{altered_bytes}
 use Rattle.link_laws.proofs.Tests.{choose}
-use Rattle.link_laws.proofs.Sound.{Sound}
-use Rattle.link_laws.proofs.Whole.{Whole}
-use Rattle.link_laws.proofs.Written.{area_ao}
 use Rattle.link_model.specs.Alterations.{has_place, altered}
 use Rattle.link_model.specs.declared.event.Event.{Event}
 use Rattle.link_model.specs.declared.event.Event.TheVariants.{Clock, Connect, Listen as Await, Start, Give, Fill, Send, Resend, Deliver, Inject, Alter, Take, Close, Abort, AddRow, Withdraw, Dump}
 use Rattle.link_model.specs.Outcomes.{Outcome, Idle, Nothing, HasClosed, Full, Done, NoPlace}
-use Rattle.link_model.specs.Worlds.{other, same_end, Setup, pair_of, Session, Side, Made, Came, Happening, Making, Coming, World, side, find, live, is_known, known_by, partner_among, partner, accounts_for, was_made, forged, forgeries, segment_named}
+use Rattle.link_model.specs.Worlds.{Setup, pair_of, Session, Side, Made, Came, Happening, Making, Coming, World, side, live, segment_named}
 use Rattle.link_model.specs.Steps.{Act, add, put, with_rows, with_clock, act_on, on_live, quietly, begin, given, sent, send, send_again, come, took, deliver, alter, add_row, withdraw, step}
-use Rattle.link_model.specs.Laws.{SetupFits, EventFits, IsAmong, Repeats, FromPartner, Arrives, HasOrigin, ResetsByAbort}
-use Rattle.link_laws.proofs.Invariant.{live_sound, live_whole, MadeBy, MadeOk, AllMadeOk, AllSound, AllWhole, Inv, blank_in, blank_fits}
-use Rattle.link_laws.proofs.Arriving.{Passing, ArrivedOk, arrive_ok}
+use Rattle.link_model.specs.Laws.{SetupFits, EventFits}
+use Rattle.link_laws.proofs.Invariant.{Inv}
 use Rattle.link_laws.proofs.Running.{named_bytes}
 
 -- bytes that came to the live session of an end

@@ -4,16 +4,14 @@ use Rattle.std.specs.Prelude.{⊤, is_some, if◌then◌else◌}
 use Rattle.ao_base.specs.declared.address.Address.{Address}
 use Rattle.ao_base.specs.declared.address.Address.TheVariants.{V4, V6}
 use Rattle.ao_base.specs.declared.address.Pair.{Pair}
-use Rattle.segment_model.specs.Segments.{bit_of, FIN, SYN, RST, ACK}
+use Rattle.segment_model.specs.Segments.{bit_of, FIN, SYN, RST}
 use Rattle.segment_model.specs.Spelling.{AreBytes}
 use Rattle.segment_model.proofs.ByteLaws.{bytes_drop, bytes_take, nil_bytes}
 use Rattle.segment_model.proofs.Fields.{and_tells, eqb_is, lt_is, lt_not}
-use Rattle.endpoint_model.specs.declared.phase.Phase.{Phase}
-use Rattle.endpoint_model.specs.declared.phase.Phase.TheVariants.{Listen, SynSent, SynReceived, Established, FinWait1, FinWait2, CloseWait, Closing, LastAck, TimeWait, Closed}
 use Rattle.endpoint_model.specs.States.{EndState, own_mss, given_end}
 use Rattle.key_model.specs.Coordination.{Sending}
-use Rattle.endpoint_model.specs.Emissions.{Draft, is_sending, is_silent, is_syn_sent, is_syn_received, unsent, slice_at, fin_sent, rst_draft, syn_draft, syn_ack_draft, data_draft, again_draft, fin_draft, fin_again_draft, ack_draft, window_end, sends_data, sends_fin, fitting, to_emit, resends, unacknowledged, is_blocked, probe, to_resend, sets, most_bytes}
-use Rattle.link_laws.proofs.Tests.{choose, by_bool, and_false}
+use Rattle.endpoint_model.specs.Emissions.{Draft, is_sending, is_silent, is_syn_sent, is_syn_received, unsent, slice_at, rst_draft, syn_draft, syn_ack_draft, data_draft, again_draft, fin_draft, fin_again_draft, ack_draft, window_end, sends_data, sends_fin, fitting, to_emit, resends, unacknowledged, is_blocked, probe, to_resend, sets, most_bytes}
+use Rattle.link_laws.proofs.Tests.{choose, by_bool}
 use Rattle.link_laws.proofs.Phases.{fin_gone, sending_unfinished, fin_sent_gone, fin_sent_knows, resends_made, syn_sent_unfinished, syn_received_unfinished}
 use Rattle.link_laws.proofs.Sound.{Sound, Later, later_refl}
 

@@ -1,5 +1,5 @@
 -- Every made entry is as made.
-use Rattle.std.proofs.Common.{◌≡◌, ℕ, zero, suc, ◌+◌, ◌-◌, ◌/◌, ◌%◌, ◌==◌, Bool, true, false, List, [], ◌∷◌, ◌++◌, length, take, drop, slice_get, Option, Some, None, if◌then◌else◌, refl, sym, ap, ◌∙◌, subst, arith}
+use Rattle.std.proofs.Common.{◌≡◌, ℕ, zero, suc, ◌+◌, ◌-◌, ◌/◌, ◌%◌, ◌==◌, Bool, true, false, List, [], ◌∷◌, length, take, drop, slice_get, Option, Some, None, if◌then◌else◌, refl, sym, ap, ◌∙◌, subst, arith}
 use Rattle.std.specs.List.{AllByRecursion}
 use Rattle.ao_base.specs.Algorithms.{mac_length_of}
 use Rattle.segment_model.proofs.Fields.{some_is}
@@ -13,7 +13,6 @@ use Rattle.key_model.proofs.SendingLaws.{chosen}
 use Rattle.endpoint_model.specs.States.{EndState}
 use Rattle.endpoint_model.specs.Emissions.{slice_at, sets, written, blank, own_ao}
 use Rattle.segment_model.specs.Spelling.{finished}
-use Rattle.link_laws.proofs.Sound.{Later}
 use Rattle.link_laws.proofs.Carrying.{GivenAt, given-later}
 use Rattle.link_laws.proofs.Written.{area_ao, same_input, same_context}
 use Rattle.link_model.specs.Entries.{StandsIn, AcknowledgesAs, AsMade, AllMade, Carried}

@@ -1,40 +1,21 @@
 -- A segment that is made keeps the facts.
-use Rattle.std.proofs.Common.{◌≡◌, ℕ, ◌+◌, ◌-◌, ◌≤◌, ◌==◌, Bool, true, false, not, ◌||◌, List, [], ◌∷◌, ◌++◌, length, take, Option, Some, None, ◌⊎◌, inl, min, if◌then◌else◌, refl, sym, ap, ◌∙◌, subst, arith, append-nil, length-append, length-take, nat_lt}
-use Rattle.std.specs.Prelude.{⊤, is_some}
+use Rattle.std.proofs.Common.{◌≡◌, ℕ, ◌≤◌, List, Option, Some, None, refl}
+use Rattle.std.specs.Prelude.{is_some}
 use Rattle.std.specs.List.{AllByRecursion}
-use Rattle.std.proofs.lemmas.Bool.Decides.{nat_tests}
 use Rattle.ao_base.specs.declared.end.End.{End}
-use Rattle.ao_base.specs.declared.end.End.TheVariants.{A, B}
-use Rattle.segment_model.specs.Segments.{Segment}
-use Rattle.segment_model.specs.Spelling.{AreBytes}
-use Rattle.segment_model.proofs.Fields.{and_tells, eqb_is, lt_not, some_is}
 use Rattle.mac_model.specs.Contexts.{context_of}
-use Rattle.key_model.specs.Lifetimes.{greatest_time}
-use Rattle.key_model.specs.Overlaps.{IsValid}
 use Rattle.key_model.specs.Coordination.{Sending, choose as choose_row}
-use Rattle.endpoint_model.specs.declared.phase.Phase.{Phase}
-use Rattle.endpoint_model.specs.declared.phase.Phase.TheVariants.{Listen, SynSent, SynReceived, Established, FinWait1, FinWait2, CloseWait, Closing, LastAck, TimeWait, Closed}
-use Rattle.endpoint_model.specs.States.{EndState, first, ready, is_closed, room, gives, give, taking, at_end, close_in, abort_resets, abort}
-use Rattle.segment_model.specs.Received.{below_limit, bytes_from}
-use Rattle.endpoint_model.specs.Verdicts.{Finding}
-use Rattle.endpoint_model.specs.Emissions.{Draft, Emitted, Quiet, NoKey, is_silent, most_bytes, blank, seal_known, keyed, emitted, to_emit, to_resend, emit, resend}
-use Rattle.link_laws.proofs.Tests.{choose, not_true, not_false}
-use Rattle.link_laws.proofs.Ended.{at_end-later}
-use Rattle.link_laws.proofs.Sound.{Sound, Later, later_refl, steady_later, steady_sound, with_phase}
-use Rattle.link_laws.proofs.Phases.{closed_ok, closed_kept, resets_speaks}
-use Rattle.link_laws.proofs.Lists.{bytes_from-add, length-bytes_from, take-bytes_from}
-use Rattle.link_laws.proofs.Stream.{Stream}
-use Rattle.link_laws.proofs.Whole.{Whole, whole_phase}
-use Rattle.link_laws.proofs.Gains.{Brings, BringsFin, BringsAck}
+use Rattle.endpoint_model.specs.States.{EndState}
+use Rattle.endpoint_model.specs.Emissions.{Draft, Emitted, Quiet, NoKey, most_bytes, blank, seal_known, keyed, emitted, to_emit, to_resend, emit, resend}
+use Rattle.link_laws.proofs.Tests.{choose}
+use Rattle.link_laws.proofs.Sound.{Sound}
+use Rattle.link_laws.proofs.Whole.{Whole}
 use Rattle.link_laws.proofs.Carrying.{Carries, MayCarry, emit_carries, resend_carries}
 use Rattle.link_laws.proofs.Drafts.{DraftOk, MayDraft, most_low, emit_ok, resend_ok}
-use Rattle.link_laws.proofs.ByteLists.{join}
-use Rattle.link_model.specs.Outcomes.{Outcome, Done, Idle, Nothing, Full, HasClosed, WithoutKey}
-use Rattle.link_model.specs.Worlds.{Setup, pair_of, Session, Side, Made, Happening, Making, Coming, World, side, find}
-use Rattle.link_model.specs.Steps.{Act, add, put, with_sessions, acted, act_on, quietly, given, sent, send, send_again, took}
+use Rattle.link_model.specs.Outcomes.{Outcome, Idle, Nothing, WithoutKey}
+use Rattle.link_model.specs.Worlds.{Setup, pair_of, World, side}
+use Rattle.link_model.specs.Steps.{quietly, sent, send, send_again}
 use Rattle.link_model.specs.Laws.{RowFits}
-use Rattle.link_laws.proofs.Invariant.{MadeBy, made-later, MadeOk, AllMadeOk, AllSound, AllWhole, AllShown, Distinct, Inv, Grows}
-use Rattle.link_laws.proofs.Arriving.{Passing}
 use Rattle.link_laws.proofs.Keeping.{same_gained, ActOk}
 use Rattle.link_laws.proofs.Calls.{still_ok}
 

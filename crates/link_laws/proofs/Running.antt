@@ -1,13 +1,10 @@
 -- The facts hold in each state of each run.
-use Rattle.std.proofs.Common.{◌≡◌, ℕ, zero, suc, ◌+◌, ◌≤◌, ◌^◌, ◌<◌, ◌==◌, Bool, true, false, List, [], ◌∷◌, length, take, drop, replicate, Option, Some, None, ◌⊎◌, inl, inr, ⊎_elim, if◌then◌else◌, refl, sym, ap, ◌∙◌, subst, arith}
-use Rattle.std.specs.Prelude.{slice_set, slice_index, bit_xor}
+use Rattle.std.proofs.Common.{◌≡◌, ℕ, ◌+◌, ◌≤◌, ◌^◌, ◌<◌, ◌==◌, Bool, true, false, List, [], ◌∷◌, length, replicate, Option, Some, None, ◌⊎◌, inl, inr, ⊎_elim, if◌then◌else◌, refl, sym, ap, ◌∙◌, subst, arith}
 use Rattle.std.specs.List.{AllByRecursion}
-use Rattle.std.proofs.lemmas.Nat.{xor_of_8}
 use Rattle.ao_base.specs.declared.end.End.{End}
 use Rattle.ao_base.specs.declared.end.End.TheVariants.{A, B}
-use Rattle.segment_model.specs.Segments.{reading, complement_of}
-use Rattle.segment_model.specs.Spelling.{AreBytes, ip_length, with_checksum as with_sum, pseudo_in, with_right_checksum}
-use Rattle.segment_model.proofs.ByteLaws.{bytes_drop, bytes_take}
+use Rattle.segment_model.specs.Segments.{reading}
+use Rattle.segment_model.specs.Spelling.{AreBytes}
 use Rattle.segment_model.proofs.Fields.{some_is}
 use Rattle.key_model.specs.Lifetimes.{greatest_time}
 use Rattle.key_model.specs.Rows.{Row}
@@ -29,7 +26,7 @@ use Rattle.endpoint_model.specs.Emissions.{is_silent}
 use Rattle.link_laws.proofs.ByteLists.{repeated, altered_bytes}
 use Rattle.ao_base.specs.declared.address.Pair.{Pair}
 use Rattle.link_model.specs.RowLines.{row_of}
-use Rattle.link_model.specs.Alterations.{masked, place_in, has_place, altered}
+use Rattle.link_model.specs.Alterations.{has_place, altered}
 use Rattle.link_model.specs.declared.event.Event.{Event}
 use Rattle.link_model.specs.declared.event.Event.TheVariants.{Clock, Connect, Listen as Await, Start, Give, Fill, Send, Resend, Deliver, Inject, Alter, Take, Close, Abort, AddRow, Withdraw, Dump}
 use Rattle.link_model.specs.Worlds.{Setup, pair_of, Session, Made, Came, Happening, Making, Coming, World, side, find, segment_named}

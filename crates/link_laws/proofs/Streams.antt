@@ -4,7 +4,7 @@ use Rattle.std.specs.List.{AllByRecursion}
 use Rattle.ao_base.specs.declared.end.End.{End}
 use Rattle.ao_base.specs.declared.end.End.TheVariants.{A, B}
 use Rattle.segment_model.specs.Options.{Ao}
-use Rattle.segment_model.specs.Segments.{Segment, has, SYN, FIN, ACK}
+use Rattle.segment_model.specs.Segments.{Segment, has, SYN, ACK}
 use Rattle.segment_model.proofs.Fields.{some_is}
 use Rattle.endpoint_model.specs.States.{EndState, first}
 use Rattle.segment_model.specs.Received.{below_limit}
@@ -15,7 +15,6 @@ use Rattle.link_laws.proofs.Stream.{Stream}
 use Rattle.link_laws.proofs.Whole.{Whole}
 use Rattle.link_laws.proofs.Gains.{Brings, BringsFin, BringsAck}
 use Rattle.link_laws.proofs.Carrying.{GivenAt, given-later}
-use Rattle.link_laws.proofs.Lists.{slice_get-append}
 use Rattle.link_model.specs.Headline.{GivesFew}
 use Rattle.link_model.specs.Laws.{SetupFits, Repeats}
 use Rattle.link_model.specs.Worlds.{other, Setup, pair_of, Session, Side, Made, Came, Happening, Making, Coming, World, side, find, forged, forgeries}

@@ -6,7 +6,7 @@ use Rattle.segment_model.specs.Meant.{meant}
 use Rattle.segment_model.specs.Segments.{Segment, has, segment_length, ACK, FIN, RST, SYN}
 use Rattle.segment_model.proofs.Fields.{and_tells, eqb_is, le_is, lt_is, lt_not, some_is}
 use Rattle.endpoint_model.specs.declared.phase.Phase.{Phase}
-use Rattle.endpoint_model.specs.declared.phase.Phase.TheVariants.{Listen, SynSent, SynReceived, Established, FinWait1, FinWait2, CloseWait, Closing, LastAck, TimeWait, Closed}
+use Rattle.endpoint_model.specs.declared.phase.Phase.TheVariants.{Listen, SynSent, SynReceived, Established, TimeWait, Closed}
 use Rattle.endpoint_model.specs.States.{EndState, first, window, hears}
 use Rattle.segment_model.specs.Received.{below_limit, keep, first_missing, runs}
 use Rattle.endpoint_model.specs.Arrivals.{Moved, owing, above, within, fits_window, rested, finish, past_fin, pass_fin, fin_of, heard_runs, hear_data, after_own_fin, acked_fin, windowed, acked, go_on, acknowledged, ordinary, syn_alone, syn_ack_alone, after_check}
