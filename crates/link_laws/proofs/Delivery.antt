@@ -24,7 +24,7 @@ use Rattle.link_laws.proofs.Keeping.{same_gained, ActOk}
 use Rattle.link_laws.proofs.Calls.{given_ok, took_ok, close_ok, abort_ok}
 use Rattle.link_laws.proofs.Making.{send_ok, resend_act_ok}
 use Rattle.link_laws.proofs.Running.{ticks, tick_later, come_ok, named_bytes, step_keeps, begins_inv}
-use Rattle.link_laws.proofs.Streams.{AllReceived, AllAcked, Heard, put_heard, head_heard}
+use Rattle.link_laws.proofs.Received.{AllReceived, AllAcked, Heard, put_heard, head_heard}
 
 -- ---- each step
 

@@ -1,4 +1,4 @@
--- What an arrival may bring: bytes, a FIN and an acknowledgement of its segment, and x never goes back.
+-- What an arrival may bring: bytes, a FIN and an acknowledgement of its segment, and the number expected never goes back.
 use Rattle.std.proofs.Common.{◌≡◌, ℕ, ◌+◌, ◌-◌, ◌≤◌, ◌<◌, ◌%◌, ◌==◌, Bool, true, false, not, ◌&&◌, nat_lt, nat_le, List, length, slice_get, Option, Some, None, ◌⊎◌, inl, inr, ⊎_elim, if◌then◌else◌, refl, sym, ap, ◌∙◌, arith}
 use Rattle.std.specs.Prelude.{⊤}
 use Rattle.ao_base.specs.declared.address.Pair.{Pair}

@@ -18,7 +18,7 @@ use Rattle.link_laws.proofs.Sessions.{partner_is}
 use Rattle.link_laws.proofs.Running.{run_inv}
 use Rattle.link_laws.proofs.Delivery.{run_heard}
 use Rattle.link_laws.proofs.Ended.{past_fin_known}
-use Rattle.link_laws.proofs.Streams.{FinMade, OfPartner, Received, AllReceived, AllAcked}
+use Rattle.link_laws.proofs.Received.{FinMade, OfPartner, Received, AllReceived, AllAcked}
 
 -- ---- prefix
 

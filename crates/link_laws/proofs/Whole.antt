@@ -26,7 +26,7 @@ pub record EndsOf (phase : Phase) (isn : ℕ) (peer_isn : Option ℕ) (una next 
   pub known : is_silent phase ≡ false → (q : ℕ) × (peer_isn ≡ Some q)
   pub resets : rst ≡ true → (q : ℕ) × (peer_isn ≡ Some q)
 
--- the receiving half: bytes in order up to x, no byte at x, x past the FIN once it has come to it
+-- the receiving half: bytes in order up to the number expected, no byte there, and that number past the FIN once it has come to it
 pub record WholeOf (phase : Phase) (isn : ℕ) (peer_isn : Option ℕ) (una next : ℕ) (rst : Bool) (taken : List ℕ) (m : ℕ → Option ℕ) (fin : Option ℕ) (x : ℕ) : Type 0 where
   pub stream : Stream peer_isn taken m fin x
   pub missing : m x ≡ None
@@ -58,7 +58,7 @@ rested_whole s now _ _ h = h
 finish_whole : (s : EndState) (now : ℕ) → Whole s → Whole (finish s now).state
 finish_whole s now h = rested_whole s now s.phase s.deadline h
 
--- the bytes are kept, and x moves to the first missing number
+-- the bytes are kept, and the number expected moves to the first missing one
 heard : (o : Option ℕ) (taken : List ℕ) (m : ℕ → Option ℕ) (fin : Option ℕ) (x n : ℕ) (payload : List ℕ) → (q : ℕ) × (o ≡ Some q) → Stream o taken m fin x
     → let new = keep m n payload x (below_limit fin (x + room_of o taken fin x)) in
     let y = first_missing new x (room_of o taken fin x) in Stream o taken new fin y × (new y ≡ None)
@@ -88,7 +88,7 @@ fin_whole (Some q) taken m None x y f true known begun is says h =
     let stop = fm_stop m x w f low (none f (omega arith)) in
     recorded q taken m y f (omega arith) none h
 
--- x moves past the FIN
+-- the number expected moves past the FIN
 passed_any : (o : Option ℕ) (taken : List ℕ) (m : ℕ → Option ℕ) (fin : Option ℕ) (x f : ℕ) → fin ≡ Some f → f ≡ x → Stream o taken m fin x → Stream o taken m fin (f + 1)
 passed_any None taken m fin x f e same h = let u = h.unknown refl in let none = u.1 in absurd (cc)
 passed_any (Some q) taken m None x f e same h = absurd (cc)
