@@ -4,7 +4,7 @@ use Rattle.std.specs.List.{AllByRecursion}
 use Rattle.ao_base.specs.declared.end.End.{End}
 use Rattle.ao_base.specs.declared.end.End.TheVariants.{A, B}
 use Rattle.segment_model.specs.Options.{Ao}
-use Rattle.segment_model.specs.Segments.{Segment, has, SYN, FIN, ACK}
+use Rattle.segment_model.specs.Segments.{Segment, has, SYN, ACK}
 use Rattle.segment_model.proofs.Fields.{some_is}
 use Rattle.endpoint_model.specs.States.{EndState, first}
 use Rattle.segment_model.specs.Received.{below_limit}
@@ -14,16 +14,17 @@ use Rattle.link_laws.proofs.Sound.{Sound, Later}
 use Rattle.link_laws.proofs.Stream.{Stream}
 use Rattle.link_laws.proofs.Whole.{Whole}
 use Rattle.link_laws.proofs.Gains.{Brings, BringsFin, BringsAck}
-use Rattle.link_laws.proofs.Carrying.{GivenAt}
-use Rattle.link_laws.proofs.Lists.{slice_get-append}
+use Rattle.link_laws.proofs.Carrying.{GivenAt, given-later}
 use Rattle.link_model.specs.Headline.{GivesFew}
 use Rattle.link_model.specs.Laws.{SetupFits, Repeats}
 use Rattle.link_model.specs.Worlds.{other, Setup, pair_of, Session, Side, Made, Came, Happening, Making, Coming, World, side, find, forged, forgeries}
 use Rattle.link_model.specs.Steps.{add, put}
 use Rattle.link_laws.proofs.Invariant.{MadeBy, Inv, Grows}
-use Rattle.link_laws.proofs.Keeping.{both, HasPassed, Gained}
+use Rattle.link_laws.proofs.Sessions.{both}
+use Rattle.link_laws.proofs.Keeping.{HasPassed, Gained}
 use Rattle.link_laws.proofs.Arriving.{Passing}
-use Rattle.link_laws.proofs.Origin.{Origin, origin_of, found_made, none_forged, plain_context}
+use Rattle.link_laws.proofs.Origin.{Origin, origin_of, plain_context}
+use Rattle.link_laws.proofs.Accounts.{found_made, none_forged}
 use Rattle.segment_model.specs.Bytes.{ring}
 
 -- close was called on the session, and its FIN has this number
@@ -62,11 +63,6 @@ pub record Heard (w : World) : Type 0 where
   pub acks : forgeries w.history ≡ 0 → GivesFew w → (e : End) → AllAcked (side w (other e)).sessions (side w e).sessions
 
 -- ---- what stays so
-
-given-later : (old new : EndState) (p b : ℕ) → Later old new → GivenAt old p b → GivenAt new p b
-given-later old new p b l (j, at, byte) =
-    let same = l.same_isn in
-    (j, omega arith, subst (λ (g : List ℕ). slice_get g j ≡ Some b) (sym l.grown.1) (slice_get-append old.given l.grown.0 j b byte))
 
 fin-later : (old new : EndState) (f : ℕ) → Later old new → FinMade old f → FinMade new f
 fin-later old new f l (closing, at) =
