@@ -1,6 +1,6 @@
 -- The messages of a stream of bytes.
 use Rattle.std.proofs.Common.{◌≡◌, ℕ, zero, suc, ◌+◌, ◌-◌, ◌<◌, ◌≤◌, List, [], ◌∷◌, ◌++◌, length, take, drop, Some, refl, sym, ap, ◌∙◌, append_assoc, arith}
-use Rattle.std.proofs.lemmas.List.{length-append, length-drop, length-take, take-append-le, drop-append-le, drop-drop, append-nil}
+use Rattle.std.proofs.lemmas.List.{length-append, length-drop, length-take, take-append-le, drop-append-le, drop-drop, append-nil, drop_all}
 use Rattle.std.specs.Prelude.{slice_range}
 use Rattle.wire_model.specs.declared.bgp_fault.BgpFault.{BgpFault}
 use Rattle.wire_model.specs.Messages.{Message, Front, Unfinished, Faulty, Leading, front, length_in, message_length, spell_message, spell_messages, messages_by, messages_from, messages, place_of, behind, fault_of, fault_in}
@@ -176,3 +176,17 @@ pub fault_stays : (bytes more : List ℕ) (fault : BgpFault) → fault_in bytes 
 fault_stays bytes more fault is =
     let here = faulty_more (behind bytes) more fault (fault_front (front (behind bytes)) fault is) in
     rw (behind_append bytes more, behind_none (behind bytes ++ more) (none_after (behind bytes ++ more) fault here), here) refl
+
+-- the bytes of the message at the front, alone
+pub leading_alone : (bytes more : List ℕ) (m : Message) (rest : List ℕ) → front (bytes ++ more) ≡ Leading m rest → message_length m ≡ length bytes → front bytes ≡ Leading m []
+leading_alone bytes more m rest is exact =
+    let l = leading (bytes ++ more) m rest is in
+    let len : message_length m ≡ length_in (take 19 (bytes ++ more)) = leading_length (bytes ++ more) m rest is in
+    let header : take 19 (bytes ++ more) ≡ take 19 bytes = take-append-le 19 bytes more (omega arith) in
+    let same : length_in (take 19 bytes) ≡ length bytes = rw (← header, ← len) exact in
+    let size = length-drop 19 bytes in
+    let count = length_in (take 19 bytes) in
+    let body : slice_range (bytes ++ more) 19 count ≡ slice_range bytes 19 count =
+    rw (drop-append-le 19 bytes more (omega arith)) (take-append-le (count - 19) (drop 19 bytes) more (omega arith)) in
+    front_whole bytes (omega arith) (rw header at l.sound) (omega arith)
+    ∙ rw (drop_all count bytes (omega arith), l.is, header, body) refl
