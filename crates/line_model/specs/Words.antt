@@ -1,0 +1,119 @@
+-- What the words of a line say, from the left, or the kind of the first faulty one. Our own format.
+use Rattle.std.specs.Prelude.{ℕ, ◌&&◌, nat_le, nat_lt, if◌then◌else◌, Bool, true, false, List, [], ◌∷◌, length, codes, Option, Some, None, Result, Ok, Err}
+use Rattle.std.specs.Str.{bytes_eq}
+use Rattle.ao_base.specs.declared.address.Address.{Address}
+use Rattle.ao_base.specs.declared.address.Socket.{Socket}
+use Rattle.ao_base.specs.declared.algorithm.Algorithm.{Algorithm}
+use Rattle.ao_base.specs.declared.end.End.{End}
+use Rattle.ao_base.specs.declared.end.End.TheVariants.{A, B}
+use Rattle.ao_base.specs.declared.line_kind.LineKind.{LineKind}
+use Rattle.ao_base.specs.declared.line_kind.LineKind.TheVariants.{Word, Number, Hex, Range}
+use Rattle.ao_base.specs.Addresses.{address_of}
+use Rattle.ao_base.specs.Algorithms.{algorithm_of}
+use Rattle.ao_base.specs.Decimals.{decimal_of}
+use Rattle.ao_base.specs.Hexadecimal.{bytes_of_hex}
+
+infixl 10 ◌>>=◌
+-- one reading after another, up to the first fault (own)
+abbrev pub ◌>>=◌ : {A B F : Type 0} → Result A F → (A → Result B F) → Result B F
+(Ok x) >>= f = f x
+(Err e) >>= f = Err e
+
+-- what words in front say, and the words after them (own)
+pub record Taken (A : Type 0) : Type 0 where
+  pub value : A
+  pub rest : List (List ℕ)
+
+-- a value that may be missing, or the fault (own)
+abbrev pub or_fault : {A : Type 0} → Option A → LineKind → Result A LineKind
+or_fault (Some x) kind = Ok x
+or_fault None kind = Err kind
+
+-- the next word, which may not be missing (own)
+unfoldable pub word_in : List (List ℕ) → Result (Taken (List ℕ)) LineKind
+word_in [] = Err Word
+word_in (w ∷ ws) = Ok (record { value = w; rest = ws })
+
+-- no word is surplus (own)
+unfoldable pub nothing_in : List (List ℕ) → Result (Unit {0}) LineKind
+nothing_in [] = Ok tt
+nothing_in (w ∷ ws) = Err Word
+
+-- a word that is what a reading makes of it, or else is of the kind (own)
+abbrev pub word_as : {A : Type 0} → (List ℕ → Option A) → LineKind → List (List ℕ) → Result (Taken A) LineKind
+word_as meaning kind ws = do
+  w ← word_in ws
+  x ← or_fault (meaning w.value) kind
+  Ok (record { value = x; rest = w.rest })
+
+-- this very text (own)
+unfoldable pub literal_in : List ℕ → List (List ℕ) → Result (Taken (Unit {0})) LineKind
+literal_in text ws = word_as (λ w. if bytes_eq w text then Some tt else None) Word ws
+
+-- which of two texts a word is: whether it is the other one (own)
+abbrev pub choice_of : List ℕ → List ℕ → List ℕ → Option Bool
+choice_of one other w = if bytes_eq w one then Some false else if bytes_eq w other then Some true else None
+
+-- one of two texts: whether it is the other one (own)
+unfoldable pub choice_in : List ℕ → List ℕ → List (List ℕ) → Result (Taken Bool) LineKind
+choice_in one other ws = word_as (choice_of one other) Word ws
+
+-- `a` or `b` (own)
+unfoldable pub end_of : List ℕ → Option End
+end_of w = if bytes_eq w (codes "a") then Some A else if bytes_eq w (codes "b") then Some B else None
+
+-- an end (own)
+unfoldable pub end_in : List (List ℕ) → Result (Taken End) LineKind
+end_in ws = word_as end_of Word ws
+
+-- an address (own)
+unfoldable pub address_in : List (List ℕ) → Result (Taken Address) LineKind
+address_in ws = word_as address_of Word ws
+
+-- an algorithm by its name (RFC 5926, section 3.2, and own)
+unfoldable pub algorithm_in : List (List ℕ) → Result (Taken Algorithm) LineKind
+algorithm_in ws = word_as algorithm_of Word ws
+
+-- the value, where the number is from low to high (own)
+abbrev pub within : {A : Type 0} → ℕ → ℕ → ℕ → A → Result A LineKind
+within low high n x = if nat_le low n && nat_le n high then Ok x else Err Range
+
+-- a decimal from low to high (own)
+unfoldable pub number_in : ℕ → ℕ → List (List ℕ) → Result (Taken ℕ) LineKind
+number_in low high ws = do
+  n ← word_as decimal_of Number ws
+  within low high n.value n
+
+-- an address, and a port of two bytes (own)
+unfoldable pub socket_in : List (List ℕ) → Result (Taken Socket) LineKind
+socket_in ws = do
+  address ← address_in ws
+  port ← number_in 0 65535 address.rest
+  Ok (record { value = record { address = address.value; port = port.value }; rest = port.rest })
+
+-- bytes in hexadecimal (own)
+unfoldable pub hex_in : List (List ℕ) → Result (Taken (List ℕ)) LineKind
+hex_in ws = word_as bytes_of_hex Hex ws
+
+-- from low to high bytes in hexadecimal (own)
+unfoldable pub sized_hex_in : ℕ → ℕ → List (List ℕ) → Result (Taken (List ℕ)) LineKind
+sized_hex_in low high ws = do
+  bytes ← hex_in ws
+  within low high (length bytes.value) bytes
+
+-- at least one byte in hexadecimal (own)
+unfoldable pub some_hex_in : List (List ℕ) → Result (Taken (List ℕ)) LineKind
+some_hex_in ws = do
+  bytes ← hex_in ws
+  if nat_lt 0 (length bytes.value) then Ok bytes else Err Range
+
+-- the first byte (own)
+abbrev pub first_of : List ℕ → ℕ
+first_of [] = 0
+first_of (b ∷ bs) = b
+
+-- a byte of two digits (own)
+unfoldable pub byte_in : List (List ℕ) → Result (Taken ℕ) LineKind
+byte_in ws = do
+  bytes ← sized_hex_in 1 1 ws
+  Ok (record { value = first_of bytes.value; rest = bytes.rest })
