@@ -1,9 +1,10 @@
 -- What is written of an input that isn't read. Our own format.
-use Rattle.std.specs.Prelude.{ℕ, List, [], ◌∷◌, ◌++◌, codes, decimal}
+use Rattle.std.specs.Prelude.{ℕ, List, [], ◌∷◌, codes, decimal}
 use Rattle.ao_base.specs.declared.line_kind.LineKind.{LineKind}
 use Rattle.ao_base.specs.declared.line_kind.LineKind.TheVariants.{Word, Number, Hex, Range, Header, Shared}
 use Rattle.line_model.specs.declared.text_fault.TextFault.{TextFault}
 use Rattle.line_model.specs.declared.text_fault.TextFault.TheVariants as fault
+use Rattle.line_model.specs.Texts.{line_text}
 
 -- the word for the kind of a line's fault (own)
 abbrev pub kind_text : LineKind → List ℕ
@@ -18,4 +19,4 @@ kind_text Shared = codes "shared"
 abbrev pub fault_text : TextFault → List ℕ
 fault_text fault.Memory = codes "memory\n"
 fault_text fault.TooManyLines = codes "input: too many lines\n"
-fault_text (fault.Line n kind) = codes "input: line " ++ decimal n ++ 32 ∷ kind_text kind ++ 10 ∷ []
+fault_text (fault.Line n kind) = line_text (codes "input: line" ∷ decimal n ∷ kind_text kind ∷ [])
