@@ -9,10 +9,10 @@ use Rattle.line_model.specs.Said.{Said, numbered, said_by}
 use Rattle.line_model.specs.Words.{◌>>=◌}
 use Rattle.text_lines.specs.declared.refusal.Refusal.{Refusal}
 use Rattle.text_lines.specs.declared.refusal.Refusal.TheVariants as refusal
-use Rattle.text_lines.specs.Readings.{Fails, Tells, at_line}
+use Rattle.text_lines.specs.Readings.{Fails, Tells, fault_at}
 
 -- a line that isn't read fails as it says, at its number
-pub fails_at : {A : Type 0} (n : ℕ) (r : Refusal) (said : Result A LineKind) → Tells (Err r) said → Fails (at_line n r) (numbered n said)
+pub fails_at : {A : Type 0} (n : ℕ) (r : Refusal) (said : Result A LineKind) → Tells (Err r) said → Fails (fault_at n r) (numbered n said)
 fails_at n refusal.Memory said h = tt
 fails_at n (refusal.Kind kind) (Ok x) h = absurd (cc h)
 fails_at n (refusal.Kind kind) (Err e) h = ap (λ (s : Result _ LineKind). numbered n s) h

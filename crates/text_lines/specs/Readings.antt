@@ -19,9 +19,9 @@ Tells (Err refusal.Memory) said = Unit {0}
 Tells (Err (refusal.Kind kind)) said = said ≡ Err kind
 
 -- why a line isn't read, with its number
-abbrev pub at_line : ℕ → Refusal → TextFault
-at_line n refusal.Memory = fault.Memory
-at_line n (refusal.Kind kind) = fault.Line n kind
+abbrev pub fault_at : ℕ → Refusal → TextFault
+fault_at n refusal.Memory = fault.Memory
+fault_at n (refusal.Kind kind) = fault.Line n kind
 
 -- the fault that a call answered is what is said, unless memory ran out
 abbrev pub Fails : {A : Type 0} → TextFault → Result A TextFault → Type 0

@@ -1,7 +1,7 @@
 //! Why a line isn't read.
 ghost use Rattle.std.specs.Prelude.{◌≡◌};
 ghost use Rattle.text_lines.specs.declared.refusal.Refusal.TheVariants as refusal;
-ghost use Rattle.text_lines.specs.Readings.{at_line};
+ghost use Rattle.text_lines.specs.Readings.{fault_at};
 
 use ao_base::LineKind;
 use line_model::TextFault;
@@ -19,7 +19,7 @@ pub enum Refusal {
 impl Refusal {
     /// The fault of an input whose line with this number isn't read for this reason.
     pub fn at(self, number: u32) -> TextFault
-        ensures { result ≡ at_line number self }
+        ensures { result ≡ fault_at number self }
     {
         match self {
             Refusal::Memory => TextFault::Memory,
