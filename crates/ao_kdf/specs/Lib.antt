@@ -1,1 +1,1 @@
-pub mod Context
+pub mod Cache

@@ -2,15 +2,17 @@
 //! (RFC 5925, section 5.2; RFC 5926, section 3.1).
 //!
 //! Each derivation counts one step, so that callers can bound how many they make. Nothing here takes
-//! memory.
+//! memory but a cache, when it is made.
 #![tactic(auto)]
 
-mod context;
+mod cache;
 mod input;
 mod key;
-
-pub use context::Context;
-pub use key::{TrafficKey, traffic_key};
-
 #[cfg(test)]
 mod tests;
+mod way;
+
+pub use cache::KeyCache;
+pub use key::{TrafficKey, traffic_key};
+pub use mac_model::Context;
+pub use way::Way;

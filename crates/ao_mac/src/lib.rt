@@ -7,11 +7,13 @@
 
 mod hasher;
 mod inputs;
+mod mac_bytes;
 mod macs;
 mod seals;
 #[cfg(test)]
 mod tests;
 
 pub use inputs::same_input;
-pub use macs::{MacBytes, mac};
+pub use mac_bytes::MacBytes;
+pub use macs::mac;
 pub use seals::seal;

@@ -1,5 +1,6 @@
 //! The MAC of a segment.
 ghost use Rattle.std.specs.Prelude.{◌≡◌, ◌≤◌, ◌+◌, ◌-◌, ◌*◌, ◌/◌, ◌^◌, ◌<◌, ℕ, Bool, List, [], ◌∷◌, ◌++◌, length, take, drop, replicate};
+ghost use Rattle.ao_base.specs.Algorithms.{mac_length_of};
 ghost use Rattle.ao_base.specs.declared.algorithm.Algorithm.{Algorithm};
 ghost use Rattle.segment_model.specs.Bytes.{put2, put4};
 ghost use Rattle.segment_model.specs.Options.{Ao, One, find_ao};
@@ -12,43 +13,19 @@ ghost use Rattle.ao_mac.specs.Feeds.{StandsFor};
 ghost use Rattle.ao_mac.specs.Macs.{HasAo, IsMacOf};
 
 use crate::hasher::{Hasher, feed, finish, under_key};
+use crate::mac_bytes::MacBytes;
 use ao_base::{Address, Algorithm};
 use ao_kdf::TrafficKey;
-use std::marker::Model;
 use tcp_options::{AoFound, AoOption};
 use tcp_segment::Datagram;
 
 /// Zero bytes, as many as an option can have.
 const ZEROS: [u8; 40] = [0; 40];
 
-/// A MAC; seen as the list of its bytes.
-#[derive(Drop)]
-pub struct MacBytes {
-    bytes: [u8; 12],
-}
-
-impl Model for MacBytes {
-    ghost use Rattle.std.specs.Prelude.{ℕ, List};
-
-    ghost Value = { List ℕ };
-
-    ghost view = { λ m. m.bytes };
-}
-
-impl MacBytes {
-    /// The bytes, in the order in which they are sent.
-    pub fn as_slice(&self) -> &[u8]
-        ensures bytes { result.now ≡ self.now }
-        ensures length { length result.now ≡ 12 }
-    {
-        &self.bytes
-    }
-}
-
 /// Feeds the pseudo-header of IPv4 (RFC 9293, section 3.1).
 fn feed_pseudo_v4(hasher: &mut Hasher, source: &[u8; 4], destination: &[u8; 4], length: u16)
-    ensures { (alg : Algorithm) (key fed : List ℕ) → StandsFor hasher.old alg key fed
-        → StandsFor hasher.new alg key (fed ++ (source.now ++ (destination.now ++ (0 ∷ 6 ∷ put2 length [])))) }
+    ensures { (algorithm : Algorithm) (key fed : List ℕ) → StandsFor hasher.old algorithm key fed
+        → StandsFor hasher.new algorithm key (fed ++ (source.now ++ (destination.now ++ (0 ∷ 6 ∷ put2 length [])))) }
 {
     feed(hasher, source);
     feed(hasher, destination);
@@ -57,8 +34,8 @@ fn feed_pseudo_v4(hasher: &mut Hasher, source: &[u8; 4], destination: &[u8; 4], 
 
 /// Feeds the pseudo-header of IPv6 (RFC 8200, section 8.1).
 fn feed_pseudo_v6(hasher: &mut Hasher, source: &[u8; 16], destination: &[u8; 16], length: u16)
-    ensures { (alg : Algorithm) (key fed : List ℕ) → StandsFor hasher.old alg key fed
-        → StandsFor hasher.new alg key (fed ++ (source.now ++ (destination.now ++ put4 length (0 ∷ 0 ∷ 0 ∷ 6 ∷ [])))) }
+    ensures { (algorithm : Algorithm) (key fed : List ℕ) → StandsFor hasher.old algorithm key fed
+        → StandsFor hasher.new algorithm key (fed ++ (source.now ++ (destination.now ++ put4 length (0 ∷ 0 ∷ 0 ∷ 6 ∷ [])))) }
 {
     feed(hasher, source);
     feed(hasher, destination);
@@ -80,7 +57,7 @@ pub(crate) fn tcp_length_of(datagram: &Datagram<'_>) -> u16
 
 /// Feeds the pseudo-header (RFC 9293, section 3.1; RFC 8200, section 8.1).
 fn feed_pseudo_header(hasher: &mut Hasher, datagram: &Datagram<'_>)
-    ensures { (alg : Algorithm) (key fed : List ℕ) → StandsFor hasher.old alg key fed → StandsFor hasher.new alg key (fed ++ pseudo datagram.now []) }
+    ensures { (algorithm : Algorithm) (key fed : List ℕ) → StandsFor hasher.old algorithm key fed → StandsFor hasher.new algorithm key (fed ++ pseudo datagram.now []) }
 {
     let length = tcp_length_of(datagram);
     match (datagram.source().address, datagram.destination().address) {
@@ -97,14 +74,14 @@ fn feed_pseudo_header(hasher: &mut Hasher, datagram: &Datagram<'_>)
 /// Feeds so many zero bytes.
 fn feed_zeros(hasher: &mut Hasher, count: usize)
     requires { count ≤ 40 }
-    ensures { (alg : Algorithm) (key fed : List ℕ) → StandsFor hasher.old alg key fed → StandsFor hasher.new alg key (fed ++ replicate count 0) }
+    ensures { (algorithm : Algorithm) (key fed : List ℕ) → StandsFor hasher.old algorithm key fed → StandsFor hasher.new algorithm key (fed ++ replicate count 0) }
 {
     feed(hasher, &ZEROS[..count]);
 }
 
 /// Feeds the TCP header with its checksum zero.
 fn feed_header(hasher: &mut Hasher, datagram: &Datagram<'_>)
-    ensures { (alg : Algorithm) (key fed : List ℕ) → StandsFor hasher.old alg key fed → StandsFor hasher.new alg key (fed ++ header datagram.now 0 []) }
+    ensures { (algorithm : Algorithm) (key fed : List ℕ) → StandsFor hasher.old algorithm key fed → StandsFor hasher.new algorithm key (fed ++ header datagram.now 0 []) }
 {
     let header = datagram.header();
     feed(hasher, &header[..16]);
@@ -116,8 +93,8 @@ fn feed_header(hasher: &mut Hasher, datagram: &Datagram<'_>)
 fn feed_options(hasher: &mut Hasher, area: &[u8], ao: AoOption<'_>, with_options: bool)
     requires within { ao.place + 4 + length ao.mac.now ≤ length area.now }
     requires room { length area.now ≤ 40 }
-    ensures { (alg : Algorithm) (key fed : List ℕ) → StandsFor hasher.old alg key fed
-        → StandsFor hasher.new alg key (fed ++ covered with_options area.now (view_ao ao.entry)) }
+    ensures { (algorithm : Algorithm) (key fed : List ℕ) → StandsFor hasher.old algorithm key fed
+        → StandsFor hasher.new algorithm key (fed ++ covered with_options area.now (view_ao ao.entry)) }
 {
     let length = ao.mac.len();
     let front = ao.place as usize + 4;
@@ -134,8 +111,8 @@ fn feed_options(hasher: &mut Hasher, area: &[u8], ao: AoOption<'_>, with_options
 /// Feeds the options of a segment that are covered.
 fn feed_covered(hasher: &mut Hasher, datagram: &Datagram<'_>, with_options: bool)
     requires { HasAo datagram.now }
-    ensures { (alg : Algorithm) (key fed : List ℕ) (ao : Ao) → StandsFor hasher.old alg key fed → find_ao datagram.now.area ≡ One ao
-        → StandsFor hasher.new alg key (fed ++ covered with_options datagram.now.area ao) }
+    ensures { (algorithm : Algorithm) (key fed : List ℕ) (ao : Ao) → StandsFor hasher.old algorithm key fed → find_ao datagram.now.area ≡ One ao
+        → StandsFor hasher.new algorithm key (fed ++ covered with_options datagram.now.area ao) }
 {
     // Its clause says that each field fits its place, on which the proof rests.
     let _length = datagram.length();
@@ -172,7 +149,8 @@ pub fn mac(
 ) -> MacBytes
     requires one { HasAo datagram.now }
     requires key { length key.now ≡ key_length alg }
-    ensures { IsMacOf result alg key.now sne datagram.now with_options }
+    ensures mac { IsMacOf result alg key.now sne datagram.now with_options }
+    ensures length { length result ≡ mac_length_of alg }
 {
     let mut hasher = under_key(alg, key.as_slice());
     feed(&mut hasher, &big_endian(sne));
@@ -180,7 +158,5 @@ pub fn mac(
     feed_header(&mut hasher, datagram);
     feed_covered(&mut hasher, datagram, with_options);
     feed(&mut hasher, datagram.payload());
-    MacBytes {
-        bytes: finish(hasher),
-    }
+    finish(hasher)
 }

@@ -1,5 +1,6 @@
 //! Segments of RFC 9235 have their MACs, one that is sealed has its MAC, and what two inputs share.
 ghost use Rattle.std.specs.Prelude.{◌≡◌, ◌<◌, ◌≤◌, length, IfSome};
+ghost use Rattle.ao_base.specs.Algorithms.{mac_length_of};
 ghost use Rattle.mac_model.specs.Keys.{key_length};
 ghost use Rattle.tcp_segment.specs.Writing.{IsHead};
 ghost use Rattle.ao_mac.specs.Macs.{HasAo};
@@ -50,6 +51,15 @@ const SYN_CMAC_ALONE: [u8; 76] = [
     0xe0, 0x02, 0xff, 0xff, 0x70, 0xbf, 0x00, 0x00, 0x02, 0x04, 0x05, 0xb4, 0x01, 0x03, 0x03, 0x08,
     0x04, 0x02, 0x08, 0x0a, 0x00, 0x01, 0x85, 0xe1, 0x00, 0x00, 0x00, 0x00, 0x1d, 0x10, 0x3d, 0x54,
     0xc4, 0x4e, 0x60, 0xcb, 0x31, 0xf7, 0xc0, 0xb1, 0xde, 0x3d, 0x27, 0x49,
+];
+
+/// A first segment from port 1000 of 10.0.0.1 to port 2000 of 10.0.0.2: HMAC-SHA-256, all options
+/// covered. It is the third line of `bench/vectors_sha256.py`, a program on Python's `hmac` alone.
+const SYN_SHA256: [u8; 64] = [
+    0x45, 0x00, 0x00, 0x40, 0x00, 0x00, 0x40, 0x00, 0x40, 0x06, 0x26, 0xb6, 0x0a, 0x00, 0x00, 0x01,
+    0x0a, 0x00, 0x00, 0x02, 0x03, 0xe8, 0x07, 0xd0, 0x00, 0x00, 0x00, 0x64, 0x00, 0x00, 0x00, 0x00,
+    0xb0, 0x02, 0xff, 0xff, 0x33, 0x33, 0x00, 0x00, 0x02, 0x04, 0x05, 0xb4, 0x1d, 0x14, 0x01, 0x02,
+    0x3b, 0xe0, 0x1c, 0x5e, 0xeb, 0x3f, 0xd1, 0xb6, 0xa0, 0x8b, 0xa9, 0x97, 0xf9, 0x72, 0x7d, 0xdf,
 ];
 
 /// An address of IPv6.
@@ -125,13 +135,14 @@ fn passes<L: Ledger>(
     mac(&key, alg, sne, datagram, with_options).as_slice() == field
 }
 
-/// RFC 9235, sections 4.1.1, 4.2.1, 5.1.1 and 5.2.1.
+/// RFC 9235, sections 4.1.1, 4.2.1, 5.1.1 and 5.2.1, and one by the third algorithm.
 #[test]
 fn first_segments_have_their_macs(rt: HostRuntime) {
     assert!(rt; verifies(Algorithm::HmacSha1, &SYN_HMAC, true));
     assert!(rt; verifies(Algorithm::HmacSha1, &SYN_HMAC_ALONE, false));
     assert!(rt; verifies(Algorithm::AesCmac, &SYN_CMAC, true));
     assert!(rt; verifies(Algorithm::AesCmac, &SYN_CMAC_ALONE, false));
+    assert!(rt; verifies(Algorithm::HmacSha256, &SYN_SHA256, true));
     assert!(rt; !verifies(Algorithm::HmacSha1, &SYN_HMAC, false));
     assert!(rt; !verifies(Algorithm::AesCmac, &SYN_CMAC_ALONE, true));
 }
@@ -146,7 +157,7 @@ fn send(
     with_options: bool,
 ) -> usize
     requires head { IsHead head.now (length payload.now) }
-    requires mac { head.now.mac_length ≡ 12 }
+    requires mac { head.now.mac_length ≡ mac_length_of alg }
     requires key { length key.now ≡ key_length alg }
     requires room { 1500 ≤ length out.old }
     ensures { result ≤ 1500 }
@@ -184,7 +195,7 @@ fn sealed<L: Ledger>(blank: Blank, out: &mut [u8], alg: Algorithm, with_options:
         mss: Some(1460),
         key_id: 7,
         rnext: 8,
-        mac_length: 12,
+        mac_length: alg.mac_length(),
     };
     send(out, &key, alg, &head, b"hello", with_options)
 }
@@ -232,6 +243,24 @@ fn sealed_by_hmac_has_its_mac_when_read_again(rt: HostRuntime) -> Result<(), Fai
     assert!(rt; datagram.checksum_ok());
     assert!(rt; verifies_later(Algorithm::HmacSha1, 1, &datagram, true));
     assert!(rt; !verifies_later(Algorithm::HmacSha1, 1, &datagram, false));
+    Ok(())
+}
+
+/// The MAC is that of the last line of `bench/vectors_sha256.py`.
+#[test]
+fn sealed_by_hmac_sha256_has_its_mac_when_read_again(rt: HostRuntime) -> Result<(), Fail> {
+    let expected = [
+        0x33, 0x9b, 0x54, 0xa0, 0xe7, 0x1e, 0xc2, 0x12, 0x4c, 0x61, 0x65, 0x4d, 0xa3, 0xd8, 0x50,
+        0x4f,
+    ];
+    let mut out = [0xff; 1500];
+    let length = written(&mut out, Algorithm::HmacSha256, false);
+    assert_eq!(rt; length, 89);
+    assert_eq!(rt; &out[68..84], expected.as_slice());
+    let datagram = read_datagram(&out).ok().ok_or("a fault")?;
+    assert!(rt; datagram.checksum_ok());
+    assert!(rt; verifies_later(Algorithm::HmacSha256, 1, &datagram, false));
+    assert!(rt; !verifies_later(Algorithm::HmacSha256, 1, &datagram, true));
     Ok(())
 }
 

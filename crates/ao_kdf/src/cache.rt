@@ -1,0 +1,111 @@
+//! Traffic keys that are kept once they were derived.
+ghost use Rattle.std.specs.Prelude.{◌≡◌, ◌+◌, ◌-◌, ◌<◌, ◌≤◌, ℕ, List, Option, Some, None, length, replicate, slice_set, IfOk};
+ghost use Rattle.mac_model.specs.Contexts.{bytes_of};
+ghost use Rattle.mac_model.specs.Keys.{key_length, traffic_key};
+ghost use Rattle.ao_kdf.specs.Cache.{empty, key_at, kept, keeping, IsRight, steps_for};
+
+use crate::key::{TrafficKey, derive};
+use crate::way::Way;
+use ao_base::{Algorithm, Steps};
+use mac_model::Context;
+use std::alloc::{AllocError, Global};
+use std::marker::Model;
+use std::sync::ledger::Ledger;
+
+/// The traffic keys of a connection, one for each row of a key table and each way, as far as they
+/// were derived; seen as the number of rows and the keys of each way.
+#[derive(Drop)]
+pub struct KeyCache {
+    rows: u8,
+    inbound: Vec<Option<TrafficKey>>,
+    outbound: Vec<Option<TrafficKey>>,
+}
+
+impl Model for KeyCache {
+    ghost use Rattle.std.specs.Prelude.{◌≡◌, length};
+    ghost use Rattle.ao_kdf.specs.Cache.{Cache};
+
+    ghost Value = { Cache };
+
+    ghost view = { λ c. record { rows = c.rows; inbound = c.inbound.items; outbound = c.outbound.items } };
+
+    ghost invariant = { λ c. (length c.inbound.items ≡ c.rows) × (length c.outbound.items ≡ c.rows) };
+}
+
+/// Room for so many keys, of which none is kept.
+fn no_keys(alloc: Global, rows: u8) -> Result<Vec<Option<TrafficKey>>, AllocError>
+    ensures { IfOk result (λ v. v.items ≡ replicate rows None) }
+{
+    let mut keys = Vec::new(alloc);
+    for _row in 0..rows {
+        keys.push(None)?;
+    }
+    Ok(keys)
+}
+
+/// The key that is kept at a place, or else derived and kept there.
+fn look<L: Ledger>(
+    keys: &mut Vec<Option<TrafficKey>>,
+    at: usize,
+    algorithm: Algorithm,
+    master: &[u8],
+    context: &Context,
+    steps: &mut Steps<L>,
+) -> TrafficKey
+    requires at { at < length keys.old.items }
+    requires right { IsRight (key_at keys.old.items at) (traffic_key algorithm master.now (bytes_of context.now)) }
+    ensures key { result ≡ traffic_key algorithm master.now (bytes_of context.now) }
+    ensures keys { keys.new.items ≡ slice_set keys.old.items at (Some (traffic_key algorithm master.now (bytes_of context.now))) }
+    ensures counted { steps.new ≡ steps.old + steps_for (key_at keys.old.items at) }
+{
+    if let Some(key) = &keys[at] {
+        return key.copied();
+    }
+    let key = derive(algorithm, master, context, steps);
+    keys[at] = Some(key.copied());
+    key
+}
+
+impl KeyCache {
+    /// A cache for so many rows, in which no key is kept.
+    pub fn new(alloc: Global, rows: u8) -> Result<KeyCache, AllocError>
+        ensures { IfOk result (λ c. c ≡ empty rows) }
+    {
+        let inbound = no_keys(alloc, rows)?;
+        let outbound = no_keys(alloc, rows)?;
+        Ok(KeyCache {
+            rows,
+            inbound,
+            outbound,
+        })
+    }
+
+    /// The traffic key of a row, from 1 to `rows`, for a way: of this master key and this context
+    /// (RFC 5925, section 5.2). Where a key is kept for the row and the way, it is that of these
+    /// arguments; it is given, and no step is counted. Else the key is derived and kept, and one
+    /// step is counted. All other keys stay.
+    pub fn get<L: Ledger>(
+        &mut self,
+        row: u8,
+        way: Way,
+        alg: Algorithm,
+        master: &[u8],
+        context: &Context,
+        steps: &mut Steps<L>,
+    ) -> TrafficKey
+        requires low { 1 ≤ row }
+        requires high { row ≤ self.old.rows }
+        requires right { IsRight (kept self.old row way) (traffic_key alg master.now (bytes_of context.now)) }
+        ensures key { result ≡ traffic_key alg master.now (bytes_of context.now) }
+        ensures length { length result ≡ key_length alg }
+        ensures keys { self.new ≡ keeping self.old row way result }
+        ensures kept { kept self.new row way ≡ Some result }
+        ensures counted { steps.new ≡ steps.old + steps_for (kept self.old row way) }
+    {
+        let at = row as usize - 1;
+        match way {
+            Way::Inbound => look(&mut self.inbound, at, alg, master, context, steps),
+            Way::Outbound => look(&mut self.outbound, at, alg, master, context, steps),
+        }
+    }
+}
