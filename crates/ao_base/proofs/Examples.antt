@@ -1,7 +1,7 @@
 -- The definitions at a few texts.
 use Rattle.std.proofs.Common.{◌≡◌, ◌++◌, [], ◌∷◌, Some, None, codes, refl}
 use Rattle.ao_base.specs.declared.address.Address.TheVariants.{V4}
-use Rattle.ao_base.specs.declared.algorithm.Algorithm.TheVariants.{AesCmac}
+use Rattle.ao_base.specs.declared.algorithm.Algorithm.TheVariants.{AesCmac, HmacSha256}
 use Rattle.ao_base.specs.Addresses.{address_of, between_dots, dotted_of, octet_of}
 use Rattle.ao_base.specs.Algorithms.{algorithm_of}
 use Rattle.ao_base.specs.Decimals.{decimal_of}
@@ -67,6 +67,9 @@ three_numbers = refl
 
 named : algorithm_of (codes "AES-128-CMAC-96") ≡ Some AesCmac
 named = refl
+
+third : algorithm_of (codes "HMAC-SHA-256-128") ≡ Some HmacSha256
+third = refl
 
 unnamed : algorithm_of (codes "HMAC-SHA-1") ≡ None
 unnamed = refl

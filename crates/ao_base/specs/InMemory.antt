@@ -1,8 +1,8 @@
--- A source and a sink in memory, whose calls fail where they are told to.
-use Rattle.std.specs.Prelude.{◌≡◌, ◌↔◌, ℕ, ◌+◌, ◌-◌, ◌<◌, ◌≤◌, ◌⊎◌, min, List, [], ◌++◌, Contains, length, take, drop, Result, IfOk, IfErr, IsErr, Some}
-use Rattle.ao_base.specs.Outside.{Side}
+-- A source and a sink in memory, whose calls fail where they are told to (own).
+use Rattle.std.specs.Prelude.{◌≡◌, ◌↔◌, ℕ, ◌+◌, ◌-◌, ◌<◌, ◌≤◌, ◌⊎◌, min, List, [], ◌++◌, Contains, ◌∷◌, length, take, drop, Option, Some, None, Result, IfOk, IfErr, IsErr}
+use Rattle.ao_base.specs.Outside.{Side, one_later}
 
--- what a source in memory is: the bytes left, the most that a call gives, the numbers of the calls that fail, the number of the last call, the faults
+-- what a source in memory is: the bytes left, the most that a call gives, the numbers of the calls that fail, the number of the last call (they are numbered from 1, and all from 2^64 - 1 on have that number), the faults
 pub record GivingState : Type 0 where
   pub left : List ℕ
   pub piece : ℕ
@@ -18,17 +18,18 @@ pub record TakingState : Type 0 where
   pub calls : ℕ
   pub faults : ℕ
 
--- the number after: calls are numbered from 1, and all from 2^64 - 1 on have that number
-abbrev pub one_later : ℕ → ℕ
-one_later n = min (n + 1) 18446744073709551615
+-- a number that is told where no call is told to fail
+abbrev pub unless_told : List ℕ → ℕ → Option ℕ
+unless_told [] n = Some n
+unless_told (call ∷ failing) n = None
 
--- a source in memory tells its bytes
+-- a source in memory tells its bytes, and with no call told to fail that it gives them all without a fault
 abbrev pub giving_side : GivingState → Side
-giving_side s = record { bytes = Some s.left; faults = s.faults }
+giving_side s = record { bytes = Some s.left; faults = s.faults; quiet = unless_told s.failing (length s.left + 1) }
 
--- a sink in memory tells its bytes
+-- a sink in memory tells its bytes, and with no call told to fail that it takes less than it has room for without a fault
 abbrev pub taking_side : TakingState → Side
-taking_side s = record { bytes = Some s.held; faults = s.faults }
+taking_side s = record { bytes = Some s.held; faults = s.faults; quiet = unless_told s.failing (s.room - length s.held) }
 
 -- one call of `read` with a buffer that held `old` and holds `new`
 pub record Gives {E : Type 0} (before now : GivingState) (old new : List ℕ) (result : Result ℕ E) : Type 0 where

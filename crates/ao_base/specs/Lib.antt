@@ -1,5 +1,6 @@
 pub mod Addresses
 pub mod Algorithms
+pub mod Buffered
 pub mod Decimals
 pub mod Hexadecimal
 pub mod InMemory

@@ -1,4 +1,4 @@
--- Lines of a text and words of a line.
+-- Lines of a text and words of a line (own).
 use Rattle.std.specs.Prelude.{◌≡◌, ℕ, ◌+◌, ◌<◌, ◌≤◌, ◌==◌, ◌||◌, Bool, true, cond, List, [], ◌∷◌, length, drop, slice_range}
 use Rattle.ao_base.specs.declared.lines.Cut.{Cut}
 

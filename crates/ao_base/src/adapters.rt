@@ -1,12 +1,12 @@
 //! Readers and writers of std as sources and sinks.
 ghost use Rattle.std.specs.Prelude.{◌≡◌, ℕ};
-ghost use Rattle.ao_base.specs.Outside.{Side, Reads, Writes};
+ghost use Rattle.ao_base.specs.Outside.{Side, Reads, Writes, CountsOnce, wary};
 
 use crate::outside::{Failed, Sink, Source};
 use std::io::{Read, Write};
 
-/// A reader as a source. Its count of faults, 0 when made, is raised at each error of the reader, up
-/// to 2^64 - 1. It tells its bytes where the reader does.
+/// A reader as a source. Its count of faults, 0 when made, is raised by one at each error of the
+/// reader, up to 2^64 - 1. It tells its bytes where the reader does.
 #[derive(Drop)]
 pub struct ReadSource<R> {
     reader: R,
@@ -14,6 +14,7 @@ pub struct ReadSource<R> {
 }
 
 impl<R: Read> ReadSource<R> {
+    /// The source that gives what the reader has left.
     pub fn new(reader: R) -> ReadSource<R>
         ensures { result ≡ record { reader = reader; faults = 0 } }
     {
@@ -22,9 +23,13 @@ impl<R: Read> ReadSource<R> {
 }
 
 impl<R: Read> Source for ReadSource<R> {
-    ghost side = { λ s. record { bytes = R.remaining s.reader; faults = s.faults } };
+    ghost side = { λ s. wary (R.remaining s.reader) s.faults };
 
-    fn read(&mut self, buf: &mut [u8]) -> Result<usize, Failed> {
+    /// What the reader gives. The count rises by one at Failed, and stays as it was at Ok.
+    fn read(&mut self, buf: &mut [u8]) -> Result<usize, Failed>
+        ensures reads { Reads (wary (R.remaining self.old.reader) self.old.faults) (wary (R.remaining self.new.reader) self.new.faults) buf.new result }
+        ensures counts { CountsOnce self.old.faults self.new.faults result }
+    {
         match self.reader.read(buf) {
             Ok(n) => Ok(n),
             Err(_) => {
@@ -35,9 +40,9 @@ impl<R: Read> Source for ReadSource<R> {
     }
 }
 
-/// A writer as a sink. Its count of faults, 0 when made, is raised at each error of the writer and
-/// where it takes no byte of a piece that isn't empty, up to 2^64 - 1. It tells its bytes where the
-/// writer does.
+/// A writer as a sink. Its count of faults, 0 when made, is raised by one at each error of the
+/// writer and where it takes no byte of a piece that isn't empty, up to 2^64 - 1. It tells its bytes
+/// where the writer does.
 #[derive(Drop)]
 pub struct WriteSink<W> {
     writer: W,
@@ -45,6 +50,7 @@ pub struct WriteSink<W> {
 }
 
 impl<W: Write> WriteSink<W> {
+    /// The sink that puts what it takes into the writer.
     pub fn new(writer: W) -> WriteSink<W>
         ensures { result ≡ record { writer = writer; faults = 0 } }
     {
@@ -53,9 +59,13 @@ impl<W: Write> WriteSink<W> {
 }
 
 impl<W: Write> Sink for WriteSink<W> {
-    ghost side = { λ s. record { bytes = W.contents s.writer; faults = s.faults } };
+    ghost side = { λ s. wary (W.contents s.writer) s.faults };
 
-    fn write(&mut self, buf: &[u8]) -> Result<usize, Failed> {
+    /// What the writer takes. The count rises by one at Failed, and stays as it was at Ok.
+    fn write(&mut self, buf: &[u8]) -> Result<usize, Failed>
+        ensures writes { Writes (wary (W.contents self.old.writer) self.old.faults) (wary (W.contents self.new.writer) self.new.faults) buf.now result }
+        ensures counts { CountsOnce self.old.faults self.new.faults result }
+    {
         match self.writer.write(buf) {
             Ok(n) => {
                 if n == 0 && !buf.is_empty() {

@@ -17,18 +17,21 @@ impl Model for Bytes {
 }
 
 impl Bytes {
+    /// The list of these items. It takes no memory.
     pub fn from_vec(items: Vec<u8>) -> Self
         ensures { result ≡ items.items }
     {
         Bytes { items }
     }
 
+    /// The items.
     pub fn as_slice(&self) -> &[u8]
         ensures { result.now ≡ self.now }
     {
         self.items.as_slice()
     }
 
+    /// The items, given back. It takes no memory.
     pub fn into_vec(self) -> Vec<u8>
         ensures { result.items ≡ self }
     {
@@ -50,18 +53,21 @@ impl Model for Words {
 }
 
 impl Words {
+    /// The list of these items. It takes no memory.
     pub fn from_vec(items: Vec<Bytes>) -> Self
         ensures { result ≡ items.items }
     {
         Words { items }
     }
 
+    /// The items.
     pub fn as_slice(&self) -> &[Bytes]
         ensures { result.now ≡ self.now }
     {
         self.items.as_slice()
     }
 
+    /// The items, given back. It takes no memory.
     pub fn into_vec(self) -> Vec<Bytes>
         ensures { result.items ≡ self }
     {
@@ -83,18 +89,21 @@ impl Model for Numbers {
 }
 
 impl Numbers {
+    /// The list of these items. It takes no memory.
     pub fn from_vec(items: Vec<u64>) -> Self
         ensures { result ≡ items.items }
     {
         Numbers { items }
     }
 
+    /// The items.
     pub fn as_slice(&self) -> &[u64]
         ensures { result.now ≡ self.now }
     {
         self.items.as_slice()
     }
 
+    /// The items, given back. It takes no memory.
     pub fn into_vec(self) -> Vec<u64>
         ensures { result.items ≡ self }
     {

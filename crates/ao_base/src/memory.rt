@@ -2,15 +2,16 @@
 ghost use Rattle.std.specs.Prelude.{◌≡◌, ℕ, ◌+◌, ◌<◌, ◌≤◌, ◌++◌, List, [], Some, length, take, drop, min, vec_capacity, IfOk};
 ghost use Rattle.std.specs.List.{list_any};
 ghost use Rattle.std.specs.Prelude.{◌==◌};
-ghost use Rattle.ao_base.specs.InMemory.{GivingState, TakingState, Gives, Takes, IsTaking, giving_side, taking_side, one_later};
-ghost use Rattle.ao_base.specs.Outside.{Side, Reads, Writes};
+ghost use Rattle.ao_base.specs.InMemory.{GivingState, TakingState, Gives, Takes, IsTaking, giving_side, taking_side};
+ghost use Rattle.ao_base.specs.Outside.{Side, Reads, Writes, one_later};
 
 use crate::list::{Bytes, Numbers};
 use crate::outside::{Failed, Sink, Source};
 use std::alloc::{AllocError, Global};
 use std::marker::Model;
 
-/// A source over bytes in memory. It tells its bytes, and its calls fail where they are told to.
+/// A source over bytes in memory. It tells its bytes, and its calls fail where they are told to:
+/// where none is, the count of faults never rises.
 #[derive(Debug, Drop)]
 pub struct MemSource {
     content: Bytes,
@@ -70,7 +71,7 @@ impl Source for MemSource {
 }
 
 /// A sink in memory. It tells its bytes, holds no more than its room, and its calls fail where they
-/// are told to.
+/// are told to: where none is, the count of faults doesn't rise before it is full.
 #[derive(Debug, Drop)]
 pub struct MemSink {
     held: Vec<u8>,

@@ -9,9 +9,11 @@ use thiserror::Error;
 pub struct Failed;
 
 /// Where bytes come from. A source may tell the bytes that it has left, and it has a count of
-/// faults, at most 2^64 - 1, that never falls.
+/// faults, at most 2^64 - 1, that never falls. It may also tell a number: while it gives fewer bytes
+/// than that, the count stays as it is.
 pub trait Source {
-    // The bytes that are left, where they are told, and the count of faults.
+    // The bytes that are left, where they are told; the count of faults; and that number, where it is
+    // told.
     ghost side: { Self → Side };
 
     /// Puts the next bytes into the front of `buf` and answers how many; with a `buf` that isn't
@@ -22,9 +24,11 @@ pub trait Source {
 }
 
 /// Where bytes go to. A sink may tell the bytes that it holds, and it has a count of faults, at most
-/// 2^64 - 1, that never falls.
+/// 2^64 - 1, that never falls. It may also tell a number: while it takes fewer bytes than that, the
+/// count stays as it is.
 pub trait Sink {
-    // The bytes that it holds, where they are told, and the count of faults.
+    // The bytes that it holds, where they are told; the count of faults; and that number, where it is
+    // told.
     ghost side: { Self → Side };
 
     /// Takes bytes from the front of `buf` and answers how many; of a `buf` that isn't empty at

@@ -1,6 +1,6 @@
 //! A source and a sink that never fail.
 ghost use Rattle.std.specs.Prelude.{◌≡◌, ℕ, ◌≤◌, ◌++◌, List, Some, None, Result, Ok, length, take, drop, min};
-ghost use Rattle.ao_base.specs.Outside.{Side, Reads, Writes};
+ghost use Rattle.ao_base.specs.Outside.{Side, Reads, Writes, wary};
 
 use crate::list::Bytes;
 use crate::memory::give;
@@ -40,11 +40,11 @@ impl QuietSource {
 }
 
 impl Source for QuietSource {
-    ghost side = { λ left. record { bytes = Some left; faults = 0 } };
+    ghost side = { λ left. wary (Some left) 0 };
 
     /// Gives the lesser of what is left and the length of `buf`.
     fn read(&mut self, buf: &mut [u8]) -> Result<usize, Failed>
-        ensures reads { Reads (record { bytes = Some self.old; faults = 0 }) (record { bytes = Some self.new; faults = 0 }) buf.new result }
+        ensures reads { Reads (wary (Some self.old) 0) (wary (Some self.new) 0) buf.new result }
         ensures least { result ≡ Ok (min (length buf.old) (length self.old)) }
         ensures buffer { buf.new ≡ take (length buf.old) self.old ++ drop (length self.old) buf.old }
     {
@@ -68,11 +68,11 @@ impl QuietSink {
 }
 
 impl Sink for QuietSink {
-    ghost side = { λ _. record { bytes = None; faults = 0 } };
+    ghost side = { λ _. wary None 0 };
 
     /// Takes all of `buf`.
     fn write(&mut self, buf: &[u8]) -> Result<usize, Failed>
-        ensures writes { Writes (record { bytes = None; faults = 0 }) (record { bytes = None; faults = 0 }) buf.now result }
+        ensures writes { Writes (wary None 0) (wary None 0) buf.now result }
         ensures whole { result ≡ Ok (length buf.now) }
     {
         Ok(buf.len())

@@ -1,6 +1,7 @@
 use crate::{
-    Address, Bytes, MemSink, MemSource, Numbers, QuietSource, ReadProblem, ReadSource, WriteSink,
-    print_address, push_decimal, push_hex, read_address, read_all, read_hex, write_all,
+    Address, Algorithm, Buffer, Bytes, MemSink, MemSource, Numbers, QuietSource, ReadProblem,
+    ReadSource, WriteSink, print_address, push_decimal, push_hex, read_address, read_all, read_hex,
+    write_all,
 };
 use std::alloc::{AllocError, Global};
 use std::test::Fail;
@@ -93,5 +94,30 @@ fn a_writer_gets_the_bytes(rt: HostRuntime) -> Result<(), Fail> {
     let mut sink = WriteSink::new(&mut text);
     write_all(&mut sink, b"hello".as_slice())?;
     assert_eq!(rt; text.as_slice(), b"hello".as_slice());
+    Ok(())
+}
+
+#[test]
+fn a_full_buffer_moves_its_bytes(rt: HostRuntime) -> Result<(), Fail> {
+    let failing = numbers_of(rt.alloc(), [].as_slice())?;
+    let mut src = MemSource::new(bytes_of(rt.alloc(), b"abcdef")?, 3, failing);
+    let mut buffer = Buffer::new(rt.alloc(), 4)?;
+    assert_eq!(rt; buffer.more(&mut src)?, 3);
+    assert_eq!(rt; buffer.kept(), b"abc".as_slice());
+    buffer.pass(0, 2, 2);
+    assert_eq!(rt; buffer.piece(), b"ab".as_slice());
+    assert_eq!(rt; buffer.more(&mut src)?, 1);
+    assert_eq!(rt; buffer.kept(), b"cd".as_slice());
+    assert_eq!(rt; buffer.more(&mut src)?, 2);
+    assert_eq!(rt; buffer.kept(), b"cdef".as_slice());
+    Ok(())
+}
+
+#[test]
+fn each_algorithm_has_its_name(rt: HostRuntime) -> Result<(), Fail> {
+    let third = Algorithm::named(b"HMAC-SHA-256-128".as_slice()).ok_or("no algorithm")?;
+    assert_eq!(rt; third.mac_length(), 16);
+    assert_eq!(rt; Algorithm::named(third.name()), Some(Algorithm::HmacSha256));
+    assert_eq!(rt; Algorithm::named(b"HMAC-SHA-256".as_slice()), None);
     Ok(())
 }

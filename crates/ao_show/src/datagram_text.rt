@@ -5,7 +5,6 @@ ghost use Rattle.segment_model.specs.Faults.{fault_text};
 ghost use Rattle.segment_model.specs.Options.{plains, listed, options_of};
 ghost use Rattle.segment_model.specs.Segments.{good, reading};
 ghost use Rattle.tcp_options.specs.Views.{view_opt};
-ghost use Rattle.tcp_segment.specs.Views.{fault_of};
 ghost use Rattle.line_model.specs.Texts.{socket_texts, spaced};
 ghost use Rattle.ao_show.specs.Texts.{checksum_text, datagram_texts, family_text, number_texts, option_text, options_texts, rest_texts};
 ghost use Rattle.ao_show.specs.Show.{reading_texts};
@@ -123,7 +122,7 @@ fn push_place(out: &mut Vec<u8>, name: &[u8], place: u8) -> Result<(), AllocErro
 
 /// The text of a fault.
 fn push_fault(out: &mut Vec<u8>, fault: DatagramFault) -> Result<(), AllocError>
-    ensures { OnOk result (out.new.items ≡ out.old.items ++ 32 ∷ fault_text (fault_of fault)) }
+    ensures { OnOk result (out.new.items ≡ out.old.items ++ 32 ∷ fault_text fault) }
 {
     match fault {
         DatagramFault::Truncated => push_text(out, b"truncated"),

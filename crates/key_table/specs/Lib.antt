@@ -1,7 +1,4 @@
-pub mod Times
-pub mod Lookups
-pub mod Seen
-pub mod Reading
-pub mod Columns
-pub mod Nodes
+pub mod Lending
 pub mod Pairs
+pub mod Seen
+pub mod Wants

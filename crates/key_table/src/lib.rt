@@ -1,29 +1,34 @@
 //! The key file that an operator edits, in the manner of RFC 7210: the tables of the nodes, the
-//! rows of each with their lifetimes, and the look-ups by which a row is chosen. Reading is by the
-//! walk that `tables_of` defines; look-ups take no memory.
+//! rows of each with their lifetimes, and the look-ups by which a row is chosen; rows that are added
+//! to a table in use, and withdrawn. Reading is by the walk that `tables_of` defines; look-ups take
+//! no memory.
 #![tactic(auto)]
 
 mod columns;
-mod fault;
 mod gap;
-mod laws;
+mod ids;
+mod new_row;
 mod nodes;
 mod overlap;
+mod peers;
+mod ports;
+mod protocol;
 mod read;
 mod row;
 mod rows;
 mod table;
 mod tables;
+mod terms;
 mod time;
 mod want;
 
-pub use fault::{Column, TableFault};
 pub use gap::first_gap;
-pub use key_model::{Direction, LATEST, Lifetime};
-pub use laws::tables_are_valid;
+pub use key_model::{
+    Accept, AddRefusal, Column, Direction, LATEST, Lifetime, NewRow, NoRow, TableFault,
+};
 pub use read::read_tables;
 pub use row::Row;
-pub use table::{Accept, Table};
+pub use table::Table;
 pub use tables::Tables;
 pub use time::read_time;
 

@@ -2,15 +2,14 @@
 ghost use Rattle.std.specs.Prelude.{◌≡◌, ◌≤◌, ◌+◌, drop, length, option_map, IfSome, Some};
 ghost use Rattle.std.specs.List.{list_any, position_from};
 ghost use Rattle.segment_model.specs.Sockets.{same_address};
-ghost use Rattle.key_model.specs.Overlaps.{peer_meets, peers_meet, ports_meet, lives_meet, pairs_meet, accepts_meet, sends_meet, overlaps, first_overlap};
-ghost use Rattle.key_table.specs.Nodes.{overlap_in};
+ghost use Rattle.key_model.specs.Overlaps.{peer_meets, peers_meet, ports_meet, lifetimes_meet, pairs_meet, accepts_meet, sends_meet, overlaps, first_overlap};
+ghost use Rattle.key_model.specs.Nodes.{overlap_in};
 ghost use Rattle.key_table.specs.Pairs.{two_of};
 
-use crate::fault::TableFault;
 use crate::row::{Row, is_receiving, is_same_address, is_sending};
 use crate::table::Table;
 use ao_base::Address;
-use key_model::Lifetime;
+use key_model::{Lifetime, TableFault};
 
 fn is_peer_meeting(one: &Option<Address>, other: &Option<Address>) -> bool
     ensures { result ≡ peer_meets one.now other.now }
@@ -42,8 +41,8 @@ fn is_ports_meeting(one: Option<u16>, other: Option<u16>) -> bool
     }
 }
 
-fn is_lives_meeting(one: Lifetime, other: Lifetime) -> bool
-    ensures { result ≡ lives_meet one other }
+fn is_lifetimes_meeting(one: Lifetime, other: Lifetime) -> bool
+    ensures { result ≡ lifetimes_meet one other }
 {
     one.first.max(other.first) <= one.last.min(other.last)
 }
@@ -62,7 +61,7 @@ fn is_accepts_meeting(one: &Row, other: &Row) -> bool
     is_receiving(one.direction)
         && is_receiving(other.direction)
         && one.recv_id == other.recv_id
-        && is_lives_meeting(one.accepting, other.accepting)
+        && is_lifetimes_meeting(one.accepting, other.accepting)
 }
 
 fn is_sends_meeting(one: &Row, other: &Row) -> bool
@@ -71,12 +70,12 @@ fn is_sends_meeting(one: &Row, other: &Row) -> bool
     is_sending(one.direction)
         && is_sending(other.direction)
         && one.send_id == other.send_id
-        && is_lives_meeting(one.sending, other.sending)
+        && is_lifetimes_meeting(one.sending, other.sending)
 }
 
-/// Whether for some pair at some time both rows take, or both send, under one id.
+/// Whether for some pair at some time both rows may accept, or both may send, under one id.
 #[tactic(auto, unfolding(key_model::specs::Overlaps::overlaps))]
-fn overlaps(one: &Row, other: &Row) -> bool
+pub(crate) fn overlaps(one: &Row, other: &Row) -> bool
     ensures { result ≡ overlaps one.now other.now }
 {
     (is_accepts_meeting(one, other) || is_sends_meeting(one, other)) && is_pairs_meeting(one, other)
@@ -111,7 +110,7 @@ fn first_overlap(rows: &[Row]) -> Option<(u8, u8)>
 }
 
 /// The first overlap of the tables, those of the nodes from 1 on.
-#[tactic(auto, unfolding(crate::specs::Nodes::overlap_in))]
+#[tactic(auto, unfolding(key_model::specs::Nodes::overlap_in))]
 pub(crate) fn overlap_in(tables: &[Table]) -> Option<TableFault>
     requires { length tables.now ≤ 16 }
     ensures { result ≡ overlap_in 1 tables.now }

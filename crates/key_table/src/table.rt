@@ -1,13 +1,19 @@
 //! The table of a node, and its look-ups.
-ghost use Rattle.std.specs.Prelude.{◌≡◌, ◌≤◌, ◌-◌, [], length, slice_index_or, option_map};
-ghost use Rattle.key_model.specs.Rows.{Row as Entry};
+ghost use Rattle.std.specs.Prelude.{◌≡◌, ◌≤◌, ◌-◌, [], length, slice_index_or, option_map, is_some};
+ghost use Rattle.key_model.specs.Rows.{Row as Entry, sendable};
+ghost use Rattle.key_model.specs.Lifetimes.{greatest_time};
+ghost use Rattle.key_model.specs.Coordination.{numbered};
+ghost use Rattle.key_model.specs.Lookups.{number_of, accept_of};
+ghost use Rattle.key_model.specs.Tables.{adding, withdrawn, row_of_new, Added, Withdrawn};
 ghost use Rattle.key_model.specs.Choices.{latest, lowest, later, send_row, next_row, named_send, has_id};
-ghost use Rattle.key_table.specs.Lookups.{usable, start_of, usable_as, number_of, accept_of};
+ghost use Rattle.key_table.specs.Wants.{usable, usable_as, wanted_start};
 ghost use Rattle.key_table.specs.Seen.{seen};
 
+use crate::new_row::{disable, overlapping, row_of_new};
 use crate::row::Row;
 use crate::want::Want;
 use ao_base::{Address, Pair};
+use key_model::{Accept, AddRefusal, NewRow, NoRow};
 use std::alloc::Global;
 use std::marker::Model;
 
@@ -30,17 +36,6 @@ impl Model for Table {
     ghost invariant = { λ t. length t.rows.items ≤ 64 };
 }
 
-/// What a look-up by RecvID finds.
-#[derive(Clone, Copy, Debug, PartialEq, Eq)]
-pub enum Accept {
-    /// The number of the row, which is acceptable now.
-    Row(u8),
-    /// Some row takes under the id, but none does now.
-    Expired,
-    /// No row takes under the id.
-    Absent,
-}
-
 /// A row with its number.
 #[derive(Clone, Copy)]
 struct Numbered<'a> {
@@ -50,7 +45,7 @@ struct Numbered<'a> {
 
 /// The one with the later start; the first where they are equal.
 fn later<'a>(want: Want, one: Option<Numbered<'a>>, two: Numbered<'a>) -> Numbered<'a>
-    ensures { Some (seen result) ≡ later (start_of want) (option_map seen one.entry) (Some (seen two.entry)) }
+    ensures { Some (seen result) ≡ later (wanted_start want) (option_map seen one.entry) (Some (seen two.entry)) }
 {
     match one {
         Some(one) => {
@@ -67,7 +62,7 @@ fn later<'a>(want: Want, one: Option<Numbered<'a>>, two: Numbered<'a>) -> Number
 /// The usable row with the greatest start.
 fn latest(rows: &[Row], want: Want, pair: &Pair, now: u64) -> Option<u8>
     requires { length rows.now ≤ 64 }
-    ensures { result ≡ number_of (latest (usable want pair.now now) (start_of want) 1 rows.now) }
+    ensures { result ≡ number_of (latest (usable want pair.now now) (wanted_start want) 1 rows.now) }
 {
     let mut found: Option<Numbered> = None;
     for (i, row) in rows.iter().enumerate() {
@@ -101,10 +96,10 @@ fn lowest(rows: &[Row], want: Want, pair: &Pair, id: u8, now: u64) -> Option<u8>
     None
 }
 
-fn has_taker(rows: &[Row], pair: &Pair, id: u8) -> bool
+fn has_id(rows: &[Row], pair: &Pair, id: u8) -> bool
     ensures { result ≡ has_id rows.now pair.now id }
 {
-    rows.iter().any(|row| row.is_taking_as(pair, id))
+    rows.iter().any(|row| row.is_accepting_as(pair, id))
 }
 
 impl Table {
@@ -139,6 +134,13 @@ impl Table {
         self.rows.len() as u8
     }
 
+    /// The rows in their order, row 1 first.
+    pub fn entries(&self) -> &[Row]
+        ensures { result.now ≡ self.now.rows }
+    {
+        self.rows.as_slice()
+    }
+
     /// The row of that number, from 1.
     pub fn row(&self, n: u8) -> &Row
         requires low { 1 ≤ n }
@@ -148,16 +150,66 @@ impl Table {
         &self.rows[n as usize - 1]
     }
 
-    /// The row that takes what comes in for the pair under this KeyID at the time, in seconds since
-    /// 1970. `Absent` exactly where no matching row of direction in or both has that RecvID,
+    /// Whether there is a row of that number and it is sendable for the pair at the time (RFC 7210,
+    /// section 3).
+    pub fn is_sendable(&self, n: u8, pair: &Pair, now: u64) -> bool
+        ensures { result ≡ is_some (numbered (sendable pair.now now) 1 n self.now.rows) }
+    {
+        if n == 0 || n as usize > self.rows.len() {
+            return false;
+        }
+        self.rows[n as usize - 1].is_usable(Want::Send, pair, now)
+    }
+
+    /// Adds a row behind the last one, for any peer and any ports, and gives its number. `TooMany`
+    /// exactly where there are 64 rows; else `Overlap` exactly where a row overlaps the new one, with
+    /// the least such. After a refusal the table is as it was; other rows stay. The master key has 1
+    /// to 255 bytes, and no lifetime ends before it begins or after `LATEST`.
+    #[tactic(auto, unfolding(key_model::specs::Tables::adding))]
+    pub fn add(&mut self, alloc: Global, row: NewRow) -> Result<u8, AddRefusal>
+        requires low { 1 ≤ length row.master }
+        requires high { length row.master ≤ 255 }
+        requires sending { row.sending.first ≤ row.sending.last }
+        requires sent { row.sending.last ≤ greatest_time }
+        requires accepting { row.accepting.first ≤ row.accepting.last }
+        requires accepted { row.accepting.last ≤ greatest_time }
+        ensures { Added self.old self.new result (adding self.old.rows (row_of_new row)) }
+    {
+        if self.rows.len() >= 64 {
+            return Err(AddRefusal::TooMany);
+        }
+        let row = row_of_new(alloc, row)?;
+        match overlapping(self.rows.as_slice(), &row) {
+            Some(n) => Err(AddRefusal::Overlap(n)),
+            None => {
+                self.rows.push(row)?;
+                Ok(self.rows.len() as u8)
+            }
+        }
+    }
+
+    /// Takes row `n` out of use: it keeps its number, and neither sends nor accepts from now on. `NoRow`
+    /// exactly where there is no row of that number; then the table is as it was. All else stays.
+    pub fn withdraw(&mut self, n: u8) -> Result<(), NoRow>
+        ensures { Withdrawn self.old self.new result (withdrawn self.old.rows n) }
+    {
+        if n == 0 || n as usize > self.rows.len() {
+            return Err(NoRow);
+        }
+        disable(&mut self.rows[n as usize - 1]);
+        Ok(())
+    }
+
+    /// The row that accepts what comes in for the pair under this KeyID at the time, in seconds
+    /// since 1970. `Absent` exactly where no matching row of direction in or both has that RecvID,
     /// `Expired` where one has and none is acceptable now (RFC 5925, section 7.5).
     pub fn accept_row(&self, pair: &Pair, key_id: u8, now: u64) -> Accept
         ensures { result ≡ accept_of self.now.rows pair.now key_id now }
     {
-        if !has_taker(self.rows.as_slice(), pair, key_id) {
+        if !has_id(self.rows.as_slice(), pair, key_id) {
             return Accept::Absent;
         }
-        match lowest(self.rows.as_slice(), Want::Take, pair, key_id, now) {
+        match lowest(self.rows.as_slice(), Want::Accept, pair, key_id, now) {
             Some(n) => Accept::Row(n),
             None => Accept::Expired,
         }
@@ -176,7 +228,7 @@ impl Table {
     pub fn next_row(&self, pair: &Pair, now: u64) -> Option<u8>
         ensures { result ≡ number_of (next_row self.now.rows pair.now now) }
     {
-        latest(self.rows.as_slice(), Want::Take, pair, now)
+        latest(self.rows.as_slice(), Want::Accept, pair, now)
     }
 
     /// The sendable row with this SendID, ties to the lowest row. `None` exactly where no row with

@@ -2,8 +2,12 @@
 ghost use Rattle.std.specs.Prelude.{◌≡◌, ◌≤◌, ◌-◌, ◌∷◌, [], length, slice_index_or, option_map, IfOk, false};
 ghost use Rattle.std.specs.List.{find};
 ghost use Rattle.segment_model.specs.Sockets.{same_address};
-ghost use Rattle.key_model.specs.Rows.{Table as Sheet, same_place};
+ghost use Rattle.key_model.specs.Rows.{Table as Sheet, has_address};
 ghost use Rattle.key_model.specs.Shared.{shared_row, shared_tables};
+ghost use Rattle.std.specs.Borrow.{sem};
+ghost use Rattle.std.specs.Option.{option_copied_mut};
+ghost use Rattle.std.specs.Prelude.{slice_get};
+ghost use Rattle.key_table.specs.Lending.{LendsAt, place_of};
 
 use crate::row::{Row, is_same_address};
 use crate::table::Table;
@@ -92,7 +96,7 @@ impl Tables {
 
     /// The table of the node with this address. `None` exactly where no node has it.
     pub fn table(&self, address: &Address) -> Option<&Table>
-        ensures { option_map (λ t. t.now) result ≡ find (same_place address.now) self.now }
+        ensures { option_map (λ t. t.now) result ≡ find (has_address address.now) self.now }
     {
         for table in &self.items {
             if is_same_address(&table.address(), address) {
@@ -100,6 +104,37 @@ impl Tables {
             }
         }
         None
+    }
+
+    /// The place of the first node with this address, from 0; the number of nodes where there is none.
+    fn place(&self, address: &Address) -> usize
+        ensures { result ≡ place_of address.now self.now }
+    {
+        for (i, table) in self.items.iter().enumerate() {
+            if is_same_address(&table.address(), address) {
+                return i;
+            }
+        }
+        self.items.len()
+    }
+
+    /// The table at a place, for changes.
+    fn at_mut(&mut self, at: usize) -> Option<&mut Table>
+        ensures* writes { sem 𝓛 (LendsAt self.entry at result) }
+        ensures table { option_copied_mut result ≡ slice_get self.old at }
+    {
+        self.items.get_mut(at)
+    }
+
+    /// The table of the node with this address, for changes. `None` exactly where no node has it.
+    /// What is written through it changes this table alone.
+    #[tactic(auto, using(crate::proofs::ChangeLaws::found_at))]
+    pub fn table_mut(&mut self, address: &Address) -> Option<&mut Table>
+        ensures* writes { sem 𝓛 (LendsAt self.entry (place_of address.now self.old) result) }
+        ensures table { option_copied_mut result ≡ find (has_address address.now) self.old }
+    {
+        let at = self.place(address);
+        self.at_mut(at)
     }
 
     /// How many nodes there are, at most 16.

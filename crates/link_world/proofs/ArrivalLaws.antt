@@ -1,7 +1,8 @@
 -- An arrival, test by test.
 use Rattle.std.proofs.Common.{◌≡◌, Bool, true, false, ◌∷◌, List, Some, None, refl, sym, ◌∙◌, arith}
 use Rattle.ao_base.specs.declared.address.Pair.{Pair}
-use Rattle.segment_model.specs.Segments.{Segment, Fault, Reading, Read, Bad as Unread, good}
+use Rattle.segment_model.specs.declared.fault.DatagramFault.{DatagramFault}
+use Rattle.segment_model.specs.Segments.{Segment, Reading, Read, Bad as Unread, good}
 use Rattle.narrow_endpoint.specs.Arrivals.{Bad, Foreign, Checksum, acceptable, arrive, arrive_judged, from_peer, unmoved}
 use Rattle.narrow_endpoint.specs.States.{EndState}
 use Rattle.narrow_endpoint.specs.Verdicts.{Key, Verdict, Pass, Passed, judge}
@@ -9,7 +10,7 @@ use Rattle.narrow_link.specs.Worlds.{Setup, Happening, Coming, Came, forgeries}
 use Rattle.link_world.specs.declared.log.Log.{Log}
 use Rattle.link_world.specs.Histories.{StandsLog}
 
-pub of_fault : (key : Key) (pair : Pair) (s : EndState) (r : Reading) (fault : Fault) → r ≡ Unread fault → arrive key pair s r ≡ unmoved s (Bad fault)
+pub of_fault : (key : Key) (pair : Pair) (s : EndState) (r : Reading) (fault : DatagramFault) → r ≡ Unread fault → arrive key pair s r ≡ unmoved s (Bad fault)
 unfolding arrive
 of_fault key pair s r fault e = rw e refl
 

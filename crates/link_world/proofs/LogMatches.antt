@@ -11,7 +11,8 @@ use Rattle.ao_base.specs.declared.end.End.TheVariants.{A, B}
 use Rattle.ao_base.specs.declared.address.Pair.{Pair}
 use Rattle.segment_model.specs.Bytes.{same_bytes}
 use Rattle.segment_model.specs.Sockets.{octets}
-use Rattle.segment_model.specs.Segments.{IpHeader, Ipv4, Ipv6, Segment, Read, Bad, Fault, reading, spell}
+use Rattle.segment_model.specs.declared.fault.DatagramFault.{DatagramFault}
+use Rattle.segment_model.specs.Segments.{IpHeader, Ipv4, Ipv6, Segment, Read, Bad, reading, spell}
 use Rattle.segment_model.specs.Spelling.{AreBytes, Fits, FitsIp, IsV4, IsV6}
 use Rattle.segment_model.proofs.ByteLaws.{bytes_take}
 use Rattle.segment_model.proofs.Fields.{same_bytes_tells}
@@ -25,8 +26,8 @@ use Rattle.narrow_endpoint.specs.Verdicts.{Key, same_key, Passed as Entrance}
 use Rattle.narrow_endpoint.specs.States.{EndState}
 use Rattle.narrow_endpoint.specs.Emissions.{Emission, Emits, Draft, Sending, blank, emit, emitted, seal_known, sealed, shared, to_emit, written_ip}
 use Rattle.narrow_link.specs.Worlds.{Setup, pair_of, other, same_end, Made as Entry, accounts_for}
-use Rattle.ao_kdf.specs.declared.context.Context.{Context}
-use Rattle.ao_kdf.specs.Context.{bytes_of}
+use Rattle.mac_model.specs.declared.context.Context.{Context}
+use Rattle.mac_model.specs.Contexts.{bytes_of}
 use Rattle.ao_mac.specs.Macs.{IsSameInput}
 use Rattle.link_world.specs.declared.kept.Kept.{Kept}
 use Rattle.link_world.specs.declared.outcome.Made.{Made}
@@ -203,11 +204,11 @@ reads_kept setup k m h bytes =
 read_is : (d e : Segment) → Read d ≡ Read e → d ≡ e
 read_is d e h = cc
 
-read_bad : (d : Segment) (f : Fault) → Read d ≡ Bad f → ⊥
+read_bad : (d : Segment) (f : DatagramFault) → Read d ≡ Bad f → ⊥
 read_bad d f h = cc
 
 -- they are read
-pub unread : {X : Type 0} (setup : Setup) (k : Kept) (m : Entry) → IsKept setup k m → AreBytes k.bytes → (f : Fault) → reading k.bytes ≡ Bad f → X
+pub unread : {X : Type 0} (setup : Setup) (k : Kept) (m : Entry) → IsKept setup k m → AreBytes k.bytes → (f : DatagramFault) → reading k.bytes ≡ Bad f → X
 unread setup k m h bytes f e = absurd (read_bad m.emission.segment f (sym (reads_kept setup k m h bytes) ∙ e))
 
 -- the number and the context are the same: the MAC inputs decide

@@ -1,6 +1,5 @@
 -- What the answers of a link stand for.
 use Rattle.std.specs.Prelude.{◌≡◌, ℕ, length}
-use Rattle.tcp_segment.specs.Views.{fault_of}
 use Rattle.narrow_endpoint.specs.Verdicts as verdict
 use Rattle.narrow_endpoint.specs.Arrivals as answer
 use Rattle.narrow_link.specs.Events as event
@@ -24,7 +23,7 @@ view_refusal refusal.BadMac = verdict.BadMac
 
 -- the answer to an arrival
 abbrev pub view_arrival : Arrival → answer.Arrival
-view_arrival (arrival.Bad fault) = answer.Bad (fault_of fault)
+view_arrival (arrival.Bad fault) = answer.Bad fault
 view_arrival arrival.Foreign = answer.Foreign
 view_arrival arrival.Checksum = answer.Checksum
 view_arrival (arrival.Refused why) = answer.Refused (view_refusal why)

@@ -1,7 +1,6 @@
 //! The text of outcomes and of sessions.
 ghost use Rattle.std.specs.Prelude.{◌≡◌, ℕ, ◌++◌, ◌∷◌, List, [], OnOk, codes, decimal, length, map, reverse};
 ghost use Rattle.ao_base.specs.Hexadecimal.{hex_of};
-ghost use Rattle.tcp_segment.specs.Views.{fault_of};
 ghost use Rattle.narrow_link.specs.Reports.{fault_text, refusal_text, answer_text, flags_text, number_text, outcome_text, outcome_line, sent_text, hex_or_none, end_mark, end_text, sessions_text};
 ghost use Rattle.narrow_link.specs.Events as event;
 ghost use Rattle.narrow_link.specs.Worlds.{Made as Entry, Side as EndSide};
@@ -32,7 +31,7 @@ fn push_number(out: &mut Vec<u8>, words: &[u8], number: u64) -> Result<(), Alloc
 }
 
 fn push_fault(out: &mut Vec<u8>, fault: DatagramFault) -> Result<(), AllocError>
-    ensures { OnOk result (out.new.items ≡ out.old.items ++ fault_text (fault_of fault)) }
+    ensures { OnOk result (out.new.items ≡ out.old.items ++ fault_text fault) }
 {
     match fault {
         DatagramFault::Truncated => push(out, b"truncated"),

@@ -2,13 +2,14 @@
 use Rattle.std.specs.Prelude.{ℕ, ◌+◌, ◌==◌, nat_lt, nat_le, Bool, not, ◌&&◌, List, length, Option, Some, None, if◌then◌else◌}
 use Rattle.ao_base.specs.declared.address.Pair.{Pair}
 use Rattle.segment_model.specs.Sockets.{same_socket}
-use Rattle.segment_model.specs.Segments.{Segment, Fault, Reading, Read, Bad as Unread, good, has, ACK, FIN, RST, SYN}
+use Rattle.segment_model.specs.declared.fault.DatagramFault.{DatagramFault}
+use Rattle.segment_model.specs.Segments.{Segment, Reading, Read, Bad as Unread, good, has, ACK, FIN, RST, SYN}
 use Rattle.narrow_endpoint.specs.Verdicts.{Key, Refusal, Passed, Verdict, Refuse, Pass, judge}
 use Rattle.narrow_endpoint.specs.States.{EndState, window, keep}
 
 -- the answer to an arrival
 pub data Arrival : Type 0 where
-  Bad : (fault : Fault) → Arrival
+  Bad : (fault : DatagramFault) → Arrival
   Foreign : Arrival
   Checksum : Arrival
   Refused : (why : Refusal) → Arrival

@@ -7,14 +7,15 @@ use Rattle.ao_base.specs.declared.address.Address.{Address}
 use Rattle.ao_base.specs.declared.address.Address.TheVariants.{V4, V6}
 use Rattle.segment_model.specs.Bytes.{put2, put4}
 use Rattle.segment_model.specs.Sockets.{octets}
-use Rattle.segment_model.specs.Options.{Options, Listed, ShortLength, PastEnd, AreListed, options_of}
-use Rattle.segment_model.specs.Segments.{IpHeader, Ipv4, Ipv6, Segment, Fault, Truncated, Version, HeaderLength, HeaderChecksum, NotTcp, ExtensionHeader, DataOffset, two_at, four_at, refuse, option_fault, tcp_fault, v4_fault, v6_fault, is_extension, first_fault, tcp_fields, v4_fields, v6_fields, fields, tcp_length, header, tcp_bytes, spell_as, spell, sums, reading, Reading, Read, read_unless}
-use Rattle.segment_model.specs.Segments as book
+use Rattle.segment_model.specs.Options.{Options, Listed, Faulty, AreListed, options_of}
+use Rattle.segment_model.specs.declared.fault.DatagramFault.{DatagramFault}
+use Rattle.segment_model.specs.declared.fault.DatagramFault.TheVariants.{Truncated, Version, HeaderLength, HeaderChecksum, Fragment, NotTcp, ExtensionHeader, DataOffset}
+use Rattle.segment_model.specs.Segments.{IpHeader, Ipv4, Ipv6, Segment, two_at, four_at, refuse, option_fault, tcp_fault, v4_fault, v6_fault, is_extension, first_fault, tcp_fields, v4_fields, v6_fields, fields, tcp_length, header, tcp_bytes, spell_as, spell, sums, reading, Read, read_unless}
 use Rattle.segment_model.specs.Spelling.{IsV4, IsV6, FitsV4, FitsV6, FitsIp, Fits}
 use Rattle.segment_model.proofs.ByteLaws.{two_back, four_back}
 
 -- a test that doesn't refuse
-refuse_false : (b : Bool) (f : Fault) (others : Option Fault) → b ≡ false → others ≡ None → refuse b f others ≡ None
+refuse_false : (b : Bool) (f : DatagramFault) (others : Option DatagramFault) → b ≡ false → others ≡ None → refuse b f others ≡ None
 refuse_false true f others e l = absurd (cc)
 refuse_false false f others e l = l
 
@@ -23,8 +24,7 @@ not_equal a b e = ap not (eq-eqb a b e)
 
 option_none : (o : Options) → AreListed o → option_fault o ≡ None
 option_none (Listed list) h = refl
-option_none (ShortLength p) h = absurd h
-option_none (PastEnd p) h = absurd h
+option_none (Faulty f) h = absurd h
 
 -- ---- TCP
 
@@ -165,7 +165,7 @@ v4_unfaulted b d t service identification flags ttl checksum options k right non
     (refuse_false (nat_lt size 20) HeaderLength _ (le-ltb size 20 (omega arith))
     (refuse_false (nat_lt total size) HeaderLength _ (le-ltb total size (omega arith))
     (refuse_false (not (sums (take size b))) HeaderChecksum _ (ap not (ap sums k.head ∙ right))
-    (refuse_false (not (two_at b 6 % 16384 == 0)) book.Fragment _ (not_equal (two_at b 6 % 16384) 0 k.fragment)
+    (refuse_false (not (two_at b 6 % 16384 == 0)) Fragment _ (not_equal (two_at b 6 % 16384) 0 k.fragment)
     (refuse_false (not (slice_index b 9 == 6)) NotTcp _ (not_equal (slice_index b 9) 6 k.protocol)
     (ap tcp_fault k.tcp ∙ none)))))))
 
@@ -286,4 +286,4 @@ pub read_again : (d : Segment) (rest : List ℕ) → Fits d → reading (spell d
 unfolding reading
 read_again d rest f =
     let a = again d rest f in
-    ap (λ (x : Option Fault). read_unless x (fields (spell d ++ rest))) a.none ∙ ap (λ (x : Segment). Read x) a.value
+    ap (λ (x : Option DatagramFault). read_unless x (fields (spell d ++ rest))) a.none ∙ ap (λ (x : Segment). Read x) a.value

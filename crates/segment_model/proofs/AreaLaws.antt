@@ -2,7 +2,9 @@
 use Rattle.std.proofs.Common.{◌≡◌, ℕ, zero, suc, ◌+◌, ◌-◌, ◌<◌, ◌≤◌, false, nat_lt, List, [], ◌∷◌, ◌++◌, length, take, drop, refl, sym, ap, subst, ◌∙◌, arith, inl, inr, append_assoc}
 use Rattle.std.proofs.lemmas.List.{length-append, take-append-drop, length-take, take_at, drop_at, append-nil}
 use Rattle.std.proofs.lemmas.Bool.{cases_lt, le-ltb, lt-ltb}
-use Rattle.segment_model.specs.Options.{Opt, Options, Listed, ShortLength, PastEnd, and_then, least, Front, NoMore, Ending, TooShort, TooLong, Leading, front, options_at, options_of, listed, AreListed}
+use Rattle.segment_model.specs.declared.fault.OptionFault.{OptionFault}
+use Rattle.segment_model.specs.declared.fault.OptionFault.TheVariants.{ShortLength, PastEnd}
+use Rattle.segment_model.specs.Options.{Opt, Options, Listed, Faulty, and_then, least, Front, NoMore, Ending, TooShort, TooLong, Leading, front, options_at, options_of, listed, AreListed}
 use Rattle.segment_model.specs.Areas.{spell_option, spell_options, IsOpen, Open, ending, AreaAt, Area, Refused, FaultFrom, FaultAt}
 use Rattle.segment_model.proofs.Walks.{step, leads, goes, ending_at, nothing_at, short_at, long_at, not_short, not_long}
 
@@ -100,51 +102,46 @@ pub area_of : (bs : List ℕ) → AreListed (options_of bs) → (tail : List ℕ
 unfolding options_of
 area_of bs l = area_found (length bs) 0 bs (omega arith) l
 
-abbrev IsFault : Options → Type 0
-IsFault (Listed list) = ⊥
-IsFault (ShortLength p) = Unit {0}
-IsFault (PastEnd p) = Unit {0}
+then_fault : (o : Opt) (x : Options) (f : OptionFault) → and_then o x ≡ Faulty f → x ≡ Faulty f
+then_fault o (Listed list) f e = absurd (cc)
+then_fault o (Faulty g) f e = e
 
-then_fault : (o : Opt) (x f : Options) → IsFault f → and_then o x ≡ f → x ≡ f
-then_fault o (Listed list) (Listed more) h e = absurd h
-then_fault o (Listed list) (ShortLength q) h e = absurd (cc)
-then_fault o (Listed list) (PastEnd q) h e = absurd (cc)
-then_fault o (ShortLength p) f h e = e
-then_fault o (PastEnd p) f h e = e
+fault_is : (f g : OptionFault) → Faulty f ≡ Faulty g → f ≡ g
+fault_is f g e = cc
 
-fault_step : (s : Front) (p : ℕ) (bs : List ℕ) (f : Options) → s ≡ front bs → Tells s bs → IsFault f → options_at p bs ≡ f
-    → ((q : ℕ) (rest : List ℕ) → length rest < length bs → options_at q rest ≡ f → FaultFrom q rest f)
+fault_step : (s : Front) (p : ℕ) (bs : List ℕ) (f : OptionFault) → s ≡ front bs → Tells s bs → options_at p bs ≡ Faulty f
+    → ((q : ℕ) (rest : List ℕ) → length rest < length bs → options_at q rest ≡ Faulty f → FaultFrom q rest f)
     → FaultFrom p bs f
-fault_step NoMore p bs f e t k l ih = absurd (subst IsFault (sym (sym (nothing_at p bs e) ∙ l)) k)
-fault_step Ending p bs f e t k l ih = absurd (subst IsFault (sym (sym (ending_at p bs e) ∙ l)) k)
-fault_step TooShort p bs f e t k l ih =
-    let is : ShortLength p ≡ f = sym (short_at p bs e) ∙ l in
+fault_step NoMore p bs f e t l ih =
+    let is : Listed [] ≡ Faulty f = sym (nothing_at p bs e) ∙ l in
+    absurd (cc)
+fault_step Ending p bs f e t l ih =
+    let is : Listed (ending p ∷ []) ≡ Faulty f = sym (ending_at p bs e) ∙ l in
+    absurd (cc)
+fault_step TooShort p bs f e t l ih =
+    let is : ShortLength p ≡ f = fault_is (ShortLength p) f (sym (short_at p bs e) ∙ l) in
     let z : p ≡ p + length (spell_options []) = omega arith in
-    ([], bs, tt, refl, subst (λ (q : ℕ). Refused bs q f) z (subst (λ (g : Options). Refused bs p g) is (t p)))
-fault_step TooLong p bs f e t k l ih =
-    let is : PastEnd p ≡ f = sym (long_at p bs e) ∙ l in
+    ([], bs, tt, refl, subst (λ (q : ℕ). Refused bs q f) z (subst (λ (g : OptionFault). Refused bs p g) is (t p)))
+fault_step TooLong p bs f e t l ih =
+    let is : PastEnd p ≡ f = fault_is (PastEnd p) f (sym (long_at p bs e) ∙ l) in
     let z : p ≡ p + length (spell_options []) = omega arith in
-    ([], bs, tt, refl, subst (λ (q : ℕ). Refused bs q f) z (subst (λ (g : Options). Refused bs p g) is (t p)))
-fault_step (Leading kind body size rest) p bs f e t k l ih =
+    ([], bs, tt, refl, subst (λ (q : ℕ). Refused bs q f) z (subst (λ (g : OptionFault). Refused bs p g) is (t p)))
+fault_step (Leading kind body size rest) p bs f e t l ih =
     let o : Opt = opt p kind body in
     let s : options_at p bs ≡ and_then o (options_at (p + size) rest) = step p bs (Leading kind body size rest) e in
-    let r = ih (p + size) rest (leads bs kind body size rest e).less (then_fault o (options_at (p + size) rest) f k (sym s ∙ l)) in
+    let r = ih (p + size) rest (leads bs kind body size rest e).less (then_fault o (options_at (p + size) rest) f (sym s ∙ l)) in
     let at : p + size ≡ p + length (spell_option o) = ap (λ (j : ℕ). p + j) (t.2 p) in
     let far : p + size + length (spell_options r.0) ≡ p + length (spell_option o ++ spell_options r.0) = omega (arith, at, length-append (spell_option o) (spell_options r.0)) in
     (o ∷ r.0, r.1, (t.0 p, refl, subst (λ (q : ℕ). Open q r.0) at r.2), t.1 p ∙ (ap (λ (x : List ℕ). spell_option o ++ x) r.3 ∙ sym (append_assoc (spell_option o) (spell_options r.0) r.1)), subst (λ (q : ℕ). Refused r.1 q f) far r.4)
 
-fault_found : (n p : ℕ) (bs : List ℕ) (f : Options) → length bs ≤ n → IsFault f → options_at p bs ≡ f → FaultFrom p bs f
-fault_found zero p bs f h k l = fault_step (front bs) p bs f refl (tells bs) k l (λ q rest lt m. absurd (omega arith))
-fault_found (suc n) p bs f h k l = fault_step (front bs) p bs f refl (tells bs) k l (λ q rest lt m. fault_found n q rest f (omega arith) k m)
+fault_found : (n p : ℕ) (bs : List ℕ) (f : OptionFault) → length bs ≤ n → options_at p bs ≡ Faulty f → FaultFrom p bs f
+fault_found zero p bs f h l = fault_step (front bs) p bs f refl (tells bs) l (λ q rest lt m. absurd (omega arith))
+fault_found (suc n) p bs f h l = fault_step (front bs) p bs f refl (tells bs) l (λ q rest lt m. fault_found n q rest f (omega arith) m)
 
 -- a fault that is read stands in the bytes
-pub fault_of_short : (bs : List ℕ) (p : ℕ) → options_of bs ≡ ShortLength p → FaultAt bs (ShortLength p)
+pub fault_stands : (bs : List ℕ) (f : OptionFault) → options_of bs ≡ Faulty f → FaultAt bs f
 unfolding options_of
-fault_of_short bs p e = fault_found (length bs) 0 bs (ShortLength p) (omega arith) tt e
-
-pub fault_of_past : (bs : List ℕ) (p : ℕ) → options_of bs ≡ PastEnd p → FaultAt bs (PastEnd p)
-unfolding options_of
-fault_of_past bs p e = fault_found (length bs) 0 bs (PastEnd p) (omega arith) tt e
+fault_stands bs f e = fault_found (length bs) 0 bs f (omega arith) e
 
 -- ---- what is of the grammar is read so
 
@@ -166,13 +163,9 @@ all_listed : (os more : List Opt) → and_all os (Listed more) ≡ Listed (os ++
 all_listed [] more = refl
 all_listed (o ∷ os) more = ap (λ (x : Options). and_then o x) (all_listed os more)
 
-all_short : (os : List Opt) (q : ℕ) → and_all os (ShortLength q) ≡ ShortLength q
-all_short [] q = refl
-all_short (o ∷ os) q = ap (λ (x : Options). and_then o x) (all_short os q)
-
-all_past : (os : List Opt) (q : ℕ) → and_all os (PastEnd q) ≡ PastEnd q
-all_past [] q = refl
-all_past (o ∷ os) q = ap (λ (x : Options). and_then o x) (all_past os q)
+all_faulty : (os : List Opt) (f : OptionFault) → and_all os (Faulty f) ≡ Faulty f
+all_faulty [] f = refl
+all_faulty (o ∷ os) f = ap (λ (x : Options). and_then o x) (all_faulty os f)
 
 -- the options of an area of the grammar are those that it spells
 pub area_is : (list : List Opt) (tail bs : List ℕ) → Area list tail bs → options_of bs ≡ Listed list
@@ -183,33 +176,26 @@ area_is list tail bs (inr b) =
     let p : ℕ = 0 + length (spell_options b.0) in
     ap (options_at 0) b.3 ∙ read_open b.0 0 (0 ∷ tail) b.1 ∙ ap (and_all b.0) (ending_at p (0 ∷ tail) refl) ∙ all_listed b.0 (ending p ∷ []) ∙ ap (λ (l : List Opt). Listed l) (sym b.2)
 
-refused_short : (rest : List ℕ) (p q : ℕ) → Refused rest p (ShortLength q) → options_at p rest ≡ ShortLength q
-refused_short [] p q r = absurd r
-refused_short (kind ∷ []) p q r = absurd r
-refused_short (zero ∷ size ∷ body) p q r = absurd (omega (arith, r.1))
-refused_short (suc zero ∷ size ∷ body) p q r = absurd (omega (arith, r.1))
-refused_short (suc (suc k) ∷ size ∷ body) p q r =
+refused_at : (rest : List ℕ) (p : ℕ) (f : OptionFault) → Refused rest p f → options_at p rest ≡ Faulty f
+refused_at [] p (ShortLength q) r = absurd r
+refused_at (kind ∷ []) p (ShortLength q) r = absurd r
+refused_at (zero ∷ size ∷ body) p (ShortLength q) r = absurd (omega (arith, r.1))
+refused_at (suc zero ∷ size ∷ body) p (ShortLength q) r = absurd (omega (arith, r.1))
+refused_at (suc (suc k) ∷ size ∷ body) p (ShortLength q) r =
     let f : TooShort ≡ front (suc (suc k) ∷ size ∷ body) = rw (lt-ltb _ _ r.2) refl in
-    short_at p (suc (suc k) ∷ size ∷ body) f ∙ ap (λ (j : ℕ). ShortLength j) (sym r.0)
-
-refused_past : (rest : List ℕ) (p q : ℕ) → Refused rest p (PastEnd q) → options_at p rest ≡ PastEnd q
-refused_past [] p q r = absurd r
-refused_past (zero ∷ []) p q r = absurd (omega (arith, r.1))
-refused_past (suc zero ∷ []) p q r = absurd (omega (arith, r.1))
-refused_past (suc (suc k) ∷ []) p q r = long_at p (suc (suc k) ∷ []) refl ∙ ap (λ (j : ℕ). PastEnd j) (sym r.0)
-refused_past (zero ∷ size ∷ body) p q r = absurd (omega (arith, r.1))
-refused_past (suc zero ∷ size ∷ body) p q r = absurd (omega (arith, r.1))
-refused_past (suc (suc k) ∷ size ∷ body) p q r =
+    short_at p (suc (suc k) ∷ size ∷ body) f ∙ ap (λ (j : ℕ). Faulty (ShortLength j)) (sym r.0)
+refused_at [] p (PastEnd q) r = absurd r
+refused_at (zero ∷ []) p (PastEnd q) r = absurd (omega (arith, r.1))
+refused_at (suc zero ∷ []) p (PastEnd q) r = absurd (omega (arith, r.1))
+refused_at (suc (suc k) ∷ []) p (PastEnd q) r = long_at p (suc (suc k) ∷ []) refl ∙ ap (λ (j : ℕ). Faulty (PastEnd j)) (sym r.0)
+refused_at (zero ∷ size ∷ body) p (PastEnd q) r = absurd (omega (arith, r.1))
+refused_at (suc zero ∷ size ∷ body) p (PastEnd q) r = absurd (omega (arith, r.1))
+refused_at (suc (suc k) ∷ size ∷ body) p (PastEnd q) r =
     let f : TooLong ≡ front (suc (suc k) ∷ size ∷ body) = rw (le-ltb _ _ r.2, lt-ltb _ _ r.3) refl in
-    long_at p (suc (suc k) ∷ size ∷ body) f ∙ ap (λ (j : ℕ). PastEnd j) (sym r.0)
+    long_at p (suc (suc k) ∷ size ∷ body) f ∙ ap (λ (j : ℕ). Faulty (PastEnd j)) (sym r.0)
 
 -- a fault that stands in the bytes is read
-pub short_is : (bs : List ℕ) (q : ℕ) → FaultAt bs (ShortLength q) → options_of bs ≡ ShortLength q
+pub fault_read : (bs : List ℕ) (f : OptionFault) → FaultAt bs f → options_of bs ≡ Faulty f
 unfolding options_of
-short_is bs q (before, rest, h, e, r) =
-    ap (options_at 0) e ∙ read_open before 0 rest h ∙ ap (and_all before) (refused_short rest (0 + length (spell_options before)) q r) ∙ all_short before q
-
-pub past_is : (bs : List ℕ) (q : ℕ) → FaultAt bs (PastEnd q) → options_of bs ≡ PastEnd q
-unfolding options_of
-past_is bs q (before, rest, h, e, r) =
-    ap (options_at 0) e ∙ read_open before 0 rest h ∙ ap (and_all before) (refused_past rest (0 + length (spell_options before)) q r) ∙ all_past before q
+fault_read bs f (before, rest, h, e, r) =
+    ap (options_at 0) e ∙ read_open before 0 rest h ∙ ap (and_all before) (refused_at rest (0 + length (spell_options before)) f r) ∙ all_faulty before f

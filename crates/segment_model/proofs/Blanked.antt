@@ -1,8 +1,8 @@
 -- A TCP-AO option that is found in an area is found there too where its MAC is made zero.
-use Rattle.std.proofs.Common.{◌≡◌, ℕ, zero, suc, ◌+◌, ◌-◌, ◌≤◌, ◌<◌, ◌==◌, min, nat_lt, Bool, true, false, List, [], ◌∷◌, ◌++◌, length, take, drop, replicate, slice_index, if◌then◌else◌, refl, sym, ap, ◌∙◌, subst, arith, length-append, length-take, length-drop, append_assoc}
+use Rattle.std.proofs.Common.{◌≡◌, ℕ, zero, suc, ◌+◌, ◌-◌, ◌≤◌, ◌==◌, nat_lt, Bool, true, false, List, [], ◌∷◌, ◌++◌, length, take, drop, replicate, if◌then◌else◌, refl, sym, ap, ◌∙◌, subst, arith, length-append, length-take, length-drop, append_assoc}
 use Rattle.std.proofs.lemmas.Bool.Decides.{nat_tests}
 use Rattle.std.proofs.lemmas.List.{length-replicate}
-use Rattle.segment_model.specs.Options.{Opt, Options, Listed, ShortLength, PastEnd, and_then, least, Front, NoMore, Ending, TooShort, TooLong, Leading, front, by_front, options_from, options_at, options_of, of_kind, listed, AreListed, Ao, AoFound, Absent, One, Two, WithMd5, ao_of, found, find_ao}
+use Rattle.segment_model.specs.Options.{Opt, Options, Listed, Faulty, and_then, least, Front, TooShort, TooLong, Leading, front, by_front, options_from, of_kind, listed, AreListed}
 use Rattle.segment_model.proofs.Fields.{eqb_is, lt_not}
 
 -- the list with so many zeros from 4 past a place on
@@ -61,22 +61,19 @@ pub record Blanks (k p : ℕ) (xs : List ℕ) (o : Opt) : Type 0 where
 
 listed_then : (a : Opt) (os : Options) → AreListed os → listed (and_then a os) ≡ a ∷ listed os
 listed_then a (Listed list) h = refl
-listed_then a (ShortLength p) h = absurd h
-listed_then a (PastEnd p) h = absurd h
+listed_then a (Faulty f) h = absurd h
 
 -- a list without a fault in front of nothing more
 one_more : (os : Options) (o : Opt) → of_kind 29 (listed os) ≡ o ∷ [] → AreListed os
 one_more (Listed list) o e = tt
-one_more (ShortLength p) o e = absurd (cc)
-one_more (PastEnd p) o e = absurd (cc)
+one_more (Faulty f) o e = absurd (cc)
 
 keep_if : (a : Opt) (kind : ℕ) (l : List Opt) (b : Bool) → (a.kind == kind) ≡ b → of_kind kind (a ∷ l) ≡ (if b then a ∷ of_kind kind l else of_kind kind l)
 keep_if a kind l b e = rw e refl
 
 then_listed : (a o : Opt) (os : Options) → of_kind 29 (listed (and_then a os)) ≡ o ∷ [] → AreListed os
 then_listed a o (Listed list) e = tt
-then_listed a o (ShortLength p) e = absurd (cc)
-then_listed a o (PastEnd p) e = absurd (cc)
+then_listed a o (Faulty f) e = absurd (cc)
 
 cons_is : (a o : Opt) (l : List Opt) → a ∷ l ≡ o ∷ [] → (a ≡ o) × (l ≡ [])
 cons_is a o l e = (cc, cc)

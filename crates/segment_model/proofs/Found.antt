@@ -1,7 +1,7 @@
 -- A TCP-AO option that is found lies in its area.
 use Rattle.std.proofs.Common.{◌≡◌, ℕ, zero, suc, ◌+◌, ◌-◌, ◌≤◌, ◌==◌, nat_lt, Bool, true, false, List, [], ◌∷◌, length, take, drop, if◌then◌else◌, refl, sym, subst, arith, length-take, length-drop}
 use Rattle.std.specs.List.{AllByRecursion}
-use Rattle.segment_model.specs.Options.{Opt, Options, Listed, ShortLength, PastEnd, and_then, least, Front, NoMore, Ending, TooShort, TooLong, Leading, front, by_front, options_from, options_of, of_kind, listed, Ao, One, ao_of, found, find_ao}
+use Rattle.segment_model.specs.Options.{Opt, Options, Listed, Faulty, and_then, least, Front, NoMore, Ending, TooShort, TooLong, Leading, front, by_front, options_from, options_of, of_kind, listed, Ao, One, ao_of, found, find_ao}
 use Rattle.segment_model.proofs.Fields.{eqb_is, lt_not}
 
 -- an option of kind 29 has its two ids, and lies before this end
@@ -14,8 +14,7 @@ AllListed P os = AllByRecursion P (listed os)
 
 all_and : (P : Opt → Type 0) (o : Opt) (os : Options) → P o → AllListed P os → AllListed P (and_then o os)
 all_and P o (Listed list) h hs = (h, hs)
-all_and P o (ShortLength p) h hs = tt
-all_and P o (PastEnd p) h hs = tt
+all_and P o (Faulty f) h hs = tt
 
 within-longer : (one two : ℕ) (list : List Opt) → one ≤ two → AllByRecursion (Within one) list → AllByRecursion (Within two) list
 within-longer one two [] le h = tt

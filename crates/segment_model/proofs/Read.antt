@@ -6,21 +6,21 @@ use Rattle.std.proofs.lemmas.List.{length-append, length-drop, take_at}
 use Rattle.ao_base.specs.declared.address.Address.{Address}
 use Rattle.ao_base.specs.declared.address.Address.TheVariants.{V4, V6}
 use Rattle.segment_model.specs.Sockets.{octets}
-use Rattle.segment_model.specs.Options.{Options, Listed, ShortLength, PastEnd, AreListed, options_of}
-use Rattle.segment_model.specs.Segments.{IpHeader, Ipv4, Ipv6, Segment, Fault, Truncated, Version, HeaderLength, HeaderChecksum, NotTcp, ExtensionHeader, DataOffset, two_at, four_at, refuse, option_fault, tcp_fault, v4_fault, v6_fault, is_extension, first_fault, tcp_fields, v4_fields, v6_fields, fields, tcp_length, header, tcp_bytes, spell_as, spell, sums}
-use Rattle.segment_model.specs.Segments as book
+use Rattle.segment_model.specs.Options.{Options, Listed, Faulty, AreListed, options_of}
+use Rattle.segment_model.specs.declared.fault.DatagramFault.{DatagramFault}
+use Rattle.segment_model.specs.declared.fault.DatagramFault.TheVariants.{Truncated, Version, HeaderLength, HeaderChecksum, Fragment, NotTcp, ExtensionHeader, DataOffset}
+use Rattle.segment_model.specs.Segments.{IpHeader, Ipv4, Ipv6, Segment, two_at, four_at, refuse, option_fault, tcp_fault, v4_fault, v6_fault, is_extension, first_fault, tcp_fields, v4_fields, v6_fields, fields, tcp_length, header, tcp_bytes, spell_as, spell, sums}
 use Rattle.segment_model.specs.Spelling.{AreBytes, IsArea, Fits}
 use Rattle.segment_model.proofs.ByteLaws.{put_two, put_four, front_list, in_front, split_at, length_part, bytes_drop, bytes_part}
 
 -- a test that did not refuse
-pub refuse_none : (b : Bool) (f : Fault) (others : Option Fault) → refuse b f others ≡ None → (b ≡ false) × (others ≡ None)
+pub refuse_none : (b : Bool) (f : DatagramFault) (others : Option DatagramFault) → refuse b f others ≡ None → (b ≡ false) × (others ≡ None)
 refuse_none true f others e = absurd (cc)
 refuse_none false f others e = (refl, e)
 
 listed_none : (o : Options) → option_fault o ≡ None → AreListed o
 listed_none (Listed list) e = tt
-listed_none (ShortLength p) e = absurd (cc)
-listed_none (PastEnd p) e = absurd (cc)
+listed_none (Faulty f) e = absurd (cc)
 
 pub record TcpRead (t : List ℕ) : Type 0 where
   pub long : 20 ≤ length t
@@ -31,9 +31,9 @@ pub record TcpRead (t : List ℕ) : Type 0 where
 pub tcp_read : (t : List ℕ) → tcp_fault t ≡ None → TcpRead t
 tcp_read t e =
     let size : ℕ = 4 * (slice_index t 12 / 16) in
-    let l3 : Option Fault = option_fault (options_of (slice_range t 20 size)) in
-    let l2 : Option Fault = refuse (nat_lt (length t) size) DataOffset l3 in
-    let l1 : Option Fault = refuse (nat_lt size 20) DataOffset l2 in
+    let l3 : Option DatagramFault = option_fault (options_of (slice_range t 20 size)) in
+    let l2 : Option DatagramFault = refuse (nat_lt (length t) size) DataOffset l3 in
+    let l1 : Option DatagramFault = refuse (nat_lt size 20) DataOffset l2 in
     let a = refuse_none (nat_lt (length t) 20) DataOffset l1 e in
     let b = refuse_none (nat_lt size 20) DataOffset l2 a.1 in
     let c = refuse_none (nat_lt (length t) size) DataOffset l3 b.1 in
@@ -114,19 +114,19 @@ pub v4_read : (b : List ℕ) → v4_fault b ≡ None → V4Read b
 v4_read b e =
     let size : ℕ = 4 * (slice_index b 0 % 16) in
     let total : ℕ = two_at b 2 in
-    let l7 : Option Fault = tcp_fault (slice_range b size total) in
-    let l6 : Option Fault = refuse (not (slice_index b 9 == 6)) NotTcp l7 in
-    let l5 : Option Fault = refuse (not (two_at b 6 % 16384 == 0)) book.Fragment l6 in
-    let l4 : Option Fault = refuse (not (sums (take size b))) HeaderChecksum l5 in
-    let l3 : Option Fault = refuse (nat_lt total size) HeaderLength l4 in
-    let l2 : Option Fault = refuse (nat_lt size 20) HeaderLength l3 in
-    let l1 : Option Fault = refuse (nat_lt (length b) total) Truncated l2 in
+    let l7 : Option DatagramFault = tcp_fault (slice_range b size total) in
+    let l6 : Option DatagramFault = refuse (not (slice_index b 9 == 6)) NotTcp l7 in
+    let l5 : Option DatagramFault = refuse (not (two_at b 6 % 16384 == 0)) Fragment l6 in
+    let l4 : Option DatagramFault = refuse (not (sums (take size b))) HeaderChecksum l5 in
+    let l3 : Option DatagramFault = refuse (nat_lt total size) HeaderLength l4 in
+    let l2 : Option DatagramFault = refuse (nat_lt size 20) HeaderLength l3 in
+    let l1 : Option DatagramFault = refuse (nat_lt (length b) total) Truncated l2 in
     let a = refuse_none (nat_lt (length b) 20) Truncated l1 e in
     let c = refuse_none (nat_lt (length b) total) Truncated l2 a.1 in
     let d = refuse_none (nat_lt size 20) HeaderLength l3 c.1 in
     let f = refuse_none (nat_lt total size) HeaderLength l4 d.1 in
     let g = refuse_none (not (sums (take size b))) HeaderChecksum l5 f.1 in
-    let h = refuse_none (not (two_at b 6 % 16384 == 0)) book.Fragment l6 g.1 in
+    let h = refuse_none (not (two_at b 6 % 16384 == 0)) Fragment l6 g.1 in
     let i = refuse_none (not (slice_index b 9 == 6)) NotTcp l7 h.1 in
     record {
       long = ltb-false _ _ a.0;
@@ -267,10 +267,10 @@ pub v6_read : (b : List ℕ) → v6_fault b ≡ None → V6Read b
 v6_read b e =
     let size : ℕ = two_at b 4 in
     let next : ℕ = slice_index b 6 in
-    let l4 : Option Fault = tcp_fault (slice_range b 40 (40 + size)) in
-    let l3 : Option Fault = refuse (is_extension next) ExtensionHeader l4 in
-    let l2 : Option Fault = refuse (not ((next == 6) || is_extension next)) NotTcp l3 in
-    let l1 : Option Fault = refuse (nat_lt (length b) (40 + size)) Truncated l2 in
+    let l4 : Option DatagramFault = tcp_fault (slice_range b 40 (40 + size)) in
+    let l3 : Option DatagramFault = refuse (is_extension next) ExtensionHeader l4 in
+    let l2 : Option DatagramFault = refuse (not ((next == 6) || is_extension next)) NotTcp l3 in
+    let l1 : Option DatagramFault = refuse (nat_lt (length b) (40 + size)) Truncated l2 in
     let a = refuse_none (nat_lt (length b) 40) Truncated l1 e in
     let c = refuse_none (nat_lt (length b) (40 + size)) Truncated l2 a.1 in
     let d = refuse_none (not ((next == 6) || is_extension next)) NotTcp l3 c.1 in
@@ -373,11 +373,11 @@ by_family : (four : Bool) (b : List ℕ) → (four ≡ true → SpelledBy b (v4_
 by_family true b v4 v6 = v4 refl
 by_family false b v4 v6 = v6 refl
 
-v4_tests : (four : Bool) (x y : Option Fault) → four ≡ true → (if four then x else y) ≡ None → x ≡ None
+v4_tests : (four : Bool) (x y : Option DatagramFault) → four ≡ true → (if four then x else y) ≡ None → x ≡ None
 v4_tests true x y a e = e
 v4_tests false x y a e = absurd (cc)
 
-v6_tests : (four : Bool) (x y : Option Fault) → four ≡ false → (if four then x else y) ≡ None → y ≡ None
+v6_tests : (four : Bool) (x y : Option DatagramFault) → four ≡ false → (if four then x else y) ≡ None → y ≡ None
 v6_tests true x y a e = absurd (cc)
 v6_tests false x y a e = e
 

@@ -3,8 +3,10 @@ use Rattle.std.proofs.Common.{◌≡◌, ℕ, ◌+◌, ◌-◌, ◌*◌, ◌/◌
 use Rattle.std.proofs.lemmas.Bool.Decides.{nat_tests}
 use Rattle.ao_base.specs.declared.address.Address.{Address}
 use Rattle.ao_base.specs.declared.address.Address.TheVariants.{V4, V6}
-use Rattle.segment_model.specs.Options.{Options, Listed, ShortLength, PastEnd, options_of}
-use Rattle.segment_model.specs.Segments.{IpHeader, Ipv4, Ipv6, Segment, Fault, Truncated, Version, HeaderLength, HeaderChecksum, Fragment, NotTcp, ExtensionHeader, DataOffset, Reading, Bad, Read, sums, two_at, four_at, refuse, option_fault, tcp_fault, v4_fault, v6_fault, is_extension, first_fault, tcp_fields, v4_fields, v6_fields, fields, read_unless, reading}
+use Rattle.segment_model.specs.Options.{Options, Listed, Faulty, options_of}
+use Rattle.segment_model.specs.declared.fault.DatagramFault.{DatagramFault}
+use Rattle.segment_model.specs.declared.fault.DatagramFault.TheVariants.{Truncated, Version, HeaderLength, HeaderChecksum, Fragment, NotTcp, ExtensionHeader, DataOffset}
+use Rattle.segment_model.specs.Segments.{IpHeader, Ipv4, Ipv6, Segment, Reading, Bad, Read, sums, two_at, four_at, refuse, option_fault, tcp_fault, v4_fault, v6_fault, is_extension, first_fault, tcp_fields, v4_fields, v6_fields, fields, read_unless, reading}
 
 -- a header and an address of one family
 abbrev pub SameKind : IpHeader → Address → Type 0
@@ -24,14 +26,13 @@ ShapedIf (Bad fault) = Unit {0}
 ShapedIf (Read d) = Shaped d
 
 -- by cases on a test that refuses
-unless : (b : Bool) (f : Fault) (later : Option Fault) (d : Segment) → (b ≡ false → ShapedIf (read_unless later d)) → ShapedIf (read_unless (refuse b f later) d)
+unless : (b : Bool) (f : DatagramFault) (later : Option DatagramFault) (d : Segment) → (b ≡ false → ShapedIf (read_unless later d)) → ShapedIf (read_unless (refuse b f later) d)
 unless true f later d go = tt
 unless false f later d go = go refl
 
 optioned : (d : Segment) (os : Options) → Shaped d → ShapedIf (read_unless (option_fault os) d)
 optioned d (Listed list) h = h
-optioned d (ShortLength p) h = tt
-optioned d (PastEnd p) h = tt
+optioned d (Faulty f) h = tt
 
 not_lt : (x y : ℕ) → nat_lt x y ≡ false → y ≤ x
 not_lt x y e = grind (arith, nat_tests)

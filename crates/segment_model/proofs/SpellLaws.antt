@@ -1,7 +1,8 @@
 -- A value has one spelling, no two share one, and none is a proper prefix of another.
 use Rattle.std.proofs.Common.{◌≡◌, ℕ, List, [], ◌++◌, length, Option, Some, None, refl, sym, ap, ◌∙◌, arith, subst}
 use Rattle.std.proofs.lemmas.List.{append-nil, length-append, nil_from_length}
-use Rattle.segment_model.specs.Segments.{Segment, Fault, first_fault, fields, spell, reading, Read, read_unless}
+use Rattle.segment_model.specs.declared.fault.DatagramFault.{DatagramFault}
+use Rattle.segment_model.specs.Segments.{Segment, first_fault, fields, spell, reading, Read, read_unless}
 use Rattle.segment_model.specs.Spelling.{AreBytes, Fits, Spells, Good, finished}
 use Rattle.segment_model.proofs.Read.{spelled_by}
 use Rattle.segment_model.proofs.Again.{read_again}
@@ -24,7 +25,7 @@ no_prefix d e b rest s t =
 pub one_value : (d e : Segment) (b : List ℕ) → Spells d b → Spells e b → d ≡ e
 one_value d e b s t = (no_prefix d e b [] s (record { fits = t.fits; spelled = append-nil b ∙ t.spelled })).0
 
-unless_read : (o : Option Fault) (x d : Segment) → read_unless o x ≡ Read d → (o ≡ None) × (x ≡ d)
+unless_read : (o : Option DatagramFault) (x d : Segment) → read_unless o x ≡ Read d → (o ≡ None) × (x ≡ d)
 unless_read None x d e = (refl, read_same x d e)
 unless_read (Some fault) x d e = absurd (cc)
 

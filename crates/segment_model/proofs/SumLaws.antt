@@ -8,7 +8,7 @@ use Rattle.ao_base.specs.declared.address.Address.TheVariants.{V4, V6}
 use Rattle.segment_model.specs.Bytes.{put2, put4}
 use Rattle.segment_model.specs.Sockets.{octets}
 use Rattle.segment_model.specs.Segments.{IpHeader, Ipv4, Ipv6, Segment, words_sum, sums, complement_of, tcp_length, pseudo_of, pseudo, header, tcp_bytes, checksum_of, good, spell_as, spell}
-use Rattle.segment_model.specs.Spelling.{AreBytes, IsV4, IsV6, FitsIp, Fits, finished}
+use Rattle.segment_model.specs.Spelling.{AreBytes, IsV4, IsV6, FitsIp, Fits, with_sum, finished}
 use Rattle.segment_model.proofs.ByteLaws.{two_back}
 
 pub words_append : (k : ℕ) (xs ys : List ℕ) → length xs ≡ 2 * k → words_sum (xs ++ ys) ≡ words_sum xs + words_sum ys
@@ -91,9 +91,6 @@ complement_completes b p = (completes (words_sum b)).1 p
 pub is_right : (b : List ℕ) → 0 < words_sum b → words_sum b % 65535 ≡ 0 → sums b ≡ true
 unfolding sums
 is_right b p e = rw (lt-ltb 0 (words_sum b) p, eq-eqb (words_sum b % 65535) 0 e) refl
-
-abbrev with_sum : Segment → ℕ → Segment
-with_sum d c = record d { checksum = c }
 
 same_tcp : (d : Segment) (c n : ℕ) → tcp_bytes (with_sum d c) n ≡ tcp_bytes d n
 unfolding tcp_bytes header

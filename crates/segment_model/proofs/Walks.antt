@@ -3,7 +3,9 @@ use Rattle.std.proofs.Common.{◌≡◌, ℕ, zero, suc, ◌+◌, ◌-◌, ◌<�
 use Rattle.std.specs.Prelude.{◌==◌}
 use Rattle.std.proofs.lemmas.Bool.{ltb-false}
 use Rattle.std.proofs.lemmas.List.{length-drop, length-take}
-use Rattle.segment_model.specs.Options.{Opt, Options, Listed, ShortLength, PastEnd, and_then, least, Front, NoMore, Ending, TooShort, TooLong, Leading, front, by_front, options_from, options_at, options_of, listed, AreListed, Plain, plains}
+use Rattle.segment_model.specs.declared.fault.OptionFault.{OptionFault}
+use Rattle.segment_model.specs.declared.fault.OptionFault.TheVariants.{ShortLength, PastEnd}
+use Rattle.segment_model.specs.Options.{Opt, Options, Listed, Faulty, and_then, least, Front, NoMore, Ending, TooShort, TooLong, Leading, front, by_front, options_from, options_at, options_of, listed, AreListed, Plain, plains}
 
 -- what is known of an option at the front of n bytes
 pub record Leads (kind : ℕ) (body : List ℕ) (size : ℕ) (rest : List ℕ) (n : ℕ) : Type 0 where
@@ -85,23 +87,20 @@ of_is bs = refl
 pub record Passes (all behind : Options) : Type 0 where
   pub to_listed : AreListed behind → AreListed all
   pub from_listed : AreListed all → AreListed behind
-  pub short : (q : ℕ) → behind ≡ ShortLength q → all ≡ ShortLength q
-  pub past : (q : ℕ) → behind ≡ PastEnd q → all ≡ PastEnd q
+  pub faulty : (f : OptionFault) → behind ≡ Faulty f → all ≡ Faulty f
 
 pub passes_same : (o : Options) → Passes o o
-passes_same o = record { to_listed = λ h. h; from_listed = λ h. h; short = λ q e. e; past = λ q e. e }
+passes_same o = record { to_listed = λ h. h; from_listed = λ h. h; faulty = λ f e. e }
 
 pub passes_then : (o : Opt) (x : Options) → Passes (and_then o x) x
-passes_then o (Listed list) = record { to_listed = λ h. h; from_listed = λ h. h; short = λ q e. absurd (cc); past = λ q e. absurd (cc) }
-passes_then o (ShortLength p) = record { to_listed = λ h. h; from_listed = λ h. h; short = λ q e. e; past = λ q e. e }
-passes_then o (PastEnd p) = record { to_listed = λ h. h; from_listed = λ h. h; short = λ q e. e; past = λ q e. e }
+passes_then o (Listed list) = record { to_listed = λ h. h; from_listed = λ h. h; faulty = λ f e. absurd (cc) }
+passes_then o (Faulty g) = record { to_listed = λ h. h; from_listed = λ h. h; faulty = λ f e. e }
 
 pub passes_on : (x y z : Options) → Passes x y → Passes y z → Passes x z
 passes_on x y z a b = record {
   to_listed = λ h. a.to_listed (b.to_listed h);
   from_listed = λ h. b.from_listed (a.from_listed h);
-  short = λ q e. a.short q (b.short q e);
-  past = λ q e. a.past q (b.past q e);
+  faulty = λ f e. a.faulty f (b.faulty f e);
 }
 
 pub passes_step : (x : Options) (p : ℕ) (bs : List ℕ) (kind : ℕ) (body : List ℕ) (size : ℕ) (rest : List ℕ) → Leading kind body size rest ≡ front bs → Passes x (options_at p bs) → Passes x (options_at (p + size) rest)
@@ -114,8 +113,7 @@ passes_step x p bs kind body size rest e h =
 
 abbrev erased : Options → Option (List Plain)
 erased (Listed list) = Some (plains list)
-erased (ShortLength p) = None
-erased (PastEnd p) = None
+erased (Faulty f) = None
 
 some_same : (a b : List Plain) → Some a ≡ Some b → a ≡ b
 some_same a b e = cc
@@ -124,14 +122,9 @@ erased_then : (o u : Opt) (x y : Options) → o.kind ≡ u.kind → o.body ≡ u
 erased_then o u (Listed a) (Listed b) k m e =
     let f = some_same (plains a) (plains b) e in
     cc
-erased_then o u (Listed a) (ShortLength q) k m e = absurd (cc)
-erased_then o u (Listed a) (PastEnd q) k m e = absurd (cc)
-erased_then o u (ShortLength p) (Listed b) k m e = absurd (cc)
-erased_then o u (ShortLength p) (ShortLength q) k m e = refl
-erased_then o u (ShortLength p) (PastEnd q) k m e = refl
-erased_then o u (PastEnd p) (Listed b) k m e = absurd (cc)
-erased_then o u (PastEnd p) (ShortLength q) k m e = refl
-erased_then o u (PastEnd p) (PastEnd q) k m e = refl
+erased_then o u (Listed a) (Faulty g) k m e = absurd (cc)
+erased_then o u (Faulty f) (Listed b) k m e = absurd (cc)
+erased_then o u (Faulty f) (Faulty g) k m e = refl
 
 erased_by : (s : Front) (p q : ℕ) (f : ℕ → List ℕ → Options) → ((i j : ℕ) (rest : List ℕ) → erased (f i rest) ≡ erased (f j rest)) → erased (by_front s p f) ≡ erased (by_front s q f)
 erased_by NoMore p q f h = refl
@@ -151,15 +144,12 @@ or_none None = []
 
 plains_are : (x : Options) → plains (listed x) ≡ or_none (erased x)
 plains_are (Listed list) = refl
-plains_are (ShortLength p) = refl
-plains_are (PastEnd p) = refl
+plains_are (Faulty f) = refl
 
 same_listed : (x y : Options) → erased x ≡ erased y → AreListed x → AreListed y
 same_listed (Listed a) (Listed b) e h = tt
-same_listed (Listed a) (ShortLength q) e h = absurd (cc)
-same_listed (Listed a) (PastEnd q) e h = absurd (cc)
-same_listed (ShortLength p) y e h = absurd h
-same_listed (PastEnd p) y e h = absurd h
+same_listed (Listed a) (Faulty g) e h = absurd (cc)
+same_listed (Faulty f) y e h = absurd h
 
 pub plains_at : (p q : ℕ) (bs : List ℕ) → plains (listed (options_at p bs)) ≡ plains (listed (options_at q bs))
 plains_at p q bs = plains_are (options_at p bs) ∙ ap or_none (erased_from (length bs) p q bs) ∙ sym (plains_are (options_at q bs))
@@ -169,13 +159,11 @@ listed_at p q bs h = same_listed (options_at p bs) (options_at q bs) (erased_fro
 
 plains_then : (o : Opt) (x : Options) → AreListed x → plains (listed (and_then o x)) ≡ record { kind = o.kind; body = o.body } ∷ plains (listed x)
 plains_then o (Listed list) h = refl
-plains_then o (ShortLength p) h = absurd h
-plains_then o (PastEnd p) h = absurd h
+plains_then o (Faulty f) h = absurd h
 
 listed_then : (o : Opt) (x : Options) → AreListed x → listed (and_then o x) ≡ o ∷ listed x
 listed_then o (Listed list) h = refl
-listed_then o (ShortLength p) h = absurd h
-listed_then o (PastEnd p) h = absurd h
+listed_then o (Faulty f) h = absurd h
 
 -- ---- a step over an area without a fault
 
@@ -207,10 +195,10 @@ ending_at p bs e = step p bs Ending e
 pub nothing_at : (p : ℕ) (bs : List ℕ) → NoMore ≡ front bs → options_at p bs ≡ Listed []
 nothing_at p bs e = step p bs NoMore e
 
-pub short_at : (p : ℕ) (bs : List ℕ) → TooShort ≡ front bs → options_at p bs ≡ ShortLength p
+pub short_at : (p : ℕ) (bs : List ℕ) → TooShort ≡ front bs → options_at p bs ≡ Faulty (ShortLength p)
 short_at p bs e = step p bs TooShort e
 
-pub long_at : (p : ℕ) (bs : List ℕ) → TooLong ≡ front bs → options_at p bs ≡ PastEnd p
+pub long_at : (p : ℕ) (bs : List ℕ) → TooLong ≡ front bs → options_at p bs ≡ Faulty (PastEnd p)
 long_at p bs e = step p bs TooLong e
 
 pub not_short : (p : ℕ) (bs : List ℕ) → AreListed (options_at p bs) → TooShort ≡ front bs → ⊥

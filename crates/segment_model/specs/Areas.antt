@@ -1,6 +1,8 @@
 -- Option areas as a grammar (RFC 9293, section 3.2): which bytes spell which options, and where a fault stands.
 use Rattle.std.specs.Prelude.{◌≡◌, ℕ, ◌+◌, ◌<◌, ◌≤◌, ◌⊎◌, List, [], ◌∷◌, ◌++◌, length, nat_lt, if◌then◌else◌}
-use Rattle.segment_model.specs.Options.{Opt, Options, ShortLength, PastEnd, least}
+use Rattle.segment_model.specs.declared.fault.OptionFault.{OptionFault}
+use Rattle.segment_model.specs.declared.fault.OptionFault.TheVariants.{ShortLength, PastEnd}
+use Rattle.segment_model.specs.Options.{Opt, least}
 
 -- the bytes of an option: its kind, and from kind 2 on its length and body (RFC 9293, section 3.2)
 abbrev pub spell_option : Opt → List ℕ
@@ -37,17 +39,17 @@ abbrev pub Area : List Opt → List ℕ → List ℕ → Type 0
 Area list tail bytes = AreaAt 0 list tail bytes
 
 -- the option at the front of these bytes is refused: no length byte, a length below the least, or one past the end (RFC 9293, section 3.2)
-abbrev pub Refused : List ℕ → ℕ → Options → Type 0
+abbrev pub Refused : List ℕ → ℕ → OptionFault → Type 0
 Refused (kind ∷ size ∷ body) p (ShortLength q) = (q ≡ p) × (2 ≤ kind) × (size < least kind)
 Refused (kind ∷ []) p (PastEnd q) = (q ≡ p) × (2 ≤ kind)
 Refused (kind ∷ size ∷ body) p (PastEnd q) = (q ≡ p) × (2 ≤ kind) × (least kind ≤ size) × (length body + 2 < size)
 Refused bytes p fault = ⊥
 
 -- from a place on, behind options without kind 0, stands one that is refused so
-abbrev pub FaultFrom : ℕ → List ℕ → Options → Type 0
+abbrev pub FaultFrom : ℕ → List ℕ → OptionFault → Type 0
 FaultFrom p bytes fault =
     (before : List Opt) × (rest : List ℕ) × Open p before × (bytes ≡ spell_options before ++ rest) × Refused rest (p + length (spell_options before)) fault
 
 -- the first option with a fault, and its place (RFC 9293, section 3.2)
-abbrev pub FaultAt : List ℕ → Options → Type 0
+abbrev pub FaultAt : List ℕ → OptionFault → Type 0
 FaultAt bytes fault = FaultFrom 0 bytes fault

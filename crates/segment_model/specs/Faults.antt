@@ -1,9 +1,11 @@
 -- The names of the faults of datagrams. Our own format.
 use Rattle.std.specs.Prelude.{ℕ, List, ◌++◌, codes, decimal}
-use Rattle.segment_model.specs.Segments.{Fault, Truncated, Version, HeaderLength, HeaderChecksum, Fragment, NotTcp, ExtensionHeader, DataOffset, OptionShort, OptionPast}
+use Rattle.segment_model.specs.declared.fault.OptionFault.TheVariants.{ShortLength, PastEnd}
+use Rattle.segment_model.specs.declared.fault.DatagramFault.{DatagramFault}
+use Rattle.segment_model.specs.declared.fault.DatagramFault.TheVariants.{Truncated, Version, HeaderLength, HeaderChecksum, Fragment, NotTcp, ExtensionHeader, DataOffset, BadOption}
 
 -- the text of a fault, with the place of a faulty option in its area
-abbrev pub fault_text : Fault → List ℕ
+abbrev pub fault_text : DatagramFault → List ℕ
 fault_text Truncated = codes "truncated"
 fault_text Version = codes "version"
 fault_text HeaderLength = codes "header-length"
@@ -12,5 +14,5 @@ fault_text Fragment = codes "fragment"
 fault_text NotTcp = codes "not-tcp"
 fault_text ExtensionHeader = codes "extension-header"
 fault_text DataOffset = codes "data-offset"
-fault_text (OptionShort place) = codes "option short-length " ++ decimal place
-fault_text (OptionPast place) = codes "option past-end " ++ decimal place
+fault_text (BadOption (ShortLength place)) = codes "option short-length " ++ decimal place
+fault_text (BadOption (PastEnd place)) = codes "option past-end " ++ decimal place

@@ -7,3 +7,4 @@ pub mod Received
 pub mod Segments
 pub mod Sockets
 pub mod Spelling
+pub mod Written

@@ -1,5 +1,7 @@
 -- TCP options (RFC 9293, section 3.2), and the TCP-AO option among them (RFC 5925, section 2.2).
 use Rattle.std.specs.Prelude.{ℕ, zero, suc, ◌+◌, ◌-◌, ◌*◌, ◌==◌, nat_lt, ◌&&◌, List, [], ◌∷◌, length, take, drop, slice_index, Option, Some, None, if◌then◌else◌}
+use Rattle.segment_model.specs.declared.fault.OptionFault.{OptionFault}
+use Rattle.segment_model.specs.declared.fault.OptionFault.TheVariants.{ShortLength, PastEnd}
 
 -- an option, with the place of its kind byte in the area (RFC 9293, section 3.2)
 pub record Opt : Type 0 where
@@ -7,17 +9,15 @@ pub record Opt : Type 0 where
   pub body : List ℕ
   pub place : ℕ
 
--- the options of an area, or the place of the first option with a fault (RFC 9293, section 3.2)
+-- the options of an area, or the fault of the first option that has one (RFC 9293, section 3.2)
 pub data Options : Type 0 where
   Listed : (list : List Opt) → Options
-  ShortLength : (place : ℕ) → Options
-  PastEnd : (place : ℕ) → Options
+  Faulty : (fault : OptionFault) → Options
 
 -- an option in front of those that follow it
 abbrev pub and_then : Opt → Options → Options
 and_then o (Listed list) = Listed (o ∷ list)
-and_then o (ShortLength p) = ShortLength p
-and_then o (PastEnd p) = PastEnd p
+and_then o (Faulty fault) = Faulty fault
 
 -- the least length that an option of this kind may give (RFC 9293, section 3.2; RFC 5925, section 2.2)
 abbrev pub least : ℕ → ℕ
@@ -45,8 +45,8 @@ front (suc (suc k) ∷ size ∷ rest) =
 abbrev pub by_front : Front → ℕ → (ℕ → List ℕ → Options) → Options
 by_front NoMore p others = Listed []
 by_front Ending p others = Listed (record { kind = 0; body = []; place = p } ∷ [])
-by_front TooShort p others = ShortLength p
-by_front TooLong p others = PastEnd p
+by_front TooShort p others = Faulty (ShortLength p)
+by_front TooLong p others = Faulty (PastEnd p)
 by_front (Leading kind body size rest) p others = and_then (record { kind = kind; body = body; place = p }) (others (p + size) rest)
 
 -- the options of an area from a place on; the first argument bounds their number
@@ -70,8 +70,7 @@ of_kind kind (o ∷ os) = if o.kind == kind then o ∷ of_kind kind os else of_k
 -- the options, where there is no fault
 abbrev pub listed : Options → List Opt
 listed (Listed list) = list
-listed (ShortLength p) = []
-listed (PastEnd p) = []
+listed (Faulty fault) = []
 
 -- an option without its place
 pub record Plain : Type 0 where
@@ -86,8 +85,7 @@ plains (o ∷ os) = record { kind = o.kind; body = o.body } ∷ plains os
 -- there is no fault
 abbrev pub AreListed : Options → Type 0
 AreListed (Listed list) = Unit {0}
-AreListed (ShortLength p) = ⊥
-AreListed (PastEnd p) = ⊥
+AreListed (Faulty fault) = ⊥
 
 -- the first option of kind 2 with a body of two bytes (RFC 9293, section 3.2)
 abbrev pub mss_among : List Opt → Option ℕ

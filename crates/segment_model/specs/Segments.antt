@@ -5,7 +5,9 @@ use Rattle.ao_base.specs.declared.address.Address.TheVariants.{V4, V6}
 use Rattle.ao_base.specs.declared.address.Socket.{Socket}
 use Rattle.segment_model.specs.Bytes.{put2, put4}
 use Rattle.segment_model.specs.Sockets.{octets}
-use Rattle.segment_model.specs.Options.{Options, Listed, ShortLength, PastEnd, options_of}
+use Rattle.segment_model.specs.declared.fault.DatagramFault.{DatagramFault}
+use Rattle.segment_model.specs.declared.fault.DatagramFault.TheVariants.{Truncated, Version, HeaderLength, HeaderChecksum, Fragment, NotTcp, ExtensionHeader, DataOffset, BadOption}
+use Rattle.segment_model.specs.Options.{Options, Listed, Faulty, options_of}
 
 -- the fields of an IP header but its addresses and lengths (RFC 791, section 3.1; RFC 8200, section 3)
 pub data IpHeader : Type 0 where
@@ -117,22 +119,9 @@ bit_of false = 0
 abbrev pub segment_length : Segment → ℕ
 segment_length d = length d.payload + bit_of (has SYN d) + bit_of (has FIN d)
 
--- why bytes are no datagram, in the order of the tests
-pub data Fault : Type 0 where
-  Truncated : Fault
-  Version : Fault
-  HeaderLength : Fault
-  HeaderChecksum : Fault
-  Fragment : Fault
-  NotTcp : Fault
-  ExtensionHeader : Fault
-  DataOffset : Fault
-  OptionShort : (place : ℕ) → Fault
-  OptionPast : (place : ℕ) → Fault
-
 -- a datagram, or why there is none
 pub data Reading : Type 0 where
-  Bad : (fault : Fault) → Reading
+  Bad : (fault : DatagramFault) → Reading
   Read : (segment : Segment) → Reading
 
 -- the big-endian number of two bytes from a place on
@@ -144,17 +133,16 @@ abbrev pub four_at : List ℕ → ℕ → ℕ
 four_at b i = two_at b i * 65536 + two_at b (i + 2)
 
 -- a test with its fault, and the tests behind it
-abbrev pub refuse : Bool → Fault → Option Fault → Option Fault
+abbrev pub refuse : Bool → DatagramFault → Option DatagramFault → Option DatagramFault
 refuse test fault others = if test then Some fault else others
 
 -- the ninth test: the option area has no fault (RFC 9293, section 3.2)
-abbrev pub option_fault : Options → Option Fault
+abbrev pub option_fault : Options → Option DatagramFault
 option_fault (Listed list) = None
-option_fault (ShortLength p) = Some (OptionShort p)
-option_fault (PastEnd p) = Some (OptionPast p)
+option_fault (Faulty fault) = Some (BadOption fault)
 
 -- the eighth and the ninth test, over the TCP bytes (RFC 9293, section 3.1)
-abbrev pub tcp_fault : List ℕ → Option Fault
+abbrev pub tcp_fault : List ℕ → Option DatagramFault
 tcp_fault t =
     let size = 4 * (slice_index t 12 / 16) in
     refuse (nat_lt (length t) 20) DataOffset
@@ -163,7 +151,7 @@ tcp_fault t =
     (option_fault (options_of (slice_range t 20 size)))))
 
 -- the tests of a datagram over IPv4, in order (RFC 791, section 3.1)
-abbrev pub v4_fault : List ℕ → Option Fault
+abbrev pub v4_fault : List ℕ → Option DatagramFault
 v4_fault b =
     let size = 4 * (slice_index b 0 % 16) in
     let total = two_at b 2 in
@@ -181,7 +169,7 @@ abbrev pub is_extension : ℕ → Bool
 is_extension next = (next == 0) || (next == 43) || (next == 44) || (next == 60)
 
 -- the tests of a datagram over IPv6, in order (RFC 8200, section 3)
-abbrev pub v6_fault : List ℕ → Option Fault
+abbrev pub v6_fault : List ℕ → Option DatagramFault
 v6_fault b =
     let size = two_at b 4 in
     let next = slice_index b 6 in
@@ -192,7 +180,7 @@ v6_fault b =
     (tcp_fault (slice_range b 40 (40 + size))))))
 
 -- the first of the nine tests that holds
-unfoldable pub first_fault : List ℕ → Option Fault
+unfoldable pub first_fault : List ℕ → Option DatagramFault
 first_fault [] = Some Truncated
 first_fault (first ∷ rest) =
     refuse (not ((first / 16 == 4) || (first / 16 == 6))) Version
@@ -234,7 +222,7 @@ unfoldable pub fields : List ℕ → Segment
 fields b = if slice_index b 0 / 16 == 4 then v4_fields b else v6_fields b
 
 -- the fault, or the segment where there is none
-abbrev pub read_unless : Option Fault → Segment → Reading
+abbrev pub read_unless : Option DatagramFault → Segment → Reading
 read_unless None d = Read d
 read_unless (Some fault) d = Bad fault
 

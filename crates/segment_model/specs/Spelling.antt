@@ -2,7 +2,7 @@
 use Rattle.std.specs.Prelude.{◌≡◌, ℕ, ◌+◌, ◌-◌, ◌/◌, ◌%◌, ◌==◌, ◌<◌, ◌≤◌, true, IsTrue, List, [], ◌∷◌, ◌++◌, length, take, drop, slice_index, if◌then◌else◌}
 use Rattle.ao_base.specs.declared.address.Address.{Address}
 use Rattle.ao_base.specs.declared.address.Address.TheVariants.{V4, V6}
-use Rattle.segment_model.specs.Bytes.{put2, put4}
+use Rattle.segment_model.specs.Bytes.{put2, put4, ring}
 use Rattle.segment_model.specs.Options.{AreListed, options_of}
 use Rattle.segment_model.specs.Segments.{IpHeader, Ipv4, Ipv6, Segment, sums, complement_of, checksum_of, good, spell_as, spell, tcp_length}
 
@@ -57,8 +57,8 @@ pub record Fits (d : Segment) : Type 0 where
   pub ip : FitsIp d.ip d
   pub source_port : d.source.port < 65536
   pub destination_port : d.destination.port < 65536
-  pub sequence : d.sequence < 4294967296
-  pub acknowledgement : d.acknowledgement < 4294967296
+  pub sequence : d.sequence < ring
+  pub acknowledgement : d.acknowledgement < ring
   pub reserved : d.reserved < 16
   pub flags : d.flags < 256
   pub window : d.window < 65536
@@ -77,9 +77,13 @@ pub record Spells (d : Segment) (bytes : List ℕ) : Type 0 where
 abbrev pub Good : Segment → Type 0
 Good d = IsTrue (good d)
 
+-- a datagram with this TCP checksum (RFC 9293, section 3.1)
+abbrev pub with_sum : Segment → ℕ → Segment
+with_sum d checksum = record d { checksum = checksum }
+
 -- a datagram with its TCP checksum set right (RFC 9293, section 3.1)
 abbrev pub finished : Segment → Segment
-finished d = record d { checksum = checksum_of d }
+finished d = with_sum d (checksum_of d)
 
 -- TCP bytes with this checksum in their header (RFC 9293, section 3.1)
 abbrev pub with_checksum : List ℕ → ℕ → List ℕ

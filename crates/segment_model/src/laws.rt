@@ -1,7 +1,8 @@
 //! The laws above option areas and datagrams.
 ghost use Rattle.std.specs.Prelude.{◌≡◌, ℕ, List, [], ◌++◌};
 ghost use Rattle.segment_model.specs.Areas.{Area, FaultAt};
-ghost use Rattle.segment_model.specs.Options.{Opt, Listed, ShortLength, PastEnd, options_of, AreListed, listed};
+ghost use Rattle.segment_model.specs.declared.fault.OptionFault.{OptionFault};
+ghost use Rattle.segment_model.specs.Options.{Opt, Listed, Faulty, options_of, AreListed, listed};
 ghost use Rattle.segment_model.specs.Segments.{Segment, spell, reading, Read};
 ghost use Rattle.segment_model.specs.Spelling.{AreBytes, Fits, Spells, Good, finished};
 
@@ -11,10 +12,8 @@ ghost use Rattle.segment_model.specs.Spelling.{AreBytes, Fits, Spells, Good, fin
 pub fn options_are_the_grammar()
     ensures read { (bytes : List ℕ) → AreListed (options_of bytes) → (tail : List ℕ) × Area (listed (options_of bytes)) tail bytes }
     ensures only { (list : List Opt) (tail bytes : List ℕ) → Area list tail bytes → options_of bytes ≡ Listed list }
-    ensures short { (bytes : List ℕ) (place : ℕ) → options_of bytes ≡ ShortLength place → FaultAt bytes (ShortLength place) }
-    ensures only_short { (bytes : List ℕ) (place : ℕ) → FaultAt bytes (ShortLength place) → options_of bytes ≡ ShortLength place }
-    ensures past { (bytes : List ℕ) (place : ℕ) → options_of bytes ≡ PastEnd place → FaultAt bytes (PastEnd place) }
-    ensures only_past { (bytes : List ℕ) (place : ℕ) → FaultAt bytes (PastEnd place) → options_of bytes ≡ PastEnd place }
+    ensures fault { (bytes : List ℕ) (fault : OptionFault) → options_of bytes ≡ Faulty fault → FaultAt bytes fault }
+    ensures only_fault { (bytes : List ℕ) (fault : OptionFault) → FaultAt bytes fault → options_of bytes ≡ Faulty fault }
 {}
 
 /// Spellings are a prefix code: a value has at most one spelling, no two values share one, and no

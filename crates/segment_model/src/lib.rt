@@ -3,8 +3,10 @@
 //! functions carry theorems about them.
 #![tactic(auto)]
 
+mod fault;
 mod laws;
 mod meant;
 
+pub use fault::{DatagramFault, OptionFault};
 pub use laws::{options_are_the_grammar, reading_is_the_spelling, spellings_are_unique};
 pub use meant::meant_is_nearest;

@@ -2,14 +2,11 @@
 use Rattle.std.proofs.Common.{◌≡◌, ℕ, ◌+◌, ◌<◌, ◌≤◌, Bool, true, false, cond, List, [], ◌∷◌, Option, Some, None, length, refl, sym, ap, subst, ◌∙◌, arith, eq-eqb}
 use Rattle.std.specs.Prelude.{◌==◌, ◌&&◌, slice_index, ◌*◌, is_some}
 use Rattle.std.proofs.lemmas.Bool.{ne_eqb}
-use Rattle.segment_model.specs.Options.{Opt, Options, Plain, AreListed, Listed, Front, NoMore, Ending, TooShort, TooLong, Leading, front, options_at, options_of, listed, of_kind, plains, mss_among, Ao, AoFound, ao_of, found, find_ao}
+use Rattle.segment_model.specs.Options.{Opt, Options, Plain, AreListed, Listed, Faulty, Front, NoMore, Ending, TooShort, TooLong, Leading, front, options_at, options_of, listed, of_kind, plains, mss_among, Ao, AoFound, ao_of, found, find_ao}
 use Rattle.segment_model.specs.Options as book
 use Rattle.segment_model.proofs.Walks.{goes, leads, ending_at, nothing_at}
-use Rattle.segment_model.specs.Areas.{FaultAt}
-use Rattle.segment_model.proofs.AreaLaws.{fault_of_short, fault_of_past}
-use Rattle.tcp_options.specs.Views.{mss_or, IsFirst, IsAo, HitIs, hit_option, fault_of, view_ao}
-use Rattle.tcp_options.specs.declared.options.OptionFault.{OptionFault}
-use Rattle.tcp_options.specs.declared.options.OptionFault.TheVariants as faults
+use Rattle.tcp_options.specs.Views.{mss_or, IsFirst, IsAo, HitIs, hit_option, view_ao}
+use Rattle.segment_model.specs.declared.fault.OptionFault.{OptionFault}
 use Rattle.tcp_options.specs.declared.ao.Hit.{Hit}
 use Rattle.tcp_options.specs.declared.ao.AoOption.{AoOption}
 
@@ -82,10 +79,6 @@ kind_passed kind p bs k body size rest e l n =
 
 -- ---- what was found of TCP-AO
 
-pub fault_stands : (bs : List ℕ) (f : OptionFault) → options_of bs ≡ fault_of f → FaultAt bs (fault_of f)
-fault_stands bs (faults.ShortLength p) e = fault_of_short bs p e
-fault_stands bs (faults.PastEnd p) e = fault_of_past bs p e
-
 pub listed_of : (bs : List ℕ) → AreListed (options_of bs) → AreListed (options_at 0 bs)
 unfolding options_of
 listed_of bs h = h
@@ -125,6 +118,5 @@ one_is area h a o p i j e k f is =
     let md5 : List Opt = of_kind 19 (listed (options_at 0 area)) in
     ap (λ (x : Ao). book.One x) is ∙ sym (ap (λ (l : List Opt). found l md5) (i.options ∙ ap (λ (l : List Opt). hit_option h ∷ l) n) ∙ ap (λ (l : List Opt). found (hit_option h ∷ []) l) s)
 
-pub not_both : (bs : List ℕ) (list : List Opt) (f : OptionFault) → options_of bs ≡ Listed list → options_of bs ≡ fault_of f → ⊥
-not_both bs list (faults.ShortLength p) a e = absurd (cc)
-not_both bs list (faults.PastEnd p) a e = absurd (cc)
+pub not_both : (bs : List ℕ) (list : List Opt) (f : OptionFault) → options_of bs ≡ Listed list → options_of bs ≡ Faulty f → ⊥
+not_both bs list f a e = absurd (cc)

@@ -1,12 +1,11 @@
 -- The values of this crate as those of the definitions.
 use Rattle.std.specs.Prelude.{◌≡◌, ℕ, List, [], ◌∷◌, length, Option, Some, None, ◌==◌, ◌&&◌, slice_index, ◌+◌, ◌*◌, ◌≤◌, if◌then◌else◌}
 use Rattle.segment_model.specs.Options.{Plain, Front, NoMore, Ending, TooShort, TooLong, Leading}
+use Rattle.segment_model.specs.declared.fault.OptionFault.{OptionFault}
 use Rattle.segment_model.specs.Options as book
 use Rattle.tcp_options.specs.declared.iter.Opt.{Opt}
 use Rattle.tcp_options.specs.declared.iter.Cut.{Cut}
 use Rattle.tcp_options.specs.declared.iter.Cut.TheVariants as cuts
-use Rattle.tcp_options.specs.declared.options.OptionFault.{OptionFault}
-use Rattle.tcp_options.specs.declared.options.OptionFault.TheVariants as faults
 use Rattle.tcp_options.specs.declared.ao.AoOption.{AoOption}
 use Rattle.tcp_options.specs.declared.ao.Hit.{Hit}
 use Rattle.tcp_options.specs.declared.ao.AoFound.{AoFound}
@@ -24,15 +23,10 @@ view_cut cuts.TooShort = TooShort
 view_cut cuts.TooLong = TooLong
 view_cut (cuts.Leading o size rest) = Leading o.kind o.body.now size rest.now
 
--- the fault of an area
-abbrev pub fault_of : OptionFault → book.Options
-fault_of (faults.ShortLength p) = book.ShortLength p
-fault_of (faults.PastEnd p) = book.PastEnd p
-
 -- a fault, or none
 abbrev pub FaultIs : Option OptionFault → book.Options → Type 0
 FaultIs None options = book.AreListed options
-FaultIs (Some fault) options = options ≡ fault_of fault
+FaultIs (Some fault) options = options ≡ book.Faulty fault
 
 -- the TCP-AO option
 abbrev pub view_ao : AoOption → book.Ao

@@ -13,4 +13,5 @@ mod tests;
 
 pub use ao::{AoFound, AoOption};
 pub use iter::{Opt, OptionIter};
-pub use options::{OptionFault, Options, options_over, read_options};
+pub use options::{Options, options_over, read_options};
+pub use segment_model::OptionFault;

@@ -1,24 +1,14 @@
 //! An option area without a fault.
 ghost use Rattle.std.specs.Prelude.{◌≡◌, ℕ, List, ◌≤◌, length, Option, Some, None, IfOk, IfErr, IsOk, MatchResult};
-ghost use Rattle.segment_model.specs.Options.{AreListed, options_of, listed, mss_among, plains};
+ghost use Rattle.segment_model.specs.Options.{AreListed, Faulty, options_of, listed, mss_among, plains};
 ghost use Rattle.segment_model.specs.Options as book;
 ghost use Rattle.segment_model.specs.Areas.{Area, FaultAt};
-ghost use Rattle.tcp_options.specs.Views.{FaultIs, fault_of, mss_or, view_opt};
+ghost use Rattle.tcp_options.specs.Views.{FaultIs, mss_or, view_opt};
 
 use crate::iter::{Cut, Opt, OptionIter, cut_front, iter_over};
+use byteorder::{BigEndian, ByteOrder};
+use segment_model::OptionFault;
 use std::marker::Model;
-use thiserror::Error;
-
-/// Why bytes are no option area, with the place of the faulty option's kind byte.
-#[derive(Clone, Copy, Debug, Error, PartialEq, Eq)]
-pub enum OptionFault {
-    /// A length byte below 2, or below 4 for TCP-AO.
-    #[error("option with a short length at {0}")]
-    ShortLength(u8),
-    /// No length byte, or an option that reaches past the area.
-    #[error("option past the end at {0}")]
-    PastEnd(u8),
-}
 
 /// The options of a header, borrowed from the caller's bytes; seen as the bytes of the area.
 #[derive(Drop)]
@@ -66,10 +56,10 @@ fn fault_in(area: &[u8]) -> Option<OptionFault>
 pub fn read_options(area: &[u8]) -> Result<Options<'_>, OptionFault>
     requires { length area.now ≤ 40 }
     ensures area { IfOk result (λ options. options ≡ area.now) }
-    ensures exact { MatchResult result (λ _. AreListed (options_of area.now)) (λ fault. options_of area.now ≡ fault_of fault) }
+    ensures exact { MatchResult result (λ _. AreListed (options_of area.now)) (λ fault. options_of area.now ≡ Faulty fault) }
     ensures options { IfOk result (λ _. (tail : List ℕ) × Area (listed (options_of area.now)) tail area.now) }
     ensures only { (list : List book.Opt) (tail : List ℕ) → Area list tail area.now → IsOk result × (listed (options_of area.now) ≡ list) }
-    ensures fault { IfErr result (λ fault. FaultAt area.now (fault_of fault)) }
+    ensures fault { IfErr result (λ fault. FaultAt area.now fault) }
 {
     match fault_in(area) {
         None => Ok(Options { area }),
@@ -92,9 +82,10 @@ fn mss_of_option(option: Opt<'_>) -> Option<u16>
     if option.kind != 2 {
         return None;
     }
-    match option.body {
-        [high, low] => Some(u16::from_be_bytes([*high, *low])),
-        _ => None,
+    if option.body.len() == 2 {
+        Some(BigEndian::read_u16(option.body))
+    } else {
+        None
     }
 }
 

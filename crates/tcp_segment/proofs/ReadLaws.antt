@@ -9,7 +9,8 @@ use Rattle.ao_base.specs.declared.address.Address.TheVariants.{V4, V6}
 use Rattle.ao_base.specs.declared.address.Socket.{Socket}
 use Rattle.segment_model.specs.Bytes.{put2, put4}
 use Rattle.segment_model.specs.Sockets.{octets}
-use Rattle.segment_model.specs.Segments.{Segment, Fault, two_at, four_at, first_fault, fields, v4_fields, v6_fields, header, tcp_bytes, tcp_length, pseudo, spell, sums, good, words_sum, reading, Read, Bad, read_unless}
+use Rattle.segment_model.specs.declared.fault.DatagramFault.{DatagramFault}
+use Rattle.segment_model.specs.Segments.{Segment, two_at, four_at, first_fault, fields, v4_fields, v6_fields, header, tcp_bytes, tcp_length, pseudo, spell, sums, good, words_sum, reading, Read, Bad, read_unless}
 use Rattle.segment_model.specs.Spelling.{AreBytes, Fits, Spells, addresses_in}
 use Rattle.segment_model.proofs.ByteLaws.{two_back, four_back, part_at}
 use Rattle.segment_model.proofs.SumLaws.{words_pseudo}
@@ -46,13 +47,13 @@ is_read b p h none k =
 
 pub reads : (b : List ℕ) → first_fault b ≡ None → reading b ≡ Read (fields b)
 unfolding reading
-reads b e = ap (λ (o : Option Fault). read_unless o (fields b)) e
+reads b e = ap (λ (o : Option DatagramFault). read_unless o (fields b)) e
 
-pub refuses : (b : List ℕ) (f : Fault) → first_fault b ≡ Some f → reading b ≡ Bad f
+pub refuses : (b : List ℕ) (f : DatagramFault) → first_fault b ≡ Some f → reading b ≡ Bad f
 unfolding reading
-refuses b f e = ap (λ (o : Option Fault). read_unless o (fields b)) e
+refuses b f e = ap (λ (o : Option DatagramFault). read_unless o (fields b)) e
 
-pub no_fault : (b : List ℕ) (f : Fault) → first_fault b ≡ None → first_fault b ≡ Some f → ⊥
+pub no_fault : (b : List ℕ) (f : DatagramFault) → first_fault b ≡ None → first_fault b ≡ Some f → ⊥
 no_fault b f n s = cc
 
 pub spells : (b : List ℕ) (p : Places) → IsRead b p → Spells (fields b) (take (length (spell (fields b))) b)

@@ -1,6 +1,6 @@
+pub mod Drafts
 pub mod Lending
 pub mod Parts
 pub mod Places
 pub mod Sums
-pub mod Views
 pub mod Writing

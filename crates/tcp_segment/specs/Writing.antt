@@ -1,71 +1,40 @@
 -- The written form of a datagram: what a sender lays out of a head, a MAC and a payload.
 use Rattle.std.specs.Prelude.{◌≡◌, ℕ, ◌+◌, ◌*◌, ◌<◌, ◌≤◌, ◌⊎◌, List, [], ◌∷◌, ◌++◌, length, Option, Some, None}
-use Rattle.std.specs.Borrow.{MutBor}
 use Rattle.ao_base.specs.declared.address.Address.{Address}
 use Rattle.ao_base.specs.declared.address.Address.TheVariants.{V4, V6}
-use Rattle.segment_model.specs.Bytes.{put2, put4}
-use Rattle.segment_model.specs.Sockets.{octets}
-use Rattle.segment_model.specs.Segments.{IpHeader, Ipv4, Ipv6, Segment, complement_of, spell, reading, Read}
-use Rattle.segment_model.specs.Spelling.{Fits, Good, finished}
+use Rattle.segment_model.specs.Bytes.{put2, put4, ring}
+use Rattle.segment_model.specs.Segments.{IpHeader, Segment, complement_of, spell, reading, Read}
+use Rattle.segment_model.specs.Spelling.{Fits, Good, with_sum, finished}
+use Rattle.segment_model.specs.Written.{area_heads, written_area, ip_words, ip_as, written}
 use Rattle.tcp_segment.specs.declared.writing.Head.{Head}
-use Rattle.tcp_segment.specs.declared.writing.Draft.{Draft}
 
--- a draft in a caller's slice
-abbrev pub DatagramMut : Type 0
-DatagramMut = Draft (MutBor (List ℕ))
-
--- the option of the maximum segment size (RFC 9293, section 3.7.1)
-abbrev pub mss_option : Option ℕ → List ℕ
-mss_option None = []
-mss_option (Some mss) = 2 ∷ 4 ∷ put2 mss []
-
--- its length
+-- the length of the option of the maximum segment size
 abbrev pub mss_length : Option ℕ → ℕ
 mss_length None = 0
 mss_length (Some mss) = 4
 
--- the options in front of the MAC: the maximum segment size where there is one, then TCP-AO (RFC 5925, section 2.2)
+-- the options in front of a MAC of so many bytes
 abbrev pub option_heads : Head → ℕ → List ℕ
-option_heads h mac_length = mss_option h.mss ++ (29 ∷ (4 + mac_length) ∷ h.key_id ∷ h.rnext ∷ [])
+option_heads h mac_length = area_heads h.mss h.key_id h.rnext mac_length
 
--- the IPv4 header of the written form with its checksum zero: service 0, identification 0, don't fragment, TTL 64 (RFC 791, section 3.1)
-abbrev pub ip_words : Head → ℕ → List ℕ
-ip_words h total =
-    69 ∷ 0 ∷ put2 total (0 ∷ 0 ∷ 64 ∷ 0 ∷ 64 ∷ 6 ∷ 0 ∷ 0 ∷ octets h.source.address ++ octets h.destination.address)
-
--- the IP header of the written form over so many TCP bytes (RFC 791, section 3.1; RFC 8200, section 3)
+-- the IP header over so many TCP bytes, in an address's family
 abbrev pub written_ip : Head → ℕ → Address → IpHeader
-written_ip h size (V4 bytes) = Ipv4 0 0 1 64 (complement_of (ip_words h (20 + size))) []
-written_ip h size (V6 bytes) = Ipv6 0 64
+written_ip h size a = ip_as a (ip_words h.source.address h.destination.address (20 + size))
 
--- the datagram that a sender lays out: reserved bits, urgent pointer and TCP checksum zero, no padding
+-- the segment that a sender lays out, with its TCP checksum zero
 abbrev pub drafted : Head → List ℕ → List ℕ → Segment
 drafted h mac payload =
-    let area = option_heads h (length mac) ++ mac in
-    record {
-      ip = written_ip h (20 + length area + length payload) h.source.address;
-      source = h.source;
-      destination = h.destination;
-      sequence = h.sequence;
-      acknowledgement = h.acknowledgement;
-      reserved = 0;
-      flags = h.flags;
-      window = h.window;
-      checksum = 0;
-      urgent = 0;
-      area = area;
-      payload = payload;
-    }
+    written h.source h.destination h.sequence h.acknowledgement h.flags h.window (written_area h.mss h.key_id h.rnext mac) payload
 
 -- the first bytes of the IP header of the written form, up to the addresses (RFC 791, section 3.1; RFC 8200, section 3)
 abbrev pub ip_start : Head → ℕ → Address → List ℕ
-ip_start h size (V4 bytes) = 69 ∷ 0 ∷ put2 (20 + size) (0 ∷ 0 ∷ 64 ∷ 0 ∷ 64 ∷ 6 ∷ put2 (complement_of (ip_words h (20 + size))) [])
+ip_start h size (V4 bytes) = 69 ∷ 0 ∷ put2 (20 + size) (0 ∷ 0 ∷ 64 ∷ 0 ∷ 64 ∷ 6 ∷ put2 (complement_of (ip_words h.source.address h.destination.address (20 + size))) [])
 ip_start h size (V6 bytes) = 96 ∷ 0 ∷ 0 ∷ 0 ∷ put2 size (6 ∷ 64 ∷ [])
 
--- the TCP header of the written form over options of this length, with its checksum zero (RFC 9293, section 3.1)
-abbrev pub tcp_start : Head → ℕ → List ℕ
-tcp_start h area_length =
-    put2 h.source.port (put2 h.destination.port (put4 h.sequence (put4 h.acknowledgement ((80 + 4 * area_length) ∷ h.flags ∷ put2 h.window (0 ∷ 0 ∷ 0 ∷ 0 ∷ [])))))
+-- the TCP header of the written form with this checksum, over options of this length (RFC 9293, section 3.1)
+abbrev pub tcp_start : Head → ℕ → ℕ → List ℕ
+tcp_start h checksum area_length =
+    put2 h.source.port (put2 h.destination.port (put4 h.sequence (put4 h.acknowledgement ((80 + 4 * area_length) ∷ h.flags ∷ put2 h.window (put2 checksum (0 ∷ 0 ∷ []))))))
 
 -- the length of the IP header of the written form
 abbrev pub ip_size : Address → ℕ
@@ -110,8 +79,8 @@ pub record IsHead (h : Head) (payload_len : ℕ) : Type 0 where
 pub record HasNumbers (h : Head) : Type 0 where
   pub source_port : h.source.port < 65536
   pub destination_port : h.destination.port < 65536
-  pub sequence : h.sequence < 4294967296
-  pub acknowledgement : h.acknowledgement < 4294967296
+  pub sequence : h.sequence < ring
+  pub acknowledgement : h.acknowledgement < ring
   pub flags : h.flags < 256
   pub window : h.window < 65536
 
@@ -121,33 +90,25 @@ pub record HeadFits (h : Head) : Type 0 where
   pub numbers : HasNumbers h
   pub mac : (h.mac_length ≡ 12) ⊎ (h.mac_length ≡ 16)
 
--- the buffer holds the draft of head, MAC and payload, and then the rest
-pub record Drafted (d : DatagramMut) (h : Head) (mac payload rest : List ℕ) : Type 0 where
-  pub bytes : d.out.now ≡ spell (drafted h mac payload) ++ rest
+-- the bytes are the segment of this head, MAC and payload, with this TCP checksum, and then the rest; TCP header, MAC, payload and rest begin at these places
+pub record HoldsDraft (b : List ℕ) (header mac payload len : ℕ) (h : Head) (checksum : ℕ) (code text rest : List ℕ) : Type 0 where
+  pub bytes : b ≡ spell (with_sum (drafted h code text) checksum) ++ rest
   pub head : HeadFits h
-  pub header_is : d.header ≡ ip_size h.source.address
-  pub mac_is : d.mac ≡ mac_place h
-  pub payload_is : d.payload ≡ header_length h
-  pub len_is : d.len ≡ header_length h + length payload
-  pub mac_length : length mac ≡ h.mac_length
-  pub most : d.len ≤ 1500
+  pub checksum_fits : checksum < 65536
+  pub header_is : header ≡ ip_size h.source.address
+  pub mac_is : mac ≡ mac_place h
+  pub payload_is : payload ≡ header_length h
+  pub len_is : len ≡ header_length h + length text
+  pub mac_length : length code ≡ h.mac_length
+  pub most : len ≤ 1500
 
--- the parts lie in the buffer
-pub record IsLaidOut (d : DatagramMut) : Type 0 where
-  pub header : (d.header ≡ 20) ⊎ (d.header ≡ 40)
-  pub mac : d.header + 24 ≤ d.mac
-  pub payload : d.mac ≤ d.payload
-  pub len : d.payload ≤ d.len
-  pub most : d.len ≤ 1500
-  pub room : d.len ≤ length d.out.now
-
--- a draft of some head, MAC and payload
-pub record IsDrafted (d : DatagramMut) : Type 0 where
+-- the bytes stand in front of the MAC of a segment of the written form, with any TCP checksum
+pub record IsFront (front : List ℕ) (header mac payload len : ℕ) : Type 0 where
   pub head : Head
-  pub mac : List ℕ
-  pub payload : List ℕ
-  pub rest : List ℕ
-  pub drafted_so : Drafted d head mac payload rest
+  pub checksum : ℕ
+  pub code : List ℕ
+  pub text : List ℕ
+  pub holds : HoldsDraft (front ++ (code ++ text)) header mac payload len head checksum code text []
 
 -- what a finished datagram leaves in the buffer: its written form with both checksums right, and then the rest; it is good, and read again
 pub record IsFinished (h : Head) (mac payload rest out : List ℕ) : Type 0 where

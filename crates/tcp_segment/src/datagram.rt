@@ -4,11 +4,11 @@ ghost use Rattle.ao_base.specs.declared.address.Address.TheVariants.{V4, V6};
 ghost use Rattle.segment_model.specs.Segments.{Segment, reading, Read, Bad, first_fault, fields, spell, header, good};
 ghost use Rattle.segment_model.specs.Spelling.{AreBytes, Fits, Spells};
 ghost use Rattle.tcp_segment.specs.Places.{IsRead};
-ghost use Rattle.tcp_segment.specs.Views.{fault_of};
 
-use crate::reading::{DatagramFault, Places, places_in};
+use crate::reading::{Places, places_in};
 use crate::sums::{address_sum, four, two, words};
 use ao_base::{Address, Socket};
+use segment_model::DatagramFault;
 use std::marker::Model;
 use tcp_options::{Options, options_over};
 
@@ -37,7 +37,7 @@ impl<'a> Model for Datagram<'a> {
 /// end are left unread. A wrong TCP checksum is no fault: `checksum_ok` tells.
 pub fn read_datagram(bytes: &[u8]) -> Result<Datagram<'_>, DatagramFault>
     ensures read { IfOk result (λ datagram. reading bytes.now ≡ Read datagram) }
-    ensures refused { IfErr result (λ fault. reading bytes.now ≡ Bad (fault_of fault)) }
+    ensures refused { IfErr result (λ fault. reading bytes.now ≡ Bad fault) }
     ensures spelled { IfOk result (λ datagram. Spells datagram (take (length (spell datagram)) bytes.now)) }
     ensures only { (d : Segment) (rest : List ℕ) → Fits d → bytes.now ≡ spell d ++ rest → IsOkAnd result (λ datagram. datagram ≡ d) }
 {
@@ -87,7 +87,8 @@ impl<'a> Datagram<'a> {
 
     /// Address and port of the sender.
     pub fn source(&self) -> Socket
-        ensures { result ≡ self.now.source }
+        ensures value { result ≡ self.now.source }
+        ensures fits { Fits self.now }
     {
         let port = two(self.bytes, self.places.header);
         let address = if self.bytes[0] / 16 == 4 {
@@ -100,7 +101,8 @@ impl<'a> Datagram<'a> {
 
     /// Address and port of the receiver.
     pub fn destination(&self) -> Socket
-        ensures { result ≡ self.now.destination }
+        ensures value { result ≡ self.now.destination }
+        ensures fits { Fits self.now }
     {
         let port = two(self.bytes, self.places.header + 2);
         let address = if self.bytes[0] / 16 == 4 {
@@ -150,20 +152,23 @@ impl<'a> Datagram<'a> {
     pub fn header(&self) -> &'a [u8]
         ensures bytes { result.now ≡ header self.now self.now.checksum [] }
         ensures length { length result.now ≡ 20 }
+        ensures fits { Fits self.now }
     {
         &self.bytes[self.places.header..self.places.header + 20]
     }
 
     /// The options of TCP.
     pub fn options(&self) -> Options<'a>
-        ensures { result ≡ self.now.area }
+        ensures value { result ≡ self.now.area }
+        ensures fits { Fits self.now }
     {
         options_over(&self.bytes[self.places.header + 20..self.places.payload])
     }
 
     /// The payload.
     pub fn payload(&self) -> &'a [u8]
-        ensures { result.now ≡ self.now.payload }
+        ensures value { result.now ≡ self.now.payload }
+        ensures fits { Fits self.now }
     {
         &self.bytes[self.places.payload..self.places.end]
     }

@@ -6,6 +6,8 @@
 #![tactic(auto)]
 
 mod datagram;
+mod draft;
+mod laws;
 mod parts;
 mod reading;
 mod sums;
@@ -14,6 +16,8 @@ mod tests;
 mod writing;
 
 pub use datagram::{Datagram, read_datagram};
-pub use reading::DatagramFault;
+pub use draft::{DatagramMut, Draft};
+pub use laws::parts_put_in_are_kept;
+pub use segment_model::DatagramFault;
 pub use sums::fix_checksum;
-pub use writing::{DatagramMut, Draft, Head, write_datagram};
+pub use writing::{Head, write_datagram};

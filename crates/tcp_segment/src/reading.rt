@@ -2,43 +2,10 @@
 ghost use Rattle.std.specs.Prelude.{◌≡◌, ℕ, List, ◌+◌, ◌*◌, ◌/◌, ◌%◌, ◌<◌, ◌≤◌, length, slice_index, Some, None, MatchResult};
 ghost use Rattle.segment_model.specs.Segments.{tcp_fault, v4_fault, v6_fault, first_fault, two_at, is_extension};
 ghost use Rattle.tcp_segment.specs.Places.{PlacedBy, Placed};
-ghost use Rattle.tcp_segment.specs.Views.{fault_of};
 
 use crate::sums::{is_right, two};
-use tcp_options::{OptionFault, read_options};
-use thiserror::Error;
-
-/// Why bytes are no datagram: the first of these tests that holds.
-#[derive(Clone, Copy, Debug, Error, PartialEq, Eq)]
-pub enum DatagramFault {
-    /// Fewer bytes than the IP header or its length field says.
-    #[error("truncated")]
-    Truncated,
-    /// Neither IPv4 nor IPv6.
-    #[error("neither IPv4 nor IPv6")]
-    Version,
-    /// An IPv4 header of less than 20 bytes, or of more than the total length.
-    #[error("faulty header length")]
-    HeaderLength,
-    /// An IPv4 header whose words don't sum to ffff.
-    #[error("wrong header checksum")]
-    HeaderChecksum,
-    /// A fragment of a datagram over IPv4.
-    #[error("fragment")]
-    Fragment,
-    /// Another protocol than TCP.
-    #[error("not TCP")]
-    NotTcp,
-    /// An extension header of IPv6.
-    #[error("extension header")]
-    ExtensionHeader,
-    /// A data offset below the TCP header's length, or past the datagram's end.
-    #[error("faulty data offset")]
-    DataOffset,
-    /// A fault in the TCP options.
-    #[error("{0}")]
-    BadOption(OptionFault),
-}
+use segment_model::DatagramFault;
+use tcp_options::read_options;
 
 /// Where the TCP header and the payload begin, and the datagram ends.
 #[derive(Clone, Copy)]
@@ -50,7 +17,7 @@ pub(crate) struct Places {
 
 /// The length of the TCP header with its options.
 fn tcp_header_length(tcp: &[u8]) -> Result<usize, DatagramFault>
-    ensures { MatchResult result (λ n. (n ≡ 4 * (slice_index tcp.now 12 / 16)) × (tcp_fault tcp.now ≡ None)) (λ fault. tcp_fault tcp.now ≡ Some (fault_of fault)) }
+    ensures { MatchResult result (λ n. (n ≡ 4 * (slice_index tcp.now 12 / 16)) × (tcp_fault tcp.now ≡ None)) (λ fault. tcp_fault tcp.now ≡ Some fault) }
 {
     if tcp.len() < 20 {
         return Err(DatagramFault::DataOffset);
@@ -69,7 +36,7 @@ fn tcp_header_length(tcp: &[u8]) -> Result<usize, DatagramFault>
 }
 
 fn read_v4(bytes: &[u8]) -> Result<Places, DatagramFault>
-    ensures { MatchResult result (λ places. PlacedBy bytes.now (4 * (slice_index bytes.now 0 % 16)) (two_at bytes.now 2) places × (v4_fault bytes.now ≡ None)) (λ fault. v4_fault bytes.now ≡ Some (fault_of fault)) }
+    ensures { MatchResult result (λ places. PlacedBy bytes.now (4 * (slice_index bytes.now 0 % 16)) (two_at bytes.now 2) places × (v4_fault bytes.now ≡ None)) (λ fault. v4_fault bytes.now ≡ Some fault) }
 {
     if bytes.len() < 20 {
         return Err(DatagramFault::Truncated);
@@ -111,7 +78,7 @@ fn is_extension_header(next: u8) -> bool
 }
 
 fn read_v6(bytes: &[u8]) -> Result<Places, DatagramFault>
-    ensures { MatchResult result (λ places. PlacedBy bytes.now 40 (40 + two_at bytes.now 4) places × (v6_fault bytes.now ≡ None)) (λ fault. v6_fault bytes.now ≡ Some (fault_of fault)) }
+    ensures { MatchResult result (λ places. PlacedBy bytes.now 40 (40 + two_at bytes.now 4) places × (v6_fault bytes.now ≡ None)) (λ fault. v6_fault bytes.now ≡ Some fault) }
 {
     if bytes.len() < 40 {
         return Err(DatagramFault::Truncated);
@@ -141,7 +108,7 @@ fn read_v6(bytes: &[u8]) -> Result<Places, DatagramFault>
 /// The places of the datagram that a prefix of the bytes is, by the nine tests in their order.
 #[tactic(auto, unfolding(segment_model::specs::Segments::first_fault))]
 pub(crate) fn places_in(bytes: &[u8]) -> Result<Places, DatagramFault>
-    ensures { MatchResult result (λ places. Placed bytes.now places × (first_fault bytes.now ≡ None)) (λ fault. first_fault bytes.now ≡ Some (fault_of fault)) }
+    ensures { MatchResult result (λ places. Placed bytes.now places × (first_fault bytes.now ≡ None)) (λ fault. first_fault bytes.now ≡ Some fault) }
 {
     if bytes.is_empty() {
         return Err(DatagramFault::Truncated);

@@ -1,19 +1,17 @@
-//! Datagrams that are written in place.
+//! The written form of a datagram.
 ghost use Rattle.std.specs.Prelude.{◌≡◌, ◌+◌, ◌-◌, ◌*◌, ◌/◌, ◌%◌, ◌≤◌, ◌<◌, ◌++◌, ◌∷◌, List, [], ℕ, length, take, drop, replicate, ◌⊎◌, Option, Some, None};
-ghost use Rattle.std.specs.Borrow.{sem};
 ghost use Rattle.segment_model.specs.Bytes.{put2};
 ghost use Rattle.segment_model.specs.Sockets.{octets};
-ghost use Rattle.segment_model.specs.Segments.{words_sum, complement_of};
-ghost use Rattle.tcp_segment.specs.Lending.{LendsIn};
-ghost use Rattle.tcp_segment.specs.Writing.{ip_start, ip_words, ip_size, tcp_start, mss_length, option_heads, mac_place, header_length, drafted, IsSized, HasNumbers, IsHead, Drafted, IsDrafted, IsLaidOut, IsFinished};
-ghost use Rattle.tcp_segment.specs.declared.writing.Head.{Head};
+ghost use Rattle.segment_model.specs.Segments.{complement_of};
+ghost use Rattle.segment_model.specs.Written.{ip_words};
+ghost use Rattle.tcp_segment.specs.Writing.{ip_start, ip_size, tcp_start, mss_length, option_heads, header_length, IsSized, HasNumbers, IsHead, HoldsDraft};
+ghost use Rattle.tcp_segment.specs.Drafts.{Drafted};
 
-use crate::datagram::{Datagram, datagram_at};
+use crate::draft::{DatagramMut, Draft};
 use crate::parts::{put, put_zeros};
-use crate::reading::Places;
-use crate::sums::{complement, set_checksum, words};
+use crate::sums::{complement, words};
 use ao_base::{Address, Socket};
-use lent_bytes::Room;
+use byteorder::{BigEndian, ByteOrder};
 
 /// What a sender sets in a datagram. The addresses are of one family, and the MAC of TCP-AO has 12
 /// or 16 bytes.
@@ -31,19 +29,6 @@ pub struct Head {
     pub mac_length: u8,
 }
 
-/// A datagram in a buffer, whose TCP checksum is still zero.
-#[derive(Drop)]
-pub struct Draft<B> {
-    out: B,
-    header: usize,
-    mac: usize,
-    payload: usize,
-    len: usize,
-}
-
-/// A datagram in a caller's slice.
-pub type DatagramMut<'a> = Draft<&'a mut [u8]>;
-
 /// The bytes of an address.
 fn octets_of(address: &Address) -> &[u8]
     ensures bytes { result.now ≡ octets address.now }
@@ -60,34 +45,36 @@ fn octets_of(address: &Address) -> &[u8]
 fn ipv4_start(total: u16, checksum: u16) -> [u8; 12]
     ensures { result ≡ 69 ∷ 0 ∷ put2 total (0 ∷ 0 ∷ 64 ∷ 0 ∷ 64 ∷ 6 ∷ put2 checksum []) }
 {
-    let [t0, t1] = total.to_be_bytes();
-    let [c0, c1] = checksum.to_be_bytes();
-    [69, 0, t0, t1, 0, 0, 64, 0, 64, 6, c0, c1]
+    let mut start = [69, 0, 0, 0, 0, 0, 64, 0, 64, 6, 0, 0];
+    BigEndian::write_u16(&mut start[2..], total);
+    BigEndian::write_u16(&mut start[10..], checksum);
+    start
 }
 
 /// An IPv6 header up to its addresses.
 fn ipv6_start(length: u16) -> [u8; 8]
     ensures { result ≡ 96 ∷ 0 ∷ 0 ∷ 0 ∷ put2 length (6 ∷ 64 ∷ []) }
 {
-    let [l0, l1] = length.to_be_bytes();
-    [96, 0, 0, 0, l0, l1, 6, 64]
+    let mut start = [96, 0, 0, 0, 0, 0, 6, 64];
+    BigEndian::write_u16(&mut start[4..], length);
+    start
 }
 
 /// A TCP header over options of this length, its checksum zero.
 fn tcp_start_of(head: &Head, area_length: u8) -> [u8; 20]
     requires { area_length ≤ 40 }
-    ensures bytes { result ≡ tcp_start head.now area_length }
+    ensures bytes { result ≡ tcp_start head.now 0 area_length }
     ensures numbers { HasNumbers head.now }
 {
-    let [s0, s1] = head.source.port.to_be_bytes();
-    let [d0, d1] = head.destination.port.to_be_bytes();
-    let [q0, q1, q2, q3] = head.sequence.to_be_bytes();
-    let [a0, a1, a2, a3] = head.acknowledgement.to_be_bytes();
-    let [w0, w1] = head.window.to_be_bytes();
-    let offset = 80 + 4 * area_length;
-    [
-        s0, s1, d0, d1, q0, q1, q2, q3, a0, a1, a2, a3, offset, head.flags, w0, w1, 0, 0, 0, 0,
-    ]
+    let mut start = [0; 20];
+    BigEndian::write_u16(&mut start, head.source.port);
+    BigEndian::write_u16(&mut start[2..], head.destination.port);
+    BigEndian::write_u32(&mut start[4..], head.sequence);
+    BigEndian::write_u32(&mut start[8..], head.acknowledgement);
+    start[12] = 80 + 4 * area_length;
+    start[13] = head.flags;
+    BigEndian::write_u16(&mut start[14..], head.window);
+    start
 }
 
 /// The length of the IP header.
@@ -112,7 +99,7 @@ fn heads_length_of(head: &Head) -> usize
 
 /// The checksum of the IPv4 header.
 fn ip_checksum_of(head: &Head, total: u16) -> u16
-    ensures { result ≡ complement_of (ip_words head.now total) }
+    ensures { result ≡ complement_of (ip_words head.now.source.address head.now.destination.address total) }
 {
     let start = ipv4_start(total, 0);
     let addresses = words(octets_of(&head.source.address))
@@ -150,10 +137,44 @@ fn put_options(out: &mut [u8], at: usize, head: &Head) -> usize
     let ao = [29, 4 + head.mac_length, head.key_id, head.rnext];
     match head.mss {
         Some(mss) => {
-            let [m0, m1] = mss.to_be_bytes();
-            put(out, at, &[2, 4, m0, m1, ao[0], ao[1], ao[2], ao[3]])
+            let mut heads = [2, 4, 0, 0, ao[0], ao[1], ao[2], ao[3]];
+            BigEndian::write_u16(&mut heads[2..], mss);
+            put(out, at, &heads)
         }
         None => put(out, at, &ao),
+    }
+}
+
+/// Where the parts of a draft begin: TCP header, MAC, payload and what is behind it.
+struct Layout {
+    header: usize,
+    mac: usize,
+    payload: usize,
+    len: usize,
+}
+
+/// Writes the headers and options of a head, and zeros for its MAC and payload.
+fn lay_out(out: &mut [u8], head: &Head, payload_len: usize) -> Layout
+    requires head { IsHead head.now payload_len }
+    requires room { 1500 ≤ length out.old }
+    ensures { HoldsDraft out.new result.header result.mac result.payload result.len head.now 0 (replicate head.now.mac_length 0) (replicate payload_len 0) (drop (header_length head.now + payload_len) out.old) }
+{
+    let header = ip_length_of(head);
+    let mac = header + 20 + heads_length_of(head);
+    let payload = mac + head.mac_length as usize;
+    let len = payload + payload_len;
+    let area_length = (payload - header - 20) as u8;
+    let at = put_ip_start(out, head, (len - header) as u16);
+    let at = put(out, at, octets_of(&head.source.address));
+    let at = put(out, at, octets_of(&head.destination.address));
+    let at = put(out, at, &tcp_start_of(head, area_length));
+    let at = put_options(out, at, head);
+    put_zeros(out, at, len);
+    Layout {
+        header,
+        mac,
+        payload,
+        len,
     }
 }
 
@@ -170,86 +191,19 @@ pub fn write_datagram<'a>(out: &'a mut [u8], head: &Head, payload_len: usize) ->
     requires head { IsHead head.now payload_len }
     requires room { 1500 ≤ length out.old }
     ensures same_buffer { result.out.ghost_name ≡ out.entry.ghost_name }
-    ensures laid_out { IsLaidOut result }
     ensures drafted { Drafted result head.now (replicate head.now.mac_length 0) (replicate payload_len 0) (drop (header_length head.now + payload_len) out.old) }
 {
-    let header = ip_length_of(head);
-    let mac = header + 20 + heads_length_of(head);
-    let payload = mac + head.mac_length as usize;
-    let len = payload + payload_len;
-    let area_length = (payload - header - 20) as u8;
-    let at = put_ip_start(out, head, (len - header) as u16);
-    let at = put(out, at, octets_of(&head.source.address));
-    let at = put(out, at, octets_of(&head.destination.address));
-    let at = put(out, at, &tcp_start_of(head, area_length));
-    let at = put_options(out, at, head);
-    put_zeros(out, at, len);
+    let Layout {
+        header,
+        mac,
+        payload,
+        len,
+    } = lay_out(out, head, payload_len);
     Draft {
         out,
         header,
         mac,
         payload,
         len,
-    }
-}
-
-impl<'a> Draft<&'a mut [u8]> {
-    /// How many bytes the datagram has.
-    pub fn len(&self) -> usize
-        ensures { result ≡ self.now.len }
-    {
-        self.len
-    }
-
-    /// The datagram as it stands, with its TCP checksum zero.
-    pub fn as_datagram(&self) -> Datagram<'_>
-        requires { IsDrafted self.now }
-        ensures { (h : Head) (mac payload rest : List ℕ) → Drafted self.now h mac payload rest → result ≡ drafted h mac payload }
-    {
-        let places = Places {
-            header: self.header,
-            payload: self.payload,
-            end: self.len,
-        };
-        datagram_at(self.out, places)
-    }
-
-    /// Sets the TCP checksum, and gives the datagram's length. What then stands in front of the
-    /// buffer is good, and is read again as the same head, MAC and payload, whatever follows.
-    pub fn finish(self) -> usize
-        requires { IsLaidOut self }
-        ensures len { result ≡ self.entry.len }
-        ensures finished { (h : Head) (mac payload rest : List ℕ) → Drafted self.entry h mac payload rest → IsFinished h mac payload rest self.exit.0.now }
-    {
-        let header = self.header;
-        let len = self.len;
-        set_checksum(self.out, header, len);
-        len
-    }
-}
-
-impl<B: Room> Draft<B> {
-    /// The payload, for writing.
-    pub fn payload_mut(&mut self) -> &mut [u8]
-        requires order { self.old.payload ≤ self.old.len }
-        requires fits { self.old.len ≤ length (B.bytes self.old.out) }
-        ensures* writes { sem 𝓛 (LendsIn B.row B.bytes B.put self.entry self.old.payload self.old.len result) }
-        ensures part { result.now ≡ take (self.old.len - self.old.payload) (drop self.old.payload (B.bytes self.old.out)) }
-    {
-        let from = self.payload;
-        let to = self.len;
-        self.out.part_mut(from, to)
-    }
-
-    /// The MAC, for writing.
-    pub fn mac_mut(&mut self) -> &mut [u8]
-        requires order { self.old.mac ≤ self.old.payload }
-        requires fits { self.old.payload ≤ length (B.bytes self.old.out) }
-        ensures* writes { sem 𝓛 (LendsIn B.row B.bytes B.put self.entry self.old.mac self.old.payload result) }
-        ensures part { result.now ≡ take (self.old.payload - self.old.mac) (drop self.old.mac (B.bytes self.old.out)) }
-    {
-        let from = self.mac;
-        let to = self.payload;
-        self.out.part_mut(from, to)
     }
 }

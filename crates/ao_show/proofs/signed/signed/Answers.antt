@@ -7,7 +7,7 @@ use Rattle.ao_show.proofs.signed.signed.Goals as goal
 
 pub returns-then-ao-from : goal.returns-then-ao-from
 returns-then-ao-from c =
-    let found : find_ao c.in-Ok.datagram.area ≡ One (view_ao c.in-One.ao) = sym (rw c.options.ensures at c.in-One.ensures) in
+    let found : find_ao c.in-Ok.datagram.area ≡ One (view_ao c.in-One.ao) = sym (rw c.options.ensures.value at c.in-One.ensures) in
     let long : length (view_ao c.in-One.ao).mac ≡ mac_length_of c.args.algorithm = c.if-ao-from.true ∙ (c.from.ensures ∙ c.mac_length.ensures) in
     record {
       ao = view_ao c.in-One.ao;

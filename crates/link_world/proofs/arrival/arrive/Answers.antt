@@ -2,7 +2,6 @@ use Rattle.std.proofs.Common.{◌≡◌, List, Some, false, refl, sym, ap, ◌�
 use Rattle.ao_base.specs.declared.address.Pair.{Pair}
 use Rattle.ao_base.specs.declared.end.End.{End}
 use Rattle.segment_model.specs.Segments.{Segment, reading}
-use Rattle.tcp_segment.specs.Views.{fault_of}
 use Rattle.narrow_endpoint.specs.Arrivals.{Arrived, unmoved}
 use Rattle.narrow_endpoint.specs.States.{EndState}
 use Rattle.narrow_endpoint.specs.Verdicts.{Key, Verdict, Refuse, Pass, judge}
@@ -30,7 +29,7 @@ quiet setup at s history r e log answer came so is stands logs =
 pub returns-in-Err-clause-arrives : goal.returns-in-Err-clause-arrives
 returns-in-Err-clause-arrives c setup s history key pair stands logs =
     quiet setup c.args.at s history _ c.args.end.now c.args.log.now (arrival.Bad c.in-Err.fault) c.unpassed.result c.unpassed.ensures
-    (of_fault setup.key c.args.pair.now s (reading c.args.bytes.now) (fault_of c.in-Err.fault) c.in-Err.ensures.refused) stands logs
+    (of_fault setup.key c.args.pair.now s (reading c.args.bytes.now) c.in-Err.fault c.in-Err.ensures.refused) stands logs
 
 pub returns-then-not-from_peer-clause-arrives : goal.returns-then-not-from_peer-clause-arrives
 returns-then-not-from_peer-clause-arrives c setup s history key pair stands logs =

@@ -14,10 +14,10 @@ pub returns-in-Ending : goal.returns-in-Ending
 returns-in-Ending c = c.loop-size.invariant.1.to_listed (subst AreListed (sym (ending_at c.loop-size.place c.loop-size.rest.now c.in-Ending.ensures)) tt)
 
 pub returns-in-TooShort : goal.returns-in-TooShort
-returns-in-TooShort c = c.loop-size.invariant.1.short _ (short_at c.loop-size.place c.loop-size.rest.now c.in-TooShort.ensures)
+returns-in-TooShort c = c.loop-size.invariant.1.faulty _ (short_at c.loop-size.place c.loop-size.rest.now c.in-TooShort.ensures)
 
 pub returns-in-TooLong : goal.returns-in-TooLong
-returns-in-TooLong c = c.loop-size.invariant.1.past _ (long_at c.loop-size.place c.loop-size.rest.now c.in-TooLong.ensures)
+returns-in-TooLong c = c.loop-size.invariant.1.faulty _ (long_at c.loop-size.place c.loop-size.rest.now c.in-TooLong.ensures)
 
 pub overflow_add-place : goal.overflow_add-place
 overflow_add-place c = let l = leads c.loop-size.rest.now _ _ _ _ c.in-Leading.ensures in omega (arith, l.sizes, c.loop-size.invariant.0)

@@ -1,7 +1,7 @@
 use Rattle.std.proofs.Common.{refl, ap}
 use Rattle.segment_model.specs.Options.{listed}
-use Rattle.segment_model.proofs.AreaLaws.{area_of, area_is}
-use Rattle.tcp_options.proofs.KindLaws.{fault_stands, not_both}
+use Rattle.segment_model.proofs.AreaLaws.{area_of, area_is, fault_stands}
+use Rattle.tcp_options.proofs.KindLaws.{not_both}
 use Rattle.tcp_options.proofs.options.read_options.Goals as goal
 
 pub returns-in-None-clause-options : goal.returns-in-None-clause-options

@@ -1,7 +1,6 @@
 use Rattle.std.proofs.Common.{ap, ◌∙◌, arith}
 use Rattle.segment_model.specs.Segments.{first_fault, fields}
 use Rattle.segment_model.proofs.Again.{again}
-use Rattle.tcp_segment.specs.Views.{fault_of}
 use Rattle.tcp_segment.proofs.ReadLaws.{is_read, no_fault, reads, refuses, spells}
 use Rattle.tcp_segment.proofs.datagram.read_datagram.Goals as goal
 
@@ -19,7 +18,7 @@ pub returns-in-Ok-clause-only : goal.returns-in-Ok-clause-only
 returns-in-Ok-clause-only c = λ d rest f e. ap fields e ∙ (again d rest f).value
 
 pub returns-in-Err-clause-refused : goal.returns-in-Err-clause-refused
-returns-in-Err-clause-refused c = refuses c.args.bytes.now (fault_of c.in-Err.fault) c.in-Err.ensures
+returns-in-Err-clause-refused c = refuses c.args.bytes.now c.in-Err.fault c.in-Err.ensures
 
 pub returns-in-Err-clause-only : goal.returns-in-Err-clause-only
-returns-in-Err-clause-only c = λ d rest f e. absurd (no_fault c.args.bytes.now (fault_of c.in-Err.fault) (ap first_fault e ∙ (again d rest f).none) c.in-Err.ensures)
+returns-in-Err-clause-only c = λ d rest f e. absurd (no_fault c.args.bytes.now c.in-Err.fault (ap first_fault e ∙ (again d rest f).none) c.in-Err.ensures)

@@ -10,5 +10,5 @@ returns-clause-reads c =
     let count = rw (c.as_slice-all.ensures, rest) at c.give-n.ensures.count in
     let bytes = rw (c.as_slice-all.ensures, rest) at c.give-n.ensures.bytes in
     rw (← c.self.view_is)
-    (given (drop c.self.inside.at c.self.inside.content) c.args.buf.now c.give-n.new.buf _ c.give-n.result c.self.inside.piece c.self.inside.faults count bytes
+    (given (drop c.self.inside.at c.self.inside.content) c.args.buf.now c.give-n.new.buf _ c.self.inside.failing c.give-n.result c.self.inside.piece c.self.inside.faults count bytes
     (sym (drop-drop c.give-n.result c.self.inside.at c.self.inside.content)) some)

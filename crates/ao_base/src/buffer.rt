@@ -1,0 +1,118 @@
+//! The bytes that were taken from a source and are still wanted, in memory of a fixed size.
+ghost use Rattle.std.specs.Prelude.{◌≡◌, ℕ, ◌+◌, ◌-◌, ◌<◌, ◌≤◌, List, [], length, take, drop, slice_range, IfOk};
+ghost use Rattle.ao_base.specs.Outside.{Side, Reads};
+ghost use Rattle.ao_base.specs.Buffered.{Buffered, TakesMore};
+
+use crate::outside::{Failed, Source};
+use std::alloc::{AllocError, Global};
+use std::marker::Model;
+
+/// Bytes that were taken and not yet passed over, with the piece that was handed out last.
+#[derive(Debug, Drop)]
+pub struct Buffer {
+    bytes: Vec<u8>,
+    first: usize,
+    after: usize,
+    from: usize,
+    to: usize,
+}
+
+impl Model for Buffer {
+    ghost use Rattle.std.specs.Prelude.{◌≤◌, length, slice_range};
+    ghost use Rattle.ao_base.specs.Buffered.{Buffered};
+
+    ghost Value = { Buffered };
+
+    ghost view = { λ b. record { kept = slice_range b.bytes.items b.from b.to; piece = slice_range b.bytes.items b.first b.after; size = length b.bytes.items } };
+
+    ghost invariant = { λ b. (b.first ≤ b.after) × (b.after ≤ length b.bytes.items) × (b.from ≤ b.to) × (b.to ≤ length b.bytes.items) };
+}
+
+impl Buffer {
+    /// An empty buffer for `size` bytes. It takes all its memory here.
+    pub fn new(alloc: Global, size: usize) -> Result<Buffer, AllocError>
+        ensures { IfOk result (λ b. b ≡ record { kept = []; piece = []; size = size }) }
+    {
+        let bytes = vec![in alloc; 0u8; size]?;
+        Ok(Buffer {
+            bytes,
+            first: 0,
+            after: 0,
+            from: 0,
+            to: 0,
+        })
+    }
+
+    /// The bytes that are kept, never more than the size.
+    pub fn kept(&self) -> &[u8]
+        ensures value { result.now ≡ self.now.kept }
+        ensures fits { length result.now ≤ self.now.size }
+    {
+        &self.bytes.as_slice()[self.from..self.to]
+    }
+
+    /// The piece that was handed out last.
+    pub fn piece(&self) -> &[u8]
+        ensures { result.now ≡ self.now.piece }
+    {
+        &self.bytes.as_slice()[self.first..self.after]
+    }
+
+    /// Hands out the kept bytes from `first` up to `after`, and passes over the first `past`.
+    pub fn pass(&mut self, first: usize, after: usize, past: usize)
+        requires ordered { first ≤ after }
+        requires within { after ≤ length self.old.kept }
+        requires past { past ≤ length self.old.kept }
+        ensures { self.new ≡ record { kept = drop past self.old.kept; piece = slice_range self.old.kept first after; size = self.old.size } }
+    {
+        self.first = self.from + first;
+        self.after = self.from + after;
+        self.from += past;
+    }
+
+    /// Takes the next bytes of the source after those that are kept, and answers how many; none
+    /// only at its end. Nothing is handed out then.
+    pub fn more<S: Source>(&mut self, src: &mut S) -> Result<usize, Failed>
+        requires { length self.old.kept < self.old.size }
+        ensures { (given : List ℕ) × TakesMore self.old self.new (S.side src.old) (S.side src.new) given result }
+    {
+        let len = self.to - self.from;
+        let (from, to) = (self.from, self.to);
+        let front = make_room(self.bytes.as_mut_slice(), from, to);
+        let at = front + len;
+        self.first = 0;
+        self.after = 0;
+        self.from = front;
+        self.to = at;
+        let Ok(n) = fill(src, self.bytes.as_mut_slice(), at) else {
+            return Err(Failed);
+        };
+        self.to = at + n;
+        Ok(n)
+    }
+}
+
+// Where the bytes from `from` up to `to` begin afterwards, with room behind them: moved to the
+// front, where they reached to the end.
+fn make_room(bytes: &mut [u8], from: usize, to: usize) -> usize
+    requires ordered { from ≤ to }
+    requires within { to ≤ length bytes.old }
+    requires room { to - from < length bytes.old }
+    ensures same { take (to - from) (drop result bytes.new) ≡ slice_range bytes.old from to }
+    ensures room { result + (to - from) < length bytes.new }
+{
+    if to < bytes.len() {
+        return from;
+    }
+    bytes.copy_within(from..to, 0);
+    0
+}
+
+// Reads into the bytes from `at` on.
+fn fill<S: Source>(src: &mut S, bytes: &mut [u8], at: usize) -> Result<usize, Failed>
+    requires { at ≤ length bytes.old }
+    ensures front { take at bytes.new ≡ take at bytes.old }
+    ensures reads { Reads (S.side src.old) (S.side src.new) (drop at bytes.new) result }
+{
+    src.read(&mut bytes[at..])
+}

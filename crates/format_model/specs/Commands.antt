@@ -1,0 +1,89 @@
+-- The words of each command, and what it reads. Our own format.
+use Rattle.std.specs.Prelude.{ℕ, ◌&&◌, ◌||◌, nat_le, Bool, true, false, List, [], ◌∷◌, codes, Option, Some, None, if◌then◌else◌}
+use Rattle.std.specs.Str.{bytes_eq}
+use Rattle.ao_base.specs.Decimals.{decimal_of}
+use Rattle.key_model.specs.Lifetimes.{greatest_time}
+use Rattle.key_model.specs.Times.{◌>>=◌, time_of}
+use Rattle.format_model.specs.declared.command.Command.{Command}
+use Rattle.format_model.specs.declared.command.Command.TheVariants as command
+
+-- a decimal up to a number
+abbrev pub up_to : ℕ → List ℕ → Option ℕ
+up_to most w = do
+  n ← decimal_of w
+  if nat_le n most then Some n else None
+
+-- `link`, `show`, `vectors`
+abbrev pub alone_of : List ℕ → Option Command
+alone_of name =
+    if bytes_eq name (codes "link") then Some command.Link
+    else if bytes_eq name (codes "show") then Some command.Show
+    else if bytes_eq name (codes "vectors") then Some command.Vectors else None
+
+-- `link KEYS`, `check KEYS`, `bgp KEYS`, `timed KEYS`, `node KEYS`
+abbrev pub with_keys_of : List ℕ → Option Command
+with_keys_of name =
+    if bytes_eq name (codes "link") then Some command.LinkKeys
+    else if bytes_eq name (codes "check") then Some command.Check
+    else if bytes_eq name (codes "bgp") then Some command.Bgp
+    else if bytes_eq name (codes "timed") then Some command.Timed
+    else if bytes_eq name (codes "node") then Some command.Node else None
+
+-- `check --pcap KEYS`; another word than `--pcap` is none
+abbrev pub pcap_of : List ℕ → Option Command
+pcap_of option = if bytes_eq option (codes "--pcap") then Some command.CheckPcap else None
+
+-- `keys KEYS TIME`
+abbrev pub keys_of : List ℕ → Option Command
+keys_of time = do
+  t ← time_of time
+  Some (command.Keys t)
+
+-- `storm SEED COUNT`
+abbrev pub storm_of : List ℕ → List ℕ → Option Command
+storm_of seed count = do
+  s ← decimal_of seed
+  n ← up_to 10000 count
+  Some (command.Storm s n)
+
+-- a command of three words
+abbrev pub three_of : List ℕ → List ℕ → List ℕ → Option Command
+three_of name second third =
+    if bytes_eq name (codes "keys") then keys_of third
+    else if bytes_eq name (codes "storm") then storm_of second third
+    else if bytes_eq name (codes "check") then pcap_of second else None
+
+-- `lint KEYS LEAD LAG FROM TO`, where FROM isn't after TO
+abbrev pub lint_of : (lead lag from to : List ℕ) → Option Command
+lint_of lead lag from to = do
+  a ← up_to greatest_time lead
+  b ← up_to greatest_time lag
+  low ← time_of from
+  high ← time_of to
+  if nat_le low high then Some (command.Lint (record { lead = a; lag = b; from = low; to = high })) else None
+
+-- the command that the words name
+unfoldable pub command_of : List (List ℕ) → Option Command
+command_of (name ∷ []) = alone_of name
+command_of (name ∷ keys ∷ []) = with_keys_of name
+command_of (name ∷ second ∷ third ∷ []) = three_of name second third
+command_of (name ∷ keys ∷ lead ∷ lag ∷ from ∷ to ∷ []) = if bytes_eq name (codes "lint") then lint_of lead lag from to else None
+command_of _ = None
+
+-- the command reads the key file
+abbrev pub reads_keys : Command → Bool
+reads_keys command.Link = false
+reads_keys command.Show = false
+reads_keys command.Vectors = false
+reads_keys (command.Storm seed count) = false
+reads_keys _ = true
+
+-- the command reads standard input
+abbrev pub reads_input : Command → Bool
+reads_input (command.Keys time) = false
+reads_input (command.Storm seed count) = false
+reads_input _ = true
+
+-- the text where the words name no command
+abbrev pub usage : List ℕ
+usage = codes "usage: aotcp link [KEYS] | check KEYS | show | vectors | keys KEYS TIME | lint KEYS LEAD LAG FROM TO | storm SEED COUNT | check --pcap KEYS | bgp KEYS | timed KEYS | node KEYS\n"

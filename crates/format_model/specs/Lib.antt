@@ -1,0 +1,10 @@
+pub mod BgpRuns
+pub mod Captures
+pub mod Commands
+pub mod KeyTexts
+pub mod LinkEvents
+pub mod LinkFiles
+pub mod LintTexts
+pub mod NodeRuns
+pub mod StoredLines
+pub mod TimedRuns

@@ -1,0 +1,359 @@
+-- Many connections at one node, each an end of its own. Our own format.
+use Rattle.std.specs.Prelude.{◌≡◌, ℕ, suc, ◌+◌, nat_lt, nat_le, Bool, true, false, not, ◌&&◌, List, [], ◌∷◌, ◌++◌, length, codes, decimal, Option, Some, None, Result, Ok, Err, if◌then◌else◌}
+use Rattle.std.specs.List.{list_any}
+use Rattle.std.specs.Str.{bytes_eq}
+use Rattle.ao_base.specs.declared.address.Address.{Address}
+use Rattle.ao_base.specs.declared.address.Pair.{Pair}
+use Rattle.ao_base.specs.declared.line_kind.LineKind.{LineKind}
+use Rattle.ao_base.specs.declared.line_kind.LineKind.TheVariants as kind
+use Rattle.ao_base.specs.Hexadecimal.{hex_of}
+use Rattle.segment_model.specs.Sockets.{same_socket}
+use Rattle.segment_model.specs.declared.fault.DatagramFault.{DatagramFault}
+use Rattle.segment_model.specs.Segments.{Segment, Reading, Read, Bad as Unread, reading, spell}
+use Rattle.key_model.specs.Lifetimes.{greatest_time}
+use Rattle.key_model.specs.Rows.{Row}
+use Rattle.line_model.specs.declared.text_fault.TextFault.{TextFault}
+use Rattle.line_model.specs.Lines.{Line, saying_lines}
+use Rattle.line_model.specs.Said.{numbered, if_few_lines}
+use Rattle.line_model.specs.Texts.{numbered_text}
+use Rattle.line_model.specs.Words.{◌>>=◌, Taken, word_in, nothing_in, literal_in, address_in, number_in, sized_hex_in, some_hex_in}
+use Rattle.endpoint_model.specs.declared.arrival.Arrival.{Arrival}
+use Rattle.endpoint_model.specs.declared.arrival.Arrival.TheVariants.{Bad}
+use Rattle.endpoint_model.specs.States.{EndState, connected, listening, started, gives, room, give, taking, take_out, at_end, close, abort, tick}
+use Rattle.endpoint_model.specs.Arrivals.{Arrived, arrive}
+use Rattle.endpoint_model.specs.Emissions.{Emission, Emitted, Quiet, NoKey, Emits, emit, resend}
+use Rattle.link_model.specs.Reports.{answer_texts, flags_text, number_text, hex_or_none, end_mark}
+use Rattle.format_model.specs.declared.node.Act.{Act}
+use Rattle.format_model.specs.declared.node.Act.TheVariants as act
+use Rattle.format_model.specs.declared.node.NodeEvent.{NodeEvent}
+use Rattle.format_model.specs.declared.node.NodeEvent.TheVariants as event
+use Rattle.format_model.specs.declared.node.NodeScript.{NodeScript}
+use Rattle.format_model.specs.LinkEvents.{greatest_isn}
+use Rattle.format_model.specs.LinkFiles.{Left, line_in, title_of, are_two_of_a_family, missing_in}
+
+-- an end of a node, under the pair of its connection
+pub record Held : Type 0 where
+  pub pair : Pair
+  pub state : EndState
+
+-- a node: its clock, and its ends; no pair is held twice
+pub record NodeState : Type 0 where
+  pub clock : ℕ
+  pub ends : List Held
+
+-- what an event of a node answers
+pub data NodeOutcome : Type 0 where
+  Done : NodeOutcome
+  InUse : NodeOutcome
+  NodeFull : NodeOutcome
+  NoConnection : NodeOutcome
+  Full : NodeOutcome
+  HasClosed : NodeOutcome
+  Sent : (emission : Emission) → NodeOutcome
+  WithoutKey : NodeOutcome
+  Idle : NodeOutcome
+  Nothing : NodeOutcome
+  Answered : (answer : Arrival) → NodeOutcome
+  Took : (bytes : List ℕ) (end_shown : Bool) → NodeOutcome
+
+-- the most ends that a node holds
+abbrev pub most_ends : ℕ
+most_ends = 1024
+
+-- the same pair
+abbrev pub same_pair : Pair → Pair → Bool
+same_pair one two = same_socket one.local two.local && same_socket one.remote two.remote
+
+-- the end of a pair
+abbrev pub end_of : Pair → List Held → Option EndState
+end_of pair [] = None
+end_of pair (h ∷ hs) = if same_pair h.pair pair then Some h.state else end_of pair hs
+
+-- the ends with this one in the place of its pair's
+abbrev pub with_end : Pair → EndState → List Held → List Held
+with_end pair s [] = []
+with_end pair s (h ∷ hs) = if same_pair h.pair pair then record { pair = pair; state = s } ∷ hs else h ∷ with_end pair s hs
+
+-- the ends without this pair's
+abbrev pub without_end : Pair → List Held → List Held
+without_end pair [] = []
+without_end pair (h ∷ hs) = if same_pair h.pair pair then hs else h ∷ without_end pair hs
+
+-- all ends tick
+abbrev pub ticked : ℕ → List Held → List Held
+ticked now [] = []
+ticked now (h ∷ hs) = record { pair = h.pair; state = tick now h.state } ∷ ticked now hs
+
+-- the state after a call of an end, and its answer
+pub record Called : Type 0 where
+  pub state : EndState
+  pub outcome : NodeOutcome
+
+-- a state with its answer
+abbrev pub called : EndState → NodeOutcome → Called
+called s outcome = record { state = s; outcome = outcome }
+
+-- a piece is given, unless the end is closed or there is no room for it
+abbrev pub offered : List ℕ → EndState → Called
+offered piece s =
+    if not (gives s) then called s HasClosed else (if nat_lt (room s) (length piece) then called s Full else called (give piece s) Done)
+
+-- a segment is made, or none
+abbrev pub sent : EndState → NodeOutcome → Emitted → Called
+sent s without Quiet = called s without
+sent s without NoKey = called s WithoutKey
+sent s without (Emits out) = called out.state (Sent out)
+
+-- a call of a held end (RFC 9293, section 3.10)
+abbrev pub act_on : List Row → Pair → ℕ → EndState → Act → Called
+act_on rows pair now s (act.Give piece) = offered piece s
+act_on rows pair now s (act.Take count) = let t = take_out count s in called t (Took (taking count s) (at_end t))
+act_on rows pair now s act.Send = sent s Idle (emit rows pair now s)
+act_on rows pair now s act.Resend = sent s Nothing (resend rows pair now s)
+act_on rows pair now s act.Close = called (close s) Done
+act_on rows pair now s act.Abort = called (abort s) Done
+act_on rows pair now s _ = called s InUse
+
+-- an event's new node, and its answer
+pub record NodeStep : Type 0 where
+  pub node : NodeState
+  pub outcome : NodeOutcome
+
+-- the node stays
+abbrev pub stays : NodeState → NodeOutcome → NodeStep
+stays n outcome = record { node = n; outcome = outcome }
+
+-- the end of a pair after a call
+abbrev pub after_call : NodeState → Pair → Called → NodeStep
+after_call n pair c = record { node = record n { ends = with_end pair c.state n.ends }; outcome = c.outcome }
+
+-- an event of a pair that is held
+abbrev pub on_held : List Row → NodeState → Pair → EndState → Act → NodeStep
+on_held rows n pair s act.Remove = record { node = record n { ends = without_end pair n.ends }; outcome = Done }
+on_held rows n pair s a = after_call n pair (act_on rows pair n.clock s a)
+
+-- a new end, where there is room for it
+abbrev pub new_end : ℕ → NodeState → Pair → EndState → NodeStep
+new_end most n pair s =
+    if nat_le most (length n.ends) then stays n NodeFull
+    else record { node = record n { ends = n.ends ++ record { pair = pair; state = s } ∷ [] }; outcome = Done }
+
+-- an event of a pair that isn't held
+abbrev pub on_other : ℕ → NodeState → Pair → Act → NodeStep
+on_other most n pair (act.Open isn) = new_end most n pair (connected pair isn)
+on_other most n pair (act.Listen isn) = new_end most n pair (listening pair isn)
+on_other most n pair (act.Start isn peer) = new_end most n pair (started pair isn peer)
+on_other most n pair _ = stays n NoConnection
+
+-- an event of a pair
+abbrev pub on_pair : ℕ → List Row → NodeState → Pair → Act → Option EndState → NodeStep
+on_pair most rows n pair a None = on_other most n pair a
+on_pair most rows n pair a (Some s) = on_held rows n pair s a
+
+-- an arrival at the end of a pair
+abbrev pub arrived_at : List Row → NodeState → Pair → Reading → Option EndState → NodeStep
+arrived_at rows n pair r None = stays n NoConnection
+arrived_at rows n pair r (Some s) = let a = arrive rows pair n.clock s r in after_call n pair (called a.state (Answered a.answer))
+
+-- the pair of a datagram as the node sees it
+abbrev pub pair_of : Segment → Pair
+pair_of d = record { local = d.destination; remote = d.source }
+
+-- a datagram arrives
+abbrev pub injected : List Row → NodeState → Reading → NodeStep
+injected rows n (Unread fault) = stays n (Answered (Bad fault))
+injected rows n (Read d) = arrived_at rows n (pair_of d) (Read d) (end_of (pair_of d) n.ends)
+
+-- the node after an event, and the answer; at most so many ends are held
+abbrev pub node_step : ℕ → List Row → NodeState → NodeEvent → NodeStep
+node_step most rows n (event.Clock seconds) = record { node = record { clock = seconds; ends = ticked seconds n.ends }; outcome = Done }
+node_step most rows n (event.Inject bytes) = injected rows n (reading bytes)
+node_step most rows n (event.On pair a) = on_pair most rows n pair a (end_of pair n.ends)
+
+-- a node as it begins: the clock 0, and no end
+abbrev pub no_ends : NodeState
+no_ends = record { clock = 0; ends = [] }
+
+-- the node after these events
+abbrev pub node_from : ℕ → List Row → NodeState → List NodeEvent → NodeState
+node_from most rows n [] = n
+node_from most rows n (e ∷ es) = node_from most rows (node_step most rows n e).node es
+
+-- the answers to these events
+abbrev pub outcomes_from : ℕ → List Row → NodeState → List NodeEvent → List NodeOutcome
+outcomes_from most rows n [] = []
+outcomes_from most rows n (e ∷ es) = let s = node_step most rows n e in s.outcome ∷ outcomes_from most rows s.node es
+
+-- the answers of a node to these events
+unfoldable pub outcomes : List Row → List NodeEvent → List NodeOutcome
+outcomes rows events = outcomes_from most_ends rows no_ends events
+
+-- the datagram is for the connection of this pair
+abbrev pub is_for : Pair → Reading → Bool
+is_for pair (Unread fault) = false
+is_for pair (Read d) = same_pair (pair_of d) pair
+
+-- the event happens at the connection of this pair: the clock's, its own, and its datagrams
+abbrev pub is_mine : Pair → NodeEvent → Bool
+is_mine pair (event.Clock seconds) = true
+is_mine pair (event.Inject bytes) = is_for pair (reading bytes)
+is_mine pair (event.On other a) = same_pair other pair
+
+-- the events of a connection
+abbrev pub mine : Pair → List NodeEvent → List NodeEvent
+mine pair [] = []
+mine pair (e ∷ es) = if is_mine pair e then e ∷ mine pair es else mine pair es
+
+-- the answers to the events of a connection, among the answers to all
+abbrev pub my_outcomes : Pair → List NodeEvent → List NodeOutcome → List NodeOutcome
+my_outcomes pair (e ∷ es) (o ∷ os) = if is_mine pair e then o ∷ my_outcomes pair es os else my_outcomes pair es os
+my_outcomes pair _ _ = []
+
+-- the answer isn't that the node is full
+abbrev pub is_placed : NodeOutcome → Bool
+is_placed NodeFull = false
+is_placed _ = true
+
+-- none of the events of a connection found the node full
+abbrev pub IsPlaced : Pair → List Row → List NodeEvent → Type 0
+IsPlaced pair rows events = list_any (λ o. not (is_placed o)) (my_outcomes pair events (outcomes rows events)) ≡ false
+
+-- each connection gives the answers that it would give alone, whatever comes between
+abbrev pub Alone : Pair → List Row → List NodeEvent → Type 0
+Alone pair rows events = IsPlaced pair rows events → my_outcomes pair events (outcomes rows events) ≡ outcomes rows (mine pair events)
+
+-- the words for a segment that was made
+abbrev pub sent_texts : Emission → List (List ℕ)
+sent_texts e =
+    codes "sent" ∷ flags_text e.flags ∷ codes "seq" ∷ decimal e.number ∷ codes "ack" ∷ number_text e.acknowledged ∷ codes "len" ∷ decimal (length e.segment.payload)
+    ∷ codes "key" ∷ decimal e.sending.key_id ∷ codes "next" ∷ decimal e.sending.rnext_key_id ∷ codes "datagram" ∷ hex_of (spell e.segment) ∷ []
+
+-- the words for an answer
+abbrev pub node_texts : NodeOutcome → List (List ℕ)
+node_texts Done = codes "ok" ∷ []
+node_texts InUse = codes "in-use" ∷ []
+node_texts NodeFull = codes "node-full" ∷ []
+node_texts NoConnection = codes "no-connection" ∷ []
+node_texts Full = codes "full" ∷ []
+node_texts HasClosed = codes "closed" ∷ []
+node_texts (Sent e) = sent_texts e
+node_texts WithoutKey = codes "no-key" ∷ []
+node_texts Idle = codes "idle" ∷ []
+node_texts Nothing = codes "nothing" ∷ []
+node_texts (Answered answer) = answer_texts answer
+node_texts (Took bytes shown) = codes "took" ∷ hex_or_none bytes ∷ end_mark shown
+
+-- a line for each answer, numbered from here on
+abbrev pub node_lines : ℕ → List NodeOutcome → List ℕ
+node_lines n [] = []
+node_lines n (o ∷ os) = numbered_text n (node_texts o) ++ node_lines (suc n) os
+
+-- the text of a node's run
+unfoldable pub node_text : List Row → List NodeEvent → List ℕ
+node_text rows events = node_lines 1 (outcomes rows events)
+
+-- `LOCALPORT ADDRESS REMOTEPORT`, seen from the node with this address
+abbrev pub pair_in : Address → List (List ℕ) → Result (Taken Pair) LineKind
+pair_in own ws = do
+  local ← number_in 0 65535 ws
+  address ← address_in local.rest
+  far ← (if are_two_of_a_family own address.value then Ok address.value else Err kind.Range)
+  port ← number_in 0 65535 address.rest
+  Ok (record { value = record { local = record { address = own; port = local.value }; remote = record { address = far; port = port.value } }; rest = port.rest })
+
+-- a connection, and nothing else
+abbrev pub act_alone : Act → Address → List (List ℕ) → Result NodeEvent LineKind
+act_alone made own ws = do
+  pair ← pair_in own ws
+  none ← nothing_in pair.rest
+  Ok (event.On pair.value made)
+
+-- a connection and a number
+abbrev pub act_number : (ℕ → Act) → ℕ → Address → List (List ℕ) → Result NodeEvent LineKind
+act_number made high own ws = do
+  pair ← pair_in own ws
+  n ← number_in 0 high pair.rest
+  none ← nothing_in n.rest
+  Ok (event.On pair.value (made n.value))
+
+-- a connection and two initial sequence numbers
+abbrev pub act_start : Address → List (List ℕ) → Result NodeEvent LineKind
+act_start own ws = do
+  pair ← pair_in own ws
+  isn ← number_in 0 greatest_isn pair.rest
+  peer ← number_in 0 greatest_isn isn.rest
+  none ← nothing_in peer.rest
+  Ok (event.On pair.value (act.Start isn.value peer.value))
+
+-- a connection and at least one byte
+abbrev pub act_give : Address → List (List ℕ) → Result NodeEvent LineKind
+act_give own ws = do
+  pair ← pair_in own ws
+  bytes ← some_hex_in pair.rest
+  none ← nothing_in bytes.rest
+  Ok (event.On pair.value (act.Give bytes.value))
+
+-- `clock SECONDS`
+abbrev pub clock_of : List (List ℕ) → Result NodeEvent LineKind
+clock_of ws = do
+  seconds ← number_in 0 greatest_time ws
+  none ← nothing_in seconds.rest
+  Ok (event.Clock seconds.value)
+
+-- `inject HEX`, 1 to 65,575 bytes
+abbrev pub inject_of : List (List ℕ) → Result NodeEvent LineKind
+inject_of ws = do
+  bytes ← sized_hex_in 1 65575 ws
+  none ← nothing_in bytes.rest
+  Ok (event.Inject bytes.value)
+
+-- the event that the first word names, of the words after it
+unfoldable pub node_event_named : Address → List ℕ → List (List ℕ) → Result NodeEvent LineKind
+node_event_named own name ws =
+    if bytes_eq name (codes "clock") then clock_of ws
+    else if bytes_eq name (codes "inject") then inject_of ws
+    else if bytes_eq name (codes "open") then act_number act.Open greatest_isn own ws
+    else if bytes_eq name (codes "listen") then act_number act.Listen greatest_isn own ws
+    else if bytes_eq name (codes "start") then act_start own ws
+    else if bytes_eq name (codes "give") then act_give own ws
+    else if bytes_eq name (codes "take") then act_number act.Take 65535 own ws
+    else if bytes_eq name (codes "send") then act_alone act.Send own ws
+    else if bytes_eq name (codes "resend") then act_alone act.Resend own ws
+    else if bytes_eq name (codes "close") then act_alone act.Close own ws
+    else if bytes_eq name (codes "abort") then act_alone act.Abort own ws
+    else if bytes_eq name (codes "remove") then act_alone act.Remove own ws
+    else Err kind.Word
+
+-- the event of a line
+unfoldable pub node_event_of : Address → List (List ℕ) → Result NodeEvent LineKind
+node_event_of own ws = do
+  name ← word_in ws
+  node_event_named own name.value name.rest
+
+-- the events of lines
+unfoldable pub node_events_of : Address → List Line → Result (List NodeEvent) TextFault
+node_events_of own [] = Ok []
+node_events_of own (l ∷ ls) = do
+  e ← numbered l.number (node_event_of own l.words)
+  others ← node_events_of own ls
+  Ok (e ∷ others)
+
+-- `node ADDRESS`
+abbrev pub address_of : List (List ℕ) → Result Address LineKind
+address_of ws = do
+  name ← literal_in (codes "node") ws
+  address ← address_in name.rest
+  none ← nothing_in address.rest
+  Ok address.value
+
+-- the script that the saying lines make
+unfoldable pub node_script_in : ℕ → List Line → Result NodeScript TextFault
+node_script_in missing ls = do
+  title ← line_in missing kind.Header (title_of (codes "aotcp-node")) ls
+  address ← line_in missing kind.Header address_of title.rest
+  events ← node_events_of address.value address.rest
+  Ok (record { address = address.value; events = events })
+
+-- the script of a node's file, or its first fault
+unfoldable pub node_script_of : List ℕ → Result NodeScript TextFault
+node_script_of text = if_few_lines text (node_script_in (missing_in text) (saying_lines text))

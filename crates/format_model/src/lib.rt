@@ -1,0 +1,14 @@
+//! What each command reads and writes: the grammar of each input, the text of each output, and last
+//! `answer`: from the words, the key file and the input to status, output and text for standard
+//! error. Definitions, and the plain types that they and the code share.
+#![tactic(auto)]
+
+mod command;
+mod node;
+mod script;
+mod timed;
+
+pub use command::{Command, Plan};
+pub use node::{Act, NodeEvent, NodeEvents, NodeScript};
+pub use script::{Script, SharedKey};
+pub use timed::{TimedEvent, TimedEvents, TimedScript};

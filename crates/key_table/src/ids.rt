@@ -1,0 +1,63 @@
+//! The names of a row: AdminKeyName and the two ids.
+ghost use Rattle.std.specs.Prelude.{◌≡◌, codes, option_and_then};
+ghost use Rattle.toml.specs.View.{table_view};
+ghost use Rattle.key_model.specs.Columns.{text_of, is_admin, id_of_text, ids_of};
+
+use crate::columns::{must, text_at};
+use ao_base::read_decimal;
+use key_model::{Column, Ids, TableFault};
+use toml::Table;
+
+fn is_admin(table: &Table) -> bool
+    ensures { result ≡ is_admin (text_of (codes "AdminKeyName") (table_view table.now)) }
+{
+    match text_at(table, "AdminKeyName") {
+        Some(text) => !text.is_empty() && text.len() <= 255,
+        None => false,
+    }
+}
+
+fn read_id(text: &str) -> Option<u8>
+    ensures { result ≡ id_of_text text.now }
+{
+    match read_decimal(text.as_bytes()) {
+        Some(number) => {
+            if number <= 255 {
+                Some(number as u8)
+            } else {
+                None
+            }
+        }
+        None => None,
+    }
+}
+
+fn id_at(table: &Table, key: &str) -> Option<u8>
+    ensures { result ≡ option_and_then id_of_text (text_of key.now (table_view table.now)) }
+{
+    match text_at(table, key) {
+        Some(text) => read_id(text),
+        None => None,
+    }
+}
+
+#[tactic(auto, unfolding(key_model::specs::Columns::ids_of))]
+pub(crate) fn ids_at(node: u8, row: u8, table: &Table) -> Result<Ids, TableFault>
+    ensures { result ≡ ids_of node row (table_view table.now) }
+{
+    must(
+        is_admin(table),
+        TableFault::Field(node, row, Column::AdminKeyName),
+    )?;
+    let recv_id = id_at(table, "LocalKeyName").ok_or(TableFault::Field(
+        node,
+        row,
+        Column::LocalKeyName,
+    ))?;
+    let send_id = id_at(table, "PeerKeyName").ok_or(TableFault::Field(
+        node,
+        row,
+        Column::PeerKeyName,
+    ))?;
+    Ok(Ids { recv_id, send_id })
+}

@@ -1,0 +1,67 @@
+//! The ports of a row.
+ghost use Rattle.std.specs.Prelude.{◌≡◌, codes, option_and_then, Some};
+ghost use Rattle.toml.specs.Data.{get_member};
+ghost use Rattle.toml.specs.View.{view, table_view};
+ghost use Rattle.ao_base.specs.Decimals.{decimal_of};
+ghost use Rattle.key_model.specs.Columns.{up_to, port_of, ports_of};
+
+use crate::columns::member_at;
+use ao_base::read_decimal;
+use key_model::{Column, Ports, TableFault};
+use toml::{Table, Value};
+
+fn read_port(text: &str) -> Option<u16>
+    ensures { result ≡ up_to 65535 (option_and_then decimal_of (Some text.now)) }
+{
+    match read_decimal(text.as_bytes()) {
+        Some(number) => {
+            if number <= 65535 {
+                Some(number as u16)
+            } else {
+                None
+            }
+        }
+        None => None,
+    }
+}
+
+fn port_of(value: &Value) -> Option<Option<u16>>
+    ensures { result ≡ port_of (Some (view value.now)) }
+{
+    match value.as_str() {
+        Some(text) => match read_port(text) {
+            Some(port) => Some(Some(port)),
+            None => None,
+        },
+        None => None,
+    }
+}
+
+fn port_at(table: &Table, key: &str) -> Option<Option<u16>>
+    ensures { result ≡ port_of (get_member key.now (table_view table.now)) }
+{
+    match member_at(table, key) {
+        Some(value) => port_of(value),
+        None => Some(None),
+    }
+}
+
+#[tactic(auto, unfolding(key_model::specs::Columns::ports_of))]
+pub(crate) fn ports_at(node: u8, row: u8, table: &Table) -> Result<Ports, TableFault>
+    ensures { result ≡ ports_of node row (table_view table.now) }
+{
+    let local_port = port_at(table, "LocalPort").ok_or(TableFault::Field(
+        node,
+        row,
+        Column::LocalPort,
+    ))?;
+    let peer_port = port_at(table, "PeerPort").ok_or(TableFault::Field(
+        node,
+        row,
+        Column::PeerPort,
+    ))?;
+    Ok(Ports {
+        local_port,
+        peer_port,
+    })
+}

@@ -1,0 +1,25 @@
+-- What the events of a link answer. Our own format.
+use Rattle.std.specs.Prelude.{ℕ, Bool, List}
+use Rattle.endpoint_model.specs.declared.arrival.Arrival.{Arrival}
+use Rattle.link_model.specs.Worlds.{Made}
+
+-- what an event answers
+pub data Outcome : Type 0 where
+  Done : Outcome
+  Sent : (made : Made) → Outcome
+  Answered : (answer : Arrival) → Outcome
+  Took : (bytes : List ℕ) (end_shown : Bool) → Outcome
+  Image : (bytes : List ℕ) → Outcome
+  Added : (number : ℕ) → Outcome
+  IsnUsed : Outcome
+  NoSession : Outcome
+  NoSegment : Outcome
+  NoPlace : Outcome
+  Full : Outcome
+  HasClosed : Outcome
+  WithoutKey : Outcome
+  Idle : Outcome
+  Nothing : Outcome
+  TooManyRows : Outcome
+  OverlapWith : (number : ℕ) → Outcome
+  NoRow : Outcome
