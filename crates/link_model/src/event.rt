@@ -80,6 +80,7 @@ impl Model for Events {
 
     ghost view = { λ e. e.items.items };
 }
+
 impl Events {
     /// The events of the vector, in its order.
     pub fn from_vec(items: Vec<Event>) -> Self

@@ -49,11 +49,11 @@ record_rest order text kept rest is =
           | inr fits ↦ elim (cases_lt (length text) (16 + four_at order text 8)) [
             | inl part ↦ let bad = sym (record_part order text long fits part) ∙ is in absurd (cc)
             | inr all ↦
-              let same = sym (record_whole order text long fits all) ∙ is in
-              let rest_is : drop (16 + four_at order text 8) text ≡ rest = cc in
-              let size = length-drop (16 + four_at order text 8) text in
-              let count = ap length rest_is in
-              omega arith
+                let same = sym (record_whole order text long fits all) ∙ is in
+                let rest_is : drop (16 + four_at order text 8) text ≡ rest = cc in
+                let size = length-drop (16 + four_at order text 8) text in
+                let count = ap length rest_is in
+                omega arith
           ]
         ]
       ]

@@ -61,8 +61,8 @@ leading bytes m rest is =
     elim (cases_lt (length bytes) 19) [
       | inl lt ↦ let none = sym (front_short bytes lt) ∙ is in absurd (cc)
       | inr le ↦
-        let parts = leading_by (header_fault (take 19 bytes)) (kind_in (take 19 bytes)) (length_in (take 19 bytes)) bytes m rest (sym (front_long bytes le) ∙ is) in
-        record { enough = le; sound = parts.0; whole = parts.1; is = parts.2; behind = parts.3 }
+          let parts = leading_by (header_fault (take 19 bytes)) (kind_in (take 19 bytes)) (length_in (take 19 bytes)) bytes m rest (sym (front_long bytes le) ∙ is) in
+          record { enough = le; sound = parts.0; whole = parts.1; is = parts.2; behind = parts.3 }
     ]
 
 faulty_by : (found : Option BgpFault) (kind len : ℕ) (bytes : List ℕ) (fault : BgpFault) → front_by found kind len bytes ≡ Faulty fault → found ≡ Some fault
