@@ -5,7 +5,7 @@ use Rattle.std.proofs.lemmas.List.{take-append-drop, take-take}
 use Rattle.ao_base.specs.declared.address.Address.{Address}
 use Rattle.ao_base.specs.declared.address.Address.TheVariants.{V4, V6}
 use Rattle.ao_base.specs.declared.algorithm.Algorithm.{Algorithm}
-use Rattle.ao_base.specs.declared.algorithm.Algorithm.TheVariants.{HmacSha1, AesCmac}
+use Rattle.ao_base.specs.declared.algorithm.Algorithm.TheVariants.{HmacSha1, AesCmac, HmacSha256}
 use Rattle.ao_base.specs.declared.end.End.{End}
 use Rattle.ao_base.specs.declared.end.End.TheVariants.{A, B}
 use Rattle.ao_base.specs.declared.address.Pair.{Pair}
@@ -81,6 +81,7 @@ same_bytes_by xs ys false f = same_bytes_not xs ys (λ e. never (f.1 (sym e)))
 same_algorithm_itself : (a : Algorithm) → same_algorithm a a ≡ true
 same_algorithm_itself HmacSha1 = refl
 same_algorithm_itself AesCmac = refl
+same_algorithm_itself HmacSha256 = refl
 
 same_key_itself : (k : Key) → same_key k k ≡ true
 same_key_itself k = let a = same_algorithm_itself k.algorithm in rw a (same_bytes_itself k.master)

@@ -33,7 +33,7 @@ pub(crate) const ACK: u8 = 0x10;
 /// Whether a flag is set.
 pub(crate) fn has(datagram: &Datagram<'_>, flag: u8) -> bool
     requires { 0 < flag }
-    ensures { result ≡ has datagram.now flag }
+    ensures { result ≡ has flag datagram.now }
 {
     datagram.flags() / flag % 2 == 1
 }
