@@ -1,7 +1,7 @@
 -- An entry that accounts for what passed has its MAC.
 use Rattle.std.proofs.Common.{◌≡◌, true, ◌&&◌, refl, ap, ◌∙◌}
 use Rattle.ao_base.specs.declared.algorithm.Algorithm.{Algorithm}
-use Rattle.ao_base.specs.declared.algorithm.Algorithm.TheVariants.{HmacSha1, AesCmac}
+use Rattle.ao_base.specs.declared.algorithm.Algorithm.TheVariants.{HmacSha1, AesCmac, HmacSha256}
 use Rattle.ao_base.specs.declared.end.End.{End}
 use Rattle.segment_model.specs.Bytes.{same_bytes}
 use Rattle.segment_model.proofs.Fields.{and_tells, same_bytes_tells}
@@ -12,8 +12,13 @@ use Rattle.narrow_link.specs.Worlds.{other, same_end, Made, accounts_for}
 same_algorithm_tells : (a b : Algorithm) → same_algorithm a b ≡ true → a ≡ b
 same_algorithm_tells HmacSha1 HmacSha1 e = refl
 same_algorithm_tells AesCmac AesCmac e = refl
+same_algorithm_tells HmacSha256 HmacSha256 e = refl
 same_algorithm_tells HmacSha1 AesCmac e = absurd (cc)
+same_algorithm_tells HmacSha1 HmacSha256 e = absurd (cc)
 same_algorithm_tells AesCmac HmacSha1 e = absurd (cc)
+same_algorithm_tells AesCmac HmacSha256 e = absurd (cc)
+same_algorithm_tells HmacSha256 HmacSha1 e = absurd (cc)
+same_algorithm_tells HmacSha256 AesCmac e = absurd (cc)
 
 pub same_key_tells : (one two : Key) → same_key one two ≡ true → one ≡ two
 same_key_tells one two e =
