@@ -6,13 +6,11 @@ use Rattle.ao_base.specs.declared.whole.ReadProblem.{ReadProblem}
 use Rattle.ao_base.specs.declared.whole.ReadProblem.TheVariants as problem
 use Rattle.ao_base.specs.ReadAll.{ReadsAll}
 use Rattle.ao_base.proofs.Sides.{gave_none}
-use Rattle.link_script.specs.declared.fault.ScriptFault.{ScriptFault}
-use Rattle.link_script.specs.declared.fault.ScriptFault.TheVariants as fault
+use Rattle.line_model.specs.declared.text_fault.TextFault.{TextFault}
+use Rattle.line_model.specs.declared.text_fault.TextFault.TheVariants as fault
 use Rattle.link_script.specs.declared.script.Script.{Script}
 use Rattle.link_script.specs.Script.{script_of}
-use Rattle.ao_show.specs.declared.problem.TextProblem.{TextProblem}
-use Rattle.ao_show.specs.declared.problem.TextProblem.TheVariants as text_problem
-use Rattle.ao_show.specs.declared.verifying.Verified.{Verified}
+use Rattle.ao_show.specs.declared.verified.Verified.{Verified}
 use Rattle.ao_show.specs.Show.{show_of}
 use Rattle.ao_show.specs.Verified.{vectors_of}
 use Rattle.ao_run.specs.declared.command.Command.{Command}
@@ -57,23 +55,23 @@ zero_or_one : (b : Bool) → Usual (if b then 0 else 1)
 zero_or_one true = zero
 zero_or_one false = ((λ h. absurd (omega arith)), (λ h. absurd (omega arith)))
 
-linked_usual : (r : Result Script ScriptFault) → Usual (linked r).status
+linked_usual : (r : Result Script TextFault) → Usual (linked r).status
 linked_usual (Ok s) = zero_or_one (forgeries_of s == 0)
 linked_usual (Err fault.Memory) = seven
 linked_usual (Err fault.TooManyLines) = four
 linked_usual (Err (fault.Line n kind)) = four
 
-shown_usual : (r : Result (List ℕ) TextProblem) → Usual (shown r).status
+shown_usual : (r : Result (List ℕ) TextFault) → Usual (shown r).status
 shown_usual (Ok text) = zero
-shown_usual (Err text_problem.Memory) = seven
-shown_usual (Err text_problem.TooManyLines) = four
-shown_usual (Err (text_problem.Line n kind)) = four
+shown_usual (Err fault.Memory) = seven
+shown_usual (Err fault.TooManyLines) = four
+shown_usual (Err (fault.Line n kind)) = four
 
-verified_usual : (r : Result Verified TextProblem) → Usual (verified r).status
+verified_usual : (r : Result Verified TextFault) → Usual (verified r).status
 verified_usual (Ok v) = zero_or_one (v.differing == 0)
-verified_usual (Err text_problem.Memory) = seven
-verified_usual (Err text_problem.TooManyLines) = four
-verified_usual (Err (text_problem.Line n kind)) = four
+verified_usual (Err fault.Memory) = seven
+verified_usual (Err fault.TooManyLines) = four
+verified_usual (Err (fault.Line n kind)) = four
 
 limit_usual : (b : Bool) (a : Answer) → Usual a.status → Usual (cond b (refuse 4 too_long) a).status
 limit_usual true a h = four

@@ -7,7 +7,7 @@ use Rattle.ao_base.specs.declared.end.End.TheVariants.{A, B}
 use Rattle.narrow_link.specs.Runs.{empty, run, outcomes_from}
 use Rattle.narrow_link.specs.Worlds.{Setup}
 use Rattle.narrow_link.proofs.Theorem.{delivers_in_order}
-use Rattle.link_script.specs.declared.fault.ScriptFault.{ScriptFault}
+use Rattle.line_model.specs.declared.text_fault.TextFault.{TextFault}
 use Rattle.link_script.specs.declared.script.Script.{Script}
 use Rattle.link_script.specs.Script.{script_of}
 use Rattle.link_script.proofs.ScriptRanges.{script_of_ok}
@@ -22,7 +22,7 @@ within false a s small known = refl
 
 is_report : (i : List ℕ) (script : Script) (s : ℕ) → s < 2 → s ≡ (answer (codes "link" ∷ []) [] i).status → script_of false i ≡ Ok script → answer (codes "link" ∷ []) [] i ≡ reported script
 is_report i script s small known is =
-    within (nat_lt 33554432 (length i)) (linked (script_of false i)) s small known ∙ ap (λ (r : Result Script ScriptFault). linked r) is
+    within (nat_lt 33554432 (length i)) (linked (script_of false i)) s small known ∙ ap (λ (r : Result Script TextFault). linked r) is
 
 counted_by : (b : Bool) (s n : ℕ) → (n == 0) ≡ b → s ≡ (if b then 0 else 1) → (s ≡ 0) ↔ (n ≡ 0)
 counted_by true s n e h = let z : n ≡ 0 = grind (arith, nat_tests) in ((λ _. z), (λ _. h))

@@ -2,6 +2,7 @@
 use Rattle.std.proofs.Common.{◌≡◌, suc, ◌+◌, ◌≤◌, List, [], ◌∷◌, ◌++◌, length, map, Option, Some, None, is_none, false, subst, arith, length-append}
 use Rattle.std.proofs.lemmas.List.{length-map}
 use Rattle.std.specs.List.{All, AllByRecursion}
+use Rattle.ao_base.specs.Algorithms.{mac_length_of}
 use Rattle.narrow_link.specs.Headline.{EventFits}
 use Rattle.link_script.specs.declared.event.Event.{Event}
 use Rattle.link_script.specs.declared.event.Event.TheVariants.{Clock, Start, Give, Fill, Send, Deliver, Inject, Alter, Take, Dump}
@@ -24,13 +25,13 @@ pub names_key : (shared : Option SharedKey) → is_none shared ≡ false → sha
 names_key None h e = cc
 names_key (Some k) h e = cc
 
--- the length of the key that the script names
-pub key_length : (shared : Option SharedKey) (k : SharedKey) → IsKey shared → shared ≡ Some k → (1 ≤ length k.master) × (length k.master ≤ 255)
-key_length None k x h = absurd (cc)
-key_length (Some j) k x h =
+-- the lengths of a MAC and of the key that the script names
+pub key_lengths : (shared : Option SharedKey) (k : SharedKey) → IsKey shared → shared ≡ Some k → (mac_length_of k.alg ≡ 12) × (1 ≤ length k.master) × (length k.master ≤ 255)
+key_lengths None k x h = absurd (cc)
+key_lengths (Some j) k x h =
     let same : j ≡ k = cc in
-    let P : SharedKey → Type 0 = λ (y : SharedKey). (1 ≤ length y.master) × (length y.master ≤ 255) in
-    subst P same (x.0, x.1)
+    let P : SharedKey → Type 0 = λ (y : SharedKey). (mac_length_of y.alg ≡ 12) × (1 ≤ length y.master) × (length y.master ≤ 255) in
+    subst P same (x.0, x.1.0, x.1.1)
 
 fits : (e : Event) → IsEvent e → EventFits (event_of e)
 fits (Clock e seconds) r = tt

@@ -4,9 +4,9 @@ use Rattle.std.specs.Str.{bytes_eq}
 use Rattle.ao_base.specs.declared.algorithm.Algorithm.TheVariants.{HmacSha1}
 use Rattle.ao_base.specs.declared.line_kind.LineKind.{LineKind}
 use Rattle.ao_base.specs.declared.line_kind.LineKind.TheVariants.{Word, Number, Hex, Range, Header, Shared}
-use Rattle.ao_show.specs.declared.problem.TextProblem.{TextProblem}
-use Rattle.ao_show.specs.declared.problem.TextProblem.TheVariants as problem
-use Rattle.ao_show.specs.declared.verifying.Verified.{Verified}
+use Rattle.line_model.specs.declared.text_fault.TextFault.{TextFault}
+use Rattle.line_model.specs.declared.text_fault.TextFault.TheVariants.{Memory, TooManyLines, Line}
+use Rattle.ao_show.specs.declared.verified.Verified.{Verified}
 use Rattle.ao_show.specs.Show.{show_of}
 use Rattle.ao_show.specs.Verified.{vectors_of}
 use Rattle.narrow_endpoint.specs.Verdicts.{Key}
@@ -14,8 +14,6 @@ use Rattle.narrow_link.specs.Events.{Event}
 use Rattle.narrow_link.specs.Reports.{report}
 use Rattle.narrow_link.specs.Runs.{run}
 use Rattle.narrow_link.specs.Worlds.{Setup, forgeries}
-use Rattle.link_script.specs.declared.fault.ScriptFault.{ScriptFault}
-use Rattle.link_script.specs.declared.fault.ScriptFault.TheVariants.{Memory, TooManyLines, Line}
 use Rattle.link_script.specs.declared.script.Script.{Script}
 use Rattle.link_script.specs.declared.script.SharedKey.{SharedKey}
 use Rattle.link_script.specs.Script.{script_of}
@@ -91,7 +89,7 @@ abbrev pub refuse : ℕ → List ℕ → Answer
 refuse status text = record { status = status; output = []; text = text }
 
 -- a text with a fault; want of memory is the fault of no text
-abbrev pub refused : ScriptFault → Answer
+abbrev pub refused : TextFault → Answer
 refused Memory = refuse 7 memory
 refused TooManyLines = refuse 4 too_many_lines
 refused (Line n kind) = refuse 4 (line_text n kind)
@@ -118,25 +116,19 @@ abbrev pub reported : Script → Answer
 reported s = record { status = if forgeries_of s == 0 then 0 else 1; output = report (setup_of s) (events_of s); text = [] }
 
 -- the answer of `link`
-abbrev pub linked : Result Script ScriptFault → Answer
+abbrev pub linked : Result Script TextFault → Answer
 linked (Ok s) = reported s
 linked (Err fault) = refused fault
 
--- a text of datagrams or vectors with a fault, likewise
-abbrev pub text_refused : TextProblem → Answer
-text_refused problem.Memory = refuse 7 memory
-text_refused problem.TooManyLines = refuse 4 too_many_lines
-text_refused (problem.Line n kind) = refuse 4 (line_text n kind)
-
 -- the answer of `show`
-abbrev pub shown : Result (List ℕ) TextProblem → Answer
+abbrev pub shown : Result (List ℕ) TextFault → Answer
 shown (Ok text) = record { status = 0; output = text; text = [] }
-shown (Err fault) = text_refused fault
+shown (Err fault) = refused fault
 
 -- the answer of `vectors`; the status says whether one differs
-abbrev pub verified : Result Verified TextProblem → Answer
+abbrev pub verified : Result Verified TextFault → Answer
 verified (Ok v) = record { status = if v.differing == 0 then 0 else 1; output = v.text; text = [] }
-verified (Err fault) = text_refused fault
+verified (Err fault) = refused fault
 
 -- the answer of a command to an input within its limit
 abbrev pub answer_within : Command → List ℕ → List ℕ → Answer

@@ -1,12 +1,14 @@
 //! The command `link`.
 ghost use Rattle.std.specs.Prelude.{◌≡◌, ◌≤◌, ◌<◌, IsTrue, IfOk, false, length, map, Some, Ok};
+ghost use Rattle.ao_base.specs.Algorithms.{mac_length_of};
 ghost use Rattle.link_script.specs.Script.{are_two_of_a_family, script_of};
 ghost use Rattle.link_world.specs.Standing.{StandsFor, event_of, setup_of};
 ghost use Rattle.ao_run.specs.Answer.{linked};
 ghost use Rattle.ao_run.specs.Stops.{Makes};
 
 use crate::stop::{Output, Stop, line_text};
-use link_script::{Event, Script, ScriptFault, read_script};
+use line_model::TextFault;
+use link_script::{Event, Script, read_script};
 use link_world::{Setup, World};
 use std::alloc::{AllocError, Global};
 
@@ -15,6 +17,7 @@ fn play(alloc: Global, setup: Setup, events: &[Event]) -> Result<World, AllocErr
     requires family { IsTrue (are_two_of_a_family setup.a.address setup.b.address) }
     requires least { 1 ≤ length setup.shared.master }
     requires most { length setup.shared.master ≤ 255 }
+    requires code { mac_length_of setup.shared.alg ≡ 12 }
     requires few { length events.now ≤ 20000 }
     ensures { IfOk result (λ w. StandsFor w (setup_of setup) (map event_of events.now)) }
 {
@@ -31,9 +34,9 @@ pub(crate) fn link(alloc: Global, text: &[u8]) -> Result<Output, Stop>
 {
     let script = match read_script(alloc, false, text) {
         Ok(script) => script,
-        Err(ScriptFault::Memory) => return Err(Stop::Memory),
-        Err(ScriptFault::TooManyLines) => return Err(Stop::TooManyLines),
-        Err(ScriptFault::Line(number, kind)) => {
+        Err(TextFault::Memory) => return Err(Stop::Memory),
+        Err(TextFault::TooManyLines) => return Err(Stop::TooManyLines),
+        Err(TextFault::Line(number, kind)) => {
             return Err(Stop::Line(line_text(alloc, number, kind)?));
         }
     };

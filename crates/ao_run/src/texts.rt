@@ -1,21 +1,22 @@
 //! The commands `show` and `vectors`.
 ghost use Rattle.ao_show.specs.Show.{show_of};
 ghost use Rattle.ao_show.specs.Verified.{vectors_of};
-ghost use Rattle.ao_run.specs.Answer.{shown, text_refused, verified};
+ghost use Rattle.ao_run.specs.Answer.{refused, shown, verified};
 ghost use Rattle.ao_run.specs.Stops.{Makes, Stopped};
 
 use crate::stop::{Output, Stop, line_text};
-use ao_show::{TextProblem, show, vectors};
+use ao_show::{show, vectors};
+use line_model::TextFault;
 use std::alloc::Global;
 
 /// Why a text has no output.
-fn stop(alloc: Global, problem: TextProblem) -> Stop
-    ensures { Stopped result (text_refused problem) }
+fn stop(alloc: Global, problem: TextFault) -> Stop
+    ensures { Stopped result (refused problem) }
 {
     match problem {
-        TextProblem::Memory => Stop::Memory,
-        TextProblem::TooManyLines => Stop::TooManyLines,
-        TextProblem::Line(number, kind) => match line_text(alloc, number, kind) {
+        TextFault::Memory => Stop::Memory,
+        TextFault::TooManyLines => Stop::TooManyLines,
+        TextFault::Line(number, kind) => match line_text(alloc, number, kind) {
             Ok(text) => Stop::Line(text),
             Err(_) => Stop::Memory,
         },
