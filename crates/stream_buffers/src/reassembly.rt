@@ -1,5 +1,5 @@
 //! The bytes received, in order or not.
-ghost use Rattle.std.specs.Prelude.{◌≡◌, ℕ, ◌+◌, ◌-◌, ◌^◌, ◌<◌, ◌≤◌, ◌↔◌, ◌++◌, [], ◌∷◌, None, IsTrue, IsSome, IsOk, IfOk, OnOk, OnErr, length, min, drop};
+ghost use Rattle.std.specs.Prelude.{◌≡◌, ℕ, ◌+◌, ◌^◌, ◌≤◌, ◌↔◌, ◌++◌, None, IsTrue, IsSome, IsOk, IfOk, OnOk, OnErr, length, min, drop};
 ghost use Rattle.segment_model.specs.Received.{below_limit, bytes_from};
 ghost use Rattle.stream_buffers.specs.Kept.{IsKept, RunsFrom, Shows, byte_at, forgotten_below, grown, missing_then, ready_count, runs_then, window};
 
@@ -12,8 +12,8 @@ use std::alloc::{AllocError, Global};
 use std::marker::Model;
 use std::sync::ledger::Ledger;
 
-/// How many positions lie from the first one that isn't taken to the end of the window: as many as the
-/// window field can say (RFC 9293, section 3.1).
+/// How many positions lie from the first one that isn't taken to the end of the window: as many as
+/// the window field can say (RFC 9293, section 3.1).
 const WINDOW: u64 = 65_535;
 /// How many separate runs are kept past the first missing position at most (own).
 const MOST_RUNS: u32 = 64;
@@ -22,11 +22,11 @@ const MOST_RUNS: u32 = 64;
 #[derive(Clone, Copy, Debug, PartialEq, Eq)]
 pub struct TooManyRuns;
 
-/// The bytes that were received and aren't taken, seen as a finite map from positions to bytes, with
-/// the first position that isn't taken and the first missing one (RFC 9293, section 3.10.7.4).
+/// The bytes that were received and aren't taken, seen as a finite map from positions to bytes,
+/// with the first position that isn't taken and the first missing one (RFC 9293, section 3.10.7.4).
 ///
-/// The bytes lie in a buffer by their positions. Those from `from` to below `expected` are ready, the
-/// others lie in the runs of the pool, and `end` is one past the last of all.
+/// The bytes lie in a buffer by their positions. Those from `from` to below `expected` are ready,
+/// the others lie in the runs of the pool, and `end` is one past the last of all.
 #[derive(Drop)]
 pub struct Reassembly {
     buffer: Vec<u8>,
@@ -51,8 +51,8 @@ impl Model for Reassembly {
 }
 
 impl Reassembly {
-    /// One without a byte whose first missing position is `first`, at most 2^63, with all its memory;
-    /// `AllocError` is want of memory.
+    /// One without a byte whose first missing position is `first`, at most 2^63, with all its
+    /// memory; `AllocError` is want of memory.
     pub fn new(alloc: Global, first: u64) -> Result<Reassembly, AllocError>
         requires { first ≤ 2 ^ 63 }
         ensures { IfOk result (λ r. Shows r first first (λ p. None)) }
@@ -91,10 +91,10 @@ impl Reassembly {
         (WINDOW - (self.expected - self.from)) as u16
     }
 
-    /// Keeps the bytes of a piece whose first position is `number` and which ends at 2^63 at the
-    /// latest: those that lie from the first missing position on, in the window and below `limit`, and
-    /// aren't kept yet. A byte that is kept stays as it is. Those that then follow without a gap are
-    /// ready (RFC 9293, section 3.10.7.4).
+    /// Keeps those bytes of a piece that lie from the first missing position on, in the window and
+    /// below `limit`, and aren't kept yet; a byte that is kept already stays as it is. The bytes
+    /// that then follow the ready ones without a gap become ready (RFC 9293, section 3.10.7.4). The
+    /// piece begins at position `number` and ends at 2^63 at the latest.
     ///
     /// `TooManyRuns` exactly where more than 64 separate runs would then lie past the first missing
     /// position; then nothing changes. It counts at most 65 steps.
@@ -106,9 +106,11 @@ impl Reassembly {
         steps: &mut Steps<L>,
     ) -> Result<(), TooManyRuns>
         requires { number + length bytes.now ≤ 2 ^ 63 }
-        ensures variant { IsOk result ↔ (runs_then self.old (grown self.old number bytes.now limit) ≤ 64) }
+        ensures variant { IsOk result ↔
+            (runs_then self.old (grown self.old number bytes.now limit) ≤ 64) }
         ensures ok { OnOk result (Shows self.new self.old.from
-            (missing_then self.old (grown self.old number bytes.now limit)) (grown self.old number bytes.now limit)) }
+            (missing_then self.old (grown self.old number bytes.now limit))
+            (grown self.old number bytes.now limit)) }
         ensures err { OnErr result (self.new ≡ self.old) }
         ensures steps { steps.new ≤ steps.old + 65 }
     {
@@ -155,7 +157,8 @@ impl Reassembly {
     /// are. The rest of `out` stays.
     pub fn take(&mut self, out: &mut [u8]) -> usize
         ensures count { result ≡ min (length out.old) (ready_count self.old) }
-        ensures taken { out.new ≡ bytes_from (byte_at self.old) self.old.from result ++ drop result out.old }
+        ensures taken { out.new ≡
+            bytes_from (byte_at self.old) self.old.from result ++ drop result out.old }
         ensures rest { Shows self.new (self.old.from + result) self.old.expected
             (forgotten_below (self.old.from + result) (byte_at self.old)) }
     {
@@ -187,8 +190,8 @@ impl Reassembly {
         self.end = first;
     }
 
-    /// The pool of 64 places in which the runs are kept. Its items are, in order, the separate runs of
-    /// bytes past the first missing position.
+    /// The pool of 64 places in which the runs are kept. Its items are, in order, the separate runs
+    /// of bytes past the first missing position.
     pub fn runs(&self) -> &Slots<Run>
         ensures places { result.now.capacity ≡ 64 }
         ensures runs { RunsFrom (byte_at self.now) self.now.expected result.now.pairs }
