@@ -1,5 +1,5 @@
 -- What is chosen to send with.
-use Rattle.std.proofs.Common.{◌≡◌, ℕ, ◌+◌, ◌==◌, Bool, true, false, ◌||◌, List, [], ◌∷◌, Option, Some, None, ◌⊎◌, inl, inr, ⊎_elim, refl, subst, nat_lt, if◌then◌else◌}
+use Rattle.std.proofs.Common.{◌≡◌, ℕ, ◌+◌, ◌==◌, Bool, true, false, ◌||◌, List, [], ◌∷◌, Option, Some, None, ◌⊎◌, inl, inr, ⊎_elim, ◌↔◌, refl, ap, subst, nat_lt, if◌then◌else◌}
 use Rattle.std.specs.Prelude.{option_map}
 use Rattle.std.specs.List.{list_any, AllByRecursion}
 use Rattle.std.specs.Option.{option_or}
@@ -117,3 +117,39 @@ chosen P current rows pair now s h e =
     (λ y is. (latest_some P (acceptable pair now) accept_start 1 rows y h is).0)
     (λ y is. still_some P current rows pair now y h is)
     (λ y is. latest_some P (sendable pair now) send_start 1 rows y h is) e
+
+-- ---- none is chosen exactly where none is without a current row
+
+all_fail : (good : Row → Bool) (rows : List Row) → list_any good rows ≡ false → AllByRecursion (λ r. good r ≡ false) rows
+all_fail good [] e = tt
+all_fail good (r ∷ rs) e = by_test (good r) refl (λ f. all_fail good rs f) e
+  where
+    by_test : (b : Bool) → good r ≡ b → (list_any good rs ≡ false → AllByRecursion (λ r. good r ≡ false) rs) → (b || list_any good rs) ≡ false
+        → (good r ≡ false) × AllByRecursion (λ r. good r ≡ false) rs
+    by_test true is more e = absurd (cc)
+    by_test false is more e = (is, more e)
+
+none_current : (current : Option ℕ) (rows : List Row) (pair : Pair) (now : ℕ) → AllByRecursion (λ r. sendable pair now r ≡ false) rows → (o : Option Numbered) → still_current current rows pair now ≡ o → o ≡ None
+none_current current rows pair now h None e = refl
+none_current current rows pair now h (Some x) e =
+    let is = still_some (λ r. sendable pair now r ≡ false) current rows pair now x h e in
+    let fails = is.0 in
+    let holds = is.1 in
+    absurd (cc)
+
+both_none : (preferred a b : Option Numbered) → a ≡ None → b ≡ None → option_map (sending_by preferred) (option_or a b) ≡ None
+both_none preferred None b e f = ap (option_map (sending_by preferred)) f
+both_none preferred (Some a) b e f = absurd (cc)
+
+none_left : (current : Option ℕ) (rows : List Row) (pair : Pair) (now : ℕ) → send_row rows pair now ≡ None → choose current rows pair now ≡ None
+unfolding choose
+none_left current rows pair now e =
+    let none = all_fail (sendable pair now) rows (latest_none (sendable pair now) send_start 1 rows e) in
+    both_none (next_row rows pair now) (still_current current rows pair now) (send_row rows pair now) (none_current current rows pair now none (still_current current rows pair now) refl) e
+
+none_to_send : (current : Option ℕ) (rows : List Row) (pair : Pair) (now : ℕ) → choose current rows pair now ≡ None → send_row rows pair now ≡ None
+unfolding choose
+none_to_send current rows pair now e = none_chosen (next_row rows pair now) (still_current current rows pair now) (send_row rows pair now) e
+
+pub choose_exactly : (current : Option ℕ) (rows : List Row) (pair : Pair) (now : ℕ) → (choose current rows pair now ≡ None) ↔ (send_row rows pair now ≡ None)
+choose_exactly current rows pair now = (none_to_send current rows pair now, none_left current rows pair now)

@@ -1,5 +1,5 @@
 -- Key coordination: which key an end sends with, and how it follows the RNextKeyID that it hears (RFC 5925, section 6.1).
-use Rattle.std.specs.Prelude.{ℕ, ◌+◌, ◌==◌, Bool, List, [], ◌∷◌, Option, Some, None, option_map, if◌then◌else◌}
+use Rattle.std.specs.Prelude.{◌≡◌, ◌≤◌, ℕ, ◌+◌, ◌==◌, Bool, List, [], ◌∷◌, length, Option, Some, None, option_map, if◌then◌else◌}
 use Rattle.std.specs.Option.{option_or}
 use Rattle.ao_base.specs.declared.address.Pair.{Pair}
 use Rattle.key_model.specs.Rows.{Row, sendable}
@@ -45,6 +45,10 @@ choose current rows pair now = option_map (sending_by (next_row rows pair now)) 
 abbrev pub current_after : Option ℕ → Option Sending → Option ℕ
 current_after before None = before
 current_after before (Some s) = Some s.number
+
+-- the number, where there is one, is that of a row of the table
+abbrev pub IsRowOf : List Row → Option ℕ → Type 0
+IsRowOf rows current = (n : ℕ) → current ≡ Some n → (1 ≤ n) × (n ≤ length rows)
 
 -- the current row after an RNextKeyID was heard: the sendable row with this SendID, else the one before (RFC 5925, sections 6.1 and 7.5)
 unfoldable pub follow : Option ℕ → List Row → Pair → ℕ → ℕ → Option ℕ

@@ -3,6 +3,7 @@
 ghost use Rattle.std.specs.Prelude.{◌≡◌, ◌↔◌, ◌≤◌, ◌+◌, ℕ, true, false, List, Option, Some, None};
 ghost use Rattle.std.specs.List.{AllByRecursion};
 ghost use Rattle.ao_base.specs.declared.address.Pair.{Pair};
+ghost use Rattle.key_model.specs.Choices.{send_row};
 ghost use Rattle.key_model.specs.Coordination.{Sending, choose};
 ghost use Rattle.key_model.specs.declared.lint.LintAnswer.TheVariants as answer;
 ghost use Rattle.key_model.specs.Lifetimes.{greatest_time, is_covered};
@@ -18,10 +19,11 @@ pub fn tables_stay_valid()
 {}
 
 /// The row that is chosen to send with is sendable, and its SendID is the KeyID; where none is
-/// chosen, no row is sendable.
+/// chosen, no row is sendable. None is chosen exactly where none would be without a current row.
 pub fn chosen_is_sendable()
     ensures some { (current : Option ℕ) (rows : List Row) (pair : Pair) (now : ℕ) (s : Sending) → choose current rows pair now ≡ Some s → (sendable pair now s.row ≡ true) × (s.key_id ≡ s.row.send_id) }
     ensures none { (current : Option ℕ) (rows : List Row) (pair : Pair) (now : ℕ) → choose current rows pair now ≡ None → has_sendable rows pair now ≡ false }
+    ensures exactly { (current : Option ℕ) (rows : List Row) (pair : Pair) (now : ℕ) → (choose current rows pair now ≡ None) ↔ (send_row rows pair now ≡ None) }
 {}
 
 /// Where a sender's table is aligned to a receiver's, which is valid, what each row may send at the

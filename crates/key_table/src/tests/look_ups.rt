@@ -1,10 +1,7 @@
 //! Tables that were read, times, and gaps.
 use crate::tests::{PAIR, two_nodes, with_row};
-use crate::{
-    Accept, Direction, Lifetime, Table, TableFault, Tables, first_gap, read_tables, read_time,
-};
+use crate::{Accept, Direction, Lifetime, Table, Tables, first_gap, read_tables, read_time};
 use ao_base::{Address, Algorithm};
-use std::alloc::Global;
 use std::test::Fail;
 
 #[test]
@@ -38,31 +35,6 @@ fn two_nodes_are_read(rt: HostRuntime) -> Result<(), Fail> {
     );
     assert_eq!(rt; row.matches(&PAIR), true);
     assert_eq!(rt; tables.table(&Address::V4([10, 0, 0, 3])).is_none(), true);
-    Ok(())
-}
-
-/// The fault of a read of the two nodes, if it has one, and the tables: after a fault those of the
-/// next read.
-fn read_until_read(alloc: Global) -> Result<(Option<TableFault>, Tables), TableFault> {
-    match read_tables(alloc, two_nodes().as_bytes()) {
-        Ok(tables) => Ok((None, tables)),
-        Err(fault) => Ok((Some(fault), read_tables(alloc, two_nodes().as_bytes())?)),
-    }
-}
-
-// `rt try --test --fail-alloc N` refuses one allocation of the process, and bench/refused_memory.sh
-// each allocation of the read in turn. A read that always answers `Memory` fails here too.
-#[test]
-fn a_refused_read_answers_memory_and_the_next_reads(rt: HostRuntime) -> Result<(), Fail> {
-    let (fault, tables) = read_until_read(rt.alloc())?;
-    assert_eq!(rt; fault.unwrap_or(TableFault::Memory), TableFault::Memory);
-    assert_eq!(rt; tables.nodes(), 2);
-    for (last, name) in [(1, b"r1"), (2, b"r2")] {
-        let address = Address::V4([10, 0, 0, last]);
-        let table = tables.table(&address).ok_or("no node")?;
-        assert_eq!(rt; table.name(), name.as_slice());
-        assert_eq!(rt; table.rows(), 1);
-    }
     Ok(())
 }
 

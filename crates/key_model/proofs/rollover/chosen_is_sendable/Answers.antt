@@ -2,7 +2,7 @@ use Rattle.std.proofs.Common.{List, [], ◌∷◌}
 use Rattle.std.specs.Prelude.{⊤}
 use Rattle.std.specs.List.{AllByRecursion}
 use Rattle.key_model.specs.Rows.{Row}
-use Rattle.key_model.proofs.SendingLaws.{chosen, choose_none}
+use Rattle.key_model.proofs.SendingLaws.{chosen, choose_none, choose_exactly}
 use Rattle.key_model.proofs.rollover.chosen_is_sendable.Goals as goal
 
 all_rows : (rows : List Row) → AllByRecursion (λ (r : Row). ⊤) rows
@@ -14,3 +14,6 @@ returns-clause-some c = λ current rows pair now s e. let h = chosen (λ (r : Ro
 
 pub returns-clause-none : goal.returns-clause-none
 returns-clause-none c = choose_none
+
+pub returns-clause-exactly : goal.returns-clause-exactly
+returns-clause-exactly c = choose_exactly
