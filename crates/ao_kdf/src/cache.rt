@@ -47,21 +47,21 @@ fn no_keys(alloc: Global, rows: u8) -> Result<Vec<Option<TrafficKey>>, AllocErro
 fn look<L: Ledger>(
     keys: &mut Vec<Option<TrafficKey>>,
     at: usize,
-    alg: Algorithm,
+    algorithm: Algorithm,
     master: &[u8],
     context: &Context,
     steps: &mut Steps<L>,
 ) -> TrafficKey
     requires at { at < length keys.old.items }
-    requires right { IsRight (key_at keys.old.items at) (traffic_key alg master.now (bytes_of context.now)) }
-    ensures key { result ≡ traffic_key alg master.now (bytes_of context.now) }
-    ensures keys { keys.new.items ≡ slice_set keys.old.items at (Some (traffic_key alg master.now (bytes_of context.now))) }
+    requires right { IsRight (key_at keys.old.items at) (traffic_key algorithm master.now (bytes_of context.now)) }
+    ensures key { result ≡ traffic_key algorithm master.now (bytes_of context.now) }
+    ensures keys { keys.new.items ≡ slice_set keys.old.items at (Some (traffic_key algorithm master.now (bytes_of context.now))) }
     ensures counted { steps.new ≡ steps.old + steps_for (key_at keys.old.items at) }
 {
     if let Some(key) = &keys[at] {
         return key.copied();
     }
-    let key = derive(alg, master, context, steps);
+    let key = derive(algorithm, master, context, steps);
     keys[at] = Some(key.copied());
     key
 }

@@ -97,20 +97,20 @@ pub pseudo_sized6 : (d : Segment) (a b : List ℕ) (n : ℕ) → FitsIp d.ip d �
 pseudo_sized6 d a b n f one two e = rw e (sym (pseudo-v6 d a b f one two))
 
 -- the input in the order in which its parts are fed
-pub mac_input-fed : (number sne : ℕ) (d : Segment) (ao : Ao) (flag : Bool) → number / 4294967296 ≡ sne
-    → (((put4 sne [] ++ pseudo d []) ++ header d 0 []) ++ covered flag d.area ao) ++ d.payload ≡ mac_input number d ao flag
+pub mac_input-fed : (number extension : ℕ) (d : Segment) (ao : Ao) (flag : Bool) → number / 4294967296 ≡ extension
+    → (((put4 extension [] ++ pseudo d []) ++ header d 0 []) ++ covered flag d.area ao) ++ d.payload ≡ mac_input number d ao flag
 unfolding mac_input
-mac_input-fed number sne d ao flag e =
+mac_input-fed number extension d ao flag e =
     let whole : put4 (number / 4294967296) (pseudo d (header d 0 (covered flag d.area ao ++ d.payload)))
     ≡ (((put4 (number / 4294967296) [] ++ pseudo d []) ++ header d 0 []) ++ covered flag d.area ao) ++ d.payload =
     rw (put4-append, pseudo-append, header-append) (simp append_assoc) in
     rw (← e) (sym whole)
 
 -- the MAC of what was fed, under the key that was given
-pub mac_of_fed : (alg : Algorithm) (k key bytes : List ℕ) (number sne : ℕ) (d : Segment) (ao : Ao) (flag : Bool) (b q : List ℕ)
-    → bytes ≡ mac alg k ((((b ++ pseudo d []) ++ header d 0 []) ++ covered flag d.area ao) ++ q)
-    → k ≡ key → number / 4294967296 ≡ sne → b ≡ put4 sne [] → q ≡ d.payload → bytes ≡ mac alg key (mac_input number d ao flag)
-mac_of_fed alg k key bytes number sne d ao flag b q e same is front back =
+pub mac_of_fed : (algorithm : Algorithm) (k key bytes : List ℕ) (number extension : ℕ) (d : Segment) (ao : Ao) (flag : Bool) (b q : List ℕ)
+    → bytes ≡ mac algorithm k ((((b ++ pseudo d []) ++ header d 0 []) ++ covered flag d.area ao) ++ q)
+    → k ≡ key → number / 4294967296 ≡ extension → b ≡ put4 extension [] → q ≡ d.payload → bytes ≡ mac algorithm key (mac_input number d ao flag)
+mac_of_fed algorithm k key bytes number extension d ao flag b q e same is front back =
     let fed : (((b ++ pseudo d []) ++ header d 0 []) ++ covered flag d.area ao) ++ q ≡ mac_input number d ao flag =
-    rw (front, back) (mac_input-fed number sne d ao flag is) in
-    e ∙ ap (λ f. mac alg k f) fed ∙ ap (λ l. mac alg l (mac_input number d ao flag)) same
+    rw (front, back) (mac_input-fed number extension d ao flag is) in
+    e ∙ ap (λ f. mac algorithm k f) fed ∙ ap (λ l. mac algorithm l (mac_input number d ao flag)) same

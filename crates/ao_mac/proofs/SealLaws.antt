@@ -98,26 +98,26 @@ input_blind number h m n payload flag e =
 one_is : (x : AoFound) (p q : Ao) → x ≡ One p → x ≡ One q → p ≡ q
 one_is x p q e f = cc
 
-mac_blind : (bytes : List ℕ) (alg : Algorithm) (key : List ℕ) (sne : ℕ) (h : Head) (m n payload : List ℕ) (flag : Bool) → length m ≡ length n
-    → IsMacOf bytes alg key sne (drafted h m payload) flag → IsMacOf bytes alg key sne (drafted h n payload) flag
-mac_blind bytes alg key sne h m n payload flag e is = λ number ao f found.
+mac_blind : (bytes : List ℕ) (algorithm : Algorithm) (key : List ℕ) (extension : ℕ) (h : Head) (m n payload : List ℕ) (flag : Bool) → length m ≡ length n
+    → IsMacOf bytes algorithm key extension (drafted h m payload) flag → IsMacOf bytes algorithm key extension (drafted h n payload) flag
+mac_blind bytes algorithm key extension h m n payload flag e is = λ number ao f found.
     let same : ao_in h n ≡ ao = one_is (find_ao (drafted h n payload).area) (ao_in h n) ao (drafted_ao h n payload) found in
     is number (ao_in h m) f (drafted_ao h m payload)
-    ∙ (ap (mac alg key) (input_blind number h m n payload flag e)
-    ∙ ap (λ (x : Ao). mac alg key (mac_input number (drafted h n payload) x flag)) same)
+    ∙ (ap (mac algorithm key) (input_blind number h m n payload flag e)
+    ∙ ap (λ (x : Ao). mac algorithm key (mac_input number (drafted h n payload) x flag)) same)
 
 -- ---- the MAC is put in
 
 -- the MAC that was computed over a draft stands in it
-pub sealed : (d : DatagramMut) (h : Head) (old payload rest w bytes : List ℕ) (s : Segment) (alg : Algorithm) (key : List ℕ) (sne : ℕ) (flag : Bool)
-    → Drafted d h w payload rest → w ≡ bytes → length w ≡ length old → s ≡ drafted h old payload → IsMacOf bytes alg key sne s flag
-    → IsSealed d h old payload rest alg key sne flag
-sealed d h old payload rest w bytes s alg key sne flag D same long is of =
-    let of_w : IsMacOf w alg key sne (drafted h old payload) flag =
-    subst (λ (x : List ℕ). IsMacOf x alg key sne (drafted h old payload) flag) (sym same) (subst (λ (x : Segment). IsMacOf bytes alg key sne x flag) is of) in
+pub sealed : (d : DatagramMut) (h : Head) (old payload rest w bytes : List ℕ) (s : Segment) (algorithm : Algorithm) (key : List ℕ) (extension : ℕ) (flag : Bool)
+    → Drafted d h w payload rest → w ≡ bytes → length w ≡ length old → s ≡ drafted h old payload → IsMacOf bytes algorithm key extension s flag
+    → IsSealed d h old payload rest algorithm key extension flag
+sealed d h old payload rest w bytes s algorithm key extension flag D same long is of =
+    let of_w : IsMacOf w algorithm key extension (drafted h old payload) flag =
+    subst (λ (x : List ℕ). IsMacOf x algorithm key extension (drafted h old payload) flag) (sym same) (subst (λ (x : Segment). IsMacOf bytes algorithm key extension x flag) is of) in
     record {
       mac = w;
       drafted_so = D;
       of_old = of_w;
-      of_new = mac_blind w alg key sne h old w payload flag (sym long) of_w;
+      of_new = mac_blind w algorithm key extension h old w payload flag (sym long) of_w;
     }

@@ -13,11 +13,11 @@ HasAo d = (ao : Ao) × (find_ao d.area ≡ One ao)
 
 -- the bytes are the MAC of the segment under the traffic key, for each number with this extension (RFC 5925, section 5.1)
 abbrev pub IsMacOf : List ℕ → Algorithm → List ℕ → ℕ → Segment → Bool → Type 0
-IsMacOf bytes alg key sne d with_options =
-    (number : ℕ) (ao : Ao) → number / ring ≡ sne → find_ao d.area ≡ One ao → bytes ≡ mac alg key (mac_input number d ao with_options)
+IsMacOf bytes algorithm key extension d with_options =
+    (number : ℕ) (ao : Ao) → number / ring ≡ extension → find_ao d.area ≡ One ao → bytes ≡ mac algorithm key (mac_input number d ao with_options)
 
 -- it is true exactly where the MACs of both segments are computed over the same bytes, for all numbers with these extensions (RFC 5925, section 5.1)
 abbrev pub IsSameInput : Bool → ℕ → Segment → Bool → ℕ → Segment → Bool → Type 0
-IsSameInput answer sne d with_options other_sne e other_with_options =
-    (number other_number : ℕ) (ao other_ao : Ao) → number / ring ≡ sne → other_number / ring ≡ other_sne → find_ao d.area ≡ One ao → find_ao e.area ≡ One other_ao
+IsSameInput answer extension d with_options other_extension e other_with_options =
+    (number other_number : ℕ) (ao other_ao : Ao) → number / ring ≡ extension → other_number / ring ≡ other_extension → find_ao d.area ≡ One ao → find_ao e.area ≡ One other_ao
     → (IsTrue answer ↔ (mac_input number d ao with_options ≡ mac_input other_number e other_ao other_with_options))

@@ -18,11 +18,11 @@ pub(crate) enum Hasher {
 }
 
 /// A hasher to which nothing was fed.
-pub(crate) fn under_key(alg: Algorithm, key: &[u8]) -> Hasher
-    requires { length key.now ≡ key_length alg }
-    ensures { StandsFor result alg key.now [] }
+pub(crate) fn under_key(algorithm: Algorithm, key: &[u8]) -> Hasher
+    requires { length key.now ≡ key_length algorithm }
+    ensures { StandsFor result algorithm key.now [] }
 {
-    match alg {
+    match algorithm {
         Algorithm::HmacSha1 => Hasher::Sha1(HmacSha1::new(key)),
         Algorithm::AesCmac => {
             let mut block = [0; 16];
@@ -35,7 +35,7 @@ pub(crate) fn under_key(alg: Algorithm, key: &[u8]) -> Hasher
 
 /// Feeds the next piece.
 pub(crate) fn feed(hasher: &mut Hasher, piece: &[u8])
-    ensures { (alg : Algorithm) (key fed : List ℕ) → StandsFor hasher.old alg key fed → StandsFor hasher.new alg key (fed ++ piece.now) }
+    ensures { (algorithm : Algorithm) (key fed : List ℕ) → StandsFor hasher.old algorithm key fed → StandsFor hasher.new algorithm key (fed ++ piece.now) }
 {
     match hasher {
         Hasher::Sha1(hmac) => hmac.update(piece),
@@ -46,7 +46,7 @@ pub(crate) fn feed(hasher: &mut Hasher, piece: &[u8])
 
 /// The MAC of all that was fed.
 pub(crate) fn finish(hasher: Hasher) -> MacBytes
-    ensures { (alg : Algorithm) (key fed : List ℕ) → StandsFor hasher alg key fed → result ≡ mac alg key fed }
+    ensures { (algorithm : Algorithm) (key fed : List ℕ) → StandsFor hasher algorithm key fed → result ≡ mac algorithm key fed }
 {
     match hasher {
         Hasher::Sha1(hmac) => MacBytes::front_of(hmac.finish(), 12),

@@ -24,8 +24,8 @@ const ZEROS: [u8; 40] = [0; 40];
 
 /// Feeds the pseudo-header of IPv4 (RFC 9293, section 3.1).
 fn feed_pseudo_v4(hasher: &mut Hasher, source: &[u8; 4], destination: &[u8; 4], length: u16)
-    ensures { (alg : Algorithm) (key fed : List ℕ) → StandsFor hasher.old alg key fed
-        → StandsFor hasher.new alg key (fed ++ (source.now ++ (destination.now ++ (0 ∷ 6 ∷ put2 length [])))) }
+    ensures { (algorithm : Algorithm) (key fed : List ℕ) → StandsFor hasher.old algorithm key fed
+        → StandsFor hasher.new algorithm key (fed ++ (source.now ++ (destination.now ++ (0 ∷ 6 ∷ put2 length [])))) }
 {
     feed(hasher, source);
     feed(hasher, destination);
@@ -34,8 +34,8 @@ fn feed_pseudo_v4(hasher: &mut Hasher, source: &[u8; 4], destination: &[u8; 4], 
 
 /// Feeds the pseudo-header of IPv6 (RFC 8200, section 8.1).
 fn feed_pseudo_v6(hasher: &mut Hasher, source: &[u8; 16], destination: &[u8; 16], length: u16)
-    ensures { (alg : Algorithm) (key fed : List ℕ) → StandsFor hasher.old alg key fed
-        → StandsFor hasher.new alg key (fed ++ (source.now ++ (destination.now ++ put4 length (0 ∷ 0 ∷ 0 ∷ 6 ∷ [])))) }
+    ensures { (algorithm : Algorithm) (key fed : List ℕ) → StandsFor hasher.old algorithm key fed
+        → StandsFor hasher.new algorithm key (fed ++ (source.now ++ (destination.now ++ put4 length (0 ∷ 0 ∷ 0 ∷ 6 ∷ [])))) }
 {
     feed(hasher, source);
     feed(hasher, destination);
@@ -57,7 +57,7 @@ pub(crate) fn tcp_length_of(datagram: &Datagram<'_>) -> u16
 
 /// Feeds the pseudo-header (RFC 9293, section 3.1; RFC 8200, section 8.1).
 fn feed_pseudo_header(hasher: &mut Hasher, datagram: &Datagram<'_>)
-    ensures { (alg : Algorithm) (key fed : List ℕ) → StandsFor hasher.old alg key fed → StandsFor hasher.new alg key (fed ++ pseudo datagram.now []) }
+    ensures { (algorithm : Algorithm) (key fed : List ℕ) → StandsFor hasher.old algorithm key fed → StandsFor hasher.new algorithm key (fed ++ pseudo datagram.now []) }
 {
     let length = tcp_length_of(datagram);
     match (datagram.source().address, datagram.destination().address) {
@@ -74,14 +74,14 @@ fn feed_pseudo_header(hasher: &mut Hasher, datagram: &Datagram<'_>)
 /// Feeds so many zero bytes.
 fn feed_zeros(hasher: &mut Hasher, count: usize)
     requires { count ≤ 40 }
-    ensures { (alg : Algorithm) (key fed : List ℕ) → StandsFor hasher.old alg key fed → StandsFor hasher.new alg key (fed ++ replicate count 0) }
+    ensures { (algorithm : Algorithm) (key fed : List ℕ) → StandsFor hasher.old algorithm key fed → StandsFor hasher.new algorithm key (fed ++ replicate count 0) }
 {
     feed(hasher, &ZEROS[..count]);
 }
 
 /// Feeds the TCP header with its checksum zero.
 fn feed_header(hasher: &mut Hasher, datagram: &Datagram<'_>)
-    ensures { (alg : Algorithm) (key fed : List ℕ) → StandsFor hasher.old alg key fed → StandsFor hasher.new alg key (fed ++ header datagram.now 0 []) }
+    ensures { (algorithm : Algorithm) (key fed : List ℕ) → StandsFor hasher.old algorithm key fed → StandsFor hasher.new algorithm key (fed ++ header datagram.now 0 []) }
 {
     let header = datagram.header();
     feed(hasher, &header[..16]);
@@ -93,8 +93,8 @@ fn feed_header(hasher: &mut Hasher, datagram: &Datagram<'_>)
 fn feed_options(hasher: &mut Hasher, area: &[u8], ao: AoOption<'_>, with_options: bool)
     requires within { ao.place + 4 + length ao.mac.now ≤ length area.now }
     requires room { length area.now ≤ 40 }
-    ensures { (alg : Algorithm) (key fed : List ℕ) → StandsFor hasher.old alg key fed
-        → StandsFor hasher.new alg key (fed ++ covered with_options area.now (view_ao ao.entry)) }
+    ensures { (algorithm : Algorithm) (key fed : List ℕ) → StandsFor hasher.old algorithm key fed
+        → StandsFor hasher.new algorithm key (fed ++ covered with_options area.now (view_ao ao.entry)) }
 {
     let length = ao.mac.len();
     let front = ao.place as usize + 4;
@@ -111,8 +111,8 @@ fn feed_options(hasher: &mut Hasher, area: &[u8], ao: AoOption<'_>, with_options
 /// Feeds the options of a segment that are covered.
 fn feed_covered(hasher: &mut Hasher, datagram: &Datagram<'_>, with_options: bool)
     requires { HasAo datagram.now }
-    ensures { (alg : Algorithm) (key fed : List ℕ) (ao : Ao) → StandsFor hasher.old alg key fed → find_ao datagram.now.area ≡ One ao
-        → StandsFor hasher.new alg key (fed ++ covered with_options datagram.now.area ao) }
+    ensures { (algorithm : Algorithm) (key fed : List ℕ) (ao : Ao) → StandsFor hasher.old algorithm key fed → find_ao datagram.now.area ≡ One ao
+        → StandsFor hasher.new algorithm key (fed ++ covered with_options datagram.now.area ao) }
 {
     // Its clause says that each field fits its place, on which the proof rests.
     let _length = datagram.length();

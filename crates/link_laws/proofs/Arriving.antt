@@ -28,7 +28,8 @@ use Rattle.endpoint_model.specs.declared.arrival.Arrival.{Arrival}
 use Rattle.endpoint_model.specs.declared.arrival.Arrival.TheVariants.{Bad, Foreign, Checksum, Closed as AtClosed, Refused, Reset}
 use Rattle.endpoint_model.specs.Arrivals.{Arrived, unmoved, heard, after_check, arrive_judged, number_expected, judged_by, from_peer, arrive_read, arrive}
 use Rattle.link_laws.proofs.Tests.{choose, not_false}
-use Rattle.link_laws.proofs.Sound.{waits, Sound, Later, later_refl, steady_later, steady_sound}
+use Rattle.link_laws.proofs.Phases.{waits}
+use Rattle.link_laws.proofs.Sound.{Sound, Later, later_refl, steady_later, steady_sound}
 use Rattle.link_laws.proofs.Moves.{MovedOk, after_check_ok}
 use Rattle.link_laws.proofs.Gains.{meant_is, Gains, UnheardIn, after_check_gains}
 use Rattle.link_laws.proofs.Whole.{Whole, after_check_whole}

@@ -1,17 +1,21 @@
 -- Lists of bytes: what is spelled of a segment that fits, what a MAC is computed over, a context.
-use Rattle.std.proofs.Common.{◌≡◌, ℕ, zero, suc, ◌+◌, ◌*◌, ◌/◌, ◌%◌, ◌<◌, ◌≤◌, Bool, true, false, List, [], ◌∷◌, ◌++◌, length, take, drop, replicate, arith}
+use Rattle.std.proofs.Common.{ℕ, zero, suc, ◌+◌, ◌/◌, ◌<◌, Bool, true, false, List, [], ◌∷◌, ◌++◌, length, take, drop, replicate, arith}
+use Rattle.std.specs.Prelude.{slice_set, slice_index, bit_xor}
+use Rattle.std.proofs.lemmas.Nat.{xor_of_8}
 use Rattle.ao_base.specs.declared.address.Address.{Address}
 use Rattle.ao_base.specs.declared.address.Address.TheVariants.{V4, V6}
 use Rattle.ao_base.specs.declared.address.Pair.{Pair}
 use Rattle.segment_model.specs.Bytes.{put2, put4, ring}
 use Rattle.segment_model.specs.Sockets.{octets}
 use Rattle.segment_model.specs.Options.{Ao}
-use Rattle.segment_model.specs.Segments.{IpHeader, Ipv4, Ipv6, Segment, pseudo_of, pseudo, header, tcp_bytes, spell_as, spell}
-use Rattle.segment_model.specs.Spelling.{AreBytes, IsV4, IsV6, FitsIp, Fits}
+use Rattle.segment_model.specs.Segments.{IpHeader, Ipv4, Ipv6, Segment, complement_of, pseudo_of, pseudo, header, tcp_bytes, spell_as, spell}
+use Rattle.segment_model.specs.Spelling.{AreBytes, IsV4, IsV6, FitsIp, Fits, ip_length, with_checksum as with_sum, pseudo_in, with_right_checksum}
 use Rattle.segment_model.proofs.ByteLaws.{bytes_drop, bytes_take, nil_bytes}
 use Rattle.mac_model.specs.Contexts.{context}
 use Rattle.mac_model.specs.MacInput.{covered, mac_input}
+use Rattle.link_model.specs.Alterations.{masked, place_in, altered}
 use Rattle.link_model.specs.Laws.{OneFamily}
+use Rattle.link_laws.proofs.Tests.{choose}
 
 -- numbers below 256, as a record, so that the list is told by the fact
 pub record Byted (xs : List ℕ) : Type 0 where
@@ -127,3 +131,26 @@ unfolding context
 context_bytes pair i j f =
     let b = family_bytes pair.local.address pair.remote.address f.family in
     (join _ _ b.0 (join _ _ b.1 (two pair.local.port _ (two pair.remote.port _ (four i _ (four j [] nothing)))))).at
+
+-- ---- an altered copy
+
+set_bytes : (xs : List ℕ) (i v : ℕ) → v < 256 → Byted xs → Byted (slice_set xs i v)
+set_bytes [] i v low h = h
+set_bytes (x ∷ xs) zero v low h = cons v xs low (record { at = λ j. h.at (suc j) })
+set_bytes (x ∷ xs) (suc i) v low h = cons x (slice_set xs i v) (h.at 0) (set_bytes xs i v low (record { at = λ j. h.at (suc j) }))
+
+masked_bytes : (b : List ℕ) (i mask : ℕ) → mask < 256 → Byted b → Byted (masked b i mask)
+masked_bytes b i mask low h = set_bytes b i (bit_xor (slice_index b i) mask) (xor_of_8 (slice_index b i) mask (h.at i) low) h
+
+summed : (b : List ℕ) → Byted b → Byted (with_right_checksum b)
+unfolding with_right_checksum
+summed b h =
+    let t = drop (ip_length b) b in
+    let tb = dropped b (ip_length b) h in
+    join (take (ip_length b) b) _ (taken b (ip_length b) h) (join (take 16 t) _ (taken t 16 tb) (two (complement_of (pseudo_in b (with_sum t 0))) (drop 18 t) (dropped t 18 tb)))
+
+pub altered_bytes : (b : List ℕ) (place mask : ℕ) (fix : Bool) → mask < 256 → Byted b → Byted (altered b place mask fix)
+unfolding altered
+altered_bytes b place mask fix low h =
+    let copy = masked_bytes b (place_in b place) mask low h in
+    choose Byted fix (with_right_checksum (masked b (place_in b place) mask)) (masked b (place_in b place) mask) (λ t. summed (masked b (place_in b place) mask) copy) (λ t. copy)

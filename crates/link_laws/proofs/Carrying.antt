@@ -1,21 +1,26 @@
 -- What the segments that an end makes carry, and the receiving half after them.
-use Rattle.std.proofs.Common.{◌≡◌, ℕ, ◌+◌, ◌-◌, ◌≤◌, ◌==◌, min, Bool, true, false, not, ◌&&◌, nat_lt, drop, slice_get, Option, Some, None, ◌⊎◌, inl, inr, refl, arith}
+use Rattle.std.proofs.Common.{◌≡◌, ℕ, ◌+◌, ◌-◌, ◌≤◌, ◌==◌, min, true, false, not, ◌&&◌, nat_lt, drop, slice_get, Option, Some, None, ◌⊎◌, inl, inr, refl, sym, subst, arith, List}
 use Rattle.std.specs.Prelude.{⊤}
-use Rattle.ao_base.specs.declared.address.Pair.{Pair}
 use Rattle.segment_model.specs.Segments.{SYN, ACK}
 use Rattle.segment_model.proofs.Fields.{and_tells, eqb_is}
-use Rattle.endpoint_model.specs.declared.phase.Phase.{Phase}
-use Rattle.endpoint_model.specs.declared.phase.Phase.TheVariants.{Listen, SynSent, SynReceived, Established, FinWait1, FinWait2, CloseWait, Closing, LastAck, TimeWait, Closed}
 use Rattle.endpoint_model.specs.States.{EndState, given_end}
 use Rattle.endpoint_model.specs.Emissions.{Draft, is_sending, is_silent, is_syn_sent, is_syn_received, unsent, slice_at, rst_draft, syn_draft, syn_ack_draft, data_draft, again_draft, fin_draft, fin_again_draft, ack_draft, sends_data, sends_fin, fitting, to_emit, resends, unacknowledged, is_blocked, probe, to_resend, sets}
 use Rattle.link_laws.proofs.Tests.{choose, not_true}
 use Rattle.link_laws.proofs.Drafts.{sends_data_says, sends_fin_says}
-use Rattle.link_laws.proofs.Lists.{slice_get-take, slice_get-drop}
-use Rattle.link_laws.proofs.Whole.{open_now, Whole}
+use Rattle.link_laws.proofs.Lists.{slice_get-append, slice_get-take, slice_get-drop}
+use Rattle.link_laws.proofs.Phases.{sending_open, sending_speaks, resends_open, resends_speaks, syn_received_speaks}
+use Rattle.link_laws.proofs.Sound.{Later}
+use Rattle.link_laws.proofs.Whole.{Whole}
 
 -- the session was given this byte at this number
 abbrev pub GivenAt : EndState → ℕ → ℕ → Type 0
 GivenAt s p b = (j : ℕ) × (p ≡ s.isn + 1 + j) × (slice_get s.given j ≡ Some b)
+
+-- what was given stays so
+pub given-later : (old new : EndState) (p b : ℕ) → Later old new → GivenAt old p b → GivenAt new p b
+given-later old new p b l (j, at, byte) =
+    let same = l.same_isn in
+    (j, omega arith, subst (λ (g : List ℕ). slice_get g j ≡ Some b) (sym l.grown.1) (slice_get-append old.given l.grown.0 j b byte))
 
 -- the context of a segment with these flags is known: for SYN without ACK always, else with the peer's initial sequence number
 abbrev pub TellsContext : ℕ → Option ℕ → Type 0
@@ -34,45 +39,6 @@ pub record Carries (s : EndState) (out : Draft) : Type 0 where
 abbrev pub MayCarry : EndState → Option Draft → Type 0
 MayCarry s None = ⊤
 MayCarry s (Some out) = Carries s out
-
-sending_open : (phase : Phase) → is_sending phase ≡ true → (open_now phase ≡ true) × (is_silent phase ≡ false)
-sending_open Established e = (refl, refl)
-sending_open CloseWait e = (refl, refl)
-sending_open Listen e = absurd (cc)
-sending_open SynSent e = absurd (cc)
-sending_open SynReceived e = absurd (cc)
-sending_open FinWait1 e = absurd (cc)
-sending_open FinWait2 e = absurd (cc)
-sending_open Closing e = absurd (cc)
-sending_open LastAck e = absurd (cc)
-sending_open TimeWait e = absurd (cc)
-sending_open Closed e = absurd (cc)
-
-resends_open : (phase : Phase) → resends phase ≡ true → (open_now phase ≡ true) × (is_silent phase ≡ false)
-resends_open Established e = (refl, refl)
-resends_open CloseWait e = (refl, refl)
-resends_open FinWait1 e = (refl, refl)
-resends_open Closing e = (refl, refl)
-resends_open LastAck e = (refl, refl)
-resends_open Listen e = absurd (cc)
-resends_open SynSent e = absurd (cc)
-resends_open SynReceived e = absurd (cc)
-resends_open FinWait2 e = absurd (cc)
-resends_open TimeWait e = absurd (cc)
-resends_open Closed e = absurd (cc)
-
-received_speaks : (phase : Phase) → is_syn_received phase ≡ true → is_silent phase ≡ false
-received_speaks SynReceived e = refl
-received_speaks Established e = absurd (cc)
-received_speaks CloseWait e = absurd (cc)
-received_speaks FinWait1 e = absurd (cc)
-received_speaks Closing e = absurd (cc)
-received_speaks LastAck e = absurd (cc)
-received_speaks Listen e = absurd (cc)
-received_speaks SynSent e = absurd (cc)
-received_speaks FinWait2 e = absurd (cc)
-received_speaks TimeWait e = absurd (cc)
-received_speaks Closed e = absurd (cc)
 
 -- without payload, in a state with the same receiving half
 module _ (s : EndState) (h : Whole s) where
@@ -118,7 +84,7 @@ module _ (s : EndState) (h : Whole s) where
   syn_ack_carries next top phase =
       record {
         whole = next_whole next top;
-        context = inr (h.ends.known (received_speaks s.phase phase));
+        context = inr (h.ends.known (syn_received_speaks s.phase phase));
         carried = λ i b e. absurd (cc);
         same_received = refl;
         same_fin = refl;
@@ -134,7 +100,7 @@ module _ (s : EndState) (h : Whole s) where
   fin_again_carries phase =
       record {
         whole = h;
-        context = inr (h.ends.known (resends_open s.phase phase).1);
+        context = inr (h.ends.known (resends_speaks s.phase phase));
         carried = λ i b e. absurd (cc);
         same_received = refl;
         same_fin = refl;
@@ -148,12 +114,11 @@ slice_carried s n count low i b e =
 
 data_carries : (s : EndState) (count : ℕ) → is_sending s.phase ≡ true → Whole s → Carries s (data_draft s count)
 data_carries s count phase h =
-    let o = sending_open s.phase phase in
-    let begun = h.ends.begun o.0 in
+    let begun = h.ends.begun (sending_open s.phase phase) in
     let una = h.ends.una_high in
     record {
       whole = next_whole s h (s.next + count) (omega arith);
-      context = inr (h.ends.known o.1);
+      context = inr (h.ends.known (sending_speaks s.phase phase));
       carried = slice_carried s s.next count (omega arith);
       same_received = refl;
       same_fin = refl;
@@ -163,11 +128,10 @@ data_carries s count phase h =
 
 again_carries : (s : EndState) (count : ℕ) → resends s.phase ≡ true → Whole s → Carries s (again_draft s count)
 again_carries s count phase h =
-    let o = resends_open s.phase phase in
     record {
       whole = h;
-      context = inr (h.ends.known o.1);
-      carried = slice_carried s s.una count (h.ends.begun o.0);
+      context = inr (h.ends.known (resends_speaks s.phase phase));
+      carried = slice_carried s s.una count (h.ends.begun (resends_open s.phase phase));
       same_received = refl;
       same_fin = refl;
       same_una = refl;
@@ -176,16 +140,16 @@ again_carries s count phase h =
 
 fin_carries : (s : EndState) → is_sending s.phase ≡ true → Whole s → Carries s (fin_draft s)
 fin_carries s phase h =
-    let o = sending_open s.phase phase in
+    let speaks = sending_speaks s.phase phase in
     let una = h.ends.una_high in
     record {
       whole = record {
         stream = h.stream;
         missing = h.missing;
         moved = h.moved;
-        ends = record { una_low = h.ends.una_low; una_high = omega arith; begun = λ e. h.ends.begun o.0; known = λ e. h.ends.known o.1; resets = h.ends.resets };
+        ends = record { una_low = h.ends.una_low; una_high = omega arith; begun = λ e. h.ends.begun (sending_open s.phase phase); known = λ e. h.ends.known speaks; resets = h.ends.resets };
       };
-      context = inr (h.ends.known o.1);
+      context = inr (h.ends.known speaks);
       carried = λ i b e. absurd (cc);
       same_received = refl;
       same_fin = refl;

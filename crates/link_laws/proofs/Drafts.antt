@@ -4,17 +4,16 @@ use Rattle.std.specs.Prelude.{⊤, is_some, if◌then◌else◌}
 use Rattle.ao_base.specs.declared.address.Address.{Address}
 use Rattle.ao_base.specs.declared.address.Address.TheVariants.{V4, V6}
 use Rattle.ao_base.specs.declared.address.Pair.{Pair}
-use Rattle.segment_model.specs.Segments.{bit_of, FIN, SYN, RST, ACK}
+use Rattle.segment_model.specs.Segments.{bit_of, FIN, SYN, RST}
 use Rattle.segment_model.specs.Spelling.{AreBytes}
 use Rattle.segment_model.proofs.ByteLaws.{bytes_drop, bytes_take, nil_bytes}
 use Rattle.segment_model.proofs.Fields.{and_tells, eqb_is, lt_is, lt_not}
-use Rattle.endpoint_model.specs.declared.phase.Phase.{Phase}
-use Rattle.endpoint_model.specs.declared.phase.Phase.TheVariants.{Listen, SynSent, SynReceived, Established, FinWait1, FinWait2, CloseWait, Closing, LastAck, TimeWait, Closed}
 use Rattle.endpoint_model.specs.States.{EndState, own_mss, given_end}
 use Rattle.key_model.specs.Coordination.{Sending}
-use Rattle.endpoint_model.specs.Emissions.{Draft, is_sending, is_silent, is_syn_sent, is_syn_received, unsent, slice_at, fin_sent, rst_draft, syn_draft, syn_ack_draft, data_draft, again_draft, fin_draft, fin_again_draft, ack_draft, window_end, sends_data, sends_fin, fitting, to_emit, resends, unacknowledged, is_blocked, probe, to_resend, sets, most_bytes}
-use Rattle.link_laws.proofs.Tests.{choose, by_bool, and_false}
-use Rattle.link_laws.proofs.Sound.{fin_gone, fin_made, waits, Sound, Later, later_refl}
+use Rattle.endpoint_model.specs.Emissions.{Draft, is_sending, is_silent, is_syn_sent, is_syn_received, unsent, slice_at, rst_draft, syn_draft, syn_ack_draft, data_draft, again_draft, fin_draft, fin_again_draft, ack_draft, window_end, sends_data, sends_fin, fitting, to_emit, resends, unacknowledged, is_blocked, probe, to_resend, sets, most_bytes}
+use Rattle.link_laws.proofs.Tests.{choose, by_bool}
+use Rattle.link_laws.proofs.Phases.{fin_gone, sending_unfinished, fin_sent_gone, fin_sent_knows, resends_made, syn_sent_unfinished, syn_received_unfinished}
+use Rattle.link_laws.proofs.Sound.{Sound, Later, later_refl}
 
 -- what holds of a segment that an end is about to make
 pub record DraftOk (s : EndState) (out : Draft) : Type 0 where
@@ -168,52 +167,10 @@ again_ok s count fits most h =
       long = omega arith;
     }
 
--- a phase in which data is sent has made no FIN
-sending_open : (phase : Phase) → is_sending phase ≡ true → fin_gone phase ≡ false
-sending_open Established e = refl
-sending_open CloseWait e = refl
-sending_open Listen e = absurd (cc)
-sending_open SynSent e = absurd (cc)
-sending_open SynReceived e = absurd (cc)
-sending_open FinWait1 e = absurd (cc)
-sending_open FinWait2 e = absurd (cc)
-sending_open Closing e = absurd (cc)
-sending_open LastAck e = absurd (cc)
-sending_open TimeWait e = absurd (cc)
-sending_open Closed e = absurd (cc)
-
-after_fin : (phase : Phase) → is_sending phase ≡ true → (fin_gone (fin_sent phase) ≡ true) × (waits (fin_sent phase) ≡ false)
-after_fin Established e = (refl, refl)
-after_fin CloseWait e = (refl, refl)
-after_fin Listen e = absurd (cc)
-after_fin SynSent e = absurd (cc)
-after_fin SynReceived e = absurd (cc)
-after_fin FinWait1 e = absurd (cc)
-after_fin FinWait2 e = absurd (cc)
-after_fin Closing e = absurd (cc)
-after_fin LastAck e = absurd (cc)
-after_fin TimeWait e = absurd (cc)
-after_fin Closed e = absurd (cc)
-
--- what may be sent again: where the FIN is among it, it was made
-resends_fin : (phase : Phase) → resends phase ≡ true → fin_gone phase ≡ true → fin_made phase ≡ true
-resends_fin FinWait1 e g = refl
-resends_fin Closing e g = refl
-resends_fin LastAck e g = refl
-resends_fin Established e g = absurd (cc)
-resends_fin CloseWait e g = absurd (cc)
-resends_fin Listen e g = absurd (cc)
-resends_fin SynSent e g = absurd (cc)
-resends_fin SynReceived e g = absurd (cc)
-resends_fin FinWait2 e g = absurd (cc)
-resends_fin TimeWait e g = absurd (cc)
-resends_fin Closed e g = absurd (cc)
-
 fin_ok : (s : EndState) → is_sending s.phase ≡ true → s.closing ≡ true → given_end s ≤ s.next → Sound s → DraftOk s (fin_draft s)
 fin_ok s phase closing all h =
     let few = h.few in
-    let top = h.unfinished (sending_open s.phase phase) in
-    let a = after_fin s.phase phase in
+    let top = h.unfinished (sending_unfinished s.phase phase) in
     record {
       later = later_refl s;
       sound = record {
@@ -222,8 +179,8 @@ fin_ok s phase closing all h =
         few = h.few;
         bytes = h.bytes;
         next_high = omega arith;
-        unfinished = λ e. let no = a.0 in absurd (cc);
-        unknown = λ e. let no = a.1 in absurd (cc);
+        unfinished = λ e. let no = fin_sent_gone s.phase phase in absurd (cc);
+        unknown = λ e. let no = fin_sent_knows s.phase phase in absurd (cc);
         closed = λ e. closing;
         reset = h.reset;
       };
@@ -240,7 +197,7 @@ fin_again_ok : (s : EndState) → resends s.phase ≡ true → s.una < s.next �
 fin_again_ok s phase sent past h =
     let few = h.few in
     let top = h.next_high in
-    let closing : s.closing ≡ true = by_bool (s.closing ≡ true) (fin_gone s.phase) (λ g. h.closed (resends_fin s.phase phase g)) (λ g. let u = h.unfinished g in absurd (omega arith)) in
+    let closing : s.closing ≡ true = by_bool (s.closing ≡ true) (fin_gone s.phase) (λ g. h.closed (resends_made s.phase phase g)) (λ g. let u = h.unfinished g in absurd (omega arith)) in
     record {
       later = later_refl s;
       sound = h;
@@ -275,33 +232,6 @@ emit_ok s most low h =
     choose P (sends_fin s) (Some (fin_draft s)) _ (λ t. let says = sends_fin_says s t in let none = says.2 in fin_ok s says.0 says.1 (omega arith) h) (λ e5.
     choose P (s.ack_owed && not (is_silent s.phase)) (Some (ack_draft s)) None (λ t. ack_ok s h) (λ t. tt))))))
 
--- in the phases of a handshake no FIN was made
-syn_sent_open : (phase : Phase) → is_syn_sent phase ≡ true → fin_gone phase ≡ false
-syn_sent_open SynSent e = refl
-syn_sent_open Established e = absurd (cc)
-syn_sent_open CloseWait e = absurd (cc)
-syn_sent_open Listen e = absurd (cc)
-syn_sent_open SynReceived e = absurd (cc)
-syn_sent_open FinWait1 e = absurd (cc)
-syn_sent_open FinWait2 e = absurd (cc)
-syn_sent_open Closing e = absurd (cc)
-syn_sent_open LastAck e = absurd (cc)
-syn_sent_open TimeWait e = absurd (cc)
-syn_sent_open Closed e = absurd (cc)
-
-syn_received_open : (phase : Phase) → is_syn_received phase ≡ true → fin_gone phase ≡ false
-syn_received_open SynReceived e = refl
-syn_received_open Established e = absurd (cc)
-syn_received_open CloseWait e = absurd (cc)
-syn_received_open Listen e = absurd (cc)
-syn_received_open SynSent e = absurd (cc)
-syn_received_open FinWait1 e = absurd (cc)
-syn_received_open FinWait2 e = absurd (cc)
-syn_received_open Closing e = absurd (cc)
-syn_received_open LastAck e = absurd (cc)
-syn_received_open TimeWait e = absurd (cc)
-syn_received_open Closed e = absurd (cc)
-
 unacknowledged_ok : (s : EndState) (most : ℕ) → most ≤ 1460 → resends s.phase ≡ true → s.una < s.next → Sound s → DraftOk s (unacknowledged s most)
 unacknowledged_ok s most low phase sent h =
     choose (DraftOk s) (nat_lt s.una (given_end s)) (again_draft s (min (s.next - s.una) most)) (fin_again_draft s)
@@ -321,9 +251,9 @@ unfolding to_resend
 resend_ok s most low h =
     let P = MayDraft s in
     choose P (is_syn_sent s.phase && nat_lt s.isn s.next) (Some (syn_draft s s)) _
-    (λ t. syn_ok s s.next (h.unfinished (syn_sent_open s.phase (and_tells (is_syn_sent s.phase) (nat_lt s.isn s.next) t).0)) h) (λ e1.
+    (λ t. syn_ok s s.next (h.unfinished (syn_sent_unfinished s.phase (and_tells (is_syn_sent s.phase) (nat_lt s.isn s.next) t).0)) h) (λ e1.
     choose P (is_syn_received s.phase && nat_lt s.isn s.next) (Some (syn_ack_draft s s)) _
-    (λ t. syn_ack_ok s s.next (h.unfinished (syn_received_open s.phase (and_tells (is_syn_received s.phase) (nat_lt s.isn s.next) t).0)) h) (λ e2.
+    (λ t. syn_ack_ok s s.next (h.unfinished (syn_received_unfinished s.phase (and_tells (is_syn_received s.phase) (nat_lt s.isn s.next) t).0)) h) (λ e2.
     choose P (resends s.phase && nat_lt s.una s.next) (Some (unacknowledged s most)) _
     (λ t. let one = and_tells (resends s.phase) (nat_lt s.una s.next) t in unacknowledged_ok s most low one.0 (lt_is s.una s.next one.1) h) (λ e3.
     choose P (is_blocked s) (probe s) None (λ t. probe_ok s t h) (λ t. tt))))

@@ -1,5 +1,5 @@
 -- Every made entry is as made.
-use Rattle.std.proofs.Common.{◌≡◌, ℕ, zero, suc, ◌+◌, ◌-◌, ◌/◌, ◌%◌, ◌==◌, Bool, true, false, List, [], ◌∷◌, ◌++◌, length, take, drop, slice_get, Option, Some, None, if◌then◌else◌, refl, sym, ap, ◌∙◌, subst, arith}
+use Rattle.std.proofs.Common.{◌≡◌, ℕ, zero, suc, ◌+◌, ◌-◌, ◌/◌, ◌%◌, ◌==◌, Bool, true, false, List, [], ◌∷◌, length, take, drop, slice_get, Option, Some, None, if◌then◌else◌, refl, sym, ap, ◌∙◌, subst, arith}
 use Rattle.std.specs.List.{AllByRecursion}
 use Rattle.ao_base.specs.Algorithms.{mac_length_of}
 use Rattle.segment_model.proofs.Fields.{some_is}
@@ -13,15 +13,14 @@ use Rattle.key_model.proofs.SendingLaws.{chosen}
 use Rattle.endpoint_model.specs.States.{EndState}
 use Rattle.endpoint_model.specs.Emissions.{slice_at, sets, written, blank, own_ao}
 use Rattle.segment_model.specs.Spelling.{finished}
-use Rattle.link_laws.proofs.Sound.{Later}
-use Rattle.link_laws.proofs.Carrying.{GivenAt}
+use Rattle.link_laws.proofs.Carrying.{GivenAt, given-later}
 use Rattle.link_laws.proofs.Written.{area_ao, same_input, same_context}
-use Rattle.link_model.specs.Entries.{StandsIn, AcknowledgesAs, AsMade, AllMade, Carried}
+use Rattle.link_model.specs.Entries.{StandsIn, AcknowledgesAs, FromRow, Written, Protected, Placed, AsMade, AllMade, Carried}
 use Rattle.link_model.specs.declared.event.Event.{Event}
 use Rattle.link_model.specs.Laws.{SetupFits, EventFits}
-use Rattle.link_model.specs.Worlds.{Setup, pair_of, Made, Happening, Making, Coming, World, side}
+use Rattle.link_model.specs.Worlds.{Setup, pair_of, Session, Made, Happening, Making, Coming, World, side}
 use Rattle.link_model.specs.Runs.{run}
-use Rattle.link_laws.proofs.Invariant.{MadeOk, AllMadeOk, mac_in, wired}
+use Rattle.link_laws.proofs.Invariant.{MadeBy, MadeOk, AllMadeOk, mac_in, wired}
 use Rattle.link_laws.proofs.Running.{run_inv}
 use Rattle.segment_model.specs.Bytes.{ring}
 
@@ -82,17 +81,6 @@ slice_is t n (x ∷ payload) carried =
     let index : given.0 ≡ n - (t.isn + 1) + i = omega arith in
     subst (λ (j : ℕ). slice_get t.given j ≡ Some b) index given.2))
 
--- what is got from the beginning of a list is got from a longer one
-get-append : (xs ys : List ℕ) (k b : ℕ) → slice_get xs k ≡ Some b → slice_get (xs ++ ys) k ≡ Some b
-get-append [] ys k b e = absurd (cc)
-get-append (x ∷ xs) ys zero b e = e
-get-append (x ∷ xs) ys (suc k) b e = get-append xs ys k b e
-
-given-later : (old new : EndState) (p b : ℕ) → Later old new → GivenAt old p b → GivenAt new p b
-given-later old new p b l (j, at, byte) =
-    let same = l.same_isn in
-    (j, omega arith, subst (λ (g : List ℕ). slice_get g j ≡ Some b) (sym l.grown.1) (get-append old.given l.grown.0 j b byte))
-
 -- what a segment with this flag or without it acknowledges
 acknowledges_as : (b : Bool) (a : ℕ) (d : Segment) → has ACK d ≡ b → d.acknowledgement ≡ (if b then a % ring else 0) → AcknowledgesAs (if b then Some a else None) d
 acknowledges_as true a d flag is = (flag, is)
@@ -102,71 +90,92 @@ told_is : (b : Bool) (x a : ℕ) → (if b then Some x else None) ≡ Some a →
 told_is true x a e = sym (some_is x a e)
 told_is false x a e = absurd (cc)
 
-as_made_by : (setup : Setup) (w : World) (m : Made) → SetupFits setup → MadeOk setup (side w m.maker).sessions m → AsMade setup w m
-as_made_by setup w m fits ok =
-    let h = ok.by in
-    let t = ok.session.state in
-    let s = h.state in
-    let out = h.draft in
-    let pair = pair_of setup m.maker in
-    let wire = wired setup t m h fits in
-    let the_mac = mac_in setup t m h in
-    let d = finished (written pair s out h.sending the_mac) in
-    let segment : m.emission.segment ≡ d = ap (λ x. x.segment) h.emission in
-    let number : m.emission.number ≡ out.number = ap (λ x. x.number) h.emission in
-    let using : m.emission.sending ≡ h.sending = ap (λ x. x.sending) h.emission in
-    let context_is : m.emission.context ≡ h.context = ap (λ x. x.context) h.emission in
-    let row = chosen (StandsIn m.rows) s.current m.rows pair m.clock h.sending (all_stand m.rows) h.picked in
-    let ao = own_ao out h.sending the_mac in
-    let flags : m.emission.segment.flags ≡ out.flags = ap (λ x. x.segment.flags) h.emission in
-    let payload : m.emission.segment.payload ≡ out.payload = ap (λ x. x.segment.payload) h.emission in
-    let small = h.drafted.small in
-    let long = wire.mac_long ∙ ap (λ x. mac_length_of x.row.algorithm) using in
-    let carried : (i b : ℕ) → slice_get out.payload i ≡ Some b → GivenAt t (out.number + i) b = λ i b e. given-later s t (out.number + i) b h.later (h.carries.carried i b e) in
-    record {
-      session = ok.session;
-      found = ok.found;
-      row = record {
-        stands = subst (λ x. StandsIn m.rows x.row) (sym using) row.of;
-        may = ap (λ x. sendable pair m.clock x.row) using ∙ row.may;
-        key_id = ap (λ x. x.key_id) using ∙ row.key_id ∙ ap (λ x. x.row.send_id) (sym using);
-      };
-      written = record {
-        state = s;
-        draft = out;
+-- what a session made in its state then, and kept since
+module _ (setup : Setup) (session : Session) (m : Made) (h : MadeBy setup session.state m) where
+  made_row : FromRow setup m
+  made_row =
+      let pair = pair_of setup m.maker in
+      let sending : m.emission.sending ≡ h.sending = ap (λ x. x.sending) h.emission in
+      let row = chosen (StandsIn m.rows) h.state.current m.rows pair m.clock h.sending (all_stand m.rows) h.picked in
+      record {
+        stands = subst (λ x. StandsIn m.rows x.row) (sym sending) row.of;
+        may = ap (λ x. sendable pair m.clock x.row) sending ∙ row.may;
+        key_id = ap (λ x. x.key_id) sending ∙ row.key_id ∙ ap (λ x. x.row.send_id) (sym sending);
+      }
+
+  made_written : Written setup m
+  made_written =
+      let pair = pair_of setup m.maker in
+      let the_mac = mac_in setup session.state m h in
+      let d = finished (written pair h.state h.draft h.sending the_mac) in
+      record {
+        state = h.state;
+        draft = h.draft;
         mac = the_mac;
-        form = segment ∙ ap (λ x. finished (written pair s out x the_mac)) (sym using);
-        flags = ap (λ x. x.flags) h.emission ∙ sym flags;
-        acknowledged = subst (λ x. AcknowledgesAs x.acknowledged x.segment) (sym h.emission) (acknowledges_as (sets out.flags ACK) s.expected d refl refl);
-      };
-      wire = record {
+        form = ap (λ x. x.segment) h.emission ∙ ap (λ x. finished (written pair h.state h.draft x.sending the_mac)) (sym h.emission);
+        flags = ap (λ x. x.flags) h.emission ∙ ap (λ x. x.segment.flags) (sym h.emission);
+        acknowledged = subst (λ x. AcknowledgesAs x.acknowledged x.segment) (sym h.emission) (acknowledges_as (sets h.draft.flags ACK) h.state.expected d refl refl);
+      }
+
+  made_context : context_of m.emission.segment (Some session.state.isn) session.state.peer_isn ≡ Some m.emission.context
+  made_context =
+      let pair = pair_of setup m.maker in
+      let s = h.state in
+      let own = session.state.isn in
+      let the_mac = mac_in setup session.state m h in
+      context-later m.emission.segment own s.peer_isn session.state.peer_isn m.emission.context h.later.peer
+      (ap (λ x. context_of x.segment (Some own) s.peer_isn) h.emission ∙ same_context pair s h.draft h.sending the_mac (Some own) s.peer_isn
+      ∙ ap (λ (k : ℕ). context_of (blank pair s h.draft h.sending) (Some k) s.peer_isn) h.later.same_isn ∙ h.known ∙ ap (λ x. Some x.context) (sym h.emission))
+
+  made_wire : SetupFits setup → Protected m session
+  made_wire fits =
+      let pair = pair_of setup m.maker in
+      let wire = wired setup session.state m h fits in
+      let the_mac = mac_in setup session.state m h in
+      let ao = own_ao h.draft h.sending the_mac in
+      let long = wire.mac_long ∙ ap (λ x. mac_length_of x.sending.row.algorithm) h.emission in
+      let flag = h.sending.row.with_options in
+      record {
         fits = wire.fits;
         good = wire.right;
         bytes = h.bytes;
-        context =
-            context-later m.emission.segment t.isn s.peer_isn t.peer_isn m.emission.context h.later.peer
-            (ap (λ x. context_of x (Some t.isn) s.peer_isn) segment ∙ same_context pair s out h.sending the_mac (Some t.isn) s.peer_isn
-            ∙ ap (λ (k : ℕ). context_of (blank pair s out h.sending) (Some k) s.peer_isn) h.later.same_isn ∙ h.known ∙ ap (λ c. Some c) (sym context_is));
+        context = made_context;
         ao = ao;
-        option = ap (λ x. find_ao x.area) segment ∙ area_ao pair (sets out.flags SYN) h.sending the_mac;
-        key_id = ap (λ x. x.key_id) (sym using);
-        rnext_key_id = ap (λ x. x.rnext_key_id) (sym using);
+        option = ap (λ x. find_ao x.segment.area) h.emission ∙ area_ao pair (sets h.draft.flags SYN) h.sending the_mac;
+        key_id = ap (λ x. x.sending.key_id) (sym h.emission);
+        rnext_key_id = ap (λ x. x.sending.rnext_key_id) (sym h.emission);
         input =
-            ap (λ x. x.input) h.emission ∙ sym (same_input pair s out h.sending the_mac out.number h.sending.row.with_options long)
-            ∙ ap (λ (k : ℕ). mac_input k d ao h.sending.row.with_options) (sym number) ∙ ap (λ x. mac_input m.emission.number x ao h.sending.row.with_options) (sym segment)
-            ∙ ap (λ x. mac_input m.emission.number m.emission.segment ao x.row.with_options) (sym using);
-        mac = ap (λ e. mac e.sending.row.algorithm (traffic_key e.sending.row.algorithm e.sending.row.master e.context) e.input) (sym h.emission);
-      };
-      place = record {
-        sequence = ap (λ x. x.sequence) segment ∙ ap (λ (k : ℕ). k % ring) (sym number);
+            ap (λ x. x.input) h.emission ∙ sym (same_input pair h.state h.draft h.sending the_mac h.draft.number flag long)
+            ∙ ap (λ x. mac_input x.number x.segment ao x.sending.row.with_options) (sym h.emission);
+        mac = ap (λ x. mac x.sending.row.algorithm (traffic_key x.sending.row.algorithm x.sending.row.master x.context) x.input) (sym h.emission);
+      }
+
+  made_payload : m.emission.segment.payload ≡ slice_at session.state m.emission.number (length m.emission.segment.payload)
+  made_payload =
+      let t = session.state in
+      let out = h.draft in
+      let carried : (i b : ℕ) → slice_get out.payload i ≡ Some b → GivenAt t (out.number + i) b =
+      λ i b e. given-later h.state t (out.number + i) b h.later (h.carries.carried i b e) in
+      ap (λ x. x.segment.payload) h.emission ∙ slice_is t out.number out.payload carried
+      ∙ ap (λ x. slice_at t x.number (length x.segment.payload)) (sym h.emission)
+
+  made_place : Placed m session
+  made_place =
+      let t = session.state in
+      let s = h.state in
+      let out = h.draft in
+      let small = h.drafted.small in
+      let number : m.emission.number ≡ out.number = ap (λ x. x.number) h.emission in
+      let flags : m.emission.segment.flags ≡ out.flags = ap (λ x. x.segment.flags) h.emission in
+      let payload : m.emission.segment.payload ≡ out.payload = ap (λ x. x.segment.payload) h.emission in
+      record {
+        sequence = ap (λ x. x.segment.sequence) h.emission ∙ ap (λ (k : ℕ). k % ring) (sym number);
         number =
             (let long : length m.emission.segment.payload ≡ length out.payload = ap (λ (l : List ℕ). length l) payload in
             let syn : bit_of (has SYN m.emission.segment) ≡ bit_of (sets out.flags SYN) = ap (λ (k : ℕ). bit_of ((k / 2) % 2 == 1)) flags in
             let fin : bit_of (has FIN m.emission.segment) ≡ bit_of (sets out.flags FIN) = ap (λ (k : ℕ). bit_of ((k / 1) % 2 == 1)) flags in
             omega arith);
-        payload =
-            payload ∙ slice_is t out.number out.payload carried ∙ ap (λ (k : ℕ). slice_at t k (length out.payload)) (sym number)
-            ∙ ap (λ (l : List ℕ). slice_at t m.emission.number (length l)) (sym payload);
+        payload = made_payload;
         fin = λ e.
             let f = h.drafted.fin (ap (λ (k : ℕ). (k / 1) % 2 == 1) (sym flags) ∙ e) in
             let c = h.later.closed f.0 in
@@ -174,9 +183,19 @@ as_made_by setup w m fits ok =
             let at = f.2 in
             let len : length t.given ≡ length s.given = ap (λ (l : List ℕ). length l) c.1 in
             (c.0, payload ∙ f.1, omega arith);
-        heard = λ a e. let is = told_is (sets out.flags ACK) s.expected a (sym (ap (λ x. x.acknowledged) h.emission) ∙ e) in let up = h.later.up in omega arith;
         rst = λ e. h.later.stopped (h.drafted.rst (ap (λ (k : ℕ). (k / 4) % 2 == 1) (sym flags) ∙ e)).0;
-      };
+        heard = λ a e. let is = told_is (sets out.flags ACK) s.expected a (sym (ap (λ x. x.acknowledged) h.emission) ∙ e) in let up = h.later.up in omega arith;
+      }
+
+as_made_by : (setup : Setup) (w : World) (m : Made) → SetupFits setup → MadeOk setup (side w m.maker).sessions m → AsMade setup w m
+as_made_by setup w m fits ok =
+    record {
+      session = ok.session;
+      found = ok.found;
+      row = made_row setup ok.session m ok.by;
+      written = made_written setup ok.session m ok.by;
+      wire = made_wire setup ok.session m ok.by fits;
+      place = made_place setup ok.session m ok.by;
     }
 
 all_as_made : (setup : Setup) (w : World) (history : List Happening) → SetupFits setup → AllMadeOk setup w history → AllMade (AsMade setup w) history

@@ -1,4 +1,4 @@
--- What an arrival may bring: bytes, a FIN and an acknowledgement of its segment, and x never goes back.
+-- What an arrival may bring: bytes, a FIN and an acknowledgement of its segment, and the number expected never goes back.
 use Rattle.std.proofs.Common.{◌≡◌, ℕ, ◌+◌, ◌-◌, ◌≤◌, ◌<◌, ◌%◌, ◌==◌, Bool, true, false, not, ◌&&◌, nat_lt, nat_le, List, length, slice_get, Option, Some, None, ◌⊎◌, inl, inr, ⊎_elim, if◌then◌else◌, refl, sym, ap, ◌∙◌, arith}
 use Rattle.std.specs.Prelude.{⊤}
 use Rattle.ao_base.specs.declared.address.Pair.{Pair}
@@ -6,10 +6,11 @@ use Rattle.segment_model.specs.Meant.{meant}
 use Rattle.segment_model.specs.Segments.{Segment, has, segment_length, ACK, FIN, RST, SYN}
 use Rattle.segment_model.proofs.Fields.{and_tells, eqb_is, le_is, some_is}
 use Rattle.endpoint_model.specs.declared.phase.Phase.{Phase}
-use Rattle.endpoint_model.specs.declared.phase.Phase.TheVariants.{Listen, SynSent, SynReceived, Established, TimeWait}
+use Rattle.endpoint_model.specs.declared.phase.Phase.TheVariants.{Listen, SynSent, SynReceived, Established, TimeWait, Closed}
 use Rattle.endpoint_model.specs.States.{EndState, window}
 use Rattle.segment_model.specs.Received.{below_limit, keep, first_missing, runs}
-use Rattle.endpoint_model.specs.Arrivals.{Moved, owing, above, within, fits_window, rested, finish, past_fin, pass_fin, fin_of, heard_runs, hear_data, after_own_fin, acked_fin, windowed, acked, go_on, acknowledged, ordinary, syn_alone, syn_ack_alone, after_check}
+use Rattle.endpoint_model.specs.declared.arrival.Arrival.TheVariants.{Challenge, NoAck, Reset}
+use Rattle.endpoint_model.specs.Arrivals.{Moved, answered, owing, reset, above, within, fits_window, rested, finish, past_fin, pass_fin, fin_of, heard_runs, hear_data, after_own_fin, acked_fin, windowed, acked, go_on, acknowledged, ordinary, syn_alone, syn_ack_alone, after_check}
 use Rattle.link_laws.proofs.Tests.{not_false}
 use Rattle.link_laws.proofs.Moves.{following}
 use Rattle.link_laws.proofs.Stream.{fm_low, keep-cases}
@@ -38,6 +39,12 @@ pub record GainsOf (n : ℕ) (d : Segment) (isn new_isn : ℕ) (m new_m : ℕ �
 
 abbrev pub Gains : ℕ → Segment → EndState → EndState → Type 0
 Gains n d s t = GainsOf n d s.isn t.isn s.received t.received s.fin t.fin s.taken t.taken s.una t.una s.expected t.expected
+
+-- an acceptable segment without RST
+abbrev unreset : EndState → Segment → ℕ → ℕ → Moved
+unreset s d n now =
+    if has SYN d then answered (owing s) Challenge
+    else (if not (has ACK d) then answered s NoAck else acknowledged s d n now (meant d.acknowledgement s.una) s.phase)
 
 fin_stays : (o : Option ℕ) (b : Bool) (new g : ℕ) → o ≡ Some g → fin_of o b new ≡ Some g
 fin_stays (Some f) b new g e = e
@@ -170,13 +177,18 @@ module _ (n : ℕ) (d : Segment) where
       either (above a s.next) s _ (go_on (acked s a) s.una d n now a) (λ e. none s)
       (λ e. then_gains s (acked s a) (go_on (acked s a) s.una d n now a).state (acked_gains s a ack) (go_on_gains (acked s a) s.una now a z))
 
+  unreset_gains : (s : EndState) (now : ℕ) → d.acknowledgement < ring → Gains n d s (unreset s d n now).state
+  unreset_gains s now fits =
+      either (has SYN d) s (answered (owing s) Challenge) (if not (has ACK d) then answered s NoAck else acknowledged s d n now (meant d.acknowledgement s.una) s.phase) (λ e. none s)
+      (λ z. either (not (has ACK d)) s (answered s NoAck) (acknowledged s d n now (meant d.acknowledgement s.una) s.phase) (λ e. none s)
+      (λ ack. acknowledged_gains s now (meant d.acknowledgement s.una) s.phase z (λ k e. (z, not_false (has ACK d) ack, meant_is d.acknowledgement s.una k fits e))))
+
+  reset_gains : (s : EndState) → Gains n d s (reset s n).state
+  reset_gains s = either (n == s.expected) s (answered (record s { phase = Closed }) Reset) (answered (owing s) Challenge) (λ e. none s) (λ e. none s)
+
   ordinary_gains : (s : EndState) (c : Option ℕ) (now : ℕ) → d.acknowledgement < ring → Gains n d s (ordinary s (following c s) d n now).state
   ordinary_gains s c now fits =
-      let f = following c s in
-      either (has RST d) s _ _ (λ e. either (n == s.expected) s _ _ (λ e. none s) (λ e. none s))
-      (λ e. either (has SYN d) s _ _ (λ e. none s)
-      (λ z. either (not (has ACK d)) s _ _ (λ e. none s)
-      (λ ack. acknowledged_gains f now (meant d.acknowledgement s.una) s.phase z (λ k e. (z, not_false (has ACK d) ack, meant_is d.acknowledgement s.una k fits e)))))
+      either (has RST d) s (reset s n) (unreset (following c s) d n now) (λ e. reset_gains s) (λ e. unreset_gains (following c s) now fits)
 
 -- before the peer is heard, nothing is expected
 abbrev pub UnheardIn : Phase → EndState → Type 0

@@ -1,5 +1,5 @@
 -- A run goes on from where it is, and more events only add to its history.
-use Rattle.std.proofs.Common.{◌≡◌, ℕ, suc, ◌+◌, Bool, true, List, [], ◌∷◌, ◌++◌, length, Option, Some, None, replicate, refl, sym, ap, ◌∙◌, arith, append-nil, append_assoc}
+use Rattle.std.proofs.Common.{◌≡◌, ℕ, suc, ◌+◌, Bool, List, [], ◌∷◌, ◌++◌, length, Option, Some, None, refl, sym, ap, ◌∙◌, arith, append-nil, append_assoc}
 use Rattle.ao_base.specs.declared.end.End.{End}
 use Rattle.ao_base.specs.declared.end.End.TheVariants.{A, B}
 use Rattle.key_model.specs.Rows.{Row}
@@ -13,7 +13,7 @@ use Rattle.link_model.specs.Reports.{outcome_line, lines_from, summary, report}
 use Rattle.link_model.specs.RowLines.{row_of}
 use Rattle.link_model.specs.Runs.{empty, run_from, run, outcomes_from}
 use Rattle.link_model.specs.Worlds.{Setup, pair_of, Session, Side, Made, Happening, World, side, find, segment_named}
-use Rattle.link_model.specs.Steps.{Stepped, Act, add, put, with_clock, with_rows, act_on, on_live, begin, come, deliver, alter, add_row, withdraw, step}
+use Rattle.link_model.specs.Steps.{Stepped, Act, put, with_clock, with_rows, act_on, on_live, begin, come, deliver, alter, add_row, withdraw, step}
 use Rattle.link_laws.proofs.Tests.{choose}
 
 -- ---- a run in two parts

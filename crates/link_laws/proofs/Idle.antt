@@ -1,5 +1,5 @@
 -- An end makes nothing exactly where it has nothing to send: its context is known wherever it has.
-use Rattle.std.proofs.Common.{◌≡◌, ℕ, Bool, true, false, List, [], ◌∷◌, Option, Some, None, inl, inr, if◌then◌else◌, refl, sym, ap, ◌∙◌}
+use Rattle.std.proofs.Common.{◌≡◌, ℕ, Bool, true, false, List, Option, Some, None, inl, inr, if◌then◌else◌, refl, sym, ap}
 use Rattle.std.specs.Prelude.{◌↔◌, is_some}
 use Rattle.std.specs.List.{AllByRecursion}
 use Rattle.ao_base.specs.declared.address.Pair.{Pair}
@@ -9,15 +9,15 @@ use Rattle.mac_model.specs.Contexts.{context, context_known, context_of_syn, con
 use Rattle.key_model.specs.Rows.{Row}
 use Rattle.key_model.specs.Coordination.{Sending, choose}
 use Rattle.endpoint_model.specs.States.{EndState}
-use Rattle.endpoint_model.specs.Emissions.{Draft, Emitted, Quiet, NoKey, to_emit, to_resend, most_bytes, blank, seal_known, keyed, emitted, emit, resend}
+use Rattle.endpoint_model.specs.Emissions.{Draft, Quiet, NoKey, to_emit, to_resend, most_bytes, blank, seal_known, keyed, emitted, emit, resend}
 use Rattle.link_model.specs.declared.event.Event.{Event}
 use Rattle.link_model.specs.Laws.{SetupFits, EventFits}
 use Rattle.link_model.specs.Runs.{run}
-use Rattle.link_model.specs.Worlds.{Setup, pair_of, Session, World, side, live}
+use Rattle.link_model.specs.Worlds.{Setup, pair_of, Session, side, live}
 use Rattle.link_laws.proofs.Drafts.{emit_same, resend_same}
 use Rattle.link_laws.proofs.Whole.{Whole}
 use Rattle.link_laws.proofs.Carrying.{TellsContext, MayCarry, emit_carries, resend_carries}
-use Rattle.link_laws.proofs.Invariant.{Inv, live_whole}
+use Rattle.link_laws.proofs.Invariant.{live_whole}
 use Rattle.link_laws.proofs.Running.{run_inv}
 
 -- ---- the context

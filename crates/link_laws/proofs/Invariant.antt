@@ -1,5 +1,5 @@
 -- What every made entry is, and what else holds in each state of each run.
-use Rattle.std.proofs.Common.{◌≡◌, ℕ, ◌≤◌, ◌<◌, ◌%◌, Bool, true, false, List, [], ◌∷◌, length, replicate, Option, Some, None, refl, sym, ap, ◌∙◌, subst, arith, append-nil}
+use Rattle.std.proofs.Common.{◌≡◌, ℕ, ◌≤◌, ◌<◌, ◌%◌, Bool, true, false, List, [], ◌∷◌, length, replicate, Option, Some, None, sym, ap, ◌∙◌, subst, arith, append-nil}
 use Rattle.std.specs.Prelude.{⊤, if◌then◌else◌}
 use Rattle.std.specs.List.{AllByRecursion}
 use Rattle.ao_base.specs.declared.address.Address.{Address}
@@ -17,7 +17,7 @@ use Rattle.mac_model.specs.Contexts.{context, context_known, context_of_syn, con
 use Rattle.mac_model.proofs.MacLaws.{mac_fits}
 use Rattle.key_model.specs.Lifetimes.{greatest_time}
 use Rattle.key_model.specs.Overlaps.{IsValid}
-use Rattle.key_model.specs.Coordination.{Sending as Using, choose as choose_row}
+use Rattle.key_model.specs.Coordination.{Sending, choose as choose_row}
 use Rattle.key_model.proofs.SendingLaws.{Chosen, chosen}
 use Rattle.endpoint_model.specs.States.{EndState, at_end}
 use Rattle.endpoint_model.specs.Emissions.{Draft, no_mac, blank, own_ao, written, seal_of, input_of, sealed}
@@ -39,7 +39,7 @@ pub record MadeBy (setup : Setup) (t : EndState) (m : Made) : Type 0 where
   pub whole : Whole state
   pub drafted : DraftOk state draft
   pub carries : Carries state draft
-  pub sending : Using
+  pub sending : Sending
   pub rows_fit : AllByRecursion RowFits m.rows
   pub picked : choose_row state.current m.rows (pair_of setup m.maker) m.clock ≡ Some sending
   pub context : List ℕ

@@ -10,7 +10,8 @@ use Rattle.segment_model.specs.Received.{keep, below_limit, first_missing, runs}
 use Rattle.endpoint_model.specs.declared.arrival.Arrival.TheVariants.{Unexpected, Window, Challenge, NoAck, BadAck, TooManyRuns, Reset, Taken}
 use Rattle.endpoint_model.specs.Arrivals.{Moved, answered, owing, above, within, fits_window, rested, finish, past_fin, pass_fin, fin_of, heard_runs, hear_data, after_own_fin, acked_fin, windowed, acked, go_on, acknowledged, ordinary, opened, syn_alone, syn_ack_alone, after_check}
 use Rattle.link_laws.proofs.Tests.{choose, not_false}
-use Rattle.link_laws.proofs.Sound.{waits, Sound, Steady, steady_refl, steady_then, PhaseOk, own_ok, past_ok, closed_ok, established_ok, received_ok, answered_ok, with_phase, learns}
+use Rattle.link_laws.proofs.Phases.{waits, PhaseOk, own_ok, past_ok, closed_ok, established_ok, received_ok, answered_ok}
+use Rattle.link_laws.proofs.Sound.{Sound, Steady, steady_refl, steady_then, with_phase, learns}
 use Rattle.segment_model.specs.Bytes.{ring}
 
 -- what a segment that passed may do: a steady change; a reset comes of RST alone

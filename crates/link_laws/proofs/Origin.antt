@@ -1,202 +1,37 @@
 -- Where no forgery is counted, what passes was made by the partner, and a reset comes of an abort.
-use Rattle.std.proofs.Common.{◌≡◌, ℕ, suc, ◌/◌, ◌%◌, ◌<◌, ◌==◌, Bool, true, false, not, ◌&&◌, ◌||◌, List, [], ◌∷◌, length, replicate, Option, Some, None, inl, inr, if◌then◌else◌, refl, sym, ap, ◌∙◌, subst, arith, nat_lt}
-use Rattle.std.specs.Prelude.{⊤}
-use Rattle.std.proofs.lemmas.Bool.Decides.{nat_tests}
+use Rattle.std.proofs.Common.{◌≡◌, ℕ, ◌/◌, ◌%◌, ◌==◌, Bool, true, false, List, ◌∷◌, length, Option, Some, None, if◌then◌else◌, refl, sym, ap, ◌∙◌, subst, arith}
 use Rattle.ao_base.specs.declared.address.Address.{Address}
 use Rattle.ao_base.specs.declared.address.Address.TheVariants.{V4, V6}
 use Rattle.ao_base.specs.declared.address.Socket.{Socket}
 use Rattle.ao_base.specs.declared.address.Pair.{Pair}
-use Rattle.ao_base.specs.declared.algorithm.Algorithm.{Algorithm}
-use Rattle.ao_base.specs.declared.algorithm.Algorithm.TheVariants.{HmacSha1, AesCmac, HmacSha256}
 use Rattle.ao_base.specs.Algorithms.{mac_length_of}
 use Rattle.std.proofs.lemmas.List.{length-replicate}
-use Rattle.link_model.specs.RowLines.{row_of}
 use Rattle.ao_base.specs.declared.end.End.{End}
 use Rattle.ao_base.specs.declared.end.End.TheVariants.{A, B}
-use Rattle.segment_model.specs.Bytes.{same_bytes}
 use Rattle.segment_model.specs.Options.{Ao, One, find_ao}
 use Rattle.segment_model.specs.Segments.{IpHeader, Ipv4, Ipv6, Segment, Read, reading, has, RST, SYN}
-use Rattle.segment_model.specs.Spelling.{AreBytes, IsV4, IsV6, FitsIp}
-use Rattle.segment_model.proofs.Fields.{and_tells, some_is, same_bytes_tells}
+use Rattle.segment_model.specs.Spelling.{IsV4, IsV6, FitsIp}
+use Rattle.segment_model.proofs.Fields.{some_is}
 use Rattle.mac_model.specs.Contexts.{context, context_of_syn, context_of_later, context_of}
 use Rattle.mac_model.specs.MacInput.{mac_input}
-use Rattle.mac_model.specs.Keys.{same_algorithm}
-use Rattle.mac_model.specs.Meaning.{SameFamily, Numbered}
+use Rattle.mac_model.specs.Meaning.{SameFamily, Numbered, SameMeaning}
 use Rattle.mac_model.proofs.Ids.{equal_inputs_equal_meaning}
 use Rattle.mac_model.proofs.Telling.{context_law}
-use Rattle.key_model.specs.Tables.{Adding, AddedAs, TooMany, OverlapsRow, adding, withdrawn}
-use Rattle.key_model.specs.Rows.{Row}
-use Rattle.endpoint_model.specs.States.{EndState, gives, room, give}
-use Rattle.endpoint_model.specs.Verdicts.{Key, key_of, same_key, Finding}
+use Rattle.endpoint_model.specs.States.{EndState}
+use Rattle.endpoint_model.specs.Verdicts.{Finding}
 use Rattle.endpoint_model.specs.Arrivals.{arrive}
-use Rattle.endpoint_model.specs.Emissions.{Emitted, Quiet, NoKey, Emits, sets, no_mac, own_ao, emit, resend}
-use Rattle.link_laws.proofs.Tests.{choose}
+use Rattle.endpoint_model.specs.Emissions.{sets, no_mac, own_ao}
 use Rattle.link_laws.proofs.Sound.{Sound}
-use Rattle.link_laws.proofs.Whole.{Whole}
 use Rattle.link_laws.proofs.Written.{area_ao}
-use Rattle.link_model.specs.Alterations.{has_place, altered}
 use Rattle.link_model.specs.declared.event.Event.{Event}
-use Rattle.link_model.specs.declared.event.Event.TheVariants.{Clock, Connect, Listen as Await, Start, Give, Fill, Send, Resend, Deliver, Inject, Alter, Take, Close, Abort, AddRow, Withdraw, Dump}
-use Rattle.link_model.specs.Outcomes.{Outcome, Idle, Nothing, HasClosed, Full, Done, NoPlace}
-use Rattle.link_model.specs.Worlds.{other, same_end, Setup, pair_of, Session, Side, Made, Came, Happening, Making, Coming, World, side, find, live, is_known, known_by, partner_among, partner, accounts_for, was_made, forged, forgeries, segment_named}
-use Rattle.link_model.specs.Steps.{Act, add, put, with_rows, with_clock, act_on, on_live, quietly, begin, given, sent, send, send_again, come, took, deliver, alter, add_row, withdraw, step}
+use Rattle.link_model.specs.Worlds.{other, Setup, pair_of, Session, Made, Came, Coming, World, side, find, partner, forged, forgeries}
+use Rattle.link_model.specs.Steps.{step}
 use Rattle.link_model.specs.Laws.{SetupFits, EventFits, IsAmong, Repeats, FromPartner, Arrives, HasOrigin, ResetsByAbort}
-use Rattle.link_laws.proofs.Invariant.{live_sound, live_whole, MadeBy, MadeOk, AllMadeOk, AllSound, AllWhole, Inv, blank_in, blank_fits}
+use Rattle.link_laws.proofs.Invariant.{live_sound, live_whole, MadeBy, Inv, blank_in, blank_fits}
 use Rattle.link_laws.proofs.Arriving.{Passing, ArrivedOk, arrive_ok}
-use Rattle.link_laws.proofs.Running.{named_bytes, altered_bytes}
-
--- ---- which events are arrivals
-
--- bytes that came to the live session of an end
-record CameBy (setup : Setup) (w : World) (r : Came) : Type 0 where
-  session : Session
-  lives : live (side w r.at).sessions ≡ Some session
-  bytes : AreBytes r.bytes
-  answer : r.answer ≡ (arrive (side w r.at).rows (pair_of setup r.at) (side w r.at).clock session.state (reading r.bytes)).answer
-  passed : r.passed ≡ (arrive (side w r.at).rows (pair_of setup r.at) (side w r.at).clock session.state (reading r.bytes)).passed
-
-abbrev NotComing : Option Happening → Type 0
-NotComing None = ⊤
-NotComing (Some (Making m)) = ⊤
-NotComing (Some (Coming r)) = ⊥
-
-longer : (h : Happening) (past : List Happening) → past ≡ h ∷ past → ⊥
-longer h past e = let len : length past ≡ suc (length past) = ap (λ (l : List Happening). length l) e in omega arith
-
-not_coming : (h : Option Happening) (past : List Happening) (r : Came) → NotComing h → add h past ≡ Coming r ∷ past → ⊥
-not_coming None past r no_one e = longer (Coming r) past e
-not_coming (Some (Making m)) past r no_one e = absurd (cc)
-not_coming (Some (Coming k)) past r no_one e = absurd no_one
-
-put_history : (w : World) (e : End) (now : Side) (h : Option Happening) → (put w e now h).history ≡ add h w.history
-put_history w A now h = refl
-put_history w B now h = refl
-
-live_quiet : (w : World) (e : End) (sessions : List Session) (call : EndState → Act) (r : Came) → ((s : EndState) → NotComing (call s).happened) → (act_on w e sessions call).world.history ≡ Coming r ∷ w.history → ⊥
-live_quiet w e [] call r never is = longer (Coming r) w.history is
-live_quiet w e (s ∷ rest) call r never is = not_coming (call s.state).happened w.history r (never s.state) (sym (put_history w e _ (call s.state).happened) ∙ is)
-
-sent_quiet : (e : End) (w : World) (s : EndState) (without : Outcome) (o : Emitted) → NotComing (sent e w s without o).happened
-sent_quiet e w s without Quiet = tt
-sent_quiet e w s without NoKey = tt
-sent_quiet e w s without (Emits out) = tt
-
-given_quiet : (piece : List ℕ) (s : EndState) → NotComing (given piece s).happened
-given_quiet piece s =
-    let P : Act → Type 0 = λ a. NotComing a.happened in
-    choose P (not (gives s)) (quietly s HasClosed) _ (λ t. tt) (λ t. choose P (nat_lt (room s) (length piece)) (quietly s Full) (quietly (give piece s) Done) (λ t. tt) (λ t. tt))
-
-begin_quiet : (w : World) (e : End) (s : EndState) (o : Option Session) (r : Came) → (begin w e s o).world.history ≡ Coming r ∷ w.history → ⊥
-begin_quiet w e s (Some used) r is = longer (Coming r) w.history is
-begin_quiet w e s None r is = not_coming None w.history r tt (sym (put_history w e _ None) ∙ is)
-
-put_quiet : (w : World) (e : End) (now : Side) (r : Came) → (put w e now None).history ≡ Coming r ∷ w.history → ⊥
-put_quiet w e now r is = not_coming None w.history r tt (sym (put_history w e now None) ∙ is)
-
-add_quiet : (w : World) (e : End) (o : Adding) (r : Came) → (add_row w e o).world.history ≡ Coming r ∷ w.history → ⊥
-add_quiet w e (AddedAs n rows) r is = put_quiet w e (with_rows (side w e) rows) r is
-add_quiet w e TooMany r is = longer (Coming r) w.history is
-add_quiet w e (OverlapsRow n) r is = longer (Coming r) w.history is
-
-withdraw_quiet : (w : World) (e : End) (o : Option (List Row)) (r : Came) → (withdraw w e o).world.history ≡ Coming r ∷ w.history → ⊥
-withdraw_quiet w e None r is = longer (Coming r) w.history is
-withdraw_quiet w e (Some rows) r is = put_quiet w e (with_rows (side w e) rows) r is
-
-came_is : (k r : Came) (past : List Happening) → Coming k ∷ past ≡ Coming r ∷ past → k ≡ r
-came_is k r past e = cc
-
-come_came : (setup : Setup) (w : World) (e : End) (sessions : List Session) (bytes : List ℕ) (r : Came) → (side w e).sessions ≡ sessions → AreBytes bytes
-    → (act_on w e sessions (come setup e w bytes)).world.history ≡ Coming r ∷ w.history → CameBy setup w r
-come_came setup w e [] bytes r is all came = absurd (longer (Coming r) w.history came)
-come_came setup w e (s ∷ rest) bytes r is all came =
-    let a = arrive (side w e).rows (pair_of setup e) (side w e).clock s.state (reading bytes) in
-    let k : Came = record { at = e; isn = s.state.isn; clock = (side w e).clock; bytes = bytes; answer = a.answer; passed = a.passed } in
-    subst (λ (x : Came). CameBy setup w x) (came_is k r w.history (sym (put_history w e _ (Some (Coming k))) ∙ came))
-    (record { session = s; lives = ap live is; bytes = all; answer = refl; passed = refl })
-
-module _ (setup : Setup) (fits : SetupFits setup) where
-  deliver_came : (w : World) (e : End) (o : Option Made) (r : Came) → ((m : Made) → o ≡ Some m → AreBytes m.bytes) → (deliver setup e w o).world.history ≡ Coming r ∷ w.history → CameBy setup w r
-  deliver_came w e None r all is = absurd (longer (Coming r) w.history is)
-  deliver_came w e (Some m) r all is = come_came setup w e (side w e).sessions m.bytes r refl (all m refl) is
-
-  alter_if : (w : World) (e : End) (place mask : ℕ) (fix : Bool) (m : Made) (r : Came) (b : Bool) → mask < 256 → AreBytes m.bytes
-      → (if b then on_live w e (come setup e w (altered m.bytes place mask fix)) else record { world = w; outcome = NoPlace }).world.history ≡ Coming r ∷ w.history → CameBy setup w r
-  alter_if w e place mask fix m r true low all is =
-      come_came setup w e (side w e).sessions (altered m.bytes place mask fix) r refl (altered_bytes m.bytes place mask fix low (record { at = all })).at is
-  alter_if w e place mask fix m r false low all is = absurd (longer (Coming r) w.history is)
-
-  alter_came : (w : World) (e : End) (place mask : ℕ) (fix : Bool) (o : Option Made) (r : Came) → mask < 256 → ((m : Made) → o ≡ Some m → AreBytes m.bytes)
-      → (alter setup e w place mask fix o).world.history ≡ Coming r ∷ w.history → CameBy setup w r
-  alter_came w e place mask fix None r low all is = absurd (longer (Coming r) w.history is)
-  alter_came w e place mask fix (Some m) r low all is = alter_if w e place mask fix m r (has_place m.bytes place) low (all m refl) is
-
-  came_by : (w : World) (event : Event) (r : Came) → EventFits event → Inv setup w → (step setup w event).world.history ≡ Coming r ∷ w.history → CameBy setup w r
-  came_by w (Clock e seconds) r f inv is = absurd (put_quiet w e (with_clock (side w e) seconds) r is)
-  came_by w (Connect e isn) r f inv is = absurd (begin_quiet w e _ _ r is)
-  came_by w (Await e isn) r f inv is = absurd (begin_quiet w e _ _ r is)
-  came_by w (Start e isn peer) r f inv is = absurd (begin_quiet w e _ _ r is)
-  came_by w (Give e piece) r f inv is = absurd (live_quiet w e (side w e).sessions (given piece) r (given_quiet piece) is)
-  came_by w (Fill e count byte) r f inv is = absurd (live_quiet w e (side w e).sessions (given (replicate count byte)) r (given_quiet (replicate count byte)) is)
-  came_by w (Send e) r f inv is = absurd (live_quiet w e (side w e).sessions (send setup e w) r (λ s. sent_quiet e w s Idle (emit (side w e).rows (pair_of setup e) (side w e).clock s)) is)
-  came_by w (Resend e) r f inv is = absurd (live_quiet w e (side w e).sessions (send_again setup e w) r (λ s. sent_quiet e w s Nothing (resend (side w e).rows (pair_of setup e) (side w e).clock s)) is)
-  came_by w (Deliver e name) r f inv is = deliver_came w e (segment_named name w.history) r (λ m named. named_bytes setup fits w name m inv named) is
-  came_by w (Inject e bytes) r f inv is = come_came setup w e (side w e).sessions bytes r refl f is
-  came_by w (Alter e name place mask fix) r f inv is = alter_came w e place mask fix (segment_named name w.history) r f (λ m named. named_bytes setup fits w name m inv named) is
-  came_by w (Take e count) r f inv is = absurd (live_quiet w e (side w e).sessions (took count) r (λ s. tt) is)
-  came_by w (Close e) r f inv is = absurd (live_quiet w e (side w e).sessions _ r (λ s. tt) is)
-  came_by w (Abort e) r f inv is = absurd (live_quiet w e (side w e).sessions _ r (λ s. tt) is)
-  came_by w (AddRow e row) r f inv is = absurd (add_quiet w e (adding (side w e).rows (row_of row)) r is)
-  came_by w (Withdraw e n) r f inv is = absurd (withdraw_quiet w e (withdrawn (side w e).rows n) r is)
-  came_by w (Dump name) r f inv is = absurd (longer (Coming r) w.history is)
-
--- ---- the entry that accounts for what passed
-
-pub record Found (setup : Setup) (w : World) (at : End) (p : Finding) (past : List Happening) : Type 0 where
-  made : Made
-  among : IsAmong made past
-  accounts : accounts_for at p made ≡ true
-  ok : MadeOk setup (side w made.maker).sessions made
-
-found_or : (setup : Setup) (w : World) (at : End) (p : Finding) (m : Made) (past : List Happening) (b c : Bool) → accounts_for at p m ≡ b → MadeOk setup (side w m.maker).sessions m
-    → (c ≡ true → Found setup w at p past) → (b || c) ≡ true → Found setup w at p (Making m ∷ past)
-found_or setup w at p m past true c says h more f = record { made = m; among = inl refl; accounts = says; ok = h }
-found_or setup w at p m past false c says h more f = let k = more f in record { made = k.made; among = inr k.among; accounts = k.accounts; ok = k.ok }
-
-pub found_made : (setup : Setup) (w : World) (at : End) (p : Finding) (past : List Happening) → was_made at p past ≡ true → AllMadeOk setup w past → Found setup w at p past
-found_made setup w at p [] e h = absurd (cc)
-found_made setup w at p (Coming r ∷ past) e h = let k = found_made setup w at p past e h in record { made = k.made; among = k.among; accounts = k.accounts; ok = k.ok }
-found_made setup w at p (Making m ∷ past) e h = found_or setup w at p m past (accounts_for at p m) (was_made at p past) refl h.0 (λ f. found_made setup w at p past f h.1) e
-
-maker_is : (maker end : End) → same_end maker end ≡ true → maker ≡ end
-maker_is A A e = refl
-maker_is A B e = absurd (cc)
-maker_is B A e = absurd (cc)
-maker_is B B e = refl
-
-unforged : (b : Bool) → ◌≡◌ {A = ℕ} (if b then 0 else 1) 0 → b ≡ true
-unforged true e = refl
-unforged false e = absurd (cc)
-
-pub none_forged : (at : End) (o : Option Finding) (p : Finding) (past : List Happening) → o ≡ Some p → forged at o past ≡ 0 → was_made at p past ≡ true
-none_forged at None p past e z = absurd (cc)
-none_forged at (Some q) p past e z = subst (λ (x : Finding). was_made at x past ≡ true) (some_is q p e) (unforged (was_made at q past) z)
-
--- the same key is of the same algorithm
-same_algorithm_tells : (a b : Algorithm) → same_algorithm a b ≡ true → a ≡ b
-same_algorithm_tells HmacSha1 HmacSha1 e = refl
-same_algorithm_tells AesCmac AesCmac e = refl
-same_algorithm_tells HmacSha256 HmacSha256 e = refl
-same_algorithm_tells HmacSha1 AesCmac e = absurd (cc)
-same_algorithm_tells HmacSha1 HmacSha256 e = absurd (cc)
-same_algorithm_tells AesCmac HmacSha1 e = absurd (cc)
-same_algorithm_tells AesCmac HmacSha256 e = absurd (cc)
-same_algorithm_tells HmacSha256 HmacSha1 e = absurd (cc)
-same_algorithm_tells HmacSha256 AesCmac e = absurd (cc)
-
-same_key_algorithm : (k l : Key) → same_key k l ≡ true → k.algorithm ≡ l.algorithm
-same_key_algorithm k l e = same_algorithm_tells k.algorithm l.algorithm (and_tells (same_algorithm k.algorithm l.algorithm) (same_bytes k.master l.master) e).0
-
--- ---- the family
+use Rattle.link_laws.proofs.Accounts.{Found, found_made, none_forged, Accounts, accounts_tell}
+use Rattle.link_laws.proofs.Comings.{came_by}
+use Rattle.link_laws.proofs.Sessions.{partner_is}
 
 not_both : (a : Address) → IsV4 a → IsV6 a → ⊥
 not_both (V4 bytes) h g = absurd g
@@ -228,19 +63,6 @@ plain_context d o p c plain e = by_test (has SYN d) plain e
     by_test true off e = absurd (cc)
     by_test false off e = later_known d o p c e
 
-is_known_now : (o : Option ℕ) (isn : ℕ) → o ≡ Some isn → is_known o isn ≡ true
-is_known_now None isn e = absurd (cc)
-is_known_now (Some q) isn e = let same : q ≡ isn = some_is q isn e in grind (arith, nat_tests)
-
-if_true : (t : Session) (b : Bool) → b ≡ true → (if b then Some t else None) ≡ Some t
-if_true t true e = refl
-if_true t false e = absurd (cc)
-
-pub partner_is : (sessions : List Session) (own : ℕ) (o : Option ℕ) (q : ℕ) (t : Session) → o ≡ Some q → find sessions q ≡ Some t → t.state.peer_isn ≡ Some own → partner_among sessions own o ≡ Some t
-partner_is sessions own None q t e found back = absurd (cc)
-partner_is sessions own (Some k) q t e found back =
-    ap (λ n. known_by own (find sessions n)) (some_is k q e) ∙ ap (known_by own) found ∙ if_true t (is_known t.state.peer_isn own) (is_known_now t.state.peer_isn own back)
-
 -- ---- the origin of what passed
 
 -- an entry of the other end that says what passed, and the session that made it; without SYN that is the partner
@@ -258,49 +80,84 @@ pub record Origin (setup : Setup) (w : World) (at : End) (s : EndState) (n : ℕ
 is_partner : (setup : Setup) (w : World) (at : End) (s : EndState) (n : ℕ) (d : Segment) (ao : Ao) (o : Origin setup w at s n d ao) → has SYN d ≡ false → partner w at s ≡ Some o.session
 is_partner setup w at s n d ao o plain = let l = o.linked plain in partner_is (side w (other at)).sessions s.isn s.peer_isn l.0 o.session l.1 l.2 l.3
 
+-- the sockets of what passed are those of the maker
+sockets_met : (setup : Setup) (at e : End) (s : EndState) (bytes : List ℕ) (p : Finding) → e ≡ other at → (g : Passing (pair_of setup at) s bytes p)
+    → ((pair_of setup e).local ≡ g.segment.source) × ((pair_of setup e).remote ≡ g.segment.destination)
+sockets_met setup at e s bytes p maker g =
+    let there = ap (pair_of setup) maker in
+    let turn = seen setup at in
+    (ap (λ (k : Pair). k.local) there ∙ (turn.0 ∙ sym g.source), ap (λ (k : Pair). k.remote) there ∙ (turn.1 ∙ sym g.destination))
+
+-- what an entry and what passed say is the same
+meaning_met : (setup : Setup) (t : EndState) (m : Made) (h : MadeBy setup t m) (at : End) (s : EndState) (bytes : List ℕ) (p : Finding) → SetupFits setup → Accounts at p m
+    → (g : Passing (pair_of setup at) s bytes p)
+    → SameMeaning h.draft.number p.number (blank_in setup t m h) g.segment (own_ao h.draft h.sending (no_mac h.sending)) g.judged.ao
+meaning_met setup t m h at s bytes p fits same g =
+    let there = pair_of setup m.maker in
+    let d = g.segment in
+    let j = g.judged in
+    let b = blank_in setup t m h in
+    let zero_mac = no_mac h.sending in
+    let own = own_ao h.draft h.sending zero_mac in
+    let small = h.drafted.small in
+    let ours : Numbered h.draft.number b own =
+    record { fits = blank_fits setup t m h fits; option = area_ao there (sets h.draft.flags SYN) h.sending zero_mac; number = omega arith; sequence = refl } in
+    let theirs : Numbered p.number d j.ao = record { fits = g.fits; option = j.option; number = j.small; sequence = j.number.0 } in
+    let source = (sockets_met setup at m.maker s bytes p same.maker g).0 in
+    let family = family_met b.ip d.ip b d ours.fits.ip g.fits.ip (ap (λ (k : Socket). k.address) source) in
+    let algorithm : h.sending.row.algorithm ≡ p.key.algorithm = ap (λ x. x.sending.row.algorithm) (sym h.emission) ∙ same.algorithm in
+    let long : length zero_mac ≡ length j.ao.mac = length-replicate (mac_length_of h.sending.row.algorithm) 0 ∙ (ap mac_length_of algorithm ∙ sym j.mac_long) in
+    let input : mac_input h.draft.number b own h.sending.row.with_options ≡ mac_input p.number d j.ao j.flag = sym (ap (λ x. x.input) h.emission) ∙ (same.input ∙ j.input) in
+    equal_inputs_equal_meaning h.draft.number p.number b d own j.ao h.sending.row.with_options j.flag ours theirs family long input
+
+-- the numbers by which both ends know the connection
+record Linked (m : Made) (t s : EndState) : Type 0 where
+  peer : ℕ
+  knows : s.peer_isn ≡ Some peer
+  isn : m.isn ≡ peer
+  back : t.peer_isn ≡ Some s.isn
+
+-- without SYN the context of an entry is that of the one connection
+linked_met : (setup : Setup) (t : EndState) (m : Made) (h : MadeBy setup t m) (at : End) (s : EndState) (bytes : List ℕ) (p : Finding) → Sound s → Accounts at p m
+    → (g : Passing (pair_of setup at) s bytes p) → has SYN (blank_in setup t m h) ≡ false → has SYN g.segment ≡ false → Linked m t s
+linked_met setup t m h at s bytes p sound same g bare plain =
+    let d = g.segment in
+    let there = pair_of setup m.maker in
+    let mine = plain_context d s.peer_isn (Some s.isn) p.context plain g.judged.context in
+    let told = plain_context (blank_in setup t m h) (Some h.state.isn) h.state.peer_isn h.context bare h.known in
+    let c : h.context ≡ p.context = ap (λ x. x.context) (sym h.emission) ∙ same.context in
+    let sockets = sockets_met setup at m.maker s bytes p same.maker g in
+    let turned : context there.local there.remote told.0 told.1 ≡ context d.source d.destination told.0 told.1 =
+    ap (λ (k : Socket). context k there.remote told.0 told.1) sockets.0 ∙ ap (λ (k : Socket). context d.source k told.0 told.1) sockets.1 in
+    let equal : context d.source d.destination told.0 told.1 ≡ context d.source d.destination mine.0 mine.1 = sym turned ∙ (sym told.4 ∙ (c ∙ mine.4)) in
+    let isn_is : h.state.isn ≡ told.0 = some_is h.state.isn told.0 told.2 in
+    let own_is : s.isn ≡ mine.1 = some_is s.isn mine.1 mine.3 in
+    let isn_low = h.sound.isn_fits in
+    let own_low = sound.isn_fits in
+    let isns =
+    context_law d.source d.destination told.0 told.1 mine.0 mine.1 (omega arith) (h.sound.peer_isn_fits told.1 told.3) (sound.peer_isn_fits mine.0 mine.2) (omega arith) equal in
+    let same_isn = isns.0 in
+    let isn = h.isn in
+    record { peer = mine.0; knows = mine.2; isn = omega arith; back = h.later.peer told.1 told.3 ∙ ap (λ n. Some n) (isns.1 ∙ sym own_is) }
+
 pub origin_of : (setup : Setup) (w : World) (at : End) (s : EndState) (bytes : List ℕ) (p : Finding) → SetupFits setup → Sound s → (g : Passing (pair_of setup at) s bytes p) → Found setup w at p w.history
     → Origin setup w at s p.number g.segment g.judged.ao
 origin_of setup w at s bytes p fits sound g f =
     let m = f.made in
-    let e = m.emission in
-    let d = g.segment in
-    let j = g.judged in
-    let ok = f.ok in
-    let h = ok.by in
-    let t = ok.session in
-    let one = and_tells (same_end m.maker (other at) && same_key (key_of e.sending.row) p.key && same_bytes e.context p.context) (same_bytes e.input p.input) f.accounts in
-    let two = and_tells (same_end m.maker (other at) && same_key (key_of e.sending.row) p.key) (same_bytes e.context p.context) one.0 in
-    let three = and_tells (same_end m.maker (other at)) (same_key (key_of e.sending.row) p.key) two.0 in
-    let maker : m.maker ≡ other at = maker_is m.maker (other at) three.0 in
-    let there = pair_of setup m.maker in
-    let there_is : there ≡ pair_of setup (other at) = ap (pair_of setup) maker in
-    let turn = seen setup at in
-    let source : there.local ≡ d.source = ap (λ (k : Pair). k.local) there_is ∙ turn.0 ∙ sym g.source in
-    let destination : there.remote ≡ d.destination = ap (λ (k : Pair). k.remote) there_is ∙ turn.1 ∙ sym g.destination in
-    let b = blank_in setup t.state m h in
-    let zero_mac : List ℕ = no_mac h.sending in
-    let own = own_ao h.draft h.sending zero_mac in
-    let small = h.drafted.small in
-    let ours : Numbered h.draft.number b own =
-    record { fits = blank_fits setup t.state m h fits; option = area_ao there (sets h.draft.flags SYN) h.sending zero_mac; number = omega arith; sequence = refl } in
-    let theirs : Numbered p.number d j.ao = record { fits = g.fits; option = j.option; number = j.small; sequence = j.number.0 } in
-    let family = family_met b.ip d.ip b d ours.fits.ip g.fits.ip (ap (λ (k : Socket). k.address) source) in
-    let input : e.input ≡ mac_input h.draft.number b own h.sending.row.with_options = ap (λ x. x.input) h.emission in
-    let algorithm : h.sending.row.algorithm ≡ p.key.algorithm = ap (λ x. x.sending.row.algorithm) (sym h.emission) ∙ same_key_algorithm (key_of e.sending.row) p.key three.1 in
-    let long : length zero_mac ≡ length j.ao.mac = length-replicate (mac_length_of h.sending.row.algorithm) 0 ∙ ap mac_length_of algorithm ∙ sym j.mac_long in
-    let same = equal_inputs_equal_meaning h.draft.number p.number b d own j.ao h.sending.row.with_options j.flag ours theirs family long
-    (sym input ∙ same_bytes_tells e.input p.input one.1 ∙ j.input) in
-    let segment : e.segment.flags ≡ b.flags = ap (λ x. x.segment.flags) h.emission in
+    let t = f.ok.session in
+    let h = f.ok.by in
+    let accounts = accounts_tell at p m f.accounts in
+    let same = meaning_met setup t.state m h at s bytes p fits accounts g in
     record {
       made = m;
       among = f.among;
-      maker = maker;
+      maker = accounts.maker;
       session = t;
       by = h;
       flags = same.flags;
       repeats = record {
         number = ap (λ x. x.number) h.emission ∙ same.number;
-        flags = segment ∙ same.flags;
+        flags = ap (λ x. x.segment.flags) h.emission ∙ same.flags;
         acknowledgement = ap (λ x. x.segment.acknowledgement) h.emission ∙ same.acknowledgement;
         window = ap (λ x. x.segment.window) h.emission ∙ same.window;
         key_id = ap (λ x. x.sending.key_id) h.emission ∙ same.key_id;
@@ -308,26 +165,9 @@ origin_of setup w at s bytes p fits sound g f =
         payload = ap (λ x. x.segment.payload) h.emission ∙ same.payload;
       };
       linked = λ plain.
-          let mine = plain_context d s.peer_isn (Some s.isn) p.context plain j.context in
-          let bare : has SYN b ≡ false = ap (λ (k : ℕ). (k / 2) % 2 == 1) same.flags ∙ plain in
-          let told = plain_context b (Some h.state.isn) h.state.peer_isn h.context bare h.known in
-          let c : e.context ≡ h.context = ap (λ x. x.context) h.emission in
-          let equal : context d.source d.destination told.0 told.1 ≡ context d.source d.destination mine.0 mine.1 =
-          ap (λ (k : Socket). context k d.destination told.0 told.1) (sym source) ∙ ap (λ (k : Socket). context there.local k told.0 told.1) (sym destination)
-          ∙ sym told.4 ∙ sym c ∙ same_bytes_tells e.context p.context two.1 ∙ mine.4 in
-          let isn_is : h.state.isn ≡ told.0 = some_is h.state.isn told.0 told.2 in
-          let own_is : s.isn ≡ mine.1 = some_is s.isn mine.1 mine.3 in
-          let isn_low = h.sound.isn_fits in
-          let own_low = sound.isn_fits in
-          let isns = context_law d.source d.destination told.0 told.1 mine.0 mine.1 (omega arith) (h.sound.peer_isn_fits told.1 told.3) (sound.peer_isn_fits mine.0 mine.2) (omega arith) equal in
-          let i = isns.0 in
-          let k = isns.1 in
-          let isn = h.isn in
-          let at_q : m.isn ≡ mine.0 = omega arith in
-          let found : find (side w (other at)).sessions mine.0 ≡ Some t =
-          ap (find (side w (other at)).sessions) (sym at_q) ∙ ap (λ (x : End). find (side w x).sessions m.isn) (sym maker) ∙ ok.found in
-          let back : t.state.peer_isn ≡ Some s.isn = h.later.peer told.1 told.3 ∙ ap (λ n. Some n) (k ∙ sym own_is) in
-          (mine.0, mine.2, found, back);
+          let l = linked_met setup t.state m h at s bytes p sound accounts g (ap (λ (k : ℕ). (k / 2) % 2 == 1) same.flags ∙ plain) plain in
+          let others = (side w (other at)).sessions in
+          (l.peer, l.knows, ap (find others) (sym l.isn) ∙ (ap (λ (x : End). find (side w x).sessions m.isn) (sym accounts.maker) ∙ f.ok.found), l.back);
     }
 
 -- ---- the laws

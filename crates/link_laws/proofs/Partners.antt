@@ -1,7 +1,6 @@
 -- A session has at most one partner.
-use Rattle.std.proofs.Common.{◌≡◌, ℕ, ◌==◌, Bool, true, false, List, [], ◌∷◌, Option, Some, None, if◌then◌else◌, refl, sym, ap, ◌∙◌, subst, arith}
+use Rattle.std.proofs.Common.{◌≡◌, ℕ, ◌==◌, Bool, true, false, List, [], ◌∷◌, Option, Some, None, if◌then◌else◌, refl, sym, ap, ◌∙◌, subst}
 use Rattle.std.specs.List.{AllByRecursion}
-use Rattle.std.proofs.lemmas.Bool.Decides.{nat_tests}
 use Rattle.segment_model.proofs.Fields.{eqb_is, some_is}
 use Rattle.endpoint_model.specs.States.{EndState}
 use Rattle.link_model.specs.declared.event.Event.{Event}
@@ -10,8 +9,9 @@ use Rattle.link_model.specs.Laws.{SetupFits, EventFits}
 use Rattle.link_model.specs.Runs.{run}
 use Rattle.link_model.specs.Worlds.{other, Setup, Session, World, side, find, is_known, known_by, partner_among}
 use Rattle.link_laws.proofs.Invariant.{Distinct}
-use Rattle.link_laws.proofs.Keeping.{find_own, find_isn}
+use Rattle.link_laws.proofs.Sessions.{find_own, find_isn}
 use Rattle.link_laws.proofs.Running.{run_inv}
+use Rattle.link_laws.proofs.Sessions.{known_is, partner_is}
 
 -- each session is the one that is found by its number
 abbrev EachFound : List Session → List Session → Type 0
@@ -30,29 +30,10 @@ each_found : (sessions : List Session) → Distinct sessions → EachFound sessi
 each_found [] h = tt
 each_found (s ∷ rest) h = (find_own s rest (s.state.isn == s.state.isn) refl, each_later s rest rest h.0 (each_found rest h.1))
 
-known_is : (o : Option ℕ) (isn : ℕ) → o ≡ Some isn → is_known o isn ≡ true
-known_is None isn e = absurd (cc)
-known_is (Some q) isn e = let same : q ≡ isn = some_is q isn e in grind (arith, nat_tests)
-
-known-is : (o : Option ℕ) (isn : ℕ) → is_known o isn ≡ true → o ≡ Some isn
-known-is None isn e = absurd (cc)
-known-is (Some q) isn e = let same : q ≡ isn = eqb_is q isn e in ap (λ n. Some n) same
-
-if_true : (t : Session) (b : Bool) → b ≡ true → (if b then Some t else None) ≡ Some t
-if_true t true e = refl
-if_true t false e = absurd (cc)
-
-partner_found : (all : List Session) (s : EndState) (t : Session) (o : Option ℕ) → s.peer_isn ≡ o → find all t.state.isn ≡ Some t → ArePartners s t.state → partner_among all s.isn o ≡ Some t
-partner_found all s t None e found h = let here = h.here in absurd (cc)
-partner_found all s t (Some q) e found h =
-    let same : q ≡ t.state.isn = some_is q t.state.isn (sym e ∙ h.here) in
-    let got : find all q ≡ Some t = subst (λ (n : ℕ). find all n ≡ Some t) (sym same) found in
-    ap (known_by s.isn) got ∙ if_true t (is_known t.state.peer_isn s.isn) (known_is t.state.peer_isn s.isn h.there)
-
 all_partners : (all sessions : List Session) (s : EndState) → EachFound all sessions
     → AllByRecursion (λ (t : Session). ArePartners s t.state → partner_among all s.isn s.peer_isn ≡ Some t) sessions
 all_partners all [] s h = tt
-all_partners all (t ∷ rest) s h = ((λ p. partner_found all s t s.peer_isn refl h.0 p), all_partners all rest s h.1)
+all_partners all (t ∷ rest) s h = ((λ p. partner_is all s.isn s.peer_isn t.state.isn t p.here h.0 p.there), all_partners all rest s h.1)
 
 pub one_partner : (setup : Setup) (fits : SetupFits setup) (events : List Event) → AllByRecursion EventFits events → OnePartner (run setup events)
 one_partner setup fits events f e s =
@@ -66,7 +47,7 @@ knows_if all s q u t true is e found got =
     let same : u ≡ t = some_is u t got in
     let isn : u.state.isn ≡ q = find_isn all q u found in
     let mine : ArePartners s u.state × (find all u.state.isn ≡ Some u) =
-    (record { here = e ∙ ap (λ n. Some n) (sym isn); there = known-is u.state.peer_isn s.isn is }, subst (λ (n : ℕ). find all n ≡ Some u) (sym isn) found) in
+    (record { here = e ∙ ap (λ n. Some n) (sym isn); there = known_is u.state.peer_isn s.isn is }, subst (λ (n : ℕ). find all n ≡ Some u) (sym isn) found) in
     subst (λ (x : Session). ArePartners s x.state × (find all x.state.isn ≡ Some x)) same mine
 
 known_partner : (all : List Session) (s : EndState) (q : ℕ) (o : Option Session) (t : Session) → s.peer_isn ≡ Some q → find all q ≡ o → known_by s.isn o ≡ Some t

@@ -1,35 +1,24 @@
 -- Prefix, end of stream and acknowledgement hold of each run.
-use Rattle.std.proofs.Common.{◌≡◌, ℕ, zero, suc, ◌+◌, ◌-◌, ◌≤◌, ◌^◌, ◌<◌, ◌==◌, min, Bool, true, false, List, [], ◌∷◌, ◌++◌, length, replicate, unwrap_or, slice_get, Option, Some, None, inl, inr, ⊎_elim, if◌then◌else◌, refl, sym, ap, ◌∙◌, subst, arith, append-nil, length-append}
+use Rattle.std.proofs.Common.{◌≡◌, ℕ, zero, suc, ◌+◌, ◌-◌, ◌≤◌, ◌<◌, ◌==◌, min, true, List, [], ◌∷◌, ◌++◌, length, unwrap_or, slice_get, Option, Some, None, inl, inr, ⊎_elim, refl, sym, ap, ◌∙◌, subst, arith, append-nil, length-append}
 use Rattle.std.specs.List.{AllByRecursion}
-use Rattle.ao_base.specs.declared.end.End.{End}
-use Rattle.segment_model.specs.Spelling.{AreBytes}
-use Rattle.segment_model.proofs.Fields.{and_tells, eqb_is, lt_is, some_is}
-use Rattle.key_model.specs.Rows.{Row}
-use Rattle.key_model.specs.Tables.{Adding, AddedAs, TooMany, OverlapsRow, adding, withdrawn}
-use Rattle.endpoint_model.specs.States.{EndState, first, ready_at, ready_count, ready, passed_fin, at_end, connected, listening, started, tick}
+use Rattle.segment_model.proofs.Fields.{and_tells, eqb_is, some_is}
+use Rattle.endpoint_model.specs.States.{EndState, first, ready_at, ready_count, ready, passed_fin, at_end}
 use Rattle.segment_model.specs.Received.{below_limit, bytes_from}
-use Rattle.link_laws.proofs.Tests.{choose}
-use Rattle.link_laws.proofs.Sound.{Sound, steady_sound}
 use Rattle.link_laws.proofs.Whole.{Whole}
 use Rattle.link_laws.proofs.Carrying.{GivenAt}
 use Rattle.link_laws.proofs.Lists.{bytes_from-add, length-bytes_from}
-use Rattle.link_model.specs.RowLines.{row_of}
-use Rattle.link_laws.proofs.ByteLists.{repeated}
-use Rattle.link_model.specs.Alterations.{has_place, altered}
 use Rattle.link_model.specs.declared.event.Event.{Event}
-use Rattle.link_model.specs.declared.event.Event.TheVariants.{Clock, Connect, Listen as Await, Start, Give, Fill, Send, Resend, Deliver, Inject, Alter, Take, Close, Abort, AddRow, Withdraw, Dump}
 use Rattle.link_model.specs.Headline.{IsPrefixOf, ComesFrom, DeliversInOrder, IsWhole, EndsWhole, ShowsEnds, AckedBy, Acknowledges, IsReceived, AcknowledgedWasReceived}
 use Rattle.link_model.specs.Laws.{SetupFits, EventFits}
-use Rattle.link_model.specs.Worlds.{other, Setup, pair_of, Session, Side, Made, World, side, find, partner_among, segment_named}
-use Rattle.link_model.specs.Steps.{Stepped, Act, put, with_sessions, with_rows, ticked, with_clock, acted, act_on, begin, on_live, come, deliver, alter, add_row, withdraw, step}
-use Rattle.link_model.specs.Runs.{empty, run_from, run}
+use Rattle.link_model.specs.Worlds.{other, Setup, Session, side, partner_among}
+use Rattle.link_model.specs.Runs.{run}
 use Rattle.link_laws.proofs.Invariant.{AllWhole, AllShown}
-use Rattle.link_laws.proofs.Keeping.{find_isn, both, grows_refl, grows_head, grows_new, same_gained, ActOk, given_ok, took_ok, close_ok, abort_ok, send_ok, resend_act_ok}
-use Rattle.link_laws.proofs.Origin.{partner_is}
-use Rattle.link_laws.proofs.Running.{ticks, tick_later, altered_bytes, come_ok, named_bytes, step_keeps, begins_inv, run_inv}
+use Rattle.link_laws.proofs.Sessions.{find_isn}
+use Rattle.link_laws.proofs.Sessions.{partner_is}
+use Rattle.link_laws.proofs.Running.{run_inv}
 use Rattle.link_laws.proofs.Delivery.{run_heard}
 use Rattle.link_laws.proofs.Ended.{past_fin_known}
-use Rattle.link_laws.proofs.Streams.{FinMade, OfPartner, Received, AllReceived, AllAcked, Heard, put_heard, head_heard}
+use Rattle.link_laws.proofs.Received.{FinMade, OfPartner, Received, AllReceived, AllAcked}
 
 -- ---- prefix
 

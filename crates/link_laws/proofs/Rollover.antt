@@ -1,9 +1,8 @@
 -- Between aligned tables a segment that is delivered as made passes the check.
-use Rattle.std.proofs.Common.{◌≡◌, ℕ, ◌+◌, ◌-◌, ◌%◌, ◌≤◌, ◌^◌, ◌<◌, ◌==◌, Bool, true, false, not, ◌&&◌, List, [], ◌∷◌, length, Option, Some, None, ◌⊎◌, inl, inr, ⊎_elim, if◌then◌else◌, refl, sym, ap, ◌∙◌, subst, arith, nat_lt, nat_le}
+use Rattle.std.proofs.Common.{◌≡◌, ℕ, ◌%◌, ◌^◌, ◌<◌, Bool, true, false, not, ◌&&◌, List, [], ◌∷◌, length, Option, Some, None, ◌⊎◌, inl, inr, if◌then◌else◌, refl, sym, ap, ◌∙◌, subst, arith}
 use Rattle.std.specs.Prelude.{is_some}
 use Rattle.std.specs.List.{AllByRecursion}
 use Rattle.std.proofs.lemmas.Bool.Decides.{nat_tests}
-use Rattle.ao_base.specs.declared.address.Socket.{Socket}
 use Rattle.ao_base.specs.declared.address.Pair.{Pair}
 use Rattle.ao_base.specs.declared.algorithm.Algorithm.{Algorithm}
 use Rattle.ao_base.specs.declared.end.End.{End}
@@ -11,28 +10,25 @@ use Rattle.ao_base.specs.declared.end.End.TheVariants.{A, B}
 use Rattle.ao_base.specs.Algorithms.{mac_length_of}
 use Rattle.segment_model.specs.Bytes.{same_bytes, ring}
 use Rattle.segment_model.specs.Meant.{meant}
-use Rattle.segment_model.specs.Sockets.{same_socket}
-use Rattle.segment_model.specs.Options.{Ao, One, find_ao}
-use Rattle.segment_model.specs.Segments.{Segment, Read, reading, good, has, segment_length, ACK, SYN}
-use Rattle.segment_model.proofs.Fields.{and_tells, eqb_is, some_is}
-use Rattle.mac_model.specs.Contexts.{context, context_known, context_of_syn, context_of_later, context_of}
+use Rattle.segment_model.specs.Segments.{Segment, Read, reading, good, has, ACK, SYN}
+use Rattle.segment_model.proofs.Fields.{and_tells, some_is}
+use Rattle.mac_model.specs.Contexts.{context_of}
 use Rattle.mac_model.specs.MacInput.{mac_input}
 use Rattle.mac_model.specs.Keys.{traffic_key, mac}
 use Rattle.key_model.specs.Rows.{Row, sendable}
 use Rattle.key_model.specs.Choices.{Numbered, accept_row}
-use Rattle.key_model.specs.Coordination.{Sending as Using, follow, choose as choose_row}
+use Rattle.key_model.specs.Coordination.{Sending, follow, choose as choose_row}
 use Rattle.key_model.specs.Plans.{mirrored, IsMet, AlignedFrom}
-use Rattle.key_model.proofs.OverlapLaws.{same_address-refl}
 use Rattle.key_model.proofs.SendingLaws.{chosen}
 use Rattle.key_model.proofs.PlanLaws.{Meets, meets, same_key_tells}
 use Rattle.endpoint_model.specs.States.{EndState, is_closed}
-use Rattle.endpoint_model.specs.Verdicts.{Finding, Admit, mac_of, found_with, judge_mac, judge_number, number_of, judge_context, judge_row, judge_ao, judge}
+use Rattle.endpoint_model.specs.Verdicts.{Finding, Admit, mac_of, found_with, number_of}
 use Rattle.endpoint_model.specs.declared.arrival.Arrival.{Arrival}
 use Rattle.endpoint_model.specs.declared.arrival.Arrival.TheVariants.{Foreign, Checksum, Closed as AtClosed, Unexpected, Window, Challenge, NoAck, BadAck, TooManyRuns, Reset, Taken}
 use Rattle.endpoint_model.specs.Arrivals.{Arrived, unmoved, heard, after_check, arrive_judged, number_expected, judged_by, from_peer, arrive_read, arrive}
 use Rattle.endpoint_model.specs.Emissions.{Draft, sets, written, blank, own_ao, seal_of, input_of}
 use Rattle.segment_model.specs.Spelling.{finished}
-use Rattle.link_laws.proofs.Tests.{choose, by_bool, not_true, eqb_refl}
+use Rattle.link_laws.proofs.Tests.{choose, by_bool, not_true}
 use Rattle.link_laws.proofs.Sound.{Sound, Later}
 use Rattle.link_laws.proofs.Moves.{MovedOk, after_check_ok}
 use Rattle.link_laws.proofs.Drafts.{DraftOk}
@@ -41,123 +37,10 @@ use Rattle.link_model.specs.declared.event.Event.TheVariants.{Deliver}
 use Rattle.link_model.specs.Worlds.{other, Setup, pair_of, Session, Made, World, side, find, live, is_known, addressed}
 use Rattle.link_model.specs.Steps.{Act, act_on, come, deliver, step}
 use Rattle.link_model.specs.Laws.{SetupFits, IsNear, RollsOver, IsHeard, IsAdmitted}
-use Rattle.link_laws.proofs.Invariant.{live_sound, live_whole, AllSound, Inv, mac_in, row_in, wired}
+use Rattle.link_laws.proofs.Invariant.{live_sound, Inv, mac_in, row_in, wired}
 use Rattle.link_laws.proofs.Running.{named_ok}
-
--- ---- tests
-
-same_bytes-refl : (xs : List ℕ) → same_bytes xs xs ≡ true
-same_bytes-refl [] = refl
-same_bytes-refl (x ∷ xs) = let same : (x == x) ≡ true = grind (arith, nat_tests) in rw same (same_bytes-refl xs)
-
-same_socket-refl : (k : Socket) → same_socket k k ≡ true
-same_socket-refl k = let same : (k.port == k.port) ≡ true = grind (arith, nat_tests) in rw (same_address-refl k.address, same) refl
-
-pub known-is : (o : Option ℕ) (isn : ℕ) → is_known o isn ≡ true → o ≡ Some isn
-known-is None isn e = absurd (cc)
-known-is (Some q) isn e = let same : q ≡ isn = eqb_is q isn e in ap (λ n. Some n) same
-
--- ---- the number meant
-
-pub meant_near : (n x : ℕ) → n < x + 2147483648 → x ≤ n + 2147483648 → meant (n % ring) x ≡ Some n
-unfolding meant
-meant_near n x a b =
-    let ahead : ℕ = (n % ring + ring - x % ring) % ring in
-    ⊎_elim
-    (λ (up : x ≤ n).
-    let is : (n % ring + ring - x % ring) % ring ≡ n - x = omega arith in
-    let test : nat_lt (n - x) 2147483648 ≡ true = grind (arith, nat_tests) in
-    let sum : x + (n - x) ≡ n = omega arith in
-    rw (is, test) (ap (λ k. Some k) sum))
-    (λ (down : n < x).
-    let is : (n % ring + ring - x % ring) % ring ≡ ring - (x - n) = omega arith in
-    let test : nat_lt (ring - (x - n)) 2147483648 ≡ false = grind (arith, nat_tests) in
-    let back : ring - (ring - (x - n)) ≡ x - n = omega arith in
-    let low : nat_le (x - n) x ≡ true = grind (arith, nat_tests) in
-    let left : x - (x - n) ≡ n = omega arith in
-    rw (is, test, back, low) (ap (λ k. Some k) left))
-    (by_order x n)
-  where
-    by_order : (x n : ℕ) → (x ≤ n) ⊎ (n < x)
-    by_order x n = grind arith
-
--- ---- the context
-
-option_is : (a b : ℕ) → Some a ≡ Some b → a ≡ b
-option_is a b e = cc
-
-peer_met : (peer_isn later_peer : Option ℕ) (q r : ℕ) → peer_isn ≡ Some q → ((k : ℕ) → peer_isn ≡ Some k → later_peer ≡ Some k) → is_known later_peer r ≡ true → q ≡ r
-peer_met peer_isn later_peer q r e keeps known = option_is q r (sym (keeps q e) ∙ known-is later_peer r known)
-
-syn_met : (d : Segment) (peer_isn later_peer : Option ℕ) (receiver_isn : ℕ) (c : List ℕ) (b : Bool) → ((q : ℕ) → peer_isn ≡ Some q → later_peer ≡ Some q)
-    → (if b then context_known d.source d.destination d.sequence peer_isn else Some (context d.source d.destination d.sequence 0)) ≡ Some c
-    → (if b then is_known later_peer receiver_isn else true) ≡ true
-    → (if b then context_known d.source d.destination d.sequence (Some receiver_isn) else Some (context d.source d.destination d.sequence 0)) ≡ Some c
-syn_met d None later_peer receiver_isn c true keeps e known = absurd (cc)
-syn_met d (Some q) later_peer receiver_isn c true keeps e known =
-    ap (λ k. Some (context d.source d.destination d.sequence k)) (sym (peer_met (Some q) later_peer q receiver_isn refl keeps known)) ∙ e
-syn_met d peer_isn later_peer receiver_isn c false keeps e known = e
-
-later_met : (d : Segment) (isn : ℕ) (peer_isn later_peer : Option ℕ) (receiver_isn : ℕ) (receiver_peer : Option ℕ) (c : List ℕ) → ((q : ℕ) → peer_isn ≡ Some q → later_peer ≡ Some q) → context_known d.source d.destination isn peer_isn ≡ Some c
-    → is_known later_peer receiver_isn ≡ true → receiver_peer ≡ Some isn → context_of_later d receiver_peer (Some receiver_isn) ≡ Some c
-later_met d isn None later_peer receiver_isn receiver_peer c keeps e known back = absurd (cc)
-later_met d isn (Some q) later_peer receiver_isn receiver_peer c keeps e known back =
-    ap (λ o. context_of_later d o (Some receiver_isn)) back ∙ ap (λ k. Some (context d.source d.destination isn k)) (sym (peer_met (Some q) later_peer q receiver_isn refl keeps known)) ∙ e
-
--- the receiver to which a segment is addressed finds the sender's context
-context_met : (d : Segment) (isn : ℕ) (peer_isn later_peer : Option ℕ) (receiver_isn : ℕ) (receiver_peer : Option ℕ) (c : List ℕ) → context_of d (Some isn) peer_isn ≡ Some c → ((q : ℕ) → peer_isn ≡ Some q → later_peer ≡ Some q)
-    → (if has SYN d then (if has ACK d then is_known later_peer receiver_isn else true) else is_known later_peer receiver_isn && is_known receiver_peer isn) ≡ true → context_of d receiver_peer (Some receiver_isn) ≡ Some c
-unfolding context_of
-context_met d isn peer_isn later_peer receiver_isn receiver_peer c e keeps to = by_test (has SYN d) e to
-  where
-    by_test : (b : Bool) → (if b then context_of_syn d peer_isn else context_of_later d (Some isn) peer_isn) ≡ Some c
-        → (if b then (if has ACK d then is_known later_peer receiver_isn else true) else is_known later_peer receiver_isn && is_known receiver_peer isn) ≡ true
-        → (if b then context_of_syn d (Some receiver_isn) else context_of_later d receiver_peer (Some receiver_isn)) ≡ Some c
-    by_test true e to = syn_met d peer_isn later_peer receiver_isn c (has ACK d) keeps e to
-    by_test false e to =
-        let t = and_tells (is_known later_peer receiver_isn) (is_known receiver_peer isn) to in later_met d isn peer_isn later_peer receiver_isn receiver_peer c keeps e t.0 (known-is receiver_peer isn t.1)
-
--- ---- the verdict
-
-pass_number : (r : Numbered) (d : Segment) (ao : Ao) (c : List ℕ) (n : ℕ) → nat_lt 9223372036854775808 (n + segment_length d) ≡ false → same_bytes ao.mac (mac_of (found_with r d ao c n)) ≡ true
-    → judge_number r d ao c (Some n) ≡ Admit (found_with r d ao c n)
-pass_number r d ao c n range right =
-    choose (λ v. v ≡ Admit (found_with r d ao c n)) (nat_lt 9223372036854775808 (n + segment_length d)) _ (judge_mac ao (found_with r d ao c n)) (λ t. absurd (cc)) (λ t.
-    choose (λ v. v ≡ Admit (found_with r d ao c n)) (same_bytes ao.mac (mac_of (found_with r d ao c n))) (Admit (found_with r d ao c n)) _ (λ t. refl) (λ t. absurd (cc)))
-
--- all that a pass needs
-record Passes (rows : List Row) (pair : Pair) (now : ℕ) (s : EndState) (d : Segment) (ao : Ao) (r : Numbered) (c : List ℕ) (n : ℕ) : Type 0 where
-  option : find_ao d.area ≡ One ao
-  accepts : accept_row rows pair ao.key_id now ≡ Some r
-  long : length ao.mac ≡ mac_length_of r.row.algorithm
-  known : context_of d s.peer_isn (Some s.isn) ≡ Some c
-  expects : (not (has SYN d) && not (is_some (number_expected s s.peer_isn))) ≡ false
-  number : number_of d (number_expected s s.peer_isn) ≡ Some n
-  range : nat_lt 9223372036854775808 (n + segment_length d) ≡ false
-  right : same_bytes ao.mac (mac_of (found_with r d ao c n)) ≡ true
-
-pass_context : (rows : List Row) (pair : Pair) (now : ℕ) (s : EndState) (d : Segment) (ao : Ao) (r : Numbered) (c : List ℕ) (n : ℕ) → Passes rows pair now s d ao r c n
-    → judge_context r d ao (number_expected s s.peer_isn) (Some c) ≡ Admit (found_with r d ao c n)
-pass_context rows pair now s d ao r c n h =
-    let goal = Admit (found_with r d ao c n) in
-    let expects = h.expects in
-    choose (λ v. v ≡ goal) (not (has SYN d) && not (is_some (number_expected s s.peer_isn))) _ (judge_number r d ao c (number_of d (number_expected s s.peer_isn))) (λ t. absurd (cc)) (λ t.
-    ap (judge_number r d ao c) h.number ∙ pass_number r d ao c n h.range h.right)
-
-pass_row : (rows : List Row) (pair : Pair) (now : ℕ) (s : EndState) (d : Segment) (ao : Ao) (r : Numbered) (c : List ℕ) (n : ℕ) → Passes rows pair now s d ao r c n
-    → judge_row rows pair d ao (number_expected s s.peer_isn) (Some c) (Some r) ≡ Admit (found_with r d ao c n)
-pass_row rows pair now s d ao r c n h =
-    let goal = Admit (found_with r d ao c n) in
-    let long = h.long in
-    choose (λ v. v ≡ goal) (not (length ao.mac == mac_length_of r.row.algorithm)) _ (judge_context r d ao (number_expected s s.peer_isn) (Some c)) (λ t. absurd (grind (arith, nat_tests))) (λ t. pass_context rows pair now s d ao r c n h)
-
-judged_pass : (rows : List Row) (pair : Pair) (now : ℕ) (s : EndState) (d : Segment) (ao : Ao) (r : Numbered) (c : List ℕ) (n : ℕ) → Passes rows pair now s d ao r c n
-    → judged_by rows pair now s d ≡ Admit (found_with r d ao c n)
-unfolding judge
-judged_pass rows pair now s d ao r c n h =
-    let x = number_expected s s.peer_isn in
-    ap (λ o. judge_ao rows pair now x d o (find_ao d.area)) h.known ∙ ap (judge_ao rows pair now x d (Some c)) h.option
-    ∙ ap (judge_row rows pair d ao x (Some c)) h.accepts ∙ pass_row rows pair now s d ao r c n h
+use Rattle.link_laws.proofs.Accepted.{same_bytes-refl, same_socket-refl, option_is, meant_near, context_met, Passes, judged_pass}
+use Rattle.link_laws.proofs.Sessions.{known_is}
 
 -- ---- the answer
 
@@ -199,29 +82,29 @@ turned setup B = refl
 -- ---- one delivery
 
 -- a segment in the written form, as it is made: all that its receiver needs of it
-record Sent (pair : Pair) (st : EndState) (out : Draft) (using : Using) (c : List ℕ) : Type 0 where
+record Sent (pair : Pair) (st : EndState) (out : Draft) (sending : Sending) (c : List ℕ) : Type 0 where
   sound : Sound st
   drafted : DraftOk st out
-  known : context_of (blank pair st out using) (Some st.isn) st.peer_isn ≡ Some c
-  key_id : using.key_id ≡ using.row.send_id
-  mac_long : length (seal_of pair st out using c) ≡ mac_length_of using.row.algorithm
-  right : good (finished (written pair st out using (seal_of pair st out using c))) ≡ true
+  known : context_of (blank pair st out sending) (Some st.isn) st.peer_isn ≡ Some c
+  key_id : sending.key_id ≡ sending.row.send_id
+  mac_long : length (seal_of pair st out sending c) ≡ mac_length_of sending.row.algorithm
+  right : good (finished (written pair st out sending (seal_of pair st out sending c))) ≡ true
 
 -- the MAC that the receiver computes is the sender's
-mac_met : (pair : Pair) (st : EndState) (out : Draft) (using : Using) (c : List ℕ) (r : Numbered) → length (seal_of pair st out using c) ≡ mac_length_of using.row.algorithm
-    → r.row.algorithm ≡ using.row.algorithm → r.row.master ≡ using.row.master → r.row.with_options ≡ using.row.with_options
-    → let m = seal_of pair st out using c in
-    same_bytes m (mac_of (found_with r (finished (written pair st out using m)) (own_ao out using m) c out.number)) ≡ true
-mac_met pair st out using c r long algorithm master flag =
-    let m = seal_of pair st out using c in
-    let d = finished (written pair st out using m) in
-    let ao = own_ao out using m in
-    let input : mac_input out.number d ao r.row.with_options ≡ input_of pair st out using =
-    ap (mac_input out.number d ao) flag ∙ same_input pair st out using m out.number using.row.with_options long in
+mac_met : (pair : Pair) (st : EndState) (out : Draft) (sending : Sending) (c : List ℕ) (r : Numbered) → length (seal_of pair st out sending c) ≡ mac_length_of sending.row.algorithm
+    → r.row.algorithm ≡ sending.row.algorithm → r.row.master ≡ sending.row.master → r.row.with_options ≡ sending.row.with_options
+    → let m = seal_of pair st out sending c in
+    same_bytes m (mac_of (found_with r (finished (written pair st out sending m)) (own_ao out sending m) c out.number)) ≡ true
+mac_met pair st out sending c r long algorithm master flag =
+    let m = seal_of pair st out sending c in
+    let d = finished (written pair st out sending m) in
+    let ao = own_ao out sending m in
+    let input : mac_input out.number d ao r.row.with_options ≡ input_of pair st out sending =
+    ap (mac_input out.number d ao) flag ∙ same_input pair st out sending m out.number sending.row.with_options long in
     let is : mac r.row.algorithm (traffic_key r.row.algorithm r.row.master c) (mac_input out.number d ao r.row.with_options) ≡ m =
     ap (λ (a : Algorithm). mac a (traffic_key a r.row.master c) (mac_input out.number d ao r.row.with_options)) algorithm
-    ∙ ap (λ (k : List ℕ). mac using.row.algorithm (traffic_key using.row.algorithm k c) (mac_input out.number d ao r.row.with_options)) master
-    ∙ ap (mac using.row.algorithm (traffic_key using.row.algorithm using.row.master c)) input in
+    ∙ ap (λ (k : List ℕ). mac sending.row.algorithm (traffic_key sending.row.algorithm k c) (mac_input out.number d ao r.row.with_options)) master
+    ∙ ap (mac sending.row.algorithm (traffic_key sending.row.algorithm sending.row.master c)) input in
     subst (λ (l : List ℕ). same_bytes m l ≡ true) (sym is) (same_bytes-refl m)
 
 -- the number that the receiver finds is the sender's
@@ -259,10 +142,10 @@ to_plain : (b : Bool) (x y : Bool) (z : Bool) → b ≡ false → (if b then x e
 to_plain true x y z e h = absurd (cc)
 to_plain false x y z e h = (and_tells y z h).1
 
-counted : (pair : Pair) (st : EndState) (out : Draft) (using : Using) (m : List ℕ) (t s : EndState) → Sound st → DraftOk st out
-    → addressed (finished (written pair st out using m)) t s ≡ true → (sets out.flags SYN ≡ false → IsNear out.number s.expected) → Counted s (finished (written pair st out using m)) out.number
-counted pair st out using m t s sound ok to near =
-    let d = finished (written pair st out using m) in
+counted : (pair : Pair) (st : EndState) (out : Draft) (sending : Sending) (m : List ℕ) (t s : EndState) → Sound st → DraftOk st out
+    → addressed (finished (written pair st out sending m)) t s ≡ true → (sets out.flags SYN ≡ false → IsNear out.number s.expected) → Counted s (finished (written pair st out sending m)) out.number
+counted pair st out sending m t s sound ok to near =
+    let d = finished (written pair st out sending m) in
     by_bool (Counted s d out.number) (has SYN d)
     (λ syn.
     let at = (ok.syn syn).0 in
@@ -270,38 +153,38 @@ counted pair st out using m t s sound ok to near =
     let is : d.sequence ≡ out.number = omega arith in
     record { expects = expects_syn (has SYN d) (not (is_some (number_expected s s.peer_isn))) syn; number = syn_number d (number_expected s s.peer_isn) syn ∙ ap (λ k. Some k) is; syn = λ e. omega arith })
     (λ plain.
-    let back = known-is s.peer_isn t.isn (to_plain (has SYN d) (if has ACK d then is_known t.peer_isn s.isn else true) (is_known t.peer_isn s.isn) (is_known s.peer_isn t.isn) plain to) in
+    let back = known_is s.peer_isn t.isn (to_plain (has SYN d) (if has ACK d then is_known t.peer_isn s.isn else true) (is_known t.peer_isn s.isn) (is_known s.peer_isn t.isn) plain to) in
     let x = known_expected s s.peer_isn t.isn back in
     record { expects = expects_known (has SYN d) (number_expected s s.peer_isn) s.expected x; number = plain_number d out.number s.expected (number_expected s s.peer_isn) x plain refl (near plain); syn = λ e. absurd (cc) })
 
 -- a segment in the written form passes under a row that meets the sender's
-sent_heard : (rows : List Row) (pair there : Pair) (now : ℕ) (s t st : EndState) (out : Draft) (using : Using) (c : List ℕ) → Sent there st out using c → Later st t → mirrored there ≡ pair
-    → Meets rows pair using.row.send_id now using.row → Sound s → is_closed s.phase ≡ false
-    → addressed (finished (written there st out using (seal_of there st out using c))) t s ≡ true → (sets out.flags SYN ≡ false → IsNear out.number s.expected)
-    → IsHeard (arrive_read rows pair now s (Read (finished (written there st out using (seal_of there st out using c))))).answer
-sent_heard rows pair there now s t st out using c h later turn met sound awake to near =
-    let m = seal_of there st out using c in
-    let d = finished (written there st out using m) in
-    let ao = own_ao out using m in
+sent_heard : (rows : List Row) (pair there : Pair) (now : ℕ) (s t st : EndState) (out : Draft) (sending : Sending) (c : List ℕ) → Sent there st out sending c → Later st t → mirrored there ≡ pair
+    → Meets rows pair sending.row.send_id now sending.row → Sound s → is_closed s.phase ≡ false
+    → addressed (finished (written there st out sending (seal_of there st out sending c))) t s ≡ true → (sets out.flags SYN ≡ false → IsNear out.number s.expected)
+    → IsHeard (arrive_read rows pair now s (Read (finished (written there st out sending (seal_of there st out sending c))))).answer
+sent_heard rows pair there now s t st out sending c h later turn met sound awake to near =
+    let m = seal_of there st out sending c in
+    let d = finished (written there st out sending m) in
+    let ao = own_ao out sending m in
     let syn = sets out.flags SYN in
     let r = met.numbered in
-    let n = counted there st out using m t s h.sound h.drafted to near in
+    let n = counted there st out sending m t s h.sound h.drafted to near in
     let small = h.drafted.small in
     let isn : t.isn ≡ st.isn = later.same_isn in
-    let key = same_key_tells r.row using.row met.key in
+    let key = same_key_tells r.row sending.row met.key in
     let to_isn : (if has SYN d then (if has ACK d then is_known t.peer_isn s.isn else true) else is_known t.peer_isn s.isn && is_known s.peer_isn st.isn) ≡ true =
     subst (λ (k : ℕ). (if has SYN d then (if has ACK d then is_known t.peer_isn s.isn else true) else is_known t.peer_isn s.isn && is_known s.peer_isn k) ≡ true) isn to in
     let known : context_of d s.peer_isn (Some s.isn) ≡ Some c =
-    context_met d st.isn st.peer_isn t.peer_isn s.isn s.peer_isn c (same_context there st out using m (Some st.isn) st.peer_isn ∙ h.known) later.peer to_isn in
+    context_met d st.isn st.peer_isn t.peer_isn s.isn s.peer_isn c (same_context there st out sending m (Some st.isn) st.peer_isn ∙ h.known) later.peer to_isn in
     let all : Passes rows pair now s d ao r c out.number = record {
-      option = area_ao there syn using m;
+      option = area_ao there syn sending m;
       accepts = ap (λ k. accept_row rows pair k now) h.key_id ∙ met.accepts;
       long = h.mac_long ∙ ap mac_length_of (sym key.algorithm);
       known = known;
       expects = n.expects;
       number = n.number;
       range = grind (arith, nat_tests);
-      right = mac_met there st out using c r h.mac_long key.algorithm key.master key.flag;
+      right = mac_met there st out sending c r h.mac_long key.algorithm key.master key.flag;
     } in
     let verdict = judged_pass rows pair now s d ao r c out.number all in
     let ours : from_peer pair d ≡ true = subst (λ (p : Pair). from_peer p d ≡ true) turn (rw (same_socket-refl there.local, same_socket-refl there.remote) refl) in
@@ -313,7 +196,7 @@ live_admitted : (w : World) (e : End) (sessions : List Session) (call : EndState
 live_admitted w e [] call r lives h = absurd (cc)
 live_admitted w e (s ∷ rest) call r lives h = subst (λ (x : Session). IsAdmitted (call x.state).outcome) (sym (some_is s r lives)) h
 
-met_row : (P : Row → Type 0) (current : Option ℕ) (rows : List Row) (pair : Pair) (now : ℕ) (s : Using) → AllByRecursion P rows → choose_row current rows pair now ≡ Some s → P s.row × (sendable pair now s.row ≡ true)
+met_row : (P : Row → Type 0) (current : Option ℕ) (rows : List Row) (pair : Pair) (now : ℕ) (s : Sending) → AllByRecursion P rows → choose_row current rows pair now ≡ Some s → P s.row × (sendable pair now s.row ≡ true)
 met_row P current rows pair now s h e = let c = chosen P current rows pair now s h e in (c.of, c.may)
 
 session_is : (a b : Session) → Some a ≡ Some b → a ≡ b

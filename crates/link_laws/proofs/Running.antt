@@ -1,13 +1,10 @@
 -- The facts hold in each state of each run.
-use Rattle.std.proofs.Common.{◌≡◌, ℕ, zero, suc, ◌+◌, ◌≤◌, ◌^◌, ◌<◌, ◌==◌, Bool, true, false, List, [], ◌∷◌, length, take, drop, replicate, Option, Some, None, ◌⊎◌, inl, inr, ⊎_elim, if◌then◌else◌, refl, sym, ap, ◌∙◌, subst, arith}
-use Rattle.std.specs.Prelude.{slice_set, slice_index, bit_xor}
+use Rattle.std.proofs.Common.{◌≡◌, ℕ, ◌+◌, ◌≤◌, ◌^◌, ◌<◌, ◌==◌, Bool, true, false, List, [], ◌∷◌, length, replicate, Option, Some, None, ◌⊎◌, inl, inr, ⊎_elim, if◌then◌else◌, refl, sym, ap, ◌∙◌, subst, arith}
 use Rattle.std.specs.List.{AllByRecursion}
-use Rattle.std.proofs.lemmas.Nat.{xor_of_8}
 use Rattle.ao_base.specs.declared.end.End.{End}
 use Rattle.ao_base.specs.declared.end.End.TheVariants.{A, B}
-use Rattle.segment_model.specs.Segments.{reading, complement_of}
-use Rattle.segment_model.specs.Spelling.{AreBytes, ip_length, with_checksum as with_sum, pseudo_in, with_right_checksum}
-use Rattle.segment_model.proofs.ByteLaws.{bytes_drop, bytes_take}
+use Rattle.segment_model.specs.Segments.{reading}
+use Rattle.segment_model.specs.Spelling.{AreBytes}
 use Rattle.segment_model.proofs.Fields.{some_is}
 use Rattle.key_model.specs.Lifetimes.{greatest_time}
 use Rattle.key_model.specs.Rows.{Row}
@@ -19,16 +16,17 @@ use Rattle.endpoint_model.specs.declared.phase.Phase.TheVariants.{Listen, SynSen
 use Rattle.endpoint_model.specs.States.{EndState, beginning, connected, listening, started, is_due, tick_in, tick}
 use Rattle.link_laws.proofs.Tests.{choose}
 use Rattle.link_laws.proofs.Ended.{at_end-later}
-use Rattle.link_laws.proofs.Sound.{fin_made, Sound, Later, Steady, steady_refl, steady_later, steady_sound, with_phase, closed_ok}
-use Rattle.link_laws.proofs.Whole.{open_now, Whole, whole_phase, closed_kept, fresh}
+use Rattle.link_laws.proofs.Sound.{Sound, Later, Steady, steady_refl, steady_later, steady_sound, with_phase}
+use Rattle.link_laws.proofs.Phases.{fin_made, open_now, closed_ok, closed_kept}
+use Rattle.link_laws.proofs.Whole.{Whole, whole_phase, fresh}
 use Rattle.endpoint_model.specs.Verdicts.{Finding}
 use Rattle.endpoint_model.specs.Arrivals.{Arrived, arrive}
 use Rattle.link_laws.proofs.Gains.{Brings, BringsFin, BringsAck, Gains}
 use Rattle.endpoint_model.specs.Emissions.{is_silent}
-use Rattle.link_laws.proofs.ByteLists.{Byted, join, two, cons, taken, dropped, repeated}
+use Rattle.link_laws.proofs.ByteLists.{repeated, altered_bytes}
 use Rattle.ao_base.specs.declared.address.Pair.{Pair}
 use Rattle.link_model.specs.RowLines.{row_of}
-use Rattle.link_model.specs.Alterations.{masked, place_in, has_place, altered}
+use Rattle.link_model.specs.Alterations.{has_place, altered}
 use Rattle.link_model.specs.declared.event.Event.{Event}
 use Rattle.link_model.specs.declared.event.Event.TheVariants.{Clock, Connect, Listen as Await, Start, Give, Fill, Send, Resend, Deliver, Inject, Alter, Take, Close, Abort, AddRow, Withdraw, Dump}
 use Rattle.link_model.specs.Worlds.{Setup, pair_of, Session, Made, Came, Happening, Making, Coming, World, side, find, segment_named}
@@ -36,31 +34,11 @@ use Rattle.link_model.specs.Steps.{Stepped, with_sessions, with_rows, ticked, wi
 use Rattle.link_model.specs.Runs.{empty, run_from, run}
 use Rattle.link_model.specs.Laws.{RowFits, SetupFits, EventFits}
 use Rattle.link_laws.proofs.Invariant.{MadeOk, AllMadeOk, AllSound, AllWhole, AllShown, Distinct, Inv, Grows, wired}
-use Rattle.link_laws.proofs.Keeping.{grows_refl, grows_head, grows_new, both, put_keeps, Gained, HasPassed, same_gained, ActOk, act_keeps, given_ok, took_ok, close_ok, abort_ok, send_ok, resend_act_ok}
+use Rattle.link_laws.proofs.Sessions.{grows_refl, grows_head, grows_new, both}
+use Rattle.link_laws.proofs.Keeping.{put_keeps, Gained, HasPassed, same_gained, ActOk, act_keeps}
+use Rattle.link_laws.proofs.Calls.{given_ok, took_ok, close_ok, abort_ok}
+use Rattle.link_laws.proofs.Making.{send_ok, resend_act_ok}
 use Rattle.link_laws.proofs.Arriving.{Passing, ArrivedOk, arrive_ok}
-
--- ---- bytes that come
-
-set_bytes : (xs : List ℕ) (i v : ℕ) → v < 256 → Byted xs → Byted (slice_set xs i v)
-set_bytes [] i v low h = h
-set_bytes (x ∷ xs) zero v low h = cons v xs low (record { at = λ j. h.at (suc j) })
-set_bytes (x ∷ xs) (suc i) v low h = cons x (slice_set xs i v) (h.at 0) (set_bytes xs i v low (record { at = λ j. h.at (suc j) }))
-
-masked_bytes : (b : List ℕ) (i mask : ℕ) → mask < 256 → Byted b → Byted (masked b i mask)
-masked_bytes b i mask low h = set_bytes b i (bit_xor (slice_index b i) mask) (xor_of_8 (slice_index b i) mask (h.at i) low) h
-
-summed : (b : List ℕ) → Byted b → Byted (with_right_checksum b)
-unfolding with_right_checksum
-summed b h =
-    let t = drop (ip_length b) b in
-    let tb = dropped b (ip_length b) h in
-    join (take (ip_length b) b) _ (taken b (ip_length b) h) (join (take 16 t) _ (taken t 16 tb) (two (complement_of (pseudo_in b (with_sum t 0))) (drop 18 t) (dropped t 18 tb)))
-
-pub altered_bytes : (b : List ℕ) (place mask : ℕ) (fix : Bool) → mask < 256 → Byted b → Byted (altered b place mask fix)
-unfolding altered
-altered_bytes b place mask fix low h =
-    let copy = masked_bytes b (place_in b place) mask low h in
-    choose Byted fix (with_right_checksum (masked b (place_in b place) mask)) (masked b (place_in b place) mask) (λ t. summed (masked b (place_in b place) mask) copy) (λ t. copy)
 
 -- ---- the clock
 

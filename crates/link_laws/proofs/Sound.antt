@@ -3,34 +3,8 @@ use Rattle.std.proofs.Common.{◌≡◌, ℕ, ◌+◌, ◌^◌, ◌<◌, ◌≤�
 use Rattle.segment_model.specs.Spelling.{AreBytes}
 use Rattle.segment_model.proofs.Fields.{some_is}
 use Rattle.endpoint_model.specs.declared.phase.Phase.{Phase}
-use Rattle.endpoint_model.specs.declared.phase.Phase.TheVariants.{Listen, SynSent, SynReceived, Established, FinWait1, FinWait2, CloseWait, Closing, LastAck, TimeWait, Closed}
 use Rattle.endpoint_model.specs.States.{EndState}
-use Rattle.endpoint_model.specs.Arrivals.{past_fin, after_own_fin}
-
--- the own FIN was made, or the end is closed
-abbrev pub fin_gone : Phase → Bool
-fin_gone FinWait1 = true
-fin_gone FinWait2 = true
-fin_gone Closing = true
-fin_gone LastAck = true
-fin_gone TimeWait = true
-fin_gone Closed = true
-fin_gone _ = false
-
--- the own FIN was made
-abbrev pub fin_made : Phase → Bool
-fin_made FinWait1 = true
-fin_made FinWait2 = true
-fin_made Closing = true
-fin_made LastAck = true
-fin_made TimeWait = true
-fin_made _ = false
-
--- the peer's initial sequence number isn't known yet
-abbrev pub waits : Phase → Bool
-waits Listen = true
-waits SynSent = true
-waits _ = false
+use Rattle.link_laws.proofs.Phases.{fin_gone, fin_made, waits, PhaseOk}
 
 -- what holds of one state, of the fields that it speaks of alone, so that a change of another one keeps it as it stands
 pub record SoundOf (phase : Phase) (isn : ℕ) (peer_isn : Option ℕ) (next : ℕ) (given : List ℕ) (closing aborted rst : Bool) : Type 0 where
@@ -170,53 +144,6 @@ steady_sound s t h g =
       closed = λ e. h.same_closing ∙ g.closed (h.made e);
       reset = λ e. h.same_aborted ∙ g.reset (sym h.same_rst ∙ e);
     }
-
--- a change of phase that keeps what is said of phases
-pub record PhaseOk (old new : Phase) : Type 0 where
-  pub waiting : waits new ≡ true → waits old ≡ true
-  pub finished : fin_gone new ≡ false → fin_gone old ≡ false
-  pub made : fin_made new ≡ true → fin_made old ≡ true
-
-same_phase : (phase : Phase) → PhaseOk phase phase
-same_phase phase = record { waiting = λ e. e; finished = λ e. e; made = λ e. e }
-
-pub own_ok : (phase : Phase) → PhaseOk phase (after_own_fin phase)
-own_ok FinWait1 = record { waiting = λ e. absurd (cc); finished = λ e. absurd (cc); made = λ e. e }
-own_ok Closing = record { waiting = λ e. absurd (cc); finished = λ e. absurd (cc); made = λ e. e }
-own_ok LastAck = record { waiting = λ e. absurd (cc); finished = λ e. absurd (cc); made = λ e. absurd (cc) }
-own_ok Listen = same_phase Listen
-own_ok SynSent = same_phase SynSent
-own_ok SynReceived = same_phase SynReceived
-own_ok Established = same_phase Established
-own_ok FinWait2 = same_phase FinWait2
-own_ok CloseWait = same_phase CloseWait
-own_ok TimeWait = same_phase TimeWait
-own_ok Closed = same_phase Closed
-
-pub past_ok : (phase : Phase) → PhaseOk phase (past_fin phase)
-past_ok Established = record { waiting = λ e. e; finished = λ e. e; made = λ e. e }
-past_ok FinWait1 = record { waiting = λ e. e; finished = λ e. e; made = λ e. e }
-past_ok FinWait2 = record { waiting = λ e. e; finished = λ e. e; made = λ e. e }
-past_ok Listen = same_phase Listen
-past_ok SynSent = same_phase SynSent
-past_ok SynReceived = same_phase SynReceived
-past_ok Closing = same_phase Closing
-past_ok LastAck = same_phase LastAck
-past_ok CloseWait = same_phase CloseWait
-past_ok TimeWait = same_phase TimeWait
-past_ok Closed = same_phase Closed
-
-pub closed_ok : (phase : Phase) → PhaseOk phase Closed
-closed_ok phase = record { waiting = λ e. absurd (cc); finished = λ e. absurd (cc); made = λ e. absurd (cc) }
-
-pub established_ok : PhaseOk SynReceived Established
-established_ok = record { waiting = λ e. absurd (cc); finished = λ e. refl; made = λ e. absurd (cc) }
-
-pub received_ok : PhaseOk Listen SynReceived
-received_ok = record { waiting = λ e. absurd (cc); finished = λ e. refl; made = λ e. absurd (cc) }
-
-pub answered_ok : PhaseOk SynSent Established
-answered_ok = record { waiting = λ e. absurd (cc); finished = λ e. refl; made = λ e. absurd (cc) }
 
 -- only the phase changes
 pub with_phase : (s : EndState) (new : Phase) → PhaseOk s.phase new → Steady s (record s { phase = new })

@@ -30,7 +30,7 @@ keep-old : (m : ℕ → Option ℕ) (n : ℕ) (payload : List ℕ) (low high p b
 unfolding keep
 keep-old m n payload low high p b e = rw e
 
--- what holds of the bytes that a session received, of its fin, and of a position x up to which they stand in order
+-- what holds of the bytes that a session received, of its FIN, and of the number expected, up to which they stand in order
 pub record Stream (peer_isn : Option ℕ) (taken : List ℕ) (m : ℕ → Option ℕ) (fin : Option ℕ) (x : ℕ) : Type 0 where
   pub begun : first peer_isn + length taken ≤ below_limit fin x
   pub took : taken ≡ bytes_from m (first peer_isn) (length taken)
@@ -170,7 +170,7 @@ kept q taken m fin x n payload h =
       unknown = λ e. absurd (cc);
     }
 
--- x moves to the first missing position
+-- the number expected moves to the first missing one
 moved_room : (fin : Option ℕ) (start x y : ℕ) → start ≤ below_limit fin x → below_limit fin x ≤ start + 65535 → ((f : ℕ) → fin ≡ Some f → x ≤ f + 1)
     → x ≤ y → y ≤ x + (65535 - (below_limit fin x - start)) → below_limit fin y ≤ start + 65535
 moved_room None start x y a b c low high = omega arith
@@ -223,7 +223,7 @@ moved_missing q taken m fin x h =
     not_some (m y) (λ b is. let top = h.high y b is in let far = edge fin (q + 1 + length taken) x h.begun in absurd (omega arith)))
     (or_lt y (x + w))
 
--- a fin is recorded
+-- a FIN is recorded
 pub recorded : (q : ℕ) (taken : List ℕ) (m : ℕ → Option ℕ) (x f : ℕ) → x ≤ f → ((p : ℕ) → f ≤ p → m p ≡ None) → Stream (Some q) taken m None x
     → Stream (Some q) taken m (Some f) x
 recorded q taken m x f le none h =
@@ -242,7 +242,7 @@ recorded q taken m x f le none h =
       unknown = λ e. absurd (cc);
     }
 
--- x moves past the fin
+-- the number expected moves past the FIN
 pub passed : (q : ℕ) (taken : List ℕ) (m : ℕ → Option ℕ) (f : ℕ) → Stream (Some q) taken m (Some f) f → Stream (Some q) taken m (Some f) (f + 1)
 passed q taken m f h =
     let begun = h.begun in

@@ -6,24 +6,17 @@ use Rattle.segment_model.specs.Meant.{meant}
 use Rattle.segment_model.specs.Segments.{Segment, has, segment_length, ACK, FIN, RST, SYN}
 use Rattle.segment_model.proofs.Fields.{and_tells, eqb_is, le_is, lt_is, lt_not, some_is}
 use Rattle.endpoint_model.specs.declared.phase.Phase.{Phase}
-use Rattle.endpoint_model.specs.declared.phase.Phase.TheVariants.{Listen, SynSent, SynReceived, Established, FinWait1, FinWait2, CloseWait, Closing, LastAck, TimeWait, Closed}
+use Rattle.endpoint_model.specs.declared.phase.Phase.TheVariants.{Listen, SynSent, SynReceived, Established, TimeWait, Closed}
 use Rattle.endpoint_model.specs.States.{EndState, first, window, hears}
 use Rattle.segment_model.specs.Received.{below_limit, keep, first_missing, runs}
 use Rattle.endpoint_model.specs.Arrivals.{Moved, owing, above, within, fits_window, rested, finish, past_fin, pass_fin, fin_of, heard_runs, hear_data, after_own_fin, acked_fin, windowed, acked, go_on, acknowledged, ordinary, syn_alone, syn_ack_alone, after_check}
 use Rattle.endpoint_model.specs.Emissions.{is_silent}
 use Rattle.link_laws.proofs.Tests.{not_true}
-use Rattle.link_laws.proofs.Sound.{waits, Sound}
+use Rattle.link_laws.proofs.Phases.{waits, open_now, PhaseKept, own_kept, past_kept, closed_kept, hears_speaks}
+use Rattle.link_laws.proofs.Sound.{Sound}
 use Rattle.link_laws.proofs.Moves.{following}
 use Rattle.link_laws.proofs.Stream.{Stream, room_of, not_some, fm_stop, runs_none, edge, kept, moved, moved_missing, recorded, passed, or_lt}
 use Rattle.segment_model.specs.Bytes.{ring}
-
--- the handshake is over
-abbrev pub open_now : Phase → Bool
-open_now Listen = false
-open_now SynSent = false
-open_now SynReceived = false
-open_now Closed = false
-open_now _ = true
 
 -- what is known of the peer, and what is acknowledged
 pub record EndsOf (phase : Phase) (isn : ℕ) (peer_isn : Option ℕ) (una next : ℕ) (rst : Bool) : Type 0 where
@@ -33,7 +26,7 @@ pub record EndsOf (phase : Phase) (isn : ℕ) (peer_isn : Option ℕ) (una next 
   pub known : is_silent phase ≡ false → (q : ℕ) × (peer_isn ≡ Some q)
   pub resets : rst ≡ true → (q : ℕ) × (peer_isn ≡ Some q)
 
--- the receiving half: bytes in order up to x, no byte at x, x past the FIN once it has come to it
+-- the receiving half: bytes in order up to the number expected, no byte there, and that number past the FIN once it has come to it
 pub record WholeOf (phase : Phase) (isn : ℕ) (peer_isn : Option ℕ) (una next : ℕ) (rst : Bool) (taken : List ℕ) (m : ℕ → Option ℕ) (fin : Option ℕ) (x : ℕ) : Type 0 where
   pub stream : Stream peer_isn taken m fin x
   pub missing : m x ≡ None
@@ -42,43 +35,6 @@ pub record WholeOf (phase : Phase) (isn : ℕ) (peer_isn : Option ℕ) (una next
 
 abbrev pub Whole : EndState → Type 0
 Whole s = WholeOf s.phase s.isn s.peer_isn s.una s.next s.rst_owed s.taken s.received s.fin s.expected
-
--- a change of phase that keeps what is said of phases
-pub record PhaseKept (old new : Phase) : Type 0 where
-  pub opens : open_now new ≡ true → open_now old ≡ true
-  pub knows : is_silent new ≡ false → is_silent old ≡ false
-
-kept_phase : (phase : Phase) → PhaseKept phase phase
-kept_phase phase = record { opens = λ e. e; knows = λ e. e }
-
-own_kept : (phase : Phase) → PhaseKept phase (after_own_fin phase)
-own_kept FinWait1 = record { opens = λ e. e; knows = λ e. e }
-own_kept Closing = record { opens = λ e. e; knows = λ e. e }
-own_kept LastAck = record { opens = λ e. absurd (cc); knows = λ e. absurd (cc) }
-own_kept Listen = kept_phase Listen
-own_kept SynSent = kept_phase SynSent
-own_kept SynReceived = kept_phase SynReceived
-own_kept Established = kept_phase Established
-own_kept FinWait2 = kept_phase FinWait2
-own_kept CloseWait = kept_phase CloseWait
-own_kept TimeWait = kept_phase TimeWait
-own_kept Closed = kept_phase Closed
-
-past_kept : (phase : Phase) → PhaseKept phase (past_fin phase)
-past_kept Established = record { opens = λ e. e; knows = λ e. e }
-past_kept FinWait1 = record { opens = λ e. e; knows = λ e. e }
-past_kept FinWait2 = record { opens = λ e. e; knows = λ e. e }
-past_kept Listen = kept_phase Listen
-past_kept SynSent = kept_phase SynSent
-past_kept SynReceived = kept_phase SynReceived
-past_kept Closing = kept_phase Closing
-past_kept LastAck = kept_phase LastAck
-past_kept CloseWait = kept_phase CloseWait
-past_kept TimeWait = kept_phase TimeWait
-past_kept Closed = kept_phase Closed
-
-pub closed_kept : (phase : Phase) → PhaseKept phase Closed
-closed_kept phase = record { opens = λ e. absurd (cc); knows = λ e. absurd (cc) }
 
 ends_phase : (old new : Phase) (isn : ℕ) (peer_isn : Option ℕ) (una next : ℕ) (rst : Bool) → PhaseKept old new → EndsOf old isn peer_isn una next rst → EndsOf new isn peer_isn una next rst
 ends_phase old new isn peer_isn una next rst ok h =
@@ -102,7 +58,7 @@ rested_whole s now _ _ h = h
 finish_whole : (s : EndState) (now : ℕ) → Whole s → Whole (finish s now).state
 finish_whole s now h = rested_whole s now s.phase s.deadline h
 
--- the bytes are kept, and x moves to the first missing number
+-- the bytes are kept, and the number expected moves to the first missing one
 heard : (o : Option ℕ) (taken : List ℕ) (m : ℕ → Option ℕ) (fin : Option ℕ) (x n : ℕ) (payload : List ℕ) → (q : ℕ) × (o ≡ Some q) → Stream o taken m fin x
     → let new = keep m n payload x (below_limit fin (x + room_of o taken fin x)) in
     let y = first_missing new x (room_of o taken fin x) in Stream o taken new fin y × (new y ≡ None)
@@ -132,7 +88,7 @@ fin_whole (Some q) taken m None x y f true known begun is says h =
     let stop = fm_stop m x w f low (none f (omega arith)) in
     recorded q taken m y f (omega arith) none h
 
--- x moves past the FIN
+-- the number expected moves past the FIN
 passed_any : (o : Option ℕ) (taken : List ℕ) (m : ℕ → Option ℕ) (fin : Option ℕ) (x f : ℕ) → fin ≡ Some f → f ≡ x → Stream o taken m fin x → Stream o taken m fin (f + 1)
 passed_any None taken m fin x f e same h = let u = h.unknown refl in let none = u.1 in absurd (cc)
 passed_any (Some q) taken m None x f e same h = absurd (cc)
@@ -185,19 +141,6 @@ hear_whole : (s : EndState) (d : Segment) (n now : ℕ) (b : Bool) → (b ≡ tr
 hear_whole s d n now false known h = finish_whole s now h
 hear_whole s d n now true known h = hear_if s d n now _ (known refl) h
 
-hears_known : (phase : Phase) → hears phase ≡ true → is_silent phase ≡ false
-hears_known Established e = refl
-hears_known FinWait1 e = refl
-hears_known FinWait2 e = refl
-hears_known Listen e = absurd (cc)
-hears_known SynSent e = absurd (cc)
-hears_known SynReceived e = absurd (cc)
-hears_known CloseWait e = absurd (cc)
-hears_known Closing e = absurd (cc)
-hears_known LastAck e = absurd (cc)
-hears_known TimeWait e = absurd (cc)
-hears_known Closed e = absurd (cc)
-
 windowed_whole : (s : EndState) (old : ℕ) (d : Segment) (k : ℕ) (a : Option ℕ) → Whole s → Whole (windowed s old d k a)
 windowed_whole s old d k None h = h
 windowed_whole s old d k (Some a) h = pick _ (record s { send_window = d.window; wl1 = k; wl2 = a }) s (λ e. h) (λ e. h)
@@ -210,7 +153,7 @@ go_on_whole s old d n now a h =
     let w = windowed s old d n a in
     let t = acked_fin w a in
     let done = acked_fin_whole w a (windowed_whole s old d n a h) in
-    hear_whole t d n now _ (λ e. done.ends.known (hears_known t.phase (and_tells (hears t.phase) (nat_lt 0 (length d.payload) || has FIN d) e).0)) done
+    hear_whole t d n now _ (λ e. done.ends.known (hears_speaks t.phase (and_tells (hears t.phase) (nat_lt 0 (length d.payload) || has FIN d) e).0)) done
 
 una_whole : (s : EndState) (a : ℕ) → s.una < a → a ≤ s.next → Whole s → Whole (record s { una = a })
 una_whole s a more top h =

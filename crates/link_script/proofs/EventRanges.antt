@@ -7,10 +7,10 @@ use Rattle.ao_base.specs.declared.line_kind.LineKind.{LineKind}
 use Rattle.ao_base.specs.declared.line_kind.LineKind.TheVariants.{Word}
 use Rattle.link_script.specs.declared.event.Event.{Event}
 use Rattle.link_script.specs.declared.event.Event.TheVariants.{Clock, Start, Give, Fill, Send, Deliver, Inject, Alter, Take, Dump}
-use Rattle.link_script.specs.EventLines.{event_of, event_named, clock_of, start_of, give_of, fill_of, send_of, deliver_of, inject_of, alter_of, take_of, dump_of}
+use Rattle.link_script.specs.EventLines.{fixing_in, event_of, event_named, clock_of, start_of, give_of, fill_of, send_of, deliver_of, inject_of, alter_of, take_of, dump_of}
 use Rattle.link_script.specs.Script.{end_in_front, same_end, starts}
 use Rattle.link_script.specs.Scripts.{IsEvent}
-use Rattle.link_script.specs.Words.{Taken, word_in, nothing_in, end_in, end_of, number_in, hex_in, some_hex_in, byte_in, fixing_in}
+use Rattle.line_model.specs.Words.{Taken, word_in, nothing_in, end_in, end_of, number_in, sized_hex_in, some_hex_in, byte_in}
 use Rattle.link_script.proofs.WordRanges.{bind_ok, word_as_ok, number_ok, hex_ok, some_hex_ok, byte_ok}
 
 -- an event that starts the end comes from `start` and the end's name
@@ -70,7 +70,7 @@ inject_ok : (ws : List (List ℕ)) (x : Event) → inject_of ws ≡ Ok x → IsO
 unfolding inject_of starts
 inject_ok ws x h =
     let e = bind_ok (end_in ws) _ x h in
-    let b = bind_ok (hex_in 1 65575 e.0.rest) _ x e.2 in
+    let b = bind_ok (sized_hex_in 1 65575 e.0.rest) _ x e.2 in
     let n = bind_ok (nothing_in b.0.rest) _ x b.2 in
     let is : Inject e.0.value b.0.value ≡ x = cc n.2 in
     rw (← is) (hex_ok 1 65575 e.0.rest b.0 b.1, λ end. refl)

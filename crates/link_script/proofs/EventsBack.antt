@@ -6,10 +6,11 @@ use Rattle.ao_base.specs.Hexadecimal.{hex_of}
 use Rattle.link_script.specs.declared.event.Event.{Event}
 use Rattle.link_script.specs.declared.event.Event.TheVariants.{Clock, Start, Give, Fill, Send, Deliver, Inject, Alter, Take, Dump}
 use Rattle.link_script.specs.EventLines.{event_of, event_named, clock_of, start_of, give_of, fill_of, send_of, deliver_of, inject_of, alter_of, take_of, dump_of}
-use Rattle.link_script.specs.Lines.{says_something}
-use Rattle.link_script.specs.Printed.{end_text, fixing_text, event_words}
+use Rattle.line_model.specs.Lines.{says_something}
+use Rattle.line_model.specs.Texts.{end_text}
+use Rattle.link_script.specs.Printed.{fixing_text, event_words}
 use Rattle.link_script.specs.Scripts.{IsEvent}
-use Rattle.link_script.specs.Words.{word_in, nothing_in}
+use Rattle.line_model.specs.Words.{word_in, nothing_in}
 use Rattle.link_script.proofs.LinesBack.{IsLine}
 use Rattle.link_script.proofs.PlainWords.{IsWord, word_by_test, decimal_word, hex_word}
 use Rattle.link_script.proofs.WordsBack.{end_back, number_back, hex_back, some_hex_back, byte_back, fixing_back, one_byte}

@@ -1,10 +1,12 @@
 -- Printed lines are the lines of their text, numbered from the first.
 use Rattle.std.proofs.Common.{◌≡◌, ℕ, ◌+◌, true, List, [], ◌∷◌, ◌++◌, length, map, refl, sym, ap, ◌∙◌, append_assoc}
-use Rattle.std.proofs.lemmas.List.{length-map}
+use Rattle.std.proofs.lemmas.List.{append-nil, length-map}
 use Rattle.ao_base.specs.Lines.{lines_of}
 use Rattle.ao_base.proofs.LineLaws.{spaced, lines_of-line, words_of-spaced}
-use Rattle.link_script.specs.Lines.{Line, says_something, saying_from}
-use Rattle.link_script.specs.Printed.{line_text, lines_text}
+use Rattle.line_model.specs.Lines.{Line, says_something, saying_from}
+use Rattle.line_model.specs.Texts.{line_text}
+use Rattle.line_model.specs.Texts as texts
+use Rattle.link_script.specs.Printed.{lines_text}
 use Rattle.link_script.proofs.PlainWords.{AreWords, all_words, no_newline}
 
 -- a line that says something
@@ -19,10 +21,14 @@ pub AreLines-append : (ks ls : List (List (List ℕ))) → AreLines ks → AreLi
 AreLines-append [] ls hk hl = hl
 AreLines-append (k ∷ ks) ls hk hl = (hk.0, AreLines-append ks ls hk.1 hl)
 
+-- a space in front of each further word is one between all
+between : (w : List ℕ) (ws : List (List ℕ)) → spaced (w ∷ ws) ≡ w ++ texts.spaced ws
+between w [] = sym (append-nil w)
+between w (v ∷ ws) = ap (λ t. w ++ 32 ∷ t) (between v ws)
+
 line_text-spaced : (l : List (List ℕ)) → line_text l ≡ spaced l ++ 10 ∷ []
 line_text-spaced [] = refl
-line_text-spaced (w ∷ []) = refl
-line_text-spaced (w ∷ v ∷ ws) = ap (λ t. w ++ 32 ∷ t) (line_text-spaced (v ∷ ws)) ∙ sym (append_assoc w (32 ∷ spaced (v ∷ ws)) (10 ∷ []))
+line_text-spaced (w ∷ ws) = sym (append_assoc w (texts.spaced ws) (10 ∷ [])) ∙ ap (λ t. t ++ 10 ∷ []) (sym (between w ws))
 
 pub lines_of-printed : (ls : List (List (List ℕ))) → AreLines ls → lines_of (lines_text ls) ≡ map spaced ls
 unfolding lines_text lines_of

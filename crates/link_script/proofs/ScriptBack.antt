@@ -9,24 +9,24 @@ use Rattle.ao_base.specs.declared.address.Socket.{Socket}
 use Rattle.ao_base.specs.declared.end.End.{End}
 use Rattle.ao_base.specs.declared.end.End.TheVariants.{A, B}
 use Rattle.ao_base.specs.declared.algorithm.Algorithm.{Algorithm}
-use Rattle.ao_base.specs.declared.algorithm.Algorithm.TheVariants.{HmacSha1, AesCmac}
+use Rattle.ao_base.specs.declared.algorithm.Algorithm.TheVariants.{HmacSha1, AesCmac, HmacSha256}
 use Rattle.ao_base.specs.Lines.{lines_of}
 use Rattle.ao_base.specs.Algorithms.{name_of}
 use Rattle.ao_base.specs.Hexadecimal.{hex_of}
 use Rattle.link_script.specs.declared.event.Event.{Event}
 use Rattle.link_script.specs.declared.event.Event.TheVariants.{Clock, Start, Give, Fill, Send, Deliver, Inject, Alter, Take, Dump}
-use Rattle.link_script.specs.declared.fault.ScriptFault.{ScriptFault}
+use Rattle.line_model.specs.declared.text_fault.TextFault.{TextFault}
 use Rattle.link_script.specs.declared.script.SharedKey.{SharedKey}
 use Rattle.link_script.specs.declared.script.Script.{Script}
-use Rattle.link_script.specs.Lines.{is_comment, says_something}
+use Rattle.line_model.specs.Lines.{is_comment, says_something}
 use Rattle.link_script.specs.Printed.{event_words, title_words, socket_words, key_lines, script_lines, lines_text, text_of}
 use Rattle.link_script.specs.Script.{Left, are_two_of_a_family, event_at, events_from, is_shared, key_in, line_in, peer_of, restarts, same_end, script_in, script_of, shared_key_of, socket_of, starts, title_of}
 use Rattle.link_script.specs.Scripts.{IsEvent, IsKey, IsScript, IsSocket}
-use Rattle.link_script.specs.Words.{◌>>=◌, word_in, nothing_in, literal_in}
+use Rattle.line_model.specs.Words.{◌>>=◌, word_in, nothing_in, literal_in, socket_in}
 use Rattle.link_script.proofs.LinesBack.{IsLine, AreLines, AreLines-append, numbered_from, lines_of-printed, saying_from-printed, length-lines_of-printed}
 use Rattle.link_script.proofs.PlainWords.{IsWord, word_by_test, decimal_word, hex_word, address_word}
 use Rattle.link_script.proofs.EventsBack.{event_back, event_line}
-use Rattle.link_script.proofs.WordsBack.{end_of-end_text, address_back, number_back, algorithm_back, hex_back}
+use Rattle.link_script.proofs.WordsBack.{end_of-end_text, address_back, number_back, short_back, hex_back}
 
 pub first_holds : {X : Type 0} (P : X → Type 0) (x : X) (xs : List X) → All P (x ∷ xs) → P x
 first_holds P x xs h = h zero x (omega arith)
@@ -120,11 +120,11 @@ unfolding title_of title_words literal_in word_in nothing_in
 title_back = refl
 
 socket_a_back : (s : Socket) → IsSocket s → socket_of (codes "a") (socket_words (codes "a") s) ≡ Ok s
-unfolding socket_of socket_words literal_in word_in nothing_in
+unfolding socket_of socket_words socket_in literal_in word_in nothing_in
 socket_a_back s h = rw (address_back s.address (decimal s.port ∷ []) h.0, number_back 0 65535 s.port [] (omega arith) h.1 (lit< tt)) refl
 
 socket_b_back : (s : Socket) → IsSocket s → socket_of (codes "b") (socket_words (codes "b") s) ≡ Ok s
-unfolding socket_of socket_words literal_in word_in nothing_in
+unfolding socket_of socket_words socket_in literal_in word_in nothing_in
 socket_b_back s h = rw (address_back s.address (decimal s.port ∷ []) h.0, number_back 0 65535 s.port [] (omega arith) h.1 (lit< tt)) refl
 
 peer_back : (a b : Socket) → IsSocket b → are_two_of_a_family a.address b.address ≡ true → peer_of a (socket_words (codes "b") b) ≡ Ok b
@@ -133,13 +133,13 @@ peer_back a b h two = rw (socket_b_back b h, two) refl
 
 key_back : (k : SharedKey) → IsKey (Some k) → shared_key_of (codes "shared" ∷ name_of k.alg ∷ hex_of k.master ∷ []) ≡ Ok k
 unfolding shared_key_of literal_in word_in nothing_in
-key_back k h = rw (algorithm_back k.alg (hex_of k.master ∷ []), hex_back 1 255 k.master [] h) refl
+key_back k h = rw (short_back k.alg (hex_of k.master ∷ []) h.0, hex_back 1 255 k.master [] h.1) refl
 
 abbrev built : Socket → Socket → Option SharedKey → List Event → Script
 built x y key es = record { a = x; b = y; shared = key; events = es }
 
 -- the events after the key
-abbrev after_key : Socket → Socket → Result (Left (Option SharedKey)) ScriptFault → Result Script ScriptFault
+abbrev after_key : Socket → Socket → Result (Left (Option SharedKey)) TextFault → Result Script TextFault
 after_key x y key = do
   k ← key
   events ← events_from [] k.rest
@@ -168,11 +168,12 @@ socket_line name s word says h = ((word, (address_word s.address h.0, (decimal_w
 key_line : (key : Option SharedKey) → IsKey key → AreLines (key_lines key)
 unfolding key_lines says_something
 key_line None h = tt
-key_line (Some k) h = (((word_by_test (codes "shared") (lit< tt) refl, (name_word k.alg, (hex_word k.master (omega (arith, h.0)) h.2, tt))), refl), tt)
+key_line (Some k) h = (((word_by_test (codes "shared") (lit< tt) refl, (name_word k.alg, (hex_word k.master (omega (arith, h.1.0)) h.1.2, tt))), refl), tt)
   where
     name_word : (a : Algorithm) → IsWord (name_of a)
     name_word HmacSha1 = word_by_test (codes "HMAC-SHA-1-96") (lit< tt) refl
     name_word AesCmac = word_by_test (codes "AES-128-CMAC-96") (lit< tt) refl
+    name_word HmacSha256 = word_by_test (codes "HMAC-SHA-256-128") (lit< tt) refl
 
 event_lines : (es : List Event) → All IsEvent es → AreLines (map event_words es)
 event_lines [] h = tt

@@ -1,61 +1,79 @@
 -- A script that a text says is one of the grammar.
-use Rattle.std.proofs.Common.{◌≡◌, ℕ, zero, suc, ◌+◌, ◌≤◌, cond, ◌||◌, nat_lt, Bool, true, false, List, [], ◌∷◌, ◌++◌, length, map, codes, Option, Some, None, Result, Ok, Err, refl, ap, subst, ◌∙◌, arith, All}
+use Rattle.std.proofs.Common.{◌≡◌, ℕ, zero, suc, ◌+◌, ◌≤◌, ◌==◌, cond, ◌||◌, nat_lt, Bool, true, false, List, [], ◌∷◌, ◌++◌, length, map, codes, Option, Some, None, Result, Ok, Err, refl, sym, ap, subst, ◌∙◌, arith, All}
 use Rattle.std.specs.List.{list_any}
 use Rattle.std.specs.Option.{is_none}
-use Rattle.std.proofs.lemmas.Bool.{ltb-false}
+use Rattle.std.proofs.lemmas.Bool.{eqb-true, ltb-false}
 use Rattle.std.proofs.lemmas.List.{length-append, length-map}
 use Rattle.std.proofs.lemmas.List.Elements.{All-append}
 use Rattle.ao_base.specs.declared.address.Socket.{Socket}
 use Rattle.ao_base.specs.declared.end.End.{End}
 use Rattle.ao_base.specs.declared.line_kind.LineKind.{LineKind}
 use Rattle.ao_base.specs.declared.line_kind.LineKind.TheVariants as kind
-use Rattle.ao_base.specs.Lines.{lines_of, words_of}
+use Rattle.ao_base.specs.declared.algorithm.Algorithm.{Algorithm}
+use Rattle.ao_base.specs.Algorithms.{mac_length_of}
+use Rattle.ao_base.specs.Lines.{lines_of}
 use Rattle.link_script.specs.declared.event.Event.{Event}
-use Rattle.link_script.specs.declared.fault.ScriptFault.{ScriptFault}
-use Rattle.link_script.specs.declared.fault.ScriptFault.TheVariants as fault
+use Rattle.line_model.specs.declared.text_fault.TextFault.{TextFault}
+use Rattle.line_model.specs.declared.text_fault.TextFault.TheVariants as fault
 use Rattle.link_script.specs.declared.script.SharedKey.{SharedKey}
 use Rattle.link_script.specs.declared.script.Script.{Script}
 use Rattle.link_script.specs.EventLines.{event_of}
-use Rattle.link_script.specs.Lines.{Line, says_something, saying_from}
+use Rattle.line_model.specs.Lines.{Line, saying_from}
 use Rattle.link_script.specs.Printed.{event_words, key_lines, script_lines}
-use Rattle.link_script.specs.Script.{Left, are_two_of_a_family, at_line, event_at, events_from, is_shared, key_in, line_in, numbered, peer_of, restarts, script_in, script_of, shared_key_of, socket_of, starts, title_of}
+use Rattle.link_script.specs.Script.{Left, are_two_of_a_family, at_line, event_at, events_from, is_shared, key_in, line_in, peer_of, restarts, script_in, script_of, shared_key_of, short_algorithm_in, socket_of, starts, title_of}
 use Rattle.link_script.specs.Scripts.{IsEvent, IsKey, IsScript, IsSocket}
-use Rattle.link_script.specs.Words.{address_in, algorithm_in, hex_in, literal_in, nothing_in, number_in}
+use Rattle.line_model.specs.Said.{numbered}
+use Rattle.line_model.specs.Words.{Taken, address_in, algorithm_in, sized_hex_in, literal_in, nothing_in, number_in, socket_in}
+use Rattle.text_lines.proofs.SaidLaws.{saying_length}
 use Rattle.link_script.proofs.WordRanges.{bind_ok, address_ok, hex_ok, number_ok}
 use Rattle.link_script.proofs.EventRanges.{IsSaid, event_ok}
 use Rattle.link_script.proofs.ScriptBack.{times, times-append, times-cons}
+
+socket_in_ok : (ws : List (List ℕ)) (t : Taken Socket) → socket_in ws ≡ Ok t → IsSocket t.value
+unfolding socket_in
+socket_in_ok ws t h =
+    let a = bind_ok (address_in ws) _ t h in
+    let p = bind_ok (number_in 0 65535 a.0.rest) _ t a.2 in
+    let is : record { value = record { address = a.0.value; port = p.0.value }; rest = p.0.rest } ≡ t = cc p.2 in
+    rw (← is) (address_ok ws a.0 a.1, (number_ok 0 65535 a.0.rest p.0 p.1).1)
 
 socket_ok : (name : List ℕ) (ws : List (List ℕ)) (s : Socket) → socket_of name ws ≡ Ok s → IsSocket s
 unfolding socket_of
 socket_ok name ws s h =
     let l = bind_ok (literal_in name ws) _ s h in
-    let a = bind_ok (address_in l.0.rest) _ s l.2 in
-    let p = bind_ok (number_in 0 65535 a.0.rest) _ s a.2 in
-    let n = bind_ok (nothing_in p.0.rest) _ s p.2 in
-    let is : record { address = a.0.value; port = p.0.value } ≡ s = cc n.2 in
-    rw (← is) (address_ok l.0.rest a.0 a.1, (number_ok 0 65535 a.0.rest p.0 p.1).1)
+    let k = bind_ok (socket_in l.0.rest) _ s l.2 in
+    let n = bind_ok (nothing_in k.0.rest) _ s k.2 in
+    let is : k.0.value ≡ s = cc n.2 in
+    rw (← is) (socket_in_ok l.0.rest k.0 k.1)
 
-two_case : (b : Bool) (x y : Socket) → cond b (Ok x) (Err kind.Word) ≡ Ok y → (b ≡ true) × (x ≡ y)
-two_case true x y h = (refl, cc h)
-two_case false x y h = absurd (cc h)
+passed : {A : Type 0} (b : Bool) (x y : A) → cond b (Ok x) (Err kind.Word) ≡ Ok y → (b ≡ true) × (x ≡ y)
+passed true x y h = (refl, cc h)
+passed false x y h = absurd (cc h)
 
 peer_ok : (a : Socket) (ws : List (List ℕ)) (b : Socket) → peer_of a ws ≡ Ok b → IsSocket b × (are_two_of_a_family a.address b.address ≡ true)
 unfolding peer_of
 peer_ok a ws b h =
     let s = bind_ok (socket_of (codes "b") ws) (λ x. cond (are_two_of_a_family a.address x.address) (Ok x) (Err kind.Word)) b h in
-    let c = two_case (are_two_of_a_family a.address s.0.address) s.0 b s.2 in
+    let c = passed (are_two_of_a_family a.address s.0.address) s.0 b s.2 in
     let P : Socket → Type 0 = λ y. IsSocket y × (are_two_of_a_family a.address y.address ≡ true) in
     subst P c.1 (socket_ok (codes "b") ws s.0 s.1, c.0)
+
+short_ok : (ws : List (List ℕ)) (t : Taken Algorithm) → short_algorithm_in ws ≡ Ok t → mac_length_of t.value ≡ 12
+unfolding short_algorithm_in
+short_ok ws t h =
+    let a = bind_ok (algorithm_in ws) (λ x. cond (mac_length_of x.value == 12) (Ok x) (Err kind.Word)) t h in
+    let c = passed (mac_length_of a.0.value == 12) a.0 t a.2 in
+    sym (ap (λ (x : Taken _). mac_length_of x.value) c.1) ∙ eqb-true _ _ c.0
 
 key_ok : (ws : List (List ℕ)) (k : SharedKey) → shared_key_of ws ≡ Ok k → IsKey (Some k)
 unfolding shared_key_of
 key_ok ws k h =
     let l = bind_ok (literal_in (codes "shared") ws) _ k h in
-    let a = bind_ok (algorithm_in l.0.rest) _ k l.2 in
-    let m = bind_ok (hex_in 1 255 a.0.rest) _ k a.2 in
+    let a = bind_ok (short_algorithm_in l.0.rest) _ k l.2 in
+    let m = bind_ok (sized_hex_in 1 255 a.0.rest) _ k a.2 in
     let n = bind_ok (nothing_in m.0.rest) _ k m.2 in
     let is : record { alg = a.0.value; master = m.0.value } ≡ k = cc n.2 in
-    rw (← is) (hex_ok 1 255 a.0.rest m.0 m.1)
+    rw (← is) (short_ok l.0.rest a.0 a.1, hex_ok 1 255 a.0.rest m.0 m.1)
 
 at_line_ok : {A : Type 0} (n : ℕ) (kind : LineKind) (ls : List Line) (r : Result A LineKind) (t : Left A) → at_line n kind ls r ≡ Ok t → (r ≡ Ok t.value) × (ls ≡ t.rest)
 at_line_ok n kind ls (Ok x) t h =
@@ -88,7 +106,7 @@ key_lines_ok false missing ls t h =
 abbrev pub AreEvents : List Event → Type 0
 AreEvents es = All IsEvent es × ((end : End) → times end es ≤ 1)
 
-refused : (b : Bool) (n : ℕ) (k : LineKind) (r : Result Event ScriptFault) (e : Event) → cond b (Err (fault.Line n k)) r ≡ Ok e → (b ≡ false) × (r ≡ Ok e)
+refused : (b : Bool) (n : ℕ) (k : LineKind) (r : Result Event TextFault) (e : Event) → cond b (Err (fault.Line n k)) r ≡ Ok e → (b ≡ false) × (r ≡ Ok e)
 refused true n k r e h = absurd (cc h)
 refused false n k r e h = (refl, h)
 
@@ -142,15 +160,6 @@ events_ok before (l ∷ ls) es known h =
     let more = events_ok (before ++ e.0 ∷ []) ls es (event_at_ok before l e.0 known e.1) e.2 in
     (more.0, omega (arith, more.1, length-append before (e.0 ∷ [])))
 
-fewer_case : (b : Bool) (n : ℕ) (l : List ℕ) (rest : List Line) (m : ℕ) → length rest ≤ m → length (cond b (record { number = n; words = words_of l } ∷ rest) rest) ≤ suc m
-fewer_case true n l rest m h = omega arith
-fewer_case false n l rest m h = omega arith
-
-fewer : (n : ℕ) (ls : List (List ℕ)) → length (saying_from n ls) ≤ length ls
-unfolding saying_from
-fewer n [] = omega arith
-fewer n (l ∷ ls) = fewer_case (says_something (words_of l)) n l (saying_from (n + 1) ls) (length ls) (fewer (n + 1) ls)
-
 script_in_ok : (with_keys : Bool) (missing : ℕ) (ls : List Line) (s : Script) → length ls ≤ 20000 → script_in with_keys missing ls ≡ Ok s →
     IsScript s × (is_none s.shared ≡ with_keys)
 unfolding script_in script_lines
@@ -182,7 +191,7 @@ script_in_ok with_keys missing ls s few h =
       lk.2,
     )
 
-few_case : {A : Type 0} (b : Bool) (r : Result A ScriptFault) (x : A) → cond b (Err fault.TooManyLines) r ≡ Ok x → (b ≡ false) × (r ≡ Ok x)
+few_case : {A : Type 0} (b : Bool) (r : Result A TextFault) (x : A) → cond b (Err fault.TooManyLines) r ≡ Ok x → (b ≡ false) × (r ≡ Ok x)
 few_case true r x h = absurd (cc h)
 few_case false r x h = (refl, h)
 
@@ -192,4 +201,4 @@ unfolding script_of
 script_of_ok with_keys text s h =
     let c = few_case (nat_lt 20000 (length (lines_of text))) _ s h in
     let few : length (lines_of text) ≤ 20000 = ltb-false _ _ c.0 in
-    script_in_ok with_keys (length (lines_of text) + 1) (saying_from 1 (lines_of text)) s (omega (arith, fewer 1 (lines_of text))) c.1
+    script_in_ok with_keys (length (lines_of text) + 1) (saying_from 1 (lines_of text)) s (omega (arith, saying_length 1 (lines_of text))) c.1

@@ -3,7 +3,8 @@ use Rattle.std.proofs.Common.{◌≡◌, ℕ, ◌+◌, ◌<◌, List, [], ◌∷
 use Rattle.std.proofs.lemmas.List.{take_more, map_push, append-nil}
 use Rattle.link_script.specs.declared.event.Event.{Event}
 use Rattle.link_script.specs.declared.script.Script.{Script}
-use Rattle.link_script.specs.Printed.{event_words, line_text, lines_text, script_lines, title_words, socket_words, key_lines, text_of}
+use Rattle.line_model.specs.Texts.{line_text}
+use Rattle.link_script.specs.Printed.{event_words, lines_text, script_lines, title_words, socket_words, key_lines, text_of}
 use Rattle.std.specs.Prelude.{codes}
 
 pub lines_text-append : (xs ys : List (List (List ℕ))) → lines_text (xs ++ ys) ≡ lines_text xs ++ lines_text ys

@@ -12,7 +12,7 @@ use Rattle.ao_base.specs.declared.line_kind.LineKind.TheVariants.{Range}
 use Rattle.ao_base.specs.Addresses.{address_of, between_dots, below_256, dotted_of, four, has_leading_zero, octet_of}
 use Rattle.ao_base.specs.Decimals.{decimal_of}
 use Rattle.ao_base.specs.Hexadecimal.{bytes_of_hex}
-use Rattle.link_script.specs.Words.{◌>>=◌, Taken, address_in, byte_in, first_of, hex_in, number_in, or_fault, some_hex_in, within, word_as, word_in}
+use Rattle.line_model.specs.Words.{◌>>=◌, Taken, address_in, byte_in, first_of, hex_in, sized_hex_in, number_in, or_fault, some_hex_in, within, word_as, word_in}
 use Rattle.link_script.specs.Scripts.{AreBytes, IsAddress}
 
 -- the first of two readings was good, and so was the second
@@ -60,8 +60,8 @@ pub hex_bytes : (w bytes : List ℕ) → bytes_of_hex w ≡ Some bytes → (leng
 unfolding bytes_of_hex
 hex_bytes w bytes h = let d = decode_of-ok w bytes (decoded w (decode_of w) bytes h) in (d.2, d.3)
 
-pub hex_ok : (low high : ℕ) (ws : List (List ℕ)) (t : Taken (List ℕ)) → hex_in low high ws ≡ Ok t → AreBytes low high t.value
-unfolding hex_in
+pub hex_ok : (low high : ℕ) (ws : List (List ℕ)) (t : Taken (List ℕ)) → sized_hex_in low high ws ≡ Ok t → AreBytes low high t.value
+unfolding sized_hex_in hex_in
 hex_ok low high ws t h =
     let b = bind_ok (word_as bytes_of_hex _ ws) (λ bytes. within low high (length bytes.value) bytes) t h in
     let w = within_ok low high (length b.0.value) b.0 t b.2 in
@@ -71,7 +71,7 @@ hex_ok low high ws t h =
     (rw e at w.0, rw e at w.1, rw e at bytes.1)
 
 pub some_hex_ok : (ws : List (List ℕ)) (t : Taken (List ℕ)) → some_hex_in ws ≡ Ok t → (0 < length t.value) × IsBytes t.value
-unfolding some_hex_in
+unfolding some_hex_in hex_in
 some_hex_ok ws t h =
     let b = bind_ok (word_as bytes_of_hex _ ws) (λ bytes. cond (nat_lt 0 (length bytes.value)) (Ok bytes) (Err Range)) t h in
     let w = within_case (nat_lt 0 (length b.0.value)) b.0 t b.2 in
@@ -88,7 +88,7 @@ first_byte (b ∷ bytes) small = small 0
 pub byte_ok : (ws : List (List ℕ)) (t : Taken ℕ) → byte_in ws ≡ Ok t → t.value < 256
 unfolding byte_in
 byte_ok ws t h =
-    let b = bind_ok (hex_in 1 1 ws) (λ bytes. Ok (record { value = first_of bytes.value; rest = bytes.rest })) t h in
+    let b = bind_ok (sized_hex_in 1 1 ws) (λ bytes. Ok (record { value = first_of bytes.value; rest = bytes.rest })) t h in
     let e : record { value = first_of b.0.value; rest = b.0.rest } ≡ t = cc b.2 in
     let same : first_of b.0.value ≡ t.value = ap (λ (x : Taken ℕ). x.value) e in
     let small : first_of b.0.value < 256 = first_byte b.0.value (hex_ok 1 1 ws b.0 b.1).2 in

@@ -1,38 +1,25 @@
 -- The text of a script, and which scripts a link file can say. Our own format.
 use Rattle.std.specs.Prelude.{ℕ, Bool, true, false, List, [], ◌∷◌, ◌++◌, map, codes, Option, Some, None, decimal}
 use Rattle.ao_base.specs.declared.address.Socket.{Socket}
-use Rattle.ao_base.specs.declared.end.End.{End}
-use Rattle.ao_base.specs.declared.end.End.TheVariants.{A, B}
-use Rattle.ao_base.specs.Addresses.{address_text}
 use Rattle.ao_base.specs.Algorithms.{name_of}
 use Rattle.ao_base.specs.Hexadecimal.{hex_of}
+use Rattle.line_model.specs.Texts.{end_text, line_text, socket_texts}
 use Rattle.link_script.specs.declared.event.Event.{Event}
 use Rattle.link_script.specs.declared.event.Event.TheVariants.{Clock, Start, Give, Fill, Send, Deliver, Inject, Alter, Take, Dump}
 use Rattle.link_script.specs.declared.script.SharedKey.{SharedKey}
 use Rattle.link_script.specs.declared.script.Script.{Script}
 
--- words with a space between them, and a newline at the end
-abbrev pub line_text : List (List ℕ) → List ℕ
-line_text [] = 10 ∷ []
-line_text (w ∷ []) = w ++ 10 ∷ []
-line_text (w ∷ v ∷ ws) = w ++ 32 ∷ line_text (v ∷ ws)
-
--- lines, one after another
+-- lines, one after another (own)
 unfoldable pub lines_text : List (List (List ℕ)) → List ℕ
 lines_text [] = []
 lines_text (l ∷ ls) = line_text l ++ lines_text ls
 
--- the name of an end
-abbrev pub end_text : End → List ℕ
-end_text A = codes "a"
-end_text B = codes "b"
-
--- whether a checksum is set
+-- whether a checksum is set (own)
 abbrev pub fixing_text : Bool → List ℕ
 fixing_text false = codes "keep"
 fixing_text true = codes "fix"
 
--- the words of an event, bytes in hexadecimal of lower case
+-- the words of an event, bytes in hexadecimal of lower case (own)
 unfoldable pub event_words : Event → List (List ℕ)
 event_words (Clock e seconds) = codes "clock" ∷ end_text e ∷ decimal seconds ∷ []
 event_words (Start e own peer) = codes "start" ∷ end_text e ∷ decimal own ∷ decimal peer ∷ []
@@ -45,23 +32,23 @@ event_words (Alter e segment place mask fixing) = codes "alter" ∷ end_text e �
 event_words (Take e count) = codes "take" ∷ end_text e ∷ decimal count ∷ []
 event_words (Dump segment) = codes "dump" ∷ decimal segment ∷ []
 
--- the words of the first line
+-- the words of the first line (own)
 unfoldable pub title_words : List (List ℕ)
 title_words = codes "aotcp-link" ∷ codes "1" ∷ []
 
--- the words of the line of an end's socket
+-- the words of the line of an end's socket (own)
 unfoldable pub socket_words : List ℕ → Socket → List (List ℕ)
-socket_words name s = name ∷ address_text s.address ∷ decimal s.port ∷ []
+socket_words name s = name ∷ socket_texts s []
 
--- the line of the shared key, if there is one
+-- the line of the shared key, if there is one (own)
 unfoldable pub key_lines : Option SharedKey → List (List (List ℕ))
 key_lines None = []
 key_lines (Some k) = (codes "shared" ∷ name_of k.alg ∷ hex_of k.master ∷ []) ∷ []
 
--- the lines of a script, as words
+-- the lines of a script, as words (own)
 unfoldable pub script_lines : Script → List (List (List ℕ))
 script_lines s = title_words ∷ socket_words (codes "a") s.a ∷ socket_words (codes "b") s.b ∷ (key_lines s.shared ++ map event_words s.events)
 
--- the text of a script
+-- the text of a script (own)
 unfoldable pub text_of : Script → List ℕ
 text_of s = lines_text (script_lines s)

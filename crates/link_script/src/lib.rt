@@ -4,16 +4,13 @@
 #![tactic(auto)]
 
 mod event;
-mod fault;
 mod line_events;
-mod line_words;
 mod printing;
 mod reading;
-mod saying;
 mod script;
 
 pub use event::{Event, Events};
-pub use fault::ScriptFault;
+pub use line_model::TextFault as ScriptFault;
 pub use printing::print_script;
 pub use reading::read_script;
 pub use script::{Script, SharedKey};

@@ -1,19 +1,46 @@
 //! The events of a link, each read from the words of its line.
 ghost use Rattle.std.specs.Prelude.{◌≡◌};
-ghost use Rattle.link_script.specs.Words.{Tells};
-ghost use Rattle.link_script.specs.EventLines.{clock_of, start_of, give_of, fill_of, send_of, deliver_of, inject_of, alter_of, take_of, dump_of, event_named, event_of};
+ghost use Rattle.line_model.specs.Words.{number_in};
+ghost use Rattle.text_lines.specs.Readings.{gives, Tells};
+ghost use Rattle.link_script.specs.EventLines.{fixing_in, clock_of, start_of, give_of, fill_of, send_of, deliver_of, inject_of, alter_of, take_of, dump_of, event_named, event_of};
 
 use super::event::Event;
-use super::fault::Refusal;
-use super::line_words::LineWords;
 use ao_base::LineKind;
 use std::alloc::Global;
+use text_lines::{LineWords, Refusal};
 
 /// The last second of the year 9999.
 const LATEST: u64 = 253_402_300_799;
 
+/// The greatest ISN that a session may start with: its numbers stay below 2^32.
+const MOST_ISN: u64 = 2_147_483_647;
+
+/// As many segments as a link file has lines.
+const MOST_SEGMENTS: u64 = 20_000;
+
 /// The longest datagram: the 40 bytes of an IPv6 header and 65,535 bytes.
 const MOST_DATAGRAM: usize = 65_575;
+
+/// An ISN that a session may start with.
+fn isn(words: &mut LineWords) -> Result<u32, LineKind>
+    ensures { gives result words.new ≡ number_in 0 2147483647 words.old }
+{
+    Ok(words.number(0, MOST_ISN)? as u32)
+}
+
+/// The number of a segment.
+fn segment(words: &mut LineWords) -> Result<u32, LineKind>
+    ensures { gives result words.new ≡ number_in 1 20000 words.old }
+{
+    Ok(words.number(1, MOST_SEGMENTS)? as u32)
+}
+
+/// Whether a checksum is set: `keep` or `fix`.
+fn fixing(words: &mut LineWords) -> Result<bool, LineKind>
+    ensures { gives result words.new ≡ fixing_in words.old }
+{
+    words.choice(b"keep", b"fix")
+}
 
 #[tactic(auto, unfolding(crate::specs::EventLines::clock_of))]
 fn clock(words: &mut LineWords) -> Result<Event, LineKind>
@@ -30,8 +57,8 @@ fn start(words: &mut LineWords) -> Result<Event, LineKind>
     ensures { result ≡ start_of words.old }
 {
     let end = words.end()?;
-    let own = words.isn()?;
-    let peer = words.isn()?;
+    let own = isn(words)?;
+    let peer = isn(words)?;
     words.nothing()?;
     Ok(Event::Start(end, own, peer))
 }
@@ -71,7 +98,7 @@ fn deliver(words: &mut LineWords) -> Result<Event, LineKind>
     ensures { result ≡ deliver_of words.old }
 {
     let end = words.end()?;
-    let segment = words.segment()?;
+    let segment = segment(words)?;
     words.nothing()?;
     Ok(Event::Deliver(end, segment))
 }
@@ -81,7 +108,7 @@ fn inject(alloc: Global, words: &mut LineWords) -> Result<Event, Refusal>
     ensures { Tells result (inject_of words.old) }
 {
     let end = words.end()?;
-    let datagram = words.hex(alloc, 1, MOST_DATAGRAM)?;
+    let datagram = words.sized_hex(alloc, 1, MOST_DATAGRAM)?;
     words.nothing()?;
     Ok(Event::Inject(end, datagram))
 }
@@ -91,10 +118,10 @@ fn alter(alloc: Global, words: &mut LineWords) -> Result<Event, Refusal>
     ensures { Tells result (alter_of words.old) }
 {
     let end = words.end()?;
-    let segment = words.segment()?;
+    let segment = segment(words)?;
     let place = words.short()?;
     let mask = words.byte(alloc)?;
-    let fixing = words.fixing()?;
+    let fixing = fixing(words)?;
     words.nothing()?;
     Ok(Event::Alter(end, segment, place, mask, fixing))
 }
@@ -113,7 +140,7 @@ fn take(words: &mut LineWords) -> Result<Event, LineKind>
 fn dump(words: &mut LineWords) -> Result<Event, LineKind>
     ensures { result ≡ dump_of words.old }
 {
-    let segment = words.segment()?;
+    let segment = segment(words)?;
     words.nothing()?;
     Ok(Event::Dump(segment))
 }

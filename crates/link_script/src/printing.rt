@@ -1,67 +1,23 @@
 //! A script, printed as a link file.
 ghost use Rattle.std.specs.Prelude.{◌≡◌, ◌++◌, ◌∷◌, [], OnOk, IfOk, codes, decimal, map, option_map, Ok};
 ghost use Rattle.std.specs.Option.{is_none};
-ghost use Rattle.ao_base.specs.Addresses.{address_text};
 ghost use Rattle.ao_base.specs.Hexadecimal.{hex_of};
+ghost use Rattle.line_model.specs.Texts.{end_text, line_text};
 ghost use Rattle.link_script.specs.Script.{script_of};
 ghost use Rattle.link_script.specs.Scripts.{IsScript};
-ghost use Rattle.link_script.specs.Printed.{end_text, event_words, fixing_text, key_lines, line_text, lines_text, script_lines, socket_words, text_of, title_words};
+ghost use Rattle.link_script.specs.Printed.{event_words, fixing_text, key_lines, lines_text, script_lines, socket_words, text_of, title_words};
 
 use super::event::Event;
 use super::script::{Script, SharedKey};
-use ao_base::{Bytes, End, Socket, print_address, push_decimal, push_hex};
+use ao_base::{Bytes, End, Socket};
 use std::alloc::{AllocError, Global};
-
-fn push_text(out: &mut Vec<u8>, text: &[u8]) -> Result<(), AllocError>
-    ensures { OnOk result (out.new.items ≡ out.old.items ++ text.now) }
-{
-    out.extend_from_slice(text)
-}
-
-/// A space, and then a number in decimal.
-fn push_number(out: &mut Vec<u8>, number: u64) -> Result<(), AllocError>
-    ensures { OnOk result (out.new.items ≡ out.old.items ++ 32 ∷ decimal number) }
-{
-    out.push(b' ')?;
-    push_decimal(out, number)
-}
-
-/// A space, and then bytes in hexadecimal.
-fn push_bytes(out: &mut Vec<u8>, bytes: &[u8]) -> Result<(), AllocError>
-    ensures { OnOk result (out.new.items ≡ out.old.items ++ 32 ∷ hex_of bytes.now) }
-{
-    out.push(b' ')?;
-    push_hex(out, bytes)
-}
-
-/// A space, and then an end.
-fn push_end(out: &mut Vec<u8>, end: End) -> Result<(), AllocError>
-    ensures { OnOk result (out.new.items ≡ out.old.items ++ 32 ∷ end_text end) }
-{
-    out.push(b' ')?;
-    match end {
-        End::A => out.push(b'a')?,
-        End::B => out.push(b'b')?,
-    }
-    Ok(())
-}
-
-/// A space, and then `keep` or `fix`.
-fn push_fixing(out: &mut Vec<u8>, fixing: bool) -> Result<(), AllocError>
-    ensures { OnOk result (out.new.items ≡ out.old.items ++ 32 ∷ fixing_text fixing) }
-{
-    if fixing {
-        push_text(out, b" fix")
-    } else {
-        push_text(out, b" keep")
-    }
-}
+use text_lines::{push_bytes, push_end, push_newline, push_number, push_socket, push_text};
 
 /// The name of an event, and the end that it is about.
 fn push_name(out: &mut Vec<u8>, name: &[u8], end: End) -> Result<(), AllocError>
     ensures { OnOk result (out.new.items ≡ out.old.items ++ (name.now ++ 32 ∷ end_text end)) }
 {
-    push_text(out, name)?;
+    out.extend_from_slice(name)?;
     push_end(out, end)
 }
 
@@ -79,6 +35,17 @@ fn push_load(out: &mut Vec<u8>, name: &[u8], end: End, bytes: &Bytes) -> Result<
 {
     push_name(out, name, end)?;
     push_bytes(out, bytes.as_slice())
+}
+
+/// A space, and then `keep` or `fix`.
+fn push_fixing(out: &mut Vec<u8>, fixing: bool) -> Result<(), AllocError>
+    ensures { OnOk result (out.new.items ≡ out.old.items ++ 32 ∷ fixing_text fixing) }
+{
+    if fixing {
+        push_text(out, b"fix")
+    } else {
+        push_text(out, b"keep")
+    }
 }
 
 /// The words of an event.
@@ -108,7 +75,7 @@ fn push_words(out: &mut Vec<u8>, event: &Event) -> Result<(), AllocError>
         }
         Event::Take(end, count) => push_numbered(out, b"take", *end, u64::from(*count)),
         Event::Dump(segment) => {
-            push_text(out, b"dump")?;
+            out.extend_from_slice(b"dump")?;
             push_number(out, u64::from(*segment))
         }
     }
@@ -119,19 +86,18 @@ fn push_event(out: &mut Vec<u8>, event: &Event) -> Result<(), AllocError>
     ensures { OnOk result (out.new.items ≡ out.old.items ++ line_text (event_words event.now)) }
 {
     push_words(out, event)?;
-    out.push(b'\n')?;
-    Ok(())
+    push_newline(out)
 }
 
 #[tactic(auto, unfolding(crate::specs::Printed::title_words))]
 fn push_title(out: &mut Vec<u8>) -> Result<(), AllocError>
     ensures { OnOk result (out.new.items ≡ out.old.items ++ line_text title_words) }
 {
-    push_text(out, b"aotcp-link 1\n")
+    out.extend_from_slice(b"aotcp-link 1\n")
 }
 
 #[tactic(auto, unfolding(crate::specs::Printed::socket_words))]
-fn push_socket(
+fn push_socket_line(
     alloc: Global,
     out: &mut Vec<u8>,
     name: &[u8],
@@ -139,13 +105,9 @@ fn push_socket(
 ) -> Result<(), AllocError>
     ensures { OnOk result (out.new.items ≡ out.old.items ++ line_text (socket_words name.now socket.now)) }
 {
-    push_text(out, name)?;
-    out.push(b' ')?;
-    let address = print_address(alloc, &socket.address)?;
-    push_text(out, address.as_slice())?;
-    push_number(out, u64::from(socket.port))?;
-    out.push(b'\n')?;
-    Ok(())
+    out.extend_from_slice(name)?;
+    push_socket(alloc, out, socket)?;
+    push_newline(out)
 }
 
 #[tactic(auto, unfolding(crate::specs::Printed::key_lines, crate::specs::Printed::lines_text))]
@@ -153,10 +115,10 @@ fn push_key(out: &mut Vec<u8>, shared: Option<&SharedKey>) -> Result<(), AllocEr
     ensures { OnOk result (out.new.items ≡ out.old.items ++ lines_text (key_lines (option_map (λ k. k.now) shared.entry))) }
 {
     if let Some(key) = shared {
-        push_text(out, b"shared ")?;
+        out.extend_from_slice(b"shared")?;
         push_text(out, key.alg.name())?;
         push_bytes(out, key.master.as_slice())?;
-        out.push(b'\n')?;
+        push_newline(out)?;
     }
     Ok(())
 }
@@ -183,8 +145,8 @@ pub fn print_script(alloc: Global, script: &Script) -> Result<Bytes, AllocError>
 {
     let mut out = Vec::new(alloc);
     push_title(&mut out)?;
-    push_socket(alloc, &mut out, b"a", &script.a)?;
-    push_socket(alloc, &mut out, b"b", &script.b)?;
+    push_socket_line(alloc, &mut out, b"a", &script.a)?;
+    push_socket_line(alloc, &mut out, b"b", &script.b)?;
     push_key(&mut out, script.shared.as_ref())?;
     push_events(&mut out, script.events.as_slice())?;
     Ok(Bytes::from_vec(out))

@@ -3,18 +3,18 @@ ghost use Rattle.std.specs.Prelude.{◌≡◌, [], codes, IfOk};
 ghost use Rattle.std.specs.List.{list_any};
 ghost use Rattle.std.specs.Option.{is_none};
 ghost use Rattle.ao_base.specs.declared.line_kind.LineKind.TheVariants as line_kind;
-ghost use Rattle.link_script.specs.Words.{Tells};
+ghost use Rattle.text_lines.specs.Readings.{Answers, Tells, gives};
+ghost use Rattle.link_script.specs.Left.{leaves};
 ghost use Rattle.link_script.specs.Scripts.{IsScript};
-ghost use Rattle.link_script.specs.Script.{Answers, leaves, end_in_front, are_two_of_a_family, end_started, event_at, events_from, is_shared, key_in, line_in, peer_of, restarts, same_end, script_of, shared_key_of, socket_of, starts, title_of};
+ghost use Rattle.link_script.specs.Script.{end_in_front, are_two_of_a_family, end_started, event_at, events_from, is_shared, key_in, line_in, peer_of, restarts, same_end, script_of, shared_key_of, short_algorithm_in, socket_of, starts, title_of};
 
 use super::event::{Event, Events};
-use super::fault::{Refusal, ScriptFault};
 use super::line_events::event;
-use super::line_words::{LineWords, read_end};
-use super::saying::{Saying, SayingLines, count_lines};
 use super::script::{Script, SharedKey};
-use ao_base::{Address, End, LineKind, Socket};
+use ao_base::{Address, Algorithm, End, LineKind, Socket};
+use line_model::TextFault;
 use std::alloc::Global;
+use text_lines::{LineWords, Refusal, Saying, SayingLines, count_lines};
 
 #[tactic(auto, unfolding(crate::specs::Script::title_of))]
 fn title(words: &mut LineWords) -> Result<(), LineKind>
@@ -30,10 +30,9 @@ fn socket(name: &[u8], words: &mut LineWords) -> Result<Socket, LineKind>
     ensures { result ≡ socket_of name.now words.old }
 {
     words.literal(name)?;
-    let address = words.address()?;
-    let port = words.short()?;
+    let socket = words.socket()?;
     words.nothing()?;
-    Ok(Socket { address, port })
+    Ok(socket)
 }
 
 /// Whether the two addresses differ and are of one family.
@@ -59,70 +58,83 @@ fn peer(a: &Socket, words: &mut LineWords) -> Result<Socket, LineKind>
     }
 }
 
+/// An algorithm with a MAC of 12 bytes.
+#[tactic(auto, unfolding(crate::specs::Script::short_algorithm_in))]
+fn short_algorithm(words: &mut LineWords) -> Result<Algorithm, LineKind>
+    ensures { gives result words.new ≡ short_algorithm_in words.old }
+{
+    let algorithm = words.algorithm()?;
+    if algorithm.mac_length() == 12 {
+        Ok(algorithm)
+    } else {
+        Err(LineKind::Word)
+    }
+}
+
 #[tactic(auto, unfolding(crate::specs::Script::shared_key_of))]
 fn shared_key(alloc: Global, words: &mut LineWords) -> Result<SharedKey, Refusal>
     ensures { Tells result (shared_key_of words.old) }
 {
     words.literal(b"shared")?;
-    let alg = words.algorithm()?;
-    let master = words.hex(alloc, 1, 255)?;
+    let alg = short_algorithm(words)?;
+    let master = words.sized_hex(alloc, 1, 255)?;
     words.nothing()?;
     Ok(SharedKey { alg, master })
 }
 
 /// The first saying line of the head.
 #[tactic(auto, unfolding(crate::specs::Script::line_in))]
-fn title_line(lines: &mut SayingLines, missing: u32) -> Result<(), ScriptFault>
+fn title_line(lines: &mut SayingLines, missing: u32) -> Result<(), TextFault>
     ensures { leaves result lines.new ≡ line_in missing line_kind.Header title_of lines.old }
 {
     match lines.next() {
-        None => Err(ScriptFault::Line(missing, LineKind::Header)),
+        None => Err(TextFault::Line(missing, LineKind::Header)),
         Some(mut line) => match title(&mut line.words) {
             Ok(()) => Ok(()),
-            Err(_) => Err(ScriptFault::Line(line.number, LineKind::Header)),
+            Err(_) => Err(TextFault::Line(line.number, LineKind::Header)),
         },
     }
 }
 
 /// The line of a's socket.
 #[tactic(auto, unfolding(crate::specs::Script::line_in))]
-fn socket_line(lines: &mut SayingLines, missing: u32) -> Result<Socket, ScriptFault>
+fn socket_line(lines: &mut SayingLines, missing: u32) -> Result<Socket, TextFault>
     ensures { leaves result lines.new ≡ line_in missing line_kind.Header (socket_of (codes "a")) lines.old }
 {
     match lines.next() {
-        None => Err(ScriptFault::Line(missing, LineKind::Header)),
+        None => Err(TextFault::Line(missing, LineKind::Header)),
         Some(mut line) => match socket(b"a", &mut line.words) {
             Ok(socket) => Ok(socket),
-            Err(_) => Err(ScriptFault::Line(line.number, LineKind::Header)),
+            Err(_) => Err(TextFault::Line(line.number, LineKind::Header)),
         },
     }
 }
 
 /// The line of b's socket, beside a's.
 #[tactic(auto, unfolding(crate::specs::Script::line_in))]
-fn peer_line(lines: &mut SayingLines, missing: u32, a: &Socket) -> Result<Socket, ScriptFault>
+fn peer_line(lines: &mut SayingLines, missing: u32, a: &Socket) -> Result<Socket, TextFault>
     ensures { leaves result lines.new ≡ line_in missing line_kind.Header (peer_of a.now) lines.old }
 {
     match lines.next() {
-        None => Err(ScriptFault::Line(missing, LineKind::Header)),
+        None => Err(TextFault::Line(missing, LineKind::Header)),
         Some(mut line) => match peer(a, &mut line.words) {
             Ok(socket) => Ok(socket),
-            Err(_) => Err(ScriptFault::Line(line.number, LineKind::Header)),
+            Err(_) => Err(TextFault::Line(line.number, LineKind::Header)),
         },
     }
 }
 
 /// The line of the shared key.
 #[tactic(auto, unfolding(crate::specs::Script::line_in))]
-fn key_line(alloc: Global, lines: &mut SayingLines, missing: u32) -> Result<SharedKey, ScriptFault>
+fn key_line(alloc: Global, lines: &mut SayingLines, missing: u32) -> Result<SharedKey, TextFault>
     ensures { Answers (leaves result lines.new) (line_in missing line_kind.Shared shared_key_of lines.old) }
 {
     match lines.next() {
-        None => Err(ScriptFault::Line(missing, LineKind::Shared)),
+        None => Err(TextFault::Line(missing, LineKind::Shared)),
         Some(mut line) => match shared_key(alloc, &mut line.words) {
             Ok(key) => Ok(key),
-            Err(Refusal::Memory) => Err(ScriptFault::Memory),
-            Err(Refusal::Kind(_)) => Err(ScriptFault::Line(line.number, LineKind::Shared)),
+            Err(Refusal::Memory) => Err(TextFault::Memory),
+            Err(Refusal::Kind(_)) => Err(TextFault::Line(line.number, LineKind::Shared)),
         },
     }
 }
@@ -134,7 +146,7 @@ fn key(
     with_keys: bool,
     lines: &mut SayingLines,
     missing: u32,
-) -> Result<Option<SharedKey>, ScriptFault>
+) -> Result<Option<SharedKey>, TextFault>
     ensures { Answers (leaves result lines.new) (key_in with_keys missing lines.old) }
 {
     if with_keys {
@@ -144,7 +156,7 @@ fn key(
 }
 
 /// Whether the line's first word is `shared`.
-#[tactic(auto, unfolding(crate::specs::Script::is_shared, crate::specs::Words::word_in))]
+#[tactic(auto, unfolding(crate::specs::Script::is_shared, line_model::specs::Words::word_in))]
 fn is_shared(words: &LineWords) -> bool
     ensures { result ≡ is_shared words.now }
 {
@@ -185,18 +197,15 @@ fn end_started(before: &[Event], end: Option<End>) -> bool
     }
 }
 
-#[tactic(auto, unfolding(crate::specs::Words::word_in))]
+#[tactic(auto, unfolding(line_model::specs::Words::end_in, line_model::specs::Words::word_in))]
 fn end_in_front(words: &mut LineWords) -> Option<End>
     ensures { result ≡ end_in_front words.old }
 {
-    match words.word() {
-        Ok(word) => read_end(word),
-        Err(_) => None,
-    }
+    words.end().ok()
 }
 
 /// Whether the line starts an end that an earlier event starts.
-#[tactic(auto, unfolding(crate::specs::Script::restarts, crate::specs::Words::word_in))]
+#[tactic(auto, unfolding(crate::specs::Script::restarts, line_model::specs::Words::word_in))]
 fn restarts(before: &[Event], words: &LineWords) -> bool
     ensures { result ≡ restarts before.now words.now }
 {
@@ -209,24 +218,23 @@ fn restarts(before: &[Event], words: &LineWords) -> bool
 
 /// The event of a line after the events of earlier lines.
 #[tactic(auto, unfolding(crate::specs::Script::event_at))]
-fn event_at(alloc: Global, before: &[Event], mut line: Saying) -> Result<Event, ScriptFault>
+fn event_at(alloc: Global, before: &[Event], mut line: Saying) -> Result<Event, TextFault>
     ensures { Answers result (event_at before.now (record { number = line.entry.number; words = line.entry.words })) }
 {
     if is_shared(&line.words) {
-        return Err(ScriptFault::Line(line.number, LineKind::Shared));
+        return Err(TextFault::Line(line.number, LineKind::Shared));
     }
     if restarts(before, &line.words) {
-        return Err(ScriptFault::Line(line.number, LineKind::Word));
+        return Err(TextFault::Line(line.number, LineKind::Word));
     }
     match event(alloc, &mut line.words) {
         Ok(event) => Ok(event),
-        Err(Refusal::Memory) => Err(ScriptFault::Memory),
-        Err(Refusal::Kind(kind)) => Err(ScriptFault::Line(line.number, kind)),
+        Err(refusal) => Err(refusal.at(line.number)),
     }
 }
 
 /// The events of the lines that are left.
-fn events(alloc: Global, lines: &mut SayingLines) -> Result<Events, ScriptFault>
+fn events(alloc: Global, lines: &mut SayingLines) -> Result<Events, TextFault>
     ensures { Answers result (events_from [] lines.old) }
 {
     let mut events = Vec::new(alloc);
@@ -238,14 +246,11 @@ fn events(alloc: Global, lines: &mut SayingLines) -> Result<Events, ScriptFault>
 }
 
 #[tactic(auto, unfolding(crate::specs::Script::script_of, crate::specs::Script::script_in))]
-fn read(alloc: Global, with_keys: bool, text: &[u8]) -> Result<Script, ScriptFault>
+fn read(alloc: Global, with_keys: bool, text: &[u8]) -> Result<Script, TextFault>
     ensures { Answers result (script_of with_keys text.now) }
 {
-    let Some(count) = count_lines(text) else {
-        return Err(ScriptFault::TooManyLines);
-    };
+    let missing = count_lines(text)? + 1;
     let mut lines = SayingLines::new(text);
-    let missing = count + 1;
     title_line(&mut lines, missing)?;
     let a = socket_line(&mut lines, missing)?;
     let b = peer_line(&mut lines, missing, &a)?;
@@ -265,7 +270,7 @@ fn read(alloc: Global, with_keys: bool, text: &[u8]) -> Result<Script, ScriptFau
 /// 20,000 lines; else `Line` is the first faulty line, counted from 1 among all lines, with the
 /// kind of its first faulty word, and a line of the head that is missing has the number after all
 /// lines. `Memory` only for want of memory.
-pub fn read_script(alloc: Global, with_keys: bool, text: &[u8]) -> Result<Script, ScriptFault>
+pub fn read_script(alloc: Global, with_keys: bool, text: &[u8]) -> Result<Script, TextFault>
     ensures read { Answers result (script_of with_keys text.now) }
     ensures grammar { IfOk result IsScript }
     ensures key { IfOk result (λ script. is_none script.shared ≡ with_keys) }

@@ -1,263 +1,243 @@
-use crate::{Event, Script, ScriptFault, print_script, read_script};
-use ao_base::{Address, Algorithm, End, LineKind};
+//! Link files of our own, faulty and printed.
+use crate::{Event, ScriptFault, print_script, read_script};
+use ao_base::{Address, End, LineKind};
 use std::alloc::{AllocError, Global};
 use std::test::Fail;
 
-const HEAD: &[u8] = b"aotcp-link 1\na 10.0.0.1 1000\nb 10.0.0.2 2000\n";
+const HEAD: &str = "aotcp-link 1
+a 10.0.0.1 1000
+b 10.0.0.2 2000
+";
 
-const SHARED: &[u8] = b"shared HMAC-SHA-1-96 0b0b0b0b0b0b0b0b0b0b0b0b0b0b0b0b0b0b0b0b\n";
+const SHARED: &str = "shared HMAC-SHA-1-96 0b0b0b0b0b0b0b0b0b0b0b0b0b0b0b0b0b0b0b0b
+";
 
-fn joined(alloc: Global, parts: &[&[u8]]) -> Result<Vec<u8>, AllocError> {
+fn joined(alloc: Global, parts: &[&str]) -> Result<Vec<u8>, AllocError> {
     let mut text = Vec::new(alloc);
     for part in parts {
-        text.extend_from_slice(part)?;
+        text.extend_from_slice(part.as_bytes())?;
     }
     Ok(text)
 }
 
-/// Events whose first fault is a word that is unknown, missing or surplus.
-const WORD_FAULTS: [&[u8]; 33] = [
-    b"jump a",
-    b"clock",
-    b"clock a",
-    b"clock c 1",
-    b"clock a 1 2",
-    b"start a 1",
-    b"start a 1 2 3",
-    b"give",
-    b"give a",
-    b"give a 00 00",
-    b"fill a 1",
-    b"fill a 1 00 00",
-    b"send",
-    b"send a b",
-    b"deliver a",
-    b"deliver a 1 1",
-    b"inject b",
-    b"inject b 00 00",
-    b"alter a 1 2 00",
-    b"alter a 1 2 00 Keep",
-    b"alter a 1 2 00 keep fix",
-    b"take a",
-    b"take a 1 1",
-    b"dump",
-    b"dump 1 1",
-    b"open a 1",
-    b"listen b 1",
-    b"resend a",
-    b"close a",
-    b"abort a",
-    b"SEND a",
-    b"clock c x",
-    b"send a\x0b",
-];
-
-/// Events whose first fault is a word that is no decimal.
-const NUMBER_FAULTS: [&[u8]; 9] = [
-    b"clock a x",
-    b"clock a -1",
-    b"clock a 18446744073709551616",
-    b"clock a 000000000000000000001",
-    b"start a 1 2x",
-    b"take a 0x1",
-    b"dump one",
-    b"fill a x zz",
-    b"clock a y z",
-];
-
-/// Events whose first fault is a value beyond its range.
-const RANGE_FAULTS: [&[u8]; 15] = [
-    b"clock a 18446744073709551615",
-    b"clock a 253402300800",
-    b"start a 2147483648 1",
-    b"start a 1 2147483648",
-    b"fill a 65536 00",
-    b"fill a 65536 zz",
-    b"fill a 1 0000",
-    b"deliver a 0",
-    b"deliver a 20001",
-    b"alter a 0 1 00 keep",
-    b"alter a 1 65536 00 keep",
-    b"alter a 1 0 0000 keep",
-    b"take a 65536",
-    b"dump 0",
-    b"dump 20001",
-];
-
-/// Events whose first fault is a word that is no hexadecimal.
-const HEX_FAULTS: [&[u8]; 6] = [
-    b"give a 0",
-    b"give a 0g",
-    b"fill a 1 0",
-    b"fill a 1 zz zz",
-    b"inject a 000",
-    b"alter a 1 0 1 keep",
-];
-
-/// The fault of a script whose sixth line is this event; its seventh line is faulty too.
-fn fault_of_event(alloc: Global, event: &[u8]) -> Result<Option<ScriptFault>, AllocError> {
-    let text = joined(
-        alloc,
-        &[HEAD, SHARED, b" send\ta \r\n", event, b"\njump a\n"],
-    )?;
-    Ok(read_script(alloc, false, text.as_slice()).err())
+/// The fault of the text, if it isn't read.
+fn fault_of(alloc: Global, with_keys: bool, parts: &[&str]) -> Result<Option<ScriptFault>, Fail> {
+    let text = joined(alloc, parts)?;
+    Ok(read_script(alloc, with_keys, text.as_slice()).err())
 }
 
-#[test]
-fn a_faulty_word_of_an_event_has_its_line(rt: HostRuntime) -> Result<(), Fail> {
-    for event in &WORD_FAULTS {
-        let fault = fault_of_event(rt.alloc(), event)?;
-        assert_eq!(rt; fault, Some(ScriptFault::Line(6, LineKind::Word)));
-    }
-    Ok(())
-}
-
-#[test]
-fn a_faulty_number_of_an_event_has_its_line(rt: HostRuntime) -> Result<(), Fail> {
-    for event in &NUMBER_FAULTS {
-        let fault = fault_of_event(rt.alloc(), event)?;
-        assert_eq!(rt; fault, Some(ScriptFault::Line(6, LineKind::Number)));
-    }
-    Ok(())
-}
-
-#[test]
-fn a_value_of_an_event_beyond_its_range_has_its_line(rt: HostRuntime) -> Result<(), Fail> {
-    for event in &RANGE_FAULTS {
-        let fault = fault_of_event(rt.alloc(), event)?;
-        assert_eq!(rt; fault, Some(ScriptFault::Line(6, LineKind::Range)));
-    }
-    Ok(())
-}
-
-#[test]
-fn faulty_hexadecimal_of_an_event_has_its_line(rt: HostRuntime) -> Result<(), Fail> {
-    for event in &HEX_FAULTS {
-        let fault = fault_of_event(rt.alloc(), event)?;
-        assert_eq!(rt; fault, Some(ScriptFault::Line(6, LineKind::Hex)));
-    }
-    Ok(())
-}
-
-/// Scripts with a fault in the version or in an end, and its line.
-const HEADER_FAULTS: [(u32, &[u8]); 14] = [
-    (1, b""),
-    (2, b"\n"),
-    (4, b"# aotcp-link 1\n\n \t\r"),
-    (1, b"aotcp-link 01"),
-    (1, b"aotcp-link"),
-    (2, b"\naotcp-link 1 1\n"),
-    (1, b"shared HMAC-SHA-1-96 00\naotcp-link 1\n"),
-    (2, b"aotcp-link 1\n"),
-    (2, b"aotcp-link 1\nb 10.0.0.2 2000\n"),
-    (2, b"aotcp-link 1\na 10.0.0.01 1000\n"),
-    (2, b"aotcp-link 1\na 10.0.0.1 65536\n"),
-    (3, b"aotcp-link 1\na 10.0.0.1 65535\n"),
+/// Events, one a line, whose first faulty word is of the kind.
+const FAULTY_EVENTS: [(LineKind, &str); 4] = [
     (
-        3,
-        b"aotcp-link 1\na 10.0.0.1 1\nb 10.0.0.1 2\nshared HMAC-SHA-1-96 00",
+        LineKind::Word,
+        "jump a
+clock
+clock a
+clock c 1
+clock a 1 2
+start a 1
+start a 1 2 3
+give
+give a
+give a 00 00
+fill a 1
+fill a 1 00 00
+send
+send a b
+deliver a
+deliver a 1 1
+inject b
+inject b 00 00
+alter a 1 2 00
+alter a 1 2 00 Keep
+alter a 1 2 00 keep fix
+take a
+take a 1 1
+dump
+dump 1 1
+open a 1
+listen b 1
+resend a
+close a
+abort a
+SEND a
+clock c x
+send a\x0b",
     ),
+    (
+        LineKind::Number,
+        "clock a x
+clock a -1
+clock a 18446744073709551616
+clock a 000000000000000000001
+start a 1 2x
+take a 0x1
+dump one
+fill a x zz
+clock a y z",
+    ),
+    (
+        LineKind::Range,
+        "clock a 18446744073709551615
+clock a 253402300800
+start a 2147483648 1
+start a 1 2147483648
+fill a 65536 00
+fill a 65536 zz
+fill a 1 0000
+deliver a 0
+deliver a 20001
+alter a 0 1 00 keep
+alter a 1 65536 00 keep
+alter a 1 0 0000 keep
+take a 65536
+dump 0
+dump 20001",
+    ),
+    (
+        LineKind::Hex,
+        "give a 0
+give a 0g
+fill a 1 0
+fill a 1 zz zz
+inject a 000
+alter a 1 0 1 keep",
+    ),
+];
+
+#[test]
+fn a_faulty_event_has_its_line_and_kind(rt: HostRuntime) -> Result<(), Fail> {
+    for (kind, events) in FAULTY_EVENTS {
+        for event in events.lines() {
+            let parts = [HEAD, SHARED, " send\ta \r\n", event, "\njump a\n"];
+            let fault = fault_of(rt.alloc(), false, parts.as_slice())?;
+            assert_eq!(rt; fault, Some(ScriptFault::Line(6, kind)), "{event}");
+        }
+    }
+    Ok(())
+}
+
+/// Texts with a fault in one of the first three lines that say something, and its line.
+const FAULTY_HEADERS: [(u32, &str); 15] = [
+    (1, ""),
+    (2, "\n"),
+    (4, "# aotcp-link 1\n\n \t\r"),
+    (1, "aotcp-link 01"),
+    (1, "aotcp-link"),
+    (2, "\naotcp-link 1 1\n"),
+    (1, "shared HMAC-SHA-1-96 00\naotcp-link 1\n"),
+    (2, "aotcp-link 1\n"),
+    (2, "aotcp-link 1\nshared HMAC-SHA-1-96 00\n"),
+    (2, "aotcp-link 1\na 10.0.0.01 1000\n"),
+    (2, "aotcp-link 1\na 10.0.0.1 65536\n"),
+    (3, "aotcp-link 1\na 10.0.0.1 65535\n"),
+    (3, "aotcp-link 1\na 10.0.0.1 1\nshared HMAC-SHA-1-96 00\n"),
+    (3, "aotcp-link 1\na 10.0.0.1 1\nb 10.0.0.1 2\n"),
     (
         5,
-        b"aotcp-link 1\n#\na 10.0.0.1 1\n\nb 20010db8000000000000000000000001 2\n",
+        "aotcp-link 1
+#
+a 10.0.0.1 1
+
+b 20010db8000000000000000000000001 2
+",
     ),
 ];
 
 #[test]
-fn a_fault_of_the_head_has_its_line(rt: HostRuntime) -> Result<(), Fail> {
-    for (line, text) in &HEADER_FAULTS {
-        let fault = read_script(rt.alloc(), false, text).err();
-        assert_eq!(rt; fault, Some(ScriptFault::Line(*line, LineKind::Header)));
+fn a_fault_of_the_header_has_its_line_with_and_without_keys(rt: HostRuntime) -> Result<(), Fail> {
+    for (line, text) in FAULTY_HEADERS {
+        for with_keys in [false, true] {
+            let fault = fault_of(rt.alloc(), with_keys, [text].as_slice())?;
+            assert_eq!(rt;
+                fault,
+                Some(ScriptFault::Line(line, LineKind::Header)),
+                "{text}"
+            );
+        }
     }
     Ok(())
 }
 
-/// Scripts whose shared key is missing, faulty or there twice, and the line of the fault.
-const SHARED_FAULTS: [(u32, &[u8]); 7] = [
-    (4, b"aotcp-link 1\na 10.0.0.1 1\nb 10.0.0.2 2\n"),
-    (4, b"aotcp-link 1\na 10.0.0.1 1\nb 10.0.0.2 2\nsend a\n"),
-    (
-        4,
-        b"aotcp-link 1\na 10.0.0.1 1\nb 10.0.0.2 2\nshared MD5 00\n",
-    ),
-    (
-        4,
-        b"aotcp-link 1\na 10.0.0.1 1\nb 10.0.0.2 2\nshared HMAC-SHA-1-96\n",
-    ),
-    (
-        4,
-        b"aotcp-link 1\na 10.0.0.1 1\nb 10.0.0.2 2\nshared HMAC-SHA-1-96 000\n",
-    ),
-    (
-        4,
-        b"aotcp-link 1\na 10.0.0.1 1\nb 10.0.0.2 2\nshared HMAC-SHA-1-96 00 00\n",
-    ),
-    (
-        6,
-        b"aotcp-link 1\na 10.0.0.1 1\nb 10.0.0.2 2\nshared AES-128-CMAC-96 00\n\nshared",
-    ),
+/// What follows the header where the shared key is missing, faulty or there twice, and the line of
+/// the fault.
+const FAULTY_KEYS: [(u32, &str); 9] = [
+    (4, ""),
+    (4, "send a\n"),
+    (4, "shared MD5 00\n"),
+    (4, "shared HMAC-SHA-1-96\n"),
+    (4, "shared HMAC-SHA-1-96 000\n"),
+    (4, "shared HMAC-SHA-1-96 -\n"),
+    (4, "shared HMAC-SHA-1-96 00 00\n"),
+    (4, "shared HMAC-SHA-256-128 00\n"),
+    (6, "shared AES-128-CMAC-96 00\n\nshared"),
 ];
 
 #[test]
 fn a_fault_of_the_shared_key_has_its_line(rt: HostRuntime) -> Result<(), Fail> {
-    for (line, text) in &SHARED_FAULTS {
-        let fault = read_script(rt.alloc(), false, text).err();
-        assert_eq!(rt; fault, Some(ScriptFault::Line(*line, LineKind::Shared)));
+    for (line, text) in FAULTY_KEYS {
+        let fault = fault_of(rt.alloc(), false, [HEAD, text].as_slice())?;
+        assert_eq!(rt;
+            fault,
+            Some(ScriptFault::Line(line, LineKind::Shared)),
+            "{text}"
+        );
     }
-    let keyed = joined(rt.alloc(), &[HEAD, SHARED])?;
-    let fault = read_script(rt.alloc(), true, keyed.as_slice()).err();
+    let fault = fault_of(rt.alloc(), true, [HEAD, SHARED].as_slice())?;
     assert_eq!(rt; fault, Some(ScriptFault::Line(4, LineKind::Shared)));
     Ok(())
 }
 
 #[test]
-fn events_begin_behind_the_shared_key(rt: HostRuntime) -> Result<(), Fail> {
-    let text =
-        b"aotcp-link 1\na 10.0.0.1 1\nb 10.0.0.2 2\nshared AES-128-CMAC-96 00\nstart a 1 2\nstart a x";
-    let fault = read_script(rt.alloc(), false, text).err();
+fn an_end_is_started_once(rt: HostRuntime) -> Result<(), Fail> {
+    let events = "start a 1 2\nstart b 1 2\nstart a x";
+    let fault = fault_of(rt.alloc(), true, [HEAD, events].as_slice())?;
     assert_eq!(rt; fault, Some(ScriptFault::Line(6, LineKind::Word)));
     Ok(())
 }
 
+/// A word, the bytes of it in hexadecimal up to a limit, and the kind past the limit.
+const LIMITS: [(bool, &str, usize, LineKind); 2] = [
+    (false, "shared AES-128-CMAC-96 ", 255, LineKind::Shared),
+    (true, "inject b ", 65_575, LineKind::Range),
+];
+
 #[test]
-fn the_limits_are_met_and_passed(rt: HostRuntime) -> Result<(), Fail> {
-    for (bytes, fault) in [
-        (255, None),
-        (256, Some(ScriptFault::Line(4, LineKind::Shared))),
-    ] {
-        let master: Vec<u8> = vec![in rt.alloc(); b'0'; 2 * bytes]?;
-        let text = joined(rt.alloc(), &[HEAD, b"shared AES-128-CMAC-96 ", &master])?;
-        assert_eq!(rt;
-            read_script(rt.alloc(), false, text.as_slice()).err(),
-            fault
-        );
+fn bytes_are_read_up_to_their_limit(rt: HostRuntime) -> Result<(), Fail> {
+    for (with_keys, words, most, kind) in LIMITS {
+        let mut text = joined(rt.alloc(), [HEAD, words].as_slice())?;
+        for _ in 0..most {
+            text.extend_from_slice(b"00")?;
+        }
+        assert!(rt; read_script(rt.alloc(), with_keys, text.as_slice()).is_ok());
+        text.extend_from_slice(b"00")?;
+        let fault = read_script(rt.alloc(), with_keys, text.as_slice()).err();
+        assert_eq!(rt; fault, Some(ScriptFault::Line(4, kind)));
     }
-    for (bytes, fault) in [
-        (65_575, None),
-        (65_576, Some(ScriptFault::Line(4, LineKind::Range))),
-    ] {
-        let datagram: Vec<u8> = vec![in rt.alloc(); b'0'; 2 * bytes]?;
-        let text = joined(rt.alloc(), &[HEAD, b"inject b ", &datagram])?;
-        assert_eq!(rt; read_script(rt.alloc(), true, text.as_slice()).err(), fault);
-    }
-    for (lines, fault) in [
-        (20_000, ScriptFault::Line(20_001, LineKind::Header)),
-        (20_001, ScriptFault::TooManyLines),
-    ] {
+    Ok(())
+}
+
+#[test]
+fn too_many_lines_come_before_a_faulty_one(rt: HostRuntime) -> Result<(), Fail> {
+    let missing = ScriptFault::Line(20_001, LineKind::Header);
+    for (lines, fault) in [(20_000, missing), (20_001, ScriptFault::TooManyLines)] {
         let newlines: Vec<u8> = vec![in rt.alloc(); b'\n'; lines]?;
-        assert_eq!(rt;
-            read_script(rt.alloc(), true, newlines.as_slice()).err(),
-            Some(fault)
-        );
+        let found = read_script(rt.alloc(), true, newlines.as_slice()).err();
+        assert_eq!(rt; found, Some(fault));
     }
     Ok(())
 }
 
 #[test]
 fn five_bytes_are_printed_and_read_again(rt: HostRuntime) -> Result<(), Fail> {
-    let events =
-        b"start a 100 200\nstart b 200 100\ngive a 68656c6c6f\nsend a\ndeliver b 1\ntake b 100\n";
-    let text = joined(rt.alloc(), &[HEAD, SHARED, events])?;
+    let events = "start a 100 200
+start b 200 100
+give a 68656c6c6f
+send a
+deliver b 1
+take b 100
+";
+    let text = joined(rt.alloc(), [HEAD, SHARED, events].as_slice())?;
     let script = read_script(rt.alloc(), false, text.as_slice())?;
     assert_eq!(rt; script.a.address, Address::V4([10, 0, 0, 1]));
     assert_eq!(rt; script.b.port, 2000);
@@ -269,26 +249,53 @@ fn five_bytes_are_printed_and_read_again(rt: HostRuntime) -> Result<(), Fail> {
     Ok(())
 }
 
+const EVERY_EVENT: &str = "# every event
+ aotcp-link 1\r
+a 20010DB8000000000000000000000001 0
+b 20010db8000000000000000000000002 65535
+clock a 00000000000000000007
+start b 1 2147483647
+give a 00fF
+fill b 0 0A
+send a
+deliver b 20000
+inject a 00fF
+alter b 20000 65535 80 fix
+alter a 1 0 00 keep
+
+take a 65535
+dump 9";
+
+const EVERY_EVENT_PRINTED: &str = "aotcp-link 1
+a 20010db8000000000000000000000001 0
+b 20010db8000000000000000000000002 65535
+clock a 7
+start b 1 2147483647
+give a 00ff
+fill b 0 0a
+send a
+deliver b 20000
+inject a 00ff
+alter b 20000 65535 80 fix
+alter a 1 0 00 keep
+take a 65535
+dump 9
+";
+
 #[test]
 fn every_event_is_printed_in_its_words(rt: HostRuntime) -> Result<(), Fail> {
-    let head =
-        b"# six\n aotcp-link 1\r\na 20010DB8000000000000000000000001 0\nb 20010db8000000000000000000000002 65535\n";
-    let events =
-        b"clock a 00000000000000000007\nfill b 0 0A\ninject a 00fF\nalter b 20000 65535 80 fix\nalter a 1 0 00 keep\n\ndump 9";
-    let text = joined(rt.alloc(), &[head, events])?;
-    let script = read_script(rt.alloc(), true, text.as_slice())?;
+    let script = read_script(rt.alloc(), true, EVERY_EVENT.as_bytes())?;
     assert!(rt;
         matches!(
             script.events.as_slice(),
-            [Event::Clock(End::A, 7), Event::Fill(End::B, 0, 10), ..]
+            [
+                Event::Clock(End::A, 7),
+                Event::Start(End::B, 1, 2_147_483_647),
+                ..
+            ]
         )
     );
     let printed = print_script(rt.alloc(), &script)?;
-    let head =
-        b"aotcp-link 1\na 20010db8000000000000000000000001 0\nb 20010db8000000000000000000000002 65535\n";
-    let events =
-        b"clock a 7\nfill b 0 0a\ninject a 00ff\nalter b 20000 65535 80 fix\nalter a 1 0 00 keep\ndump 9\n";
-    let expected = joined(rt.alloc(), &[head, events])?;
-    assert_eq!(rt; printed.as_slice(), expected.as_slice());
+    assert_eq!(rt; printed.as_slice(), EVERY_EVENT_PRINTED.as_bytes());
     Ok(())
 }

@@ -6,6 +6,7 @@ ghost use Rattle.segment_model.specs.Areas.{Area, FaultAt};
 ghost use Rattle.tcp_options.specs.Views.{FaultIs, mss_or, view_opt};
 
 use crate::iter::{Cut, Opt, OptionIter, cut_front, iter_over};
+use byteorder::{BigEndian, ByteOrder};
 use segment_model::OptionFault;
 use std::marker::Model;
 
@@ -81,9 +82,10 @@ fn mss_of_option(option: Opt<'_>) -> Option<u16>
     if option.kind != 2 {
         return None;
     }
-    match option.body {
-        [high, low] => Some(u16::from_be_bytes([*high, *low])),
-        _ => None,
+    if option.body.len() == 2 {
+        Some(BigEndian::read_u16(option.body))
+    } else {
+        None
     }
 }
 

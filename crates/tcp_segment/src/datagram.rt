@@ -87,7 +87,8 @@ impl<'a> Datagram<'a> {
 
     /// Address and port of the sender.
     pub fn source(&self) -> Socket
-        ensures { result ≡ self.now.source }
+        ensures value { result ≡ self.now.source }
+        ensures fits { Fits self.now }
     {
         let port = two(self.bytes, self.places.header);
         let address = if self.bytes[0] / 16 == 4 {
@@ -100,7 +101,8 @@ impl<'a> Datagram<'a> {
 
     /// Address and port of the receiver.
     pub fn destination(&self) -> Socket
-        ensures { result ≡ self.now.destination }
+        ensures value { result ≡ self.now.destination }
+        ensures fits { Fits self.now }
     {
         let port = two(self.bytes, self.places.header + 2);
         let address = if self.bytes[0] / 16 == 4 {
@@ -150,20 +152,23 @@ impl<'a> Datagram<'a> {
     pub fn header(&self) -> &'a [u8]
         ensures bytes { result.now ≡ header self.now self.now.checksum [] }
         ensures length { length result.now ≡ 20 }
+        ensures fits { Fits self.now }
     {
         &self.bytes[self.places.header..self.places.header + 20]
     }
 
     /// The options of TCP.
     pub fn options(&self) -> Options<'a>
-        ensures { result ≡ self.now.area }
+        ensures value { result ≡ self.now.area }
+        ensures fits { Fits self.now }
     {
         options_over(&self.bytes[self.places.header + 20..self.places.payload])
     }
 
     /// The payload.
     pub fn payload(&self) -> &'a [u8]
-        ensures { result.now ≡ self.now.payload }
+        ensures value { result.now ≡ self.now.payload }
+        ensures fits { Fits self.now }
     {
         &self.bytes[self.places.payload..self.places.end]
     }

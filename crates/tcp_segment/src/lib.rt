@@ -7,6 +7,7 @@
 
 mod datagram;
 mod draft;
+mod laws;
 mod parts;
 mod reading;
 mod sums;
@@ -16,6 +17,7 @@ mod writing;
 
 pub use datagram::{Datagram, read_datagram};
 pub use draft::{DatagramMut, Draft};
+pub use laws::parts_put_in_are_kept;
 pub use segment_model::DatagramFault;
 pub use sums::fix_checksum;
 pub use writing::{Head, write_datagram};

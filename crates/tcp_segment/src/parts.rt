@@ -3,7 +3,7 @@ ghost use Rattle.std.specs.Prelude.{◌≡◌, ℕ, List, ◌+◌, ◌-◌, ◌�
 ghost use Rattle.tcp_segment.specs.Parts.{spliced};
 
 /// Writes a part at a place.
-pub(crate) fn splice(out: &mut [u8], at: usize, part: &[u8])
+fn splice(out: &mut [u8], at: usize, part: &[u8])
     requires { at + length part.now ≤ length out.old }
     ensures { out.new ≡ spliced out.old at part.now }
 {

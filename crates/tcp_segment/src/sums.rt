@@ -6,14 +6,14 @@ ghost use Rattle.segment_model.specs.Spelling.{AreBytes, with_right_checksum, ad
 ghost use Rattle.tcp_segment.specs.Parts.{spliced};
 ghost use Rattle.tcp_segment.specs.Sums.{complement_at, HasPlainHeader, IsSet};
 
-use crate::parts::splice;
+use byteorder::{BigEndian, ByteOrder};
 
 /// The big-endian number of two bytes.
 pub(crate) fn two(bytes: &[u8], at: usize) -> u16
     requires { at + 1 < length bytes.now }
     ensures { result ≡ two_at bytes.now at }
 {
-    u16::from_be_bytes([bytes[at], bytes[at + 1]])
+    BigEndian::read_u16(&bytes[at..])
 }
 
 /// The big-endian number of four bytes.
@@ -21,7 +21,7 @@ pub(crate) fn four(bytes: &[u8], at: usize) -> u32
     requires { at + 3 < length bytes.now }
     ensures { result ≡ four_at bytes.now at }
 {
-    u32::from_be_bytes([bytes[at], bytes[at + 1], bytes[at + 2], bytes[at + 3]])
+    BigEndian::read_u32(&bytes[at..])
 }
 
 /// The sum of the big-endian words, an odd length filled with a zero byte.
@@ -32,8 +32,8 @@ pub(crate) fn words(bytes: &[u8]) -> u64
 {
     let mut rest = bytes;
     let mut sum: u64 = 0;
-    while let [high, low, behind @ ..] = rest {
-        sum += u64::from(u16::from_be_bytes([*high, *low]));
+    while let [_, _, behind @ ..] = rest {
+        sum += u64::from(BigEndian::read_u16(rest));
         rest = behind;
     }
     if let [last] = rest {
@@ -70,7 +70,7 @@ pub(crate) fn put_two(bytes: &mut [u8], at: usize, number: u16)
     requires { at + 2 ≤ length bytes.old }
     ensures { bytes.new ≡ spliced bytes.old at (put2 number []) }
 {
-    splice(bytes, at, &number.to_be_bytes());
+    BigEndian::write_u16(&mut bytes[at..], number);
 }
 
 /// The length of an IP header without options.

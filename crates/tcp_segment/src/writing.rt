@@ -11,6 +11,7 @@ use crate::draft::{DatagramMut, Draft};
 use crate::parts::{put, put_zeros};
 use crate::sums::{complement, words};
 use ao_base::{Address, Socket};
+use byteorder::{BigEndian, ByteOrder};
 
 /// What a sender sets in a datagram. The addresses are of one family, and the MAC of TCP-AO has 12
 /// or 16 bytes.
@@ -44,17 +45,19 @@ fn octets_of(address: &Address) -> &[u8]
 fn ipv4_start(total: u16, checksum: u16) -> [u8; 12]
     ensures { result ≡ 69 ∷ 0 ∷ put2 total (0 ∷ 0 ∷ 64 ∷ 0 ∷ 64 ∷ 6 ∷ put2 checksum []) }
 {
-    let [t0, t1] = total.to_be_bytes();
-    let [c0, c1] = checksum.to_be_bytes();
-    [69, 0, t0, t1, 0, 0, 64, 0, 64, 6, c0, c1]
+    let mut start = [69, 0, 0, 0, 0, 0, 64, 0, 64, 6, 0, 0];
+    BigEndian::write_u16(&mut start[2..], total);
+    BigEndian::write_u16(&mut start[10..], checksum);
+    start
 }
 
 /// An IPv6 header up to its addresses.
 fn ipv6_start(length: u16) -> [u8; 8]
     ensures { result ≡ 96 ∷ 0 ∷ 0 ∷ 0 ∷ put2 length (6 ∷ 64 ∷ []) }
 {
-    let [l0, l1] = length.to_be_bytes();
-    [96, 0, 0, 0, l0, l1, 6, 64]
+    let mut start = [96, 0, 0, 0, 0, 0, 6, 64];
+    BigEndian::write_u16(&mut start[4..], length);
+    start
 }
 
 /// A TCP header over options of this length, its checksum zero.
@@ -63,15 +66,15 @@ fn tcp_start_of(head: &Head, area_length: u8) -> [u8; 20]
     ensures bytes { result ≡ tcp_start head.now 0 area_length }
     ensures numbers { HasNumbers head.now }
 {
-    let [s0, s1] = head.source.port.to_be_bytes();
-    let [d0, d1] = head.destination.port.to_be_bytes();
-    let [q0, q1, q2, q3] = head.sequence.to_be_bytes();
-    let [a0, a1, a2, a3] = head.acknowledgement.to_be_bytes();
-    let [w0, w1] = head.window.to_be_bytes();
-    let offset = 80 + 4 * area_length;
-    [
-        s0, s1, d0, d1, q0, q1, q2, q3, a0, a1, a2, a3, offset, head.flags, w0, w1, 0, 0, 0, 0,
-    ]
+    let mut start = [0; 20];
+    BigEndian::write_u16(&mut start, head.source.port);
+    BigEndian::write_u16(&mut start[2..], head.destination.port);
+    BigEndian::write_u32(&mut start[4..], head.sequence);
+    BigEndian::write_u32(&mut start[8..], head.acknowledgement);
+    start[12] = 80 + 4 * area_length;
+    start[13] = head.flags;
+    BigEndian::write_u16(&mut start[14..], head.window);
+    start
 }
 
 /// The length of the IP header.
@@ -134,8 +137,9 @@ fn put_options(out: &mut [u8], at: usize, head: &Head) -> usize
     let ao = [29, 4 + head.mac_length, head.key_id, head.rnext];
     match head.mss {
         Some(mss) => {
-            let [m0, m1] = mss.to_be_bytes();
-            put(out, at, &[2, 4, m0, m1, ao[0], ao[1], ao[2], ao[3]])
+            let mut heads = [2, 4, 0, 0, ao[0], ao[1], ao[2], ao[3]];
+            BigEndian::write_u16(&mut heads[2..], mss);
+            put(out, at, &heads)
         }
         None => put(out, at, &ao),
     }

@@ -1,10 +1,9 @@
 -- What stands at the front of a stream of BGP messages.
-use Rattle.std.proofs.Common.{◌≡◌, ℕ, ◌+◌, ◌-◌, ◌*◌, ◌<◌, ◌≤◌, Bool, true, false, not, ◌&&◌, ◌||◌, List, [], ◌∷◌, ◌++◌, length, take, drop, Option, Some, None, refl, sym, ap, ◌∙◌, inl, inr, arith}
+use Rattle.std.proofs.Common.{◌≡◌, ℕ, ◌<◌, ◌≤◌, List, length, take, drop, Option, Some, None, refl, sym, ◌∙◌, inl, inr}
 use Rattle.std.proofs.lemmas.Bool.{cases_lt, lt-ltb, le-ltb}
-use Rattle.std.proofs.lemmas.List.{length-append, length-drop, length-take, take-append-le, drop-append-le}
-use Rattle.std.specs.Prelude.{slice_range, slice_index}
+use Rattle.std.specs.Prelude.{slice_range}
 use Rattle.wire_model.specs.declared.bgp_fault.BgpFault.{BgpFault}
-use Rattle.wire_model.specs.Messages.{Message, Front, Unfinished, Faulty, Leading, front_by, front_behind, front, header_fault, kind_in, length_in, message_length, header_length}
+use Rattle.wire_model.specs.Messages.{Message, Unfinished, Faulty, Leading, front_by, front_behind, front, header_fault, kind_in, length_in}
 
 -- too few bytes for a header
 pub front_short : (bytes : List ℕ) → length bytes < 19 → front bytes ≡ Unfinished

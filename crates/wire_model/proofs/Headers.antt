@@ -1,9 +1,8 @@
 -- Headers of BGP messages that have no fault.
-use Rattle.std.proofs.Common.{◌≡◌, ℕ, ◌+◌, ◌*◌, ◌<◌, ◌≤◌, Bool, true, false, not, ◌&&◌, ◌||◌, List, [], ◌∷◌, ◌++◌, length, take, Option, Some, None, cond, refl, sym, ap, ◌∙◌, inl, inr, arith}
-use Rattle.std.proofs.lemmas.Bool.{cases_lt, cases_Bool, lt-ltb, le-ltb, ltb-true, ltb-false}
+use Rattle.std.proofs.Common.{◌≡◌, ℕ, ◌≤◌, Bool, true, false, not, ◌||◌, List, take, Option, Some, None, cond, refl, sym}
+use Rattle.std.proofs.lemmas.Bool.{le-ltb, ltb-false}
 use Rattle.std.proofs.lemmas.Slice.Eq.{bytes_eq-Decides}
-use Rattle.std.specs.Prelude.{bytes_eq, nat_lt}
-use Rattle.wire_model.specs.declared.bgp_fault.BgpFault.{BgpFault}
+use Rattle.std.specs.Prelude.{bytes_eq}
 use Rattle.wire_model.specs.Messages.{header_fault, kind_in, length_in, is_kind, fits_kind, marker}
 
 -- a header without a fault

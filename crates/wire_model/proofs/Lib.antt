@@ -1,3 +1,5 @@
 pub mod Headers
 pub mod Fronts
 pub mod Streams
+pub mod Spelled
+pub mod Captures

@@ -1,11 +1,11 @@
 -- The messages of a stream of bytes.
-use Rattle.std.proofs.Common.{◌≡◌, ℕ, zero, suc, ◌+◌, ◌-◌, ◌*◌, ◌<◌, ◌≤◌, min, List, [], ◌∷◌, ◌++◌, length, take, drop, Option, Some, None, refl, sym, ap, ◌∙◌, append_assoc, arith}
-use Rattle.std.proofs.lemmas.List.{length-append, length-drop, length-take, length-take-le, take-append-le, drop-append-le, drop-drop, append-nil, nil_from_length, take_all}
+use Rattle.std.proofs.Common.{◌≡◌, ℕ, zero, suc, ◌+◌, ◌-◌, ◌<◌, ◌≤◌, List, [], ◌∷◌, ◌++◌, length, take, drop, Some, refl, sym, ap, ◌∙◌, append_assoc, arith}
+use Rattle.std.proofs.lemmas.List.{length-append, length-drop, length-take, take-append-le, drop-append-le, drop-drop, append-nil, drop_all}
 use Rattle.std.specs.Prelude.{slice_range}
 use Rattle.wire_model.specs.declared.bgp_fault.BgpFault.{BgpFault}
-use Rattle.wire_model.specs.Messages.{Message, Front, Unfinished, Faulty, Leading, front, header_fault, length_in, message_length, spell_message, spell_messages, messages_by, messages_from, messages, place_of, behind, fault_of, fault_in}
+use Rattle.wire_model.specs.Messages.{Message, Front, Unfinished, Faulty, Leading, front, length_in, message_length, spell_message, spell_messages, messages_by, messages_from, messages, place_of, behind, fault_of, fault_in}
 use Rattle.wire_model.proofs.Headers.{sound}
-use Rattle.wire_model.proofs.Fronts.{front_short, front_whole, front_faulty, leading, faulty, message_at}
+use Rattle.wire_model.proofs.Fronts.{front_short, front_whole, front_faulty, leading, faulty}
 
 -- a message takes as many bytes as its header says
 pub leading_length : (bytes : List ℕ) (m : Message) (rest : List ℕ) → front bytes ≡ Leading m rest → message_length m ≡ length_in (take 19 bytes)
@@ -86,22 +86,22 @@ none_after bytes fault is = rw (messages_step bytes, is) refl
 pub one_before : (bytes : List ℕ) (m : Message) (rest : List ℕ) → front bytes ≡ Leading m rest → messages bytes ≡ m ∷ messages rest
 one_before bytes m rest is = rw (messages_step bytes, is) refl
 
-place_before : (bytes : List ℕ) (m : Message) (rest : List ℕ) → front bytes ≡ Leading m rest → place_of bytes ≡ message_length m + place_of rest
+pub place_before : (bytes : List ℕ) (m : Message) (rest : List ℕ) → front bytes ≡ Leading m rest → place_of bytes ≡ message_length m + place_of rest
 unfolding place_of
 place_before bytes m rest is =
     rw (one_before bytes m rest is) (let size = length-append (spell_message m) (spell_messages (messages rest)) in omega arith)
 
-behind_before : (bytes : List ℕ) (m : Message) (rest : List ℕ) → front bytes ≡ Leading m rest → behind bytes ≡ behind rest
+pub behind_before : (bytes : List ℕ) (m : Message) (rest : List ℕ) → front bytes ≡ Leading m rest → behind bytes ≡ behind rest
 unfolding behind
 behind_before bytes m rest is =
     let split = leading_rest bytes m rest is in
     rw (place_before bytes m rest is) (sym (drop-drop (place_of rest) (message_length m) bytes) ∙ ap (λ xs. drop (place_of rest) xs) (sym split.1))
 
-place_none : (bytes : List ℕ) → messages bytes ≡ [] → place_of bytes ≡ 0
+pub place_none : (bytes : List ℕ) → messages bytes ≡ [] → place_of bytes ≡ 0
 unfolding place_of
 place_none bytes is = rw is refl
 
-behind_none : (bytes : List ℕ) → messages bytes ≡ [] → behind bytes ≡ bytes
+pub behind_none : (bytes : List ℕ) → messages bytes ≡ [] → behind bytes ≡ bytes
 unfolding behind
 behind_none bytes is = rw (place_none bytes is) refl
 
@@ -160,3 +160,33 @@ behind_append bytes more =
     rw (place_append bytes more)
     (sym (drop-drop (place_of (behind bytes ++ more)) (place_of bytes) (bytes ++ more))
     ∙ ap (λ xs. drop (place_of (behind bytes ++ more)) xs) (drop-append-le (place_of bytes) bytes more s.within))
+
+fault_front : (f : Front) (fault : BgpFault) → fault_of f ≡ Some fault → f ≡ Faulty fault
+fault_front Unfinished fault is = absurd (cc)
+fault_front (Faulty one) fault is = cc
+fault_front (Leading m rest) fault is = absurd (cc)
+
+-- a fault ends the messages, whatever follows
+pub fault_messages : (bytes more : List ℕ) (fault : BgpFault) → fault_in bytes ≡ Some fault → messages (bytes ++ more) ≡ messages bytes
+fault_messages bytes more fault is =
+    let here = fault_front (front (behind bytes)) fault is in
+    messages_append bytes more ∙ rw (none_after (behind bytes ++ more) fault (faulty_more (behind bytes) more fault here)) (append-nil (messages bytes))
+
+pub fault_stays : (bytes more : List ℕ) (fault : BgpFault) → fault_in bytes ≡ Some fault → fault_in (bytes ++ more) ≡ Some fault
+fault_stays bytes more fault is =
+    let here = faulty_more (behind bytes) more fault (fault_front (front (behind bytes)) fault is) in
+    rw (behind_append bytes more, behind_none (behind bytes ++ more) (none_after (behind bytes ++ more) fault here), here) refl
+
+-- the bytes of the message at the front, alone
+pub leading_alone : (bytes more : List ℕ) (m : Message) (rest : List ℕ) → front (bytes ++ more) ≡ Leading m rest → message_length m ≡ length bytes → front bytes ≡ Leading m []
+leading_alone bytes more m rest is exact =
+    let l = leading (bytes ++ more) m rest is in
+    let len : message_length m ≡ length_in (take 19 (bytes ++ more)) = leading_length (bytes ++ more) m rest is in
+    let header : take 19 (bytes ++ more) ≡ take 19 bytes = take-append-le 19 bytes more (omega arith) in
+    let same : length_in (take 19 bytes) ≡ length bytes = rw (← header, ← len) exact in
+    let size = length-drop 19 bytes in
+    let count = length_in (take 19 bytes) in
+    let body : slice_range (bytes ++ more) 19 count ≡ slice_range bytes 19 count =
+    rw (drop-append-le 19 bytes more (omega arith)) (take-append-le (count - 19) (drop 19 bytes) more (omega arith)) in
+    front_whole bytes (omega arith) (rw header at l.sound) (omega arith)
+    ∙ rw (drop_all count bytes (omega arith), l.is, header, body) refl

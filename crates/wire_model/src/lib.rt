@@ -4,9 +4,11 @@
 #![tactic(auto)]
 
 mod bgp_fault;
+mod laws;
 mod pcap_head;
 mod timer;
 
 pub use bgp_fault::BgpFault;
+pub use laws::{messages_are_the_greatest, messages_of_more_begin_alike};
 pub use pcap_head::{ByteOrder, Head, HeadFault, LinkType};
 pub use timer::{Smoothed, Timer};

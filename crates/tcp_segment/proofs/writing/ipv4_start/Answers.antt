@@ -4,4 +4,4 @@ use Rattle.tcp_segment.proofs.writing.ipv4_start.Goals as goal
 
 pub returns : goal.returns
 unfolding put2
-returns c = rw (c.to_be_bytes.ensures, c.to_be_bytes-2.ensures) refl
+returns c = rw (c.write_u16-2.ensures, c.write_u16.ensures) refl

@@ -4,4 +4,4 @@ use Rattle.tcp_segment.proofs.writing.ipv6_start.Goals as goal
 
 pub returns : goal.returns
 unfolding put2
-returns c = rw c.to_be_bytes.ensures refl
+returns c = rw c.write_u16.ensures refl

@@ -4,8 +4,8 @@ use Rattle.tcp_segment.proofs.writing.put_options.Goals as goal
 
 pub returns-in-Some-clause-end : goal.returns-in-Some-clause-end
 unfolding put2
-returns-in-Some-clause-end c = rw c.in-Some.is c.put.ensures.end
+returns-in-Some-clause-end c = rw (c.put.ensures.end, c.write_u16.ensures, c.in-Some.is) refl
 
 pub returns-in-Some-clause-front : goal.returns-in-Some-clause-front
 unfolding put2
-returns-in-Some-clause-front c = rw (c.put.ensures.front, c.to_be_bytes.ensures, c.in-Some.is) refl
+returns-in-Some-clause-front c = rw (c.put.ensures.front, c.write_u16.ensures, c.in-Some.is) refl

@@ -8,5 +8,5 @@ pub options_over-requires-clause-listed : goal.options_over-requires-clause-list
 options_over-requires-clause-listed c =
     subst (λ (l : List ℕ). AreListed (options_of l)) (sym (area_in c.self.inside.bytes.now c.self.inside.places c.self.invariant)) c.self.invariant.fits.listed
 
-pub returns : goal.returns
-returns c = c.options_over.ensures ∙ (area_in c.self.inside.bytes.now c.self.inside.places c.self.invariant ∙ ap (λ (d : Segment). d.area) c.self.view_is)
+pub returns-clause-value : goal.returns-clause-value
+returns-clause-value c = c.options_over.ensures ∙ (area_in c.self.inside.bytes.now c.self.inside.places c.self.invariant ∙ ap (λ (d : Segment). d.area) c.self.view_is)

@@ -1,0 +1,12 @@
+//! Messages of BGP in a stream of bytes (RFC 4271, and RFC 2918 for ROUTE-REFRESH), in whatever
+//! pieces it comes. A reader takes all its memory when it is made.
+#![tactic(auto)]
+
+mod gathered;
+mod header;
+mod reader;
+#[cfg(test)]
+mod tests;
+
+pub use reader::{BgpReader, Fed, Found};
+pub use wire_model::BgpFault;

@@ -1,0 +1,9 @@
+//! When a segment that isn't acknowledged is sent again: the retransmission timer of RFC 6298, in
+//! whole milliseconds. Nothing here takes memory.
+#![tactic(auto)]
+
+mod rto;
+#[cfg(test)]
+mod tests;
+
+pub use rto::Rto;

@@ -1,0 +1,50 @@
+-- What lines say, and how many they are.
+use Rattle.std.proofs.Common.{arith, ◌≡◌, ℕ, suc, ◌+◌, ◌≤◌, if◌then◌else◌, Bool, true, false, List, [], ◌∷◌, length, Result, Ok, Err, ap}
+use Rattle.ao_base.specs.declared.line_kind.LineKind.{LineKind}
+use Rattle.ao_base.specs.Lines.{words_of}
+use Rattle.line_model.specs.declared.text_fault.TextFault.{TextFault}
+use Rattle.line_model.specs.declared.text_fault.TextFault.TheVariants as fault
+use Rattle.line_model.specs.Lines.{Line, saying_from, says_something}
+use Rattle.line_model.specs.Said.{Said, numbered, said_by}
+use Rattle.line_model.specs.Words.{◌>>=◌}
+use Rattle.text_lines.specs.declared.refusal.Refusal.{Refusal}
+use Rattle.text_lines.specs.declared.refusal.Refusal.TheVariants as refusal
+use Rattle.text_lines.specs.Readings.{Fails, Tells, fault_at}
+
+-- a line that isn't read fails as it says, at its number
+pub fails_at : {A : Type 0} (n : ℕ) (r : Refusal) (said : Result A LineKind) → Tells (Err r) said → Fails (fault_at n r) (numbered n said)
+fails_at n refusal.Memory said h = tt
+fails_at n (refusal.Kind kind) (Ok x) h = absurd (cc h)
+fails_at n (refusal.Kind kind) (Err e) h = ap (λ (s : Result _ LineKind). numbered n s) h
+
+pub same_problem : {A : Type 0} (e f : TextFault) → ◌≡◌ {A = Result A TextFault} (Err e) (Err f) → e ≡ f
+same_problem e f h = grind arith
+
+pub same_fault : {A B : Type 0} (e f : TextFault) → ◌≡◌ {A = Result A TextFault} (Err e) (Err f) → ◌≡◌ {A = Result B TextFault} (Err e) (Err f)
+same_fault e f h = ap Err (same_problem e f h)
+
+with_others_few : {A : Type 0} (v : Result A TextFault) (n : ℕ) (others : Result (List (Said A)) TextFault) → (v ≡ Err fault.TooManyLines → ⊥) → (others ≡ Err fault.TooManyLines → ⊥)
+    → (v >>= λ x. others >>= λ o. Ok (record { number = n; value = x } ∷ o)) ≡ Err fault.TooManyLines → ⊥
+with_others_few (Ok x) n (Ok o) few more h = absurd (cc)
+with_others_few (Ok x) n (Err e) few more h = more (same_fault e fault.TooManyLines h)
+with_others_few (Err e) n others few more h = few (same_fault e fault.TooManyLines h)
+
+numbered_few : {A : Type 0} (n : ℕ) (r : Result A LineKind) → numbered n r ≡ Err fault.TooManyLines → ⊥
+numbered_few n (Ok x) h = absurd (cc)
+numbered_few n (Err kind) h = absurd (cc)
+
+-- what lines say is never that they are too many
+pub said_few : {A : Type 0} (meaning : List (List ℕ) → Result A LineKind) (ls : List Line) → said_by meaning ls ≡ Err fault.TooManyLines → ⊥
+unfolding said_by
+said_few meaning [] h = absurd (cc)
+said_few meaning (l ∷ ls) h = with_others_few (numbered l.number (meaning l.words)) l.number (said_by meaning ls) (numbered_few l.number (meaning l.words)) (said_few meaning ls) h
+
+one_says : (b : Bool) (l : Line) (ls : List Line) (m : ℕ) → length ls ≤ m → length (if b then l ∷ ls else ls) ≤ suc m
+one_says true l ls m h = omega arith
+one_says false l ls m h = omega arith
+
+-- as many lines say something as there are, at most
+pub saying_length : (n : ℕ) (ls : List (List ℕ)) → length (saying_from n ls) ≤ length ls
+unfolding saying_from
+saying_length n [] = omega arith
+saying_length n (l ∷ ls) = one_says (says_something (words_of l)) (record { number = n; words = words_of l }) (saying_from (n + 1) ls) (length ls) (saying_length (n + 1) ls)

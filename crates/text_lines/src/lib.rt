@@ -1,0 +1,23 @@
+//! Inputs of lines, as each command reads them: the lines that say something with their numbers, and
+//! the words of a line with each kind of fault. Outputs of lines, as each command writes them: texts
+//! with a space in front of each.
+#![tactic(auto)]
+
+mod fault;
+mod line_words;
+mod lines;
+mod refusal;
+mod saying;
+mod writing;
+
+pub use fault::print_fault;
+pub use line_words::LineWords;
+pub use lines::count_lines;
+pub use refusal::Refusal;
+pub use saying::{Saying, SayingLines};
+pub use writing::{
+    push_bytes, push_end, push_field, push_newline, push_number, push_socket, push_text,
+};
+
+#[cfg(test)]
+mod tests;

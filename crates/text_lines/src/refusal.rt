@@ -1,0 +1,45 @@
+//! Why a line isn't read.
+ghost use Rattle.std.specs.Prelude.{◌≡◌};
+ghost use Rattle.text_lines.specs.declared.refusal.Refusal.TheVariants as refusal;
+ghost use Rattle.text_lines.specs.Readings.{fault_at};
+
+use ao_base::LineKind;
+use line_model::TextFault;
+use std::alloc::AllocError;
+
+/// Why a line isn't read: memory ran out, or the kind of its first faulty word.
+#[derive(Clone, Copy, Debug, PartialEq, Eq)]
+pub enum Refusal {
+    /// Memory ran out.
+    Memory,
+    /// The first faulty word is of this kind.
+    Kind(LineKind),
+}
+
+impl Refusal {
+    /// The fault of an input whose line with this number isn't read for this reason.
+    pub fn at(self, number: u32) -> TextFault
+        ensures { result ≡ fault_at number self }
+    {
+        match self {
+            Refusal::Memory => TextFault::Memory,
+            Refusal::Kind(kind) => TextFault::Line(number, kind),
+        }
+    }
+}
+
+impl From<LineKind> for Refusal {
+    ghost from_gives = { λ k e. e ≡ refusal.Kind k };
+
+    fn from(kind: LineKind) -> Refusal {
+        Refusal::Kind(kind)
+    }
+}
+
+impl From<AllocError> for Refusal {
+    ghost from_gives = { λ _ e. e ≡ refusal.Memory };
+
+    fn from(_e: AllocError) -> Refusal {
+        Refusal::Memory
+    }
+}
