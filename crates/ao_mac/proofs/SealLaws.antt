@@ -1,4 +1,4 @@
--- The MAC of a draft doesn't depend on what stands in its MAC field, and a draft lies in its buffer.
+-- The MAC of a draft doesn't depend on what stands in its MAC field.
 use Rattle.std.proofs.Common.{◌≡◌, ℕ, ◌+◌, ◌/◌, Bool, true, false, List, [], ◌∷◌, ◌++◌, length, take, drop, replicate, refl, sym, ap, subst, ◌∙◌, arith, inl, inr}
 use Rattle.std.specs.Prelude.{◌⊎◌}
 use Rattle.std.proofs.lemmas.List.{length-append, take_at, drop_all}
@@ -11,47 +11,17 @@ use Rattle.segment_model.specs.Segments.{Segment, pseudo_of, pseudo, header, spe
 use Rattle.mac_model.specs.Keys.{mac}
 use Rattle.mac_model.specs.MacInput.{covered, mac_input}
 use Rattle.tcp_segment.specs.declared.writing.Head.{Head}
-use Rattle.tcp_segment.specs.Writing.{DatagramMut, written_ip, ip_size, mss_length, option_heads, drafted, Drafted, IsLaidOut}
+use Rattle.tcp_segment.specs.Drafts.{DatagramMut, Drafted}
+use Rattle.tcp_segment.specs.Writing.{written_ip, mss_length, option_heads, drafted}
 use Rattle.tcp_segment.proofs.DraftLaws.{drafted_ao}
-use Rattle.tcp_segment.proofs.WriteLaws.{before, parts, before_long, heads_long, area_long}
-use Rattle.ao_mac.specs.Macs.{HasAo, IsMacOf}
+use Rattle.tcp_segment.proofs.WriteLaws.{heads_long, area_long}
+use Rattle.ao_mac.specs.Macs.{IsMacOf}
 use Rattle.ao_mac.specs.Sealed.{IsSealed}
-
--- ---- where a draft lies
-
-ip_sizes : (a : Address) → (ip_size a ≡ 20) ⊎ (ip_size a ≡ 40)
-ip_sizes (V4 bytes) = inl refl
-ip_sizes (V6 bytes) = inr refl
-
-draft_long : (d : DatagramMut) (h : Head) (mac payload rest : List ℕ) → Drafted d h mac payload rest → length (spell (drafted h mac payload)) ≡ d.len
-draft_long d h mac payload rest D =
-    let b : List ℕ = before h (length mac) (length payload) in
-    let lm = D.mac_length in
-    let ll = D.len_is in
-    omega (arith, ap length (parts h mac payload), length-append b (mac ++ payload), length-append mac payload, before_long h (length mac) (length payload) D.head.family)
-
-pub lies : (d : DatagramMut) (h : Head) (mac payload rest : List ℕ) → Drafted d h mac payload rest → IsLaidOut d
-lies d h mac payload rest D =
-    let lh = D.header_is in
-    let lm = D.mac_is in
-    let lp = D.payload_is in
-    let ll = D.len_is in
-    record {
-      header = elim (ip_sizes h.source.address) [ inl e ↦ inl (lh ∙ e) | inr e ↦ inr (lh ∙ e) ];
-      mac = omega arith;
-      payload = omega arith;
-      len = omega arith;
-      most = D.most;
-      room = omega (arith, ap length D.bytes, length-append (spell (drafted h mac payload)) rest, draft_long d h mac payload rest D);
-    }
 
 -- ---- what the MAC is computed over
 
 abbrev pub ao_in : Head → List ℕ → Ao
 ao_in h mac = record { key_id = h.key_id; rnext_key_id = h.rnext; mac = mac; place = mss_length h.mss }
-
-pub has_ao : (h : Head) (mac payload : List ℕ) → HasAo (drafted h mac payload)
-has_ao h mac payload = (ao_in h mac, drafted_ao h mac payload)
 
 area_same : (h : Head) (m n : List ℕ) → length m ≡ length n → length (option_heads h (length m) ++ m) ≡ length (option_heads h (length n) ++ n)
 area_same h m n e = omega (arith, area_long h m, area_long h n, heads_long h (length m), heads_long h (length n))

@@ -95,8 +95,6 @@ fn same_options(
     ensures { (ao other_ao : Ao) → find_ao datagram.now.area ≡ One ao → find_ao other.now.area ≡ One other_ao
         → (IsTrue result ↔ (covered with_options datagram.now.area ao ≡ covered other_with_options other.now.area other_ao)) }
 {
-    // Their clauses say that each field fits its place, on which the proof rests.
-    let _lengths = (datagram.length(), other.length());
     let options = datagram.options();
     let other_options = other.options();
     let AoFound::One(ao) = options.find_ao() else {
@@ -178,8 +176,8 @@ pub fn same_input(
     requires other { HasAo other.now }
     ensures { IsSameInput result sne datagram.now with_options other_sne other.now other_with_options }
 {
-    // Their clauses say that each field fits its place, on which the proof rests.
-    let _lengths = (datagram.length(), other.length());
+    let payload = datagram.payload();
+    let other_payload = other.payload();
     if sne != other_sne {
         return false;
     }
@@ -192,5 +190,5 @@ pub fn same_input(
     if !same_options(datagram, with_options, other, other_with_options) {
         return false;
     }
-    same_bytes(datagram.payload(), other.payload())
+    same_bytes(payload, other_payload)
 }

@@ -50,8 +50,6 @@ pub(crate) fn tcp_length_of(datagram: &Datagram<'_>) -> u16
     ensures length { result ≡ tcp_length datagram.now }
     ensures fits { Fits datagram.now }
 {
-    // Its clause says that each field fits its place, on which the proof rests.
-    let _length = datagram.length();
     (20 + datagram.options().area().len() + datagram.payload().len()) as u16
 }
 
@@ -114,8 +112,6 @@ fn feed_covered(hasher: &mut Hasher, datagram: &Datagram<'_>, with_options: bool
     ensures { (algorithm : Algorithm) (key fed : List ℕ) (ao : Ao) → StandsFor hasher.old algorithm key fed → find_ao datagram.now.area ≡ One ao
         → StandsFor hasher.new algorithm key (fed ++ covered with_options datagram.now.area ao) }
 {
-    // Its clause says that each field fits its place, on which the proof rests.
-    let _length = datagram.length();
     let options = datagram.options();
     if let AoFound::One(ao) = options.find_ao() {
         feed_options(hasher, options.area(), ao, with_options);

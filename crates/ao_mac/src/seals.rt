@@ -1,7 +1,7 @@
 //! The MAC of a segment that is being written.
 ghost use Rattle.std.specs.Prelude.{◌≡◌, ◌+◌, ℕ, List, length};
 ghost use Rattle.ao_base.specs.Algorithms.{mac_length_of};
-ghost use Rattle.tcp_segment.specs.Writing.{Drafted, IsDrafted, IsLaidOut};
+ghost use Rattle.tcp_segment.specs.Drafts.{Drafted};
 ghost use Rattle.tcp_segment.specs.declared.writing.Head.{Head};
 ghost use Rattle.mac_model.specs.Keys.{key_length};
 ghost use Rattle.ao_mac.specs.Sealed.{IsSealed};
@@ -23,12 +23,9 @@ pub fn seal(
     datagram: &mut DatagramMut<'_>,
     with_options: bool,
 )
-    requires drafted { IsDrafted datagram.old }
     requires field { datagram.old.mac + mac_length_of alg ≡ datagram.old.payload }
     requires key { length key.now ≡ key_length alg }
     ensures same_buffer { datagram.new.out.ghost_name ≡ datagram.old.out.ghost_name }
-    ensures laid_out { IsLaidOut datagram.new }
-    ensures drafted { IsDrafted datagram.new }
     ensures sealed { (h : Head) (old payload rest : List ℕ) → Drafted datagram.old h old payload rest
         → IsSealed datagram.new h old payload rest alg key.now sne with_options }
 {

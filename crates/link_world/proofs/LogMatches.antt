@@ -26,8 +26,8 @@ use Rattle.narrow_endpoint.specs.Verdicts.{Key, same_key, Passed as Entrance}
 use Rattle.narrow_endpoint.specs.States.{EndState}
 use Rattle.narrow_endpoint.specs.Emissions.{Emission, Emits, Draft, Sending, blank, emit, emitted, seal_known, sealed, shared, to_emit, written_ip}
 use Rattle.narrow_link.specs.Worlds.{Setup, pair_of, other, same_end, Made as Entry, accounts_for}
-use Rattle.ao_kdf.specs.declared.context.Context.{Context}
-use Rattle.ao_kdf.specs.Context.{bytes_of}
+use Rattle.mac_model.specs.declared.context.Context.{Context}
+use Rattle.mac_model.specs.Contexts.{bytes_of}
 use Rattle.ao_mac.specs.Macs.{IsSameInput}
 use Rattle.link_world.specs.declared.kept.Kept.{Kept}
 use Rattle.link_world.specs.declared.outcome.Made.{Made}

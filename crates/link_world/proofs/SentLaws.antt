@@ -19,7 +19,7 @@ use Rattle.ao_mac.proofs.SealLaws.{ao_in, input_blind}
 use Rattle.narrow_endpoint.specs.Verdicts.{Key}
 use Rattle.narrow_endpoint.specs.States.{EndState}
 use Rattle.narrow_endpoint.specs.Emissions.{shared, Draft, data_draft, sealed, blank_ao, written, with_checksum, seal_of, input_of}
-use Rattle.ao_kdf.specs.Context.{bytes_of}
+use Rattle.mac_model.specs.Contexts.{bytes_of}
 use Rattle.link_world.specs.declared.outcome.Made.{Made}
 use Rattle.link_world.specs.Written.{IsWritten, head_of}
 use Rattle.link_world.specs.Sent.{IsSent}
@@ -49,9 +49,9 @@ pub finished_long : (h : Head) (code payload : List ℕ) → OneFamily h.source.
     → length (spell (finished (drafted h code payload))) ≡ header_length h + length payload
 finished_long h code payload family long =
     let d : Segment = drafted h code payload in
-    let b : List ℕ = before h (length code) (length payload) in
+    let b : List ℕ = before h 0 (length code) (length payload) in
     let whole : length (spell (finished d)) ≡ length (spell d) = spell_long d ∙ ap length (same_zero d refl) in
-    omega (arith, whole, ap length (parts h code payload), length-append b (code ++ payload), length-append code payload, before_long h (length code) (length payload) family, long)
+    omega (arith, whole, ap length (parts h 0 code payload), length-append b (code ++ payload), length-append code payload, before_long h 0 (length code) (length payload) family, long)
 
 -- ---- the MAC input
 

@@ -4,7 +4,7 @@ use Rattle.segment_model.specs.Options.{Ao, One, find_ao}
 use Rattle.segment_model.specs.Segments.{Read, reading, spell}
 use Rattle.mac_model.specs.MacInput.{mac_input}
 use Rattle.narrow_endpoint.specs.Emissions.{Emission}
-use Rattle.ao_kdf.specs.Context.{bytes_of}
+use Rattle.mac_model.specs.Contexts.{bytes_of}
 use Rattle.link_world.specs.declared.outcome.Made.{Made}
 
 -- what is told of it is the model's, and the buffer begins with its bytes, which are read as it

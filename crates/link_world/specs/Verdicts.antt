@@ -4,7 +4,7 @@ use Rattle.segment_model.specs.Options.{Ao, One, find_ao}
 use Rattle.segment_model.specs.Segments.{Segment}
 use Rattle.narrow_endpoint.specs.Verdicts.{Key, Verdict, Refuse, Pass, Passed as Entry, passed_with}
 use Rattle.link_script.specs.declared.script.SharedKey.{SharedKey}
-use Rattle.ao_kdf.specs.Context.{bytes_of}
+use Rattle.mac_model.specs.Contexts.{bytes_of}
 use Rattle.link_world.specs.declared.outcome.Passed.{Passed}
 use Rattle.link_world.specs.declared.outcome.Refusal.{Refusal}
 use Rattle.link_world.specs.Outcomes.{view_refusal}

@@ -6,7 +6,7 @@ ghost use Rattle.mac_model.specs.Contexts.{context, context_of};
 ghost use Rattle.mac_model.specs.Keys.{key_length, mac, traffic_key};
 ghost use Rattle.mac_model.specs.MacInput.{mac_input};
 ghost use Rattle.narrow_endpoint.specs.Verdicts.{judge};
-ghost use Rattle.ao_kdf.specs.Context.{bytes_of};
+ghost use Rattle.mac_model.specs.Contexts.{bytes_of};
 ghost use Rattle.ao_mac.specs.Macs.{HasAo};
 ghost use Rattle.tcp_options.specs.Views.{view_found};
 ghost use Rattle.link_world.specs.Verdicts.{Judged, key_of};

@@ -1,12 +1,13 @@
 //! One end of a connection: what was given to it and sent, and what came and is ready.
 ghost use Rattle.std.specs.Prelude.{◌≡◌, ◌≢◌, ◌==◌, nat_lt, nat_le, ◌&&◌, not, ◌⊎◌, ◌↔◌, ℕ, ◌+◌, ◌-◌, ◌*◌, ◌<◌, ◌≤◌, ◌^◌, min, List, [], ◌∷◌, ◌++◌, length, take, drop, replicate, IfOk, IfSome, IfNone, OnOk, OnErr, Option, Some, None, true, false, IsTrue};
+ghost use Rattle.ao_base.specs.Algorithms.{mac_length_of};
 ghost use Rattle.narrow_endpoint.specs.States.{EndState, started, give, take_out, taking, window, room};
 ghost use Rattle.narrow_endpoint.specs.Arrivals.{arrive_judged, received};
 ghost use Rattle.narrow_endpoint.specs.Verdicts.{Pass, Passed as Entry};
 ghost use Rattle.narrow_endpoint.specs.Emissions.{Quiet, data_draft, effective, emit, sealed, shared as under, unsent};
 ghost use Rattle.segment_model.specs.Segments.{has, ACK, FIN, RST, SYN};
 ghost use Rattle.mac_model.specs.Contexts.{context};
-ghost use Rattle.ao_kdf.specs.Context.{bytes_of};
+ghost use Rattle.mac_model.specs.Contexts.{bytes_of};
 ghost use Rattle.tcp_segment.specs.Writing.{ip_size, OneFamily};
 ghost use Rattle.link_world.specs.Written.{head_of};
 ghost use Rattle.link_world.specs.Sent.{IsSent};
@@ -268,6 +269,7 @@ impl Endpoint {
         requires family { OneFamily pair.now.local.address pair.now.remote.address }
         requires some_key { 0 < length shared.now.master }
         requires most_key { length shared.now.master ≤ 255 }
+        requires code { mac_length_of shared.now.alg ≡ 12 }
         requires room { 1500 ≤ length out.old }
         ensures sent { (s : EndState) → Stands self.now s
             → IsSent result (sealed pair.now s (data_draft s count) (under (key_of shared.now)) (context pair.now.local pair.now.remote s.iss self.now.peer_isn)) out.new }
@@ -310,6 +312,7 @@ impl Endpoint {
         requires family { OneFamily pair.now.local.address pair.now.remote.address }
         requires some_key { 0 < length shared.now.master }
         requires most_key { length shared.now.master ≤ 255 }
+        requires code { mac_length_of shared.now.alg ≡ 12 }
         requires room { 1500 ≤ length out.old }
         ensures sound { IsSound self.new }
         ensures quiet { IfNone result ((s : EndState) → Stands self.old s → (emit (key_of shared.now) pair.now s ≡ Quiet) × Stands self.new s) }

@@ -1,5 +1,6 @@
 //! What an event does to the end at which it happens.
 ghost use Rattle.std.specs.Prelude.{◌≡◌, ◌<◌, ◌≤◌, ◌+◌, IfOk, IsTrue, length};
+ghost use Rattle.ao_base.specs.Algorithms.{mac_length_of};
 ghost use Rattle.tcp_segment.specs.Writing.{OneFamily};
 ghost use Rattle.narrow_link.specs.Steps.{step};
 ghost use Rattle.narrow_link.specs.Worlds.{Setup, World, pair_of, side as side_of};
@@ -67,6 +68,7 @@ pub(crate) fn act(
     requires family { OneFamily pair.now.local.address pair.now.remote.address }
     requires some_key { 0 < length shared.now.master }
     requires most_key { length shared.now.master ≤ 255 }
+    requires code { mac_length_of shared.now.alg ≡ 12 }
     requires few_made { length log.old.made.items < 4294967295 }
     requires few { log.old.forgeries < 4294967295 }
     ensures sound { IsSoundLive side.new.live }

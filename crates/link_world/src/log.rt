@@ -2,7 +2,7 @@
 ghost use Rattle.std.specs.Prelude.{◌≡◌, ◌↔◌, ◌+◌, ◌<◌, ◌≤◌, ℕ, suc, List, [], ◌∷◌, length, true, IsTrue, Some, None, MatchOption, OnOk, OnErr, IfOk};
 ghost use Rattle.narrow_endpoint.specs.Verdicts.{Passed as Entrance};
 ghost use Rattle.narrow_link.specs.Worlds.{Setup, Made as Entry, Came, Happening, Sending, Coming, pair_of, segment_named, accounts_for, was_made};
-ghost use Rattle.ao_kdf.specs.Context.{bytes_of};
+ghost use Rattle.mac_model.specs.Contexts.{bytes_of};
 ghost use Rattle.ao_mac.specs.Macs.{HasAo, IsSameInput};
 ghost use Rattle.link_world.specs.declared.kept.Kept.{Kept};
 ghost use Rattle.link_world.specs.declared.log.Log.{Log};

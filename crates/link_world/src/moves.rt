@@ -1,5 +1,6 @@
 //! The events at an end by which a segment is made or a datagram comes.
 ghost use Rattle.std.specs.Prelude.{◌≡◌, ◌<◌, ◌≤◌, ◌+◌, IfOk, List, length};
+ghost use Rattle.ao_base.specs.Algorithms.{mac_length_of};
 ghost use Rattle.tcp_segment.specs.Writing.{OneFamily};
 ghost use Rattle.narrow_link.specs.Events.{Send, Deliver, Alter};
 ghost use Rattle.narrow_link.specs.Steps.{come, image_of, on_live, step};
@@ -92,6 +93,7 @@ pub(crate) fn send(
     requires family { OneFamily pair.now.local.address pair.now.remote.address }
     requires some_key { 0 < length shared.now.master }
     requires most_key { length shared.now.master ≤ 255 }
+    requires code { mac_length_of shared.now.alg ≡ 12 }
     requires few { length log.old.made.items < 4294967295 }
     ensures sound { IsSoundLive side.new.live }
     ensures made { length log.new.made.items ≤ length log.old.made.items + 1 }

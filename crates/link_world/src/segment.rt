@@ -1,5 +1,6 @@
 //! A segment, written and sealed.
 ghost use Rattle.std.specs.Prelude.{◌≡◌, ◌≤◌, ◌+◌, ℕ, List, length};
+ghost use Rattle.ao_base.specs.Algorithms.{mac_length_of};
 ghost use Rattle.mac_model.specs.Keys.{key_length};
 ghost use Rattle.tcp_segment.specs.Writing.{IsHead, header_length};
 ghost use Rattle.link_world.specs.Written.{IsWritten};
@@ -20,7 +21,7 @@ pub(crate) fn write_segment(
     sne: u32,
 ) -> usize
     requires head { IsHead head.now (length payload.now) }
-    requires code { head.now.mac_length ≡ 12 }
+    requires code { head.now.mac_length ≡ mac_length_of alg }
     requires room { 1500 ≤ length out.old }
     requires key { length key.now ≡ key_length alg }
     ensures length { result ≡ header_length head.now + length payload.now }

@@ -1,6 +1,7 @@
 //! A link between two ends.
 ghost use Rattle.std.specs.Prelude.{◌≡◌, ◌<◌, ◌≤◌, ◌+◌, IfOk, IsTrue, List, OnOk, [], ◌∷◌, ◌++◌, length};
 ghost use Rattle.std.specs.Option.{ForSome};
+ghost use Rattle.ao_base.specs.Algorithms.{mac_length_of};
 ghost use Rattle.narrow_link.specs.Events.{Event as ModelEvent};
 ghost use Rattle.narrow_link.specs.Reports.{report, summary};
 ghost use Rattle.narrow_link.specs.Runs.{run};
@@ -42,6 +43,7 @@ pub struct World {
     ghost family: { IsTrue (are_two_of_a_family setup.a.address setup.b.address) },
     ghost least: { 1 ≤ length setup.shared.master },
     ghost most: { length setup.shared.master ≤ 255 },
+    ghost code: { mac_length_of setup.shared.alg ≡ 12 },
     ghost a_sound: { ForSome a.live (λ e. IsSound e) },
     ghost b_sound: { ForSome b.live (λ e. IsSound e) },
     ghost made: { length log.made.items ≤ steps },
@@ -52,11 +54,12 @@ impl World {
     ghost use Rattle.link_world.specs.Standing.{Happens, MadeBy, StandsFor, event_of, segments_made, setup_of, steps_taken};
 
     /// A link on which nothing happened yet, both clocks at 0. Its addresses differ and are of one
-    /// family, and the master key has 1 to 255 bytes.
+    /// family, the master key has 1 to 255 bytes, and a MAC of the algorithm 12.
     pub fn new(alloc: Global, setup: Setup) -> Result<World, AllocError>
         requires family { IsTrue (are_two_of_a_family setup.a.address setup.b.address) }
         requires least { 1 ≤ length setup.shared.master }
         requires most { length setup.shared.master ≤ 255 }
+        requires code { mac_length_of setup.shared.alg ≡ 12 }
         ensures stands { IfOk result (λ w. StandsFor w (setup_of setup) []) }
         ensures steps { IfOk result (λ w. steps_taken w ≡ 0) }
     {

@@ -22,6 +22,26 @@ const FIVE: [u8; 65] = [
     0x6f,
 ];
 
+/// The head of `FIVE`.
+const HEAD: Head = Head {
+    source: Socket {
+        address: Address::V4([10, 0, 0, 1]),
+        port: 1000,
+    },
+    destination: Socket {
+        address: Address::V4([10, 0, 0, 2]),
+        port: 2000,
+    },
+    sequence: 101,
+    acknowledgement: 201,
+    flags: 0x18,
+    window: 65535,
+    mss: Some(1460),
+    key_id: 7,
+    rnext: 8,
+    mac_length: 12,
+};
+
 /// Three bytes and a MAC of 16 bytes, over IPv6.
 const THREE: [u8; 83] = [
     0x60, 0x00, 0x00, 0x00, 0x00, 0x2b, 0x06, 0x40, 0x20, 0x01, 0x0d, 0xb8, 0x00, 0x00, 0x00, 0x00,
@@ -95,6 +115,10 @@ fn first_test_that_holds_is_named(rt: HostRuntime) {
     assert_eq!(rt; fault_with(0, 0x55), Some(DatagramFault::Version));
     assert_eq!(rt; fault_with(0, 0x44), Some(DatagramFault::HeaderLength));
     assert_eq!(rt; fault_with(3, 0), Some(DatagramFault::HeaderLength));
+    let mut short = ACK;
+    short[0] = 0x44;
+    short[3] = 41;
+    assert_eq!(rt; fault_in(&short), Some(DatagramFault::Truncated));
     assert_eq!(rt; fault_with(8, 65), Some(DatagramFault::HeaderChecksum));
     assert_eq!(rt; fault_with(32, 0x40), Some(DatagramFault::DataOffset));
     assert_eq!(rt; fault_with(32, 0x60), Some(DatagramFault::DataOffset));
@@ -138,32 +162,31 @@ fn send(out: &mut [u8], head: &Head, payload: &[u8], mac: &[u8]) -> usize
 #[test]
 fn written_datagram_over_ipv4_is_read_again(rt: HostRuntime) -> Result<(), Fail> {
     let mut out = [0xff; 1500];
-    let head = Head {
-        source: Socket {
-            address: Address::V4([10, 0, 0, 1]),
-            port: 1000,
-        },
-        destination: Socket {
-            address: Address::V4([10, 0, 0, 2]),
-            port: 2000,
-        },
-        sequence: 101,
-        acknowledgement: 201,
-        flags: 0x18,
-        window: 65535,
-        mss: Some(1460),
-        key_id: 7,
-        rnext: 8,
-        mac_length: 12,
-    };
     let mac = [1, 2, 3, 4, 5, 6, 7, 8, 9, 10, 11, 12];
-    let length = send(&mut out, &head, b"hello", &mac);
+    let length = send(&mut out, &HEAD, b"hello", &mac);
     assert_eq!(rt; &out[..length], FIVE.as_slice());
     assert_eq!(rt; out[length], 0xff);
     let datagram = read_datagram(&out).ok().ok_or("a fault")?;
     assert!(rt; datagram.checksum_ok());
     assert_eq!(rt; datagram.payload(), b"hello".as_slice());
     Ok(())
+}
+
+#[test]
+fn draft_is_shown_as_it_stands(rt: HostRuntime) {
+    let mut out = [0xff; 1500];
+    let mut draft = write_datagram(&mut out, &HEAD, 5);
+    draft.payload_mut().copy_from_slice(b"hello");
+    assert_eq!(rt; draft.len(), 65);
+    let shown = draft.as_datagram();
+    assert_eq!(rt; shown.payload(), b"hello".as_slice());
+    assert_eq!(rt;
+        shown.options().area(),
+        &[
+            2, 4, 5, 0xb4, 0x1d, 0x10, 7, 8, 0, 0, 0, 0, 0, 0, 0, 0, 0, 0, 0, 0
+        ]
+    );
+    assert!(rt; !shown.checksum_ok());
 }
 
 #[test]

@@ -7,12 +7,12 @@ pub returns-in-V4-V4 : goal.returns-in-V4-V4
 returns-in-V4-V4 c = λ algorithm key fed s.
     let d = c.args.datagram.now in
     let is = pseudo_sized4 d c.in-V4-V4.source c.in-V4-V4.destination _ c.tcp_length_of-length.ensures.fits.ip
-    (sym (ap (λ t. t.address) c.source.ensures) ∙ c.in-V4-V4.is-0) (sym (ap (λ t. t.address) c.destination.ensures) ∙ c.in-V4-V4.is-1) c.tcp_length_of-length.ensures.length in
+    (sym (ap (λ t. t.address) c.source.ensures.value) ∙ c.in-V4-V4.is-0) (sym (ap (λ t. t.address) c.destination.ensures.value) ∙ c.in-V4-V4.is-1) c.tcp_length_of-length.ensures.length in
     fed_one _ algorithm key fed _ _ is (c.feed_pseudo_v4.ensures algorithm key fed s)
 
 pub returns-in-V6-V6 : goal.returns-in-V6-V6
 returns-in-V6-V6 c = λ algorithm key fed s.
     let d = c.args.datagram.now in
     let is = pseudo_sized6 d c.in-V6-V6.source c.in-V6-V6.destination _ c.tcp_length_of-length.ensures.fits.ip
-    (sym (ap (λ t. t.address) c.source.ensures) ∙ c.in-V6-V6.is-0) (sym (ap (λ t. t.address) c.destination.ensures) ∙ c.in-V6-V6.is-1) c.tcp_length_of-length.ensures.length in
+    (sym (ap (λ t. t.address) c.source.ensures.value) ∙ c.in-V6-V6.is-0) (sym (ap (λ t. t.address) c.destination.ensures.value) ∙ c.in-V6-V6.is-1) c.tcp_length_of-length.ensures.length in
     fed_one _ algorithm key fed _ _ is (c.feed_pseudo_v6.ensures algorithm key fed s)

@@ -14,7 +14,7 @@ returns-clause-mac c = λ number ao is found.
     let four = c.feed_covered.ensures algorithm key _ ao three found in
     let five = c.feed-2.ensures algorithm key _ four in
     mac_of_fed algorithm key c.args.key.now c.finish.result number c.args.sne c.args.datagram.now ao c.args.with_options c.big_endian.result c.payload.result.now
-    (c.finish.ensures algorithm key _ five) c.as_slice.ensures.bytes is c.big_endian.ensures c.payload.ensures
+    (c.finish.ensures algorithm key _ five) c.as_slice.ensures.bytes is c.big_endian.ensures c.payload.ensures.value
 
 pub returns-clause-length : goal.returns-clause-length
 returns-clause-length c =

@@ -6,7 +6,7 @@ use Rattle.ao_show.proofs.signed.signed.Goals as goal
 
 pub returns-then-ao-eq12 : goal.returns-then-ao-eq12
 returns-then-ao-eq12 c =
-    let found : find_ao c.in-Ok.datagram.area ≡ One (view_ao c.in-One.ao) = sym (rw c.options.ensures at c.in-One.ensures) in
+    let found : find_ao c.in-Ok.datagram.area ≡ One (view_ao c.in-One.ao) = sym (rw c.options.ensures.value at c.in-One.ensures) in
     record {
       ao = view_ao c.in-One.ao;
       found = found;

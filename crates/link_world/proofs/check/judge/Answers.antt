@@ -2,7 +2,7 @@ use Rattle.std.proofs.Common.{◌<◌, sym, ap, ◌∙◌, refl, Some, arith}
 use Rattle.segment_model.specs.Options.{Absent, Two, WithMd5, One}
 use Rattle.tcp_options.specs.Views.{view_ao}
 use Rattle.narrow_endpoint.specs.Verdicts.{judge, passed_with}
-use Rattle.ao_kdf.specs.Context.{bytes_of}
+use Rattle.mac_model.specs.Contexts.{bytes_of}
 use Rattle.link_world.specs.Verdicts.{key_of}
 use Rattle.link_world.proofs.VerdictLaws.{by_found, no_tuple, mac_length, at_context, wrong, right}
 use Rattle.link_world.proofs.check.judge.Goals as goal

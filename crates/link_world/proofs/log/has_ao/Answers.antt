@@ -4,4 +4,4 @@ use Rattle.tcp_options.specs.Views.{view_ao}
 use Rattle.link_world.proofs.log.has_ao.Goals as goal
 
 pub returns-in-One : goal.returns-in-One
-returns-in-One c = (λ t. (view_ao c.in-One.field-0, sym (c.in-One.ensures ∙ ap find_ao c.options-options.ensures)), λ h. refl)
+returns-in-One c = (λ t. (view_ao c.in-One.field-0, sym (c.in-One.ensures ∙ ap find_ao c.options-options.ensures.value)), λ h. refl)
