@@ -1,6 +1,7 @@
 -- What is known of a segment whose MAC is left to judge.
 use Rattle.std.proofs.Common.{◌≡◌, ◌<◌, ◌≤◌, ℕ, ◌+◌, ◌-◌, Bool, true, false, List, length, Option, Some, None, refl, sym, ap, ◌∙◌, subst, arith, get_or}
 use Rattle.std.specs.Prelude.{slice_get}
+use Rattle.ao_base.specs.Algorithms.{mac_length_of}
 use Rattle.segment_model.specs.Bytes.{same_bytes}
 use Rattle.segment_model.specs.Options.{Ao, AoFound, One, find_ao}
 use Rattle.segment_model.specs.Segments.{Segment, has, SYN}
@@ -9,15 +10,16 @@ use Rattle.mac_model.specs.MacInput.{mac_input}
 use Rattle.key_model.specs.Rows.{Row}
 use Rattle.key_model.specs.Choices.{Numbered, accept_row}
 use Rattle.endpoint_model.specs.Verdicts as book
-use Rattle.ao_kdf.specs.Context.{bytes_of}
+use Rattle.mac_model.specs.Contexts.{bytes_of}
 use Rattle.mac_model.specs.Contexts.{context_of}
 use Rattle.ao_kdf.specs.Cache.{Cache, kept, IsRight}
 use Rattle.ao_kdf.specs.declared.way.Way.{Way}
 use Rattle.ao_kdf.specs.declared.way.Way.TheVariants.{Inbound, Outbound}
-use Rattle.key_table.specs.Lookups.{number_of}
+use Rattle.key_model.specs.Lookups.{number_of}
 use Rattle.ao_base.specs.declared.address.Pair.{Pair}
 use Rattle.ao_check.specs.declared.screen.Screened.{Screened}
 use Rattle.endpoint_model.specs.declared.verdict.Passed.{Passed}
+use Rattle.endpoint_model.specs.declared.verdict.Verdict.TheVariants.{BadMac}
 use Rattle.ao_check.specs.Bonds.{Bond, key_for, Fits, keys_after, steps_of, Counted}
 use Rattle.ao_check.specs.Verdicts.{Names, Awaits, judging}
 use Rattle.ao_check.proofs.KeyLaws.{AtPlace, accepted_at, same_row, got, inbound_key, outbound_key, kept_right, fits_after, counted_after}
@@ -31,7 +33,7 @@ pub record Ready (rows : List Row) (a : Bond) (now : ℕ) (d : Segment) (s : Scr
 judged_one : (rows : List Row) (pair : Pair) (now : ℕ) (f : AoFound) (ao : Ao) (n : Numbered) → f ≡ One ao → accept_row rows pair ao.key_id now ≡ Some n → judging rows pair now f ≡ Some n.number
 judged_one rows pair now f ao n e h = ap (judging rows pair now) e ∙ ap number_of h
 
-pub ready : (rows : List Row) (a : Bond) (now : ℕ) (d : Segment) (s : Screened) (v : book.Verdict) → Fits rows a → Awaits rows a.pair a.own a.peer now d s v → Ready rows a now d s
+pub ready : (rows : List Row) (a : Bond) (now : ℕ) (d : Segment) (s : Screened) (v : book.Judgement) → Fits rows a → Awaits rows a.pair a.own a.peer now d s v → Ready rows a now d s
 ready rows a now d s v f A =
     let p = accepted_at rows a.pair A.ao.key_id now s.row A.row A.accepted in
     let high = p.high in
@@ -48,7 +50,7 @@ pub record Keyed (rows : List Row) (a : Bond) (d : Segment) (s : Screened) (x : 
   pub key : has SYN d ≡ false → key_for (slice_get rows (s.row - 1)) Inbound a.pair a.own a.peer ≡ Some (traffic_key x.algorithm x.master (bytes_of s.context))
   pub right : has SYN d ≡ false → IsRight (kept a.keys s.row Inbound) (traffic_key x.algorithm x.master (bytes_of s.context))
 
-pub keyed : (rows : List Row) (a : Bond) (now : ℕ) (d : Segment) (s : Screened) (v : book.Verdict) (x : Row) → Fits rows a → Awaits rows a.pair a.own a.peer now d s v → d.source ≡ a.pair.remote → d.destination ≡ a.pair.local
+pub keyed : (rows : List Row) (a : Bond) (now : ℕ) (d : Segment) (s : Screened) (v : book.Judgement) (x : Row) → Fits rows a → Awaits rows a.pair a.own a.peer now d s v → d.source ≡ a.pair.remote → d.destination ≡ a.pair.local
     → ((e : Row) → x ≡ get_or rows (s.row - 1) e) → Keyed rows a d s x
 keyed rows a now d s v x f A from to at =
     let p = accepted_at rows a.pair A.ao.key_id now s.row A.row A.accepted in
@@ -62,35 +64,42 @@ keyed rows a now d s v x f A from to at =
 
 -- the test of the MAC, in the words of the verdict
 tested : (ao : Ao) (x r : Row) (n number : ℕ) (d : Segment) (c key field : List ℕ) (b : Bool) → ao.mac ≡ field → x ≡ r → key ≡ traffic_key x.algorithm x.master c
-    → b ≡ same_bytes field (mac x.algorithm key (mac_input n d ao x.with_options)) → b ≡ same_bytes ao.mac (book.mac_of (book.passed_with (record { number = number; row = r }) d ao c n))
+    → b ≡ same_bytes field (mac x.algorithm key (mac_input n d ao x.with_options)) → b ≡ same_bytes ao.mac (book.mac_of (book.found_with (record { number = number; row = r }) d ao c n))
 tested ao x r n number d c key field b m e k h = h ∙ rw (m, ← e, k) refl
 
-pub record Judges (rows : List Row) (pair : Pair) (d : Segment) (s : Screened) (v : book.Verdict) (b : Bool) : Type 0 where
-  pub wrong : b ≡ false → v ≡ book.Refuse book.BadMac
-  pub right : b ≡ true → (entry : book.Passed) × (v ≡ book.Pass entry) × Names rows pair d (record { row = s.row; number = s.number; context = s.context }) entry
+pub record Judges (rows : List Row) (pair : Pair) (d : Segment) (s : Screened) (v : book.Judgement) (b : Bool) : Type 0 where
+  pub wrong : b ≡ false → v ≡ book.Refuse BadMac
+  pub right : b ≡ true → (entry : book.Finding) × (v ≡ book.Admit entry) × Names rows pair d (record { row = s.row; number = s.number; context = s.context }) entry
 
-mac_wrong : (ao : Ao) (p : book.Passed) → same_bytes ao.mac (book.mac_of p) ≡ false → book.judge_mac ao p ≡ book.Refuse book.BadMac
+mac_wrong : (ao : Ao) (p : book.Finding) → same_bytes ao.mac (book.mac_of p) ≡ false → book.judge_mac ao p ≡ book.Refuse BadMac
 mac_wrong ao p e = rw e refl
 
-mac_right : (ao : Ao) (p : book.Passed) → same_bytes ao.mac (book.mac_of p) ≡ true → book.judge_mac ao p ≡ book.Pass p
+mac_right : (ao : Ao) (p : book.Finding) → same_bytes ao.mac (book.mac_of p) ≡ true → book.judge_mac ao p ≡ book.Admit p
 mac_right ao p e = rw e refl
 
-pub judges : (rows : List Row) (a : Bond) (now : ℕ) (d : Segment) (s : Screened) (v : book.Verdict) (x : Row) (key : List ℕ) (b : Bool) → Awaits rows a.pair a.own a.peer now d s v
+pub judges : (rows : List Row) (a : Bond) (now : ℕ) (d : Segment) (s : Screened) (v : book.Judgement) (x : Row) (key : List ℕ) (b : Bool) → Awaits rows a.pair a.own a.peer now d s v
     → d.source ≡ a.pair.remote → d.destination ≡ a.pair.local → ((e : Row) → x ≡ get_or rows (s.row - 1) e) → key ≡ traffic_key x.algorithm x.master (bytes_of s.context)
     → ((ao : Ao) → find_ao d.area ≡ One ao → b ≡ same_bytes s.mac.now (mac x.algorithm key (mac_input s.number d ao x.with_options))) → Judges rows a.pair d s v b
 judges rows a now d s v x key b A from to at k test =
     let p = accepted_at rows a.pair A.ao.key_id now s.row A.row A.accepted in
     let same = same_row rows s.row A.row x p at in
-    let entry = book.passed_with (record { number = s.row; row = A.row }) d A.ao (bytes_of s.context) s.number in
+    let entry = book.found_with (record { number = s.row; row = A.row }) d A.ao (bytes_of s.context) s.number in
     let t = tested A.ao x A.row s.number s.row d (bytes_of s.context) key s.mac.now b A.mac same k (test A.ao A.found) in
     record {
-      wrong = λ e. A.verdict ∙ mac_wrong A.ao entry (sym t ∙ e);
+      wrong = λ e. A.judgement ∙ mac_wrong A.ao entry (sym t ∙ e);
       right = λ e. (
         entry,
-        A.verdict ∙ mac_right A.ao entry (sym t ∙ e),
+        A.judgement ∙ mac_right A.ao entry (sym t ∙ e),
         record { row = A.row; here = p.here; ao = A.ao; found = A.found; entry_is = refl; source = A.source ∙ from; destination = A.destination ∙ to; end = A.end },
       );
     }
+
+pub field_long : (rows : List Row) (a : Bond) (now : ℕ) (d : Segment) (s : Screened) (v : book.Judgement) (x : Row) → Awaits rows a.pair a.own a.peer now d s v → ((e : Row) → x ≡ get_or rows (s.row - 1) e)
+    → length s.mac.now ≡ mac_length_of x.algorithm
+field_long rows a now d s v x A at =
+    let p = accepted_at rows a.pair A.ao.key_id now s.row A.row A.accepted in
+    let same = same_row rows s.row A.row x p at in
+    ap length (sym A.mac) ∙ (A.length_is ∙ ap (λ (r : Row). mac_length_of r.algorithm) (sym same))
 
 -- ---- what a call leaves
 
@@ -99,7 +108,7 @@ pub record Left (rows : List Row) (a : Bond) (row : Option ℕ) (way : Way) (fla
   pub fits : Fits rows (record { pair = a.pair; own = a.own; peer = a.peer; current = a.current; keys = keys })
   pub counted : Counted a.keys keys row way flag old new
 
-pub left_by_check : (rows : List Row) (a : Bond) (now : ℕ) (d : Segment) (s : Screened) (v : book.Verdict) (x : Row) (key : List ℕ) (keys : Cache) (syn : Bool) (old new : ℕ)
+pub left_by_check : (rows : List Row) (a : Bond) (now : ℕ) (d : Segment) (s : Screened) (v : book.Judgement) (x : Row) (key : List ℕ) (keys : Cache) (syn : Bool) (old new : ℕ)
     → Fits rows a → Awaits rows a.pair a.own a.peer now d s v → d.source ≡ a.pair.remote → d.destination ≡ a.pair.local → ((e : Row) → x ≡ get_or rows (s.row - 1) e)
     → key ≡ traffic_key x.algorithm x.master (bytes_of s.context) → keys ≡ keys_after syn a.keys s.row Inbound key → syn ≡ has SYN d
     → (syn ≡ false → kept keys s.row Inbound ≡ Some key) → new ≡ old + steps_of syn (kept a.keys s.row Inbound)

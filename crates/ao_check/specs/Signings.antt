@@ -9,7 +9,8 @@ use Rattle.ao_base.specs.Algorithms.{mac_length_of}
 use Rattle.key_model.specs.Rows.{Row}
 use Rattle.tcp_segment.specs.declared.writing.Head.{Head}
 use Rattle.segment_model.specs.Options.{Ao}
-use Rattle.tcp_segment.specs.Writing.{DatagramMut, Drafted, drafted, mss_length}
+use Rattle.tcp_segment.specs.Writing.{drafted, mss_length}
+use Rattle.tcp_segment.specs.Drafts.{DatagramMut, Drafted}
 use Rattle.ao_check.specs.Bonds.{Bond}
 use Rattle.ao_check.specs.Contexts.{IsPlanned}
 

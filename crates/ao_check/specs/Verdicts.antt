@@ -8,8 +8,8 @@ use Rattle.mac_model.specs.Contexts.{context_of}
 use Rattle.key_model.specs.Rows.{Row}
 use Rattle.key_model.specs.Choices.{Numbered, accept_row}
 use Rattle.endpoint_model.specs.Verdicts as book
-use Rattle.ao_kdf.specs.Context.{bytes_of}
-use Rattle.key_table.specs.Lookups.{number_of}
+use Rattle.mac_model.specs.Contexts.{bytes_of}
+use Rattle.key_model.specs.Lookups.{number_of}
 use Rattle.endpoint_model.specs.declared.verdict.Passed.{Passed}
 use Rattle.endpoint_model.specs.declared.verdict.Verdict.{Verdict}
 use Rattle.endpoint_model.specs.declared.verdict.Verdict.TheVariants as verdicts

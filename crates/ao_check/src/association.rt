@@ -1,19 +1,20 @@
 //! An association of one end with its peer.
 ghost use Rattle.std.specs.Prelude.{◌≡◌, ◌≤◌, ◌<◌, ◌-◌, ◌+◌, ◌/◌, ◌^◌, ℕ, List, length, Option, Some, None, IfOk, IfSome, option_map, slice_get, slice_index_or};
-ghost use Rattle.ao_base.specs.Algorithms.{mac_length_of};
+ghost use Rattle.segment_model.specs.Bytes.{ring};
 ghost use Rattle.segment_model.specs.Options.{find_ao};
 ghost use Rattle.segment_model.specs.Segments.{has, SYN};
 ghost use Rattle.mac_model.specs.Contexts.{context_of};
 ghost use Rattle.mac_model.specs.Keys.{traffic_key};
 ghost use Rattle.key_model.specs.Rows.{Row};
-ghost use Rattle.key_model.specs.Coordination.{choose, follow};
+ghost use Rattle.key_model.specs.Coordination.{choose, current_after, follow};
 ghost use Rattle.endpoint_model.specs.Verdicts.{judge};
 ghost use Rattle.tcp_segment.specs.declared.writing.Head.{Head};
-ghost use Rattle.tcp_segment.specs.Writing.{Drafted, drafted, IsDrafted, IsLaidOut};
+ghost use Rattle.tcp_segment.specs.Writing.{drafted};
+ghost use Rattle.tcp_segment.specs.Drafts.{Drafted};
 ghost use Rattle.ao_mac.specs.Sealed.{IsSealed};
-ghost use Rattle.ao_kdf.specs.Context.{bytes_of};
+ghost use Rattle.mac_model.specs.Contexts.{bytes_of};
 ghost use Rattle.ao_kdf.specs.declared.way.Way.TheVariants.{Inbound, Outbound};
-ghost use Rattle.key_coordination.specs.Sendings.{told, current_after};
+ghost use Rattle.key_coordination.specs.Sendings.{told};
 ghost use Rattle.ao_check.specs.Bonds.{fresh, Fits, Counted};
 ghost use Rattle.ao_check.specs.Verdicts.{Tells, IsExpected, judging};
 ghost use Rattle.ao_check.specs.Signings.{IsToSign, has_field};
@@ -179,13 +180,11 @@ impl Association {
         requires field { (d : Row) → has_field datagram.old (slice_index_or table.now.rows (sending.now.row - 1) d) }
         requires number { number ≤ 2 ^ 63 }
         ensures same_buffer { datagram.new.out.ghost_name ≡ datagram.old.out.ghost_name }
-        ensures laid_out { IsLaidOut datagram.new }
-        ensures drafted { IsDrafted datagram.new }
         ensures context { (h : Head) (old payload rest : List ℕ) → Drafted datagram.old h old payload rest
             → context_of (drafted h old payload) (Some self.old.own) self.old.peer ≡ Some (bytes_of result) }
         ensures sealed { (h : Head) (old payload rest : List ℕ) (r : Row) → Drafted datagram.old h old payload rest
             → slice_get table.now.rows (sending.now.row - 1) ≡ Some r
-            → IsSealed datagram.new h old payload rest r.algorithm (traffic_key r.algorithm r.master (bytes_of result)) (number / 4294967296) r.with_options }
+            → IsSealed datagram.new h old payload rest r.algorithm (traffic_key r.algorithm r.master (bytes_of result)) (number / ring) r.with_options }
         ensures same { self.new ≡ record self.old { keys = self.new.keys } }
         ensures fits { Fits table.now.rows self.new }
         ensures most { steps.new ≤ steps.old + 1 }

@@ -3,7 +3,7 @@ ghost use Rattle.std.specs.Prelude.{◌≡◌, ◌<◌, ◌≤◌, ◌+◌, ◌^
 ghost use Rattle.segment_model.specs.Segments.{has, segment_length, SYN};
 ghost use Rattle.mac_model.specs.Contexts.{context_of};
 ghost use Rattle.endpoint_model.specs.Verdicts.{number_of};
-ghost use Rattle.ao_kdf.specs.Context.{bytes_of};
+ghost use Rattle.mac_model.specs.Contexts.{bytes_of};
 ghost use Rattle.ao_check.specs.Contexts.{HasSockets, IsBelow, IsPlanned};
 
 use ao_kdf::Context;

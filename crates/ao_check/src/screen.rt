@@ -1,5 +1,6 @@
 //! What is judged of a segment before its MAC.
-ghost use Rattle.std.specs.Prelude.{◌≡◌, ◌≤◌, ◌<◌, ◌-◌, ◌^◌, ◌/◌, length, IfErr, IfOk, Ok, Err, Result};
+ghost use Rattle.std.specs.Prelude.{◌≡◌, ◌==◌, ◌≤◌, ◌<◌, ◌-◌, ◌^◌, ◌/◌, length, IfErr, IfOk, Ok, Err, Result};
+ghost use Rattle.ao_base.specs.Algorithms.{mac_length_of};
 ghost use Rattle.segment_model.specs.Bytes.{same_bytes};
 ghost use Rattle.segment_model.specs.Options.{Ao, One, find_ao};
 ghost use Rattle.mac_model.specs.Keys.{key_length, mac};
@@ -36,6 +37,13 @@ fn found<'a>(datagram: &Datagram<'a>) -> AoFound<'a>
     datagram.options().find_ao()
 }
 
+/// Whether a MAC has the length of the row's algorithm.
+fn has_length(mac: &[u8], row: &Row) -> bool
+    ensures { result ≡ (length mac.now == mac_length_of row.now.algorithm) }
+{
+    mac.len() == row.algorithm().mac_length() as usize
+}
+
 /// The tests before that of the MAC, in their order: the first refusal that holds, or what the MAC
 /// is judged by.
 pub(crate) fn screen_segment<'a>(
@@ -61,7 +69,8 @@ pub(crate) fn screen_segment<'a>(
         Accept::Expired => return Err(Verdict::Expired),
         Accept::Row(row) => row,
     };
-    if ao.mac.len() != 12 {
+    let entry = table.row(row);
+    if !has_length(ao.mac, entry) {
         return Err(Verdict::MacLength);
     }
     let context = match context_of(datagram, peer_isn, Some(own_isn)) {
@@ -96,7 +105,7 @@ pub(crate) fn is_right(
 ) -> bool
     requires one { HasAo datagram.now }
     requires key { length key.now ≡ key_length row.now.algorithm }
-    requires field { length field.now ≡ 12 }
+    requires field { length field.now ≡ mac_length_of row.now.algorithm }
     requires number { number < 2 ^ 64 }
     ensures { (ao : Ao) → find_ao datagram.now.area ≡ One ao
         → result ≡ same_bytes field.now (mac row.now.algorithm key.now (mac_input number datagram.now ao row.now.with_options)) }

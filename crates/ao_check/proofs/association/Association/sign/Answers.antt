@@ -2,7 +2,7 @@ use Rattle.std.proofs.Common.{◌≡◌, false, sym, ap, ◌∙◌, refl, Some, 
 use Rattle.segment_model.specs.Segments.{Segment, has, SYN}
 use Rattle.mac_model.specs.Keys.{traffic_key}
 use Rattle.key_model.specs.Rows.{Row}
-use Rattle.ao_kdf.specs.Context.{bytes_of}
+use Rattle.mac_model.specs.Contexts.{bytes_of}
 use Rattle.tcp_segment.specs.Writing.{drafted}
 use Rattle.ao_check.specs.Bonds.{Bond, Counted}
 use Rattle.ao_check.specs.Signings.{has_field}
@@ -17,7 +17,7 @@ key_of-key-requires-clause-right g c = λ syn.
     let a : Bond = record { pair = i.pair; own = i.own_isn; peer = i.peer_isn; current = i.choice; keys = i.keys } in
     let fits = rw (← c.self.view_is) at c.requires.fits in
     let D = c.requires.draft in
-    let e = c.as_datagram.ensures D.head D.mac D.payload D.rest D.drafted_so in
+    let e = c.as_datagram.ensures.drafted D.head D.mac D.payload D.rest D.drafted_so in
     let from = rw (← c.self.view_is) at D.source in
     let to = rw (← c.self.view_is) at D.destination in
     let q = signs c.args.table.now.rows a c.as_datagram.result c.args.sending.now.row c.row-row.result.now (bytes_of c.outgoing-plan.result.context) fits c.requires.low c.requires.high c.row-row.ensures
@@ -41,7 +41,7 @@ returns-clause-fits g c =
     let a : Bond = record { pair = i.pair; own = i.own_isn; peer = i.peer_isn; current = i.choice; keys = i.keys } in
     let fits = rw (← c.self.view_is) at c.requires.fits in
     let D = c.requires.draft in
-    let e = c.as_datagram.ensures D.head D.mac D.payload D.rest D.drafted_so in
+    let e = c.as_datagram.ensures.drafted D.head D.mac D.payload D.rest D.drafted_so in
     let from = rw (← c.self.view_is) at D.source in
     let to = rw (← c.self.view_is) at D.destination in
     let q = signs c.args.table.now.rows a c.as_datagram.result c.args.sending.now.row c.row-row.result.now (bytes_of c.outgoing-plan.result.context) fits c.requires.low c.requires.high c.row-row.ensures
@@ -57,7 +57,7 @@ returns-clause-counted g c = λ h old payload rest F.
     let a : Bond = record { pair = i.pair; own = i.own_isn; peer = i.peer_isn; current = i.choice; keys = i.keys } in
     let fits = rw (← c.self.view_is) at c.requires.fits in
     let D = c.requires.draft in
-    let e = c.as_datagram.ensures D.head D.mac D.payload D.rest D.drafted_so in
+    let e = c.as_datagram.ensures.drafted D.head D.mac D.payload D.rest D.drafted_so in
     let from = rw (← c.self.view_is) at D.source in
     let to = rw (← c.self.view_is) at D.destination in
     let q = signs c.args.table.now.rows a c.as_datagram.result c.args.sending.now.row c.row-row.result.now (bytes_of c.outgoing-plan.result.context) fits c.requires.low c.requires.high c.row-row.ensures
@@ -65,7 +65,7 @@ returns-clause-counted g c = λ h old payload rest F.
     let k = c.key_of-key.ensures in
     let l = left_by_sign c.args.table.now.rows a c.as_datagram.result c.args.sending.now.row c.row-row.result.now (bytes_of c.outgoing-plan.result.context) c.key_of-key.result c.key_of-key.new.keys c.outgoing-plan.result.syn
     c.args.steps.now c.key_of-key.new.steps fits q k.key k.keys c.outgoing-plan.ensures.syn k.kept k.counted in
-    let same = c.as_datagram.ensures h old payload rest F in
+    let same = c.as_datagram.ensures.drafted h old payload rest F in
     rw (← c.self.view_is) (subst (λ (s : Segment). Counted a.keys c.key_of-key.new.keys (Some c.args.sending.now.row) Outbound (has SYN s) c.args.steps.now c.key_of-key.new.steps) same l.counted)
 
 pub returns-clause-most : goal.returns-clause-most
