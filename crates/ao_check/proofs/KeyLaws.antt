@@ -135,6 +135,7 @@ pub counted_after : (syn : Bool) (c : Cache) (n : ℕ) (way : Way) (key : List �
 counted_after syn c n way key keys old new row flag e g at right is count =
     let most = one_step syn (kept c n way) in
     record {
+      room = ap (λ (x : Cache). x.rows) e ∙ rows_after syn c n way key;
       least = omega arith;
       most = omega arith;
       none = λ m k s r h.
