@@ -4,7 +4,42 @@ use crate::{
     write_all,
 };
 use std::alloc::{AllocError, Global};
+use std::io::{Error, Read, Write};
 use std::test::Fail;
+
+/// A reader and a writer that always fail.
+#[derive(Drop)]
+struct Broken;
+
+impl Read for Broken {
+    fn read(&mut self, _buf: &mut [u8]) -> std::io::Result<usize> {
+        Err(Error::other("broken"))
+    }
+}
+
+impl Write for Broken {
+    fn write(&mut self, _buf: &[u8]) -> std::io::Result<usize> {
+        Err(Error::other("broken"))
+    }
+
+    fn flush(&mut self) -> std::io::Result<()> {
+        Ok(())
+    }
+}
+
+/// A writer that takes nothing.
+#[derive(Drop)]
+struct Stuck;
+
+impl Write for Stuck {
+    fn write(&mut self, _buf: &[u8]) -> std::io::Result<usize> {
+        Ok(0)
+    }
+
+    fn flush(&mut self) -> std::io::Result<()> {
+        Ok(())
+    }
+}
 
 fn bytes_of(alloc: Global, text: &[u8]) -> Result<Bytes, AllocError> {
     Ok(Bytes::from_vec(Vec::from_slice(alloc, text)?))
@@ -119,5 +154,14 @@ fn each_algorithm_has_its_name(rt: HostRuntime) -> Result<(), Fail> {
     assert_eq!(rt; third.mac_length(), 16);
     assert_eq!(rt; Algorithm::named(third.name()), Some(Algorithm::HmacSha256));
     assert_eq!(rt; Algorithm::named(b"HMAC-SHA-256".as_slice()), None);
+    Ok(())
+}
+
+#[test]
+fn faults_of_readers_and_writers_are_told(rt: HostRuntime) -> Result<(), Fail> {
+    let read = read_all(rt.alloc(), &mut ReadSource::new(Broken), 9);
+    assert!(rt; matches!(read, Err(ReadProblem::Fault)));
+    assert!(rt; write_all(&mut WriteSink::new(Broken), b"hello".as_slice()).is_err());
+    assert!(rt; write_all(&mut WriteSink::new(Stuck), b"hello".as_slice()).is_err());
     Ok(())
 }

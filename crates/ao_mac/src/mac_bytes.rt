@@ -37,6 +37,7 @@ impl MacBytes {
         ensures { result ≡ take length code.entry }
     {
         let mut bytes = [0; LONGEST];
+        let code = &code[..];
         bytes[..length].copy_from_slice(&code[..length]);
         MacBytes { bytes, length }
     }

@@ -1,4 +1,3 @@
-pub mod SaidLaws
 pub mod SignedLaws
 pub mod TextLaws
 pub mod VerifyLaws

@@ -2,19 +2,21 @@
 use Rattle.std.proofs.Common.{◌≡◌, ℕ, ◌+◌, ◌*◌, ◌/◌, ◌<◌, ◌==◌, true, List, [], ◌∷◌, length, drop, Some, refl, sym, ap, ◌∙◌, arith, eq-eqb}
 use Rattle.std.specs.Prelude.{slice_index}
 use Rattle.std.proofs.lemmas.List.{drop_all}
-use Rattle.segment_model.specs.Bytes.{put2, put4}
+use Rattle.ao_base.specs.declared.algorithm.Algorithm.{Algorithm}
+use Rattle.ao_base.specs.Algorithms.{mac_length_of}
+use Rattle.segment_model.specs.Bytes.{put2, put4, ring}
 use Rattle.segment_model.specs.Options.{Ao, One, find_ao}
 use Rattle.segment_model.specs.Segments.{Segment, Read, reading, two_at, four_at}
 use Rattle.segment_model.specs.Spelling.{AreBytes}
 use Rattle.segment_model.proofs.ByteLaws.{front_list, in_front, put_two, put_four}
 use Rattle.ao_show.specs.Vectors.{signed_of}
 
-pub signed_so : (bytes : List ℕ) (d : Segment) (ao : Ao) → reading bytes ≡ Read d → find_ao d.area ≡ One ao → length ao.mac ≡ 12 →
-    signed_of bytes ≡ Some (record { segment = d; ao = ao })
+pub signed_so : (algorithm : Algorithm) (bytes : List ℕ) (d : Segment) (ao : Ao) → reading bytes ≡ Read d → find_ao d.area ≡ One ao → length ao.mac ≡ mac_length_of algorithm →
+    signed_of algorithm bytes ≡ Some (record { segment = d; ao = ao })
 unfolding signed_of
-signed_so bytes d ao is_read found size =
-    let twelve : (length ao.mac == 12) ≡ true = eq-eqb (length ao.mac) 12 size in
-    rw (is_read, found, twelve) refl
+signed_so algorithm bytes d ao is_read found size =
+    let long : (length ao.mac == mac_length_of algorithm) ≡ true = eq-eqb (length ao.mac) (mac_length_of algorithm) size in
+    rw (is_read, found, long) refl
 
 -- ports and initial sequence numbers are the bytes that they were read from
 pub numbers_back : (t : List ℕ) → length t ≡ 12 → AreBytes t → put2 (two_at t 0) (put2 (two_at t 2) (put4 (four_at t 4) (put4 (four_at t 8) []))) ≡ t
@@ -32,5 +34,5 @@ numbers_back t size h =
     ∙ sym whole
 
 -- the extension of a number
-pub extension_of : (extension sequence : ℕ) → sequence < 4294967296 → (extension * 4294967296 + sequence) / 4294967296 ≡ extension
+pub extension_of : (extension sequence : ℕ) → sequence < ring → (extension * ring + sequence) / ring ≡ extension
 extension_of extension sequence h = omega arith

@@ -4,20 +4,21 @@ use Rattle.std.specs.Prelude.{count_by}
 use Rattle.std.proofs.lemmas.List.{append-nil}
 use Rattle.std.specs.List.{flat_map}
 use Rattle.std.proofs.lemmas.List.Sums.{sum_by-cons}
-use Rattle.ao_show.specs.declared.problem.TextProblem.{TextProblem}
-use Rattle.ao_show.specs.declared.problem.TextProblem.TheVariants as problem
-use Rattle.ao_show.specs.declared.vector.Vector.{Vector}
-use Rattle.ao_show.specs.Lines.{Line}
-use Rattle.ao_show.specs.Words.{◌>>=◌}
-use Rattle.ao_show.specs.Said.{Fails, Said, numbered, said_by}
-use Rattle.ao_show.specs.Vectors.{vector_of}
-use Rattle.ao_show.specs.Verified.{Sums, agrees, differs, sums_from, verdict_line}
-use Rattle.ao_show.proofs.SaidLaws.{said_few, same_fault}
+use Rattle.line_model.specs.declared.text_fault.TextFault.{TextFault}
+use Rattle.line_model.specs.declared.text_fault.TextFault.TheVariants as fault
+use Rattle.line_model.specs.Lines.{Line}
+use Rattle.line_model.specs.Words.{◌>>=◌}
+use Rattle.line_model.specs.Said.{Said, numbered, said_by}
+use Rattle.text_lines.specs.Readings.{Fails}
+use Rattle.ao_show.specs.Loops.{Sums, sums_from}
+use Rattle.ao_show.specs.Vectors.{Vector, vector_of}
+use Rattle.ao_show.specs.Verified.{agrees, differs, verdict_line}
+use Rattle.text_lines.proofs.SaidLaws.{said_few, same_fault}
 
-same_sums : (t u : List ℕ) (c d x y : ℕ) → t ≡ u → c ≡ d → x ≡ y → ◌≡◌ {A = Result Sums TextProblem} (Ok (record { text = t; count = c; differing = x })) (Ok (record { text = u; count = d; differing = y }))
+same_sums : (t u : List ℕ) (c d x y : ℕ) → t ≡ u → c ≡ d → x ≡ y → ◌≡◌ {A = Result Sums TextFault} (Ok (record { text = t; count = c; differing = x })) (Ok (record { text = u; count = d; differing = y }))
 same_sums t u c d x y e f g = rw (e, f, g) refl
 
-one_summed : (before after : Sums) (s : Said Vector) (others : Result (List (Said Vector)) TextProblem) →
+one_summed : (before after : Sums) (s : Said Vector) (others : Result (List (Said Vector)) TextFault) →
     after.text ≡ before.text ++ verdict_line s → after.count ≡ before.count + 1 → after.differing ≡ before.differing + (if differs s then 1 else 0) →
     sums_from after others ≡ sums_from before (others >>= λ o. Ok (s ∷ o))
 one_summed before after s (Ok said) text count differing =
@@ -25,7 +26,7 @@ one_summed before after s (Ok said) text count differing =
     same_sums _ _ _ _ _ _ (rw text (append_assoc before.text (verdict_line s) (flat_map verdict_line said))) (omega (arith, count)) (omega (arith, differing, more))
 one_summed before after s (Err e) text count differing = refl
 
-module _ (before : Sums) (l : Line) (ls lines : List Line) (whole : Result Sums TextProblem) (next : lines ≡ l ∷ ls) (so_far : sums_from before (said_by vector_of lines) ≡ whole) where
+module _ (before : Sums) (l : Line) (ls lines : List Line) (whole : Result Sums TextFault) (next : lines ≡ l ∷ ls) (so_far : sums_from before (said_by vector_of lines) ≡ whole) where
   step : sums_from before (said_by vector_of (l ∷ ls)) ≡ whole
   step = sym (ap (λ x. sums_from before (said_by vector_of x)) next) ∙ so_far
 
@@ -34,22 +35,22 @@ module _ (before : Sums) (l : Line) (ls lines : List Line) (whole : Result Sums 
   unfolding said_by
   vector_summed v after h text count differing = one_summed before after (record { number = l.number; value = v }) (said_by vector_of ls) text count differing ∙ (rw h at step)
 
-  pub vector_refused : (f : TextProblem) → Fails f (numbered l.number (vector_of l.words)) → Fails f whole
+  pub vector_refused : (f : TextFault) → Fails f (numbered l.number (vector_of l.words)) → Fails f whole
   unfolding said_by
-  vector_refused problem.Memory h = tt
-  vector_refused problem.TooManyLines h = sym (rw h at step)
-  vector_refused (problem.Line n kind) h = sym (rw h at step)
+  vector_refused fault.Memory h = tt
+  vector_refused fault.TooManyLines h = sym (rw h at step)
+  vector_refused (fault.Line n kind) h = sym (rw h at step)
 
-pub vectors_summed : (s : Sums) (lines : List Line) (whole : Result Sums TextProblem) → lines ≡ [] → sums_from s (said_by vector_of lines) ≡ whole → whole ≡ Ok s
+pub vectors_summed : (s : Sums) (lines : List Line) (whole : Result Sums TextFault) → lines ≡ [] → sums_from s (said_by vector_of lines) ≡ whole → whole ≡ Ok s
 unfolding said_by
 vectors_summed s lines whole none so_far = sym (rw none at so_far) ∙ same_sums _ _ _ _ _ _ (append-nil s.text) (add-zero s.count) (add-zero s.differing)
 
-sums_few : (s : Sums) (said : Result (List (Said Vector)) TextProblem) → (said ≡ Err problem.TooManyLines → ⊥) → Fails problem.TooManyLines (sums_from s said) → ⊥
+sums_few : (s : Sums) (said : Result (List (Said Vector)) TextFault) → (said ≡ Err fault.TooManyLines → ⊥) → Fails fault.TooManyLines (sums_from s said) → ⊥
 sums_few s (Ok said) few h = absurd (cc)
-sums_few s (Err e) few h = few (same_fault e problem.TooManyLines h)
+sums_few s (Err e) few h = few (same_fault e fault.TooManyLines h)
 
 -- what lines say is never that they are too many
-pub never_too_many : (ls : List Line) (s : Sums) (e : TextProblem) → Fails e (sums_from s (said_by vector_of ls)) → e ≡ problem.TooManyLines → ⊥
-never_too_many ls s problem.Memory h is = absurd (cc)
-never_too_many ls s problem.TooManyLines h is = sums_few s (said_by vector_of ls) (said_few vector_of ls) h
-never_too_many ls s (problem.Line n kind) h is = absurd (cc)
+pub never_too_many : (ls : List Line) (s : Sums) (e : TextFault) → Fails e (sums_from s (said_by vector_of ls)) → e ≡ fault.TooManyLines → ⊥
+never_too_many ls s fault.Memory h is = absurd (cc)
+never_too_many ls s fault.TooManyLines h is = sums_few s (said_by vector_of ls) (said_few vector_of ls) h
+never_too_many ls s (fault.Line n kind) h is = absurd (cc)

@@ -1,7 +1,7 @@
-pub mod Lines
-pub mod Said
-pub mod Show
 pub mod Texts
+pub mod Show
+pub mod VectorWords
 pub mod Vectors
 pub mod Verified
-pub mod Words
+pub mod Signed
+pub mod Loops

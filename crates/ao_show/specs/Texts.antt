@@ -2,20 +2,10 @@
 use Rattle.std.specs.Prelude.{ℕ, nat_lt, if◌then◌else◌, Bool, true, false, List, [], ◌∷◌, ◌++◌, length, map, codes, decimal}
 use Rattle.ao_base.specs.declared.address.Address.{Address}
 use Rattle.ao_base.specs.declared.address.Address.TheVariants.{V4, V6}
-use Rattle.ao_base.specs.declared.address.Socket.{Socket}
-use Rattle.ao_base.specs.Addresses.{address_text}
 use Rattle.ao_base.specs.Hexadecimal.{hex_of}
+use Rattle.line_model.specs.Texts.{socket_texts}
 use Rattle.segment_model.specs.Options.{Plain, plains, listed, options_of}
 use Rattle.segment_model.specs.Segments.{Segment, good}
-
--- each text with a space in front of it
-abbrev pub spaced : List (List ℕ) → List ℕ
-spaced [] = []
-spaced (w ∷ ws) = 32 ∷ w ++ spaced ws
-
--- a line: its number, texts with a space in front of each, and a newline
-abbrev pub line_text : ℕ → List (List ℕ) → List ℕ
-line_text number texts = decimal number ++ (spaced texts ++ 10 ∷ [])
 
 -- the family of an address
 abbrev pub family_text : Address → List ℕ
@@ -35,10 +25,6 @@ option_text o = if nat_lt o.kind 2 then decimal o.kind else decimal o.kind ++ 58
 abbrev pub options_texts : List Plain → List (List ℕ)
 options_texts [] = codes "-" ∷ []
 options_texts (o ∷ os) = option_text o ∷ map option_text os
-
--- an address and a port
-abbrev pub socket_texts : Socket → List (List ℕ) → List (List ℕ)
-socket_texts s others = address_text s.address ∷ decimal s.port ∷ others
 
 -- the numbers of a datagram, its flags and the length of its payload (RFC 9293, section 3.1)
 abbrev pub number_texts : Segment → List (List ℕ) → List (List ℕ)

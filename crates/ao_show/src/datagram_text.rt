@@ -5,14 +5,15 @@ ghost use Rattle.segment_model.specs.Faults.{fault_text};
 ghost use Rattle.segment_model.specs.Options.{plains, listed, options_of};
 ghost use Rattle.segment_model.specs.Segments.{good, reading};
 ghost use Rattle.tcp_options.specs.Views.{view_opt};
-ghost use Rattle.ao_show.specs.Texts.{checksum_text, datagram_texts, family_text, number_texts, option_text, options_texts, rest_texts, socket_texts, spaced};
+ghost use Rattle.line_model.specs.Texts.{socket_texts, spaced};
+ghost use Rattle.ao_show.specs.Texts.{checksum_text, datagram_texts, family_text, number_texts, option_text, options_texts, rest_texts};
 ghost use Rattle.ao_show.specs.Show.{reading_texts};
 
-use super::writing::{push_bytes, push_field, push_socket, push_text};
 use ao_base::{Address, push_decimal, push_hex};
 use std::alloc::{AllocError, Global};
 use tcp_options::{Opt, OptionFault, OptionIter};
 use tcp_segment::{Datagram, DatagramFault, read_datagram};
+use text_lines::{push_bytes, push_field, push_socket, push_text};
 
 fn family(address: &Address) -> &[u8]
     ensures { result.now ≡ family_text address.now }

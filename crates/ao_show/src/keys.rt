@@ -1,11 +1,11 @@
 //! The traffic key of a vector.
 ghost use Rattle.std.specs.Prelude.{◌≡◌, ◌+◌, ◌≤◌, ◌<◌, ◌⊎◌, ◌++◌, length};
-ghost use Rattle.ao_base.specs.declared.address.Address.TheVariants.{V4, V6};
 ghost use Rattle.segment_model.specs.Segments.{four_at, two_at};
 ghost use Rattle.segment_model.specs.Sockets.{octets};
+ghost use Rattle.mac_model.specs.Contexts.{bytes_of};
 ghost use Rattle.mac_model.specs.Keys.{key_length, traffic_key};
-ghost use Rattle.ao_kdf.specs.Context.{bytes_of};
 
+use crate::array::array_of;
 use ao_base::{Address, Algorithm, Socket, Steps};
 use ao_kdf::{Context, TrafficKey, traffic_key};
 use std::marker::Brand;
@@ -50,24 +50,6 @@ fn four(bytes: &[u8], at: usize) -> u32
     u32::from_be_bytes([bytes[at], bytes[at + 1], bytes[at + 2], bytes[at + 3]])
 }
 
-fn address_v4(bytes: &[u8]) -> Address
-    requires { length bytes.now ≡ 4 }
-    ensures { result ≡ V4 bytes.now }
-{
-    let mut octets = [0; 4];
-    octets.copy_from_slice(bytes);
-    Address::V4(octets)
-}
-
-fn address_v6(bytes: &[u8]) -> Address
-    requires { length bytes.now ≡ 16 }
-    ensures { result ≡ V6 bytes.now }
-{
-    let mut octets = [0; 16];
-    octets.copy_from_slice(bytes);
-    Address::V6(octets)
-}
-
 /// The context of two addresses, and of the ports and initial sequence numbers in these bytes.
 fn context_with(source: Address, destination: Address, numbers: &[u8]) -> Context
     requires { length numbers.now ≡ 12 }
@@ -95,10 +77,14 @@ pub(crate) fn read_context(bytes: &[u8]) -> Context
     if bytes.len() == 20 {
         let (source, rest) = bytes.split_at(4);
         let (destination, numbers) = rest.split_at(4);
-        context_with(address_v4(source), address_v4(destination), numbers)
+        let source = Address::V4(array_of(source));
+        let destination = Address::V4(array_of(destination));
+        context_with(source, destination, numbers)
     } else {
         let (source, rest) = bytes.split_at(16);
         let (destination, numbers) = rest.split_at(16);
-        context_with(address_v6(source), address_v6(destination), numbers)
+        let source = Address::V6(array_of(source));
+        let destination = Address::V6(array_of(destination));
+        context_with(source, destination, numbers)
     }
 }

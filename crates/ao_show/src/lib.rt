@@ -5,20 +5,20 @@
 //! is computed is what its line says.
 #![tactic(auto)]
 
+mod array;
 mod datagram_text;
 mod keys;
-mod line_words;
-mod problem;
-mod saying;
 mod showing;
 mod signed;
 mod vector;
+mod vector_words;
+mod verified;
 mod verifying;
-mod writing;
 
-pub use problem::TextProblem;
+pub use line_model::TextFault as TextProblem;
 pub use showing::show;
-pub use verifying::{Verified, vectors};
+pub use verified::Verified;
+pub use verifying::vectors;
 
 #[cfg(test)]
 mod tests;

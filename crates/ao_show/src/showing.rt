@@ -1,16 +1,17 @@
 //! Datagrams shown as text.
-ghost use Rattle.std.specs.Prelude.{◌≡◌, ◌<◌, ◌↔◌, ◌++◌, IfOk, IsErrOf, OnOk, length};
+ghost use Rattle.std.specs.Prelude.{◌≡◌, ◌<◌, ◌↔◌, ◌++◌, IsErrOf, OnOk, length};
 ghost use Rattle.ao_base.specs.Lines.{lines_of};
-ghost use Rattle.ao_show.specs.Said.{Answers, numbered, said_by};
-ghost use Rattle.ao_show.specs.Show.{bytes_of_line, show_of, shown_after, shown_from, shown_line};
-ghost use Rattle.ao_show.specs.Words.{Tells};
+ghost use Rattle.line_model.specs.Lines.{most_lines};
+ghost use Rattle.line_model.specs.Said.{numbered, said_by};
+ghost use Rattle.text_lines.specs.Readings.{Answers, Tells};
+ghost use Rattle.ao_show.specs.Loops.{shown_after, shown_from};
+ghost use Rattle.ao_show.specs.Show.{bytes_of_line, show_of, shown_line};
 
-use super::datagram_text::push_reading;
-use super::line_words::LineWords;
-use super::problem::{Refusal, TextProblem};
-use super::saying::{Saying, SayingLines, count_lines};
+use crate::datagram_text::push_reading;
 use ao_base::{Bytes, push_decimal};
+use line_model::TextFault;
 use std::alloc::{AllocError, Global};
+use text_lines::{LineWords, Refusal, Saying, SayingLines, count_lines, push_newline};
 
 #[tactic(auto, unfolding(crate::specs::Show::bytes_of_line))]
 fn line_bytes(alloc: Global, words: &mut LineWords) -> Result<Bytes, Refusal>
@@ -21,13 +22,12 @@ fn line_bytes(alloc: Global, words: &mut LineWords) -> Result<Bytes, Refusal>
     Ok(bytes)
 }
 
-fn bytes_in(alloc: Global, mut line: Saying) -> Result<Bytes, TextProblem>
+fn bytes_in(alloc: Global, mut line: Saying) -> Result<Bytes, TextFault>
     ensures { Answers result (numbered line.entry.number (bytes_of_line line.entry.words)) }
 {
     match line_bytes(alloc, &mut line.words) {
         Ok(bytes) => Ok(bytes),
-        Err(Refusal::Memory) => Err(TextProblem::Memory),
-        Err(Refusal::Kind(kind)) => Err(TextProblem::Line(line.number, kind)),
+        Err(refusal) => Err(refusal.at(line.number)),
     }
 }
 
@@ -37,11 +37,10 @@ fn push_shown(alloc: Global, out: &mut Vec<u8>, number: u32, bytes: &[u8]) -> Re
 {
     push_decimal(out, u64::from(number))?;
     push_reading(alloc, out, bytes)?;
-    out.push(b'\n')?;
-    Ok(())
+    push_newline(out)
 }
 
-fn push_lines(alloc: Global, out: &mut Vec<u8>, lines: &mut SayingLines) -> Result<(), TextProblem>
+fn push_lines(alloc: Global, out: &mut Vec<u8>, lines: &mut SayingLines) -> Result<(), TextFault>
     ensures { Answers (shown_after result out.new.items) (shown_from out.old.items (said_by bytes_of_line lines.old)) }
 {
     while let Some(line) = lines.next() {
@@ -61,14 +60,12 @@ fn push_lines(alloc: Global, out: &mut Vec<u8>, lines: &mut SayingLines) -> Resu
 /// `Ok` exactly where each line that says something is hexadecimal. `TooManyLines` exactly where the
 /// text has more than 20,000 lines; else `Line` is the first faulty line, counted from 1 among all
 /// lines, with the kind of its first faulty word. `Memory` only for want of memory.
-#[tactic(auto, unfolding(crate::specs::Show::show_of, crate::specs::Said::said_in))]
-pub fn show(alloc: Global, text: &[u8]) -> Result<Bytes, TextProblem>
+#[tactic(auto, unfolding(crate::specs::Show::show_of, line_model::specs::Said::said_in))]
+pub fn show(alloc: Global, text: &[u8]) -> Result<Bytes, TextFault>
     ensures text { Answers result (show_of text.now) }
-    ensures too_many { IsErrOf result TextProblem.TooManyLines ↔ (20000 < length (lines_of text.now)) }
+    ensures too_many { IsErrOf result TextFault.TooManyLines ↔ (most_lines < length (lines_of text.now)) }
 {
-    let Some(_) = count_lines(text) else {
-        return Err(TextProblem::TooManyLines);
-    };
+    let _count = count_lines(text)?;
     let mut out = Vec::new(alloc);
     push_lines(alloc, &mut out, &mut SayingLines::new(text))?;
     Ok(Bytes::from_vec(out))

@@ -2,9 +2,10 @@
 ghost use Rattle.std.specs.Prelude.{◌≡◌, ◌≤◌, ℕ, List, length, Some, None, MatchOption};
 ghost use Rattle.segment_model.specs.Options.{Ao, One, find_ao};
 ghost use Rattle.ao_mac.specs.Macs.{HasAo};
-ghost use Rattle.ao_show.specs.Vectors.{IsMade, IsSigned, signed_of};
+ghost use Rattle.ao_show.specs.Signed.{IsMade, IsSigned};
+ghost use Rattle.ao_show.specs.Vectors.{signed_of};
 
-use super::keys::key_of;
+use crate::keys::key_of;
 use ao_base::Algorithm;
 use ao_kdf::Context;
 use ao_mac::{MacBytes, mac};
@@ -23,18 +24,32 @@ pub(crate) struct SignedDatagram<'a> {
 /// number extension, and whether all options are covered.
 #[derive(Drop)]
 pub(crate) struct Making {
-    pub(crate) alg: Algorithm,
+    pub(crate) algorithm: Algorithm,
     pub(crate) source_isn: u32,
     pub(crate) dest_isn: u32,
-    pub(crate) sne: u32,
+    pub(crate) extension: u32,
     pub(crate) covering: bool,
 }
 
-/// The datagram that a prefix of the bytes is, where it has one TCP-AO option with a MAC of 12
-/// bytes and none of TCP MD5.
+impl Model for Making {
+    ghost use Rattle.ao_show.specs.Vectors.{Making as Made};
+
+    ghost Value = { Made };
+
+    ghost view = { λ m. record {
+      algorithm = m.algorithm;
+      source_isn = m.source_isn;
+      dest_isn = m.dest_isn;
+      extension = m.extension;
+      covering = m.covering;
+    } };
+}
+
+/// The datagram that a prefix of the bytes is, where it has one TCP-AO option with a MAC of the
+/// algorithm's length and none of TCP MD5.
 #[tactic(auto, unfolding(crate::specs::Vectors::signed_of))]
-pub(crate) fn signed(bytes: &[u8]) -> Option<SignedDatagram<'_>>
-    ensures { MatchOption result (signed_of bytes.now ≡ None) (λ s. IsSigned bytes.now s) }
+pub(crate) fn signed(algorithm: Algorithm, bytes: &[u8]) -> Option<SignedDatagram<'_>>
+    ensures { MatchOption result (signed_of algorithm bytes.now ≡ None) (λ s. IsSigned algorithm bytes.now s) }
 {
     let datagram = match read_datagram(bytes) {
         Ok(datagram) => datagram,
@@ -42,7 +57,7 @@ pub(crate) fn signed(bytes: &[u8]) -> Option<SignedDatagram<'_>>
     };
     match datagram.options().find_ao() {
         AoFound::One(ao) => {
-            if ao.mac.len() == 12 {
+            if ao.mac.len() == usize::from(algorithm.mac_length()) {
                 Some(SignedDatagram {
                     datagram,
                     mac: ao.mac,
@@ -72,6 +87,12 @@ pub(crate) fn mac_of(master: &[u8], making: &Making, datagram: &Datagram<'_>) ->
         source_isn: making.source_isn,
         dest_isn: making.dest_isn,
     };
-    let key = key_of(making.alg, master, &context);
-    mac(&key, making.alg, making.sne, datagram, making.covering)
+    let key = key_of(making.algorithm, master, &context);
+    mac(
+        &key,
+        making.algorithm,
+        making.extension,
+        datagram,
+        making.covering,
+    )
 }

@@ -1,19 +1,23 @@
 //! The vector that a line says.
 ghost use Rattle.std.specs.Prelude.{◌≡◌, ◌≤◌, length, Ok};
+ghost use Rattle.sha1.specs.Sha1.{sha1};
+ghost use Rattle.sha2.specs.Sha256.{sha256};
 ghost use Rattle.mac_model.specs.Ciphers.{aes, cmac};
 ghost use Rattle.mac_model.specs.Hmac.{hmac};
 ghost use Rattle.ao_mac.specs.Macs.{HasAo};
-ghost use Rattle.ao_show.specs.Vectors.{IsMadeVector, aes_vector, cmac_vector, hmac_vector, kdf_vector, making_in, prf_vector, segment_vector, vector_named, vector_of};
-ghost use Rattle.ao_show.specs.Words.{Tells, gives};
+ghost use Rattle.text_lines.specs.Readings.{Tells, gives};
+ghost use Rattle.ao_show.specs.Signed.{IsMadeVector};
+ghost use Rattle.ao_show.specs.Vectors.{aes_vector, cmac_vector, hmac256_vector, hmac_vector, kdf_vector, keyed_of, making_in, prf_vector, segment_vector, vector_named, vector_of};
 
-use super::keys::{key_of, read_context};
-use super::line_words::LineWords;
-use super::problem::Refusal;
-use super::signed::{Making, SignedDatagram, mac_of, signed};
+use crate::keys::{key_of, read_context};
+use crate::signed::{Making, SignedDatagram, mac_of, signed};
+use crate::vector_words::{block, context, covering, message};
 use aes_cmac::{Aes128, Cmac, prf};
 use ao_base::{Algorithm, Bytes, LineKind};
-use hmac_sha1::HmacSha1;
+use hmac_sha1::{HmacSha1, HmacSha256};
 use std::alloc::Global;
+use std::marker::Model;
+use text_lines::{LineWords, Refusal};
 
 /// A test vector: what is computed, and what the line says.
 #[derive(Drop)]
@@ -22,10 +26,68 @@ pub(crate) struct Vector {
     pub(crate) expected: Bytes,
 }
 
-fn hmac_of(key: &[u8], message: &[u8]) -> [u8; 20]
-    ensures { result ≡ hmac key.now message.now }
+impl Model for Vector {
+    ghost use Rattle.ao_show.specs.Vectors.{Vector as Two};
+
+    ghost Value = { Two };
+
+    ghost view = { λ v. record { computed = v.computed; expected = v.expected } };
+}
+
+impl Vector {
+    fn new(alloc: Global, computed: &[u8], expected: Bytes) -> Result<Vector, Refusal>
+        ensures { Tells result (Ok (record { computed = computed.now; expected = expected })) }
+    {
+        let computed = Bytes::from_vec(Vec::from_slice(alloc, computed)?);
+        Ok(Vector { computed, expected })
+    }
+}
+
+/// A key, a message, and what the line says that an algorithm makes of them.
+#[derive(Drop)]
+struct Keyed {
+    key: Bytes,
+    message: Bytes,
+    expected: Bytes,
+}
+
+impl Model for Keyed {
+    ghost use Rattle.ao_show.specs.Vectors.{Keyed as Three};
+
+    ghost Value = { Three };
+
+    ghost view = { λ k. record { key = k.key; message = k.message; expected = k.expected } };
+}
+
+impl Keyed {
+    #[tactic(auto, unfolding(crate::specs::Vectors::keyed_of))]
+    fn read(alloc: Global, words: &mut LineWords) -> Result<Keyed, Refusal>
+        ensures { Tells result (keyed_of words.old) }
+    {
+        let key = words.hex(alloc)?;
+        let message = message(alloc, words)?;
+        let expected = words.hex(alloc)?;
+        words.nothing()?;
+        Ok(Keyed {
+            key,
+            message,
+            expected,
+        })
+    }
+}
+
+fn hmac_sha1_of(key: &[u8], message: &[u8]) -> [u8; 20]
+    ensures { result ≡ hmac sha1 key.now message.now }
 {
     let mut hasher = HmacSha1::new(key);
+    hasher.update(message);
+    hasher.finish()
+}
+
+fn hmac_sha256_of(key: &[u8], message: &[u8]) -> [u8; 32]
+    ensures { result ≡ hmac sha256 key.now message.now }
+{
+    let mut hasher = HmacSha256::new(key);
     hasher.update(message);
     hasher.finish()
 }
@@ -44,58 +106,53 @@ fn aes_of(key: &[u8; 16], block: &[u8; 16]) -> [u8; 16]
     Aes128::new(key).encrypt(block)
 }
 
-fn kept(alloc: Global, bytes: &[u8]) -> Result<Bytes, Refusal>
-    ensures { Tells result (Ok bytes.now) }
-{
-    Ok(Bytes::from_vec(Vec::from_slice(alloc, bytes)?))
-}
-
 #[tactic(auto, unfolding(crate::specs::Vectors::hmac_vector))]
 fn hmac_vector(alloc: Global, words: &mut LineWords) -> Result<Vector, Refusal>
     ensures { Tells result (hmac_vector words.old) }
 {
-    let key = words.hex(alloc)?;
-    let message = words.message(alloc)?;
-    let expected = words.hex(alloc)?;
-    words.nothing()?;
-    let computed = kept(alloc, &hmac_of(key.as_slice(), message.as_slice()))?;
-    Ok(Vector { computed, expected })
+    let keyed = Keyed::read(alloc, words)?;
+    let computed = hmac_sha1_of(keyed.key.as_slice(), keyed.message.as_slice());
+    Vector::new(alloc, &computed, keyed.expected)
+}
+
+#[tactic(auto, unfolding(crate::specs::Vectors::hmac256_vector))]
+fn hmac256_vector(alloc: Global, words: &mut LineWords) -> Result<Vector, Refusal>
+    ensures { Tells result (hmac256_vector words.old) }
+{
+    let keyed = Keyed::read(alloc, words)?;
+    let computed = hmac_sha256_of(keyed.key.as_slice(), keyed.message.as_slice());
+    Vector::new(alloc, &computed, keyed.expected)
 }
 
 #[tactic(auto, unfolding(crate::specs::Vectors::prf_vector))]
 fn prf_vector(alloc: Global, words: &mut LineWords) -> Result<Vector, Refusal>
     ensures { Tells result (prf_vector words.old) }
 {
-    let key = words.hex(alloc)?;
-    let message = words.message(alloc)?;
-    let expected = words.hex(alloc)?;
-    words.nothing()?;
-    let computed = kept(alloc, &prf(key.as_slice(), message.as_slice()))?;
-    Ok(Vector { computed, expected })
+    let keyed = Keyed::read(alloc, words)?;
+    let computed = prf(keyed.key.as_slice(), keyed.message.as_slice());
+    Vector::new(alloc, &computed, keyed.expected)
 }
 
 #[tactic(auto, unfolding(crate::specs::Vectors::cmac_vector))]
 fn cmac_vector(alloc: Global, words: &mut LineWords) -> Result<Vector, Refusal>
     ensures { Tells result (cmac_vector words.old) }
 {
-    let key = words.block(alloc)?;
-    let message = words.message(alloc)?;
+    let key = block(alloc, words)?;
+    let message = message(alloc, words)?;
     let expected = words.hex(alloc)?;
     words.nothing()?;
-    let computed = kept(alloc, &cmac_of(&key, message.as_slice()))?;
-    Ok(Vector { computed, expected })
+    Vector::new(alloc, &cmac_of(&key, message.as_slice()), expected)
 }
 
 #[tactic(auto, unfolding(crate::specs::Vectors::aes_vector))]
 fn aes_vector(alloc: Global, words: &mut LineWords) -> Result<Vector, Refusal>
     ensures { Tells result (aes_vector words.old) }
 {
-    let key = words.block(alloc)?;
-    let block = words.block(alloc)?;
+    let key = block(alloc, words)?;
+    let plain = block(alloc, words)?;
     let expected = words.hex(alloc)?;
     words.nothing()?;
-    let computed = kept(alloc, &aes_of(&key, &block))?;
-    Ok(Vector { computed, expected })
+    Vector::new(alloc, &aes_of(&key, &plain), expected)
 }
 
 #[tactic(auto, unfolding(crate::specs::Vectors::kdf_vector))]
@@ -104,12 +161,11 @@ fn kdf_vector(alloc: Global, words: &mut LineWords) -> Result<Vector, Refusal>
 {
     let alg = words.algorithm()?;
     let master = words.sized_hex(alloc, 1, 255)?;
-    let context = words.context(alloc)?;
+    let context = context(alloc, words)?;
     let expected = words.hex(alloc)?;
     words.nothing()?;
     let key = key_of(alg, master.as_slice(), &read_context(context.as_slice()));
-    let computed = kept(alloc, key.as_slice())?;
-    Ok(Vector { computed, expected })
+    Vector::new(alloc, key.as_slice(), expected)
 }
 
 /// The vector of a datagram, whose MAC is computed and compared with the one in it.
@@ -125,24 +181,23 @@ fn vector_made(
     ensures { IsMadeVector master.now making.now signed.now result }
 {
     let made = mac_of(master, making, &signed.datagram);
-    let computed = kept(alloc, made.as_slice())?;
-    let expected = kept(alloc, signed.mac)?;
-    Ok(Vector { computed, expected })
+    let expected = Bytes::from_vec(Vec::from_slice(alloc, signed.mac)?);
+    Vector::new(alloc, made.as_slice(), expected)
 }
 
 #[tactic(auto, unfolding(crate::specs::Vectors::making_in))]
-fn making(words: &mut LineWords, alg: Algorithm) -> Result<Making, LineKind>
-    ensures { gives result words.new ≡ making_in alg words.old }
+fn making(words: &mut LineWords, algorithm: Algorithm) -> Result<Making, LineKind>
+    ensures { gives result words.new ≡ making_in algorithm words.old }
 {
-    let source_isn = words.number()?;
-    let dest_isn = words.number()?;
-    let sne = words.number()?;
-    let covering = words.covering()?;
+    let source_isn = words.long()?;
+    let dest_isn = words.long()?;
+    let extension = words.long()?;
+    let covering = covering(words)?;
     Ok(Making {
-        alg,
+        algorithm,
         source_isn,
         dest_isn,
-        sne,
+        extension,
         covering,
     })
 }
@@ -151,11 +206,11 @@ fn making(words: &mut LineWords, alg: Algorithm) -> Result<Making, LineKind>
 fn segment_vector(alloc: Global, words: &mut LineWords) -> Result<Vector, Refusal>
     ensures { Tells result (segment_vector words.old) }
 {
-    let alg = words.algorithm()?;
+    let algorithm = words.algorithm()?;
     let master = words.sized_hex(alloc, 1, 255)?;
-    let making = making(words, alg)?;
+    let making = making(words, algorithm)?;
     let bytes = words.hex(alloc)?;
-    let Some(signed) = signed(bytes.as_slice()) else {
+    let Some(signed) = signed(algorithm, bytes.as_slice()) else {
         return Err(Refusal::Kind(LineKind::Range));
     };
     words.nothing()?;
@@ -168,6 +223,8 @@ fn vector_named(alloc: Global, name: &[u8], words: &mut LineWords) -> Result<Vec
 {
     if name == b"hmac".as_slice() {
         hmac_vector(alloc, words)
+    } else if name == b"hmac256".as_slice() {
+        hmac256_vector(alloc, words)
     } else if name == b"aes".as_slice() {
         aes_vector(alloc, words)
     } else if name == b"cmac".as_slice() {

@@ -1,24 +1,22 @@
 //! Test vectors of the algorithms, verified.
-ghost use Rattle.std.specs.Prelude.{if◌then◌else◌, not, ◌≡◌, ◌≤◌, ◌<◌, ◌+◌, ◌↔◌, ◌++◌, ◌∷◌, [], IfOk, IsErrOf, OnOk, length, decimal};
+ghost use Rattle.std.specs.Prelude.{if◌then◌else◌, not, ◌≡◌, ◌≤◌, ◌<◌, ◌+◌, ◌↔◌, ◌++◌, IsErrOf, OnOk, length};
 ghost use Rattle.ao_base.specs.Lines.{lines_of};
-ghost use Rattle.ao_show.specs.Said.{Answers, numbered, said_by};
-ghost use Rattle.ao_show.specs.Texts.{spaced};
+ghost use Rattle.line_model.specs.Lines.{most_lines};
+ghost use Rattle.line_model.specs.Said.{numbered, said_by};
+ghost use Rattle.line_model.specs.Texts.{spaced};
+ghost use Rattle.text_lines.specs.Readings.{Answers};
+ghost use Rattle.ao_show.specs.Loops.{no_sums, sums_after, sums_from};
 ghost use Rattle.ao_show.specs.Vectors.{vector_of};
-ghost use Rattle.ao_show.specs.Verified.{agrees, no_sums, sums_after, sums_from, totals_line, vectors_of, verdict_line, verdict_texts};
+ghost use Rattle.ao_show.specs.Verified.{agrees, totals_line, vectors_of, verdict_line, verdict_texts};
 
-use super::problem::{Refusal, TextProblem};
-use super::saying::{Saying, SayingLines, count_lines};
-use super::vector::{Vector, read_vector};
-use super::writing::{push_bytes, push_number, push_text};
+use crate::vector::{Vector, read_vector};
+use crate::verified::Verified;
 use ao_base::{Bytes, push_decimal};
+use line_model::TextFault;
 use std::alloc::{AllocError, Global};
-
-/// What `vectors` answers: its text, and how many vectors differ.
-#[derive(Debug, Drop)]
-pub struct Verified {
-    pub text: Bytes,
-    pub differing: u32,
-}
+use text_lines::{
+    Saying, SayingLines, count_lines, push_bytes, push_field, push_newline, push_number, push_text,
+};
 
 /// How many vectors there are, and how many of them differ.
 #[derive(Clone, Copy)]
@@ -27,13 +25,12 @@ struct Totals {
     differing: u32,
 }
 
-fn vector_in(alloc: Global, mut line: Saying) -> Result<Vector, TextProblem>
+fn vector_in(alloc: Global, mut line: Saying) -> Result<Vector, TextFault>
     ensures { Answers result (numbered line.entry.number (vector_of line.entry.words)) }
 {
     match read_vector(alloc, &mut line.words) {
         Ok(vector) => Ok(vector),
-        Err(Refusal::Memory) => Err(TextProblem::Memory),
-        Err(Refusal::Kind(kind)) => Err(TextProblem::Line(line.number, kind)),
+        Err(refusal) => Err(refusal.at(line.number)),
     }
 }
 
@@ -60,8 +57,7 @@ fn push_line(out: &mut Vec<u8>, number: u32, vector: &Vector) -> Result<(), Allo
 {
     push_decimal(out, u64::from(number))?;
     push_verdict(out, vector)?;
-    out.push(b'\n')?;
-    Ok(())
+    push_newline(out)
 }
 
 fn push_totals(out: &mut Vec<u8>, totals: Totals) -> Result<(), AllocError>
@@ -69,18 +65,16 @@ fn push_totals(out: &mut Vec<u8>, totals: Totals) -> Result<(), AllocError>
 {
     out.extend_from_slice(b"vectors")?;
     push_number(out, u64::from(totals.count))?;
-    push_text(out, b"differing")?;
-    push_number(out, u64::from(totals.differing))?;
-    out.push(b'\n')?;
-    Ok(())
+    push_field(out, b"differing", u64::from(totals.differing))?;
+    push_newline(out)
 }
 
 fn push_lines(
     alloc: Global,
     out: &mut Vec<u8>,
     lines: &mut SayingLines,
-) -> Result<Totals, TextProblem>
-    requires { length lines.old ≤ 20000 }
+) -> Result<Totals, TextFault>
+    requires { length lines.old ≤ most_lines }
     ensures { Answers (sums_after result out.new.items) (sums_from (no_sums out.old.items) (said_by vector_of lines.old)) }
 {
     let mut totals = Totals {
@@ -97,7 +91,7 @@ fn push_lines(
 }
 
 fn one_more(totals: Totals, vector: &Vector) -> Totals
-    requires count { totals.count < 20000 }
+    requires count { totals.count < most_lines }
     requires differing { totals.differing ≤ totals.count }
     ensures count { result.count ≡ totals.count + 1 }
     ensures differing { result.differing ≡ totals.differing + (if not (agrees vector.now) then 1 else 0) }
@@ -125,14 +119,12 @@ fn one_more(totals: Totals, vector: &Vector) -> Totals
 /// `Ok` exactly where the text is in the grammar. `TooManyLines` exactly where it has more than
 /// 20,000 lines; else `Line` is the first faulty line, counted from 1 among all lines, with the kind
 /// of its first faulty word. `Memory` only for want of memory.
-#[tactic(auto, unfolding(crate::specs::Verified::vectors_of, crate::specs::Said::said_in))]
-pub fn vectors(alloc: Global, text: &[u8]) -> Result<Verified, TextProblem>
+#[tactic(auto, unfolding(crate::specs::Verified::vectors_of, line_model::specs::Said::said_in))]
+pub fn vectors(alloc: Global, text: &[u8]) -> Result<Verified, TextFault>
     ensures text { Answers result (vectors_of text.now) }
-    ensures too_many { IsErrOf result TextProblem.TooManyLines ↔ (20000 < length (lines_of text.now)) }
+    ensures too_many { IsErrOf result TextFault.TooManyLines ↔ (most_lines < length (lines_of text.now)) }
 {
-    let Some(_) = count_lines(text) else {
-        return Err(TextProblem::TooManyLines);
-    };
+    let _count = count_lines(text)?;
     let mut out = Vec::new(alloc);
     let totals = push_lines(alloc, &mut out, &mut SayingLines::new(text))?;
     push_totals(&mut out, totals)?;

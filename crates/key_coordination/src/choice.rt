@@ -1,5 +1,5 @@
 //! The choice of the row to send with.
-ghost use Rattle.std.specs.Prelude.{◌≡◌, ◌-◌, ◌≤◌, Option, None, length, option_map};
+ghost use Rattle.std.specs.Prelude.{◌≡◌, ◌≤◌, None, length, option_map, IfSome};
 ghost use Rattle.key_model.specs.Choices.{next_row};
 ghost use Rattle.key_model.specs.Coordination.{row_to_send, rnext_key_id_of, choose, current_after, follow};
 ghost use Rattle.key_model.specs.Lookups.{number_of};
@@ -84,6 +84,8 @@ impl Choice {
     pub fn for_sending(&mut self, table: &Table, pair: &Pair, now: u64) -> Option<Sending>
         ensures sending { result ≡ option_map told (choose self.old table.now.rows pair.now now) }
         ensures current { self.new ≡ current_after self.old (choose self.old table.now.rows pair.now now) }
+        ensures low { IfSome result (λ s. 1 ≤ s.row) }
+        ensures high { IfSome result (λ s. s.row ≤ length table.now.rows) }
     {
         let number = match self.row_to_send(table, pair, now) {
             Some(number) => number,

@@ -1,4 +1,4 @@
-use Rattle.std.proofs.Common.{◌≡◌, ◌-◌, ℕ, List, length, drop, ap, ◌∙◌, arith}
+use Rattle.std.proofs.Common.{◌≡◌, ◌-◌, ℕ, List, length, drop, ap, ◌∙◌, rules, arith}
 use Rattle.std.proofs.lemmas.List.{length-take, length-drop}
 use Rattle.tcp_segment.specs.Lending.{with_mac}
 use Rattle.tcp_segment.proofs.WriteLaws.{mac_set}
@@ -29,5 +29,5 @@ returns-clause-sealed c = λ h old payload rest D.
     let w : List ℕ = c.copy_from_slice.new.self in
     let long : length w ≡ length old =
     omega (arith, c.mac-code.ensures.length, ap length c.as_slice.ensures.bytes, c.requires.field, D.mac_is, D.payload_is, D.mac_length, ap length c.copy_from_slice.ensures.after) in
-    sealed (with_mac c.args.datagram.now w) h old payload rest w c.mac-code.result _ c.args.alg c.args.key.now c.args.sne c.args.with_options (mac_set w D long)
-    (c.copy_from_slice.ensures.after ∙ c.as_slice.ensures.bytes) long (c.as_datagram.ensures.drafted h old payload rest D) c.mac-code.ensures.mac
+    let g = sealed (with_mac c.args.datagram.now w) h old payload rest w c.mac-code.result _ c.args.alg c.args.key.now c.args.sne c.args.with_options (mac_set w D long)
+    (c.copy_from_slice.ensures.after ∙ c.as_slice.ensures.bytes) long (c.as_datagram.ensures.drafted h old payload rest D) c.mac-code.ensures.mac in search (rules, g)

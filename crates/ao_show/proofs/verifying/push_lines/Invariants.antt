@@ -1,7 +1,7 @@
 use Rattle.std.proofs.Common.{◌≡◌, ◌+◌, ◌≤◌, length}
-use Rattle.ao_show.specs.Said.{said_by}
+use Rattle.line_model.specs.Said.{said_by}
 use Rattle.ao_show.specs.Vectors.{vector_of}
-use Rattle.ao_show.specs.Verified.{no_sums, sums_from}
+use Rattle.ao_show.specs.Loops.{no_sums, sums_from}
 use Rattle.ao_show.proofs.verifying.push_lines.Given as goal
 
 abbrev pub invariant-loop-line : goal.invariant-loop-line

@@ -25,3 +25,13 @@ returns-clause-sending c =
 pub returns-clause-current : goal.returns-clause-current
 returns-clause-current c =
     (chooses c.args.self.now c.args.table.now.rows c.args.pair.now c.args.now c.in-Some.number _ _ c.row-row.result.now c.in-Some.ensures c.row-row.ensures c.send_id.ensures c.rnext_key_id-rnext.ensures).current_is
+
+pub returns-clause-low : goal.returns-clause-low
+returns-clause-low c =
+    (found c.args.table.now.rows (row_to_send c.args.self.now c.args.table.now.rows c.args.pair.now c.args.now) c.in-Some.number
+    (chosen_in c.args.self.now c.args.table.now.rows c.args.pair.now c.args.now) c.in-Some.ensures).low
+
+pub returns-clause-high : goal.returns-clause-high
+returns-clause-high c =
+    (found c.args.table.now.rows (row_to_send c.args.self.now c.args.table.now.rows c.args.pair.now c.args.now) c.in-Some.number
+    (chosen_in c.args.self.now c.args.table.now.rows c.args.pair.now c.args.now) c.in-Some.ensures).high
