@@ -10,7 +10,8 @@ use Rattle.segment_model.specs.Segments.{Segment, has, segment_length, SYN}
 use Rattle.mac_model.specs.Contexts.{context_of}
 use Rattle.key_model.specs.Rows.{Row, matches, receives, acceptable}
 use Rattle.key_model.specs.Lifetimes.{contains}
-use Rattle.key_model.specs.Choices.{Numbered, qualified, first_known, lowest, acceptable_as, accept_row, takes_as, has_id}
+use Rattle.key_model.specs.Choices.{Numbered, qualified, lowest, acceptable_as, accept_row, accepts_as, has_id}
+use Rattle.std.specs.Option.{option_or}
 use Rattle.ao_base.specs.Algorithms.{mac_length_of}
 use Rattle.endpoint_model.specs.Verdicts.{Finding, Refuse, Admit, judge, judge_ao, judge_row, judge_context, number_of, judge_number, judge_mac, found_with, mac_of}
 use Rattle.endpoint_model.specs.declared.verdict.Verdict.TheVariants.{NoTuple, Expired, MacLength, NoContext, Range, BadMac}
@@ -36,14 +37,14 @@ fails true true false i h = refl
 fails true false c i h = refl
 fails false r c i h = refl
 
-none_else : (o : Option Numbered) (b : Bool) (n : Numbered) → b ≡ false → o ≡ None → first_known (if b then Some n else None) o ≡ None
+none_else : (o : Option Numbered) (b : Bool) (n : Numbered) → b ≡ false → o ≡ None → option_or (if b then Some n else None) o ≡ None
 none_else o true n e f = absurd (cc)
 none_else o false n e f = f
 
-no_row : (pair : Pair) (id now n : ℕ) (rows : List Row) → list_any (takes_as pair id) rows ≡ false → lowest (acceptable_as pair id now) n rows ≡ None
+no_row : (pair : Pair) (id now n : ℕ) (rows : List Row) → list_any (accepts_as pair id) rows ≡ false → lowest (acceptable_as pair id now) n rows ≡ None
 no_row pair id now n [] e = refl
 no_row pair id now n (r ∷ rs) e =
-    let both = or_is (takes_as pair id r) (list_any (takes_as pair id) rs) e in
+    let both = or_is (accepts_as pair id r) (list_any (accepts_as pair id) rs) e in
     none_else (lowest (acceptable_as pair id now) (n + 1) rs) (acceptable_as pair id now r) (record { number = n; row = r })
     (fails (matches r pair) (receives r.direction) (contains r.accepting now) (r.recv_id == id) both.0) (no_row pair id now (n + 1) rs both.1)
 

@@ -20,7 +20,7 @@ const ACK: u8 = 0x10;
 /// Whether a flag is set.
 fn has(datagram: &Datagram<'_>, flag: u8) -> bool
     requires { 0 < flag }
-    ensures { result ≡ has datagram.now flag }
+    ensures { result ≡ has flag datagram.now }
 {
     datagram.flags() / flag % 2 == 1
 }
