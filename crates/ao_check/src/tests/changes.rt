@@ -3,7 +3,7 @@ ghost use Rattle.std.specs.Prelude.{◌≡◌, ◌<◌, ◌≤◌, length, Some}
 ghost use Rattle.ao_check.specs.Bonds.{Bond, Fits};
 
 use super::passes::PAST_A_LAP;
-use super::{PAIR, add, arriving};
+use super::{LOCAL, PAIR, REMOTE, add, arriving};
 use crate::{Association, Verdict};
 use ao_base::{Algorithm, Pair, Steps};
 use key_table::{NoRow, Table};
@@ -69,8 +69,8 @@ fn a_row_takes_once_added_and_refuses_once_withdrawn(rt: HostRuntime) -> Result<
 
 /// The same connection, as its other end sees it.
 const MIRRORED: Pair = Pair {
-    local: PAIR.remote,
-    remote: PAIR.local,
+    local: REMOTE,
+    remote: LOCAL,
 };
 
 /// Lays the segment past a lap out, and signs it.
