@@ -1,0 +1,72 @@
+use Rattle.std.proofs.Common.{◌≡◌, false, sym, ap, ◌∙◌, refl, Some, arith, subst}
+use Rattle.segment_model.specs.Segments.{Segment, has, SYN}
+use Rattle.mac_model.specs.Keys.{traffic_key}
+use Rattle.key_model.specs.Rows.{Row}
+use Rattle.mac_model.specs.Contexts.{bytes_of}
+use Rattle.tcp_segment.specs.Writing.{drafted}
+use Rattle.ao_check.specs.Bonds.{Bond, Counted}
+use Rattle.ao_check.specs.Signings.{has_field}
+use Rattle.ao_kdf.specs.declared.way.Way.TheVariants.{Outbound}
+use Rattle.ao_check.proofs.KeyLaws.{sealed_as, one_step}
+use Rattle.ao_check.proofs.CheckLaws.{signs, left_by_sign, same_at}
+use Rattle.ao_check.proofs.association.Association.sign.Goals as goal
+
+pub key_of-key-requires-clause-right : goal.key_of-key-requires-clause-right
+key_of-key-requires-clause-right g c = λ syn.
+    let i = c.self.inside in
+    let a : Bond = record { pair = i.pair; own = i.own_isn; peer = i.peer_isn; current = i.choice; keys = i.keys } in
+    let fits = rw (← c.self.view_is) at c.requires.fits in
+    let D = c.requires.draft in
+    let e = c.as_datagram.ensures.drafted D.head D.mac D.payload D.rest D.drafted_so in
+    let from = rw (← c.self.view_is) at D.source in
+    let to = rw (← c.self.view_is) at D.destination in
+    let q = signs c.args.table.now.rows a c.as_datagram.result c.args.sending.now.row c.row-row.result.now (bytes_of c.outgoing-plan.result.context) fits c.requires.low c.requires.high c.row-row.ensures
+    (ap (λ (s : Segment). s.source) e ∙ from) (ap (λ (s : Segment). s.destination) e ∙ to) c.outgoing-plan.ensures.context in
+    q.right (sym c.outgoing-plan.ensures.syn ∙ syn)
+
+pub seal-requires-clause-field : goal.seal-requires-clause-field
+seal-requires-clause-field g c =
+    rw c.algorithm.ensures (subst (λ (x : Row). has_field c.args.datagram.now x) (sym (c.row-row.ensures c.row-row.result.now)) (c.requires.field c.row-row.result.now))
+
+pub returns-clause-sealed : goal.returns-clause-sealed
+returns-clause-sealed g c = λ h old payload rest r D here.
+    let x = c.row-row.result.now in
+    let same = same_at c.args.table.now.rows c.args.sending.now.row x r c.requires.low c.requires.high c.row-row.ensures here in
+    let key = c.key_of-key.ensures.key ∙ ap (λ (y : Row). traffic_key y.algorithm y.master (bytes_of c.outgoing-plan.result.context)) same in
+    sealed_as _ h old payload rest _ _ _ _ _ _ _ _ (c.algorithm.ensures ∙ ap (λ (y : Row). y.algorithm) same) key refl (c.with_options.ensures ∙ ap (λ (y : Row). y.with_options) same) (c.seal.ensures.sealed h old payload rest D)
+
+pub returns-clause-fits : goal.returns-clause-fits
+returns-clause-fits g c =
+    let i = c.self.inside in
+    let a : Bond = record { pair = i.pair; own = i.own_isn; peer = i.peer_isn; current = i.choice; keys = i.keys } in
+    let fits = rw (← c.self.view_is) at c.requires.fits in
+    let D = c.requires.draft in
+    let e = c.as_datagram.ensures.drafted D.head D.mac D.payload D.rest D.drafted_so in
+    let from = rw (← c.self.view_is) at D.source in
+    let to = rw (← c.self.view_is) at D.destination in
+    let q = signs c.args.table.now.rows a c.as_datagram.result c.args.sending.now.row c.row-row.result.now (bytes_of c.outgoing-plan.result.context) fits c.requires.low c.requires.high c.row-row.ensures
+    (ap (λ (s : Segment). s.source) e ∙ from) (ap (λ (s : Segment). s.destination) e ∙ to) c.outgoing-plan.ensures.context in
+    let k = c.key_of-key.ensures in
+    let l = left_by_sign c.args.table.now.rows a c.as_datagram.result c.args.sending.now.row c.row-row.result.now (bytes_of c.outgoing-plan.result.context) c.key_of-key.result c.key_of-key.new.keys c.outgoing-plan.result.syn
+    c.args.steps.now c.key_of-key.new.steps fits q k.key k.keys c.outgoing-plan.ensures.syn k.kept k.counted in
+    l.fits
+
+pub returns-clause-counted : goal.returns-clause-counted
+returns-clause-counted g c = λ h old payload rest F.
+    let i = c.self.inside in
+    let a : Bond = record { pair = i.pair; own = i.own_isn; peer = i.peer_isn; current = i.choice; keys = i.keys } in
+    let fits = rw (← c.self.view_is) at c.requires.fits in
+    let D = c.requires.draft in
+    let e = c.as_datagram.ensures.drafted D.head D.mac D.payload D.rest D.drafted_so in
+    let from = rw (← c.self.view_is) at D.source in
+    let to = rw (← c.self.view_is) at D.destination in
+    let q = signs c.args.table.now.rows a c.as_datagram.result c.args.sending.now.row c.row-row.result.now (bytes_of c.outgoing-plan.result.context) fits c.requires.low c.requires.high c.row-row.ensures
+    (ap (λ (s : Segment). s.source) e ∙ from) (ap (λ (s : Segment). s.destination) e ∙ to) c.outgoing-plan.ensures.context in
+    let k = c.key_of-key.ensures in
+    let l = left_by_sign c.args.table.now.rows a c.as_datagram.result c.args.sending.now.row c.row-row.result.now (bytes_of c.outgoing-plan.result.context) c.key_of-key.result c.key_of-key.new.keys c.outgoing-plan.result.syn
+    c.args.steps.now c.key_of-key.new.steps fits q k.key k.keys c.outgoing-plan.ensures.syn k.kept k.counted in
+    let same = c.as_datagram.ensures.drafted h old payload rest F in
+    rw (← c.self.view_is) (subst (λ (s : Segment). Counted a.keys c.key_of-key.new.keys (Some c.args.sending.now.row) Outbound (has SYN s) c.args.steps.now c.key_of-key.new.steps) same l.counted)
+
+pub returns-clause-most : goal.returns-clause-most
+returns-clause-most g c = omega (arith, c.key_of-key.ensures.counted, one_step c.outgoing-plan.result.syn (Rattle.ao_kdf.specs.Cache.kept c.self.inside.keys c.args.sending.now.row Outbound))

@@ -1,0 +1,64 @@
+-- What the check answers, as the verdict of the definitions.
+use Rattle.std.specs.Prelude.{◌≡◌, ◌≤◌, ◌+◌, ◌-◌, ◌^◌, ℕ, slice_get, List, length, Option, Some, None, Result, Ok, Err, ⊤}
+use Rattle.ao_base.specs.declared.address.Pair.{Pair}
+use Rattle.ao_base.specs.Algorithms.{mac_length_of}
+use Rattle.segment_model.specs.Options.{Ao, AoFound, Absent, One, Two, WithMd5 as FoundMd5, find_ao}
+use Rattle.segment_model.specs.Segments.{Segment, segment_length}
+use Rattle.mac_model.specs.Contexts.{context_of}
+use Rattle.key_model.specs.Rows.{Row}
+use Rattle.key_model.specs.Choices.{Numbered, accept_row}
+use Rattle.endpoint_model.specs.Verdicts as book
+use Rattle.mac_model.specs.Contexts.{bytes_of}
+use Rattle.key_model.specs.Lookups.{number_of}
+use Rattle.endpoint_model.specs.declared.verdict.Passed.{Passed}
+use Rattle.endpoint_model.specs.declared.verdict.Verdict.{Verdict}
+use Rattle.endpoint_model.specs.declared.verdict.Verdict.TheVariants as verdicts
+use Rattle.ao_check.specs.declared.screen.Screened.{Screened}
+
+-- what is told of a segment that passed: the number of the row, the number of the segment, the context; all else is read from the table and the segment
+pub record Names (rows : List Row) (pair : Pair) (d : Segment) (p : Passed) (entry : book.Finding) : Type 0 where
+  pub row : Row
+  pub here : slice_get rows (p.row - 1) ≡ Some row
+  pub ao : Ao
+  pub found : find_ao d.area ≡ One ao
+  pub entry_is : entry ≡ book.found_with (record { number = p.row; row = row }) d ao (bytes_of p.context) p.number
+  pub source : p.context.source ≡ pair.remote
+  pub destination : p.context.destination ≡ pair.local
+  pub end : p.number + segment_length d ≤ 2 ^ 63
+
+-- the answer is that judgement: a pass names what was found, and a refusal is that one
+abbrev pub Tells : List Row → Pair → Segment → Verdict → book.Judgement → Type 0
+Tells rows pair d (verdicts.Pass p) j = (entry : book.Finding) × (j ≡ book.Admit entry) × Names rows pair d p entry
+Tells rows pair d why j = j ≡ book.Refuse why
+
+-- the number expected is at most 2^63, and there is none while the peer's initial sequence number is not known
+abbrev pub IsExpected : Option ℕ → Option ℕ → Type 0
+IsExpected peer None = ⊤
+IsExpected None (Some x) = ⊥
+IsExpected (Some peer) (Some x) = x ≤ 2 ^ 63
+
+-- the number of the row that judges the segment
+abbrev pub judging : List Row → Pair → ℕ → AoFound → Option ℕ
+judging rows pair now Absent = None
+judging rows pair now Two = None
+judging rows pair now FoundMd5 = None
+judging rows pair now (One ao) = number_of (accept_row rows pair ao.key_id now)
+
+-- only the MAC is left to judge: this row, number, context and MAC
+pub record Awaits (rows : List Row) (pair : Pair) (own : ℕ) (peer : Option ℕ) (now : ℕ) (d : Segment) (s : Screened) (v : book.Judgement) : Type 0 where
+  pub ao : Ao
+  pub found : find_ao d.area ≡ One ao
+  pub mac : ao.mac ≡ s.mac.now
+  pub row : Row
+  pub accepted : accept_row rows pair ao.key_id now ≡ Some (record { number = s.row; row = row })
+  pub length_is : length ao.mac ≡ mac_length_of row.algorithm
+  pub context : context_of d peer (Some own) ≡ Some (bytes_of s.context)
+  pub source : s.context.source ≡ d.source
+  pub destination : s.context.destination ≡ d.destination
+  pub end : s.number + segment_length d ≤ 2 ^ 63
+  pub judgement : v ≡ book.judge_mac ao (book.found_with (record { number = s.row; row = row }) d ao (bytes_of s.context) s.number)
+
+-- the first refusal before that of the MAC, or what the MAC is judged by
+abbrev pub Screens : List Row → Pair → ℕ → Option ℕ → ℕ → Segment → Result Screened Verdict → book.Judgement → Type 0
+Screens rows pair own peer now d (Ok s) v = Awaits rows pair own peer now d s v
+Screens rows pair own peer now d (Err verdict) v = Tells rows pair d verdict v

@@ -1,0 +1,157 @@
+//! The context of a segment's traffic key, and its number.
+ghost use Rattle.std.specs.Prelude.{◌≡◌, ◌<◌, ◌≤◌, ◌+◌, ◌^◌, Option, Some, None, true, false, IfSome, option_map, is_some, nat_lt, not, ◌&&◌};
+ghost use Rattle.segment_model.specs.Segments.{has, segment_length, SYN};
+ghost use Rattle.mac_model.specs.Contexts.{context_of};
+ghost use Rattle.endpoint_model.specs.Verdicts.{number_of};
+ghost use Rattle.mac_model.specs.Contexts.{bytes_of};
+ghost use Rattle.ao_check.specs.Contexts.{HasSockets, IsBelow, IsPlanned};
+
+use ao_kdf::Context;
+use tcp_segment::Datagram;
+use wrap_seq::extend;
+
+/// The flags of TCP that the check looks at (RFC 9293, section 3.1).
+const FIN: u8 = 0x01;
+
+const SYN: u8 = 0x02;
+
+const ACK: u8 = 0x10;
+
+/// Whether a flag is set.
+fn has(datagram: &Datagram<'_>, flag: u8) -> bool
+    requires { 0 < flag }
+    ensures { result ≡ has flag datagram.now }
+{
+    datagram.flags() / flag % 2 == 1
+}
+
+/// Whether SYN is set.
+pub(crate) fn has_syn(datagram: &Datagram<'_>) -> bool
+    ensures { result ≡ has SYN datagram.now }
+{
+    has(datagram, SYN)
+}
+
+/// The context with these initial sequence numbers.
+fn between(datagram: &Datagram<'_>, source_isn: u32, dest_isn: u32) -> Context
+    ensures { result ≡ record { source = datagram.now.source; destination = datagram.now.destination; source_isn = source_isn; dest_isn = dest_isn } }
+{
+    Context {
+        source: datagram.source(),
+        destination: datagram.destination(),
+        source_isn,
+        dest_isn,
+    }
+}
+
+/// The context of a segment, from the initial sequence numbers of its source and its destination as
+/// far as they are known (RFC 5925, section 5.2).
+#[tactic(auto, unfolding(mac_model::specs::Contexts::context_of))]
+pub(crate) fn context_of(
+    datagram: &Datagram<'_>,
+    source_isn: Option<u32>,
+    dest_isn: Option<u32>,
+) -> Option<Context>
+    ensures context { option_map bytes_of result ≡ context_of datagram.now source_isn dest_isn }
+    ensures sockets { IfSome result (λ c. HasSockets datagram.now c) }
+{
+    if has(datagram, SYN) {
+        if !has(datagram, ACK) {
+            return Some(between(datagram, datagram.sequence(), 0));
+        }
+        return match dest_isn {
+            Some(dest_isn) => Some(between(datagram, datagram.sequence(), dest_isn)),
+            None => None,
+        };
+    }
+    match source_isn {
+        Some(source_isn) => match dest_isn {
+            Some(dest_isn) => Some(between(datagram, source_isn, dest_isn)),
+            None => None,
+        },
+        None => None,
+    }
+}
+
+/// The number of a segment: with SYN its sequence, else what that means near the number expected
+/// (RFC 5925, section 6.2).
+pub(crate) fn number_of(datagram: &Datagram<'_>, expected: Option<u64>) -> Option<u64>
+    requires { IsBelow expected }
+    ensures number { result ≡ number_of datagram.now expected }
+    ensures most { IfSome result (λ n. n ≤ 2 ^ 63 + 2 ^ 32) }
+{
+    match expected {
+        None => Some(u64::from(datagram.sequence())),
+        Some(expected) => {
+            if has(datagram, SYN) {
+                Some(u64::from(datagram.sequence()))
+            } else {
+                extend(datagram.sequence(), expected)
+            }
+        }
+    }
+}
+
+/// Whether a segment has no SYN and nothing is expected.
+pub(crate) fn is_silent(datagram: &Datagram<'_>, expected: Option<u64>) -> bool
+    ensures { result ≡ (not (has SYN datagram.now) && not (is_some expected)) }
+{
+    if has(datagram, SYN) {
+        false
+    } else {
+        expected.is_none()
+    }
+}
+
+/// Whether a segment of this number ends past 2^63.
+pub(crate) fn ends_late(datagram: &Datagram<'_>, number: u64) -> bool
+    requires { number ≤ 2 ^ 63 + 2 ^ 32 }
+    ensures { result ≡ nat_lt 9223372036854775808 (number + segment_length datagram.now) }
+{
+    number + length_of(datagram) > 1 << 63
+}
+
+/// How many numbers a segment takes: its payload, SYN and FIN (RFC 9293, section 3.4).
+fn length_of(datagram: &Datagram<'_>) -> u64
+    ensures length { result ≡ segment_length datagram.now }
+    ensures most { result ≤ 65537 }
+{
+    // Its clause says that each field fits its place, on which the proof rests.
+    let _length = datagram.length();
+    let payload = datagram.payload().len() as u64;
+    payload + u64::from(has(datagram, SYN)) + u64::from(has(datagram, FIN))
+}
+
+/// The context of a segment that is being sent, and whether it has SYN.
+#[derive(Drop)]
+pub(crate) struct Plan {
+    pub(crate) syn: bool,
+    pub(crate) context: Context,
+}
+
+/// The context of a segment that is being sent; it has SYN without ACK, or the peer's initial
+/// sequence number is known.
+#[tactic(auto, unfolding(mac_model::specs::Contexts::context_of))]
+pub(crate) fn outgoing(datagram: &Datagram<'_>, own_isn: u32, peer_isn: Option<u32>) -> Plan
+    requires { IsPlanned datagram.now peer_isn }
+    ensures syn { result.syn ≡ has SYN datagram.now }
+    ensures context { context_of datagram.now (Some own_isn) peer_isn ≡ Some (bytes_of result.context) }
+{
+    let peer_isn = peer_isn.unwrap_or(0);
+    if !has(datagram, SYN) {
+        return Plan {
+            syn: false,
+            context: between(datagram, own_isn, peer_isn),
+        };
+    }
+    if !has(datagram, ACK) {
+        return Plan {
+            syn: true,
+            context: between(datagram, datagram.sequence(), 0),
+        };
+    }
+    Plan {
+        syn: true,
+        context: between(datagram, datagram.sequence(), peer_isn),
+    }
+}

@@ -1,0 +1,21 @@
+//! The check of segments and their signing (RFC 5925, sections 7.4 and 7.5): an association holds
+//! what one end knows of a connection, and the traffic keys that it derived.
+//!
+//! An association takes all its memory when it is made. The table that its calls are given fits it:
+//! the table that it was made with does, and goes on fitting while it has no more rows than the
+//! association has room for.
+#![tactic(auto)]
+
+mod association;
+mod compare;
+mod context;
+mod key;
+mod laws;
+mod screen;
+
+pub use association::Association;
+pub use laws::{fits_once_added, fits_once_withdrawn, signed_passes};
+pub use endpoint_model::{Passed, Verdict};
+
+#[cfg(test)]
+mod tests;

@@ -1,0 +1,121 @@
+//! What is judged of a segment before its MAC.
+ghost use Rattle.std.specs.Prelude.{◌≡◌, ◌==◌, ◌≤◌, ◌<◌, ◌-◌, ◌^◌, ◌/◌, length, IfErr, IfOk, Ok, Err, Result};
+ghost use Rattle.ao_base.specs.Algorithms.{mac_length_of};
+ghost use Rattle.segment_model.specs.Bytes.{same_bytes};
+ghost use Rattle.segment_model.specs.Options.{Ao, One, find_ao};
+ghost use Rattle.mac_model.specs.Keys.{key_length, mac};
+ghost use Rattle.mac_model.specs.MacInput.{mac_input};
+ghost use Rattle.endpoint_model.specs.Verdicts.{judge};
+ghost use Rattle.tcp_options.specs.Views.{view_found};
+ghost use Rattle.ao_mac.specs.Macs.{HasAo};
+ghost use Rattle.ao_check.specs.Contexts.{IsBelow};
+ghost use Rattle.ao_check.specs.Verdicts.{Tells, Screens};
+
+use crate::compare::is_same;
+use crate::context::{context_of, ends_late, is_silent, number_of};
+use endpoint_model::Verdict;
+use ao_base::Pair;
+use ao_kdf::{Context, TrafficKey};
+use ao_mac::mac;
+use key_table::{Accept, Row, Table};
+use tcp_options::AoFound;
+use tcp_segment::Datagram;
+
+/// What was found of a segment whose MAC is still to be judged.
+#[derive(Drop)]
+pub(crate) struct Screened<'a> {
+    pub(crate) row: u8,
+    pub(crate) number: u64,
+    pub(crate) context: Context,
+    pub(crate) mac: &'a [u8],
+}
+
+/// What a segment has of TCP-AO.
+fn found<'a>(datagram: &Datagram<'a>) -> AoFound<'a>
+    ensures { view_found result ≡ find_ao datagram.now.area }
+{
+    datagram.options().find_ao()
+}
+
+/// Whether a MAC has the length of the row's algorithm.
+fn has_length(mac: &[u8], row: &Row) -> bool
+    ensures { result ≡ (length mac.now == mac_length_of row.now.algorithm) }
+{
+    mac.len() == row.algorithm().mac_length() as usize
+}
+
+/// The tests before that of the MAC, in their order: the first refusal that holds, or what the MAC
+/// is judged by.
+pub(crate) fn screen_segment<'a>(
+    pair: &Pair,
+    own_isn: u32,
+    peer_isn: Option<u32>,
+    table: &Table,
+    now: u64,
+    expected: Option<u64>,
+    datagram: &Datagram<'a>,
+) -> Result<Screened<'a>, Verdict>
+    requires { IsBelow expected }
+    ensures { Screens table.now.rows pair.now own_isn peer_isn now datagram.now result (judge table.now.rows pair.now own_isn peer_isn expected now datagram.now) }
+{
+    let ao = match found(datagram) {
+        AoFound::Absent => return Err(Verdict::NoAo),
+        AoFound::Two => return Err(Verdict::TwoAo),
+        AoFound::WithMd5 => return Err(Verdict::WithMd5),
+        AoFound::One(ao) => ao,
+    };
+    let row = match table.accept_row(pair, ao.key_id, now) {
+        Accept::Absent => return Err(Verdict::NoTuple),
+        Accept::Expired => return Err(Verdict::Expired),
+        Accept::Row(row) => row,
+    };
+    let entry = table.row(row);
+    if !has_length(ao.mac, entry) {
+        return Err(Verdict::MacLength);
+    }
+    let context = match context_of(datagram, peer_isn, Some(own_isn)) {
+        None => return Err(Verdict::NoContext),
+        Some(context) => context,
+    };
+    if is_silent(datagram, expected) {
+        return Err(Verdict::NoContext);
+    }
+    let number = match number_of(datagram, expected) {
+        None => return Err(Verdict::Range),
+        Some(number) => number,
+    };
+    if ends_late(datagram, number) {
+        return Err(Verdict::Range);
+    }
+    Ok(Screened {
+        row,
+        number,
+        context,
+        mac: ao.mac,
+    })
+}
+
+/// Whether the MAC of a segment is right under a traffic key of the row.
+pub(crate) fn is_right(
+    key: &TrafficKey,
+    row: &Row,
+    number: u64,
+    datagram: &Datagram<'_>,
+    field: &[u8],
+) -> bool
+    requires one { HasAo datagram.now }
+    requires key { length key.now ≡ key_length row.now.algorithm }
+    requires field { length field.now ≡ mac_length_of row.now.algorithm }
+    requires number { number < 2 ^ 64 }
+    ensures { (ao : Ao) → find_ao datagram.now.area ≡ One ao
+        → result ≡ same_bytes field.now (mac row.now.algorithm key.now (mac_input number datagram.now ao row.now.with_options)) }
+{
+    let code = mac(
+        key,
+        row.algorithm(),
+        (number >> 32) as u32,
+        datagram,
+        row.with_options(),
+    );
+    is_same(field, code.as_slice())
+}
