@@ -106,7 +106,8 @@ fn signed<L: Ledger>(alloc: Global, blank: Blank, out: &mut [u8]) -> Result<usiz
 #[test]
 fn what_is_signed_is_what_another_program_signs(rt: HostRuntime) -> Result<(), Fail> {
     let mut out = [0; 1500];
-    assert_eq!(rt; signed::<Brand>(rt.alloc(), Blank::new(1), &mut out)?, 56);
-    assert_eq!(rt; &out[..56], PAST_A_LAP.as_slice());
+    let length = signed::<Brand>(rt.alloc(), Blank::new(1), &mut out)?;
+    assert_eq!(rt; length, 56);
+    assert!(rt; out.starts_with(&PAST_A_LAP));
     Ok(())
 }
