@@ -14,8 +14,8 @@ mod laws;
 mod screen;
 
 pub use association::Association;
-pub use laws::{fits_once_added, fits_once_withdrawn, signed_passes};
 pub use endpoint_model::{Passed, Verdict};
+pub use laws::{fits_once_added, fits_once_withdrawn, signed_passes};
 
 #[cfg(test)]
 mod tests;

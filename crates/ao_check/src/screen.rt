@@ -13,10 +13,10 @@ ghost use Rattle.ao_check.specs.Verdicts.{Tells, Screens};
 
 use crate::compare::is_same;
 use crate::context::{context_of, ends_late, is_silent, number_of};
-use endpoint_model::Verdict;
 use ao_base::Pair;
 use ao_kdf::{Context, TrafficKey};
 use ao_mac::mac;
+use endpoint_model::Verdict;
 use key_table::{Accept, Row, Table};
 use tcp_options::AoFound;
 use tcp_segment::Datagram;

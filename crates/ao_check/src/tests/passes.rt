@@ -110,7 +110,11 @@ fn numbers_go_over_laps_and_end_at_2_to_63(rt: HostRuntime) -> Result<(), Fail> 
     for (bytes, expected, wanted) in cases {
         let seen = verdict(rt.alloc(), &table, PAIR, 0, Some(expected), &bytes)?;
         assert_eq!(rt; place(seen), wanted, "expected {expected}");
-        assert_eq!(rt; seen == Some(Verdict::BadMac), wanted.is_none(), "expected {expected}");
+        assert_eq!(rt;
+            seen == Some(Verdict::BadMac),
+            wanted.is_none(),
+            "expected {expected}"
+        );
     }
     let seen = verdict(rt.alloc(), &table, PAIR, 0, Some(END), &PAST_THE_END)?;
     assert_eq!(rt; seen, Some(Verdict::Range));

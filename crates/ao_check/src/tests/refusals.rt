@@ -80,8 +80,18 @@ fn the_first_fault_is_told(rt: HostRuntime) -> Result<(), Fail> {
     let cases = [
         (area(&[], &MD5), 0, None, Verdict::NoAo),
         (area(&[], &MD5), 0, late, Verdict::NoAo),
-        (area(&[29, 4, 9, 0, 29, 4, 9, 0], &MD5), 0, None, Verdict::TwoAo),
-        (area(&[29, 4, 1, 0, 29, 4, 1, 0], &MD5), LAST + 1, late, Verdict::TwoAo),
+        (
+            area(&[29, 4, 9, 0, 29, 4, 9, 0], &MD5),
+            0,
+            None,
+            Verdict::TwoAo,
+        ),
+        (
+            area(&[29, 4, 1, 0, 29, 4, 1, 0], &MD5),
+            LAST + 1,
+            late,
+            Verdict::TwoAo,
+        ),
         (area(&[29, 4, 9, 0], &MD5), 0, None, Verdict::WithMd5),
         (area(&[29, 4, 1, 0], &MD5), LAST + 1, late, Verdict::WithMd5),
         (area(&[29, 4, 9, 0], &[]), 0, None, Verdict::NoTuple),
@@ -100,11 +110,25 @@ fn the_first_fault_is_told(rt: HostRuntime) -> Result<(), Fail> {
     for (area, now, expected, wanted) in cases {
         // Plain, with RST, and with FIN.
         for flags in [0x10, 0x14, 0x11] {
-            let seen = verdict(rt.alloc(), &table, PAIR, now, expected, &segment(flags, &area))?;
+            let seen = verdict(
+                rt.alloc(),
+                &table,
+                PAIR,
+                now,
+                expected,
+                &segment(flags, &area),
+            )?;
             assert_eq!(rt; seen, Some(wanted), "flags {flags} at {now}");
         }
         for flags in [0x02, 0x12] {
-            let seen = verdict(rt.alloc(), &table, PAIR, now, expected, &segment(flags, &area))?;
+            let seen = verdict(
+                rt.alloc(),
+                &table,
+                PAIR,
+                now,
+                expected,
+                &segment(flags, &area),
+            )?;
             assert_eq!(rt; seen, Some(with_syn(wanted)), "flags {flags} at {now}");
         }
     }
