@@ -160,7 +160,6 @@ fn send(
     requires mac { head.now.mac_length ≡ mac_length_of alg }
     requires key { length key.now ≡ key_length alg }
     requires room { 1500 ≤ length out.old }
-    ensures { result ≤ 1500 }
 {
     let mut datagram = write_datagram(out, head, payload.len());
     datagram.payload_mut().copy_from_slice(payload);
@@ -174,7 +173,6 @@ fn sealed<L: Ledger>(blank: Blank, out: &mut [u8], alg: Algorithm, with_options:
     requires parts { blank.parts ≡ L.parts }
     requires part { 0 < blank.parts }
     requires room { 1500 ≤ length out.old }
-    ensures { result ≤ 1500 }
 {
     let context = over_ipv6();
     let mut steps = Steps::<L>::new(blank);
@@ -203,7 +201,6 @@ fn sealed<L: Ledger>(blank: Blank, out: &mut [u8], alg: Algorithm, with_options:
 /// Seals a segment, and says how long it is.
 fn written(out: &mut [u8], alg: Algorithm, with_options: bool) -> usize
     requires { 1500 ≤ length out.old }
-    ensures { result ≤ 1500 }
 {
     sealed::<Brand>(Blank::new(1), out, alg, with_options)
 }

@@ -1,5 +1,6 @@
 //! Five bytes over a link.
-ghost use Rattle.std.specs.Prelude.{◌≤◌, IfOk, IsTrue, length, map};
+ghost use Rattle.std.specs.Prelude.{◌≡◌, ◌≤◌, IfOk, IsTrue, length, map};
+ghost use Rattle.ao_base.specs.Algorithms.{mac_length_of};
 ghost use Rattle.link_script.specs.Script.{are_two_of_a_family};
 ghost use Rattle.link_world.specs.Standing.{StandsFor, event_of, setup_of};
 
@@ -14,6 +15,7 @@ fn after(alloc: Global, setup: Setup, events: &[Event]) -> Result<World, AllocEr
     requires family { IsTrue (are_two_of_a_family setup.a.address setup.b.address) }
     requires least { 1 ≤ length setup.shared.master }
     requires most { length setup.shared.master ≤ 255 }
+    requires code { mac_length_of setup.shared.alg ≡ 12 }
     requires few { length events.now ≤ 20000 }
     ensures { IfOk result (λ w. StandsFor w (setup_of setup) (map event_of events.now)) }
 {

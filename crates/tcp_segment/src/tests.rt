@@ -182,9 +182,10 @@ fn draft_is_shown_as_it_stands(rt: HostRuntime) {
     assert_eq!(rt; shown.payload(), b"hello".as_slice());
     assert_eq!(rt;
         shown.options().area(),
-        &[
+        [
             2, 4, 5, 0xb4, 0x1d, 0x10, 7, 8, 0, 0, 0, 0, 0, 0, 0, 0, 0, 0, 0, 0
         ]
+        .as_slice()
     );
     assert!(rt; !shown.checksum_ok());
 }
