@@ -57,6 +57,21 @@ fn each_front_part_of_a_datagram_is_truncated(rt: HostRuntime) -> Result<(), Fai
     Ok(())
 }
 
+/// A datagram whose only option is TCP-AO with a MAC of 16 bytes.
+const WITH_20_BYTES: &str =
+    "4500003c00004000400626ba0a0000010a00000203e807d000000065000000c9a010ffff20c200001d14010200000000000000000000000000000000";
+
+#[test]
+fn an_option_of_20_bytes_is_shown(rt: HostRuntime) -> Result<(), Fail> {
+    let shown = show(rt.alloc(), WITH_20_BYTES.as_bytes())?;
+    assert!(rt;
+        shown.as_slice().ends_with(
+            b" checksum good options 29:010200000000000000000000000000000000\n"
+        )
+    );
+    Ok(())
+}
+
 /// A datagram up to its area of four bytes.
 const BEFORE_AREA: &str =
     "4500002c00004000400626ca0a0000010a00000203e807d000000065000000c96010ffff00000000";
