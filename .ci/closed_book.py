@@ -9,7 +9,7 @@ import sys
 TOP = os.path.dirname(os.path.dirname(os.path.abspath(__file__)))
 BOOK = ["ao_base", "segment_model", "mac_model", "key_model", "endpoint_model", "link_model", "line_model", "wire_model", "format_model"]
 # Today's link stands on narrow definitions of its own, which go with it.
-NARROW = ["narrow_endpoint", "narrow_link", "link_script", "ao_run/specs/NarrowLink.antt"]
+NARROW = ["narrow_endpoint", "narrow_link", "narrow_script", "ao_run/specs/NarrowLink.antt"]
 # The relations by which the top call speaks of what was read and written.
 RELATIONS = ["ao_run/specs/Obeys.antt", "ao_run/specs/Delivers.antt", "ao_run/specs/Completes.antt"]
 ENTRY = ("ao_run", "src/top.rt", "run")

@@ -8,8 +8,8 @@ use Rattle.ao_base.specs.ReadAll.{ReadsAll}
 use Rattle.ao_base.proofs.Sides.{gave_none}
 use Rattle.line_model.specs.declared.text_fault.TextFault.{TextFault}
 use Rattle.line_model.specs.declared.text_fault.TextFault.TheVariants as fault
-use Rattle.link_script.specs.declared.script.Script.{Script}
-use Rattle.link_script.specs.Script.{script_of}
+use Rattle.narrow_script.specs.declared.script.Script.{Script}
+use Rattle.narrow_script.specs.Script.{script_of}
 use Rattle.ao_show.specs.declared.verified.Verified.{Verified}
 use Rattle.ao_show.specs.Show.{show_of}
 use Rattle.ao_show.specs.Verified.{vectors_of}

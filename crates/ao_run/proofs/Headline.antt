@@ -8,9 +8,9 @@ use Rattle.narrow_link.specs.Runs.{empty, run, outcomes_from}
 use Rattle.narrow_link.specs.Worlds.{Setup}
 use Rattle.narrow_link.proofs.Theorem.{delivers_in_order}
 use Rattle.line_model.specs.declared.text_fault.TextFault.{TextFault}
-use Rattle.link_script.specs.declared.script.Script.{Script}
-use Rattle.link_script.specs.Script.{script_of}
-use Rattle.link_script.proofs.ScriptRanges.{script_of_ok}
+use Rattle.narrow_script.specs.declared.script.Script.{Script}
+use Rattle.narrow_script.specs.Script.{script_of}
+use Rattle.narrow_script.proofs.ScriptRanges.{script_of_ok}
 use Rattle.ao_run.specs.Answer.{Answer, answer, linked, reported, refuse, too_long, setup_of, events_of, forgeries_of}
 use Rattle.ao_run.specs.Delivers.{Delivers, LinkDelivers}
 use Rattle.ao_run.specs.Obeys.{Obeys, Sides}

@@ -4,13 +4,13 @@ use Rattle.std.proofs.lemmas.List.{length-map}
 use Rattle.std.specs.List.{All, AllByRecursion}
 use Rattle.ao_base.specs.Algorithms.{mac_length_of}
 use Rattle.narrow_link.specs.Headline.{EventFits}
-use Rattle.link_script.specs.declared.event.Event.{Event}
-use Rattle.link_script.specs.declared.event.Event.TheVariants.{Clock, Start, Give, Fill, Send, Deliver, Inject, Alter, Take, Dump}
-use Rattle.link_script.specs.declared.script.Script.{Script}
-use Rattle.link_script.specs.declared.script.SharedKey.{SharedKey}
-use Rattle.link_script.specs.Printed.{event_words, key_lines, script_lines}
-use Rattle.link_script.specs.Scripts.{IsEvent, IsKey, IsScript}
-use Rattle.link_world.specs.Standing.{event_of}
+use Rattle.narrow_script.specs.declared.event.Event.{Event}
+use Rattle.narrow_script.specs.declared.event.Event.TheVariants.{Clock, Start, Give, Fill, Send, Deliver, Inject, Alter, Take, Dump}
+use Rattle.narrow_script.specs.declared.script.Script.{Script}
+use Rattle.narrow_script.specs.declared.script.SharedKey.{SharedKey}
+use Rattle.narrow_script.specs.Printed.{event_words, key_lines, script_lines}
+use Rattle.narrow_script.specs.Scripts.{IsEvent, IsKey, IsScript}
+use Rattle.narrow_world.specs.Standing.{event_of}
 
 -- no more events than lines
 pub few_events : (s : Script) → IsScript s → length s.events ≤ 20000

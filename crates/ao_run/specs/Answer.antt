@@ -14,10 +14,10 @@ use Rattle.narrow_link.specs.Events.{Event}
 use Rattle.narrow_link.specs.Reports.{report}
 use Rattle.narrow_link.specs.Runs.{run}
 use Rattle.narrow_link.specs.Worlds.{Setup, forgeries}
-use Rattle.link_script.specs.declared.script.Script.{Script}
-use Rattle.link_script.specs.declared.script.SharedKey.{SharedKey}
-use Rattle.link_script.specs.Script.{script_of}
-use Rattle.link_world.specs.Standing.{event_of}
+use Rattle.narrow_script.specs.declared.script.Script.{Script}
+use Rattle.narrow_script.specs.declared.script.SharedKey.{SharedKey}
+use Rattle.narrow_script.specs.Script.{script_of}
+use Rattle.narrow_world.specs.Standing.{event_of}
 use Rattle.ao_run.specs.declared.command.Command.{Command}
 use Rattle.ao_run.specs.declared.command.Command.TheVariants.{Link, Show, Vectors}
 

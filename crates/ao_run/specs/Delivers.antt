@@ -8,8 +8,8 @@ use Rattle.narrow_link.specs.Headline.{ComesFrom}
 use Rattle.narrow_link.specs.Reports.{report, counts_text}
 use Rattle.narrow_link.specs.Runs.{run}
 use Rattle.narrow_link.specs.Worlds.{Session, side, partner}
-use Rattle.link_script.specs.declared.script.Script.{Script}
-use Rattle.link_script.specs.Script.{script_of}
+use Rattle.narrow_script.specs.declared.script.Script.{Script}
+use Rattle.narrow_script.specs.Script.{script_of}
 use Rattle.ao_run.specs.Answer.{setup_of, events_of, forgeries_of}
 use Rattle.ao_run.specs.Obeys.{Sides}
 

@@ -1,15 +1,15 @@
 //! The command `link`.
 ghost use Rattle.std.specs.Prelude.{◌≡◌, ◌≤◌, ◌<◌, IsTrue, IfOk, false, length, map, Some, Ok};
 ghost use Rattle.ao_base.specs.Algorithms.{mac_length_of};
-ghost use Rattle.link_script.specs.Script.{are_two_of_a_family, script_of};
-ghost use Rattle.link_world.specs.Standing.{StandsFor, event_of, setup_of};
+ghost use Rattle.narrow_script.specs.Script.{are_two_of_a_family, script_of};
+ghost use Rattle.narrow_world.specs.Standing.{StandsFor, event_of, setup_of};
 ghost use Rattle.ao_run.specs.Answer.{linked};
 ghost use Rattle.ao_run.specs.Stops.{Makes};
 
 use crate::stop::{Output, Stop, line_text};
 use line_model::TextFault;
-use link_script::{Event, Script, read_script};
-use link_world::{Setup, World};
+use narrow_script::{Event, Script, read_script};
+use narrow_world::{Setup, World};
 use std::alloc::{AllocError, Global};
 
 /// The world after all events.

@@ -1,5 +1,5 @@
 use Rattle.std.proofs.Common.{◌≡◌, map, take}
-use Rattle.link_world.specs.Standing.{StandsFor, event_of, setup_of, steps_taken}
+use Rattle.narrow_world.specs.Standing.{StandsFor, event_of, setup_of, steps_taken}
 use Rattle.ao_run.proofs.link.play.Given as goal
 
 abbrev pub invariant-loop-event : goal.invariant-loop-event

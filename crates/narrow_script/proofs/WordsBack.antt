@@ -1,0 +1,85 @@
+-- Printed words are read back.
+use Rattle.std.proofs.Common.{◌≡◌, ℕ, zero, suc, lit<, ◌<◌, ◌≤◌, ◌^◌, ◌==◌, codes, eq-eqb, nat_le, nat_lt, Bool, true, false, List, [], ◌∷◌, length, decimal, Some, Ok, refl, arith}
+use Rattle.std.proofs.lemmas.Bool.{le-leb, lt-ltb}
+use Rattle.hex.specs.Hex.{IsBytes}
+use Rattle.ao_base.specs.declared.address.Address.{Address}
+use Rattle.ao_base.specs.declared.algorithm.Algorithm.{Algorithm}
+use Rattle.ao_base.specs.declared.algorithm.Algorithm.TheVariants.{HmacSha1, AesCmac, HmacSha256}
+use Rattle.ao_base.specs.declared.end.End.{End}
+use Rattle.ao_base.specs.declared.end.End.TheVariants.{A, B}
+use Rattle.ao_base.specs.Addresses.{address_text}
+use Rattle.ao_base.specs.Algorithms.{mac_length_of, name_of}
+use Rattle.ao_base.specs.Hexadecimal.{hex_of}
+use Rattle.ao_base.proofs.AddressLaws.{address_of-address_text}
+use Rattle.ao_base.proofs.DecimalLaws.{decimal_of-decimal}
+use Rattle.ao_base.proofs.HexadecimalLaws.{bytes_of_hex-hex_of}
+use Rattle.line_model.specs.Words.{word_in, choice_of, choice_in, end_of, end_in, address_in, algorithm_in, number_in, hex_in, sized_hex_in, some_hex_in, byte_in}
+use Rattle.line_model.specs.Texts.{end_text}
+use Rattle.narrow_script.specs.EventLines.{fixing_in}
+use Rattle.narrow_script.specs.Printed.{fixing_text}
+use Rattle.narrow_script.specs.Script.{short_algorithm_in}
+use Rattle.narrow_script.specs.Scripts.{AreBytes, IsAddress}
+
+pub end_of-end_text : (e : End) → end_of (end_text e) ≡ Some e
+unfolding end_of
+end_of-end_text A = refl
+end_of-end_text B = refl
+
+pub end_back : (e : End) (ws : List (List ℕ)) → end_in (end_text e ∷ ws) ≡ Ok (record { value = e; rest = ws })
+unfolding end_in word_in
+end_back e ws = rw (end_of-end_text e) refl
+
+choice_of-fixing_text : (b : Bool) → choice_of (codes "keep") (codes "fix") (fixing_text b) ≡ Some b
+choice_of-fixing_text false = refl
+choice_of-fixing_text true = refl
+
+pub fixing_back : (b : Bool) (ws : List (List ℕ)) → fixing_in (fixing_text b ∷ ws) ≡ Ok (record { value = b; rest = ws })
+unfolding choice_in word_in
+fixing_back b ws = rw (choice_of-fixing_text b) refl
+
+pub address_back : (a : Address) (ws : List (List ℕ)) → IsAddress a → address_in (address_text a ∷ ws) ≡ Ok (record { value = a; rest = ws })
+unfolding address_in word_in
+address_back a ws h = rw (address_of-address_text a h) refl
+
+algorithm_back : (a : Algorithm) (ws : List (List ℕ)) → algorithm_in (name_of a ∷ ws) ≡ Ok (record { value = a; rest = ws })
+unfolding algorithm_in word_in
+algorithm_back HmacSha1 ws = refl
+algorithm_back AesCmac ws = refl
+algorithm_back HmacSha256 ws = refl
+
+pub short_back : (a : Algorithm) (ws : List (List ℕ)) → mac_length_of a ≡ 12 → short_algorithm_in (name_of a ∷ ws) ≡ Ok (record { value = a; rest = ws })
+unfolding short_algorithm_in
+short_back a ws short =
+    let e : (mac_length_of a == 12) ≡ true = eq-eqb _ _ short in
+    rw (algorithm_back a ws, e) refl
+
+pub number_back : (low high n : ℕ) (ws : List (List ℕ)) → low ≤ n → n ≤ high → high < 2 ^ 64 → number_in low high (decimal n ∷ ws) ≡ Ok (record { value = n; rest = ws })
+unfolding number_in word_in
+number_back low high n ws above below small =
+    let a : nat_le low n ≡ true = le-leb _ _ above in
+    let b : nat_le n high ≡ true = le-leb _ _ below in
+    rw (decimal_of-decimal n (omega arith), a, b) refl
+
+pub hex_back : (low high : ℕ) (bytes : List ℕ) (ws : List (List ℕ)) → AreBytes low high bytes → sized_hex_in low high (hex_of bytes ∷ ws) ≡ Ok (record { value = bytes; rest = ws })
+unfolding sized_hex_in hex_in word_in
+hex_back low high bytes ws h =
+    let a : nat_le low (length bytes) ≡ true = le-leb _ _ h.0 in
+    let b : nat_le (length bytes) high ≡ true = le-leb _ _ h.1 in
+    rw (bytes_of_hex-hex_of bytes h.2, a, b) refl
+
+pub some_hex_back : (bytes : List ℕ) (ws : List (List ℕ)) → 0 < length bytes → IsBytes bytes → some_hex_in (hex_of bytes ∷ ws) ≡ Ok (record { value = bytes; rest = ws })
+unfolding some_hex_in hex_in word_in
+some_hex_back bytes ws some small =
+    let a : nat_lt 0 (length bytes) ≡ true = lt-ltb _ _ some in
+    rw (bytes_of_hex-hex_of bytes small, a) refl
+
+pub one_byte : (b : ℕ) → b < 256 → AreBytes 1 1 (b ∷ [])
+one_byte b small = (omega arith, omega arith, is_byte)
+  where
+    is_byte : IsBytes (b ∷ [])
+    is_byte zero = small
+    is_byte (suc i) = lit< tt
+
+pub byte_back : (b : ℕ) (ws : List (List ℕ)) → b < 256 → byte_in (hex_of (b ∷ []) ∷ ws) ≡ Ok (record { value = b; rest = ws })
+unfolding byte_in
+byte_back b ws small = rw (hex_back 1 1 (b ∷ []) ws (one_byte b small)) refl
