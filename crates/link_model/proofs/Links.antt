@@ -6,6 +6,7 @@ use Rattle.ao_base.specs.declared.algorithm.Algorithm.TheVariants.{HmacSha1}
 use Rattle.key_model.specs.declared.direction.Direction.TheVariants.{Both}
 use Rattle.key_model.specs.Rows.{Row}
 use Rattle.key_model.specs.Shared.{shared_row}
+use Rattle.link_model.specs.declared.event.RowLine.{RowLine}
 use Rattle.link_model.specs.Worlds.{Setup}
 
 abbrev pub row_of : ℕ → List ℕ → Algorithm → ℕ → ℕ → ℕ → ℕ → Row
@@ -38,6 +39,21 @@ one_key = setup_of (row_of 1 (replicate 20 11) HmacSha1 0 3600 0 3660 ∷ [])
 
 abbrev pub two_keys : Setup
 two_keys = setup_of (row_of 1 (replicate 20 11) HmacSha1 0 7200 0 10800 ∷ row_of 2 (replicate 20 12) HmacSha1 3600 latest_time 3000 latest_time ∷ [])
+
+abbrev pub later_row : RowLine
+later_row = record {
+  recv_id = 2;
+  send_id = 2;
+  algorithm = HmacSha1;
+  master = replicate 20 12;
+  with_options = true;
+  receive = true;
+  send = true;
+  send_first = 3600;
+  send_last = latest_time;
+  accept_first = 3600;
+  accept_last = latest_time;
+}
 
 abbrev pub lines : List (List ℕ) → List ℕ
 lines [] = []

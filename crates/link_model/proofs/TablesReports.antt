@@ -15,14 +15,16 @@ use Rattle.mac_model.specs.Contexts.{context, context_of}
 use Rattle.mac_model.specs.MacInput.{mac_input}
 use Rattle.mac_model.specs.Keys.{traffic_key, mac}
 use Rattle.key_model.specs.Coordination.{choose, follow}
+use Rattle.key_model.specs.Overlaps.{overlaps}
+use Rattle.key_model.specs.Tables.{adding, withdrawn}
 use Rattle.endpoint_model.specs.Verdicts.{judge}
 use Rattle.endpoint_model.specs.States.{ready}
 use Rattle.endpoint_model.specs.Arrivals.{arrive}
 use Rattle.endpoint_model.specs.Emissions.{to_emit, to_resend, emit, resend}
-use Rattle.link_model.specs.declared.event.Event.TheVariants.{Clock, Connect, Listen, Start, Give, Fill, Send, Resend, Deliver, Inject, Alter, Take, Close, Abort, Dump}
+use Rattle.link_model.specs.declared.event.Event.TheVariants.{Clock, Connect, Listen, Start, Give, Fill, Send, Resend, Deliver, Inject, Alter, Take, Close, Abort, AddRow, Withdraw, Dump}
 use Rattle.link_model.specs.Alterations.{altered}
 use Rattle.link_model.specs.Reports.{summary, report}
-use Rattle.link_model.proofs.Links.{shared_link, one_key, two_keys, lines}
+use Rattle.link_model.proofs.Links.{shared_link, one_key, two_keys, later_row, lines}
 
 -- an altered copy is refused by its MAC or by its checksum
 pub altered_copies : report shared_link
@@ -67,3 +69,16 @@ pub rollover_follows : report two_keys
     codes "session b 1 isn 200 peer 100 established given 0 delivered 0 open" ∷ codes "segments 4 forgeries 0" ∷ [])
 unfolding digits encode_with sha1 digest_bytes hash_after compress rounds schedule first_words put2 put4 meant options_of find_ao keep sums complement_of pseudo header tcp_bytes checksum_of good spell first_fault fields reading with_right_checksum block_key hmac context context_of mac_input traffic_key mac choose follow judge ready arrive to_emit to_resend emit resend altered summary report
 rollover_follows = refl
+
+-- a row that is added takes and sends at once; one that is withdrawn does neither, and keeps its number
+pub rows_added_and_withdrawn : report one_key
+    (Start A 100 200 ∷ Start B 200 100 ∷ AddRow A later_row ∷ AddRow B later_row ∷ AddRow A later_row ∷ Clock A 3601 ∷ Clock B 3601 ∷ Give A (65 ∷ []) ∷ Send A ∷
+    Deliver B 1 ∷ Withdraw B 2 ∷ Give A (66 ∷ []) ∷ Send A ∷ Deliver B 2 ∷ Send B ∷ Withdraw B 3 ∷ [])
+    ≡ lines (
+    codes "1 ok" ∷ codes "2 ok" ∷ codes "3 added row 2" ∷ codes "4 added row 2" ∷ codes "5 overlap 2" ∷ codes "6 ok" ∷ codes "7 ok" ∷ codes "8 ok" ∷
+    codes "9 sent 1 AP seq 101 ack 201 len 1 key 2 next 2" ∷ codes "10 taken" ∷ codes "11 ok" ∷ codes "12 ok" ∷
+    codes "13 sent 2 AP seq 102 ack 201 len 1 key 2 next 2" ∷ codes "14 refused no-tuple" ∷ codes "15 no-key" ∷ codes "16 no-row" ∷
+    codes "session a 1 isn 100 peer 200 established given 2 delivered 0 open" ∷
+    codes "session b 1 isn 200 peer 100 established given 0 delivered 0 open" ∷ codes "segments 2 forgeries 0" ∷ [])
+unfolding digits encode_with sha1 digest_bytes hash_after compress rounds schedule first_words put2 put4 meant options_of find_ao keep sums complement_of pseudo header tcp_bytes checksum_of good spell first_fault fields reading with_right_checksum block_key hmac context context_of mac_input traffic_key mac choose follow judge ready arrive to_emit to_resend emit resend altered summary report adding withdrawn overlaps
+rows_added_and_withdrawn = refl
