@@ -10,9 +10,9 @@ use Rattle.line_model.specs.declared.text_fault.TextFault.{TextFault}
 use Rattle.line_model.specs.declared.text_fault.TextFault.TheVariants as fault
 use Rattle.narrow_script.specs.declared.script.Script.{Script}
 use Rattle.narrow_script.specs.Script.{script_of}
-use Rattle.ao_show.specs.declared.verified.Verified.{Verified}
-use Rattle.ao_show.specs.Show.{show_of}
-use Rattle.ao_show.specs.Verified.{vectors_of}
+use Rattle.format_model.specs.declared.verified.Verified.{Verified}
+use Rattle.format_model.specs.Show.{show_of}
+use Rattle.format_model.specs.Verified.{vectors_of}
 use Rattle.ao_run.specs.declared.command.Command.{Command}
 use Rattle.ao_run.specs.declared.command.Command.TheVariants.{Link, Show, Vectors}
 use Rattle.ao_run.specs.declared.stop.Output.{Output}

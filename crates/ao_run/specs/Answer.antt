@@ -6,9 +6,9 @@ use Rattle.ao_base.specs.declared.line_kind.LineKind.{LineKind}
 use Rattle.ao_base.specs.declared.line_kind.LineKind.TheVariants.{Word, Number, Hex, Range, Header, Shared}
 use Rattle.line_model.specs.declared.text_fault.TextFault.{TextFault}
 use Rattle.line_model.specs.declared.text_fault.TextFault.TheVariants.{Memory, TooManyLines, Line}
-use Rattle.ao_show.specs.declared.verified.Verified.{Verified}
-use Rattle.ao_show.specs.Show.{show_of}
-use Rattle.ao_show.specs.Verified.{vectors_of}
+use Rattle.format_model.specs.declared.verified.Verified.{Verified}
+use Rattle.format_model.specs.Show.{show_of}
+use Rattle.format_model.specs.Verified.{vectors_of}
 use Rattle.narrow_endpoint.specs.Verdicts.{Key}
 use Rattle.narrow_link.specs.Events.{Event}
 use Rattle.narrow_link.specs.Reports.{report}

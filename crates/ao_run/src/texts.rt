@@ -1,6 +1,6 @@
 //! The commands `show` and `vectors`.
-ghost use Rattle.ao_show.specs.Show.{show_of};
-ghost use Rattle.ao_show.specs.Verified.{vectors_of};
+ghost use Rattle.format_model.specs.Show.{show_of};
+ghost use Rattle.format_model.specs.Verified.{vectors_of};
 ghost use Rattle.ao_run.specs.Answer.{refused, shown, verified};
 ghost use Rattle.ao_run.specs.Stops.{Makes, Stopped};
 

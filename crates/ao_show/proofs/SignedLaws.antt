@@ -9,7 +9,7 @@ use Rattle.segment_model.specs.Options.{Ao, One, find_ao}
 use Rattle.segment_model.specs.Segments.{Segment, Read, reading, two_at, four_at}
 use Rattle.segment_model.specs.Spelling.{AreBytes}
 use Rattle.segment_model.proofs.ByteLaws.{front_list, in_front, put_two, put_four}
-use Rattle.ao_show.specs.Vectors.{signed_of}
+use Rattle.format_model.specs.Vectors.{signed_of}
 
 pub signed_so : (algorithm : Algorithm) (bytes : List ℕ) (d : Segment) (ao : Ao) → reading bytes ≡ Read d → find_ao d.area ≡ One ao → length ao.mac ≡ mac_length_of algorithm →
     signed_of algorithm bytes ≡ Some (record { segment = d; ao = ao })

@@ -10,9 +10,9 @@ use Rattle.line_model.specs.Words.{◌>>=◌}
 use Rattle.line_model.specs.Said.{Said, numbered, said_by}
 use Rattle.text_lines.specs.Readings.{Fails}
 use Rattle.ao_show.specs.Loops.{shown_from}
-use Rattle.ao_show.specs.Show.{bytes_of_line, shown_line}
+use Rattle.format_model.specs.Show.{bytes_of_line, shown_line}
 use Rattle.line_model.specs.Texts.{spaced}
-use Rattle.ao_show.specs.Texts.{option_text}
+use Rattle.format_model.specs.DatagramTexts.{option_text}
 use Rattle.text_lines.proofs.SaidLaws.{said_few, same_fault}
 
 pub one_more_option : (before after all : List ℕ) (o : Plain) (options rest : List Plain) → options ≡ o ∷ rest →

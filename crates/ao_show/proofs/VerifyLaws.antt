@@ -11,8 +11,8 @@ use Rattle.line_model.specs.Words.{◌>>=◌}
 use Rattle.line_model.specs.Said.{Said, numbered, said_by}
 use Rattle.text_lines.specs.Readings.{Fails}
 use Rattle.ao_show.specs.Loops.{Sums, sums_from}
-use Rattle.ao_show.specs.Vectors.{Vector, vector_of}
-use Rattle.ao_show.specs.Verified.{agrees, differs, verdict_line}
+use Rattle.format_model.specs.Vectors.{Vector, vector_of}
+use Rattle.format_model.specs.Verified.{agrees, differs, verdict_line}
 use Rattle.text_lines.proofs.SaidLaws.{said_few, same_fault}
 
 same_sums : (t u : List ℕ) (c d x y : ℕ) → t ≡ u → c ≡ d → x ≡ y → ◌≡◌ {A = Result Sums TextFault} (Ok (record { text = t; count = c; differing = x })) (Ok (record { text = u; count = d; differing = y }))

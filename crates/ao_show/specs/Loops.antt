@@ -4,9 +4,9 @@ use Rattle.std.specs.List.{flat_map}
 use Rattle.line_model.specs.declared.text_fault.TextFault.{TextFault}
 use Rattle.line_model.specs.Said.{Said}
 use Rattle.ao_show.specs.declared.verifying.Totals.{Totals}
-use Rattle.ao_show.specs.Show.{shown_line}
-use Rattle.ao_show.specs.Vectors.{Vector}
-use Rattle.ao_show.specs.Verified.{differs, verdict_line}
+use Rattle.format_model.specs.Show.{shown_line}
+use Rattle.format_model.specs.Vectors.{Vector}
+use Rattle.format_model.specs.Verified.{differs, verdict_line}
 
 -- the text so far, and then the lines that are said
 abbrev pub shown_from : List ℕ → Result (List (Said (List ℕ))) TextFault → Result (List ℕ) TextFault

@@ -6,7 +6,7 @@ use Rattle.segment_model.specs.Segments.{Segment}
 use Rattle.text_lines.specs.declared.refusal.Refusal.{Refusal}
 use Rattle.text_lines.specs.declared.refusal.Refusal.TheVariants as refusal
 use Rattle.ao_show.specs.declared.signed.SignedDatagram.{SignedDatagram}
-use Rattle.ao_show.specs.Vectors.{Making, Vector, mac_of_signed, signed_of}
+use Rattle.format_model.specs.Vectors.{Making, Vector, mac_of_signed, signed_of}
 
 -- a datagram that was found with its MAC
 pub record IsSigned (algorithm : Algorithm) (bytes : List ℕ) (s : SignedDatagram) : Type 0 where

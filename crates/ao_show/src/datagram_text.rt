@@ -6,8 +6,8 @@ ghost use Rattle.segment_model.specs.Options.{plains, listed, options_of};
 ghost use Rattle.segment_model.specs.Segments.{good, reading};
 ghost use Rattle.tcp_options.specs.Views.{view_opt};
 ghost use Rattle.line_model.specs.Texts.{socket_texts, spaced};
-ghost use Rattle.ao_show.specs.Texts.{checksum_text, datagram_texts, family_text, number_texts, option_text, options_texts, rest_texts};
-ghost use Rattle.ao_show.specs.Show.{reading_texts};
+ghost use Rattle.format_model.specs.DatagramTexts.{checksum_text, datagram_texts, family_text, number_texts, option_text, options_texts, rest_texts};
+ghost use Rattle.format_model.specs.Show.{reading_texts};
 
 use ao_base::{Address, push_decimal, push_hex};
 use std::alloc::{AllocError, Global};
@@ -100,7 +100,7 @@ fn push_rest(out: &mut Vec<u8>, datagram: &Datagram<'_>) -> Result<(), AllocErro
 }
 
 /// The fields of a datagram.
-#[tactic(auto, unfolding(crate::specs::Texts::datagram_texts))]
+#[tactic(auto, unfolding(format_model::specs::DatagramTexts::datagram_texts))]
 fn push_datagram(
     alloc: Global,
     out: &mut Vec<u8>,

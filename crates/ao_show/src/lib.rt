@@ -12,12 +12,11 @@ mod showing;
 mod signed;
 mod vector;
 mod vector_words;
-mod verified;
 mod verifying;
 
+pub use format_model::Verified;
 pub use line_model::TextFault as TextProblem;
 pub use showing::show;
-pub use verified::Verified;
 pub use verifying::vectors;
 
 #[cfg(test)]

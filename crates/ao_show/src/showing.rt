@@ -5,7 +5,7 @@ ghost use Rattle.line_model.specs.Lines.{most_lines};
 ghost use Rattle.line_model.specs.Said.{numbered, said_by};
 ghost use Rattle.text_lines.specs.Readings.{Answers, Tells};
 ghost use Rattle.ao_show.specs.Loops.{shown_after, shown_from};
-ghost use Rattle.ao_show.specs.Show.{bytes_of_line, show_of, shown_line};
+ghost use Rattle.format_model.specs.Show.{bytes_of_line, show_of, shown_line};
 
 use crate::datagram_text::push_reading;
 use ao_base::{Bytes, push_decimal};
@@ -13,7 +13,7 @@ use line_model::TextFault;
 use std::alloc::{AllocError, Global};
 use text_lines::{LineWords, Refusal, Saying, SayingLines, count_lines, push_newline};
 
-#[tactic(auto, unfolding(crate::specs::Show::bytes_of_line))]
+#[tactic(auto, unfolding(format_model::specs::Show::bytes_of_line))]
 fn line_bytes(alloc: Global, words: &mut LineWords) -> Result<Bytes, Refusal>
     ensures { Tells result (bytes_of_line words.old) }
 {
@@ -31,7 +31,7 @@ fn bytes_in(alloc: Global, mut line: Saying) -> Result<Bytes, TextFault>
     }
 }
 
-#[tactic(auto, unfolding(crate::specs::Show::shown_line))]
+#[tactic(auto, unfolding(format_model::specs::Show::shown_line))]
 fn push_shown(alloc: Global, out: &mut Vec<u8>, number: u32, bytes: &[u8]) -> Result<(), AllocError>
     ensures { OnOk result (out.new.items ≡ out.old.items ++ shown_line (record { number = number; value = bytes.now })) }
 {
@@ -60,7 +60,7 @@ fn push_lines(alloc: Global, out: &mut Vec<u8>, lines: &mut SayingLines) -> Resu
 /// `Ok` exactly where each line that says something is hexadecimal. `TooManyLines` exactly where the
 /// text has more than 20,000 lines; else `Line` is the first faulty line, counted from 1 among all
 /// lines, with the kind of its first faulty word. `Memory` only for want of memory.
-#[tactic(auto, unfolding(crate::specs::Show::show_of, line_model::specs::Said::said_in))]
+#[tactic(auto, unfolding(format_model::specs::Show::show_of, line_model::specs::Said::said_in))]
 pub fn show(alloc: Global, text: &[u8]) -> Result<Bytes, TextFault>
     ensures text { Answers result (show_of text.now) }
     ensures too_many { IsErrOf result TextFault.TooManyLines ↔ (most_lines < length (lines_of text.now)) }

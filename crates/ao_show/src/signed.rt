@@ -3,7 +3,7 @@ ghost use Rattle.std.specs.Prelude.{◌≡◌, ◌≤◌, ℕ, List, length, Som
 ghost use Rattle.segment_model.specs.Options.{Ao, One, find_ao};
 ghost use Rattle.ao_mac.specs.Macs.{HasAo};
 ghost use Rattle.ao_show.specs.Signed.{IsMade, IsSigned};
-ghost use Rattle.ao_show.specs.Vectors.{signed_of};
+ghost use Rattle.format_model.specs.Vectors.{signed_of};
 
 use crate::keys::key_of;
 use ao_base::Algorithm;
@@ -32,7 +32,7 @@ pub(crate) struct Making {
 }
 
 impl Model for Making {
-    ghost use Rattle.ao_show.specs.Vectors.{Making as Made};
+    ghost use Rattle.format_model.specs.Vectors.{Making as Made};
 
     ghost Value = { Made };
 
@@ -47,7 +47,7 @@ impl Model for Making {
 
 /// The datagram that a prefix of the bytes is, where it has one TCP-AO option with a MAC of the
 /// algorithm's length and none of TCP MD5.
-#[tactic(auto, unfolding(crate::specs::Vectors::signed_of))]
+#[tactic(auto, unfolding(format_model::specs::Vectors::signed_of))]
 pub(crate) fn signed(algorithm: Algorithm, bytes: &[u8]) -> Option<SignedDatagram<'_>>
     ensures { MatchOption result (signed_of algorithm bytes.now ≡ None) (λ s. IsSigned algorithm bytes.now s) }
 {

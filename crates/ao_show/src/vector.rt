@@ -7,7 +7,7 @@ ghost use Rattle.mac_model.specs.Hmac.{hmac};
 ghost use Rattle.ao_mac.specs.Macs.{HasAo};
 ghost use Rattle.text_lines.specs.Readings.{Tells, gives};
 ghost use Rattle.ao_show.specs.Signed.{IsMadeVector};
-ghost use Rattle.ao_show.specs.Vectors.{aes_vector, cmac_vector, hmac256_vector, hmac_vector, kdf_vector, keyed_of, making_in, prf_vector, segment_vector, vector_named, vector_of};
+ghost use Rattle.format_model.specs.Vectors.{aes_vector, cmac_vector, hmac256_vector, hmac_vector, kdf_vector, keyed_of, making_in, prf_vector, segment_vector, vector_named, vector_of};
 
 use crate::keys::{key_of, read_context};
 use crate::signed::{Making, SignedDatagram, mac_of, signed};
@@ -27,7 +27,7 @@ pub(crate) struct Vector {
 }
 
 impl Model for Vector {
-    ghost use Rattle.ao_show.specs.Vectors.{Vector as Two};
+    ghost use Rattle.format_model.specs.Vectors.{Vector as Two};
 
     ghost Value = { Two };
 
@@ -52,7 +52,7 @@ struct Keyed {
 }
 
 impl Model for Keyed {
-    ghost use Rattle.ao_show.specs.Vectors.{Keyed as Three};
+    ghost use Rattle.format_model.specs.Vectors.{Keyed as Three};
 
     ghost Value = { Three };
 
@@ -60,7 +60,7 @@ impl Model for Keyed {
 }
 
 impl Keyed {
-    #[tactic(auto, unfolding(crate::specs::Vectors::keyed_of))]
+    #[tactic(auto, unfolding(format_model::specs::Vectors::keyed_of))]
     fn read(alloc: Global, words: &mut LineWords) -> Result<Keyed, Refusal>
         ensures { Tells result (keyed_of words.old) }
     {
@@ -106,7 +106,7 @@ fn aes_of(key: &[u8; 16], block: &[u8; 16]) -> [u8; 16]
     Aes128::new(key).encrypt(block)
 }
 
-#[tactic(auto, unfolding(crate::specs::Vectors::hmac_vector))]
+#[tactic(auto, unfolding(format_model::specs::Vectors::hmac_vector))]
 fn hmac_vector(alloc: Global, words: &mut LineWords) -> Result<Vector, Refusal>
     ensures { Tells result (hmac_vector words.old) }
 {
@@ -115,7 +115,7 @@ fn hmac_vector(alloc: Global, words: &mut LineWords) -> Result<Vector, Refusal>
     Vector::new(alloc, &computed, keyed.expected)
 }
 
-#[tactic(auto, unfolding(crate::specs::Vectors::hmac256_vector))]
+#[tactic(auto, unfolding(format_model::specs::Vectors::hmac256_vector))]
 fn hmac256_vector(alloc: Global, words: &mut LineWords) -> Result<Vector, Refusal>
     ensures { Tells result (hmac256_vector words.old) }
 {
@@ -124,7 +124,7 @@ fn hmac256_vector(alloc: Global, words: &mut LineWords) -> Result<Vector, Refusa
     Vector::new(alloc, &computed, keyed.expected)
 }
 
-#[tactic(auto, unfolding(crate::specs::Vectors::prf_vector))]
+#[tactic(auto, unfolding(format_model::specs::Vectors::prf_vector))]
 fn prf_vector(alloc: Global, words: &mut LineWords) -> Result<Vector, Refusal>
     ensures { Tells result (prf_vector words.old) }
 {
@@ -133,7 +133,7 @@ fn prf_vector(alloc: Global, words: &mut LineWords) -> Result<Vector, Refusal>
     Vector::new(alloc, &computed, keyed.expected)
 }
 
-#[tactic(auto, unfolding(crate::specs::Vectors::cmac_vector))]
+#[tactic(auto, unfolding(format_model::specs::Vectors::cmac_vector))]
 fn cmac_vector(alloc: Global, words: &mut LineWords) -> Result<Vector, Refusal>
     ensures { Tells result (cmac_vector words.old) }
 {
@@ -144,7 +144,7 @@ fn cmac_vector(alloc: Global, words: &mut LineWords) -> Result<Vector, Refusal>
     Vector::new(alloc, &cmac_of(&key, message.as_slice()), expected)
 }
 
-#[tactic(auto, unfolding(crate::specs::Vectors::aes_vector))]
+#[tactic(auto, unfolding(format_model::specs::Vectors::aes_vector))]
 fn aes_vector(alloc: Global, words: &mut LineWords) -> Result<Vector, Refusal>
     ensures { Tells result (aes_vector words.old) }
 {
@@ -155,7 +155,7 @@ fn aes_vector(alloc: Global, words: &mut LineWords) -> Result<Vector, Refusal>
     Vector::new(alloc, &aes_of(&key, &plain), expected)
 }
 
-#[tactic(auto, unfolding(crate::specs::Vectors::kdf_vector))]
+#[tactic(auto, unfolding(format_model::specs::Vectors::kdf_vector))]
 fn kdf_vector(alloc: Global, words: &mut LineWords) -> Result<Vector, Refusal>
     ensures { Tells result (kdf_vector words.old) }
 {
@@ -185,7 +185,7 @@ fn vector_made(
     Vector::new(alloc, made.as_slice(), expected)
 }
 
-#[tactic(auto, unfolding(crate::specs::Vectors::making_in))]
+#[tactic(auto, unfolding(format_model::specs::Vectors::making_in))]
 fn making(words: &mut LineWords, algorithm: Algorithm) -> Result<Making, LineKind>
     ensures { gives result words.new ≡ making_in algorithm words.old }
 {
@@ -202,7 +202,7 @@ fn making(words: &mut LineWords, algorithm: Algorithm) -> Result<Making, LineKin
     })
 }
 
-#[tactic(auto, unfolding(crate::specs::Vectors::segment_vector))]
+#[tactic(auto, unfolding(format_model::specs::Vectors::segment_vector))]
 fn segment_vector(alloc: Global, words: &mut LineWords) -> Result<Vector, Refusal>
     ensures { Tells result (segment_vector words.old) }
 {
@@ -217,7 +217,7 @@ fn segment_vector(alloc: Global, words: &mut LineWords) -> Result<Vector, Refusa
     vector_made(alloc, master.as_slice(), &making, &signed)
 }
 
-#[tactic(auto, unfolding(crate::specs::Vectors::vector_named))]
+#[tactic(auto, unfolding(format_model::specs::Vectors::vector_named))]
 fn vector_named(alloc: Global, name: &[u8], words: &mut LineWords) -> Result<Vector, Refusal>
     ensures { Tells result (vector_named name.now words.old) }
 {
@@ -241,7 +241,7 @@ fn vector_named(alloc: Global, name: &[u8], words: &mut LineWords) -> Result<Vec
 }
 
 /// The vector that a line says.
-#[tactic(auto, unfolding(crate::specs::Vectors::vector_of))]
+#[tactic(auto, unfolding(format_model::specs::Vectors::vector_of))]
 pub(crate) fn read_vector(alloc: Global, words: &mut LineWords) -> Result<Vector, Refusal>
     ensures { Tells result (vector_of words.old) }
 {

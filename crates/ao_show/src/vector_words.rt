@@ -2,7 +2,7 @@
 ghost use Rattle.std.specs.Prelude.{◌≡◌, ◌⊎◌, length, IfOk};
 ghost use Rattle.line_model.specs.Words.{sized_hex_in};
 ghost use Rattle.text_lines.specs.Readings.{gives, Tells};
-ghost use Rattle.ao_show.specs.VectorWords.{message_in, context_in, covering_in};
+ghost use Rattle.format_model.specs.VectorWords.{message_in, context_in, covering_in};
 
 use crate::array::array_of;
 use ao_base::{Bytes, LineKind};
@@ -18,7 +18,7 @@ pub(crate) fn block(alloc: Global, words: &mut LineWords) -> Result<[u8; 16], Re
 }
 
 /// A message in hexadecimal, or `-` for the empty one.
-#[tactic(auto, unfolding(crate::specs::VectorWords::message_in, line_model::specs::Words::word_in, line_model::specs::Words::hex_in))]
+#[tactic(auto, unfolding(format_model::specs::VectorWords::message_in, line_model::specs::Words::word_in, line_model::specs::Words::hex_in))]
 pub(crate) fn message(alloc: Global, words: &mut LineWords) -> Result<Bytes, Refusal>
     ensures { Tells (gives result words.new) (message_in words.old) }
 {
@@ -31,7 +31,7 @@ pub(crate) fn message(alloc: Global, words: &mut LineWords) -> Result<Bytes, Ref
 }
 
 /// The bytes of a context in hexadecimal.
-#[tactic(auto, unfolding(crate::specs::VectorWords::context_in))]
+#[tactic(auto, unfolding(format_model::specs::VectorWords::context_in))]
 pub(crate) fn context(alloc: Global, words: &mut LineWords) -> Result<Bytes, Refusal>
     ensures read { Tells (gives result words.new) (context_in words.old) }
     ensures length { IfOk result (λ bytes. (length bytes ≡ 20) ⊎ (length bytes ≡ 44)) }

@@ -6,12 +6,12 @@ ghost use Rattle.line_model.specs.Said.{numbered, said_by};
 ghost use Rattle.line_model.specs.Texts.{spaced};
 ghost use Rattle.text_lines.specs.Readings.{Answers};
 ghost use Rattle.ao_show.specs.Loops.{no_sums, sums_after, sums_from};
-ghost use Rattle.ao_show.specs.Vectors.{vector_of};
-ghost use Rattle.ao_show.specs.Verified.{agrees, totals_line, vectors_of, verdict_line, verdict_texts};
+ghost use Rattle.format_model.specs.Vectors.{vector_of};
+ghost use Rattle.format_model.specs.Verified.{agrees, totals_line, vectors_of, verdict_line, verdict_texts};
 
 use crate::vector::{Vector, read_vector};
-use crate::verified::Verified;
 use ao_base::{Bytes, push_decimal};
+use format_model::Verified;
 use line_model::TextFault;
 use std::alloc::{AllocError, Global};
 use text_lines::{
@@ -51,7 +51,7 @@ fn push_verdict(out: &mut Vec<u8>, vector: &Vector) -> Result<(), AllocError>
     }
 }
 
-#[tactic(auto, unfolding(crate::specs::Verified::verdict_line))]
+#[tactic(auto, unfolding(format_model::specs::Verified::verdict_line))]
 fn push_line(out: &mut Vec<u8>, number: u32, vector: &Vector) -> Result<(), AllocError>
     ensures { OnOk result (out.new.items ≡ out.old.items ++ verdict_line (record { number = number; value = vector.now })) }
 {
@@ -119,7 +119,7 @@ fn one_more(totals: Totals, vector: &Vector) -> Totals
 /// `Ok` exactly where the text is in the grammar. `TooManyLines` exactly where it has more than
 /// 20,000 lines; else `Line` is the first faulty line, counted from 1 among all lines, with the kind
 /// of its first faulty word. `Memory` only for want of memory.
-#[tactic(auto, unfolding(crate::specs::Verified::vectors_of, line_model::specs::Said::said_in))]
+#[tactic(auto, unfolding(format_model::specs::Verified::vectors_of, line_model::specs::Said::said_in))]
 pub fn vectors(alloc: Global, text: &[u8]) -> Result<Verified, TextFault>
     ensures text { Answers result (vectors_of text.now) }
     ensures too_many { IsErrOf result TextFault.TooManyLines ↔ (most_lines < length (lines_of text.now)) }

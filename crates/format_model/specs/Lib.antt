@@ -1,10 +1,16 @@
+pub mod Answers
 pub mod BgpRuns
 pub mod Captures
 pub mod Commands
+pub mod DatagramTexts
 pub mod KeyTexts
 pub mod LinkEvents
 pub mod LinkFiles
 pub mod LintTexts
 pub mod NodeRuns
+pub mod Show
 pub mod StoredLines
 pub mod TimedRuns
+pub mod VectorWords
+pub mod Vectors
+pub mod Verified

@@ -7,8 +7,10 @@ mod command;
 mod node;
 mod script;
 mod timed;
+mod verified;
 
 pub use command::{Command, Plan};
 pub use node::{Act, NodeEvent, NodeEvents, NodeScript};
 pub use script::{Script, SharedKey};
 pub use timed::{TimedEvent, TimedEvents, TimedScript};
+pub use verified::Verified;

@@ -1,6 +1,6 @@
 use Rattle.std.proofs.Common.{◌≡◌, ◌++◌, map}
 use Rattle.line_model.specs.Texts.{spaced}
-use Rattle.ao_show.specs.Texts.{option_text}
+use Rattle.format_model.specs.DatagramTexts.{option_text}
 use Rattle.ao_show.proofs.datagram_text.push_others.Given as goal
 
 abbrev pub invariant-loop-option : goal.invariant-loop-option

@@ -1,7 +1,7 @@
 use Rattle.std.proofs.lemmas.Result.{err_from_is_err_and}
 use Rattle.line_model.specs.Said.{said_by}
 use Rattle.ao_show.specs.Loops.{shown_from}
-use Rattle.ao_show.specs.Show.{bytes_of_line}
+use Rattle.format_model.specs.Show.{bytes_of_line}
 use Rattle.ao_show.proofs.TextLaws.{line_refused, line_shown, lines_shown}
 use Rattle.ao_show.proofs.showing.push_lines.Goals as goal
 

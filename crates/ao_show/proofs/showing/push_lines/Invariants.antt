@@ -1,7 +1,7 @@
 use Rattle.std.proofs.Common.{◌≡◌, length}
 use Rattle.line_model.specs.Said.{said_by}
 use Rattle.ao_show.specs.Loops.{shown_from}
-use Rattle.ao_show.specs.Show.{bytes_of_line}
+use Rattle.format_model.specs.Show.{bytes_of_line}
 use Rattle.ao_show.proofs.showing.push_lines.Given as goal
 
 abbrev pub invariant-loop-line : goal.invariant-loop-line

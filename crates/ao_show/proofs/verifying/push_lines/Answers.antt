@@ -1,7 +1,7 @@
 use Rattle.std.proofs.Common.{arith, ap, length}
 use Rattle.std.proofs.lemmas.Result.{err_from_is_err_and}
 use Rattle.line_model.specs.Said.{said_by}
-use Rattle.ao_show.specs.Vectors.{vector_of}
+use Rattle.format_model.specs.Vectors.{vector_of}
 use Rattle.ao_show.specs.Loops.{no_sums, sums_from}
 use Rattle.ao_show.proofs.VerifyLaws.{vector_refused, vector_summed, vectors_summed}
 use Rattle.ao_show.proofs.verifying.push_lines.Goals as goal

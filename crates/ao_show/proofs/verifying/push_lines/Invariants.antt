@@ -1,6 +1,6 @@
 use Rattle.std.proofs.Common.{◌≡◌, ◌+◌, ◌≤◌, length}
 use Rattle.line_model.specs.Said.{said_by}
-use Rattle.ao_show.specs.Vectors.{vector_of}
+use Rattle.format_model.specs.Vectors.{vector_of}
 use Rattle.ao_show.specs.Loops.{no_sums, sums_from}
 use Rattle.ao_show.proofs.verifying.push_lines.Given as goal
 

@@ -7,8 +7,8 @@ use Rattle.line_model.specs.declared.text_fault.TextFault.{TextFault}
 use Rattle.line_model.specs.Said.{Said, said_in}
 use Rattle.line_model.specs.Texts.{line_text, numbered_text}
 use Rattle.line_model.specs.Words.{◌>>=◌}
-use Rattle.ao_show.specs.declared.verified.Verified.{Verified}
-use Rattle.ao_show.specs.Vectors.{Vector, vector_of}
+use Rattle.format_model.specs.declared.verified.Verified.{Verified}
+use Rattle.format_model.specs.Vectors.{Vector, vector_of}
 
 -- what is computed is what the line says
 abbrev pub agrees : Vector → Bool

@@ -8,7 +8,7 @@ use Rattle.line_model.specs.declared.text_fault.TextFault.{TextFault}
 use Rattle.line_model.specs.Said.{Said, said_in}
 use Rattle.line_model.specs.Texts.{numbered_text}
 use Rattle.line_model.specs.Words.{◌>>=◌, hex_in, nothing_in}
-use Rattle.ao_show.specs.Texts.{datagram_texts}
+use Rattle.format_model.specs.DatagramTexts.{datagram_texts}
 
 -- a line is bytes in hexadecimal
 unfoldable pub bytes_of_line : List (List ℕ) → Result (List ℕ) LineKind

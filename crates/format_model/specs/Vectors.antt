@@ -16,7 +16,7 @@ use Rattle.mac_model.specs.Hmac.{hmac}
 use Rattle.mac_model.specs.Keys.{mac, traffic_key}
 use Rattle.mac_model.specs.MacInput.{mac_input}
 use Rattle.line_model.specs.Words.{◌>>=◌, Taken, or_fault, word_in, nothing_in, hex_in, sized_hex_in, number_in, algorithm_in}
-use Rattle.ao_show.specs.VectorWords.{message_in, context_in, covering_in}
+use Rattle.format_model.specs.VectorWords.{message_in, context_in, covering_in}
 
 -- a test vector: what is computed, and what its line says
 pub record Vector : Type 0 where

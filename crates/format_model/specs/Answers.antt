@@ -1,0 +1,220 @@
+-- What the program answers to its words, to what its key file gives and to what standard input gives. Our own format. It is to be read from its end: `answer` stands last.
+use Rattle.std.specs.Prelude.{ℕ, ◌==◌, nat_lt, Bool, true, false, not, ◌&&◌, ◌||◌, List, [], ◌∷◌, length, map, codes, decimal, Option, Some, None, option_map, Result, Ok, Err, if◌then◌else◌}
+use Rattle.ao_base.specs.declared.address.Pair.{Pair}
+use Rattle.key_model.specs.declared.fault.TableFault.{TableFault}
+use Rattle.key_model.specs.Nodes.{tables_of}
+use Rattle.key_model.specs.Plans.{rows_at}
+use Rattle.key_model.specs.Rows.{Table}
+use Rattle.key_model.specs.Shared.{shared_tables}
+use Rattle.line_model.specs.declared.text_fault.TextFault.{TextFault}
+use Rattle.line_model.specs.declared.text_fault.TextFault.TheVariants.{Line}
+use Rattle.line_model.specs.Faults.{fault_text}
+use Rattle.line_model.specs.Said.{Said, said_in}
+use Rattle.line_model.specs.Texts.{line_text}
+use Rattle.wire_model.specs.declared.pcap_head.HeadFault.{HeadFault}
+use Rattle.wire_model.specs.declared.pcap_head.HeadFault.TheVariants as head_fault
+use Rattle.wire_model.specs.Packets.{Packet, Packets, FileFault, BadHead, BadRecord, packets_of}
+use Rattle.link_model.specs.declared.event.Event.{Event}
+use Rattle.link_model.specs.Reports.{report, summary}
+use Rattle.link_model.specs.Runs.{run}
+use Rattle.link_model.specs.Storm.{storm_setup, storm_events}
+use Rattle.link_model.specs.Worlds.{Setup, World, forgeries, setup_of}
+use Rattle.format_model.specs.declared.command.Command.{Command}
+use Rattle.format_model.specs.declared.command.Command.TheVariants as command
+use Rattle.format_model.specs.declared.command.Plan.{Plan}
+use Rattle.format_model.specs.declared.node.NodeScript.{NodeScript}
+use Rattle.format_model.specs.declared.script.Script.{Script}
+use Rattle.format_model.specs.declared.script.SharedKey.{SharedKey}
+use Rattle.format_model.specs.declared.timed.TimedScript.{TimedScript}
+use Rattle.format_model.specs.declared.verified.Verified.{Verified}
+use Rattle.format_model.specs.BgpRuns.{bgp_text, bgp_faults}
+use Rattle.format_model.specs.Captures.{Stored, capture_run, has_refusal}
+use Rattle.format_model.specs.Commands.{command_of, reads_keys, reads_input, usage}
+use Rattle.format_model.specs.KeyTexts.{keys_text, table_fault_line}
+use Rattle.format_model.specs.LinkFiles.{script_of}
+use Rattle.format_model.specs.LintTexts.{connection_of, has_misfit, lint_text}
+use Rattle.format_model.specs.NodeRuns.{node_script_of, node_text}
+use Rattle.format_model.specs.Show.{show_of}
+use Rattle.format_model.specs.StoredLines.{LineFault, StoredInput, stored_input}
+use Rattle.format_model.specs.TimedRuns.{expand, timed_script_of}
+use Rattle.format_model.specs.Verified.{vectors_of}
+
+-- the status, the bytes for standard output, and the text for standard error
+pub record Answer : Type 0 where
+  pub status : ℕ
+  pub output : List ℕ
+  pub text : List ℕ
+
+-- the text where a read failed; the status is 5
+abbrev pub read_fault : List ℕ
+read_fault = codes "read fault\n"
+
+-- the text where a write failed; the status is 6
+abbrev pub write_fault : List ℕ
+write_fault = codes "write fault\n"
+
+-- the text where memory ran out; the status is 7
+abbrev pub memory : List ℕ
+memory = codes "memory\n"
+
+-- the text where a key file has more bytes than one may have
+abbrev pub keys_too_long : List ℕ
+keys_too_long = codes "keys: too long\n"
+
+-- the text where an input has more bytes than one may have
+abbrev pub too_long : List ℕ
+too_long = codes "input: too long\n"
+
+-- the text where the plain run of a link with timers has more events than one may have
+abbrev pub too_many_events : List ℕ
+too_many_events = codes "input: too many events\n"
+
+-- the word for the fault of a pcap file's header (pcap-savefile)
+abbrev pub head_fault_text : HeadFault → List ℕ
+head_fault_text head_fault.Short = codes "short"
+head_fault_text head_fault.Magic = codes "magic"
+head_fault_text head_fault.Version = codes "version"
+head_fault_text head_fault.LinkType = codes "link-type"
+
+-- the line of the fault of a pcap file
+abbrev pub pcap_fault_line : FileFault → List ℕ
+pcap_fault_line (BadHead fault) = line_text (codes "input: pcap" ∷ head_fault_text fault ∷ [])
+pcap_fault_line (BadRecord n) = line_text (codes "input: pcap record" ∷ decimal n ∷ [])
+
+-- no output, and a text for standard error
+abbrev pub refuse : ℕ → List ℕ → Answer
+refuse status text = record { status = status; output = []; text = text }
+
+-- the whole output; the status says whether something in it is amiss
+abbrev pub done : Bool → List ℕ → Answer
+done amiss output = record { status = if amiss then 1 else 0; output = output; text = [] }
+
+-- what is made of an input that is read; one that isn't is refused
+abbrev pub if_read : {A : Type 0} → (A → Answer) → Result A TextFault → Answer
+if_read made (Ok x) = made x
+if_read made (Err fault) = refuse 4 (fault_text fault)
+
+-- a forgery is counted
+abbrev pub has_forgery : World → Bool
+has_forgery w = not (forgeries w.history == 0)
+
+-- the report of a run
+abbrev pub reported : Setup → List Event → Answer
+reported setup events = done (has_forgery (run setup events)) (report setup events)
+
+-- `link KEYS`: the run of a script over the tables
+abbrev pub linked : List Table → Script → Answer
+linked tables s = reported (setup_of tables s.a s.b) s.events
+
+-- a table for each end of a script, with the key that both share
+abbrev pub shared_by : Script → Option SharedKey → List Table
+shared_by s (Some key) = shared_tables s.a.address s.b.address key.alg key.master
+shared_by s None = []
+
+-- `link`: the run of a script that names its shared key
+abbrev pub linked_by_shared : Script → Answer
+linked_by_shared s = linked (shared_by s s.shared) s
+
+-- a link file's run, read as BGP messages: a forgery is amiss, and a faulty message (RFC 4271, section 6.1)
+abbrev pub spoken : Setup → List Event → Answer
+spoken setup events = let w = run setup events in done (has_forgery w || not (bgp_faults w == 0)) (bgp_text setup events)
+
+-- `bgp KEYS`: the messages of a script's run over the tables
+abbrev pub bgp_over : List Table → Script → Answer
+bgp_over tables s = spoken (setup_of tables s.a s.b) s.events
+
+-- the most events of the plain run of a link with timers
+abbrev pub most_events : ℕ
+most_events = 20000
+
+-- the report of the plain run, unless it has too many events
+abbrev pub timed_reported : Setup → List Event → Answer
+timed_reported setup events = if nat_lt most_events (length events) then refuse 4 too_many_events else reported setup events
+
+-- `timed KEYS`: the plain run of a script with waits over the tables (RFC 6298, section 5)
+abbrev pub timed_over : List Table → TimedScript → Answer
+timed_over tables s = let setup = setup_of tables s.a s.b in timed_reported setup (expand setup s.events).events
+
+-- `node KEYS`: the run of a node's script over the node's table
+abbrev pub node_over : List Table → NodeScript → Answer
+node_over tables s = done false (node_text (rows_at tables s.address) s.events)
+
+-- `storm SEED COUNT`: the summary of a run made from a number
+abbrev pub stormed : List Event → Answer
+stormed events = let w = run storm_setup events in done (has_forgery w) (summary w)
+
+-- stored segments up to the first fault of an input, with the text of that fault: the lines of those before it are written
+abbrev pub judged : List Table → List Stored → Option (List ℕ) → Answer
+judged tables stored None = done (has_refusal tables stored) (capture_run tables stored)
+judged tables stored (Some text) = record { status = 4; output = capture_run tables stored; text = text }
+
+-- the line of a faulty line of stored segments
+abbrev pub line_fault_line : LineFault → List ℕ
+line_fault_line fault = fault_text (Line fault.number fault.kind)
+
+-- `check KEYS`: the segments of lines
+abbrev pub lines_checked : List Table → StoredInput → Answer
+lines_checked tables input = judged tables input.stored (option_map line_fault_line input.fault)
+
+-- a packet's datagram as a stored segment
+abbrev pub stored_packet : Packet → Stored
+stored_packet p = record { number = p.number; time = p.seconds; bytes = p.datagram }
+
+-- `check --pcap KEYS`: the segments of a pcap file
+abbrev pub packets_checked : List Table → Packets → Answer
+packets_checked tables packets = judged tables (map stored_packet packets.list) (option_map pcap_fault_line packets.fault)
+
+-- `vectors`: a vector that differs is amiss
+abbrev pub verified : Verified → Answer
+verified v = done (not (v.differing == 0)) v.text
+
+-- `lint KEYS LEAD LAG FROM TO`: a connection that isn't aligned is amiss
+abbrev pub linted : List Table → Plan → List (Said Pair) → Answer
+linted tables plan connections = done (has_misfit tables plan connections) (lint_text tables plan connections)
+
+-- the answer of a command over tables to an input within its limit
+abbrev pub answer_over : Command → List Table → List ℕ → Answer
+answer_over command.Link tables input = if_read linked_by_shared (script_of false input)
+answer_over command.LinkKeys tables input = if_read (linked tables) (script_of true input)
+answer_over command.Check tables input = lines_checked tables (stored_input input)
+answer_over command.CheckPcap tables input = packets_checked tables (packets_of input)
+answer_over command.Show tables input = if_read (done false) (show_of input)
+answer_over command.Vectors tables input = if_read verified (vectors_of input)
+answer_over (command.Keys time) tables input = done false (keys_text time tables)
+answer_over (command.Lint plan) tables input = if_read (linted tables plan) (said_in connection_of input)
+answer_over (command.Storm seed count) tables input = stormed (storm_events seed count)
+answer_over command.Bgp tables input = if_read (bgp_over tables) (script_of true input)
+answer_over command.Timed tables input = if_read (timed_over tables) (timed_script_of input)
+answer_over command.Node tables input = if_read (node_over tables) (node_script_of input)
+
+-- the most bytes of a key file
+abbrev pub most_keys : ℕ
+most_keys = 1048576
+
+-- the most bytes of a command's input
+abbrev pub most_input : Command → ℕ
+most_input command.Check = 268435456
+most_input command.CheckPcap = 268435456
+most_input _ = 33554432
+
+-- the answer of a command over tables; an input past its limit is refused
+abbrev pub answer_within : Command → List Table → List ℕ → Answer
+answer_within c tables input = if reads_input c && nat_lt (most_input c) (length input) then refuse 4 too_long else answer_over c tables input
+
+-- the answer of a command over the tables of a key file; one with a fault is refused, and the input isn't looked at
+abbrev pub answer_by : Command → List ℕ → Result (List Table) TableFault → Answer
+answer_by c input (Ok tables) = answer_within c tables input
+answer_by c input (Err fault) = refuse 3 (table_fault_line fault)
+
+-- the answer of a command that reads a key file; one past its limit is refused
+abbrev pub answer_with_keys : Command → List ℕ → List ℕ → Answer
+answer_with_keys c keys input = if nat_lt most_keys (length keys) then refuse 3 keys_too_long else answer_by c input (tables_of keys)
+
+-- the answer of a command, or of words that name none
+abbrev pub answer_of : Option Command → List ℕ → List ℕ → Answer
+answer_of None keys input = refuse 2 usage
+answer_of (Some c) keys input = if reads_keys c then answer_with_keys c keys input else answer_within c [] input
+
+-- the answer to the words, to the bytes of the key file and to those of standard input: status, output, and text for standard error
+unfoldable pub answer : List (List ℕ) → List ℕ → List ℕ → Answer
+answer words keys input = answer_of (command_of words) keys input
