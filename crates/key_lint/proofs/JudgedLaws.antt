@@ -1,0 +1,55 @@
+-- What a judgement makes of a row that isn't met, and of lifetimes that leave a time free.
+use Rattle.std.proofs.Common.{◌≡◌, ◌↔◌, ℕ, ◌≤◌, ◌<◌, Bool, true, false, not, List, [], ◌∷◌, ◌++◌, length, drop, Option, Some, None, refl, sym, ap, ◌∙◌, if◌then◌else◌}
+use Rattle.std.proofs.lemmas.List.{append-nil, drop_all}
+use Rattle.std.specs.Prelude.{option_map, IfSome, IfNone}
+use Rattle.ao_base.specs.declared.address.Pair.{Pair}
+use Rattle.ao_base.specs.declared.end.End.{End}
+use Rattle.key_model.specs.declared.lifetime.Lifetime.{Lifetime}
+use Rattle.key_model.specs.declared.lint.LintAnswer.{LintAnswer}
+use Rattle.key_model.specs.declared.lint.LintAnswer.TheVariants as answer
+use Rattle.key_model.specs.Lifetimes.{is_covered, IsFirstGap}
+use Rattle.key_model.specs.Plans.{mirrored, Aligned, AlignedFrom, Reason, NoPeerRow, ShortAccept, misaligned_by, misaligned_answer, send_lifetimes, has_sendable, gap, IsGap, lint_rows}
+use Rattle.key_model.specs.Rows.{Row}
+use Rattle.key_model.proofs.GapLaws.{covered_is_sendable, gap_exactly, is_gap, lint_aligned}
+
+-- the answer for a row, by whether it sends, is accepted, and is accepted throughout
+abbrev answer_by : End → ℕ → Bool → Bool → Bool → Option LintAnswer
+answer_by end n sends accepted throughout =
+    option_map misaligned_answer (option_map (misaligned_by end n) (if not sends then None else (if not accepted then Some NoPeerRow else (if not throughout then Some ShortAccept else None))))
+
+pub no_peer : (end : End) (n : ℕ) (a b c : Bool) → a ≡ true → b ≡ false → Some (answer.NoPeerRow end n) ≡ answer_by end n a b c
+no_peer end n true false c e f = refl
+no_peer end n false b c e f = absurd (cc)
+no_peer end n true true c e f = absurd (cc)
+
+pub short_accept : (end : End) (n : ℕ) (a b c : Bool) → a ≡ true → b ≡ true → c ≡ false → Some (answer.ShortAccept end n) ≡ answer_by end n a b c
+short_accept end n true true false e f g = refl
+short_accept end n false b c e f g = absurd (cc)
+short_accept end n true false c e f g = absurd (cc)
+short_accept end n true true true e f g = absurd (cc)
+
+-- once all rows are read, the lifetimes that were kept are all
+pub all_kept : (kept : List Lifetime) (rows : List Row) (i : ℕ) (pair : Pair) → length rows ≤ i → kept ++ send_lifetimes (drop i rows) pair ≡ send_lifetimes rows pair → kept ≡ send_lifetimes rows pair
+all_kept kept rows i pair past so_far = sym (append-nil kept) ∙ (rw (drop_all i rows past) at so_far)
+
+-- the first time that the lifetimes leave free is the gap
+pub gap_told : (ls : List Lifetime) (rows : List Row) (pair : Pair) (low high : ℕ) (o : Option ℕ) → ls ≡ send_lifetimes rows pair
+    → IfSome o (IsFirstGap ls low high) → IfNone o ((t : ℕ) → low ≤ t → t ≤ high → is_covered ls t ≡ true) → o ≡ gap rows pair low high
+gap_told ls rows pair low high o same some none = sym (is_gap rows pair low high o (told o some none))
+  where
+    sendable_at : (t : ℕ) (b : Bool) → is_covered ls t ≡ b → has_sendable rows pair t ≡ b
+    sendable_at t b e = sym (covered_is_sendable rows pair t) ∙ sym (ap (λ l. is_covered l t) same) ∙ e
+
+    told : (o : Option ℕ) → IfSome o (IsFirstGap ls low high) → IfNone o ((t : ℕ) → low ≤ t → t ≤ high → is_covered ls t ≡ true) → IsGap rows pair low high o
+    told None some none = λ t a b. sendable_at t true (none t a b)
+    told (Some time) first none = (first.above, first.below, sendable_at time false first.free, λ t a b. sendable_at t true (first.least t a b))
+
+pub aligned_exactly : (a b : List Row) (pair : Pair) (lead lag low high : ℕ) → (lint_rows a b pair lead lag low high ≡ answer.Aligned)
+    ↔ (AlignedFrom a b pair lead lag × AlignedFrom b a (mirrored pair) lead lag × IsGap a pair low high None × IsGap b (mirrored pair) low high None)
+aligned_exactly a b pair lead lag low high =
+    let law = lint_aligned a b pair lead lag low high in
+    let here = gap_exactly a pair low high None in
+    let there = gap_exactly b (mirrored pair) low high None in (
+      λ e. let t = law.0 e in (t.0.0, t.0.1, here.0 t.1, there.0 t.2),
+      λ h. law.1 ((h.0, h.1), here.1 h.2, there.1 h.3),
+    )
