@@ -1,14 +1,25 @@
 -- What a judgement makes of lifetimes that leave a time free, and what it promises of a rollover.
-use Rattle.std.proofs.Common.{◌≡◌, ◌↔◌, ℕ, ◌≤◌, ◌<◌, Bool, true, false, List, ◌++◌, length, drop, Option, Some, None, sym, ap, ◌∙◌}
+use Rattle.std.proofs.Common.{◌≡◌, ◌↔◌, ℕ, ◌≤◌, ◌<◌, Bool, true, false, List, ◌++◌, length, drop, get_or, Option, Some, None, sym, ap, ◌∙◌}
 use Rattle.std.proofs.lemmas.List.{append-nil, drop_all}
+use Rattle.std.proofs.lemmas.List.Folds.{list_any_at}
+use Rattle.std.specs.List.{list_any}
 use Rattle.std.specs.Prelude.{IfSome, IfNone}
 use Rattle.ao_base.specs.declared.address.Pair.{Pair}
 use Rattle.key_model.specs.declared.lifetime.Lifetime.{Lifetime}
 use Rattle.key_model.specs.declared.lint.LintAnswer.TheVariants as answer
 use Rattle.key_model.specs.Lifetimes.{is_covered, IsFirstGap}
-use Rattle.key_model.specs.Plans.{mirrored, AlignedFrom, send_lifetimes, has_sendable, gap, IsGap, lint_rows}
+use Rattle.segment_model.proofs.Fields.{and_tells}
+use Rattle.key_model.proofs.PlanLaws.{found_at}
+use Rattle.key_model.specs.Plans.{accepts_from, accepts_throughout, outlasts, mirrored, AlignedFrom, send_lifetimes, has_sendable, gap, IsGap, lint_rows}
 use Rattle.key_model.specs.Rows.{Row}
 use Rattle.key_model.proofs.GapLaws.{covered_is_sendable, gap_exactly, is_gap, lint_aligned}
+
+-- a row that accepts throughout accepts
+pub accepted_too : (others : List Row) (pair : Pair) (lead lag : ℕ) (r : Row) → list_any (accepts_throughout pair lead lag r) others ≡ true → list_any (accepts_from pair r) others ≡ true
+accepted_too others pair lead lag r e =
+    let f = found_at (accepts_throughout pair lead lag r) others r e in
+    let o = get_or others f.0 r in
+    list_any_at (accepts_from pair r) others f.0 r f.1 (and_tells (accepts_from pair r o) (outlasts lead lag r o) f.2).0
 
 -- once all rows are read, the lifetimes that were kept are all
 pub all_kept : (kept : List Lifetime) (rows : List Row) (i : ℕ) (pair : Pair) → length rows ≤ i

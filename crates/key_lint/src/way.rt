@@ -115,7 +115,7 @@ impl<'a> Way<'a> {
     fn is_accepting_throughout(&self, row: &Row, other: &Row) -> bool
         ensures { result ≡ accepts_throughout self.now.pair self.now.lead self.now.lag row.now other.now }
     {
-        self.is_accepting(row, other) && self.is_outlasting(row, other)
+        self.is_outlasting(row, other) && self.is_accepting(row, other)
     }
 
     fn is_accepted(&self, row: &Row) -> bool
@@ -134,18 +134,18 @@ impl<'a> Way<'a> {
             .any(|other| self.is_accepting_throughout(row, other))
     }
 
-    /// Why the row of this end and number isn't met at the other end.
+    /// Why the row of this end and number isn't met at the other end. A row that is met is the usual
+    /// case, so that is looked for first.
+    #[tactic(auto, using(crate::proofs::JudgedLaws::accepted_too))]
     fn unmet(&self, end: End, number: u8, row: &Row) -> Option<LintAnswer>
         ensures { result ≡ unmet_answer end number self.now.others.now self.now.pair self.now.lead self.now.lag row.now }
     {
-        if !is_sending_for(row, &self.pair) {
+        if !is_sending_for(row, &self.pair) || self.is_accepted_throughout(row) {
             None
-        } else if !self.is_accepted(row) {
-            Some(LintAnswer::NoPeerRow(end, number))
-        } else if !self.is_accepted_throughout(row) {
+        } else if self.is_accepted(row) {
             Some(LintAnswer::ShortAccept(end, number))
         } else {
-            None
+            Some(LintAnswer::NoPeerRow(end, number))
         }
     }
 
