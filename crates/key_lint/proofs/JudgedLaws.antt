@@ -1,35 +1,29 @@
--- What a judgement makes of a row that isn't met, and of lifetimes that leave a time free.
-use Rattle.std.proofs.Common.{◌≡◌, ◌↔◌, ℕ, ◌≤◌, ◌<◌, Bool, true, false, not, List, [], ◌∷◌, ◌++◌, length, drop, Option, Some, None, refl, sym, ap, ◌∙◌, if◌then◌else◌}
+-- What a judgement makes of lifetimes that leave a time free, and what it promises of a rollover.
+use Rattle.std.proofs.Common.{◌≡◌, ◌↔◌, ℕ, ◌≤◌, ◌<◌, Bool, true, false, List, ◌++◌, length, drop, get_or, Option, Some, None, sym, ap, ◌∙◌}
 use Rattle.std.proofs.lemmas.List.{append-nil, drop_all}
-use Rattle.std.specs.Prelude.{option_map, IfSome, IfNone}
+use Rattle.std.proofs.lemmas.List.Folds.{list_any_at}
+use Rattle.std.specs.List.{list_any}
+use Rattle.std.specs.Prelude.{IfSome, IfNone}
 use Rattle.ao_base.specs.declared.address.Pair.{Pair}
-use Rattle.ao_base.specs.declared.end.End.{End}
 use Rattle.key_model.specs.declared.lifetime.Lifetime.{Lifetime}
-use Rattle.key_model.specs.declared.lint.LintAnswer.{LintAnswer}
 use Rattle.key_model.specs.declared.lint.LintAnswer.TheVariants as answer
 use Rattle.key_model.specs.Lifetimes.{is_covered, IsFirstGap}
-use Rattle.key_model.specs.Plans.{mirrored, Aligned, AlignedFrom, Reason, NoPeerRow, ShortAccept, misaligned_by, misaligned_answer, send_lifetimes, has_sendable, gap, IsGap, lint_rows}
+use Rattle.segment_model.proofs.Fields.{and_tells}
+use Rattle.key_model.proofs.PlanLaws.{found_at}
+use Rattle.key_model.specs.Plans.{accepts_from, accepts_throughout, outlasts, mirrored, AlignedFrom, send_lifetimes, has_sendable, gap, IsGap, lint_rows}
 use Rattle.key_model.specs.Rows.{Row}
 use Rattle.key_model.proofs.GapLaws.{covered_is_sendable, gap_exactly, is_gap, lint_aligned}
 
--- the answer for a row, by whether it sends, is accepted, and is accepted throughout
-abbrev answer_by : End → ℕ → Bool → Bool → Bool → Option LintAnswer
-answer_by end n sends accepted throughout =
-    option_map misaligned_answer (option_map (misaligned_by end n) (if not sends then None else (if not accepted then Some NoPeerRow else (if not throughout then Some ShortAccept else None))))
-
-pub no_peer : (end : End) (n : ℕ) (a b c : Bool) → a ≡ true → b ≡ false → Some (answer.NoPeerRow end n) ≡ answer_by end n a b c
-no_peer end n true false c e f = refl
-no_peer end n false b c e f = absurd (cc)
-no_peer end n true true c e f = absurd (cc)
-
-pub short_accept : (end : End) (n : ℕ) (a b c : Bool) → a ≡ true → b ≡ true → c ≡ false → Some (answer.ShortAccept end n) ≡ answer_by end n a b c
-short_accept end n true true false e f g = refl
-short_accept end n false b c e f g = absurd (cc)
-short_accept end n true false c e f g = absurd (cc)
-short_accept end n true true true e f g = absurd (cc)
+-- a row that accepts throughout accepts
+pub accepted_too : (others : List Row) (pair : Pair) (lead lag : ℕ) (r : Row) → list_any (accepts_throughout pair lead lag r) others ≡ true → list_any (accepts_from pair r) others ≡ true
+accepted_too others pair lead lag r e =
+    let f = found_at (accepts_throughout pair lead lag r) others r e in
+    let o = get_or others f.0 r in
+    list_any_at (accepts_from pair r) others f.0 r f.1 (and_tells (accepts_from pair r o) (outlasts lead lag r o) f.2).0
 
 -- once all rows are read, the lifetimes that were kept are all
-pub all_kept : (kept : List Lifetime) (rows : List Row) (i : ℕ) (pair : Pair) → length rows ≤ i → kept ++ send_lifetimes (drop i rows) pair ≡ send_lifetimes rows pair → kept ≡ send_lifetimes rows pair
+pub all_kept : (kept : List Lifetime) (rows : List Row) (i : ℕ) (pair : Pair) → length rows ≤ i
+    → kept ++ send_lifetimes (drop i rows) pair ≡ send_lifetimes rows pair → kept ≡ send_lifetimes rows pair
 all_kept kept rows i pair past so_far = sym (append-nil kept) ∙ (rw (drop_all i rows past) at so_far)
 
 -- the first time that the lifetimes leave free is the gap

@@ -2,7 +2,9 @@
 ghost use Rattle.std.specs.Prelude.{◌≡◌, ◌≤◌, length, option_map};
 ghost use Rattle.std.specs.List.{list_any};
 ghost use Rattle.segment_model.specs.Bytes.{same_bytes};
-ghost use Rattle.key_model.specs.Plans.{mirrored, same_algorithm, same_flag, same_key, accepts_from, outlasts, accepts_throughout, misaligned_by, misaligned_answer, unmet_reason, first_unmet};
+ghost use Rattle.key_model.specs.Plans.{mirrored, same_algorithm, same_flag, same_key, accepts_from, outlasts, accepts_throughout};
+ghost use Rattle.key_model.specs.Plans.{first_unmet, misaligned_answer};
+ghost use Rattle.key_lint.specs.Unmet.{unmet_answer};
 ghost use Rattle.key_model.specs.Rows.{receives, sends_for};
 
 use ao_base::{Algorithm, End, Pair};
@@ -113,7 +115,7 @@ impl<'a> Way<'a> {
     fn is_accepting_throughout(&self, row: &Row, other: &Row) -> bool
         ensures { result ≡ accepts_throughout self.now.pair self.now.lead self.now.lag row.now other.now }
     {
-        self.is_accepting(row, other) && self.is_outlasting(row, other)
+        self.is_outlasting(row, other) && self.is_accepting(row, other)
     }
 
     fn is_accepted(&self, row: &Row) -> bool
@@ -132,18 +134,18 @@ impl<'a> Way<'a> {
             .any(|other| self.is_accepting_throughout(row, other))
     }
 
-    /// Why the row of this end and number isn't met at the other end.
+    /// Why the row of this end and number isn't met at the other end. A row that is met is the usual
+    /// case, so that is looked for first.
+    #[tactic(auto, using(crate::proofs::JudgedLaws::accepted_too))]
     fn unmet(&self, end: End, number: u8, row: &Row) -> Option<LintAnswer>
-        ensures { result ≡ option_map misaligned_answer (option_map (misaligned_by end number) (unmet_reason self.now.others.now self.now.pair self.now.lead self.now.lag row.now)) }
+        ensures { result ≡ unmet_answer end number self.now.others.now self.now.pair self.now.lead self.now.lag row.now }
     {
-        if !is_sending_for(row, &self.pair) {
+        if !is_sending_for(row, &self.pair) || self.is_accepted_throughout(row) {
             None
-        } else if !self.is_accepted(row) {
-            Some(LintAnswer::NoPeerRow(end, number))
-        } else if !self.is_accepted_throughout(row) {
+        } else if self.is_accepted(row) {
             Some(LintAnswer::ShortAccept(end, number))
         } else {
-            None
+            Some(LintAnswer::NoPeerRow(end, number))
         }
     }
 

@@ -9,8 +9,10 @@ goes_on : (time n : ℕ) (tables rest : List Table) (node : Table) (before after
 goes_on time n tables rest node before after all cut so_far more =
     rw more (append_assoc before (node_lines time n node) (nodes_lines time (suc n) rest) ∙ (rw cut at so_far))
 
-pub one_more_node : (time i : ℕ) (tables : List Table) (node : Table) (before after all : List ℕ) → i < length tables → ((d : Table) → node ≡ get_or tables (i + 1 - 1) d)
-    → before ++ nodes_lines time (i + 1) (drop i tables) ≡ all → after ≡ before ++ node_lines time (i + 1) node → after ++ nodes_lines time (i + 1 + 1) (drop (i + 1) tables) ≡ all
+pub one_more_node : (time i : ℕ) (tables : List Table) (node : Table) (before after all : List ℕ)
+    → i < length tables → ((d : Table) → node ≡ get_or tables (i + 1 - 1) d)
+    → before ++ nodes_lines time (i + 1) (drop i tables) ≡ all
+    → after ≡ before ++ node_lines time (i + 1) node → after ++ nodes_lines time (i + 1 + 1) (drop (i + 1) tables) ≡ all
 one_more_node time i tables node before after all low here so_far more =
     let place : i + 1 - 1 ≡ i = omega arith in
     let at : node ≡ get_or tables i node = subst (λ (k : ℕ). node ≡ get_or tables k node) place (here node) in

@@ -1,10 +1,10 @@
 //! The rows of a key file with their state at a time.
-ghost use Rattle.std.specs.Prelude.{◌≡◌, ◌++◌, ◌∷◌, [], ◌&&◌, OnOk, IfOk, codes, decimal};
-ghost use Rattle.ao_base.specs.Algorithms.{name_of};
-ghost use Rattle.line_model.specs.Texts.{line_text, spaced};
+ghost use Rattle.std.specs.Prelude.{◌≡◌, ◌++◌, ◌&&◌, OnOk, IfOk};
+ghost use Rattle.line_model.specs.Texts.{spaced};
 ghost use Rattle.key_model.specs.Lifetimes.{contains};
 ghost use Rattle.key_model.specs.Rows.{receives, sends};
 ghost use Rattle.format_model.specs.KeyTexts.{direction_text, yes_or_no, row_line, row_lines, node_lines, keys_text};
+ghost use Rattle.key_texts.specs.RowTexts.{state_texts, term_texts};
 
 use ao_base::{Bytes, print_address};
 use key_table::{Direction, Row, Table, Tables};
@@ -46,7 +46,7 @@ fn is_accepting(row: &Row, time: u64) -> bool
 
 /// The ids, the algorithm and the direction of a row.
 fn push_terms(out: &mut Vec<u8>, row: &Row) -> Result<(), AllocError>
-    ensures { OnOk result (out.new.items ≡ out.old.items ++ spaced (codes "send-id" ∷ decimal row.now.send_id ∷ codes "recv-id" ∷ decimal row.now.recv_id ∷ name_of row.now.algorithm ∷ direction_text row.now.direction ∷ [])) }
+    ensures { OnOk result (out.new.items ≡ out.old.items ++ spaced (term_texts row.now)) }
 {
     push_field(out, b"send-id", u64::from(row.send_id()))?;
     push_field(out, b"recv-id", u64::from(row.recv_id()))?;
@@ -56,7 +56,7 @@ fn push_terms(out: &mut Vec<u8>, row: &Row) -> Result<(), AllocError>
 
 /// Whether a row sends, and whether it accepts.
 fn push_state(out: &mut Vec<u8>, row: &Row, time: u64) -> Result<(), AllocError>
-    ensures { OnOk result (out.new.items ≡ out.old.items ++ spaced (codes "sending" ∷ yes_or_no (sends row.now.direction && contains row.now.sending time) ∷ codes "accepting" ∷ yes_or_no (receives row.now.direction && contains row.now.accepting time) ∷ [])) }
+    ensures { OnOk result (out.new.items ≡ out.old.items ++ spaced (state_texts time row.now)) }
 {
     push_text(out, b"sending")?;
     push_text(out, yes_or_no(is_sending(row, time)))?;

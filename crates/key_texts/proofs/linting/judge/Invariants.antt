@@ -6,7 +6,8 @@ use Rattle.key_texts.proofs.linting.judge.Given as goal
 
 abbrev pub invariant-loop-line : goal.invariant-loop-line
 invariant-loop-line l =
-    judged_from l.tables l.plan l.out.items l.has_misfit (said_by connection_of l.lines) ≡ judged_from l.tables l.plan [] false (said_by connection_of l.fn.lines)
+    judged_from l.tables l.plan l.out.items l.has_misfit (said_by connection_of l.lines)
+    ≡ judged_from l.tables l.plan [] false (said_by connection_of l.fn.lines)
 
 abbrev pub decreases-loop-line : goal.decreases-loop-line
 decreases-loop-line l = length l.lines
