@@ -1,5 +1,5 @@
 -- What was laid out, sealed and finished is the segment of each draft that was to be written.
-use Rattle.std.proofs.Common.{◌≡◌, ℕ, zero, suc, ◌+◌, ◌-◌, ◌/◌, ◌<◌, ◌≤◌, Bool, List, [], ◌∷◌, ◌++◌, length, take, drop, replicate, Option, Some, None, refl, sym, ap, subst, ◌∙◌, arith, get_or}
+use Rattle.std.proofs.Common.{◌≡◌, ℕ, ◌+◌, ◌-◌, ◌/◌, ◌≤◌, List, length, drop, replicate, Option, Some, None, refl, sym, ap, subst, ◌∙◌, arith, get_or}
 use Rattle.std.specs.Prelude.{slice_get}
 use Rattle.ao_base.specs.declared.address.Pair.{Pair}
 use Rattle.ao_base.specs.Algorithms.{mac_length_of}
@@ -13,7 +13,6 @@ use Rattle.key_model.specs.Coordination.{Sending}
 use Rattle.endpoint_model.specs.States.{EndState}
 use Rattle.endpoint_model.specs.Emissions.{Draft, Emits, sets, sealed, keyed}
 use Rattle.key_coordination.specs.declared.choice.Sending.{Sending as Told}
-use Rattle.key_coordination.specs.Sendings.{told}
 use Rattle.tcp_segment.specs.declared.writing.Head.{Head}
 use Rattle.tcp_segment.specs.Drafts.{DatagramMut, Drafted}
 use Rattle.tcp_segment.specs.Writing.{drafted, header_length, OneFamily, IsFinished}

@@ -1,12 +1,11 @@
-use Rattle.std.proofs.Common.{rules, ◌≡◌, ◌≤◌, ◌+◌, ◌-◌, ℕ, List, length, replicate, Some, slice_index_or, refl, sym, ap, subst, ◌∙◌, arith}
+use Rattle.std.proofs.Common.{rules, ◌≡◌, ◌≤◌, ℕ, List, length, sym, ap, subst, ◌∙◌}
 use Rattle.ao_base.specs.Algorithms.{mac_length_of}
 use Rattle.mac_model.specs.Contexts.{bytes_of}
 use Rattle.key_model.specs.Rows.{Row}
-use Rattle.tcp_segment.specs.declared.writing.Head.{Head}
 use Rattle.tcp_segment.specs.Lending.{with_payload}
 use Rattle.tcp_segment.proofs.WriteLaws.{payload_set}
 use Rattle.segment_writer.specs.Heads.{head_of, size_of}
-use Rattle.segment_writer.proofs.LaidLaws.{IsLaid, emits_so, written_so, is_ready, is_counted, is_here}
+use Rattle.segment_writer.proofs.LaidLaws.{emits_so, written_so, is_ready, is_counted, is_here}
 use Rattle.segment_writer.proofs.SizeLaws.{size_told, is_head, copied, rest_is}
 use Rattle.segment_writer.proofs.write.write_segment.Goals as goal
 
