@@ -1,17 +1,16 @@
 -- One call of a reader of packets.
-use Rattle.std.proofs.Common.{◌≡◌, ℕ, ◌+◌, ◌-◌, ◌*◌, ◌<◌, ◌≤◌, Bool, true, false, cond, List, [], ◌++◌, length, take, drop, Option, None, Some, Ok, Err, refl, sym, ap, ◌∙◌, append_assoc, arith}
+use Rattle.std.proofs.Common.{◌≡◌, ℕ, ◌+◌, ◌-◌, ◌<◌, ◌≤◌, Bool, true, false, cond, List, [], ◌++◌, length, take, drop, Option, None, Some, Ok, refl, sym, ap, ◌∙◌, append_assoc, arith}
 use Rattle.std.proofs.lemmas.List.{length-append, length-drop, drop-append-le}
 use Rattle.ao_base.specs.Buffered.{Buffered}
 use Rattle.ao_base.specs.Outside.{Side, Gave, Rose, IsAtEnd, told}
-use Rattle.ao_base.proofs.Sides.{gave_more, nothing_told, rose_after}
+use Rattle.ao_base.proofs.Sides.{gave_more, nothing_told}
 use Rattle.wire_model.specs.declared.pcap_head.Head.{Head}
 use Rattle.wire_model.specs.Packets.{Broken, Whole, record_at, datagram_of}
 use Rattle.pcap_file.specs.declared.records.Found.{Found}
-use Rattle.pcap_file.specs.declared.records.Found.TheVariants as found
 use Rattle.pcap_file.specs.declared.records.Opened.TheVariants as opening
 use Rattle.pcap_file.specs.declared.packets.PacketStep.TheVariants as step
 use Rattle.pcap_file.specs.Parts.{Opens, Finds}
-use Rattle.pcap_file.specs.Reading.{Reading, opened_from, header_length, Stops, Shows, Steps}
+use Rattle.pcap_file.specs.Reading.{Reading, opened_from, header_length, Stops, Steps}
 
 -- past the header and at a record
 pub record Reached (had : Option Head) (head : Head) (before now : Buffered) (a b : Side) (given : List ℕ) : Type 0 where

@@ -1,7 +1,7 @@
 -- The header and a record among the bytes that are kept.
-use Rattle.std.proofs.Common.{◌≡◌, ◌==◌, if◌then◌else◌, inl, inr, ℕ, ◌+◌, ◌-◌, ◌<◌, ◌≤◌, min, List, [], ◌++◌, length, take, drop, Option, None, Some, Ok, Err, refl, sym, ap, ◌∙◌, append_assoc, arith}
+use Rattle.std.proofs.Common.{◌≡◌, ◌==◌, if◌then◌else◌, inl, inr, ℕ, ◌+◌, ◌-◌, ◌<◌, ◌≤◌, min, List, [], ◌++◌, length, take, drop, Option, None, Ok, Err, refl, sym, ap, ◌∙◌, append_assoc, arith}
 use Rattle.std.proofs.lemmas.List.{length-append, length-drop, length-take, take-append-le, drop-append-le, append-nil, nil_from_length, take_min, get_or_append_left}
-use Rattle.std.proofs.lemmas.Bool.{cases_eq, eq-eqb, ne_eqb, le-ltb, lt-ltb}
+use Rattle.std.proofs.lemmas.Bool.{cases_eq, eq-eqb, ne_eqb, le-ltb}
 use Rattle.std.specs.Prelude.{slice_range, slice_index}
 use Rattle.ao_base.specs.Buffered.{Buffered}
 use Rattle.ao_base.specs.Outside.{Side, told}
@@ -12,8 +12,7 @@ use Rattle.wire_model.specs.declared.pcap_head.ByteOrder.TheVariants.{Big, Littl
 use Rattle.wire_model.specs.declared.pcap_head.LinkType.{LinkType}
 use Rattle.wire_model.specs.declared.pcap_head.Head.{Head}
 use Rattle.wire_model.specs.declared.pcap_head.HeadFault.{HeadFault}
-use Rattle.wire_model.specs.declared.pcap_head.HeadFault.TheVariants.{Short}
-use Rattle.wire_model.specs.Packets.{head_of, Broken, Whole, four_at, record_at, datagram_of}
+use Rattle.wire_model.specs.Packets.{head_of, four_at, datagram_of}
 use Rattle.wire_model.proofs.Captures.{record_short, record_over, record_part, record_whole}
 use Rattle.pcap_file.specs.declared.filling.Filled.TheVariants as filled
 use Rattle.pcap_file.specs.declared.records.Found.TheVariants as found

@@ -1,14 +1,13 @@
 -- The answer that the content wants, and the packets of a file one by one.
-use Rattle.std.proofs.Common.{◌≡◌, ℕ, ◌+◌, ◌<◌, ◌≤◌, List, [], ◌++◌, length, Option, None, Some, Ok, Err, refl, sym, ap, ◌∙◌, append_assoc, arith}
+use Rattle.std.proofs.Common.{◌≡◌, ℕ, ◌+◌, List, [], ◌++◌, length, Some, refl, sym, ap, ◌∙◌, append_assoc, arith}
 use Rattle.std.proofs.lemmas.List.{length-append}
 use Rattle.ao_base.specs.Outside.{Side, told}
 use Rattle.ao_base.proofs.Sides.{told_given}
-use Rattle.wire_model.specs.declared.pcap_head.Head.{Head}
-use Rattle.wire_model.specs.Packets.{Front, Done, Broken, Whole, record_at, datagram_of, Packets, with_packet, packets_by, packets_in}
+use Rattle.wire_model.specs.Packets.{Front, Done, Broken, Whole, record_at, datagram_of}
 use Rattle.wire_model.proofs.Captures.{record_none, packets_step}
 use Rattle.pcap_file.specs.declared.packets.PacketStep.{PacketStep}
 use Rattle.pcap_file.specs.declared.packets.PacketStep.TheVariants.{Packet, End, Fault, TooLong, BadHead, BadRecord}
-use Rattle.pcap_file.specs.Reading.{Reading, Steps, opened_from, step_at, wanted_step, IsOpen, Exactly, packets_left, Walks, IsQuiet, IsPacketOrEnd}
+use Rattle.pcap_file.specs.Reading.{Reading, Steps, step_at, wanted_step, IsOpen, Exactly, Walks, IsQuiet, IsPacketOrEnd}
 
 at_front : (count : ℕ) (front : Front) → IsOpen (step_at count front)
 at_front count Done = tt

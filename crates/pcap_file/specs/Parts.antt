@@ -1,10 +1,10 @@
 -- What reading a header and a record does to a buffer (own).
-use Rattle.std.specs.Prelude.{◌≡◌, ℕ, ◌+◌, ◌<◌, ◌≤◌, List, [], ◌++◌, length, take, drop, Option, Some, None, Result, Ok, Err}
+use Rattle.std.specs.Prelude.{◌≡◌, ℕ, ◌+◌, ◌<◌, ◌≤◌, List, [], ◌++◌, length, take, drop, Option, None, Ok, Err}
 use Rattle.ao_base.specs.Buffered.{Buffered}
 use Rattle.ao_base.specs.Outside.{Side, Gave, Rose, IsAtEnd, told}
 use Rattle.wire_model.specs.declared.pcap_head.ByteOrder.{ByteOrder}
 use Rattle.wire_model.specs.declared.pcap_head.Head.{Head}
-use Rattle.wire_model.specs.Packets.{Kept, Front, Broken, Whole, record_at}
+use Rattle.wire_model.specs.Packets.{Broken, Whole, record_at}
 use Rattle.pcap_file.specs.declared.filling.Filled.{Filled}
 use Rattle.pcap_file.specs.declared.filling.Filled.TheVariants as filled
 use Rattle.pcap_file.specs.declared.records.Opened.{Opened}

@@ -3,7 +3,7 @@ use Rattle.std.specs.Prelude.{◌≡◌, ℕ, ◌+◌, ◌-◌, ◌<◌, ◌≤�
 use Rattle.ao_base.specs.Outside.{Side, Gave, Rose, IsAtEnd, told}
 use Rattle.wire_model.specs.declared.pcap_head.Head.{Head}
 use Rattle.wire_model.specs.declared.pcap_head.HeadFault.{HeadFault}
-use Rattle.wire_model.specs.Packets.{opened, Kept, Front, Done, Broken, Whole, record_at, datagram_of, Packet, Packets, FileFault, with_packet, packets_in}
+use Rattle.wire_model.specs.Packets.{opened, Kept, Front, Done, Broken, Whole, record_at, datagram_of, Packet, Packets, with_packet, packets_in}
 use Rattle.wire_model.specs.Packets.{BadHead as head_refused, BadRecord as record_refused}
 use Rattle.pcap_file.specs.declared.packets.PacketStep.{PacketStep}
 use Rattle.pcap_file.specs.declared.packets.PacketStep.TheVariants as step

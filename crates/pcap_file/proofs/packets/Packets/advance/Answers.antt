@@ -1,4 +1,4 @@
-use Rattle.std.proofs.Common.{◌≡◌, ◌+◌, ◌≤◌, ◌++◌, ap, ◌∙◌, arith}
+use Rattle.std.proofs.Common.{◌≡◌, ◌++◌, ap, ◌∙◌, arith}
 use Rattle.ao_base.proofs.Sides.{rose_after}
 use Rattle.pcap_file.specs.Reading.{header_length}
 use Rattle.pcap_file.proofs.Calls.{reach, long_step, end_step, broken_step, fault_step, packet_step}
