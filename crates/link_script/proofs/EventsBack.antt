@@ -1,0 +1,96 @@
+-- A printed event is read back from its words.
+use Rattle.std.proofs.Common.{◌≡◌, ℕ, ◌≤◌, ◌^◌, ◌<◌, Bool, List, [], ◌∷◌, decimal, codes, Ok, refl, arith, lit<}
+use Rattle.ao_base.specs.declared.end.End.{End}
+use Rattle.ao_base.specs.declared.line_kind.LineKind.{LineKind}
+use Rattle.ao_base.specs.Algorithms.{name_of}
+use Rattle.ao_base.specs.Hexadecimal.{hex_of}
+use Rattle.key_model.specs.Lifetimes.{greatest_time}
+use Rattle.line_model.specs.Texts.{end_text}
+use Rattle.line_model.specs.Words.{word_in, nothing_in}
+use Rattle.link_model.specs.declared.event.RowLine.{RowLine}
+use Rattle.link_model.specs.declared.event.Event.{Event}
+use Rattle.link_model.specs.declared.event.Event.TheVariants as event
+use Rattle.format_model.specs.LinkEvents.{greatest_isn, most_segments, end_of, number_of, event_of, event_named, start_of, give_of, fill_of, inject_of, alter_of, add_of, dump_of}
+use Rattle.link_script.specs.declared.name.Name.{Name}
+use Rattle.link_script.specs.Names.{name_text}
+use Rattle.link_script.specs.Printed.{direction_text, event_words, fixing_text, flag_text, row_texts, use_texts}
+use Rattle.link_script.specs.Scripts.{IsEvent, IsRow, IsWithin}
+use Rattle.link_script.proofs.WordsBack.{end_back, algorithm_back, number_back, within_back, hex_back, some_hex_back, byte_back, fixing_back, flag_back, direction_back}
+
+alone_back : (made : End → Event) (e : End) → end_of made (end_text e ∷ []) ≡ Ok (made e)
+unfolding nothing_in
+alone_back made e = rw (end_back e []) refl
+
+numbered_back : (made : End → ℕ → Event) (low high : ℕ) (e : End) (n : ℕ) → IsWithin low high n → high < 2 ^ 64 → number_of made low high (end_text e ∷ decimal n ∷ []) ≡ Ok (made e n)
+unfolding nothing_in
+numbered_back made low high e n h small = rw (end_back e (decimal n ∷ []), within_back low high n [] h small) refl
+
+from_zero : {n high : ℕ} → n ≤ high → IsWithin 0 high n
+from_zero h = record { least = omega arith; most = h }
+
+start_back : (e : End) (own peer : ℕ) → own ≤ greatest_isn → peer ≤ greatest_isn → start_of (end_text e ∷ decimal own ∷ decimal peer ∷ []) ≡ Ok (event.Start e own peer)
+unfolding start_of nothing_in
+start_back e own peer small peers = rw (
+  end_back e (decimal own ∷ decimal peer ∷ []),
+  number_back greatest_isn own (decimal peer ∷ []) small (lit< tt),
+  number_back greatest_isn peer [] peers (lit< tt),
+) refl
+
+fill_back : (e : End) (count byte : ℕ) → count ≤ 65535 → byte < 256 → fill_of (end_text e ∷ decimal count ∷ hex_of (byte ∷ []) ∷ []) ≡ Ok (event.Fill e count byte)
+unfolding fill_of nothing_in
+fill_back e count byte few small = rw (
+  end_back e (decimal count ∷ hex_of (byte ∷ []) ∷ []),
+  number_back 65535 count (hex_of (byte ∷ []) ∷ []) few (lit< tt),
+  byte_back byte [] small,
+) refl
+
+alter_back : (e : End) (segment place mask : ℕ) (fixing : Bool) → IsWithin 1 most_segments segment → place ≤ 65535 → mask < 256 →
+    alter_of (end_text e ∷ decimal segment ∷ decimal place ∷ hex_of (mask ∷ []) ∷ fixing_text fixing ∷ []) ≡ Ok (event.Alter e segment place mask fixing)
+unfolding alter_of nothing_in
+alter_back e segment place mask fixing made near small = rw (
+  end_back e (decimal segment ∷ decimal place ∷ hex_of (mask ∷ []) ∷ fixing_text fixing ∷ []),
+  within_back 1 most_segments segment (decimal place ∷ hex_of (mask ∷ []) ∷ fixing_text fixing ∷ []) made (lit< tt),
+  number_back 65535 place (hex_of (mask ∷ []) ∷ fixing_text fixing ∷ []) near (lit< tt),
+  byte_back mask (fixing_text fixing ∷ []) small,
+  fixing_back fixing [],
+) refl
+
+-- the words of a row from its Direction on
+abbrev late_texts : RowLine → List (List ℕ)
+late_texts r = direction_text r.receive r.send ∷ decimal r.send_first ∷ decimal r.send_last ∷ decimal r.accept_first ∷ decimal r.accept_last ∷ []
+
+add_back : (e : End) (r : RowLine) → IsRow r → add_of (end_text e ∷ row_texts r) ≡ Ok (event.AddRow e r)
+unfolding add_of row_texts use_texts nothing_in
+add_back e r h = rw (
+  end_back e (decimal r.recv_id ∷ decimal r.send_id ∷ name_of r.algorithm ∷ hex_of r.master ∷ flag_text r.with_options ∷ late_texts r),
+  number_back 255 r.recv_id (decimal r.send_id ∷ name_of r.algorithm ∷ hex_of r.master ∷ flag_text r.with_options ∷ late_texts r) h.recv_id (lit< tt),
+  number_back 255 r.send_id (name_of r.algorithm ∷ hex_of r.master ∷ flag_text r.with_options ∷ late_texts r) h.send_id (lit< tt),
+  algorithm_back r.algorithm (hex_of r.master ∷ flag_text r.with_options ∷ late_texts r),
+  hex_back 1 255 r.master (flag_text r.with_options ∷ late_texts r) h.master,
+  flag_back r.with_options (late_texts r),
+  direction_back r.receive r.send (decimal r.send_first ∷ decimal r.send_last ∷ decimal r.accept_first ∷ decimal r.accept_last ∷ []),
+  number_back greatest_time r.send_first (decimal r.send_last ∷ decimal r.accept_first ∷ decimal r.accept_last ∷ []) h.send_first (lit< tt),
+  within_back r.send_first greatest_time r.send_last (decimal r.accept_first ∷ decimal r.accept_last ∷ []) h.send_last (lit< tt),
+  number_back greatest_time r.accept_first (decimal r.accept_last ∷ []) h.accept_first (lit< tt),
+  within_back r.accept_first greatest_time r.accept_last [] h.accept_last (lit< tt),
+) refl
+
+pub event_back : (e : Event) → IsEvent e → event_of (event_words e) ≡ Ok e
+unfolding event_of event_named word_in nothing_in event_words give_of inject_of dump_of
+event_back (event.Clock e seconds) h = numbered_back event.Clock 0 greatest_time e seconds (from_zero h) (lit< tt)
+event_back (event.Connect e isn) h = numbered_back event.Connect 0 greatest_isn e isn (from_zero h) (lit< tt)
+event_back (event.Listen e isn) h = numbered_back event.Listen 0 greatest_isn e isn (from_zero h) (lit< tt)
+event_back (event.Start e own peer) h = start_back e own peer h.0 h.1
+event_back (event.Give e bytes) h = rw (end_back e (hex_of bytes ∷ []), some_hex_back bytes [] h.0 h.1) refl
+event_back (event.Fill e count byte) h = fill_back e count byte h.0 h.1
+event_back (event.Send e) h = alone_back event.Send e
+event_back (event.Resend e) h = alone_back event.Resend e
+event_back (event.Deliver e segment) h = numbered_back event.Deliver 1 most_segments e segment h (lit< tt)
+event_back (event.Inject e bytes) h = rw (end_back e (hex_of bytes ∷ []), hex_back 1 65575 bytes [] h) refl
+event_back (event.Alter e segment place mask fixing) h = alter_back e segment place mask fixing h.0 h.1 h.2
+event_back (event.Take e count) h = numbered_back event.Take 0 65535 e count (from_zero h) (lit< tt)
+event_back (event.Close e) h = alone_back event.Close e
+event_back (event.Abort e) h = alone_back event.Abort e
+event_back (event.AddRow e row) h = add_back e row h
+event_back (event.Withdraw e row) h = numbered_back event.Withdraw 1 64 e row h (lit< tt)
+event_back (event.Dump segment) h = rw (within_back 1 most_segments segment [] h (lit< tt)) refl

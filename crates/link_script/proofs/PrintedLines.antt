@@ -1,0 +1,168 @@
+-- The words of a printed event, of a socket and of a key make a line.
+use Rattle.std.proofs.Common.{◌≡◌, ℕ, zero, suc, ◌<◌, ◌≤◌, ◌^◌, length, Bool, true, false, List, [], ◌∷◌, map, decimal, codes, Option, Some, None, refl, arith, lit<, All}
+use Rattle.ao_base.specs.declared.address.Socket.{Socket}
+use Rattle.ao_base.specs.declared.algorithm.Algorithm.{Algorithm}
+use Rattle.ao_base.specs.declared.algorithm.Algorithm.TheVariants.{HmacSha1, AesCmac, HmacSha256}
+use Rattle.ao_base.specs.declared.end.End.{End}
+use Rattle.ao_base.specs.declared.end.End.TheVariants.{A, B}
+use Rattle.ao_base.specs.Algorithms.{name_of}
+use Rattle.ao_base.specs.Hexadecimal.{hex_of}
+use Rattle.line_model.specs.Lines.{is_comment, says_something}
+use Rattle.line_model.specs.Texts.{end_text}
+use Rattle.link_model.specs.declared.event.RowLine.{RowLine}
+use Rattle.link_model.specs.declared.event.Event.{Event}
+use Rattle.link_model.specs.declared.event.Event.TheVariants as event
+use Rattle.format_model.specs.declared.script.SharedKey.{SharedKey}
+use Rattle.format_model.specs.declared.script.Script.{Script}
+use Rattle.link_script.specs.declared.name.Name.{Name}
+use Rattle.link_script.specs.declared.name.Name.TheVariants as name
+use Rattle.link_script.specs.Names.{name_text}
+use Rattle.link_script.specs.Printed.{direction_text, event_words, fixing_text, flag_text, key_lines, row_texts, use_texts, script_lines, socket_words, title_words}
+use Rattle.link_script.specs.Scripts.{IsEvent, IsKey, IsRow, IsScript, IsSocket}
+use Rattle.link_script.proofs.LinesBack.{IsLine, AreLines, AreLines-append}
+use Rattle.link_script.proofs.PlainWords.{AreWords, IsWord, word_by_test, decimal_word, hex_word, address_word}
+use Rattle.link_script.proofs.WordsBack.{one_byte}
+
+pub first_holds : {X : Type 0} (P : X → Type 0) (x : X) (xs : List X) → All P (x ∷ xs) → P x
+first_holds P x xs h = h zero x (omega arith)
+
+pub rest_holds : {X : Type 0} (P : X → Type 0) (x : X) (xs : List X) → All P (x ∷ xs) → All P xs
+rest_holds P x xs h = λ k d below. h (suc k) d (omega arith)
+
+end_word : (e : End) → IsWord (end_text e)
+end_word A = word_by_test (codes "a") (lit< tt) refl
+end_word B = word_by_test (codes "b") (lit< tt) refl
+
+fixing_word : (b : Bool) → IsWord (fixing_text b)
+fixing_word false = word_by_test (codes "keep") (lit< tt) refl
+fixing_word true = word_by_test (codes "fix") (lit< tt) refl
+
+flag_word : (b : Bool) → IsWord (flag_text b)
+flag_word false = word_by_test (codes "no-options") (lit< tt) refl
+flag_word true = word_by_test (codes "options") (lit< tt) refl
+
+direction_word : (receive send : Bool) → IsWord (direction_text receive send)
+direction_word true true = word_by_test (codes "both") (lit< tt) refl
+direction_word true false = word_by_test (codes "in") (lit< tt) refl
+direction_word false true = word_by_test (codes "out") (lit< tt) refl
+direction_word false false = word_by_test (codes "disabled") (lit< tt) refl
+
+algorithm_word : (a : Algorithm) → IsWord (name_of a)
+algorithm_word HmacSha1 = word_by_test (codes "HMAC-SHA-1-96") (lit< tt) refl
+algorithm_word AesCmac = word_by_test (codes "AES-128-CMAC-96") (lit< tt) refl
+algorithm_word HmacSha256 = word_by_test (codes "HMAC-SHA-256-128") (lit< tt) refl
+
+byte_word : (b : ℕ) → b < 256 → IsWord (hex_of (b ∷ []))
+byte_word b small = let bytes = one_byte b small in hex_word (b ∷ []) (lit< tt) bytes.small
+
+-- the word of a name stands on a line and begins no comment
+name_word : (n : Name) → IsWord (name_text n) × (is_comment (name_text n) ≡ false)
+name_word name.Clock = (word_by_test (codes "clock") (lit< tt) refl, refl)
+name_word name.Open = (word_by_test (codes "open") (lit< tt) refl, refl)
+name_word name.Listen = (word_by_test (codes "listen") (lit< tt) refl, refl)
+name_word name.Start = (word_by_test (codes "start") (lit< tt) refl, refl)
+name_word name.Give = (word_by_test (codes "give") (lit< tt) refl, refl)
+name_word name.Fill = (word_by_test (codes "fill") (lit< tt) refl, refl)
+name_word name.Send = (word_by_test (codes "send") (lit< tt) refl, refl)
+name_word name.Resend = (word_by_test (codes "resend") (lit< tt) refl, refl)
+name_word name.Deliver = (word_by_test (codes "deliver") (lit< tt) refl, refl)
+name_word name.Inject = (word_by_test (codes "inject") (lit< tt) refl, refl)
+name_word name.Alter = (word_by_test (codes "alter") (lit< tt) refl, refl)
+name_word name.Take = (word_by_test (codes "take") (lit< tt) refl, refl)
+name_word name.Close = (word_by_test (codes "close") (lit< tt) refl, refl)
+name_word name.Abort = (word_by_test (codes "abort") (lit< tt) refl, refl)
+name_word name.Add = (word_by_test (codes "add") (lit< tt) refl, refl)
+name_word name.Withdraw = (word_by_test (codes "withdraw") (lit< tt) refl, refl)
+name_word name.Dump = (word_by_test (codes "dump") (lit< tt) refl, refl)
+
+-- a line of a name and more words
+named_line : (n : Name) (ws : List (List ℕ)) → AreWords ws → IsLine (name_text n ∷ ws)
+unfolding says_something
+named_line n ws h = let name = name_word n in ((name.0, h), rw name.1 refl)
+
+alone_line : (n : Name) (e : End) → IsLine (name_text n ∷ end_text e ∷ [])
+alone_line n e = named_line n (end_text e ∷ []) (end_word e, tt)
+
+number_line : (n : Name) (e : End) (number : ℕ) → number < 2 ^ 64 → IsLine (name_text n ∷ end_text e ∷ decimal number ∷ [])
+number_line n e number small = named_line n (end_text e ∷ decimal number ∷ []) (end_word e, (decimal_word number small, tt))
+
+bytes_line : (n : Name) (e : End) (bytes : List ℕ) → IsWord (hex_of bytes) → IsLine (name_text n ∷ end_text e ∷ hex_of bytes ∷ [])
+bytes_line n e bytes word = named_line n (end_text e ∷ hex_of bytes ∷ []) (end_word e, (word, tt))
+
+row_words : (r : RowLine) → IsRow r → AreWords (row_texts r)
+unfolding row_texts use_texts
+row_words r h =
+    let recv_id : r.recv_id ≤ 255 = h.recv_id in
+    let send_id : r.send_id ≤ 255 = h.send_id in
+    let send_first : r.send_first ≤ 253402300799 = h.send_first in
+    let send_last : r.send_last ≤ 253402300799 = h.send_last.most in
+    let accept_first : r.accept_first ≤ 253402300799 = h.accept_first in
+    let accept_last : r.accept_last ≤ 253402300799 = h.accept_last.most in
+    let some : 1 ≤ length r.master = h.master.least in (
+      decimal_word r.recv_id (omega arith),
+      (
+        decimal_word r.send_id (omega arith),
+        (
+          algorithm_word r.algorithm,
+          (
+            hex_word r.master (omega arith) h.master.small,
+            (
+              flag_word r.with_options,
+              (
+                direction_word r.receive r.send,
+                (
+                  decimal_word r.send_first (omega arith),
+                  (decimal_word r.send_last (omega arith), (decimal_word r.accept_first (omega arith), (decimal_word r.accept_last (omega arith), tt))),
+                ),
+              ),
+            ),
+          ),
+        ),
+      ),
+    )
+
+event_line : (e : Event) → IsEvent e → IsLine (event_words e)
+unfolding event_words
+event_line (event.Clock e seconds) h = number_line name.Clock e seconds (omega arith)
+event_line (event.Connect e isn) h = number_line name.Open e isn (omega arith)
+event_line (event.Listen e isn) h = number_line name.Listen e isn (omega arith)
+event_line (event.Start e own peer) h =
+    named_line name.Start (end_text e ∷ decimal own ∷ decimal peer ∷ []) (end_word e, (decimal_word own (omega (arith, h.0)), (decimal_word peer (omega (arith, h.1)), tt)))
+event_line (event.Give e bytes) h = bytes_line name.Give e bytes (hex_word bytes h.0 h.1)
+event_line (event.Fill e count byte) h =
+    named_line name.Fill (end_text e ∷ decimal count ∷ hex_of (byte ∷ []) ∷ []) (end_word e, (decimal_word count (omega (arith, h.0)), (byte_word byte h.1, tt)))
+event_line (event.Send e) h = alone_line name.Send e
+event_line (event.Resend e) h = alone_line name.Resend e
+event_line (event.Deliver e segment) h = number_line name.Deliver e segment (omega (arith, h.most))
+event_line (event.Inject e bytes) h = bytes_line name.Inject e bytes (hex_word bytes (omega (arith, h.least)) h.small)
+event_line (event.Alter e segment place mask fixing) h = named_line name.Alter (end_text e ∷ decimal segment ∷ decimal place ∷ hex_of (mask ∷ []) ∷ fixing_text fixing ∷ [])
+    (end_word e, (decimal_word segment (omega (arith, h.0.most)), (decimal_word place (omega (arith, h.1)), (byte_word mask h.2, (fixing_word fixing, tt)))))
+event_line (event.Take e count) h = number_line name.Take e count (omega arith)
+event_line (event.Close e) h = alone_line name.Close e
+event_line (event.Abort e) h = alone_line name.Abort e
+event_line (event.AddRow e row) h = named_line name.Add (end_text e ∷ row_texts row) (end_word e, row_words row h)
+event_line (event.Withdraw e row) h = number_line name.Withdraw e row (omega (arith, h.most))
+event_line (event.Dump segment) h = named_line name.Dump (decimal segment ∷ []) (decimal_word segment (omega (arith, h.most)), tt)
+
+event_lines : (es : List Event) → All IsEvent es → AreLines (map event_words es)
+event_lines [] h = tt
+event_lines (e ∷ es) h = (event_line e (first_holds IsEvent e es h), event_lines es (rest_holds IsEvent e es h))
+
+title_line : IsLine title_words
+unfolding title_words says_something
+title_line = ((word_by_test (codes "aotcp-link") (lit< tt) refl, (word_by_test (codes "1") (lit< tt) refl, tt)), refl)
+
+socket_line : (e : End) (s : Socket) → IsSocket s → IsLine (socket_words (end_text e) s)
+unfolding socket_words says_something
+socket_line A s h = ((end_word A, (address_word s.address h.address, (decimal_word s.port (omega (arith, h.port)), tt))), refl)
+socket_line B s h = ((end_word B, (address_word s.address h.address, (decimal_word s.port (omega (arith, h.port)), tt))), refl)
+
+key_line : (key : Option SharedKey) → IsKey key → AreLines (key_lines key)
+unfolding key_lines says_something
+key_line None h = tt
+key_line (Some k) h = (((word_by_test (codes "shared") (lit< tt) refl, (algorithm_word k.alg, (hex_word k.master (omega (arith, h.least)) h.small, tt))), refl), tt)
+
+pub are_lines : (s : Script) → IsScript s → AreLines (script_lines s)
+unfolding script_lines
+are_lines s h =
+    (title_line, (socket_line A s.a h.a, (socket_line B s.b h.b, AreLines-append (key_lines s.shared) (map event_words s.events) (key_line s.shared h.key) (event_lines s.events h.events))))

@@ -1,0 +1,104 @@
+-- Printed words are read back.
+use Rattle.std.proofs.Common.{◌≡◌, ℕ, zero, suc, lit<, ◌<◌, ◌≤◌, ◌^◌, ◌==◌, nat_le, nat_lt, Bool, true, false, List, [], ◌∷◌, length, decimal, codes, Option, Some, Ok, refl, arith}
+use Rattle.std.proofs.lemmas.Bool.{le-leb, lt-ltb}
+use Rattle.hex.specs.Hex.{IsBytes}
+use Rattle.ao_base.specs.declared.address.Address.{Address}
+use Rattle.ao_base.specs.declared.algorithm.Algorithm.{Algorithm}
+use Rattle.ao_base.specs.declared.algorithm.Algorithm.TheVariants.{HmacSha1, AesCmac, HmacSha256}
+use Rattle.ao_base.specs.declared.end.End.{End}
+use Rattle.ao_base.specs.declared.end.End.TheVariants.{A, B}
+use Rattle.ao_base.specs.declared.line_kind.LineKind.TheVariants.{Word}
+use Rattle.ao_base.specs.Addresses.{address_text}
+use Rattle.ao_base.specs.Algorithms.{name_of}
+use Rattle.ao_base.specs.Hexadecimal.{hex_of}
+use Rattle.ao_base.proofs.AddressLaws.{address_of-address_text}
+use Rattle.ao_base.proofs.DecimalLaws.{decimal_of-decimal}
+use Rattle.ao_base.proofs.HexadecimalLaws.{bytes_of_hex-hex_of}
+use Rattle.line_model.specs.Words.{word_in, word_as, choice_of, choice_in, end_of, end_in, address_in, algorithm_in, number_in, hex_in, sized_hex_in, some_hex_in, byte_in}
+use Rattle.line_model.specs.Texts.{end_text}
+use Rattle.format_model.specs.LinkEvents.{ways_of}
+use Rattle.link_script.specs.Printed.{choice_text, direction_text, fixing_text, flag_text}
+use Rattle.link_script.specs.Scripts.{AreBytes, IsAddress, IsWithin}
+
+end_of-end_text : (e : End) → end_of (end_text e) ≡ Some e
+unfolding end_of
+end_of-end_text A = refl
+end_of-end_text B = refl
+
+pub end_back : (e : End) (ws : List (List ℕ)) → end_in (end_text e ∷ ws) ≡ Ok (record { value = e; rest = ws })
+unfolding end_in word_in
+end_back e ws = rw (end_of-end_text e) refl
+
+choice_back : (one other : List ℕ) (b : Bool) (ws : List (List ℕ)) → choice_of one other (choice_text one other b) ≡ Some b →
+    choice_in one other (choice_text one other b ∷ ws) ≡ Ok (record { value = b; rest = ws })
+unfolding choice_in word_in
+choice_back one other b ws h = rw h refl
+
+choice_of-fixing_text : (b : Bool) → choice_of (codes "keep") (codes "fix") (fixing_text b) ≡ Some b
+choice_of-fixing_text false = refl
+choice_of-fixing_text true = refl
+
+pub fixing_back : (b : Bool) (ws : List (List ℕ)) → choice_in (codes "keep") (codes "fix") (fixing_text b ∷ ws) ≡ Ok (record { value = b; rest = ws })
+fixing_back b ws = choice_back (codes "keep") (codes "fix") b ws (choice_of-fixing_text b)
+
+choice_of-flag_text : (b : Bool) → choice_of (codes "no-options") (codes "options") (flag_text b) ≡ Some b
+choice_of-flag_text false = refl
+choice_of-flag_text true = refl
+
+pub flag_back : (b : Bool) (ws : List (List ℕ)) → choice_in (codes "no-options") (codes "options") (flag_text b ∷ ws) ≡ Ok (record { value = b; rest = ws })
+flag_back b ws = choice_back (codes "no-options") (codes "options") b ws (choice_of-flag_text b)
+
+ways_of-direction_text : (receive send : Bool) → ways_of (direction_text receive send) ≡ Some (record { receive = receive; send = send })
+ways_of-direction_text true true = refl
+ways_of-direction_text true false = refl
+ways_of-direction_text false true = refl
+ways_of-direction_text false false = refl
+
+pub direction_back : (receive send : Bool) (ws : List (List ℕ)) →
+    word_as ways_of Word (direction_text receive send ∷ ws) ≡ Ok (record { value = record { receive = receive; send = send }; rest = ws })
+unfolding word_in
+direction_back receive send ws = rw (ways_of-direction_text receive send) refl
+
+pub address_back : (a : Address) (ws : List (List ℕ)) → IsAddress a → address_in (address_text a ∷ ws) ≡ Ok (record { value = a; rest = ws })
+unfolding address_in word_in
+address_back a ws h = rw (address_of-address_text a h) refl
+
+pub algorithm_back : (a : Algorithm) (ws : List (List ℕ)) → algorithm_in (name_of a ∷ ws) ≡ Ok (record { value = a; rest = ws })
+unfolding algorithm_in word_in
+algorithm_back HmacSha1 ws = refl
+algorithm_back AesCmac ws = refl
+algorithm_back HmacSha256 ws = refl
+
+pub within_back : (low high n : ℕ) (ws : List (List ℕ)) → IsWithin low high n → high < 2 ^ 64 → number_in low high (decimal n ∷ ws) ≡ Ok (record { value = n; rest = ws })
+unfolding number_in word_in
+within_back low high n ws h small =
+    let a : nat_le low n ≡ true = le-leb _ _ h.least in
+    let b : nat_le n high ≡ true = le-leb _ _ h.most in
+    rw (decimal_of-decimal n (omega arith), a, b) refl
+
+pub number_back : (high n : ℕ) (ws : List (List ℕ)) → n ≤ high → high < 2 ^ 64 → number_in 0 high (decimal n ∷ ws) ≡ Ok (record { value = n; rest = ws })
+number_back high n ws h small = within_back 0 high n ws (record { least = omega arith; most = h }) small
+
+pub hex_back : (low high : ℕ) (bytes : List ℕ) (ws : List (List ℕ)) → AreBytes low high bytes → sized_hex_in low high (hex_of bytes ∷ ws) ≡ Ok (record { value = bytes; rest = ws })
+unfolding sized_hex_in hex_in word_in
+hex_back low high bytes ws h =
+    let a : nat_le low (length bytes) ≡ true = le-leb _ _ h.least in
+    let b : nat_le (length bytes) high ≡ true = le-leb _ _ h.most in
+    rw (bytes_of_hex-hex_of bytes h.small, a, b) refl
+
+pub some_hex_back : (bytes : List ℕ) (ws : List (List ℕ)) → 0 < length bytes → IsBytes bytes → some_hex_in (hex_of bytes ∷ ws) ≡ Ok (record { value = bytes; rest = ws })
+unfolding some_hex_in hex_in word_in
+some_hex_back bytes ws some small =
+    let a : nat_lt 0 (length bytes) ≡ true = lt-ltb _ _ some in
+    rw (bytes_of_hex-hex_of bytes small, a) refl
+
+pub one_byte : (b : ℕ) → b < 256 → AreBytes 1 1 (b ∷ [])
+one_byte b small = record { least = omega arith; most = omega arith; small = is_byte }
+  where
+    is_byte : IsBytes (b ∷ [])
+    is_byte zero = small
+    is_byte (suc i) = lit< tt
+
+pub byte_back : (b : ℕ) (ws : List (List ℕ)) → b < 256 → byte_in (hex_of (b ∷ []) ∷ ws) ≡ Ok (record { value = b; rest = ws })
+unfolding byte_in
+byte_back b ws small = rw (hex_back 1 1 (b ∷ []) ws (one_byte b small)) refl

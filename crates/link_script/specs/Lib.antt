@@ -1,0 +1,5 @@
+pub mod Making
+pub mod Left
+pub mod Names
+pub mod Printed
+pub mod Scripts

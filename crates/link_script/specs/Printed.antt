@@ -1,0 +1,108 @@
+-- The text of a script. Our own format.
+use Rattle.std.specs.Prelude.{ℕ, Bool, true, false, List, [], ◌∷◌, ◌++◌, map, codes, Option, Some, None, decimal}
+use Rattle.ao_base.specs.declared.address.Socket.{Socket}
+use Rattle.ao_base.specs.declared.end.End.{End}
+use Rattle.ao_base.specs.Algorithms.{name_of}
+use Rattle.ao_base.specs.Hexadecimal.{hex_of}
+use Rattle.line_model.specs.Texts.{end_text, line_text, socket_texts}
+use Rattle.link_model.specs.declared.event.RowLine.{RowLine}
+use Rattle.link_model.specs.declared.event.Event.{Event}
+use Rattle.link_model.specs.declared.event.Event.TheVariants as event
+use Rattle.format_model.specs.declared.script.SharedKey.{SharedKey}
+use Rattle.format_model.specs.declared.script.Script.{Script}
+use Rattle.link_script.specs.declared.name.Name.{Name}
+use Rattle.link_script.specs.declared.name.Name.TheVariants as name
+use Rattle.link_script.specs.Names.{name_text}
+
+-- lines, one after another
+unfoldable pub lines_text : List (List (List ℕ)) → List ℕ
+lines_text [] = []
+lines_text (l ∷ ls) = line_text l ++ lines_text ls
+
+-- one of two texts: the other one where this is true
+abbrev pub choice_text : List ℕ → List ℕ → Bool → List ℕ
+choice_text one other false = one
+choice_text one other true = other
+
+-- whether the checksum of an altered copy is set
+abbrev pub fixing_text : Bool → List ℕ
+fixing_text fixing = choice_text (codes "keep") (codes "fix") fixing
+
+-- whether TCP options are under the MAC (RFC 5925, section 3.1)
+abbrev pub flag_text : Bool → List ℕ
+flag_text with_options = choice_text (codes "no-options") (codes "options") with_options
+
+-- the Direction of a row that receives, sends, does both or neither (RFC 7210, section 2)
+abbrev pub direction_text : (receive send : Bool) → List ℕ
+direction_text true false = codes "in"
+direction_text false true = codes "out"
+direction_text true true = codes "both"
+direction_text false false = codes "disabled"
+
+-- the words of a row behind its key: how it is used, and when
+unfoldable pub use_texts : RowLine → List (List ℕ)
+use_texts r =
+    flag_text r.with_options
+    ∷ direction_text r.receive r.send
+    ∷ decimal r.send_first
+    ∷ decimal r.send_last
+    ∷ decimal r.accept_first
+    ∷ decimal r.accept_last
+    ∷ []
+
+-- the words of a row, behind the end whose table it joins
+unfoldable pub row_texts : RowLine → List (List ℕ)
+row_texts r = decimal r.recv_id ∷ decimal r.send_id ∷ name_of r.algorithm ∷ hex_of r.master ∷ use_texts r
+
+-- the words of an event of an end alone
+abbrev pub end_words : Name → End → List (List ℕ)
+end_words n e = name_text n ∷ end_text e ∷ []
+
+-- the words of an event of an end and a number
+abbrev pub number_words : Name → End → ℕ → List (List ℕ)
+number_words n e number = name_text n ∷ end_text e ∷ decimal number ∷ []
+
+-- the words of an event of an end and bytes
+abbrev pub bytes_words : Name → End → List ℕ → List (List ℕ)
+bytes_words n e bytes = name_text n ∷ end_text e ∷ hex_of bytes ∷ []
+
+-- the words of an event, bytes in hexadecimal of lower case
+unfoldable pub event_words : Event → List (List ℕ)
+event_words (event.Clock e seconds) = number_words name.Clock e seconds
+event_words (event.Connect e isn) = number_words name.Open e isn
+event_words (event.Listen e isn) = number_words name.Listen e isn
+event_words (event.Start e own peer) = name_text name.Start ∷ end_text e ∷ decimal own ∷ decimal peer ∷ []
+event_words (event.Give e bytes) = bytes_words name.Give e bytes
+event_words (event.Fill e count byte) = name_text name.Fill ∷ end_text e ∷ decimal count ∷ hex_of (byte ∷ []) ∷ []
+event_words (event.Send e) = end_words name.Send e
+event_words (event.Resend e) = end_words name.Resend e
+event_words (event.Deliver e segment) = number_words name.Deliver e segment
+event_words (event.Inject e bytes) = bytes_words name.Inject e bytes
+event_words (event.Alter e segment place mask fixing) = name_text name.Alter ∷ end_text e ∷ decimal segment ∷ decimal place ∷ hex_of (mask ∷ []) ∷ fixing_text fixing ∷ []
+event_words (event.Take e count) = number_words name.Take e count
+event_words (event.Close e) = end_words name.Close e
+event_words (event.Abort e) = end_words name.Abort e
+event_words (event.AddRow e row) = name_text name.Add ∷ end_text e ∷ row_texts row
+event_words (event.Withdraw e row) = number_words name.Withdraw e row
+event_words (event.Dump segment) = name_text name.Dump ∷ decimal segment ∷ []
+
+-- the words of the first line
+unfoldable pub title_words : List (List ℕ)
+title_words = codes "aotcp-link" ∷ codes "1" ∷ []
+
+-- the words of the line of an end's socket
+unfoldable pub socket_words : List ℕ → Socket → List (List ℕ)
+socket_words end s = end ∷ socket_texts s []
+
+-- the line of the shared key, if there is one
+unfoldable pub key_lines : Option SharedKey → List (List (List ℕ))
+key_lines None = []
+key_lines (Some k) = (codes "shared" ∷ name_of k.alg ∷ hex_of k.master ∷ []) ∷ []
+
+-- the lines of a script, as words
+unfoldable pub script_lines : Script → List (List (List ℕ))
+script_lines s = title_words ∷ socket_words (codes "a") s.a ∷ socket_words (codes "b") s.b ∷ (key_lines s.shared ++ map event_words s.events)
+
+-- the text of a script
+unfoldable pub text_of : Script → List ℕ
+text_of s = lines_text (script_lines s)

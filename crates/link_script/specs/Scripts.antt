@@ -1,0 +1,81 @@
+-- The scripts that a link file can say. Our own format.
+use Rattle.std.specs.Prelude.{◌≡◌, ℕ, ◌<◌, ◌≤◌, true, List, length, Option, Some, None, All}
+use Rattle.hex.specs.Hex.{IsBytes}
+use Rattle.ao_base.specs.declared.address.Address.{Address}
+use Rattle.ao_base.specs.declared.address.Address.TheVariants.{V4, V6}
+use Rattle.ao_base.specs.declared.address.Socket.{Socket}
+use Rattle.key_model.specs.Lifetimes.{greatest_time}
+use Rattle.line_model.specs.Lines.{most_lines}
+use Rattle.link_model.specs.declared.event.RowLine.{RowLine}
+use Rattle.link_model.specs.declared.event.Event.{Event}
+use Rattle.link_model.specs.declared.event.Event.TheVariants as event
+use Rattle.format_model.specs.declared.script.SharedKey.{SharedKey}
+use Rattle.format_model.specs.declared.script.Script.{Script}
+use Rattle.format_model.specs.LinkEvents.{greatest_isn, most_segments}
+use Rattle.format_model.specs.LinkFiles.{are_two_of_a_family}
+use Rattle.link_script.specs.Printed.{script_lines}
+
+-- from low to high bytes
+pub record AreBytes (low high : ℕ) (bytes : List ℕ) : Type 0 where
+  pub least : low ≤ length bytes
+  pub most : length bytes ≤ high
+  pub small : IsBytes bytes
+
+-- a number from low to high
+pub record IsWithin (low high n : ℕ) : Type 0 where
+  pub least : low ≤ n
+  pub most : n ≤ high
+
+-- ids of one byte, a master key of 1 to 255 bytes, and no lifetime that ends before it begins (RFC 7210, section 2)
+pub record IsRow (r : RowLine) : Type 0 where
+  pub recv_id : r.recv_id ≤ 255
+  pub send_id : r.send_id ≤ 255
+  pub master : AreBytes 1 255 r.master
+  pub send_first : r.send_first ≤ greatest_time
+  pub send_last : IsWithin r.send_first greatest_time r.send_last
+  pub accept_first : r.accept_first ≤ greatest_time
+  pub accept_last : IsWithin r.accept_first greatest_time r.accept_last
+
+-- the numbers and lengths of an event are in their ranges
+abbrev pub IsEvent : Event → Type 0
+IsEvent (event.Clock e seconds) = seconds ≤ greatest_time
+IsEvent (event.Connect e isn) = isn ≤ greatest_isn
+IsEvent (event.Listen e isn) = isn ≤ greatest_isn
+IsEvent (event.Start e own peer) = (own ≤ greatest_isn) × (peer ≤ greatest_isn)
+IsEvent (event.Give e bytes) = (0 < length bytes) × IsBytes bytes
+IsEvent (event.Fill e count byte) = (count ≤ 65535) × (byte < 256)
+IsEvent (event.Send e) = Unit {0}
+IsEvent (event.Resend e) = Unit {0}
+IsEvent (event.Deliver e segment) = IsWithin 1 most_segments segment
+IsEvent (event.Inject e bytes) = AreBytes 1 65575 bytes
+IsEvent (event.Alter e segment place mask fixing) = IsWithin 1 most_segments segment × (place ≤ 65535) × (mask < 256)
+IsEvent (event.Take e count) = count ≤ 65535
+IsEvent (event.Close e) = Unit {0}
+IsEvent (event.Abort e) = Unit {0}
+IsEvent (event.AddRow e row) = IsRow row
+IsEvent (event.Withdraw e row) = IsWithin 1 64 row
+IsEvent (event.Dump segment) = IsWithin 1 most_segments segment
+
+-- four bytes, or sixteen
+abbrev pub IsAddress : Address → Type 0
+IsAddress (V4 bytes) = (length bytes ≡ 4) × IsBytes bytes
+IsAddress (V6 bytes) = (length bytes ≡ 16) × IsBytes bytes
+
+-- an address, and a port of two bytes
+pub record IsSocket (s : Socket) : Type 0 where
+  pub address : IsAddress s.address
+  pub port : s.port ≤ 65535
+
+-- a master key of 1 to 255 bytes, where there is one
+abbrev pub IsKey : Option SharedKey → Type 0
+IsKey None = Unit {0}
+IsKey (Some k) = AreBytes 1 255 k.master
+
+-- addresses that differ and are of one family, numbers and lengths in their ranges, and at most 20,000 lines
+pub record IsScript (s : Script) : Type 0 where
+  pub a : IsSocket s.a
+  pub b : IsSocket s.b
+  pub two : are_two_of_a_family s.a.address s.b.address ≡ true
+  pub key : IsKey s.shared
+  pub events : All IsEvent s.events
+  pub lines : length (script_lines s) ≤ most_lines

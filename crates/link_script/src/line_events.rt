@@ -1,0 +1,160 @@
+//! The events of a link, each read from the words of its line.
+ghost use Rattle.std.specs.Prelude.{◌≡◌, ◌≤◌, ℕ};
+ghost use Rattle.ao_base.specs.declared.end.End.{End as OneEnd};
+ghost use Rattle.link_model.specs.declared.event.Event.{Event as OneEvent};
+ghost use Rattle.text_lines.specs.Readings.{Tells};
+ghost use Rattle.format_model.specs.LinkEvents.{end_of, number_of, start_of, give_of, fill_of, inject_of, alter_of, dump_of, event_named, event_of};
+ghost use Rattle.link_script.specs.Making.{MakesOfEnd, MakesOfNumber};
+ghost use Rattle.link_script.specs.Names.{name_text};
+
+use super::name::Name;
+use super::row_lines::add;
+use ao_base::{End, LineKind};
+use key_model::LATEST;
+use link_model::Event;
+use std::alloc::Global;
+use text_lines::{LineWords, Refusal};
+
+/// The greatest initial sequence number (RFC 9293, section 3.4.1).
+const GREATEST_ISN: u64 = 4_294_967_295;
+
+/// As many segments as a link file has lines.
+const MOST_SEGMENTS: u64 = 20_000;
+
+/// The longest datagram: the 40 bytes of an IPv6 header and 65,535 bytes (RFC 8200, section 3).
+const MOST_DATAGRAM: usize = 65_575;
+
+/// The most rows of a table.
+const MOST_ROWS: u64 = 64;
+
+/// What `made` makes of an end alone.
+fn end_alone<F: FnOnce(End) -> Event>(words: &mut LineWords, made: F) -> Result<Event, LineKind>
+    requires { F.IsAlwaysCallable made }
+    ensures { (meant : OneEnd → OneEvent) → MakesOfEnd (F.post made) meant → result ≡ end_of meant words.old }
+{
+    let end = words.end()?;
+    words.nothing()?;
+    Ok(made(end))
+}
+
+/// What `made` makes of an end and a number from `low` to `high`.
+fn numbered<F: FnOnce(End, u64) -> Event>(
+    words: &mut LineWords,
+    low: u64,
+    high: u64,
+    made: F,
+) -> Result<Event, LineKind>
+    requires { (e : OneEnd) (n : ℕ) → n ≤ high → F.pre made e n }
+    ensures { (meant : OneEnd → ℕ → OneEvent) → MakesOfNumber (F.post made) meant → result ≡ number_of meant low high words.old }
+{
+    let end = words.end()?;
+    let number = words.number(low, high)?;
+    words.nothing()?;
+    Ok(made(end, number))
+}
+
+#[tactic(auto, unfolding(format_model::specs::LinkEvents::start_of))]
+fn start(words: &mut LineWords) -> Result<Event, LineKind>
+    ensures { result ≡ start_of words.old }
+{
+    let end = words.end()?;
+    let own = words.long()?;
+    let peer = words.long()?;
+    words.nothing()?;
+    Ok(Event::Start(end, own, peer))
+}
+
+#[tactic(auto, unfolding(format_model::specs::LinkEvents::give_of))]
+fn give(alloc: Global, words: &mut LineWords) -> Result<Event, Refusal>
+    ensures { Tells result (give_of words.old) }
+{
+    let end = words.end()?;
+    let bytes = words.some_hex(alloc)?;
+    words.nothing()?;
+    Ok(Event::Give(end, bytes))
+}
+
+#[tactic(auto, unfolding(format_model::specs::LinkEvents::fill_of))]
+fn fill(alloc: Global, words: &mut LineWords) -> Result<Event, Refusal>
+    ensures { Tells result (fill_of words.old) }
+{
+    let end = words.end()?;
+    let count = words.short()?;
+    let byte = words.byte(alloc)?;
+    words.nothing()?;
+    Ok(Event::Fill(end, count, byte))
+}
+
+#[tactic(auto, unfolding(format_model::specs::LinkEvents::inject_of))]
+fn inject(alloc: Global, words: &mut LineWords) -> Result<Event, Refusal>
+    ensures { Tells result (inject_of words.old) }
+{
+    let end = words.end()?;
+    let datagram = words.sized_hex(alloc, 1, MOST_DATAGRAM)?;
+    words.nothing()?;
+    Ok(Event::Inject(end, datagram))
+}
+
+#[tactic(auto, unfolding(format_model::specs::LinkEvents::alter_of))]
+fn alter(alloc: Global, words: &mut LineWords) -> Result<Event, Refusal>
+    ensures { Tells result (alter_of words.old) }
+{
+    let end = words.end()?;
+    let segment = words.number(1, MOST_SEGMENTS)? as u32;
+    let place = words.short()?;
+    let mask = words.byte(alloc)?;
+    let fixing = words.choice(b"keep", b"fix")?;
+    words.nothing()?;
+    Ok(Event::Alter(end, segment, place, mask, fixing))
+}
+
+#[tactic(auto, unfolding(format_model::specs::LinkEvents::dump_of))]
+fn dump(words: &mut LineWords) -> Result<Event, LineKind>
+    ensures { result ≡ dump_of words.old }
+{
+    let segment = words.number(1, MOST_SEGMENTS)? as u32;
+    words.nothing()?;
+    Ok(Event::Dump(segment))
+}
+
+/// The event that the name and the words after it make.
+#[tactic(auto, unfolding(format_model::specs::LinkEvents::event_named))]
+fn named(alloc: Global, name: Name, words: &mut LineWords) -> Result<Event, Refusal>
+    ensures { Tells result (event_named (name_text name) words.old) }
+{
+    match name {
+        Name::Clock => Ok(numbered(words, 0, LATEST, Event::Clock)?),
+        Name::Open => Ok(numbered(words, 0, GREATEST_ISN, |end, n| Event::Connect(end, n as u32))?),
+        Name::Listen => Ok(numbered(words, 0, GREATEST_ISN, |end, n| Event::Listen(end, n as u32))?),
+        Name::Start => Ok(start(words)?),
+        Name::Give => give(alloc, words),
+        Name::Fill => fill(alloc, words),
+        Name::Send => Ok(end_alone(words, Event::Send)?),
+        Name::Resend => Ok(end_alone(words, Event::Resend)?),
+        Name::Deliver => Ok(numbered(words, 1, MOST_SEGMENTS, |end, n| Event::Deliver(end, n as u32))?),
+        Name::Inject => inject(alloc, words),
+        Name::Alter => alter(alloc, words),
+        Name::Take => Ok(numbered(words, 0, 65_535, |end, n| Event::Take(end, n as u16))?),
+        Name::Close => Ok(end_alone(words, Event::Close)?),
+        Name::Abort => Ok(end_alone(words, Event::Abort)?),
+        Name::Add => add(alloc, words),
+        Name::Withdraw => Ok(numbered(words, 1, MOST_ROWS, |end, n| Event::Withdraw(end, n as u8))?),
+        Name::Dump => Ok(dump(words)?),
+    }
+}
+
+/// The event that the words of a line make.
+///
+/// `Kind` is the kind of the first faulty word, `Word` where it isn't one that is expected there or
+/// is missing or surplus, `Number` where it isn't a decimal below 2^64, `Hex` where it isn't
+/// hexadecimal, and `Range` where a number or a length is out of its range. `Memory` only for want
+/// of memory. No more is said of the words that are left.
+#[tactic(auto, unfolding(format_model::specs::LinkEvents::event_of), using(crate::proofs::NameLaws::named_or_not))]
+pub fn read_event(alloc: Global, words: &mut LineWords) -> Result<Event, Refusal>
+    ensures { Tells result (event_of words.old) }
+{
+    match Name::read(words.word()?) {
+        Some(name) => named(alloc, name, words),
+        None => Err(Refusal::Kind(LineKind::Word)),
+    }
+}
