@@ -6,3 +6,5 @@ pub mod PhaseLaws
 pub mod JudgeLaws
 pub mod PassLaws
 pub mod FamilyLaws
+pub mod FitLaws
+pub mod MakeLaws

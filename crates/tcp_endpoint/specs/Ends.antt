@@ -3,7 +3,7 @@ use Rattle.std.specs.Prelude.{◌≡◌, ℕ, ◌+◌, ◌-◌, ◌≤◌, drop,
 use Rattle.wrap_seq.specs.Counter.{number}
 use Rattle.key_model.specs.Rows.{Row}
 use Rattle.endpoint_model.specs.States.{EndState, ready_at}
-use Rattle.ao_check.specs.Bonds.{Fits}
+use Rattle.ao_check.specs.Bonds.{Bond, Fits}
 use Rattle.stream_buffers.specs.Kept.{byte_at}
 use Rattle.tcp_endpoint.specs.declared.endpoint.Endpoint.{Endpoint}
 use Rattle.tcp_endpoint.specs.Numbers.{expected_in, fin_in, wl1_in, wl2_in}
@@ -35,9 +35,9 @@ pub record Stands (e : Endpoint) (s : EndState) : Type 0 where
 abbrev pub FitsEnd : List Row → Endpoint → Type 0
 FitsEnd rows e = Fits rows e.association
 
--- all is as before, but that more traffic keys may be kept
-pub record IsUnmoved (before after : Endpoint) : Type 0 where
-  pub association : after.association ≡ record (before.association) { keys = after.association.keys }
+-- all but the association is as before, and that is this one
+pub record HasKept (bond : Bond) (before after : Endpoint) : Type 0 where
+  pub association : after.association ≡ bond
   pub pair : after.pair ≡ before.pair
   pub isn : after.isn ≡ before.isn
   pub peer_isn : after.peer_isn ≡ before.peer_isn
@@ -53,3 +53,11 @@ pub record IsUnmoved (before after : Endpoint) : Type 0 where
   pub deadline : after.deadline ≡ before.deadline
   pub queue : after.queue ≡ before.queue
   pub reassembly : after.reassembly ≡ before.reassembly
+
+-- all is as before
+abbrev pub IsUnchanged : Endpoint → Endpoint → Type 0
+IsUnchanged before after = HasKept before.association before after
+
+-- all is as before, but that more traffic keys may be kept
+abbrev pub IsUnmoved : Endpoint → Endpoint → Type 0
+IsUnmoved before after = HasKept (record (before.association) { keys = after.association.keys }) before after

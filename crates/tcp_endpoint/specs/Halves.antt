@@ -68,11 +68,12 @@ same_family (V4 one) (V4 two) = true
 same_family (V6 one) (V6 two) = true
 same_family _ _ = false
 
--- the association is that of this end, and both addresses are of one family
+-- the association is that of this end, with room for the keys of 64 rows, and both addresses are of one family
 pub record Bound (a : Bond) (sockets : Pair) (isn : ℕ) (peer_isn : Option ℕ) : Type 0 where
   pub pair : a.pair ≡ sockets
   pub own : a.own ≡ isn
   pub peer : a.peer ≡ peer_isn
+  pub room : a.keys.rows ≡ 64
   pub family : same_family sockets.local.address sockets.remote.address ≡ true
 
 -- a RST is owed only where the peer's initial sequence number is known

@@ -5,3 +5,4 @@ pub mod Answers
 pub mod Arriving
 pub mod Fins
 pub mod Planning
+pub mod Emitting

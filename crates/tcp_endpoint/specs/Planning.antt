@@ -65,10 +65,15 @@ pub record IsOutlineOf (queue : List ℕ) (o : Outline) (draft : book.Draft) : T
   pub number_is : o.number ≡ draft.number
   pub payload : take o.count (drop o.offset queue) ≡ draft.payload
 
--- so many unsent bytes are carried: what the peer's window holds, at most so many
-abbrev pub IsCounted : Endpoint → Plan → ℕ → ℕ → Type 0
-IsCounted e plans.Data most count = count ≡ min (e.isn + 1 + e.given - number e.sequence.next) (min (number e.sequence.una + e.send_window - number e.sequence.next) most)
-IsCounted e plan most count = ⊤
+-- of so many unsent bytes, for so many of which the peer's window is free, at most so many are carried
+abbrev pub IsLeast : ℕ → ℕ → ℕ → Plan → ℕ → Type 0
+IsLeast unsent free most plans.Data count = count ≡ min unsent (min free most)
+IsLeast unsent free most plan count = ⊤
+
+-- so many bytes are carried: of those that are unsent as many as the peer's window holds, at most so many
+abbrev pub IsCounted : Endpoint → ℕ → Plan → ℕ → Type 0
+IsCounted e most plan count =
+    IsLeast (e.isn + 1 + e.given - number e.sequence.next) (number e.sequence.una + e.send_window - number e.sequence.next) most plan count
 
 -- the bytes that are carried were given
 abbrev pub IsWithin : Endpoint → Plan → ℕ → Type 0

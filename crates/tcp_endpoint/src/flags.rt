@@ -5,9 +5,13 @@ ghost use Rattle.segment_model.specs.Segments.{has};
 use tcp_segment::Datagram;
 
 pub(crate) const FIN: u8 = 0x01;
+
 pub(crate) const SYN: u8 = 0x02;
+
 pub(crate) const RST: u8 = 0x04;
+
 pub(crate) const PSH: u8 = 0x08;
+
 pub(crate) const ACK: u8 = 0x10;
 
 /// Whether a flag is set.

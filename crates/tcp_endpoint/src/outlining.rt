@@ -1,9 +1,11 @@
 //! What a planned segment is made of.
-ghost use Rattle.std.specs.Prelude.{◌≡◌, ◌+◌, ◌-◌, ◌≤◌, ℕ, min, length};
+ghost use Rattle.std.specs.Prelude.{◌≡◌, ◌+◌, ◌-◌, ◌≤◌, ◌^◌, true, min, max, length};
 ghost use Rattle.ao_base.specs.Algorithms.{mac_length_of};
+ghost use Rattle.segment_model.specs.Segments.{SYN as Syn};
 ghost use Rattle.endpoint_model.specs.States.{EndState, own_mss};
+ghost use Rattle.endpoint_model.specs.Emissions.{sets};
 ghost use Rattle.tcp_endpoint.specs.Ends.{Stands};
-ghost use Rattle.tcp_endpoint.specs.Planning.{draft_of, flags_of, IsCarried, IsOutlineOf};
+ghost use Rattle.tcp_endpoint.specs.Planning.{draft_of, flags_of, IsCarried, IsCounted, IsOutlineOf, IsWithin};
 
 use crate::beginning::own_mss;
 use crate::endpoint::Endpoint;
@@ -70,7 +72,12 @@ impl Endpoint {
     pub(crate) fn outline(&self, plan: Plan, most: u64) -> Outline
         requires carried { IsCarried self.now plan }
         ensures outlines { (s : EndState) → Stands self.now s → IsOutlineOf self.now.queue result (draft_of s most plan) }
-        ensures within { result.offset + result.count ≤ length self.now.queue }
+        ensures number { result.number ≤ 2 ^ 63 }
+        ensures piece { result.offset + result.count ≤ length self.now.queue }
+        ensures few { result.count ≤ max 1 most }
+        ensures bare { sets (flags_of plan) Syn ≡ true → result.count ≡ 0 }
+        ensures counted { IsCounted self.now most plan result.count }
+        ensures within { IsWithin self.now plan result.count }
     {
         let una = self.sequence.una.value();
         let next = self.sequence.next.value();
