@@ -1,0 +1,5 @@
+pub mod AloneLaws
+pub mod EndsLaws
+pub mod HeldLaws
+pub mod KeepLaws
+pub mod PutLaws
