@@ -32,7 +32,7 @@ same_turned a b e = at (same_socket b a) refl
     at false h = refl
     at true h = let same = same_socket_is b a h in let told : same_socket a a ≡ false = rw same at e in let is = same_socket-refl a in absurd (cc)
 
-put_found : (before after : List (Ends × Flows)) (k q : Ends) (h : Flows) → Puts before after k h → k ≡ q → found after q ≡ Some h
+pub put_found : (before after : List (Ends × Flows)) (k q : Ends) (h : Flows) → Puts before after k h → k ≡ q → found after q ≡ Some h
 put_found before after k q h P e =
     let same : is_at (by_ends k) q ≡ true = ap (λ (x : Ends). is_at (by_ends k) x) (sym e) ∙ ends_tied k in
     P.finds q ∙ ap (λ (v : Bool). cond v (Some h) (found before q)) same

@@ -76,6 +76,7 @@ pub(crate) fn fix(
 ) -> Result<bool, AllocError>
     ensures fixed { IfOk result (λ b. DoesFix (fixing tables.now datagram.now (found connections.old.entries (key_at datagram.now)) (length connections.old.entries)) connections.old.entries connections.new.entries (key_at datagram.now) b) }
     ensures unchanged { OnErr result (connections.new.entries ≡ connections.old.entries) }
+    ensures sequence { datagram.now.sequence < 2 ^ 32 }
 {
     let source = datagram.source();
     let destination = datagram.destination();
