@@ -1,0 +1,139 @@
+-- The key of a connection is the same seen from either socket, and another one for other sockets.
+use Rattle.std.proofs.Common.{◌≡◌, ℕ, Bool, true, false, not, List, [], ◌∷◌, ◌⊎◌, inl, inr, refl, sym, ap, ◌∙◌, arith}
+use Rattle.std.proofs.lemmas.Bool.Decides.{nat_tests}
+use Rattle.std.specs.Prelude.{◌==◌, ◌&&◌, ◌||◌, if◌then◌else◌}
+use Rattle.std.specs.declared.cmp.Ordering.{Ordering}
+use Rattle.std.specs.declared.cmp.Ordering.TheVariants.{Less, Equal, Greater}
+use Rattle.std.specs.Ordering.{is_lt, is_eq, nat_cmp, ordering_then, ordering_reverse}
+use Rattle.std.specs.Cmp.{IsTotalOrder}
+use Rattle.std.specs.Cmp.Lexicographic.{slice_cmp}
+use Rattle.std.proofs.lemmas.Cmp.{tied_itself}
+use Rattle.std.proofs.lemmas.Map.Lookups.{exact_unsigned, exact_bytes}
+use Rattle.ao_base.specs.declared.address.Address.{Address}
+use Rattle.ao_base.specs.declared.address.Address.TheVariants as address
+use Rattle.ao_base.specs.declared.address.Socket.{Socket}
+use Rattle.segment_model.specs.Bytes.{same_bytes}
+use Rattle.segment_model.specs.Sockets.{same_address, same_socket}
+use Rattle.segment_model.proofs.Fields.{and_tells, eqb_is, same_bytes_tells}
+use Rattle.capture_check.specs.declared.ends.Place.{Place}
+use Rattle.capture_check.specs.declared.ends.Place.TheVariants.{V4, V6}
+use Rattle.capture_check.specs.declared.ends.Ends.{Ends}
+use Rattle.capture_check.specs.contracts.ends.PlaceOrd.TheImpl.Laws as place_laws
+use Rattle.capture_check.specs.contracts.ends.EndsOrd.TheImpl.Laws as ends_laws
+use Rattle.capture_check.specs.Ends.{placed, place_of, by_place, by_ends, is_low, key_of}
+
+-- ---- sockets
+
+same_address_is : (one two : Address) → same_address one two ≡ true → one ≡ two
+same_address_is (address.V4 a) (address.V4 b) e = ap address.V4 (same_bytes_tells a b e)
+same_address_is (address.V6 a) (address.V6 b) e = ap address.V6 (same_bytes_tells a b e)
+same_address_is (address.V4 a) (address.V6 b) e = absurd (cc)
+same_address_is (address.V6 a) (address.V4 b) e = absurd (cc)
+
+pub same_socket_is : (one two : Socket) → same_socket one two ≡ true → one ≡ two
+same_socket_is one two e =
+    let t = and_tells (same_address one.address two.address) (one.port == two.port) e in
+    let address = same_address_is one.address two.address t.0 in
+    let port = eqb_is one.port two.port t.1 in
+    let half : one ≡ record { address = two.address; port = one.port } = ap (λ (a : Address). let k : Socket = record { address = a; port = one.port } in k) address in
+    half ∙ ap (λ (n : ℕ). let k : Socket = record { address = two.address; port = n } in k) port
+
+same_bytes-refl : (xs : List ℕ) → same_bytes xs xs ≡ true
+same_bytes-refl [] = refl
+same_bytes-refl (x ∷ xs) = let same : (x == x) ≡ true = grind (arith, nat_tests) in rw same (same_bytes-refl xs)
+
+same_address-refl : (a : Address) → same_address a a ≡ true
+same_address-refl (address.V4 a) = same_bytes-refl a
+same_address-refl (address.V6 a) = same_bytes-refl a
+
+pub same_socket-refl : (k : Socket) → same_socket k k ≡ true
+same_socket-refl k = let same : (k.port == k.port) ≡ true = grind (arith, nat_tests) in rw (same_address-refl k.address, same) refl
+
+-- ---- the order of places tells them apart
+
+then_equal : (a b : Ordering) → ordering_then a b ≡ Equal → (a ≡ Equal) × (b ≡ Equal)
+then_equal Less b e = absurd (cc)
+then_equal Equal b e = (refl, e)
+then_equal Greater b e = absurd (cc)
+
+exact_place : (x y : Place) → by_place x y ≡ Equal → x ≡ y
+exact_place (V4 a p) (V4 b q) e =
+    let t = then_equal (slice_cmp nat_cmp a b) (nat_cmp p q) e in
+    ap (λ (z : List ℕ). V4 z p) (exact_bytes a b t.0) ∙ ap (λ (z : ℕ). V4 b z) (exact_unsigned p q t.1)
+exact_place (V6 a p) (V6 b q) e =
+    let t = then_equal (slice_cmp nat_cmp a b) (nat_cmp p q) e in
+    ap (λ (z : List ℕ). V6 z p) (exact_bytes a b t.0) ∙ ap (λ (z : ℕ). V6 b z) (exact_unsigned p q t.1)
+exact_place (V4 a p) (V6 b q) e = absurd (cc)
+exact_place (V6 a p) (V4 b q) e = absurd (cc)
+
+exact_ends : (x y : Ends) → by_ends x y ≡ Equal → x ≡ y
+exact_ends x y e =
+    let t = then_equal (by_place x.low y.low) (by_place x.high y.high) e in
+    let half : x ≡ record { low = y.low; high = x.high } = ap (λ (p : Place). let k : Ends = record { low = p; high = x.high } in k) (exact_place x.low y.low t.0) in
+    half ∙ ap (λ (p : Place). let k : Ends = record { low = y.low; high = p } in k) (exact_place x.high y.high t.1)
+
+pub ends_tied : (x : Ends) → is_eq (by_ends x x) ≡ true
+ends_tied x = ap is_eq (tied_itself ends_laws.total-law x)
+
+pub ends_told : (x y : Ends) → is_eq (by_ends x y) ≡ true → x ≡ y
+ends_told x y e = exact_ends x y (equal (by_ends x y) e)
+  where
+    equal : (o : Ordering) → is_eq o ≡ true → o ≡ Equal
+    equal Less h = absurd (cc)
+    equal Equal h = refl
+    equal Greater h = absurd (cc)
+
+-- ---- the key is that of both sockets, in either order
+
+socket_at : Address → ℕ → Socket
+socket_at x port = record { address = x; port = port }
+
+placed_told : (x y : Address) (p q : ℕ) → placed x p ≡ placed y q → (x ≡ y) × (p ≡ q)
+placed_told (address.V4 x) (address.V4 y) p q h = (cc, cc)
+placed_told (address.V6 x) (address.V6 y) p q h = (cc, cc)
+placed_told (address.V4 x) (address.V6 y) p q h = absurd (cc)
+placed_told (address.V6 x) (address.V4 y) p q h = absurd (cc)
+
+place_told : (a b : Socket) → place_of a ≡ place_of b → a ≡ b
+unfolding socket_at
+place_told a b e =
+    let t = placed_told a.address b.address a.port b.port e in
+    ap (λ (x : Address). socket_at x a.port) t.0 ∙ ap (λ (n : ℕ). socket_at b.address n) t.1
+
+-- the two sockets in one order or the other
+pub both_told : (a b c d : Socket) → key_of a b ≡ key_of c d → ((a ≡ c) × (b ≡ d)) ⊎ ((a ≡ d) × (b ≡ c))
+both_told a b c d e = at (is_low a b) (is_low c d) e
+  where
+    one : Socket → Socket → Bool → Ends
+    one x y v = if v then record { low = place_of x; high = place_of y } else record { low = place_of y; high = place_of x }
+    at : (v w : Bool) → one a b v ≡ one c d w → ((a ≡ c) × (b ≡ d)) ⊎ ((a ≡ d) × (b ≡ c))
+    at true true h = inl (place_told a c (ap (λ (k : Ends). k.low) h), place_told b d (ap (λ (k : Ends). k.high) h))
+    at false false h = inl (place_told a c (ap (λ (k : Ends). k.high) h), place_told b d (ap (λ (k : Ends). k.low) h))
+    at true false h = inr (place_told a d (ap (λ (k : Ends). k.low) h), place_told b c (ap (λ (k : Ends). k.high) h))
+    at false true h = inr (place_told a d (ap (λ (k : Ends). k.high) h), place_told b c (ap (λ (k : Ends). k.low) h))
+
+-- of two sockets that differ, the first is low exactly where the second isn't
+pub low_turned : (a b : Socket) → same_socket a b ≡ false → is_low b a ≡ not (is_low a b)
+low_turned a b e = at (by_place (place_of a) (place_of b)) (by_place (place_of b) (place_of a)) refl (place_laws.total-law.antisymm (place_of a) (place_of b))
+  where
+    differ : by_place (place_of a) (place_of b) ≡ Equal → ⊥
+    differ h = let same = place_told a b (exact_place (place_of a) (place_of b) h) in let told : same_socket b b ≡ false = rw same at e in let is = same_socket-refl b in cc
+    at : (o p : Ordering) → by_place (place_of a) (place_of b) ≡ o → o ≡ ordering_reverse p → not (is_lt o) ≡ not (not (is_lt p))
+    at Less Greater s h = refl
+    at Greater Less s h = refl
+    at Equal p s h = absurd (differ s)
+    at Less Less s h = absurd (cc)
+    at Less Equal s h = absurd (cc)
+    at Greater Greater s h = absurd (cc)
+    at Greater Equal s h = absurd (cc)
+
+pub key_turned : (a b : Socket) → same_socket a b ≡ false → key_of b a ≡ key_of a b
+key_turned a b e = at (is_low a b) (is_low b a) (low_turned a b e)
+  where
+    one : Socket → Socket → Bool → Ends
+    one x y v = if v then record { low = place_of x; high = place_of y } else record { low = place_of y; high = place_of x }
+    at : (v w : Bool) → w ≡ not v → one b a w ≡ one a b v
+    at true true h = absurd (cc)
+    at true false h = refl
+    at false true h = refl
+    at false false h = absurd (cc)

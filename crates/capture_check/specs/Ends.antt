@@ -1,0 +1,39 @@
+-- The two sockets of a connection in their order, which is the same seen from either (own).
+use Rattle.std.specs.Prelude.{ℕ, Bool, not, if◌then◌else◌}
+use Rattle.std.specs.declared.cmp.Ordering.{Ordering}
+use Rattle.std.specs.Ordering.{is_lt}
+use Rattle.ao_base.specs.declared.address.Address.{Address}
+use Rattle.ao_base.specs.declared.address.Address.TheVariants as address
+use Rattle.ao_base.specs.declared.address.Socket.{Socket}
+use Rattle.capture_check.specs.declared.ends.Place.{Place}
+use Rattle.capture_check.specs.declared.ends.Place.TheVariants.{V4, V6}
+use Rattle.capture_check.specs.declared.ends.Ends.{Ends}
+use Rattle.capture_check.specs.contracts.ends.PlaceOrd.TheImpl as place_ord
+use Rattle.capture_check.specs.contracts.ends.EndsOrd.TheImpl as ends_ord
+
+-- an address with a port, as the order has it
+abbrev pub placed : Address → ℕ → Place
+placed (address.V4 bytes) port = V4 bytes port
+placed (address.V6 bytes) port = V6 bytes port
+
+-- a socket, as the order has it
+abbrev pub place_of : Socket → Place
+place_of s = placed s.address s.port
+
+-- the order of sockets: IPv4 first, then by the bytes of the address, then by the port
+abbrev pub by_place : Place → Place → Ordering
+by_place = (place_ord.ghosts).cmp
+
+-- the order of the keys of connections
+abbrev pub by_ends : Ends → Ends → Ordering
+by_ends = (ends_ord.ghosts).cmp
+
+-- the first socket stands first in the order, or they are the same
+abbrev pub is_low : Socket → Socket → Bool
+is_low one two = not (is_lt (by_place (place_of two) (place_of one)))
+
+-- the two sockets in their order
+abbrev pub key_of : Socket → Socket → Ends
+key_of one two =
+    if is_low one two then record { low = place_of one; high = place_of two }
+    else record { low = place_of two; high = place_of one }

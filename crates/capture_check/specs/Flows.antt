@@ -1,0 +1,89 @@
+-- What is known of a connection: both ways of it (own).
+use Rattle.std.specs.Prelude.{◌≡◌, ◌≤◌, ◌+◌, ◌^◌, ℕ, max, Bool, true, false, not, List, [], length, Option, Some, None}
+use Rattle.std.specs.List.{find}
+use Rattle.ao_base.specs.declared.address.Pair.{Pair}
+use Rattle.ao_base.specs.declared.address.Socket.{Socket}
+use Rattle.segment_model.specs.Options.{find_ao}
+use Rattle.segment_model.specs.Segments.{Segment, has, segment_length, SYN}
+use Rattle.key_model.specs.Rows.{Row, Table, has_address}
+use Rattle.endpoint_model.specs.declared.verdict.Verdict.{Verdict}
+use Rattle.endpoint_model.specs.Verdicts.{Judgement, Admit, Refuse, judge}
+use Rattle.format_model.specs.Captures.{Connection, Side}
+use Rattle.ao_kdf.specs.declared.way.Way.TheVariants.{Inbound}
+use Rattle.ao_kdf.specs.Cache.{empty}
+use Rattle.ao_check.specs.Bonds.{Bond, Fits, Counted}
+use Rattle.ao_check.specs.Verdicts.{Tells, judging}
+use Rattle.capture_check.specs.declared.flow.Flow.{Flow}
+use Rattle.capture_check.specs.declared.flows.Flows.{Flows}
+use Rattle.capture_check.specs.Ends.{is_low}
+
+-- the rows of a table, if there is one
+abbrev pub rows_in : Option Table → List Row
+rows_in None = []
+rows_in (Some t) = t.rows
+
+-- the rows of the node that has the address of a socket; none where no node has it
+abbrev pub rows_of : List Table → Socket → List Row
+rows_of tables s = rows_in (find (has_address s.address) tables)
+
+-- the way from one socket to another as it begins: the number behind the SYN is expected (RFC 9293, section 3.5), and no key is kept
+abbrev pub new_flow : List Table → Socket → Socket → ℕ → ℕ → Flow
+new_flow tables from to isn other =
+    record {
+      isn = isn;
+      expected = isn + 1;
+      receiver = record { pair = record { local = to; remote = from }; own = other; peer = Some isn; current = None; keys = empty (length (rows_of tables to)) };
+    }
+
+-- the way from one socket to another: the receiver's association has these sockets and both initial sequence numbers, and fits its node's rows
+pub record IsFlow (tables : List Table) (from to : Socket) (f other : Flow) : Type 0 where
+  pub pair : f.receiver.pair ≡ record { local = to; remote = from }
+  pub own : f.receiver.own ≡ other.isn
+  pub peer : f.receiver.peer ≡ Some f.isn
+  pub expected : f.expected ≤ 2 ^ 63
+  pub fits : Fits (rows_of tables to) f.receiver
+
+-- the way from the lower socket, or from the higher one
+abbrev pub way : Bool → Flows → Flow
+way true h = h.low
+way false h = h.high
+
+-- the way from one socket to another
+abbrev pub flow_from : Socket → Socket → Flows → Flow
+flow_from from to h = way (is_low from to) h
+
+-- both ways, of which the first is from the lower socket, or from the higher one
+abbrev pub both : Bool → Flow → Flow → Flows
+both true one two = record { low = one; high = two }
+both false one two = record { low = two; high = one }
+
+-- both ways between two sockets as they begin with these initial sequence numbers
+abbrev pub new_flows : List Table → Socket → Socket → ℕ → ℕ → Flows
+new_flows tables a b isn other = both (is_low a b) (new_flow tables a b isn other) (new_flow tables b a other isn)
+
+-- the side of a connection that sends this way
+abbrev pub side_of : Socket → Flow → Side
+side_of socket f = record { socket = socket; isn = f.isn; expected = f.expected }
+
+-- the connection as the first socket sees it
+abbrev pub shown : Socket → Socket → Flows → Connection
+shown a b h = record { one = side_of a (flow_from a b h); two = side_of b (flow_from b a h) }
+
+-- the verdict on a segment that goes this way
+abbrev pub judged_on : List Row → ℕ → Segment → Flow → Judgement
+judged_on rows now d f = judge rows f.receiver.pair f.receiver.own f.receiver.peer (Some f.expected) now d
+
+-- what is expected of the sender after a segment with this verdict: where it passed, at least the number behind it
+abbrev pub expected_after : ℕ → Segment → Judgement → ℕ
+expected_after x d (Refuse why) = x
+expected_after x d (Admit p) = max x (p.number + segment_length d)
+
+-- one segment without SYN is heard: its verdict, what is expected then, and the keys that are kept
+pub record FlowHears (rows : List Row) (now : ℕ) (d : Segment) (before after : Flow) (verdict : Verdict) (old new : ℕ) : Type 0 where
+  pub tells : Tells rows before.receiver.pair d verdict (judged_on rows now d before)
+  pub isn : after.isn ≡ before.isn
+  pub expected : after.expected ≡ expected_after before.expected d (judged_on rows now d before)
+  pub small : after.expected ≤ 2 ^ 63
+  pub receiver : after.receiver ≡ record before.receiver { keys = after.receiver.keys }
+  pub fits : Fits rows after.receiver
+  pub counted : Counted before.receiver.keys after.receiver.keys (judging rows before.receiver.pair now (find_ao d.area)) Inbound (has SYN d) old new

@@ -1,0 +1,84 @@
+-- What a checker does with a segment (own).
+use Rattle.std.specs.Prelude.{◌≡◌, ◌≤◌, ◌+◌, ◌==◌, ◌&&◌, nat_le, ℕ, Bool, true, false, not, is_some, List, length, Option, Some, None, cond, Result, Ok, Err, if◌then◌else◌}
+use Rattle.std.specs.BTreeMap.{is_at}
+use Rattle.segment_model.specs.Options.{find_ao}
+use Rattle.segment_model.specs.Segments.{Segment, has, SYN}
+use Rattle.key_model.specs.Rows.{Row, Table}
+use Rattle.endpoint_model.specs.declared.verdict.Verdict.{Verdict}
+use Rattle.endpoint_model.specs.Verdicts.{judge}
+use Rattle.format_model.specs.Captures.{acknowledged_isn, most_connections, pair_at}
+use Rattle.ao_check.specs.Verdicts.{Tells, judging}
+use Rattle.capture_check.specs.declared.ends.Ends.{Ends}
+use Rattle.capture_check.specs.declared.flow.Flow.{Flow}
+use Rattle.capture_check.specs.declared.flows.Flows.{Flows}
+use Rattle.capture_check.specs.Checking.{found}
+use Rattle.capture_check.specs.Ends.{by_ends, is_low, key_of}
+use Rattle.capture_check.specs.Flows.{way, FlowHears, new_flows}
+
+-- this is known of the connection with this key from now on, and the same as before of all others
+pub record Puts (before after : List (Ends × Flows)) (k : Ends) (h : Flows) : Type 0 where
+  pub finds : (q : Ends) → found after q ≡ cond (is_at (by_ends k) q) (Some h) (found before q)
+  pub count : length after ≡ (if is_some (found before k) then length before else length before + 1)
+
+-- the key of the connection of a segment
+abbrev pub key_at : Segment → Ends
+key_at d = key_of d.source d.destination
+
+-- the segment comes from the lower socket of its connection
+abbrev pub from_low : Segment → Bool
+from_low d = is_low d.source d.destination
+
+-- a segment without SYN is heard on one of both ways
+pub record FlowsHear (rows : List Row) (now : ℕ) (d : Segment) (low : Bool) (before after : Flows) (verdict : Verdict) (old new : ℕ) : Type 0 where
+  pub hears : FlowHears rows now d (way low before) (way low after) verdict old new
+  pub other : way (not low) after ≡ way (not low) before
+
+-- the verdict on a segment of which nothing is known but its destination's initial sequence number; without SYN no step is counted for a row that judges it
+pub record Alone (rows : List Row) (now own : ℕ) (d : Segment) (result : Verdict) : Type 0 where
+  pub tells : Tells rows (pair_at d) d result (judge rows (pair_at d) own None None now d)
+
+-- the steps that this costs
+pub record AloneCounts (rows : List Row) (now : ℕ) (d : Segment) (old new : ℕ) : Type 0 where
+  pub least : old ≤ new
+  pub most : new ≤ old + 1
+  pub free : (n : ℕ) → has SYN d ≡ false → judging rows (pair_at d) now (find_ao d.area) ≡ Some n → new ≡ old
+
+-- a segment without SYN of a connection that is known
+pub record OfKnown (rows : List Row) (now : ℕ) (d : Segment) (before after : List (Ends × Flows)) (h : Flows) (result : Verdict) (old new : ℕ) : Type 0 where
+  pub next : Flows
+  pub puts : Puts before after (key_at d) next
+  pub hears : FlowsHear rows now d (from_low d) h next result old new
+
+-- a segment without SYN of a connection that isn't known
+pub record OfUnknown (rows : List Row) (now : ℕ) (d : Segment) (before after : List (Ends × Flows)) (result : Verdict) (old new : ℕ) : Type 0 where
+  pub same : after ≡ before
+  pub alone : Alone rows now 0 d result
+  pub counts : AloneCounts rows now d old new
+
+-- a segment without SYN, by what is known of its connection
+abbrev pub HearsLater : List Row → ℕ → Segment → List (Ends × Flows) → List (Ends × Flows) → Option Flows → Verdict → ℕ → ℕ → Type 0
+HearsLater rows now d before after (Some h) result old new = OfKnown rows now d before after h result old new
+HearsLater rows now d before after None result old new = OfUnknown rows now d before after result old new
+
+-- what becomes of a connection when a SYN with ACK passes
+pub data Fixing : Type 0 where
+  Fixed : Fixing
+  TooMany : Fixing
+  Fixes : (flows : Flows) → Fixing
+
+-- both ways have these initial sequence numbers
+abbrev pub has_isns : Bool → Flows → ℕ → ℕ → Bool
+has_isns low h isn other = ((way low h).isn == isn) && ((way (not low) h).isn == other)
+
+-- the initial sequence numbers are fixed already, or too many connections are held, or they are fixed now
+abbrev pub fixing : List Table → Segment → Option Flows → ℕ → Fixing
+fixing tables d (Some h) count =
+    if has_isns (from_low d) h d.sequence (acknowledged_isn d) then Fixed else Fixes (new_flows tables d.source d.destination d.sequence (acknowledged_isn d))
+fixing tables d None count =
+    if nat_le most_connections count then TooMany else Fixes (new_flows tables d.source d.destination d.sequence (acknowledged_isn d))
+
+-- what was to be done was done; the answer says whether there was room
+abbrev pub DoesFix : Fixing → List (Ends × Flows) → List (Ends × Flows) → Ends → Bool → Type 0
+DoesFix Fixed before after k result = (after ≡ before) × (result ≡ true)
+DoesFix TooMany before after k result = (after ≡ before) × (result ≡ false)
+DoesFix (Fixes h) before after k result = Puts before after k h × (result ≡ true)

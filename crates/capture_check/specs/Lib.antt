@@ -1,0 +1,5 @@
+pub mod Answers
+pub mod Checking
+pub mod Ends
+pub mod Flows
+pub mod Hearing

@@ -1,0 +1,18 @@
+//! What is said of a stored segment.
+
+use endpoint_model::Verdict;
+use segment_model::DatagramFault;
+
+/// What a checker says of a stored segment. The truth value says whether its TCP checksum is right,
+/// which the verdict doesn't look at.
+#[derive(Clone, Copy, Debug, PartialEq, Eq)]
+pub enum CheckLine {
+    /// The bytes are no datagram.
+    Bad(DatagramFault),
+    /// No node has the address that the segment goes to, or it goes from a socket to itself.
+    UnknownNode,
+    /// The verdict of the node that the segment goes to.
+    Verdict(Verdict, bool),
+    /// The segment passed and would fix a further connection, but 65,536 are held.
+    Full(bool),
+}

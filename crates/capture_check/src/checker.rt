@@ -1,0 +1,185 @@
+//! A checker of stored segments.
+ghost use Rattle.std.specs.Prelude.{◌≡◌, ◌≤◌, ◌+◌, ℕ, [], false, true, List, IfOk, OnErr, Some};
+ghost use Rattle.std.specs.List.{find};
+ghost use Rattle.segment_model.specs.Segments.{Segment, Read, reading, has, SYN};
+ghost use Rattle.segment_model.specs.Sockets.{same_socket};
+ghost use Rattle.key_model.specs.Rows.{has_address};
+ghost use Rattle.format_model.specs.Captures.{Connection, hear, hear_at};
+ghost use Rattle.capture_check.specs.Checking.{IsSound, StandsFor, Hears, KeepsKeys, Derives};
+ghost use Rattle.capture_check.specs.Answers.{is_pass};
+ghost use Rattle.capture_check.specs.Flows.{rows_of};
+
+use crate::answer::CheckLine;
+use crate::ends::{Ends, is_same_socket};
+use crate::flows::Flows;
+use crate::hearing::{fix, hear_later, judge_alone};
+use crate::segment::{acknowledged_isn, has_ack, has_syn};
+use ao_base::Steps;
+use ao_check::Verdict;
+use key_table::{Table, Tables};
+use std::alloc::{AllocError, Global};
+use std::collections::BTreeMap;
+use std::marker::Model;
+use std::sync::ledger::Ledger;
+use tcp_segment::{Datagram, read_datagram};
+
+/// A checker of stored segments: the tables of all nodes, and what it knows of each connection, at
+/// most 65,536 of them. Seen as the tables and what is known by the two sockets of a connection.
+#[derive(Drop)]
+pub struct Checker {
+    tables: Tables,
+    connections: BTreeMap<Ends, Flows>,
+}
+
+impl Model for Checker {
+    ghost use Rattle.capture_check.specs.Checking.{Checking, IsSound};
+
+    ghost Value = { Checking };
+
+    ghost view = { λ c. record { tables = c.tables; entries = c.connections.entries } };
+
+    ghost invariant = { λ c. IsSound c.tables c.connections.entries };
+}
+
+/// The answer to a segment with SYN. It tells its own initial sequence number, and with ACK the
+/// other one (RFC 5925, section 5.2), and with ACK it fixes them where it passes. After want of
+/// memory nothing has changed.
+fn hear_first<L: Ledger>(
+    connections: &mut BTreeMap<Ends, Flows>,
+    alloc: Global,
+    tables: &Tables,
+    table: &Table,
+    time: u64,
+    datagram: &Datagram<'_>,
+    steps: &mut Steps<L>,
+) -> Result<CheckLine, AllocError>
+    requires sound { IsSound tables.now connections.old.entries }
+    requires table { find (has_address datagram.now.destination.address) tables.now ≡ Some table.now }
+    requires differ { same_socket datagram.now.source datagram.now.destination ≡ false }
+    requires first { has SYN datagram.now ≡ true }
+    ensures heard { (held : List Connection) → StandsFor connections.old.entries held
+        → IfOk result (λ line. Hears connections.new.entries line (hear_at (Some table.now) held time datagram.now)) }
+    ensures unchanged { OnErr result (connections.new.entries ≡ connections.old.entries) }
+    ensures sound { IsSound tables.now connections.new.entries }
+    ensures keys { KeepsKeys connections.old.entries connections.new.entries }
+    ensures derives { Derives connections.old.entries connections.new.entries table.now.rows time datagram.now steps.old steps.new }
+{
+    let right = datagram.checksum_ok();
+    let own = acknowledged_isn(datagram);
+    let verdict = judge_alone(alloc, table, own, time, datagram, steps)?;
+    if !is_pass(&verdict) {
+        return Ok(CheckLine::Verdict(verdict, right));
+    }
+    if !has_ack(datagram) {
+        return Ok(CheckLine::Verdict(verdict, right));
+    }
+    match fix(connections, alloc, tables, datagram) {
+        Err(error) => Err(error),
+        Ok(true) => Ok(CheckLine::Verdict(verdict, right)),
+        Ok(false) => Ok(CheckLine::Full(right)),
+    }
+}
+
+/// The answer to a segment without SYN.
+fn hear_next<L: Ledger>(
+    connections: &mut BTreeMap<Ends, Flows>,
+    alloc: Global,
+    tables: &Tables,
+    table: &Table,
+    time: u64,
+    datagram: &Datagram<'_>,
+    steps: &mut Steps<L>,
+) -> Result<CheckLine, AllocError>
+    requires sound { IsSound tables.now connections.old.entries }
+    requires table { find (has_address datagram.now.destination.address) tables.now ≡ Some table.now }
+    requires differ { same_socket datagram.now.source datagram.now.destination ≡ false }
+    requires later { has SYN datagram.now ≡ false }
+    ensures heard { (held : List Connection) → StandsFor connections.old.entries held
+        → IfOk result (λ line. Hears connections.new.entries line (hear_at (Some table.now) held time datagram.now)) }
+    ensures unchanged { OnErr result (connections.new.entries ≡ connections.old.entries) }
+    ensures sound { IsSound tables.now connections.new.entries }
+    ensures keys { KeepsKeys connections.old.entries connections.new.entries }
+    ensures derives { Derives connections.old.entries connections.new.entries table.now.rows time datagram.now steps.old steps.new }
+{
+    let right = datagram.checksum_ok();
+    match hear_later(connections, alloc, tables, table, time, datagram, steps) {
+        Err(error) => Err(error),
+        Ok(verdict) => Ok(CheckLine::Verdict(verdict, right)),
+    }
+}
+
+fn is_pass(verdict: &Verdict) -> bool
+    ensures { result ≡ is_pass verdict.now }
+{
+    matches!(verdict, Verdict::Pass(_))
+}
+
+impl Checker {
+    /// A checker that knows no connection.
+    pub fn new(_alloc: Global, tables: Tables) -> Result<Checker, AllocError>
+        ensures { IfOk result (λ c. c ≡ record { tables = tables; entries = [] }) }
+    {
+        Ok(Checker {
+            tables,
+            connections: BTreeMap::new(_alloc),
+        })
+    }
+
+    /// What is said of the bytes that were stored at a time, in seconds since 1970: the answer, and
+    /// the connections that the checker knows afterwards, are those of the definition, whatever
+    /// connections it knew. After want of memory it is as it was.
+    ///
+    /// At most one step is counted, and none for a segment without SYN where a key is kept for its
+    /// connection, direction and row; a key that is derived for such a segment is kept. Kept keys
+    /// are dropped exactly where the initial sequence numbers of their connection are fixed anew.
+    pub fn next<L: Ledger>(
+        &mut self,
+        alloc: Global,
+        time: u64,
+        bytes: &[u8],
+        steps: &mut Steps<L>,
+    ) -> Result<CheckLine, AllocError>
+        ensures heard { (held : List Connection) → StandsFor self.old.entries held
+            → IfOk result (λ line. Hears self.new.entries line (hear self.old.tables held time bytes.now)) }
+        ensures tables { self.new.tables ≡ self.old.tables }
+        ensures unchanged { OnErr result (self.new ≡ self.old) }
+        ensures keys { KeepsKeys self.old.entries self.new.entries }
+        ensures derives { (d : Segment) → reading bytes.now ≡ Read d → Derives self.old.entries self.new.entries (rows_of self.old.tables d.destination) time d steps.old steps.new }
+        ensures least { steps.old ≤ steps.new }
+        ensures most { steps.new ≤ steps.old + 1 }
+    {
+        let datagram = match read_datagram(bytes) {
+            Err(fault) => return Ok(CheckLine::Bad(fault)),
+            Ok(datagram) => datagram,
+        };
+        let destination = datagram.destination();
+        let table = match self.tables.table(&destination.address) {
+            None => return Ok(CheckLine::UnknownNode),
+            Some(table) => table,
+        };
+        if is_same_socket(datagram.source(), destination) {
+            return Ok(CheckLine::UnknownNode);
+        }
+        if has_syn(&datagram) {
+            hear_first(
+                &mut self.connections,
+                alloc,
+                &self.tables,
+                table,
+                time,
+                &datagram,
+                steps,
+            )
+        } else {
+            hear_next(
+                &mut self.connections,
+                alloc,
+                &self.tables,
+                table,
+                time,
+                &datagram,
+                steps,
+            )
+        }
+    }
+}

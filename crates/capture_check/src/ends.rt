@@ -1,0 +1,65 @@
+//! The two sockets of a connection in their order, which is the same seen from either.
+ghost use Rattle.std.specs.Prelude.{◌≡◌, not};
+ghost use Rattle.segment_model.specs.Sockets.{same_socket};
+ghost use Rattle.capture_check.specs.Ends.{place_of, is_low, key_of};
+
+use ao_base::{Address, Socket};
+use std::cmp::Ordering;
+
+/// A socket, in an order: IPv4 first, then by the bytes of the address, then by the port.
+#[derive(Clone, Copy, Debug, PartialEq, Eq, PartialOrd, Ord)]
+pub(crate) enum Place {
+    V4([u8; 4], u16),
+    V6([u8; 16], u16),
+}
+
+/// The two sockets of a connection, the lower one first.
+#[derive(Clone, Copy, Debug, PartialEq, Eq, PartialOrd, Ord)]
+pub(crate) struct Ends {
+    low: Place,
+    high: Place,
+}
+
+fn place_of(socket: Socket) -> Place
+    ensures { result ≡ place_of socket }
+{
+    match socket.address {
+        Address::V4(bytes) => Place::V4(bytes, socket.port),
+        Address::V6(bytes) => Place::V6(bytes, socket.port),
+    }
+}
+
+/// Whether two sockets are the same.
+pub(crate) fn is_same_socket(one: Socket, two: Socket) -> bool
+    ensures { result ≡ same_socket one two }
+{
+    one == two
+}
+
+/// Whether the first socket stands first in the order; where they are the same it does.
+pub(crate) fn is_low(one: Socket, two: Socket) -> bool
+    ensures { result ≡ is_low one two }
+{
+    match place_of(two).cmp(&place_of(one)) {
+        Ordering::Less => false,
+        Ordering::Equal => true,
+        Ordering::Greater => true,
+    }
+}
+
+/// The two sockets in their order.
+pub(crate) fn ends_of(one: Socket, two: Socket) -> Ends
+    ensures { result ≡ key_of one two }
+{
+    if is_low(one, two) {
+        Ends {
+            low: place_of(one),
+            high: place_of(two),
+        }
+    } else {
+        Ends {
+            low: place_of(two),
+            high: place_of(one),
+        }
+    }
+}

@@ -1,0 +1,94 @@
+//! What is known of the segments of a connection that go one way.
+ghost use Rattle.std.specs.Prelude.{◌≡◌, ◌≤◌, ◌^◌, length, Some, IfOk};
+
+ghost use Rattle.capture_check.specs.Flows.{new_flow, rows_of, FlowHears};
+ghost use Rattle.ao_check.specs.Bonds.{fresh, Fits};
+
+
+use crate::segment::length_of;
+use ao_base::{Pair, Socket, Steps};
+use ao_check::{Association, Verdict};
+use key_table::{Table, Tables};
+use std::alloc::{AllocError, Global};
+use std::sync::ledger::Ledger;
+use tcp_segment::Datagram;
+
+/// One way of a connection: the initial sequence number of the sender, the number expected of it, at
+/// most 2^63, and the receiver's association, which keeps the traffic keys of this way.
+#[derive(Drop)]
+pub(crate) struct Flow {
+    pub(crate) isn: u32,
+    pub(crate) expected: u64,
+    pub(crate) receiver: Association,
+}
+
+/// The association of a node, with room for the keys of its rows; a node that isn't there has none.
+fn receiver_of(
+    alloc: Global,
+    tables: &Tables,
+    pair: Pair,
+    isn: u32,
+) -> Result<Association, AllocError>
+    ensures fresh { IfOk result (λ a. a ≡ fresh pair isn (length (rows_of tables.now pair.local))) }
+    ensures fits { IfOk result (λ a. Fits (rows_of tables.now pair.local) a) }
+{
+    match tables.table(&pair.local.address) {
+        Some(table) => Association::new(alloc, table, pair, isn, table.rows()),
+        None => {
+            let table = Table::empty(alloc, pair.local.address);
+            Association::new(alloc, &table, pair, isn, 0)
+        }
+    }
+}
+
+impl Flow {
+    /// The way from one socket to another, whose initial sequence numbers became known (RFC 9293,
+    /// section 3.5). No key is kept.
+    pub(crate) fn new(
+        alloc: Global,
+        tables: &Tables,
+        from: Socket,
+        to: Socket,
+        isn: u32,
+        other: u32,
+    ) -> Result<Flow, AllocError>
+        ensures new { IfOk result (λ f. f ≡ new_flow tables.now from to isn other) }
+        ensures fits { IfOk result (λ f. Fits (rows_of tables.now to) f.receiver) }
+    {
+        let pair = Pair {
+            local: to,
+            remote: from,
+        };
+        let mut receiver = receiver_of(alloc, tables, pair, other)?;
+        receiver.learn(isn);
+        Ok(Flow {
+            isn,
+            expected: u64::from(isn) + 1,
+            receiver,
+        })
+    }
+
+    /// The verdict on a segment without SYN that goes this way. Where it passes, what is expected is
+    /// at least the number behind it.
+    pub(crate) fn hear<L: Ledger>(
+        &mut self,
+        table: &Table,
+        time: u64,
+        datagram: &Datagram<'_>,
+        steps: &mut Steps<L>,
+    ) -> Verdict
+        requires fits { Fits table.now.rows self.old.receiver }
+        requires source { datagram.now.source ≡ self.old.receiver.pair.remote }
+        requires destination { datagram.now.destination ≡ self.old.receiver.pair.local }
+        requires peer { self.old.receiver.peer ≡ Some self.old.isn }
+        requires expected { self.old.expected ≤ 2 ^ 63 }
+        ensures { FlowHears table.now.rows time datagram.now self.old self.new result steps.old steps.new }
+    {
+        let expected = self.expected;
+        let verdict = self.receiver.check(table, time, Some(expected), datagram, steps);
+        if let Verdict::Pass(passed) = &verdict {
+            self.expected = expected.max(passed.number + length_of(datagram));
+        }
+        verdict
+    }
+}

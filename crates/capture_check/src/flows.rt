@@ -1,0 +1,86 @@
+//! Both ways of a connection.
+ghost use Rattle.std.specs.Prelude.{◌≡◌, ◌≤◌, ◌^◌, Some, IfOk, not};
+ghost use Rattle.ao_check.specs.Bonds.{Fits};
+ghost use Rattle.capture_check.specs.Flows.{new_flows, rows_of, flow_from, way};
+ghost use Rattle.capture_check.specs.Hearing.{FlowsHear, has_isns};
+
+use crate::ends::is_low;
+use crate::flow::Flow;
+use ao_base::{Socket, Steps};
+use ao_check::Verdict;
+use key_table::{Table, Tables};
+use std::alloc::{AllocError, Global};
+use std::sync::ledger::Ledger;
+use tcp_segment::Datagram;
+
+/// What is known of a connection: the segments from the lower socket, and those from the higher one.
+#[derive(Drop)]
+pub(crate) struct Flows {
+    pub(crate) low: Flow,
+    pub(crate) high: Flow,
+}
+
+impl Flows {
+    /// Both ways between two sockets, whose initial sequence numbers became known.
+    pub(crate) fn new(
+        alloc: Global,
+        tables: &Tables,
+        one: Socket,
+        two: Socket,
+        isn: u32,
+        other: u32,
+    ) -> Result<Flows, AllocError>
+        ensures new { IfOk result (λ h. h ≡ new_flows tables.now one two isn other) }
+        ensures fits_low { IfOk result (λ h. Fits (rows_of tables.now h.low.receiver.pair.local) h.low.receiver) }
+        ensures fits_high { IfOk result (λ h. Fits (rows_of tables.now h.high.receiver.pair.local) h.high.receiver) }
+    {
+        let from_one = Flow::new(alloc, tables, one, two, isn, other)?;
+        let from_two = Flow::new(alloc, tables, two, one, other, isn)?;
+        if is_low(one, two) {
+            Ok(Flows {
+                low: from_one,
+                high: from_two,
+            })
+        } else {
+            Ok(Flows {
+                low: from_two,
+                high: from_one,
+            })
+        }
+    }
+
+    /// Whether both ways have these initial sequence numbers, the first one that of the lower socket
+    /// or of the higher one.
+    pub(crate) fn has_isns(&self, low: bool, isn: u32, other: u32) -> bool
+        ensures { result ≡ has_isns low self.now isn other }
+    {
+        if low {
+            self.low.isn == isn && self.high.isn == other
+        } else {
+            self.high.isn == isn && self.low.isn == other
+        }
+    }
+
+    /// The verdict on a segment without SYN that comes from the lower socket, or from the higher one.
+    pub(crate) fn hear<L: Ledger>(
+        &mut self,
+        low: bool,
+        table: &Table,
+        time: u64,
+        datagram: &Datagram<'_>,
+        steps: &mut Steps<L>,
+    ) -> Verdict
+        requires fits { Fits table.now.rows (way low self.old).receiver }
+        requires source { datagram.now.source ≡ (way low self.old).receiver.pair.remote }
+        requires destination { datagram.now.destination ≡ (way low self.old).receiver.pair.local }
+        requires peer { (way low self.old).receiver.peer ≡ Some (way low self.old).isn }
+        requires expected { (way low self.old).expected ≤ 2 ^ 63 }
+        ensures { FlowsHear table.now.rows time datagram.now low self.old self.new result steps.old steps.new }
+    {
+        if low {
+            self.low.hear(table, time, datagram, steps)
+        } else {
+            self.high.hear(table, time, datagram, steps)
+        }
+    }
+}

@@ -1,0 +1,104 @@
+//! What a checker does with a segment.
+ghost use Rattle.std.specs.Prelude.{◌≡◌, length, Some, IfOk, OnErr, ◌<◌, ◌^◌};
+ghost use Rattle.std.specs.List.{find};
+ghost use Rattle.key_model.specs.Rows.{has_address};
+ghost use Rattle.segment_model.specs.Sockets.{same_socket};
+ghost use Rattle.std.specs.Prelude.{false};
+ghost use Rattle.capture_check.specs.Checking.{found, IsSound};
+ghost use Rattle.capture_check.specs.Hearing.{Alone, AloneCounts, HearsLater, fixing, DoesFix, key_at};
+
+use crate::ends::{Ends, ends_of, is_low};
+use crate::flows::Flows;
+use crate::segment::{acknowledged_isn, pair_at};
+use ao_base::Steps;
+use ao_check::{Association, Verdict};
+use key_table::{Table, Tables};
+use std::alloc::{AllocError, Global};
+use std::collections::BTreeMap;
+use std::sync::ledger::Ledger;
+use tcp_segment::Datagram;
+
+/// The most connections that are held.
+const MOST: usize = 65_536;
+
+/// The verdict on a segment of which nothing is known but its destination's initial sequence number.
+pub(crate) fn judge_alone<L: Ledger>(
+    alloc: Global,
+    table: &Table,
+    own_isn: u32,
+    time: u64,
+    datagram: &Datagram<'_>,
+    steps: &mut Steps<L>,
+) -> Result<Verdict, AllocError>
+    ensures alone { IfOk result (λ v. Alone table.now.rows time own_isn datagram.now v) }
+    ensures counts { AloneCounts table.now.rows time datagram.now steps.old steps.new }
+{
+    let pair = pair_at(datagram);
+    let mut association = Association::new(alloc, table, pair, own_isn, table.rows())?;
+    Ok(association.check(table, time, None, datagram, steps))
+}
+
+/// The verdict on a segment without SYN, by what is known of its connection; where it passes, more
+/// is expected of its sender. After want of memory nothing has changed.
+pub(crate) fn hear_later<L: Ledger>(
+    connections: &mut BTreeMap<Ends, Flows>,
+    alloc: Global,
+    tables: &Tables,
+    table: &Table,
+    time: u64,
+    datagram: &Datagram<'_>,
+    steps: &mut Steps<L>,
+) -> Result<Verdict, AllocError>
+    requires sound { IsSound tables.now connections.old.entries }
+    requires table { find (has_address datagram.now.destination.address) tables.now ≡ Some table.now }
+    requires differ { same_socket datagram.now.source datagram.now.destination ≡ false }
+    ensures heard { IfOk result (λ v. HearsLater table.now.rows time datagram.now connections.old.entries connections.new.entries (found connections.old.entries (key_at datagram.now)) v steps.old steps.new) }
+    ensures unchanged { OnErr result (connections.new.entries ≡ connections.old.entries) }
+    ensures free { OnErr result (AloneCounts table.now.rows time datagram.now steps.old steps.new) }
+{
+    let source = datagram.source();
+    let destination = datagram.destination();
+    let low = is_low(source, destination);
+    match connections.get_mut(&ends_of(source, destination)) {
+        Some(flows) => Ok(flows.hear(low, table, time, datagram, steps)),
+        None => judge_alone(alloc, table, 0, time, datagram, steps),
+    }
+}
+
+/// A SYN with ACK passed: it fixes both initial sequence numbers of its connection, unless they are
+/// fixed already. False exactly where the connection isn't known and 65,536 others are; then, and
+/// after want of memory, nothing has changed.
+pub(crate) fn fix(
+    connections: &mut BTreeMap<Ends, Flows>,
+    alloc: Global,
+    tables: &Tables,
+    datagram: &Datagram<'_>,
+) -> Result<bool, AllocError>
+    ensures fixed { IfOk result (λ b. DoesFix (fixing tables.now datagram.now (found connections.old.entries (key_at datagram.now)) (length connections.old.entries)) connections.old.entries connections.new.entries (key_at datagram.now) b) }
+    ensures unchanged { OnErr result (connections.new.entries ≡ connections.old.entries) }
+    ensures sequence { datagram.now.sequence < 2 ^ 32 }
+{
+    let source = datagram.source();
+    let destination = datagram.destination();
+    let ends = ends_of(source, destination);
+    let low = is_low(source, destination);
+    let isn = datagram.sequence();
+    let other = acknowledged_isn(datagram);
+    match connections.get(&ends) {
+        Some(flows) => {
+            if flows.has_isns(low, isn, other) {
+                return Ok(true);
+            }
+        }
+        None => {
+            if connections.len() >= MOST {
+                return Ok(false);
+            }
+        }
+    }
+    let flows = Flows::new(alloc, tables, source, destination, isn, other)?;
+    match connections.insert(ends, flows) {
+        Ok(_) => Ok(true),
+        Err(_) => Err(AllocError),
+    }
+}
