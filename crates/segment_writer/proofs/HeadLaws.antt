@@ -21,7 +21,8 @@ mss_is : (syn : Bool) (mss : ℕ) → mss_length (mss_if syn mss) ≡ ao_place s
 mss_is true mss = refl
 mss_is false mss = refl
 
-area_is : (pair : Pair) (syn : Bool) (chosen : Sending) (m : List ℕ) (h : Head) → h.mss ≡ mss_if syn (own_mss pair.local.address) → h.key_id ≡ chosen.key_id → h.rnext ≡ chosen.rnext_key_id
+area_is : (pair : Pair) (syn : Bool) (chosen : Sending) (m : List ℕ) (h : Head)
+    → h.mss ≡ mss_if syn (own_mss pair.local.address) → h.key_id ≡ chosen.key_id → h.rnext ≡ chosen.rnext_key_id
     → option_heads h (length m) ++ m ≡ book_area pair syn chosen m
 unfolding put2
 area_is pair true chosen m h e k r = rw (e, k, r) refl
@@ -44,7 +45,8 @@ drafts_are pair s draft chosen m e =
     let h = head_for pair s draft chosen in
     let laid : List ℕ = option_heads h (length m) ++ m in
     let area : laid ≡ book_area pair syn chosen m = area_is pair syn chosen m h refl refl refl in
-    let total : 20 + length laid + length draft.payload ≡ 24 + length m + ao_place syn + length draft.payload = omega (arith, ap length area, size_is pair syn chosen m) in
+    let total : 20 + length laid + length draft.payload ≡ 24 + length m + ao_place syn + length draft.payload =
+    omega (arith, ap length area, size_is pair syn chosen m) in
     let ip = ip_is h pair (20 + length laid + length draft.payload) pair.local.address refl refl ∙ ap (λ (n : ℕ). book_ip pair n pair.local.address) total in
     let w = written pair s draft chosen m in
     ap (λ (z : IpHeader). let k : Segment = record w { ip = z; area = laid } in k) ip

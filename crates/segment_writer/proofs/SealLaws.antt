@@ -1,18 +1,20 @@
 -- A head that was laid out, with its payload and its MAC, is the sealed segment of its draft.
-use Rattle.std.proofs.Common.{◌≡◌, ℕ, ◌/◌, List, length, drop, replicate, Some, refl, sym, ap, subst, ◌∙◌}
+use Rattle.std.proofs.Common.{◌≡◌, ℕ, ◌/◌, List, length, drop, replicate, Option, Some, refl, sym, ap, subst, ◌∙◌}
 use Rattle.std.proofs.lemmas.List.{length-replicate}
 use Rattle.ao_base.specs.declared.address.Pair.{Pair}
 use Rattle.ao_base.specs.Algorithms.{mac_length_of}
 use Rattle.segment_model.specs.Bytes.{ring}
-use Rattle.segment_model.specs.Options.{One, find_ao}
+use Rattle.segment_model.specs.Options.{Ao, One, find_ao}
 use Rattle.segment_model.specs.Segments.{Segment, spell}
 use Rattle.segment_model.specs.Spelling.{finished}
 use Rattle.mac_model.specs.Contexts.{context_of}
 use Rattle.mac_model.specs.Keys.{mac, traffic_key}
 use Rattle.mac_model.specs.MacInput.{mac_input}
+use Rattle.key_model.specs.Rows.{Row}
 use Rattle.key_model.specs.Coordination.{Sending}
 use Rattle.endpoint_model.specs.States.{EndState}
 use Rattle.endpoint_model.specs.Emissions.{Draft, Emits, written, no_mac, blank, own_ao, seal_of, sealed, seal_known, keyed}
+use Rattle.tcp_segment.specs.declared.writing.Head.{Head}
 use Rattle.tcp_segment.specs.Writing.{drafted, IsFinished}
 use Rattle.tcp_segment.proofs.DraftLaws.{drafted_ao}
 use Rattle.ao_mac.specs.Macs.{IsMacOf}
@@ -22,9 +24,21 @@ use Rattle.segment_writer.proofs.HeadLaws.{drafts_are, place_is}
 
 -- ---- the draft before its MAC
 
+-- what is laid out of a head and a payload, its MAC zero
+abbrev pub zeroed : Head → List ℕ → Segment
+zeroed h payload = drafted h (replicate h.mac_length 0) payload
+
+-- its context between these initial sequence numbers is this one
+abbrev pub HasContext : Head → List ℕ → ℕ → Option ℕ → List ℕ → Type 0
+HasContext h payload own peer context = context_of (zeroed h payload) (Some own) peer ≡ Some context
+
+-- its MAC under a row and a context, with the extension of this number, is this one
+abbrev pub HasCode : Head → List ℕ → Row → List ℕ → ℕ → List ℕ → Type 0
+HasCode h payload r context number code =
+    IsMacOf code r.algorithm (traffic_key r.algorithm r.master context) (number / ring) (zeroed h payload) r.with_options
+
 -- a segment without its MAC is what is laid out with zeros
-blank_is : (pair : Pair) (s : EndState) (draft : Draft) (chosen : Sending)
-    → drafted (head_for pair s draft chosen) (replicate (mac_length_of chosen.row.algorithm) 0) draft.payload ≡ blank pair s draft chosen
+blank_is : (pair : Pair) (s : EndState) (draft : Draft) (chosen : Sending) → zeroed (head_for pair s draft chosen) draft.payload ≡ blank pair s draft chosen
 blank_is pair s draft chosen =
     drafts_are pair s draft chosen (no_mac chosen) (length-replicate {A = ℕ} (mac_length_of chosen.row.algorithm) 0)
 
@@ -32,12 +46,12 @@ blank_is pair s draft chosen =
 ao_is : (pair : Pair) (s : EndState) (draft : Draft) (chosen : Sending) (m payload : List ℕ)
     → find_ao (drafted (head_for pair s draft chosen) m payload).area ≡ One (own_ao draft chosen m)
 ao_is pair s draft chosen m payload =
-    drafted_ao (head_for pair s draft chosen) m payload
-    ∙ ap (λ (n : ℕ). One (record { key_id = chosen.key_id; rnext_key_id = chosen.rnext_key_id; mac = m; place = n })) (place_is draft.flags pair.local.address)
+    let at : ℕ → Ao = λ n. record { key_id = chosen.key_id; rnext_key_id = chosen.rnext_key_id; mac = m; place = n } in
+    drafted_ao (head_for pair s draft chosen) m payload ∙ ap (λ (n : ℕ). One (at n)) (place_is draft.flags pair.local.address)
 
 -- where its context is known, it is made
 pub emits_is : (pair : Pair) (s : EndState) (draft : Draft) (chosen : Sending) (context : List ℕ)
-    → context_of (drafted (head_for pair s draft chosen) (replicate (mac_length_of chosen.row.algorithm) 0) draft.payload) (Some s.isn) s.peer_isn ≡ Some context
+    → HasContext (head_for pair s draft chosen) draft.payload s.isn s.peer_isn context
     → keyed pair s chosen (Some draft) ≡ Emits (sealed pair s draft chosen context)
 emits_is pair s draft chosen context e =
     ap (λ (d : Segment). seal_known pair s draft chosen (context_of d (Some s.isn) s.peer_isn)) (sym (blank_is pair s draft chosen))
@@ -46,20 +60,19 @@ emits_is pair s draft chosen context e =
 -- ---- its MAC
 
 code_is : (pair : Pair) (s : EndState) (draft : Draft) (chosen : Sending) (context code : List ℕ)
-    → IsMacOf code chosen.row.algorithm (traffic_key chosen.row.algorithm chosen.row.master context) (draft.number / ring)
-    (drafted (head_for pair s draft chosen) (replicate (mac_length_of chosen.row.algorithm) 0) draft.payload) chosen.row.with_options
+    → HasCode (head_for pair s draft chosen) draft.payload chosen.row context draft.number code
     → code ≡ seal_of pair s draft chosen context
 code_is pair s draft chosen context code is =
-    let zeros : List ℕ = replicate (mac_length_of chosen.row.algorithm) 0 in
-    is draft.number (own_ao draft chosen zeros) refl (ao_is pair s draft chosen zeros draft.payload)
-    ∙ ap (λ (d : Segment). mac chosen.row.algorithm (traffic_key chosen.row.algorithm chosen.row.master context) (mac_input draft.number d (own_ao draft chosen zeros) chosen.row.with_options))
-    (blank_is pair s draft chosen)
+    let r = chosen.row in
+    let ao : Ao = own_ao draft chosen (no_mac chosen) in
+    let key : List ℕ = traffic_key r.algorithm r.master context in
+    is draft.number ao refl (ao_is pair s draft chosen (no_mac chosen) draft.payload)
+    ∙ ap (λ (d : Segment). mac r.algorithm key (mac_input draft.number d ao r.with_options)) (blank_is pair s draft chosen)
 
 -- what stands in the buffer is the sealed segment of the draft
 pub written_is : (pair : Pair) (s : EndState) (draft : Draft) (chosen : Sending) (context code before after : List ℕ) (count : ℕ)
     → length code ≡ mac_length_of chosen.row.algorithm
-    → IsMacOf code chosen.row.algorithm (traffic_key chosen.row.algorithm chosen.row.master context) (draft.number / ring)
-    (drafted (head_for pair s draft chosen) (replicate (mac_length_of chosen.row.algorithm) 0) draft.payload) chosen.row.with_options
+    → HasCode (head_for pair s draft chosen) draft.payload chosen.row context draft.number code
     → count ≡ length (spell (finished (drafted (head_for pair s draft chosen) code draft.payload)))
     → IsFinished (head_for pair s draft chosen) code draft.payload (drop count before) after
     → IsWritten (sealed pair s draft chosen context).segment count before after

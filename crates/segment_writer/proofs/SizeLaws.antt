@@ -51,7 +51,8 @@ pub record IsCopied (p queue : List ℕ) (offset count : ℕ) : Type 0 where
   pub count_is : length p ≡ count
 
 pub copied : (d : DatagramMut) (h : Head) (code rest out p queue : List ℕ) (offset count : ℕ) → Drafted d h code (replicate count 0) rest
-    → out ≡ take (d.len - d.payload) (drop d.payload d.out.now) → p ≡ take (length out) (drop offset queue) → offset + count ≤ length queue → IsCopied p queue offset count
+    → out ≡ take (d.len - d.payload) (drop d.payload d.out.now) → p ≡ take (length out) (drop offset queue)
+    → offset + count ≤ length queue → IsCopied p queue offset count
 copied d h code rest out p queue offset count D part e within =
     let zeros : length (replicate {A = ℕ} count 0) ≡ count = length-replicate {A = ℕ} count 0 in
     let room : length out ≡ count =
@@ -96,7 +97,8 @@ finished_long h code payload family long =
     let d : Segment = drafted h code payload in
     let b : List ℕ = before h 0 (length code) (length payload) in
     let whole : length (spell (finished d)) ≡ length (spell d) = spell_long d ∙ ap length (same_zero d refl) in
-    omega (arith, whole, ap length (parts h 0 code payload), length-append b (code ++ payload), length-append code payload, before_long h 0 (length code) (length payload) family, long)
+    let front = before_long h 0 (length code) (length payload) family in
+    omega (arith, whole, ap length (parts h 0 code payload), length-append b (code ++ payload), length-append code payload, front, long)
 
 -- the length that was told is that of all parts
 pub size_told : (pair : Pair) (o : Outgoing) (sending : Told) (r : Row) (h : Head) (n len : ℕ) → h ≡ head_of pair o sending (mac_length_of r.algorithm)
