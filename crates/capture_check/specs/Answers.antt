@@ -1,5 +1,7 @@
 -- What a checker answers, as what the definitions say of a stored segment.
-use Rattle.std.specs.Prelude.{◌≡◌, Bool, true, false}
+use Rattle.std.specs.Prelude.{◌≡◌, ℕ, Bool, true, false, List, [], ◌∷◌, ◌++◌, codes, decimal}
+use Rattle.segment_model.specs.Faults.{fault_text}
+use Rattle.link_model.specs.Reports.{verdict_text}
 use Rattle.mac_model.specs.Contexts.{bytes_of}
 use Rattle.endpoint_model.specs.Verdicts.{Finding, Judgement, Admit, Refuse}
 use Rattle.endpoint_model.specs.declared.verdict.Passed.{Passed}
@@ -31,3 +33,24 @@ Says (line.Full right) s = s ≡ book.Full right
 abbrev pub is_pass : Verdict → Bool
 is_pass (Pass p) = true
 is_pass why = false
+
+-- the words for a verdict
+abbrev pub verdict_texts : Verdict → List (List ℕ)
+verdict_texts (Pass p) = codes "pass" ∷ codes "row" ∷ decimal p.row ∷ codes "number" ∷ decimal p.number ∷ []
+verdict_texts why = codes "refused" ∷ verdict_text why ∷ []
+
+-- the words for a checksum
+abbrev pub checksum_texts : Bool → List (List ℕ)
+checksum_texts right = codes "checksum" ∷ book.checksum_text right ∷ []
+
+-- the words for an answer
+abbrev pub answer_texts : CheckLine → List (List ℕ)
+answer_texts (line.Bad fault) = codes "bad" ∷ fault_text fault ∷ []
+answer_texts line.UnknownNode = codes "unknown-node" ∷ []
+answer_texts (line.Verdict v right) = verdict_texts v ++ checksum_texts right
+answer_texts (line.Full right) = codes "full" ∷ checksum_texts right
+
+-- the answer is a pass
+abbrev pub is_pass_line : CheckLine → Bool
+is_pass_line (line.Verdict v right) = is_pass v
+is_pass_line a = false

@@ -3,3 +3,4 @@ pub mod Checking
 pub mod Ends
 pub mod Flows
 pub mod Hearing
+pub mod Lines

@@ -1,0 +1,145 @@
+//! The line that an answer is printed as.
+ghost use Rattle.std.specs.Prelude.{◌≡◌, ◌++◌, ◌∷◌, [], OnOk, codes, decimal};
+ghost use Rattle.segment_model.specs.Faults.{fault_text};
+ghost use Rattle.link_model.specs.Reports.{verdict_text};
+ghost use Rattle.line_model.specs.Texts.{numbered_text, spaced};
+ghost use Rattle.format_model.specs.Captures.{Saying, saying_texts, checksum_text};
+ghost use Rattle.format_model.specs.Captures as book;
+ghost use Rattle.capture_check.specs.Answers.{Says, answer_texts, verdict_texts};
+
+use crate::answer::CheckLine;
+use ao_base::push_decimal;
+use endpoint_model::{Passed, Verdict};
+use segment_model::{DatagramFault, OptionFault};
+use std::alloc::AllocError;
+use text_lines::{push_field, push_newline, push_text};
+
+/// The text of a fault.
+fn push_fault(out: &mut Vec<u8>, fault: DatagramFault) -> Result<(), AllocError>
+    ensures { OnOk result (out.new.items ≡ out.old.items ++ 32 ∷ fault_text fault) }
+{
+    match fault {
+        DatagramFault::Truncated => push_text(out, b"truncated"),
+        DatagramFault::Version => push_text(out, b"version"),
+        DatagramFault::HeaderLength => push_text(out, b"header-length"),
+        DatagramFault::HeaderChecksum => push_text(out, b"header-checksum"),
+        DatagramFault::Fragment => push_text(out, b"fragment"),
+        DatagramFault::NotTcp => push_text(out, b"not-tcp"),
+        DatagramFault::ExtensionHeader => push_text(out, b"extension-header"),
+        DatagramFault::DataOffset => push_text(out, b"data-offset"),
+        DatagramFault::BadOption(OptionFault::ShortLength(place)) => {
+            push_place(out, b"option short-length", place)
+        }
+        DatagramFault::BadOption(OptionFault::PastEnd(place)) => {
+            push_place(out, b"option past-end", place)
+        }
+    }
+}
+
+/// The place of a faulty option.
+fn push_place(out: &mut Vec<u8>, name: &[u8], place: u8) -> Result<(), AllocError>
+    ensures { OnOk result (out.new.items ≡ out.old.items ++ 32 ∷ (name.now ++ 32 ∷ decimal place)) }
+{
+    push_field(out, name, u64::from(place))
+}
+
+fn verdict_name(verdict: &Verdict) -> &'static [u8]
+    ensures { result.now ≡ verdict_text verdict.now }
+{
+    match verdict {
+        Verdict::Pass(_) => b"pass",
+        Verdict::NoAo => b"no-ao",
+        Verdict::TwoAo => b"two-ao",
+        Verdict::WithMd5 => b"with-md5",
+        Verdict::NoTuple => b"no-tuple",
+        Verdict::Expired => b"expired",
+        Verdict::MacLength => b"mac-length",
+        Verdict::NoContext => b"no-context",
+        Verdict::Range => b"range",
+        Verdict::BadMac => b"bad-mac",
+    }
+}
+
+fn checksum_name(right: bool) -> &'static [u8]
+    ensures { result.now ≡ checksum_text right }
+{
+    if right { b"good" } else { b"wrong" }
+}
+
+fn push_checksum(out: &mut Vec<u8>, right: bool) -> Result<(), AllocError>
+    ensures { OnOk result (out.new.items ≡ out.old.items ++ spaced (codes "checksum" ∷ checksum_text right ∷ [])) }
+{
+    push_text(out, b"checksum")?;
+    push_text(out, checksum_name(right))
+}
+
+fn push_pass(out: &mut Vec<u8>, passed: &Passed) -> Result<(), AllocError>
+    ensures { OnOk result (out.new.items ≡ out.old.items ++ spaced (codes "pass" ∷ codes "row" ∷ decimal passed.now.row ∷ codes "number" ∷ decimal passed.now.number ∷ [])) }
+{
+    push_text(out, b"pass")?;
+    push_field(out, b"row", u64::from(passed.row))?;
+    push_field(out, b"number", passed.number)
+}
+
+fn push_verdict(out: &mut Vec<u8>, verdict: &Verdict) -> Result<(), AllocError>
+    ensures { OnOk result (out.new.items ≡ out.old.items ++ spaced (verdict_texts verdict.now)) }
+{
+    match verdict {
+        Verdict::Pass(passed) => push_pass(out, passed),
+        Verdict::NoAo => push_refused(out, verdict),
+        Verdict::TwoAo => push_refused(out, verdict),
+        Verdict::WithMd5 => push_refused(out, verdict),
+        Verdict::NoTuple => push_refused(out, verdict),
+        Verdict::Expired => push_refused(out, verdict),
+        Verdict::MacLength => push_refused(out, verdict),
+        Verdict::NoContext => push_refused(out, verdict),
+        Verdict::Range => push_refused(out, verdict),
+        Verdict::BadMac => push_refused(out, verdict),
+    }
+}
+
+fn push_refused(out: &mut Vec<u8>, verdict: &Verdict) -> Result<(), AllocError>
+    ensures { OnOk result (out.new.items ≡ out.old.items ++ spaced (codes "refused" ∷ verdict_text verdict.now ∷ [])) }
+{
+    push_text(out, b"refused")?;
+    push_text(out, verdict_name(verdict))
+}
+
+fn push_answer(out: &mut Vec<u8>, line: &CheckLine) -> Result<(), AllocError>
+    ensures { OnOk result (out.new.items ≡ out.old.items ++ spaced (answer_texts line.now)) }
+{
+    match line {
+        CheckLine::Bad(fault) => {
+            push_text(out, b"bad")?;
+            push_fault(out, *fault)
+        }
+        CheckLine::UnknownNode => push_text(out, b"unknown-node"),
+        CheckLine::Verdict(verdict, right) => {
+            push_verdict(out, verdict)?;
+            push_checksum(out, *right)
+        }
+        CheckLine::Full(right) => {
+            push_text(out, b"full")?;
+            push_checksum(out, *right)
+        }
+    }
+}
+
+/// Puts the line of an answer behind `out`: the number of the line that the segment was stored in,
+/// and what is said of the segment. Where memory runs out, a part of it may stand there.
+pub fn push_check_line(out: &mut Vec<u8>, number: u64, line: &CheckLine) -> Result<(), AllocError>
+    ensures { (s : Saying) → Says line.now s → OnOk result (out.new.items ≡ out.old.items ++ numbered_text number (saying_texts s)) }
+{
+    push_decimal(out, number)?;
+    push_answer(out, line)?;
+    push_newline(out)
+}
+
+impl CheckLine {
+    /// Whether the segment passed, whatever its checksum.
+    pub fn is_pass(&self) -> bool
+        ensures { (s : Saying) → Says self.now s → result ≡ book.is_pass s }
+    {
+        matches!(self, CheckLine::Verdict(Verdict::Pass(_), _))
+    }
+}
