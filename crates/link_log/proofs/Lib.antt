@@ -1,0 +1,4 @@
+pub mod AccountLaws
+pub mod ContextLaws
+pub mod LogLaws
+pub mod NumberLaws

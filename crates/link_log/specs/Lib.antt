@@ -1,0 +1,4 @@
+pub mod Contexts
+pub mod Entries
+pub mod Logs
+pub mod Numbers

@@ -1,0 +1,197 @@
+//! Everything that was made, and how many forgeries were counted.
+ghost use Rattle.std.specs.Prelude.{◌≡◌, ◌↔◌, ◌+◌, ◌<◌, ◌≤◌, ℕ, suc, List, [], ◌∷◌, length, IsSome, Some, None, MatchOption, OnOk, OnErr};
+ghost use Rattle.endpoint_model.specs.Verdicts.{Finding};
+ghost use Rattle.segment_model.specs.Spelling.{AreBytes};
+ghost use Rattle.link_model.specs.Worlds.{Made, Came, Happening, Making, Coming, segment_named, segments, forgeries, was_made};
+ghost use Rattle.link_log.specs.Entries.{ComesAs, IsEntry, IsMade, PassesUnder};
+ghost use Rattle.link_log.specs.Numbers.{AreLinked};
+
+use crate::accounts::{accounts_for, sought};
+use crate::entry::{Entrance, Entry};
+use crate::kept::Kept;
+use ao_base::{Bytes, End};
+use key_table::Row;
+use mac_model::Context;
+use std::alloc::{AllocError, Global};
+use std::collections::HashMap;
+use tcp_segment::{Datagram, read_datagram};
+
+/// The most bytes of a master key.
+const LONGEST_MASTER: usize = 255;
+
+/// What the proof of `push` asks of a datagram's bytes: each is below 256. It does nothing.
+fn see_bytes(bytes: &[u8])
+    ensures { AreBytes bytes.now }
+{
+    let _length = bytes.len();
+}
+
+/// All segments that were made on a link, each under its name from 1, and how many of those that
+/// passed at an end the other end had not made.
+#[derive(Drop)]
+pub struct Log {
+    kept: Vec<Kept>,
+    /// The place of the last entry with each number.
+    latest: HashMap<u64, u32>,
+    /// Memory for the next entry's master key.
+    master: Option<Vec<u8>>,
+    forgeries: u32,
+    ghost linked: { AreLinked kept.items latest },
+}
+
+impl Log {
+    ghost use Rattle.link_log.specs.Logs.{HasRoom, StandsLog, MadeBy, forgery_count, made_count};
+
+    /// A log of a link on which nothing happened yet. It takes no memory.
+    pub fn new(alloc: Global) -> Log
+        ensures stands { StandsLog result [] }
+        ensures made { made_count result ≡ 0 }
+        ensures forgeries { forgery_count result ≡ 0 }
+    {
+        Log {
+            kept: Vec::new(alloc),
+            latest: HashMap::new(alloc),
+            master: None,
+            forgeries: 0,
+        }
+    }
+
+    /// Takes the memory for one more entry. Whatever the answer, the log stands for what it stood for.
+    pub fn reserve(&mut self, alloc: Global) -> Result<(), AllocError>
+        ensures room { OnOk result (HasRoom self.new) }
+        ensures stands { (history : List Happening) → StandsLog self.old history → StandsLog self.new history }
+        ensures made { made_count self.new ≡ made_count self.old }
+        ensures forgeries { forgery_count self.new ≡ forgery_count self.old }
+    {
+        self.master = Some(Vec::with_capacity(alloc, LONGEST_MASTER)?);
+        self.kept.reserve(1)?;
+        self.latest.reserve(1)
+    }
+
+    /// The bytes of a key, in the memory that was taken for them.
+    fn master_of(&mut self, row: &Row) -> Bytes
+        requires { HasRoom self.old }
+        ensures master { result ≡ row.now.master }
+        ensures kept { self.new.kept ≡ self.old.kept }
+        ensures latest { self.new.latest ≡ self.old.latest }
+        ensures forgeries { self.new.forgeries ≡ self.old.forgeries }
+    {
+        let mut master = self.master.take().unwrap();
+        let extended: Result<_, _> = master.extend_from_slice(row.master());
+        extended.unwrap();
+        Bytes::from_vec(master)
+    }
+
+    /// Keeps a segment that was made by an end with this number, under this row and with this context,
+    /// and answers its name. There is room for it, and fewer than 2^32 - 1 segments are kept.
+    pub fn push(
+        &mut self,
+        maker: End,
+        number: u64,
+        row: &Row,
+        context: Context,
+        bytes: Bytes,
+    ) -> u32
+        requires room { HasRoom self.old }
+        requires few { made_count self.old < 4294967295 }
+        ensures stands { (history : List Happening) (m : Made) → StandsLog self.old history → IsMade maker number row.now context bytes m
+            → m.name ≡ suc (segments history) → StandsLog self.new (Making m ∷ history) }
+        ensures name { result ≡ made_count self.old + 1 }
+        ensures made { made_count self.new ≡ made_count self.old + 1 }
+        ensures forgeries { forgery_count self.new ≡ forgery_count self.old }
+    {
+        see_bytes(bytes.as_slice());
+        let entry = Entry {
+            maker,
+            number,
+            algorithm: row.algorithm(),
+            master: self.master_of(row),
+            with_options: row.with_options(),
+            context,
+            bytes,
+        };
+        let place = self.kept.len() as u32;
+        let inserted: Result<_, _> = self.latest.insert(number, place);
+        let earlier = inserted.unwrap();
+        let pushed: Result<_, _> = self.kept.push(Kept { entry, earlier });
+        pushed.unwrap();
+        place + 1
+    }
+
+    /// How many segments were made. Each has the next name from 1; fewer than 2^32 are kept.
+    pub fn made(&self) -> u32
+        requires { made_count self.now < 4294967296 }
+        ensures count { result ≡ made_count self.now }
+        ensures segments { (history : List Happening) → StandsLog self.now history → result ≡ segments history }
+    {
+        self.kept.len() as u32
+    }
+
+    /// The segment of this name; none where no segment has it.
+    pub fn segment(&self, name: u32) -> Option<&Entry>
+        ensures { (history : List Happening) → StandsLog self.now history
+            → MatchOption result (segment_named name history ≡ None) (λ k. (m : Made) × (segment_named name history ≡ Some m) × IsEntry k.now m) }
+    {
+        if name == 0 {
+            return None;
+        }
+        match self.kept.as_slice().get(name as usize - 1) {
+            Some(kept) => Some(&kept.entry),
+            None => None,
+        }
+    }
+
+    /// The end that made the segment of this name, which is from 1 to `made`.
+    pub fn maker(&self, name: u32) -> End
+        requires low { 1 ≤ name }
+        requires high { name ≤ made_count self.now }
+        ensures { (history : List Happening) → StandsLog self.now history → MadeBy result (segment_named name history) }
+    {
+        self.kept.as_slice()[name as usize - 1].entry.maker
+    }
+
+    /// How many segments passed at an end although the other end had not made them.
+    pub fn forgeries(&self) -> u32
+        ensures count { result ≡ forgery_count self.now }
+        ensures forgeries { (history : List Happening) → StandsLog self.now history → result ≡ forgeries history }
+    {
+        self.forgeries
+    }
+
+    /// Whether the other end made what passed at an end: only the entries with the number that it
+    /// would have are looked at.
+    fn was_made(&self, at: End, entrance: &Entrance<'_>, datagram: &Datagram<'_>) -> bool
+        ensures { (history : List Happening) (f : Finding) → StandsLog self.now history
+            → PassesUnder entrance.now.row.now datagram.now entrance.now.number entrance.now.context f → result ≡ was_made at f history }
+    {
+        let kept = self.kept.as_slice();
+        let number = sought(entrance, datagram);
+        let mut next = self.latest.get(&number).copied();
+        while let Some(place) = next {
+            let candidate = &kept[place as usize];
+            if accounts_for(&candidate.entry, at, entrance, datagram) {
+                return true;
+            }
+            next = candidate.earlier;
+        }
+        false
+    }
+
+    /// Takes notice of a datagram that came to an end, with what the check found where it passed: it
+    /// is a forgery where the other end had made no segment with the same algorithm, master key,
+    /// context and MAC input. Fewer than 2^32 - 1 forgeries are counted.
+    pub fn came(&mut self, at: End, bytes: &[u8], entrance: Option<Entrance<'_>>)
+        requires { forgery_count self.old < 4294967295 }
+        ensures stands { (history : List Happening) (r : Came) → StandsLog self.old history → r.at ≡ at → ComesAs bytes.now entrance.entry r.passed
+            → StandsLog self.new (Coming r ∷ history) }
+        ensures made { made_count self.new ≡ made_count self.old }
+        ensures most { forgery_count self.new ≤ forgery_count self.old + 1 }
+    {
+        if let Some(entrance) = entrance
+            && let Ok(datagram) = read_datagram(bytes)
+            && !self.was_made(at, &entrance, &datagram)
+        {
+            self.forgeries += 1;
+        }
+    }
+}

@@ -1,0 +1,16 @@
+-- Texts put behind one another.
+use Rattle.std.proofs.Common.{◌≡◌, ℕ, List, [], ◌∷◌, ◌++◌, Result, Ok, Err, OnOk, refl, ap, sym, ◌∙◌, append_assoc}
+use Rattle.line_model.specs.Texts.{spaced}
+
+spaced_more : (xs ys : List (List ℕ)) → spaced xs ++ spaced ys ≡ spaced (xs ++ ys)
+spaced_more [] ys = refl
+spaced_more (x ∷ xs) ys = ap (λ t. 32 ∷ t) (append_assoc x (spaced xs) (spaced ys) ∙ ap (λ t. x ++ t) (spaced_more xs ys))
+
+-- three lists of texts
+pub in_turn : {T E : Type 0} (r : Result T E) (out x y z : List ℕ) (p q s : List (List ℕ)) → x ≡ out ++ spaced p → y ≡ x ++ spaced q
+    → OnOk r (z ≡ y ++ spaced s) → OnOk r (z ≡ out ++ spaced (p ++ (q ++ s)))
+in_turn (Ok v) out x y z p q s f g h =
+    h ∙ ap (λ t. t ++ spaced s) (g ∙ ap (λ t. t ++ spaced q) f) ∙ append_assoc (out ++ spaced p) (spaced q) (spaced s)
+    ∙ append_assoc out (spaced p) (spaced q ++ spaced s)
+    ∙ ap (λ t. out ++ t) (ap (λ t. spaced p ++ t) (spaced_more q s) ∙ spaced_more p (q ++ s))
+in_turn (Err e) out x y z p q s f g h = h
