@@ -1,0 +1,11 @@
+-- The answer for a row that isn't met at the other end.
+use Rattle.std.specs.Prelude.{ℕ, List, Option, option_map}
+use Rattle.ao_base.specs.declared.address.Pair.{Pair}
+use Rattle.ao_base.specs.declared.end.End.{End}
+use Rattle.key_model.specs.declared.lint.LintAnswer.{LintAnswer}
+use Rattle.key_model.specs.Plans.{misaligned_answer, misaligned_by, unmet_reason}
+use Rattle.key_model.specs.Rows.{Row}
+
+-- the answer for the row of this end and number, if it sends for the pair and isn't met
+abbrev pub unmet_answer : End → ℕ → List Row → Pair → ℕ → ℕ → Row → Option LintAnswer
+unmet_answer end n others pair lead lag r = option_map misaligned_answer (option_map (misaligned_by end n) (unmet_reason others pair lead lag r))

@@ -1,0 +1,27 @@
+//! The first time at which an end has no row to send with.
+ghost use Rattle.std.specs.Prelude.{◌≡◌, ◌≤◌, length};
+ghost use Rattle.key_model.specs.Plans.{gap};
+
+use crate::way::is_sending_for;
+use ao_base::Pair;
+use key_table::{Lifetime, Row, first_gap};
+
+/// The most rows of a table.
+const MOST_ROWS: usize = 64;
+
+/// The least time from `from` to `to`, in seconds since 1970, at which no row is sendable for the
+/// pair (RFC 7210, section 3). `None` exactly where there is none.
+pub(crate) fn gap(rows: &[Row], pair: &Pair, from: u64, to: u64) -> Option<u64>
+    requires { length rows.now ≤ 64 }
+    ensures { result ≡ gap rows.now pair.now from to }
+{
+    let mut lifetimes = [Lifetime { first: 0, last: 0 }; MOST_ROWS];
+    let mut count = 0;
+    for row in rows {
+        if is_sending_for(row, pair) {
+            lifetimes[count] = row.sending();
+            count += 1;
+        }
+    }
+    first_gap(&lifetimes[..count], from, to)
+}

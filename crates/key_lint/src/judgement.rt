@@ -1,0 +1,60 @@
+//! The judgement on the tables of the two ends of a connection.
+ghost use Rattle.std.specs.Prelude.{◌≡◌, ◌≤◌, length};
+ghost use Rattle.key_model.specs.Plans.{lint_of, rows_at};
+
+use crate::gap::gap;
+use crate::way::Way;
+use ao_base::{Address, End, Pair};
+use key_model::LintAnswer;
+use key_table::{Row, Tables};
+
+/// The rows of the node with this address; none where no node has it.
+fn rows_at<'a>(tables: &'a Tables, address: &Address) -> &'a [Row]
+    ensures value { result.now ≡ rows_at tables.now address.now }
+    ensures limit { length result.now ≤ 64 }
+{
+    match tables.table(address) {
+        Some(table) => {
+            let _count = table.rows();
+            table.entries()
+        }
+        None => &[],
+    }
+}
+
+/// Judges the tables of the two ends of a connection; end A is the local one. An address that no node
+/// has stands for a table without rows.
+///
+/// First each row that sends over the connection, those of A in order and then those of B:
+/// `NoPeerRow` exactly where no matching row for what comes in at the other end has this row's SendID
+/// as RecvID and the same key, algorithm and option flag (RFC 5925, section 3.1); `ShortAccept` exactly
+/// where there is one and none of them accepts both `lead` seconds before the first second in which
+/// this row sends, or at 0, and `lag` seconds after the last, or at `LATEST`. Then `Gap` exactly where
+/// at some time from `from` to `to`, in seconds since 1970, an end has no sendable row (RFC 7210,
+/// section 3): the least such time, of A if it has one. Else `Aligned`.
+#[tactic(auto, unfolding(key_model::specs::Plans::lint_rows, key_model::specs::Plans::first_misaligned))]
+pub fn lint(tables: &Tables, pair: &Pair, lead: u64, lag: u64, from: u64, to: u64) -> LintAnswer
+    ensures { result ≡ lint_of tables.now pair.now lead lag from to }
+{
+    let there = Way {
+        rows: rows_at(tables, &pair.local.address),
+        others: rows_at(tables, &pair.remote.address),
+        pair: *pair,
+        lead,
+        lag,
+    };
+    let back = there.back();
+    if let Some(answer) = there.first_unmet(End::A) {
+        return answer;
+    }
+    if let Some(answer) = back.first_unmet(End::B) {
+        return answer;
+    }
+    if let Some(time) = gap(there.rows, &there.pair, from, to) {
+        return LintAnswer::Gap(End::A, time);
+    }
+    if let Some(time) = gap(back.rows, &back.pair, from, to) {
+        return LintAnswer::Gap(End::B, time);
+    }
+    LintAnswer::Aligned
+}

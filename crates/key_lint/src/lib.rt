@@ -1,0 +1,16 @@
+//! The judgement on a key file before a rollover: whether the tables of the two ends of a connection
+//! carry it through. Each row that sends is to be accepted at the other end for long enough, and at
+//! each time some row is to send. Nothing here takes memory.
+#![tactic(auto)]
+
+mod gap;
+mod judgement;
+mod premise;
+mod way;
+
+pub use judgement::lint;
+pub use key_model::LintAnswer;
+pub use premise::aligned_carries_through;
+
+#[cfg(test)]
+mod tests;

@@ -1,0 +1,22 @@
+//! What the judgement promises of a rollover.
+ghost use Rattle.std.specs.Prelude.{◌≡◌, ◌↔◌, ℕ, List, None};
+ghost use Rattle.ao_base.specs.declared.address.Pair.{Pair};
+ghost use Rattle.key_model.specs.declared.lint.LintAnswer.TheVariants as answer;
+ghost use Rattle.key_model.specs.Plans.{mirrored, AlignedFrom, IsGap, lint_of, rows_at};
+ghost use Rattle.key_model.specs.Rows.{Table};
+
+/// The judgement is `Aligned` exactly where each end's rows are aligned with the other end's, with
+/// this lead and lag, and at each time of the range each end has a sendable row.
+///
+/// So an operator who sees it has what the laws of every run ask of the two tables, where no row is
+/// added or withdrawn: a segment that was made at the maker's reading t finds a row with its key
+/// where the receiver's reading is from t - lead to t + lag (`rolls_over`), and at each reading of
+/// the range an end has a row to send with (`never_keyless`).
+pub fn aligned_carries_through()
+    ensures { (tables : List Table) (pair : Pair) (lead lag low high : ℕ) →
+        let a = rows_at tables pair.local.address in
+        let b = rows_at tables pair.remote.address in
+        (lint_of tables pair lead lag low high ≡ answer.Aligned)
+        ↔ (AlignedFrom a b pair lead lag × AlignedFrom b a (mirrored pair) lead lag
+        × IsGap a pair low high None × IsGap b (mirrored pair) low high None) }
+{}

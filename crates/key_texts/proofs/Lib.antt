@@ -1,0 +1,2 @@
+mod JudgedLaws
+mod KeyLaws
