@@ -1,17 +1,17 @@
 #!/usr/bin/env python3
 """Whether the book is closed: every definition that a clause of `ao_run::run` cites, directly or through others, stands in a
-crate of the book, with the plain types that it cites. Names each one that doesn't, and fails; prints the reading list with
---list: each file of the book that the clauses reach, with its lines."""
+crate of the book, with the plain types that it cites, or in the list of what may stand outside. Names each one that doesn't,
+and fails; prints the reading list with --list: each file of the book that the clauses reach, with its lines."""
 import os
 import re
 import sys
 
 TOP = os.path.dirname(os.path.dirname(os.path.abspath(__file__)))
 BOOK = ["ao_base", "segment_model", "mac_model", "key_model", "endpoint_model", "link_model", "line_model", "wire_model", "format_model"]
-# Today's link stands on narrow definitions of its own, which go with it.
-NARROW = ["narrow_endpoint", "narrow_link", "narrow_script", "ao_run/specs/NarrowLink.antt"]
-# The relations by which the top call speaks of what was read and written.
-RELATIONS = ["ao_run/specs/Obeys.antt", "ao_run/specs/Delivers.antt", "ao_run/specs/Completes.antt"]
+# What may stand outside the book, a crate or a file of one: the relations by which the top call speaks of what was read and
+# written, and what goes when the link over endpoints runs: the narrow link, and the list of commands that are built.
+OUTSIDE = ["ao_run/specs/Runs.antt", "ao_run/specs/Obeys.antt", "ao_run/specs/Delivers.antt", "ao_run/specs/Completes.antt",
+           "ao_run/specs/Today.antt", "narrow_endpoint", "narrow_link", "narrow_script", "narrow_world"]
 ENTRY = ("ao_run", "src/top.rt", "run")
 
 WORD = re.compile(r"[^\s(){}\[\],;:]+")
@@ -98,9 +98,8 @@ def main(words):
                     continue
                 seen.add((target, wanted))
                 files[target] = files.get(target, 0) + 1
-                is_book = target.split("/")[0] in BOOK
-                is_known = is_book or target in RELATIONS or target in NARROW or target.split("/")[0] in NARROW
-                if not is_known:
+                home = target.split("/")[0]
+                if home not in BOOK and home not in OUTSIDE and target not in OUTSIDE:
                     outside.setdefault(target, set()).add(f"{wanted} (cited by {where})")
                 if target.endswith(".antt"):
                     source = read(target)

@@ -1,14 +1,16 @@
 -- Completeness, from the contract for every command.
-use Rattle.std.proofs.Common.{◌≡◌, ◌≢◌, ◌⊎◌, inl, inr, ℕ, zero, suc, ◌<◌, ◌≤◌, List, [], ◌++◌, length, take, Option, Some, None, Bool, true, false, cond, nat_lt, refl, sym, ap, subst, ◌∙◌, arith, length-append}
-use Rattle.std.proofs.lemmas.List.{append-nil}
+use Rattle.std.proofs.Common.{◌≡◌, ◌≢◌, ◌⊎◌, inl, inr, ℕ, zero, suc, ◌+◌, ◌-◌, ◌<◌, ◌≤◌, List, [], ◌++◌, length, take, Option, Some, None, Bool, true, false, refl, sym, ap, subst, ◌∙◌, arith, length-append}
+use Rattle.std.proofs.lemmas.List.{append-nil, length-take}
 use Rattle.std.specs.Io.KnownBytes.{Consumes}
 use Rattle.std.specs.Io.KnownBytes.{IsAtEnd as is_at_end}
-use Rattle.ao_base.specs.Outside.{Took, Rose, IsAtEnd}
-use Rattle.ao_run.specs.declared.command.Command.{Command}
-use Rattle.ao_run.specs.Answer.{Answer, answer, answer_of, answer_within, command_of, reads_input, reads_keys, refuse, too_long}
-use Rattle.ao_run.specs.Completes.{Completes}
-use Rattle.ao_run.specs.Obeys.{Obeys, Sides}
-use Rattle.ao_run.proofs.Gathering.{no_keys, reads, not_two, not_three, longer}
+use Rattle.ao_base.specs.Outside.{Counts, Gave, Took, Rose, IsAtEnd, Side}
+use Rattle.format_model.specs.declared.command.Command.{Command}
+use Rattle.format_model.specs.Answers.{Answer, keys_too_long, most_input, most_keys, refuse}
+use Rattle.format_model.specs.Commands.{reads_input, reads_keys}
+use Rattle.ao_run.specs.Completes.{Completes, IsCalm, Tells}
+use Rattle.ao_run.specs.Obeys.{Obeys, Sides, Unread, asks_input, asks_keys, most_of}
+use Rattle.ao_run.specs.Today.{answer_of_today, answer_today as answer, command_today as command_of}
+use Rattle.ao_run.proofs.AnswerLaws.{either, keyed, long_keys, long_refused, not_two, same_answer, three_whatever, unkeyed, within_plain}
 
 -- what was given is all that was told
 all_given : (before now : Option (List ℕ)) (given text : List ℕ) → Consumes before now given → before ≡ Some text → is_at_end now → given ≡ text
@@ -27,70 +29,129 @@ no_more (Some xs) (Some ys) given text c told =
     let m : length xs ≡ length text = ap (λ (l : List ℕ). length l) e in
     omega (arith, n, m, length-append given ys)
 
-over : (b : Bool) (a : Answer) → b ≡ true → (cond b (refuse 4 too_long) a).status ≡ 4
-over b a h = rw h refl
+-- no fault comes while no more bytes than these go by
+calm : (n : ℕ) (bytes : List ℕ) (a b : Side) → Counts n a b → n ≤ length bytes → IsCalm bytes a b → Rose a b → ⊥
+calm n bytes a b counts few (inl none) rose = none rose
+calm n bytes a b counts few (inr x) rose =
+    let quiet = counts.quiet x.0 x.1 (omega (arith, few, x.2)) in
+    omega (arith, quiet.0, x.3, rose)
 
 -- words with an output name a command
-has_command : (command : Option Command) (text : List ℕ) → (answer_of command [] text).status < 2 → (c : Command) × (command ≡ Some c)
-has_command None text small = absurd (omega arith)
-has_command (Some c) text small = (c, refl)
+has_command : (command : Option Command) (keys input : List ℕ) → (answer_of_today command keys input).status < 2 → (c : Command) × (command ≡ Some c)
+has_command None keys input small = absurd (omega arith)
+has_command (Some c) keys input small = (c, refl)
 
-module _ (words : List (List ℕ)) (i text : List ℕ) (b n : Sides) (told : b.input.bytes ≡ Some text) (small : (answer words [] text).status < 2)
-    (quiet_input : Rose b.input n.input → ⊥) (quiet_out : (m : ℕ) → m < length (answer words [] text).output → Took (take m (answer words [] text).output) b.out n.out → Rose b.out n.out → ⊥) where
+module _ (words : List (List ℕ)) (k i keys input : List ℕ) (b n : Sides) (small : (answer words keys input).status < 2)
+    (tells_keys : Tells (asks_keys (command_of words)) keys b.keys n.keys) (tells_input : Tells (asks_input (command_of words)) input b.input n.input)
+    (calm_out : IsCalm (answer words keys input).output b.out n.out) where
   abbrev Done : ℕ → Type 0
-  Done s = ((s ≡ (answer words [] text).status) × Took (answer words [] text).output b.out n.out) ⊎ (s ≡ 7)
+  Done s = ((s ≡ (answer words keys input).status) × Took (answer words keys input).output b.out n.out) ⊎ (s ≡ 7)
 
-  whole : (s : ℕ) → Obeys words [] i b n s → IsAtEnd n.input → (answer words [] i).status ≡ (answer words [] text).status
-  whole s x at_end = ap (λ (l : List ℕ). (answer words [] l).status) (all_given b.input.bytes n.input.bytes i text x.gave_input.bytes told at_end)
+  all_keys : (s : ℕ) → Obeys words k i b n s → asks_keys (command_of words) ≡ true → IsAtEnd n.keys → k ≡ keys
+  all_keys s x asks end = all_given b.keys.bytes n.keys.bytes k keys x.gave_keys.bytes (tells_keys.told asks) end
 
-  done : (s : ℕ) → Obeys words [] i b n s → s < 2 → Done s
-  done s x less =
-      let c = has_command (command_of words) text small in
-      let reading : reads_input (command_of words) ≡ true = rw c.1 (reads c.0) in
-      let e : i ≡ text = all_given b.input.bytes n.input.bytes i text x.gave_input.bytes told (x.input_end (inl less) reading) in
-      let P : List ℕ → Type 0 = λ (l : List ℕ). (s ≡ (answer words [] l).status) × Took (answer words [] l).output b.out n.out in
+  all_input : (s : ℕ) → Obeys words k i b n s → asks_input (command_of words) ≡ true → IsAtEnd n.input → i ≡ input
+  all_input s x asks end = all_given b.input.bytes n.input.bytes i input x.gave_input.bytes (tells_input.told asks) end
+
+  -- all was read
+  whole : (s : ℕ) → Obeys words k i b n s → (asks_keys (command_of words) ≡ true → IsAtEnd n.keys) → (asks_input (command_of words) ≡ true → IsAtEnd n.input) →
+      answer words k i ≡ answer words keys input
+  whole s x ek ei = same_answer (command_of words) k keys i input (λ asks. all_keys s x asks (ek asks)) (λ asks. all_input s x asks (ei asks))
+
+  written : (s : ℕ) → Obeys words k i b n s → s < 2 → Done s
+  written s x less =
+      let e : answer words k i ≡ answer words keys input = whole s x (x.keys_end (inl (inl less))) (x.input_end (inl less)) in
+      let P : Answer → Type 0 = λ (a : Answer). (s ≡ a.status) × Took a.output b.out n.out in
       inl (subst P e (x.known (omega (arith, less)), x.whole less))
 
-  refused : (s : ℕ) → Obeys words [] i b n s → s ≡ 4 → IsAtEnd n.input ⊎ (33554432 < length i) → Done s
-  refused s x four (inl at_end) =
-      let e : (answer words [] i).status ≡ (answer words [] text).status = whole s x at_end in
-      let k : s ≡ (answer words [] i).status = x.known (omega (arith, four)) in
-      absurd (omega (arith, e, k, four, small))
-  refused s x four (inr long) =
-      let c = has_command (command_of words) text small in
-      let more : length i ≤ length text = no_more b.input.bytes n.input.bytes i text x.gave_input.bytes told in
-      let t : nat_lt 33554432 (length text) ≡ true = longer 33554432 (length text) (omega (arith, more, long)) in
-      let e : (answer words [] text).status ≡ 4 = rw c.1 (over (nat_lt 33554432 (length text)) (answer_within c.0 [] text) t) in
-      absurd (omega (arith, e, small))
-
-  unwritten : (s : ℕ) → Obeys words [] i b n s → s ≡ 6 → Done s
+  unwritten : (s : ℕ) → Obeys words k i b n s → s ≡ 6 → Done s
   unwritten s x six =
-      let c = has_command (command_of words) text small in
-      let reading : reads_input (command_of words) ≡ true = rw c.1 (reads c.0) in
-      let e : i ≡ text = all_given b.input.bytes n.input.bytes i text x.gave_input.bytes told (x.input_end (inr six) reading) in
-      let P : List ℕ → Type 0 = λ (l : List ℕ). (m : ℕ) × (m < length (answer words [] l).output) × Took (take m (answer words [] l).output) b.out n.out in
-      let p : P text = subst P e (x.part six) in
-      absurd (quiet_out p.0 p.1 p.2 (x.write six).1)
+      let e : answer words k i ≡ answer words keys input = whole s x (x.keys_end (inl (inr six))) (x.input_end (inr six)) in
+      let P : Answer → Type 0 = λ (a : Answer). (m : ℕ) × (m < length a.output) × Took (take m a.output) b.out n.out in
+      let p : P (answer words keys input) = subst P e (x.part six) in
+      let few : length (take p.0 (answer words keys input).output) ≤ length (answer words keys input).output = grind (arith, length-take) in
+      absurd (calm (length (take p.0 (answer words keys input).output)) (answer words keys input).output b.out n.out p.2.counts few calm_out (x.write six).1)
 
-  faulty : (s : ℕ) → (((reads_keys (command_of words) ≡ true) × Rose b.keys n.keys)
-      ⊎ ((reads_input (command_of words) ≡ true) × ((answer words [] i).status ≢ 3) × Rose b.input n.input)) → Done s
-  faulty s (inl f) = let none : reads_keys (command_of words) ≡ false = no_keys (command_of words) in let some : reads_keys (command_of words) ≡ true = f.0 in absurd (cc)
-  faulty s (inr f) = absurd (quiet_input f.2)
+  faulty : (s : ℕ) → Obeys words k i b n s →
+      (((asks_keys (command_of words) ≡ true) × Rose b.keys n.keys × Unread i b.input n.input)
+      ⊎ ((asks_input (command_of words) ≡ true) × ((answer words k i).status ≢ 3) × Rose b.input n.input)) → Done s
+  faulty s x (inl f) =
+      let few : length k ≤ length keys = no_more b.keys.bytes n.keys.bytes k keys x.gave_keys.bytes (tells_keys.told f.0) in
+      absurd (calm (length k) keys b.keys n.keys x.gave_keys.counts few (tells_keys.calm f.0) f.1)
+  faulty s x (inr f) =
+      let few : length i ≤ length input = no_more b.input.bytes n.input.bytes i input x.gave_input.bytes (tells_input.told f.0) in
+      absurd (calm (length i) input b.input n.input x.gave_input.counts few (tells_input.calm f.0) f.2)
 
-  pub ends : (s : ℕ) → Obeys words [] i b n s → Done s
-  ends zero x = done 0 x (omega arith)
-  ends (suc zero) x = done 1 x (omega arith)
-  ends (suc (suc zero)) x =
-      let c = has_command (command_of words) text small in
-      let k : 2 ≡ (answer words [] i).status = x.known (omega arith) in
-      let two : (answer_of (command_of words) [] i).status ≡ 2 = sym k in
-      absurd (not_two c.0 i (rw c.1 at two))
-  ends (suc (suc (suc zero))) x = absurd (not_three (command_of words) i (sym (x.known (omega arith))))
-  ends (suc (suc (suc (suc zero)))) x = refused 4 x refl (x.judged refl)
-  ends (suc (suc (suc (suc (suc zero))))) x = faulty 5 (x.read refl)
+  module _ (c : Command) (is : command_of words ≡ Some c) where
+    of_command : (x y : List ℕ) → answer words x y ≡ answer_of_today (Some c) x y
+    of_command x y = ap (λ (o : Option Command). answer_of_today o x y) is
+
+    usage : (s : ℕ) → Obeys words k i b n s → s ≡ 2 → ⊥
+    usage s x two =
+        let e : (answer words k i).status ≡ (answer_of_today (Some c) k i).status = ap (λ (a : Answer). a.status) (of_command k i) in
+        let known : s ≡ (answer words k i).status = x.known (omega (arith, two)) in
+        not_two c k i (omega (arith, e, known, two))
+
+    not_three : (answer_of_today (Some c) keys input).status ≢ 3
+    not_three h =
+        let e : (answer words keys input).status ≡ (answer_of_today (Some c) keys input).status = ap (λ (a : Answer). a.status) (of_command keys input) in
+        omega (arith, e, h, small)
+
+    -- only a command that reads the key file refuses it
+    asked_keys : (answer_of_today (Some c) k i).status ≡ 3 → reads_keys c ≡ true
+    asked_keys three = elim (either (reads_keys c)) [
+      | inl holds ↦ holds
+      | inr lacks ↦ absurd ((within_plain c [] i).1 (ap (λ (a : Answer). a.status) (sym (unkeyed c k i lacks)) ∙ three))
+    ]
+
+    refused_keys : (s : ℕ) → Obeys words k i b n s → s ≡ 3 → IsAtEnd n.keys ⊎ (most_keys < length k) → ⊥
+    refused_keys s x three end =
+        let e : (answer words k i).status ≡ (answer_of_today (Some c) k i).status = ap (λ (a : Answer). a.status) (of_command k i) in
+        let known : s ≡ (answer words k i).status = x.known (omega (arith, three)) in
+        let t : (answer_of_today (Some c) k i).status ≡ 3 = omega (arith, e, known, three) in
+        let holds : reads_keys c ≡ true = asked_keys t in
+        let asks : asks_keys (command_of words) ≡ true = rw is holds in
+        elim end [
+          | inl at_end ↦
+              let same : k ≡ keys = all_keys s x asks at_end in
+              not_three (rw same at (three_whatever c k i input t))
+          | inr many ↦
+              let few : length k ≤ length keys = no_more b.keys.bytes n.keys.bytes k keys x.gave_keys.bytes (tells_keys.told asks) in
+              let r : answer_of_today (Some c) keys input ≡ refuse 3 keys_too_long = long_keys c keys input holds (omega (arith, few, many)) in
+              not_three (ap (λ (a : Answer). a.status) r)
+        ]
+
+    refused_input : (s : ℕ) → Obeys words k i b n s → s ≡ 4 → IsAtEnd n.input ⊎ (most_of (command_of words) < length i) → ⊥
+    refused_input s x four (inl at_end) =
+        let e : answer words k i ≡ answer words keys input = whole s x (x.keys_end (inr four)) (λ _. at_end) in
+        let t : (answer words k i).status ≡ (answer words keys input).status = ap (λ (a : Answer). a.status) e in
+        let known : s ≡ (answer words k i).status = x.known (omega (arith, four)) in
+        omega (arith, t, known, four, small)
+    refused_input s x four (inr long) = elim (either (reads_input c)) [
+      | inl holds ↦
+          let asks : asks_input (command_of words) ≡ true = rw is holds in
+          let more : length i ≤ length input = no_more b.input.bytes n.input.bytes i input x.gave_input.bytes (tells_input.told asks) in
+          let many : most_input c < length i = rw is at long in
+          let r : 2 < (answer_of_today (Some c) keys input).status = long_refused c keys input holds (omega (arith, more, many)) in
+          let e : (answer words keys input).status ≡ (answer_of_today (Some c) keys input).status = ap (λ (a : Answer). a.status) (of_command keys input) in
+          omega (arith, e, r, small)
+      | inr lacks ↦
+          let asks : asks_input (command_of words) ≡ false = rw is lacks in
+          let none : length i ≡ 0 = ap (λ (l : List ℕ). length l) (x.input_alone (inl asks)).1 in
+          omega (arith, none, long)
+    ]
+
+  pub ends : (s : ℕ) → Obeys words k i b n s → Done s
+  ends zero x = written 0 x (omega arith)
+  ends (suc zero) x = written 1 x (omega arith)
+  ends (suc (suc zero)) x = let c = has_command (command_of words) keys input small in absurd (usage c.0 c.1 2 x refl)
+  ends (suc (suc (suc zero))) x = let c = has_command (command_of words) keys input small in absurd (refused_keys c.0 c.1 3 x refl (x.keys_judged refl))
+  ends (suc (suc (suc (suc zero)))) x = let c = has_command (command_of words) keys input small in absurd (refused_input c.0 c.1 4 x refl (x.judged refl))
+  ends (suc (suc (suc (suc (suc zero))))) x = faulty 5 x (x.read refl)
   ends (suc (suc (suc (suc (suc (suc zero)))))) x = unwritten 6 x refl
   ends (suc (suc (suc (suc (suc (suc (suc zero))))))) x = inr refl
   ends (suc (suc (suc (suc (suc (suc (suc (suc s)))))))) x = absurd (omega (arith, x.no_other))
 
-pub completes : (words : List (List ℕ)) (i : List ℕ) (b n : Sides) (s : ℕ) → Obeys words [] i b n s → Completes words b n s
-completes words i b n s x = record { done = λ text told small quiet_input quiet_out. ends words i text b n told small quiet_input quiet_out s x }
+pub completes : (words : List (List ℕ)) (k i : List ℕ) (b n : Sides) (s : ℕ) → Obeys words k i b n s → Completes words b n s
+completes words k i b n s x =
+    record { done = λ keys input small tells_keys tells_input calm_out. ends words k i keys input b n small tells_keys tells_input calm_out s x }

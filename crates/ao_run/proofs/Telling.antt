@@ -1,16 +1,16 @@
 -- The ways in which the top call ends.
-use Rattle.std.proofs.Common.{◌≡◌, ◌≢◌, ◌⊎◌, inl, inr, ℕ, zero, suc, ◌<◌, ◌≤◌, List, [], take, Bool, true, false, Result, Ok, Err, refl, sym, ap, ◌∙◌, arith}
+use Rattle.std.proofs.Common.{◌≡◌, ◌≢◌, ◌⊎◌, inl, inr, ℕ, zero, suc, ◌<◌, ◌≤◌, List, [], take, true, Result, Ok, Err, refl, sym, ap, ◌∙◌, arith}
 use Rattle.std.proofs.Math.Seq.{take-length}
-use Rattle.ao_base.specs.Outside.{Side, Took, WritesAll}
-use Rattle.ao_base.proofs.Sides.{gave_none, took_none}
+use Rattle.ao_base.specs.Outside.{Side, Took, WritesAll, IsAtEnd}
+use Rattle.ao_base.proofs.Sides.{took_none}
+use Rattle.format_model.specs.Answers.{Answer, refuse, write_fault}
 use Rattle.ao_run.specs.declared.stop.Output.{Output}
 use Rattle.ao_run.specs.declared.stop.Stop.{Stop}
-use Rattle.ao_run.specs.declared.stop.Stop.TheVariants.{Usage, TooLong, TooManyLines, Line, Read, Write, Memory}
-use Rattle.ao_run.specs.Answer.{Answer, answer, refuse, command_of, reads_keys, reads_input, write_fault}
-use Rattle.ao_run.specs.Gathered.{Gathered}
-use Rattle.ao_run.specs.Obeys.{Offers, Obeys, text_of as text_with}
-use Rattle.ao_run.specs.Stops.{status_of, text_of, done}
-use Rattle.ao_run.proofs.Gathering.{no_keys, not_three}
+use Rattle.ao_run.specs.declared.stop.Stop.TheVariants.{Usage, KeysTooLong, Keys, TooLong, Input, Read, Write, Memory}
+use Rattle.ao_run.specs.Gathered.{Gathered, Sources}
+use Rattle.ao_run.specs.Obeys.{IsWritten, Obeys, Offers, Sides, asks_keys, text_of as text_with}
+use Rattle.ao_run.specs.Stops.{made, status_of, text_of}
+use Rattle.ao_run.specs.Today.{answer_today as answer, command_today as command_of}
 
 offered : {E : Type 0} (a b : Side) (text : List ℕ) (n : ℕ) (r : Result (Unit {0}) E) → WritesAll a b text n r → Offers text a b
 offered a b text n (Ok x) w = (n, w.took, inl (omega (arith, w.whole)))
@@ -18,9 +18,10 @@ offered a b text n (Err x) w = (n, w.took, inr w.failed.1)
 
 same_text : (stop : Stop) (a : Answer) → (status_of stop < 5 → a ≡ refuse (status_of stop) (text_of stop)) → text_with (status_of stop) a ≡ text_of stop
 same_text Usage a h = ap (λ (x : Answer). x.text) (h (omega arith))
+same_text KeysTooLong a h = ap (λ (x : Answer). x.text) (h (omega arith))
+same_text (Keys t) a h = ap (λ (x : Answer). x.text) (h (omega arith))
 same_text TooLong a h = ap (λ (x : Answer). x.text) (h (omega arith))
-same_text TooManyLines a h = ap (λ (x : Answer). x.text) (h (omega arith))
-same_text (Line t) a h = ap (λ (x : Answer). x.text) (h (omega arith))
+same_text (Input t) a h = ap (λ (x : Answer). x.text) (h (omega arith))
 same_text Read a h = refl
 same_text Write a h = refl
 same_text Memory a h = refl
@@ -33,90 +34,102 @@ no_text (suc (suc s)) a h = absurd (omega arith)
 silent : (text : List ℕ) (e : Side) → text ≡ [] → Offers text e e
 silent text e none = rw none (0, took_none e, inl (omega arith))
 
-not_both : {P : Type 0} (x : Bool) → x ≡ false → x ≡ true → P
-not_both x f t = absurd (cc)
-
 not_six : ((2 ≤ 6) × (6 < 6)) ⊎ (◌≡◌ {A = ℕ} 6 7) → ⊥
 not_six (inl h) = omega arith
 not_six (inr h) = omega arith
 
-no_end : (s : ℕ) → 2 ≤ s → s ≢ 6 → (s < 2) ⊎ (s ≡ 6) → ⊥
-no_end s a b (inl h) = omega (arith, a, h)
-no_end s a b (inr h) = b h
+not_written : (s : ℕ) → 2 ≤ s → s ≢ 6 → IsWritten s → ⊥
+not_written s a b (inl h) = omega (arith, a, h)
+not_written s a b (inr h) = b h
 
 no_output : (s : ℕ) → s < 2 → ((2 ≤ s) × (s < 6)) ⊎ (s ≡ 7) → ⊥
 no_output s b (inl h) = omega arith
 no_output s b (inr h) = omega arith
 
-module _ (words : List (List ℕ)) (i : List ℕ) (k0 i0 i1 : Side) where
-  alone : {r : Result Output Stop} → Gathered (command_of words) i i0 i1 r → (reads_input (command_of words) ≡ false) ⊎ ((answer words [] i).status ≡ 3) → i1 ≡ i0
-  alone x (inl h) = x.alone h
-  alone x (inr h) = absurd (not_three (command_of words) i h)
+module _ (words : List (List ℕ)) (k i : List ℕ) (k0 k1 i0 i1 : Side) where
+  abbrev Got : Result Output Stop → Type 0
+  Got r = Gathered (command_of words) k i (record { keys = k0; input = i0 }) (record { keys = k1; input = i1 }) r
+
+  keys_ended : (stop : Stop) → Got (Err stop) → IsWritten (status_of stop) ⊎ (status_of stop ≡ 4) → asks_keys (command_of words) ≡ true → IsAtEnd k1
+  keys_ended stop x (inl h) = absurd (not_written (status_of stop) x.within.0 x.within.2 h)
+  keys_ended stop x (inr four) = x.keys_over four
 
   pub refused_obeys : {E : Type 0} (o e0 e1 : Side) (stop : Stop) (n : ℕ) (r : Result (Unit {0}) E) →
-      Gathered (command_of words) i i0 i1 (Err stop) → WritesAll e0 e1 (text_of stop) n r →
-      Obeys words [] i (record { keys = k0; input = i0; out = o; err = e0 }) (record { keys = k0; input = i1; out = o; err = e1 }) (status_of stop)
+      Got (Err stop) → WritesAll e0 e1 (text_of stop) n r →
+      Obeys words k i (record { keys = k0; input = i0; out = o; err = e0 }) (record { keys = k1; input = i1; out = o; err = e1 }) (status_of stop)
   refused_obeys o e0 e1 stop n r x w = record {
-    gave_keys = gave_none k0;
-    gave_input = x.gave;
-    keys_alone = λ _. refl;
-    input_alone = alone x;
+    gave_keys = x.gave_keys;
+    gave_input = x.gave_input;
+    few_keys = x.few_keys;
+    few_input = x.few_input;
+    keys_alone = x.keys_alone;
+    input_alone = x.input_alone;
+    keys_first = x.keys_first;
     known = λ h. sym (ap (λ (a : Answer). a.status) (x.refused h));
-    judged = x.judged;
     usage = λ h. (x.usage h).0;
-    keys_end = λ h. absurd (no_end (status_of stop) x.within.0 x.within.3 h);
-    input_end = λ h. absurd (no_end (status_of stop) x.within.0 x.within.3 h);
-    read = λ h. inr (let f = x.fault h in (f.0, not_three (command_of words) i, f.1));
-    write = λ h. absurd (x.within.3 h);
+    keys_end = keys_ended stop x;
+    input_end = λ h. absurd (not_written (status_of stop) x.within.0 x.within.2 h);
+    keys_judged = x.keys_judged;
+    judged = x.judged;
+    read = x.fault;
+    write = λ h. absurd (x.within.2 h);
     no_other = x.within.1;
     whole = λ h. absurd (omega (arith, x.within.0));
-    part = λ h. absurd (x.within.3 h);
+    part = λ h. absurd (x.within.2 h);
     nothing = λ h. took_none o;
-    told = rw (same_text stop (answer words [] i) x.refused) (offered e0 e1 (text_of stop) n r w);
+    told = rw (same_text stop (answer words k i) x.refused) (offered e0 e1 (text_of stop) n r w);
   }
 
   pub done_obeys : {E : Type 0} (o0 o1 e : Side) (output : Output) (n : ℕ) (u : Unit {0}) →
-      Gathered (command_of words) i i0 i1 (Ok output) → WritesAll {E = E} o0 o1 output.bytes n (Ok u) →
-      Obeys words [] i (record { keys = k0; input = i0; out = o0; err = e }) (record { keys = k0; input = i1; out = o1; err = e }) output.status
+      Got (Ok output) → WritesAll {E = E} o0 o1 output.bytes n (Ok u) →
+      Obeys words k i (record { keys = k0; input = i0; out = o0; err = e }) (record { keys = k1; input = i1; out = o1; err = e }) output.status
   done_obeys o0 o1 e output n u x v =
-      let is : answer words [] i ≡ done output = x.done.0 in
+      let is : answer words k i ≡ made output = x.done.0 in
       let small : output.status < 2 = x.done.1 in
       let all : take n output.bytes ≡ output.bytes = rw v.whole (take-length output.bytes) in
       let wrote : Took output.bytes o0 o1 = rw all at v.took in
       record {
-        gave_keys = gave_none k0;
-        gave_input = x.gave;
-        keys_alone = λ _. refl;
-        input_alone = alone x;
+        gave_keys = x.gave_keys;
+        gave_input = x.gave_input;
+        few_keys = x.few_keys;
+        few_input = x.few_input;
+        keys_alone = x.keys_alone;
+        input_alone = x.input_alone;
+        keys_first = x.keys_first;
         known = λ h. sym (ap (λ (a : Answer). a.status) is);
-        judged = λ h. absurd (omega (arith, small, h));
         usage = λ h. absurd ((x.usage h).1);
-        keys_end = λ h reads. not_both (reads_keys (command_of words)) (no_keys (command_of words)) reads;
-        input_end = λ h reads. x.done.2;
+        keys_end = λ h. x.keys_end;
+        input_end = λ h. x.input_end;
+        keys_judged = λ h. absurd (omega (arith, small, h));
+        judged = λ h. absurd (omega (arith, small, h));
         read = λ h. absurd (omega (arith, small, h));
         write = λ h. absurd (omega (arith, small, h));
         no_other = omega (arith, small);
         whole = λ h. rw is wrote;
         part = λ h. absurd (omega (arith, small, h));
         nothing = λ h. absurd (no_output output.status small h);
-        told = silent (text_with output.status (answer words [] i)) e (no_text output.status (answer words [] i) small ∙ ap (λ (a : Answer). a.text) is);
+        told = silent (text_with output.status (answer words k i)) e (no_text output.status (answer words k i) small ∙ ap (λ (a : Answer). a.text) is);
       }
 
   pub unwritten_obeys : {E F : Type 0} (o0 o1 e0 e1 : Side) (output : Output) (n m : ℕ) (f : F) (r : Result (Unit {0}) E) →
-      Gathered (command_of words) i i0 i1 (Ok output) → WritesAll {E = F} o0 o1 output.bytes n (Err f) → WritesAll e0 e1 write_fault m r →
-      Obeys words [] i (record { keys = k0; input = i0; out = o0; err = e0 }) (record { keys = k0; input = i1; out = o1; err = e1 }) 6
+      Got (Ok output) → WritesAll {E = F} o0 o1 output.bytes n (Err f) → WritesAll e0 e1 write_fault m r →
+      Obeys words k i (record { keys = k0; input = i0; out = o0; err = e0 }) (record { keys = k1; input = i1; out = o1; err = e1 }) 6
   unwritten_obeys o0 o1 e0 e1 output n m f r x v w =
-      let is : answer words [] i ≡ done output = x.done.0 in
+      let is : answer words k i ≡ made output = x.done.0 in
       record {
-        gave_keys = gave_none k0;
-        gave_input = x.gave;
-        keys_alone = λ _. refl;
-        input_alone = alone x;
+        gave_keys = x.gave_keys;
+        gave_input = x.gave_input;
+        few_keys = x.few_keys;
+        few_input = x.few_input;
+        keys_alone = x.keys_alone;
+        input_alone = x.input_alone;
+        keys_first = x.keys_first;
         known = λ h. absurd (omega arith);
-        judged = λ h. absurd (omega arith);
         usage = λ h. absurd ((x.usage h).1);
-        keys_end = λ h reads. not_both (reads_keys (command_of words)) (no_keys (command_of words)) reads;
-        input_end = λ h reads. x.done.2;
+        keys_end = λ h. x.keys_end;
+        input_end = λ h. x.input_end;
+        keys_judged = λ h. absurd (omega arith);
+        judged = λ h. absurd (omega arith);
         read = λ h. absurd (omega arith);
         write = λ h. (rw is x.done.1, v.failed.1);
         no_other = omega arith;

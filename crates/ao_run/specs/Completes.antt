@@ -1,12 +1,23 @@
 -- That the program does what it is for.
-use Rattle.std.specs.Prelude.{◌≡◌, ◌⊎◌, ℕ, ◌<◌, List, [], length, take, Some}
-use Rattle.ao_base.specs.Outside.{Took, Rose}
-use Rattle.ao_run.specs.Answer.{answer}
-use Rattle.ao_run.specs.Obeys.{Sides}
+use Rattle.std.specs.Prelude.{◌≡◌, ◌⊎◌, ℕ, ◌<◌, Bool, true, List, [], length, Some}
+use Rattle.ao_base.specs.Outside.{Side, Took, Rose}
+use Rattle.ao_run.specs.Today.{answer_today as answer, command_today as command_of}
+use Rattle.ao_run.specs.Obeys.{Sides, asks_keys, asks_input}
 
--- where the answer to an input that is told is an output, reading it raises no count of faults, and writing no front part of it does, the whole output is written with its status, or memory runs out
+-- no fault comes in the call, or the side told before it that none comes while these bytes go by
+abbrev pub IsCalm : List ℕ → Side → Side → Type 0
+IsCalm bytes before now =
+    (Rose before now → ⊥) ⊎ ((most : ℕ) × (before.quiet ≡ Some most) × (length bytes < most) × (before.faults < 18446744073709551615))
+
+-- a source, where it is asked for, tells these bytes, and no fault comes while they are read
+pub record Tells (asked : Bool) (bytes : List ℕ) (before now : Side) : Type 0 where
+  pub told : asked ≡ true → before.bytes ≡ Some bytes
+  pub calm : asked ≡ true → IsCalm bytes before now
+
+-- where the answer to what the sources tell is an output, and no fault comes while they are read and it is written, the whole output is written with its status, or memory runs out
 pub record Completes (words : List (List ℕ)) (before now : Sides) (status : ℕ) : Type 0 where
-  pub done : (text : List ℕ) → before.input.bytes ≡ Some text → let a = answer words [] text in a.status < 2 →
-      (Rose before.input now.input → ⊥) →
-      ((n : ℕ) → n < length a.output → Took (take n a.output) before.out now.out → Rose before.out now.out → ⊥) →
+  pub done : (keys input : List ℕ) → let a = answer words keys input in a.status < 2 →
+      Tells (asks_keys (command_of words)) keys before.keys now.keys →
+      Tells (asks_input (command_of words)) input before.input now.input →
+      IsCalm a.output before.out now.out →
       ((status ≡ a.status) × Took a.output before.out now.out) ⊎ (status ≡ 7)

@@ -2,7 +2,7 @@
 use Rattle.std.specs.Prelude.{◌≡◌, ◌↔◌, ℕ, ◌<◌, List, [], ◌∷◌, ◌++◌, false, codes, Ok}
 use Rattle.std.specs.List.{AllByRecursion}
 use Rattle.ao_base.specs.declared.end.End.{End}
-use Rattle.ao_base.specs.Outside.{Side, Gave, Took, IsAtEnd}
+use Rattle.ao_base.specs.Outside.{Side, Took, IsAtEnd}
 use Rattle.narrow_endpoint.specs.States.{ready}
 use Rattle.narrow_link.specs.Headline.{ComesFrom}
 use Rattle.narrow_link.specs.Reports.{report, counts_text}
@@ -10,8 +10,8 @@ use Rattle.narrow_link.specs.Runs.{run}
 use Rattle.narrow_link.specs.Worlds.{Session, side, partner}
 use Rattle.narrow_script.specs.declared.script.Script.{Script}
 use Rattle.narrow_script.specs.Script.{script_of}
-use Rattle.ao_run.specs.Answer.{setup_of, events_of, forgeries_of}
 use Rattle.ao_run.specs.Obeys.{Sides}
+use Rattle.ao_run.specs.Today.{setup_of, events_of, forgeries_of}
 
 -- of the script that was read, with the status of the call
 pub record Delivers (script : Script) (out_before out_now : Side) (status : ℕ) : Type 0 where
@@ -26,6 +26,5 @@ pub record Delivers (script : Script) (out_before out_now : Side) (status : ℕ)
 
 -- with the word `link`, done, and the text of a script read to its end
 pub record LinkDelivers (words : List (List ℕ)) (input : List ℕ) (before now : Sides) (status : ℕ) : Type 0 where
-  pub gave : Gave input before.input now.input
   pub read_out : words ≡ codes "link" ∷ [] → status < 2 → IsAtEnd now.input
   pub delivers : words ≡ codes "link" ∷ [] → status < 2 → (script : Script) → script_of false input ≡ Ok script → Delivers script before.out now.out status

@@ -1,30 +1,164 @@
-//! The commands.
-ghost use Rattle.std.specs.Prelude.{◌≡◌};
-ghost use Rattle.ao_run.specs.Answer.{command_of};
+//! The command that the words name, and what it reads.
+ghost use Rattle.std.specs.Prelude.{◌≡◌, option_map};
+ghost use Rattle.key_model.specs.Times.{time_of};
+ghost use Rattle.format_model.specs.Commands.{alone_of, keys_of, lint_of, reads_input, reads_keys, up_to};
+ghost use Rattle.format_model.specs.Answers.{most_input};
+ghost use Rattle.ao_run.specs.KeyFiles.{key_word, second};
+ghost use Rattle.ao_run.specs.Today.{command_today, if_built};
 
-use ao_base::Words;
+use ao_base::{Words, read_decimal};
+use format_model::{Command, Plan};
+use key_table::{LATEST, read_time};
 
-/// What the words ask for.
-#[derive(Clone, Copy, Debug, PartialEq, Eq)]
-pub(crate) enum Command {
-    /// The report of a link file that names its shared key.
-    Link,
-    /// The fields of datagrams.
-    Show,
-    /// Whether test vectors are as computed.
-    Vectors,
+/// The most bytes of stored segments.
+const MOST_STORED: u64 = 268_435_456;
+/// The most bytes of any other input.
+const MOST_INPUT: u64 = 33_554_432;
+
+/// A time that is written as in a key file, whatever the bytes.
+#[tactic(auto, using(crate::proofs::CommandLaws::no_time))]
+fn time_in(word: &[u8]) -> Option<u64>
+    ensures { result ≡ time_of word.now }
+{
+    match std::str::from_utf8(word) {
+        Ok(text) => read_time(text),
+        Err(_) => None,
+    }
 }
 
-impl Command {
-    /// The command that the words name; None exactly where they are in no command's form.
-    pub(crate) fn named(words: &Words) -> Option<Command>
-        ensures { result ≡ command_of words.now }
-    {
-        match words.as_slice() {
-            [name] if name.as_slice() == b"link".as_slice() => Some(Command::Link),
-            [name] if name.as_slice() == b"show".as_slice() => Some(Command::Show),
-            [name] if name.as_slice() == b"vectors".as_slice() => Some(Command::Vectors),
-            _ => None,
+fn up_to(most: u64, word: &[u8]) -> Option<u64>
+    ensures { result ≡ up_to most word.now }
+{
+    match read_decimal(word) {
+        Some(n) => {
+            if n <= most {
+                Some(n)
+            } else {
+                None
+            }
         }
+        None => None,
+    }
+}
+
+fn alone(name: &[u8]) -> Option<Command>
+    ensures { result ≡ if_built (alone_of name.now) }
+{
+    if name == b"link".as_slice() {
+        Some(Command::Link)
+    } else if name == b"show".as_slice() {
+        Some(Command::Show)
+    } else if name == b"vectors".as_slice() {
+        Some(Command::Vectors)
+    } else {
+        None
+    }
+}
+
+fn keys(time: &[u8]) -> Option<Command>
+    ensures { result ≡ if_built (keys_of time.now) }
+{
+    match time_in(time) {
+        Some(time) => Some(Command::Keys(time)),
+        None => None,
+    }
+}
+
+fn lint(lead: &[u8], lag: &[u8], from: &[u8], to: &[u8]) -> Option<Command>
+    ensures { result ≡ if_built (lint_of lead.now lag.now from.now to.now) }
+{
+    let lead = up_to(LATEST, lead)?;
+    let lag = up_to(LATEST, lag)?;
+    let from = time_in(from)?;
+    let to = time_in(to)?;
+    if from <= to {
+        Some(Command::Lint(Plan {
+            lead,
+            lag,
+            from,
+            to,
+        }))
+    } else {
+        None
+    }
+}
+
+/// The command that the words name, where it is built; None exactly where they are in no such
+/// command's form.
+#[tactic(auto, unfolding(format_model::specs::Commands::command_of), using(crate::proofs::CommandLaws::unbuilt_three, crate::proofs::CommandLaws::unbuilt_with_keys))]
+pub(crate) fn named(words: &Words) -> Option<Command>
+    ensures { result ≡ command_today words.now }
+{
+    match words.as_slice() {
+        [name] => alone(name.as_slice()),
+        [name, _keys, time] if name.as_slice() == b"keys".as_slice() => keys(time.as_slice()),
+        [name, _keys, lead, lag, from, to] if name.as_slice() == b"lint".as_slice() => lint(
+            lead.as_slice(),
+            lag.as_slice(),
+            from.as_slice(),
+            to.as_slice(),
+        ),
+        _ => None,
+    }
+}
+
+/// Whether the command reads the key file.
+pub(crate) fn reads_keys(command: Command) -> bool
+    ensures { result ≡ reads_keys command }
+{
+    match command {
+        Command::Link => false,
+        Command::Show => false,
+        Command::Vectors => false,
+        Command::Storm(_, _) => false,
+        _ => true,
+    }
+}
+
+/// Whether the command reads standard input.
+pub(crate) fn reads_input(command: Command) -> bool
+    ensures { result ≡ reads_input command }
+{
+    match command {
+        Command::Keys(_) => false,
+        Command::Storm(_, _) => false,
+        _ => true,
+    }
+}
+
+/// The most bytes of the command's input.
+pub(crate) fn most_input(command: Command) -> u64
+    ensures { result ≡ most_input command }
+{
+    match command {
+        Command::Check => MOST_STORED,
+        Command::CheckPcap => MOST_STORED,
+        _ => MOST_INPUT,
+    }
+}
+
+fn second(words: &Words) -> Option<&[u8]>
+    ensures { option_map (λ w. w.now) result ≡ second words.now }
+{
+    match words.as_slice() {
+        [_name, word, ..] => Some(word.as_slice()),
+        _ => None,
+    }
+}
+
+/// The word that names the key file; None exactly where the words ask for none, or are in no form of
+/// a command that is built.
+pub fn key_file(words: &Words) -> Option<&[u8]>
+    ensures { option_map (λ w. w.now) result ≡ key_word words.now }
+{
+    match named(words) {
+        Some(command) => {
+            if reads_keys(command) {
+                second(words)
+            } else {
+                None
+            }
+        }
+        None => None,
     }
 }

@@ -1,81 +1,38 @@
-//! What completeness says over sources and sinks that don't fail by themselves: proved callers of
-//! the top call.
+//! What completeness says over memory of which no call is told to fail: a proved caller of the top
+//! call.
 ghost use Rattle.std.specs.Prelude.{◌≡◌, ◌⊎◌, ◌<◌, [], IfOk, length};
-ghost use Rattle.ao_base.specs.InMemory.{TakingState, taking_side};
-ghost use Rattle.ao_base.specs.Outside.{Side, Writes};
-ghost use Rattle.ao_run.specs.Answer.{answer};
+ghost use Rattle.ao_run.specs.Today.{answer_today};
 
 use crate::run;
-use ao_base::{Bytes, Failed, MemSink, Numbers, QuietSink, QuietSource, Sink, Words};
+use ao_base::{Bytes, MemSink, MemSource, Numbers, QuietSink, Words};
 use std::alloc::{AllocError, Global};
-use std::marker::Model;
-use std::test::Fail;
 
-/// The status over ends that never fail: the answer's, unless memory runs out.
-fn over_quiet(alloc: Global, words: &Words, input: Bytes) -> u8
-    requires { (answer words.now [] input).status < 2 }
-    ensures { (result ≡ (answer words.now [] input).status) ⊎ (result ≡ 7) }
+/// A source of these bytes, no call of which is told to fail.
+fn source(alloc: Global, content: Bytes) -> MemSource
+    ensures { result ≡ record { left = content; piece = 4294967295; failing = []; calls = 0; faults = 0 } }
 {
-    let mut keys = QuietSource::new(Bytes::from_vec(Vec::new(alloc)));
-    let mut source = QuietSource::new(input);
-    let mut out = QuietSink::new();
-    let mut err = QuietSink::new();
-    run(alloc, words, &mut keys, &mut source, &mut out, &mut err)
+    MemSource::new(content, u32::MAX, Numbers::from_vec(Vec::new(alloc)))
 }
 
-/// The room of a sink that no call is told to fail.
-const ROOM: usize = 65_536;
-
-/// A sink in memory with that room, of which no call is told to fail.
-#[derive(Debug, Drop)]
-struct Roomy {
-    sink: MemSink,
-}
-
-impl Model for Roomy {
-    ghost Value = { TakingState };
-
-    ghost view = { λ s. s.sink };
-
-    ghost invariant = { λ s. (s.sink.failing ≡ []) × (s.sink.room ≡ 65536) };
-}
-
-impl Roomy {
-    fn new(alloc: Global) -> Result<Roomy, AllocError>
-        ensures { IfOk result (λ s. s ≡ record { held = []; room = 65536; failing = []; calls = 0; faults = 0 }) }
-    {
-        let sink = MemSink::new(alloc, ROOM, Numbers::from_vec(Vec::new(alloc)))?;
-        Ok(Roomy { sink })
-    }
-
-    fn bytes(&self) -> &[u8]
-        ensures held { result.now ≡ self.now.held }
-        ensures full { 0 < self.now.faults → length self.now.held ≡ 65536 }
-    {
-        self.sink.bytes()
-    }
-}
-
-impl Sink for Roomy {
-    ghost side = { taking_side };
-
-    fn write(&mut self, buf: &[u8]) -> Result<usize, Failed> {
-        self.sink.write(buf)
-    }
-}
-
-/// The status, and the bytes that were written, where the sink has more room than the answer's
-/// output is long: the whole answer, unless memory runs out.
-fn over_memory(alloc: Global, words: &Words, input: Bytes) -> Result<(u8, Roomy), AllocError>
-    requires done { (answer words.now [] input).status < 2 }
-    requires short { length (answer words.now [] input).output < 65536 }
-    ensures { IfOk result (λ told. ((told.0 ≡ (answer words.now [] input).status) × (told.1.held ≡ (answer words.now [] input).output)) ⊎ (told.0 ≡ 7)) }
+/// The status, and the bytes that were written into a room greater than the answer's output: the
+/// whole answer, unless memory runs out.
+fn over_memory(
+    alloc: Global,
+    words: &Words,
+    keys: Bytes,
+    input: Bytes,
+    room: usize,
+) -> Result<(u8, MemSink), AllocError>
+    requires done { (answer_today words.now keys input).status < 2 }
+    requires room { length (answer_today words.now keys input).output < room }
+    ensures { IfOk result (λ told.
+        ((told.0 ≡ (answer_today words.now keys input).status) × (told.1.held ≡ (answer_today words.now keys input).output))
+        ⊎ (told.0 ≡ 7)) }
 {
-    let mut keys = QuietSource::new(Bytes::from_vec(Vec::new(alloc)));
-    let mut source = QuietSource::new(input);
-    let mut out = Roomy::new(alloc)?;
+    let mut keys = source(alloc, keys);
+    let mut input = source(alloc, input);
+    let mut out = MemSink::new(alloc, room, Numbers::from_vec(Vec::new(alloc)))?;
     let mut err = QuietSink::new();
-    let status = run(alloc, words, &mut keys, &mut source, &mut out, &mut err);
-    let _held = out.bytes();
+    let status = run(alloc, words, &mut keys, &mut input, &mut out, &mut err);
     Ok((status, out))
 }

@@ -6,6 +6,9 @@
 mod command;
 #[cfg(test)]
 mod completeness;
+mod gather;
+mod key_commands;
+mod key_fault;
 mod link;
 mod stop;
 #[cfg(test)]
@@ -13,4 +16,5 @@ mod tests;
 mod texts;
 mod top;
 
+pub use command::key_file;
 pub use top::run;

@@ -3,11 +3,11 @@ ghost use Rattle.std.specs.Prelude.{◌≡◌, ◌≤◌, ◌<◌, IsTrue, IfOk,
 ghost use Rattle.ao_base.specs.Algorithms.{mac_length_of};
 ghost use Rattle.narrow_script.specs.Script.{are_two_of_a_family, script_of};
 ghost use Rattle.narrow_world.specs.Standing.{StandsFor, event_of, setup_of};
-ghost use Rattle.ao_run.specs.Answer.{linked};
+ghost use Rattle.format_model.specs.Answers.{if_read};
 ghost use Rattle.ao_run.specs.Stops.{Makes};
+ghost use Rattle.ao_run.specs.Today.{reported};
 
-use crate::stop::{Output, Stop, line_text};
-use line_model::TextFault;
+use crate::stop::{Output, Stop};
 use narrow_script::{Event, Script, read_script};
 use narrow_world::{Setup, World};
 use std::alloc::{AllocError, Global};
@@ -30,15 +30,11 @@ fn play(alloc: Global, setup: Setup, events: &[Event]) -> Result<World, AllocErr
 
 /// The report of a link file that names its shared key; status 1 where the run counts a forgery.
 pub(crate) fn link(alloc: Global, text: &[u8]) -> Result<Output, Stop>
-    ensures { Makes result (linked (script_of false text.now)) }
+    ensures { Makes result (if_read reported (script_of false text.now)) }
 {
     let script = match read_script(alloc, false, text) {
         Ok(script) => script,
-        Err(TextFault::Memory) => return Err(Stop::Memory),
-        Err(TextFault::TooManyLines) => return Err(Stop::TooManyLines),
-        Err(TextFault::Line(number, kind)) => {
-            return Err(Stop::Line(line_text(alloc, number, kind)?));
-        }
+        Err(fault) => return Err(Stop::of_input(alloc, &fault)),
     };
     let Script {
         a,

@@ -1,13 +1,17 @@
 //! How a command ends: with output, or without.
-ghost use Rattle.std.specs.Prelude.{◌≡◌, ◌++◌, ◌∷◌, [], IfOk, codes, decimal};
-ghost use Rattle.ao_run.specs.Answer.{line_text, kind_text};
-ghost use Rattle.ao_run.specs.Stops.{status_of, text_of};
+ghost use Rattle.std.specs.Prelude.{◌≡◌};
+ghost use Rattle.line_model.specs.Faults.{fault_text};
+ghost use Rattle.format_model.specs.Answers.{refuse};
+ghost use Rattle.ao_run.specs.Stops.{Stopped, status_of, text_of};
+ghost use Rattle.ao_run.specs.declared.stop.Stop.TheVariants.{Memory};
 
-use ao_base::{Bytes, LineKind, push_decimal};
-use std::alloc::{AllocError, AllocFailed, Global};
+use ao_base::Bytes;
+use line_model::TextFault;
+use std::alloc::{AllocError, Global};
+use text_lines::print_fault;
 
 const USAGE: &[u8] =
-    b"usage: aotcp link [KEYS] | check KEYS | show | vectors | keys KEYS TIME | lint KEYS LEAD LAG FROM TO | storm SEED COUNT\n";
+    b"usage: aotcp link [KEYS] | check KEYS | show | vectors | keys KEYS TIME | lint KEYS LEAD LAG FROM TO | storm SEED COUNT | check --pcap KEYS | bgp KEYS | timed KEYS | node KEYS\n";
 
 /// The whole output of a command.
 #[derive(Debug, Drop)]
@@ -22,12 +26,14 @@ pub(crate) struct Output {
 pub(crate) enum Stop {
     /// The words are in no command's form.
     Usage,
+    /// The key file has more bytes than its limit.
+    KeysTooLong,
+    /// The key file has a fault; with the text that names it.
+    Keys(Bytes),
     /// The input has more bytes than its limit.
     TooLong,
-    /// The input has more lines than its limit.
-    TooManyLines,
-    /// The input isn't in the command's grammar; with the text that names the line.
-    Line(Bytes),
+    /// The input isn't in the command's grammar; with the text that names its fault.
+    Input(Bytes),
     /// A read failed.
     Read,
     /// A write failed.
@@ -37,8 +43,6 @@ pub(crate) enum Stop {
 }
 
 impl From<AllocError> for Stop {
-    ghost use Rattle.ao_run.specs.declared.stop.Stop.TheVariants.{Memory};
-
     ghost from_gives = { λ _ e. e ≡ Memory };
 
     fn from(_e: AllocError) -> Stop {
@@ -47,15 +51,30 @@ impl From<AllocError> for Stop {
 }
 
 impl Stop {
+    /// Why an input with this fault has no output.
+    pub(crate) fn of_input(alloc: Global, fault: &TextFault) -> Stop
+        ensures text { Stopped result (refuse 4 (fault_text fault.now)) }
+        ensures memory { fault.now ≡ TextFault.Memory → result ≡ Memory }
+    {
+        match fault {
+            TextFault::Memory => Stop::Memory,
+            _ => match print_fault(alloc, fault) {
+                Ok(text) => Stop::Input(text),
+                Err(_) => Stop::Memory,
+            },
+        }
+    }
+
     /// The status of the program.
     pub(crate) fn status(&self) -> u8
         ensures { result ≡ status_of self.now }
     {
         match self {
             Stop::Usage => 2,
+            Stop::KeysTooLong => 3,
+            Stop::Keys(_) => 3,
             Stop::TooLong => 4,
-            Stop::TooManyLines => 4,
-            Stop::Line(_) => 4,
+            Stop::Input(_) => 4,
             Stop::Read => 5,
             Stop::Write => 6,
             Stop::Memory => 7,
@@ -68,37 +87,13 @@ impl Stop {
     {
         match self {
             Stop::Usage => USAGE,
+            Stop::KeysTooLong => b"keys: too long\n",
+            Stop::Keys(text) => text.as_slice(),
             Stop::TooLong => b"input: too long\n",
-            Stop::TooManyLines => b"input: too many lines\n",
-            Stop::Line(text) => text.as_slice(),
+            Stop::Input(text) => text.as_slice(),
             Stop::Read => b"read fault\n",
             Stop::Write => b"write fault\n",
             Stop::Memory => b"memory\n",
         }
     }
-}
-
-fn kind_name(kind: LineKind) -> &'static [u8]
-    ensures { result.now ≡ kind_text kind }
-{
-    match kind {
-        LineKind::Word => b"word",
-        LineKind::Number => b"number",
-        LineKind::Hex => b"hex",
-        LineKind::Range => b"range",
-        LineKind::Header => b"header",
-        LineKind::Shared => b"shared",
-    }
-}
-
-/// The text that names a faulty line and the kind of its first faulty word.
-pub(crate) fn line_text(alloc: Global, number: u32, kind: LineKind) -> Result<Bytes, AllocError>
-    ensures { IfOk result (λ text. text ≡ line_text number kind) }
-{
-    let mut text = Vec::from_slice(alloc, b"input: line ")?;
-    push_decimal(&mut text, u64::from(number))?;
-    text.extend_from_slice(b" ")?;
-    text.extend_from_slice(kind_name(kind))?;
-    text.extend_from_slice(b"\n")?;
-    Ok(Bytes::from_vec(text))
 }

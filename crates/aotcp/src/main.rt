@@ -1,14 +1,26 @@
-//! `aotcp`: hands the words after the program's name and the standard streams to the top call, and
-//! ends with its status.
+//! `aotcp`: hands the words after the program's name, the key file and the standard streams to the
+//! top call, and ends with its status.
 #![tactic(auto)]
 
 mod own_text;
 
-use ao_base::{Bytes, Failed, QuietSource, ReadSource, Words, WriteSink, write_all};
-use ao_run::run;
+use ao_base::{Bytes, Failed, QuietSource, ReadSource, Source, Words, WriteSink, write_all};
+use ao_run::{key_file, run};
 use own_text::OwnText;
+use std::fs::File;
+use std::io::{ErrorKind, Read};
 use std::process::ExitCode;
-use std::{env, io};
+use std::{env, io, str};
+
+/// A file that can't be opened: each read of it fails.
+#[derive(Drop)]
+struct Unopened;
+
+impl Read for Unopened {
+    fn read(&mut self, _buf: &mut [u8]) -> io::Result<usize> {
+        Err(io::Error::from(ErrorKind::NotFound))
+    }
+}
 
 /// The words after the program's name; an error where one isn't UTF-8.
 fn words(rt: &HostRuntime) -> io::Result<Words> {
@@ -30,13 +42,33 @@ fn print(rt: &HostRuntime, text: &[u8]) -> u8 {
     }
 }
 
-/// The top call over the standard streams; no command has a key file yet, so that source is empty.
-fn run_words(rt: &HostRuntime, words: &Words) -> u8 {
-    let mut keys = QuietSource::new(Bytes::from_vec(Vec::new(rt.alloc())));
+fn open(rt: &HostRuntime, path: &[u8]) -> io::Result<File> {
+    match str::from_utf8(path) {
+        Ok(path) => File::open(rt, path),
+        Err(_) => Err(io::Error::from(ErrorKind::NotFound)),
+    }
+}
+
+/// The top call over this key file and the standard streams.
+fn run_over<K: Source>(rt: &HostRuntime, words: &Words, keys: &mut K) -> u8 {
     let mut input = ReadSource::new(rt.stdin());
     let mut out = WriteSink::new(rt.stdout());
     let mut err = WriteSink::new(rt.stderr());
-    run(rt.alloc(), words, &mut keys, &mut input, &mut out, &mut err)
+    run(rt.alloc(), words, keys, &mut input, &mut out, &mut err)
+}
+
+/// The top call; words that ask for no key file have an empty one.
+fn run_words(rt: &HostRuntime, words: &Words) -> u8 {
+    match key_file(words) {
+        None => {
+            let none = Bytes::from_vec(Vec::new(rt.alloc()));
+            run_over(rt, words, &mut QuietSource::new(none))
+        }
+        Some(path) => match open(rt, path) {
+            Ok(file) => run_over(rt, words, &mut ReadSource::new(file)),
+            Err(_) => run_over(rt, words, &mut ReadSource::new(Unopened)),
+        },
+    }
 }
 
 fn answer(rt: &HostRuntime, words: &Words) -> u8 {

@@ -5,11 +5,14 @@ ghost use Rattle.aotcp.specs.OwnTexts.{asked_by, text_of};
 use ao_base::Words;
 
 const HELP: &[u8] =
-    b"usage: aotcp link [KEYS] | check KEYS | show | vectors | keys KEYS TIME | lint KEYS LEAD LAG FROM TO | storm SEED COUNT
+    b"usage: aotcp link [KEYS] | check KEYS | show | vectors | keys KEYS TIME | lint KEYS LEAD LAG FROM TO | storm SEED COUNT | check --pcap KEYS | bgp KEYS | timed KEYS | node KEYS
 
 link reads a link file on standard input and writes the report of its run.
 show reads datagrams in hexadecimal, one a line, and writes their fields.
 vectors reads test vectors and writes whether each is as computed.
+keys writes the rows of the key file KEYS with their state at TIME.
+lint reads connections and writes whether the tables of KEYS carry each through its rollovers.
+The other commands aren't built yet: their words are a usage fault.
 Status 0: done; 1: done, with something amiss; 2: usage; 3: key file; 4: input;
 5: a read failed; 6: a write failed; 7: out of memory.
 ";

@@ -1,0 +1,138 @@
+-- What words name, as the code reads them.
+use Rattle.std.proofs.Common.{◌≡◌, ◌⊎◌, inl, inr, ℕ, zero, suc, ◌+◌, ◌*◌, ◌-◌, ◌<◌, ◌≤◌, ◌==◌, ◌&&◌, nat_le, nat_lt, Bool, true, false, List, [], ◌∷◌, codes, length, Option, Some, None, slice_index, if◌then◌else◌, refl, sym, ap, arith, ◌∙◌}
+use Rattle.std.proofs.lemmas.Bool.Decides.{nat_tests}
+use Rattle.std.proofs.lemmas.List.{get_or_past}
+use Rattle.std.proofs.lemmas.Str.{IsUtf8-from_ascii}
+use Rattle.std.specs.Str.{IsAscii, IsUtf8, bytes_eq}
+use Rattle.ao_base.specs.Decimals.{decimal_of}
+use Rattle.key_model.specs.Times.{◌>>=◌, two_at, time_of, time_of_digits}
+use Rattle.format_model.specs.declared.command.Command.{Command}
+use Rattle.format_model.specs.declared.command.Command.TheVariants as command
+use Rattle.format_model.specs.Commands.{command_of, keys_of, pcap_of, storm_of, three_of, up_to, with_keys_of}
+use Rattle.ao_run.specs.Today.{if_built}
+
+-- a value in front of a reading that goes on
+from_bind : {A B : Type 0} (m : Option A) (f : A → Option B) (y : B) → (m >>= f) ≡ Some y → (x : A) × (m ≡ Some x) × (f x ≡ Some y)
+from_bind None f y h = absurd (cc)
+from_bind (Some x) f y h = (x, refl, h)
+
+two_tests : (a b : Bool) (n m : ℕ) → (if a && b then Some n else None) ≡ Some m → (a ≡ true) × (b ≡ true)
+two_tests true true n m h = (refl, refl)
+two_tests true false n m h = absurd (cc)
+two_tests false b n m h = absurd (cc)
+
+low : (x : ℕ) → (nat_le 48 x && nat_le x 57) ≡ true → x < 128
+low x h = grind (arith, nat_tests)
+
+-- two digits are of ASCII
+two_low : (w : List ℕ) (i n : ℕ) → two_at w i ≡ Some n → (slice_index w i < 128) × (slice_index w (i + 1) < 128)
+unfolding two_at
+two_low w i n h =
+    let a = slice_index w i in
+    let b = slice_index w (i + 1) in
+    let t = two_tests (nat_le 48 a && nat_le a 57) (nat_le 48 b && nat_le b 57) (10 * (a - 48) + (b - 48)) n h in
+    (low a t.0, low b t.1)
+
+-- the bytes of a time: seven times two digits, and Z
+record Written (w : List ℕ) : Type 0 where
+  c : (slice_index w 0 < 128) × (slice_index w 1 < 128)
+  y : (slice_index w 2 < 128) × (slice_index w 3 < 128)
+  mo : (slice_index w 4 < 128) × (slice_index w 5 < 128)
+  d : (slice_index w 6 < 128) × (slice_index w 7 < 128)
+  h : (slice_index w 8 < 128) × (slice_index w 9 < 128)
+  mi : (slice_index w 10 < 128) × (slice_index w 11 < 128)
+  s : (slice_index w 12 < 128) × (slice_index w 13 < 128)
+  z : slice_index w 14 ≡ 90
+  long : length w ≡ 15
+
+module _ (w : List ℕ) where
+  at : Written w → IsAscii w
+  at f zero = (f.c).0
+  at f (suc zero) = (f.c).1
+  at f (suc (suc zero)) = (f.y).0
+  at f (suc (suc (suc zero))) = (f.y).1
+  at f (suc (suc (suc (suc zero)))) = (f.mo).0
+  at f (suc (suc (suc (suc (suc zero))))) = (f.mo).1
+  at f (suc (suc (suc (suc (suc (suc zero)))))) = (f.d).0
+  at f (suc (suc (suc (suc (suc (suc (suc zero))))))) = (f.d).1
+  at f (suc (suc (suc (suc (suc (suc (suc (suc zero)))))))) = (f.h).0
+  at f (suc (suc (suc (suc (suc (suc (suc (suc (suc zero))))))))) = (f.h).1
+  at f (suc (suc (suc (suc (suc (suc (suc (suc (suc (suc zero)))))))))) = (f.mi).0
+  at f (suc (suc (suc (suc (suc (suc (suc (suc (suc (suc (suc zero))))))))))) = (f.mi).1
+  at f (suc (suc (suc (suc (suc (suc (suc (suc (suc (suc (suc (suc zero)))))))))))) = (f.s).0
+  at f (suc (suc (suc (suc (suc (suc (suc (suc (suc (suc (suc (suc (suc zero))))))))))))) = (f.s).1
+  at f (suc (suc (suc (suc (suc (suc (suc (suc (suc (suc (suc (suc (suc (suc zero)))))))))))))) = omega (arith, f.z)
+  at f (suc (suc (suc (suc (suc (suc (suc (suc (suc (suc (suc (suc (suc (suc (suc i))))))))))))))) = let past : slice_index w (suc (suc (suc (suc (suc (suc (suc (suc (suc (suc (suc (suc (suc (suc (suc i))))))))))))))) ≡ 0 = get_or_past w (suc (suc (suc (suc (suc (suc (suc (suc (suc (suc (suc (suc (suc (suc (suc i))))))))))))))) 0 (omega (arith, f.long)) in omega (arith, past)
+
+digits_written : (w : List ℕ) (t : ℕ) → length w ≡ 15 → slice_index w 14 ≡ 90 → time_of_digits w ≡ Some t → Written w
+unfolding time_of_digits
+digits_written w t long z is =
+    let c = from_bind (two_at w 0) _ t is in
+    let y = from_bind (two_at w 2) _ t c.2 in
+    let mo = from_bind (two_at w 4) _ t y.2 in
+    let d = from_bind (two_at w 6) _ t mo.2 in
+    let h = from_bind (two_at w 8) _ t d.2 in
+    let mi = from_bind (two_at w 10) _ t h.2 in
+    let s = from_bind (two_at w 12) _ t mi.2 in
+    record {
+      c = two_low w 0 c.0 c.1;
+      y = two_low w 2 y.0 y.1;
+      mo = two_low w 4 mo.0 mo.1;
+      d = two_low w 6 d.0 d.1;
+      h = two_low w 8 h.0 h.1;
+      mi = two_low w 10 mi.0 mi.1;
+      s = two_low w 12 s.0 s.1;
+      z = z;
+      long = long;
+    }
+
+tested : (a b : Bool) (m : Option ℕ) (t : ℕ) → (if a && b then m else None) ≡ Some t → (a ≡ true) × (b ≡ true) × (m ≡ Some t)
+tested true true m t h = (refl, refl, h)
+tested true false m t h = absurd (cc)
+tested false b m t h = absurd (cc)
+
+time_written : (w : List ℕ) (t : ℕ) → time_of w ≡ Some t → Written w
+unfolding time_of
+time_written w t is =
+    let x = tested (length w == 15) (slice_index w 14 == 90) (time_of_digits w) t is in
+    let a = x.0 in
+    let b = x.1 in
+    digits_written w t (grind (arith, nat_tests)) (grind (arith, nat_tests)) x.2
+
+none_by : (w : List ℕ) (r : Option ℕ) → time_of w ≡ r → (IsUtf8 w → ⊥) → r ≡ None
+none_by w None is lacks = refl
+none_by w (Some t) is lacks = absurd (lacks (IsUtf8-from_ascii w (at w (time_written w t is))))
+
+-- bytes that are no text are no time
+pub no_time : (w : List ℕ) → (IsUtf8 w → ⊥) → time_of w ≡ None
+no_time w lacks = none_by w (time_of w) refl lacks
+
+stormed : (s n : Option ℕ) → if_built (s >>= λ a. n >>= λ b. Some (command.Storm a b)) ≡ None
+stormed None n = refl
+stormed (Some a) None = refl
+stormed (Some a) (Some b) = refl
+
+packets : (b : Bool) → if_built (if b then Some command.CheckPcap else None) ≡ None
+packets true = refl
+packets false = refl
+
+other_three : (a b : Bool) (second third : List ℕ) → if_built (if a then storm_of second third else if b then pcap_of second else None) ≡ None
+other_three true b second third = stormed (decimal_of second) (up_to 10000 third)
+other_three false true second third = packets (bytes_eq second (codes "--pcap"))
+other_three false false second third = refl
+
+-- three words of which the first isn't `keys` name nothing that is built
+pub unbuilt_three : (name second third : List ℕ) → bytes_eq name (codes "keys") ≡ false → if_built (three_of name second third) ≡ None
+unbuilt_three name second third lacks = rw lacks (other_three (bytes_eq name (codes "storm")) (bytes_eq name (codes "check")) second third)
+
+with_keys : (a b c d e : Bool) → if_built (if a then Some command.LinkKeys else if b then Some command.Check else if c then Some command.Bgp else if d then Some command.Timed else if e then Some command.Node else None) ≡ None
+with_keys true b c d e = refl
+with_keys false true c d e = refl
+with_keys false false true d e = refl
+with_keys false false false true e = refl
+with_keys false false false false true = refl
+with_keys false false false false false = refl
+
+-- two words name nothing that is built
+pub unbuilt_with_keys : (name : List ℕ) → if_built (with_keys_of name) ≡ None
+unbuilt_with_keys name = with_keys (bytes_eq name (codes "link")) (bytes_eq name (codes "check")) (bytes_eq name (codes "bgp")) (bytes_eq name (codes "timed")) (bytes_eq name (codes "node"))

@@ -1,0 +1,97 @@
+//! Reading what a command reads, and making its output.
+ghost use Rattle.std.specs.Prelude.{◌≡◌, ℕ, List, true, is_some, option_map};
+ghost use Rattle.format_model.specs.Commands.{reads_keys};
+ghost use Rattle.ao_run.specs.Gathered.{Gathered, InputGathered, KeysGathered, is_ready, tables_in};
+ghost use Rattle.ao_run.specs.Stops.{Makes};
+ghost use Rattle.ao_run.specs.Today.{is_built, over_today};
+
+use crate::command::{most_input, reads_input, reads_keys};
+use crate::key_commands::{judge, list_keys};
+use crate::key_fault::stop_of;
+use crate::link::link;
+use crate::stop::{Output, Stop};
+use crate::texts::{show_all, verify_all};
+use ao_base::{Bytes, ReadProblem, Source, read_all};
+use format_model::Command;
+use key_table::{Tables, read_tables};
+use std::alloc::Global;
+
+/// The most bytes of a key file.
+const MOST_KEYS: u64 = 1_048_576;
+
+/// The tables of the key file, where the command reads it.
+fn tables_for<K: Source>(alloc: Global, command: Command, keys: &mut K) -> Result<Option<Tables>, Stop>
+    ensures { (k : List ℕ) × KeysGathered command k (K.side keys.old) (K.side keys.new) result }
+{
+    if !reads_keys(command) {
+        return Ok(None);
+    }
+    let text = match read_all(alloc, keys, MOST_KEYS) {
+        Ok(text) => text,
+        Err(ReadProblem::Memory) => return Err(Stop::Memory),
+        Err(ReadProblem::Fault) => return Err(Stop::Read),
+        Err(ReadProblem::TooLong) => return Err(Stop::KeysTooLong),
+    };
+    match read_tables(alloc, text.as_slice()) {
+        Ok(tables) => Ok(Some(tables)),
+        Err(fault) => Err(stop_of(alloc, fault)),
+    }
+}
+
+/// The whole input, where the command reads it; else no byte.
+fn input_for<I: Source>(alloc: Global, command: Command, input: &mut I) -> Result<Bytes, Stop>
+    ensures { (i : List ℕ) × InputGathered command i (I.side input.old) (I.side input.new) result }
+{
+    if !reads_input(command) {
+        return Ok(Bytes::from_vec(Vec::new(alloc)));
+    }
+    match read_all(alloc, input, most_input(command)) {
+        Ok(text) => Ok(text),
+        Err(ReadProblem::Memory) => Err(Stop::Memory),
+        Err(ReadProblem::Fault) => Err(Stop::Read),
+        Err(ReadProblem::TooLong) => Err(Stop::TooLong),
+    }
+}
+
+/// The output of a command over its tables to an input within its limit.
+fn answer(alloc: Global, command: Command, tables: Option<&Tables>, input: &[u8]) -> Result<Output, Stop>
+    requires built { is_built command ≡ true }
+    requires tables { is_some tables ≡ reads_keys command }
+    ensures { Makes result (over_today command (tables_in (option_map (λ t. t.now) tables.entry)) input.now) }
+{
+    match (command, tables) {
+        (Command::Link, _) => link(alloc, input),
+        (Command::Show, _) => show_all(alloc, input),
+        (Command::Vectors, _) => verify_all(alloc, input),
+        (Command::Keys(time), Some(tables)) => list_keys(alloc, tables, time),
+        (Command::Lint(plan), Some(tables)) => judge(alloc, tables, plan, input),
+        _ => unreachable!(),
+    }
+}
+
+/// Reads what the command reads, the key file first, and makes its output.
+pub(crate) fn gather<K: Source, I: Source>(
+    alloc: Global,
+    command: Option<Command>,
+    keys: &mut K,
+    input: &mut I,
+) -> Result<Output, Stop>
+    requires { is_ready command ≡ true }
+    ensures { (k : List ℕ) × (i : List ℕ) × Gathered command k i
+        (record { keys = K.side keys.old; input = I.side input.old })
+        (record { keys = K.side keys.new; input = I.side input.new })
+        result }
+{
+    let Some(command) = command else {
+        return Err(Stop::Usage);
+    };
+    let tables = match tables_for(alloc, command, keys) {
+        Ok(tables) => tables,
+        Err(stop) => return Err(stop),
+    };
+    let text = match input_for(alloc, command, input) {
+        Ok(text) => text,
+        Err(stop) => return Err(stop),
+    };
+    answer(alloc, command, tables.as_ref(), text.as_slice())
+}

@@ -1,0 +1,84 @@
+//! The text of a key file's fault.
+ghost use Rattle.std.specs.Prelude.{◌≡◌, ◌++◌, OnOk, IfOk};
+ghost use Rattle.format_model.specs.KeyTexts.{column_text, table_fault_line, table_fault_texts};
+ghost use Rattle.format_model.specs.Answers.{refuse};
+ghost use Rattle.line_model.specs.Texts.{spaced};
+ghost use Rattle.ao_run.specs.Stops.{Stopped};
+
+use crate::stop::Stop;
+use ao_base::Bytes;
+use key_table::{Column, TableFault};
+use std::alloc::{AllocError, Global};
+use text_lines::{push_field, push_newline, push_number, push_text};
+
+fn column_name(column: Column) -> &'static [u8]
+    ensures { result.now ≡ column_text column }
+{
+    match column {
+        Column::Other => b"other",
+        Column::Name => b"name",
+        Column::Address => b"address",
+        Column::Rows => b"key",
+        Column::AdminKeyName => b"AdminKeyName",
+        Column::LocalKeyName => b"LocalKeyName",
+        Column::PeerKeyName => b"PeerKeyName",
+        Column::Peers => b"Peers",
+        Column::Interfaces => b"Interfaces",
+        Column::Protocol => b"Protocol",
+        Column::ProtocolSpecificInfo => b"ProtocolSpecificInfo",
+        Column::Kdf => b"KDF",
+        Column::AlgId => b"AlgID",
+        Column::Key => b"Key",
+        Column::Direction => b"Direction",
+        Column::SendLifetimeStart => b"SendLifetimeStart",
+        Column::SendLifetimeEnd => b"SendLifetimeEnd",
+        Column::AcceptLifetimeStart => b"AcceptLifetimeStart",
+        Column::AcceptLifetimeEnd => b"AcceptLifetimeEnd",
+        Column::LocalPort => b"LocalPort",
+        Column::PeerPort => b"PeerPort",
+    }
+}
+
+fn push_fault(out: &mut Vec<u8>, fault: TableFault) -> Result<(), AllocError>
+    ensures { OnOk result (out.new.items ≡ out.old.items ++ spaced (table_fault_texts fault)) }
+{
+    match fault {
+        TableFault::Memory => Ok(()),
+        TableFault::Syntax => push_text(out, b"syntax"),
+        TableFault::Field(node, row, column) => {
+            push_field(out, b"node", u64::from(node))?;
+            push_field(out, b"row", u64::from(row))?;
+            push_text(out, b"column")?;
+            push_text(out, column_name(column))
+        }
+        TableFault::TooMany(node) => push_field(out, b"too many in node", u64::from(node)),
+        TableFault::Overlap(node, first, second) => {
+            push_field(out, b"overlap node", u64::from(node))?;
+            push_field(out, b"rows", u64::from(first))?;
+            push_number(out, u64::from(second))
+        }
+    }
+}
+
+fn print_fault(alloc: Global, fault: TableFault) -> Result<Bytes, AllocError>
+    ensures { IfOk result (λ text. text ≡ table_fault_line fault) }
+{
+    let mut text = Vec::from_slice(alloc, b"keys:")?;
+    push_fault(&mut text, fault)?;
+    push_newline(&mut text)?;
+    Ok(Bytes::from_vec(text))
+}
+
+/// Why a key file with this fault has no output.
+pub(crate) fn stop_of(alloc: Global, fault: TableFault) -> Stop
+    ensures text { Stopped result (refuse 3 (table_fault_line fault)) }
+    ensures memory { fault ≡ TableFault.Memory → result ≡ Stop.Memory }
+{
+    match fault {
+        TableFault::Memory => Stop::Memory,
+        _ => match print_fault(alloc, fault) {
+            Ok(text) => Stop::Keys(text),
+            Err(_) => Stop::Memory,
+        },
+    }
+}

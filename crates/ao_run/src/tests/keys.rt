@@ -1,0 +1,112 @@
+//! Runs of `keys` and `lint`.
+use super::{Case, expect};
+use std::test::Fail;
+
+/// A router that sends in the first hour of 1970 and accepts for a minute more, and its peer.
+const KEYS: &str = r#"[[node]]
+name = "r1"
+address = "10.0.0.1"
+[[node.key]]
+AdminKeyName = "first"
+LocalKeyName = "1"
+PeerKeyName = "1"
+Peers = ["10.0.0.2"]
+Protocol = "TCP-AO"
+ProtocolSpecificInfo = "options"
+KDF = "HMAC-SHA-1"
+AlgID = "HMAC-SHA-1-96"
+Key = "0b0b0b0b0b0b0b0b0b0b0b0b0b0b0b0b0b0b0b0b"
+Direction = "both"
+SendLifetimeStart = "19700101000000Z"
+SendLifetimeEnd = "19700101010000Z"
+AcceptLifetimeStart = "19700101000000Z"
+AcceptLifetimeEnd = "19700101010100Z"
+[[node]]
+name = "r2"
+address = "10.0.0.2"
+[[node.key]]
+AdminKeyName = "first"
+LocalKeyName = "1"
+PeerKeyName = "1"
+Peers = ["10.0.0.1"]
+Protocol = "TCP-AO"
+ProtocolSpecificInfo = "options"
+KDF = "HMAC-SHA-1"
+AlgID = "HMAC-SHA-1-96"
+Key = "0b0b0b0b0b0b0b0b0b0b0b0b0b0b0b0b0b0b0b0b"
+Direction = "both"
+SendLifetimeStart = "19700101000000Z"
+SendLifetimeEnd = "19700101010000Z"
+AcceptLifetimeStart = "19700101000000Z"
+AcceptLifetimeEnd = "19700101010100Z"
+"#;
+
+#[test]
+fn rows_are_shown_at_a_time(rt: HostRuntime) -> Result<(), Fail> {
+    expect(
+        rt.alloc(),
+        Case {
+            words: &[b"keys", b"keys.toml", b"19700101010001Z"],
+            keys: KEYS,
+            input: "",
+            status: 0,
+            out: "node 1 r1 10.0.0.1
+row 1 send-id 1 recv-id 1 HMAC-SHA-1-96 both sending no accepting yes
+node 2 r2 10.0.0.2
+row 1 send-id 1 recv-id 1 HMAC-SHA-1-96 both sending no accepting yes
+",
+            err: "",
+        },
+    )
+}
+
+#[test]
+fn a_faulty_column_is_named(rt: HostRuntime) -> Result<(), Fail> {
+    expect(
+        rt.alloc(),
+        Case {
+            words: &[b"keys", b"keys.toml", b"19700101000000Z"],
+            keys: "[[node]]
+name = \"r1\"
+address = \"10.0.0.1\"
+[[node.key]]
+AdminKeyName = \"first\"
+LocalKeyName = \"256\"
+",
+            input: "",
+            status: 3,
+            out: "",
+            err: "keys: node 1 row 1 column LocalKeyName\n",
+        },
+    )
+}
+
+#[test]
+fn a_connection_is_aligned_for_a_lag_of_a_minute(rt: HostRuntime) -> Result<(), Fail> {
+    expect(
+        rt.alloc(),
+        Case {
+            words: &[b"lint", b"keys.toml", b"0", b"60", b"19700101000000Z", b"19700101010000Z"],
+            keys: KEYS,
+            input: "10.0.0.1 1000 10.0.0.2 2000\n",
+            status: 0,
+            out: "1 aligned\n",
+            err: "",
+        },
+    )
+}
+
+#[test]
+fn it_is_not_for_a_second_more(rt: HostRuntime) -> Result<(), Fail> {
+    expect(
+        rt.alloc(),
+        Case {
+            words: &[b"lint", b"keys.toml", b"0", b"61", b"19700101000000Z", b"19700101010000Z"],
+            keys: KEYS,
+            input: "10.0.0.1 1000 10.0.0.2 2000\n",
+            status: 1,
+            out: "1 short-accept a 1\n",
+            err: "",
+        },
+    )
+}
