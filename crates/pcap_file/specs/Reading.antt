@@ -1,0 +1,133 @@
+-- What one call of a reader of packets does (own).
+use Rattle.std.specs.Prelude.{◌≡◌, ℕ, ◌+◌, ◌-◌, ◌<◌, ◌≤◌, Bool, true, false, List, [], ◌++◌, length, drop, Option, Some, None, Result, Ok, Err}
+use Rattle.ao_base.specs.Outside.{Side, Gave, Rose, IsAtEnd, told}
+use Rattle.wire_model.specs.declared.pcap_head.Head.{Head}
+use Rattle.wire_model.specs.declared.pcap_head.HeadFault.{HeadFault}
+use Rattle.wire_model.specs.Packets.{opened, Kept, Front, Done, Broken, Whole, record_at, datagram_of, Packet, Packets, with_packet, packets_in}
+use Rattle.wire_model.specs.Packets.{BadHead as head_refused, BadRecord as record_refused}
+use Rattle.pcap_file.specs.declared.packets.PacketStep.{PacketStep}
+use Rattle.pcap_file.specs.declared.packets.PacketStep.TheVariants as step
+
+-- a reader of packets is: the bytes that it took and hasn't handed out, the number of bytes that it took, the number of packets that were shown, what it read in the header, whether a call has answered anything but Packet, and the packet of the last call, where it answered Packet
+pub record Reading : Type 0 where
+  pub kept : List ℕ
+  pub taken : ℕ
+  pub count : ℕ
+  pub head : Option Head
+  pub over : Bool
+  pub packet : Option Packet
+
+-- the header, where it wasn't read before, and what follows it, or its fault
+abbrev pub opened_from : Option Head → List ℕ → Result (Head × List ℕ) HeadFault
+opened_from (Some head) text = Ok (head, text)
+opened_from None text = opened text
+
+-- how many bytes the header takes, where it wasn't read before
+abbrev pub header_length : Option Head → ℕ
+header_length (Some head) = 0
+header_length None = 24
+
+-- how many bytes of header a call has passed over
+abbrev pub passed : (before now : Option Head) → ℕ
+passed before None = 0
+passed before (Some head) = header_length before
+
+-- the packet is shown whose record stands at the front of what was kept, what was given and what the source has left
+pub record Shows (before now : Reading) (source_now : Side) (text : List ℕ) : Type 0 where
+  pub head : Head
+  pub body : List ℕ
+  pub packet : Kept
+  pub opens : opened_from before.head text ≡ Ok (head, body)
+  pub whole : record_at head.order body ≡ Whole packet (now.kept ++ told source_now.bytes)
+  pub known : now.head ≡ Some head
+  pub shown : now.packet ≡ Some (record { number = before.count + 1; seconds = packet.seconds; datagram = datagram_of head.link packet.bytes })
+  pub count : now.count ≡ before.count + 1
+  pub within : now.taken - length now.kept ≤ 268435456
+  pub going : now.over ≡ false
+
+-- no packet is shown, and no call may follow; all is kept but a header that was read
+pub record Stops (before now : Reading) (given : List ℕ) : Type 0 where
+  pub packet : now.packet ≡ None
+  pub over : now.over ≡ true
+  pub count : now.count ≡ before.count
+  pub kept : now.kept ≡ drop (passed before.head now.head) (before.kept ++ given)
+
+-- the header is one, and so is what it says and what follows it
+abbrev pub Opening : Reading → Reading → List ℕ → (Head → List ℕ → Type 0) → Type 0
+Opening before now text P = (head : Head) × (body : List ℕ) × (opened_from before.head text ≡ Ok (head, body)) × (now.head ≡ Some head) × P head body
+
+-- what each answer says, where the content was this text
+abbrev pub Answers : Reading → Reading → Side → Side → List ℕ → List ℕ → PacketStep → Type 0
+Answers before now source_before source_now given text step.Packet = Shows before now source_now text
+Answers before now source_before source_now given text step.End =
+    Stops before now given × Opening before now text (λ head body. body ≡ []) × IsAtEnd source_now × (now.kept ≡ []) × (now.taken ≤ 268435456)
+Answers before now source_before source_now given text step.Fault = Stops before now given × Rose source_before source_now
+Answers before now source_before source_now given text step.TooLong = Stops before now given × (268435456 < now.taken) × Opening before now text (λ head body. Unit {0})
+Answers before now source_before source_now given text (step.BadHead fault) =
+    Stops before now given × (before.head ≡ None) × (now.head ≡ None) × (opened_from before.head text ≡ Err fault)
+Answers before now source_before source_now given text (step.BadRecord n) =
+    Stops before now given × (n ≡ before.count + 1) × Opening before now text (λ head body. record_at head.order body ≡ Broken)
+
+-- one call of `next`, in which the source gave these bytes
+pub record Steps (before now : Reading) (source_before source_now : Side) (given : List ℕ) (result : PacketStep) : Type 0 where
+  pub gave : Gave given source_before source_now
+  pub taken : now.taken ≡ before.taken + length given
+  pub counted : length now.kept ≤ now.taken
+  pub bound : length now.kept ≤ 327696
+  pub answers : Answers before now source_before source_now given ((before.kept ++ given) ++ told source_now.bytes) result
+
+-- the answer that the record at the front wants
+abbrev pub step_at : ℕ → Front → PacketStep
+step_at count Done = step.End
+step_at count Broken = step.BadRecord (count + 1)
+step_at count (Whole packet rest) = step.Packet
+
+-- the answer that the header and what follows it want
+abbrev pub step_behind : ℕ → Result (Head × List ℕ) HeadFault → PacketStep
+step_behind count (Err fault) = step.BadHead fault
+step_behind count (Ok body) = step_at count (record_at body.0.order body.1)
+
+-- the answer that the content wants, where the source has these bytes left
+abbrev pub wanted_step : Reading → List ℕ → PacketStep
+wanted_step reading left = step_behind reading.count (opened_from reading.head (reading.kept ++ left))
+
+-- the header isn't faulty
+abbrev pub IsOpen : PacketStep → Type 0
+IsOpen (step.BadHead fault) = ⊥
+IsOpen _ = Unit {0}
+
+-- an answer is the one that is wanted, or yields: always to Fault, and to TooLong where the header isn't faulty
+abbrev pub Exactly : PacketStep → PacketStep → Type 0
+Exactly wanted step.Fault = Unit {0}
+Exactly wanted step.TooLong = IsOpen wanted
+Exactly wanted answer = wanted ≡ answer
+
+-- the packets behind a header that come after so many
+abbrev pub packets_after : ℕ → Result (Head × List ℕ) HeadFault → Packets
+packets_after count (Err fault) = record { list = []; fault = Some (head_refused fault) }
+packets_after count (Ok body) = packets_in body.0 (count + 1) body.1
+
+-- the packets that are still to come, where the source has these bytes left; of a new reader those of the file
+abbrev pub packets_left : Reading → List ℕ → Packets
+packets_left reading left = packets_after reading.count (opened_from reading.head (reading.kept ++ left))
+
+-- a call goes on in the packets of the file: it shows the next one, or ends where they do
+abbrev pub Walks : Reading → Reading → List ℕ → List ℕ → PacketStep → Type 0
+Walks before now left left_now step.Packet = (p : Packet) × (now.packet ≡ Some p) × (packets_left before left ≡ with_packet p (packets_left now left_now))
+Walks before now left left_now step.End = packets_left before left ≡ record { list = []; fault = None }
+Walks before now left left_now (step.BadHead fault) = packets_left before left ≡ record { list = []; fault = Some (head_refused fault) }
+Walks before now left left_now (step.BadRecord n) = packets_left before left ≡ record { list = []; fault = Some (record_refused n) }
+Walks before now left left_now _ = Unit {0}
+
+-- a packet, or the end
+abbrev pub IsPacketOrEnd : PacketStep → Type 0
+IsPacketOrEnd step.Packet = Unit {0}
+IsPacketOrEnd step.End = Unit {0}
+IsPacketOrEnd _ = ⊥
+
+-- with these bytes left the limit isn't passed, nothing is faulty and the count doesn't rise
+pub record IsQuiet (reading : Reading) (source_before source_now : Side) (left : List ℕ) : Type 0 where
+  pub told : source_before.bytes ≡ Some left
+  pub most : reading.taken + length left ≤ 268435456
+  pub sound : IsPacketOrEnd (wanted_step reading left)
+  pub quiet : ¬ Rose source_before source_now

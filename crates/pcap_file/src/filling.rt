@@ -1,0 +1,37 @@
+//! As many bytes in a buffer as are wanted.
+ghost use Rattle.std.specs.Prelude.{ℕ, ◌≤◌, List};
+ghost use Rattle.ao_base.specs.Outside.{Side};
+ghost use Rattle.pcap_file.specs.Parts.{Fills};
+
+use ao_base::{Buffer, Source};
+
+/// What came of it.
+#[derive(Clone, Copy, Debug)]
+pub(crate) enum Filled {
+    /// As many are kept as are wanted.
+    Enough,
+    /// The source is at its end before.
+    Ended,
+    /// A read failed.
+    Fault,
+}
+
+/// Takes bytes until as many are kept as are wanted.
+pub(crate) fn fill<S: Source>(buffer: &mut Buffer, src: &mut S, wanted: usize) -> Filled
+    requires { wanted ≤ buffer.old.size }
+    ensures { (given : List ℕ) × Fills wanted buffer.old buffer.new (S.side src.old) (S.side src.new) given result }
+{
+    'takes: loop {
+        if buffer.kept().len() >= wanted {
+            return Filled::Enough;
+        }
+        match buffer.more(src) {
+            Err(_failed) => return Filled::Fault,
+            Ok(n) => {
+                if n == 0 {
+                    return Filled::Ended;
+                }
+            }
+        }
+    }
+}

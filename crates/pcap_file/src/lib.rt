@@ -1,0 +1,16 @@
+//! The packets of a classic pcap file, read with one packet in memory.
+//!
+//! `Packets::next` goes from one packet to the next; its answers are those of the packets of a file as
+//! `wire_model` defines them.
+#![tactic(auto)]
+
+mod filling;
+mod head;
+mod numbers;
+mod packets;
+mod records;
+#[cfg(test)]
+mod tests;
+
+pub use packets::{PacketStep, Packets};
+pub use wire_model::HeadFault;

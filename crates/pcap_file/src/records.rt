@@ -1,0 +1,129 @@
+//! The header of a file and the record of a packet, as far as they are in a buffer.
+ghost use Rattle.std.specs.Prelude.{◌≡◌, ◌==◌, if◌then◌else◌, ℕ, ◌≤◌, true, List, length, slice_range};
+ghost use Rattle.ao_base.specs.Outside.{Side};
+ghost use Rattle.wire_model.specs.Packets.{datagram_of, is_ip};
+ghost use Rattle.pcap_file.specs.Parts.{Opens, Finds};
+
+use crate::filling::{Filled, fill};
+use crate::head::{HEAD, read_head};
+use crate::numbers::four;
+use ao_base::{Buffer, Cut, Source};
+use wire_model::{ByteOrder, Head, HeadFault, LinkType};
+
+/// How many bytes of a record stand before its kept bytes (pcap-savefile).
+pub(crate) const RECORD: usize = 16;
+
+/// The most bytes that a record may keep (libpcap).
+pub(crate) const MOST_KEPT: usize = 262_144;
+
+/// The header of Ethernet: two addresses of six bytes, and the type (RFC 894).
+const ETHERNET: usize = 14;
+
+/// No datagram is longer: the header of IPv6 and 65,535 bytes (RFC 8200, section 3).
+const LONGEST_DATAGRAM: usize = 65_575;
+
+/// What reading the header gives.
+#[derive(Clone, Copy, Debug)]
+pub(crate) enum Opened {
+    Head(Head),
+    Bad(HeadFault),
+    Fault,
+}
+
+/// What reading a record gives: its seconds and its kept length, or why there is none.
+#[derive(Clone, Copy, Debug)]
+pub(crate) enum Found {
+    Whole(u32, usize),
+    Done,
+    Broken,
+    Fault,
+}
+
+/// Reads the header and passes over it, where it wasn't read before.
+pub(crate) fn open<S: Source>(buffer: &mut Buffer, src: &mut S, had: Option<Head>) -> Opened
+    requires { 24 ≤ buffer.old.size }
+    ensures { (given : List ℕ) × Opens had buffer.old buffer.new (S.side src.old) (S.side src.new) given result }
+{
+    if let Some(head) = had {
+        return Opened::Head(head);
+    }
+    match fill(buffer, src, HEAD) {
+        Filled::Fault => Opened::Fault,
+        Filled::Ended => Opened::Bad(HeadFault::Short),
+        Filled::Enough => match read_head(&buffer.kept()[..HEAD]) {
+            Ok(head) => {
+                buffer.pass(0, 0, HEAD);
+                Opened::Head(head)
+            }
+            Err(fault) => Opened::Bad(fault),
+        },
+    }
+}
+
+/// Takes bytes until the record at the front is whole, and says what it is.
+pub(crate) fn find_record<S: Source>(buffer: &mut Buffer, src: &mut S, order: ByteOrder) -> Found
+    requires { 262160 ≤ buffer.old.size }
+    ensures { (given : List ℕ) × Finds order buffer.old buffer.new (S.side src.old) (S.side src.new) given result }
+{
+    match fill(buffer, src, RECORD) {
+        Filled::Fault => return Found::Fault,
+        Filled::Ended => return none_or_broken(buffer.kept()),
+        Filled::Enough => {}
+    }
+    let seconds = four(order, buffer.kept(), 0);
+    let len = four(order, buffer.kept(), 8) as usize;
+    if len > MOST_KEPT {
+        return Found::Broken;
+    }
+    match fill(buffer, src, RECORD + len) {
+        Filled::Fault => Found::Fault,
+        Filled::Ended => Found::Broken,
+        Filled::Enough => Found::Whole(seconds, len),
+    }
+}
+
+fn none_or_broken(kept: &[u8]) -> Found
+    ensures { result ≡ (if length kept.now == 0 then Found.Done else Found.Broken) }
+{
+    if kept.is_empty() {
+        Found::Done
+    } else {
+        Found::Broken
+    }
+}
+
+/// Where the datagram lies in a packet's bytes; it has no byte where the packet is passed over.
+pub(crate) fn find_datagram(link: LinkType, bytes: &[u8]) -> Cut
+    ensures ordered { result.first ≤ result.after }
+    ensures within { result.after ≤ length bytes.now }
+    ensures datagram { slice_range bytes.now result.first result.after ≡ datagram_of link bytes.now }
+{
+    match link {
+        LinkType::Raw => Cut {
+            first: 0,
+            after: bytes.len().min(LONGEST_DATAGRAM),
+        },
+        LinkType::Ethernet => {
+            if has_ip(bytes) {
+                Cut {
+                    first: ETHERNET,
+                    after: bytes.len().min(ETHERNET + LONGEST_DATAGRAM),
+                }
+            } else {
+                Cut { first: 0, after: 0 }
+            }
+        }
+    }
+}
+
+// The type of an Ethernet header is IPv4's or IPv6's.
+fn has_ip(bytes: &[u8]) -> bool
+    ensures value { result ≡ is_ip bytes.now }
+    ensures long { result ≡ true → 14 ≤ length bytes.now }
+{
+    if bytes.len() < ETHERNET {
+        return false;
+    }
+    let kind = &bytes[12..ETHERNET];
+    kind == b"\x08\x00".as_slice() || kind == b"\x86\xdd".as_slice()
+}
