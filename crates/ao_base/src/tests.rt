@@ -49,6 +49,17 @@ fn numbers_of(alloc: Global, numbers: &[u64]) -> Result<Numbers, AllocError> {
     Ok(Numbers::from_vec(Vec::from_slice(alloc, numbers)?))
 }
 
+// A source of `hello` in pieces of two bytes, whose calls of these numbers fail.
+fn hello_source(alloc: Global, failing: &[u64]) -> Result<MemSource, AllocError> {
+    let content = bytes_of(alloc, b"hello".as_slice())?;
+    Ok(MemSource::new(content, 2, numbers_of(alloc, failing)?))
+}
+
+// A sink with room for seven bytes, whose calls of these numbers fail.
+fn small_sink(alloc: Global, failing: &[u64]) -> Result<MemSink, AllocError> {
+    MemSink::new(alloc, 7, numbers_of(alloc, failing)?)
+}
+
 #[test]
 fn hexadecimal_is_read_in_either_case(rt: HostRuntime) -> Result<(), Fail> {
     let bytes = read_hex(rt.alloc(), b"00fFA5".as_slice())?;
@@ -57,9 +68,14 @@ fn hexadecimal_is_read_in_either_case(rt: HostRuntime) -> Result<(), Fail> {
 }
 
 #[test]
-fn addresses_are_printed_in_both_forms(rt: HostRuntime) -> Result<(), Fail> {
+fn an_ipv4_address_is_printed_with_dots(rt: HostRuntime) -> Result<(), Fail> {
     let text = print_address(rt.alloc(), &Address::V4([0, 9, 10, 255]))?;
     assert_eq!(rt; text.as_slice(), b"0.9.10.255".as_slice());
+    Ok(())
+}
+
+#[test]
+fn an_ipv6_address_is_printed_in_hexadecimal(rt: HostRuntime) -> Result<(), Fail> {
     let six = read_address(b"20010DB8000000000000000000000001".as_slice()).ok_or("no address")?;
     let text = print_address(rt.alloc(), &six)?;
     assert_eq!(rt;
@@ -81,43 +97,50 @@ fn printed_pieces_stand_one_after_another(rt: HostRuntime) -> Result<(), Fail> {
 
 #[test]
 fn a_source_is_read_to_its_end_in_pieces(rt: HostRuntime) -> Result<(), Fail> {
-    let failing = numbers_of(rt.alloc(), [].as_slice())?;
-    let mut src = MemSource::new(bytes_of(rt.alloc(), b"hello")?, 2, failing);
-    assert_eq!(rt;
-        read_all(rt.alloc(), &mut src, 5)?.as_slice(),
-        b"hello".as_slice()
-    );
+    let mut src = hello_source(rt.alloc(), [].as_slice())?;
+    let bytes = read_all(rt.alloc(), &mut src, 5)?;
+    assert_eq!(rt; bytes.as_slice(), b"hello".as_slice());
+    Ok(())
+}
+
+#[test]
+fn a_source_with_a_byte_more_is_too_long(rt: HostRuntime) -> Result<(), Fail> {
     let mut src = QuietSource::new(bytes_of(rt.alloc(), b"hello")?);
     let long = read_all(rt.alloc(), &mut src, 4);
     assert!(rt; matches!(long, Err(ReadProblem::TooLong)));
+    Ok(())
+}
+
+#[test]
+fn a_reader_is_read_to_its_end(rt: HostRuntime) -> Result<(), Fail> {
     let mut src = ReadSource::new(b"hello".as_slice());
-    assert_eq!(rt;
-        read_all(rt.alloc(), &mut src, 9)?.as_slice(),
-        b"hello".as_slice()
-    );
+    let bytes = read_all(rt.alloc(), &mut src, 9)?;
+    assert_eq!(rt; bytes.as_slice(), b"hello".as_slice());
     Ok(())
 }
 
 #[test]
 fn a_read_that_fails_in_the_middle_is_a_fault(rt: HostRuntime) -> Result<(), Fail> {
-    let failing = numbers_of(rt.alloc(), [2].as_slice())?;
-    let mut src = MemSource::new(bytes_of(rt.alloc(), b"hello")?, 2, failing);
-    let read = read_all(rt.alloc(), &mut src, 9);
-    assert!(rt; matches!(read, Err(ReadProblem::Fault)));
-    assert_eq!(rt;
-        read_all(rt.alloc(), &mut src, 9)?.as_slice(),
-        b"llo".as_slice()
-    );
+    let mut src = hello_source(rt.alloc(), [2].as_slice())?;
+    let failed = matches!(read_all(rt.alloc(), &mut src, 9), Err(ReadProblem::Fault));
+    let rest = read_all(rt.alloc(), &mut src, 9)?;
+    assert_eq!(rt; failed, true);
+    assert_eq!(rt; rest.as_slice(), b"llo".as_slice());
     Ok(())
 }
 
 #[test]
 fn a_sink_holds_what_fits(rt: HostRuntime) -> Result<(), Fail> {
-    let mut sink = MemSink::new(rt.alloc(), 7, numbers_of(rt.alloc(), [].as_slice())?)?;
+    let mut sink = small_sink(rt.alloc(), [].as_slice())?;
     write_all(&mut sink, b"hello".as_slice())?;
     assert!(rt; write_all(&mut sink, b"you".as_slice()).is_err());
     assert_eq!(rt; sink.bytes(), b"helloyo".as_slice());
-    let mut sink = MemSink::new(rt.alloc(), 7, numbers_of(rt.alloc(), [1].as_slice())?)?;
+    Ok(())
+}
+
+#[test]
+fn a_sink_holds_nothing_of_a_write_that_fails(rt: HostRuntime) -> Result<(), Fail> {
+    let mut sink = small_sink(rt.alloc(), [1].as_slice())?;
     assert!(rt; write_all(&mut sink, b"hello".as_slice()).is_err());
     assert_eq!(rt; sink.bytes(), b"".as_slice());
     Ok(())
@@ -158,9 +181,14 @@ fn each_algorithm_has_its_name(rt: HostRuntime) -> Result<(), Fail> {
 }
 
 #[test]
-fn faults_of_readers_and_writers_are_told(rt: HostRuntime) -> Result<(), Fail> {
+fn a_fault_of_a_reader_is_told(rt: HostRuntime) -> Result<(), Fail> {
     let read = read_all(rt.alloc(), &mut ReadSource::new(Broken), 9);
     assert!(rt; matches!(read, Err(ReadProblem::Fault)));
+    Ok(())
+}
+
+#[test]
+fn faults_of_writers_are_told(rt: HostRuntime) -> Result<(), Fail> {
     assert!(rt; write_all(&mut WriteSink::new(Broken), b"hello".as_slice()).is_err());
     assert!(rt; write_all(&mut WriteSink::new(Stuck), b"hello".as_slice()).is_err());
     Ok(())
