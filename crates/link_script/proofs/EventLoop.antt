@@ -20,7 +20,8 @@ module _ {A : Type 0} (meaning : List (List ℕ) → Result A LineKind) where
   event_first before e (Ok others) = ap (λ (xs : List A). Ok xs) (sym (append_assoc before (e ∷ []) others))
   event_first before e (Err f) = refl
 
-  module _ (before : List A) (l : Line) (ls lines : List Line) (whole : Result (List A) TextFault) (next : lines ≡ l ∷ ls) (so_far : after before (events_of meaning lines) ≡ whole) where
+  module _ (before : List A) (l : Line) (ls lines : List Line) (whole : Result (List A) TextFault)
+      (next : lines ≡ l ∷ ls) (so_far : after before (events_of meaning lines) ≡ whole) where
     step : after before (events_of meaning lines) ≡ after before (event_at meaning l >>= λ e. events_of meaning ls >>= λ xs. Ok (e ∷ xs))
     unfolding events_of
     step = rw next refl
@@ -33,7 +34,8 @@ module _ {A : Type 0} (meaning : List (List ℕ) → Result A LineKind) where
     event_refused fault.TooManyLines h = sym so_far ∙ rw h at step
     event_refused (fault.Line n kind) h = sym so_far ∙ rw h at step
 
-  pub events_read : (before : List A) (lines : List Line) (whole : Result (List A) TextFault) → lines ≡ [] → after before (events_of meaning lines) ≡ whole → whole ≡ Ok before
+  pub events_read : (before : List A) (lines : List Line) (whole : Result (List A) TextFault) → lines ≡ [] →
+      after before (events_of meaning lines) ≡ whole → whole ≡ Ok before
   unfolding events_of
   events_read before lines whole none so_far = sym (rw none at so_far) ∙ ap (λ (xs : List A). Ok xs) (append-nil before)
 

@@ -8,7 +8,8 @@ use Rattle.key_model.specs.Lifetimes.{greatest_time}
 use Rattle.line_model.specs.Words.{◌>>=◌, word_as, word_in, nothing_in, choice_in, end_in, algorithm_in, number_in, sized_hex_in, some_hex_in, byte_in}
 use Rattle.link_model.specs.declared.event.Event.{Event}
 use Rattle.link_model.specs.declared.event.Event.TheVariants as event
-use Rattle.format_model.specs.LinkEvents.{greatest_isn, most_segments, end_of, number_of, start_of, give_of, fill_of, inject_of, alter_of, last_in, ways_of, add_of, dump_of, event_named, event_of}
+use Rattle.format_model.specs.LinkEvents.{greatest_isn, most_segments, end_of, number_of, start_of, give_of, fill_of, inject_of, alter_of, last_in, ways_of}
+use Rattle.format_model.specs.LinkEvents.{add_of, dump_of, event_named, event_of}
 use Rattle.link_script.specs.Scripts.{IsEvent, IsWithin}
 use Rattle.link_script.proofs.WordRanges.{bind_ok, number_ok, hex_ok, some_hex_ok, byte_ok}
 

@@ -10,25 +10,29 @@ use Rattle.line_model.specs.Words.{word_in, nothing_in}
 use Rattle.link_model.specs.declared.event.RowLine.{RowLine}
 use Rattle.link_model.specs.declared.event.Event.{Event}
 use Rattle.link_model.specs.declared.event.Event.TheVariants as event
-use Rattle.format_model.specs.LinkEvents.{greatest_isn, most_segments, end_of, number_of, event_of, event_named, start_of, give_of, fill_of, inject_of, alter_of, add_of, dump_of}
+use Rattle.format_model.specs.LinkEvents.{greatest_isn, most_segments, end_of, number_of, event_of, event_named, start_of, give_of, fill_of, inject_of}
+use Rattle.format_model.specs.LinkEvents.{alter_of, add_of, dump_of}
 use Rattle.link_script.specs.declared.name.Name.{Name}
 use Rattle.link_script.specs.Names.{name_text}
 use Rattle.link_script.specs.Printed.{direction_text, event_words, fixing_text, flag_text, row_texts, use_texts}
 use Rattle.link_script.specs.Scripts.{IsEvent, IsRow, IsWithin}
-use Rattle.link_script.proofs.WordsBack.{end_back, algorithm_back, number_back, within_back, hex_back, some_hex_back, byte_back, fixing_back, flag_back, direction_back}
+use Rattle.link_script.proofs.WordsBack.{end_back, algorithm_back, number_back, within_back, hex_back, some_hex_back, byte_back, fixing_back, flag_back}
+use Rattle.link_script.proofs.WordsBack.{direction_back}
 
 alone_back : (made : End → Event) (e : End) → end_of made (end_text e ∷ []) ≡ Ok (made e)
 unfolding nothing_in
 alone_back made e = rw (end_back e []) refl
 
-numbered_back : (made : End → ℕ → Event) (low high : ℕ) (e : End) (n : ℕ) → IsWithin low high n → high < 2 ^ 64 → number_of made low high (end_text e ∷ decimal n ∷ []) ≡ Ok (made e n)
+numbered_back : (made : End → ℕ → Event) (low high : ℕ) (e : End) (n : ℕ) → IsWithin low high n → high < 2 ^ 64 →
+    number_of made low high (end_text e ∷ decimal n ∷ []) ≡ Ok (made e n)
 unfolding nothing_in
 numbered_back made low high e n h small = rw (end_back e (decimal n ∷ []), within_back low high n [] h small) refl
 
 from_zero : {n high : ℕ} → n ≤ high → IsWithin 0 high n
 from_zero h = record { least = omega arith; most = h }
 
-start_back : (e : End) (own peer : ℕ) → own ≤ greatest_isn → peer ≤ greatest_isn → start_of (end_text e ∷ decimal own ∷ decimal peer ∷ []) ≡ Ok (event.Start e own peer)
+start_back : (e : End) (own peer : ℕ) → own ≤ greatest_isn → peer ≤ greatest_isn →
+    start_of (end_text e ∷ decimal own ∷ decimal peer ∷ []) ≡ Ok (event.Start e own peer)
 unfolding start_of nothing_in
 start_back e own peer small peers = rw (
   end_back e (decimal own ∷ decimal peer ∷ []),
@@ -36,7 +40,8 @@ start_back e own peer small peers = rw (
   number_back greatest_isn peer [] peers (lit< tt),
 ) refl
 
-fill_back : (e : End) (count byte : ℕ) → count ≤ 65535 → byte < 256 → fill_of (end_text e ∷ decimal count ∷ hex_of (byte ∷ []) ∷ []) ≡ Ok (event.Fill e count byte)
+fill_back : (e : End) (count byte : ℕ) → count ≤ 65535 → byte < 256 →
+    fill_of (end_text e ∷ decimal count ∷ hex_of (byte ∷ []) ∷ []) ≡ Ok (event.Fill e count byte)
 unfolding fill_of nothing_in
 fill_back e count byte few small = rw (
   end_back e (decimal count ∷ hex_of (byte ∷ []) ∷ []),

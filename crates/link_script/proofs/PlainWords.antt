@@ -81,7 +81,8 @@ four_word (a ∷ b ∷ []) e small = absurd (omega arith)
 four_word (a ∷ b ∷ c ∷ []) e small = absurd (omega arith)
 four_word (a ∷ b ∷ c ∷ d ∷ []) e small =
     let word = λ (n : ℕ) (h : n < 256). decimal_word n (omega arith) in
-    with_dot (decimal a) _ (word a (small 0)) (with_dot (decimal b) _ (word b (small 1)) (with_dot (decimal c) (decimal d) (word c (small 2)) (word d (small 3))))
+    let last_two = with_dot (decimal c) (decimal d) (word c (small 2)) (word d (small 3)) in
+    with_dot (decimal a) _ (word a (small 0)) (with_dot (decimal b) _ (word b (small 1)) last_two)
 four_word (a ∷ b ∷ c ∷ d ∷ f ∷ bytes) e small = absurd (omega arith)
 
 pub address_word : (a : Address) → IsAddress a → IsWord (address_text a)

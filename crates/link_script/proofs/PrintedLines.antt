@@ -1,5 +1,6 @@
 -- The words of a printed event, of a socket and of a key make a line.
-use Rattle.std.proofs.Common.{◌≡◌, ℕ, zero, suc, ◌<◌, ◌≤◌, ◌^◌, length, Bool, true, false, List, [], ◌∷◌, map, decimal, codes, Option, Some, None, refl, arith, lit<, All}
+use Rattle.std.proofs.Common.{◌≡◌, ℕ, zero, suc, ◌<◌, ◌≤◌, ◌^◌, length, Bool, true, false, List, [], ◌∷◌, map, decimal, codes, Option, Some, None, refl}
+use Rattle.std.proofs.Common.{arith, lit<, All}
 use Rattle.ao_base.specs.declared.address.Socket.{Socket}
 use Rattle.ao_base.specs.declared.algorithm.Algorithm.{Algorithm}
 use Rattle.ao_base.specs.declared.algorithm.Algorithm.TheVariants.{HmacSha1, AesCmac, HmacSha256}
@@ -17,7 +18,8 @@ use Rattle.format_model.specs.declared.script.Script.{Script}
 use Rattle.link_script.specs.declared.name.Name.{Name}
 use Rattle.link_script.specs.declared.name.Name.TheVariants as name
 use Rattle.link_script.specs.Names.{name_text}
-use Rattle.link_script.specs.Printed.{direction_text, event_words, fixing_text, flag_text, key_lines, row_texts, use_texts, script_lines, socket_words, title_words}
+use Rattle.link_script.specs.Printed.{direction_text, event_words, fixing_text, flag_text, key_lines, row_texts, use_texts, script_lines, socket_words}
+use Rattle.link_script.specs.Printed.{title_words}
 use Rattle.link_script.specs.Scripts.{IsEvent, IsKey, IsRow, IsScript, IsSocket}
 use Rattle.link_script.proofs.LinesBack.{IsLine, AreLines, AreLines-append}
 use Rattle.link_script.proofs.PlainWords.{AreWords, IsWord, word_by_test, decimal_word, hex_word, address_word}
@@ -127,15 +129,18 @@ event_line (event.Clock e seconds) h = number_line name.Clock e seconds (omega a
 event_line (event.Connect e isn) h = number_line name.Open e isn (omega arith)
 event_line (event.Listen e isn) h = number_line name.Listen e isn (omega arith)
 event_line (event.Start e own peer) h =
-    named_line name.Start (end_text e ∷ decimal own ∷ decimal peer ∷ []) (end_word e, (decimal_word own (omega (arith, h.0)), (decimal_word peer (omega (arith, h.1)), tt)))
+    named_line name.Start (end_text e ∷ decimal own ∷ decimal peer ∷ [])
+    (end_word e, (decimal_word own (omega (arith, h.0)), (decimal_word peer (omega (arith, h.1)), tt)))
 event_line (event.Give e bytes) h = bytes_line name.Give e bytes (hex_word bytes h.0 h.1)
 event_line (event.Fill e count byte) h =
-    named_line name.Fill (end_text e ∷ decimal count ∷ hex_of (byte ∷ []) ∷ []) (end_word e, (decimal_word count (omega (arith, h.0)), (byte_word byte h.1, tt)))
+    named_line name.Fill (end_text e ∷ decimal count ∷ hex_of (byte ∷ []) ∷ [])
+    (end_word e, (decimal_word count (omega (arith, h.0)), (byte_word byte h.1, tt)))
 event_line (event.Send e) h = alone_line name.Send e
 event_line (event.Resend e) h = alone_line name.Resend e
 event_line (event.Deliver e segment) h = number_line name.Deliver e segment (omega (arith, h.most))
 event_line (event.Inject e bytes) h = bytes_line name.Inject e bytes (hex_word bytes (omega (arith, h.least)) h.small)
-event_line (event.Alter e segment place mask fixing) h = named_line name.Alter (end_text e ∷ decimal segment ∷ decimal place ∷ hex_of (mask ∷ []) ∷ fixing_text fixing ∷ [])
+event_line (event.Alter e segment place mask fixing) h =
+    named_line name.Alter (end_text e ∷ decimal segment ∷ decimal place ∷ hex_of (mask ∷ []) ∷ fixing_text fixing ∷ [])
     (end_word e, (decimal_word segment (omega (arith, h.0.most)), (decimal_word place (omega (arith, h.1)), (byte_word mask h.2, (fixing_word fixing, tt)))))
 event_line (event.Take e count) h = number_line name.Take e count (omega arith)
 event_line (event.Close e) h = alone_line name.Close e
@@ -160,9 +165,12 @@ socket_line B s h = ((end_word B, (address_word s.address h.address, (decimal_wo
 key_line : (key : Option SharedKey) → IsKey key → AreLines (key_lines key)
 unfolding key_lines says_something
 key_line None h = tt
-key_line (Some k) h = (((word_by_test (codes "shared") (lit< tt) refl, (algorithm_word k.alg, (hex_word k.master (omega (arith, h.least)) h.small, tt))), refl), tt)
+key_line (Some k) h =
+    let master = hex_word k.master (omega (arith, h.least)) h.small in
+    (((word_by_test (codes "shared") (lit< tt) refl, (algorithm_word k.alg, (master, tt))), refl), tt)
 
 pub are_lines : (s : Script) → IsScript s → AreLines (script_lines s)
 unfolding script_lines
 are_lines s h =
-    (title_line, (socket_line A s.a h.a, (socket_line B s.b h.b, AreLines-append (key_lines s.shared) (map event_words s.events) (key_line s.shared h.key) (event_lines s.events h.events))))
+    let rest = AreLines-append (key_lines s.shared) (map event_words s.events) (key_line s.shared h.key) (event_lines s.events h.events) in
+    (title_line, (socket_line A s.a h.a, (socket_line B s.b h.b, rest)))

@@ -1,5 +1,6 @@
 -- A printed script is read back.
-use Rattle.std.proofs.Common.{◌≡◌, ℕ, ◌+◌, nat_lt, true, false, List, [], ◌∷◌, ◌++◌, length, map, decimal, codes, Option, Some, None, Result, Ok, refl, lit<, All}
+use Rattle.std.proofs.Common.{◌≡◌, ℕ, ◌+◌, nat_lt, true, false, List, [], ◌∷◌, ◌++◌, length, map, decimal, codes, Option, Some, None, Result, Ok, refl}
+use Rattle.std.proofs.Common.{lit<, All}
 use Rattle.std.specs.Option.{is_none}
 use Rattle.std.proofs.lemmas.Bool.{le-ltb}
 use Rattle.ao_base.specs.declared.address.Socket.{Socket}
@@ -13,7 +14,8 @@ use Rattle.link_model.specs.declared.event.Event.TheVariants as event
 use Rattle.format_model.specs.declared.script.SharedKey.{SharedKey}
 use Rattle.format_model.specs.declared.script.Script.{Script}
 use Rattle.format_model.specs.LinkEvents.{event_of}
-use Rattle.format_model.specs.LinkFiles.{Left, are_two_of_a_family, event_at, events_of, head_in, is_shared, key_in, line_in, peer_of, script_in, script_of, shared_key_of, socket_of, title_of}
+use Rattle.format_model.specs.LinkFiles.{Left, are_two_of_a_family, event_at, events_of, head_in, is_shared, key_in, line_in, peer_of, script_in, script_of}
+use Rattle.format_model.specs.LinkFiles.{shared_key_of, socket_of, title_of}
 use Rattle.link_script.specs.Printed.{event_words, title_words, socket_words, key_lines, script_lines, lines_text, text_of}
 use Rattle.link_script.specs.Scripts.{IsEvent, IsKey, IsScript, IsSocket}
 use Rattle.link_script.proofs.LinesBack.{numbered_from, lines_of-printed, saying_from-printed, length-lines_of-printed}
@@ -96,5 +98,6 @@ pub script_of-text_of : (s : Script) → IsScript s → script_of (is_none s.sha
 unfolding script_of text_of
 script_of-text_of s h =
     let lines = are_lines s h in
-    let few : nat_lt 20000 (length (lines_of (lines_text (script_lines s)))) ≡ false = le-ltb _ _ (rw (length-lines_of-printed (script_lines s) lines) h.lines) in
+    let few : nat_lt 20000 (length (lines_of (lines_text (script_lines s)))) ≡ false =
+    le-ltb _ _ (rw (length-lines_of-printed (script_lines s) lines) h.lines) in
     rw (few, lines_of-printed (script_lines s) lines, saying_from-printed 1 (script_lines s) lines) (script_in-printed s _ h)

@@ -1,5 +1,6 @@
 -- A script that a text says is one of the grammar.
-use Rattle.std.proofs.Common.{◌≡◌, ℕ, zero, suc, ◌+◌, ◌≤◌, cond, nat_lt, Bool, true, false, List, [], ◌∷◌, ◌++◌, length, map, codes, Option, Some, None, Result, Ok, Err, refl, ap, subst, ◌∙◌, arith, All}
+use Rattle.std.proofs.Common.{◌≡◌, ℕ, zero, suc, ◌+◌, ◌≤◌, cond, nat_lt, Bool, true, false, List, [], ◌∷◌, ◌++◌, length, map, codes, Option, Some, None}
+use Rattle.std.proofs.Common.{Result, Ok, Err, refl, ap, subst, ◌∙◌, arith, All}
 use Rattle.std.specs.Option.{is_none}
 use Rattle.std.proofs.lemmas.Bool.{ltb-false}
 use Rattle.std.proofs.lemmas.List.{length-append, length-map}
@@ -16,7 +17,8 @@ use Rattle.link_model.specs.declared.event.Event.{Event}
 use Rattle.format_model.specs.declared.script.SharedKey.{SharedKey}
 use Rattle.format_model.specs.declared.script.Script.{Script}
 use Rattle.format_model.specs.LinkEvents.{event_of}
-use Rattle.format_model.specs.LinkFiles.{Head, Left, are_two_of_a_family, at_line, event_at, events_of, head_in, is_shared, key_in, line_in, peer_of, script_in, script_of, shared_key_of, socket_of, title_of}
+use Rattle.format_model.specs.LinkFiles.{Head, Left, are_two_of_a_family, at_line, event_at, events_of, head_in, is_shared, key_in, line_in, peer_of}
+use Rattle.format_model.specs.LinkFiles.{script_in, script_of, shared_key_of, socket_of, title_of}
 use Rattle.text_lines.proofs.SaidLaws.{saying_length}
 use Rattle.link_script.specs.Printed.{event_words, key_lines, script_lines}
 use Rattle.link_script.specs.Scripts.{IsEvent, IsKey, IsScript, IsSocket}
@@ -62,14 +64,16 @@ key_ok ws k h =
     let is : record { alg = a.0.value; master = m.0.value } ≡ k = cc n.2 in
     rw (← is) (hex_ok 1 255 a.0.rest m.0 m.1)
 
-at_line_ok : {A : Type 0} (n : ℕ) (kind : LineKind) (ls : List Line) (r : Result A LineKind) (t : Left A) → at_line n kind ls r ≡ Ok t → (r ≡ Ok t.value) × (ls ≡ t.rest)
+at_line_ok : {A : Type 0} (n : ℕ) (kind : LineKind) (ls : List Line) (r : Result A LineKind) (t : Left A) → at_line n kind ls r ≡ Ok t →
+    (r ≡ Ok t.value) × (ls ≡ t.rest)
 at_line_ok n kind ls (Ok x) t h =
     let is : record { value = x; rest = ls } ≡ t = cc h in
     (ap (λ (y : Left _). Ok y.value) is, ap (λ (y : Left _). y.rest) is)
 at_line_ok n kind ls (Err e) t h = absurd (cc h)
 
 -- a line was there and says the value
-line_ok : {A : Type 0} (missing : ℕ) (kind : LineKind) (meaning : List (List ℕ) → Result A LineKind) (ls : List Line) (t : Left A) → line_in missing kind meaning ls ≡ Ok t →
+line_ok : {A : Type 0} (missing : ℕ) (kind : LineKind) (meaning : List (List ℕ) → Result A LineKind) (ls : List Line) (t : Left A) →
+    line_in missing kind meaning ls ≡ Ok t →
     (ws : List (List ℕ)) × (meaning ws ≡ Ok t.value) × (length ls ≡ 1 + length t.rest)
 unfolding line_in
 line_ok missing kind meaning [] t h = absurd (cc h)

@@ -27,7 +27,8 @@ pub one_more_printed : (out before after : List ℕ) (es : List Event) (i : ℕ)
 one_more_printed out before after es i e within is so_far more =
     let taken : take (i + 1) es ≡ take i es ++ e ∷ [] = take_more es i e within ∙ ap (λ x. take i es ++ x ∷ []) (sym is) in
     let text : lines_text (map event_words (take (i + 1) es)) ≡ lines_text (map event_words (take i es)) ++ line_text (event_words e) =
-    rw taken (rw (map_push event_words (take i es) e) (rw (lines_text-append (map event_words (take i es)) (event_words e ∷ []), one_line (event_words e)) refl)) in
+    rw taken (rw (map_push event_words (take i es) e)
+    (rw (lines_text-append (map event_words (take i es)) (event_words e ∷ []), one_line (event_words e)) refl)) in
     rw (text, more, so_far) (append_assoc out (lines_text (map event_words (take i es))) (line_text (event_words e)))
 
 -- the whole text, from its parts in order

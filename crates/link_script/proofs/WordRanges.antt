@@ -1,5 +1,6 @@
 -- What a word says is in its range.
-use Rattle.std.proofs.Common.{◌≡◌, ℕ, zero, suc, ◌*◌, ◌<◌, ◌≤◌, ◌==◌, ◌&&◌, cond, nat_le, nat_lt, Bool, true, false, List, [], ◌∷◌, length, Option, Some, None, option_map, Result, Ok, Err, refl, ap, ◌∙◌, arith, lit<}
+use Rattle.std.proofs.Common.{◌≡◌, ℕ, zero, suc, ◌*◌, ◌<◌, ◌≤◌, ◌==◌, ◌&&◌, cond, nat_le, nat_lt, Bool, true, false, List, [], ◌∷◌, length, Option, Some}
+use Rattle.std.proofs.Common.{None, option_map, Result, Ok, Err, refl, ap, ◌∙◌, arith, lit<}
 use Rattle.std.specs.Result.{result_ok}
 use Rattle.std.proofs.lemmas.Bool.{and_parts, leb-true, ltb-true, eqb-true}
 use Rattle.hex.specs.Hex.{IsBytes, decode_of}
@@ -12,7 +13,8 @@ use Rattle.ao_base.specs.declared.line_kind.LineKind.TheVariants.{Range}
 use Rattle.ao_base.specs.Addresses.{address_of, between_dots, below_256, dotted_of, four, has_leading_zero, octet_of}
 use Rattle.ao_base.specs.Decimals.{decimal_of}
 use Rattle.ao_base.specs.Hexadecimal.{bytes_of_hex}
-use Rattle.line_model.specs.Words.{◌>>=◌, Taken, address_in, byte_in, first_of, hex_in, sized_hex_in, number_in, or_fault, some_hex_in, within, word_as, word_in}
+use Rattle.line_model.specs.Words.{◌>>=◌, Taken, address_in, byte_in, first_of, hex_in, sized_hex_in, number_in, or_fault, some_hex_in, within, word_as}
+use Rattle.line_model.specs.Words.{word_in}
 use Rattle.link_script.specs.Scripts.{AreBytes, IsAddress, IsWithin}
 
 -- the first of two readings was good, and so was the second
@@ -115,7 +117,8 @@ four_bytes a b c d ha hb hc hd (suc (suc zero)) = hc
 four_bytes a b c d ha hb hc hd (suc (suc (suc zero))) = hd
 four_bytes a b c d ha hb hc hd (suc (suc (suc (suc i)))) = lit< tt
 
-four_ok : (a b c d : Option ℕ) (x : Address) → ((n : ℕ) → a ≡ Some n → n < 256) → ((n : ℕ) → b ≡ Some n → n < 256) → ((n : ℕ) → c ≡ Some n → n < 256) → ((n : ℕ) → d ≡ Some n → n < 256) →
+four_ok : (a b c d : Option ℕ) (x : Address) → ((n : ℕ) → a ≡ Some n → n < 256) → ((n : ℕ) → b ≡ Some n → n < 256) → ((n : ℕ) → c ≡ Some n → n < 256) →
+    ((n : ℕ) → d ≡ Some n → n < 256) →
     four a b c d ≡ Some x → IsAddress x
 four_ok (Some a) (Some b) (Some c) (Some d) x ha hb hc hd h =
     let e : V4 (a ∷ b ∷ c ∷ d ∷ []) ≡ x = cc h in
@@ -134,14 +137,16 @@ dotted_ok (a ∷ b ∷ c ∷ []) x h = absurd (cc h)
 dotted_ok (a ∷ b ∷ c ∷ d ∷ []) x h = four_ok (octet_of a) (octet_of b) (octet_of c) (octet_of d) x (octet_ok a) (octet_ok b) (octet_ok c) (octet_ok d) h
 dotted_ok (a ∷ b ∷ c ∷ d ∷ f ∷ ws) x h = absurd (cc h)
 
-sixteen : (w : List ℕ) (o : Option (List ℕ)) (x : Address) → length w ≡ 32 → ((bytes : List ℕ) → o ≡ Some bytes → (length w ≡ 2 * length bytes) × IsBytes bytes) → option_map V6 o ≡ Some x → IsAddress x
+sixteen : (w : List ℕ) (o : Option (List ℕ)) (x : Address) → length w ≡ 32 →
+    ((bytes : List ℕ) → o ≡ Some bytes → (length w ≡ 2 * length bytes) × IsBytes bytes) → option_map V6 o ≡ Some x → IsAddress x
 sixteen w None x len b h = absurd (cc h)
 sixteen w (Some bytes) x len b h =
     let e : V6 bytes ≡ x = cc h in
     let p = b bytes refl in
     rw (← e) (omega (arith, p.0), p.1)
 
-address_case : (b : Bool) (w : List ℕ) (x : Address) → (length w == 32) ≡ b → cond b (option_map V6 (bytes_of_hex w)) (dotted_of (between_dots w)) ≡ Some x → IsAddress x
+address_case : (b : Bool) (w : List ℕ) (x : Address) → (length w == 32) ≡ b →
+    cond b (option_map V6 (bytes_of_hex w)) (dotted_of (between_dots w)) ≡ Some x → IsAddress x
 address_case true w x e h = sixteen w (bytes_of_hex w) x (eqb-true _ _ e) (hex_bytes w) h
 address_case false w x e h = dotted_ok (between_dots w) x h
 

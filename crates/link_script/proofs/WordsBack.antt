@@ -1,5 +1,6 @@
 -- Printed words are read back.
-use Rattle.std.proofs.Common.{◌≡◌, ℕ, zero, suc, lit<, ◌<◌, ◌≤◌, ◌^◌, ◌==◌, nat_le, nat_lt, Bool, true, false, List, [], ◌∷◌, length, decimal, codes, Option, Some, Ok, refl, arith}
+use Rattle.std.proofs.Common.{◌≡◌, ℕ, zero, suc, lit<, ◌<◌, ◌≤◌, ◌^◌, ◌==◌, nat_le, nat_lt, Bool, true, false, List, [], ◌∷◌, length, decimal, codes}
+use Rattle.std.proofs.Common.{Option, Some, Ok, refl, arith}
 use Rattle.std.proofs.lemmas.Bool.{le-leb, lt-ltb}
 use Rattle.hex.specs.Hex.{IsBytes}
 use Rattle.ao_base.specs.declared.address.Address.{Address}
@@ -14,7 +15,8 @@ use Rattle.ao_base.specs.Hexadecimal.{hex_of}
 use Rattle.ao_base.proofs.AddressLaws.{address_of-address_text}
 use Rattle.ao_base.proofs.DecimalLaws.{decimal_of-decimal}
 use Rattle.ao_base.proofs.HexadecimalLaws.{bytes_of_hex-hex_of}
-use Rattle.line_model.specs.Words.{word_in, word_as, choice_of, choice_in, end_of, end_in, address_in, algorithm_in, number_in, hex_in, sized_hex_in, some_hex_in, byte_in}
+use Rattle.line_model.specs.Words.{word_in, word_as, choice_of, choice_in, end_of, end_in, address_in, algorithm_in, number_in, hex_in, sized_hex_in}
+use Rattle.line_model.specs.Words.{some_hex_in, byte_in}
 use Rattle.line_model.specs.Texts.{end_text}
 use Rattle.format_model.specs.LinkEvents.{ways_of}
 use Rattle.link_script.specs.Printed.{choice_text, direction_text, fixing_text, flag_text}
@@ -69,7 +71,8 @@ algorithm_back HmacSha1 ws = refl
 algorithm_back AesCmac ws = refl
 algorithm_back HmacSha256 ws = refl
 
-pub within_back : (low high n : ℕ) (ws : List (List ℕ)) → IsWithin low high n → high < 2 ^ 64 → number_in low high (decimal n ∷ ws) ≡ Ok (record { value = n; rest = ws })
+pub within_back : (low high n : ℕ) (ws : List (List ℕ)) → IsWithin low high n → high < 2 ^ 64 →
+    number_in low high (decimal n ∷ ws) ≡ Ok (record { value = n; rest = ws })
 unfolding number_in word_in
 within_back low high n ws h small =
     let a : nat_le low n ≡ true = le-leb _ _ h.least in
@@ -79,14 +82,16 @@ within_back low high n ws h small =
 pub number_back : (high n : ℕ) (ws : List (List ℕ)) → n ≤ high → high < 2 ^ 64 → number_in 0 high (decimal n ∷ ws) ≡ Ok (record { value = n; rest = ws })
 number_back high n ws h small = within_back 0 high n ws (record { least = omega arith; most = h }) small
 
-pub hex_back : (low high : ℕ) (bytes : List ℕ) (ws : List (List ℕ)) → AreBytes low high bytes → sized_hex_in low high (hex_of bytes ∷ ws) ≡ Ok (record { value = bytes; rest = ws })
+pub hex_back : (low high : ℕ) (bytes : List ℕ) (ws : List (List ℕ)) → AreBytes low high bytes →
+    sized_hex_in low high (hex_of bytes ∷ ws) ≡ Ok (record { value = bytes; rest = ws })
 unfolding sized_hex_in hex_in word_in
 hex_back low high bytes ws h =
     let a : nat_le low (length bytes) ≡ true = le-leb _ _ h.least in
     let b : nat_le (length bytes) high ≡ true = le-leb _ _ h.most in
     rw (bytes_of_hex-hex_of bytes h.small, a, b) refl
 
-pub some_hex_back : (bytes : List ℕ) (ws : List (List ℕ)) → 0 < length bytes → IsBytes bytes → some_hex_in (hex_of bytes ∷ ws) ≡ Ok (record { value = bytes; rest = ws })
+pub some_hex_back : (bytes : List ℕ) (ws : List (List ℕ)) → 0 < length bytes → IsBytes bytes →
+    some_hex_in (hex_of bytes ∷ ws) ≡ Ok (record { value = bytes; rest = ws })
 unfolding some_hex_in hex_in word_in
 some_hex_back bytes ws some small =
     let a : nat_lt 0 (length bytes) ≡ true = lt-ltb _ _ some in

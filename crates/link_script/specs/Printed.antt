@@ -78,7 +78,8 @@ event_words (event.Send e) = end_words name.Send e
 event_words (event.Resend e) = end_words name.Resend e
 event_words (event.Deliver e segment) = number_words name.Deliver e segment
 event_words (event.Inject e bytes) = bytes_words name.Inject e bytes
-event_words (event.Alter e segment place mask fixing) = name_text name.Alter ∷ end_text e ∷ decimal segment ∷ decimal place ∷ hex_of (mask ∷ []) ∷ fixing_text fixing ∷ []
+event_words (event.Alter e segment place mask fixing) =
+    name_text name.Alter ∷ end_text e ∷ decimal segment ∷ decimal place ∷ hex_of (mask ∷ []) ∷ fixing_text fixing ∷ []
 event_words (event.Take e count) = number_words name.Take e count
 event_words (event.Close e) = end_words name.Close e
 event_words (event.Abort e) = end_words name.Abort e

@@ -1,5 +1,5 @@
 //! The lines in front of a link file: its title and the sockets of its two ends.
-ghost use Rattle.std.specs.Prelude.{◌≡◌, [], ◌∷◌, codes, MatchResult};
+ghost use Rattle.std.specs.Prelude.{◌≡◌, [], ◌∷◌, codes, IfOk, IfErr};
 ghost use Rattle.ao_base.specs.declared.line_kind.LineKind.TheVariants as line_kind;
 ghost use Rattle.line_model.specs.declared.text_fault.TextFault.TheVariants as fault;
 ghost use Rattle.format_model.specs.LinkFiles.{title_of, socket_of, are_two_of_a_family, peer_of, line_in, head_in};
@@ -23,7 +23,8 @@ pub(crate) fn next_line<'a>(
     missing: u32,
     kind: LineKind,
 ) -> Result<Saying<'a>, TextFault>
-    ensures { MatchResult result (λ line. lines.old ≡ record { number = line.number; words = line.words } ∷ lines.new) (λ e. (lines.old ≡ []) × (e ≡ fault.Line missing kind)) }
+    ensures next { IfOk result (λ line. lines.old ≡ record { number = line.number; words = line.words } ∷ lines.new) }
+    ensures none { IfErr result (λ e. (lines.old ≡ []) × (e ≡ fault.Line missing kind)) }
 {
     match lines.next() {
         Some(line) => Ok(line),

@@ -16,10 +16,10 @@ use std::alloc::Global;
 use text_lines::{LineWords, Refusal};
 
 /// The greatest initial sequence number (RFC 9293, section 3.4.1).
-const GREATEST_ISN: u64 = 4_294_967_295;
+const MOST_ISN: u64 = 4_294_967_295;
 
-/// As many segments as a link file has lines.
-const MOST_SEGMENTS: u64 = 20_000;
+/// The most segments of a link: as many as a link file has lines.
+const SEGMENTS: u64 = 20_000;
 
 /// The longest datagram: the 40 bytes of an IPv6 header and 65,535 bytes (RFC 8200, section 3).
 const MOST_DATAGRAM: usize = 65_575;
@@ -100,7 +100,7 @@ fn alter(alloc: Global, words: &mut LineWords) -> Result<Event, Refusal>
     ensures { Tells result (alter_of words.old) }
 {
     let end = words.end()?;
-    let segment = words.number(1, MOST_SEGMENTS)? as u32;
+    let segment = words.number(1, SEGMENTS)? as u32;
     let place = words.short()?;
     let mask = words.byte(alloc)?;
     let fixing = words.choice(b"keep", b"fix")?;
@@ -112,7 +112,7 @@ fn alter(alloc: Global, words: &mut LineWords) -> Result<Event, Refusal>
 fn dump(words: &mut LineWords) -> Result<Event, LineKind>
     ensures { result ≡ dump_of words.old }
 {
-    let segment = words.number(1, MOST_SEGMENTS)? as u32;
+    let segment = words.number(1, SEGMENTS)? as u32;
     words.nothing()?;
     Ok(Event::Dump(segment))
 }
@@ -124,21 +124,21 @@ fn named(alloc: Global, name: Name, words: &mut LineWords) -> Result<Event, Refu
 {
     match name {
         Name::Clock => Ok(numbered(words, 0, LATEST, Event::Clock)?),
-        Name::Open => Ok(numbered(words, 0, GREATEST_ISN, |end, n| Event::Connect(end, n as u32))?),
-        Name::Listen => Ok(numbered(words, 0, GREATEST_ISN, |end, n| Event::Listen(end, n as u32))?),
+        Name::Open => Ok(numbered(words, 0, MOST_ISN, |e, n| Event::Connect(e, n as u32))?),
+        Name::Listen => Ok(numbered(words, 0, MOST_ISN, |e, n| Event::Listen(e, n as u32))?),
         Name::Start => Ok(start(words)?),
         Name::Give => give(alloc, words),
         Name::Fill => fill(alloc, words),
         Name::Send => Ok(end_alone(words, Event::Send)?),
         Name::Resend => Ok(end_alone(words, Event::Resend)?),
-        Name::Deliver => Ok(numbered(words, 1, MOST_SEGMENTS, |end, n| Event::Deliver(end, n as u32))?),
+        Name::Deliver => Ok(numbered(words, 1, SEGMENTS, |e, n| Event::Deliver(e, n as u32))?),
         Name::Inject => inject(alloc, words),
         Name::Alter => alter(alloc, words),
-        Name::Take => Ok(numbered(words, 0, 65_535, |end, n| Event::Take(end, n as u16))?),
+        Name::Take => Ok(numbered(words, 0, 65_535, |e, n| Event::Take(e, n as u16))?),
         Name::Close => Ok(end_alone(words, Event::Close)?),
         Name::Abort => Ok(end_alone(words, Event::Abort)?),
         Name::Add => add(alloc, words),
-        Name::Withdraw => Ok(numbered(words, 1, MOST_ROWS, |end, n| Event::Withdraw(end, n as u8))?),
+        Name::Withdraw => Ok(numbered(words, 1, MOST_ROWS, |e, n| Event::Withdraw(e, n as u8))?),
         Name::Dump => Ok(dump(words)?),
     }
 }

@@ -60,7 +60,12 @@ fn push_words(out: &mut Vec<u8>, event: &Event) -> Result<(), AllocError>
         }
         Event::Send(end) => push_alone(out, Name::Send, *end),
         Event::Resend(end) => push_alone(out, Name::Resend, *end),
-        Event::Deliver(end, segment) => push_numbered(out, Name::Deliver, *end, u64::from(*segment)),
+        Event::Deliver(end, segment) => push_numbered(
+            out,
+            Name::Deliver,
+            *end,
+            u64::from(*segment),
+        ),
         Event::Inject(end, bytes) => push_load(out, Name::Inject, *end, bytes),
         Event::Alter(end, segment, place, mask, fixing) => {
             push_numbered(out, Name::Alter, *end, u64::from(*segment))?;

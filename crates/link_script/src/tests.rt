@@ -3,7 +3,7 @@ use crate::{Event, ScriptFault, print_script, read_head, read_script};
 use ao_base::{Address, End, LineKind};
 use std::alloc::{AllocError, Global};
 use std::test::Fail;
-use text_lines::SayingLines;
+use text_lines::{SayingLines, count_lines};
 
 const HEAD: &str = "aotcp-link 1
 a 10.0.0.1 1000
@@ -218,8 +218,9 @@ fn too_many_lines_come_before_a_faulty_one(rt: HostRuntime) -> Result<(), Fail> 
 #[test]
 fn a_head_is_read_by_itself(rt: HostRuntime) -> Result<(), Fail> {
     let text = joined(rt.alloc(), [HEAD, "wait a 1\n"].as_slice())?;
+    let missing = count_lines(text.as_slice())? + 1;
     let mut lines = SayingLines::new(text.as_slice());
-    let head = read_head(&mut lines, 5)?;
+    let head = read_head(&mut lines, missing)?;
     assert_eq!(rt; head.a.address, Address::V4([10, 0, 0, 1]));
     assert_eq!(rt; head.b.port, 2000);
     let rest = lines.next().ok_or("no line")?;
@@ -227,88 +228,98 @@ fn a_head_is_read_by_itself(rt: HostRuntime) -> Result<(), Fail> {
     Ok(())
 }
 
-const EVERY_EVENT: &str = "# every event
- aotcp-link 1\r
-a 20010DB8000000000000000000000001 0
-b 20010db8000000000000000000000002 65535
+/// Events of a file, and their lines as they are printed.
+const PRINTED: [(&str, &str); 5] = [
+    (
+        "# times and sessions
 clock a 00000000000000000007
 open a 0
 listen b 4294967295
-start b 1 4294967295
-start b 1 4294967295
-give a 00fF
-fill b 0 0A
-send a
-resend b
-deliver b 20000
-inject a 00fF
-alter b 20000 65535 80 fix
-alter a 1 0 00 keep
-
-take a 65535
-close a
-abort b
-add a 255 0 AES-128-CMAC-96 0B no-options both 0 253402300799 5 5
-add b 1 2 HMAC-SHA-1-96 00 options in 1 2 3 4
-add b 1 2 HMAC-SHA-1-96 00 options out 1 2 3 4
-add b 1 2 HMAC-SHA-1-96 00 options disabled 1 2 3 4
-withdraw a 64
-dump 9";
-
-const EVERY_EVENT_PRINTED: &str = "aotcp-link 1
-a 20010db8000000000000000000000001 0
-b 20010db8000000000000000000000002 65535
-clock a 7
+ start b 1 4294967295\r
+start b 1 4294967295",
+        "clock a 7
 open a 0
 listen b 4294967295
 start b 1 4294967295
 start b 1 4294967295
-give a 00ff
+",
+    ),
+    (
+        "give a 00fF
+fill b 0 0A
+send\ta
+
+resend b
+deliver b 20000
+inject a 00fF",
+        "give a 00ff
 fill b 0 0a
 send a
 resend b
 deliver b 20000
 inject a 00ff
-alter b 20000 65535 80 fix
-alter a 1 0 00 keep
-take a 65535
+",
+    ),
+    (
+        "alter b 20000 65535 80 fix
+alter a 1 0 0F keep",
+        "alter b 20000 65535 80 fix
+alter a 1 0 0f keep
+",
+    ),
+    (
+        "take a 65535
 close a
 abort b
-add a 255 0 AES-128-CMAC-96 0b no-options both 0 253402300799 5 5
+withdraw a 64
+dump 9",
+        "take a 65535
+close a
+abort b
+withdraw a 64
+dump 9
+",
+    ),
+    (
+        "add a 255 0 AES-128-CMAC-96 0B no-options both 0 253402300799 5 5
+add b 1 2 HMAC-SHA-1-96 00 options in 1 2 3 4
+add b 1 2 HMAC-SHA-1-96 00 options out 1 2 3 4
+add b 1 2 HMAC-SHA-1-96 00 options disabled 1 2 3 4",
+        "add a 255 0 AES-128-CMAC-96 0b no-options both 0 253402300799 5 5
 add b 1 2 HMAC-SHA-1-96 00 options in 1 2 3 4
 add b 1 2 HMAC-SHA-1-96 00 options out 1 2 3 4
 add b 1 2 HMAC-SHA-1-96 00 options disabled 1 2 3 4
-withdraw a 64
-dump 9
-";
+",
+    ),
+];
 
 #[test]
-fn every_event_is_printed_in_its_words(rt: HostRuntime) -> Result<(), Fail> {
-    let script = read_script(rt.alloc(), true, EVERY_EVENT.as_bytes())?;
-    assert!(rt;
-        matches!(
-            script.events.as_slice(),
-            [
-                Event::Clock(End::A, 7),
-                Event::Connect(End::A, 0),
-                Event::Listen(End::B, u32::MAX),
-                Event::Start(End::B, 1, u32::MAX),
-                ..
-            ]
-        )
-    );
-    let printed = print_script(rt.alloc(), &script)?;
-    assert_eq!(rt; printed.as_slice(), EVERY_EVENT_PRINTED.as_bytes());
+fn each_event_is_printed_in_its_words(rt: HostRuntime) -> Result<(), Fail> {
+    for (events, lines) in PRINTED {
+        let text = joined(rt.alloc(), [HEAD, events].as_slice())?;
+        let script = read_script(rt.alloc(), true, text.as_slice())?;
+        let printed = print_script(rt.alloc(), &script)?;
+        let wanted = joined(rt.alloc(), [HEAD, lines].as_slice())?;
+        assert_eq!(rt; printed.as_slice(), wanted.as_slice(), "{events}");
+    }
     Ok(())
 }
 
 #[test]
 fn a_shared_key_is_printed_and_read_again(rt: HostRuntime) -> Result<(), Fail> {
-    let text = joined(rt.alloc(), [HEAD, SHARED, "give a 68656c6c6f\nsend a\n"].as_slice())?;
+    let text = joined(
+        rt.alloc(),
+        [HEAD, SHARED, "give a 68656c6c6f\nsend a\n"].as_slice(),
+    )?;
     let script = read_script(rt.alloc(), false, text.as_slice())?;
     let printed = print_script(rt.alloc(), &script)?;
     assert_eq!(rt; printed.as_slice(), text.as_slice());
     let again = read_script(rt.alloc(), false, printed.as_slice())?;
-    assert_eq!(rt; again.events.as_slice().len(), 2);
+    assert!(rt;
+        matches!(
+            again.events.as_slice(),
+            [Event::Give(..), Event::Send(End::A)]
+        )
+    );
     Ok(())
 }

@@ -5,5 +5,6 @@ pub loop-event-init : goal.loop-event-init
 loop-event-init c = none_printed c.args.out.now.items
 
 pub loop-event-preserved : goal.loop-event-preserved
-loop-event-preserved c = one_more_printed c.args.out.now.items c.loop-event.out.items c.push_event.new.out.items c.args.events.now c.loop-event.event-index c.event-item.result
+loop-event-preserved c =
+    one_more_printed c.args.out.now.items c.loop-event.out.items c.push_event.new.out.items c.args.events.now c.loop-event.event-index c.event-item.result
     c.loop-event-test.true c.event-item.is c.loop-event.invariant c.in_ok-push_event.ensures
