@@ -36,6 +36,7 @@ alone_counts rows now d before after old new f none p c =
         tested : (b : Bool) → nat_lt x y ≡ b → (x < y) ⊎ (y ≤ x)
         tested true e = inl (lt_is x y e)
         tested false e = inr (lt_not x y e)
+
     at : (n : ℕ) → has SYN d ≡ false → judging rows (pair_at d) now (find_ao d.area) ≡ Some n → (old < new) ⊎ (new ≤ old) → new ≡ old
     at n syn row (inl more) =
         let k = c.derived n syn (rw p row) more in

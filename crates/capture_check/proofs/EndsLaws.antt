@@ -106,6 +106,7 @@ both_told a b c d e = at (is_low a b) (is_low c d) e
   where
     one : Socket → Socket → Bool → Ends
     one x y v = if v then record { low = place_of x; high = place_of y } else record { low = place_of y; high = place_of x }
+
     at : (v w : Bool) → one a b v ≡ one c d w → ((a ≡ c) × (b ≡ d)) ⊎ ((a ≡ d) × (b ≡ c))
     at true true h = inl (place_told a c (ap (λ (k : Ends). k.low) h), place_told b d (ap (λ (k : Ends). k.high) h))
     at false false h = inl (place_told a c (ap (λ (k : Ends). k.high) h), place_told b d (ap (λ (k : Ends). k.low) h))
@@ -118,6 +119,7 @@ low_turned a b e = at (by_place (place_of a) (place_of b)) (by_place (place_of b
   where
     differ : by_place (place_of a) (place_of b) ≡ Equal → ⊥
     differ h = let same = place_told a b (exact_place (place_of a) (place_of b) h) in let told : same_socket b b ≡ false = rw same at e in let is = same_socket-refl b in cc
+
     at : (o p : Ordering) → by_place (place_of a) (place_of b) ≡ o → o ≡ ordering_reverse p → not (is_lt o) ≡ not (not (is_lt p))
     at Less Greater s h = refl
     at Greater Less s h = refl
@@ -132,6 +134,7 @@ key_turned a b e = at (is_low a b) (is_low b a) (low_turned a b e)
   where
     one : Socket → Socket → Bool → Ends
     one x y v = if v then record { low = place_of x; high = place_of y } else record { low = place_of y; high = place_of x }
+
     at : (v w : Bool) → w ≡ not v → one b a w ≡ one a b v
     at true true h = absurd (cc)
     at true false h = refl

@@ -88,6 +88,7 @@ hears_fixed tables before after held d v p (Some h) result S ne f is D =
   where
     new : Flows
     new = new_flows tables d.source d.destination d.sequence (acknowledged_isn d)
+
     at : (b : Bool) → same_isns (shown d.source d.destination h) (fixed d) ≡ b
         → DoesFix (if b then Fixed else Fixes (new_flows tables d.source d.destination d.sequence (acknowledged_isn d))) before after (key_at d) result
         → Hears after (fixed_line result v (good d)) (hear_syn_ack held d p (Some (shown d.source d.destination h)))
@@ -119,12 +120,15 @@ sound_fixed tables before after d o result T ne small D = at o D
         sound_put tables before after s t (new_flows tables s t i j) T P ne
         (rw (new_first tables s t i j, new_second tables s t i j ne) (new_sound tables s t i j small))
         (rw (new_first tables s t i j, new_second tables s t i j ne) (new_sound tables t s j i (omega arith)))
+
     old_known : (b : Bool) → DoesFix (if b then Fixed else Fixes (new_flows tables d.source d.destination d.sequence (acknowledged_isn d))) before after (key_at d) result → IsSound tables after
     old_known true x = rw x.0 T
     old_known false x = new_put x.0
+
     not_known : (b : Bool) → DoesFix (if b then TooMany else Fixes (new_flows tables d.source d.destination d.sequence (acknowledged_isn d))) before after (key_at d) result → IsSound tables after
     not_known true x = rw x.0 T
     not_known false x = new_put x.0
+
     at : (o : Option Flows) → DoesFix (fixing tables d o (length before)) before after (key_at d) result → IsSound tables after
     at (Some h) x = old_known (has_isns (from_low d) h d.sequence (acknowledged_isn d)) x
     at None x = not_known (nat_le most_connections (length before)) x
@@ -151,23 +155,26 @@ keys_fixed tables before after d o result ne f D = at o f D
         let j = acknowledged_isn d in
         keys_renewed before after s t (new_flows tables s t i j) P ne
         (record {
-            differ = rw (new_first tables s t i j, new_second tables s t i j ne) differ;
-            keys = λ n. rw (new_first tables s t i j) (kept-empty (length (rows_of tables t)) n Inbound);
-            other = λ n. rw (new_second tables s t i j ne) (kept-empty (length (rows_of tables s)) n Inbound);
+          differ = rw (new_first tables s t i j, new_second tables s t i j ne) differ;
+          keys = λ n. rw (new_first tables s t i j) (kept-empty (length (rows_of tables t)) n Inbound);
+          other = λ n. rw (new_second tables s t i j ne) (kept-empty (length (rows_of tables s)) n Inbound);
         })
+
     old_known : (h : Flows) (b : Bool) → found before (key_at d) ≡ Some h → has_isns (from_low d) h d.sequence (acknowledged_isn d) ≡ b
         → DoesFix (if b then Fixed else Fixes (new_flows tables d.source d.destination d.sequence (acknowledged_isn d))) before after (key_at d) result → KeepsKeys before after
     old_known h true e b x = keys_same before after x.0
     old_known h false e b x =
         renewed x.0 (λ is.
-            let here : ◌≡◌ {A = Option Isns} (Some (record { one = (flow_from d.source d.destination h).isn; two = (flow_from d.destination d.source h).isn })) (Some (record { one = d.sequence; two = acknowledged_isn d })) = rw e at is in
-            let yes_they_are = numbers_told (flow_from d.source d.destination h).isn (flow_from d.destination d.source h).isn d.sequence (acknowledged_isn d) here in
-            let no_they_arent = same_numbers d h ne ∙ b in
-            absurd (cc))
+        let here : ◌≡◌ {A = Option Isns} (Some (record { one = (flow_from d.source d.destination h).isn; two = (flow_from d.destination d.source h).isn })) (Some (record { one = d.sequence; two = acknowledged_isn d })) = rw e at is in
+        let yes_they_are = numbers_told (flow_from d.source d.destination h).isn (flow_from d.destination d.source h).isn d.sequence (acknowledged_isn d) here in
+        let no_they_arent = same_numbers d h ne ∙ b in
+        absurd (cc))
+
     not_known : (b : Bool) → found before (key_at d) ≡ None
         → DoesFix (if b then TooMany else Fixes (new_flows tables d.source d.destination d.sequence (acknowledged_isn d))) before after (key_at d) result → KeepsKeys before after
     not_known true e x = keys_same before after x.0
     not_known false e x = renewed x.0 (λ is. let here : ◌≡◌ {A = Option Isns} None (Some (record { one = d.sequence; two = acknowledged_isn d })) = rw e at is in absurd (cc))
+
     at : (o : Option Flows) → found before (key_at d) ≡ o → DoesFix (fixing tables d o (length before)) before after (key_at d) result → KeepsKeys before after
     at (Some h) e x = old_known h (has_isns (from_low d) h d.sequence (acknowledged_isn d)) e refl x
     at None e x = not_known (nat_le most_connections (length before)) e x

@@ -64,6 +64,7 @@ find_put a b c (k ∷ ks) e = at (find_put a b c ks e) (joins c.one.socket c.two
   where
     same : joined c.one.socket c.two.socket k.one.socket k.two.socket ≡ joined a b k.one.socket k.two.socket
     same = alike_from a b k.one.socket k.two.socket c.one.socket c.two.socket (joined_told a b c.one.socket c.two.socket e)
+
     at : find (joins a b) (with_connection c ks) ≡ Some c → (v : Bool) → joins c.one.socket c.two.socket k ≡ v → find (joins a b) (if v then c ∷ ks else k ∷ with_connection c ks) ≡ Some c
     at i true h = rw e refl
     at i false h = rw (sym same ∙ h) i

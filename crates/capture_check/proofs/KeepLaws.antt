@@ -43,14 +43,19 @@ keys_heard before after s t h next P ne f S =
   where
     turned : (a b : Socket) → same_socket a b ≡ false → s ≡ b → t ≡ a → found before (key_of a b) ≡ Some h
     turned a b m x y = ap (found before) (key_turned b a (same_turned a b m)) ∙ rw (← x, ← y) f
+
     same_found : (a b : Socket) → s ≡ a → t ≡ b → found before (key_of a b) ≡ Some h
     same_found a b x y = rw (← x, ← y) f
+
     keys_at : (a b : Socket) → s ≡ a → t ≡ b → (n : ℕ) (k : List ℕ) → kept (flow_from a b h).receiver.keys n Inbound ≡ Some k → kept (flow_from a b next).receiver.keys n Inbound ≡ Some k
     keys_at a b x y = rw (← x, ← y) S.keys
+
     other_at : (a b : Socket) → s ≡ b → t ≡ a → flow_from a b next ≡ flow_from a b h
     other_at a b x y = rw (← x, ← y) S.other
+
     isn_at : (a b : Socket) → s ≡ a → t ≡ b → (flow_from a b next).isn ≡ (flow_from a b h).isn
     isn_at a b x y = rw (← x, ← y) S.isn
+
     stay : (a b : Socket) (n : ℕ) (k : List ℕ) → same_socket a b ≡ false → key_in a b n (found before (key_of a b)) ≡ Some k → AtPut before after s t a b next
         → key_in a b n (found after (key_of a b)) ≡ Some k
     stay a b n k m e (Same x y g) =
@@ -60,8 +65,10 @@ keys_heard before after s t h next P ne f S =
         let old : key_in a b n (Some h) ≡ Some k = ap (key_in a b n) (sym (turned a b m x y)) ∙ e in
         ap (key_in a b n) g ∙ (ap (λ (f : Flow). kept f.receiver.keys n Inbound) (other_at a b x y) ∙ old)
     stay a b n k m e (Other j g) = ap (key_in a b n) g ∙ e
+
     numbers : (a b : Socket) → (flow_from a b next).isn ≡ (flow_from a b h).isn → (flow_from b a next).isn ≡ (flow_from b a h).isn → isns_in a b (Some next) ≡ isns_in a b (Some h)
     numbers a b p q = rw (p, q) refl
+
     same : (a b : Socket) → same_socket a b ≡ false → AtPut before after s t a b next → isns_in a b (found after (key_of a b)) ≡ isns_in a b (found before (key_of a b))
     same a b m (Same x y g) =
         ap (isns_in a b) g ∙ (numbers a b (isn_at a b x y) (ap (λ (f : Flow). f.isn) (other_at b a x y)) ∙ ap (isns_in a b) (sym (same_found a b x y)))
@@ -94,10 +101,13 @@ keys_renewed before after s t h P ne R =
   where
     none_at : (a b : Socket) → s ≡ a → t ≡ b → (n : ℕ) → key_in a b n (Some h) ≡ None
     none_at a b x y n = rw (← x, ← y) (R.keys n)
+
     none_turned : (a b : Socket) → s ≡ b → t ≡ a → (n : ℕ) → key_in a b n (Some h) ≡ None
     none_turned a b x y n = rw (← x, ← y) (R.other n)
+
     differ_at : (a b : Socket) → s ≡ a → t ≡ b → isns_in a b (found before (key_of a b)) ≡ isns_in a b (Some h) → ⊥
     differ_at a b x y = rw (← x, ← y) R.differ
+
     stay : (a b : Socket) (n : ℕ) (k : List ℕ) → same_socket a b ≡ false → isns_in a b (found after (key_of a b)) ≡ isns_in a b (found before (key_of a b))
         → key_in a b n (found before (key_of a b)) ≡ Some k → AtPut before after s t a b h → key_in a b n (found after (key_of a b)) ≡ Some k
     stay a b n k m is e (Same x y g) = absurd (differ_at a b x y (sym is ∙ ap (isns_in a b) g))
@@ -106,6 +116,7 @@ keys_renewed before after s t h P ne R =
         let back = turned_in a b (found before (key_of a b)) ∙ (ap (option_map swapped) here ∙ sym (turned_in a b (Some h))) in
         absurd (differ_at b a x y (ap (λ (k : Ends). isns_in b a (found before k)) (key_turned a b m) ∙ back))
     stay a b n k m is e (Other j g) = ap (key_in a b n) g ∙ e
+
     drop : (a b : Socket) (n : ℕ) → (isns_in a b (found after (key_of a b)) ≡ isns_in a b (found before (key_of a b)) → ⊥) → AtPut before after s t a b h
         → key_in a b n (found after (key_of a b)) ≡ None
     drop a b n apart (Same x y g) = ap (key_in a b n) g ∙ none_at a b x y n

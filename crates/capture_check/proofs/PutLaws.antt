@@ -46,8 +46,9 @@ found_put before after s t h P ne a b n = at (joined a b s t) refl
     other true j e =
         let t1 = both_told s t a b (ends_told (key_of s t) (key_of a b) e) in
         let is : joined a b s t ≡ true = ⊎_elim
-            (λ x. rw (x.0, x.1) (joined-refl a b))
-            (λ x. rw (x.0, x.1) (joined_turned b a b a ∙ joined-refl b a)) t1 in absurd (cc)
+        (λ x. rw (x.0, x.1) (joined-refl a b))
+        (λ x. rw (x.0, x.1) (joined_turned b a b a ∙ joined-refl b a)) t1 in absurd (cc)
+
     at : (v : Bool) → joined a b s t ≡ v → AtPut before after s t a b h
     at true j =
         ⊎_elim

@@ -152,6 +152,7 @@ sound_known tables rows before after now d h v old new T ne f r K =
           expected = H.small;
           fits = rw r H.fits;
         }
+
     same_flow : (tables : List Table) (a b : Socket) (f g f2 g2 : Flow) → IsFlow tables a b f f2 → g ≡ f → g2.isn ≡ f2.isn → IsFlow tables a b g g2
     same_flow tables a b f g f2 g2 F o i =
         record {
@@ -185,6 +186,7 @@ derives_known tables rows before after now d h v old new T ne f K =
   where
     F : IsFlow tables d.source d.destination (flow_from d.source d.destination h) (flow_from d.destination d.source h)
     F = T d.source d.destination h ne f
+
     judged_by : (n : ℕ) → judging rows (pair_at d) now (find_ao d.area) ≡ Some n → judging rows (flow_from d.source d.destination h).receiver.pair now (find_ao d.area) ≡ Some n
     judged_by n e = rw F.pair e
 

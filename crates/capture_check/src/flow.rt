@@ -1,9 +1,7 @@
 //! What is known of the segments of a connection that go one way.
 ghost use Rattle.std.specs.Prelude.{◌≡◌, ◌≤◌, ◌^◌, length, Some, IfOk};
-
 ghost use Rattle.capture_check.specs.Flows.{new_flow, rows_of, FlowHears};
 ghost use Rattle.ao_check.specs.Bonds.{fresh, Fits};
-
 
 use crate::segment::length_of;
 use ao_base::{Pair, Socket, Steps};
@@ -85,7 +83,9 @@ impl Flow {
         ensures { FlowHears table.now.rows time datagram.now self.old self.new result steps.old steps.new }
     {
         let expected = self.expected;
-        let verdict = self.receiver.check(table, time, Some(expected), datagram, steps);
+        let verdict = self
+            .receiver
+            .check(table, time, Some(expected), datagram, steps);
         if let Verdict::Pass(passed) = &verdict {
             self.expected = expected.max(passed.number + length_of(datagram));
         }

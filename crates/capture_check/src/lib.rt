@@ -1,4 +1,9 @@
-//! Stored segments.
+//! Stored segments, judged one after another by what was heard before (RFC 5925, sections 5.2, 6.2
+//! and 7.5): a line of them is read, a checker says what it makes of each datagram, and its answer
+//! is a line of text.
+//!
+//! A checker keeps what it knows of each connection in a map by the two sockets, and the traffic
+//! keys that it derived with it, so that a segment of a known connection costs a look-up and one MAC.
 #![tactic(auto)]
 
 mod answer;
@@ -15,3 +20,6 @@ pub use answer::CheckLine;
 pub use checker::Checker;
 pub use stored::{LineProblem, Stored, read_line};
 pub use text::push_check_line;
+
+#[cfg(test)]
+mod tests;
