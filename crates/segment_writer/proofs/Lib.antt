@@ -1,0 +1,4 @@
+pub mod HeadLaws
+pub mod LaidLaws
+pub mod SealLaws
+pub mod SizeLaws

@@ -1,0 +1,63 @@
+-- An acknowledgement, by the phase.
+use Rattle.std.proofs.Common.{◌≡◌, ℕ, zero, suc, ◌+◌, ◌-◌, ◌^◌, ◌%◌, ◌<◌, ◌≤◌, Bool, true, false, not, ◌||◌, Option, Some, None, refl, sym, ap, ◌∙◌, arith, subst}
+use Rattle.std.specs.Prelude.{nat_lt, nat_le, ◌==◌, ◌&&◌, if◌then◌else◌, IfSome, IfNone, List}
+use Rattle.std.proofs.lemmas.Bool.Decides.{nat_tests}
+use Rattle.ao_base.specs.declared.address.Pair.{Pair}
+use Rattle.segment_model.specs.Meant.{meant}
+use Rattle.segment_model.specs.Segments.{Segment, has, SYN, RST, ACK}
+use Rattle.key_model.specs.Rows.{Row}
+use Rattle.key_model.specs.Coordination.{follow}
+use Rattle.ao_check.specs.Bonds.{Bond}
+use Rattle.endpoint_model.specs.declared.phase.Phase.{Phase}
+use Rattle.endpoint_model.specs.declared.phase.Phase.TheVariants.{SynReceived, Established}
+use Rattle.endpoint_model.specs.States.{EndState}
+use Rattle.endpoint_model.specs.declared.arrival.Arrival.TheVariants as answers
+use Rattle.endpoint_model.specs.Arrivals as book
+
+high_of : (t u : Bool) (e ahead back m : ℕ) → nat_lt ahead 2147483648 ≡ t → (if t then Some (e + ahead) else (if u then Some (e - back) else None)) ≡ Some m → m ≤ e + 2147483648
+high_of true u e ahead back m t q = let r : e + ahead ≡ m = cc in grind (arith, nat_tests, r)
+high_of false true e ahead back m t q = let r : e - back ≡ m = cc in omega (arith, r)
+high_of false false e ahead back m t q = absurd (cc)
+
+meant_high : (seq e m : ℕ) → meant seq e ≡ Some m → m ≤ e + 2147483648
+unfolding meant
+meant_high seq e m q =
+    let ahead : ℕ = (seq + 4294967296 - e % 4294967296) % 4294967296 in
+    high_of (nat_lt ahead 2147483648) (nat_le (4294967296 - ahead) e) e ahead (4294967296 - ahead) m refl q
+
+none_near : (r : Option ℕ) (e : ℕ) → e ≤ 2 ^ 63 + 1 → ((m : ℕ) → r ≡ Some m → m ≤ e + 2147483648) → IfSome r (λ n. 2 ^ 64 ≤ n) → None ≡ r
+none_near None e h high big = refl
+none_near (Some m) e h high big = let l = high m refl in absurd (omega (arith, l, big, h))
+
+pub near_is : (r : Option ℕ) (seq e : ℕ) → e ≤ 2 ^ 63 + 1 → IfSome r (λ n. meant seq e ≡ Some n) → IfNone r (IfSome (meant seq e) (λ n. 2 ^ 64 ≤ n)) → r ≡ meant seq e
+near_is (Some n) seq e h some none = sym some
+near_is None seq e h some none = none_near (meant seq e) e h (meant_high seq e) none
+
+both : (a b : Bool) → a ≡ true → b ≡ false → (a && not b) ≡ true
+both a b p q = rw (p, q) refl
+
+ack_if : (s : EndState) (d : Segment) (n now : ℕ) (a : Option ℕ) → book.above a s.una ≡ true → book.above a s.next ≡ false
+    → book.acknowledged s d n now a SynReceived ≡ book.go_on (record (book.acked s a) { phase = Established }) s.una d n now a
+ack_if s d n now a p q = ap (λ b. if b then book.go_on (record (book.acked s a) { phase = Established }) s.una d n now a else book.answered s answers.BadAck) (both (book.above a s.una) (book.above a s.next) p q)
+
+-- the acknowledgement of the own SYN
+pub syn_acked : (s : EndState) (d : Segment) (n now una next : ℕ) (a b : Option ℕ) (p : Phase) → SynReceived ≡ p → a ≡ b → una ≡ s.una → next ≡ s.next → book.above a una ≡ true → book.above a next ≡ false
+    → book.acknowledged s d n now b p ≡ book.go_on (record (book.acked s a) { phase = Established }) una d n now a
+syn_acked s d n now una next a b p e f u v t w =
+    let one : book.above a s.una ≡ true = subst (λ z. book.above a z ≡ true) u t in
+    let two : book.above a s.next ≡ false = subst (λ z. book.above a z ≡ false) v w in
+    subst (λ p. book.acknowledged s d n now b p ≡ book.go_on (record (book.acked s a) { phase = Established }) una d n now a) e
+    (subst (λ b. book.acknowledged s d n now b SynReceived ≡ book.go_on (record (book.acked s a) { phase = Established }) una d n now a) f
+    (ack_if s d n now a one two ∙ ap (λ z. book.go_on (record (book.acked s a) { phase = Established }) z d n now a) (sym u)))
+
+last_of : (a b c : Bool) (w x y z : book.Moved) → a ≡ false → b ≡ false → c ≡ true → (if a then w else (if b then x else (if not c then y else z))) ≡ z
+last_of a b c w x y z p q r = rw (p, q, r) refl
+
+-- a segment with ACK, without RST and SYN
+pub ordinary_ack : (s f : EndState) (d : Segment) (n now : ℕ) → has RST d ≡ false → has SYN d ≡ false → has ACK d ≡ true → book.ordinary s f d n now ≡ book.acknowledged f d n now (meant d.acknowledgement f.una) f.phase
+ordinary_ack s f d n now p q r =
+    last_of (has RST d) (has SYN d) (has ACK d) (if n == s.expected then book.answered (record s { phase = Rattle.endpoint_model.specs.declared.phase.Phase.TheVariants.Closed }) answers.Reset else book.answered (book.owing s) answers.Challenge) (book.answered (book.owing f) answers.Challenge) (book.answered f answers.NoAck) (book.acknowledged f d n now (meant d.acknowledgement f.una) f.phase) p q r
+
+-- the current row, once an RNextKeyID is heard
+pub current_heard : (a b : Bond) (rows : List Row) (pair : Pair) (id now : ℕ) (current : Option ℕ) → b ≡ record a { current = follow a.current rows a.pair id now } → a.pair ≡ pair → a.current ≡ current → b.current ≡ follow current rows pair id now
+current_heard a b rows pair id now current e p c = ap (λ z. z.current) e ∙ ap (λ z. follow a.current rows z id now) p ∙ ap (λ z. follow z rows pair id now) c

@@ -1,0 +1,102 @@
+-- What a pass says of a segment before the peer is known, and sockets that are compared.
+use Rattle.std.proofs.Common.{◌≡◌, ℕ, ◌+◌, ◌<◌, ◌≤◌, ◌^◌, Bool, true, false, not, ◌||◌, List, [], ◌∷◌, length, Option, Some, None, refl, sym, ap, ◌∙◌, arith, subst}
+use Rattle.std.specs.Prelude.{nat_lt, ◌==◌, ◌&&◌, if◌then◌else◌, is_some, ⊤}
+use Rattle.std.proofs.lemmas.Bool.Decides.{nat_tests}
+use Rattle.ao_base.specs.declared.address.Address.{Address}
+use Rattle.ao_base.specs.declared.address.Address.TheVariants.{V4, V6}
+use Rattle.ao_base.specs.declared.address.Socket.{Socket}
+use Rattle.ao_base.specs.declared.address.Pair.{Pair}
+use Rattle.segment_model.specs.Bytes.{same_bytes}
+use Rattle.segment_model.specs.Sockets.{same_address, same_socket}
+use Rattle.segment_model.specs.Options.{Ao, AoFound, Absent, One, Two, WithMd5 as FoundMd5, find_ao}
+use Rattle.segment_model.specs.Segments.{Segment, has, SYN, segment_length}
+use Rattle.segment_model.proofs.Fields.{same_bytes_tells}
+use Rattle.mac_model.specs.Contexts.{context_of}
+use Rattle.key_model.specs.Rows.{Row}
+use Rattle.key_model.specs.Choices.{Numbered, accept_row, has_id}
+use Rattle.endpoint_model.specs.Verdicts as v
+use Rattle.endpoint_model.specs.declared.verdict.Verdict.TheVariants as refusals
+use Rattle.ao_base.specs.Algorithms.{mac_length_of}
+
+-- either way of a test
+choose : {X : Type 0} (P : X → Type 0) (b : Bool) (x y : X) → (b ≡ true → P x) → (b ≡ false → P y) → P (if b then x else y)
+choose P true x y f g = f refl
+choose P false x y f g = g refl
+
+-- where it passes, its number is its sequence
+abbrev pub Numbers : Segment → v.Judgement → Type 0
+Numbers d (v.Refuse why) = ⊤
+Numbers d (v.Admit p) = p.number ≡ d.sequence
+
+numbers_context : (r : Numbered) (d : Segment) (ao : Ao) (c : Option (List ℕ)) → Numbers d (v.judge_context r d ao None c)
+numbers_context r d ao None = tt
+numbers_context r d ao (Some c) =
+    choose (Numbers d) (not (has SYN d) && not (is_some {T = ℕ} None)) (v.Refuse refusals.NoContext) (v.judge_number r d ao c (v.number_of d None)) (λ t. tt)
+    (λ t. choose (Numbers d) (nat_lt 9223372036854775808 (d.sequence + segment_length d)) (v.Refuse refusals.Range) (v.judge_mac ao (v.found_with r d ao c d.sequence)) (λ u. tt)
+    (λ u. choose (Numbers d) (same_bytes ao.mac (v.mac_of (v.found_with r d ao c d.sequence))) (v.Admit (v.found_with r d ao c d.sequence)) (v.Refuse refusals.BadMac) (λ w. refl) (λ w. tt)))
+
+numbers_row : (rows : List Row) (pair : Pair) (d : Segment) (ao : Ao) (c : Option (List ℕ)) (r : Option Numbered) → Numbers d (v.judge_row rows pair d ao None c r)
+numbers_row rows pair d ao c None = choose (Numbers d) (has_id rows pair ao.key_id) (v.Refuse refusals.Expired) (v.Refuse refusals.NoTuple) (λ t. tt) (λ t. tt)
+numbers_row rows pair d ao c (Some r) = choose (Numbers d) (not (length ao.mac == mac_length_of r.row.algorithm)) (v.Refuse refusals.MacLength) (v.judge_context r d ao None c) (λ t. tt) (λ t. numbers_context r d ao c)
+
+numbers_ao : (rows : List Row) (pair : Pair) (now : ℕ) (d : Segment) (c : Option (List ℕ)) (f : AoFound) → Numbers d (v.judge_ao rows pair now None d c f)
+numbers_ao rows pair now d c Absent = tt
+numbers_ao rows pair now d c Two = tt
+numbers_ao rows pair now d c FoundMd5 = tt
+numbers_ao rows pair now d c (One ao) = numbers_row rows pair d ao c (accept_row rows pair ao.key_id now)
+
+numbers : (rows : List Row) (pair : Pair) (own : ℕ) (peer : Option ℕ) (now : ℕ) (d : Segment) → Numbers d (v.judge rows pair own peer None now d)
+unfolding v.judge
+numbers rows pair own peer now d = numbers_ao rows pair now d (context_of d peer (Some own)) (find_ao d.area)
+
+pub number_first : (rows : List Row) (pair : Pair) (own : ℕ) (peer : Option ℕ) (now : ℕ) (d : Segment) (p : v.Finding) → v.judge rows pair own peer None now d ≡ v.Admit p → p.number ≡ d.sequence
+number_first rows pair own peer now d p e = subst (Numbers d) e (numbers rows pair own peer now d)
+
+-- ---- sockets
+
+and_is : (a b : Bool) → a ≡ true → b ≡ true → (a && b) ≡ true
+and_is a b p q = rw (p, q) refl
+
+by_test : (b : Bool) → (b ≡ true → ⊥) → false ≡ b
+by_test true h = absurd (h refl)
+by_test false h = refl
+
+both_true : (a b : Bool) → (a && b) ≡ true → (a ≡ true) × (b ≡ true)
+both_true true b e = (refl, e)
+both_true false b e = absurd (cc)
+
+same_address_is : (one two : Address) → same_address one two ≡ true → one ≡ two
+same_address_is (V4 a) (V4 b) e = ap V4 (same_bytes_tells a b e)
+same_address_is (V6 a) (V6 b) e = ap V6 (same_bytes_tells a b e)
+same_address_is (V4 a) (V6 b) e = absurd (cc)
+same_address_is (V6 a) (V4 b) e = absurd (cc)
+
+port_is : (a b : ℕ) → (a == b) ≡ true → a ≡ b
+port_is a b e = grind (arith, nat_tests)
+
+port_same : (a : ℕ) → (a == a) ≡ true
+port_same a = grind (arith, nat_tests)
+
+pub same_socket_is : (one two : Socket) → same_socket one two ≡ true → one ≡ two
+same_socket_is one two e =
+    let t = both_true (same_address one.address two.address) (one.port == two.port) e in
+    let address = same_address_is one.address two.address t.0 in
+    let port = port_is one.port two.port t.1 in
+    let half : one ≡ record { address = two.address; port = one.port } = ap (λ (a : Address). let k : Socket = record { address = a; port = one.port } in k) address in
+    half ∙ ap (λ (n : ℕ). let k : Socket = record { address = two.address; port = n } in k) port
+
+same_bytes_own : (xs : List ℕ) → same_bytes xs xs ≡ true
+same_bytes_own [] = refl
+same_bytes_own (x ∷ xs) = let a = port_same x in let b = same_bytes_own xs in and_is (x == x) (same_bytes xs xs) a b
+
+same_address_own : (a : Address) → same_address a a ≡ true
+same_address_own (V4 b) = same_bytes_own b
+same_address_own (V6 b) = same_bytes_own b
+
+same_socket_own : (s : Socket) → same_socket s s ≡ true
+same_socket_own s = and_is (same_address s.address s.address) (s.port == s.port) (same_address_own s.address) (port_same s.port)
+
+-- a test of equality is the book's
+pub socket_test : (b : Bool) (one two : Socket) → (b ≡ true → one ≡ two) → (one ≡ two → b ≡ true) → b ≡ same_socket one two
+socket_test true one two f g = sym (subst (λ z. same_socket one z ≡ true) (f refl) (same_socket_own one))
+socket_test false one two f g = by_test (same_socket one two) (λ t. let h = g (same_socket_is one two t) in absurd (cc))

@@ -1,0 +1,99 @@
+-- An arrival that the check judged.
+use Rattle.std.proofs.Common.{◌≡◌, ℕ, ◌+◌, ◌<◌, ◌≤◌, Bool, true, false, not, List, Option, Some, None, refl, sym, ap, ◌∙◌, subst}
+use Rattle.std.specs.Prelude.{◌&&◌, if◌then◌else◌, is_some, ⊤}
+use Rattle.ao_base.specs.declared.address.Pair.{Pair}
+use Rattle.segment_model.specs.Segments.{Segment, Reading, Read, reading, good, has}
+use Rattle.key_model.specs.Rows.{Row}
+use Rattle.endpoint_model.specs.States as states
+use Rattle.endpoint_model.specs.Verdicts as v
+use Rattle.endpoint_model.specs.Arrivals as book
+use Rattle.ao_check.specs.Bonds.{Bond}
+use Rattle.ao_check.specs.Verdicts.{Names, Tells}
+use Rattle.endpoint_model.specs.declared.verdict.Passed.{Passed}
+use Rattle.endpoint_model.specs.declared.verdict.Verdict.{Verdict}
+use Rattle.endpoint_model.specs.declared.verdict.Verdict.TheVariants as checked
+use Rattle.endpoint_model.specs.declared.arrival.Arrival.{Arrival}
+use Rattle.endpoint_model.specs.declared.arrival.Arrival.TheVariants as answers
+use Rattle.tcp_endpoint.specs.declared.arrival.Arrived.{Arrived}
+use Rattle.tcp_endpoint.specs.declared.endpoint.Endpoint.{Endpoint}
+use Rattle.tcp_endpoint.specs.Numbers.{expected_in}
+use Rattle.tcp_endpoint.specs.Ends.{Stands}
+use Rattle.tcp_endpoint.specs.Arriving.{Reaches, Arrives, rnext_of, rnext_in}
+
+third : {X : Type 0} (a b c : Bool) (w x y z : X) → a ≡ true → b ≡ true → c ≡ false → (if not a then w else (if not b then x else (if c then y else z))) ≡ z
+third a b c w x y z p q r = rw (p, q, r) refl
+
+judged : (rows : List Row) (pair : Pair) (now : ℕ) (s : states.EndState) (d : Segment) (w : v.Judgement) → book.from_peer pair d ≡ true → good d ≡ true → states.is_closed s.phase ≡ false → book.judged_by rows pair now s d ≡ w
+    → book.arrive rows pair now s (Read d) ≡ book.arrive_judged rows pair now s d w
+unfolding book.arrive
+judged rows pair now s d w a b c e =
+    third (book.from_peer pair d) (good d) (states.is_closed s.phase) (book.unmoved s answers.Foreign) (book.unmoved s answers.Checksum) (book.unmoved s answers.Closed) (book.arrive_judged rows pair now s d (book.judged_by rows pair now s d)) a b c
+    ∙ ap (λ z. book.arrive_judged rows pair now s d z) e
+
+check_move : (pair : Pair) (rows : List Row) (s : states.EndState) (d : Segment) (now id key n number : ℕ) → id ≡ key → n ≡ number
+    → book.after_check pair s (book.heard rows pair now s id) d n now s.phase ≡ book.after_check pair s (book.heard rows pair now s key) d number now s.phase
+check_move pair rows s d now id key n number p q =
+    ap (λ z. book.after_check pair s (book.heard rows pair now s z) d n now s.phase) p ∙ ap (λ z. book.after_check pair s (book.heard rows pair now s key) d z now s.phase) q
+
+pub arrives_pass : (rows : List Row) (pair : Pair) (now : ℕ) (s : states.EndState) (bytes : List ℕ) (d : Segment) (entry : v.Finding) (e : Endpoint) (a : Arrival) (p : Passed) (id n : ℕ)
+    → reading bytes ≡ Read d → book.from_peer pair d ≡ true → good d ≡ true → states.is_closed s.phase ≡ false → book.judged_by rows pair now s d ≡ v.Admit entry → id ≡ entry.rnext_key_id → n ≡ entry.number
+    → Reaches e a (book.after_check pair s (book.heard rows pair now s id) d n now s.phase) → Names rows pair d p entry
+    → Arrives rows pair (reading bytes) e (record { arrival = a; passed = Some p }) (book.arrive rows pair now s (reading bytes))
+arrives_pass rows pair now s bytes d entry e a p id n r peer right alive j i m reach names =
+    let there = subst (λ z. Reaches e a z) (check_move pair rows s d now id entry.rnext_key_id n entry.number i m) reach in
+    let at : Arrives rows pair (Read d) e (record { arrival = a; passed = Some p }) (book.arrive_judged rows pair now s d (v.Admit entry)) = record { stands = there.stands; answer = there.answer_is; passed = names } in
+    subst (λ z. Arrives rows pair z e (record { arrival = a; passed = Some p }) (book.arrive rows pair now s z)) (sym r)
+    (subst (λ z. Arrives rows pair (Read d) e (record { arrival = a; passed = Some p }) z) (sym (judged rows pair now s d (v.Admit entry) peer right alive j)) at)
+
+refused_at : (rows : List Row) (pair : Pair) (now : ℕ) (s : states.EndState) (bytes : List ℕ) (d : Segment) (e : Endpoint) (w : Verdict)
+    → reading bytes ≡ Read d → book.from_peer pair d ≡ true → good d ≡ true → states.is_closed s.phase ≡ false → book.judged_by rows pair now s d ≡ v.Refuse w
+    → Stands e s
+    → Arrives rows pair (reading bytes) e (record { arrival = answers.Refused w; passed = None }) (book.arrive rows pair now s (reading bytes))
+refused_at rows pair now s bytes d e w r peer right alive j st =
+    let at : Arrives rows pair (Read d) e (record { arrival = answers.Refused w; passed = None }) (book.arrive_judged rows pair now s d (v.Refuse w)) = record { stands = st; answer = refl; passed = tt } in
+    subst (λ z. Arrives rows pair z e (record { arrival = answers.Refused w; passed = None }) (book.arrive rows pair now s z)) (sym r)
+    (subst (λ z. Arrives rows pair (Read d) e (record { arrival = answers.Refused w; passed = None }) z) (sym (judged rows pair now s d (v.Refuse w) peer right alive j)) at)
+
+pub arrives_refused : {e : Endpoint} (rows : List Row) (pair : Pair) (now : ℕ) (s : states.EndState) (bytes : List ℕ) (d : Segment) (w : Verdict) (told : Arrived) → told ≡ record { arrival = answers.Refused w; passed = None }
+    → reading bytes ≡ Read d → book.from_peer pair d ≡ true → good d ≡ true → states.is_closed s.phase ≡ false → book.judged_by rows pair now s d ≡ v.Refuse w
+    → Stands e s → Arrives rows pair (reading bytes) e told (book.arrive rows pair now s (reading bytes))
+arrives_refused {e} rows pair now s bytes d w told q r peer right alive j st =
+    subst (λ z. Arrives rows pair (reading bytes) e z (book.arrive rows pair now s (reading bytes))) (sym q) (refused_at rows pair now s bytes d e w r peer right alive j st)
+
+pub refused_by : (rows : List Row) (pair : Pair) (d : Segment) (c : Verdict) (w : v.Judgement) → ((x : Passed) → c ≡ checked.Pass x → ⊥) → Tells rows pair d c w → w ≡ v.Refuse c
+refused_by rows pair d (checked.Pass x) w n t = absurd (n x refl)
+refused_by rows pair d checked.NoAo w n t = t
+refused_by rows pair d checked.TwoAo w n t = t
+refused_by rows pair d checked.WithMd5 w n t = t
+refused_by rows pair d checked.NoTuple w n t = t
+refused_by rows pair d checked.Expired w n t = t
+refused_by rows pair d checked.MacLength w n t = t
+refused_by rows pair d checked.NoContext w n t = t
+refused_by rows pair d checked.Range w n t = t
+refused_by rows pair d checked.BadMac w n t = t
+
+expected_case : (peer_isn : Option ℕ) (s : states.EndState) (o : Option ℕ) → (is_some peer_isn ≡ true → o ≡ Some s.expected) → (is_some peer_isn ≡ false → o ≡ None) → o ≡ book.number_expected s peer_isn
+expected_case None s o some none = none refl
+expected_case (Some q) s o some none = some refl
+
+judge_move : (rows : List Row) (p q : Pair) (own isn : ℕ) (peer peer_isn o x : Option ℕ) (now : ℕ) (d : Segment) → p ≡ q → own ≡ isn → peer ≡ peer_isn → o ≡ x → v.judge rows p own peer o now d ≡ v.judge rows q isn peer_isn x now d
+judge_move rows p q own isn peer peer_isn o x now d a b c e =
+    ap (λ z. v.judge rows z own peer o now d) a ∙ ap (λ z. v.judge rows q z peer o now d) b ∙ ap (λ z. v.judge rows q isn z o now d) c ∙ ap (λ z. v.judge rows q isn peer_isn z now d) e
+
+-- the check's verdict is the end's
+pub judged_is : (rows : List Row) (e : Endpoint) (s : states.EndState) (now : ℕ) (d : Segment) (o : Option ℕ) → Stands e s
+    → (is_some e.sequence.received ≡ true → o ≡ Some (expected_in e.sequence.received)) → (is_some e.sequence.received ≡ false → o ≡ None)
+    → v.judge rows e.association.pair e.association.own e.association.peer o now d ≡ book.judged_by rows e.pair now s d
+judged_is rows e s now d o h some none =
+    let same : is_some e.sequence.received ≡ is_some s.peer_isn = e.receives.same ∙ ap is_some h.peer_isn in
+    judge_move rows e.association.pair e.pair e.association.own s.isn e.association.peer s.peer_isn o (book.number_expected s s.peer_isn) now d e.bound.pair (e.bound.own ∙ h.isn) (e.bound.peer ∙ h.peer_isn)
+    (expected_case s.peer_isn s o (λ t. some (same ∙ t) ∙ ap Some h.expected) (λ t. none (same ∙ t)))
+
+pub rnext_is : (rows : List Row) (pair : Pair) (d : Segment) (p : Passed) (entry : v.Finding) → Names rows pair d p entry → rnext_of d ≡ entry.rnext_key_id
+rnext_is rows pair d p entry names = ap rnext_in names.found ∙ sym (ap (λ z. z.rnext_key_id) names.entry_is)
+
+pub number_is : (rows : List Row) (pair : Pair) (d : Segment) (p : Passed) (entry : v.Finding) → Names rows pair d p entry → p.number ≡ entry.number
+number_is rows pair d p entry names = sym (ap (λ z. z.number) names.entry_is)
+
+pub checked_stands : (e : Endpoint) (a : Bond) (s : states.EndState) → Stands e s → a.current ≡ e.association.current → a.current ≡ s.current
+checked_stands e a s h c = c ∙ h.current

@@ -1,0 +1,44 @@
+-- A segment that passed, by the phase.
+use Rattle.std.proofs.Common.{◌≡◌, ℕ, ◌+◌, Bool, true, false, Option, refl, sym, ap, ◌∙◌, subst}
+use Rattle.std.specs.Prelude.{if◌then◌else◌}
+use Rattle.ao_base.specs.declared.address.Pair.{Pair}
+use Rattle.segment_model.specs.Segments.{Segment, has, RST, segment_length}
+use Rattle.endpoint_model.specs.declared.phase.Phase.{Phase}
+use Rattle.endpoint_model.specs.declared.phase.Phase.TheVariants.{Listen, SynSent, SynReceived, Established, FinWait1, FinWait2, CloseWait, Closing, LastAck, TimeWait, Closed}
+use Rattle.endpoint_model.specs.States as states
+use Rattle.endpoint_model.specs.declared.arrival.Arrival.TheVariants as answers
+use Rattle.endpoint_model.specs.Arrivals as book
+use Rattle.tcp_endpoint.specs.Halves.{waits}
+
+pub not_waiting : (p : Phase) → (p ≡ Listen → ⊥) → (p ≡ SynSent → ⊥) → waits p ≡ false
+not_waiting Listen a b = absurd (a refl)
+not_waiting SynSent a b = absurd (b refl)
+not_waiting SynReceived a b = refl
+not_waiting Established a b = refl
+not_waiting FinWait1 a b = refl
+not_waiting FinWait2 a b = refl
+not_waiting CloseWait a b = refl
+not_waiting Closing a b = refl
+not_waiting LastAck a b = refl
+not_waiting TimeWait a b = refl
+not_waiting Closed a b = refl
+
+-- where the peer is known
+abbrev pub known_check : states.EndState → states.EndState → Segment → ℕ → ℕ → Bool → book.Moved
+known_check s f d n now b = if b then book.ordinary s f d n now else book.answered (if has RST d then s else book.owing s) answers.Window
+
+pub known_is : (pair : Pair) (s f : states.EndState) (d : Segment) (n now : ℕ) (p : Phase) (b : Bool) → waits p ≡ false → book.fits_window n (segment_length d) s.expected (states.window s) ≡ b → book.after_check pair s f d n now p ≡ known_check s f d n now b
+known_is pair s f d n now Listen b w t = absurd (cc)
+known_is pair s f d n now SynSent b w t = absurd (cc)
+known_is pair s f d n now SynReceived b w t = ap (known_check s f d n now) t
+known_is pair s f d n now Established b w t = ap (known_check s f d n now) t
+known_is pair s f d n now FinWait1 b w t = ap (known_check s f d n now) t
+known_is pair s f d n now FinWait2 b w t = ap (known_check s f d n now) t
+known_is pair s f d n now CloseWait b w t = ap (known_check s f d n now) t
+known_is pair s f d n now Closing b w t = ap (known_check s f d n now) t
+known_is pair s f d n now LastAck b w t = ap (known_check s f d n now) t
+known_is pair s f d n now TimeWait b w t = ap (known_check s f d n now) t
+known_is pair s f d n now Closed b w t = ap (known_check s f d n now) t
+
+pub window_move : (n l k x y w v : ℕ) → l ≡ k → x ≡ y → w ≡ v → book.fits_window n l x w ≡ book.fits_window n k y v
+window_move n l k x y w v p q r = ap (λ z. book.fits_window n z x w) p ∙ ap (λ z. book.fits_window n k z w) q ∙ ap (λ z. book.fits_window n k y z) r

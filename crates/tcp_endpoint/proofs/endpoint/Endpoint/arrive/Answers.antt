@@ -1,0 +1,111 @@
+use Rattle.std.proofs.Common.{◌≡◌, ℕ, ◌+◌, ◌≤◌, true, false, Option, Some, None, refl, sym, ap, ◌∙◌, subst, arith}
+use Rattle.segment_model.specs.Segments.{Read, reading}
+use Rattle.endpoint_model.specs.Verdicts as v
+use Rattle.endpoint_model.specs.Arrivals as book
+use Rattle.ao_check.specs.Verdicts.{Names}
+use Rattle.tcp_endpoint.specs.Ends.{Stands}
+use Rattle.tcp_endpoint.specs.Arriving.{Arrives}
+use Rattle.tcp_endpoint.proofs.ReadyLaws.{nothing_known}
+use Rattle.tcp_endpoint.proofs.JudgeLaws.{number_first}
+use Rattle.tcp_endpoint.proofs.PassLaws.{arrives_pass, arrives_refused, refused_by, judged_is, rnext_is, number_is}
+use Rattle.tcp_endpoint.proofs.endpoint.Endpoint.arrive.Goals as goal
+
+pub returns-in_default : goal.returns-in_default
+returns-in_default g c =
+    let e = c.args.self.now in
+    let d = c.in-Ok.datagram in
+    let rows = c.args.table.now.rows in
+    record {
+      arrives = λ s h.
+          let told = refused_by rows e.association.pair d c.check.result _ c.in_default.not-Pass c.check.ensures.verdict in
+          let judged = sym (judged_is rows e s c.args.now d c.expected_of-expected.result h c.expected_of-expected.ensures.some c.expected_of-expected.ensures.none) ∙ told in
+          arrives_refused rows e.pair c.args.now s c.args.bytes.now d c.check.result c.without-in_default.result c.without-in_default.ensures c.in-Ok.ensures.read (sym c.if-not-is_from_peer.ensures.told) (sym c.if-not-checksum_ok.ensures) (ap Rattle.endpoint_model.specs.States.is_closed (sym h.phase) ∙ sym c.if-is_closed.ensures) judged
+          (record {
+            phase = h.phase;
+            isn = h.isn;
+            peer_isn = h.peer_isn;
+            una = h.una;
+            next = h.next;
+            send_window = h.send_window;
+            wl1 = h.wl1;
+            wl2 = h.wl2;
+            expected = h.expected;
+            fin = h.fin;
+            given = h.given;
+            queue = h.queue;
+            taken = h.taken;
+            bytes = h.bytes;
+            ack_owed = h.ack_owed;
+            closing = h.closing;
+            rst_owed = h.rst_owed;
+            mss = h.mss;
+            deadline = h.deadline;
+            current = ap (λ b. b.current) c.check.ensures.same ∙ h.current;
+          });
+      unchanged = λ _. record {
+        association = c.check.ensures.same;
+        pair = refl;
+        isn = refl;
+        peer_isn = refl;
+        sequence = refl;
+        send_window = refl;
+        given = refl;
+        taken = refl;
+        phase = refl;
+        ack_owed = refl;
+        closing = refl;
+        rst_owed = refl;
+        mss = refl;
+        deadline = refl;
+        queue = refl;
+        reassembly = refl;
+      };
+      pair = refl;
+      fits = c.check.ensures.fits;
+      steps = omega (arith, c.check.ensures.counted.most);
+    }
+
+pub hear-arrival-requires-clause-number : goal.hear-arrival-requires-clause-number
+hear-arrival-requires-clause-number g c = λ w.
+    let e = c.args.self.now in
+    let d = c.in-Ok.datagram in
+    let told = c.in-Pass.ensures.verdict in
+    let none = c.expected_of-expected.ensures.none (nothing_known e w) in
+    let pass = subst (λ x. v.judge c.args.table.now.rows e.association.pair e.association.own e.association.peer x c.args.now d ≡ v.Admit told.0) none told.1 in
+    number_is c.args.table.now.rows e.association.pair d c.in-Pass.passed told.0 told.2 ∙ number_first c.args.table.now.rows e.association.pair e.association.own e.association.peer c.args.now d told.0 pass
+
+pub returns-clause-arrives : goal.returns-clause-arrives
+returns-clause-arrives g c = λ s h.
+    let e = c.args.self.now in
+    let d = c.in-Ok.datagram in
+    let rows = c.args.table.now.rows in
+    let told = c.in-Pass.ensures.verdict in
+    let judged = sym (judged_is rows e s c.args.now d c.expected_of-expected.result h c.expected_of-expected.ensures.some c.expected_of-expected.ensures.none) ∙ told.1 in
+    let reach = c.hear-arrival.ensures.reaches s (record {
+      phase = h.phase;
+      isn = h.isn;
+      peer_isn = h.peer_isn;
+      una = h.una;
+      next = h.next;
+      send_window = h.send_window;
+      wl1 = h.wl1;
+      wl2 = h.wl2;
+      expected = h.expected;
+      fin = h.fin;
+      given = h.given;
+      queue = h.queue;
+      taken = h.taken;
+      bytes = h.bytes;
+      ack_owed = h.ack_owed;
+      closing = h.closing;
+      rst_owed = h.rst_owed;
+      mss = h.mss;
+      deadline = h.deadline;
+      current = ap (λ b. b.current) c.check.ensures.same ∙ h.current;
+    }) in
+    arrives_pass rows e.pair c.args.now s c.args.bytes.now d told.0 c.hear-arrival.new.self c.hear-arrival.result c.in-Pass.passed c.rnext_of-rnext.result c.in-Pass.passed.number
+    c.in-Ok.ensures.read (sym c.if-not-is_from_peer.ensures.told) (sym c.if-not-checksum_ok.ensures) (ap Rattle.endpoint_model.specs.States.is_closed (sym h.phase) ∙ sym c.if-is_closed.ensures) judged
+    (c.rnext_of-rnext.ensures ∙ rnext_is rows e.association.pair d c.in-Pass.passed told.0 told.2)
+    (number_is rows e.association.pair d c.in-Pass.passed told.0 told.2)
+    reach
+    (subst (λ z. Names rows z d c.in-Pass.passed told.0) e.bound.pair told.2)

@@ -1,0 +1,31 @@
+use Rattle.std.proofs.Common.{◌≡◌, ℕ, ◌+◌, ◌≤◌, true, false, refl, sym, ap, ◌∙◌, subst, arith}
+use Rattle.std.specs.Prelude.{if◌then◌else◌}
+use Rattle.segment_model.specs.Segments.{has, RST}
+use Rattle.ao_check.specs.Bonds.{Fits}
+use Rattle.endpoint_model.specs.declared.arrival.Arrival.TheVariants as answers
+use Rattle.endpoint_model.specs.Arrivals as book
+use Rattle.tcp_endpoint.specs.Ends.{Stands}
+use Rattle.tcp_endpoint.specs.Arriving.{Reaches}
+use Rattle.tcp_endpoint.proofs.ReadyLaws.{window_is}
+use Rattle.tcp_endpoint.proofs.HearLaws.{reaches_of}
+use Rattle.tcp_endpoint.proofs.PhaseLaws.{not_waiting, known_is, window_move}
+use Rattle.tcp_endpoint.proofs.endpoint.Endpoint.hear.Goals as goal
+
+pub returns-then-not-is_acceptable : goal.returns-then-not-is_acceptable
+returns-then-not-is_acceptable g c = record {
+  reaches = λ s h.
+      let e = c.args.self.now in
+      let d = c.args.datagram.now in
+      let n = c.args.number in
+      let f = book.heard c.args.table.now.rows e.pair c.args.now s c.args.rnext in
+      let wide = c.from-window.ensures ∙ c.window.ensures ∙ sym (window_is e s h) in
+      let test = sym (window_move n c.length_of.result _ c.expected_in-x.result s.expected c.from-window.result _ c.length_of.ensures.length (c.expected_in-x.ensures ∙ h.expected) wide) ∙ sym c.if-not-is_acceptable.ensures in
+      reaches_of (if has RST d then s else book.owing s) answers.Window
+      (known_is e.pair s f d n c.args.now s.phase false (ap Rattle.tcp_endpoint.specs.Halves.waits (sym h.phase) ∙ not_waiting e.phase c.in_default.not-Listen c.in_default.not-SynSent) test)
+      (subst (λ b. Stands c.owe_unless.new.self (if b then s else book.owing s)) c.has.ensures (c.owe_unless.ensures.stands s h))
+      refl;
+  unchanged = λ b. absurd b;
+  pair = c.owe_unless.ensures.pair;
+  fits = λ k. subst (λ b. Fits c.args.table.now.rows b) (sym c.owe_unless.ensures.bond) k;
+  steps = omega arith;
+}

@@ -1,0 +1,57 @@
+-- What an end answers to an arrival, as the definitions answer.
+use Rattle.std.specs.Prelude.{◌≡◌, ◌+◌, ◌≤◌, ◌<◌, ◌^◌, true, length, ℕ, List, Option, Some, None, ⊤}
+use Rattle.ao_base.specs.declared.address.Pair.{Pair}
+use Rattle.segment_model.specs.Options as options
+use Rattle.segment_model.specs.Segments.{Reading, Read, Segment, has, FIN, segment_length}
+use Rattle.key_model.specs.Rows.{Row}
+use Rattle.endpoint_model.specs.declared.verdict.Passed.{Passed}
+use Rattle.endpoint_model.specs.declared.arrival.Arrival.{Arrival}
+use Rattle.endpoint_model.specs.declared.arrival.Arrival.TheVariants as answers
+use Rattle.endpoint_model.specs.Verdicts.{Finding}
+use Rattle.endpoint_model.specs.Arrivals as book
+use Rattle.ao_check.specs.Verdicts.{Names}
+use Rattle.tcp_endpoint.specs.declared.arrival.Arrived.{Arrived}
+use Rattle.tcp_endpoint.specs.declared.endpoint.Endpoint.{Endpoint}
+use Rattle.tcp_endpoint.specs.Ends.{Stands}
+
+-- the end stands for the state that was reached, and the answer is that one
+pub record Reaches (e : Endpoint) (answer : Arrival) (m : book.Moved) : Type 0 where
+  pub stands : Stands e m.state
+  pub answer_is : answer ≡ m.answer
+
+-- the segment at this number ends at 2^63 at most
+pub record InRange (d : Segment) (n : ℕ) : Type 0 where
+  pub payload : n + length d.payload ≤ 2 ^ 63
+  pub fin : has FIN d ≡ true → n + length d.payload < 2 ^ 63
+  pub whole : n + segment_length d ≤ 2 ^ 63
+
+-- the RNextKeyID of one TCP-AO option
+abbrev pub rnext_in : options.AoFound → ℕ
+rnext_in (options.One ao) = ao.rnext_key_id
+rnext_in _ = 0
+
+-- the RNextKeyID of a segment
+abbrev pub rnext_of : Segment → ℕ
+rnext_of d = rnext_in (options.find_ao d.area)
+
+-- what is told of a segment that passed names what the check found
+abbrev pub TellsPassed : List Row → Pair → Reading → Option Passed → Option Finding → Type 0
+TellsPassed rows pair r None None = ⊤
+TellsPassed rows pair (Read d) (Some p) (Some found) = Names rows pair d p found
+TellsPassed rows pair r _ _ = ⊥
+
+-- the end stands for the state after the arrival, answers as it is answered, and tells what passed
+pub record Arrives (rows : List Row) (pair : Pair) (r : Reading) (e : Endpoint) (told : Arrived) (m : book.Arrived) : Type 0 where
+  pub stands : Stands e m.state
+  pub answer : told.arrival ≡ m.answer
+  pub passed : TellsPassed rows pair r told.passed m.passed
+
+-- the answers after which all that an end stands for is as it was
+abbrev pub LeavesAll : Arrival → Type 0
+LeavesAll (answers.Bad fault) = ⊤
+LeavesAll answers.Foreign = ⊤
+LeavesAll answers.Checksum = ⊤
+LeavesAll answers.Closed = ⊤
+LeavesAll (answers.Refused why) = ⊤
+LeavesAll answers.Unexpected = ⊤
+LeavesAll _ = ⊥

@@ -1,0 +1,119 @@
+//! An arrival.
+ghost use Rattle.std.specs.Prelude.{◌≡◌, ◌+◌, ◌≤◌, ℕ, Option, Some, None, true, false, is_some};
+ghost use Rattle.ao_base.specs.declared.address.Socket.{Socket};
+ghost use Rattle.segment_model.specs.Options.{One, find_ao};
+ghost use Rattle.segment_model.specs.Sockets.{same_socket};
+ghost use Rattle.segment_model.specs.Segments.{reading};
+ghost use Rattle.endpoint_model.specs.States.{EndState};
+ghost use Rattle.endpoint_model.specs.Arrivals as book;
+ghost use Rattle.key_model.specs.Lifetimes.{greatest_time};
+ghost use Rattle.ao_check.specs.Verdicts.{IsExpected};
+ghost use Rattle.tcp_endpoint.specs.Numbers.{expected_in};
+ghost use Rattle.tcp_endpoint.specs.Ends.{Stands, FitsEnd, IsUnmoved};
+ghost use Rattle.tcp_endpoint.specs.Arriving.{Arrives, LeavesAll, rnext_of};
+
+use crate::arrival::Arrived;
+use crate::endpoint::Endpoint;
+use crate::phases::is_closed;
+use crate::sequence::Received;
+use ao_base::{Pair, Socket, Steps};
+use endpoint_model::{Arrival, Verdict};
+use key_table::Table;
+use std::sync::ledger::Ledger;
+use tcp_options::AoFound;
+use tcp_segment::{Datagram, read_datagram};
+
+/// Whether two sockets are the same.
+fn is_same_socket(one: &Socket, other: &Socket) -> bool
+    ensures told { result ≡ same_socket one.now other.now }
+    ensures same { result ≡ true → one.now ≡ other.now }
+{
+    one == other
+}
+
+/// Whether the sockets are the pair's seen from the other end.
+fn is_from_peer(pair: &Pair, datagram: &Datagram<'_>) -> bool
+    ensures told { result ≡ book.from_peer pair.now datagram.now }
+    ensures source { result ≡ true → datagram.now.source ≡ pair.now.remote }
+    ensures destination { result ≡ true → datagram.now.destination ≡ pair.now.local }
+{
+    is_same_socket(&datagram.source(), &pair.remote)
+        && is_same_socket(&datagram.destination(), &pair.local)
+}
+
+/// The number expected, once something is known of the peer.
+fn expected_of(received: Option<Received>) -> Option<u64>
+    ensures some { is_some received ≡ true → result ≡ Some (expected_in received) }
+    ensures none { is_some received ≡ false → result ≡ None }
+{
+    match received {
+        Some(received) => Some(received.expected.value()),
+        None => None,
+    }
+}
+
+/// The RNextKeyID of a segment with one TCP-AO option.
+fn rnext_of(datagram: &Datagram<'_>) -> u8
+    ensures { result ≡ rnext_of datagram.now }
+{
+    let _length = datagram.length();
+    match datagram.options().find_ao() {
+        AoFound::One(ao) => ao.rnext,
+        AoFound::Absent => 0,
+        AoFound::Two => 0,
+        AoFound::WithMd5 => 0,
+    }
+}
+
+impl Endpoint {
+    /// A datagram arrives at `now`, in seconds since 1970 and at most LATEST: the first answer that
+    /// holds (RFC 9293, section 3.10.7; RFC 5925, section 7.5). After `Bad`, `Foreign`, `Checksum`,
+    /// `Closed`, `Refused` and `Unexpected` all that the end stands for is as before; a traffic key
+    /// that the check derived may be kept. At most 66 steps are counted: one derivation, and the
+    /// links that a piece walks among the received runs.
+    #[tactic(auto, unfolding(endpoint_model::specs::Arrivals::arrive))]
+    pub fn arrive<L: Ledger>(
+        &mut self,
+        table: &Table,
+        now: u64,
+        bytes: &[u8],
+        steps: &mut Steps<L>,
+    ) -> Arrived
+        requires fits { FitsEnd table.now.rows self.old }
+        requires now { now ≤ greatest_time }
+        ensures arrives { (s : EndState) → Stands self.old s
+            → Arrives table.now.rows self.old.pair (reading bytes.now) self.new result (book.arrive table.now.rows self.old.pair now s (reading bytes.now)) }
+        ensures unchanged { LeavesAll result.arrival → IsUnmoved self.old self.new }
+        ensures pair { self.new.pair ≡ self.old.pair }
+        ensures fits { FitsEnd table.now.rows self.new }
+        ensures steps { steps.new ≤ steps.old + 66 }
+    {
+        let datagram = match read_datagram(bytes) {
+            Ok(datagram) => datagram,
+            Err(fault) => return Arrived::without(Arrival::Bad(fault)),
+        };
+        if !is_from_peer(&self.pair, &datagram) {
+            return Arrived::without(Arrival::Foreign);
+        }
+        if !datagram.checksum_ok() {
+            return Arrived::without(Arrival::Checksum);
+        }
+        if is_closed(self.phase) {
+            return Arrived::without(Arrival::Closed);
+        }
+        let expected = expected_of(self.sequence.received);
+        let passed = match self
+            .association
+            .check(table, now, expected, &datagram, steps)
+        {
+            Verdict::Pass(passed) => passed,
+            verdict => return Arrived::without(Arrival::Refused(verdict)),
+        };
+        let rnext = rnext_of(&datagram);
+        let arrival = self.hear(table, &datagram, passed.number, rnext, now, steps);
+        Arrived {
+            arrival,
+            passed: Some(passed),
+        }
+    }
+}

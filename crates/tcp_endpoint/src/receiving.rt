@@ -1,0 +1,162 @@
+//! Payload and FIN of an acceptable segment.
+ghost use Rattle.std.specs.Prelude.{◌≡◌, ◌+◌, ◌-◌, ◌≤◌, ◌<◌, ◌^◌, ◌==◌, ◌&&◌, ◌||◌, not, nat_le, nat_lt, ℕ, Option, Some, None, true, false, is_some, length, if◌then◌else◌};
+ghost use Rattle.wrap_seq.specs.Counter.{number};
+ghost use Rattle.segment_model.specs.Segments.{has, FIN};
+ghost use Rattle.endpoint_model.specs.States.{EndState, hears};
+ghost use Rattle.endpoint_model.specs.Arrivals as book;
+ghost use Rattle.tcp_endpoint.specs.Numbers.{value_in};
+ghost use Rattle.tcp_endpoint.specs.Ends.{Stands};
+ghost use Rattle.tcp_endpoint.specs.Arriving.{Reaches, LeavesAll};
+ghost use Rattle.tcp_endpoint.specs.Fins.{is_at, past_or, phase_past};
+
+use crate::endpoint::Endpoint;
+use crate::flags::{FIN, has};
+use crate::sequence::Received;
+use ao_base::Steps;
+use endpoint_model::{Arrival, Phase};
+use std::sync::ledger::Ledger;
+use tcp_segment::Datagram;
+use wrap_seq::Counter;
+
+/// How long TIME-WAIT lasts, in seconds (RFC 9293, section 3.4.2).
+const REST: u64 = 240;
+
+/// The value of a counter, where there is one.
+fn value_in(counter: Option<Counter>) -> Option<u64>
+    ensures { result ≡ value_in counter }
+{
+    match counter {
+        Some(counter) => Some(counter.value()),
+        None => None,
+    }
+}
+
+/// A counter at a value, where there is one.
+fn counter_in(value: Option<u64>) -> Option<Counter>
+    ensures { value_in result ≡ value }
+{
+    match value {
+        Some(value) => Some(Counter::of(value)),
+        None => None,
+    }
+}
+
+/// The FIN that is recorded: the first stays.
+fn fin_then(fin: Option<u64>, records: bool, new: u64) -> Option<u64>
+    ensures { result ≡ book.fin_of fin records new }
+{
+    match fin {
+        Some(fin) => Some(fin),
+        None => { if records { Some(new) } else { None } }
+    }
+}
+
+/// Whether a FIN stands at a number.
+fn is_at(fin: Option<u64>, x: u64) -> bool
+    ensures { result ≡ is_at fin x }
+{
+    match fin {
+        Some(fin) => fin == x,
+        None => false,
+    }
+}
+
+/// The number behind one, where it is passed.
+fn past_or(passes: bool, x: u64) -> u64
+    requires { x < 2 ^ 64 - 1 }
+    ensures { result ≡ past_or passes x }
+{
+    if passes { x + 1 } else { x }
+}
+
+/// The phase, once the peer's FIN is passed.
+fn phase_past(passes: bool, phase: Phase) -> Phase
+    ensures { result ≡ phase_past passes phase }
+{
+    if !passes {
+        return phase;
+    }
+    match phase {
+        Phase::Established => Phase::CloseWait,
+        Phase::FinWait1 => Phase::Closing,
+        Phase::FinWait2 => Phase::TimeWait,
+        _ => phase,
+    }
+}
+
+/// Whether a FIN at a number is recorded, from the flag, the window and whether a byte is kept at or
+/// past it.
+fn is_heard(fin: bool, at: u64, x: u64, window: u64, kept: bool) -> bool
+    requires { x + window < 2 ^ 64 }
+    ensures { result ≡ (fin && book.within at x (x + window) && not kept) }
+{
+    fin && x <= at && at < x + window && !kept
+}
+
+impl Endpoint {
+    /// Entering TIME-WAIT sets its deadline (RFC 9293, section 3.4.2).
+    pub(crate) fn rest(&mut self, now: u64)
+        requires { now < 2 ^ 63 }
+        ensures stands { (s : EndState) → Stands self.old s → Stands self.new (book.rested s now s.phase s.deadline) }
+        ensures bond { self.new.association ≡ self.old.association }
+        ensures pair { self.new.pair ≡ self.old.pair }
+    {
+        match self.phase {
+            Phase::TimeWait => match self.deadline {
+                Some(_) => {}
+                None => self.deadline = Some(now + REST),
+            },
+            _ => {}
+        }
+    }
+
+    /// Payload and FIN are heard (RFC 9293, section 3.10.7.4).
+    pub(crate) fn hear_data<L: Ledger>(
+        &mut self,
+        datagram: &Datagram<'_>,
+        number: u64,
+        now: u64,
+        steps: &mut Steps<L>,
+    ) -> Arrival
+        requires hears { hears self.old.phase ≡ true }
+        requires range { number + length datagram.now.payload ≤ 2 ^ 63 }
+        requires last { has FIN datagram.now ≡ true → number + length datagram.now.payload < 2 ^ 63 }
+        requires now { now < 2 ^ 63 }
+        ensures reaches { (s : EndState) → Stands self.old s → Reaches self.new result (book.hear_data s datagram.now number now true) }
+        ensures bond { self.new.association ≡ self.old.association }
+        ensures told { LeavesAll result → ⊥ }
+        ensures pair { self.new.pair ≡ self.old.pair }
+        ensures steps { steps.new ≤ steps.old + 65 }
+    {
+        let received = match self.sequence.received {
+            Some(received) => received,
+            None => return Arrival::Taken,
+        };
+        let payload = datagram.payload();
+        let x = self.reassembly.expected();
+        let window = u64::from(self.reassembly.window());
+        self.ack_owed = true;
+        match self
+            .reassembly
+            .keep(number, payload, value_in(received.fin), steps)
+        {
+            Ok(()) => {}
+            Err(_) => return Arrival::TooManyRuns,
+        }
+        let end = number + payload.len() as u64;
+        let kept = self.reassembly.kept_from(end);
+        let records = is_heard(has(datagram, FIN), end, x, window, kept);
+        let fin = fin_then(value_in(received.fin), records, end);
+        let reached = self.reassembly.expected();
+        let passes = is_at(fin, reached);
+        self.sequence.received = Some(Received {
+            expected: Counter::of(past_or(passes, reached)),
+            wl1: received.wl1,
+            wl2: received.wl2,
+            fin: counter_in(fin),
+        });
+        self.phase = phase_past(passes, self.phase);
+        self.rest(now);
+        Arrival::Taken
+    }
+}
