@@ -137,33 +137,6 @@ none_made kept (Making m ∷ past) at f (front, last, e, name, is, front_keeps) 
     none_made front past at f front_keeps (λ i k x g. none i k x (ap (λ xs. slice_get xs i) e ∙ get_front front last k i g)) in
     before ∙ ap (λ b. b || was_made at f past) here
 
--- ---- forgeries
-
-forged_is : (r : Came) (at : End) (f : Finding) (history : List Happening) → r.at ≡ at → r.passed ≡ Some f
-    → forged r.at r.passed history ≡ (if was_made at f history then 0 else 1)
-forged_is r at f history a p = ap (λ (e : End). forged e r.passed history) a ∙ ap (λ o. forged at o history) p
-
--- what came, and was made
-pub stands_made : (log new : Log) (history : List Happening) (r : Came) (at : End) (f : Finding) → r.at ≡ at → r.passed ≡ Some f
-    → StandsLog log history → true ≡ was_made at f history → new.kept ≡ log.kept → new.forgeries ≡ log.forgeries → StandsLog new (Coming r ∷ history)
-stands_made log new history r at f a p h w made same =
-    let none : forged r.at r.passed history ≡ 0 = forged_is r at f history a p ∙ ap (λ (b : Bool). let n : ℕ = if b then 0 else 1 in n) (sym w) in
-    record { keeps = subst (λ xs. Keeps xs history) (ap (λ v. v.items) (sym made)) h.keeps; count = omega (arith, none, h.count, same) }
-
--- what came, and was not made
-pub stands_forged : (log new : Log) (history : List Happening) (r : Came) (at : End) (f : Finding) → r.at ≡ at → r.passed ≡ Some f
-    → StandsLog log history → false ≡ was_made at f history → new.kept ≡ log.kept → new.forgeries ≡ log.forgeries + 1 → StandsLog new (Coming r ∷ history)
-stands_forged log new history r at f a p h w made same =
-    let one : forged r.at r.passed history ≡ 1 = forged_is r at f history a p ∙ ap (λ (b : Bool). let n : ℕ = if b then 0 else 1 in n) (sym w) in
-    record { keeps = subst (λ xs. Keeps xs history) (ap (λ v. v.items) (sym made)) h.keeps; count = omega (arith, one, h.count, same) }
-
--- what came and did not pass
-pub stands_unpassed : (log new : Log) (history : List Happening) (r : Came) → StandsLog log history → r.passed ≡ None → new.kept ≡ log.kept
-    → new.forgeries ≡ log.forgeries → StandsLog new (Coming r ∷ history)
-stands_unpassed log new history r h passed made same =
-    let none : forged r.at r.passed history ≡ 0 = ap (λ o. forged r.at o history) passed in
-    record { keeps = subst (λ xs. Keeps xs history) (ap (λ v. v.items) (sym made)) h.keeps; count = omega (arith, none, h.count, same) }
-
 -- ---- one more entry
 
 -- an entry of what is told of a segment that was made

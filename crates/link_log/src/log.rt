@@ -1,8 +1,9 @@
 //! Everything that was made, and how many forgeries were counted.
-ghost use Rattle.std.specs.Prelude.{◌≡◌, ◌↔◌, ◌+◌, ◌<◌, ◌≤◌, ℕ, suc, List, [], ◌∷◌, length, IsSome, Some, None, MatchOption, OnOk, OnErr};
+ghost use Rattle.std.specs.Prelude.{◌≡◌, ◌↔◌, ◌+◌, ◌<◌, ◌≤◌, ℕ, suc, List, [], ◌∷◌, length, Option, Some, None, MatchOption, OnOk};
 ghost use Rattle.endpoint_model.specs.Verdicts.{Finding};
+ghost use Rattle.segment_model.specs.Segments.{bit_of};
 ghost use Rattle.segment_model.specs.Spelling.{AreBytes};
-ghost use Rattle.link_model.specs.Worlds.{Made, Came, Happening, Making, Coming, segment_named, segments, forgeries, was_made};
+ghost use Rattle.link_model.specs.Worlds.{Made, Came, Happening, Making, Coming, segment_named, segments, forged as forged_by, forgeries, was_made};
 ghost use Rattle.link_log.specs.Entries.{ComesAs, IsEntry, IsMade, PassesUnder};
 ghost use Rattle.link_log.specs.Numbers.{AreLinked};
 
@@ -177,20 +178,31 @@ impl Log {
         false
     }
 
-    /// Takes notice of a datagram that came to an end, with what the check found where it passed: it
-    /// is a forgery where the other end had made no segment with the same algorithm, master key,
-    /// context and MAC input. Fewer than 2^32 - 1 forgeries are counted.
-    pub fn came(&mut self, at: End, bytes: &[u8], entrance: Option<Entrance<'_>>)
+    /// Whether a datagram that came to an end, with what the check found where it passed, is a forgery:
+    /// the other end had made no segment with the same algorithm, master key, context and MAC input.
+    pub fn is_forged(&self, at: End, bytes: &[u8], entrance: Option<Entrance<'_>>) -> bool
+        ensures { (history : List Happening) (passed : Option Finding) → StandsLog self.now history → ComesAs bytes.now entrance.entry passed
+            → forged_by at passed history ≡ bit_of result }
+    {
+        match entrance {
+            None => false,
+            Some(entrance) => match read_datagram(bytes) {
+                Err(_) => false,
+                Ok(datagram) => !self.was_made(at, &entrance, &datagram),
+            },
+        }
+    }
+
+    /// Takes notice of a datagram that came to an end, and whether it is a forgery. Fewer than 2^32 - 1
+    /// forgeries are counted.
+    pub fn count(&mut self, forged: bool)
         requires { forgery_count self.old < 4294967295 }
-        ensures stands { (history : List Happening) (r : Came) → StandsLog self.old history → r.at ≡ at → ComesAs bytes.now entrance.entry r.passed
+        ensures stands { (history : List Happening) (r : Came) → StandsLog self.old history → forged_by r.at r.passed history ≡ bit_of forged
             → StandsLog self.new (Coming r ∷ history) }
         ensures made { made_count self.new ≡ made_count self.old }
         ensures most { forgery_count self.new ≤ forgery_count self.old + 1 }
     {
-        if let Some(entrance) = entrance
-            && let Ok(datagram) = read_datagram(bytes)
-            && !self.was_made(at, &entrance, &datagram)
-        {
+        if forged {
             self.forgeries += 1;
         }
     }
