@@ -9,18 +9,35 @@ ghost use Rattle.ao_run.specs.Stops.{Makes};
 use crate::stop::{Output, Stop};
 use format_model::Plan;
 use key_table::Tables;
+use key_texts::{keys_text, lint_lines};
 use std::alloc::Global;
 
 /// The rows of all nodes with their state at a time.
 pub(crate) fn list_keys(alloc: Global, tables: &Tables, time: u64) -> Result<Output, Stop>
     ensures { Makes result (done false (keys_text time tables.now)) }
 {
-    Err(Stop::Memory)
+    let bytes = keys_text(alloc, tables, time)?;
+    Ok(Output { status: 0, bytes })
 }
 
 /// A line for each connection of the text; status 1 where one isn't aligned.
-pub(crate) fn judge(alloc: Global, tables: &Tables, plan: Plan, text: &[u8]) -> Result<Output, Stop>
+#[tactic(auto, using(crate::proofs::LintLaws::judged_makes, crate::proofs::LintLaws::refused_makes))]
+pub(crate) fn judge(
+    alloc: Global,
+    tables: &Tables,
+    plan: Plan,
+    text: &[u8],
+) -> Result<Output, Stop>
     ensures { Makes result (if_read (linted tables.now plan) (said_in connection_of text.now)) }
 {
-    Err(Stop::Memory)
+    match lint_lines(alloc, tables, plan, text) {
+        Ok(judged) => {
+            let status = if judged.has_misfit { 1 } else { 0 };
+            Ok(Output {
+                status,
+                bytes: judged.text,
+            })
+        }
+        Err(fault) => Err(Stop::of_input(alloc, &fault)),
+    }
 }

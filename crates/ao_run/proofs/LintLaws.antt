@@ -1,0 +1,58 @@
+-- The judgement on connections as the answer of `lint`.
+use Rattle.std.proofs.Common.{◌≡◌, ℕ, ◌<◌, Bool, true, false, List, [], Result, Ok, Err, refl, ap, arith, ◌∙◌}
+use Rattle.ao_base.specs.declared.address.Pair.{Pair}
+use Rattle.key_model.specs.Rows.{Table}
+use Rattle.line_model.specs.declared.text_fault.TextFault.{TextFault}
+use Rattle.line_model.specs.declared.text_fault.TextFault.TheVariants as text_fault
+use Rattle.line_model.specs.Faults.{fault_text}
+use Rattle.line_model.specs.Said.{Said, said_in}
+use Rattle.line_model.specs.Words.{◌>>=◌}
+use Rattle.text_lines.specs.Readings.{Fails}
+use Rattle.format_model.specs.declared.command.Plan.{Plan}
+use Rattle.format_model.specs.Answers.{Answer, done, if_read, linted, refuse}
+use Rattle.format_model.specs.LintTexts.{connection_of, has_misfit, lint_text}
+use Rattle.key_texts.specs.declared.judged.Judged.{Judged}
+use Rattle.key_texts.specs.Judgements.{judgements}
+use Rattle.ao_run.specs.declared.stop.Stop.{Stop}
+use Rattle.ao_run.specs.declared.stop.Stop.TheVariants.{Memory}
+use Rattle.ao_run.specs.Stops.{Makes, Stopped}
+use Rattle.ao_run.proofs.Gathering.{refused_makes as refused}
+
+abbrev judging : List Table → Plan → Result (List (Said Pair)) TextFault → Result Judged TextFault
+judging tables plan r = r >>= λ said. Ok (record { text = lint_text tables plan said; has_misfit = has_misfit tables plan said })
+
+made_of : (tables : List Table) (plan : Plan) (r : Result (List (Said Pair)) TextFault) (j : Judged) → judging tables plan r ≡ Ok j →
+    if_read (linted tables plan) r ≡ done j.has_misfit j.text
+made_of tables plan (Err e) j is = absurd (cc)
+made_of tables plan (Ok said) j is =
+    let same : record { text = lint_text tables plan said; has_misfit = has_misfit tables plan said } ≡ j = cc in
+    ap (λ (x : Judged). done x.has_misfit x.text) same
+
+-- the judgements are the answer
+pub judged_makes : (tables : List Table) (plan : Plan) (text : List ℕ) (j : Judged) → judgements tables plan text ≡ Ok j →
+    if_read (linted tables plan) (said_in connection_of text) ≡ done j.has_misfit j.text
+unfolding judgements
+judged_makes tables plan text j is = made_of tables plan (said_in connection_of text) j is
+
+fault_of : (tables : List Table) (plan : Plan) (r : Result (List (Said Pair)) TextFault) (e : TextFault) → judging tables plan r ≡ Err e → r ≡ Err e
+fault_of tables plan (Err f) e is = let same : f ≡ e = cc in ap (λ (x : TextFault). Err x) same
+fault_of tables plan (Ok said) e is = absurd (cc)
+
+fails : (tables : List Table) (plan : Plan) (r : Result (List (Said Pair)) TextFault) (e : TextFault) → Fails e (judging tables plan r) → Fails e r
+fails tables plan r text_fault.Memory f = tt
+fails tables plan r text_fault.TooManyLines f = fault_of tables plan r text_fault.TooManyLines f
+fails tables plan r (text_fault.Line n kind) f = fault_of tables plan r (text_fault.Line n kind) f
+
+-- a text without judgements has no output
+pub refused_makes : (tables : List Table) (plan : Plan) (text : List ℕ) (e : TextFault) (stop : Stop) → Fails e (judgements tables plan text) →
+    Stopped stop (refuse 4 (fault_text e)) → (e ≡ text_fault.Memory → stop ≡ Memory) → Makes (Err stop) (if_read (linted tables plan) (said_in connection_of text))
+unfolding judgements
+refused_makes tables plan text e stop f stopped none =
+    refused (said_in connection_of text) (linted tables plan) e stop (fails tables plan (said_in connection_of text) e f) stopped none
+
+-- the status says whether something is amiss
+pub amiss_ends : (a : Answer) (b : Bool) (text : List ℕ) (s : ℕ) → a ≡ done b text → b ≡ true → s ≡ 1 → (a ≡ record { status = s; output = text; text = [] }) × (s < 2)
+amiss_ends a b text s is h e = (is ∙ rw (h, e) refl, omega (arith, e))
+
+pub well_ends : (a : Answer) (b : Bool) (text : List ℕ) (s : ℕ) → a ≡ done b text → b ≡ false → s ≡ 0 → (a ≡ record { status = s; output = text; text = [] }) × (s < 2)
+well_ends a b text s is h e = (is ∙ rw (h, e) refl, omega (arith, e))
