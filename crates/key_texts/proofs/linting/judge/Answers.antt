@@ -1,4 +1,4 @@
-use Rattle.std.proofs.Common.{◌∙◌, ◌||◌, not, [], false, ap, sym}
+use Rattle.std.proofs.Common.{◌∙◌, ◌||◌, not, [], false, ap}
 use Rattle.std.proofs.lemmas.Result.{err_from_is_err_and}
 use Rattle.line_model.specs.Said.{said_by}
 use Rattle.format_model.specs.LintTexts.{connection_of, is_aligned}

@@ -1,5 +1,4 @@
 use Rattle.std.proofs.Common.{arith}
-use Rattle.ao_base.specs.Lines.{lines_of}
 use Rattle.line_model.specs.Lines.{saying_lines}
 use Rattle.key_texts.proofs.JudgedLaws.{never_too_many}
 use Rattle.key_texts.proofs.linting.lint_lines.Goals as goal
