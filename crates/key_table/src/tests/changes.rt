@@ -1,6 +1,6 @@
 //! Rows that are added and withdrawn.
-use crate::tests::{PAIR, two_nodes};
-use crate::{Accept, AddRefusal, Direction, Lifetime, NewRow, NoRow, Table, read_tables};
+use crate::tests::{PAIR, both_tables};
+use crate::{Accept, AddRefusal, Direction, Lifetime, NewRow, NoRow, Table};
 use ao_base::{Address, Algorithm, Bytes};
 use std::alloc::Global;
 use std::test::Fail;
@@ -32,9 +32,7 @@ fn add(
 
 #[test]
 fn a_row_is_added_to_one_node_alone(rt: HostRuntime) -> Result<(), Fail> {
-    let mut tables = read_tables(rt.alloc(), two_nodes().as_bytes())
-        .ok()
-        .ok_or("refused")?;
+    let mut tables = both_tables(rt.alloc())?;
     assert_eq!(rt;
         tables.table_mut(&Address::V4([10, 0, 0, 3])).is_none(),
         true

@@ -1,17 +1,24 @@
 //! Tables that were read, times, and gaps.
-use crate::tests::{PAIR, two_nodes, with_row};
-use crate::{Accept, Direction, Lifetime, Table, Tables, first_gap, read_tables, read_time};
+use crate::tests::{PAIR, both_tables, tables_with_row};
+use crate::{Accept, Direction, Lifetime, Table, Tables, first_gap, read_time};
 use ao_base::{Address, Algorithm};
 use std::test::Fail;
 
 #[test]
 fn two_nodes_are_read(rt: HostRuntime) -> Result<(), Fail> {
-    let tables = read_tables(rt.alloc(), two_nodes().as_bytes())
-        .ok()
-        .ok_or("refused")?;
+    let tables = both_tables(rt.alloc())?;
     assert_eq!(rt; tables.nodes(), 2);
     let table = tables.table(&Address::V4([10, 0, 0, 2])).ok_or("no node")?;
     assert_eq!(rt; table.name(), b"r2".as_slice());
+    assert_eq!(rt; table.rows(), 1);
+    assert_eq!(rt; tables.table(&Address::V4([10, 0, 0, 3])).is_none(), true);
+    Ok(())
+}
+
+#[test]
+fn all_columns_of_a_row_are_read(rt: HostRuntime) -> Result<(), Fail> {
+    let tables = both_tables(rt.alloc())?;
+    let table = tables.table(&PAIR.local.address).ok_or("no node")?;
     assert_eq!(rt; table.rows(), 1);
     let row = table.row(1);
     assert_eq!(rt; (row.send_id(), row.recv_id()), (1, 1));
@@ -34,15 +41,12 @@ fn two_nodes_are_read(rt: HostRuntime) -> Result<(), Fail> {
         }
     );
     assert_eq!(rt; row.matches(&PAIR), true);
-    assert_eq!(rt; tables.table(&Address::V4([10, 0, 0, 3])).is_none(), true);
     Ok(())
 }
 
 #[test]
 fn a_row_is_found_to_its_last_second(rt: HostRuntime) -> Result<(), Fail> {
-    let tables = read_tables(rt.alloc(), two_nodes().as_bytes())
-        .ok()
-        .ok_or("refused")?;
+    let tables = both_tables(rt.alloc())?;
     let table = tables.table(&PAIR.local.address).ok_or("no node")?;
     assert_eq!(rt; table.send_row(&PAIR, 3600), Some(1));
     assert_eq!(rt; table.send_row(&PAIR, 3601), None);
@@ -59,10 +63,7 @@ fn a_row_is_found_to_its_last_second(rt: HostRuntime) -> Result<(), Fail> {
 fn the_later_start_is_chosen_and_ties_go_to_the_lowest(rt: HostRuntime) -> Result<(), Fail> {
     let columns =
         "LocalKeyName = \"2\"\nPeerKeyName = \"2\"\nSendLifetimeStart = \"19700101005000Z\"\n";
-    let text = with_row(rt.alloc(), columns)?;
-    let tables = read_tables(rt.alloc(), text.as_bytes())
-        .ok()
-        .ok_or("refused")?;
+    let tables = tables_with_row(rt.alloc(), columns)?;
     let table = tables.table(&PAIR.local.address).ok_or("no node")?;
     assert_eq!(rt; table.send_row(&PAIR, 2999), Some(1));
     assert_eq!(rt; table.send_row(&PAIR, 3000), Some(2));
@@ -80,6 +81,12 @@ fn a_shared_key_makes_two_tables(rt: HostRuntime) -> Result<(), Fail> {
     assert_eq!(rt; table.name(), b"b".as_slice());
     assert_eq!(rt; table.send_row(&PAIR, 253_402_300_799), Some(1));
     assert_eq!(rt; table.accept_row(&PAIR, 0, 0), Accept::Row(1));
+    Ok(())
+}
+
+#[test]
+fn an_empty_table_has_an_address_alone(rt: HostRuntime) -> Result<(), Fail> {
+    let a = Address::V4([10, 0, 0, 1]);
     let empty = Table::empty(rt.alloc(), a);
     assert_eq!(rt;
         (empty.rows(), empty.address(), empty.name().len()),

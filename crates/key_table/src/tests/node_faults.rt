@@ -1,6 +1,7 @@
 //! Files and nodes with a fault, and rows that overlap.
-use crate::tests::{fault_of, longer, with_row};
+use crate::tests::{fault_of, fault_of_longer, fault_with_row};
 use crate::{Column, TableFault, read_tables};
+use std::alloc::{AllocError, Global};
 use std::test::Fail;
 
 /// What a node may not hold.
@@ -86,33 +87,56 @@ fn whole_files_have_their_faults(rt: HostRuntime) -> Result<(), Fail> {
     Ok(())
 }
 
+// What is wrong with a file of so many nodes without a column.
+fn fault_of_nodes(alloc: Global, count: usize) -> Result<Option<TableFault>, AllocError> {
+    let nodes = "{},".repeat(alloc, count)?;
+    let text = format!(in alloc; "node = [{nodes}]")?;
+    Ok(read_tables(alloc, text.as_bytes()).err())
+}
+
 #[test]
-fn a_17th_node_and_a_65th_row_are_too_many(rt: HostRuntime) -> Result<(), Fail> {
-    let nodes = "{},".repeat(rt.alloc(), 17)?;
-    let text = format!(in rt.alloc(); "node = [{nodes}]")?;
-    let fault = read_tables(rt.alloc(), text.as_bytes()).err();
+fn a_17th_node_is_too_many(rt: HostRuntime) -> Result<(), Fail> {
+    let fault = fault_of_nodes(rt.alloc(), 17)?;
     assert_eq!(rt; fault, Some(TableFault::TooMany(0)));
-    let rows = "{},".repeat(rt.alloc(), 65)?;
-    let node = format!(in rt.alloc();
+    Ok(())
+}
+
+// What is wrong with the two nodes and a third one of so many rows without a column.
+fn fault_of_rows(alloc: Global, count: usize) -> Result<Option<TableFault>, AllocError> {
+    let rows = "{},".repeat(alloc, count)?;
+    let node = format!(in alloc;
         "[[node]]\nname = \"r3\"\naddress = \"10.0.0.3\"\nkey = [{rows}]"
     )?;
-    let text = longer(rt.alloc(), node.as_str())?;
-    let fault = read_tables(rt.alloc(), text.as_bytes()).err();
+    fault_of_longer(alloc, node.as_str())
+}
+
+#[test]
+fn a_65th_row_is_too_many(rt: HostRuntime) -> Result<(), Fail> {
+    let fault = fault_of_rows(rt.alloc(), 65)?;
     assert_eq!(rt; fault, Some(TableFault::TooMany(3)));
     Ok(())
 }
 
+/// Columns of a row that overlaps the first one by a second, and of one that comes a second later.
+const COMMON: &str =
+    "LocalKeyName = \"1\"\nPeerKeyName = \"2\"\nAcceptLifetimeStart = \"19700101010100Z\"";
+
+const LATER: &str =
+    "LocalKeyName = \"1\"\nPeerKeyName = \"2\"\nAcceptLifetimeStart = \"19700101010101Z\"";
+
+fn common() -> &'static str {
+    COMMON
+}
+
+fn later() -> &'static str {
+    LATER
+}
+
 #[test]
 fn rows_overlap_by_one_common_second(rt: HostRuntime) -> Result<(), Fail> {
-    let columns =
-        "LocalKeyName = \"1\"\nPeerKeyName = \"2\"\nAcceptLifetimeStart = \"19700101010100Z\"";
-    let text = with_row(rt.alloc(), columns)?;
-    let fault = read_tables(rt.alloc(), text.as_bytes()).err();
+    let fault = fault_with_row(rt.alloc(), common())?;
     assert_eq!(rt; fault, Some(TableFault::Overlap(2, 1, 2)));
-    let columns =
-        "LocalKeyName = \"1\"\nPeerKeyName = \"2\"\nAcceptLifetimeStart = \"19700101010101Z\"";
-    let text = with_row(rt.alloc(), columns)?;
-    let fault = read_tables(rt.alloc(), text.as_bytes()).err();
+    let fault = fault_with_row(rt.alloc(), later())?;
     assert_eq!(rt; fault, None);
     Ok(())
 }
@@ -121,8 +145,7 @@ fn rows_overlap_by_one_common_second(rt: HostRuntime) -> Result<(), Fail> {
 #[test]
 fn a_fault_of_a_later_node_comes_before_an_overlap(rt: HostRuntime) -> Result<(), Fail> {
     let columns = "LocalKeyName = \"1\"\nPeerKeyName = \"1\"\n[[node]]\nname = \"r 3\"";
-    let text = with_row(rt.alloc(), columns)?;
-    let fault = read_tables(rt.alloc(), text.as_bytes()).err();
+    let fault = fault_with_row(rt.alloc(), columns)?;
     assert_eq!(rt; fault, Some(TableFault::Field(3, 0, Column::Name)));
     Ok(())
 }
