@@ -267,6 +267,7 @@ same_answer (Some c) keys keys2 input input2 k i = first ∙ second
       | inl holds ↦ ap (λ (x : List ℕ). answer_of_today (Some c) x input) (k holds)
       | inr lacks ↦ keys_unread c keys keys2 input lacks
     ]
+
     second : answer_of_today (Some c) keys2 input ≡ answer_of_today (Some c) keys2 input2
     second = elim (either (reads_input c)) [
       | inl holds ↦ ap (λ (x : List ℕ). answer_of_today (Some c) keys2 x) (i holds)

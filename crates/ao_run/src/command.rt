@@ -30,13 +30,7 @@ fn up_to(most: u64, word: &[u8]) -> Option<u64>
     ensures { result ≡ up_to most word.now }
 {
     match read_decimal(word) {
-        Some(n) => {
-            if n <= most {
-                Some(n)
-            } else {
-                None
-            }
-        }
+        Some(n) => { if n <= most { Some(n) } else { None } }
         None => None,
     }
 }

@@ -20,7 +20,11 @@ use std::alloc::Global;
 const MOST_KEYS: u64 = 1_048_576;
 
 /// The tables of the key file, where the command reads it.
-fn tables_for<K: Source>(alloc: Global, command: Command, keys: &mut K) -> Result<Option<Tables>, Stop>
+fn tables_for<K: Source>(
+    alloc: Global,
+    command: Command,
+    keys: &mut K,
+) -> Result<Option<Tables>, Stop>
     ensures { (k : List ℕ) × KeysGathered command k (K.side keys.old) (K.side keys.new) result }
 {
     if !reads_keys(command) {
@@ -54,7 +58,12 @@ fn input_for<I: Source>(alloc: Global, command: Command, input: &mut I) -> Resul
 }
 
 /// The output of a command over its tables to an input within its limit.
-fn answer(alloc: Global, command: Command, tables: Option<&Tables>, input: &[u8]) -> Result<Output, Stop>
+fn answer(
+    alloc: Global,
+    command: Command,
+    tables: Option<&Tables>,
+    input: &[u8],
+) -> Result<Output, Stop>
     requires built { is_built command ≡ true }
     requires tables { is_some tables ≡ reads_keys command }
     ensures { Makes result (over_today command (tables_in (option_map (λ t. t.now) tables.entry)) input.now) }

@@ -22,12 +22,7 @@ pub(crate) fn list_keys(alloc: Global, tables: &Tables, time: u64) -> Result<Out
 
 /// A line for each connection of the text; status 1 where one isn't aligned.
 #[tactic(auto, using(crate::proofs::LintLaws::judged_makes, crate::proofs::LintLaws::refused_makes))]
-pub(crate) fn judge(
-    alloc: Global,
-    tables: &Tables,
-    plan: Plan,
-    text: &[u8],
-) -> Result<Output, Stop>
+pub(crate) fn judge(alloc: Global, tables: &Tables, plan: Plan, text: &[u8]) -> Result<Output, Stop>
     ensures { Makes result (if_read (linted tables.now plan) (said_in connection_of text.now)) }
 {
     match lint_lines(alloc, tables, plan, text) {

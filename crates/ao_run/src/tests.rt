@@ -14,11 +14,11 @@ use std::test::Fail;
 #[derive(Clone, Copy)]
 struct Case<'a> {
     words: &'a [&'a [u8]],
-    keys: &'a str,
-    input: &'a str,
+    keys: &'a [u8],
+    input: &'a [u8],
     status: u8,
-    out: &'a str,
-    err: &'a str,
+    out: &'a [u8],
+    err: &'a [u8],
 }
 
 /// The words of a command line.
@@ -44,18 +44,18 @@ fn sink(alloc: Global) -> Result<MemSink, AllocError> {
 /// Runs the case, and compares what it left.
 fn expect(alloc: Global, case: Case<'_>) -> Result<(), Fail> {
     let words = words_of(alloc, case.words)?;
-    let mut keys = source_of(alloc, case.keys.as_bytes())?;
-    let mut input = source_of(alloc, case.input.as_bytes())?;
+    let mut keys = source_of(alloc, case.keys)?;
+    let mut input = source_of(alloc, case.input)?;
     let mut out = sink(alloc)?;
     let mut err = sink(alloc)?;
     let status = run(alloc, &words, &mut keys, &mut input, &mut out, &mut err);
     if status != case.status {
         return Err(Fail::from(status));
     }
-    if out.bytes() != case.out.as_bytes() {
+    if out.bytes() != case.out {
         return Err(Fail::from(std::str::from_utf8(out.bytes())));
     }
-    if err.bytes() != case.err.as_bytes() {
+    if err.bytes() != case.err {
         return Err(Fail::from(std::str::from_utf8(err.bytes())));
     }
     Ok(())
