@@ -1,7 +1,6 @@
 -- A printed event is read back from its words.
-use Rattle.std.proofs.Common.{◌≡◌, ℕ, ◌≤◌, ◌^◌, ◌<◌, Bool, List, [], ◌∷◌, decimal, codes, Ok, refl, arith, lit<}
+use Rattle.std.proofs.Common.{◌≡◌, ℕ, ◌≤◌, ◌^◌, ◌<◌, Bool, List, [], ◌∷◌, decimal, Ok, refl, arith, lit<}
 use Rattle.ao_base.specs.declared.end.End.{End}
-use Rattle.ao_base.specs.declared.line_kind.LineKind.{LineKind}
 use Rattle.ao_base.specs.Algorithms.{name_of}
 use Rattle.ao_base.specs.Hexadecimal.{hex_of}
 use Rattle.key_model.specs.Lifetimes.{greatest_time}
@@ -12,8 +11,6 @@ use Rattle.link_model.specs.declared.event.Event.{Event}
 use Rattle.link_model.specs.declared.event.Event.TheVariants as event
 use Rattle.format_model.specs.LinkEvents.{greatest_isn, most_segments, end_of, number_of, event_of, event_named, start_of, give_of, fill_of, inject_of}
 use Rattle.format_model.specs.LinkEvents.{alter_of, add_of, dump_of}
-use Rattle.link_script.specs.declared.name.Name.{Name}
-use Rattle.link_script.specs.Names.{name_text}
 use Rattle.link_script.specs.Printed.{direction_text, event_words, fixing_text, flag_text, row_texts, use_texts}
 use Rattle.link_script.specs.Scripts.{IsEvent, IsRow, IsWithin}
 use Rattle.link_script.proofs.WordsBack.{end_back, algorithm_back, number_back, within_back, hex_back, some_hex_back, byte_back, fixing_back, flag_back}

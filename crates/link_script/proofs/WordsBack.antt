@@ -1,6 +1,6 @@
 -- Printed words are read back.
-use Rattle.std.proofs.Common.{◌≡◌, ℕ, zero, suc, lit<, ◌<◌, ◌≤◌, ◌^◌, ◌==◌, nat_le, nat_lt, Bool, true, false, List, [], ◌∷◌, length, decimal, codes}
-use Rattle.std.proofs.Common.{Option, Some, Ok, refl, arith}
+use Rattle.std.proofs.Common.{◌≡◌, ℕ, zero, suc, lit<, ◌<◌, ◌≤◌, ◌^◌, nat_le, nat_lt, Bool, true, false, List, [], ◌∷◌, length, decimal, codes}
+use Rattle.std.proofs.Common.{Some, Ok, refl, arith}
 use Rattle.std.proofs.lemmas.Bool.{le-leb, lt-ltb}
 use Rattle.hex.specs.Hex.{IsBytes}
 use Rattle.ao_base.specs.declared.address.Address.{Address}

@@ -143,7 +143,7 @@ fn push_events(out: &mut Vec<u8>, events: &[Event]) -> Result<(), AllocError>
 /// hexadecimal in lower case.
 ///
 /// The script is one that a link file can say: `IsScript` tells the ranges. The text is read again
-/// as this script, `with_keys` where it has no shared key.
+/// as this script, `with_keys` where it has no shared key. An error is want of memory.
 #[tactic(auto, unfolding(crate::specs::Printed::text_of, crate::specs::Printed::script_lines, crate::specs::Printed::lines_text))]
 pub fn print_script(alloc: Global, script: &Script) -> Result<Bytes, AllocError>
     requires { IsScript script.now }

@@ -1,4 +1,4 @@
-use Rattle.std.proofs.Common.{rules, ◌≡◌, sym}
+use Rattle.std.proofs.Common.{rules, sym}
 use Rattle.link_model.specs.declared.event.Event.TheVariants as event
 use Rattle.format_model.specs.LinkEvents.{event_named}
 use Rattle.link_script.proofs.line_events.named.Goals as goal
