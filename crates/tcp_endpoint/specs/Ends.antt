@@ -8,7 +8,7 @@ use Rattle.stream_buffers.specs.Kept.{byte_at}
 use Rattle.tcp_endpoint.specs.declared.endpoint.Endpoint.{Endpoint}
 use Rattle.tcp_endpoint.specs.Numbers.{expected_in, fin_in, wl1_in, wl2_in}
 
--- the end stands for the state: its numbers are the state's, its queue holds the given bytes that aren't acknowledged, and its reassembly the received bytes that aren't taken
+-- the end stands for the state: the same numbers; its queue holds the given bytes that aren't acknowledged, its reassembly the received bytes that aren't taken
 pub record Stands (e : Endpoint) (s : EndState) : Type 0 where
   pub phase : e.phase ≡ s.phase
   pub isn : e.isn ≡ s.isn

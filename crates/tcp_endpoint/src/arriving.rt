@@ -1,5 +1,6 @@
 //! A segment that passed the check.
-ghost use Rattle.std.specs.Prelude.{◌≡◌, ◌+◌, ◌-◌, ◌≤◌, ◌<◌, ◌^◌, ◌==◌, ◌&&◌, ◌||◌, not, nat_le, nat_lt, ℕ, List, Option, Some, None, true, false, is_some, length, if◌then◌else◌};
+ghost use Rattle.std.specs.Prelude.{◌≡◌, ◌+◌, ◌-◌, ◌≤◌, ◌<◌, ◌^◌, ◌==◌, ◌&&◌, ◌||◌, not, nat_le};
+ghost use Rattle.std.specs.Prelude.{nat_lt, ℕ, List, Option, Some, None, true, false, is_some, length, if◌then◌else◌};
 ghost use Rattle.wrap_seq.specs.Counter.{number};
 ghost use Rattle.segment_model.specs.Meant.{meant};
 ghost use Rattle.segment_model.specs.Segments.{has, FIN, segment_length};
@@ -30,23 +31,24 @@ fn is_within(number: u64, low: u64, high: u64) -> bool
     low <= number && number < high
 }
 
-/// Whether a segment at a number, of a length, is acceptable where `x` is expected and `window` may
+/// Whether a segment at a number, of a length, is acceptable where `expected` is the number expected and `window` may
 /// be received (RFC 9293, section 3.4).
-fn is_acceptable(number: u64, length: u64, x: u64, window: u64) -> bool
-    requires x { x + window < 2 ^ 64 }
+fn is_acceptable(number: u64, length: u64, expected: u64, window: u64) -> bool
+    requires expected { expected + window < 2 ^ 64 }
     requires end { number + length < 2 ^ 64 }
-    ensures { result ≡ book.fits_window number length x window }
+    ensures { result ≡ book.fits_window number length expected window }
 {
     if length == 0 {
         if window == 0 {
-            return number == x;
+            return number == expected;
         }
-        return is_within(number, x, x + window);
+        return is_within(number, expected, expected + window);
     }
     if window == 0 {
         return false;
     }
-    is_within(number, x, x + window) || is_within(number + (length - 1), x, x + window)
+    is_within(number, expected, expected + window)
+        || is_within(number + (length - 1), expected, expected + window)
 }
 
 /// How many numbers a segment takes (RFC 9293, section 3.4).
@@ -68,11 +70,11 @@ fn carries(datagram: &Datagram<'_>) -> bool
 }
 
 /// Whether a number that may be below 0 is above another.
-fn is_above(a: Option<u64>, n: u64) -> bool
-    ensures { result ≡ book.above a n }
+fn is_above(number: Option<u64>, bound: u64) -> bool
+    ensures { result ≡ book.above number bound }
 {
-    match a {
-        Some(a) => n < a,
+    match number {
+        Some(number) => bound < number,
         None => false,
     }
 }
@@ -136,7 +138,8 @@ impl Endpoint {
         requires opened { waits self.old.phase ≡ false }
         requires range { InRange datagram.now number }
         requires now { now < 2 ^ 63 }
-        ensures reaches { (s : EndState) → Stands self.old s → Reaches self.new result (book.acknowledged s datagram.now number now (meant datagram.now.acknowledgement s.una) s.phase) }
+        ensures reaches { (s : EndState) → Stands self.old s
+            → Reaches self.new result (book.acknowledged s datagram.now number now (meant datagram.now.acknowledgement s.una) s.phase) }
         ensures bond { self.new.association ≡ self.old.association }
         ensures told { LeavesAll result → ⊥ }
         ensures pair { self.new.pair ≡ self.old.pair }
@@ -225,7 +228,8 @@ impl Endpoint {
         requires number { waits self.old.phase ≡ true → number ≡ datagram.now.sequence }
         requires now { now < 2 ^ 63 }
         ensures reaches { (s : EndState) → Stands self.old s
-            → Reaches self.new result (book.after_check self.old.pair s (book.heard table.now.rows self.old.pair now s rnext) datagram.now number now s.phase) }
+            → Reaches self.new result (book.after_check self.old.pair s
+                (book.heard table.now.rows self.old.pair now s rnext) datagram.now number now s.phase) }
         ensures unchanged { LeavesAll result → self.new ≡ self.old }
         ensures pair { self.new.pair ≡ self.old.pair }
         ensures fits { Fits table.now.rows self.old.association → Fits table.now.rows self.new.association }
@@ -235,9 +239,9 @@ impl Endpoint {
             Phase::Listen => self.hear_syn(table, datagram, rnext, now),
             Phase::SynSent => self.hear_syn_ack(table, datagram, rnext, now),
             _ => {
-                let x = expected_in(self.sequence.received);
+                let expected = expected_in(self.sequence.received);
                 let window = u64::from(self.reassembly.window());
-                if !is_acceptable(number, length_of(datagram), x, window) {
+                if !is_acceptable(number, length_of(datagram), expected, window) {
                     self.owe_unless(has(datagram, RST));
                     return Arrival::Window;
                 }

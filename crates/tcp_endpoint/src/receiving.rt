@@ -1,5 +1,6 @@
 //! Payload and FIN of an acceptable segment.
-ghost use Rattle.std.specs.Prelude.{◌≡◌, ◌+◌, ◌-◌, ◌≤◌, ◌<◌, ◌^◌, ◌==◌, ◌&&◌, ◌||◌, not, nat_le, nat_lt, ℕ, Option, Some, None, true, false, is_some, length, if◌then◌else◌};
+ghost use Rattle.std.specs.Prelude.{◌≡◌, ◌+◌, ◌-◌, ◌≤◌, ◌<◌, ◌^◌, ◌==◌, ◌&&◌, ◌||◌, not};
+ghost use Rattle.std.specs.Prelude.{nat_le, nat_lt, ℕ, Option, Some, None, true, false, is_some, length, if◌then◌else◌};
 ghost use Rattle.wrap_seq.specs.Counter.{number};
 ghost use Rattle.segment_model.specs.Segments.{has, FIN};
 ghost use Rattle.endpoint_model.specs.States.{EndState, hears};
@@ -52,21 +53,21 @@ fn fin_then(fin: Option<u64>, records: bool, new: u64) -> Option<u64>
 }
 
 /// Whether a FIN stands at a number.
-fn is_at(fin: Option<u64>, x: u64) -> bool
-    ensures { result ≡ is_at fin x }
+fn is_at(fin: Option<u64>, number: u64) -> bool
+    ensures { result ≡ is_at fin number }
 {
     match fin {
-        Some(fin) => fin == x,
+        Some(fin) => fin == number,
         None => false,
     }
 }
 
 /// The number behind one, where it is passed.
-fn past_or(passes: bool, x: u64) -> u64
-    requires { x < 2 ^ 64 - 1 }
-    ensures { result ≡ past_or passes x }
+fn past_or(passes: bool, number: u64) -> u64
+    requires { number < 2 ^ 64 - 1 }
+    ensures { result ≡ past_or passes number }
 {
-    if passes { x + 1 } else { x }
+    if passes { number + 1 } else { number }
 }
 
 /// The phase, once the peer's FIN is passed.
@@ -86,11 +87,11 @@ fn phase_past(passes: bool, phase: Phase) -> Phase
 
 /// Whether a FIN at a number is recorded, from the flag, the window and whether a byte is kept at or
 /// past it.
-fn is_heard(fin: bool, at: u64, x: u64, window: u64, kept: bool) -> bool
-    requires { x + window < 2 ^ 64 }
-    ensures { result ≡ (fin && book.within at x (x + window) && not kept) }
+fn is_heard(fin: bool, at: u64, expected: u64, window: u64, kept: bool) -> bool
+    requires { expected + window < 2 ^ 64 }
+    ensures { result ≡ (fin && book.within at expected (expected + window) && not kept) }
 {
-    fin && x <= at && at < x + window && !kept
+    fin && expected <= at && at < expected + window && !kept
 }
 
 impl Endpoint {
@@ -133,7 +134,7 @@ impl Endpoint {
             None => return Arrival::Taken,
         };
         let payload = datagram.payload();
-        let x = self.reassembly.expected();
+        let expected = self.reassembly.expected();
         let window = u64::from(self.reassembly.window());
         self.ack_owed = true;
         match self
@@ -145,7 +146,7 @@ impl Endpoint {
         }
         let end = number + payload.len() as u64;
         let kept = self.reassembly.kept_from(end);
-        let records = is_heard(has(datagram, FIN), end, x, window, kept);
+        let records = is_heard(has(datagram, FIN), end, expected, window, kept);
         let fin = fin_then(value_in(received.fin), records, end);
         let reached = self.reassembly.expected();
         let passes = is_at(fin, reached);

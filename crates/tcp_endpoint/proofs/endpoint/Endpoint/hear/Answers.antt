@@ -19,7 +19,7 @@ returns-then-not-is_acceptable g c = record {
       let n = c.args.number in
       let f = book.heard c.args.table.now.rows e.pair c.args.now s c.args.rnext in
       let wide = c.from-window.ensures ∙ c.window.ensures ∙ sym (window_is e s h) in
-      let test = sym (window_move n c.length_of.result _ c.expected_in-x.result s.expected c.from-window.result _ c.length_of.ensures.length (c.expected_in-x.ensures ∙ h.expected) wide) ∙ sym c.if-not-is_acceptable.ensures in
+      let test = sym (window_move n c.length_of.result _ c.expected_in-expected.result s.expected c.from-window.result _ c.length_of.ensures.length (c.expected_in-expected.ensures ∙ h.expected) wide) ∙ sym c.if-not-is_acceptable.ensures in
       reaches_of (if has RST d then s else book.owing s) answers.Window
       (known_is e.pair s f d n c.args.now s.phase false (ap Rattle.tcp_endpoint.specs.Halves.waits (sym h.phase) ∙ not_waiting e.phase c.in_default.not-Listen c.in_default.not-SynSent) test)
       (subst (λ b. Stands c.owe_unless.new.self (if b then s else book.owing s)) c.has.ensures (c.owe_unless.ensures.stands s h))

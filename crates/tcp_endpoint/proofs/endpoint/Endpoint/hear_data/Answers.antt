@@ -16,7 +16,7 @@ pub returns-in-Err-clause-reaches : goal.returns-in-Err-clause-reaches
 returns-in-Err-clause-reaches g c = λ s h.
     let e = c.args.self.now in
     let f0 : value_in c.in-Some.received.fin ≡ s.fin = subst (λ z. fin_in z ≡ s.fin) c.in-Some.is h.fin in
-    let runs = runs_is e s h c.requires.hears c.args.datagram.now c.args.number c.value_in.result (c.value_in.ensures ∙ f0) c.expected-x.ensures.sound in
+    let runs = runs_is e s h c.requires.hears c.args.datagram.now c.args.number c.value_in.result (c.value_in.ensures ∙ f0) c.expected-expected.ensures.sound in
     let many = rw c.payload-payload.ensures.value at c.in-Err.ensures.variant.1 in
     reaches_of (book.owing s) answers.TooManyRuns (many_is s c.args.datagram.now c.args.number c.args.now (many_test _ _ runs many))
     (record {
@@ -59,9 +59,9 @@ invariant_of-self-2 g c =
       sends = sends_past c.is_at-passes.result e.phase c.phase_past-self.result _ _ _ _ _ _ c.requires.hears c.phase_past-self.ensures e.sends;
       receives =
           receives_heard e d n c.phase_past-self.result (number c.of.result) (missing_then e.reassembly (grown e.reassembly n d.payload c.value_in.result)) c.value_in.result (value_in c.counter_in.result) c.keep.new.self c.is_heard-records.result c.is_at-passes.result
-          c.requires.hears heard c.expected-x.ensures.sound c.expected-reached.ensures.sound (rw c.payload-payload.ensures.value at c.in-Ok.ensures.ok) (c.value_in.ensures ∙ old)
+          c.requires.hears heard c.expected-expected.ensures.sound c.expected-reached.ensures.sound (rw c.payload-payload.ensures.value at c.in-Ok.ensures.ok) (c.value_in.ensures ∙ old)
           (c.counter_in.ensures ∙ fin ∙ ap (λ z. book.fin_of z c.is_heard-records.result (n + length d.payload)) (c.value_in-2.ensures ∙ sym c.value_in.ensures))
-          (rec_is e.reassembly c.keep.new.self d n c.kept_from-kept.result c.has.result c.is_heard-records.result c.expected-x.result c.from-window.result kept.1 c.has.ensures c.expected-x.ensures.expected c.requires.last test)
+          (rec_is e.reassembly c.keep.new.self d n c.kept_from-kept.result c.has.result c.is_heard-records.result c.expected-expected.result c.from-window.result kept.1 c.has.ensures c.expected-expected.ensures.expected c.requires.last test)
           (past_move c.fin_then-fin.result (value_in c.counter_in.result) c.expected-reached.result c.keep.new.self.expected c.is_at-passes.result c.is_at-passes.ensures (sym c.counter_in.ensures) c.expected-reached.ensures.expected)
           c.phase_past-self.ensures
           (c.of.ensures ∙ c.past_or.ensures ∙ ap (λ z. past_or c.is_at-passes.result z) c.expected-reached.ensures.expected);
@@ -74,7 +74,7 @@ returns-clause-reaches g c = λ s h.
     let n = c.args.number in
     let f0 : value_in c.in-Some.received.fin ≡ s.fin = subst (λ z. fin_in z ≡ s.fin) c.in-Some.is h.fin in
     let q = c.value_in.ensures ∙ f0 in
-    let old = c.expected-x.ensures.sound in
+    let old = c.expected-expected.ensures.sound in
     let new = c.expected-reached.ensures.sound in
     let shows = rw c.payload-payload.ensures.value at c.in-Ok.ensures.ok in
     let runs = runs_is e s h c.requires.hears d n c.value_in.result q old in
@@ -83,7 +83,7 @@ returns-clause-reaches g c = λ s h.
     let heard = rw c.payload-payload.ensures.value at c.is_heard-records.ensures in
     let wide = c.from-window.ensures ∙ c.window.ensures in
     let missing = missing_then e.reassembly (grown e.reassembly n d.payload c.value_in.result) in
-    let records = recorded_is e s h c.requires.hears d n missing c.value_in.result q c.keep.new.self old new shows c.kept_from-kept.result c.has.result c.is_heard-records.result c.expected-x.result c.from-window.result kept c.has.ensures c.expected-x.ensures.expected wide heard in
+    let records = recorded_is e s h c.requires.hears d n missing c.value_in.result q c.keep.new.self old new shows c.kept_from-kept.result c.has.result c.is_heard-records.result c.expected-expected.result c.from-window.result kept c.has.ensures c.expected-expected.ensures.expected wide heard in
     let fin = rw c.payload-payload.ensures.value at c.fin_then-fin.ensures in
     let t = kept_state s d n in
     let u = heard_state s d n in

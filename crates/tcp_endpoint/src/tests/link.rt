@@ -1,0 +1,212 @@
+//! Two ends of one connection, and what goes from one to the other.
+ghost use Rattle.std.specs.Prelude.{◌≡◌, ◌≤◌, ◌<◌, IfSome};
+ghost use Rattle.tcp_endpoint.specs.Ends.{FitsEnd};
+
+use crate::{Arrival, Emission, Endpoint, GiveAnswer, Phase, Resent};
+use ao_base::{Address, Algorithm, Bytes, Pair, Socket, Steps};
+use key_table::{AddRefusal, Direction, Lifetime, NewRow, Table};
+use std::alloc::{AllocError, Global};
+use std::sync::ledger::{Blank, Ledger};
+use std::test::Fail;
+
+const A: Socket = Socket {
+    address: Address::V4([10, 0, 0, 1]),
+    port: 1000,
+};
+
+const B: Socket = Socket {
+    address: Address::V4([10, 0, 0, 2]),
+    port: 2000,
+};
+
+/// The sockets as the end at A sees them.
+const AT_A: Pair = Pair {
+    local: A,
+    remote: B,
+};
+
+/// The sockets as the end at B sees them.
+const AT_B: Pair = Pair {
+    local: B,
+    remote: A,
+};
+
+/// A segment that is on its way.
+#[derive(Drop)]
+pub(super) struct Held {
+    bytes: [u8; 1500],
+    length: usize,
+    ghost short: { length ≤ 1500 },
+}
+
+/// Two ends that share a table of one row.
+#[derive(Drop)]
+pub(super) struct Link<L: Ledger> {
+    table: Table,
+    a: Endpoint,
+    b: Endpoint,
+    steps: Steps<L>,
+    ghost fits_a: { FitsEnd table.rows a },
+    ghost fits_b: { FitsEnd table.rows b },
+}
+
+/// A table of one row for any peer, which always sends and accepts.
+fn one_row(alloc: Global) -> Result<Table, AddRefusal> {
+    let always = Lifetime {
+        first: 0,
+        last: 1000,
+    };
+    let mut table = Table::empty(alloc, A.address);
+    let row = NewRow {
+        recv_id: 1,
+        send_id: 1,
+        algorithm: Algorithm::HmacSha1,
+        master: Bytes::from_vec(Vec::from_slice(alloc, b"testvector")?),
+        with_options: true,
+        direction: Direction::Both,
+        sending: always,
+        accepting: always,
+    };
+    table.add(alloc, row)?;
+    Ok(table)
+}
+
+/// The next segment of an end.
+fn made<L: Ledger>(
+    end: &mut Endpoint,
+    table: &Table,
+    now: u64,
+    steps: &mut Steps<L>,
+) -> Option<Held>
+    requires { FitsEnd table.now.rows end.old }
+    ensures { FitsEnd table.now.rows end.new }
+{
+    let mut bytes = [0; 1500];
+    match end.emit(table, now, &mut bytes, steps) {
+        Emission::Segment(made) => Some(Held {
+            bytes,
+            length: made.length,
+        }),
+        Emission::NoKey => None,
+        Emission::Idle => None,
+    }
+}
+
+/// One of the two ends.
+#[derive(Clone, Copy)]
+pub(super) enum Side {
+    A,
+    B,
+}
+
+impl<L: Ledger> Link<L> {
+    /// Two ends that know both initial sequence numbers, 100 and 200.
+    pub(super) fn started(alloc: Global, blank: Blank) -> Result<Link<L>, Fail>
+        requires name { blank.name ≡ L.name }
+        requires parts { blank.parts ≡ L.parts }
+        requires part { 0 < blank.parts }
+    {
+        let steps = Steps::<L>::new(blank);
+        let table = one_row(alloc)?;
+        let a = Endpoint::start(alloc, &table, AT_A, 100, 200)?;
+        let b = Endpoint::start(alloc, &table, AT_B, 200, 100)?;
+        Ok(Link { table, a, b, steps })
+    }
+
+    /// Two ends before their handshake, whose initial sequence numbers are just below 2^32.
+    pub(super) fn apart(alloc: Global, blank: Blank) -> Result<Link<L>, Fail>
+        requires name { blank.name ≡ L.name }
+        requires parts { blank.parts ≡ L.parts }
+        requires part { 0 < blank.parts }
+    {
+        let steps = Steps::<L>::new(blank);
+        let table = one_row(alloc)?;
+        let a = Endpoint::connect(alloc, &table, AT_A, 0xffff_fffe)?;
+        let b = Endpoint::listen(alloc, &table, AT_B, 0xffff_fffd)?;
+        Ok(Link { table, a, b, steps })
+    }
+
+    pub(super) fn a(&self) -> &Endpoint {
+        &self.a
+    }
+
+    /// The phases of A and B.
+    pub(super) fn phases(&self) -> [Phase; 2] {
+        [self.a.phase(), self.b.phase()]
+    }
+
+    /// Whether B is at the end of its stream.
+    pub(super) fn at_end(&self) -> bool {
+        self.b.at_end()
+    }
+
+    pub(super) fn give(&mut self, side: Side, piece: &[u8]) -> GiveAnswer {
+        match side {
+            Side::A => self.a.give(piece),
+            Side::B => self.b.give(piece),
+        }
+    }
+
+    pub(super) fn take(&mut self, side: Side, out: &mut [u8]) -> usize {
+        match side {
+            Side::A => self.a.take(out),
+            Side::B => self.b.take(out),
+        }
+    }
+
+    pub(super) fn close(&mut self, side: Side) {
+        match side {
+            Side::A => self.a.close(),
+            Side::B => self.b.close(),
+        }
+    }
+
+    pub(super) fn abort_a(&mut self) {
+        self.a.abort();
+    }
+
+    pub(super) fn tick_a(&mut self, now: u64) {
+        self.a.tick(now);
+    }
+
+    /// The next segment of A is held back.
+    pub(super) fn hold(&mut self) -> Option<Held> {
+        made(&mut self.a, &self.table, 0, &mut self.steps)
+    }
+
+    /// A segment that was held back comes to B.
+    pub(super) fn let_go(&mut self, held: &Held) -> Arrival {
+        let arrived = self.b.arrive(&self.table, 0, &held.bytes[..held.length], &mut self.steps);
+        arrived.arrival
+    }
+
+    /// The next segment of an end goes to the other: its answer.
+    pub(super) fn carry(&mut self, from: Side, now: u8) -> Option<Arrival> {
+        let now = u64::from(now);
+        match from {
+            Side::A => {
+                let held = made(&mut self.a, &self.table, now, &mut self.steps)?;
+                let bytes = &held.bytes[..held.length];
+                Some(self.b.arrive(&self.table, now, bytes, &mut self.steps).arrival)
+            }
+            Side::B => {
+                let held = made(&mut self.b, &self.table, now, &mut self.steps)?;
+                let bytes = &held.bytes[..held.length];
+                Some(self.a.arrive(&self.table, now, bytes, &mut self.steps).arrival)
+            }
+        }
+    }
+
+    /// What A sends again goes to B: its answer.
+    pub(super) fn carry_again(&mut self) -> Option<Arrival> {
+        let mut out = [0; 1500];
+        match self.a.resend(&self.table, 0, &mut out, &mut self.steps) {
+            Resent::Segment(made) => {
+                let bytes = &out[..made.length];
+                Some(self.b.arrive(&self.table, 0, bytes, &mut self.steps).arrival)
+            }
+            Resent::NoKey => None,
+            Resent::Nothing => None,
+        }
+    }
+}
