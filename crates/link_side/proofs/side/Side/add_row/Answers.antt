@@ -1,0 +1,13 @@
+use Rattle.key_model.specs.Tables.{row_of_new}
+use Rattle.link_side.proofs.FitLaws.{fits_added_to}
+use Rattle.link_side.proofs.side.Side.add_row.Goals as goal
+
+pub invariant_of-self : goal.invariant_of-self
+invariant_of-self c =
+    let d = c.args.self.now in
+    record {
+      family = d.family;
+      time = d.time;
+      bound = d.bound;
+      fits = λ x e. fits_added_to d.table c.add.new.self c.add.result (row_of_new c.in_ok-row.row) x.endpoint c.add.ensures (d.fits x e);
+    }

@@ -1,0 +1,4 @@
+pub mod Outcomes
+pub mod Passing
+pub mod Sides
+pub mod Steps

@@ -1,0 +1,38 @@
+-- What an end with all its sessions stands for.
+use Rattle.std.specs.Prelude.{◌≡◌, ℕ, Bool, List, [], ◌∷◌, length, map, reverse, Option, Some, None}
+use Rattle.link_model.specs.Worlds.{Session, Side as EndSide}
+use Rattle.link_side.specs.declared.sessions.Ended.{Ended}
+use Rattle.link_side.specs.declared.sessions.Live.{Live}
+use Rattle.link_side.specs.declared.side.Side.{Side}
+use Rattle.tcp_endpoint.specs.Ends.{Stands}
+
+-- what the report says of a session
+pub record Facts : Type 0 where
+  pub isn : ℕ
+  pub peer_isn : Option ℕ
+  pub given : ℕ
+  pub delivered : ℕ
+  pub shown : Bool
+
+-- of a session of the definitions
+abbrev pub facts_of : Session → Facts
+facts_of s =
+    record { isn = s.state.isn; peer_isn = s.state.peer_isn; given = length s.state.given; delivered = length s.state.taken; shown = s.end_shown }
+
+-- of a session that was dropped
+abbrev pub kept_facts : Ended → Facts
+kept_facts d = record { isn = d.isn; peer_isn = d.peer_isn; given = d.given; delivered = d.delivered; shown = d.end_shown }
+
+-- the live session stands for the newest, and of the others the facts are kept, the oldest first
+abbrev pub Sessions : Option Live → List Ended → List Session → Type 0
+Sessions None dropped [] = dropped ≡ []
+Sessions None dropped (s ∷ older) = ⊥
+Sessions (Some l) dropped [] = ⊥
+Sessions (Some l) dropped (s ∷ older) =
+    Stands l.endpoint s.state × (l.end_shown ≡ s.end_shown) × (map facts_of older ≡ reverse (map kept_facts dropped))
+
+-- an end stands for its clock, its table and its sessions
+pub record StandsSide (d : Side) (m : EndSide) : Type 0 where
+  pub clock : m.clock ≡ d.clock
+  pub rows : m.rows ≡ d.table.rows
+  pub sessions : Sessions d.live d.dropped.items m.sessions

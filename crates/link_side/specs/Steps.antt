@@ -1,0 +1,41 @@
+-- A side after an event at its end by which no segment is made and nothing comes.
+use Rattle.std.specs.Prelude.{◌≡◌, ℕ, ◌≤◌, length}
+use Rattle.ao_base.specs.declared.end.End.{End}
+use Rattle.key_model.specs.Lifetimes.{greatest_time}
+use Rattle.endpoint_model.specs.States.{EndState}
+use Rattle.link_model.specs.declared.event.Event.{Event}
+use Rattle.link_model.specs.declared.event.RowLine.{RowLine}
+use Rattle.link_model.specs.Outcomes.{Outcome}
+use Rattle.link_model.specs.Steps.{Act, Stepped, on_live, step}
+use Rattle.link_model.specs.Worlds.{Setup, pair_of, World, other, side as side_of}
+use Rattle.link_side.specs.declared.answer.Answer.{Answer}
+use Rattle.link_side.specs.declared.side.Side.{Side}
+use Rattle.link_side.specs.Outcomes.{outcome_of}
+use Rattle.link_side.specs.Sides.{StandsSide}
+
+-- the side stands for the end after the step, the other end is as it was, nothing was made and nothing came, and the answer is the step's outcome
+pub record Moved (w : World) (after : Stepped) (e : End) (d : Side) (told : Outcome) : Type 0 where
+  pub stands : StandsSide d (side_of after.world e)
+  pub others : side_of after.world (other e) ≡ side_of w (other e)
+  pub history : after.world.history ≡ w.history
+  pub outcome : after.outcome ≡ told
+
+-- of whatever end of whatever link the side stood for, it stands for what the event makes of it, and answers so
+abbrev pub Steps : Side → Side → (End → Event) → Answer → Type 0
+Steps before after event told =
+    (setup : Setup) (w : World) (e : End) → pair_of setup e ≡ before.pair → StandsSide before (side_of w e)
+    → Moved w (step setup w (event e)) e after (outcome_of told)
+
+-- the same, of a call on the live session
+abbrev pub StepsBy : Side → Side → (EndState → Act) → Answer → Type 0
+StepsBy before after call told =
+    (w : World) (e : End) → StandsSide before (side_of w e) → Moved w (on_live w e call) e after (outcome_of told)
+
+-- the columns of a row are in the ranges of a link file: a master key of 1 to 255 bytes, lifetimes that don't end before they begin, and times of a key file
+pub record IsRowLine (l : RowLine) : Type 0 where
+  pub least : 1 ≤ length l.master
+  pub most : length l.master ≤ 255
+  pub sending : l.send_first ≤ l.send_last
+  pub sent : l.send_last ≤ greatest_time
+  pub accepting : l.accept_first ≤ l.accept_last
+  pub accepted : l.accept_last ≤ greatest_time

@@ -1,0 +1,114 @@
+//! The events by which a segment may be made at an end, or by which bytes come.
+ghost use Rattle.std.specs.Prelude.{◌≡◌, ℕ, ◌+◌, ◌≤◌, Bool, true, false, List, length, Some};
+ghost use Rattle.ao_base.specs.declared.end.End.{End};
+ghost use Rattle.endpoint_model.specs.States.{EndState};
+ghost use Rattle.key_model.specs.Lifetimes.{greatest_time};
+ghost use Rattle.key_model.specs.Rows.{Row};
+ghost use Rattle.link_model.specs.Steps.{come, on_live, step};
+ghost use Rattle.link_model.specs.Worlds.{Setup, World, pair_of, side as side_of};
+ghost use Rattle.link_side.specs.Passing.{emission_of, HasCome, HasSent, length_sent, made_by, sending};
+ghost use Rattle.link_side.specs.Sides.{StandsSide};
+ghost use Rattle.tcp_endpoint.specs.Emitting.{Emits};
+ghost use Rattle.tcp_endpoint.specs.Ends.{FitsEnd, Stands};
+
+use crate::side::Side;
+use ao_base::Steps;
+use key_table::Table;
+use std::sync::ledger::Ledger;
+use tcp_endpoint::{Arrived, Emission, Endpoint, Resent};
+
+/// The answer of a resend, as that of an emit.
+fn emission_of(resent: Resent) -> Emission
+    ensures { result ≡ emission_of resent }
+{
+    match resent {
+        Resent::Segment(made) => Emission::Segment(made),
+        Resent::NoKey => Emission::NoKey,
+        Resent::Nothing => Emission::Idle,
+    }
+}
+
+/// The endpoint makes its next segment, or makes one again.
+fn make<L: Ledger>(
+    endpoint: &mut Endpoint,
+    table: &Table,
+    now: u64,
+    again: bool,
+    out: &mut [u8],
+    steps: &mut Steps<L>,
+) -> Emission
+    requires fits { FitsEnd table.now.rows endpoint.old }
+    requires room { 1500 ≤ length out.old }
+    ensures emits { (s : EndState) → Stands endpoint.old s
+        → Emits s endpoint.new out.old out.new result (made_by again table.now.rows endpoint.old.pair now s) }
+    ensures short { length_sent (Some result) ≤ 1500 }
+    ensures pair { endpoint.new.pair ≡ endpoint.old.pair }
+    ensures fits { FitsEnd table.now.rows endpoint.new }
+    ensures steps { steps.new ≤ steps.old + 1 }
+{
+    if again {
+        emission_of(endpoint.resend(table, now, out, steps))
+    } else {
+        endpoint.emit(table, now, out, steps)
+    }
+}
+
+impl Side {
+    /// The table, as it is now.
+    pub fn table(&self) -> &Table
+        ensures { result.now ≡ self.now.table }
+    {
+        &self.table
+    }
+
+    /// The live session makes its next segment in front of `out`, which has at least 1,500 bytes, or,
+    /// if `again`, makes one again (RFC 9293, sections 3.10 and 3.10.8). `None` exactly where there is
+    /// no session, `NoKey` where a segment would be made and no row is sendable, `Idle` where there is
+    /// none to make; after these three the side stands for what it stood for, and `out` is as it was.
+    /// At most one step is counted.
+    pub fn send<L: Ledger>(
+        &mut self,
+        again: bool,
+        out: &mut [u8],
+        steps: &mut Steps<L>,
+    ) -> Option<Emission>
+        requires room { 1500 ≤ length out.old }
+        ensures pair { self.new.pair ≡ self.old.pair }
+        ensures sent { (setup : Setup) (w : World) (e : End) → pair_of setup e ≡ self.old.pair → StandsSide self.old (side_of w e)
+            → HasSent w (step setup w (sending again e)) again e self.new out.old out.new result }
+        ensures short { length_sent result ≤ 1500 }
+        ensures steps { steps.new ≤ steps.old + 1 }
+    {
+        match &mut self.live {
+            None => None,
+            Some(live) => {
+                let made = make(
+                    &mut live.endpoint,
+                    &self.table,
+                    self.clock,
+                    again,
+                    out,
+                    steps,
+                );
+                Some(made)
+            }
+        }
+    }
+
+    /// A datagram comes to the live session (RFC 9293, section 3.10.7; RFC 5925, section 7.5). `None`
+    /// exactly where there is no session; then all is as it was. At most 66 steps are counted.
+    pub fn come<L: Ledger>(&mut self, bytes: &[u8], steps: &mut Steps<L>) -> Option<Arrived>
+        ensures pair { self.new.pair ≡ self.old.pair }
+        ensures come { (setup : Setup) (w : World) (e : End) → pair_of setup e ≡ self.old.pair → StandsSide self.old (side_of w e)
+            → HasCome w (on_live w e (come setup e w bytes.now)) e self.new bytes.now result }
+        ensures steps { steps.new ≤ steps.old + 66 }
+    {
+        match &mut self.live {
+            None => None,
+            Some(live) => {
+                let arrived = live.endpoint.arrive(&self.table, self.clock, bytes, steps);
+                Some(arrived)
+            }
+        }
+    }
+}

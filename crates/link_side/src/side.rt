@@ -1,0 +1,81 @@
+//! An end of a link with all its sessions.
+ghost use Rattle.std.specs.Prelude.{◌≡◌, ◌≤◌, true, [], Some, None, IfSome, is_some};
+ghost use Rattle.std.specs.Option.{ForSome};
+ghost use Rattle.key_model.specs.Lifetimes.{greatest_time};
+ghost use Rattle.link_model.specs.Worlds.{Side as EndSide, find};
+ghost use Rattle.tcp_endpoint.specs.Ends.{FitsEnd};
+ghost use Rattle.tcp_endpoint.specs.Halves.{same_family};
+
+use crate::sessions::{Ended, Live, has_isn};
+use ao_base::Pair;
+use key_table::Table;
+use std::alloc::Global;
+
+/// An end: its sockets, its clock in seconds since 1970, its table as it is now, its live session,
+/// and those before it, the oldest first.
+#[derive(Drop)]
+pub struct Side {
+    pub(crate) pair: Pair,
+    pub(crate) clock: u64,
+    pub(crate) table: Table,
+    pub(crate) live: Option<Live>,
+    pub(crate) dropped: Vec<Ended>,
+    ghost family: { same_family pair.local.address pair.remote.address ≡ true },
+    ghost time: { clock ≤ greatest_time },
+    ghost bound: { ForSome live (λ l. l.endpoint.pair ≡ pair) },
+    ghost fits: { ForSome live (λ l. FitsEnd table.rows l.endpoint) },
+}
+
+impl Side {
+    ghost use Rattle.link_side.specs.Sides.{StandsSide};
+
+    /// An end without a session, its clock at 0. The two addresses are of one family.
+    pub fn new(alloc: Global, pair: Pair, table: Table) -> Side
+        requires family { same_family pair.local.address pair.remote.address ≡ true }
+        ensures stands { StandsSide result (record { clock = 0; rows = table.rows; sessions = [] }) }
+        ensures pair { result.pair ≡ pair }
+    {
+        Side {
+            pair,
+            clock: 0,
+            table,
+            live: None,
+            dropped: Vec::new(alloc),
+        }
+    }
+
+    /// The clock, in seconds since 1970.
+    pub fn clock(&self) -> u64
+        ensures { (m : EndSide) → StandsSide self.now m → result ≡ m.clock }
+    {
+        self.clock
+    }
+
+    /// The live session, if there is one.
+    pub fn live(&self) -> Option<&Live>
+        ensures some { IfSome result (λ l. self.now.live ≡ Some l.now) }
+        ensures none { result ≡ None → self.now.live ≡ None }
+    {
+        match &self.live {
+            Some(live) => Some(live),
+            None => None,
+        }
+    }
+
+    /// The sessions before the live one, the oldest first.
+    pub fn dropped(&self) -> &[Ended]
+        ensures { result.now ≡ self.now.dropped.items }
+    {
+        self.dropped.as_slice()
+    }
+
+    /// Whether a session of the end has this initial sequence number.
+    pub(crate) fn has_used(&self, isn: u32) -> bool
+        ensures { (m : EndSide) → StandsSide self.now m → result ≡ is_some (find m.sessions isn) }
+    {
+        match &self.live {
+            None => false,
+            Some(live) => { live.endpoint.isn() == isn || has_isn(self.dropped.as_slice(), isn) }
+        }
+    }
+}
