@@ -1,5 +1,5 @@
 -- A segment of which nothing is known costs no derivation, unless it has SYN: without the peer's initial sequence number no key can be kept.
-use Rattle.std.proofs.Common.{◌≡◌, ◌<◌, ◌≤◌, ℕ, ◌-◌, Bool, true, false, List, Option, Some, None, ◌⊎◌, inl, inr, refl, sym, ap, ◌∙◌, arith}
+use Rattle.std.proofs.Common.{◌≡◌, ◌<◌, ◌≤◌, ℕ, ◌-◌, Bool, true, false, List, Option, Some, None, ◌⊎◌, inl, inr, refl, arith}
 use Rattle.std.specs.Prelude.{nat_lt, slice_get}
 use Rattle.ao_base.specs.declared.address.Pair.{Pair}
 use Rattle.segment_model.specs.Options.{find_ao}
@@ -9,7 +9,6 @@ use Rattle.key_model.specs.Rows.{Row}
 use Rattle.format_model.specs.Captures.{pair_at}
 use Rattle.ao_kdf.specs.declared.way.Way.{Way}
 use Rattle.ao_kdf.specs.declared.way.Way.TheVariants.{Inbound}
-use Rattle.ao_kdf.specs.Cache.{kept}
 use Rattle.ao_check.specs.Bonds.{Bond, Fits, Counted, key_for}
 use Rattle.ao_check.specs.Verdicts.{judging}
 use Rattle.capture_check.specs.Hearing.{AloneCounts}

@@ -1,21 +1,19 @@
 -- What a checker answers to a segment with SYN, and what it knows afterwards, is what the definitions say.
-use Rattle.std.proofs.Common.{◌≡◌, ◌≤◌, ◌<◌, ◌+◌, ◌^◌, ℕ, Bool, true, false, not, List, length, Option, Some, None, refl, sym, ap, ◌∙◌, subst, arith}
+use Rattle.std.proofs.Common.{◌≡◌, ◌<◌, ◌^◌, ℕ, Bool, true, false, not, List, length, Option, Some, None, refl, sym, ap, ◌∙◌, subst, arith}
 use Rattle.std.proofs.lemmas.Bool.Decides.{nat_tests}
-use Rattle.std.specs.Prelude.{◌==◌, ◌&&◌, ◌%◌, ◌-◌, nat_le, option_map, if◌then◌else◌}
+use Rattle.std.specs.Prelude.{◌==◌, ◌&&◌, nat_le, if◌then◌else◌}
 use Rattle.ao_base.specs.declared.address.Pair.{Pair}
 use Rattle.ao_base.specs.declared.address.Socket.{Socket}
-use Rattle.segment_model.specs.Bytes.{ring}
 use Rattle.segment_model.specs.Segments.{Segment, has, good, SYN, ACK}
 use Rattle.segment_model.specs.Sockets.{same_socket}
 use Rattle.segment_model.proofs.Fields.{some_is}
 use Rattle.key_model.specs.Rows.{Row, Table}
 use Rattle.endpoint_model.specs.declared.verdict.Verdict.{Verdict}
 use Rattle.endpoint_model.specs.Verdicts.{Judgement, Admit, Refuse, judge}
-use Rattle.format_model.specs.Captures.{Connection, Heard, Judged, Full as IsFull, acknowledged_isn, connection_of, fixed, hear_judged, hear_later, hear_syn_ack, judge_stored, most_connections, pair_at, same_isns, with_connection}
+use Rattle.format_model.specs.Captures.{Connection, Heard, acknowledged_isn, connection_of, fixed, hear_judged, hear_later, hear_syn_ack, judge_stored, most_connections, pair_at, same_isns, with_connection}
 use Rattle.ao_kdf.specs.declared.way.Way.TheVariants.{Inbound}
-use Rattle.ao_kdf.specs.Cache.{empty, kept}
 use Rattle.ao_kdf.proofs.CacheLaws.{kept-empty}
-use Rattle.ao_check.specs.Bonds.{Bond, Fits, fresh}
+use Rattle.ao_check.specs.Bonds.{Fits, fresh}
 use Rattle.ao_check.proofs.FitLaws.{fits_fresh, fits_learned}
 use Rattle.capture_check.specs.declared.answer.CheckLine.{CheckLine}
 use Rattle.capture_check.specs.declared.answer.CheckLine.TheVariants as line
@@ -23,10 +21,10 @@ use Rattle.capture_check.specs.declared.ends.Ends.{Ends}
 use Rattle.capture_check.specs.declared.flow.Flow.{Flow}
 use Rattle.capture_check.specs.declared.flows.Flows.{Flows}
 use Rattle.capture_check.specs.Answers.{IsJudged, is_pass}
-use Rattle.capture_check.specs.Ends.{is_low, key_of}
+use Rattle.capture_check.specs.Ends.{is_low}
 use Rattle.capture_check.specs.Flows.{rows_of, way, both, flow_from, new_flow, new_flows, IsFlow, shown}
-use Rattle.capture_check.specs.Checking.{found, IsSound, known, told, StandsFor, Hears, Isns, isns, KeepsKeys}
-use Rattle.capture_check.specs.Hearing.{Puts, key_at, from_low, Alone, Fixing, Fixed, TooMany, Fixes, has_isns, fixing, DoesFix}
+use Rattle.capture_check.specs.Checking.{found, IsSound, told, StandsFor, Hears, Isns, isns, KeepsKeys}
+use Rattle.capture_check.specs.Hearing.{Puts, key_at, from_low, Alone, Fixed, TooMany, Fixes, has_isns, fixing, DoesFix}
 use Rattle.capture_check.proofs.EndsLaws.{low_turned}
 use Rattle.capture_check.proofs.PutLaws.{stands_put, sound_put}
 use Rattle.capture_check.proofs.KeepLaws.{keys_same, keys_renewed}

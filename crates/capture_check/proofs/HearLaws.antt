@@ -1,12 +1,11 @@
 -- What is said of stored bytes, by what they are.
-use Rattle.std.proofs.Common.{◌≡◌, ℕ, true, List, Option, Some, None, refl, sym}
+use Rattle.std.proofs.Common.{◌≡◌, ℕ, true, List, Some, None, refl}
 use Rattle.std.specs.List.{find}
-use Rattle.segment_model.specs.Segments.{Segment, Reading, Read, Bad, reading}
+use Rattle.segment_model.specs.Segments.{Segment, Read, Bad, reading}
 use Rattle.segment_model.specs.Sockets.{same_socket}
 use Rattle.segment_model.specs.declared.fault.DatagramFault.{DatagramFault}
 use Rattle.key_model.specs.Rows.{Table, has_address}
-use Rattle.format_model.specs.Captures.{Connection, hear, hear_read, hear_at}
-use Rattle.capture_check.specs.declared.answer.CheckLine.{CheckLine}
+use Rattle.format_model.specs.Captures.{Connection, hear, hear_at}
 use Rattle.capture_check.specs.declared.answer.CheckLine.TheVariants as line
 use Rattle.capture_check.specs.declared.ends.Ends.{Ends}
 use Rattle.capture_check.specs.declared.flows.Flows.{Flows}

@@ -1,5 +1,5 @@
 -- Which keys are kept once a connection is put among those that a checker knew.
-use Rattle.std.proofs.Common.{◌≡◌, ℕ, Bool, true, false, List, length, Option, Some, None, refl, sym, ap, ◌∙◌}
+use Rattle.std.proofs.Common.{◌≡◌, ℕ, false, List, Option, Some, None, refl, sym, ap, ◌∙◌}
 use Rattle.std.specs.Prelude.{option_map}
 use Rattle.ao_base.specs.declared.address.Socket.{Socket}
 use Rattle.segment_model.specs.Sockets.{same_socket}
@@ -10,7 +10,7 @@ use Rattle.capture_check.specs.declared.flow.Flow.{Flow}
 use Rattle.capture_check.specs.declared.flows.Flows.{Flows}
 use Rattle.capture_check.specs.Ends.{key_of}
 use Rattle.capture_check.specs.Flows.{flow_from}
-use Rattle.capture_check.specs.Checking.{found, key_in, kept_key, Isns, isns, KeepsKeys}
+use Rattle.capture_check.specs.Checking.{found, key_in, Isns, isns, KeepsKeys}
 use Rattle.capture_check.specs.Hearing.{Puts}
 use Rattle.capture_check.proofs.EndsLaws.{key_turned}
 use Rattle.capture_check.proofs.PutLaws.{AtPut, Same, Turned, Other, found_put, same_turned}

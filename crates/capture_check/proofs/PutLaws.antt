@@ -1,20 +1,17 @@
 -- What a checker knows once a connection is put among those that it knew.
-use Rattle.std.proofs.Common.{◌≡◌, ◌≤◌, ℕ, ◌+◌, Bool, true, false, not, List, [], ◌∷◌, length, Option, Some, None, ◌⊎◌, inl, inr, ⊎_elim, refl, sym, ap, ◌∙◌, arith}
-use Rattle.std.specs.Prelude.{cond, is_some, option_map, if◌then◌else◌}
+use Rattle.std.proofs.Common.{◌≡◌, Bool, true, false, List, Option, Some, None, ⊎_elim, refl, sym, ap, ◌∙◌}
+use Rattle.std.specs.Prelude.{cond, is_some, option_map}
 use Rattle.std.specs.BTreeMap.{is_at}
 use Rattle.std.specs.List.{find}
 use Rattle.ao_base.specs.declared.address.Socket.{Socket}
 use Rattle.segment_model.specs.Sockets.{same_socket}
 use Rattle.key_model.specs.Rows.{Table}
 use Rattle.format_model.specs.Captures.{Connection, joins, seen_from, with_connection}
-use Rattle.ao_kdf.specs.declared.way.Way.TheVariants.{Inbound}
-use Rattle.ao_kdf.specs.Cache.{kept}
 use Rattle.capture_check.specs.declared.ends.Ends.{Ends}
-use Rattle.capture_check.specs.declared.flow.Flow.{Flow}
 use Rattle.capture_check.specs.declared.flows.Flows.{Flows}
-use Rattle.capture_check.specs.Ends.{by_ends, is_low, key_of}
-use Rattle.capture_check.specs.Flows.{way, flow_from, shown, IsFlow}
-use Rattle.capture_check.specs.Checking.{found, IsSound, known, told, StandsFor, key_in, kept_key, isns, KeepsKeys}
+use Rattle.capture_check.specs.Ends.{by_ends, key_of}
+use Rattle.capture_check.specs.Flows.{flow_from, shown, IsFlow}
+use Rattle.capture_check.specs.Checking.{found, IsSound, known, told, StandsFor}
 use Rattle.capture_check.specs.Hearing.{Puts}
 use Rattle.capture_check.proofs.EndsLaws.{same_socket_is, same_socket-refl, ends_tied, ends_told, both_told, key_turned}
 use Rattle.capture_check.proofs.HeldLaws.{joined, joined_told, joined_turned, joined-refl, find_put, find_others, length_put}

@@ -1,37 +1,33 @@
 -- What a checker answers to a segment, and what it knows afterwards, is what the definitions say.
-use Rattle.std.proofs.Common.{◌≡◌, ◌≤◌, ◌<◌, ◌+◌, ◌^◌, ℕ, Bool, true, false, not, List, length, Option, Some, None, refl, sym, ap, ◌∙◌, subst, arith}
-use Rattle.std.specs.Prelude.{◌==◌, ◌&&◌, nat_le, max, option_map, if◌then◌else◌}
+use Rattle.std.proofs.Common.{◌≡◌, ◌+◌, ℕ, Bool, true, false, not, List, Option, Some, None, refl, sym, ap, ◌∙◌, subst, arith}
+use Rattle.std.specs.Prelude.{max, if◌then◌else◌}
 use Rattle.ao_base.specs.declared.address.Pair.{Pair}
 use Rattle.ao_base.specs.declared.address.Socket.{Socket}
 use Rattle.segment_model.specs.Options.{find_ao}
-use Rattle.segment_model.specs.Segments.{Segment, has, segment_length, good, SYN, ACK}
+use Rattle.segment_model.specs.Segments.{Segment, has, segment_length, good, SYN}
 use Rattle.segment_model.specs.Sockets.{same_socket}
 use Rattle.std.specs.List.{find}
 use Rattle.key_model.specs.Rows.{Row, Table, has_address}
 use Rattle.endpoint_model.specs.declared.verdict.Verdict.{Verdict}
 use Rattle.endpoint_model.specs.declared.verdict.Verdict.TheVariants.{Pass, NoAo, TwoAo, WithMd5, NoTuple, Expired, MacLength, NoContext, Range, BadMac}
 use Rattle.endpoint_model.specs.Verdicts.{Finding, Judgement, Admit, Refuse, judge}
-use Rattle.format_model.specs.Captures as book
-use Rattle.format_model.specs.Captures.{Connection, Heard, Judged, acknowledged_isn, connection_of, fixed, hear_judged, hear_later, hear_syn_ack, judge_later, judge_stored, most_connections, pair_at, same_isns, with_connection}
+use Rattle.format_model.specs.Captures.{Connection, Heard, connection_of, hear_judged, hear_later, judge_stored, pair_at, with_connection}
 use Rattle.ao_kdf.specs.declared.way.Way.TheVariants.{Inbound}
-use Rattle.ao_kdf.specs.Cache.{kept}
-use Rattle.ao_kdf.proofs.CacheLaws.{kept-empty}
-use Rattle.ao_check.specs.Bonds.{Bond, Fits, Counted, fresh}
+use Rattle.ao_check.specs.Bonds.{Bond}
 use Rattle.ao_check.specs.Verdicts.{Tells, judging}
-use Rattle.ao_check.proofs.FitLaws.{fits_fresh, fits_learned}
 use Rattle.capture_check.specs.declared.answer.CheckLine.{CheckLine}
 use Rattle.capture_check.specs.declared.answer.CheckLine.TheVariants as line
 use Rattle.capture_check.specs.declared.ends.Ends.{Ends}
 use Rattle.capture_check.specs.declared.flow.Flow.{Flow}
 use Rattle.capture_check.specs.declared.flows.Flows.{Flows}
-use Rattle.capture_check.specs.Answers.{IsFound, IsJudged, Says, is_pass}
-use Rattle.capture_check.specs.Ends.{is_low, key_of}
-use Rattle.capture_check.specs.Flows.{rows_in, rows_of, way, both, flow_from, new_flow, new_flows, IsFlow, side_of, shown, judged_on, expected_after, FlowHears}
-use Rattle.capture_check.specs.Checking.{found, IsSound, known, told, StandsFor, Hears, kept_key, key_in, Isns, isns, KeepsKeys, Derives}
-use Rattle.capture_check.specs.Hearing.{Puts, key_at, from_low, Alone, AloneCounts, FlowsHear, OfKnown, OfUnknown, HearsLater, Fixing, has_isns, fixing, DoesFix}
+use Rattle.capture_check.specs.Answers.{IsJudged, is_pass}
+use Rattle.capture_check.specs.Ends.{key_of}
+use Rattle.capture_check.specs.Flows.{rows_in, rows_of, flow_from, IsFlow, side_of, shown, judged_on, expected_after, FlowHears}
+use Rattle.capture_check.specs.Checking.{found, IsSound, told, StandsFor, Hears, key_in, KeepsKeys, Derives}
+use Rattle.capture_check.specs.Hearing.{Puts, key_at, from_low, FlowsHear, OfKnown, OfUnknown, HearsLater}
 use Rattle.capture_check.proofs.EndsLaws.{low_turned, key_turned}
 use Rattle.capture_check.proofs.PutLaws.{put_found, same_turned, stands_put, stands_same, sound_put}
-use Rattle.capture_check.proofs.KeepLaws.{keys_same, Stays, keys_heard, Renews, keys_renewed}
+use Rattle.capture_check.proofs.KeepLaws.{keys_same, keys_heard}
 
 -- ---- verdicts
 

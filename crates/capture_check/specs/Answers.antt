@@ -49,8 +49,3 @@ answer_texts (line.Bad fault) = codes "bad" ∷ fault_text fault ∷ []
 answer_texts line.UnknownNode = codes "unknown-node" ∷ []
 answer_texts (line.Verdict v right) = verdict_texts v ++ checksum_texts right
 answer_texts (line.Full right) = codes "full" ∷ checksum_texts right
-
--- the answer is a pass
-abbrev pub is_pass_line : CheckLine → Bool
-is_pass_line (line.Verdict v right) = is_pass v
-is_pass_line a = false

@@ -1,5 +1,5 @@
 -- A checker: the tables, and what it knows of each connection.
-use Rattle.std.specs.Prelude.{◌≡◌, ◌≤◌, ◌<◌, ◌+◌, ℕ, Bool, false, is_some, List, length, Option, Some, None, option_map, cond, if◌then◌else◌}
+use Rattle.std.specs.Prelude.{◌≡◌, ◌≤◌, ◌<◌, ◌+◌, ℕ, false, List, length, Option, Some, None, option_map}
 use Rattle.std.specs.List.{find}
 use Rattle.std.specs.Map.{lookup}
 use Rattle.std.specs.BTreeMap.{is_at}
@@ -18,10 +18,6 @@ use Rattle.capture_check.specs.declared.flows.Flows.{Flows}
 use Rattle.capture_check.specs.Answers.{Says}
 use Rattle.capture_check.specs.Ends.{by_ends, key_of}
 use Rattle.capture_check.specs.Flows.{flow_from, IsFlow, shown}
-
--- what is known of connections, by their sockets
-abbrev pub Entries : Type 0
-Entries = List (Ends × Flows)
 
 -- a checker is: the tables, and what it knows of each connection
 pub record Checking : Type 0 where

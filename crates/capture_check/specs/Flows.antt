@@ -1,7 +1,6 @@
 -- What is known of a connection: both ways of it (own).
-use Rattle.std.specs.Prelude.{◌≡◌, ◌≤◌, ◌+◌, ◌^◌, ℕ, max, Bool, true, false, not, List, [], length, Option, Some, None}
+use Rattle.std.specs.Prelude.{◌≡◌, ◌≤◌, ◌+◌, ◌^◌, ℕ, max, Bool, true, false, List, [], length, Option, Some, None}
 use Rattle.std.specs.List.{find}
-use Rattle.ao_base.specs.declared.address.Pair.{Pair}
 use Rattle.ao_base.specs.declared.address.Socket.{Socket}
 use Rattle.segment_model.specs.Options.{find_ao}
 use Rattle.segment_model.specs.Segments.{Segment, has, segment_length, SYN}
@@ -11,7 +10,7 @@ use Rattle.endpoint_model.specs.Verdicts.{Judgement, Admit, Refuse, judge}
 use Rattle.format_model.specs.Captures.{Connection, Side}
 use Rattle.ao_kdf.specs.declared.way.Way.TheVariants.{Inbound}
 use Rattle.ao_kdf.specs.Cache.{empty}
-use Rattle.ao_check.specs.Bonds.{Bond, Fits, Counted}
+use Rattle.ao_check.specs.Bonds.{Fits, Counted}
 use Rattle.ao_check.specs.Verdicts.{Tells, judging}
 use Rattle.capture_check.specs.declared.flow.Flow.{Flow}
 use Rattle.capture_check.specs.declared.flows.Flows.{Flows}

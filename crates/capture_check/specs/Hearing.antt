@@ -1,5 +1,5 @@
 -- What a checker does with a segment (own).
-use Rattle.std.specs.Prelude.{◌≡◌, ◌≤◌, ◌+◌, ◌==◌, ◌&&◌, nat_le, ℕ, Bool, true, false, not, is_some, List, length, Option, Some, None, cond, Result, Ok, Err, if◌then◌else◌}
+use Rattle.std.specs.Prelude.{◌≡◌, ◌≤◌, ◌+◌, ◌==◌, ◌&&◌, nat_le, ℕ, Bool, true, false, not, is_some, List, length, Option, Some, None, cond, if◌then◌else◌}
 use Rattle.std.specs.BTreeMap.{is_at}
 use Rattle.segment_model.specs.Options.{find_ao}
 use Rattle.segment_model.specs.Segments.{Segment, has, SYN}
@@ -9,7 +9,6 @@ use Rattle.endpoint_model.specs.Verdicts.{judge}
 use Rattle.format_model.specs.Captures.{acknowledged_isn, most_connections, pair_at}
 use Rattle.ao_check.specs.Verdicts.{Tells, judging}
 use Rattle.capture_check.specs.declared.ends.Ends.{Ends}
-use Rattle.capture_check.specs.declared.flow.Flow.{Flow}
 use Rattle.capture_check.specs.declared.flows.Flows.{Flows}
 use Rattle.capture_check.specs.Checking.{found}
 use Rattle.capture_check.specs.Ends.{by_ends, is_low, key_of}

@@ -116,12 +116,13 @@ fn is_pass(verdict: &Verdict) -> bool
 
 impl Checker {
     /// A checker that knows no connection.
-    pub fn new(_alloc: Global, tables: Tables) -> Result<Checker, AllocError>
-        ensures { IfOk result (λ c. c ≡ record { tables = tables; entries = [] }) }
+    pub fn new(alloc: Global, tables: Tables) -> Result<Checker, AllocError>
+        ensures new { IfOk result (λ c. c ≡ record { tables = tables; entries = [] }) }
+        ensures stands { IfOk result (λ c. StandsFor c.entries []) }
     {
         Ok(Checker {
             tables,
-            connections: BTreeMap::new(_alloc),
+            connections: BTreeMap::new(alloc),
         })
     }
 

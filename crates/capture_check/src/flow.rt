@@ -27,8 +27,7 @@ fn receiver_of(
     pair: Pair,
     isn: u32,
 ) -> Result<Association, AllocError>
-    ensures fresh { IfOk result (λ a. a ≡ fresh pair isn (length (rows_of tables.now pair.local))) }
-    ensures fits { IfOk result (λ a. Fits (rows_of tables.now pair.local) a) }
+    ensures { IfOk result (λ a. a ≡ fresh pair isn (length (rows_of tables.now pair.local))) }
 {
     match tables.table(&pair.local.address) {
         Some(table) => Association::new(alloc, table, pair, isn, table.rows()),
@@ -50,8 +49,7 @@ impl Flow {
         isn: u32,
         other: u32,
     ) -> Result<Flow, AllocError>
-        ensures new { IfOk result (λ f. f ≡ new_flow tables.now from to isn other) }
-        ensures fits { IfOk result (λ f. Fits (rows_of tables.now to) f.receiver) }
+        ensures { IfOk result (λ f. f ≡ new_flow tables.now from to isn other) }
     {
         let pair = Pair {
             local: to,

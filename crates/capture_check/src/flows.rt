@@ -30,9 +30,7 @@ impl Flows {
         isn: u32,
         other: u32,
     ) -> Result<Flows, AllocError>
-        ensures new { IfOk result (λ h. h ≡ new_flows tables.now one two isn other) }
-        ensures fits_low { IfOk result (λ h. Fits (rows_of tables.now h.low.receiver.pair.local) h.low.receiver) }
-        ensures fits_high { IfOk result (λ h. Fits (rows_of tables.now h.high.receiver.pair.local) h.high.receiver) }
+        ensures { IfOk result (λ h. h ≡ new_flows tables.now one two isn other) }
     {
         let from_one = Flow::new(alloc, tables, one, two, isn, other)?;
         let from_two = Flow::new(alloc, tables, two, one, other, isn)?;

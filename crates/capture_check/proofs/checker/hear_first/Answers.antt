@@ -1,6 +1,6 @@
-use Rattle.std.proofs.Common.{◌≡◌, Bool, true, false, not, refl, sym, ap, ◌∙◌}
+use Rattle.std.proofs.Common.{true, false, sym, ◌∙◌}
 use Rattle.capture_check.proofs.StepLaws.{differing}
-use Rattle.capture_check.proofs.FixLaws.{First, first, first_refused, first_alone}
+use Rattle.capture_check.proofs.FixLaws.{first, first_refused, first_alone}
 use Rattle.capture_check.proofs.checker.hear_first.Goals as goal
 
 pub returns-then-not-is_pass-clause-heard : goal.returns-then-not-is_pass-clause-heard

@@ -1,5 +1,4 @@
-use Rattle.std.proofs.Common.{◌≡◌, refl, sym, ap, ◌∙◌}
-use Rattle.capture_check.proofs.StepLaws.{Later, later, rows_found, differing}
+use Rattle.capture_check.proofs.StepLaws.{later, rows_found, differing}
 use Rattle.capture_check.proofs.checker.hear_next.Goals as goal
 
 pub returns-in-Ok-clause-heard : goal.returns-in-Ok-clause-heard

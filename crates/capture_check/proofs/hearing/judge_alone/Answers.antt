@@ -1,4 +1,4 @@
-use Rattle.std.proofs.Common.{◌≡◌, sym, ap, ◌∙◌}
+use Rattle.std.proofs.Common.{ap, ◌∙◌}
 use Rattle.ao_check.specs.Bonds.{Bond}
 use Rattle.capture_check.proofs.AloneLaws.{alone_counts}
 use Rattle.capture_check.proofs.hearing.judge_alone.Goals as goal

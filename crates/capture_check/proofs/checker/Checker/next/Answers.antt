@@ -1,4 +1,4 @@
-use Rattle.std.proofs.Common.{◌≡◌, sym, ap, ◌∙◌, subst, IfOk}
+use Rattle.std.proofs.Common.{sym, ◌∙◌, subst, IfOk}
 use Rattle.format_model.specs.Captures.{Heard}
 use Rattle.capture_check.specs.Checking.{Hears}
 use Rattle.capture_check.proofs.HearLaws.{unreadable, no_node, one_socket, readable}
