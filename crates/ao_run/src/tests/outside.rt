@@ -2,6 +2,7 @@
 use super::{source_of, words_of};
 use crate::run;
 use ao_base::{ReadSource, WriteSink};
+use std::alloc::{AllocError, Global};
 use std::io::{self, ErrorKind, Read, Write};
 use std::test::Fail;
 
@@ -43,39 +44,61 @@ impl<T: Write> Write for Halting<T> {
     }
 }
 
+/// What a run over a reader and a writer left: its status, and what was written to each of the two.
+#[derive(Drop)]
+struct Left {
+    status: u8,
+    out: Vec<u8>,
+    err: Vec<u8>,
+}
+
+/// A run of that word, in which the read and the write with these numbers fail.
+fn halted(
+    alloc: Global,
+    word: &[u8],
+    input: &[u8],
+    read: u64,
+    write: u64,
+) -> Result<Left, AllocError> {
+    let words = words_of(alloc, [word].as_slice())?;
+    let mut keys = source_of(alloc, b"")?;
+    let mut out = Vec::new(alloc);
+    let mut err = Vec::new(alloc);
+    let reader = Halting {
+        inner: input,
+        failing: read,
+        calls: 0,
+    };
+    let writer = Halting {
+        inner: &mut out,
+        failing: write,
+        calls: 0,
+    };
+    let status = run(
+        alloc,
+        &words,
+        &mut keys,
+        &mut ReadSource::new(reader),
+        &mut WriteSink::new(writer),
+        &mut WriteSink::new(&mut err),
+    );
+    Ok(Left { status, out, err })
+}
+
 #[test]
-fn a_read_and_a_write_fail_in_mid_stream(rt: HostRuntime) -> Result<(), Fail> {
-    let wants: [(u64, u64, u8, usize, &[u8]); 3] = [
-        (2, 0, 5, 0, b"read fault\n"),
-        (0, 2, 6, 10, b"write fault\n"),
-        (0, 0, 0, 42, b""),
-    ];
-    for (failing_read, failing_write, status, held, text) in wants {
-        let words = words_of(rt.alloc(), [b"show".as_slice()].as_slice())?;
-        let mut keys = source_of(rt.alloc(), b"")?;
-        let reader = Halting {
-            inner: b"00\n00\n00\n".as_slice(),
-            failing: failing_read,
-            calls: 0,
-        };
-        let mut out = Vec::new(rt.alloc());
-        let mut err = Vec::new(rt.alloc());
-        let writer = Halting {
-            inner: &mut out,
-            failing: failing_write,
-            calls: 0,
-        };
-        let told = run(
-            rt.alloc(),
-            &words,
-            &mut keys,
-            &mut ReadSource::new(reader),
-            &mut WriteSink::new(writer),
-            &mut WriteSink::new(&mut err),
-        );
-        assert_eq!(rt; told, status);
-        assert_eq!(rt; out.len(), held);
-        assert_eq!(rt; err.as_slice(), text);
-    }
+fn a_read_that_fails_leaves_nothing_written(rt: HostRuntime) -> Result<(), Fail> {
+    let left = halted(rt.alloc(), b"show", b"00\n00\n00\n00\n", 2, 0)?;
+    assert_eq!(rt; left.status, 5);
+    assert_eq!(rt; left.out.len(), 0);
+    assert_eq!(rt; left.err.as_slice(), b"read fault\n".as_slice());
+    Ok(())
+}
+
+#[test]
+fn a_write_that_fails_leaves_a_front_part(rt: HostRuntime) -> Result<(), Fail> {
+    let left = halted(rt.alloc(), b"show", b"00\n00\n00\n00\n", 0, 2)?;
+    assert_eq!(rt; left.status, 6);
+    assert_eq!(rt; left.out.as_slice(), b"1 bad vers".as_slice());
+    assert_eq!(rt; left.err.as_slice(), b"write fault\n".as_slice());
     Ok(())
 }
