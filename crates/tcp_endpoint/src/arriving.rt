@@ -229,7 +229,7 @@ impl Endpoint {
         requires now { now < 2 ^ 63 }
         ensures reaches { (s : EndState) → Stands self.old s
             → Reaches self.new result (book.after_check self.old.pair s
-                (book.heard table.now.rows self.old.pair now s rnext) datagram.now number now s.phase) }
+            (book.heard table.now.rows self.old.pair now s rnext) datagram.now number now s.phase) }
         ensures unchanged { LeavesAll result → self.new ≡ self.old }
         ensures pair { self.new.pair ≡ self.old.pair }
         ensures fits { Fits table.now.rows self.old.association → Fits table.now.rows self.new.association }

@@ -1,6 +1,6 @@
 //! How an end begins.
 ghost use Rattle.std.specs.Prelude.{◌≡◌, true, IfOk};
-ghost use Rattle.endpoint_model.specs.States.{beginning, connected, listening, started, own_mss, default_mss};
+ghost use Rattle.endpoint_model.specs.States.{beginning, connected, listening, started, default_mss};
 ghost use Rattle.tcp_segment.specs.Writing.{IsOneFamily};
 ghost use Rattle.tcp_endpoint.specs.Halves.{waits};
 ghost use Rattle.tcp_endpoint.specs.Ends.{Stands, FitsEnd};
@@ -11,22 +11,13 @@ use ao_base::{Address, Pair};
 use ao_check::Association;
 use endpoint_model::Phase;
 use key_table::Table;
+use segment_writer::own_mss;
 use std::alloc::{AllocError, Global};
 use stream_buffers::{Reassembly, SendQueue};
 use wrap_seq::Counter;
 
 /// For how many rows keys are kept: as many as a table has at most.
 const ROWS: u8 = 64;
-
-/// The maximum segment size of an end itself (RFC 9293, section 3.7.1).
-pub(crate) fn own_mss(address: &Address) -> u16
-    ensures { result ≡ own_mss address.now }
-{
-    match address {
-        Address::V4(_) => 1460,
-        Address::V6(_) => 1440,
-    }
-}
 
 /// What a SYN without the option counts as (RFC 9293, section 3.7.1).
 pub(crate) fn default_mss(address: &Address) -> u16

@@ -65,7 +65,7 @@ impl Endpoint {
         requires { self.old.phase ≡ Listen }
         ensures reaches { (s : EndState) → Stands self.old s
             → Reaches self.new result (book.after_check self.old.pair s
-                (book.heard table.now.rows self.old.pair now s rnext) datagram.now datagram.now.sequence now Listen) }
+            (book.heard table.now.rows self.old.pair now s rnext) datagram.now datagram.now.sequence now Listen) }
         ensures unchanged { LeavesAll result → self.new ≡ self.old }
         ensures pair { self.new.pair ≡ self.old.pair }
         ensures fits { Fits table.now.rows self.old.association → Fits table.now.rows self.new.association }
@@ -101,7 +101,7 @@ impl Endpoint {
         requires { self.old.phase ≡ SynSent }
         ensures reaches { (s : EndState) → Stands self.old s
             → Reaches self.new result (book.after_check self.old.pair s
-                (book.heard table.now.rows self.old.pair now s rnext) datagram.now datagram.now.sequence now SynSent) }
+            (book.heard table.now.rows self.old.pair now s rnext) datagram.now datagram.now.sequence now SynSent) }
         ensures unchanged { LeavesAll result → self.new ≡ self.old }
         ensures pair { self.new.pair ≡ self.old.pair }
         ensures fits { Fits table.now.rows self.old.association → Fits table.now.rows self.new.association }

@@ -7,11 +7,11 @@ ghost use Rattle.endpoint_model.specs.Emissions.{sets};
 ghost use Rattle.tcp_endpoint.specs.Ends.{Stands};
 ghost use Rattle.tcp_endpoint.specs.Planning.{draft_of, flags_of, IsCarried, IsCounted, IsOutlineOf, IsWithin};
 
-use crate::beginning::own_mss;
 use crate::endpoint::Endpoint;
 use crate::flags::{ACK, FIN, PSH, RST, SYN};
 use crate::planning::Plan;
 use ao_base::Algorithm;
+use segment_writer::own_mss;
 
 /// The length of the TCP-AO option without its MAC (RFC 5925, section 2.2).
 const AO_HEAD: u64 = 4;

@@ -187,12 +187,20 @@ impl<L: Ledger> Link<L> {
             Side::A => {
                 let held = made(&mut self.a, &self.table, now, &mut self.steps)?;
                 let bytes = &held.bytes[..held.length];
-                Some(self.b.arrive(&self.table, now, bytes, &mut self.steps).arrival)
+                Some(
+                    self.b
+                        .arrive(&self.table, now, bytes, &mut self.steps)
+                        .arrival,
+                )
             }
             Side::B => {
                 let held = made(&mut self.b, &self.table, now, &mut self.steps)?;
                 let bytes = &held.bytes[..held.length];
-                Some(self.a.arrive(&self.table, now, bytes, &mut self.steps).arrival)
+                Some(
+                    self.a
+                        .arrive(&self.table, now, bytes, &mut self.steps)
+                        .arrival,
+                )
             }
         }
     }
@@ -203,7 +211,11 @@ impl<L: Ledger> Link<L> {
         match self.a.resend(&self.table, 0, &mut out, &mut self.steps) {
             Resent::Segment(made) => {
                 let bytes = &out[..made.length];
-                Some(self.b.arrive(&self.table, 0, bytes, &mut self.steps).arrival)
+                Some(
+                    self.b
+                        .arrive(&self.table, 0, bytes, &mut self.steps)
+                        .arrival,
+                )
             }
             Resent::NoKey => None,
             Resent::Nothing => None,
