@@ -1,0 +1,4 @@
+pub mod Held
+pub mod Pairs
+pub mod Runs
+pub mod Steps
