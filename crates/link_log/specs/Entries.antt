@@ -5,6 +5,7 @@ use Rattle.segment_model.specs.Bytes.{ring}
 use Rattle.segment_model.specs.Options.{Ao, One, find_ao}
 use Rattle.segment_model.specs.Segments.{Segment, Read, reading}
 use Rattle.segment_model.specs.Spelling.{Fits}
+use Rattle.tcp_segment.specs.Sums.{HasPlainHeader}
 use Rattle.mac_model.specs.declared.context.Context.{Context}
 use Rattle.mac_model.specs.Contexts.{bytes_of}
 use Rattle.mac_model.specs.MacInput.{mac_input}
@@ -14,8 +15,9 @@ use Rattle.link_model.specs.Worlds.{Made}
 use Rattle.link_log.specs.declared.entry.Entry.{Entry}
 use Rattle.link_log.specs.declared.entry.Entrance.{Entrance}
 
--- the bytes of a segment that was made are read as it, and its MAC input is that of its number and its one TCP-AO option, with the row's flag (RFC 5925, section 5.1)
+-- the bytes of a segment that was made are read as it, behind an IP header without options, and its MAC input is that of its number and its one TCP-AO option, with the row's flag (RFC 5925, section 5.1)
 pub record IsWhole (m : Made) : Type 0 where
+  pub plain : HasPlainHeader m.bytes
   pub reads : reading m.bytes ≡ Read m.emission.segment
   pub sequence : m.emission.segment.sequence ≡ m.emission.number % ring
   pub ao : Ao
