@@ -1,1 +1,2 @@
+mod HearingLaws
 mod JudgedLaws

@@ -2,12 +2,9 @@
 ghost use Rattle.std.specs.Prelude.{◌≡◌, ◌≤◌, length};
 ghost use Rattle.key_model.specs.Plans.{gap};
 
-use crate::way::is_sending_for;
+use crate::way::{MOST_ROWS, is_sending_for};
 use ao_base::Pair;
 use key_table::{Lifetime, Row, first_gap};
-
-/// The most rows of a table.
-const MOST_ROWS: usize = 64;
 
 /// The least time from `from` to `to`, in seconds since 1970, at which no row is sendable for the
 /// pair (RFC 7210, section 3). `None` exactly where there is none.

@@ -1,15 +1,18 @@
 //! The rows that send from one end of a connection, and their peers at the other end.
-ghost use Rattle.std.specs.Prelude.{◌≡◌, ◌≤◌, length, option_map};
+ghost use Rattle.std.specs.Prelude.{◌≡◌, ◌==◌, ◌&&◌, ◌≤◌, length, map, option_map, take};
 ghost use Rattle.std.specs.List.{list_any};
 ghost use Rattle.segment_model.specs.Bytes.{same_bytes};
 ghost use Rattle.key_model.specs.Plans.{mirrored, same_algorithm, same_flag, same_key, accepts_from, outlasts, accepts_throughout};
 ghost use Rattle.key_model.specs.Plans.{first_unmet, misaligned_answer};
-ghost use Rattle.key_lint.specs.Unmet.{unmet_answer};
-ghost use Rattle.key_model.specs.Rows.{receives, sends_for};
+ghost use Rattle.key_lint.specs.Unmet.{hears, unmet_answer};
+ghost use Rattle.key_model.specs.Rows.{matches, receives, sends_for};
 
 use ao_base::{Algorithm, End, Pair};
 use key_model::{Direction, LATEST, LintAnswer};
 use key_table::Row;
+
+/// The most rows of a table.
+pub(crate) const MOST_ROWS: usize = 64;
 
 /// The rows of one end, which send over the connection as that end sees it, and those of the other
 /// end, which are to accept from `lead` seconds before until `lag` seconds after.
@@ -45,6 +48,13 @@ fn is_receiving(row: &Row) -> bool
     matches!(row.direction(), Direction::Receive | Direction::Both)
 }
 
+/// Whether the row is for what comes in over the connection, at whatever time.
+fn is_hearing(row: &Row, pair: &Pair) -> bool
+    ensures { result ≡ (matches row.now pair.now && receives row.now.direction) }
+{
+    is_receiving(row) && row.matches(pair)
+}
+
 fn is_same_algorithm(one: Algorithm, other: Algorithm) -> bool
     ensures { result ≡ same_algorithm one other }
 {
@@ -67,9 +77,17 @@ fn is_same_master(one: &[u8], other: &[u8]) -> bool
 fn is_same_key(one: &Row, other: &Row) -> bool
     ensures { result ≡ same_key one.now other.now }
 {
-    is_same_master(one.master(), other.master())
-        && is_same_algorithm(one.algorithm(), other.algorithm())
+    is_same_algorithm(one.algorithm(), other.algorithm())
         && is_same_flag(one.with_options(), other.with_options())
+        && is_same_master(one.master(), other.master())
+}
+
+/// Whether the other end's row has the id and the key that the row's segments name (RFC 5925, section
+/// 3.1). The ids are compared first, since most rows differ in them.
+fn is_keyed_for(row: &Row, other: &Row) -> bool
+    ensures { result ≡ ((other.now.recv_id == row.now.send_id) && same_key other.now row.now) }
+{
+    other.recv_id() == row.send_id() && is_same_key(other, row)
 }
 
 impl<'a> Way<'a> {
@@ -90,15 +108,18 @@ impl<'a> Way<'a> {
         }
     }
 
-    /// Whether the other end's row accepts what this row sends, at whatever time (RFC 5925, section
-    /// 3.1). The ids are compared first, since most rows differ in them.
-    fn is_accepting(&self, row: &Row, other: &Row) -> bool
-        ensures { result ≡ accepts_from self.now.pair row.now other.now }
+    /// Which rows of the other end are for what comes in over the connection. A row may name many peers,
+    /// so they are looked at once for all rows of this end.
+    fn hearing(&self) -> [bool; MOST_ROWS]
+        requires { length self.now.others.now ≤ 64 }
+        ensures { take (length self.now.others.now) result ≡ map (hears self.now.pair) self.now.others.now }
     {
-        other.recv_id() == row.send_id()
-            && is_receiving(other)
-            && is_same_key(other, row)
-            && other.matches(&mirrored(&self.pair))
+        let pair = mirrored(&self.pair);
+        let mut hearing = [false; MOST_ROWS];
+        for (i, other) in self.others.iter().enumerate() {
+            hearing[i] = is_hearing(other, &pair);
+        }
+        hearing
     }
 
     /// Whether the other end's row accepts from `lead` before the first second in which this row sends
@@ -112,37 +133,50 @@ impl<'a> Way<'a> {
             && accepting.contains(LATEST.min(sending.last.saturating_add(self.lag)))
     }
 
-    fn is_accepting_throughout(&self, row: &Row, other: &Row) -> bool
-        ensures { result ≡ accepts_throughout self.now.pair self.now.lead self.now.lag row.now other.now }
-    {
-        self.is_outlasting(row, other) && self.is_accepting(row, other)
-    }
-
-    fn is_accepted(&self, row: &Row) -> bool
+    /// Whether some row of the other end accepts what this row sends, at whatever time (RFC 5925,
+    /// section 3.1).
+    fn is_accepted(&self, hearing: &[bool; MOST_ROWS], row: &Row) -> bool
+        requires { take (length self.now.others.now) hearing.now ≡ map (hears self.now.pair) self.now.others.now }
         ensures { result ≡ list_any (accepts_from self.now.pair row.now) self.now.others.now }
     {
-        self.others
-            .iter()
-            .any(|other| self.is_accepting(row, other))
+        for (i, other) in self.others.iter().enumerate() {
+            if hearing[i] && is_keyed_for(row, other) {
+                return true;
+            }
+        }
+        false
     }
 
-    fn is_accepted_throughout(&self, row: &Row) -> bool
+    /// Whether some row of the other end does, and accepts for so long. The times are compared first,
+    /// since rows with one id that hear the same peer accept at different times.
+    fn is_accepted_throughout(&self, hearing: &[bool; MOST_ROWS], row: &Row) -> bool
+        requires { take (length self.now.others.now) hearing.now ≡ map (hears self.now.pair) self.now.others.now }
         ensures { result ≡ list_any (accepts_throughout self.now.pair self.now.lead self.now.lag row.now) self.now.others.now }
     {
-        self.others
-            .iter()
-            .any(|other| self.is_accepting_throughout(row, other))
+        for (i, other) in self.others.iter().enumerate() {
+            if hearing[i] && self.is_outlasting(row, other) && is_keyed_for(row, other) {
+                return true;
+            }
+        }
+        false
     }
 
     /// Why the row of this end and number isn't met at the other end. A row that is met is the usual
     /// case, so that is looked for first.
     #[tactic(auto, using(crate::proofs::JudgedLaws::accepted_too))]
-    fn unmet(&self, end: End, number: u8, row: &Row) -> Option<LintAnswer>
+    fn unmet(
+        &self,
+        hearing: &[bool; MOST_ROWS],
+        end: End,
+        number: u8,
+        row: &Row,
+    ) -> Option<LintAnswer>
+        requires { take (length self.now.others.now) hearing.now ≡ map (hears self.now.pair) self.now.others.now }
         ensures { result ≡ unmet_answer end number self.now.others.now self.now.pair self.now.lead self.now.lag row.now }
     {
-        if !is_sending_for(row, &self.pair) || self.is_accepted_throughout(row) {
+        if !is_sending_for(row, &self.pair) || self.is_accepted_throughout(hearing, row) {
             None
-        } else if self.is_accepted(row) {
+        } else if self.is_accepted(hearing, row) {
             Some(LintAnswer::ShortAccept(end, number))
         } else {
             Some(LintAnswer::NoPeerRow(end, number))
@@ -151,11 +185,13 @@ impl<'a> Way<'a> {
 
     /// The first row that isn't met at the other end, and why; the rows are those of `end`.
     pub(crate) fn first_unmet(&self, end: End) -> Option<LintAnswer>
-        requires { length self.now.rows.now ≤ 64 }
+        requires rows { length self.now.rows.now ≤ 64 }
+        requires others { length self.now.others.now ≤ 64 }
         ensures { result ≡ option_map misaligned_answer (first_unmet end 1 self.now.rows.now self.now.others.now self.now.pair self.now.lead self.now.lag) }
     {
+        let hearing = self.hearing();
         for (i, row) in self.rows.iter().enumerate() {
-            if let Some(answer) = self.unmet(end, (i + 1) as u8, row) {
+            if let Some(answer) = self.unmet(&hearing, end, (i + 1) as u8, row) {
                 return Some(answer);
             }
         }

@@ -56,7 +56,6 @@ fn expected_of(received: Option<Received>) -> Option<u64>
 fn rnext_of(datagram: &Datagram<'_>) -> u8
     ensures { result ≡ rnext_of datagram.now }
 {
-    let _length = datagram.length();
     match datagram.options().find_ao() {
         AoFound::One(ao) => ao.rnext,
         AoFound::Absent => 0,

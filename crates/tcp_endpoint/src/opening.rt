@@ -25,7 +25,6 @@ const LEAST_MSS: u16 = 88;
 fn peer_mss(pair: &Pair, datagram: &Datagram<'_>) -> u16
     ensures { result ≡ book.peer_mss pair.now datagram.now }
 {
-    let _length = datagram.length();
     match datagram.options().mss() {
         Some(mss) => LEAST_MSS.max(mss),
         None => LEAST_MSS.max(default_mss(&pair.local.address)),
