@@ -1,6 +1,6 @@
 -- One call of a reader of packets.
 use Rattle.std.proofs.Common.{◌≡◌, ℕ, ◌+◌, ◌-◌, ◌<◌, ◌≤◌, Bool, true, false, cond, List, [], ◌++◌, length, take, drop, Option, None, Some, Ok, refl, sym, ap, ◌∙◌, append_assoc, arith}
-use Rattle.std.proofs.lemmas.List.{length-append, length-drop, drop-append-le}
+use Rattle.std.proofs.lemmas.List.{append-nil, length-append, length-drop, drop-append-le}
 use Rattle.ao_base.specs.Buffered.{Buffered}
 use Rattle.ao_base.specs.Outside.{Side, Gave, Rose, IsAtEnd, told}
 use Rattle.ao_base.proofs.Sides.{gave_more, nothing_told}
@@ -15,7 +15,7 @@ use Rattle.pcap_file.specs.Reading.{Reading, opened_from, header_length, Stops, 
 -- past the header and at a record
 pub record Reached (had : Option Head) (head : Head) (before now : Buffered) (a b : Side) (given : List ℕ) : Type 0 where
   pub gave : Gave given a b
-  pub opens : opened_from had ((before.kept ++ given) ++ told b.bytes) ≡ Ok (head, now.kept ++ told b.bytes)
+  pub opens : (left : List ℕ) → opened_from had ((before.kept ++ given) ++ left) ≡ Ok (head, now.kept ++ left)
   pub kept : now.kept ≡ drop (header_length had) (before.kept ++ given)
   pub count : header_length had + length now.kept ≡ length before.kept + length given
   pub size : now.size ≡ before.size
@@ -24,11 +24,10 @@ pub record Reached (had : Option Head) (head : Head) (before now : Buffered) (a 
 pub reach : (had : Option Head) (head : Head) (result : Found) (before middle now : Buffered) (a s b : Side) (first second : List ℕ) → Opens had before middle a s first (opening.Head head) →
     Finds head.order middle now s b second result → Reached had head before now a b (first ++ second)
 reach had head result before middle now a s b first second opens finds =
-    let left = told b.bytes in
     let le = opens.is.2 in
     let group : (before.kept ++ first) ++ second ≡ before.kept ++ (first ++ second) = append_assoc before.kept first second in
-    let text : (before.kept ++ (first ++ second)) ++ left ≡ (before.kept ++ first) ++ (second ++ left) = simp append_assoc in
-    let body : now.kept ++ left ≡ middle.kept ++ (second ++ left) = ap (λ xs. xs ++ left) finds.kept ∙ append_assoc middle.kept second left in
+    let text : (left : List ℕ) → (before.kept ++ (first ++ second)) ++ left ≡ (before.kept ++ first) ++ (second ++ left) = λ left. simp append_assoc in
+    let body : (left : List ℕ) → now.kept ++ left ≡ middle.kept ++ (second ++ left) = λ left. ap (λ xs. xs ++ left) finds.kept ∙ append_assoc middle.kept second left in
     let whole : now.kept ≡ drop (header_length had) (before.kept ++ (first ++ second)) =
     finds.kept ∙ (ap (λ xs. xs ++ second) opens.is.1 ∙ (sym (drop-append-le (header_length had) (before.kept ++ first) second le) ∙ ap (drop (header_length had)) group)) in
     let size0 : length (before.kept ++ first) ≡ length before.kept + length first = length-append before.kept first in
@@ -37,7 +36,7 @@ reach had head result before middle now a s b first second opens finds =
     let size3 : length (first ++ second) ≡ length first + length second = length-append first second in
     record {
       gave = gave_more first second a s b opens.gave finds.gave;
-      opens = rw (text, body) (opens.is.0 (second ++ left));
+      opens = λ left. rw (text left, body left) (opens.is.0 (second ++ left));
       kept = whole;
       count = omega arith;
       size = finds.size ∙ opens.size;
@@ -63,7 +62,7 @@ module _ (handed count seconds : ℕ) (had : Option Head) (head : Head) (shown o
       Steps (reading handed count seconds had shown over before) (stopped (handed + header_length had) count (Some head) now) a b given step.TooLong
   long_step len all lt =
       let n = reached.count in let same = reached.size in let fits = reached.fits in
-      record { gave = reached.gave; taken = omega arith; counted = omega arith; bound = omega arith; answers = (stops, omega arith, (head, _, reached.opens, refl, tt)) }
+      record { gave = reached.gave; taken = omega arith; counted = omega arith; bound = omega arith; answers = (stops, omega arith, (head, _, reached.opens (told b.bytes), refl, tt)) }
 
   pub end_step : handed + header_length had ≤ 268435456 → now.kept ≡ [] → IsAtEnd b →
       Steps (reading handed count seconds had shown over before) (stopped (handed + header_length had) count (Some head) now) a b given step.End
@@ -72,13 +71,14 @@ module _ (handed count seconds : ℕ) (had : Option Head) (head : Head) (shown o
       let gone : told b.bytes ≡ [] = nothing_told b end in
       let body : now.kept ++ told b.bytes ≡ [] = rw (none, gone) refl in
       let zero : length now.kept ≡ 0 = ap length none in
-      record { gave = reached.gave; taken = omega arith; counted = omega arith; bound = omega arith; answers = (stops, (head, _, reached.opens, refl, body), end, none, omega arith) }
+      record { gave = reached.gave; taken = omega arith; counted = omega arith; bound = omega arith; answers = (stops, (head, _, reached.opens (told b.bytes), refl, body), end, none, omega arith) }
 
-  pub broken_step : record_at head.order (now.kept ++ told b.bytes) ≡ Broken →
+  pub broken_step : record_at head.order (now.kept ++ told b.bytes) ≡ Broken → record_at head.order now.kept ≡ Broken →
       Steps (reading handed count seconds had shown over before) (stopped (handed + header_length had) count (Some head) now) a b given (step.BadRecord (count + 1))
-  broken_step broken =
+  broken_step broken kept_broken =
+      let all : opened_from had (before.kept ++ given) ≡ Ok (head, now.kept) = rw (append-nil (before.kept ++ given), append-nil now.kept) at (reached.opens []) in
       let n = reached.count in let same = reached.size in let fits = reached.fits in
-      record { gave = reached.gave; taken = omega arith; counted = omega arith; bound = omega arith; answers = (stops, refl, (head, _, reached.opens, refl, broken)) }
+      record { gave = reached.gave; taken = omega arith; counted = omega arith; bound = omega arith; answers = (stops, refl, (head, _, reached.opens (told b.bytes), refl, broken), (head, now.kept, all, refl, kept_broken)) }
 
   pub fault_step : Rose a b → Steps (reading handed count seconds had shown over before) (stopped (handed + header_length had) count (Some head) now) a b given step.Fault
   fault_step rose =
@@ -102,7 +102,7 @@ module _ (handed count seconds : ℕ) (had : Option Head) (head : Head) (shown o
           head = head;
           body = now.kept ++ told b.bytes;
           packet = record { seconds = secs; bytes = take len (drop 16 now.kept) };
-          opens = reached.opens;
+          opens = reached.opens (told b.bytes);
           whole = whole;
           known = refl;
           shown = rw datagram_is refl;

@@ -2,3 +2,6 @@ pub mod Calls
 pub mod Fillings
 pub mod Parts
 pub mod Walking
+mod Fronts
+pub mod Going
+pub mod Showing

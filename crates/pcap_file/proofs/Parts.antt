@@ -50,14 +50,20 @@ open_bad had before now a b given fault none fills is =
     rw none (record {
       gave = fills.gave;
       size = fills.size;
-      is = (refl, rw (← fills.kept) (head_refused now.kept (told b.bytes) fault enough is), fills.kept, fills.fits);
+      is = (
+        refl,
+        rw (← fills.kept) (head_refused now.kept (told b.bytes) fault enough is),
+        fills.kept,
+        fills.fits,
+        rw (← fills.kept) (rw (append-nil now.kept) at (head_refused now.kept [] fault enough is)),
+      );
     })
 
 index : (xs ys : List ℕ) (i : ℕ) → i < length xs → slice_index (xs ++ ys) i ≡ slice_index xs i
 index xs ys i lt = get_or_append_left xs ys 0 i lt
 
 -- a number among the first bytes stays, whatever follows
-four_in_front : (order : ByteOrder) (xs ys : List ℕ) (i : ℕ) → i + 3 < length xs → four_at order (xs ++ ys) i ≡ four_at order xs i
+pub four_in_front : (order : ByteOrder) (xs ys : List ℕ) (i : ℕ) → i + 3 < length xs → four_at order (xs ++ ys) i ≡ four_at order xs i
 four_in_front Big xs ys i lt = rw (index xs ys i (omega arith), index xs ys (i + 1) (omega arith), index xs ys (i + 2) (omega arith), index xs ys (i + 2 + 1) (omega arith)) refl
 four_in_front Little xs ys i lt = rw (index xs ys i (omega arith), index xs ys (i + 1) (omega arith), index xs ys (i + 2) (omega arith), index xs ys (i + 2 + 1) (omega arith)) refl
 
@@ -69,7 +75,7 @@ all_kept before now given b kept none = rw none (append-nil now.kept ∙ kept)
 found_short : (order : ByteOrder) (before now : Buffered) (a b : Side) (given : List ℕ) → Fills 16 before now a b given filled.Ended → 0 < length now.kept → Finds order before now a b given found.Broken
 found_short order before now a b given fills some =
     let all : now.kept ++ told b.bytes ≡ now.kept = rw (nothing_told b fills.fills.1) (append-nil now.kept) in
-    record { gave = fills.gave; kept = fills.kept; size = fills.size; fits = fills.fits; is = rw all (record_short order now.kept some fills.fills.0) }
+    record { gave = fills.gave; kept = fills.kept; size = fills.size; fits = fills.fits; is = let short = record_short order now.kept some fills.fills.0 in (rw all short, short) }
 
 -- no record is left
 found_done : (order : ByteOrder) (before now : Buffered) (a b : Side) (given : List ℕ) → Fills 16 before now a b given filled.Ended → length now.kept ≡ 0 → Finds order before now a b given found.Done
@@ -92,7 +98,7 @@ found_over order before now a b given len fills len_is over =
     let enough : 16 ≤ length now.kept = fills.fills in
     let size = length-append now.kept (told b.bytes) in
     let number : four_at order (now.kept ++ told b.bytes) 8 ≡ len = four_in_front order now.kept (told b.bytes) 8 (omega arith) ∙ sym len_is in
-    record { gave = fills.gave; kept = fills.kept; size = fills.size; fits = fills.fits; is = record_over order (now.kept ++ told b.bytes) (omega arith) (rw number over) }
+    record { gave = fills.gave; kept = fills.kept; size = fills.size; fits = fills.fits; is = (record_over order (now.kept ++ told b.bytes) (omega arith) (rw number over), record_over order now.kept enough (rw len_is at over)) }
 
 -- a read failed on the way to the rest of a record
 pub found_fault : (order : ByteOrder) (before middle now : Buffered) (a s b : Side) (first second : List ℕ) (wanted : ℕ) → Fills 16 before middle a s first filled.Enough →
@@ -119,7 +125,7 @@ found_part order before middle now a s b first second len one two len_is le =
       kept = two.kept ∙ (ap (λ xs. xs ++ second) one.kept ∙ append_assoc before.kept first second);
       size = two.size ∙ one.size;
       fits = two.fits;
-      is = rw all (record_part order (middle.kept ++ second) (omega arith) (rw number le) (rw number short));
+      is = let part = record_part order (middle.kept ++ second) (omega arith) (rw number le) (rw number short) in (rw all part, rw two.kept part);
     }
 
 -- a whole record

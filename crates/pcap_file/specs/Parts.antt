@@ -38,7 +38,7 @@ abbrev pub IsOpened : Option Head → List ℕ → Buffered → Side → Side �
 IsOpened had text now source_before source_now (opening.Head head) =
     ((left : List ℕ) → opened_from had (text ++ left) ≡ Ok (head, now.kept ++ left)) × (now.kept ≡ drop (header_length had) text) × (header_length had ≤ length text)
 IsOpened had text now source_before source_now (opening.Bad fault) =
-    (had ≡ None) × (opened_from had (text ++ told source_now.bytes) ≡ Err fault) × (now.kept ≡ text) × (length now.kept ≤ now.size)
+    (had ≡ None) × (opened_from had (text ++ told source_now.bytes) ≡ Err fault) × (now.kept ≡ text) × (length now.kept ≤ now.size) × (opened_from had text ≡ Err fault)
 IsOpened had text now source_before source_now opening.Fault = Rose source_before source_now × (had ≡ None) × (now.kept ≡ text) × (length now.kept ≤ now.size)
 
 -- reading the header
@@ -52,7 +52,7 @@ abbrev pub IsFound : ByteOrder → List ℕ → Side → Side → Found → Type
 IsFound order kept source_before source_now (found.Whole seconds len) =
     (record_at order (kept ++ told source_now.bytes) ≡ Whole (record { seconds = seconds; bytes = take len (drop 16 kept) }) (drop (16 + len) kept ++ told source_now.bytes)) × (16 + len ≤ length kept)
 IsFound order kept source_before source_now found.Done = (kept ≡ []) × IsAtEnd source_now
-IsFound order kept source_before source_now found.Broken = record_at order (kept ++ told source_now.bytes) ≡ Broken
+IsFound order kept source_before source_now found.Broken = (record_at order (kept ++ told source_now.bytes) ≡ Broken) × (record_at order kept ≡ Broken)
 IsFound order kept source_before source_now found.Fault = Rose source_before source_now
 
 -- reading a record

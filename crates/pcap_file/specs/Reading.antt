@@ -1,9 +1,9 @@
 -- What one call of a reader of packets does (own).
-use Rattle.std.specs.Prelude.{◌≡◌, ℕ, ◌+◌, ◌-◌, ◌<◌, ◌≤◌, Bool, true, false, List, [], ◌++◌, length, drop, Option, Some, None, Result, Ok, Err}
+use Rattle.std.specs.Prelude.{◌≡◌, ℕ, ◌+◌, ◌-◌, ◌<◌, ◌≤◌, ◌==◌, if◌then◌else◌, Bool, true, false, List, [], ◌∷◌, ◌++◌, length, drop, Option, Some, None, Result, Ok, Err}
 use Rattle.ao_base.specs.Outside.{Side, Gave, Rose, IsAtEnd, told}
 use Rattle.wire_model.specs.declared.pcap_head.Head.{Head}
 use Rattle.wire_model.specs.declared.pcap_head.HeadFault.{HeadFault}
-use Rattle.wire_model.specs.Packets.{opened, Kept, Front, Done, Broken, Whole, record_at, datagram_of, Packet, Packets, with_packet, packets_in}
+use Rattle.wire_model.specs.Packets.{opened, Kept, Front, Done, Broken, Whole, record_at, datagram_of, Packet, Packets, with_packet, packets_in, packets_of}
 use Rattle.wire_model.specs.Packets.{BadHead as head_refused, BadRecord as record_refused}
 use Rattle.pcap_file.specs.declared.packets.PacketStep.{PacketStep}
 use Rattle.pcap_file.specs.declared.packets.PacketStep.TheVariants as step
@@ -64,9 +64,10 @@ Answers before now source_before source_now given text step.End =
 Answers before now source_before source_now given text step.Fault = Stops before now given × Rose source_before source_now
 Answers before now source_before source_now given text step.TooLong = Stops before now given × (268435456 < now.taken) × Opening before now text (λ head body. Unit {0})
 Answers before now source_before source_now given text (step.BadHead fault) =
-    Stops before now given × (before.head ≡ None) × (now.head ≡ None) × (opened_from before.head text ≡ Err fault)
+    Stops before now given × (before.head ≡ None) × (now.head ≡ None) × (opened_from before.head text ≡ Err fault) × (opened_from before.head (before.kept ++ given) ≡ Err fault)
 Answers before now source_before source_now given text (step.BadRecord n) =
     Stops before now given × (n ≡ before.count + 1) × Opening before now text (λ head body. record_at head.order body ≡ Broken)
+    × Opening before now (before.kept ++ given) (λ head body. record_at head.order body ≡ Broken)
 
 -- one call of `next`, in which the source gave these bytes
 pub record Steps (before now : Reading) (source_before source_now : Side) (given : List ℕ) (result : PacketStep) : Type 0 where
@@ -107,9 +108,22 @@ abbrev pub packets_after : ℕ → Result (Head × List ℕ) HeadFault → Packe
 packets_after count (Err fault) = record { list = []; fault = Some (head_refused fault) }
 packets_after count (Ok body) = packets_in body.0 (count + 1) body.1
 
+-- the packets of these bytes, where the reader stands: behind the header and the packets that it showed
+abbrev pub packets_at : Reading → List ℕ → Packets
+packets_at reading bytes = packets_after reading.count (opened_from reading.head bytes)
+
 -- the packets that are still to come, where the source has these bytes left; of a new reader those of the file
 abbrev pub packets_left : Reading → List ℕ → Packets
-packets_left reading left = packets_after reading.count (opened_from reading.head (reading.kept ++ left))
+packets_left reading left = packets_at reading (reading.kept ++ left)
+
+-- a call goes on in the bytes that were kept and given: it passes over the next record, whose packet it shows, whatever follows; or it ends where their packets do
+abbrev pub GoesOn : Reading → Reading → List ℕ → PacketStep → Type 0
+GoesOn before now text step.Packet =
+    (past : List ℕ) × (p : Packet) × (text ≡ past ++ now.kept) × (now.packet ≡ Some p) × (16 ≤ length past) × ((more : List ℕ) → packets_at before (past ++ more) ≡ with_packet p (packets_at now more))
+GoesOn before now text step.End = packets_at before text ≡ record { list = []; fault = None }
+GoesOn before now text (step.BadHead fault) = packets_at before text ≡ record { list = []; fault = Some (head_refused fault) }
+GoesOn before now text (step.BadRecord n) = packets_at before text ≡ record { list = []; fault = Some (record_refused n) }
+GoesOn before now text _ = Unit {0}
 
 -- a call goes on in the packets of the file: it shows the next one, or ends where they do
 abbrev pub Walks : Reading → Reading → List ℕ → List ℕ → PacketStep → Type 0
@@ -131,3 +145,18 @@ pub record IsQuiet (reading : Reading) (source_before source_now : Side) (left :
   pub most : reading.taken + length left ≤ 268435456
   pub sound : IsPacketOrEnd (wanted_step reading left)
   pub quiet : ¬ Rose source_before source_now
+
+-- these packets, and then a packet that is passed over or not
+abbrev pub and_packet : List Packet → Packet → List Packet
+and_packet shown p = if length p.datagram == 0 then shown else shown ++ p ∷ []
+
+-- these packets in front of others
+abbrev pub in_front : List Packet → Packets → Packets
+in_front shown others = record { list = shown ++ others.list; fault = others.fault }
+
+-- the reader took these bytes in all and showed these packets, besides those without a datagram: they are the packets of the bytes in front of those that it keeps, whatever follows
+pub record HasShown (reading : Reading) (given : List ℕ) (shown : List Packet) : Type 0 where
+  pub front : List ℕ
+  pub split : given ≡ front ++ reading.kept
+  pub packets : (more : List ℕ) → packets_of (front ++ more) ≡ in_front shown (packets_at reading more)
+  pub taken : reading.taken ≡ length given

@@ -1,7 +1,7 @@
 //! The packets of a pcap file, one after another.
-ghost use Rattle.std.specs.Prelude.{◌≡◌, ℕ, true, false, List, [], IfOk, IsSome, IfSome, Some, None};
+ghost use Rattle.std.specs.Prelude.{◌≡◌, ◌++◌, ℕ, true, false, List, [], IfOk, IsSome, IfSome, Some, None};
 ghost use Rattle.ao_base.specs.Outside.{Side, told};
-ghost use Rattle.pcap_file.specs.Reading.{Reading, Steps, header_length, wanted_step, Exactly, Walks, IsQuiet, IsPacketOrEnd};
+ghost use Rattle.pcap_file.specs.Reading.{Reading, Steps, GoesOn, header_length, wanted_step, Exactly, Walks, IsQuiet, IsPacketOrEnd};
 
 use crate::head::HEAD;
 use crate::records::{Found, MOST_KEPT, Opened, RECORD, find_datagram, find_record, open};
@@ -79,14 +79,14 @@ impl Packets {
     /// The content is what the reader keeps, and then what the source has left. It begins with the
     /// header at the first call, and with a record at each later one (pcap-savefile). Packet: the
     /// record at the front is shown, also of a packet that has no datagram, and the content afterwards
-    /// is what follows it. End comes only at the source's end, with all packets shown. BadHead and
+    /// is what follows it; what was taken shows this, whatever follows. End comes only at the source's end, with all packets shown. BadHead and
     /// BadRecord come exactly where the header, or the record at the front, has a fault; but Fault
     /// may come before both, and TooLong before BadRecord. Fault comes only where the source's count
     /// of faults rose, TooLong only where the source gave more than 268,435,456 bytes. Where none of
     /// this is so, the answer is Packet or End. At most 327,696 bytes are kept after any call.
     pub fn next<S: Source>(&mut self, src: &mut S) -> PacketStep
         requires { self.old.over ≡ false }
-        ensures steps { (given : List ℕ) × Steps self.old self.new (S.side src.old) (S.side src.new) given result }
+        ensures steps { (given : List ℕ) × Steps self.old self.new (S.side src.old) (S.side src.new) given result × GoesOn self.old self.new (self.old.kept ++ given) result }
         ensures exact { (left : List ℕ) → (S.side src.old).bytes ≡ Some left → Exactly (wanted_step self.old left) result }
         ensures walks { (left : List ℕ) → (S.side src.old).bytes ≡ Some left → Walks self.old self.new left (told (S.side src.new).bytes) result }
         ensures quiet { (left : List ℕ) → IsQuiet self.old (S.side src.old) (S.side src.new) left → IsPacketOrEnd result }

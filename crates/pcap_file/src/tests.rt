@@ -70,6 +70,74 @@ fn end_behind(alloc: Global, head: &[u8]) -> Result<PacketStep, AllocError> {
     Ok(step)
 }
 
+// Two records, of three bytes and of twenty, in both orders of bytes; behind Ethernet the first packet is
+// passed over and the second has a datagram of six bytes.
+const LITTLE_RECORDS: &[u8] =
+    b"\x07\x00\x00\x00\x00\x00\x00\x00\x03\x00\x00\x00\x09\x00\x00\x00abc\x08\x00\x00\x00\x00\x00\x00\x00\x14\x00\x00\x00\x09\x00\x00\x00aaaaaabbbbbb\x08\x00abcdef";
+
+const BIG_RECORDS: &[u8] =
+    b"\x00\x00\x00\x07\x00\x00\x00\x00\x00\x00\x00\x03\x00\x00\x00\x09abc\x00\x00\x00\x08\x00\x00\x00\x00\x00\x00\x00\x14\x00\x00\x00\x09aaaaaabbbbbb\x08\x00abcdef";
+
+// How the reading of a file ends that has a header and the first bytes of those two records.
+fn end_of_cut(len: usize) -> PacketStep {
+    match len {
+        0..=23 => PacketStep::BadHead(HeadFault::Short),
+        24 => PacketStep::End,
+        25..=42 => PacketStep::BadRecord(1),
+        43 => PacketStep::End,
+        44..=78 => PacketStep::BadRecord(2),
+        _ => PacketStep::End,
+    }
+}
+
+// Whether the reading of the file ends as it must wherever the file is cut.
+fn ends_everywhere(alloc: Global, head: &[u8], records: &[u8]) -> Result<bool, AllocError> {
+    let mut file = Vec::from_slice(alloc, head)?;
+    file.extend_from_slice(records)?;
+    let mut right = file.len() == 79;
+    for len in 0..=file.len() {
+        let (_out, step) = read(alloc, [&file.as_slice()[..len]].as_slice(), [].as_slice())?;
+        right &= step == end_of_cut(len);
+    }
+    Ok(right)
+}
+
+#[test]
+fn raw_ip_is_cut_at_every_byte(rt: HostRuntime) -> Result<(), Fail> {
+    assert!(rt; ends_everywhere(rt.alloc(), LITTLE_RAW, LITTLE_RECORDS)?);
+    Ok(())
+}
+
+#[test]
+fn ethernet_is_cut_at_every_byte(rt: HostRuntime) -> Result<(), Fail> {
+    assert!(rt; ends_everywhere(rt.alloc(), LITTLE_ETHERNET, LITTLE_RECORDS)?);
+    Ok(())
+}
+
+#[test]
+fn raw_ip_with_high_bytes_first_is_cut_at_every_byte(rt: HostRuntime) -> Result<(), Fail> {
+    assert!(rt; ends_everywhere(rt.alloc(), BIG_RAW, BIG_RECORDS)?);
+    Ok(())
+}
+
+#[test]
+fn ethernet_with_high_bytes_first_is_cut_at_every_byte(rt: HostRuntime) -> Result<(), Fail> {
+    assert!(rt; ends_everywhere(rt.alloc(), BIG_ETHERNET, BIG_RECORDS)?);
+    Ok(())
+}
+
+#[test]
+fn a_tagged_packet_is_passed_over(rt: HostRuntime) -> Result<(), Fail> {
+    let arp = b"\x05\x00\x00\x00\x06\x00\x00\x00\x10\x00\x00\x00\x20\x00\x00\x00aaaaaabbbbbb\x08\x06ip".as_slice();
+    let tagged = b"\x06\x00\x00\x00\x06\x00\x00\x00\x14\x00\x00\x00\x20\x00\x00\x00aaaaaabbbbbb\x81\x00\x00\x05\x08\x00ip".as_slice();
+    let plain = b"\x07\x00\x00\x00\x06\x00\x00\x00\x10\x00\x00\x00\x20\x00\x00\x00aaaaaabbbbbb\x08\x00ip".as_slice();
+    let parts = [LITTLE_ETHERNET, arp, tagged, plain];
+    let (out, step) = read(rt.alloc(), parts.as_slice(), [].as_slice())?;
+    assert_eq!(rt; out.as_slice(), b"15|26|37ip|".as_slice());
+    assert_eq!(rt; step, PacketStep::End);
+    Ok(())
+}
+
 #[test]
 fn a_datagram_behind_raw_ip(rt: HostRuntime) -> Result<(), Fail> {
     let record = b"\x00\x00\x00\x00\x00\x00\x00\x00\x28\x00\x00\x00\x28\x00\x00\x00".as_slice();

@@ -33,7 +33,7 @@ returns-in-Broken g c =
       c.in-Head.ensures.0 ++ c.in-Broken.ensures.0,
       rw (← c.self.view_is, c.stop-in-Broken.ensures.step, c.stop-in-Broken.ensures.over, past)
           (broken_step c.self.inside.handed c.self.inside.count c.self.inside.seconds c.self.inside.head c.in-Head.head c.self.inside.shown c.self.inside.over c.self.inside.buffer c.find_record.new.buffer _ _ _
-          c.self.invariant.2 reached c.in-Broken.ensures.1.is),
+          c.self.invariant.2 reached c.in-Broken.ensures.1.is.0 c.in-Broken.ensures.1.is.1),
     )
 
 pub returns-in-Fault-find_record : goal.returns-in-Fault-find_record
