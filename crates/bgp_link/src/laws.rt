@@ -1,0 +1,16 @@
+//! What holds of the messages of every run.
+ghost use Rattle.std.specs.Prelude.{List};
+ghost use Rattle.std.specs.List.{AllByRecursion};
+ghost use Rattle.link_model.specs.declared.event.Event.{Event};
+ghost use Rattle.link_model.specs.Laws.{SetupFits, EventFits};
+ghost use Rattle.link_model.specs.Runs.{run};
+ghost use Rattle.link_model.specs.Worlds.{Setup};
+ghost use Rattle.bgp_link.specs.Tellings.{SpeaksInOrder, TellsMessages};
+
+/// The text of a run tells of each session the messages of the bytes that it delivered, in whatever
+/// pieces they were taken; and where the run counts no forgery, they begin the messages of the bytes
+/// that were given to the session's partner. It holds for every setup and every list of events.
+pub fn messages_come_in_order()
+    ensures told { (setup : Setup) (events : List Event) → TellsMessages setup events }
+    ensures begins { (setup : Setup) (events : List Event) → SetupFits setup → AllByRecursion EventFits events → SpeaksInOrder (run setup events) }
+{}

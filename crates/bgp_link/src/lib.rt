@@ -1,0 +1,13 @@
+//! A link file run as a link whose delivered bytes are read as BGP messages (RFC 4271): the lines of
+//! the messages that a piece completes, and what holds of the messages of every run.
+#![tactic(auto)]
+
+mod laws;
+mod lines;
+mod reading;
+#[cfg(test)]
+mod tests;
+
+pub use laws::messages_come_in_order;
+pub use lines::Place;
+pub use reading::read_piece;

@@ -1,0 +1,175 @@
+-- A segment that passed at an end is what a log is told of it.
+use Rattle.std.proofs.Common.{◌≡◌, ℕ, zero, suc, ◌+◌, ◌-◌, ◌==◌, ◌≤◌, ◌<◌, not, ◌&&◌, List, [], ◌∷◌, length, Option, Some, None, refl, sym, ap, ◌∙◌, subst, arith, nat_lt}
+use Rattle.std.specs.Prelude.{⊤, is_some, slice_get}
+use Rattle.ao_base.specs.declared.address.Pair.{Pair}
+use Rattle.ao_base.specs.declared.end.End.{End}
+use Rattle.ao_base.specs.declared.end.End.TheVariants.{A, B}
+use Rattle.ao_base.specs.Algorithms.{mac_length_of}
+use Rattle.segment_model.specs.Bytes.{same_bytes}
+use Rattle.segment_model.specs.Options.{Ao, AoFound, Absent, One, Two, WithMd5 as FoundMd5, find_ao}
+use Rattle.segment_model.specs.Segments.{Segment, Reading, Read, Bad as Unread, reading, good, has, segment_length, SYN}
+use Rattle.segment_model.proofs.Fields.{some_is}
+use Rattle.mac_model.specs.Contexts.{context_of}
+use Rattle.mac_model.specs.MacInput.{mac_input}
+use Rattle.key_model.specs.Rows.{Row}
+use Rattle.key_model.specs.Choices.{Numbered, accept_row, acceptable_as, has_id}
+use Rattle.key_model.proofs.ChoiceLaws.{lowest-IsLowest}
+use Rattle.endpoint_model.specs.States.{EndState, is_closed}
+use Rattle.endpoint_model.specs.declared.verdict.Passed.{Passed}
+use Rattle.endpoint_model.specs.declared.verdict.Verdict.TheVariants.{NoTuple, Expired, MacLength, NoContext, Range, BadMac}
+use Rattle.endpoint_model.specs.Verdicts.{Finding, Judgement, Refuse, Admit, key_of, mac_of, found_with, judge_number, number_of, judge_context, judge_row, judge_ao, judge}
+use Rattle.endpoint_model.specs.declared.arrival.Arrival.TheVariants.{Foreign, Checksum, Closed as AtClosed}
+use Rattle.endpoint_model.specs.Arrivals.{Arrived, unmoved, arrive_judged, number_expected, judged_by, from_peer, arrive_read, arrive}
+use Rattle.ao_check.specs.Verdicts.{Names}
+use Rattle.tcp_endpoint.specs.Arriving.{TellsPassed}
+use Rattle.link_model.specs.Steps.{Act, act_on, add, come, on_live, put}
+use Rattle.link_model.specs.Worlds.{Setup, pair_of, Session, Side as EndSide, Came, Happening, Coming, World, side}
+use Rattle.link_laws.proofs.Tests.{choose}
+use Rattle.link_log.specs.declared.entry.Entrance.{Entrance}
+use Rattle.link_log.specs.Entries.{ComesAs, PassesUnder}
+
+-- ---- how it came
+
+-- a segment that passed under the row of this number
+passes_under : (rows : List Row) (pair : Pair) (d : Segment) (p : Passed) (f : Finding) (row : Row) → Names rows pair d p f
+    → slice_get rows (p.row - 1) ≡ Some row → PassesUnder row d p.number p.context f
+passes_under rows pair d p f row n here =
+    let same : n.row ≡ row = some_is n.row row (sym n.here ∙ here) in
+    let is = n.entry_is in
+    record {
+      key = ap (λ (g : Finding). g.key) is ∙ ap key_of same;
+      context_is = ap (λ (g : Finding). g.context) is;
+      ao = n.ao;
+      found = n.found;
+      input = ap (λ (g : Finding). g.input) is ∙ ap (λ (r : Row). mac_input p.number d n.ao r.with_options) same;
+    }
+
+comes_by : (rows : List Row) (pair : Pair) (bytes : List ℕ) (r : Reading) (p : Passed) (o : Option Finding) (e : Entrance) → reading bytes ≡ r
+    → TellsPassed rows pair r (Some p) o → slice_get rows (p.row - 1) ≡ Some e.row.now → e.number ≡ p.number → e.context ≡ p.context → ComesAs bytes (Some e) o
+comes_by rows pair bytes (Read d) p (Some f) e is n here number context =
+    let passes : PassesUnder e.row.now d p.number p.context f = passes_under rows pair d p f e.row.now n here in
+    let at_number : PassesUnder e.row.now d e.number p.context f = subst (λ k. PassesUnder e.row.now d k p.context f) (sym number) passes in
+    (f, refl, record { segment = d; reads = is; passes = subst (λ c. PassesUnder e.row.now d e.number c f) (sym context) at_number })
+comes_by rows pair bytes (Read d) p None e is n here number context = absurd n
+comes_by rows pair bytes (Unread fault) p (Some f) e is n here number context = absurd n
+comes_by rows pair bytes (Unread fault) p None e is n here number context = absurd n
+
+-- what is told of a segment that passed is how it came: under the row of that number, with that number and context
+pub comes_passed : (rows : List Row) (pair : Pair) (bytes : List ℕ) (p : Passed) (o : Option Finding) (e : Entrance)
+    → TellsPassed rows pair (reading bytes) (Some p) o → slice_get rows (p.row - 1) ≡ Some e.row.now → e.number ≡ p.number → e.context ≡ p.context
+    → ComesAs bytes (Some e) o
+comes_passed rows pair bytes p o e n here number context = comes_by rows pair bytes (reading bytes) p o e refl n here number context
+
+none_by : (rows : List Row) (pair : Pair) (r : Reading) (o : Option Finding) → TellsPassed rows pair r None o → o ≡ None
+none_by rows pair r None n = refl
+none_by rows pair (Read d) (Some f) n = absurd n
+none_by rows pair (Unread fault) (Some f) n = absurd n
+
+-- where nothing is told, nothing passed
+pub comes_unpassed : (rows : List Row) (pair : Pair) (bytes : List ℕ) (o : Option Finding) → TellsPassed rows pair (reading bytes) None o → ComesAs bytes None o
+comes_unpassed rows pair bytes o n = none_by rows pair (reading bytes) o n
+
+-- ---- the number of its row
+
+-- what passed, where something did, is under a row, and rows are numbered from 1
+abbrev pub IsNumbered : Option Finding → Type 0
+IsNumbered None = ⊤
+IsNumbered (Some f) = 1 ≤ f.row
+
+abbrev AdmitsNumbered : Judgement → Type 0
+AdmitsNumbered (Refuse why) = ⊤
+AdmitsNumbered (Admit f) = 1 ≤ f.row
+
+module _ (rows : List Row) (pair : Pair) (now : ℕ) (d : Segment) (x : Option ℕ) where
+  number_numbered : (r : Numbered) (ao : Ao) (c : List ℕ) (n : Option ℕ) → 1 ≤ r.number → AdmitsNumbered (judge_number r d ao c n)
+  number_numbered r ao c None low = tt
+  number_numbered r ao c (Some n) low =
+      choose AdmitsNumbered (nat_lt 9223372036854775808 (n + segment_length d)) (Refuse Range) _ (λ t. tt)
+      (λ t. choose AdmitsNumbered (same_bytes ao.mac (mac_of (found_with r d ao c n))) (Admit (found_with r d ao c n)) (Refuse BadMac) (λ right. low) (λ wrong. tt))
+
+  context_numbered : (r : Numbered) (ao : Ao) (o : Option (List ℕ)) → 1 ≤ r.number → AdmitsNumbered (judge_context r d ao x o)
+  context_numbered r ao None low = tt
+  context_numbered r ao (Some c) low =
+      choose AdmitsNumbered (not (has SYN d) && not (is_some x)) (Refuse NoContext) _ (λ t. tt) (λ t. number_numbered r ao c (number_of d x) low)
+
+  row_numbered : (ao : Ao) (o : Option (List ℕ)) (r : Option Numbered) → ((n : Numbered) → r ≡ Some n → 1 ≤ n.number) → AdmitsNumbered (judge_row rows pair d ao x o r)
+  row_numbered ao o None low = choose AdmitsNumbered (has_id rows pair ao.key_id) (Refuse Expired) (Refuse NoTuple) (λ t. tt) (λ t. tt)
+  row_numbered ao o (Some r) low =
+      choose AdmitsNumbered (not (length ao.mac == mac_length_of r.row.algorithm)) (Refuse MacLength) _ (λ t. tt) (λ t. context_numbered r ao o (low r refl))
+
+  ao_numbered : (o : Option (List ℕ)) (f : AoFound) → AdmitsNumbered (judge_ao rows pair now x d o f)
+  ao_numbered o Absent = tt
+  ao_numbered o Two = tt
+  ao_numbered o FoundMd5 = tt
+  ao_numbered o (One ao) =
+      row_numbered ao o (accept_row rows pair ao.key_id now) (λ n e. (lowest-IsLowest (acceptable_as pair ao.key_id now) rows n e).low)
+
+judged_numbered : (rows : List Row) (pair : Pair) (now : ℕ) (s : EndState) (d : Segment) → AdmitsNumbered (judged_by rows pair now s d)
+unfolding judge
+judged_numbered rows pair now s d = ao_numbered rows pair now d (number_expected s s.peer_isn) (context_of d s.peer_isn (Some s.isn)) (find_ao d.area)
+
+verdict_numbered : (rows : List Row) (pair : Pair) (now : ℕ) (s : EndState) (d : Segment) (v : Judgement) → AdmitsNumbered v
+    → IsNumbered (arrive_judged rows pair now s d v).passed
+verdict_numbered rows pair now s d (Refuse why) low = tt
+verdict_numbered rows pair now s d (Admit f) low = low
+
+read_numbered : (rows : List Row) (pair : Pair) (now : ℕ) (s : EndState) (r : Reading) → IsNumbered (arrive_read rows pair now s r).passed
+read_numbered rows pair now s (Unread fault) = tt
+read_numbered rows pair now s (Read d) =
+    let P : Arrived → Type 0 = λ (x : Arrived). IsNumbered x.passed in
+    choose P (not (from_peer pair d)) (unmoved s Foreign) _ (λ t. tt) (λ ours.
+    choose P (not (good d)) (unmoved s Checksum) _ (λ t. tt) (λ right.
+    choose P (is_closed s.phase) (unmoved s AtClosed) _ (λ t. tt) (λ awake.
+    verdict_numbered rows pair now s d (judged_by rows pair now s d) (judged_numbered rows pair now s d))))
+
+arrive_numbered : (rows : List Row) (pair : Pair) (now : ℕ) (s : EndState) (r : Reading) → IsNumbered (arrive rows pair now s r).passed
+unfolding arrive
+arrive_numbered rows pair now s r = read_numbered rows pair now s r
+
+put_history : (w : World) (e : End) (now : EndSide) (h : Option Happening) → (put w e now h).history ≡ add h w.history
+put_history w A now h = refl
+put_history w B now h = refl
+
+abbrev came_or : Came → List Happening → Came
+came_or c (Coming d ∷ past) = d
+came_or c _ = c
+
+came_by : (setup : Setup) (w : World) (e : End) (bytes : List ℕ) (c : Came) (sessions : List Session)
+    → (act_on w e sessions (come setup e w bytes)).world.history ≡ Coming c ∷ w.history → IsNumbered c.passed
+came_by setup w e bytes c [] is = absurd (let size = ap length is in omega (arith, size))
+came_by setup w e bytes c (s ∷ rest) is =
+    let act : Act = come setup e w bytes s.state in
+    let there = sym (put_history w e _ act.happened) ∙ is in
+    subst (λ (d : Came). IsNumbered d.passed) (ap (came_or c) there) (arrive_numbered (side w e).rows (pair_of setup e) (side w e).clock s.state (reading bytes))
+
+-- what passed of bytes that came to an end is under a row, and rows are numbered from 1
+pub came_numbered : (setup : Setup) (w : World) (e : End) (bytes : List ℕ) (c : Came)
+    → (on_live w e (come setup e w bytes)).world.history ≡ Coming c ∷ w.history → IsNumbered c.passed
+came_numbered setup w e bytes c is = came_by setup w e bytes c (side w e).sessions is
+
+-- the row with this number is there
+pub record IsRow (rows : List Row) (number : ℕ) : Type 0 where
+  pub low : 1 ≤ number
+  pub high : number ≤ length rows
+
+within_rows : (rows : List Row) (i : ℕ) (r : Row) → slice_get rows i ≡ Some r → i < length rows
+within_rows [] i r e = absurd (cc)
+within_rows (x ∷ rows) zero r e = omega arith
+within_rows (x ∷ rows) (suc i) r e = let more = within_rows rows i r e in omega (arith, more)
+
+named_row : (rows : List Row) (pair : Pair) (d : Segment) (p : Passed) (f : Finding) → Names rows pair d p f → 1 ≤ f.row → IsRow rows p.row
+named_row rows pair d p f n low =
+    let same : f.row ≡ p.row = ap (λ (g : Finding). g.row) n.entry_is in
+    let inside = within_rows rows (p.row - 1) n.row n.here in
+    record { low = omega (arith, same, low); high = omega (arith, inside) }
+
+row_by : (rows : List Row) (pair : Pair) (r : Reading) (p : Passed) (o : Option Finding) → TellsPassed rows pair r (Some p) o → IsNumbered o → IsRow rows p.row
+row_by rows pair (Read d) p (Some f) n low = named_row rows pair d p f n low
+row_by rows pair (Read d) p None n low = absurd n
+row_by rows pair (Unread fault) p (Some f) n low = absurd n
+row_by rows pair (Unread fault) p None n low = absurd n
+
+-- the row that is told of a segment that passed is one of the table
+pub told_row : (rows : List Row) (pair : Pair) (bytes : List ℕ) (p : Passed) (o : Option Finding) → TellsPassed rows pair (reading bytes) (Some p) o → IsNumbered o
+    → IsRow rows p.row
+told_row rows pair bytes p o n low = row_by rows pair (reading bytes) p o n low
