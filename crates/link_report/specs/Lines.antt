@@ -4,9 +4,9 @@ use Rattle.endpoint_model.specs.declared.phase.Phase.{Phase}
 use Rattle.link_model.specs.Outcomes as book
 use Rattle.link_model.specs.Reports.{phase_text}
 use Rattle.link_model.specs.Worlds.{Made, Session}
-use Rattle.link_report.specs.declared.outcome.Plain.{Plain}
-use Rattle.link_report.specs.declared.outcome.Plain.TheVariants as plain
-use Rattle.link_report.specs.declared.outcome.SentSegment.{SentSegment}
+use Rattle.link_report.specs.declared.line.Plain.{Plain}
+use Rattle.link_report.specs.declared.line.Plain.TheVariants as plain
+use Rattle.link_report.specs.declared.line.SentSegment.{SentSegment}
 use Rattle.link_report.specs.declared.summary.SessionFacts.{SessionFacts}
 
 -- the outcome of one word

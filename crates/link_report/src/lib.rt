@@ -4,13 +4,15 @@
 #![tactic(auto)]
 
 mod arrival;
+mod line;
 mod outcome;
 mod summary;
 #[cfg(test)]
 mod tests;
 
-pub use outcome::{
+pub use line::{
     Plain, SentSegment, push_added, push_arrival, push_image, push_overlap, push_plain, push_sent,
     push_took,
 };
+pub use outcome::Outcome;
 pub use summary::{SessionFacts, push_counts, push_session};

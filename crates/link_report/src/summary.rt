@@ -5,7 +5,7 @@ ghost use Rattle.link_model.specs.Reports.{number_text, phase_text, session_line
 ghost use Rattle.link_model.specs.Worlds.{Session};
 ghost use Rattle.link_report.specs.Lines.{TellsSession, place_text};
 
-use crate::outcome::push_known;
+use crate::line::push_known;
 use ao_base::End;
 use endpoint_model::Phase;
 use std::alloc::AllocError;
