@@ -18,12 +18,12 @@ use Rattle.link_script.specs.Timed.{plain_of}
 abbrev said : Bool → List (List ℕ) → Result (Taken (Unit {0})) LineKind
 said b ws = or_fault (cond b (Some tt) None) Word >>= λ x. Ok (record { value = x; rest = ws })
 
-rests_are : (a b : List (List ℕ)) (x y : Unit {0}) → Ok {E = LineKind} (record { value = x; rest = a }) ≡ Ok (record { value = y; rest = b }) → a ≡ b
-rests_are a b x y h = cc h
+same_taken : (a b : Taken (Unit {0})) → (let x : Result (Taken (Unit {0})) LineKind = Ok a in x ≡ Ok b) → a ≡ b
+same_taken a b h = cc h
 
 chosen : (b : Bool) (ws rest : List (List ℕ)) (x y : List (List ℕ) → Result TimedEvent LineKind) → Ok (record { value = tt; rest = rest }) ≡ said b ws
     → cond b (x ws) (y ws) ≡ x rest
-chosen true ws rest x y h = ap x (sym (rests_are rest ws tt tt h))
+chosen true ws rest x y h = ap (λ (t : Taken (Unit {0})). x t.rest) (sym (same_taken (record { value = tt; rest = rest }) (record { value = tt; rest = ws }) h))
 chosen false ws rest x y h = absurd (cc h)
 
 other : (b : Bool) (ws : List (List ℕ)) (e : LineKind) (x y : Result TimedEvent LineKind) → Err e ≡ said b ws → cond b x y ≡ y

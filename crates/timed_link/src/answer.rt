@@ -5,7 +5,6 @@ ghost use Rattle.timed_link.specs.declared.answer.TimedProblem.TheVariants.{Faul
 
 use crate::running::{TimedRun, run_timed};
 use ao_base::Bytes;
-use format_model::TimedScript;
 use key_table::Tables;
 use line_model::TextFault;
 use link_script::read_timed;
@@ -45,6 +44,29 @@ impl From<AllocError> for TimedProblem {
     }
 }
 
+/// Reads the link file with waits and runs it over the tables; after a report `a` and `b` are the
+/// timers of the two ends.
+pub(crate) fn run_text(
+    alloc: Global,
+    tables: Tables,
+    text: &[u8],
+    a: &mut Rto,
+    b: &mut Rto,
+) -> Result<TimedReport, TimedProblem>
+    ensures { AnswersTimed tables text.now result }
+{
+    let script = read_timed(alloc, text)?;
+    let setup = Setup {
+        tables,
+        a: script.a,
+        b: script.b,
+    };
+    match run_timed(alloc, setup, &script.events, a, b)? {
+        TimedRun::Report(text, forgeries) => Ok(TimedReport { text, forgeries }),
+        TimedRun::TooMany => Err(TimedProblem::TooManyEvents),
+    }
+}
+
 /// The report of a link file with waits, run over the tables: that of its plain run, with `clock` and
 /// `resend` for each wait (RFC 6298, section 5).
 ///
@@ -57,12 +79,7 @@ pub fn timed_report(
 ) -> Result<TimedReport, TimedProblem>
     ensures { AnswersTimed tables text.now result }
 {
-    let TimedScript { a, b, events } = read_timed(alloc, text)?;
-    let setup = Setup { tables, a, b };
-    let mut at_a = Rto::new();
-    let mut at_b = Rto::new();
-    match run_timed(alloc, setup, &events, &mut at_a, &mut at_b)? {
-        TimedRun::Report(text, forgeries) => Ok(TimedReport { text, forgeries }),
-        TimedRun::TooMany => Err(TimedProblem::TooManyEvents),
-    }
+    let mut a = Rto::new();
+    let mut b = Rto::new();
+    run_text(alloc, tables, text, &mut a, &mut b)
 }
