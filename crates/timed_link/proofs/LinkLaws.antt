@@ -1,6 +1,6 @@
 -- The calls of a link with timers are the expansions of the definitions.
 use Rattle.std.proofs.Common.{◌≡◌, ℕ, zero, suc, ◌+◌, ◌<◌, ◌≤◌, ◌==◌, ◌&&◌, nat_lt, cond, min, Bool, true, false, List, [], ◌∷◌, ◌++◌, length, drop, get_or, Option, Some, None, Result, Ok, Err}
-use Rattle.std.proofs.Common.{refl, sym, ap, ◌∙◌, subst, arith, length-append}
+use Rattle.std.proofs.Common.{refl, sym, ap, ◌∙◌, subst, arith, length-append, add-one}
 use Rattle.std.proofs.Math.Seq.{drop-cons}
 use Rattle.ao_base.specs.declared.end.End.{End}
 use Rattle.ao_base.specs.declared.end.End.TheVariants.{A, B}
@@ -8,14 +8,15 @@ use Rattle.key_model.specs.Lifetimes.{greatest_time}
 use Rattle.link_model.specs.declared.event.Event.{Event}
 use Rattle.link_model.specs.declared.event.Event.TheVariants as event
 use Rattle.link_model.specs.Outcomes.{Outcome}
-use Rattle.link_model.specs.Runs.{run, run_from, empty}
+use Rattle.link_model.specs.Runs.{outcomes_from, run, run_from, empty}
 use Rattle.link_model.specs.Steps.{Stepped, step}
 use Rattle.link_model.specs.Worlds.{Setup, World as BookWorld, side}
 use Rattle.format_model.specs.declared.timed.TimedEvent.{TimedEvent}
 use Rattle.format_model.specs.declared.timed.TimedEvent.TheVariants.{Wait}
 use Rattle.format_model.specs.Answers.{most_events}
 use Rattle.format_model.specs.TimedRuns as book
-use Rattle.link_world.specs.declared.front.Front.{Front}
+use Rattle.link_report.specs.declared.outcome.Outcome.{Outcome as ToldOutcome}
+use Rattle.link_report.specs.Outcomes.{AreShown}
 use Rattle.link_world.specs.declared.world.World.{World}
 use Rattle.link_world.specs.Standing.{StandsFor}
 use Rattle.timed_link.specs.declared.change.Change.{Change}
@@ -36,26 +37,42 @@ run_from_more setup w (first ∷ past) e = run_from_more setup (step setup w fir
 pub run_more : (setup : Setup) (past : List Event) (e : Event) → run setup (past ++ e ∷ []) ≡ (step setup (run setup past) e).world
 run_more setup past e = run_from_more setup (empty setup) past e
 
+outcomes_length : (setup : Setup) (w : BookWorld) (past : List Event) → length (outcomes_from setup w past) ≡ length past
+outcomes_length setup w [] = refl
+outcomes_length setup w (e ∷ past) = ap suc (outcomes_length setup (step setup w e).world past)
+
+shown_length : (shown : List ToldOutcome) (all : List Outcome) → AreShown shown all → length all ≡ length shown
+shown_length [] [] h = refl
+shown_length [] (is ∷ after) h = absurd h
+shown_length (x ∷ shown) [] h = absurd h
+shown_length (x ∷ shown) (is ∷ after) h = ap suc (shown_length shown after h.1)
+
+-- as many events as outcomes
+pub past_length : (setup : Setup) (past : List Event) (shown : List ToldOutcome) → AreShown shown (outcomes_from setup (empty setup) past)
+    → length past ≡ length shown
+past_length setup past shown h = sym (outcomes_length setup (empty setup) past) ∙ shown_length shown _ h
+
 -- what an event changed at its end is told
 pub record Tells (c : Change) (setup : Setup) (past : List Event) (x : Event) (e : End) : Type 0 where
-  pub begun : c.begun ≡ book.is_begin x && book.is_done (step setup (run setup past) x).outcome
+  pub begins : c.begins ≡ book.is_begin x
+  pub done : c.done ≡ book.is_done (step setup (run setup past) x).outcome
   pub again : c.again ≡ book.is_again x
   pub sent : c.sent ≡ book.is_sent (step setup (run setup past) x).outcome
   pub reading : c.reading ≡ (side (run setup (past ++ x ∷ [])) e).clock
   pub old : front_seen c.old ≡ book.front_at (run setup past) e
   pub new : front_seen c.new ≡ book.front_at (run setup (past ++ x ∷ [])) e
 
-change_by : (begun again sent begun' again' sent' : Bool) (r r' : ℕ) (old new old' new' : Option book.Front) (w : book.Watch)
-    → begun ≡ begun' → again ≡ again' → sent ≡ sent' → r ≡ r' → old ≡ old' → new ≡ new'
-    → cond begun book.new_watch (book.untimed (again && sent) (book.between r again old new w))
-    ≡ cond begun' book.new_watch (book.untimed (again' && sent') (book.between r' again' old' new' w))
-change_by begun again sent begun' again' sent' r r' old new old' new' w a b c d e f = cc
+change_by : (begins done again sent begins' done' again' sent' : Bool) (r r' : ℕ) (old new old' new' : Option book.Front) (w : book.Watch)
+    → begins ≡ begins' → done ≡ done' → again ≡ again' → sent ≡ sent' → r ≡ r' → old ≡ old' → new ≡ new'
+    → cond (begins && done) book.new_watch (book.untimed (again && sent) (book.between r again old new w))
+    ≡ cond (begins' && done') book.new_watch (book.untimed (again' && sent') (book.between r' again' old' new' w))
+change_by begins done again sent begins' done' again' sent' r r' old new old' new' w a b c d e f g = cc
 
 change_is : (c : Change) (setup : Setup) (past : List Event) (x : Event) (e : End) (w : book.Watch) → Tells c setup past x e
     → changed c w ≡ book.watch_after (run setup past) x e (step setup (run setup past) x) w
 change_is c setup past x e w t =
     let more = run_more setup past x in
-    change_by c.begun c.again c.sent _ _ _ c.reading _ (front_seen c.old) (front_seen c.new) _ _ w t.begun t.again t.sent
+    change_by c.begins c.done c.again c.sent _ _ _ _ c.reading _ (front_seen c.old) (front_seen c.new) _ _ w t.begins t.done t.again t.sent
     (t.reading ∙ ap (λ (v : BookWorld). (side v e).clock) more) t.old (t.new ∙ ap (λ (v : BookWorld). book.front_at v e) more)
 
 -- the link after an event of an end
@@ -93,6 +110,16 @@ steps_at l x e world w c here stood few told is = λ setup past h.
       stands = record { world_is = stands_at l e world w setup (past ++ x ∷ []) (stood setup past h.world_is); few = one_longer past x (few setup past h.world_is) };
       progress_is = plain_at l setup past x e world w here (is ∙ change_is c setup past x e (seen (at l e)) (told setup past h.world_is));
     }
+
+-- the same, of an end that is known
+pub steps_here : (l : Link) (x : Event) (e here : End) (world : World) (w : Watch) (c : Change) → e ≡ here → book.end_of x ≡ Some e
+    → ((setup : Setup) (past : List Event) → StandsFor l.world setup past → StandsFor world setup (past ++ x ∷ []))
+    → ((setup : Setup) (past : List Event) → StandsFor l.world setup past → length past < most_events)
+    → ((setup : Setup) (past : List Event) → StandsFor l.world setup past → Tells c setup past x e)
+    → seen w ≡ changed c (seen (at l here)) → Does (steps x) l (after_at l world here w) (Ok tt)
+steps_here l x e here world w c same of stood few told is =
+    let P : End → Type 0 = λ y. seen w ≡ changed c (seen (at l y)) → Does (steps x) l (after_at l world y w) (Ok tt) in
+    subst P same (steps_at l x e world w c of stood few told) is
 
 plain_nowhere : (l : Link) (setup : Setup) (past : List Event) (x : Event) (world : World) → book.end_of x ≡ None
     → progress (record { world = world; a = l.a; b = l.b }) setup (past ++ x ∷ []) ≡ book.plain setup (progress l setup past) x
@@ -164,6 +191,22 @@ sends_again_done before l e w reading did r is = λ setup past h.
       progress_is = expired_progress l e w setup here reading (r.reads setup here reached.stands.world_is) is ∙ ap (book.after_expiry e) reached.progress_is;
     }
 
+-- the clock went to the expiry, the end sent again, and then its timer expired
+expires_at : (l0 l1 l2 : Link) (e : End) (d : ℕ) (w : Watch) (reading : ℕ) → Does (steps (event.Clock e d)) l0 l1 (Ok tt)
+    → Does (steps (event.Resend e)) l1 l2 (Ok tt) → Reads l2 e reading → seen w ≡ expired_at reading (seen (at l2 e))
+    → Does (expires e d) l0 (after_at l2 l2.world e w) (Ok tt)
+expires_at l0 l1 l2 e d w reading one two r is =
+    let left = one_more (expires e d) (expires e d) (steps (event.Clock e d)) (sends_again e) l0 l0 l1 (all_left (expires e d) l0) (expires_in_two e d l0) one in
+    last_call (expires e d) (sends_again e) l0 l1 (after_at l2 l2.world e w) (Ok tt) left (sends_again_done l1 l2 e w reading two r is)
+
+-- the same, of an end that is known
+pub expires_here : (l0 l1 l2 : Link) (e here : End) (d : ℕ) (w : Watch) (reading : ℕ) → e ≡ here → Does (steps (event.Clock e d)) l0 l1 (Ok tt)
+    → Does (steps (event.Resend e)) l1 l2 (Ok tt) → Reads l2 e reading → seen w ≡ expired_at reading (seen (at l2 here))
+    → Does (expires e d) l0 (after_at l2 l2.world here w) (Ok tt)
+expires_here l0 l1 l2 e here d w reading same one two r is =
+    let P : End → Type 0 = λ y. seen w ≡ expired_at reading (seen (at l2 y)) → Does (expires e d) l0 (after_at l2 l2.world y w) (Ok tt) in
+    subst P same (expires_at l0 l1 l2 e d w reading one two r) is
+
 pub sends_again_stopped : (before l : Link) (e : End) (s : Stop) → Does (steps (event.Resend e)) before l (Err s) → Does (sends_again e) before l (Err s)
 sends_again_stopped before l e (stop.Memory error) did = tt
 sends_again_stopped before l e stop.TooMany did = did
@@ -225,5 +268,12 @@ pub expands_none : (l : Link) (all : List TimedEvent) → all ≡ [] → Same (e
 expands_none l all none = record { same = λ setup past h. ap (λ (es : List TimedEvent). book.expand_from setup (progress l setup past) es) none }
 
 -- the event at a place, and those behind it
-pub cut_at : (all : List TimedEvent) (i : ℕ) (x : TimedEvent) → i < length all → x ≡ get_or all i x → drop i all ≡ x ∷ drop (suc i) all
-cut_at all i x low here = drop-cons all i x low ∙ ap (λ (y : TimedEvent). y ∷ drop (suc i) all) (sym here)
+pub cut_at : (all : List TimedEvent) (i : ℕ) (x : TimedEvent) → i < length all → x ≡ get_or all i x → drop i all ≡ x ∷ drop (i + 1) all
+cut_at all i x low here = rw (add-one i) (drop-cons all i x low ∙ ap (λ (y : TimedEvent). y ∷ drop (suc i) all) (sym here))
+
+-- behind the last event there is none
+pub none_left : (all : List TimedEvent) (i : ℕ) → length all ≤ i → drop i all ≡ []
+none_left [] zero h = refl
+none_left [] (suc i) h = refl
+none_left (x ∷ all) zero h = absurd (omega arith)
+none_left (x ∷ all) (suc i) h = none_left all i (omega arith)

@@ -7,5 +7,5 @@ use Rattle.timed_link.specs.Watches.{front_seen}
 -- a new session has a new timer, and what is sent again isn't timed (RFC 6298, section 3)
 abbrev pub changed : Change → Watch → Watch
 changed c w =
-    if c.begun then new_watch
+    if c.begins && c.done then new_watch
     else untimed (c.again && c.sent) (between c.reading c.again (front_seen c.old) (front_seen c.new) w)

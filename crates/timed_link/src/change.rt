@@ -16,9 +16,10 @@ use link_world::Front;
 /// What an event changed at its end.
 #[derive(Clone, Copy)]
 pub(crate) struct Change {
-    /// A session began.
-    pub(crate) begun: bool,
-    /// The event sends again, and a segment was made by it.
+    /// The event begins a session, and that was done.
+    pub(crate) begins: bool,
+    pub(crate) done: bool,
+    /// The event sends again, and a segment was made.
     pub(crate) again: bool,
     pub(crate) sent: bool,
     /// The end's clock after it, in seconds since 1970.
@@ -102,7 +103,7 @@ impl Watch {
         requires { change.now.reading ≤ greatest_time }
         ensures { seen self.new ≡ changed change.now (seen self.old) }
     {
-        if change.begun {
+        if change.begins && change.done {
             *self = Watch::new();
             return;
         }

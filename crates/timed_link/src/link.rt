@@ -1,5 +1,6 @@
 //! A link and the timers of its two ends.
-ghost use Rattle.std.specs.Prelude.{◌≡◌, ◌<◌, ◌≤◌, IfSome, List, OnOk};
+ghost use Rattle.std.specs.Prelude.{◌≡◌, ◌<◌, ◌≤◌, IfSome, List, Ok, OnOk, Some, length};
+ghost use Rattle.format_model.specs.Answers.{most_events};
 ghost use Rattle.format_model.specs.TimedRuns.{end_of as end_at};
 ghost use Rattle.key_model.specs.Lifetimes.{greatest_time};
 ghost use Rattle.link_model.specs.declared.event.Event.{Event as OneEvent};
@@ -32,14 +33,16 @@ impl Link {
     fn step_at(&mut self, alloc: Global, end: End, event: &Event) -> Result<(), AllocError>
         requires end { end_at event.now ≡ Some end }
         requires event { CanHappen event.now }
-        requires few { steps_taken self.old.world < 4294967295 }
+        requires steps { steps_taken self.old.world < most_events }
+        requires few { (setup : Plan) (past : List OneEvent) → StandsFor self.old.world setup past → length past < most_events }
         ensures { OnOk result (Does (steps event.now) self.old self.new (Ok tt)) }
     {
         let old = self.world.front(end);
         self.world.step(alloc, event)?;
         let outcome = self.world.outcome();
         let change = Change {
-            begun: is_begin(event) && is_done(outcome),
+            begins: is_begin(event),
+            done: is_done(outcome),
             again: is_again(event),
             sent: is_sent(outcome),
             reading: self.world.reading(end),
