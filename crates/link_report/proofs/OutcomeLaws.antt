@@ -31,7 +31,9 @@ pub one_more : (xs : List Outcome) (all : List book.Outcome) (i : ℕ) (x : Outc
     → before ++ lines_from (i + 1) (drop i all) ≡ whole → after ++ lines_from (i + 1 + 1) (drop (i + 1) all) ≡ whole
 one_more xs all i x before after whole h low here line so_far =
     let s : ShownAt x i all = subst (λ (y : Outcome). ShownAt y i all) (sym here) (shown_at xs all i x h low) in
-    rw (add-one (i + 1), add-one i) (line_more (i + 1) s.is (drop i all) (drop (suc i) all) before after whole s.cut so_far (line s.is s.shows))
+    ap (λ (n : ℕ). after ++ lines_from n (drop (i + 1) all)) (add-one (i + 1))
+    ∙ ap (λ (k : ℕ). after ++ lines_from (suc (i + 1)) (drop k all)) (add-one i)
+    ∙ line_more (i + 1) s.is (drop i all) (drop (suc i) all) before after whole s.cut so_far (line s.is s.shows)
 
 none_left : (xs : List Outcome) (all : List book.Outcome) → AreShown xs all → drop (length xs) all ≡ []
 none_left [] [] h = refl

@@ -23,3 +23,7 @@ in_turn (Err e) out x y z p q s f g h = h
 -- two texts, which are a third one together
 pub in_two : (out a b r y z : List ℕ) → y ≡ out ++ a → z ≡ y ++ b → a ++ b ≡ r → z ≡ out ++ r
 in_two out a b r y z e f g = rw (f, e, ← g) (simp append_assoc)
+
+-- three texts
+pub in_three : (out a b c x y z : List ℕ) → x ≡ out ++ a → y ≡ x ++ b → z ≡ y ++ c → z ≡ out ++ (a ++ (b ++ c))
+in_three out a b c x y z e f g = rw (g, f, e) (simp append_assoc)
