@@ -1,5 +1,5 @@
 -- The lines of sessions, by what is told of them.
-use Rattle.std.specs.Prelude.{ℕ, suc, Bool, List, [], ◌∷◌, ◌++◌, length, codes, decimal}
+use Rattle.std.specs.Prelude.{ℕ, suc, List, [], ◌∷◌, ◌++◌, length, codes, decimal}
 use Rattle.ao_base.specs.declared.end.End.{End}
 use Rattle.line_model.specs.Texts.{end_text, line_text}
 use Rattle.link_model.specs.Reports.{number_text, shown_text}

@@ -1,5 +1,6 @@
 //! The whole answer to a link file with waits.
 ghost use Rattle.std.specs.Prelude.{◌≡◌};
+ghost use Rattle.line_model.specs.declared.text_fault.TextFault.TheVariants as text_fault;
 ghost use Rattle.timed_link.specs.Answers.{AnswersTimed};
 ghost use Rattle.timed_link.specs.declared.answer.TimedProblem.TheVariants.{Fault};
 
@@ -37,7 +38,7 @@ impl From<TextFault> for TimedProblem {
 }
 
 impl From<AllocError> for TimedProblem {
-    ghost from_gives = { λ error problem. problem ≡ Fault TextFault.Memory };
+    ghost from_gives = { λ error problem. problem ≡ Fault text_fault.Memory };
 
     fn from(_error: AllocError) -> TimedProblem {
         TimedProblem::Fault(TextFault::Memory)
