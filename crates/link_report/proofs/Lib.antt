@@ -1,1 +1,3 @@
+pub mod OutcomeLaws
+pub mod SummaryLaws
 pub mod TextLaws

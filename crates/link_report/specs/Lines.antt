@@ -1,63 +1,17 @@
--- What the lines of a report tell of outcomes and sessions.
-use Rattle.std.specs.Prelude.{◌≡◌, ℕ, List, length, codes, Option, Some, None}
-use Rattle.endpoint_model.specs.declared.phase.Phase.{Phase}
-use Rattle.link_model.specs.Outcomes as book
-use Rattle.link_model.specs.Reports.{phase_text}
-use Rattle.link_model.specs.Worlds.{Made, Session}
-use Rattle.link_report.specs.declared.outcome.Plain.{Plain}
-use Rattle.link_report.specs.declared.outcome.Plain.TheVariants as plain
-use Rattle.link_report.specs.declared.outcome.SentSegment.{SentSegment}
-use Rattle.link_report.specs.declared.summary.SessionFacts.{SessionFacts}
+-- The lines of sessions, by what is told of them.
+use Rattle.std.specs.Prelude.{ℕ, suc, List, [], ◌∷◌, ◌++◌, length, codes, decimal}
+use Rattle.ao_base.specs.declared.end.End.{End}
+use Rattle.line_model.specs.Texts.{end_text, line_text}
+use Rattle.link_model.specs.Reports.{number_text, shown_text}
+use Rattle.link_side.specs.Sides.{Facts}
 
--- the outcome of one word
-abbrev pub plain_outcome : Plain → book.Outcome
-plain_outcome plain.Done = book.Done
-plain_outcome plain.IsnUsed = book.IsnUsed
-plain_outcome plain.NoSession = book.NoSession
-plain_outcome plain.NoSegment = book.NoSegment
-plain_outcome plain.NoPlace = book.NoPlace
-plain_outcome plain.Full = book.Full
-plain_outcome plain.Closed = book.HasClosed
-plain_outcome plain.NoKey = book.WithoutKey
-plain_outcome plain.Idle = book.Idle
-plain_outcome plain.Nothing = book.Nothing
-plain_outcome plain.TooManyRows = book.TooManyRows
-plain_outcome plain.NoRow = book.NoRow
+-- the line of a session with these facts, at this place of its end's sessions
+abbrev pub facts_line : End → ℕ → List ℕ → Facts → List ℕ
+facts_line e index phase f =
+    line_text (codes "session" ∷ end_text e ∷ decimal index ∷ codes "isn" ∷ decimal f.isn ∷ codes "peer" ∷ number_text f.peer_isn ∷ phase
+    ∷ codes "given" ∷ decimal f.given ∷ codes "delivered" ∷ decimal f.delivered ∷ shown_text f.shown ∷ [])
 
--- the word of an outcome of one word
-abbrev pub plain_text : Plain → List ℕ
-plain_text plain.Done = codes "ok"
-plain_text plain.IsnUsed = codes "isn-used"
-plain_text plain.NoSession = codes "no-session"
-plain_text plain.NoSegment = codes "no-segment"
-plain_text plain.NoPlace = codes "no-place"
-plain_text plain.Full = codes "full"
-plain_text plain.Closed = codes "closed"
-plain_text plain.NoKey = codes "no-key"
-plain_text plain.Idle = codes "idle"
-plain_text plain.Nothing = codes "nothing"
-plain_text plain.TooManyRows = codes "too-many-rows"
-plain_text plain.NoRow = codes "no-row"
-
--- what is told of a segment that was made
-pub record TellsSent (sent : SentSegment) (m : Made) : Type 0 where
-  pub name : m.name ≡ sent.name
-  pub flags : m.emission.flags ≡ sent.flags
-  pub number : m.emission.number ≡ sent.number
-  pub acknowledged : m.emission.acknowledged ≡ sent.ack
-  pub payload : length m.emission.segment.payload ≡ sent.payload
-  pub key_id : m.emission.sending.key_id ≡ sent.key_id
-  pub rnext_key_id : m.emission.sending.rnext_key_id ≡ sent.rnext
-
--- where a session stands: its phase, or that it was dropped
-abbrev pub place_text : Option Phase → List ℕ
-place_text None = codes "dropped"
-place_text (Some phase) = phase_text phase
-
--- what is told of a session beside its phase
-pub record TellsSession (facts : SessionFacts) (s : Session) : Type 0 where
-  pub isn : s.state.isn ≡ facts.isn
-  pub peer_isn : s.state.peer_isn ≡ facts.peer_isn
-  pub given : length s.state.given ≡ facts.given
-  pub delivered : length s.state.taken ≡ facts.delivered
-  pub shown : s.end_shown ≡ facts.end_shown
+-- the lines of dropped sessions with these facts, the newest first
+abbrev pub kept_lines : End → List Facts → List ℕ
+kept_lines e [] = []
+kept_lines e (f ∷ older) = kept_lines e older ++ facts_line e (suc (length older)) (codes "dropped") f

@@ -1,21 +1,22 @@
-//! The line of an outcome.
-ghost use Rattle.std.specs.Prelude.{◌≡◌, ◌++◌, ◌∷◌, [], OnOk, codes, decimal};
+//! What an event of a link answers, and the line of it.
+ghost use Rattle.std.specs.Prelude.{◌≡◌, ◌++◌, ◌∷◌, [], ℕ, List, OnOk, codes, decimal};
 ghost use Rattle.ao_base.specs.Hexadecimal.{hex_of};
 ghost use Rattle.line_model.specs.Texts.{spaced};
-ghost use Rattle.link_model.specs.Outcomes.{Sent, Answered, Took, Image, Added, OverlapWith};
-ghost use Rattle.link_model.specs.Reports.{end_mark, flags_text, hex_or_none, number_text, outcome_line};
-ghost use Rattle.link_model.specs.Worlds.{Made};
-ghost use Rattle.link_report.specs.Lines.{TellsSent, plain_outcome, plain_text};
+ghost use Rattle.link_model.specs.Outcomes as book;
+ghost use Rattle.link_model.specs.Reports.{end_mark, flags_text, hex_or_none, lines_from, number_text, outcome_line, outcome_texts};
+ghost use Rattle.link_report.specs.Outcomes.{AreShown, Shows};
 
 use crate::arrival::push_answer;
-use ao_base::push_decimal;
+use ao_base::{Bytes, push_decimal};
 use endpoint_model::Arrival;
 use std::alloc::AllocError;
+use tcp_endpoint::Made;
 use text_lines::{push_bytes, push_field, push_newline, push_number, push_text};
 
-/// An outcome that is one word.
-#[derive(Clone, Copy, Debug, PartialEq, Eq)]
-pub enum Plain {
+/// What an event of a link answers: all that a report says of it, and beside, of a segment that was
+/// made, the row that it was sealed under and the context of its key.
+#[derive(Debug, Drop)]
+pub enum Outcome {
     /// It was done.
     Done,
     /// The end used this initial sequence number before.
@@ -30,62 +31,28 @@ pub enum Plain {
     Full,
     /// The bytes aren't taken, since the session was closed.
     Closed,
+    /// A segment was made: its name, from 1, and what is told of it.
+    Sent(u32, Made),
     /// No row is sendable.
     NoKey,
     /// There is nothing to send.
     Idle,
     /// There is nothing to send again.
     Nothing,
+    /// The answer to a datagram that came.
+    Arrival(Arrival),
+    /// The bytes that were taken, and whether the end of the stream is reached.
+    Took(Bytes, bool),
+    /// The bytes of a segment that was made.
+    Image(Bytes),
+    /// The row was added under this number.
+    Added(u8),
     /// The table has all its rows.
     TooManyRows,
+    /// The row overlaps the one with this number.
+    Overlap(u8),
     /// The table has no such row.
     NoRow,
-}
-
-/// What the line of a segment that was made tells of it.
-#[derive(Clone, Copy, Debug, PartialEq, Eq)]
-pub struct SentSegment {
-    /// Its name, from 1.
-    pub name: u32,
-    /// Its byte of flags (RFC 9293, section 3.1).
-    pub flags: u8,
-    /// Its number in the stream, of which its sequence field is the lower 32 bits.
-    pub number: u64,
-    /// The number that it acknowledges, with ACK.
-    pub ack: Option<u64>,
-    /// How many bytes its payload has.
-    pub payload: usize,
-    /// KeyID and RNextKeyID (RFC 5925, section 2.2).
-    pub key_id: u8,
-    pub rnext: u8,
-}
-
-fn plain_word(plain: Plain) -> &'static [u8]
-    ensures { result.now ≡ plain_text plain }
-{
-    match plain {
-        Plain::Done => b"ok",
-        Plain::IsnUsed => b"isn-used",
-        Plain::NoSession => b"no-session",
-        Plain::NoSegment => b"no-segment",
-        Plain::NoPlace => b"no-place",
-        Plain::Full => b"full",
-        Plain::Closed => b"closed",
-        Plain::NoKey => b"no-key",
-        Plain::Idle => b"idle",
-        Plain::Nothing => b"nothing",
-        Plain::TooManyRows => b"too-many-rows",
-        Plain::NoRow => b"no-row",
-    }
-}
-
-/// Puts the line of an outcome of one word behind `out`; `n` is the number of its event, from 1.
-pub fn push_plain(out: &mut Vec<u8>, n: u32, plain: Plain) -> Result<(), AllocError>
-    ensures { OnOk result (out.new.items ≡ out.old.items ++ outcome_line n (plain_outcome plain)) }
-{
-    push_decimal(out, u64::from(n))?;
-    push_text(out, plain_word(plain))?;
-    push_newline(out)
 }
 
 /// S, SA, AP, AF, A or R.
@@ -113,45 +80,38 @@ pub(crate) fn push_known(out: &mut Vec<u8>, number: Option<u64>) -> Result<(), A
 }
 
 /// Puts the name of a segment, its flags and its number behind `out`.
-fn push_name(out: &mut Vec<u8>, sent: &SentSegment) -> Result<(), AllocError>
+fn push_name(out: &mut Vec<u8>, name: u32, made: &Made) -> Result<(), AllocError>
     ensures { OnOk result (out.new.items ≡ out.old.items
-        ++ spaced (codes "sent" ∷ decimal sent.now.name ∷ flags_text sent.now.flags ∷ codes "seq" ∷ decimal sent.now.number ∷ [])) }
+        ++ spaced (codes "sent" ∷ decimal name ∷ flags_text made.now.flags ∷ codes "seq" ∷ decimal made.now.number ∷ [])) }
 {
-    push_field(out, b"sent", u64::from(sent.name))?;
-    push_text(out, flags_word(sent.flags))?;
-    push_field(out, b"seq", sent.number)
+    push_field(out, b"sent", u64::from(name))?;
+    push_text(out, flags_word(made.flags))?;
+    push_field(out, b"seq", made.number)
 }
 
 /// Puts what a segment acknowledges, how much it carries and its two ids behind `out`.
-fn push_rest(out: &mut Vec<u8>, sent: &SentSegment) -> Result<(), AllocError>
+fn push_rest(out: &mut Vec<u8>, made: &Made) -> Result<(), AllocError>
     ensures { OnOk result (out.new.items ≡ out.old.items
-        ++ spaced (codes "ack" ∷ number_text sent.now.ack ∷ codes "len" ∷ decimal sent.now.payload ∷ codes "key" ∷ decimal sent.now.key_id
-        ∷ codes "next" ∷ decimal sent.now.rnext ∷ [])) }
+        ++ spaced (codes "ack" ∷ number_text made.now.ack ∷ codes "len" ∷ decimal made.now.payload ∷ codes "key" ∷ decimal made.now.sending.key_id
+        ∷ codes "next" ∷ decimal made.now.sending.rnext ∷ [])) }
 {
     push_text(out, b"ack")?;
-    push_known(out, sent.ack)?;
-    push_field(out, b"len", sent.payload as u64)?;
-    push_field(out, b"key", u64::from(sent.key_id))?;
-    push_field(out, b"next", u64::from(sent.rnext))
+    push_known(out, made.ack)?;
+    push_field(out, b"len", made.payload as u64)?;
+    push_field(out, b"key", u64::from(made.sending.key_id))?;
+    push_field(out, b"next", u64::from(made.sending.rnext))
 }
 
-/// Puts the line of a segment that was made behind `out`; `n` is the number of its event, from 1.
-pub fn push_sent(out: &mut Vec<u8>, n: u32, sent: &SentSegment) -> Result<(), AllocError>
-    ensures { OnOk result ((m : Made) → TellsSent sent.now m → out.new.items ≡ out.old.items ++ outcome_line n (Sent m)) }
+/// Puts the words of a segment that was made behind `out`.
+fn push_made(out: &mut Vec<u8>, name: u32, made: &Made) -> Result<(), AllocError>
+    ensures { OnOk result (out.new.items ≡ out.old.items
+        ++ spaced (codes "sent" ∷ decimal name ∷ flags_text made.now.flags ∷ codes "seq" ∷ decimal made.now.number
+        ∷ codes "ack" ∷ number_text made.now.ack ∷ codes "len" ∷ decimal made.now.payload ∷ codes "key" ∷ decimal made.now.sending.key_id
+        ∷ codes "next" ∷ decimal made.now.sending.rnext ∷ [])) }
 {
-    push_decimal(out, u64::from(n))?;
-    push_name(out, sent)?;
-    push_rest(out, sent)?;
-    push_newline(out)
-}
-
-/// Puts the line of an answer to an arrival behind `out`; `n` is the number of its event, from 1.
-pub fn push_arrival(out: &mut Vec<u8>, n: u32, arrival: Arrival) -> Result<(), AllocError>
-    ensures { OnOk result (out.new.items ≡ out.old.items ++ outcome_line n (Answered arrival)) }
-{
-    push_decimal(out, u64::from(n))?;
-    push_answer(out, arrival)?;
-    push_newline(out)
+    push_name(out, name, made)?;
+    push_rest(out, made)?;
+    Ok(())
 }
 
 /// Puts the bytes in hexadecimal behind `out`, or a dash for none, a space in front.
@@ -174,44 +134,74 @@ fn push_mark(out: &mut Vec<u8>, end_shown: bool) -> Result<(), AllocError>
     Ok(())
 }
 
-/// Puts the line of bytes that were taken behind `out`, and whether the end of the stream is reached;
-/// `n` is the number of its event, from 1.
-pub fn push_took(out: &mut Vec<u8>, n: u32, bytes: &[u8], end_shown: bool) -> Result<(), AllocError>
-    ensures { OnOk result (out.new.items ≡ out.old.items ++ outcome_line n (Took bytes.now end_shown)) }
+/// Puts the words of bytes that were taken behind `out`, and whether the end of the stream is reached.
+fn push_took(out: &mut Vec<u8>, bytes: &[u8], end_shown: bool) -> Result<(), AllocError>
+    ensures { OnOk result (out.new.items ≡ out.old.items ++ spaced (outcome_texts (book.Took bytes.now end_shown))) }
 {
-    push_decimal(out, u64::from(n))?;
     push_text(out, b"took")?;
     push_content(out, bytes)?;
-    push_mark(out, end_shown)?;
-    push_newline(out)
+    push_mark(out, end_shown)
 }
 
-/// Puts the line of a segment's bytes behind `out`; `n` is the number of its event, from 1.
-pub fn push_image(out: &mut Vec<u8>, n: u32, bytes: &[u8]) -> Result<(), AllocError>
-    ensures { OnOk result (out.new.items ≡ out.old.items ++ outcome_line n (Image bytes.now)) }
+/// Puts the words of a segment's bytes behind `out`.
+fn push_image(out: &mut Vec<u8>, bytes: &[u8]) -> Result<(), AllocError>
+    ensures { OnOk result (out.new.items ≡ out.old.items ++ spaced (outcome_texts (book.Image bytes.now))) }
 {
-    push_decimal(out, u64::from(n))?;
     push_text(out, b"datagram")?;
-    push_bytes(out, bytes)?;
-    push_newline(out)
+    push_bytes(out, bytes)
 }
 
-/// Puts the line of a row that was added as row `row` behind `out`; `n` is the number of its event,
-/// from 1.
-pub fn push_added(out: &mut Vec<u8>, n: u32, row: u8) -> Result<(), AllocError>
-    ensures { OnOk result (out.new.items ≡ out.old.items ++ outcome_line n (Added row)) }
+/// Puts the words of a row that was added behind `out`.
+fn push_added(out: &mut Vec<u8>, row: u8) -> Result<(), AllocError>
+    ensures { OnOk result (out.new.items ≡ out.old.items ++ spaced (outcome_texts (book.Added row))) }
 {
-    push_decimal(out, u64::from(n))?;
     push_text(out, b"added")?;
-    push_field(out, b"row", u64::from(row))?;
-    push_newline(out)
+    push_field(out, b"row", u64::from(row))
 }
 
-/// Puts the line of a row that overlaps row `row` behind `out`; `n` is the number of its event, from 1.
-pub fn push_overlap(out: &mut Vec<u8>, n: u32, row: u8) -> Result<(), AllocError>
-    ensures { OnOk result (out.new.items ≡ out.old.items ++ outcome_line n (OverlapWith row)) }
+/// Puts the words of an outcome behind `out`, a space in front of each.
+fn push_words(out: &mut Vec<u8>, outcome: &Outcome) -> Result<(), AllocError>
+    ensures { OnOk result ((is : book.Outcome) → Shows outcome.now is → out.new.items ≡ out.old.items ++ spaced (outcome_texts is)) }
 {
-    push_decimal(out, u64::from(n))?;
-    push_field(out, b"overlap", u64::from(row))?;
-    push_newline(out)
+    match outcome {
+        Outcome::Done => push_text(out, b"ok"),
+        Outcome::IsnUsed => push_text(out, b"isn-used"),
+        Outcome::NoSession => push_text(out, b"no-session"),
+        Outcome::NoSegment => push_text(out, b"no-segment"),
+        Outcome::NoPlace => push_text(out, b"no-place"),
+        Outcome::Full => push_text(out, b"full"),
+        Outcome::Closed => push_text(out, b"closed"),
+        Outcome::Sent(name, made) => push_made(out, *name, made),
+        Outcome::NoKey => push_text(out, b"no-key"),
+        Outcome::Idle => push_text(out, b"idle"),
+        Outcome::Nothing => push_text(out, b"nothing"),
+        Outcome::Arrival(arrival) => push_answer(out, *arrival),
+        Outcome::Took(bytes, end_shown) => push_took(out, bytes.as_slice(), *end_shown),
+        Outcome::Image(bytes) => push_image(out, bytes.as_slice()),
+        Outcome::Added(row) => push_added(out, *row),
+        Outcome::TooManyRows => push_text(out, b"too-many-rows"),
+        Outcome::Overlap(row) => push_field(out, b"overlap", u64::from(*row)),
+        Outcome::NoRow => push_text(out, b"no-row"),
+    }
+}
+
+/// Puts the line of an outcome behind `out`; `n` is the number of its event, from 1.
+fn push_line(out: &mut Vec<u8>, n: u64, outcome: &Outcome) -> Result<(), AllocError>
+    ensures { OnOk result ((is : book.Outcome) → Shows outcome.now is → out.new.items ≡ out.old.items ++ outcome_line n is) }
+{
+    push_decimal(out, n)?;
+    push_words(out, outcome)?;
+    push_newline(out)?;
+    Ok(())
+}
+
+/// Puts a line for each outcome behind `out`, numbered from 1. Out of memory a part of them may stand
+/// there.
+pub fn push_outcomes(out: &mut Vec<u8>, outcomes: &[Outcome]) -> Result<(), AllocError>
+    ensures { OnOk result ((told : List book.Outcome) → AreShown outcomes.now told → out.new.items ≡ out.old.items ++ lines_from 1 told) }
+{
+    for (index, outcome) in outcomes.iter().enumerate() {
+        push_line(out, index as u64 + 1, outcome)?;
+    }
+    Ok(())
 }

@@ -1,30 +1,18 @@
 //! The lines of sessions, and the counts.
-ghost use Rattle.std.specs.Prelude.{◌≡◌, ◌++◌, ◌∷◌, [], OnOk, codes, decimal};
+ghost use Rattle.std.specs.Prelude.{◌≡◌, ◌++◌, ◌∷◌, [], map, reverse, OnOk, codes, decimal};
+ghost use Rattle.ao_base.specs.declared.end.End.TheVariants.{A, B};
 ghost use Rattle.line_model.specs.Texts.{end_text, line_text, spaced};
-ghost use Rattle.link_model.specs.Reports.{number_text, phase_text, session_line, shown_text};
-ghost use Rattle.link_model.specs.Worlds.{Session};
-ghost use Rattle.link_report.specs.Lines.{TellsSession, place_text};
+ghost use Rattle.link_model.specs.Reports.{number_text, phase_text, session_lines, shown_text, summary};
+ghost use Rattle.link_model.specs.Worlds.{Side as EndSide, World, forgeries as count_of_forgeries, segments as count_of_segments};
+ghost use Rattle.link_report.specs.Lines.{facts_line, kept_lines};
+ghost use Rattle.link_side.specs.Sides.{StandsSide, kept_facts};
 
 use crate::outcome::push_known;
 use ao_base::End;
 use endpoint_model::Phase;
+use link_side::{Ended, Side};
 use std::alloc::AllocError;
 use text_lines::{push_end, push_field, push_newline, push_number, push_text};
-
-/// What the line of a session tells of it.
-#[derive(Clone, Copy, Debug, PartialEq, Eq)]
-pub struct SessionFacts {
-    pub isn: u32,
-    /// The peer's initial sequence number, where it is known.
-    pub peer_isn: Option<u32>,
-    /// The phase of a live session, and none of one that was dropped.
-    pub phase: Option<Phase>,
-    /// How many bytes were given to it, and how many were taken from it.
-    pub given: u64,
-    pub delivered: u64,
-    /// Whether a take showed the end of its stream.
-    pub end_shown: bool,
-}
 
 fn phase_word(phase: Phase) -> &'static [u8]
     ensures { result.now ≡ phase_text phase }
@@ -44,16 +32,6 @@ fn phase_word(phase: Phase) -> &'static [u8]
     }
 }
 
-/// Puts where a session stands behind `out`.
-fn push_place(out: &mut Vec<u8>, phase: Option<Phase>) -> Result<(), AllocError>
-    ensures { OnOk result (out.new.items ≡ out.old.items ++ 32 ∷ place_text phase) }
-{
-    match phase {
-        Some(phase) => push_text(out, phase_word(phase)),
-        None => push_text(out, b"dropped"),
-    }
-}
-
 /// Puts whether the end of a session's stream was shown behind `out`.
 fn push_shown(out: &mut Vec<u8>, end_shown: bool) -> Result<(), AllocError>
     ensures { OnOk result (out.new.items ≡ out.old.items ++ spaced (shown_text end_shown ∷ [])) }
@@ -67,24 +45,19 @@ fn push_shown(out: &mut Vec<u8>, end_shown: bool) -> Result<(), AllocError>
 
 /// Puts the end of a session, its place among the sessions of that end and its two initial sequence
 /// numbers behind `out`.
-fn push_identity(
-    out: &mut Vec<u8>,
-    end: End,
-    index: u32,
-    session: &SessionFacts,
-) -> Result<(), AllocError>
+fn push_identity(out: &mut Vec<u8>, end: End, index: u64, session: &Ended) -> Result<(), AllocError>
     ensures { OnOk result (out.new.items ≡ out.old.items
         ++ spaced (end_text end ∷ decimal index ∷ codes "isn" ∷ decimal session.now.isn ∷ codes "peer" ∷ number_text session.now.peer_isn ∷ [])) }
 {
     push_end(out, end)?;
-    push_number(out, u64::from(index))?;
+    push_number(out, index)?;
     push_field(out, b"isn", u64::from(session.isn))?;
     push_text(out, b"peer")?;
     push_known(out, session.peer_isn.map(u64::from))
 }
 
 /// Puts how many bytes passed through a session, and whether its end was shown, behind `out`.
-fn push_flow(out: &mut Vec<u8>, session: &SessionFacts) -> Result<(), AllocError>
+fn push_flow(out: &mut Vec<u8>, session: &Ended) -> Result<(), AllocError>
     ensures { OnOk result (out.new.items ≡ out.old.items
         ++ spaced (codes "given" ∷ decimal session.now.given ∷ codes "delivered" ∷ decimal session.now.delivered ∷ shown_text session.now.end_shown ∷ [])) }
 {
@@ -93,42 +66,53 @@ fn push_flow(out: &mut Vec<u8>, session: &SessionFacts) -> Result<(), AllocError
     push_shown(out, session.end_shown)
 }
 
-/// Puts the line of a session with these facts behind `out`.
-fn push_facts(
+/// Puts the line of a session behind `out`; `index` is its place among the sessions of its end, the
+/// oldest being 1, and `place` the word of its phase, or that it was dropped.
+fn push_session(
     out: &mut Vec<u8>,
     end: End,
-    index: u32,
-    session: &SessionFacts,
+    index: u64,
+    place: &[u8],
+    session: &Ended,
 ) -> Result<(), AllocError>
-    ensures { OnOk result (out.new.items ≡ out.old.items
-        ++ line_text (codes "session" ∷ end_text end ∷ decimal index ∷ codes "isn" ∷ decimal session.now.isn ∷ codes "peer" ∷ number_text session.now.peer_isn
-        ∷ place_text session.now.phase ∷ codes "given" ∷ decimal session.now.given ∷ codes "delivered" ∷ decimal session.now.delivered
-        ∷ shown_text session.now.end_shown ∷ [])) }
+    ensures { OnOk result (out.new.items ≡ out.old.items ++ facts_line end index place.now (kept_facts session.now)) }
 {
     out.extend_from_slice(b"session")?;
     push_identity(out, end, index, session)?;
-    push_place(out, session.phase)?;
+    push_text(out, place)?;
     push_flow(out, session)?;
     push_newline(out)
 }
 
-/// Puts the line of a session behind `out`; `index` is its place among the sessions of its end, the
-/// oldest being 1.
-pub fn push_session(
-    out: &mut Vec<u8>,
-    end: End,
-    index: u32,
-    session: &SessionFacts,
-) -> Result<(), AllocError>
-    ensures { OnOk result ((s : Session) → TellsSession session.now s
-        → out.new.items ≡ out.old.items ++ session_line end index (place_text session.now.phase) s) }
+/// Puts the lines of the sessions that were dropped behind `out`, the oldest first.
+fn push_dropped(out: &mut Vec<u8>, end: End, dropped: &[Ended]) -> Result<(), AllocError>
+    ensures { OnOk result (out.new.items ≡ out.old.items ++ kept_lines end (reverse (map kept_facts dropped.now))) }
 {
-    push_facts(out, end, index, session)?;
+    for (index, session) in dropped.iter().enumerate() {
+        push_session(out, end, index as u64 + 1, b"dropped", session)?;
+    }
     Ok(())
 }
 
+/// Puts the lines of an end's sessions behind `out`, the oldest first.
+fn push_sessions(out: &mut Vec<u8>, end: End, side: &Side) -> Result<(), AllocError>
+    ensures { OnOk result ((m : EndSide) → StandsSide side.now m → out.new.items ≡ out.old.items ++ session_lines end m.sessions) }
+{
+    match side.live() {
+        None => Ok(()),
+        Some(live) => {
+            let dropped = side.dropped();
+            push_dropped(out, end, dropped)?;
+            let index = dropped.len() as u64 + 1;
+            let place = phase_word(live.endpoint().phase());
+            push_session(out, end, index, place, &live.ended())?;
+            Ok(())
+        }
+    }
+}
+
 /// Puts the last line behind `out`: how many segments were made, and how many forgeries were counted.
-pub fn push_counts(out: &mut Vec<u8>, segments: u32, forgeries: u32) -> Result<(), AllocError>
+fn push_counts(out: &mut Vec<u8>, segments: u32, forgeries: u32) -> Result<(), AllocError>
     ensures { OnOk result (out.new.items ≡ out.old.items
         ++ line_text (codes "segments" ∷ decimal segments ∷ codes "forgeries" ∷ decimal forgeries ∷ [])) }
 {
@@ -136,4 +120,23 @@ pub fn push_counts(out: &mut Vec<u8>, segments: u32, forgeries: u32) -> Result<(
     push_number(out, u64::from(segments))?;
     push_field(out, b"forgeries", u64::from(forgeries))?;
     push_newline(out)
+}
+
+/// Puts the lines of the sessions of both ends behind `out`, the oldest of each first, and then how
+/// many segments were made and how many forgeries were counted. Out of memory a part of them may
+/// stand there.
+pub fn push_summary(
+    out: &mut Vec<u8>,
+    a: &Side,
+    b: &Side,
+    made: u32,
+    forgeries: u32,
+) -> Result<(), AllocError>
+    ensures { OnOk result ((w : World) → StandsSide a.now w.a → StandsSide b.now w.b → made ≡ count_of_segments w.history
+        → forgeries ≡ count_of_forgeries w.history → out.new.items ≡ out.old.items ++ summary w) }
+{
+    push_sessions(out, End::A, a)?;
+    push_sessions(out, End::B, b)?;
+    push_counts(out, made, forgeries)?;
+    Ok(())
 }

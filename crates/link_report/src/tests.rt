@@ -1,35 +1,77 @@
 //! Each line that a report has.
-use crate::{
-    Plain, SentSegment, SessionFacts, push_added, push_arrival, push_counts, push_image,
-    push_overlap, push_plain, push_sent, push_session, push_took,
-};
-use ao_base::End;
-use endpoint_model::{Arrival, Phase, Verdict};
+use crate::{Outcome, push_outcomes, push_summary};
+use ao_base::{Address, Bytes, Pair, Socket};
+use endpoint_model::{Arrival, Verdict};
+use key_table::Table;
+use link_side::Side;
+use mac_model::Context;
 use segment_model::{DatagramFault, OptionFault};
+use std::alloc::{AllocError, Global};
 use std::test::Fail;
+use tcp_endpoint::{Made, Sending};
+
+const PAIR: Pair = Pair {
+    local: Socket {
+        address: Address::V4([10, 0, 0, 1]),
+        port: 1000,
+    },
+    remote: Socket {
+        address: Address::V4([10, 0, 0, 2]),
+        port: 2000,
+    },
+};
+
+fn made() -> Made {
+    Made {
+        length: 77,
+        sending: Sending {
+            row: 1,
+            key_id: 61,
+            rnext: 84,
+        },
+        number: 4_294_967_296,
+        ack: None,
+        flags: 0x12,
+        payload: 5,
+        context: Context {
+            source: PAIR.local,
+            destination: PAIR.remote,
+            source_isn: 100,
+            dest_isn: 0,
+        },
+    }
+}
+
+fn bytes(alloc: Global, content: &[u8]) -> Result<Bytes, AllocError> {
+    Ok(Bytes::from_vec(Vec::from_slice(alloc, content)?))
+}
+
+fn outcomes(alloc: Global) -> Result<Vec<Outcome>, AllocError> {
+    let mut outcomes = Vec::new(alloc);
+    outcomes.push(Outcome::IsnUsed)?;
+    outcomes.push(Outcome::Sent(7, made()))?;
+    outcomes.push(Outcome::Took(bytes(alloc, b"\x0aHi")?, true))?;
+    outcomes.push(Outcome::Took(bytes(alloc, b"")?, false))?;
+    outcomes.push(Outcome::Image(bytes(alloc, b"\xff")?))?;
+    outcomes.push(Outcome::Added(64))?;
+    outcomes.push(Outcome::Overlap(2))?;
+    Ok(outcomes)
+}
+
+fn answers(alloc: Global) -> Result<Vec<Outcome>, AllocError> {
+    let short = DatagramFault::BadOption(OptionFault::ShortLength(4));
+    let mut outcomes = Vec::new(alloc);
+    outcomes.push(Outcome::Arrival(Arrival::Bad(short)))?;
+    outcomes.push(Outcome::Arrival(Arrival::Refused(Verdict::BadMac)))?;
+    outcomes.push(Outcome::Arrival(Arrival::TooManyRuns))?;
+    Ok(outcomes)
+}
 
 #[test]
 fn outcomes_have_their_lines(rt: HostRuntime) -> Result<(), Fail> {
     let mut out = Vec::new(rt.alloc());
-    push_plain(&mut out, 1, Plain::IsnUsed)?;
-    push_sent(
-        &mut out,
-        2,
-        &SentSegment {
-            name: 7,
-            flags: 0x12,
-            number: 4_294_967_296,
-            ack: None,
-            payload: 5,
-            key_id: 61,
-            rnext: 84,
-        },
-    )?;
-    push_took(&mut out, 3, b"\x0aHi", true)?;
-    push_took(&mut out, 4, b"", false)?;
-    push_image(&mut out, 5, b"\xff")?;
-    push_added(&mut out, 6, 64)?;
-    push_overlap(&mut out, 7, 2)?;
+    let outcomes = outcomes(rt.alloc())?;
+    push_outcomes(&mut out, outcomes.as_slice())?;
     assert_eq!(rt;
         out.as_slice(),
         b"1 isn-used
@@ -48,10 +90,8 @@ fn outcomes_have_their_lines(rt: HostRuntime) -> Result<(), Fail> {
 #[test]
 fn answers_have_their_lines(rt: HostRuntime) -> Result<(), Fail> {
     let mut out = Vec::new(rt.alloc());
-    let short = DatagramFault::BadOption(OptionFault::ShortLength(4));
-    push_arrival(&mut out, 1, Arrival::Bad(short))?;
-    push_arrival(&mut out, 2, Arrival::Refused(Verdict::BadMac))?;
-    push_arrival(&mut out, 3, Arrival::TooManyRuns)?;
+    let answers = answers(rt.alloc())?;
+    push_outcomes(&mut out, answers.as_slice())?;
     assert_eq!(rt;
         out.as_slice(),
         b"1 bad option short-length 4\n2 refused bad-mac\n3 too-many-runs\n".as_slice()
@@ -60,30 +100,19 @@ fn answers_have_their_lines(rt: HostRuntime) -> Result<(), Fail> {
 }
 
 #[test]
-fn sessions_and_counts_have_their_lines(rt: HostRuntime) -> Result<(), Fail> {
+fn a_summary_tells_of_each_session(rt: HostRuntime) -> Result<(), Fail> {
+    let address = PAIR.local.address;
+    let mut busy = Side::new(rt.alloc(), PAIR, Table::empty(rt.alloc(), address));
+    let idle = Side::new(rt.alloc(), PAIR, Table::empty(rt.alloc(), address));
+    busy.start(rt.alloc(), 100, 200)?;
+    busy.fill(rt.alloc(), 5, 0)?;
+    busy.listen(rt.alloc(), 101)?;
     let mut out = Vec::new(rt.alloc());
-    let dropped = SessionFacts {
-        isn: 100,
-        peer_isn: None,
-        phase: None,
-        given: 5,
-        delivered: 0,
-        end_shown: false,
-    };
-    let live = SessionFacts {
-        peer_isn: Some(200),
-        phase: Some(Phase::TimeWait),
-        delivered: 3,
-        end_shown: true,
-        ..dropped
-    };
-    push_session(&mut out, End::A, 1, &dropped)?;
-    push_session(&mut out, End::B, 2, &live)?;
-    push_counts(&mut out, 3, 1)?;
+    push_summary(&mut out, &busy, &idle, 3, 1)?;
     assert_eq!(rt;
         out.as_slice(),
-        b"session a 1 isn 100 peer - dropped given 5 delivered 0 open
-session b 2 isn 100 peer 200 time-wait given 5 delivered 3 end
+        b"session a 1 isn 100 peer 200 dropped given 5 delivered 0 open
+session a 2 isn 101 peer - listen given 0 delivered 0 open
 segments 3 forgeries 1
 "
             .as_slice()

@@ -10,3 +10,5 @@ pub mod ScriptBack
 pub mod WordRanges
 pub mod EventRanges
 pub mod ScriptRanges
+pub mod TimedWords
+pub mod TimedRanges

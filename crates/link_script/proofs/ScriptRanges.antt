@@ -82,13 +82,13 @@ line_ok missing kind meaning (l ∷ ls) t h =
     (l.words, a.0, rw (← a.1) (omega arith))
 
 -- the head of a script that is one of the grammar, and how many lines it took
-record IsHead (h : Head) (before after : ℕ) : Type 0 where
-  a : IsSocket h.a
-  b : IsSocket h.b
-  two : are_two_of_a_family h.a.address h.b.address ≡ true
-  three : before ≡ 3 + after
+pub record IsHead (h : Head) (before after : ℕ) : Type 0 where
+  pub a : IsSocket h.a
+  pub b : IsSocket h.b
+  pub two : are_two_of_a_family h.a.address h.b.address ≡ true
+  pub three : before ≡ 3 + after
 
-head_ok : (missing : ℕ) (ls : List Line) (t : Left Head) → head_in missing ls ≡ Ok t → IsHead t.value (length ls) (length t.rest)
+pub head_ok : (missing : ℕ) (ls : List Line) (t : Left Head) → head_in missing ls ≡ Ok t → IsHead t.value (length ls) (length t.rest)
 unfolding head_in
 head_ok missing ls t h =
     let i = bind_ok (line_in missing kind.Header (title_of (codes "aotcp-link")) ls) _ t h in
@@ -153,7 +153,7 @@ script_in_ok with_keys missing ls s few h =
     length-append (key_lines k.0.value) (map event_words e.0) ∙ ap (λ n. length (key_lines k.0.value) + n) (length-map e.0 event_words) in
     rw (← is) (record { a = lh.a; b = lh.b; two = lh.two; key = lk.0; events = le.0; lines = omega (arith, lh.three, lk.1, le.1, all, few) }, lk.2)
 
-few_case : {A : Type 0} (b : Bool) (r : Result A TextFault) (x : A) → cond b (Err fault.TooManyLines) r ≡ Ok x → (b ≡ false) × (r ≡ Ok x)
+pub few_case : {A : Type 0} (b : Bool) (r : Result A TextFault) (x : A) → cond b (Err fault.TooManyLines) r ≡ Ok x → (b ≡ false) × (r ≡ Ok x)
 few_case true r x h = absurd (cc h)
 few_case false r x h = (refl, h)
 

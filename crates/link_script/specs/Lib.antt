@@ -3,3 +3,4 @@ pub mod Left
 pub mod Names
 pub mod Printed
 pub mod Scripts
+pub mod Timed

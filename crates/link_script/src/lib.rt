@@ -1,6 +1,6 @@
 //! The link file: two sockets, perhaps a shared key, and the events of a link, one a line. It is
 //! read line by line and word by word, so that a mistake is named by its line and kind, and a
-//! script is printed as a file that is read again as this script.
+//! script is printed as a file that is read again as this script. A script with waits is read alike.
 #![tactic(auto)]
 
 mod head;
@@ -10,15 +10,19 @@ mod printing;
 mod reading;
 mod row_lines;
 mod row_texts;
+mod timed;
 
 pub use ao_base::End;
-pub use format_model::{Script, SharedKey};
+pub use format_model::{Script, SharedKey, TimedEvent, TimedEvents, TimedScript};
 pub use head::{Head, read_head};
 pub use line_events::read_event;
 pub use line_model::TextFault as ScriptFault;
 pub use link_model::{Event, Events, RowLine};
 pub use printing::print_script;
 pub use reading::read_script;
+pub use timed::read_timed;
 
 #[cfg(test)]
 mod tests;
+#[cfg(test)]
+mod timed_tests;

@@ -59,7 +59,7 @@ fn key(
 
 /// Whether the line's first word is `shared`.
 #[tactic(auto, unfolding(format_model::specs::LinkFiles::is_shared, line_model::specs::Words::word_in))]
-fn is_shared(words: &LineWords) -> bool
+pub(crate) fn is_shared(words: &LineWords) -> bool
     ensures { result ≡ is_shared words.now }
 {
     match words.ahead().word() {

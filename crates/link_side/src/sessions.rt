@@ -55,8 +55,8 @@ impl Live {
         self.end_shown
     }
 
-    /// What the report says of the session once it is dropped.
-    pub(crate) fn ended(&self) -> Ended
+    /// What the report says of the session beside its phase.
+    pub fn ended(&self) -> Ended
         ensures { (s : Session) → Stands self.now.endpoint s.state → self.now.end_shown ≡ s.end_shown → kept_facts result ≡ facts_of s }
     {
         Ended {

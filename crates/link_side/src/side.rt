@@ -44,9 +44,10 @@ impl Side {
         }
     }
 
-    /// The clock, in seconds since 1970.
+    /// The clock, in seconds since 1970, at most LATEST.
     pub fn clock(&self) -> u64
-        ensures { (m : EndSide) → StandsSide self.now m → result ≡ m.clock }
+        ensures reads { (m : EndSide) → StandsSide self.now m → result ≡ m.clock }
+        ensures latest { result ≤ greatest_time }
     {
         self.clock
     }

@@ -1,0 +1,93 @@
+-- A script with waits that a text says is one of the grammar.
+use Rattle.std.proofs.Common.{◌≡◌, ℕ, zero, suc, ◌+◌, ◌≤◌, cond, nat_lt, Bool, true, false, List, [], ◌∷◌, length, codes}
+use Rattle.std.proofs.Common.{Result, Ok, Err, refl, ap, ◌∙◌, arith, All}
+use Rattle.std.specs.Str.{bytes_eq}
+use Rattle.std.proofs.lemmas.Bool.{ltb-false}
+use Rattle.ao_base.specs.declared.line_kind.LineKind.{LineKind}
+use Rattle.ao_base.specs.declared.line_kind.LineKind.TheVariants as kind
+use Rattle.ao_base.specs.Lines.{lines_of}
+use Rattle.line_model.specs.declared.text_fault.TextFault.{TextFault}
+use Rattle.line_model.specs.declared.text_fault.TextFault.TheVariants as fault
+use Rattle.line_model.specs.Lines.{Line, saying_from}
+use Rattle.line_model.specs.Said.{numbered}
+use Rattle.line_model.specs.Words.{◌>>=◌, end_in, nothing_in, number_in, word_in}
+use Rattle.format_model.specs.declared.timed.TimedEvent.{TimedEvent}
+use Rattle.format_model.specs.declared.timed.TimedEvent.TheVariants.{Plain, Wait}
+use Rattle.format_model.specs.declared.timed.TimedScript.{TimedScript}
+use Rattle.format_model.specs.LinkEvents.{event_named, event_of}
+use Rattle.format_model.specs.LinkFiles.{event_at, events_of, head_in, is_shared}
+use Rattle.format_model.specs.TimedRuns.{plain_named, timed_event_of, timed_script_in, timed_script_of, wait_of}
+use Rattle.text_lines.proofs.SaidLaws.{saying_length}
+use Rattle.link_script.specs.Timed.{IsTimedEvent, IsTimedScript}
+use Rattle.link_script.proofs.WordRanges.{bind_ok, number_ok}
+use Rattle.link_script.proofs.EventRanges.{event_ok}
+use Rattle.link_script.proofs.ScriptRanges.{few_case, head_ok}
+
+wait_ok : (ws : List (List ℕ)) (x : TimedEvent) → wait_of ws ≡ Ok x → IsTimedEvent x
+unfolding wait_of
+wait_ok ws x h =
+    let e = bind_ok (end_in ws) _ x h in
+    let k = bind_ok (number_in 1 3600 e.0.rest) _ x e.2 in
+    let n = bind_ok (nothing_in k.0.rest) _ x k.2 in
+    let is : Wait e.0.value k.0.value ≡ x = cc n.2 in
+    rw (← is) (number_ok 1 3600 e.0.rest k.0 k.1)
+
+plain_ok : (name : List ℕ) (ws : List (List ℕ)) (x : TimedEvent) → plain_named name ws ≡ Ok x → IsTimedEvent x
+unfolding event_of word_in
+plain_ok name ws x h =
+    let e = bind_ok (event_named name ws) (λ y. Ok (Plain y)) x h in
+    let is : Plain e.0 ≡ x = cc e.2 in
+    rw (← is) (event_ok (name ∷ ws) e.0 e.1)
+
+either_ok : (b : Bool) (name : List ℕ) (ws : List (List ℕ)) (x : TimedEvent) → cond b (wait_of ws) (plain_named name ws) ≡ Ok x → IsTimedEvent x
+either_ok true name ws x h = wait_ok ws x h
+either_ok false name ws x h = plain_ok name ws x h
+
+timed_ok : (ws : List (List ℕ)) (x : TimedEvent) → timed_event_of ws ≡ Ok x → IsTimedEvent x
+unfolding timed_event_of
+timed_ok ws x h =
+    let w = bind_ok (word_in ws) (λ name. cond (bytes_eq name.value (codes "wait")) (wait_of name.rest) (plain_named name.value name.rest)) x h in
+    either_ok (bytes_eq w.0.value (codes "wait")) w.0.value w.0.rest x w.2
+
+refused : (b : Bool) (n : ℕ) (k : LineKind) (r : Result TimedEvent TextFault) (e : TimedEvent) → cond b (Err (fault.Line n k)) r ≡ Ok e → r ≡ Ok e
+refused true n k r e h = absurd (cc h)
+refused false n k r e h = h
+
+numbered_ok : (n : ℕ) (r : Result TimedEvent LineKind) (e : TimedEvent) → numbered n r ≡ Ok e → r ≡ Ok e
+numbered_ok n (Ok x) e h = cc h
+numbered_ok n (Err k) e h = absurd (cc h)
+
+event_at_ok : (l : Line) (e : TimedEvent) → event_at timed_event_of l ≡ Ok e → IsTimedEvent e
+event_at_ok l e h = timed_ok l.words e (numbered_ok l.number (timed_event_of l.words) e (refused (is_shared l.words) l.number kind.Shared _ e h))
+
+one_more : (e : TimedEvent) (es : List TimedEvent) → IsTimedEvent e → All IsTimedEvent es → All IsTimedEvent (e ∷ es)
+one_more e es here more zero d below = here
+one_more e es here more (suc k) d below = more k d (omega arith)
+
+events_ok : (ls : List Line) (es : List TimedEvent) → events_of timed_event_of ls ≡ Ok es → All IsTimedEvent es × (length es ≡ length ls)
+unfolding events_of
+events_ok [] es h = let is : [] ≡ es = cc h in rw (← is) ((λ n d below. absurd (omega arith)), refl)
+events_ok (l ∷ ls) es h =
+    let e = bind_ok (event_at timed_event_of l) _ es h in
+    let others = bind_ok (events_of timed_event_of ls) _ es e.2 in
+    let more = events_ok ls others.0 others.1 in
+    let is : e.0 ∷ others.0 ≡ es = cc others.2 in
+    rw (← is) (one_more e.0 others.0 (event_at_ok l e.0 e.1) more.0, omega (arith, more.1))
+
+script_in_ok : (missing : ℕ) (ls : List Line) (s : TimedScript) → length ls ≤ 20000 → timed_script_in missing ls ≡ Ok s → IsTimedScript s
+unfolding timed_script_in
+script_in_ok missing ls s few h =
+    let t = bind_ok (head_in missing ls) _ s h in
+    let e = bind_ok (events_of timed_event_of t.0.rest) _ s t.2 in
+    let lh = head_ok missing ls t.0 t.1 in
+    let le = events_ok t.0.rest e.0 e.1 in
+    let is : record { a = t.0.value.a; b = t.0.value.b; events = e.0 } ≡ s = cc e.2 in
+    rw (← is) (record { a = lh.a; b = lh.b; two = lh.two; events = le.0; lines = omega (arith, lh.three, le.1, few) })
+
+-- a script that is read is one of the grammar
+pub timed_script_ok : (text : List ℕ) (s : TimedScript) → timed_script_of text ≡ Ok s → IsTimedScript s
+unfolding timed_script_of
+timed_script_ok text s h =
+    let c = few_case (nat_lt 20000 (length (lines_of text))) _ s h in
+    let few : length (lines_of text) ≤ 20000 = ltb-false _ _ c.0 in
+    script_in_ok (length (lines_of text) + 1) (saying_from 1 (lines_of text)) s (omega (arith, saying_length 1 (lines_of text))) c.1

@@ -1,0 +1,15 @@
+use Rattle.std.proofs.Common.{◌≡◌, ℕ, List, Result, Ok, Err, IfOk}
+use Rattle.line_model.specs.declared.text_fault.TextFault.{TextFault}
+use Rattle.format_model.specs.declared.timed.TimedScript.{TimedScript}
+use Rattle.text_lines.specs.Readings.{Answers}
+use Rattle.format_model.specs.TimedRuns.{timed_script_of}
+use Rattle.link_script.specs.Timed.{IsTimedScript}
+use Rattle.link_script.proofs.TimedRanges.{timed_script_ok}
+use Rattle.link_script.proofs.timed.read_timed.Goals as goal
+
+of_the_grammar : (text : List ℕ) (r : Result TimedScript TextFault) → Answers r (timed_script_of text) → IfOk r IsTimedScript
+of_the_grammar text (Ok s) h = timed_script_ok text s h
+of_the_grammar text (Err e) h = tt
+
+pub returns : goal.returns
+returns c = record { read = c.timed.ensures; grammar = of_the_grammar c.args.text.now c.timed.result c.timed.ensures }

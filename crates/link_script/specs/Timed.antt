@@ -1,0 +1,30 @@
+-- The scripts that a link file with waits can say. Our own format.
+use Rattle.std.specs.Prelude.{◌≡◌, ◌+◌, ℕ, ◌≤◌, true, List, length, Result, Ok, All}
+use Rattle.ao_base.specs.declared.line_kind.LineKind.{LineKind}
+use Rattle.line_model.specs.Lines.{most_lines}
+use Rattle.line_model.specs.Words.{◌>>=◌}
+use Rattle.format_model.specs.declared.timed.TimedEvent.{TimedEvent}
+use Rattle.format_model.specs.declared.timed.TimedEvent.TheVariants.{Plain, Wait}
+use Rattle.format_model.specs.declared.timed.TimedScript.{TimedScript}
+use Rattle.format_model.specs.LinkEvents.{event_of}
+use Rattle.format_model.specs.LinkFiles.{are_two_of_a_family}
+use Rattle.link_script.specs.Scripts.{IsEvent, IsSocket, IsWithin}
+
+-- the plain event of a line, as one of a link with waits
+abbrev pub plain_of : List (List ℕ) → Result TimedEvent LineKind
+plain_of ws = do
+  e ← event_of ws
+  Ok (Plain e)
+
+-- the numbers and lengths of an event are in their ranges, and a wait is of 1 to 3600 seconds
+abbrev pub IsTimedEvent : TimedEvent → Type 0
+IsTimedEvent (Plain e) = IsEvent e
+IsTimedEvent (Wait e count) = IsWithin 1 3600 count
+
+-- addresses that differ and are of one family, numbers and lengths in their ranges, and at most 20,000 lines, three of which are its head
+pub record IsTimedScript (s : TimedScript) : Type 0 where
+  pub a : IsSocket s.a
+  pub b : IsSocket s.b
+  pub two : are_two_of_a_family s.a.address s.b.address ≡ true
+  pub events : All IsTimedEvent s.events
+  pub lines : 3 + length s.events ≤ most_lines
