@@ -2,7 +2,9 @@
 //! an independent program.
 mod keys;
 mod link;
+mod link_keys;
 mod outside;
+mod storm;
 mod texts;
 
 use crate::run;
