@@ -53,12 +53,13 @@ fn report_of(alloc: Global, setup: Setup, events: &[Event]) -> Result<Played, Al
 pub fn link_report(alloc: Global, text: &[u8]) -> Result<Played, TextFault>
     ensures { Answers result (linked_by_shared text.now) }
 {
+    let script = read_script(alloc, false, text)?;
     let Script {
         a,
         b,
         shared,
         events,
-    } = read_script(alloc, false, text)?;
+    } = script;
     let Some(key) = shared else { unreachable!() };
     let tables = Tables::shared(alloc, a.address, b.address, key.alg, key.master.as_slice())?;
     let played = report_of(alloc, Setup { tables, a, b }, events.as_slice())?;
@@ -73,7 +74,8 @@ pub fn link_report(alloc: Global, text: &[u8]) -> Result<Played, TextFault>
 pub fn link_keys_report(alloc: Global, tables: Tables, text: &[u8]) -> Result<Played, TextFault>
     ensures { Answers result (linked tables text.now) }
 {
-    let Script { a, b, events, .. } = read_script(alloc, true, text)?;
+    let script = read_script(alloc, true, text)?;
+    let Script { a, b, events, .. } = script;
     let played = report_of(alloc, Setup { tables, a, b }, events.as_slice())?;
     Ok(played)
 }

@@ -4,9 +4,9 @@
 
 mod draw;
 mod event;
-mod storm;
+mod running;
 
-pub use storm::{Stormed, storm};
+pub use running::{Stormed, storm};
 
 #[cfg(test)]
 mod tests;
