@@ -8,10 +8,10 @@ import sys
 
 TOP = os.path.dirname(os.path.dirname(os.path.abspath(__file__)))
 BOOK = ["ao_base", "segment_model", "mac_model", "key_model", "endpoint_model", "link_model", "line_model", "wire_model", "format_model"]
-# What may stand outside the book, a crate or a file of one: the relations by which the top call speaks of what was read and
-# written, and what goes when the link over endpoints runs: the narrow link, and the list of commands that are built.
+# What may stand outside the book, a file of a crate: the relations by which the top call speaks of what was read and written,
+# and of each run of a link, and the list of commands that are built.
 OUTSIDE = ["ao_run/specs/Runs.antt", "ao_run/specs/Obeys.antt", "ao_run/specs/Delivers.antt", "ao_run/specs/Completes.antt",
-           "ao_run/specs/Today.antt", "narrow_endpoint", "narrow_link", "narrow_script", "narrow_world"]
+           "ao_run/specs/Today.antt", "link_headline/specs/Lawful.antt"]
 ENTRY = ("ao_run", "src/top.rt", "run")
 
 WORD = re.compile(r"[^\s(){}\[\],;:]+")

@@ -7,7 +7,7 @@ use Rattle.key_model.specs.Rows.{Table}
 use Rattle.line_model.specs.declared.text_fault.TextFault.{TextFault}
 use Rattle.format_model.specs.declared.command.Command.{Command}
 use Rattle.format_model.specs.declared.command.Command.TheVariants as command
-use Rattle.format_model.specs.Answers.{Answer, answer_by, answer_over, answer_with_keys, answer_within, bgp_over, done, if_read, judged, keys_too_long, linked, linted, most_input, most_keys, node_over, refuse, timed_over, too_long, verified}
+use Rattle.format_model.specs.Answers.{Answer, answer_by, answer_of as answer_of_today, answer_over as over_today, answer_with_keys, answer_within, bgp_over, done, if_read, judged, keys_too_long, linked, linked_by_shared, linted, most_input, most_keys, node_over, refuse, timed_over, too_long, verified}
 use Rattle.format_model.specs.Captures.{Stored, capture_run, has_refusal}
 use Rattle.format_model.specs.Commands.{reads_keys, reads_input}
 use Rattle.format_model.specs.KeyTexts.{keys_text, table_fault_line}
@@ -19,10 +19,8 @@ use Rattle.format_model.specs.StoredLines.{stored_input}
 use Rattle.format_model.specs.TimedRuns.{timed_script_of}
 use Rattle.format_model.specs.Verified.{vectors_of}
 use Rattle.line_model.specs.Said.{said_in}
-use Rattle.narrow_script.specs.Script.{script_of as narrow_script_of}
 use Rattle.ao_run.specs.Gathered.{within_today}
 use Rattle.ao_run.specs.Obeys.{asks_keys, asks_input, most_of}
-use Rattle.ao_run.specs.Today.{answer_of_today, over_today, reported}
 
 -- a test is one or the other
 pub either : (b : Bool) → (b ≡ true) ⊎ (b ≡ false)
@@ -141,7 +139,7 @@ judged_plain tables stored None = done_plain (has_refusal tables stored)
 judged_plain tables stored (Some text) = four
 
 pub over_plain : (c : Command) (tables : List Table) (input : List ℕ) → Plain (over_today c tables input).status
-over_plain command.Link tables input = read_plain reported (narrow_script_of false input) (λ s. done_plain _)
+over_plain command.Link tables input = read_plain linked_by_shared (script_of false input) (λ s. done_plain _)
 over_plain command.LinkKeys tables input = read_plain (linked tables) (script_of true input) (λ s. done_plain _)
 over_plain command.Check tables input = judged_plain tables (stored_input input).stored _
 over_plain command.CheckPcap tables input = judged_plain tables _ _

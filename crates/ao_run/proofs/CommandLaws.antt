@@ -8,8 +8,10 @@ use Rattle.ao_base.specs.Decimals.{decimal_of}
 use Rattle.key_model.specs.Times.{◌>>=◌, two_at, time_of, time_of_digits}
 use Rattle.format_model.specs.declared.command.Command.{Command}
 use Rattle.format_model.specs.declared.command.Command.TheVariants as command
-use Rattle.format_model.specs.Commands.{command_of, keys_of, pcap_of, storm_of, three_of, up_to, with_keys_of}
-use Rattle.ao_run.specs.Today.{if_built}
+use Rattle.key_model.specs.Lifetimes.{greatest_time}
+use Rattle.format_model.specs.Commands.{alone_of, command_of, three_of, up_to, with_keys_of}
+use Rattle.ao_run.specs.Gathered.{is_ready}
+use Rattle.ao_run.specs.Today.{command_today, if_built}
 
 -- a value in front of a reading that goes on
 from_bind : {A B : Type 0} (m : Option A) (f : A → Option B) (y : B) → (m >>= f) ≡ Some y → (x : A) × (m ≡ Some x) × (f x ≡ Some y)
@@ -107,32 +109,60 @@ none_by w (Some t) is lacks = absurd (lacks (IsUtf8-from_ascii w (at w (time_wri
 pub no_time : (w : List ℕ) → (IsUtf8 w → ⊥) → time_of w ≡ None
 no_time w lacks = none_by w (time_of w) refl lacks
 
-stormed : (s n : Option ℕ) → if_built (s >>= λ a. n >>= λ b. Some (command.Storm a b)) ≡ None
-stormed None n = refl
-stormed (Some a) None = refl
-stormed (Some a) (Some b) = refl
+-- a storm draws at most 10,000 events
+abbrev Few : Option Command → Type 0
+Few o = is_ready (if_built o) ≡ true
 
-packets : (b : Bool) → if_built (if b then Some command.CheckPcap else None) ≡ None
-packets true = refl
-packets false = refl
+few_if : (b : Bool) (x y : Option Command) → Few x → Few y → Few (if b then x else y)
+few_if true x y p q = p
+few_if false x y p q = q
 
-other_three : (a b : Bool) (second third : List ℕ) → if_built (if a then storm_of second third else if b then pcap_of second else None) ≡ None
-other_three true b second third = stormed (decimal_of second) (up_to 10000 third)
-other_three false true second third = packets (bytes_eq second (codes "--pcap"))
-other_three false false second third = refl
+few_alone : (name : List ℕ) → Few (alone_of name)
+few_alone name = few_if _ _ _ refl (few_if _ _ _ refl (few_if _ _ _ refl refl))
 
--- three words of which the first isn't `keys` name nothing that is built
-pub unbuilt_three : (name second third : List ℕ) → bytes_eq name (codes "keys") ≡ false → if_built (three_of name second third) ≡ None
-unbuilt_three name second third lacks = rw lacks (other_three (bytes_eq name (codes "storm")) (bytes_eq name (codes "check")) second third)
+few_with_keys : (name : List ℕ) → Few (with_keys_of name)
+few_with_keys name = few_if _ _ _ refl (few_if _ _ _ refl (few_if _ _ _ refl (few_if _ _ _ refl (few_if _ _ _ refl refl))))
 
-with_keys : (a b c d e : Bool) → if_built (if a then Some command.LinkKeys else if b then Some command.Check else if c then Some command.Bgp else if d then Some command.Timed else if e then Some command.Node else None) ≡ None
-with_keys true b c d e = refl
-with_keys false true c d e = refl
-with_keys false false true d e = refl
-with_keys false false false true e = refl
-with_keys false false false false true = refl
-with_keys false false false false false = refl
+few_keys : (time : Option ℕ) → Few (time >>= λ t. Some (command.Keys t))
+few_keys None = refl
+few_keys (Some t) = refl
 
--- two words name nothing that is built
-pub unbuilt_with_keys : (name : List ℕ) → if_built (with_keys_of name) ≡ None
-unbuilt_with_keys name = with_keys (bytes_eq name (codes "link")) (bytes_eq name (codes "check")) (bytes_eq name (codes "bgp")) (bytes_eq name (codes "timed")) (bytes_eq name (codes "node"))
+few_counted : (seed count : Option ℕ) → ((n : ℕ) → count ≡ Some n → nat_le n 10000 ≡ true) → Few (seed >>= λ s. count >>= λ n. Some (command.Storm s n))
+few_counted None count low = refl
+few_counted (Some s) None low = refl
+few_counted (Some s) (Some n) low = rw (low n refl) refl
+
+at_most : (most : ℕ) (b : Bool) (m n : ℕ) → nat_le m most ≡ b → (if b then Some m else None) ≡ Some n → nat_le n most ≡ true
+at_most most true m n is h = let same : m ≡ n = cc in rw same at is
+at_most most false m n is h = absurd (cc)
+
+up_to_most : (most : ℕ) (o : Option ℕ) (n : ℕ) → (o >>= λ m. if nat_le m most then Some m else None) ≡ Some n → nat_le n most ≡ true
+up_to_most most None n h = absurd (cc)
+up_to_most most (Some m) n h = at_most most (nat_le m most) m n refl h
+
+few_three : (name second third : List ℕ) → Few (three_of name second third)
+few_three name second third =
+    few_if _ _ _ (few_keys (time_of third))
+    (few_if _ _ _ (few_counted (decimal_of second) (up_to 10000 third) (up_to_most 10000 (decimal_of third)))
+    (few_if _ _ _ (few_if _ _ _ refl refl) refl))
+
+few_plan : (a b low high : Option ℕ) → Few (a >>= λ lead. b >>= λ lag. low >>= λ from. high >>= λ to.
+    if nat_le from to then Some (command.Lint (record { lead = lead; lag = lag; from = from; to = to })) else None)
+few_plan None b low high = refl
+few_plan (Some a) None low high = refl
+few_plan (Some a) (Some b) None high = refl
+few_plan (Some a) (Some b) (Some low) None = refl
+few_plan (Some a) (Some b) (Some low) (Some high) = few_if (nat_le low high) _ _ refl refl
+
+-- whatever words name is built, and draws few events
+pub named_ready : (words : List (List ℕ)) → is_ready (command_today words) ≡ true
+unfolding command_of
+named_ready [] = refl
+named_ready (name ∷ []) = few_alone name
+named_ready (name ∷ keys ∷ []) = few_with_keys name
+named_ready (name ∷ second ∷ third ∷ []) = few_three name second third
+named_ready (name ∷ keys ∷ lead ∷ lag ∷ []) = refl
+named_ready (name ∷ keys ∷ lead ∷ lag ∷ from ∷ []) = refl
+named_ready (name ∷ keys ∷ lead ∷ lag ∷ from ∷ to ∷ []) =
+    few_if _ _ _ (few_plan (up_to greatest_time lead) (up_to greatest_time lag) (time_of from) (time_of to)) refl
+named_ready (name ∷ keys ∷ lead ∷ lag ∷ from ∷ to ∷ more ∷ words) = refl

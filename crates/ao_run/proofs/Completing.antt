@@ -5,11 +5,11 @@ use Rattle.std.specs.Io.KnownBytes.{Consumes}
 use Rattle.std.specs.Io.KnownBytes.{IsAtEnd as is_at_end}
 use Rattle.ao_base.specs.Outside.{Counts, Gave, Took, Rose, IsAtEnd, Side}
 use Rattle.format_model.specs.declared.command.Command.{Command}
-use Rattle.format_model.specs.Answers.{Answer, keys_too_long, most_input, most_keys, refuse}
+use Rattle.format_model.specs.Answers.{Answer, answer_of as answer_of_today, keys_too_long, most_input, most_keys, refuse}
 use Rattle.format_model.specs.Commands.{reads_input, reads_keys}
 use Rattle.ao_run.specs.Completes.{Completes, IsCalm, Tells}
 use Rattle.ao_run.specs.Obeys.{Obeys, Sides, Unread, asks_input, asks_keys, most_of}
-use Rattle.ao_run.specs.Today.{answer_of_today, answer_today as answer, command_today as command_of}
+use Rattle.ao_run.specs.Today.{answer_today as answer, command_today as command_of}
 use Rattle.ao_run.proofs.AnswerLaws.{either, keyed, long_keys, long_refused, not_two, same_answer, three_whatever, unkeyed, within_plain}
 
 -- what was given is all that was told

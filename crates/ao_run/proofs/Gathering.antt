@@ -15,7 +15,7 @@ use Rattle.line_model.specs.declared.text_fault.TextFault.TheVariants as text_fa
 use Rattle.line_model.specs.Faults.{fault_text}
 use Rattle.text_lines.specs.Readings.{Answers, Fails}
 use Rattle.format_model.specs.declared.command.Command.{Command}
-use Rattle.format_model.specs.Answers.{Answer, if_read, most_input, refuse}
+use Rattle.format_model.specs.Answers.{Answer, answer_of as answer_of_today, answer_over as over_today, if_read, most_input, refuse}
 use Rattle.format_model.specs.Commands.{reads_keys, reads_input}
 use Rattle.format_model.specs.KeyTexts.{table_fault_line}
 use Rattle.ao_run.specs.declared.stop.Output.{Output}
@@ -24,7 +24,6 @@ use Rattle.ao_run.specs.declared.stop.Stop.TheVariants.{Usage, KeysTooLong, Keys
 use Rattle.ao_run.specs.Gathered.{Gathered, InputGathered, KeysGathered, Sources, tables_in, within_today}
 use Rattle.ao_run.specs.Obeys.{Unread, asks_keys, asks_input, most_of}
 use Rattle.ao_run.specs.Stops.{Makes, Stopped, made, status_of, text_of}
-use Rattle.ao_run.specs.Today.{answer_of_today, over_today}
 use Rattle.ao_run.proofs.AnswerLaws.{either, faulty_tables, long_input, long_keys, over_tables, short_input, unkeyed, unread_four, unread_input, within_plain}
 
 -- an input with a fault has no output

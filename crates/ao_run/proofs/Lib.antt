@@ -4,6 +4,6 @@ pub mod Completing
 pub mod Contract
 pub mod Gathering
 pub mod Headline
+pub mod LinkLaws
 pub mod LintLaws
-pub mod ScriptLaws
 pub mod Telling

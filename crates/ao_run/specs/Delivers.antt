@@ -1,30 +1,48 @@
--- The headline: what `link` says of every link file.
-use Rattle.std.specs.Prelude.{◌≡◌, ◌↔◌, ℕ, ◌<◌, List, [], ◌∷◌, ◌++◌, false, codes, Ok}
-use Rattle.std.specs.List.{AllByRecursion}
-use Rattle.ao_base.specs.declared.end.End.{End}
+-- The headline: what `link` and `link KEYS` say of every link file, over every key file.
+use Rattle.std.specs.Prelude.{◌≡◌, ◌↔◌, ℕ, ◌<◌, List, [], ◌∷◌, ◌++◌, Bool, true, false, codes, Result, Ok}
 use Rattle.ao_base.specs.Outside.{Side, Took, IsAtEnd}
-use Rattle.narrow_endpoint.specs.States.{ready}
-use Rattle.narrow_link.specs.Headline.{ComesFrom}
-use Rattle.narrow_link.specs.Reports.{report, counts_text}
-use Rattle.narrow_link.specs.Runs.{run}
-use Rattle.narrow_link.specs.Worlds.{Session, side, partner}
-use Rattle.narrow_script.specs.declared.script.Script.{Script}
-use Rattle.narrow_script.specs.Script.{script_of}
+use Rattle.key_model.specs.Nodes.{tables_of}
+use Rattle.key_model.specs.Rows.{Table}
+use Rattle.link_model.specs.declared.event.Event.{Event}
+use Rattle.link_model.specs.Reports.{report, counts_line}
+use Rattle.link_model.specs.Runs.{run}
+use Rattle.link_model.specs.Worlds.{Setup, forgeries, setup_of}
+use Rattle.format_model.specs.declared.script.Script.{Script}
+use Rattle.format_model.specs.Answers.{shared_by}
+use Rattle.format_model.specs.LinkFiles.{script_of}
+use Rattle.link_headline.specs.Lawful.{Lawful}
 use Rattle.ao_run.specs.Obeys.{Sides}
-use Rattle.ao_run.specs.Today.{setup_of, events_of, forgeries_of}
 
--- of the script that was read, with the status of the call
-pub record Delivers (script : Script) (out_before out_now : Side) (status : ℕ) : Type 0 where
-  -- the report of its run was written, and the status is 0 exactly where it counts no forgery
-  pub written : Took (report (setup_of script) (events_of script)) out_before out_now
-  pub counted : (status ≡ 0) ↔ (forgeries_of script ≡ 0)
-  -- its last line has the count
-  pub last_line : (front : List ℕ) × (report (setup_of script) (events_of script) ≡ front ++ counts_text (run (setup_of script) (events_of script)))
-  -- where it counts none: what each session of each end took, and then what is ready there, begins what its one partner at the other end was given; without a partner there is neither
-  pub in_order : forgeries_of script ≡ 0 → (end : End) → let w = run (setup_of script) (events_of script) in
-      AllByRecursion (λ (s : Session). ComesFrom (partner w end s.state) (s.state.taken ++ ready s.state)) (side w end).sessions
+-- of the run of these events, with the status of the call
+pub record Delivers (setup : Setup) (events : List Event) (out_before out_now : Side) (status : ℕ) : Type 0 where
+  -- its report was written
+  pub written : Took (report setup events) out_before out_now
+  -- the status is 0 exactly where no forgery is counted
+  pub counted : (status ≡ 0) ↔ (forgeries (run setup events).history ≡ 0)
+  -- the last line of the report says how many are
+  pub last_line : (front : List ℕ) × (report setup events ≡ front ++ counts_line (run setup events))
+  -- prefix, one partner, end of stream, acknowledgement, rollover, no gap, origin and reset
+  pub lawful : Lawful setup events
 
--- with the word `link`, done, and the text of a script read to its end
-pub record LinkDelivers (words : List (List ℕ)) (input : List ℕ) (before now : Sides) (status : ℕ) : Type 0 where
-  pub read_out : words ≡ codes "link" ∷ [] → status < 2 → IsAtEnd now.input
-  pub delivers : words ≡ codes "link" ∷ [] → status < 2 → (script : Script) → script_of false input ≡ Ok script → Delivers script before.out now.out status
+-- the input is a link file, and of its run over its tables
+pub record LinkFile (with_keys : Bool) (tables : Script → List Table) (input : List ℕ) (before now : Sides) (status : ℕ) : Type 0 where
+  pub read_out : IsAtEnd now.input
+  pub script : Script
+  pub is_script : script_of with_keys input ≡ Ok script
+  pub delivers : Delivers (setup_of (tables script) script.a script.b) script.events before.out now.out status
+
+-- the key file is one of valid tables, and over these the input is a link file
+pub record KeyedLinkFile (keys input : List ℕ) (before now : Sides) (status : ℕ) : Type 0 where
+  pub keys_read_out : IsAtEnd now.keys
+  pub tables : List Table
+  pub is_key_file : tables_of keys ≡ Ok tables
+  pub link_file : LinkFile true (λ s. tables) input before now status
+
+-- the tables of the key that a script names
+abbrev pub named_tables : Script → List Table
+named_tables s = shared_by s s.shared
+
+-- with the words of `link` or `link KEYS`, done
+pub record LinkDelivers (words : List (List ℕ)) (keys input : List ℕ) (before now : Sides) (status : ℕ) : Type 0 where
+  pub link : words ≡ codes "link" ∷ [] → status < 2 → LinkFile false named_tables input before now status
+  pub link_keys : (name : List ℕ) → words ≡ codes "link" ∷ name ∷ [] → status < 2 → KeyedLinkFile keys input before now status

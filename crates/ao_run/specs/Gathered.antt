@@ -1,20 +1,26 @@
 -- What reading and running answer, before anything is written.
-use Rattle.std.specs.Prelude.{◌≡◌, ◌≢◌, ◌⊎◌, ℕ, ◌+◌, ◌<◌, ◌≤◌, nat_lt, ◌&&◌, Bool, true, false, List, [], length, Option, Some, None, is_some, Result, IfOk, IfErr, if◌then◌else◌}
+use Rattle.std.specs.Prelude.{◌≡◌, ◌≢◌, ◌⊎◌, ℕ, ◌+◌, ◌<◌, ◌≤◌, nat_le, nat_lt, ◌&&◌, Bool, true, false, List, [], length, Option, Some, None, is_some, Result, IfOk, IfErr, if◌then◌else◌}
 use Rattle.ao_base.specs.Outside.{Side, Gave, Rose, IsAtEnd}
 use Rattle.key_model.specs.Rows.{Table}
 use Rattle.format_model.specs.declared.command.Command.{Command}
-use Rattle.format_model.specs.Answers.{Answer, most_keys, most_input, refuse, too_long}
+use Rattle.format_model.specs.declared.command.Command.TheVariants as command
+use Rattle.format_model.specs.Answers.{Answer, answer_of as answer_of_today, answer_over as over_today, most_keys, most_input, refuse, too_long}
 use Rattle.format_model.specs.Commands.{reads_keys, reads_input}
 use Rattle.ao_run.specs.declared.stop.Output.{Output}
 use Rattle.ao_run.specs.declared.stop.Stop.{Stop}
 use Rattle.ao_run.specs.Obeys.{Unread, asks_keys, asks_input, most_of}
 use Rattle.ao_run.specs.Stops.{status_of, text_of, made}
-use Rattle.ao_run.specs.Today.{answer_of_today, is_built, over_today}
+use Rattle.ao_run.specs.Today.{is_built}
+
+-- a storm draws at most 10,000 events
+abbrev pub draws_few : Command → Bool
+draws_few (command.Storm seed count) = nat_le count 10000
+draws_few _ = true
 
 -- the words name a command that is built, or none
 abbrev pub is_ready : Option Command → Bool
 is_ready None = true
-is_ready (Some c) = is_built c
+is_ready (Some c) = is_built c && draws_few c
 
 -- the tables that a command has
 abbrev pub tables_in : Option (List Table) → List Table

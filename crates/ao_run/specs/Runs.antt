@@ -8,7 +8,7 @@ use Rattle.ao_run.specs.Obeys.{Obeys, Sides}
 pub record Runs (words : List (List ℕ)) (keys input : List ℕ) (before now : Sides) (status : ℕ) : Type 0 where
   -- what was read, answered and written
   pub obeys : Obeys words keys input before now status
-  -- the headline, of the bytes that `link` read
-  pub delivers : LinkDelivers words input before now status
+  -- the headline, of the bytes that `link` and `link KEYS` read
+  pub delivers : LinkDelivers words keys input before now status
   -- the whole output, where nothing fails
   pub completes : Completes words before now status

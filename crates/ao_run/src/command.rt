@@ -1,10 +1,11 @@
 //! The command that the words name, and what it reads.
-ghost use Rattle.std.specs.Prelude.{◌≡◌, option_map};
+ghost use Rattle.std.specs.Prelude.{◌≡◌, option_map, true};
 ghost use Rattle.key_model.specs.Times.{time_of};
-ghost use Rattle.format_model.specs.Commands.{alone_of, keys_of, lint_of, reads_input, reads_keys, up_to};
+ghost use Rattle.format_model.specs.Commands.{alone_of, command_of, keys_of, lint_of, pcap_of, reads_input, reads_keys, storm_of, three_of, up_to, with_keys_of};
 ghost use Rattle.format_model.specs.Answers.{most_input};
+ghost use Rattle.ao_run.specs.Gathered.{is_ready};
 ghost use Rattle.ao_run.specs.KeyFiles.{key_word, second};
-ghost use Rattle.ao_run.specs.Today.{command_today, if_built};
+ghost use Rattle.ao_run.specs.Today.{command_today, is_built};
 
 use ao_base::{Words, read_decimal};
 use format_model::{Command, Plan};
@@ -14,6 +15,8 @@ use key_table::{LATEST, read_time};
 const MOST_STORED: u64 = 268_435_456;
 /// The most bytes of any other input.
 const MOST_INPUT: u64 = 33_554_432;
+/// The most events that a storm draws.
+const MOST_DRAWN: u64 = 10_000;
 
 /// A time that is written as in a key file, whatever the bytes.
 #[tactic(auto, using(crate::proofs::CommandLaws::no_time))]
@@ -36,7 +39,7 @@ fn up_to(most: u64, word: &[u8]) -> Option<u64>
 }
 
 fn alone(name: &[u8]) -> Option<Command>
-    ensures { result ≡ if_built (alone_of name.now) }
+    ensures { result ≡ alone_of name.now }
 {
     if name == b"link".as_slice() {
         Some(Command::Link)
@@ -49,8 +52,26 @@ fn alone(name: &[u8]) -> Option<Command>
     }
 }
 
+fn with_keys(name: &[u8]) -> Option<Command>
+    ensures { result ≡ with_keys_of name.now }
+{
+    if name == b"link".as_slice() {
+        Some(Command::LinkKeys)
+    } else if name == b"check".as_slice() {
+        Some(Command::Check)
+    } else if name == b"bgp".as_slice() {
+        Some(Command::Bgp)
+    } else if name == b"timed".as_slice() {
+        Some(Command::Timed)
+    } else if name == b"node".as_slice() {
+        Some(Command::Node)
+    } else {
+        None
+    }
+}
+
 fn keys(time: &[u8]) -> Option<Command>
-    ensures { result ≡ if_built (keys_of time.now) }
+    ensures { result ≡ keys_of time.now }
 {
     match time_in(time) {
         Some(time) => Some(Command::Keys(time)),
@@ -58,8 +79,40 @@ fn keys(time: &[u8]) -> Option<Command>
     }
 }
 
+fn storm(seed: &[u8], count: &[u8]) -> Option<Command>
+    ensures { result ≡ storm_of seed.now count.now }
+{
+    let seed = read_decimal(seed)?;
+    let count = up_to(MOST_DRAWN, count)?;
+    Some(Command::Storm(seed, count as u32))
+}
+
+fn of_pcap(option: &[u8]) -> Option<Command>
+    ensures { result ≡ pcap_of option.now }
+{
+    if option == b"--pcap".as_slice() {
+        Some(Command::CheckPcap)
+    } else {
+        None
+    }
+}
+
+fn three(name: &[u8], second: &[u8], third: &[u8]) -> Option<Command>
+    ensures { result ≡ three_of name.now second.now third.now }
+{
+    if name == b"keys".as_slice() {
+        keys(third)
+    } else if name == b"storm".as_slice() {
+        storm(second, third)
+    } else if name == b"check".as_slice() {
+        of_pcap(second)
+    } else {
+        None
+    }
+}
+
 fn lint(lead: &[u8], lag: &[u8], from: &[u8], to: &[u8]) -> Option<Command>
-    ensures { result ≡ if_built (lint_of lead.now lag.now from.now to.now) }
+    ensures { result ≡ lint_of lead.now lag.now from.now to.now }
 {
     let lead = up_to(LATEST, lead)?;
     let lag = up_to(LATEST, lag)?;
@@ -77,15 +130,15 @@ fn lint(lead: &[u8], lag: &[u8], from: &[u8], to: &[u8]) -> Option<Command>
     }
 }
 
-/// The command that the words name, where it is built; None exactly where they are in no such
-/// command's form.
-#[tactic(auto, unfolding(format_model::specs::Commands::command_of), using(crate::proofs::CommandLaws::unbuilt_three, crate::proofs::CommandLaws::unbuilt_with_keys))]
-pub(crate) fn named(words: &Words) -> Option<Command>
-    ensures { result ≡ command_today words.now }
+/// The command that the words name, built or not.
+#[tactic(auto, unfolding(format_model::specs::Commands::command_of))]
+fn command_of(words: &Words) -> Option<Command>
+    ensures { result ≡ command_of words.now }
 {
     match words.as_slice() {
         [name] => alone(name.as_slice()),
-        [name, _keys, time] if name.as_slice() == b"keys".as_slice() => keys(time.as_slice()),
+        [name, _keys] => with_keys(name.as_slice()),
+        [name, second, third] => three(name.as_slice(), second.as_slice(), third.as_slice()),
         [name, _keys, lead, lag, from, to] if name.as_slice() == b"lint".as_slice() => lint(
             lead.as_slice(),
             lag.as_slice(),
@@ -93,6 +146,33 @@ pub(crate) fn named(words: &Words) -> Option<Command>
             to.as_slice(),
         ),
         _ => None,
+    }
+}
+
+/// Whether the command is built.
+fn is_built(command: Command) -> bool
+    ensures { result ≡ is_built command }
+{
+    match command {
+        Command::Check => false,
+        Command::CheckPcap => false,
+        Command::Bgp => false,
+        Command::Timed => false,
+        Command::Node => false,
+        _ => true,
+    }
+}
+
+/// The command that the words name, where it is built; None exactly where they are in no such
+/// command's form.
+#[tactic(auto, using(crate::proofs::CommandLaws::named_ready))]
+pub(crate) fn named(words: &Words) -> Option<Command>
+    ensures command { result ≡ command_today words.now }
+    ensures ready { is_ready result ≡ true }
+{
+    match command_of(words) {
+        Some(command) => { if is_built(command) { Some(command) } else { None } }
+        None => None,
     }
 }
 

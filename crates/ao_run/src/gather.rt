@@ -1,14 +1,14 @@
 //! Reading what a command reads, and making its output.
-ghost use Rattle.std.specs.Prelude.{◌≡◌, ℕ, List, true, is_some, option_map};
+ghost use Rattle.std.specs.Prelude.{◌≡◌, ℕ, List, true, is_some};
+ghost use Rattle.format_model.specs.Answers.{answer_over as over_today};
 ghost use Rattle.format_model.specs.Commands.{reads_keys};
 ghost use Rattle.ao_run.specs.Gathered.{Gathered, InputGathered, KeysGathered, is_ready, tables_in};
 ghost use Rattle.ao_run.specs.Stops.{Makes};
-ghost use Rattle.ao_run.specs.Today.{is_built, over_today};
 
 use crate::command::{most_input, reads_input, reads_keys};
 use crate::key_commands::{judge, list_keys};
 use crate::key_fault::stop_of;
-use crate::link::link;
+use crate::link::{link, link_keys, run_storm};
 use crate::stop::{Output, Stop};
 use crate::texts::{show_all, verify_all};
 use ao_base::{Bytes, ReadProblem, Source, read_all};
@@ -61,19 +61,21 @@ fn input_for<I: Source>(alloc: Global, command: Command, input: &mut I) -> Resul
 fn answer(
     alloc: Global,
     command: Command,
-    tables: Option<&Tables>,
+    tables: Option<Tables>,
     input: &[u8],
 ) -> Result<Output, Stop>
-    requires built { is_built command ≡ true }
+    requires ready { is_ready (Some command) ≡ true }
     requires tables { is_some tables ≡ reads_keys command }
-    ensures { Makes result (over_today command (tables_in (option_map (λ t. t.now) tables.entry)) input.now) }
+    ensures { Makes result (over_today command (tables_in tables) input.now) }
 {
     match (command, tables) {
         (Command::Link, _) => link(alloc, input),
+        (Command::LinkKeys, Some(tables)) => link_keys(alloc, tables, input),
         (Command::Show, _) => show_all(alloc, input),
         (Command::Vectors, _) => verify_all(alloc, input),
-        (Command::Keys(time), Some(tables)) => list_keys(alloc, tables, time),
-        (Command::Lint(plan), Some(tables)) => judge(alloc, tables, plan, input),
+        (Command::Keys(time), Some(tables)) => list_keys(alloc, &tables, time),
+        (Command::Lint(plan), Some(tables)) => judge(alloc, &tables, plan, input),
+        (Command::Storm(seed, count), _) => run_storm(alloc, seed, count),
         _ => unreachable!(),
     }
 }
@@ -102,5 +104,5 @@ pub(crate) fn gather<K: Source, I: Source>(
         Ok(text) => text,
         Err(stop) => return Err(stop),
     };
-    answer(alloc, command, tables.as_ref(), text.as_slice())
+    answer(alloc, command, tables, text.as_slice())
 }

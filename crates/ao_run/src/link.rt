@@ -1,50 +1,60 @@
-//! The command `link`.
-ghost use Rattle.std.specs.Prelude.{◌≡◌, ◌≤◌, ◌<◌, IsTrue, IfOk, false, length, map, Some, Ok};
-ghost use Rattle.ao_base.specs.Algorithms.{mac_length_of};
-ghost use Rattle.narrow_script.specs.Script.{are_two_of_a_family, script_of};
-ghost use Rattle.narrow_world.specs.Standing.{StandsFor, event_of, setup_of};
-ghost use Rattle.format_model.specs.Answers.{if_read};
+//! The commands `link`, `link KEYS` and `storm`.
+ghost use Rattle.std.specs.Prelude.{◌≡◌, ◌≤◌, true, false};
+ghost use Rattle.link_model.specs.Storm.{storm_events};
+ghost use Rattle.format_model.specs.Answers.{if_read, linked, linked_by_shared, stormed};
+ghost use Rattle.format_model.specs.LinkFiles.{script_of};
 ghost use Rattle.ao_run.specs.Stops.{Makes};
-ghost use Rattle.ao_run.specs.Today.{reported};
 
 use crate::stop::{Output, Stop};
-use narrow_script::{Event, Script, read_script};
-use narrow_world::{Setup, World};
-use std::alloc::{AllocError, Global};
-
-/// The world after all events.
-fn play(alloc: Global, setup: Setup, events: &[Event]) -> Result<World, AllocError>
-    requires family { IsTrue (are_two_of_a_family setup.a.address setup.b.address) }
-    requires least { 1 ≤ length setup.shared.master }
-    requires most { length setup.shared.master ≤ 255 }
-    requires code { mac_length_of setup.shared.alg ≡ 12 }
-    requires few { length events.now ≤ 20000 }
-    ensures { IfOk result (λ w. StandsFor w (setup_of setup) (map event_of events.now)) }
-{
-    let mut world = World::new(alloc, setup)?;
-    for event in events {
-        let _outcome = world.step(alloc, event)?;
-    }
-    Ok(world)
-}
+use key_table::Tables;
+use link_command::{link_keys_report, link_report};
+use link_storm::storm;
+use std::alloc::Global;
 
 /// The report of a link file that names its shared key; status 1 where the run counts a forgery.
+#[tactic(auto, using(crate::proofs::LinkLaws::shared_makes, crate::proofs::LinkLaws::shared_refused))]
 pub(crate) fn link(alloc: Global, text: &[u8]) -> Result<Output, Stop>
-    ensures { Makes result (if_read reported (script_of false text.now)) }
+    ensures { Makes result (if_read linked_by_shared (script_of false text.now)) }
 {
-    let script = match read_script(alloc, false, text) {
-        Ok(script) => script,
-        Err(fault) => return Err(Stop::of_input(alloc, &fault)),
-    };
-    let Script {
-        a,
-        b,
-        shared,
-        events,
-    } = script;
-    let Some(shared) = shared else { unreachable!() };
-    let world = play(alloc, Setup { a, b, shared }, events.as_slice())?;
-    let bytes = world.report(alloc)?;
-    let status = if world.forgeries() == 0 { 0 } else { 1 };
-    Ok(Output { status, bytes })
+    match link_report(alloc, text) {
+        Ok(played) => {
+            let status = if played.forgeries == 0 { 0 } else { 1 };
+            Ok(Output {
+                status,
+                bytes: played.report,
+            })
+        }
+        Err(fault) => Err(Stop::of_input(alloc, &fault)),
+    }
+}
+
+/// The report of a link file over the tables of a key file; status 1 where the run counts a forgery.
+#[tactic(auto, using(crate::proofs::LinkLaws::keyed_makes, crate::proofs::LinkLaws::keyed_refused))]
+pub(crate) fn link_keys(alloc: Global, tables: Tables, text: &[u8]) -> Result<Output, Stop>
+    ensures { Makes result (if_read (linked tables) (script_of true text.now)) }
+{
+    match link_keys_report(alloc, tables, text) {
+        Ok(played) => {
+            let status = if played.forgeries == 0 { 0 } else { 1 };
+            Ok(Output {
+                status,
+                bytes: played.report,
+            })
+        }
+        Err(fault) => Err(Stop::of_input(alloc, &fault)),
+    }
+}
+
+/// The summary of a run of so many events, at most 10,000, that are made from a seed; status 1 where
+/// it counts a forgery.
+pub(crate) fn run_storm(alloc: Global, seed: u64, count: u32) -> Result<Output, Stop>
+    requires { count ≤ 10000 }
+    ensures { Makes result (stormed (storm_events seed count)) }
+{
+    let stormed = storm(alloc, seed, count)?;
+    let status = if stormed.forgeries == 0 { 0 } else { 1 };
+    Ok(Output {
+        status,
+        bytes: stormed.summary,
+    })
 }

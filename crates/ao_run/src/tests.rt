@@ -3,7 +3,9 @@
 mod hostile;
 mod keys;
 mod link;
+mod link_keys;
 mod outside;
+mod storm;
 mod texts;
 
 use crate::run;

@@ -11,7 +11,7 @@ returns g c = elim c.match-gather.branch [
   | in-Ok+in-Err-write_all w ↦
       let got = w.in-Ok.ensures in
       let told = rw (c.text.ensures, w.stop-is) at c.write_all-2.ensures.1 in
-      let read = rw c.named.ensures at got.2 in
+      let read = rw c.named.ensures.command at got.2 in
       let wrote = rw w.as_slice.ensures at w.in-Err-write_all.ensures.1 in (
         got.0,
         got.1,
@@ -21,7 +21,7 @@ returns g c = elim c.match-gather.branch [
   | in-Err w ↦
       let got = w.in-Err.ensures in
       let told = rw (c.text.ensures, w.stop-is) at c.write_all-2.ensures.1 in
-      let read = rw c.named.ensures at got.2 in (
+      let read = rw c.named.ensures.command at got.2 in (
         got.0,
         got.1,
         rw (c.status.ensures, w.stop-is, w.out-is)
@@ -33,6 +33,6 @@ returns g c = elim c.match-gather.branch [
 pub returns-in-Ok-write_all : goal.returns-in-Ok-write_all
 returns-in-Ok-write_all g c =
     let got = c.in-Ok.ensures in
-    let read = rw c.named.ensures at got.2 in
+    let read = rw c.named.ensures.command at got.2 in
     let wrote = rw c.as_slice.ensures at c.in-Ok-write_all.ensures.1 in
     (got.0, got.1, runs c.args.words.now got.0 got.1 _ _ _ (done_obeys c.args.words.now got.0 got.1 _ _ _ _ _ _ _ c.in-Ok.output _ _ read wrote))

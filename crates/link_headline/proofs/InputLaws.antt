@@ -1,0 +1,116 @@
+-- What a link file and a key file say fits a link.
+use Rattle.std.proofs.Common.{◌≡◌, ℕ, suc, Bool, true, false, cond, List, [], ◌∷◌, Option, Some, None, Ok, arith}
+use Rattle.std.specs.List.{All, AllByRecursion, find}
+use Rattle.ao_base.specs.declared.address.Address.{Address}
+use Rattle.ao_base.specs.declared.address.Address.TheVariants.{V4, V6}
+use Rattle.ao_base.specs.declared.end.End.{End}
+use Rattle.ao_base.specs.declared.end.End.TheVariants.{A, B}
+use Rattle.key_model.specs.Nodes.{tables_of}
+use Rattle.key_model.specs.Overlaps.{IsValid}
+use Rattle.key_model.specs.Plans.{rows_at, rows_of_table}
+use Rattle.key_model.specs.Rows.{Row, Table, has_address}
+use Rattle.key_model.specs.Shared.{shared_row}
+use Rattle.key_model.proofs.ValidLaws.{empty-valid, shared-valid, tables_of-valid}
+use Rattle.link_model.specs.declared.event.Event.{Event}
+use Rattle.link_model.specs.declared.event.Event.TheVariants.{Clock, Connect, Listen, Start, Give, Fill, Send, Resend, Deliver, Inject, Alter, Take, Close, Abort, AddRow, Withdraw, Dump}
+use Rattle.link_model.specs.Laws.{EventFits, OneFamily, RowFits, SetupFits}
+use Rattle.link_model.specs.Worlds.{rows_of, setup_of}
+use Rattle.format_model.specs.declared.script.Script.{Script}
+use Rattle.format_model.specs.declared.script.SharedKey.{SharedKey}
+use Rattle.format_model.specs.Answers.{shared_by}
+use Rattle.format_model.specs.LinkFiles.{are_two_of_a_family, script_of}
+use Rattle.link_script.specs.Scripts.{IsAddress, IsEvent, IsKey, IsScript}
+use Rattle.link_script.proofs.ScriptRanges.{script_of_ok}
+use Rattle.link_headline.proofs.TableFits.{Fit, tables_fit}
+
+-- ---- events
+
+event_fits : (e : Event) → IsEvent e → EventFits e
+event_fits (Clock e seconds) r = r
+event_fits (Connect e isn) r = omega (arith, r)
+event_fits (Listen e isn) r = omega (arith, r)
+event_fits (Start e isn peer) r = (omega (arith, r.0), omega (arith, r.1))
+event_fits (Give e bytes) r = r.1
+event_fits (Fill e count byte) r = r.1
+event_fits (Send e) r = tt
+event_fits (Resend e) r = tt
+event_fits (Deliver e name) r = tt
+event_fits (Inject e bytes) r = r.small
+event_fits (Alter e name place mask fix) r = r.2
+event_fits (Take e count) r = tt
+event_fits (Close e) r = tt
+event_fits (Abort e) r = tt
+event_fits (AddRow e row) r =
+    let recv = r.recv_id in
+    let send = r.send_id in
+    record { recv_id = omega (arith, recv); send_id = omega (arith, send); master = r.master.small }
+event_fits (Withdraw e number) r = tt
+event_fits (Dump name) r = tt
+
+all_events : (es : List Event) → All IsEvent es → AllByRecursion EventFits es
+all_events [] all = tt
+all_events (e ∷ es) all = (event_fits e (all 0 e (omega arith)), all_events es (λ k d h. all (suc k) d (omega arith)))
+
+pub events_fit : (with_keys : Bool) (text : List ℕ) (script : Script) → script_of with_keys text ≡ Ok script → AllByRecursion EventFits script.events
+events_fit with_keys text script is = all_events script.events (script_of_ok with_keys text script is).0.events
+
+-- ---- sockets
+
+family : (a b : Address) → IsAddress a → IsAddress b → are_two_of_a_family a b ≡ true → OneFamily a b
+family (V4 one) (V4 two) x y h = (x, y)
+family (V6 one) (V6 two) x y h = (x, y)
+family (V4 one) (V6 two) x y h = absurd (cc)
+family (V6 one) (V4 two) x y h = absurd (cc)
+
+-- ---- tables
+
+found : (P : List Row → Type 0) (b : Bool) (t : Table) (o : Option Table) → P t.rows → P (rows_of_table o) → P (rows_of_table (cond b (Some t) o))
+found P true t o here more = here
+found P false t o here more = more
+
+fit_at : (tables : List Table) (address : Address) → AllByRecursion Fit tables → AllByRecursion RowFits (rows_at tables address)
+fit_at [] address all = tt
+fit_at (t ∷ ts) address all = found (AllByRecursion RowFits) (has_address address t) t (find (has_address address) ts) all.0 (fit_at ts address all.1)
+
+valid_at : (tables : List Table) (address : Address) → All (λ (t : Table). IsValid t.rows) tables → IsValid (rows_at tables address)
+valid_at [] address all = empty-valid
+valid_at (t ∷ ts) address all =
+    found IsValid (has_address address t) t (find (has_address address) ts) (all 0 t (omega arith)) (valid_at ts address (λ k d h. all (suc k) d (omega arith)))
+
+fits : (tables : List Table) (script : Script) → IsScript script → AllByRecursion Fit tables → All (λ (t : Table). IsValid t.rows) tables → SetupFits (setup_of tables script.a script.b)
+fits tables script is fit valid =
+    let a_port = is.a.port in
+    let b_port = is.b.port in
+    record {
+      family = family script.a.address script.b.address is.a.address is.b.address is.two;
+      a_port = omega (arith, a_port);
+      b_port = omega (arith, b_port);
+      rows = of_end;
+      valid = valid_of_end;
+    }
+  where
+    of_end : (e : End) → AllByRecursion RowFits (rows_of (setup_of tables script.a script.b) e)
+    of_end A = fit_at tables script.a.address fit
+    of_end B = fit_at tables script.b.address fit
+
+    valid_of_end : (e : End) → IsValid (rows_of (setup_of tables script.a script.b) e)
+    valid_of_end A = valid_at tables script.a.address valid
+    valid_of_end B = valid_at tables script.b.address valid
+
+pub keyed_fits : (keys text : List ℕ) (tables : List Table) (script : Script) → tables_of keys ≡ Ok tables → script_of true text ≡ Ok script → SetupFits (setup_of tables script.a script.b)
+keyed_fits keys text tables script read is = fits tables script (script_of_ok true text script is).0 (tables_fit keys tables read) (tables_of-valid keys tables read)
+
+shared_fit : (script : Script) (shared : Option SharedKey) → IsKey shared → AllByRecursion Fit (shared_by script shared)
+shared_fit script None is = tt
+shared_fit script (Some key) is =
+    let row : RowFits (shared_row key.alg key.master) = record { recv_id = omega arith; send_id = omega arith; master = is.small } in
+    ((row, tt), ((row, tt), tt))
+
+shared_valid : (script : Script) (shared : Option SharedKey) → All (λ (t : Table). IsValid t.rows) (shared_by script shared)
+shared_valid script None = λ k d h. absurd (omega arith)
+shared_valid script (Some key) = shared-valid script.a.address script.b.address key.alg key.master
+
+pub shared_fits : (text : List ℕ) (script : Script) → script_of false text ≡ Ok script → SetupFits (setup_of (shared_by script script.shared) script.a script.b)
+shared_fits text script is =
+    let s : IsScript script = (script_of_ok false text script is).0 in
+    fits (shared_by script script.shared) script s (shared_fit script script.shared s.key) (shared_valid script script.shared)

@@ -1,0 +1,5 @@
+pub mod InputLaws
+pub mod LawfulRuns
+pub mod ReportEnds
+pub mod StormFits
+pub mod TableFits

@@ -1,0 +1,27 @@
+//! What a link file and a key file say, and what a storm is made of, fits a link.
+ghost use Rattle.std.specs.Prelude.{◌≡◌, ℕ, Bool, List, true, false, Ok};
+ghost use Rattle.std.specs.List.{AllByRecursion};
+ghost use Rattle.key_model.specs.Nodes.{tables_of};
+ghost use Rattle.key_model.specs.Rows.{Table};
+ghost use Rattle.link_model.specs.Laws.{SetupFits, EventFits};
+ghost use Rattle.link_model.specs.Storm.{storm_setup, storm_events};
+ghost use Rattle.link_model.specs.Worlds.{setup_of};
+ghost use Rattle.format_model.specs.declared.script.Script.{Script};
+ghost use Rattle.format_model.specs.Answers.{shared_by};
+ghost use Rattle.format_model.specs.LinkFiles.{script_of};
+
+/// The sockets of a link file with the tables of a key file, or with those of the key that the link
+/// file names, fit a link, and so does each event of a link file.
+pub fn link_files_fit()
+    ensures keyed { (keys text : List ℕ) (tables : List Table) (script : Script) → tables_of keys ≡ Ok tables → script_of true text ≡ Ok script
+        → SetupFits (setup_of tables script.a script.b) }
+    ensures shared { (text : List ℕ) (script : Script) → script_of false text ≡ Ok script
+        → SetupFits (setup_of (shared_by script script.shared) script.a script.b) }
+    ensures events { (with_keys : Bool) (text : List ℕ) (script : Script) → script_of with_keys text ≡ Ok script → AllByRecursion EventFits script.events }
+{}
+
+/// The link of a storm and each of its events fit.
+pub fn storms_fit()
+    ensures link { SetupFits storm_setup }
+    ensures events { (seed count : ℕ) → AllByRecursion EventFits (storm_events seed count) }
+{}
