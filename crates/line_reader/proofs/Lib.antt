@@ -1,3 +1,4 @@
 pub mod Calls
 pub mod Newlines
 pub mod Searches
+pub mod Showing

@@ -1,17 +1,18 @@
 -- Places of newlines, and the first line of a text.
-use Rattle.std.proofs.Common.{◌≡◌, ℕ, suc, ◌+◌, ◌-◌, ◌<◌, ◌≤◌, Bool, not, min, List, [], ◌∷◌, ◌++◌, length, take, drop, Option, None, Some, inl, inr, refl, sym, ap, ◌∙◌, add-one, arith}
+use Rattle.std.proofs.Common.{◌≡◌, ◌≢◌, ℕ, suc, ◌+◌, ◌-◌, ◌<◌, ◌≤◌, ◌==◌, Bool, true, false, not, cond, min, List, [], ◌∷◌, ◌++◌, length, take, drop, None, Some, inl, inr, refl, sym, ap, ◌∙◌, add-one, arith}
 use Rattle.std.proofs.lemmas.List.{append-nil, take-append-le, drop-append-le, take-append-drop, length-take-le, length-drop, length-append, nil_from_length}
 use Rattle.std.proofs.lemmas.List.Folds.{prefix_len-append}
 use Rattle.std.proofs.lemmas.List.Sums.{prefix_len-le-length}
 use Rattle.std.proofs.Math.Nat.{eq-or-lt_of_le}
+use Rattle.std.proofs.Math.Seq.{take-length}
 use Rattle.std.proofs.lemmas.Bool.Decides.{nat_tests}
 use Rattle.std.specs.List.{position_or_len}
 use Rattle.memchr.specs.Find.{IsFirstByte}
 use Rattle.ao_base.specs.Lines.{is_newline, lines_of}
 use Rattle.ao_base.specs.Outside.{Side, IsAtEnd, told}
-use Rattle.ao_base.proofs.LineLaws.{lines_step, first_or_length}
+use Rattle.ao_base.proofs.LineLaws.{lines_step, first_or_length, one_more}
 use Rattle.ao_base.proofs.Sides.{nothing_told}
-use Rattle.line_reader.specs.Reading.{IsFirstLine, IsLong, NoneLong}
+use Rattle.line_reader.specs.Reading.{IsCut, IsFirstLine, IsLong, IsPlain, NoneLong}
 
 -- how many bytes stand before the first newline
 pub within : (xs : List ℕ) → position_or_len is_newline xs ≤ length xs
@@ -88,16 +89,30 @@ line_last kept side n past n_is all some past_is end =
     let gone1 : drop (n + 1) kept ≡ [] = nil_from_length (drop (n + 1) kept) (omega arith) in
     rw (none, append-nil kept, append-nil (drop past kept)) (first_line kept _ _ n some n_is refl (gone ∙ sym gone1) (omega arith))
 
--- a line that is too long stays so, whatever follows
-pub long_line : (longest : ℕ) (kept left : List ℕ) → longest < position_or_len is_newline kept → IsLong longest (lines_of (kept ++ left))
-long_line longest kept left lt =
-    let size = length-append kept left in
+-- a line that is too long
+pub long_line : (longest : ℕ) (kept : List ℕ) → longest < position_or_len is_newline kept → IsLong longest (lines_of kept)
+long_line longest kept lt =
     let inside = within kept in
-    let inside2 = within (kept ++ left) in
-    let later = place_later kept left in
-    let line : length (take (position_or_len is_newline (kept ++ left)) (kept ++ left)) ≡ position_or_len is_newline (kept ++ left) = length-take-le _ (kept ++ left) inside2 in
-    let step = lines_step (kept ++ left) (omega arith) in
+    let line : length (take (position_or_len is_newline kept) kept) ≡ position_or_len is_newline kept = length-take-le _ kept inside in
+    let step = lines_step kept (omega arith) in
     rw step (omega arith)
+
+nothing_long : (longest : ℕ) (kept left : List ℕ) → length kept ≡ 0 → IsLong longest (lines_of kept) → IsLong longest (lines_of (kept ++ left))
+unfolding lines_of
+nothing_long longest [] left none long = absurd long
+nothing_long longest (byte ∷ kept) left none long = absurd (omega arith)
+
+-- it stays so, whatever follows
+pub longer : (longest : ℕ) (kept left : List ℕ) → IsLong longest (lines_of kept) → IsLong longest (lines_of (kept ++ left))
+longer longest [] left long = nothing_long longest [] left refl long
+longer longest (byte ∷ rest) left long =
+    let kept : List ℕ = byte ∷ rest in
+    let inside = within kept in
+    let line : length (take (position_or_len is_newline kept) kept) ≡ position_or_len is_newline kept = length-take-le _ kept inside in
+    let first : longest < length (take (position_or_len is_newline kept) kept) = rw (lines_step kept (omega arith)) at long in
+    let size = length-append kept left in
+    let later = place_later kept left in
+    long_line longest (kept ++ left) (omega arith)
 
 -- not both
 pub long_and_none : (longest : ℕ) (lines : List (List ℕ)) → IsLong longest lines → NoneLong longest lines → ⊥
@@ -119,3 +134,66 @@ past_within n past kept allowed side past_is inside before last =
       | inl same ↦ let h = (last same).1 in omega arith
       | inr lt ↦ let h = before lt in omega arith
     ]
+
+-- what stands in front of the first newline has none
+pub plain_front : (xs : List ℕ) (n : ℕ) → n ≡ position_or_len is_newline xs → IsPlain (take n xs)
+plain_front xs n n_is =
+    let inside : n ≤ length xs = rw n_is (within xs) in
+    let size : length (take n xs) ≡ n = length-take-le n xs inside in
+    elim (eq-or-lt_of_le (within (take n xs))) [
+      | inl same ↦ same
+      | inr lt ↦
+          let front = place_in_front (take n xs) (drop n xs) lt in
+          let whole : position_or_len is_newline (take n xs ++ drop n xs) ≡ n = ap (position_or_len is_newline) (take-append-drop n xs) ∙ sym n_is in
+          absurd (omega arith)
+    ]
+
+split_case : (b : Bool) (byte : ℕ) (rest : List ℕ) (n : ℕ) → is_newline byte ≡ b → (n < length rest → rest ≡ take n rest ++ 10 ∷ drop (suc n) rest) →
+    cond (not b) (1 + n) 0 < 1 + length rest →
+    byte ∷ rest ≡ take (cond (not b) (1 + n) 0) (byte ∷ rest) ++ 10 ∷ drop (suc (cond (not b) (1 + n) 0)) (byte ∷ rest)
+split_case true byte rest n is more lt = let e : byte ≡ 10 = grind (arith, nat_tests) in rw e refl
+split_case false byte rest n is more lt = rw one_more (ap (λ xs. byte ∷ xs) (more (omega arith)))
+
+-- a text is its first line, the newline and the rest
+pub split_at : (xs : List ℕ) → position_or_len is_newline xs < length xs → xs ≡ take (position_or_len is_newline xs) xs ++ 10 ∷ drop (suc (position_or_len is_newline xs)) xs
+split_at [] lt = absurd (omega arith)
+split_at (byte ∷ xs) lt = split_case (is_newline byte) byte xs (position_or_len is_newline xs) refl (split_at xs) (omega arith)
+
+-- how a line goes, by whether its newline was there
+pub cut_of : (kept : List ℕ) (side : Side) (n past : ℕ) (b : Bool) → (past == n) ≡ b → n ≡ position_or_len is_newline kept → n ≤ length kept → 0 < length kept →
+    past ≡ min (n + 1) (length kept) → (n ≡ length kept → IsAtEnd side) → IsCut kept (take n kept) (drop past kept) b side
+cut_of kept side n past true is n_is inside some past_is end =
+    let same : past ≡ n = grind (arith, nat_tests) in
+    let all : n ≡ length kept = omega arith in
+    let size : length (drop past kept) ≡ length kept - past = length-drop past kept in
+    let taken : length (take n kept) ≡ n = length-take-le n kept inside in
+    (rw all (sym (take-length kept)), nil_from_length (drop past kept) (omega arith), omega arith, end all)
+cut_of kept side n past false is n_is inside some past_is end =
+    let differ : past ≢ n = λ e. absurd (grind (arith, nat_tests)) in
+    let less : n < length kept = omega arith in
+    let one : past ≡ suc n = omega arith in
+    rw (one, n_is) (split_at kept (rw (← n_is) less))
+
+add_none : (n : ℕ) → n + 0 ≡ n
+add_none n = omega arith
+
+take_front : (xs ys : List ℕ) → take (length xs) (xs ++ ys) ≡ xs
+take_front xs ys = take-append-le (length xs) xs ys (omega arith) ∙ take-length xs
+
+drop_front : (xs ys : List ℕ) → drop (suc (length xs)) (xs ++ 10 ∷ ys) ≡ ys
+drop_front [] ys = refl
+drop_front (x ∷ xs) ys = drop_front xs ys
+
+-- a line with its newline comes first
+pub line_first : (line text : List ℕ) → IsPlain line → lines_of (line ++ 10 ∷ text) ≡ line ∷ lines_of text
+line_first line text plain =
+    let size : length (line ++ 10 ∷ text) ≡ length line + suc (length text) = length-append line (10 ∷ text) in
+    let place : position_or_len is_newline (line ++ 10 ∷ text) ≡ length line = place_behind line (10 ∷ text) plain ∙ add_none (length line) in
+    lines_step (line ++ 10 ∷ text) (omega arith) ∙ rw (place, take_front line (10 ∷ text), drop_front line text) refl
+
+-- a last line without a newline
+pub line_alone : (line : List ℕ) → IsPlain line → 0 < length line → lines_of line ≡ line ∷ []
+unfolding lines_of
+line_alone line plain some =
+    let gone : drop (suc (length line)) line ≡ [] = nil_from_length _ (let size = length-drop (suc (length line)) line in omega arith) in
+    lines_step line some ∙ rw (plain, take-length line, gone) refl

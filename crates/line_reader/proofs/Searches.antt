@@ -5,7 +5,7 @@ use Rattle.std.proofs.Math.Seq.{take-length}
 use Rattle.std.specs.List.{position_or_len}
 use Rattle.ao_base.specs.Buffered.{Buffered, TakesMore}
 use Rattle.ao_base.specs.Lines.{is_newline}
-use Rattle.ao_base.specs.Outside.{Side, IsAtEnd}
+use Rattle.ao_base.specs.Outside.{Side}
 use Rattle.ao_base.proofs.Sides.{gave_more, rose_after}
 use Rattle.line_reader.specs.Finding.{Finds, Searching}
 use Rattle.line_reader.specs.declared.search.Found.TheVariants.{Line, End, Fault}

@@ -35,25 +35,27 @@ pub struct LineReader {
     // how many bytes were taken and aren't kept
     handed: u64,
     shown: bool,
+    // the source gave no more, and everything was shown
+    ended: bool,
     over: bool,
 }
 
 impl Model for LineReader {
-    ghost use Rattle.std.specs.Prelude.{◌≡◌, ◌+◌, ◌≤◌, cond, Some, None, length};
+    ghost use Rattle.std.specs.Prelude.{◌≡◌, ◌+◌, ◌≤◌, cond, true, [], Some, None, length};
     ghost use Rattle.line_reader.specs.Reading.{Reading};
 
     ghost Value = { Reading };
 
-    ghost view = { λ r. record { longest = r.longest; most = r.most; kept = r.buffer.kept; taken = r.handed + length r.buffer.kept; over = r.over; line = cond r.shown (Some r.buffer.piece) None } };
+    ghost view = { λ r. record { longest = r.longest; most = r.most; kept = r.buffer.kept; taken = r.handed + length r.buffer.kept; ended = r.ended; over = r.over; line = cond r.shown (Some r.buffer.piece) None } };
 
-    ghost invariant = { λ r. (r.handed ≤ r.most) × (r.buffer.size ≡ r.longest + 65536) };
+    ghost invariant = { λ r. (r.handed ≤ r.most) × (r.buffer.size ≡ r.longest + 65536) × (r.ended ≡ true → r.buffer.kept ≡ []) };
 }
 
 impl LineReader {
     /// A reader of lines of at most `longest` bytes, without their newline, of a source of at most
     /// `most` bytes. It takes all its memory here.
     pub fn new(alloc: Global, longest: u32, most: u64) -> Result<LineReader, AllocError>
-        ensures { IfOk result (λ r. r ≡ record { longest = longest; most = most; kept = []; taken = 0; over = false; line = None }) }
+        ensures { IfOk result (λ r. r ≡ record { longest = longest; most = most; kept = []; taken = 0; ended = false; over = false; line = None }) }
     {
         let buffer = Buffer::new(alloc, longest as usize + SPARE)?;
         Ok(LineReader {
@@ -62,6 +64,7 @@ impl LineReader {
             most,
             handed: 0,
             shown: false,
+            ended: false,
             over: false,
         })
     }
@@ -69,10 +72,12 @@ impl LineReader {
     /// Goes to the next line of the source. No call before may have answered anything but Line.
     ///
     /// The content is what the reader keeps, and then what the source has left. Line: the first line
-    /// of the content is shown, and the content afterwards is what follows it and its newline. End
-    /// comes only at the source's end, with all lines shown; Fault only where the source's count of
-    /// faults rose; TooLong only where the source gave more than `most` bytes; LongLine only where
-    /// the next line has more than `longest`. Where none of this is so, the answer is Line or End.
+    /// of the content is shown, and the content afterwards is what follows it and its newline; a line
+    /// without a newline is shown only at the source's end, and the source isn't asked again after
+    /// it. So the lines shown so far are those in front of the bytes given so far, whatever the source
+    /// tells. End comes only at the source's end, with all lines shown; Fault only where the source's
+    /// count of faults rose; TooLong only where the source gave more than `most` bytes; LongLine only
+    /// where the next line has more than `longest`. Where none of this is so, the answer is Line or End.
     pub fn next<S: Source>(&mut self, src: &mut S) -> LineStep
         requires { self.old.over ≡ false }
         ensures advances { (given : List ℕ) × Advances self.old self.new (S.side src.old) (S.side src.new) given result }
@@ -85,6 +90,9 @@ impl LineReader {
         requires { self.old.over ≡ false }
         ensures { (given : List ℕ) × Advances self.old self.new (S.side src.old) (S.side src.new) given result }
     {
+        if self.ended {
+            return self.stop(LineStep::End);
+        }
         let allowed = self.most - self.handed;
         match find_line(&mut self.buffer, src, self.longest as usize, allowed) {
             Found::Line(len) => {
@@ -92,6 +100,7 @@ impl LineReader {
                 self.buffer.pass(0, len, past);
                 self.handed += past as u64;
                 self.shown = true;
+                self.ended = past == len;
                 LineStep::Line
             }
             Found::End => self.stop(LineStep::End),

@@ -1,4 +1,4 @@
-use Rattle.std.proofs.Common.{[], ◌≡◌, ◌<◌, ◌≤◌, ◌++◌, length, refl, sym, arith}
+use Rattle.std.proofs.Common.{[], ◌<◌, ◌++◌, length, refl, sym, arith}
 use Rattle.std.proofs.lemmas.List.{append-nil}
 use Rattle.ao_base.proofs.Sides.{gave_none}
 use Rattle.line_reader.proofs.Searches.{search_on, search_failed, search_over, search_last}

@@ -1,4 +1,3 @@
-use Rattle.std.proofs.Common.{◌≡◌, length, drop}
 use Rattle.std.proofs.lemmas.List.{take_rest}
 use Rattle.line_reader.proofs.Newlines.{none_from, found_from}
 use Rattle.line_reader.proofs.search.newline_from.Goals as goal

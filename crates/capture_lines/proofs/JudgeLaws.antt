@@ -1,0 +1,49 @@
+-- One more segment is judged.
+use Rattle.std.proofs.Common.{◌≡◌, ℕ, ◌<◌, Bool, false, not, ◌||◌, List, [], ◌∷◌, ◌++◌, length, take, Ok, Err, sym, ap, subst, ◌∙◌}
+use Rattle.std.proofs.Math.Seq.{take-length}
+use Rattle.ao_base.specs.Outside.{Side, Took, WritesAll}
+use Rattle.key_model.specs.Rows.{Table}
+use Rattle.line_model.specs.Texts.{numbered_text}
+use Rattle.format_model.specs.Captures.{Connection, Saying, Stored, has_refusal, hear, is_pass, saying_texts}
+use Rattle.capture_check.specs.declared.answer.CheckLine.{CheckLine}
+use Rattle.capture_check.specs.Answers.{Says}
+use Rattle.capture_check.specs.Checking.{Hears, StandsFor}
+use Rattle.capture_lines.specs.Judging.{HasHeard, Judges, Judging, held_after, line_after}
+use Rattle.capture_lines.specs.declared.judge.Unwritten.TheVariants.{Write}
+use Rattle.capture_lines.proofs.RunLaws.{held_more, refusal_more, saying_after}
+
+-- nothing was heard yet
+pub heard_none : (judge : Judging) → StandsFor judge.checking.entries [] → judge.amiss ≡ false → HasHeard judge []
+heard_none judge stands amiss = record { stands = stands; amiss = amiss }
+
+module _ (before now : Judging) (stored : List Stored) (s : Stored) (answer : CheckLine) (line : List ℕ) (a b : Side) (n : ℕ) (heard : HasHeard before stored)
+    (tables : now.checking.tables ≡ before.checking.tables)
+    (hears : (held : List Connection) → StandsFor before.checking.entries held → Hears now.checking.entries answer (hear before.checking.tables held s.time s.bytes))
+    (texts : (w : Saying) → Says answer w → line ≡ numbered_text s.number (saying_texts w)) where
+  next : Hears now.checking.entries answer (hear before.checking.tables (held_after before.checking.tables [] stored) s.time s.bytes)
+  next = hears (held_after before.checking.tables [] stored) heard.stands
+
+  line_is : line ≡ line_after before.checking.tables stored s
+  line_is = texts (saying_after before.checking.tables [] stored s) next.says
+
+  pub judged : (pass : Bool) (u : Unit {0}) {E : Type 0} → ((w : Saying) → Says answer w → pass ≡ is_pass w) → now.amiss ≡ (before.amiss || not pass) → WritesAll {E = E} a b line n (Ok u) →
+      Judges before now stored s a b (Ok u)
+  judged pass u passes amiss wrote =
+      let whole : take n line ≡ line = rw wrote.whole (take-length line) in
+      let passed : pass ≡ is_pass (saying_after before.checking.tables [] stored s) = passes (saying_after before.checking.tables [] stored s) next.says in
+      record {
+        tables = tables;
+        heard = record {
+          stands = rw (tables, held_more before.checking.tables [] stored s) next.stands;
+          amiss = amiss ∙ (ap (λ (x : Bool). x || not pass) heard.amiss ∙ (ap (λ (x : Bool). has_refusal before.checking.tables stored || not x) passed
+              ∙ (sym (refusal_more before.checking.tables stored s) ∙ ap (λ (t : List Table). has_refusal t (stored ++ s ∷ [])) (sym tables))));
+        };
+        wrote = subst (λ (xs : List ℕ). Took xs a b) (whole ∙ line_is) wrote.took;
+      }
+
+  pub broken : {E : Type 0} (e : E) → WritesAll {E = E} a b line n (Err e) → Judges before now stored s a b (Err Write)
+  broken e wrote = record {
+    tables = tables;
+    heard = tt;
+    wrote = (n, subst (λ (xs : List ℕ). n < length xs) line_is wrote.failed.0, subst (λ (xs : List ℕ). Took (take n xs) a b) line_is wrote.took, wrote.failed.1);
+  }

@@ -1,0 +1,57 @@
+-- One more line behind those that were read.
+use Rattle.std.proofs.Common.{◌≡◌, ℕ, ◌+◌, List, [], ◌∷◌, ◌++◌, length, Some, None, Ok, Err, refl, sym, ap, subst, ◌∙◌}
+use Rattle.std.proofs.lemmas.List.{append-nil}
+use Rattle.ao_base.specs.Outside.{Side}
+use Rattle.ao_base.proofs.Sides.{took_none}
+use Rattle.format_model.specs.Captures.{Stored, capture_run}
+use Rattle.format_model.specs.StoredLines.{stored_from, stored_line}
+use Rattle.capture_lines.specs.Checked.{BreaksLine, JudgedLine, segments_of}
+use Rattle.capture_lines.specs.Judging.{HasHeard, Judges, Judging, line_after}
+use Rattle.capture_lines.specs.declared.judge.Unwritten.TheVariants.{Write}
+use Rattle.capture_lines.proofs.RunLaws.{line_added, run_more}
+
+-- a line without a segment
+pub empty_line : (judge : Judging) (n : ℕ) (lines : List (List ℕ)) (line : List ℕ) (out : Side) → n ≡ length lines + 1 → stored_line n line ≡ Ok None →
+    (stored_from 1 lines).fault ≡ None → HasHeard judge (segments_of lines) → JudgedLine judge.checking.tables judge lines line out out
+empty_line judge n lines line out at is none heard =
+    let added = line_added n lines line None at is none in
+    let same : segments_of (lines ++ line ∷ []) ≡ segments_of lines = added.segments ∙ append-nil (segments_of lines) in
+    record {
+      text = [];
+      tables_same = refl;
+      faultless = added.faultless;
+      heard = subst (λ (xs : List Stored). HasHeard judge xs) (sym same) heard;
+      whole = ap (λ (xs : List Stored). capture_run judge.checking.tables xs) same ∙ sym (append-nil _);
+      wrote = took_none out;
+    }
+
+-- a line whose segment is judged
+pub segment_line : (before now : Judging) (n : ℕ) (lines : List (List ℕ)) (line : List ℕ) (s : Stored) (a b : Side) (u : Unit {0}) → n ≡ length lines + 1 → stored_line n line ≡ Ok (Some s) →
+    (stored_from 1 lines).fault ≡ None → Judges before now (segments_of lines) s a b (Ok u) → JudgedLine before.checking.tables now lines line a b
+segment_line before now n lines line s a b u at is none judges =
+    let added = line_added n lines line (Some s) at is none in
+    record {
+      text = line_after before.checking.tables (segments_of lines) s;
+      tables_same = judges.tables;
+      faultless = added.faultless;
+      heard = subst (λ (xs : List Stored). HasHeard now xs) (sym added.segments) judges.heard;
+      whole = ap (λ (xs : List Stored). capture_run before.checking.tables xs) added.segments ∙ run_more before.checking.tables (segments_of lines) s;
+      wrote = judges.wrote;
+    }
+
+-- a line whose segment's line isn't written whole
+pub broken_line : (before now : Judging) (n : ℕ) (lines : List (List ℕ)) (line : List ℕ) (s : Stored) (a b : Side) → n ≡ length lines + 1 → stored_line n line ≡ Ok (Some s) →
+    (stored_from 1 lines).fault ≡ None → Judges before now (segments_of lines) s a b (Err Write) → BreaksLine before.checking.tables lines line a b
+broken_line before now n lines line s a b at is none judges =
+    let added = line_added n lines line (Some s) at is none in
+    record {
+      segment = s;
+      text = line_after before.checking.tables (segments_of lines) s;
+      n = judges.wrote.0;
+      faultless = added.faultless;
+      of_line = added.segments;
+      whole = ap (λ (xs : List Stored). capture_run before.checking.tables xs) added.segments ∙ run_more before.checking.tables (segments_of lines) s;
+      less = judges.wrote.1;
+      wrote = judges.wrote.2;
+      rose = judges.wrote.3;
+    }

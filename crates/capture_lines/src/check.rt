@@ -1,0 +1,122 @@
+//! Lines of stored segments, each read, judged and answered before the next.
+ghost use Rattle.std.specs.Prelude.{◌≡◌, ◌+◌, ◌<◌, ℕ, List, None, length};
+ghost use Rattle.format_model.specs.StoredLines.{stored_from};
+ghost use Rattle.capture_lines.specs.Checked.{Checks, JudgesLine, segments_of};
+ghost use Rattle.capture_lines.specs.Judging.{HasHeard};
+
+use crate::judge::{Judge, Unwritten};
+use ao_base::{LineKind, Sink, Source, Steps};
+use capture_check::{LineProblem, Stored, read_line};
+use key_table::Tables;
+use line_reader::{LineReader, LineStep};
+use std::alloc::Global;
+use std::marker::Brand;
+use std::sync::ledger::{Blank, Ledger};
+
+/// The most bytes of a line.
+const LONGEST: u32 = 131_200;
+
+/// The most bytes of an input.
+const MOST: u64 = 268_435_456;
+
+/// Why stored segments weren't judged to the end of the input.
+#[derive(Clone, Copy, Debug, PartialEq, Eq)]
+pub enum Halt {
+    /// The line with this number, counted from 1 among all lines, has more than 131,200 bytes, which
+    /// is `Range`, or isn't a line of stored segments: the kind of its first faulty word.
+    Line(u32, LineKind),
+    /// The input has more than 268,435,456 bytes.
+    TooLong,
+    /// A read failed.
+    Read,
+    /// A write failed.
+    Write,
+    /// Memory ran out.
+    Memory,
+}
+
+/// What becomes of one line behind those that were read before.
+fn judge_line<L: Ledger, O: Sink>(
+    judge: &mut Judge,
+    alloc: Global,
+    steps: &mut Steps<L>,
+    number: u32,
+    line: &[u8],
+    out: &mut O,
+) -> Result<(), Halt>
+    ensures { (lines : List (List ℕ)) → number ≡ length lines + 1 → (stored_from 1 lines).fault ≡ None → HasHeard judge.old (segments_of lines) →
+        JudgesLine judge.old.checking.tables judge.new lines line.now (O.side out.old) (O.side out.new) result }
+{
+    match read_line(alloc, line) {
+        Ok(Stored::Empty) => Ok(()),
+        Ok(Stored::Segment(time, bytes)) => {
+            let number = u64::from(number);
+            match judge.judge(alloc, steps, number, time, bytes.as_slice(), out) {
+                Ok(()) => Ok(()),
+                Err(Unwritten::Memory) => Err(Halt::Memory),
+                Err(Unwritten::Write) => Err(Halt::Write),
+            }
+        }
+        Err(LineProblem::Memory) => Err(Halt::Memory),
+        Err(LineProblem::Bad(kind)) => Err(Halt::Line(number, kind)),
+    }
+}
+
+/// The same as `check_segments`, with a counter of derivations.
+fn check_counted<L: Ledger, I: Source, O: Sink>(
+    alloc: Global,
+    tables: Tables,
+    input: &mut I,
+    out: &mut O,
+    blank: Blank,
+) -> Result<bool, Halt>
+    requires name { blank.name ≡ L.name }
+    requires parts { blank.parts ≡ L.parts }
+    requires part { 0 < blank.parts }
+    ensures { (given : List ℕ) × Checks tables given (I.side input.old) (I.side input.new) (O.side out.old) (O.side out.new) result }
+{
+    let mut steps = Steps::<L>::new(blank);
+    let mut reader = match LineReader::new(alloc, LONGEST, MOST) {
+        Ok(reader) => reader,
+        Err(_) => return Err(Halt::Memory),
+    };
+    let mut judge = match Judge::new(alloc, tables) {
+        Ok(judge) => judge,
+        Err(_) => return Err(Halt::Memory),
+    };
+    let mut number: u32 = 0;
+    'lines: loop {
+        match reader.next(input) {
+            LineStep::Line => {}
+            LineStep::End => return Ok(judge.is_amiss()),
+            LineStep::Fault => return Err(Halt::Read),
+            LineStep::TooLong => return Err(Halt::TooLong),
+            LineStep::LongLine => return Err(Halt::Line(number + 1, LineKind::Range)),
+        }
+        number += 1;
+        match judge_line(&mut judge, alloc, &mut steps, number, reader.line(), out) {
+            Ok(()) => {}
+            Err(halt) => return Err(halt),
+        }
+    }
+}
+
+/// Judges the stored segments of an input by the tables, and writes the line of each before the next
+/// line is read. Ok at the input's end, and whether a segment is no pass.
+///
+/// Besides the longest line no more than 65,536 bytes are kept. Line, with a faulty line's number,
+/// comes with the lines of all segments before it written, and nothing but what is kept was read
+/// behind it. TooLong comes only where more than 268,435,456 bytes were given; Read only where the
+/// source's count of faults rose, and Write only where the sink's did, with a front part of the line
+/// that failed written; Memory for want of memory. With each of them the lines of all segments of the
+/// lines before were written.
+pub fn check_segments<I: Source, O: Sink>(
+    alloc: Global,
+    tables: Tables,
+    input: &mut I,
+    out: &mut O,
+) -> Result<bool, Halt>
+    ensures { (given : List ℕ) × Checks tables given (I.side input.old) (I.side input.new) (O.side out.old) (O.side out.new) result }
+{
+    check_counted::<Brand, I, O>(alloc, tables, input, out, Blank::new(1))
+}

@@ -1,0 +1,90 @@
+//! A judge of stored segments, which writes what it says of each before it hears the next.
+ghost use Rattle.std.specs.Prelude.{◌≡◌, [], List, IfOk};
+ghost use Rattle.format_model.specs.Captures.{Stored};
+ghost use Rattle.capture_lines.specs.Judging.{HasHeard, Judges};
+
+use ao_base::{Failed, Sink, Steps, write_all};
+use capture_check::{Checker, push_check_line};
+use key_table::Tables;
+use std::alloc::{AllocError, Global};
+use std::marker::Model;
+use std::sync::ledger::Ledger;
+
+/// Why the line of a segment wasn't written.
+#[derive(Clone, Copy, Debug, PartialEq, Eq)]
+pub enum Unwritten {
+    /// Memory ran out; nothing of the line was written.
+    Memory,
+    /// The write failed; a front part of the line was written that isn't the whole.
+    Write,
+}
+
+/// A judge of stored segments, seen as what its checker knows and whether a segment was no pass.
+#[derive(Drop)]
+pub struct Judge {
+    checker: Checker,
+    // the line of the last segment, kept for its memory
+    line: Vec<u8>,
+    amiss: bool,
+}
+
+impl Model for Judge {
+    ghost use Rattle.capture_lines.specs.Judging.{Judging};
+
+    ghost Value = { Judging };
+
+    ghost view = { λ j. record { checking = j.checker; amiss = j.amiss } };
+}
+
+impl Judge {
+    /// A judge that has heard no segment.
+    pub fn new(alloc: Global, tables: Tables) -> Result<Judge, AllocError>
+        ensures tables { IfOk result (λ j. j.checking.tables ≡ tables) }
+        ensures heard { IfOk result (λ j. HasHeard j []) }
+    {
+        let checker = Checker::new(alloc, tables)?;
+        Ok(Judge {
+            checker,
+            line: Vec::new(alloc),
+            amiss: false,
+        })
+    }
+
+    /// Judges the bytes that were stored at a time, in seconds since 1970, by the segments heard
+    /// before, and writes the line of it, which begins with this number. No call may follow one that
+    /// answered an error.
+    pub fn judge<L: Ledger, O: Sink>(
+        &mut self,
+        alloc: Global,
+        steps: &mut Steps<L>,
+        number: u64,
+        time: u64,
+        bytes: &[u8],
+        out: &mut O,
+    ) -> Result<(), Unwritten>
+        ensures { (stored : List Stored) → HasHeard self.old stored →
+            Judges self.old self.new stored (record { number = number; time = time; bytes = bytes.now }) (O.side out.old) (O.side out.new) result }
+    {
+        let answer = match self.checker.next(alloc, time, bytes, steps) {
+            Ok(answer) => answer,
+            Err(_) => return Err(Unwritten::Memory),
+        };
+        self.line.clear();
+        match push_check_line(&mut self.line, number, &answer) {
+            Ok(()) => {}
+            Err(_) => return Err(Unwritten::Memory),
+        }
+        self.amiss |= !answer.is_pass();
+        match write_all(out, self.line.as_slice()) {
+            Ok(()) => Ok(()),
+            Err(Failed) => Err(Unwritten::Write),
+        }
+    }
+
+    /// Whether some segment that was heard is no pass.
+    pub fn is_amiss(&self) -> bool
+        ensures { result ≡ self.now.amiss }
+    {
+        self.amiss
+    }
+}
