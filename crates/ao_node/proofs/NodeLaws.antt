@@ -60,13 +60,17 @@ pub comes_some : (rows : List Row) (now : ℕ) (r : Reading) (d : Segment) (befo
     → Comes rows now before after told r
 comes_some rows now r d before after told e f arrived is found answer new hears =
     let held : holds before (pair_of d) ≡ true = rw found refl in
-    rw (is, found) (arrived, answer, record {
-      next = f;
-      hears = hears;
-      most = rw new refl;
-      finds = λ q. rw new (written_finds before (pair_of d) q f held);
-      count = rw new (written_count before (pair_of d) f);
-    })
+    rw (is, found) (
+      arrived,
+      answer,
+      record {
+        next = f;
+        hears = hears;
+        most = rw new refl;
+        finds = λ q. rw new (written_finds before (pair_of d) q f held);
+        count = rw new (written_count before (pair_of d) f);
+      },
+    )
 
 -- ---- the clock
 

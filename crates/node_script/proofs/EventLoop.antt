@@ -1,0 +1,45 @@
+-- Events read one after another, as a loop reads them.
+use Rattle.std.proofs.Common.{◌≡◌, ℕ, List, [], ◌∷◌, ◌++◌, Result, Ok, Err, refl, sym, ap, ◌∙◌, append_assoc}
+use Rattle.std.proofs.lemmas.List.{append-nil}
+use Rattle.ao_base.specs.declared.address.Address.{Address}
+use Rattle.line_model.specs.declared.text_fault.TextFault.{TextFault}
+use Rattle.line_model.specs.declared.text_fault.TextFault.TheVariants as fault
+use Rattle.line_model.specs.Lines.{Line}
+use Rattle.line_model.specs.Said.{numbered}
+use Rattle.line_model.specs.Words.{◌>>=◌}
+use Rattle.text_lines.specs.Readings.{Fails}
+use Rattle.format_model.specs.declared.node.NodeEvent.{NodeEvent}
+use Rattle.format_model.specs.NodeRuns.{node_event_of, node_events_of}
+
+-- what is read already, and then what is said
+abbrev pub after : List NodeEvent → Result (List NodeEvent) TextFault → Result (List NodeEvent) TextFault
+after before (Ok others) = Ok (before ++ others)
+after before (Err e) = Err e
+
+event_first : (before : List NodeEvent) (e : NodeEvent) (others : Result (List NodeEvent) TextFault) →
+    after before (others >>= λ xs. Ok (e ∷ xs)) ≡ after (before ++ e ∷ []) others
+event_first before e (Ok others) = ap (λ (xs : List NodeEvent). Ok xs) (sym (append_assoc before (e ∷ []) others))
+event_first before e (Err f) = refl
+
+module _ (own : Address) (before : List NodeEvent) (l : Line) (ls lines : List Line) (whole : Result (List NodeEvent) TextFault)
+    (next : lines ≡ l ∷ ls) (so_far : after before (node_events_of own lines) ≡ whole) where
+  step : after before (node_events_of own lines) ≡ after before (numbered l.number (node_event_of own l.words) >>= λ e. node_events_of own ls >>= λ xs. Ok (e ∷ xs))
+  unfolding node_events_of
+  step = rw next refl
+
+  pub event_read : (e : NodeEvent) → numbered l.number (node_event_of own l.words) ≡ Ok e → after (before ++ e ∷ []) (node_events_of own ls) ≡ whole
+  event_read e h = sym (event_first before e (node_events_of own ls)) ∙ (sym (rw h at step) ∙ so_far)
+
+  pub event_refused : (f : TextFault) → Fails f (numbered l.number (node_event_of own l.words)) → Fails f whole
+  event_refused fault.Memory h = tt
+  event_refused fault.TooManyLines h = sym so_far ∙ rw h at step
+  event_refused (fault.Line n kind) h = sym so_far ∙ rw h at step
+
+pub events_read : (own : Address) (before : List NodeEvent) (lines : List Line) (whole : Result (List NodeEvent) TextFault) → lines ≡ [] →
+    after before (node_events_of own lines) ≡ whole → whole ≡ Ok before
+unfolding node_events_of
+events_read own before lines whole none so_far = sym (rw none at so_far) ∙ ap (λ (xs : List NodeEvent). Ok xs) (append-nil before)
+
+pub none_read : (whole : Result (List NodeEvent) TextFault) → after [] whole ≡ whole
+none_read (Ok xs) = refl
+none_read (Err e) = refl

@@ -1,0 +1,4 @@
+pub mod NameLaws
+pub mod EventLoop
+pub mod EventRanges
+pub mod ScriptRanges

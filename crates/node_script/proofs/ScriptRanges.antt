@@ -1,0 +1,89 @@
+-- A script that a text says is one of the grammar.
+use Rattle.std.proofs.Common.{◌≡◌, ℕ, zero, suc, ◌+◌, ◌≤◌, cond, nat_lt, Bool, true, false, List, [], ◌∷◌, length, codes}
+use Rattle.std.proofs.Common.{Result, Ok, Err, refl, ap, ◌∙◌, arith, All}
+use Rattle.std.proofs.lemmas.Bool.{ltb-false}
+use Rattle.ao_base.specs.declared.address.Address.{Address}
+use Rattle.ao_base.specs.declared.line_kind.LineKind.{LineKind}
+use Rattle.ao_base.specs.declared.line_kind.LineKind.TheVariants as kind
+use Rattle.ao_base.specs.Lines.{lines_of}
+use Rattle.line_model.specs.declared.text_fault.TextFault.{TextFault}
+use Rattle.line_model.specs.declared.text_fault.TextFault.TheVariants as fault
+use Rattle.line_model.specs.Lines.{Line, saying_from}
+use Rattle.line_model.specs.Said.{numbered}
+use Rattle.line_model.specs.Words.{address_in, literal_in, nothing_in}
+use Rattle.format_model.specs.declared.node.NodeEvent.{NodeEvent}
+use Rattle.format_model.specs.declared.node.NodeScript.{NodeScript}
+use Rattle.format_model.specs.LinkFiles.{Left, at_line, line_in, title_of}
+use Rattle.format_model.specs.NodeRuns.{address_of, node_event_of, node_events_of, node_script_in, node_script_of}
+use Rattle.text_lines.proofs.SaidLaws.{saying_length}
+use Rattle.link_script.specs.Scripts.{IsAddress}
+use Rattle.link_script.proofs.WordRanges.{bind_ok, address_ok}
+use Rattle.node_script.specs.Scripts.{IsEvent, IsScript}
+use Rattle.node_script.proofs.EventRanges.{event_ok}
+
+address_of_ok : (ws : List (List ℕ)) (x : Address) → address_of ws ≡ Ok x → IsAddress x
+address_of_ok ws x h =
+    let l = bind_ok (literal_in (codes "node") ws) _ x h in
+    let a = bind_ok (address_in l.0.rest) _ x l.2 in
+    let n = bind_ok (nothing_in a.0.rest) _ x a.2 in
+    let is : a.0.value ≡ x = cc n.2 in
+    rw (← is) (address_ok l.0.rest a.0 a.1)
+
+at_line_ok : {A : Type 0} (n : ℕ) (kind : LineKind) (ls : List Line) (r : Result A LineKind) (t : Left A) → at_line n kind ls r ≡ Ok t →
+    (r ≡ Ok t.value) × (ls ≡ t.rest)
+at_line_ok n kind ls (Ok x) t h =
+    let is : record { value = x; rest = ls } ≡ t = cc h in
+    (ap (λ (y : Left _). Ok y.value) is, ap (λ (y : Left _). y.rest) is)
+at_line_ok n kind ls (Err e) t h = absurd (cc h)
+
+-- a line was there and says the value
+line_ok : {A : Type 0} (missing : ℕ) (kind : LineKind) (meaning : List (List ℕ) → Result A LineKind) (ls : List Line) (t : Left A) →
+    line_in missing kind meaning ls ≡ Ok t →
+    (ws : List (List ℕ)) × (meaning ws ≡ Ok t.value) × (length ls ≡ 1 + length t.rest)
+unfolding line_in
+line_ok missing kind meaning [] t h = absurd (cc h)
+line_ok missing kind meaning (l ∷ ls) t h =
+    let a = at_line_ok l.number kind ls (meaning l.words) t h in
+    (l.words, a.0, rw (← a.1) (omega arith))
+
+numbered_ok : (n : ℕ) (r : Result NodeEvent LineKind) (e : NodeEvent) → numbered n r ≡ Ok e → r ≡ Ok e
+numbered_ok n (Ok x) e h = cc h
+numbered_ok n (Err k) e h = absurd (cc h)
+
+one_more : (own : Address) (e : NodeEvent) (es : List NodeEvent) → IsEvent own e → All (IsEvent own) es → All (IsEvent own) (e ∷ es)
+one_more own e es here more zero d below = here
+one_more own e es here more (suc k) d below = more k d (omega arith)
+
+events_ok : (own : Address) (ls : List Line) (es : List NodeEvent) → node_events_of own ls ≡ Ok es → All (IsEvent own) es × (length es ≡ length ls)
+unfolding node_events_of
+events_ok own [] es h = let is : [] ≡ es = cc h in rw (← is) ((λ n d below. absurd (omega arith)), refl)
+events_ok own (l ∷ ls) es h =
+    let e = bind_ok (numbered l.number (node_event_of own l.words)) _ es h in
+    let others = bind_ok (node_events_of own ls) _ es e.2 in
+    let more = events_ok own ls others.0 others.1 in
+    let is : e.0 ∷ others.0 ≡ es = cc others.2 in
+    rw (← is) (one_more own e.0 others.0 (event_ok own l.words e.0 (numbered_ok l.number (node_event_of own l.words) e.0 e.1)) more.0, omega (arith, more.1))
+
+script_in_ok : (missing : ℕ) (ls : List Line) (s : NodeScript) → length ls ≤ 20000 → node_script_in missing ls ≡ Ok s → IsScript s
+unfolding node_script_in
+script_in_ok missing ls s few h =
+    let i = bind_ok (line_in missing kind.Header (title_of (codes "aotcp-node")) ls) _ s h in
+    let a = bind_ok (line_in missing kind.Header address_of i.0.rest) _ s i.2 in
+    let e = bind_ok (node_events_of a.0.value a.0.rest) _ s a.2 in
+    let li = line_ok missing kind.Header (title_of (codes "aotcp-node")) ls i.0 i.1 in
+    let la = line_ok missing kind.Header address_of i.0.rest a.0 a.1 in
+    let le = events_ok a.0.value a.0.rest e.0 e.1 in
+    let is : record { address = a.0.value; events = e.0 } ≡ s = cc e.2 in
+    rw (← is) (record { address = address_of_ok la.0 a.0.value la.1; events = le.0; lines = omega (arith, li.2, la.2, le.1, few) })
+
+few_case : {A : Type 0} (b : Bool) (r : Result A TextFault) (x : A) → cond b (Err fault.TooManyLines) r ≡ Ok x → (b ≡ false) × (r ≡ Ok x)
+few_case true r x h = absurd (cc h)
+few_case false r x h = (refl, h)
+
+-- a script that is read is one of the grammar
+pub script_of_ok : (text : List ℕ) (s : NodeScript) → node_script_of text ≡ Ok s → IsScript s
+unfolding node_script_of
+script_of_ok text s h =
+    let c = few_case (nat_lt 20000 (length (lines_of text))) _ s h in
+    let few : length (lines_of text) ≤ 20000 = ltb-false _ _ c.0 in
+    script_in_ok (length (lines_of text) + 1) (saying_from 1 (lines_of text)) s (omega (arith, saying_length 1 (lines_of text))) c.1

@@ -1,0 +1,15 @@
+//! The file of a node with many connections: its address, and its events, one a line. It is read line
+//! by line and word by word, so that a mistake is named by its line and kind. Our own format.
+#![tactic(auto)]
+
+mod head;
+mod line_events;
+mod name;
+mod reading;
+
+pub use format_model::{Act, NodeEvent, NodeEvents, NodeScript};
+pub use line_model::TextFault as NodeFault;
+pub use reading::read_node;
+
+#[cfg(test)]
+mod tests;
