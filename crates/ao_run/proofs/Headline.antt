@@ -79,7 +79,7 @@ linked_file k i b n s x small =
     let ws = codes "link" ∷ [] in
     let is_known : s ≡ (answer ws k i).status = known ws k i b n s x small in
     let one : answer ws k i ≡ if_read linked_by_shared (script_of false i) =
-        of_link k i ∙ within (nat_lt 33554432 (length i)) (if_read linked_by_shared (script_of false i)) 4 s too_long small (omega arith) (is_known ∙ ap (λ (y : Answer). y.status) (of_link k i)) in
+    of_link k i ∙ within (nat_lt 33554432 (length i)) (if_read linked_by_shared (script_of false i)) 4 s too_long small (omega arith) (is_known ∙ ap (λ (y : Answer). y.status) (of_link k i)) in
     let got = script_in linked_by_shared (script_of false i) s small (is_known ∙ ap (λ (y : Answer). y.status) one) in
     let script = got.0 in
     let is : answer ws k i ≡ linked_by_shared script = one ∙ ap (λ (r : Result Script TextFault). if_read linked_by_shared r) got.1 in
@@ -96,12 +96,12 @@ keyed_file name k i b n s x small =
     let ws = codes "link" ∷ name ∷ [] in
     let is_known : s ≡ (answer ws k i).status = known ws k i b n s x small in
     let one : answer ws k i ≡ answer_by command.LinkKeys i (tables_of k) =
-        of_link_keys name k i ∙ within (nat_lt most_keys (length k)) (answer_by command.LinkKeys i (tables_of k)) 3 s keys_too_long small (omega arith) (is_known ∙ ap (λ (y : Answer). y.status) (of_link_keys name k i)) in
+    of_link_keys name k i ∙ within (nat_lt most_keys (length k)) (answer_by command.LinkKeys i (tables_of k)) 3 s keys_too_long small (omega arith) (is_known ∙ ap (λ (y : Answer). y.status) (of_link_keys name k i)) in
     let t = tables_in i (tables_of k) s small (is_known ∙ ap (λ (y : Answer). y.status) one) in
     let tables = t.0 in
     let two : answer ws k i ≡ answer_within command.LinkKeys tables i = one ∙ ap (λ (r : Result (List Table) TableFault). answer_by command.LinkKeys i r) t.1 in
     let three : answer ws k i ≡ if_read (linked tables) (script_of true i) =
-        two ∙ within (nat_lt 33554432 (length i)) (if_read (linked tables) (script_of true i)) 4 s too_long small (omega arith) (is_known ∙ ap (λ (y : Answer). y.status) two) in
+    two ∙ within (nat_lt 33554432 (length i)) (if_read (linked tables) (script_of true i)) 4 s too_long small (omega arith) (is_known ∙ ap (λ (y : Answer). y.status) two) in
     let got = script_in (linked tables) (script_of true i) s small (is_known ∙ ap (λ (y : Answer). y.status) three) in
     let script = got.0 in
     let is : answer ws k i ≡ linked tables script = three ∙ ap (λ (r : Result Script TextFault). if_read (linked tables) r) got.1 in

@@ -171,7 +171,13 @@ pub(crate) fn named(words: &Words) -> Option<Command>
     ensures ready { is_ready result ≡ true }
 {
     match command_of(words) {
-        Some(command) => { if is_built(command) { Some(command) } else { None } }
+        Some(command) => {
+            if is_built(command) {
+                Some(command)
+            } else {
+                None
+            }
+        }
         None => None,
     }
 }

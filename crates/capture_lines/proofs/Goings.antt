@@ -127,9 +127,9 @@ module _ (tables : List Table) (reader now : Reading) (judge : Judging) (number 
     few = bounded step.TooLong advances advances.answers.0;
     ends = (
       let taken = (still step.TooLong advances advances.answers.0).taken in
-      let most = going.most in
-      let over = advances.answers.1 in
-      omega arith,
+          let most = going.most in
+          let over = advances.answers.1 in
+          omega arith,
       stopped step.TooLong advances advances.answers.0,
     );
   }
@@ -173,10 +173,10 @@ module _ (tables : List Table) (reader now : Reading) (judge : Judging) (number 
       let at : number + 1 ≡ length read + 1 = rw going.counted refl in
       let whole : (tail : List ℕ) → stored_input ((given ++ more) ++ tail) ≡ record { stored = segments_of read; fault = Some (record { number = number + 1; kind = Range }) } =
       λ tail.
-        let first = first_long (lines_of (now.kept ++ tail)) (number + 1) (longer 131200 now.kept tail long) in
-        let lines : lines_of ((given ++ more) ++ tail) ≡ read ++ first.0 ∷ first.1 =
-        ap (λ (xs : List ℕ). lines_of (xs ++ tail)) kept.split ∙ (ap lines_of (append_assoc kept.front now.kept tail) ∙ (kept.behind open_still (now.kept ++ tail) ∙ ap (λ (xs : List (List ℕ)). read ++ xs) first.2)) in
-        input_is ((given ++ more) ++ tail) (read ++ first.0 ∷ first.1) lines ∙ line_refused (number + 1) read first.1 first.0 Range at first.3 going.faultless in
+      let first = first_long (lines_of (now.kept ++ tail)) (number + 1) (longer 131200 now.kept tail long) in
+      let lines : lines_of ((given ++ more) ++ tail) ≡ read ++ first.0 ∷ first.1 =
+      ap (λ (xs : List ℕ). lines_of (xs ++ tail)) kept.split ∙ (ap lines_of (append_assoc kept.front now.kept tail) ∙ (kept.behind open_still (now.kept ++ tail) ∙ ap (λ (xs : List (List ℕ)). read ++ xs) first.2)) in
+      input_is ((given ++ more) ++ tail) (read ++ first.0 ∷ first.1) lines ∙ line_refused (number + 1) read first.1 first.0 Range at first.3 going.faultless in
       let here : stored_input (given ++ more) ≡ record { stored = segments_of read; fault = Some (record { number = number + 1; kind = Range }) } =
       ap stored_input (sym (append-nil (given ++ more))) ∙ whole [] in
       let count : length (lines_of kept.front) ≡ length read = ap length kept.lines in

@@ -34,7 +34,7 @@ texts_more tables held [] s = append-nil (numbered_text s.number (saying_texts (
 texts_more tables held (x ∷ stored) s =
     ap (λ (ys : List ℕ). numbered_text x.number (saying_texts (hear tables held x.time x.bytes).saying) ++ ys) (texts_more tables (hear tables held x.time x.bytes).connections stored s)
     ∙ sym (append_assoc (numbered_text x.number (saying_texts (hear tables held x.time x.bytes).saying)) (saying_lines stored (sayings_from tables (hear tables held x.time x.bytes).connections stored))
-        (numbered_text s.number (saying_texts (saying_after tables (hear tables held x.time x.bytes).connections stored s))))
+    (numbered_text s.number (saying_texts (saying_after tables (hear tables held x.time x.bytes).connections stored s))))
 
 pub run_none : (tables : List Table) → capture_run tables [] ≡ []
 unfolding capture_run

@@ -6,6 +6,7 @@ ghost use Rattle.link_model.specs.Storm.{draw, drawn, mixed};
 const STEP: u64 = 0x9e37_79b9_7f4a_7c15;
 /// The factors of the two mixings.
 const FIRST: u64 = 0xbf58_476d_1ce4_e5b9;
+
 const SECOND: u64 = 0x94d0_49bb_1331_11eb;
 
 /// The state after a draw.

@@ -16,6 +16,7 @@ use std::alloc::{AllocError, Global};
 
 /// The initial sequence numbers of the two ends, that of end a soon before a lap.
 const OF_A: u32 = 4_294_960_000;
+
 const OF_B: u32 = 4_000_000_000;
 
 /// What a storm comes to: the sessions and counts of its run, and how many forgeries it counts.

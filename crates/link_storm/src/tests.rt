@@ -2,7 +2,8 @@
 use crate::storm;
 use std::test::Fail;
 
-const NONE_DRAWN: &[u8] = b"session a 1 isn 4294960000 peer 4000000000 established given 0 delivered 0 open
+const NONE_DRAWN: &[u8] =
+    b"session a 1 isn 4294960000 peer 4000000000 established given 0 delivered 0 open
 session b 1 isn 4000000000 peer 4294960000 established given 0 delivered 0 open
 segments 0 forgeries 0
 ";

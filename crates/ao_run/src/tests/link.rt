@@ -272,7 +272,10 @@ segments 2 forgeries 0
 
 #[test]
 fn a_segment_before_a_lap_comes_again_after_it(rt: HostRuntime) -> Result<(), Fail> {
-    expect(rt.alloc(), a_segment_before_a_lap_comes_again_after_it_case())
+    expect(
+        rt.alloc(),
+        a_segment_before_a_lap_comes_again_after_it_case(),
+    )
 }
 
 fn a_handshake_with_a_server_at_0_case() -> Case<'static> {
