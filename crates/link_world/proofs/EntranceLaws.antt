@@ -1,5 +1,5 @@
 -- A segment that passed at an end is what a log is told of it.
-use Rattle.std.proofs.Common.{◌≡◌, ℕ, zero, suc, ◌+◌, ◌-◌, ◌==◌, ◌≤◌, ◌<◌, not, ◌&&◌, List, [], ◌∷◌, length, Option, Some, None, refl, sym, ap, ◌∙◌, subst, arith, nat_lt}
+use Rattle.std.proofs.Common.{◌≡◌, ℕ, zero, suc, ◌+◌, ◌-◌, ◌==◌, ◌≤◌, ◌<◌, Bool, true, false, not, ◌&&◌, List, [], ◌∷◌, length, Option, Some, None, if◌then◌else◌, refl, sym, ap, ◌∙◌, subst, arith, nat_lt}
 use Rattle.std.specs.Prelude.{⊤, is_some, slice_get}
 use Rattle.ao_base.specs.declared.address.Pair.{Pair}
 use Rattle.ao_base.specs.declared.end.End.{End}
@@ -9,7 +9,7 @@ use Rattle.segment_model.specs.Bytes.{same_bytes}
 use Rattle.segment_model.specs.Options.{Ao, AoFound, Absent, One, Two, WithMd5 as FoundMd5, find_ao}
 use Rattle.segment_model.specs.Segments.{Segment, Reading, Read, Bad as Unread, reading, good, has, segment_length, SYN}
 use Rattle.segment_model.proofs.Fields.{some_is}
-use Rattle.mac_model.specs.Contexts.{context_of}
+use Rattle.mac_model.specs.Contexts.{bytes_of, context_of}
 use Rattle.mac_model.specs.MacInput.{mac_input}
 use Rattle.key_model.specs.Rows.{Row}
 use Rattle.key_model.specs.Choices.{Numbered, accept_row, acceptable_as, has_id}
@@ -22,9 +22,12 @@ use Rattle.endpoint_model.specs.declared.arrival.Arrival.TheVariants.{Foreign, C
 use Rattle.endpoint_model.specs.Arrivals.{Arrived, unmoved, arrive_judged, number_expected, judged_by, from_peer, arrive_read, arrive}
 use Rattle.ao_check.specs.Verdicts.{Names}
 use Rattle.tcp_endpoint.specs.Arriving.{TellsPassed}
+use Rattle.tcp_endpoint.specs.declared.arrival.Arrived.{Arrived as Told}
 use Rattle.link_model.specs.Steps.{Act, act_on, add, come, on_live, put}
-use Rattle.link_model.specs.Worlds.{Setup, pair_of, Session, Side as EndSide, Came, Happening, Coming, World, side}
+use Rattle.link_model.specs.Worlds.{Setup, pair_of, Session, Side as EndSide, Came, Happening, Making, Coming, World, side}
 use Rattle.link_laws.proofs.Tests.{choose}
+use Rattle.link_side.specs.declared.side.Side.{Side}
+use Rattle.link_side.specs.Passing.{IsCome}
 use Rattle.link_log.specs.declared.entry.Entrance.{Entrance}
 use Rattle.link_log.specs.Entries.{ComesAs, PassesUnder}
 

@@ -1,6 +1,7 @@
 -- A segment that an end made is what a log keeps of it.
-use Rattle.std.proofs.Common.{◌≡◌, ℕ, ◌+◌, ◌-◌, ◌*◌, ◌/◌, ◌%◌, ◌==◌, ◌≤◌, Bool, true, false, List, [], length, take, drop, Option, Some, None, if◌then◌else◌, refl, sym, ap, ◌∙◌, subst, arith, append-nil}
+use Rattle.std.proofs.Common.{◌≡◌, ℕ, ◌+◌, ◌-◌, ◌*◌, ◌/◌, ◌%◌, ◌==◌, ◌≤◌, Bool, true, false, List, [], ◌++◌, length, take, drop, Option, Some, None, if◌then◌else◌, refl, sym, ap, ◌∙◌, subst, arith, append-nil}
 use Rattle.std.specs.Prelude.{is_some, slice_get, slice_index, slice_range}
+use Rattle.std.proofs.lemmas.Bool.{eqb-true}
 use Rattle.ao_base.specs.declared.address.Pair.{Pair}
 use Rattle.ao_base.specs.declared.end.End.{End}
 use Rattle.ao_base.specs.Algorithms.{mac_length_of}
@@ -27,7 +28,7 @@ use Rattle.endpoint_model.specs.Emissions.{Draft, Emission, Emitted, Quiet, NoKe
 use Rattle.segment_writer.specs.Drafts.{IsWritten}
 use Rattle.tcp_endpoint.specs.declared.emission.Made.{Made as Told}
 use Rattle.link_model.specs.Worlds.{Made, World}
-use Rattle.link_laws.proofs.Tests.{by_bool}
+use Rattle.link_laws.proofs.Tests.{by_bool, choose}
 use Rattle.link_laws.proofs.Written.{area_ao, same_input}
 use Rattle.link_side.specs.declared.side.Side.{Side}
 use Rattle.link_side.specs.Passing.{made_by, IsSent}

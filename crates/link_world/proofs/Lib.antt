@@ -1,0 +1,10 @@
+pub mod ActLaws
+pub mod AlterLaws
+pub mod ComeLaws
+pub mod EntranceLaws
+pub mod RunLaws
+pub mod SendLaws
+pub mod SetupLaws
+pub mod ShowLaws
+pub mod WholeLaws
+pub mod WorldLaws

@@ -1,0 +1,181 @@
+-- A world that goes on by one event.
+use Rattle.std.proofs.Common.{◌≡◌, ◌+◌, ◌-◌, ◌≤◌, ◌<◌, ℕ, suc, List, [], ◌∷◌, ◌++◌, length, get_or, Option, Some, None, Result, Ok, Err, OnErr, refl, sym, ap, ◌∙◌, subst, arith}
+use Rattle.std.specs.declared.alloc.AllocError.{AllocError}
+use Rattle.ao_base.specs.declared.end.End.{End}
+use Rattle.ao_base.specs.declared.end.End.TheVariants.{A, B}
+use Rattle.link_model.specs.declared.event.Event.{Event}
+use Rattle.link_model.specs.Outcomes as book
+use Rattle.link_model.specs.Runs.{begins, empty, outcomes_from, run}
+use Rattle.link_model.specs.Steps.{Stepped, step}
+use Rattle.link_model.specs.Worlds.{Setup, World as Both, pair_of}
+use Rattle.link_log.specs.declared.log.Log.{Log}
+use Rattle.link_log.specs.Logs.{StandsLog}
+use Rattle.link_report.specs.declared.outcome.Outcome.{Outcome}
+use Rattle.link_report.specs.Outcomes.{AreShown, Shows}
+use Rattle.link_side.specs.declared.side.Side.{Side}
+use Rattle.link_side.specs.Sides.{StandsSide}
+use Rattle.link_world.specs.declared.world.World.{World}
+use Rattle.link_world.specs.Following.{Acts, Happens, Moves, Rests, by_event}
+use Rattle.link_world.specs.Links.{AreOfEnd, AreOfLink, StandsAt, StandsLink}
+use Rattle.link_world.specs.Standing.{StandsFor}
+use Rattle.link_world.proofs.RunLaws.{outcomes_more, run_more}
+
+-- what holds holds where there was an error
+pub on_err : {T E : Type 0} (r : Result T E) (P : Type 0) → P → OnErr r P
+on_err (Ok v) P h = tt
+on_err (Err e) P h = h
+
+-- ---- the two ends
+
+at_a : (a b : Side) (log : Log) (setup : Setup) (w : Both) → StandsLink a b log setup w → StandsAt A a log setup w
+at_a a b log setup w h = record { pair_is = h.a_pair; side_is = h.a_is; log_is = h.log_is }
+
+at_b : (a b : Side) (log : Log) (setup : Setup) (w : Both) → StandsLink a b log setup w → StandsAt B b log setup w
+at_b a b log setup w h = record { pair_is = h.b_pair; side_is = h.b_is; log_is = h.log_is }
+
+-- each end of a link is an end
+pub end_a : (a b : Side) (log : Log) (e : End) → e ≡ A → AreOfLink a b log → AreOfEnd e a log
+end_a a b log e is l =
+    subst (λ (x : End). AreOfEnd x a log) (sym is)
+    (record { setup = l.setup; world = l.world; stands = at_a a b log l.setup l.world l.stands })
+
+pub end_b : (a b : Side) (log : Log) (e : End) → e ≡ B → AreOfLink a b log → AreOfEnd e b log
+end_b a b log e is l =
+    subst (λ (x : End). AreOfEnd x b log) (sym is)
+    (record { setup = l.setup; world = l.world; stands = at_b a b log l.setup l.world l.stands })
+
+acts_a : (a a' b : Side) (old new : Log) (s : Setup → Both → Stepped) (r : Result Outcome AllocError) → Acts A a a' old new s r → Happens a b a' b old new s r
+acts_a a a' b old new s (Ok told) h =
+    record {
+      made = h.made;
+      forged = h.forged;
+      stands = λ setup w l.
+          let f = h.follows setup w (at_a a b old setup w l) in
+          record {
+            a_pair = l.a_pair ∙ sym h.pair;
+            b_pair = l.b_pair;
+            a_is = f.side_is;
+            b_is = subst (StandsSide b) (sym f.others) l.b_is;
+            log_is = f.log_is;
+          };
+      shows = λ setup w l. (h.follows setup w (at_a a b old setup w l)).shows;
+    }
+acts_a a a' b old new s (Err error) h =
+    record {
+      made = h.made;
+      forged = h.forged;
+      stands = λ setup w l.
+          record {
+            a_pair = l.a_pair ∙ sym h.pair;
+            b_pair = l.b_pair;
+            a_is = h.side_is w.a l.a_is;
+            b_is = l.b_is;
+            log_is = h.log_is w.history l.log_is;
+          };
+    }
+
+acts_b : (a b b' : Side) (old new : Log) (s : Setup → Both → Stepped) (r : Result Outcome AllocError) → Acts B b b' old new s r → Happens a b a b' old new s r
+acts_b a b b' old new s (Ok told) h =
+    record {
+      made = h.made;
+      forged = h.forged;
+      stands = λ setup w l.
+          let f = h.follows setup w (at_b a b old setup w l) in
+          record {
+            a_pair = l.a_pair;
+            b_pair = l.b_pair ∙ sym h.pair;
+            a_is = subst (StandsSide a) (sym f.others) l.a_is;
+            b_is = f.side_is;
+            log_is = f.log_is;
+          };
+      shows = λ setup w l. (h.follows setup w (at_b a b old setup w l)).shows;
+    }
+acts_b a b b' old new s (Err error) h =
+    record {
+      made = h.made;
+      forged = h.forged;
+      stands = λ setup w l.
+          record {
+            a_pair = l.a_pair;
+            b_pair = l.b_pair ∙ sym h.pair;
+            a_is = l.a_is;
+            b_is = h.side_is w.b l.b_is;
+            log_is = h.log_is w.history l.log_is;
+          };
+    }
+
+-- what an event does to an end, it does to the link
+pub happens_a : (a a' b : Side) (old new : Log) (s : Setup → Both → Stepped) (r : Result Outcome AllocError) (e : End) → e ≡ A → Acts e a a' old new s r
+    → Happens a b a' b old new s r
+happens_a a a' b old new s r e is h = acts_a a a' b old new s r (subst (λ (x : End). Acts x a a' old new s r) is h)
+
+pub happens_b : (a b b' : Side) (old new : Log) (s : Setup → Both → Stepped) (r : Result Outcome AllocError) (e : End) → e ≡ B → Acts e b b' old new s r
+    → Happens a b a b' old new s r
+happens_b a b b' old new s r e is h = acts_b a b b' old new s r (subst (λ (x : End). Acts x b b' old new s r) is h)
+
+-- ---- the link
+
+-- after an event the ends and the log are still those of a link
+pub moved_of : (a b a' b' : Side) (old new : Log) (event : Event) (o : Outcome) → Moves a b a' b' old new (by_event event) o → AreOfLink a b old → AreOfLink a' b' new
+moved_of a b a' b' old new event o h l =
+    record { setup = l.setup; world = (step l.setup l.world event).world; stands = h.stands l.setup l.world l.stands }
+
+pub rested_of : (a b a' b' : Side) (old new : Log) → Rests a b a' b' old new → AreOfLink a b old → AreOfLink a' b' new
+rested_of a b a' b' old new h l = record { setup = l.setup; world = l.world; stands = h.stands l.setup l.world l.stands }
+
+-- ---- the outcomes
+
+-- one more outcome is shown
+shown_more : (os : List Outcome) (xs : List book.Outcome) (o : Outcome) (x : book.Outcome) → AreShown os xs → Shows o x → AreShown (os ++ o ∷ []) (xs ++ x ∷ [])
+shown_more [] [] o x h s = (s, tt)
+shown_more [] (y ∷ ys) o x h s = absurd h
+shown_more (p ∷ ps) [] o x h s = absurd h
+shown_more (p ∷ ps) (y ∷ ys) o x h s = (h.0, shown_more ps ys o x h.1 s)
+
+-- a world that goes on stands for one more event
+pub stepped : (old new : World) (setup : Setup) (events : List Event) (event : Event) (o : Outcome) → StandsFor old setup events
+    → Moves old.a old.b new.a new.b old.log new.log (by_event event) o → new.outcomes.items ≡ old.outcomes.items ++ o ∷ []
+    → StandsFor new setup (events ++ event ∷ [])
+stepped old new setup events event o h moves items =
+    let w = run setup events in
+    record {
+      link = subst (λ (x : Both). StandsLink new.a new.b new.log setup x) (sym (run_more setup events event)) (moves.stands setup w h.link);
+      shown = subst (λ (os : List Outcome). AreShown os (outcomes_from setup (empty setup) (events ++ event ∷ []))) (sym items)
+          (subst (λ (xs : List book.Outcome). AreShown (old.outcomes.items ++ o ∷ []) xs) (sym (outcomes_more setup events event))
+          (shown_more old.outcomes.items (outcomes_from setup (empty setup) events) o (step setup w event).outcome h.shown (moves.shows setup w h.link)));
+    }
+
+-- a world that rests stands for the same events
+pub rested : (old new : World) (setup : Setup) (events : List Event) → StandsFor old setup events → Rests old.a old.b new.a new.b old.log new.log
+    → new.outcomes.items ≡ old.outcomes.items → StandsFor new setup events
+rested old new setup events h rests items =
+    record {
+      link = rests.stands setup (run setup events) h.link;
+      shown = subst (λ (os : List Outcome). AreShown os (outcomes_from setup (empty setup) events)) (sym items) h.shown;
+    }
+
+-- the last one is shown
+last_shown : (os : List Outcome) (xs : List book.Outcome) (x : book.Outcome) (d : Outcome) → AreShown os (xs ++ x ∷ []) → Shows (get_or os (length os - 1) d) x
+last_shown [] [] x d h = absurd h
+last_shown [] (y ∷ ys) x d h = absurd h
+last_shown (o ∷ []) [] x d h = h.0
+last_shown (o ∷ p ∷ ps) [] x d h = absurd h.1
+last_shown (o ∷ []) (y ∷ []) x d h = absurd h.1
+last_shown (o ∷ []) (y ∷ z ∷ ys) x d h = absurd h.1
+last_shown (o ∷ p ∷ ps) (y ∷ ys) x d h =
+    let e : length (o ∷ p ∷ ps) - 1 ≡ suc (length (p ∷ ps) - 1) = omega arith in
+    rw e (last_shown (p ∷ ps) ys x d h.1)
+
+-- the outcome of the last event is the last one
+pub last_is : (w : World) (setup : Setup) (events : List Event) (event : Event) (d : Outcome) → StandsFor w setup (events ++ event ∷ [])
+    → Shows (get_or w.outcomes.items (length w.outcomes.items - 1) d) (step setup (run setup events) event).outcome
+last_is w setup events event d h =
+    last_shown w.outcomes.items (outcomes_from setup (empty setup) events) (step setup (run setup events) event).outcome d
+    (subst (AreShown w.outcomes.items) (outcomes_more setup events event) h.shown)
+
+-- ---- the beginning
+
+-- two ends without a session, and a log of nothing, stand for the link as it begins
+pub begun : (setup : Setup) (a b : Side) (log : Log) → a.pair ≡ pair_of setup A → b.pair ≡ pair_of setup B
+    → StandsSide a (begins setup A) → StandsSide b (begins setup B) → StandsLog log [] → StandsLink a b log setup (empty setup)
+begun setup a b log a_pair b_pair a_is b_is log_is = record { a_pair = sym a_pair; b_pair = sym b_pair; a_is = a_is; b_is = b_is; log_is = log_is }

@@ -1,0 +1,47 @@
+use Rattle.std.proofs.Common.{◌≡◌, ℕ, List, [], length, sym, ap, ◌∙◌, subst, arith}
+use Rattle.key_model.specs.Plans.{rows_at}
+use Rattle.key_model.specs.Rows.{Row}
+use Rattle.link_model.specs.Runs.{empty}
+use Rattle.link_report.specs.declared.outcome.Outcome.{Outcome}
+use Rattle.link_report.specs.Outcomes.{AreShown}
+use Rattle.link_side.specs.Sides.{StandsSide}
+use Rattle.link_world.specs.Links.{StandsLink}
+use Rattle.link_world.specs.Standing.{setup_of}
+use Rattle.link_world.proofs.SetupLaws.{apart}
+use Rattle.link_world.proofs.WorldLaws.{begun}
+use Rattle.link_world.proofs.world.World.new.Goals as goal
+
+pub invariant_of-result : goal.invariant_of-result
+invariant_of-result c =
+    let s = c.args.setup in
+    let setup = setup_of s in
+    let b_rows : c.take_table-b_table.result.rows ≡ rows_at s.tables s.b.address =
+    c.take_table-b_table.ensures.taken ∙ c.take_table-a_table.ensures.others s.b.address (apart s.a.address s.b.address c.requires.family) in
+    let a_is = subst (λ (rows : List Row). StandsSide c.new.result (record { clock = 0; rows = rows; sessions = [] })) c.take_table-a_table.ensures.taken c.new.ensures.stands in
+    let b_is = subst (λ (rows : List Row). StandsSide c.new-2.result (record { clock = 0; rows = rows; sessions = [] })) b_rows c.new-2.ensures.stands in
+    let none = ap length c.new-4.ensures.items in
+    let made = c.new-3.ensures.made in
+    let forged = c.new-3.ensures.forgeries in
+    record {
+      link = ∣ record {
+        setup = setup;
+        world = empty setup;
+        stands = begun setup c.new.result c.new-2.result c.new-3.result c.new.ensures.pair c.new-2.ensures.pair a_is b_is c.new-3.ensures.stands;
+      } ∣₁;
+      few = omega (arith, none);
+      made = omega (arith, made);
+      forged = omega (arith, forged);
+    }
+
+pub returns-clause-stands : goal.returns-clause-stands
+returns-clause-stands c =
+    let s = c.args.setup in
+    let setup = setup_of s in
+    let b_rows : c.take_table-b_table.result.rows ≡ rows_at s.tables s.b.address =
+    c.take_table-b_table.ensures.taken ∙ c.take_table-a_table.ensures.others s.b.address (apart s.a.address s.b.address c.requires.family) in
+    let a_is = subst (λ (rows : List Row). StandsSide c.new.result (record { clock = 0; rows = rows; sessions = [] })) c.take_table-a_table.ensures.taken c.new.ensures.stands in
+    let b_is = subst (λ (rows : List Row). StandsSide c.new-2.result (record { clock = 0; rows = rows; sessions = [] })) b_rows c.new-2.ensures.stands in
+    record {
+      link = begun setup c.new.result c.new-2.result c.new-3.result c.new.ensures.pair c.new-2.ensures.pair a_is b_is c.new-3.ensures.stands;
+      shown = subst (λ (os : List Outcome). AreShown os []) (sym c.new-4.ensures.items) tt;
+    }

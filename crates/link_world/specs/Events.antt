@@ -1,0 +1,34 @@
+-- What an event asks of the numbers in it, and where it happens.
+use Rattle.std.specs.Prelude.{ℕ, ◌≤◌, ⊤}
+use Rattle.ao_base.specs.declared.end.End.{End}
+use Rattle.ao_base.specs.declared.end.End.TheVariants.{A}
+use Rattle.key_model.specs.Lifetimes.{greatest_time}
+use Rattle.link_model.specs.declared.event.Event.{Event}
+use Rattle.link_model.specs.declared.event.Event.TheVariants.{Clock, Connect, Listen, Start, Give, Fill, Send, Resend, Deliver, Inject, Alter, Take, Close, Abort, AddRow, Withdraw, Dump}
+use Rattle.link_side.specs.Steps.{IsRowLine}
+
+-- a clock reads at most the greatest time, and a row that is added is one of a link file
+abbrev pub CanHappen : Event → Type 0
+CanHappen (Clock e seconds) = seconds ≤ greatest_time
+CanHappen (AddRow e row) = IsRowLine row
+CanHappen _ = ⊤
+
+-- the end at which an event happens; to show a segment touches neither
+abbrev pub end_of : Event → End
+end_of (Clock e seconds) = e
+end_of (Connect e isn) = e
+end_of (Listen e isn) = e
+end_of (Start e isn peer) = e
+end_of (Give e piece) = e
+end_of (Fill e count byte) = e
+end_of (Send e) = e
+end_of (Resend e) = e
+end_of (Deliver e name) = e
+end_of (Inject e bytes) = e
+end_of (Alter e name place mask fix) = e
+end_of (Take e count) = e
+end_of (Close e) = e
+end_of (Abort e) = e
+end_of (AddRow e row) = e
+end_of (Withdraw e number) = e
+end_of (Dump name) = A

@@ -1,0 +1,8 @@
+-- How far an end has sent.
+use Rattle.std.specs.Prelude.{Option}
+use Rattle.format_model.specs.TimedRuns as book
+use Rattle.link_world.specs.declared.front.Front.{Front}
+
+-- the front of the definitions
+abbrev pub front_of : Front → book.Front
+front_of f = record { una = f.una; next = f.next }

@@ -1,0 +1,6 @@
+pub mod Events
+pub mod Following
+pub mod Fronts
+pub mod Links
+pub mod Passing
+pub mod Standing

@@ -1,0 +1,35 @@
+-- What two ends and a log stand for.
+use Rattle.std.specs.Prelude.{◌≡◌}
+use Rattle.ao_base.specs.declared.end.End.{End}
+use Rattle.ao_base.specs.declared.end.End.TheVariants.{A, B}
+use Rattle.link_model.specs.Worlds.{Setup, World, pair_of, side as side_of}
+use Rattle.link_log.specs.declared.log.Log.{Log}
+use Rattle.link_log.specs.Logs.{StandsLog}
+use Rattle.link_side.specs.declared.side.Side.{Side}
+use Rattle.link_side.specs.Sides.{StandsSide}
+
+-- two ends and a log stand for a world of a link: its two ends, and its history
+pub record StandsLink (a b : Side) (log : Log) (setup : Setup) (w : World) : Type 0 where
+  pub a_pair : pair_of setup A ≡ a.pair
+  pub b_pair : pair_of setup B ≡ b.pair
+  pub a_is : StandsSide a w.a
+  pub b_is : StandsSide b w.b
+  pub log_is : StandsLog log w.history
+
+-- two ends and a log are those of a link: they stand for some world of it
+pub record AreOfLink (a b : Side) (log : Log) : Type 0 where
+  pub setup : Setup
+  pub world : World
+  pub stands : StandsLink a b log setup world
+
+-- a side and a log stand for one end of a world of a link, and for its history
+pub record StandsAt (e : End) (d : Side) (log : Log) (setup : Setup) (w : World) : Type 0 where
+  pub pair_is : pair_of setup e ≡ d.pair
+  pub side_is : StandsSide d (side_of w e)
+  pub log_is : StandsLog log w.history
+
+-- a side and a log are those of an end of a link: they stand for it in some world
+pub record AreOfEnd (e : End) (d : Side) (log : Log) : Type 0 where
+  pub setup : Setup
+  pub world : World
+  pub stands : StandsAt e d log setup world

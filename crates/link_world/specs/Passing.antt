@@ -1,0 +1,39 @@
+-- A datagram that came to an end.
+use Rattle.std.specs.Prelude.{◌≡◌, ◌-◌, List, ◌∷◌, Option, Some, None, slice_get, ⊤}
+use Rattle.ao_base.specs.declared.end.End.{End}
+use Rattle.segment_model.specs.Segments.{bit_of}
+use Rattle.key_model.specs.Rows.{Row}
+use Rattle.endpoint_model.specs.declared.verdict.Passed.{Passed}
+use Rattle.link_model.specs.Steps.{Stepped}
+use Rattle.link_model.specs.Worlds.{World, Came, Happening, Coming, forged, other, side as side_of}
+use Rattle.link_log.specs.declared.entry.Entrance.{Entrance}
+use Rattle.link_report.specs.declared.outcome.Outcome.{Outcome}
+use Rattle.link_report.specs.declared.outcome.Outcome.TheVariants as outcome
+use Rattle.link_report.specs.Outcomes.{Shows}
+use Rattle.link_side.specs.declared.side.Side.{Side}
+use Rattle.link_side.specs.Sides.{StandsSide}
+use Rattle.link_world.specs.declared.coming.Answered.{Answered}
+
+-- what a log is told of what passed: the row of that number, the number in the stream and the context
+abbrev pub EntersAs : List Row → Option Passed → Option Entrance → Type 0
+EntersAs rows None None = ⊤
+EntersAs rows None (Some e) = ⊥
+EntersAs rows (Some p) None = ⊥
+EntersAs rows (Some p) (Some e) = (slice_get rows (p.row - 1) ≡ Some e.row.now) × (e.number ≡ p.number) × (e.context ≡ p.context)
+
+-- the outcome where bytes came, or there was no session
+abbrev pub outcome_come : Option Answered → Outcome
+outcome_come None = outcome.NoSession
+outcome_come (Some came) = outcome.Arrival came.arrival
+
+-- the history after bytes came, of which it is known whether they are a forgery; without a session it is as it was
+abbrev pub Counts : Option Answered → List Happening → List Happening → Type 0
+Counts None history after = after ≡ history
+Counts (Some a) history after = (came : Came) × (after ≡ Coming came ∷ history) × (forged came.at came.passed history ≡ bit_of a.forged)
+
+-- the side stands for the end after bytes came, the other end is as it was, and it is told what came and whether it is a forgery
+pub record HasReceived (w : World) (after : Stepped) (e : End) (d : Side) (answered : Option Answered) : Type 0 where
+  pub side_is : StandsSide d (side_of after.world e)
+  pub others : side_of after.world (other e) ≡ side_of w (other e)
+  pub counts : Counts answered w.history after.world.history
+  pub shows : Shows (outcome_come answered) after.outcome

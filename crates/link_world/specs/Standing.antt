@@ -1,0 +1,27 @@
+-- What a world stands for: a setup, and the events so far.
+use Rattle.std.specs.Prelude.{◌≡◌, ℕ, List, length}
+use Rattle.link_model.specs.declared.event.Event.{Event}
+use Rattle.link_model.specs.Runs.{empty, outcomes_from, run}
+use Rattle.link_model.specs.Worlds as book
+use Rattle.link_log.specs.Logs.{made_count}
+use Rattle.link_report.specs.Outcomes.{AreShown}
+use Rattle.link_world.specs.declared.setup.Setup.{Setup}
+use Rattle.link_world.specs.declared.world.World.{World}
+use Rattle.link_world.specs.Links.{StandsLink}
+
+-- the link of the setup's sockets, over its tables
+abbrev pub setup_of : Setup → book.Setup
+setup_of s = book.setup_of s.tables s.a s.b
+
+-- how many events a world stepped through
+abbrev pub steps_taken : World → ℕ
+steps_taken w = length w.outcomes.items
+
+-- how many segments a world keeps
+abbrev pub segments_made : World → ℕ
+segments_made w = made_count w.log
+
+-- a world stands for the run of these events: its ends, its history, and its outcomes
+pub record StandsFor (w : World) (setup : book.Setup) (events : List Event) : Type 0 where
+  pub link : StandsLink w.a w.b w.log setup (run setup events)
+  pub shown : AreShown w.outcomes.items (outcomes_from setup (empty setup) events)

@@ -1,0 +1,101 @@
+//! A link between two ends.
+ghost use Rattle.std.specs.Prelude.{◌≡◌, ◌<◌, ◌≤◌, ◌+◌, ◌^◌, IfOk, List, OnOk, OnErr, true, [], ◌∷◌, ◌++◌, length};
+ghost use Rattle.ao_base.specs.declared.end.End.TheVariants.{A, B};
+ghost use Rattle.format_model.specs.LinkFiles.{are_two_of_a_family};
+ghost use Rattle.link_model.specs.declared.event.Event.{Event as Happening};
+ghost use Rattle.link_model.specs.Steps.{step};
+ghost use Rattle.link_model.specs.Runs.{empty, outcomes_from, run};
+ghost use Rattle.link_model.specs.Worlds.{Setup as Link};
+ghost use Rattle.link_log.specs.Logs.{forgery_count, made_count};
+ghost use Rattle.link_report.specs.Outcomes.{AreShown, Shows};
+ghost use Rattle.link_world.specs.Events.{CanHappen};
+ghost use Rattle.link_world.specs.Links.{AreOfLink};
+
+use crate::happening::happen;
+use crate::setup::{Setup, take_table};
+use ao_base::Pair;
+use link_log::Log;
+use link_model::Event;
+use link_report::Outcome;
+use link_side::Side;
+use std::alloc::{AllocError, Global};
+
+/// A link between two ends: all that happened, and what each event answered.
+#[derive(Drop)]
+pub struct World {
+    pub(crate) a: Side,
+    pub(crate) b: Side,
+    pub(crate) log: Log,
+    pub(crate) outcomes: Vec<Outcome>,
+    ghost link: { ∥ AreOfLink a b log ∥₁ },
+    ghost few: { length outcomes.items < 2 ^ 32 },
+    ghost made: { made_count log ≤ length outcomes.items },
+    ghost forged: { forgery_count log ≤ length outcomes.items },
+}
+
+impl World {
+    ghost use Rattle.link_world.specs.Standing.{StandsFor, setup_of, steps_taken};
+
+    /// A link on which nothing happened yet: both clocks are 0, there is no session and no segment. Its
+    /// two addresses differ and are of one family.
+    pub fn new(alloc: Global, setup: Setup) -> Result<World, AllocError>
+        requires family { are_two_of_a_family setup.a.address setup.b.address ≡ true }
+        ensures stands { IfOk result (λ w. StandsFor w (setup_of setup) []) }
+        ensures steps { IfOk result (λ w. steps_taken w ≡ 0) }
+    {
+        let Setup { mut tables, a, b } = setup;
+        let a_table = take_table(alloc, &mut tables, a.address);
+        let b_table = take_table(alloc, &mut tables, b.address);
+        let a_pair = Pair {
+            local: a,
+            remote: b,
+        };
+        let b_pair = Pair {
+            local: b,
+            remote: a,
+        };
+        Ok(World {
+            a: Side::new(alloc, a_pair, a_table),
+            b: Side::new(alloc, b_pair, b_table),
+            log: Log::new(alloc),
+            outcomes: Vec::new(alloc),
+        })
+    }
+
+    /// Steps through one event; `outcome` tells its outcome then. Fewer than 2^32 - 1 were stepped
+    /// through before, a clock is set to LATEST at most, and a row that is added is one of a link file.
+    /// Out of memory the world stands for what it stood for.
+    pub fn step(&mut self, alloc: Global, event: &Event) -> Result<(), AllocError>
+        requires steps { steps_taken self.old < 4294967295 }
+        requires event { CanHappen event.now }
+        ensures stands { OnOk result ((setup : Link) (events : List Happening) → StandsFor self.old setup events
+            → StandsFor self.new setup (events ++ event.now ∷ [])) }
+        ensures steps { OnOk result (steps_taken self.new ≡ steps_taken self.old + 1) }
+        ensures same { OnErr result ((setup : Link) (events : List Happening) → StandsFor self.old setup events → StandsFor self.new setup events) }
+        ensures unstepped { OnErr result (steps_taken self.new ≡ steps_taken self.old) }
+    {
+        self.outcomes.reserve(1)?;
+        let outcome = happen(&mut self.a, &mut self.b, &mut self.log, alloc, event)?;
+        let pushed: Result<_, _> = self.outcomes.push(outcome);
+        pushed.unwrap();
+        Ok(())
+    }
+
+    /// The outcome of the last event. There was one.
+    pub fn outcome(&self) -> &Outcome
+        requires { 0 < steps_taken self.now }
+        ensures { (setup : Link) (events : List Happening) (event : Happening) → StandsFor self.now setup (events ++ event ∷ [])
+            → Shows result.now (step setup (run setup events) event).outcome }
+    {
+        &self.outcomes[self.outcomes.len() - 1]
+    }
+
+    /// The outcomes of all events, in order.
+    pub fn outcomes(&self) -> &[Outcome]
+        ensures shown { (setup : Link) (events : List Happening) → StandsFor self.now setup events
+            → AreShown result.now (outcomes_from setup (empty setup) events) }
+        ensures steps { length result.now ≡ steps_taken self.now }
+    {
+        self.outcomes.as_slice()
+    }
+}
