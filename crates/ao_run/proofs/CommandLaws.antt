@@ -1,5 +1,5 @@
 -- What words name, as the code reads them.
-use Rattle.std.proofs.Common.{◌≡◌, ◌⊎◌, inl, inr, ℕ, zero, suc, ◌+◌, ◌*◌, ◌-◌, ◌<◌, ◌≤◌, ◌==◌, ◌&&◌, nat_le, nat_lt, Bool, true, false, List, [], ◌∷◌, codes, length, Option, Some, None, slice_index, if◌then◌else◌, refl, sym, ap, arith, ◌∙◌}
+use Rattle.std.proofs.Common.{◌≡◌, ◌⊎◌, inl, inr, ℕ, zero, suc, ◌+◌, ◌*◌, ◌-◌, ◌<◌, ◌≤◌, ◌==◌, ◌&&◌, nat_le, nat_lt, Bool, true, false, List, [], ◌∷◌, codes, length, Option, Some, None, slice_index, if◌then◌else◌, refl, sym, ap, subst, arith, ◌∙◌}
 use Rattle.std.proofs.lemmas.Bool.Decides.{nat_tests}
 use Rattle.std.proofs.lemmas.List.{get_or_past}
 use Rattle.std.proofs.lemmas.Str.{IsUtf8-from_ascii}
@@ -9,9 +9,10 @@ use Rattle.key_model.specs.Times.{◌>>=◌, two_at, time_of, time_of_digits}
 use Rattle.format_model.specs.declared.command.Command.{Command}
 use Rattle.format_model.specs.declared.command.Command.TheVariants as command
 use Rattle.key_model.specs.Lifetimes.{greatest_time}
-use Rattle.format_model.specs.Commands.{alone_of, command_of, three_of, up_to, with_keys_of}
+use Rattle.format_model.specs.declared.command.Plan.{Plan}
+use Rattle.format_model.specs.Commands.{command_of, keys_of, lint_of, storm_of, up_to}
 use Rattle.ao_run.specs.Gathered.{is_ready}
-use Rattle.ao_run.specs.Today.{command_today, if_built}
+use Rattle.ao_run.specs.Today.{command_today, if_built, is_built}
 
 -- a value in front of a reading that goes on
 from_bind : {A B : Type 0} (m : Option A) (f : A → Option B) (y : B) → (m >>= f) ≡ Some y → (x : A) × (m ≡ Some x) × (f x ≡ Some y)
@@ -113,56 +114,84 @@ no_time w lacks = none_by w (time_of w) refl lacks
 abbrev Few : Option Command → Type 0
 Few o = is_ready (if_built o) ≡ true
 
-few_if : (b : Bool) (x y : Option Command) → Few x → Few y → Few (if b then x else y)
-few_if true x y p q = p
-few_if false x y p q = q
+alone : (a b c : Bool) → Few (if a then Some command.Link else (if b then Some command.Show else (if c then Some command.Vectors else None)))
+alone true b c = refl
+alone false true c = refl
+alone false false true = refl
+alone false false false = refl
 
-few_alone : (name : List ℕ) → Few (alone_of name)
-few_alone name = few_if _ _ _ refl (few_if _ _ _ refl (few_if _ _ _ refl refl))
+with_keys : (a b c d e : Bool) → Few (if a then Some command.LinkKeys else (if b then Some command.Check else (if c then Some command.Bgp
+    else (if d then Some command.Timed else (if e then Some command.Node else None)))))
+with_keys true b c d e = refl
+with_keys false true c d e = refl
+with_keys false false true d e = refl
+with_keys false false false true e = refl
+with_keys false false false false true = refl
+with_keys false false false false false = refl
 
-few_with_keys : (name : List ℕ) → Few (with_keys_of name)
-few_with_keys name = few_if _ _ _ refl (few_if _ _ _ refl (few_if _ _ _ refl (few_if _ _ _ refl (few_if _ _ _ refl refl))))
+keys : (time : Option ℕ) → Few (time >>= λ t. Some (command.Keys t))
+keys None = refl
+keys (Some t) = refl
 
-few_keys : (time : Option ℕ) → Few (time >>= λ t. Some (command.Keys t))
-few_keys None = refl
-few_keys (Some t) = refl
-
-few_counted : (seed count : Option ℕ) → ((n : ℕ) → count ≡ Some n → nat_le n 10000 ≡ true) → Few (seed >>= λ s. count >>= λ n. Some (command.Storm s n))
-few_counted None count low = refl
-few_counted (Some s) None low = refl
-few_counted (Some s) (Some n) low = rw (low n refl) refl
+counted : (seed count : Option ℕ) → ((n : ℕ) → count ≡ Some n → nat_le n 10000 ≡ true) → Few (seed >>= λ s. count >>= λ n. Some (command.Storm s n))
+counted None count low = refl
+counted (Some s) None low = refl
+counted (Some s) (Some n) low = rw (low n refl) refl
 
 at_most : (most : ℕ) (b : Bool) (m n : ℕ) → nat_le m most ≡ b → (if b then Some m else None) ≡ Some n → nat_le n most ≡ true
 at_most most true m n is h = let same : m ≡ n = cc in rw same at is
 at_most most false m n is h = absurd (cc)
 
-up_to_most : (most : ℕ) (o : Option ℕ) (n : ℕ) → (o >>= λ m. if nat_le m most then Some m else None) ≡ Some n → nat_le n most ≡ true
-up_to_most most None n h = absurd (cc)
-up_to_most most (Some m) n h = at_most most (nat_le m most) m n refl h
+most_of : (most : ℕ) (o : Option ℕ) (n : ℕ) → (o >>= λ m. if nat_le m most then Some m else None) ≡ Some n → nat_le n most ≡ true
+most_of most None n h = absurd (cc)
+most_of most (Some m) n h = at_most most (nat_le m most) m n refl h
 
-few_three : (name second third : List ℕ) → Few (three_of name second third)
-few_three name second third =
-    few_if _ _ _ (few_keys (time_of third))
-    (few_if _ _ _ (few_counted (decimal_of second) (up_to 10000 third) (up_to_most 10000 (decimal_of third)))
-    (few_if _ _ _ (few_if _ _ _ refl refl) refl))
+three : (a b c d : Bool) (of_keys of_storm : Option Command) → Few of_keys → Few of_storm →
+    Few (if a then of_keys else (if b then of_storm else (if c then (if d then Some command.CheckPcap else None) else None)))
+three true b c d of_keys of_storm k s = k
+three false true c d of_keys of_storm k s = s
+three false false true true of_keys of_storm k s = refl
+three false false true false of_keys of_storm k s = refl
+three false false false d of_keys of_storm k s = refl
 
-few_plan : (a b low high : Option ℕ) → Few (a >>= λ lead. b >>= λ lag. low >>= λ from. high >>= λ to.
+planned : (b : Bool) (plan : Plan) → Few (if b then Some (command.Lint plan) else None)
+planned true plan = refl
+planned false plan = refl
+
+plan : (a b low high : Option ℕ) → Few (a >>= λ lead. b >>= λ lag. low >>= λ from. high >>= λ to.
     if nat_le from to then Some (command.Lint (record { lead = lead; lag = lag; from = from; to = to })) else None)
-few_plan None b low high = refl
-few_plan (Some a) None low high = refl
-few_plan (Some a) (Some b) None high = refl
-few_plan (Some a) (Some b) (Some low) None = refl
-few_plan (Some a) (Some b) (Some low) (Some high) = few_if (nat_le low high) _ _ refl refl
+plan None b low high = refl
+plan (Some a) None low high = refl
+plan (Some a) (Some b) None high = refl
+plan (Some a) (Some b) (Some low) None = refl
+plan (Some a) (Some b) (Some low) (Some high) = planned (nat_le low high) (record { lead = a; lag = b; from = low; to = high })
+
+lint : (b : Bool) (o : Option Command) → Few o → Few (if b then o else None)
+lint true o few = few
+lint false o few = refl
 
 -- whatever words name is built, and draws few events
 pub named_ready : (words : List (List ℕ)) → is_ready (command_today words) ≡ true
 unfolding command_of
 named_ready [] = refl
-named_ready (name ∷ []) = few_alone name
-named_ready (name ∷ keys ∷ []) = few_with_keys name
-named_ready (name ∷ second ∷ third ∷ []) = few_three name second third
-named_ready (name ∷ keys ∷ lead ∷ lag ∷ []) = refl
-named_ready (name ∷ keys ∷ lead ∷ lag ∷ from ∷ []) = refl
-named_ready (name ∷ keys ∷ lead ∷ lag ∷ from ∷ to ∷ []) =
-    few_if _ _ _ (few_plan (up_to greatest_time lead) (up_to greatest_time lag) (time_of from) (time_of to)) refl
-named_ready (name ∷ keys ∷ lead ∷ lag ∷ from ∷ to ∷ more ∷ words) = refl
+named_ready (name ∷ []) = alone (bytes_eq name (codes "link")) (bytes_eq name (codes "show")) (bytes_eq name (codes "vectors"))
+named_ready (name ∷ key_file ∷ []) =
+    with_keys (bytes_eq name (codes "link")) (bytes_eq name (codes "check")) (bytes_eq name (codes "bgp")) (bytes_eq name (codes "timed")) (bytes_eq name (codes "node"))
+named_ready (name ∷ second ∷ third ∷ []) =
+    three (bytes_eq name (codes "keys")) (bytes_eq name (codes "storm")) (bytes_eq name (codes "check")) (bytes_eq second (codes "--pcap")) (keys_of third) (storm_of second third)
+    (keys (time_of third)) (counted (decimal_of second) (up_to 10000 third) (most_of 10000 (decimal_of third)))
+named_ready (name ∷ key_file ∷ lead ∷ lag ∷ []) = refl
+named_ready (name ∷ key_file ∷ lead ∷ lag ∷ from ∷ []) = refl
+named_ready (name ∷ key_file ∷ lead ∷ lag ∷ from ∷ to ∷ []) =
+    lint (bytes_eq name (codes "lint")) (lint_of lead lag from to) (plan (up_to greatest_time lead) (up_to greatest_time lag) (time_of from) (time_of to))
+named_ready (name ∷ key_file ∷ lead ∷ lag ∷ from ∷ to ∷ more ∷ words) = refl
+
+where_built : (b : Bool) (c : Command) → b ≡ true → is_ready (if b then Some c else None) ≡ true → is_ready (Some c) ≡ true
+where_built true c built ready = ready
+where_built false c built ready = absurd (cc)
+
+-- a command that words name and that is built
+pub found_ready : (words : List (List ℕ)) (c : Command) → Some c ≡ command_of words → is_built c ≡ true → is_ready (Some c) ≡ true
+found_ready words c is built =
+    let P : Option Command → Type 0 = λ (o : Option Command). is_ready (if_built o) ≡ true in
+    where_built (is_built c) c built (subst P (sym is) (named_ready words))

@@ -1,5 +1,6 @@
 -- The run of a link file as the answer of `link`.
-use Rattle.std.proofs.Common.{◌≡◌, ◌<◌, ◌==◌, ℕ, not, Bool, true, false, List, Result, Ok, Err, refl, ap, arith, ◌∙◌}
+use Rattle.std.proofs.Common.{◌≡◌, ◌<◌, ◌==◌, ℕ, not, Bool, true, false, List, [], Result, Ok, Err, refl, ap, arith, ◌∙◌}
+use Rattle.std.proofs.lemmas.Bool.Decides.{nat_tests}
 use Rattle.key_model.specs.Rows.{Table}
 use Rattle.line_model.specs.declared.text_fault.TextFault.{TextFault}
 use Rattle.line_model.specs.declared.text_fault.TextFault.TheVariants as text_fault
@@ -58,3 +59,12 @@ pub shared_refused : (text : List ℕ) (e : TextFault) (stop : Stop) → Fails e
 unfolding playing_by_shared
 shared_refused text e stop f stopped none =
     refused (script_of false text) linked_by_shared e stop (fails (λ s. setup_of (shared_by s s.shared) s.a s.b) (script_of false text) e f) stopped none
+
+-- the status says whether a forgery is counted
+pub well_ends : (a : Answer) (n : ℕ) (text : List ℕ) (s : ℕ) → a ≡ done (not (n == 0)) text → n ≡ 0 → s ≡ 0 →
+    (a ≡ record { status = s; output = text; text = [] }) × (s < 2)
+well_ends a n text s is none e = (is ∙ rw (none, e) refl, omega (arith, e))
+
+pub amiss_ends : (a : Answer) (n : ℕ) (text : List ℕ) (s : ℕ) → a ≡ done (not (n == 0)) text → (n ≡ 0 → ⊥) → s ≡ 1 →
+    (a ≡ record { status = s; output = text; text = [] }) × (s < 2)
+amiss_ends a n text s is some e = let test : (n == 0) ≡ false = grind (arith, nat_tests) in (is ∙ rw (test, e) refl, omega (arith, e))

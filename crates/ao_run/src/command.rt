@@ -165,7 +165,6 @@ fn is_built(command: Command) -> bool
 
 /// The command that the words name, where it is built; None exactly where they are in no such
 /// command's form.
-#[tactic(auto, using(crate::proofs::CommandLaws::named_ready))]
 pub(crate) fn named(words: &Words) -> Option<Command>
     ensures command { result ≡ command_today words.now }
     ensures ready { is_ready result ≡ true }

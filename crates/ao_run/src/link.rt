@@ -12,7 +12,7 @@ use link_storm::storm;
 use std::alloc::Global;
 
 /// The report of a link file that names its shared key; status 1 where the run counts a forgery.
-#[tactic(auto, using(crate::proofs::LinkLaws::shared_makes, crate::proofs::LinkLaws::shared_refused))]
+#[tactic(auto, using(crate::proofs::LinkLaws::shared_refused))]
 pub(crate) fn link(alloc: Global, text: &[u8]) -> Result<Output, Stop>
     ensures { Makes result (if_read linked_by_shared (script_of false text.now)) }
 {
@@ -29,7 +29,7 @@ pub(crate) fn link(alloc: Global, text: &[u8]) -> Result<Output, Stop>
 }
 
 /// The report of a link file over the tables of a key file; status 1 where the run counts a forgery.
-#[tactic(auto, using(crate::proofs::LinkLaws::keyed_makes, crate::proofs::LinkLaws::keyed_refused))]
+#[tactic(auto, using(crate::proofs::LinkLaws::keyed_refused))]
 pub(crate) fn link_keys(alloc: Global, tables: Tables, text: &[u8]) -> Result<Output, Stop>
     ensures { Makes result (if_read (linked tables) (script_of true text.now)) }
 {

@@ -20,5 +20,5 @@ pub returns : goal.returns
 returns g c =
     let k = c.in-Ok.ensures in
     let i = c.in-Ok-input_for.ensures in
-    let m = rw (c.as_ref.ensures.value, c.as_slice.ensures) at c.answer.ensures in
+    let m = rw c.as_slice.ensures at c.answer.ensures in
     (k.0, i.0, rw c.in-Some.is (made_gathered c.in-Some.command k.0 i.0 _ _ _ _ c.in-Ok.tables k.1 c.in-Ok-input_for.text i.1 c.answer.result m))
