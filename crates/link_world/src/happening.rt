@@ -43,12 +43,7 @@ fn end_of(event: &Event) -> End
 }
 
 /// An event at its end, with the log of the link.
-fn act(
-    side: &mut Side,
-    log: &mut Log,
-    alloc: Global,
-    event: &Event,
-) -> Result<Outcome, AllocError>
+fn act(side: &mut Side, log: &mut Log, alloc: Global, event: &Event) -> Result<Outcome, AllocError>
     requires at { ∥ AreOfEnd (end_of event.now) side.old log.old ∥₁ }
     requires made { made_count log.old < 4294967295 }
     requires forged { forgery_count log.old < 4294967295 }

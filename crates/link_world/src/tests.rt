@@ -97,7 +97,13 @@ fn five_bytes_are_seen(rt: HostRuntime) -> Result<(), Fail> {
     assert_eq!(rt; world.sessions(End::A), 1);
     assert_eq!(rt; world.reading(End::A), 0);
     assert_eq!(rt; world.outcomes().len(), 6);
-    assert_eq!(rt; world.front(End::A), Some(Front { una: 101, next: 106 }));
+    assert_eq!(rt;
+        world.front(End::A),
+        Some(Front {
+            una: 101,
+            next: 106
+        })
+    );
     Ok(())
 }
 
