@@ -12,6 +12,7 @@ show reads datagrams in hexadecimal, one a line, and writes their fields.
 vectors reads test vectors and writes whether each is as computed.
 keys writes the rows of the key file KEYS with their state at TIME.
 lint reads connections and writes whether the tables of KEYS carry each through its rollovers.
+storm writes the summary of a run of COUNT events that is made from the number SEED.
 The other commands aren't built yet: their words are a usage fault.
 Status 0: done; 1: done, with something amiss; 2: usage; 3: key file; 4: input;
 5: a read failed; 6: a write failed; 7: out of memory.
