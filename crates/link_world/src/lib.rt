@@ -13,8 +13,6 @@ mod looking;
 mod sending;
 mod setup;
 mod showing;
-#[cfg(test)]
-mod tests;
 mod world;
 
 pub use front::Front;
