@@ -1,6 +1,5 @@
 //! Runs of the top call, against texts written by hand from the formats. The datagrams are those of
 //! an independent program.
-mod hostile;
 mod keys;
 mod link;
 mod link_keys;
