@@ -3,6 +3,7 @@ use Rattle.std.proofs.Common.{◌≡◌, ℕ, suc, Bool, true, false, cond, List
 use Rattle.std.specs.List.{All, AllByRecursion, find}
 use Rattle.ao_base.specs.declared.address.Address.{Address}
 use Rattle.ao_base.specs.declared.address.Address.TheVariants.{V4, V6}
+use Rattle.ao_base.specs.declared.address.Socket.{Socket}
 use Rattle.ao_base.specs.declared.end.End.{End}
 use Rattle.ao_base.specs.declared.end.End.TheVariants.{A, B}
 use Rattle.key_model.specs.Nodes.{tables_of}
@@ -19,13 +20,13 @@ use Rattle.format_model.specs.declared.script.Script.{Script}
 use Rattle.format_model.specs.declared.script.SharedKey.{SharedKey}
 use Rattle.format_model.specs.Answers.{shared_by}
 use Rattle.format_model.specs.LinkFiles.{are_two_of_a_family, script_of}
-use Rattle.link_script.specs.Scripts.{IsAddress, IsEvent, IsKey, IsScript}
+use Rattle.link_script.specs.Scripts.{IsAddress, IsEvent, IsKey, IsScript, IsSocket}
 use Rattle.link_script.proofs.ScriptRanges.{script_of_ok}
 use Rattle.link_headline.proofs.TableFits.{Fit, tables_fit}
 
 -- ---- events
 
-event_fits : (e : Event) → IsEvent e → EventFits e
+pub event_fits : (e : Event) → IsEvent e → EventFits e
 event_fits (Clock e seconds) r = r
 event_fits (Connect e isn) r = omega (arith, r)
 event_fits (Listen e isn) r = omega (arith, r)
@@ -77,28 +78,32 @@ valid_at [] address all = empty-valid
 valid_at (t ∷ ts) address all =
     found IsValid (has_address address t) t (find (has_address address) ts) (all 0 t (omega arith)) (valid_at ts address (λ k d h. all (suc k) d (omega arith)))
 
-fits : (tables : List Table) (script : Script) → IsScript script → AllByRecursion Fit tables → All (λ (t : Table). IsValid t.rows) tables → SetupFits (setup_of tables script.a script.b)
-fits tables script is fit valid =
-    let a_port = is.a.port in
-    let b_port = is.b.port in
+-- the ends of two sockets, over tables
+pub fits : (tables : List Table) (a b : Socket) → IsSocket a → IsSocket b → are_two_of_a_family a.address b.address ≡ true
+    → AllByRecursion Fit tables → All (λ (t : Table). IsValid t.rows) tables → SetupFits (setup_of tables a b)
+fits tables a b is_a is_b two fit valid =
+    let a_port = is_a.port in
+    let b_port = is_b.port in
     record {
-      family = family script.a.address script.b.address is.a.address is.b.address is.two;
+      family = family a.address b.address is_a.address is_b.address two;
       a_port = omega (arith, a_port);
       b_port = omega (arith, b_port);
       rows = of_end;
       valid = valid_of_end;
     }
   where
-    of_end : (e : End) → AllByRecursion RowFits (rows_of (setup_of tables script.a script.b) e)
-    of_end A = fit_at tables script.a.address fit
-    of_end B = fit_at tables script.b.address fit
+    of_end : (e : End) → AllByRecursion RowFits (rows_of (setup_of tables a b) e)
+    of_end A = fit_at tables a.address fit
+    of_end B = fit_at tables b.address fit
 
-    valid_of_end : (e : End) → IsValid (rows_of (setup_of tables script.a script.b) e)
-    valid_of_end A = valid_at tables script.a.address valid
-    valid_of_end B = valid_at tables script.b.address valid
+    valid_of_end : (e : End) → IsValid (rows_of (setup_of tables a b) e)
+    valid_of_end A = valid_at tables a.address valid
+    valid_of_end B = valid_at tables b.address valid
 
 pub keyed_fits : (keys text : List ℕ) (tables : List Table) (script : Script) → tables_of keys ≡ Ok tables → script_of true text ≡ Ok script → SetupFits (setup_of tables script.a script.b)
-keyed_fits keys text tables script read is = fits tables script (script_of_ok true text script is).0 (tables_fit keys tables read) (tables_of-valid keys tables read)
+keyed_fits keys text tables script read is =
+    let s : IsScript script = (script_of_ok true text script is).0 in
+    fits tables script.a script.b s.a s.b s.two (tables_fit keys tables read) (tables_of-valid keys tables read)
 
 shared_fit : (script : Script) (shared : Option SharedKey) → IsKey shared → AllByRecursion Fit (shared_by script shared)
 shared_fit script None is = tt
@@ -113,4 +118,4 @@ shared_valid script (Some key) = shared-valid script.a.address script.b.address 
 pub shared_fits : (text : List ℕ) (script : Script) → script_of false text ≡ Ok script → SetupFits (setup_of (shared_by script script.shared) script.a script.b)
 shared_fits text script is =
     let s : IsScript script = (script_of_ok false text script is).0 in
-    fits (shared_by script script.shared) script s (shared_fit script script.shared s.key) (shared_valid script script.shared)
+    fits (shared_by script script.shared) script.a script.b s.a s.b s.two (shared_fit script script.shared s.key) (shared_valid script script.shared)

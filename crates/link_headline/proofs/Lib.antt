@@ -3,3 +3,4 @@ pub mod LawfulRuns
 pub mod ReportEnds
 pub mod StormFits
 pub mod TableFits
+pub mod TimedFits

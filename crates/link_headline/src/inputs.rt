@@ -5,10 +5,12 @@ ghost use Rattle.key_model.specs.Nodes.{tables_of};
 ghost use Rattle.key_model.specs.Rows.{Table};
 ghost use Rattle.link_model.specs.Laws.{SetupFits, EventFits};
 ghost use Rattle.link_model.specs.Storm.{storm_setup, storm_events};
-ghost use Rattle.link_model.specs.Worlds.{setup_of};
+ghost use Rattle.link_model.specs.Worlds.{Setup, setup_of};
 ghost use Rattle.format_model.specs.declared.script.Script.{Script};
+ghost use Rattle.format_model.specs.declared.timed.TimedScript.{TimedScript};
 ghost use Rattle.format_model.specs.Answers.{shared_by};
 ghost use Rattle.format_model.specs.LinkFiles.{script_of};
+ghost use Rattle.format_model.specs.TimedRuns.{expand, timed_script_of};
 
 /// The sockets of a link file with the tables of a key file, or with those of the key that the link
 /// file names, fit a link, and so does each event of a link file.
@@ -18,6 +20,15 @@ pub fn link_files_fit()
     ensures shared { (text : List ℕ) (script : Script) → script_of false text ≡ Ok script
         → SetupFits (setup_of (shared_by script script.shared) script.a script.b) }
     ensures events { (with_keys : Bool) (text : List ℕ) (script : Script) → script_of with_keys text ≡ Ok script → AllByRecursion EventFits script.events }
+{}
+
+/// The sockets of a link file with waits, with the tables of a key file, fit a link, and so does each
+/// event of the plain run that such a file is.
+pub fn timed_files_fit()
+    ensures link { (keys text : List ℕ) (tables : List Table) (script : TimedScript) → tables_of keys ≡ Ok tables → timed_script_of text ≡ Ok script
+        → SetupFits (setup_of tables script.a script.b) }
+    ensures events { (setup : Setup) (text : List ℕ) (script : TimedScript) → timed_script_of text ≡ Ok script
+        → AllByRecursion EventFits (expand setup script.events).events }
 {}
 
 /// The link of a storm and each of its events fit.

@@ -1,0 +1,8 @@
+use Rattle.link_headline.proofs.TimedFits.{expanded_fit, timed_fits}
+use Rattle.link_headline.proofs.inputs.timed_files_fit.Goals as goal
+
+pub returns-clause-link : goal.returns-clause-link
+returns-clause-link c = timed_fits
+
+pub returns-clause-events : goal.returns-clause-events
+returns-clause-events c = expanded_fit
