@@ -4,7 +4,7 @@ ghost use Rattle.mac_model.specs.Contexts.{bytes_of};
 ghost use Rattle.mac_model.specs.Keys.{key_length, traffic_key};
 ghost use Rattle.ao_kdf.specs.Cache.{empty, key_at, kept, keeping, IsRight, steps_for};
 
-use crate::key::{TrafficKey, derive};
+use crate::key::{TrafficKey, traffic_key};
 use crate::way::Way;
 use ao_base::{Algorithm, Steps};
 use mac_model::Context;
@@ -61,7 +61,7 @@ fn look<L: Ledger>(
     if let Some(key) = &keys[at] {
         return key.copied();
     }
-    let key = derive(algorithm, master, context, steps);
+    let key = traffic_key(algorithm, master, context, steps);
     keys[at] = Some(key.copied());
     key
 }

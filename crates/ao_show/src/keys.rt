@@ -13,8 +13,6 @@ use std::sync::ledger::{Blank, Ledger};
 
 /// The traffic key of a master key for a context, whose steps nobody counts.
 pub(crate) fn key_of(alg: Algorithm, master: &[u8], context: &Context) -> TrafficKey
-    requires some { 1 ≤ length master.now }
-    requires most { length master.now ≤ 255 }
     ensures key { result ≡ traffic_key alg master.now (bytes_of context.now) }
     ensures length { length result ≡ key_length alg }
 {
@@ -25,8 +23,6 @@ fn key_in<L: Ledger>(blank: Blank, alg: Algorithm, master: &[u8], context: &Cont
     requires name { blank.name ≡ L.name }
     requires parts { blank.parts ≡ L.parts }
     requires part { 0 < blank.parts }
-    requires some { 1 ≤ length master.now }
-    requires most { length master.now ≤ 255 }
     ensures key { result ≡ traffic_key alg master.now (bytes_of context.now) }
     ensures length { length result ≡ key_length alg }
 {

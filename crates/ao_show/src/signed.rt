@@ -74,8 +74,6 @@ pub(crate) fn signed(algorithm: Algorithm, bytes: &[u8]) -> Option<SignedDatagra
 
 /// The MAC of a datagram under its traffic key (RFC 5925, section 5.1).
 pub(crate) fn mac_of(master: &[u8], making: &Making, datagram: &Datagram<'_>) -> MacBytes
-    requires some { 1 ≤ length master.now }
-    requires most { length master.now ≤ 255 }
     requires one { HasAo datagram.now }
     ensures { IsMade master.now making.now datagram.now result }
 {

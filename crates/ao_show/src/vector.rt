@@ -175,8 +175,6 @@ fn vector_made(
     making: &Making,
     signed: &SignedDatagram<'_>,
 ) -> Result<Vector, Refusal>
-    requires some { 1 ≤ length master.now }
-    requires most { length master.now ≤ 255 }
     requires one { HasAo signed.now.datagram }
     ensures { IsMadeVector master.now making.now signed.now result }
 {

@@ -38,10 +38,7 @@ fn datagram(acknowledgement: u8, mac: u8) -> [u8; 76] {
 }
 
 /// Adds a row with this id and key.
-fn add(alloc: Global, table: &mut Table, id: u8, master: &[u8]) -> Result<u8, AddRefusal>
-    requires low { 1 ≤ length master.now }
-    requires high { length master.now ≤ 255 }
-{
+fn add(alloc: Global, table: &mut Table, id: u8, master: &[u8; 3]) -> Result<u8, AddRefusal> {
     let lifetime = Lifetime { first: 0, last: 10 };
     let row = NewRow {
         recv_id: id,
