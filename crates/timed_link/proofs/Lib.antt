@@ -1,0 +1,4 @@
+pub mod AnswerLaws
+pub mod Expansions
+pub mod LinkLaws
+pub mod RunLaws
