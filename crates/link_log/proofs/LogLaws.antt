@@ -112,7 +112,8 @@ made_if at p true x m others later e h f =
     let here : true ≡ accounts_for at p x = h ∙ ap (accounts_for at p) same in ap (λ b. b || later) here
 made_if at p false x m others later e h f = sym (or_true (accounts_for at p x)) ∙ ap (λ b. accounts_for at p x || b) (f e)
 
-named_made : (at : End) (p : Finding) (n : ℕ) (m : Made) (history : List Happening) → segment_named n history ≡ Some m → true ≡ accounts_for at p m
+-- a segment of this name accounts for it
+pub named_made : (at : End) (p : Finding) (n : ℕ) (m : Made) (history : List Happening) → segment_named n history ≡ Some m → true ≡ accounts_for at p m
     → true ≡ was_made at p history
 named_made at p n m [] e h = absurd (cc)
 named_made at p n m (Coming r ∷ past) e h = named_made at p n m past e h

@@ -1,5 +1,5 @@
 //! Everything that was made, and how many forgeries were counted.
-ghost use Rattle.std.specs.Prelude.{◌≡◌, ◌↔◌, ◌+◌, ◌<◌, ◌≤◌, ℕ, suc, List, [], ◌∷◌, length, Option, Some, None, MatchOption, OnOk};
+ghost use Rattle.std.specs.Prelude.{◌≡◌, ◌↔◌, ◌+◌, ◌<◌, ◌≤◌, ℕ, suc, List, [], ◌∷◌, length, Option, Some, None, IsTrue, true, MatchOption, OnOk};
 ghost use Rattle.endpoint_model.specs.Verdicts.{Finding};
 ghost use Rattle.segment_model.specs.Segments.{bit_of};
 ghost use Rattle.segment_model.specs.Spelling.{AreBytes};
@@ -178,9 +178,61 @@ impl Log {
         false
     }
 
+    /// Whether the segment of this name accounts for what passed at an end.
+    fn is_accounted_by(
+        &self,
+        name: u32,
+        at: End,
+        entrance: &Entrance<'_>,
+        datagram: &Datagram<'_>,
+    ) -> bool
+        ensures { (history : List Happening) (f : Finding) → StandsLog self.now history
+            → PassesUnder entrance.now.row.now datagram.now entrance.now.number entrance.now.context f → IsTrue result → true ≡ was_made at f history }
+    {
+        match self.segment(name) {
+            None => false,
+            Some(entry) => {
+                if entry.number != sought(entrance, datagram) {
+                    return false;
+                }
+                accounts_for(entry, at, entrance, datagram)
+            }
+        }
+    }
+
+    /// Whether the other end made what passed at an end. The segment of this name, if there is one, is
+    /// looked at first: thousands of entries may have the number of a copy's segment.
+    fn was_made_as(
+        &self,
+        name: Option<u32>,
+        at: End,
+        entrance: &Entrance<'_>,
+        datagram: &Datagram<'_>,
+    ) -> bool
+        ensures { (history : List Happening) (f : Finding) → StandsLog self.now history
+            → PassesUnder entrance.now.row.now datagram.now entrance.now.number entrance.now.context f → result ≡ was_made at f history }
+    {
+        match name {
+            None => self.was_made(at, entrance, datagram),
+            Some(name) => {
+                if self.is_accounted_by(name, at, entrance, datagram) {
+                    return true;
+                }
+                self.was_made(at, entrance, datagram)
+            }
+        }
+    }
+
     /// Whether a datagram that came to an end, with what the check found where it passed, is a forgery:
-    /// the other end had made no segment with the same algorithm, master key, context and MAC input.
-    pub fn is_forged(&self, at: End, bytes: &[u8], entrance: Option<Entrance<'_>>) -> bool
+    /// the other end had made no segment with the same algorithm, master key, context and MAC input. Of a
+    /// copy, `name` is the segment's that it is one of, which makes the answer no other, but mostly quick.
+    pub fn is_forged(
+        &self,
+        at: End,
+        name: Option<u32>,
+        bytes: &[u8],
+        entrance: Option<Entrance<'_>>,
+    ) -> bool
         ensures { (history : List Happening) (passed : Option Finding) → StandsLog self.now history → ComesAs bytes.now entrance.entry passed
             → forged_by at passed history ≡ bit_of result }
     {
@@ -188,7 +240,7 @@ impl Log {
             None => false,
             Some(entrance) => match read_datagram(bytes) {
                 Err(_) => false,
-                Ok(datagram) => !self.was_made(at, &entrance, &datagram),
+                Ok(datagram) => !self.was_made_as(name, at, &entrance, &datagram),
             },
         }
     }

@@ -113,16 +113,26 @@ fn only_what_the_other_end_made_is_no_forgery(rt: HostRuntime) -> Result<(), Fai
         context: CONTEXT,
     };
     // The first of two with one number, and one with another MAC, which doesn't count.
-    assert!(rt; !log.is_forged(End::B, &datagram(1, 3), Some(own)));
-    assert!(rt; !log.is_forged(End::B, &datagram(2, 4), Some(own)));
-    assert!(rt; !log.is_forged(End::B, &datagram(3, 3), None));
+    assert!(rt; !log.is_forged(End::B, None, &datagram(1, 3), Some(own)));
+    assert!(rt; !log.is_forged(End::B, None, &datagram(2, 4), Some(own)));
+    assert!(rt; !log.is_forged(End::B, None, &datagram(3, 3), None));
     // Another field, the end that made it, another key, another lap.
-    assert!(rt; log.is_forged(End::B, &datagram(3, 3), Some(own)));
-    assert!(rt; log.is_forged(End::A, &datagram(1, 3), Some(own)));
+    assert!(rt; log.is_forged(End::B, None, &datagram(3, 3), Some(own)));
+    assert!(rt; log.is_forged(End::A, None, &datagram(1, 3), Some(own)));
     let row = table.row(2);
-    assert!(rt; log.is_forged(End::B, &datagram(1, 3), Some(Entrance { row, ..own })));
+    assert!(rt; log.is_forged(End::B, None, &datagram(1, 3), Some(Entrance { row, ..own })));
     let number = (1 << 32) + 7;
-    assert!(rt; log.is_forged(End::B, &datagram(1, 3), Some(Entrance { number, ..own })));
+    assert!(rt;
+        log.is_forged(
+            End::B,
+            None,
+            &datagram(1, 3),
+            Some(Entrance { number, ..own })
+        )
+    );
+    // A name is a hint alone: whatever segment it is, or none.
+    assert!(rt; !log.is_forged(End::B, Some(2), &datagram(2, 4), Some(own)));
+    assert!(rt; !log.is_forged(End::B, Some(1), &datagram(2, 4), Some(own)));
     log.count(false);
     log.count(true);
     assert_eq!(rt; log.forgeries(), 1);

@@ -51,12 +51,14 @@ fn entrance(table: &Table, passed: Option<Passed>) -> Option<Entrance<'_>>
     }
 }
 
-/// Bytes come to the live session of the end; none where there is no session.
+/// Bytes come to the live session of the end, a copy of the segment of this name if there is one; none
+/// where there is no session.
 fn come<L: Ledger>(
     blank: Blank,
     side: &mut Side,
     log: &Log,
     at: End,
+    name: Option<u32>,
     bytes: &[u8],
 ) -> Option<Answered>
     requires name { blank.name ≡ L.name }
@@ -71,7 +73,7 @@ fn come<L: Ledger>(
         None => None,
         Some(arrived) => {
             let entered = entrance(side.table(), arrived.passed);
-            let forged = log.is_forged(at, bytes, entered);
+            let forged = log.is_forged(at, name, bytes, entered);
             Some(Answered {
                 arrival: arrived.arrival,
                 forged,
@@ -97,13 +99,19 @@ fn count(log: &mut Log, answered: Option<Answered>) -> Outcome
     }
 }
 
-/// A datagram comes to the end.
-pub(crate) fn inject(side: &mut Side, log: &mut Log, at: End, bytes: &[u8]) -> Outcome
+/// A datagram comes to the end, a copy of the segment of this name if there is one.
+pub(crate) fn inject(
+    side: &mut Side,
+    log: &mut Log,
+    at: End,
+    name: Option<u32>,
+    bytes: &[u8],
+) -> Outcome
     requires at { ∥ AreOfEnd at side.old log.old ∥₁ }
     requires forged { forgery_count log.old < 4294967295 }
     ensures { Acts at side.old side.new log.old log.new (by_bytes at bytes.now) (Ok result) }
 {
-    let answered = come::<Brand>(Blank::new(1), side, log, at, bytes);
+    let answered = come::<Brand>(Blank::new(1), side, log, at, name, bytes);
     count(log, answered)
 }
 
@@ -116,7 +124,8 @@ pub(crate) fn deliver(side: &mut Side, log: &mut Log, at: End, name: u32) -> Out
     match log.segment(name) {
         None => Outcome::NoSegment,
         Some(entry) => {
-            let answered = come::<Brand>(Blank::new(1), side, log, at, entry.bytes.as_slice());
+            let bytes = entry.bytes.as_slice();
+            let answered = come::<Brand>(Blank::new(1), side, log, at, Some(name), bytes);
             count(log, answered)
         }
     }
@@ -142,7 +151,7 @@ pub(crate) fn alter(
             let copy = altered(alloc, bytes, change.place, change.mask, change.fix)?;
             match copy {
                 None => Ok(Outcome::NoPlace),
-                Some(copy) => Ok(inject(side, log, at, copy.as_slice())),
+                Some(copy) => Ok(inject(side, log, at, Some(name), copy.as_slice())),
             }
         }
     }

@@ -60,7 +60,7 @@ fn act(side: &mut Side, log: &mut Log, alloc: Global, event: &Event) -> Result<O
         Event::Send(end) => send(side, log, alloc, *end, false),
         Event::Resend(end) => send(side, log, alloc, *end, true),
         Event::Deliver(end, name) => Ok(deliver(side, log, *end, *name)),
-        Event::Inject(end, bytes) => Ok(inject(side, log, *end, bytes.as_slice())),
+        Event::Inject(end, bytes) => Ok(inject(side, log, *end, None, bytes.as_slice())),
         Event::Alter(end, name, place, mask, fix) => {
             let change = Change {
                 place: *place,

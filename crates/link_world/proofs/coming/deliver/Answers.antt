@@ -14,12 +14,12 @@ returns-in-None c =
 
 pub returns-in-Some : goal.returns-in-Some
 returns-in-Some c =
-    let bytes = c.as_slice.result.now in
+    let bytes = c.as_slice-bytes.result.now in
     restated c.args.at c.args.side.now c.come-answered.new.side c.args.log.now c.count.new.log (by_bytes c.args.at bytes)
     (by_event (Deliver c.args.at c.args.name)) c.count.result
     (λ setup w h.
     let m = c.in-Some.ensures w.history h.log_is in
-    delivered c.args.at c.args.name bytes setup w m.0 m.1 (m.2.bytes ∙ sym c.as_slice.ensures))
+    delivered c.args.at c.args.name bytes setup w m.0 m.1 (m.2.bytes ∙ sym c.as_slice-bytes.ensures))
     (counted c.args.at c.args.side.now c.come-answered.new.side c.args.log.now c.count.new.log (by_bytes c.args.at bytes)
     c.come-answered.result c.count.result c.come-answered.ensures.pair c.count.ensures.made c.count.ensures.most
     c.come-answered.ensures.received c.count.ensures.stands c.count.ensures.outcome)
