@@ -3,7 +3,8 @@
 
 A client with initial sequence number 100 opens a connection to a server with 200, and sends ten
 bytes at numbers that lie 2^30 apart, so that the extension reaches 2; then one segment that lies 2^31
-past the number expected, and the beginning of another one. The derivation and the MAC input are built
+past the number expected, and the beginning of another one. Behind an empty line, two connections of the
+same sockets, one after the other, beside one of another port. The derivation and the MAC input are built
 anew from RFC 5925 (sections 5.1 and 5.2) and RFC 5926 (section 3.1). The gate doesn't run it.
 """
 import hashlib
@@ -32,6 +33,22 @@ def segment(ends, ports, isns, number, acknowledgement, flags, payload=b""):
     return ip_header(*ends, 20 + len(options) + len(payload)) + header + options + payload
 
 
+def anew():
+    """A second connection of the same sockets, with ISNs of its own, while one of another port goes on."""
+    there, back = (ONE, TWO), (TWO, ONE)
+    turned, other, other_turned = (PORTS[1], PORTS[0]), (1001, PORTS[1]), (PORTS[1], 1001)
+    syn_ack = SYN + ACK
+    yield segment(back, turned, (200, 100), 200, 101, syn_ack)
+    yield segment(back, other_turned, (7, 9), 7, 10, syn_ack)
+    yield segment(there, PORTS, (100, 200), 101, 201, ACK, b"x")
+    yield segment(back, turned, (300, 1000), 300, 1001, syn_ack)
+    yield segment(there, PORTS, (100, 200), 102, 201, ACK, b"x")
+    yield segment(there, PORTS, (1000, 300), 1001, 301, ACK, b"x")
+    yield segment(back, turned, (300, 1000), 300, 1001, syn_ack)
+    yield segment(there, PORTS, (1000, 300), 1002, 301, ACK, b"x")
+    yield segment(there, other, (9, 7), 10, 8, ACK, b"x")
+
+
 def main():
     there, back = (ONE, TWO), (TWO, ONE)
     turned = (PORTS[1], PORTS[0])
@@ -41,6 +58,9 @@ def main():
         print(segment(there, PORTS, (100, 200), 101 + k * 2**30, 201, ACK, b"x").hex())
     print(segment(there, PORTS, (100, 200), 9663676518 + 2**31, 201, ACK, b"x").hex())
     print(segment(there, PORTS, (100, 200), 101, 201, ACK, b"x").hex()[:60])
+    print()
+    for made in anew():
+        print(made.hex())
 
 
 if __name__ == "__main__":

@@ -1,5 +1,5 @@
-//! Stored segments of a connection whose extension reaches 2, made by `bench/stored_segments.py`, a
-//! program on Python's `hmac` alone.
+//! Stored segments of a connection whose extension reaches 2, and of two connections of the same sockets,
+//! made by `bench/stored_segments.py`, a program on Python's `hmac` alone.
 ghost use Rattle.std.specs.Prelude.{◌≡◌, ◌<◌};
 
 use crate::{Checker, LineProblem, Stored, push_check_line, read_line};
@@ -48,6 +48,31 @@ const SAID: &str = "1 pass row 1 number 100 checksum good\n\
 13 refused bad-mac checksum good\n\
 14 bad truncated\n";
 
+/// Two connections of the same sockets, one after the other, beside one of another port: SYN with ACK of
+/// the first and of the other, a byte of the first, SYN with ACK of the second, a byte of the first and one
+/// of the second, that SYN with ACK again, and a byte of the second and of the other.
+const ANEW: [&str; 9] = [
+    "0 4500003800004000400626be0a0000020a00000107d003e8000000c80000006590120200b11300001d1000001f5d71ab36d7e281e733ed21",
+    "0 4500003800004000400626be0a0000020a00000107d003e9000000070000000a901202000a7700001d1000001711a35b02a316937fd7d2f4",
+    "0 4500003900004000400626bd0a0000010a00000203e807d000000065000000c990100200839500001d100000a50224117cc8c10206a726af78",
+    "0 4500003800004000400626be0a0000020a00000107d003e80000012c000003e990120200f9cc00001d100000b7819ffa004ddac3803f7f49",
+    "0 4500003900004000400626bd0a0000010a00000203e807d000000066000000c9901002006ccc00001d100000f6969daec7bcfad9e5b10e6f78",
+    "0 4500003900004000400626bd0a0000010a00000203e807d0000003e90000012d9010020091c900001d100000ab95f223453bd6d1e6f2815f78",
+    "0 4500003800004000400626be0a0000020a00000107d003e80000012c000003e990120200f9cc00001d100000b7819ffa004ddac3803f7f49",
+    "0 4500003900004000400626bd0a0000010a00000203e807d0000003ea0000012d90100200ae7100001d100000892d3171880594938c22a21578",
+    "0 4500003900004000400626bd0a0000010a00000203e907d00000000a0000000890100200fd4e00001d100000898401196ddf61ff28aa387078",
+];
+
+const SAID_ANEW: &str = "1 pass row 1 number 200 checksum good\n\
+2 pass row 1 number 7 checksum good\n\
+3 pass row 1 number 101 checksum good\n\
+4 pass row 1 number 300 checksum good\n\
+5 refused bad-mac checksum good\n\
+6 pass row 1 number 1001 checksum good\n\
+7 pass row 1 number 300 checksum good\n\
+8 pass row 1 number 1002 checksum good\n\
+9 pass row 1 number 10 checksum good\n";
+
 /// What a new checker of two nodes with one key says of the segments of these lines.
 fn heard<L: Ledger>(alloc: Global, blank: Blank, lines: &[&str]) -> Result<Vec<u8>, AllocError>
     requires name { blank.name ≡ L.name }
@@ -76,6 +101,13 @@ fn said(alloc: Global, lines: &[&str]) -> Result<Vec<u8>, AllocError> {
 fn the_extension_reaches_two(rt: HostRuntime) -> Result<(), Fail> {
     let out = said(rt.alloc(), LINES.as_slice())?;
     assert_eq!(rt; out.as_slice(), SAID.as_bytes());
+    Ok(())
+}
+
+#[test]
+fn a_second_connection_of_the_same_sockets(rt: HostRuntime) -> Result<(), Fail> {
+    let out = said(rt.alloc(), ANEW.as_slice())?;
+    assert_eq!(rt; out.as_slice(), SAID_ANEW.as_bytes());
     Ok(())
 }
 
