@@ -1,7 +1,6 @@
 -- An acknowledgement, by the phase.
-use Rattle.std.proofs.Common.{◌≡◌, ℕ, zero, suc, ◌+◌, ◌-◌, ◌^◌, ◌%◌, ◌<◌, ◌≤◌, Bool, true, false, not, ◌||◌, Option, Some, None, refl, sym, ap, ◌∙◌, arith, subst}
-use Rattle.std.specs.Prelude.{nat_lt, nat_le, ◌==◌, ◌&&◌, if◌then◌else◌, IfSome, IfNone, List}
-use Rattle.std.proofs.lemmas.Bool.Decides.{nat_tests}
+use Rattle.std.proofs.Common.{◌≡◌, ℕ, Bool, true, false, not, Option, refl, sym, ap, ◌∙◌, subst}
+use Rattle.std.specs.Prelude.{◌==◌, ◌&&◌, if◌then◌else◌, List}
 use Rattle.ao_base.specs.declared.address.Pair.{Pair}
 use Rattle.segment_model.specs.Meant.{meant}
 use Rattle.segment_model.specs.Segments.{Segment, has, SYN, RST, ACK}
@@ -13,25 +12,6 @@ use Rattle.endpoint_model.specs.declared.phase.Phase.TheVariants.{SynReceived, E
 use Rattle.endpoint_model.specs.States.{EndState}
 use Rattle.endpoint_model.specs.declared.arrival.Arrival.TheVariants as answers
 use Rattle.endpoint_model.specs.Arrivals as book
-
-high_of : (t u : Bool) (e ahead back m : ℕ) → nat_lt ahead 2147483648 ≡ t → (if t then Some (e + ahead) else (if u then Some (e - back) else None)) ≡ Some m → m ≤ e + 2147483648
-high_of true u e ahead back m t q = let r : e + ahead ≡ m = cc in grind (arith, nat_tests, r)
-high_of false true e ahead back m t q = let r : e - back ≡ m = cc in omega (arith, r)
-high_of false false e ahead back m t q = absurd (cc)
-
-meant_high : (seq e m : ℕ) → meant seq e ≡ Some m → m ≤ e + 2147483648
-unfolding meant
-meant_high seq e m q =
-    let ahead : ℕ = (seq + 4294967296 - e % 4294967296) % 4294967296 in
-    high_of (nat_lt ahead 2147483648) (nat_le (4294967296 - ahead) e) e ahead (4294967296 - ahead) m refl q
-
-none_near : (r : Option ℕ) (e : ℕ) → e ≤ 2 ^ 63 + 1 → ((m : ℕ) → r ≡ Some m → m ≤ e + 2147483648) → IfSome r (λ n. 2 ^ 64 ≤ n) → None ≡ r
-none_near None e h high big = refl
-none_near (Some m) e h high big = let l = high m refl in absurd (omega (arith, l, big, h))
-
-pub near_is : (r : Option ℕ) (seq e : ℕ) → e ≤ 2 ^ 63 + 1 → IfSome r (λ n. meant seq e ≡ Some n) → IfNone r (IfSome (meant seq e) (λ n. 2 ^ 64 ≤ n)) → r ≡ meant seq e
-near_is (Some n) seq e h some none = sym some
-near_is None seq e h some none = none_near (meant seq e) e h (meant_high seq e) none
 
 both : (a b : Bool) → a ≡ true → b ≡ false → (a && not b) ≡ true
 both a b p q = rw (p, q) refl

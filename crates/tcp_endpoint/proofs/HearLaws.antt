@@ -1,6 +1,6 @@
 -- Payload and FIN: what the buffer keeps is what the book keeps.
-use Rattle.std.proofs.Common.{◌≡◌, ℕ, zero, suc, ◌+◌, ◌-◌, ◌^◌, ◌<◌, ◌≤◌, ◌↔◌, min, max, Bool, true, false, not, ◌||◌, List, [], ◌∷◌, ◌++◌, length, take, drop, Option, Some, None, unwrap_or, refl, sym, ap, ◌∙◌, arith, rules, add-one, subst}
-use Rattle.std.specs.Prelude.{nat_lt, nat_le, ◌==◌, ◌&&◌, if◌then◌else◌, slice_get, is_some, IsSome, IsTrue}
+use Rattle.std.proofs.Common.{◌≡◌, ℕ, ◌+◌, ◌-◌, ◌^◌, ◌<◌, ◌≤◌, ◌↔◌, min, Bool, true, false, not, length, Option, Some, None, refl, sym, ap, ◌∙◌, arith, subst}
+use Rattle.std.specs.Prelude.{nat_lt, nat_le, ◌==◌, ◌&&◌, if◌then◌else◌, is_some, IsSome, IsTrue}
 use Rattle.std.proofs.lemmas.Bool.Decides.{nat_tests}
 use Rattle.segment_model.specs.Segments.{Segment, has, FIN}
 use Rattle.endpoint_model.specs.declared.phase.Phase.{Phase}
@@ -8,7 +8,7 @@ use Rattle.endpoint_model.specs.declared.phase.Phase.TheVariants.{Listen, SynSen
 use Rattle.endpoint_model.specs.States as states
 use Rattle.endpoint_model.specs.Arrivals as book
 use Rattle.segment_model.specs.Received.{keep, first_missing, runs, below_limit}
-use Rattle.stream_buffers.specs.Kept.{Kept, IsKept, Shows, byte_at, grown, ready_count, window, missing_then, runs_then}
+use Rattle.stream_buffers.specs.Kept.{Kept, IsKept, Shows, byte_at, grown, window, missing_then, runs_then}
 use Rattle.endpoint_model.specs.declared.arrival.Arrival.{Arrival}
 use Rattle.endpoint_model.specs.declared.arrival.Arrival.TheVariants as answers
 use Rattle.tcp_endpoint.specs.declared.endpoint.Endpoint.{Endpoint}

@@ -1,5 +1,5 @@
--- What a pass says of a segment before the peer is known, and sockets that are compared.
-use Rattle.std.proofs.Common.{◌≡◌, ℕ, ◌+◌, ◌<◌, ◌≤◌, ◌^◌, Bool, true, false, not, ◌||◌, List, [], ◌∷◌, length, Option, Some, None, refl, sym, ap, ◌∙◌, arith, subst}
+-- What a pass says of a segment's number, and sockets that are compared.
+use Rattle.std.proofs.Common.{◌≡◌, ℕ, ◌+◌, Bool, true, false, not, List, [], ◌∷◌, length, Option, Some, None, refl, sym, ap, ◌∙◌, arith, subst}
 use Rattle.std.specs.Prelude.{nat_lt, ◌==◌, ◌&&◌, if◌then◌else◌, is_some, ⊤}
 use Rattle.std.proofs.lemmas.Bool.Decides.{nat_tests}
 use Rattle.ao_base.specs.declared.address.Address.{Address}
@@ -7,6 +7,7 @@ use Rattle.ao_base.specs.declared.address.Address.TheVariants.{V4, V6}
 use Rattle.ao_base.specs.declared.address.Socket.{Socket}
 use Rattle.ao_base.specs.declared.address.Pair.{Pair}
 use Rattle.segment_model.specs.Bytes.{same_bytes}
+use Rattle.segment_model.specs.Meant.{meant}
 use Rattle.segment_model.specs.Sockets.{same_address, same_socket}
 use Rattle.segment_model.specs.Options.{Ao, AoFound, Absent, One, Two, WithMd5 as FoundMd5, find_ao}
 use Rattle.segment_model.specs.Segments.{Segment, has, SYN, segment_length}
@@ -23,34 +24,58 @@ choose : {X : Type 0} (P : X → Type 0) (b : Bool) (x y : X) → (b ≡ true �
 choose P true x y f g = f refl
 choose P false x y f g = g refl
 
--- where it passes, its number is its sequence
-abbrev pub Numbers : Segment → v.Judgement → Type 0
-Numbers d (v.Refuse why) = ⊤
-Numbers d (v.Admit p) = p.number ≡ d.sequence
+-- where it passes, its number is that one
+abbrev pub Numbers : Option ℕ → v.Judgement → Type 0
+Numbers m (v.Refuse why) = ⊤
+Numbers m (v.Admit p) = m ≡ Some p.number
 
-numbers_context : (r : Numbered) (d : Segment) (ao : Ao) (c : Option (List ℕ)) → Numbers d (v.judge_context r d ao None c)
-numbers_context r d ao None = tt
-numbers_context r d ao (Some c) =
-    choose (Numbers d) (not (has SYN d) && not (is_some {T = ℕ} None)) (v.Refuse refusals.NoContext) (v.judge_number r d ao c (v.number_of d None)) (λ t. tt)
-    (λ t. choose (Numbers d) (nat_lt 9223372036854775808 (d.sequence + segment_length d)) (v.Refuse refusals.Range) (v.judge_mac ao (v.found_with r d ao c d.sequence)) (λ u. tt)
-    (λ u. choose (Numbers d) (same_bytes ao.mac (v.mac_of (v.found_with r d ao c d.sequence))) (v.Admit (v.found_with r d ao c d.sequence)) (v.Refuse refusals.BadMac) (λ w. refl) (λ w. tt)))
+numbers_found : (r : Numbered) (d : Segment) (ao : Ao) (c : List ℕ) (m : Option ℕ) → Numbers m (v.judge_number r d ao c m)
+numbers_found r d ao c None = tt
+numbers_found r d ao c (Some n) =
+    choose (Numbers (Some n)) (nat_lt 9223372036854775808 (n + segment_length d)) (v.Refuse refusals.Range) (v.judge_mac ao (v.found_with r d ao c n)) (λ u. tt)
+    (λ u. choose (Numbers (Some n)) (same_bytes ao.mac (v.mac_of (v.found_with r d ao c n))) (v.Admit (v.found_with r d ao c n)) (v.Refuse refusals.BadMac) (λ w. refl) (λ w. tt))
 
-numbers_row : (rows : List Row) (pair : Pair) (d : Segment) (ao : Ao) (c : Option (List ℕ)) (r : Option Numbered) → Numbers d (v.judge_row rows pair d ao None c r)
-numbers_row rows pair d ao c None = choose (Numbers d) (has_id rows pair ao.key_id) (v.Refuse refusals.Expired) (v.Refuse refusals.NoTuple) (λ t. tt) (λ t. tt)
-numbers_row rows pair d ao c (Some r) = choose (Numbers d) (not (length ao.mac == mac_length_of r.row.algorithm)) (v.Refuse refusals.MacLength) (v.judge_context r d ao None c) (λ t. tt) (λ t. numbers_context r d ao c)
+numbers_context : (r : Numbered) (d : Segment) (ao : Ao) (expected : Option ℕ) (c : Option (List ℕ)) → Numbers (v.number_of d expected) (v.judge_context r d ao expected c)
+numbers_context r d ao expected None = tt
+numbers_context r d ao expected (Some c) =
+    choose (Numbers (v.number_of d expected)) (not (has SYN d) && not (is_some expected)) (v.Refuse refusals.NoContext) (v.judge_number r d ao c (v.number_of d expected)) (λ t. tt)
+    (λ t. numbers_found r d ao c (v.number_of d expected))
 
-numbers_ao : (rows : List Row) (pair : Pair) (now : ℕ) (d : Segment) (c : Option (List ℕ)) (f : AoFound) → Numbers d (v.judge_ao rows pair now None d c f)
-numbers_ao rows pair now d c Absent = tt
-numbers_ao rows pair now d c Two = tt
-numbers_ao rows pair now d c FoundMd5 = tt
-numbers_ao rows pair now d c (One ao) = numbers_row rows pair d ao c (accept_row rows pair ao.key_id now)
+numbers_row : (rows : List Row) (pair : Pair) (d : Segment) (ao : Ao) (expected : Option ℕ) (c : Option (List ℕ)) (r : Option Numbered)
+    → Numbers (v.number_of d expected) (v.judge_row rows pair d ao expected c r)
+numbers_row rows pair d ao expected c None =
+    choose (Numbers (v.number_of d expected)) (has_id rows pair ao.key_id) (v.Refuse refusals.Expired) (v.Refuse refusals.NoTuple) (λ t. tt) (λ t. tt)
+numbers_row rows pair d ao expected c (Some r) =
+    choose (Numbers (v.number_of d expected)) (not (length ao.mac == mac_length_of r.row.algorithm)) (v.Refuse refusals.MacLength) (v.judge_context r d ao expected c) (λ t. tt)
+    (λ t. numbers_context r d ao expected c)
 
-numbers : (rows : List Row) (pair : Pair) (own : ℕ) (peer : Option ℕ) (now : ℕ) (d : Segment) → Numbers d (v.judge rows pair own peer None now d)
+numbers_ao : (rows : List Row) (pair : Pair) (now : ℕ) (d : Segment) (expected : Option ℕ) (c : Option (List ℕ)) (f : AoFound)
+    → Numbers (v.number_of d expected) (v.judge_ao rows pair now expected d c f)
+numbers_ao rows pair now d expected c Absent = tt
+numbers_ao rows pair now d expected c Two = tt
+numbers_ao rows pair now d expected c FoundMd5 = tt
+numbers_ao rows pair now d expected c (One ao) = numbers_row rows pair d ao expected c (accept_row rows pair ao.key_id now)
+
+numbers : (rows : List Row) (pair : Pair) (own : ℕ) (peer expected : Option ℕ) (now : ℕ) (d : Segment) → Numbers (v.number_of d expected) (v.judge rows pair own peer expected now d)
 unfolding v.judge
-numbers rows pair own peer now d = numbers_ao rows pair now d (context_of d peer (Some own)) (find_ao d.area)
+numbers rows pair own peer expected now d = numbers_ao rows pair now d expected (context_of d peer (Some own)) (find_ao d.area)
 
+some_is : (a b : ℕ) → Some a ≡ Some b → b ≡ a
+some_is a b e = cc
+
+-- before the peer is known a segment's number is its sequence
 pub number_first : (rows : List Row) (pair : Pair) (own : ℕ) (peer : Option ℕ) (now : ℕ) (d : Segment) (p : v.Finding) → v.judge rows pair own peer None now d ≡ v.Admit p → p.number ≡ d.sequence
-number_first rows pair own peer now d p e = subst (Numbers d) e (numbers rows pair own peer now d)
+number_first rows pair own peer now d p e = some_is d.sequence p.number (subst (Numbers (v.number_of d None)) e (numbers rows pair own peer None now d))
+
+second_of : {X : Type 0} (b : Bool) (x y z : X) → b ≡ false → (if b then x else y) ≡ z → y ≡ z
+second_of true x y z t e = absurd (cc)
+second_of false x y z t e = e
+
+-- then, without SYN, it is the one that the sequence means
+pub number_near : (rows : List Row) (pair : Pair) (own : ℕ) (peer : Option ℕ) (x now : ℕ) (d : Segment) (p : v.Finding) → v.judge rows pair own peer (Some x) now d ≡ v.Admit p → has SYN d ≡ false
+    → meant d.sequence x ≡ Some p.number
+number_near rows pair own peer x now d p e syn =
+    second_of (has SYN d) (Some d.sequence) (meant d.sequence x) (Some p.number) syn (subst (Numbers (v.number_of d (Some x))) e (numbers rows pair own peer (Some x) now d))
 
 -- ---- sockets
 

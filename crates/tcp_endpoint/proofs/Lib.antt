@@ -1,6 +1,7 @@
 pub mod ReadyLaws
 pub mod StreamLaws
 pub mod HearLaws
+pub mod RingLaws
 pub mod AckLaws
 pub mod PhaseLaws
 pub mod JudgeLaws

@@ -1,8 +1,8 @@
 -- An arrival that the check judged.
-use Rattle.std.proofs.Common.{◌≡◌, ℕ, ◌+◌, ◌<◌, ◌≤◌, Bool, true, false, not, List, Option, Some, None, refl, sym, ap, ◌∙◌, subst}
-use Rattle.std.specs.Prelude.{◌&&◌, if◌then◌else◌, is_some, ⊤}
+use Rattle.std.proofs.Common.{◌≡◌, ℕ, Bool, true, false, not, List, Option, Some, None, refl, sym, ap, ◌∙◌, subst}
+use Rattle.std.specs.Prelude.{if◌then◌else◌, is_some}
 use Rattle.ao_base.specs.declared.address.Pair.{Pair}
-use Rattle.segment_model.specs.Segments.{Segment, Reading, Read, reading, good, has}
+use Rattle.segment_model.specs.Segments.{Segment, Read, reading, good}
 use Rattle.key_model.specs.Rows.{Row}
 use Rattle.endpoint_model.specs.States as states
 use Rattle.endpoint_model.specs.Verdicts as v

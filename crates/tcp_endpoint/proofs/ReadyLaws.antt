@@ -1,5 +1,5 @@
 -- What an end shows of the state that it stands for.
-use Rattle.std.proofs.Common.{◌≡◌, ℕ, zero, suc, ◌+◌, ◌-◌, ◌<◌, ◌≤◌, min, max, Bool, true, false, not, ◌||◌, List, [], ◌∷◌, ◌++◌, length, take, drop, Option, Some, None, unwrap_or, refl, sym, ap, ◌∙◌, arith, rules, add-one, length-append}
+use Rattle.std.proofs.Common.{◌≡◌, ℕ, zero, suc, ◌+◌, ◌-◌, ◌≤◌, min, Bool, true, false, ◌||◌, List, [], ◌∷◌, ◌++◌, length, take, drop, Option, Some, None, unwrap_or, refl, sym, ap, ◌∙◌, arith, length-append}
 use Rattle.std.proofs.lemmas.Bool.Decides.{nat_tests}
 use Rattle.std.specs.Prelude.{nat_lt, nat_le, is_some, ◌==◌, ◌&&◌, if◌then◌else◌}
 use Rattle.endpoint_model.specs.declared.phase.Phase.{Phase}
@@ -8,7 +8,7 @@ use Rattle.endpoint_model.specs.States as book
 use Rattle.segment_model.specs.Received.{below_limit, bytes_from}
 use Rattle.stream_buffers.specs.Kept.{Kept, Shows, byte_at, forgotten_below, ready_count, window}
 use Rattle.tcp_endpoint.specs.declared.endpoint.Endpoint.{Endpoint}
-use Rattle.tcp_endpoint.specs.Halves.{fin_gone, fin_made, waits}
+use Rattle.tcp_endpoint.specs.Halves.{fin_gone, fin_made, knows, waits}
 use Rattle.tcp_endpoint.specs.Numbers.{expected_in, fin_in}
 use Rattle.tcp_endpoint.specs.declared.sequence.Received.{Received}
 use Rattle.tcp_endpoint.specs.Ends.{Stands}
@@ -159,6 +159,22 @@ nothing_recorded (Some r) e = absurd (cc)
 
 pub nothing_known : (e : Endpoint) → waits e.phase ≡ true → is_some e.sequence.received ≡ false
 nothing_known e w = e.receives.same ∙ ap is_some (e.receives.unknown w)
+
+knowing : (p : Phase) → waits p ≡ false → book.is_closed p ≡ false → knows p ≡ true
+knowing Listen w a = absurd (cc)
+knowing SynSent w a = absurd (cc)
+knowing SynReceived w a = refl
+knowing Established w a = refl
+knowing FinWait1 w a = refl
+knowing FinWait2 w a = refl
+knowing CloseWait w a = refl
+knowing Closing w a = refl
+knowing LastAck w a = refl
+knowing TimeWait w a = refl
+knowing Closed w a = absurd (cc)
+
+pub something_known : (e : Endpoint) → waits e.phase ≡ false → book.is_closed e.phase ≡ false → is_some e.sequence.received ≡ true
+something_known e w a = e.receives.same ∙ e.receives.known (knowing e.phase w a)
 
 limit_zero : (fin : Option ℕ) (x : ℕ) → fin ≡ None → x ≡ 0 → below_limit fin x ≡ 0
 limit_zero None x e f = f

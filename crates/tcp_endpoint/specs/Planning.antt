@@ -1,5 +1,5 @@
 -- A plan as the draft of a segment.
-use Rattle.std.specs.Prelude.{◌≡◌, ℕ, ◌+◌, ◌-◌, ◌<◌, ◌≤◌, min, Bool, true, false, List, take, drop, Option, Some, None, is_some, ⊤}
+use Rattle.std.specs.Prelude.{◌≡◌, ℕ, ◌+◌, ◌-◌, ◌<◌, ◌≤◌, min, true, List, take, drop, Option, Some, None, is_some, ⊤}
 use Rattle.wrap_seq.specs.Counter.{number}
 use Rattle.segment_model.specs.Segments.{FIN, SYN, RST, PSH, ACK}
 use Rattle.endpoint_model.specs.States.{EndState}

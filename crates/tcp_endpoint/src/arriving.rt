@@ -1,9 +1,9 @@
 //! A segment that passed the check.
 ghost use Rattle.std.specs.Prelude.{◌≡◌, ◌+◌, ◌-◌, ◌≤◌, ◌<◌, ◌^◌, ◌==◌, ◌&&◌, ◌||◌, not, nat_le};
 ghost use Rattle.std.specs.Prelude.{nat_lt, ℕ, List, Option, Some, None, true, false, is_some, length, if◌then◌else◌};
-ghost use Rattle.wrap_seq.specs.Counter.{number};
+ghost use Rattle.wrap_seq.specs.Counter.{number as value_of};
 ghost use Rattle.segment_model.specs.Meant.{meant};
-ghost use Rattle.segment_model.specs.Segments.{has, FIN, segment_length};
+ghost use Rattle.segment_model.specs.Segments.{has, FIN, SYN};
 ghost use Rattle.key_model.specs.Rows.{Row};
 ghost use Rattle.endpoint_model.specs.States.{EndState, is_closed};
 ghost use Rattle.endpoint_model.specs.Arrivals as book;
@@ -17,48 +17,13 @@ use crate::endpoint::Endpoint;
 use crate::flags::{ACK, FIN, RST, SYN, has};
 use crate::phases::hears;
 use crate::sequence::Received;
+use crate::windows::is_acceptable;
 use ao_base::Steps;
 use endpoint_model::{Arrival, Phase};
 use key_table::Table;
 use std::sync::ledger::Ledger;
 use tcp_segment::Datagram;
-use wrap_seq::extend;
-
-/// Whether a number is from `low` to below `high`.
-fn is_within(number: u64, low: u64, high: u64) -> bool
-    ensures { result ≡ book.within number low high }
-{
-    low <= number && number < high
-}
-
-/// Whether a segment at a number, of a length, is acceptable where `expected` is the number expected and `window` may
-/// be received (RFC 9293, section 3.4).
-fn is_acceptable(number: u64, length: u64, expected: u64, window: u64) -> bool
-    requires expected { expected + window < 2 ^ 64 }
-    requires end { number + length < 2 ^ 64 }
-    ensures { result ≡ book.fits_window number length expected window }
-{
-    if length == 0 {
-        if window == 0 {
-            return number == expected;
-        }
-        return is_within(number, expected, expected + window);
-    }
-    if window == 0 {
-        return false;
-    }
-    is_within(number, expected, expected + window)
-        || is_within(number + (length - 1), expected, expected + window)
-}
-
-/// How many numbers a segment takes (RFC 9293, section 3.4).
-fn length_of(datagram: &Datagram<'_>) -> u64
-    ensures length { result ≡ segment_length datagram.now }
-    ensures most { result ≤ 65537 }
-{
-    let payload = datagram.payload().len() as u64;
-    payload + u64::from(has(datagram, SYN)) + u64::from(has(datagram, FIN))
-}
+use wrap_seq::{Counter, ahead};
 
 /// Whether a segment carries payload or a FIN.
 fn carries(datagram: &Datagram<'_>) -> bool
@@ -77,21 +42,23 @@ fn is_above(number: Option<u64>, bound: u64) -> bool
     }
 }
 
-/// The number that an acknowledgement means near the oldest one that isn't acknowledged.
-fn acknowledged_by(acknowledgement: u32, una: u64) -> Option<u64>
-    requires { una ≤ 2 ^ 63 + 1 }
-    ensures { result ≡ meant acknowledgement una }
+/// The number that an acknowledgement means near the oldest one that isn't acknowledged: as far
+/// from that as their low halves are around the ring. `None` is below 0.
+fn acknowledged_by(acknowledgement: u32, una: Counter) -> Option<u64>
+    requires { value_of una ≤ 2 ^ 63 + 1 }
+    ensures { result ≡ meant acknowledgement (value_of una) }
 {
-    extend(acknowledgement, una)
+    una.value()
+        .checked_add_signed(ahead(acknowledgement, una.low))
 }
 
 /// The number expected next; 0 while nothing is known of the peer.
-fn expected_in(received: Option<Received>) -> u64
-    ensures { result ≡ expected_in received }
+fn expected_in(received: Option<Received>) -> Counter
+    ensures { value_of result ≡ expected_in received }
 {
     match received {
-        Some(received) => received.expected.value(),
-        None => 0,
+        Some(received) => received.expected,
+        None => Counter::of(0),
     }
 }
 
@@ -144,7 +111,7 @@ impl Endpoint {
         ensures steps { steps.new ≤ steps.old + 65 }
     {
         let una = self.sequence.una.value();
-        let acknowledged = acknowledged_by(datagram.acknowledgement(), una);
+        let acknowledged = acknowledged_by(datagram.acknowledgement(), self.sequence.una);
         let past = is_above(acknowledged, self.sequence.next.value());
         match self.phase {
             Phase::SynReceived => {
@@ -192,7 +159,7 @@ impl Endpoint {
         ensures steps { steps.new ≤ steps.old + 65 }
     {
         if has(datagram, RST) {
-            if number == expected_in(self.sequence.received) {
+            if number == expected_in(self.sequence.received).value() {
                 self.phase = Phase::Closed;
                 return Arrival::Reset;
             }
@@ -211,7 +178,8 @@ impl Endpoint {
     }
 
     /// A segment that passed, by the phase (RFC 9293, sections 3.10.7.2 to 3.10.7.4). Before the
-    /// peer's initial sequence number is known its number is its sequence.
+    /// peer's initial sequence number is known its number is its sequence; then, without SYN, the
+    /// one that its sequence means near the number expected.
     pub(crate) fn hear<L: Ledger>(
         &mut self,
         table: &Table,
@@ -224,6 +192,8 @@ impl Endpoint {
         requires alive { is_closed self.old.phase ≡ false }
         requires range { InRange datagram.now number }
         requires number { waits self.old.phase ≡ true → number ≡ datagram.now.sequence }
+        requires near { waits self.old.phase ≡ false → has SYN datagram.now ≡ false
+            → meant datagram.now.sequence (expected_in self.old.sequence.received) ≡ Some number }
         requires now { now < 2 ^ 63 }
         ensures reaches { (s : EndState) → Stands self.old s
             → Reaches self.new result (book.after_check self.old.pair s
@@ -238,8 +208,8 @@ impl Endpoint {
             Phase::SynSent => self.hear_syn_ack(table, datagram, rnext, now),
             _ => {
                 let expected = expected_in(self.sequence.received);
-                let window = u64::from(self.reassembly.window());
-                if !is_acceptable(number, length_of(datagram), expected, window) {
+                let window = self.reassembly.window();
+                if !is_acceptable(datagram, number, expected, window) {
                     self.owe_unless(has(datagram, RST));
                     return Arrival::Window;
                 }

@@ -30,6 +30,7 @@ mod sequence;
 mod taking;
 #[cfg(test)]
 mod tests;
+mod windows;
 
 pub use arrival::Arrived;
 pub use emission::{Emission, Made, Resent};

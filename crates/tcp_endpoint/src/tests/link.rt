@@ -100,17 +100,31 @@ pub(super) enum Side {
 }
 
 impl<L: Ledger> Link<L> {
-    /// Two ends that know both initial sequence numbers, 100 and 200.
-    pub(super) fn started(alloc: Global, blank: Blank) -> Result<Link<L>, Fail>
+    /// Two ends that know both initial sequence numbers.
+    pub(super) fn between(
+        alloc: Global,
+        blank: Blank,
+        of_a: u32,
+        of_b: u32,
+    ) -> Result<Link<L>, Fail>
         requires name { blank.name ≡ L.name }
         requires parts { blank.parts ≡ L.parts }
         requires part { 0 < blank.parts }
     {
         let steps = Steps::<L>::new(blank);
         let table = one_row(alloc)?;
-        let a = Endpoint::start(alloc, &table, AT_A, 100, 200)?;
-        let b = Endpoint::start(alloc, &table, AT_B, 200, 100)?;
+        let a = Endpoint::start(alloc, &table, AT_A, of_a, of_b)?;
+        let b = Endpoint::start(alloc, &table, AT_B, of_b, of_a)?;
         Ok(Link { table, a, b, steps })
+    }
+
+    /// Two ends that know both initial sequence numbers, 100 and 200.
+    pub(super) fn started(alloc: Global, blank: Blank) -> Result<Link<L>, Fail>
+        requires name { blank.name ≡ L.name }
+        requires parts { blank.parts ≡ L.parts }
+        requires part { 0 < blank.parts }
+    {
+        Link::<L>::between(alloc, blank, 100, 200)
     }
 
     /// Two ends before their handshake, whose initial sequence numbers are just below 2^32.

@@ -1,12 +1,9 @@
-use Rattle.std.proofs.Common.{◌≡◌, ℕ, ◌+◌, ◌≤◌, true, false, Option, Some, None, refl, sym, ap, ◌∙◌, subst, arith}
-use Rattle.segment_model.specs.Segments.{Read, reading}
+use Rattle.std.proofs.Common.{◌≡◌, Some, refl, sym, ap, ◌∙◌, subst, arith}
 use Rattle.endpoint_model.specs.Verdicts as v
-use Rattle.endpoint_model.specs.Arrivals as book
 use Rattle.ao_check.specs.Verdicts.{Names}
-use Rattle.tcp_endpoint.specs.Ends.{Stands}
-use Rattle.tcp_endpoint.specs.Arriving.{Arrives}
-use Rattle.tcp_endpoint.proofs.ReadyLaws.{nothing_known}
-use Rattle.tcp_endpoint.proofs.JudgeLaws.{number_first}
+use Rattle.tcp_endpoint.specs.Numbers.{expected_in}
+use Rattle.tcp_endpoint.proofs.ReadyLaws.{nothing_known, something_known}
+use Rattle.tcp_endpoint.proofs.JudgeLaws.{number_first, number_near}
 use Rattle.tcp_endpoint.proofs.PassLaws.{arrives_pass, arrives_refused, refused_by, judged_is, rnext_is, number_is}
 use Rattle.tcp_endpoint.proofs.endpoint.Endpoint.arrive.Goals as goal
 
@@ -73,6 +70,16 @@ hear-arrival-requires-clause-number g c = λ w.
     let none = c.expected_of-expected.ensures.none (nothing_known e w) in
     let pass = subst (λ x. v.judge c.args.table.now.rows e.association.pair e.association.own e.association.peer x c.args.now d ≡ v.Admit told.0) none told.1 in
     number_is c.args.table.now.rows e.association.pair d c.in-Pass.passed told.0 told.2 ∙ number_first c.args.table.now.rows e.association.pair e.association.own e.association.peer c.args.now d told.0 pass
+
+pub hear-arrival-requires-clause-near : goal.hear-arrival-requires-clause-near
+hear-arrival-requires-clause-near g c = λ begun syn.
+    let e = c.args.self.now in
+    let d = c.in-Ok.datagram in
+    let rows = c.args.table.now.rows in
+    let told = c.in-Pass.ensures.verdict in
+    let some = c.expected_of-expected.ensures.some (something_known e begun (sym c.if-is_closed.ensures)) in
+    let pass = subst (λ x. v.judge rows e.association.pair e.association.own e.association.peer x c.args.now d ≡ v.Admit told.0) some told.1 in
+    number_near rows e.association.pair e.association.own e.association.peer (expected_in e.sequence.received) c.args.now d told.0 pass syn ∙ ap Some (sym (number_is rows e.association.pair d c.in-Pass.passed told.0 told.2))
 
 pub returns-clause-arrives : goal.returns-clause-arrives
 returns-clause-arrives g c = λ s h.

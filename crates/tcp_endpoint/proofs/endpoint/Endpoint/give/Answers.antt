@@ -1,7 +1,6 @@
-use Rattle.std.proofs.Common.{◌≡◌, ℕ, ◌+◌, ◌-◌, ◌≤◌, ◌<◌, ◌++◌, min, Bool, true, false, length, refl, sym, ap, ◌∙◌, arith, rules, length-append}
+use Rattle.std.proofs.Common.{◌≡◌, ◌+◌, ◌-◌, ◌≤◌, ◌++◌, false, length, sym, ap, ◌∙◌, arith, rules, length-append}
 use Rattle.std.proofs.lemmas.List.{drop-append-le}
 use Rattle.endpoint_model.specs.States.{room}
-use Rattle.tcp_endpoint.specs.Ends.{Stands}
 use Rattle.tcp_endpoint.proofs.ReadyLaws.{room_is, una_given, gives_true, offered_is}
 use Rattle.tcp_endpoint.proofs.endpoint.Endpoint.give.Goals as goal
 

@@ -1,4 +1,4 @@
-use Rattle.std.proofs.Common.{◌≡◌, ℕ, true, false, refl, sym, ap, ◌∙◌, subst}
+use Rattle.std.proofs.Common.{sym, subst}
 use Rattle.endpoint_model.specs.Arrivals as book
 use Rattle.tcp_endpoint.specs.Arriving.{Reaches}
 use Rattle.tcp_endpoint.proofs.AckLaws.{ordinary_ack, current_heard}

@@ -1,6 +1,7 @@
-use Rattle.std.proofs.Common.{◌≡◌, ℕ, true, false, refl, sym, ap, ◌∙◌, subst}
+use Rattle.std.proofs.Common.{◌≡◌, refl, sym, ap, ◌∙◌, subst}
 use Rattle.segment_model.specs.Meant.{meant}
-use Rattle.endpoint_model.specs.declared.phase.Phase.TheVariants.{Established, SynReceived}
+use Rattle.wrap_seq.specs.Counter.{number}
+use Rattle.endpoint_model.specs.declared.phase.Phase.TheVariants.{Established}
 use Rattle.endpoint_model.specs.Arrivals as book
 use Rattle.tcp_endpoint.specs.Arriving.{Reaches}
 use Rattle.tcp_endpoint.proofs.AckLaws.{syn_acked}
@@ -11,7 +12,7 @@ returns-else-past-clause-reaches g c = λ s h.
     let a = c.acknowledged_by-acknowledged.result in
     let k = c.acknowledge.ensures.stands s h in
     let is : a ≡ meant c.args.datagram.now.acknowledgement s.una =
-    c.acknowledged_by-acknowledged.ensures ∙ ap (λ z. meant z c.value-una.result) c.acknowledgement.ensures ∙ ap (λ z. meant c.args.datagram.now.acknowledgement z) (c.value-una.ensures ∙ h.una) in
+    c.acknowledged_by-acknowledged.ensures ∙ ap (λ z. meant z (number c.args.self.now.sequence.una)) c.acknowledgement.ensures ∙ ap (λ z. meant c.args.datagram.now.acknowledgement z) h.una in
     let go = c.go_on.ensures.reaches (record (book.acked s a) { phase = Established })
     (record {
       phase = refl;

@@ -1,4 +1,4 @@
-use Rattle.std.proofs.Common.{◌≡◌, ℕ, None, refl, sym, ap, ◌∙◌, rules}
+use Rattle.std.proofs.Common.{refl, ap, ◌∙◌, rules}
 use Rattle.tcp_endpoint.proofs.endpoint.Endpoint.start.Goals as goal
 
 pub returns-clause-stands : goal.returns-clause-stands
