@@ -49,7 +49,7 @@ fn verdict_word(verdict: Verdict) -> &'static [u8]
 }
 
 /// Puts the texts of an answer to an arrival behind `out`, a space in front of each.
-pub(crate) fn push_answer(out: &mut Vec<u8>, arrival: Arrival) -> Result<(), AllocError>
+pub fn push_answer(out: &mut Vec<u8>, arrival: Arrival) -> Result<(), AllocError>
     ensures { OnOk result (out.new.items ≡ out.old.items ++ spaced (answer_texts arrival)) }
 {
     match arrival {

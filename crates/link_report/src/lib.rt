@@ -8,5 +8,6 @@ mod summary;
 #[cfg(test)]
 mod tests;
 
-pub use outcome::{Outcome, push_outcomes};
+pub use arrival::push_answer;
+pub use outcome::{Outcome, flags_word, push_details, push_outcomes, push_took};
 pub use summary::push_summary;

@@ -55,8 +55,8 @@ pub enum Outcome {
     NoRow,
 }
 
-/// S, SA, AP, AF, A or R.
-fn flags_word(flags: u8) -> &'static [u8]
+/// The word for the flags of a segment: S, SA, AP, AF, A or R.
+pub fn flags_word(flags: u8) -> &'static [u8]
     ensures { result.now ≡ flags_text flags }
 {
     match flags {
@@ -89,8 +89,9 @@ fn push_name(out: &mut Vec<u8>, name: u32, made: &Made) -> Result<(), AllocError
     push_field(out, b"seq", made.number)
 }
 
-/// Puts what a segment acknowledges, how much it carries and its two ids behind `out`.
-fn push_rest(out: &mut Vec<u8>, made: &Made) -> Result<(), AllocError>
+/// Puts what a segment acknowledges, how much it carries and its two ids behind `out`, a space in front
+/// of each word.
+pub fn push_details(out: &mut Vec<u8>, made: &Made) -> Result<(), AllocError>
     ensures { OnOk result (out.new.items ≡ out.old.items
         ++ spaced (codes "ack" ∷ number_text made.now.ack ∷ codes "len" ∷ decimal made.now.payload ∷ codes "key" ∷ decimal made.now.sending.key_id
         ∷ codes "next" ∷ decimal made.now.sending.rnext ∷ [])) }
@@ -110,7 +111,7 @@ fn push_made(out: &mut Vec<u8>, name: u32, made: &Made) -> Result<(), AllocError
         ∷ codes "next" ∷ decimal made.now.sending.rnext ∷ [])) }
 {
     push_name(out, name, made)?;
-    push_rest(out, made)?;
+    push_details(out, made)?;
     Ok(())
 }
 
@@ -135,7 +136,7 @@ fn push_mark(out: &mut Vec<u8>, end_shown: bool) -> Result<(), AllocError>
 }
 
 /// Puts the words of bytes that were taken behind `out`, and whether the end of the stream is reached.
-fn push_took(out: &mut Vec<u8>, bytes: &[u8], end_shown: bool) -> Result<(), AllocError>
+pub fn push_took(out: &mut Vec<u8>, bytes: &[u8], end_shown: bool) -> Result<(), AllocError>
     ensures { OnOk result (out.new.items ≡ out.old.items ++ spaced (outcome_texts (book.Took bytes.now end_shown))) }
 {
     push_text(out, b"took")?;

@@ -1,0 +1,4 @@
+pub mod ActLaws
+pub mod HoldLaws
+pub mod StepLaws
+pub mod RunLaws

@@ -1,0 +1,4 @@
+pub mod Acting
+pub mod Answers
+pub mod Nodes
+pub mod Telling

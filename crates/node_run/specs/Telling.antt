@@ -1,0 +1,38 @@
+-- What the answers of a run stand for.
+use Rattle.std.specs.Prelude.{◌≡◌, ℕ, List, length, take}
+use Rattle.segment_model.specs.Segments.{spell}
+use Rattle.key_coordination.specs.Sendings.{told}
+use Rattle.endpoint_model.specs.Emissions.{Emission}
+use Rattle.format_model.specs.NodeRuns as book
+use Rattle.tcp_endpoint.specs.declared.emission.Made.{Made}
+use Rattle.node_run.specs.declared.told.Told.{Told}
+use Rattle.node_run.specs.declared.told.Told.TheVariants as tells
+
+-- the segment stands in front of the buffer, and its line is told
+pub record TellsMade (room : List ℕ) (m : Made) (e : Emission) : Type 0 where
+  pub bytes : take m.length room ≡ spell e.segment
+  pub sending : m.sending ≡ told e.sending
+  pub number : m.number ≡ e.number
+  pub ack : m.ack ≡ e.acknowledged
+  pub flags : m.flags ≡ e.flags
+  pub payload : m.payload ≡ length e.segment.payload
+
+-- the answer is this one of the definitions
+abbrev pub Tells : List ℕ → Told → book.NodeOutcome → Type 0
+Tells room tells.Done o = o ≡ book.Done
+Tells room tells.InUse o = o ≡ book.InUse
+Tells room tells.NodeFull o = o ≡ book.NodeFull
+Tells room tells.NoConnection o = o ≡ book.NoConnection
+Tells room tells.Full o = o ≡ book.Full
+Tells room tells.Closed o = o ≡ book.HasClosed
+Tells room (tells.Sent m) o = (e : Emission) × (o ≡ book.Sent e) × TellsMade room m e
+Tells room tells.NoKey o = o ≡ book.WithoutKey
+Tells room tells.Idle o = o ≡ book.Idle
+Tells room tells.Nothing o = o ≡ book.Nothing
+Tells room (tells.Answered answer) o = o ≡ book.Answered answer
+Tells room (tells.Took bytes shown) o = o ≡ book.Took bytes shown
+
+-- how many bytes of the buffer a segment takes
+abbrev pub length_told : Told → ℕ
+length_told (tells.Sent m) = m.length
+length_told _ = 0

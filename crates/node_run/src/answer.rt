@@ -1,0 +1,48 @@
+//! The whole answer to a node's file.
+ghost use Rattle.std.specs.Prelude.{◌≡◌, [], IfOk};
+ghost use Rattle.ao_base.specs.declared.address.Pair.{Pair as OnePair};
+ghost use Rattle.key_model.specs.Plans.{rows_at};
+ghost use Rattle.format_model.specs.declared.node.NodeScript.{NodeScript as OneScript};
+ghost use Rattle.format_model.specs.NodeRuns.{Alone, node_script_of, node_text};
+ghost use Rattle.text_lines.specs.Readings.{Answers};
+ghost use Rattle.node_script.specs.Scripts.{IsScript};
+ghost use Rattle.node_run.specs.Answers.{node_answer};
+
+use crate::run::run_node;
+use ao_base::Bytes;
+use ao_node::Node;
+use format_model::NodeScript;
+use key_table::{Table, Tables};
+use line_model::TextFault;
+use node_script::read_node;
+use std::alloc::{AllocError, Global};
+
+/// How many ends the node of a run holds at most.
+const MOST: u16 = 1024;
+
+/// The text of a script's run over the table of its node; an address that no node has stands for an
+/// empty table.
+fn run_script(alloc: Global, tables: &Tables, script: &NodeScript) -> Result<Bytes, AllocError>
+    requires { IsScript script.now }
+    ensures { IfOk result (λ text. text ≡ node_text (rows_at tables.now script.now.address) script.now.events) }
+{
+    let mut node = Node::new(alloc, MOST)?;
+    match tables.table(&script.address) {
+        Some(table) => run_node(alloc, table, script, &mut node),
+        None => {
+            let table = Table::empty(alloc, script.address);
+            run_node(alloc, &table, script, &mut node)
+        }
+    }
+}
+
+/// The answer of the command for a node's file over the tables of a key file: the text of its run, as
+/// `run_node` has it, or the file's first fault, as `read_node` has it.
+#[tactic(auto, unfolding(crate::specs::Answers::node_answer))]
+pub fn run_over_tables(alloc: Global, tables: &Tables, input: &[u8]) -> Result<Bytes, TextFault>
+    ensures { Answers result (node_answer tables.now input.now) }
+{
+    let script = read_node(alloc, input)?;
+    let text = run_script(alloc, tables, &script)?;
+    Ok(text)
+}
