@@ -1,4 +1,6 @@
+pub mod FollowLaws
 pub mod LineLaws
 pub mod ReadLaws
+pub mod RunLaws
 pub mod TakenLaws
 pub mod TellLaws

@@ -1,3 +1,4 @@
+pub mod Follows
 pub mod Places
 pub mod Reads
 pub mod Streams

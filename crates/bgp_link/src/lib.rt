@@ -1,13 +1,20 @@
 //! A link file run as a link whose delivered bytes are read as BGP messages (RFC 4271): the lines of
-//! the messages that a piece completes, and what holds of the messages of every run.
+//! the messages that a piece completes, a whole run and the answer of `bgp`, and what holds of the
+//! messages of every run.
 #![tactic(auto)]
 
+mod answering;
 mod laws;
 mod lines;
 mod reading;
 #[cfg(test)]
+mod run_tests;
+mod running;
+#[cfg(test)]
 mod tests;
 
+pub use answering::{Spoken, speak};
 pub use laws::messages_come_in_order;
 pub use lines::Place;
 pub use reading::read_piece;
+pub use running::{BgpRun, run_bgp};

@@ -65,3 +65,39 @@ fn a_fault_tells_its_place(rt: HostRuntime) -> Result<(), Fail> {
     assert!(rt; faults == 1);
     Ok(())
 }
+
+// A message of this type and length whose body is zeros.
+fn message(alloc: Global, kind: u8, len: u16) -> Result<Vec<u8>, AllocError> {
+    let mut bytes = vec![in alloc; 0xff; 16]?;
+    bytes.extend_from_slice(len.to_be_bytes().as_slice())?;
+    bytes.push(kind)?;
+    for _ in 19..len {
+        bytes.push(0)?;
+    }
+    Ok(bytes)
+}
+
+#[test]
+fn the_longest_message_has_4096_bytes(rt: HostRuntime) -> Result<(), Fail> {
+    for (len, line) in [
+        (4096, b"7 message b 1 type 2 length 4096\n".as_slice()),
+        (4097, b"7 bgp-fault b 1 length at 0\n".as_slice()),
+    ] {
+        let stream = message(rt.alloc(), 2, len)?;
+        let (text, _) = read(rt.alloc(), stream.as_slice(), 1000)?;
+        assert!(rt; text.as_slice() == line);
+    }
+    Ok(())
+}
+
+#[test]
+fn a_message_one_byte_short_of_its_type_is_a_fault(rt: HostRuntime) -> Result<(), Fail> {
+    for (kind, least) in [(1, 29), (2, 23), (3, 21), (4, 19), (5, 23)] {
+        let stream = message(rt.alloc(), kind, least - 1)?;
+        let (text, faults) = read(rt.alloc(), stream.as_slice(), 4096)?;
+        let line = b"7 bgp-fault b 1 length at 0\n";
+        assert!(rt; text.as_slice() == line.as_slice());
+        assert!(rt; faults == 1);
+    }
+    Ok(())
+}
