@@ -11,3 +11,6 @@ mod told;
 
 pub use answer::run_over_tables;
 pub use run::run_node;
+
+#[cfg(test)]
+mod tests;
