@@ -77,8 +77,6 @@ pub(crate) fn mac_of(master: &[u8], making: &Making, datagram: &Datagram<'_>) ->
     requires one { HasAo datagram.now }
     ensures { IsMade master.now making.now datagram.now result }
 {
-    // Its clause says that each field fits its place, on which the proof rests.
-    let _length = datagram.length();
     let context = Context {
         source: datagram.source(),
         destination: datagram.destination(),

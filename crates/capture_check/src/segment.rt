@@ -40,8 +40,6 @@ pub(crate) fn length_of(datagram: &Datagram<'_>) -> u64
     ensures length { result ≡ segment_length datagram.now }
     ensures most { result ≤ 65537 }
 {
-    // Its clause says that each field fits its place, on which the proof rests.
-    let _length = datagram.length();
     let payload = datagram.payload().len() as u64;
     payload + u64::from(has(datagram, SYN)) + u64::from(has(datagram, FIN))
 }
