@@ -10,3 +10,6 @@ mod reading;
 pub use format_model::{Act, NodeEvent, NodeEvents, NodeScript};
 pub use line_model::TextFault as NodeFault;
 pub use reading::read_node;
+
+#[cfg(test)]
+mod tests;
