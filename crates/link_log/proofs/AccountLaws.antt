@@ -12,7 +12,6 @@ use Rattle.segment_model.proofs.Fields.{header_law, same_bytes_tells}
 use Rattle.mac_model.specs.declared.context.Context.{Context}
 use Rattle.mac_model.specs.Contexts.{bytes_of}
 use Rattle.mac_model.specs.Keys.{same_algorithm}
-use Rattle.mac_model.specs.MacInput.{mac_input}
 use Rattle.key_model.specs.Rows.{Row}
 use Rattle.endpoint_model.specs.Verdicts.{Key, Finding, key_of, same_key}
 use Rattle.link_model.specs.Worlds.{Made, accounts_for, other, same_end}

@@ -1,5 +1,5 @@
 -- What a log says of the history that it stands for.
-use Rattle.std.proofs.Common.{◌≡◌, ◌≢◌, ℕ, zero, suc, ◌+◌, ◌-◌, ◌*◌, ◌/◌, ◌<◌, ◌≤◌, ◌==◌, Bor, Bool, true, false, not, ◌||◌, List, [], ◌∷◌, ◌++◌, length, slice_get, get_or, Option, Some, None, Result, Ok, Err, IsOk, is_ok, ◌^◌, if◌then◌else◌, refl, sym, ap, ◌∙◌, subst, subst₂, arith, length-append}
+use Rattle.std.proofs.Common.{◌≡◌, ◌≢◌, ℕ, zero, suc, ◌+◌, ◌-◌, ◌*◌, ◌/◌, ◌<◌, ◌≤◌, ◌==◌, Bor, Bool, true, false, ◌||◌, List, [], ◌∷◌, ◌++◌, length, slice_get, Option, Some, None, Result, Ok, Err, IsOk, is_ok, ◌^◌, if◌then◌else◌, refl, sym, ap, ◌∙◌, subst, subst₂, arith, length-append}
 use Rattle.std.proofs.lemmas.Bool.Decides.{nat_tests}
 use Rattle.std.specs.Slice.{IsItemAt}
 use Rattle.std.proofs.lemmas.Option.{slice_get_read}
@@ -11,11 +11,10 @@ use Rattle.segment_model.proofs.SpellLaws.{read_stands}
 use Rattle.mac_model.specs.declared.context.Context.{Context}
 use Rattle.key_model.specs.Rows.{Row}
 use Rattle.endpoint_model.specs.Verdicts.{Finding}
-use Rattle.link_model.specs.Worlds.{Made, Came, Happening, Making, Coming, accounts_for, was_made, forged, forgeries, segments, segment_named}
+use Rattle.link_model.specs.Worlds.{Made, Happening, Making, Coming, accounts_for, was_made, segments, segment_named}
 use Rattle.link_log.specs.declared.kept.Kept.{Kept}
-use Rattle.link_log.specs.declared.log.Log.{Log}
 use Rattle.link_log.specs.Entries.{IsEntry, IsMade, PassesUnder}
-use Rattle.link_log.specs.Logs.{Keeps, MadeBy, StandsLog}
+use Rattle.link_log.specs.Logs.{Keeps, MadeBy}
 use Rattle.link_log.specs.Numbers.{past}
 use Rattle.link_log.proofs.AccountLaws.{by_number}
 

@@ -72,10 +72,7 @@ fn has_key_of(entry: &Entry, row: &Row) -> bool
 pub(crate) fn sought(entrance: &Entrance<'_>, datagram: &Datagram<'_>) -> u64
     ensures number { result ≡ entrance.now.number / 4294967296 * 4294967296 + datagram.now.sequence }
     ensures small { entrance.now.number < 2 ^ 64 }
-    ensures fits { Fits datagram.now }
 {
-    // Its clause says that each field fits its place.
-    let _length = datagram.length();
     (entrance.number >> 32 << 32) + u64::from(datagram.sequence())
 }
 

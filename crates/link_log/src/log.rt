@@ -2,7 +2,7 @@
 ghost use Rattle.std.specs.Prelude.{◌≡◌, ◌↔◌, ◌+◌, ◌<◌, ◌≤◌, ℕ, suc, List, [], ◌∷◌, length, Option, Some, None, IsTrue, true, MatchOption, OnOk};
 ghost use Rattle.endpoint_model.specs.Verdicts.{Finding};
 ghost use Rattle.segment_model.specs.Segments.{bit_of};
-ghost use Rattle.segment_model.specs.Spelling.{AreBytes};
+ghost use Rattle.segment_model.specs.Spelling.{AreBytes, Fits};
 ghost use Rattle.link_model.specs.Worlds.{Made, Came, Happening, Making, Coming, segment_named, segments, forged as forged_by, forgeries, was_made};
 ghost use Rattle.link_log.specs.Entries.{ComesAs, IsEntry, IsMade, PassesUnder};
 ghost use Rattle.link_log.specs.Numbers.{AreLinked};
@@ -162,6 +162,7 @@ impl Log {
     /// Whether the other end made what passed at an end: only the entries with the number that it
     /// would have are looked at.
     fn was_made(&self, at: End, entrance: &Entrance<'_>, datagram: &Datagram<'_>) -> bool
+        requires { Fits datagram.now }
         ensures { (history : List Happening) (f : Finding) → StandsLog self.now history
             → PassesUnder entrance.now.row.now datagram.now entrance.now.number entrance.now.context f → result ≡ was_made at f history }
     {
@@ -186,6 +187,7 @@ impl Log {
         entrance: &Entrance<'_>,
         datagram: &Datagram<'_>,
     ) -> bool
+        requires { Fits datagram.now }
         ensures { (history : List Happening) (f : Finding) → StandsLog self.now history
             → PassesUnder entrance.now.row.now datagram.now entrance.now.number entrance.now.context f → IsTrue result → true ≡ was_made at f history }
     {
@@ -209,6 +211,7 @@ impl Log {
         entrance: &Entrance<'_>,
         datagram: &Datagram<'_>,
     ) -> bool
+        requires { Fits datagram.now }
         ensures { (history : List Happening) (f : Finding) → StandsLog self.now history
             → PassesUnder entrance.now.row.now datagram.now entrance.now.number entrance.now.context f → result ≡ was_made at f history }
     {

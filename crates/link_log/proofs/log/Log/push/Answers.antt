@@ -1,4 +1,4 @@
-use Rattle.std.proofs.Common.{◌≡◌, ◌++◌, ◌∷◌, [], nat_eq, length, suc, Some, rules, sym, ap, ◌∙◌, subst, arith}
+use Rattle.std.proofs.Common.{◌≡◌, ◌++◌, ◌∷◌, [], nat_eq, length, suc, Some, sym, ap, ◌∙◌, subst, arith}
 use Rattle.std.specs.HashMap.{Updates}
 use Rattle.segment_model.specs.Spelling.{AreBytes}
 use Rattle.link_log.specs.declared.kept.Kept.{Kept}

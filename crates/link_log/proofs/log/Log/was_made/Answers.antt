@@ -12,7 +12,7 @@ loop-next-init c =
     let number = c.sought-number.result in
     rw (c.as_slice-kept.ensures.value, c.copied-next.ensures, c.get.ensures.value)
     (search_begins (Rejected c.args.at e.row.now c.args.datagram.now e.number e.context) own.kept.items number _
-    (others_rejected c.args.at e.row.now c.args.datagram.now e.number number e.context c.sought-number.ensures.fits c.sought-number.ensures.small c.sought-number.ensures.number)
+    (others_rejected c.args.at e.row.now c.args.datagram.now e.number number e.context c.requires c.sought-number.ensures.small c.sought-number.ensures.number)
     (own.linked.last number))
 
 pub accounts_for-requires-clause-number : goal.accounts_for-requires-clause-number
@@ -48,7 +48,7 @@ loop-next-smaller c =
     let at = slice_get_read kept (length kept) c.in-Some.place x refl within c.index-kept-place.is in
     let linked : AreLinked kept own.latest = subst (λ xs. AreLinked xs own.latest) (sym c.as_slice-kept.ensures.value) own.linked in
     (search_goes_on (Rejected c.args.at e.row.now c.args.datagram.now e.number e.context) kept number c.in-Some.place c.loop-next.next x
-    (others_rejected c.args.at e.row.now c.args.datagram.now e.number number e.context c.sought-number.ensures.fits c.sought-number.ensures.small c.sought-number.ensures.number)
+    (others_rejected c.args.at e.row.now c.args.datagram.now e.number number e.context c.requires c.sought-number.ensures.small c.sought-number.ensures.number)
     c.loop-next.invariant c.in-Some.is at (λ f m is passes. sym c.if-accounts_for.false ∙ c.accounts_for.ensures f m is passes) (linked.earlier c.in-Some.place x at)).1
 
 pub loop-next-preserved : goal.loop-next-preserved
@@ -64,7 +64,7 @@ loop-next-preserved c =
     let at = slice_get_read kept (length kept) c.in-Some.place x refl within c.index-kept-place.is in
     let linked : AreLinked kept own.latest = subst (λ xs. AreLinked xs own.latest) (sym c.as_slice-kept.ensures.value) own.linked in
     (search_goes_on (Rejected c.args.at e.row.now c.args.datagram.now e.number e.context) kept number c.in-Some.place c.loop-next.next x
-    (others_rejected c.args.at e.row.now c.args.datagram.now e.number number e.context c.sought-number.ensures.fits c.sought-number.ensures.small c.sought-number.ensures.number)
+    (others_rejected c.args.at e.row.now c.args.datagram.now e.number number e.context c.requires c.sought-number.ensures.small c.sought-number.ensures.number)
     c.loop-next.invariant c.in-Some.is at (λ f m is passes. sym c.if-accounts_for.false ∙ c.accounts_for.ensures f m is passes) (linked.earlier c.in-Some.place x at)).0
 
 pub returns : goal.returns
