@@ -9,9 +9,11 @@ import sys
 TOP = os.path.dirname(os.path.dirname(os.path.abspath(__file__)))
 BOOK = ["ao_base", "segment_model", "mac_model", "key_model", "endpoint_model", "link_model", "line_model", "wire_model", "format_model"]
 # What may stand outside the book, a file of a crate: the relations by which the top call speaks of what was read and written,
-# and of each run of a link, and the list of commands that are built.
+# of a check that writes as it reads, of each run of a link and of the messages in it, and of the line form of a pcap file.
 OUTSIDE = ["ao_run/specs/Runs.antt", "ao_run/specs/Obeys.antt", "ao_run/specs/Delivers.antt", "ao_run/specs/Completes.antt",
-           "ao_run/specs/Today.antt", "link_headline/specs/Lawful.antt"]
+           "link_headline/specs/Lawful.antt", "bgp_link/specs/Tellings.antt",
+           "pcap_laws/specs/LineForms.antt", "capture_lines/specs/Checked.antt", "capture_lines/src/check.rt",
+           "capture_packets/specs/Checked.antt", "capture_packets/src/check.rt", "pcap_file/specs/Reading.antt"]
 ENTRY = ("ao_run", "src/top.rt", "run")
 
 WORD = re.compile(r"[^\s(){}\[\],;:]+")

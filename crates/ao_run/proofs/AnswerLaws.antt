@@ -7,7 +7,7 @@ use Rattle.key_model.specs.Rows.{Table}
 use Rattle.line_model.specs.declared.text_fault.TextFault.{TextFault}
 use Rattle.format_model.specs.declared.command.Command.{Command}
 use Rattle.format_model.specs.declared.command.Command.TheVariants as command
-use Rattle.format_model.specs.Answers.{Answer, answer_by, answer_of as answer_of_today, answer_over as over_today, answer_with_keys, answer_within, bgp_over, done, if_read, judged, keys_too_long, linked, linked_by_shared, linted, most_input, most_keys, node_over, refuse, timed_over, too_long, verified}
+use Rattle.format_model.specs.Answers.{Answer, answer_by, answer_of, answer_over, answer_with_keys, answer_within, bgp_over, done, if_read, judged, keys_too_long, linked, linked_by_shared, linted, most_input, most_keys, node_over, refuse, timed_over, too_long, verified}
 use Rattle.format_model.specs.Captures.{Stored, capture_run, has_refusal}
 use Rattle.format_model.specs.Commands.{reads_keys, reads_input}
 use Rattle.format_model.specs.KeyTexts.{keys_text, table_fault_line}
@@ -19,7 +19,7 @@ use Rattle.format_model.specs.StoredLines.{stored_input}
 use Rattle.format_model.specs.TimedRuns.{timed_script_of}
 use Rattle.format_model.specs.Verified.{vectors_of}
 use Rattle.line_model.specs.Said.{said_in}
-use Rattle.ao_run.specs.Gathered.{within_today}
+use Rattle.ao_run.specs.Gathered.{answer_in}
 use Rattle.ao_run.specs.Obeys.{asks_keys, asks_input, most_of}
 
 -- a test is one or the other
@@ -28,7 +28,7 @@ either true = inl refl
 either false = inr refl
 
 -- the answer of a command that reads no key file
-pub unkeyed : (c : Command) (keys input : List ℕ) → reads_keys c ≡ false → answer_of_today (Some c) keys input ≡ within_today c [] input
+pub unkeyed : (c : Command) (keys input : List ℕ) → reads_keys c ≡ false → answer_of (Some c) keys input ≡ answer_in c [] input
 unkeyed command.Link keys input lacks = refl
 unkeyed command.LinkKeys keys input lacks = cc
 unkeyed command.Check keys input lacks = cc
@@ -43,7 +43,7 @@ unkeyed command.Timed keys input lacks = cc
 unkeyed command.Node keys input lacks = cc
 
 -- that of a command that reads it
-pub keyed : (c : Command) (keys input : List ℕ) → reads_keys c ≡ true → answer_of_today (Some c) keys input ≡ answer_with_keys c keys input
+pub keyed : (c : Command) (keys input : List ℕ) → reads_keys c ≡ true → answer_of (Some c) keys input ≡ answer_with_keys c keys input
 keyed command.Link keys input holds = cc
 keyed command.LinkKeys keys input holds = refl
 keyed command.Check keys input holds = refl
@@ -57,7 +57,7 @@ keyed command.Bgp keys input holds = refl
 keyed command.Timed keys input holds = refl
 keyed command.Node keys input holds = refl
 
-within_same : (c : Command) (tables : List Table) (input : List ℕ) → reads_keys c ≡ true → answer_within c tables input ≡ within_today c tables input
+within_same : (c : Command) (tables : List Table) (input : List ℕ) → reads_keys c ≡ true → answer_within c tables input ≡ answer_in c tables input
 within_same command.Link tables input holds = cc
 within_same command.LinkKeys tables input holds = refl
 within_same command.Check tables input holds = refl
@@ -79,26 +79,26 @@ shorter m n h = grind (arith, nat_tests)
 
 -- the answer over the tables of a key file
 pub over_tables : (c : Command) (keys input : List ℕ) (tables : List Table) → reads_keys c ≡ true → length keys ≤ 1048576 → tables_of keys ≡ Ok tables →
-    answer_of_today (Some c) keys input ≡ within_today c tables input
+    answer_of (Some c) keys input ≡ answer_in c tables input
 over_tables c keys input tables holds few is =
     let short : nat_lt 1048576 (length keys) ≡ false = shorter 1048576 (length keys) few in
     keyed c keys input holds ∙ rw (short, is) (within_same c tables input holds)
 
 -- the answer to a key file with a fault
 pub faulty_tables : (c : Command) (keys input : List ℕ) (e : TableFault) → reads_keys c ≡ true → length keys ≤ 1048576 → tables_of keys ≡ Err e →
-    answer_of_today (Some c) keys input ≡ refuse 3 (table_fault_line e)
+    answer_of (Some c) keys input ≡ refuse 3 (table_fault_line e)
 faulty_tables c keys input e holds few is =
     let short : nat_lt 1048576 (length keys) ≡ false = shorter 1048576 (length keys) few in
     keyed c keys input holds ∙ rw (short, is) refl
 
 -- the answer to a key file past its limit
-pub long_keys : (c : Command) (keys input : List ℕ) → reads_keys c ≡ true → 1048576 < length keys → answer_of_today (Some c) keys input ≡ refuse 3 keys_too_long
+pub long_keys : (c : Command) (keys input : List ℕ) → reads_keys c ≡ true → 1048576 < length keys → answer_of (Some c) keys input ≡ refuse 3 keys_too_long
 long_keys c keys input holds many =
     let long : nat_lt 1048576 (length keys) ≡ true = longer 1048576 (length keys) many in
     keyed c keys input holds ∙ rw long refl
 
 -- the answer to an input past its limit
-pub long_input : (c : Command) (tables : List Table) (input : List ℕ) → reads_input c ≡ true → most_input c < length input → within_today c tables input ≡ refuse 4 too_long
+pub long_input : (c : Command) (tables : List Table) (input : List ℕ) → reads_input c ≡ true → most_input c < length input → answer_in c tables input ≡ refuse 4 too_long
 long_input c tables input holds many =
     let long : nat_lt (most_input c) (length input) ≡ true = longer (most_input c) (length input) many in
     rw (holds, long) refl
@@ -108,11 +108,11 @@ limited true b x y lacks = rw lacks refl
 limited false b x y lacks = refl
 
 -- the answer to an input within it
-pub short_input : (c : Command) (tables : List Table) (input : List ℕ) → length input ≤ most_input c → within_today c tables input ≡ over_today c tables input
+pub short_input : (c : Command) (tables : List Table) (input : List ℕ) → length input ≤ most_input c → answer_in c tables input ≡ answer_over c tables input
 short_input c tables input few =
-    limited (reads_input c) (nat_lt (most_input c) (length input)) (refuse 4 too_long) (over_today c tables input) (shorter (most_input c) (length input) few)
+    limited (reads_input c) (nat_lt (most_input c) (length input)) (refuse 4 too_long) (answer_over c tables input) (shorter (most_input c) (length input) few)
 
-pub unread_input : (c : Command) (tables : List Table) (input : List ℕ) → reads_input c ≡ false → within_today c tables input ≡ over_today c tables input
+pub unread_input : (c : Command) (tables : List Table) (input : List ℕ) → reads_input c ≡ false → answer_in c tables input ≡ answer_over c tables input
 unread_input c tables input lacks = rw lacks refl
 
 -- no answer to a command's words is a usage fault, and none over tables is a fault of them
@@ -138,7 +138,7 @@ judged_plain : (tables : List Table) (stored : List Stored) (fault : Option (Lis
 judged_plain tables stored None = done_plain (has_refusal tables stored)
 judged_plain tables stored (Some text) = four
 
-pub over_plain : (c : Command) (tables : List Table) (input : List ℕ) → Plain (over_today c tables input).status
+pub over_plain : (c : Command) (tables : List Table) (input : List ℕ) → Plain (answer_over c tables input).status
 over_plain command.Link tables input = read_plain linked_by_shared (script_of false input) (λ s. done_plain _)
 over_plain command.LinkKeys tables input = read_plain (linked tables) (script_of true input) (λ s. done_plain _)
 over_plain command.Check tables input = judged_plain tables (stored_input input).stored _
@@ -152,16 +152,16 @@ over_plain command.Bgp tables input = read_plain (bgp_over tables) (script_of tr
 over_plain command.Timed tables input = read_plain (timed_over tables) (timed_script_of input) (λ s. if_plain _ _ _ four (done_plain _))
 over_plain command.Node tables input = read_plain (node_over tables) (node_script_of input) (λ s. done_plain false)
 
-pub within_plain : (c : Command) (tables : List Table) (input : List ℕ) → Plain (within_today c tables input).status
+pub within_plain : (c : Command) (tables : List Table) (input : List ℕ) → Plain (answer_in c tables input).status
 within_plain c tables input =
-    if_plain (reads_input c && nat_lt (most_input c) (length input)) (refuse 4 too_long) (over_today c tables input) four (over_plain c tables input)
+    if_plain (reads_input c && nat_lt (most_input c) (length input)) (refuse 4 too_long) (answer_over c tables input) four (over_plain c tables input)
 
 not_four : (b : Bool) → ◌≡◌ {A = ℕ} (if b then 1 else 0) 4 → ⊥
 not_four true h = omega arith
 not_four false h = omega arith
 
 -- a command that reads no input refuses none
-pub unread_four : (c : Command) (tables : List Table) (input : List ℕ) → reads_input c ≡ false → (over_today c tables input).status ≢ 4
+pub unread_four : (c : Command) (tables : List Table) (input : List ℕ) → reads_input c ≡ false → (answer_over c tables input).status ≢ 4
 unread_four command.Link tables input lacks = cc
 unread_four command.LinkKeys tables input lacks = cc
 unread_four command.Check tables input lacks = cc
@@ -183,15 +183,15 @@ by_plain c input other false (Ok tables) holds three =
     absurd ((within_plain c tables input).1 (ap (λ (a : Answer). a.status) (sym (within_same c tables input holds)) ∙ three))
 
 -- a key file is refused whatever the input
-pub three_whatever : (c : Command) (keys input other : List ℕ) → (answer_of_today (Some c) keys input).status ≡ 3 → (answer_of_today (Some c) keys other).status ≡ 3
+pub three_whatever : (c : Command) (keys input other : List ℕ) → (answer_of (Some c) keys input).status ≡ 3 → (answer_of (Some c) keys other).status ≡ 3
 three_whatever c keys input other three = elim (either (reads_keys c)) [
   | inl holds ↦
-      let one : answer_of_today (Some c) keys input ≡ answer_with_keys c keys input = keyed c keys input holds in
-      let two : answer_of_today (Some c) keys other ≡ answer_with_keys c keys other = keyed c keys other holds in
+      let one : answer_of (Some c) keys input ≡ answer_with_keys c keys input = keyed c keys input holds in
+      let two : answer_of (Some c) keys other ≡ answer_with_keys c keys other = keyed c keys other holds in
       let t : (answer_with_keys c keys input).status ≡ 3 = rw one at three in
       rw two (by_plain c input other (nat_lt most_keys (length keys)) (tables_of keys) holds t)
   | inr lacks ↦
-      let one : answer_of_today (Some c) keys input ≡ within_today c [] input = unkeyed c keys input lacks in
+      let one : answer_of (Some c) keys input ≡ answer_in c [] input = unkeyed c keys input lacks in
       absurd ((within_plain c [] input).1 (rw one at three))
 ]
 
@@ -202,7 +202,7 @@ by_not_two c input false (Err e) holds = λ h. absurd (omega arith)
 by_not_two c input false (Ok tables) holds = λ h. (within_plain c tables input).0 (ap (λ (a : Answer). a.status) (sym (within_same c tables input holds)) ∙ h)
 
 -- no answer to a command's words is a usage fault
-pub not_two : (c : Command) (keys input : List ℕ) → (answer_of_today (Some c) keys input).status ≢ 2
+pub not_two : (c : Command) (keys input : List ℕ) → (answer_of (Some c) keys input).status ≢ 2
 not_two c keys input = elim (either (reads_keys c)) [
   | inl holds ↦ rw (keyed c keys input holds) (by_not_two c input (nat_lt most_keys (length keys)) (tables_of keys) holds)
   | inr lacks ↦ rw (unkeyed c keys input lacks) (within_plain c [] input).0
@@ -217,13 +217,13 @@ by_long c input false (Ok tables) holds reads many =
     rw is (omega arith)
 
 -- an input past its limit has no output
-pub long_refused : (c : Command) (keys input : List ℕ) → reads_input c ≡ true → most_input c < length input → 2 < (answer_of_today (Some c) keys input).status
+pub long_refused : (c : Command) (keys input : List ℕ) → reads_input c ≡ true → most_input c < length input → 2 < (answer_of (Some c) keys input).status
 long_refused c keys input reads many = elim (either (reads_keys c)) [
   | inl holds ↦ rw (keyed c keys input holds) (by_long c input (nat_lt most_keys (length keys)) (tables_of keys) holds reads many)
   | inr lacks ↦ rw (unkeyed c keys input lacks, long_input c [] input reads many) (omega arith)
 ]
 
-over_unread : (c : Command) (tables : List Table) (input other : List ℕ) → reads_input c ≡ false → within_today c tables input ≡ within_today c tables other
+over_unread : (c : Command) (tables : List Table) (input other : List ℕ) → reads_input c ≡ false → answer_in c tables input ≡ answer_in c tables other
 over_unread command.Link tables input other lacks = cc
 over_unread command.LinkKeys tables input other lacks = cc
 over_unread command.Check tables input other lacks = cc
@@ -245,29 +245,29 @@ by_unread c input other false (Ok tables) holds lacks =
     within_same c tables input holds ∙ (over_unread c tables input other lacks ∙ sym (within_same c tables other holds))
 
 -- the answer of a command that reads no input
-input_unread : (c : Command) (keys input other : List ℕ) → reads_input c ≡ false → answer_of_today (Some c) keys input ≡ answer_of_today (Some c) keys other
+input_unread : (c : Command) (keys input other : List ℕ) → reads_input c ≡ false → answer_of (Some c) keys input ≡ answer_of (Some c) keys other
 input_unread c keys input other lacks = elim (either (reads_keys c)) [
   | inl holds ↦ keyed c keys input holds ∙ (by_unread c input other (nat_lt most_keys (length keys)) (tables_of keys) holds lacks ∙ sym (keyed c keys other holds))
   | inr none ↦ unkeyed c keys input none ∙ (over_unread c [] input other lacks ∙ sym (unkeyed c keys other none))
 ]
 
-keys_unread : (c : Command) (keys other input : List ℕ) → reads_keys c ≡ false → answer_of_today (Some c) keys input ≡ answer_of_today (Some c) other input
+keys_unread : (c : Command) (keys other input : List ℕ) → reads_keys c ≡ false → answer_of (Some c) keys input ≡ answer_of (Some c) other input
 keys_unread c keys other input lacks = unkeyed c keys input lacks ∙ sym (unkeyed c other input lacks)
 
 -- the bytes of a source that isn't asked for don't matter
 pub same_answer : (command : Option Command) (keys keys2 input input2 : List ℕ) → (asks_keys command ≡ true → keys ≡ keys2) → (asks_input command ≡ true → input ≡ input2) →
-    answer_of_today command keys input ≡ answer_of_today command keys2 input2
+    answer_of command keys input ≡ answer_of command keys2 input2
 same_answer None keys keys2 input input2 k i = refl
 same_answer (Some c) keys keys2 input input2 k i = first ∙ second
   where
-    first : answer_of_today (Some c) keys input ≡ answer_of_today (Some c) keys2 input
+    first : answer_of (Some c) keys input ≡ answer_of (Some c) keys2 input
     first = elim (either (reads_keys c)) [
-      | inl holds ↦ ap (λ (x : List ℕ). answer_of_today (Some c) x input) (k holds)
+      | inl holds ↦ ap (λ (x : List ℕ). answer_of (Some c) x input) (k holds)
       | inr lacks ↦ keys_unread c keys keys2 input lacks
     ]
 
-    second : answer_of_today (Some c) keys2 input ≡ answer_of_today (Some c) keys2 input2
+    second : answer_of (Some c) keys2 input ≡ answer_of (Some c) keys2 input2
     second = elim (either (reads_input c)) [
-      | inl holds ↦ ap (λ (x : List ℕ). answer_of_today (Some c) keys2 x) (i holds)
+      | inl holds ↦ ap (λ (x : List ℕ). answer_of (Some c) keys2 x) (i holds)
       | inr lacks ↦ input_unread c keys2 input input2 lacks
     ]

@@ -12,7 +12,6 @@ use Rattle.key_model.specs.Lifetimes.{greatest_time}
 use Rattle.format_model.specs.declared.command.Plan.{Plan}
 use Rattle.format_model.specs.Commands.{command_of, keys_of, lint_of, storm_of, up_to}
 use Rattle.ao_run.specs.Gathered.{is_ready}
-use Rattle.ao_run.specs.Today.{command_today, if_built, is_built}
 
 -- a value in front of a reading that goes on
 from_bind : {A B : Type 0} (m : Option A) (f : A → Option B) (y : B) → (m >>= f) ≡ Some y → (x : A) × (m ≡ Some x) × (f x ≡ Some y)
@@ -112,7 +111,7 @@ no_time w lacks = none_by w (time_of w) refl lacks
 
 -- a storm draws at most 10,000 events
 abbrev Few : Option Command → Type 0
-Few o = is_ready (if_built o) ≡ true
+Few o = is_ready o ≡ true
 
 alone : (a b c : Bool) → Few (if a then Some command.Link else (if b then Some command.Show else (if c then Some command.Vectors else None)))
 alone true b c = refl
@@ -170,8 +169,8 @@ lint : (b : Bool) (o : Option Command) → Few o → Few (if b then o else None)
 lint true o few = few
 lint false o few = refl
 
--- whatever words name is built, and draws few events
-pub named_ready : (words : List (List ℕ)) → is_ready (command_today words) ≡ true
+-- whatever words name draws few events
+pub named_ready : (words : List (List ℕ)) → is_ready (command_of words) ≡ true
 unfolding command_of
 named_ready [] = refl
 named_ready (name ∷ []) = alone (bytes_eq name (codes "link")) (bytes_eq name (codes "show")) (bytes_eq name (codes "vectors"))
@@ -185,13 +184,3 @@ named_ready (name ∷ key_file ∷ lead ∷ lag ∷ from ∷ []) = refl
 named_ready (name ∷ key_file ∷ lead ∷ lag ∷ from ∷ to ∷ []) =
     lint (bytes_eq name (codes "lint")) (lint_of lead lag from to) (plan (up_to greatest_time lead) (up_to greatest_time lag) (time_of from) (time_of to))
 named_ready (name ∷ key_file ∷ lead ∷ lag ∷ from ∷ to ∷ more ∷ words) = refl
-
-where_built : (b : Bool) (c : Command) → b ≡ true → is_ready (if b then Some c else None) ≡ true → is_ready (Some c) ≡ true
-where_built true c built ready = ready
-where_built false c built ready = absurd (cc)
-
--- a command that words name and that is built
-pub found_ready : (words : List (List ℕ)) (c : Command) → Some c ≡ command_of words → is_built c ≡ true → is_ready (Some c) ≡ true
-found_ready words c is built =
-    let P : Option Command → Type 0 = λ (o : Option Command). is_ready (if_built o) ≡ true in
-    where_built (is_built c) c built (subst P (sym is) (named_ready words))

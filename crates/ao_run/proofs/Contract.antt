@@ -3,7 +3,7 @@ use Rattle.std.proofs.Common.{ℕ, List}
 use Rattle.ao_run.specs.Obeys.{Obeys, Sides}
 use Rattle.ao_run.specs.Runs.{Runs}
 use Rattle.ao_run.proofs.Completing.{completes}
-use Rattle.ao_run.proofs.Headline.{link_delivers}
+use Rattle.ao_run.proofs.Headline.{commands_deliver}
 
 pub runs : (words : List (List ℕ)) (k i : List ℕ) (b n : Sides) (s : ℕ) → Obeys words k i b n s → Runs words k i b n s
-runs words k i b n s x = record { obeys = x; delivers = link_delivers words k i b n s x; completes = completes words k i b n s x }
+runs words k i b n s x = record { obeys = x; delivers = commands_deliver words k i b n s x; completes = completes words k i b n s x }

@@ -15,13 +15,13 @@ use Rattle.line_model.specs.declared.text_fault.TextFault.TheVariants as text_fa
 use Rattle.line_model.specs.Faults.{fault_text}
 use Rattle.text_lines.specs.Readings.{Answers, Fails}
 use Rattle.format_model.specs.declared.command.Command.{Command}
-use Rattle.format_model.specs.Answers.{Answer, answer_of as answer_of_today, answer_over as over_today, if_read, most_input, refuse}
+use Rattle.format_model.specs.Answers.{Answer, answer_of, answer_over, if_read, most_input, refuse, too_many_events}
 use Rattle.format_model.specs.Commands.{reads_keys, reads_input}
 use Rattle.format_model.specs.KeyTexts.{table_fault_line}
 use Rattle.ao_run.specs.declared.stop.Output.{Output}
 use Rattle.ao_run.specs.declared.stop.Stop.{Stop}
-use Rattle.ao_run.specs.declared.stop.Stop.TheVariants.{Usage, KeysTooLong, Keys, TooLong, Input, Read, Write, Memory}
-use Rattle.ao_run.specs.Gathered.{Gathered, InputGathered, KeysGathered, Sources, tables_in, within_today}
+use Rattle.ao_run.specs.declared.stop.Stop.TheVariants.{Usage, KeysTooLong, Keys, TooLong, Input, TooManyEvents, Read, Write, Memory}
+use Rattle.ao_run.specs.Gathered.{Gathered, InputGathered, KeysGathered, Sources, tables_in, answer_in}
 use Rattle.ao_run.specs.Obeys.{Unread, asks_keys, asks_input, most_of}
 use Rattle.ao_run.specs.Stops.{Makes, Stopped, made, status_of, text_of}
 use Rattle.ao_run.proofs.AnswerLaws.{either, faulty_tables, long_input, long_keys, over_tables, short_input, unkeyed, unread_four, unread_input, within_plain}
@@ -37,7 +37,8 @@ refused_makes said value (text_fault.Line n kind) stop fails stopped none = rw f
 pub unread : (s : Side) → Unread [] s s
 unread s = (refl, refl)
 
-not_both : {P : Type 0} (x : Bool) → x ≡ false → x ≡ true → P
+-- a test isn't both
+pub not_both : {P : Type 0} (x : Bool) → x ≡ false → x ≡ true → P
 not_both x f t = absurd (cc)
 
 -- a whole read is within its limit
@@ -55,6 +56,7 @@ module _ (c : Command) (k0 : Side) where
     some = sym lacks;
     over = λ holds. not_both (reads_keys c) lacks holds;
     value = λ input. unkeyed c [] input lacks;
+    file = λ tables is. absurd (cc);
     asked = tt;
     within = tt;
     refused = tt;
@@ -71,6 +73,7 @@ module _ (c : Command) (k : List ℕ) (k0 k1 : Side) (holds : reads_keys c ≡ t
     some = tt;
     over = tt;
     value = tt;
+    file = tt;
     asked = holds;
     within = (omega arith, omega arith, λ h. absurd (omega arith), λ h. absurd (omega arith));
     refused = λ h. absurd (omega arith);
@@ -86,6 +89,7 @@ module _ (c : Command) (k : List ℕ) (k0 k1 : Side) (holds : reads_keys c ≡ t
     some = tt;
     over = tt;
     value = tt;
+    file = tt;
     asked = holds;
     within = (omega arith, omega arith, λ h. absurd (omega arith), λ h. absurd (omega arith));
     refused = λ h. absurd (omega arith);
@@ -101,6 +105,7 @@ module _ (c : Command) (k : List ℕ) (k0 k1 : Side) (holds : reads_keys c ≡ t
     some = tt;
     over = tt;
     value = tt;
+    file = tt;
     asked = holds;
     within = (omega arith, omega arith, λ h. absurd (omega arith), λ h. absurd (omega arith));
     refused = λ _ input. long_keys c k input holds (r.long.0 refl);
@@ -119,6 +124,7 @@ module _ (c : Command) (k : List ℕ) (k0 k1 : Side) (holds : reads_keys c ≡ t
         some = sym holds;
         over = λ _. r.whole.1;
         value = λ input. over_tables c k input tables holds (fits 1048576 k text k0 k1 r) read;
+        file = λ others is. (let same : tables ≡ others = cc in rw (← same) read, fits 1048576 k text k0 k1 r);
         asked = tt;
         within = tt;
         refused = tt;
@@ -127,7 +133,7 @@ module _ (c : Command) (k : List ℕ) (k0 k1 : Side) (holds : reads_keys c ≡ t
       }
 
   refused_keys : (stop : Stop) → Gave k k0 k1 → length k ≤ 1048577 → IsAtEnd k1 → status_of stop ≡ 3 →
-      ((input : List ℕ) → answer_of_today (Some c) k input ≡ refuse 3 (text_of stop)) → KeysGathered c k k0 k1 (Err stop)
+      ((input : List ℕ) → answer_of (Some c) k input ≡ refuse 3 (text_of stop)) → KeysGathered c k k0 k1 (Err stop)
   refused_keys stop gave few over three is = record {
     gave = gave;
     few = few;
@@ -135,6 +141,7 @@ module _ (c : Command) (k : List ℕ) (k0 k1 : Side) (holds : reads_keys c ≡ t
     some = tt;
     over = tt;
     value = tt;
+    file = tt;
     asked = holds;
     within = (omega (arith, three), omega (arith, three), λ h. absurd (omega (arith, three, h)), λ h. absurd (omega (arith, three, h)));
     refused = λ _ input. is input;
@@ -148,6 +155,7 @@ module _ (c : Command) (k : List ℕ) (k0 k1 : Side) (holds : reads_keys c ≡ t
   stopped_keys text e (Keys line) r is stopped =
       refused_keys (Keys line) r.gave r.few r.whole.1 refl (λ input. faulty_tables c k input e holds (fits 1048576 k text k0 k1 r) is ∙ stopped)
   stopped_keys text e (Input line) r is stopped = let lacks : 3 ≡ 4 = ap (λ (a : Answer). a.status) stopped in absurd (omega (arith, lacks))
+  stopped_keys text e TooManyEvents r is stopped = let lacks : 3 ≡ 4 = ap (λ (a : Answer). a.status) stopped in absurd (omega (arith, lacks))
   stopped_keys text e Usage r is stopped = absurd stopped
   stopped_keys text e KeysTooLong r is stopped = absurd stopped
   stopped_keys text e TooLong r is stopped = absurd stopped
@@ -281,7 +289,7 @@ module _ (c : Command) (k : List ℕ) (k0 k1 i0 : Side) where
     input_end = tt;
     usage = λ h. absurd (cc);
     within = (omega (arith, x.within.0), x.within.1, x.within.3);
-    refused = three_or_more stop (answer_of_today (Some c) k []) x.within.0 x.within.2 (λ three. x.refused three []);
+    refused = three_or_more stop (answer_of (Some c) k []) x.within.0 x.within.2 (λ three. x.refused three []);
     keys_judged = x.judged;
     keys_over = λ four. absurd (x.within.2 four);
     judged = λ four. absurd (x.within.2 four);
@@ -289,10 +297,10 @@ module _ (c : Command) (k : List ℕ) (k0 k1 i0 : Side) where
   }
 
 module _ (c : Command) (k i : List ℕ) (k0 k1 i0 i1 : Side) (t : Option (List Table)) (x : KeysGathered c k k0 k1 (Ok t)) where
-  not_three : (answer_of_today (Some c) k i).status ≢ 3
+  not_three : (answer_of (Some c) k i).status ≢ 3
   not_three = λ h. (within_plain c (tables_in t) i).1 (ap (λ (a : Answer). a.status) (sym (x.value i)) ∙ h)
 
-  alone_input : {r : Result (List ℕ) Stop} → InputGathered c i i0 i1 r → (reads_input c ≡ false) ⊎ ((answer_of_today (Some c) k i).status ≡ 3) → Unread i i0 i1
+  alone_input : {r : Result (List ℕ) Stop} → InputGathered c i i0 i1 r → (reads_input c ≡ false) ⊎ ((answer_of (Some c) k i).status ≡ 3) → Unread i i0 i1
   alone_input y (inl lacks) = y.alone lacks
   alone_input y (inr three) = absurd (not_three three)
 
@@ -318,7 +326,7 @@ module _ (c : Command) (k i : List ℕ) (k0 k1 i0 i1 : Side) (t : Option (List T
     input_end = tt;
     usage = λ h. absurd (cc);
     within = (omega (arith, y.within.0), y.within.1, y.within.2);
-    refused = four_or_more stop (answer_of_today (Some c) k i) (within_today c (tables_in t) i) (x.value i) y.within.0 (λ four. y.refused four (tables_in t));
+    refused = four_or_more stop (answer_of (Some c) k i) (answer_in c (tables_in t) i) (x.value i) y.within.0 (λ four. y.refused four (tables_in t));
     keys_judged = λ three. absurd (omega (arith, y.within.0, three));
     keys_over = λ four. x.over;
     judged = λ four. inr (y.judged four);
@@ -326,11 +334,11 @@ module _ (c : Command) (k i : List ℕ) (k0 k1 i0 i1 : Side) (t : Option (List T
   }
 
   module _ (text : List ℕ) (y : InputGathered c i i0 i1 (Ok text)) where
-    answered : answer_of_today (Some c) k i ≡ over_today c (tables_in t) text
-    answered = x.value i ∙ (y.value (tables_in t) ∙ ap (λ (l : List ℕ). over_today c (tables_in t) l) (sym y.same))
+    answered : answer_of (Some c) k i ≡ answer_over c (tables_in t) text
+    answered = x.value i ∙ (y.value (tables_in t) ∙ ap (λ (l : List ℕ). answer_over c (tables_in t) l) (sym y.same))
 
     ended : (stop : Stop) → (2 ≤ status_of stop) → status_of stop < 8 → status_of stop ≢ 6 → status_of stop ≢ 5 → status_of stop ≢ 3 →
-        (status_of stop < 5 → answer_of_today (Some c) k i ≡ refuse (status_of stop) (text_of stop)) → (status_of stop ≡ 4 → IsAtEnd i1) →
+        (status_of stop < 5 → answer_of (Some c) k i ≡ refuse (status_of stop) (text_of stop)) → (status_of stop ≡ 4 → IsAtEnd i1) →
         Gathered (Some c) k i (record { keys = k0; input = i0 }) (record { keys = k1; input = i1 }) (Err stop)
     ended stop low high six five three is at_end = record {
       gave_keys = x.gave;
@@ -352,13 +360,13 @@ module _ (c : Command) (k i : List ℕ) (k0 k1 i0 i1 : Side) (t : Option (List T
       fault = λ h. absurd (five h);
     }
 
-    input_ended : (line : List ℕ) → over_today c (tables_in t) text ≡ refuse 4 line → IsAtEnd i1
+    input_ended : (line : List ℕ) → answer_over c (tables_in t) text ≡ refuse 4 line → IsAtEnd i1
     input_ended line is = elim (either (reads_input c)) [
       | inl holds ↦ y.over holds
       | inr lacks ↦ absurd (unread_four c (tables_in t) text lacks (ap (λ (a : Answer). a.status) is))
     ]
 
-    pub made_gathered : (r : Result Output Stop) → Makes r (over_today c (tables_in t) text) →
+    pub made_gathered : (r : Result Output Stop) → Makes r (answer_over c (tables_in t) text) →
         Gathered (Some c) k i (record { keys = k0; input = i0 }) (record { keys = k1; input = i1 }) r
     made_gathered (Ok o) m = record {
       gave_keys = x.gave;
@@ -383,9 +391,11 @@ module _ (c : Command) (k i : List ℕ) (k0 k1 i0 i1 : Side) (t : Option (List T
         ended Memory (omega arith) (omega arith) (λ h. omega arith) (λ h. omega arith) (λ h. omega arith) (λ h. absurd (omega arith)) (λ h. absurd (omega arith))
     made_gathered (Err (Input line)) m =
         ended (Input line) (omega arith) (omega arith) (λ h. omega arith) (λ h. omega arith) (λ h. omega arith) (λ h. answered ∙ m) (λ h. input_ended line m)
+    made_gathered (Err TooManyEvents) m =
+        ended TooManyEvents (omega arith) (omega arith) (λ h. omega arith) (λ h. omega arith) (λ h. omega arith) (λ h. answered ∙ m) (λ h. input_ended too_many_events m)
     made_gathered (Err (Keys line)) m = absurd (three line m)
       where
-        three : (line : List ℕ) → over_today c (tables_in t) text ≡ refuse 3 line → ⊥
+        three : (line : List ℕ) → answer_over c (tables_in t) text ≡ refuse 3 line → ⊥
         three line is = not_three (ap (λ (a : Answer). a.status) (answered ∙ is))
     made_gathered (Err Usage) m = absurd m
     made_gathered (Err KeysTooLong) m = absurd m

@@ -2,8 +2,14 @@ pub mod AnswerLaws
 pub mod CommandLaws
 pub mod Completing
 pub mod Contract
+pub mod Facts
 pub mod Gathering
+pub mod Given
 pub mod Headline
+pub mod LineEnds
 pub mod LinkLaws
 pub mod LintLaws
+pub mod PacketEnds
+pub mod Streaming
+pub mod RunLaws
 pub mod Telling

@@ -1,7 +1,8 @@
 -- That the program does what it is for.
 use Rattle.std.specs.Prelude.{◌≡◌, ◌⊎◌, ℕ, ◌<◌, Bool, true, List, [], length, Some}
 use Rattle.ao_base.specs.Outside.{Side, Took, Rose}
-use Rattle.ao_run.specs.Today.{answer_today as answer, command_today as command_of}
+use Rattle.format_model.specs.Answers.{answer_of}
+use Rattle.format_model.specs.Commands.{command_of}
 use Rattle.ao_run.specs.Obeys.{Sides, asks_keys, asks_input}
 
 -- no fault comes in the call, or the side told before it that none comes while these bytes go by
@@ -16,7 +17,7 @@ pub record Tells (asked : Bool) (bytes : List ℕ) (before now : Side) : Type 0 
 
 -- where the answer to what the sources tell is an output, and no fault comes while they are read and it is written, the whole output is written with its status, or memory runs out
 pub record Completes (words : List (List ℕ)) (before now : Sides) (status : ℕ) : Type 0 where
-  pub done : (keys input : List ℕ) → let a = answer words keys input in a.status < 2 →
+  pub done : (keys input : List ℕ) → let a = answer_of (command_of words) keys input in a.status < 2 →
       Tells (asks_keys (command_of words)) keys before.keys now.keys →
       Tells (asks_input (command_of words)) input before.input now.input →
       IsCalm a.output before.out now.out →

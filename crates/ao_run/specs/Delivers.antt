@@ -1,17 +1,43 @@
--- The headline: what `link` and `link KEYS` say of every link file, over every key file.
-use Rattle.std.specs.Prelude.{◌≡◌, ◌↔◌, ℕ, ◌<◌, List, [], ◌∷◌, ◌++◌, Bool, true, false, codes, Result, Ok}
+-- The headlines: what the commands that run say of every input, over every key file.
+use Rattle.std.specs.Prelude.{◌≡◌, ◌↔◌, ℕ, ◌<◌, ◌≤◌, List, [], ◌∷◌, ◌++◌, length, All, true, false, codes, Result, Ok}
+use Rattle.ao_base.specs.declared.address.Pair.{Pair}
 use Rattle.ao_base.specs.Outside.{Side, Took, IsAtEnd}
 use Rattle.key_model.specs.Nodes.{tables_of}
-use Rattle.key_model.specs.Rows.{Table}
+use Rattle.key_model.specs.Plans.{rows_at}
+use Rattle.key_model.specs.Rows.{Row, Table}
+use Rattle.line_model.specs.declared.text_fault.TextFault.{TextFault}
 use Rattle.link_model.specs.declared.event.Event.{Event}
 use Rattle.link_model.specs.Reports.{report, counts_line}
 use Rattle.link_model.specs.Runs.{run}
 use Rattle.link_model.specs.Worlds.{Setup, forgeries, setup_of}
+use Rattle.format_model.specs.declared.node.NodeEvent.{NodeEvent}
+use Rattle.format_model.specs.declared.node.NodeScript.{NodeScript}
 use Rattle.format_model.specs.declared.script.Script.{Script}
-use Rattle.format_model.specs.Answers.{shared_by}
+use Rattle.format_model.specs.declared.timed.TimedEvent.{TimedEvent}
+use Rattle.format_model.specs.declared.timed.TimedScript.{TimedScript}
+use Rattle.format_model.specs.Answers.{answer, most_events, shared_by}
+use Rattle.format_model.specs.BgpRuns.{bgp_faults, bgp_text}
 use Rattle.format_model.specs.LinkFiles.{script_of}
+use Rattle.format_model.specs.NodeRuns.{Alone, node_script_of, node_text}
+use Rattle.format_model.specs.TimedRuns.{expand, timed_script_of}
+use Rattle.bgp_link.specs.Tellings.{SpeaksInOrder, TellsMessages}
 use Rattle.link_headline.specs.Lawful.{Lawful}
+use Rattle.pcap_laws.specs.LineForms.{line_form}
 use Rattle.ao_run.specs.Obeys.{Sides}
+
+-- the key file is one of valid tables, it was read to its end, and over these
+pub record Keyed (keys : List ℕ) (now : Side) (Over : List Table → Type 0) : Type 0 where
+  pub keys_read_out : IsAtEnd now
+  pub tables : List Table
+  pub is_key_file : tables_of keys ≡ Ok tables
+  pub over : Over tables
+
+-- the input is in the command's grammar, it was read to its end, and of what it says
+pub record Says {S : Type 0} (script_in : List ℕ → Result S TextFault) (input : List ℕ) (now : Side) (Holds : S → Type 0) : Type 0 where
+  pub read_out : IsAtEnd now
+  pub script : S
+  pub is_script : script_in input ≡ Ok script
+  pub holds : Holds script
 
 -- of the run of these events, with the status of the call
 pub record Delivers (setup : Setup) (events : List Event) (out_before out_now : Side) (status : ℕ) : Type 0 where
@@ -24,25 +50,67 @@ pub record Delivers (setup : Setup) (events : List Event) (out_before out_now : 
   -- prefix, one partner, end of stream, acknowledgement, rollover, no gap, origin and reset
   pub lawful : Lawful setup events
 
--- the input is a link file, and of its run over its tables
-pub record LinkFile (with_keys : Bool) (tables : Script → List Table) (input : List ℕ) (before now : Sides) (status : ℕ) : Type 0 where
-  pub read_out : IsAtEnd now.input
-  pub script : Script
-  pub is_script : script_of with_keys input ≡ Ok script
-  pub delivers : Delivers (setup_of (tables script) script.a script.b) script.events before.out now.out status
+-- of the run of a link whose ends have timers (RFC 6298): its plain run isn't too long, and of that run
+pub record DeliversTimed (setup : Setup) (events : List TimedEvent) (out_before out_now : Side) (status : ℕ) : Type 0 where
+  pub few : length (expand setup events).events ≤ most_events
+  pub plain_run : Delivers setup (expand setup events).events out_before out_now status
 
--- the key file is one of valid tables, and over these the input is a link file
-pub record KeyedLinkFile (keys input : List ℕ) (before now : Sides) (status : ℕ) : Type 0 where
-  pub keys_read_out : IsAtEnd now.keys
-  pub tables : List Table
-  pub is_key_file : tables_of keys ≡ Ok tables
-  pub link_file : LinkFile true (λ s. tables) input before now status
+-- of the run of these events, whose delivered bytes are read as BGP messages (RFC 4271)
+pub record DeliversMessages (setup : Setup) (events : List Event) (out_before out_now : Side) (status : ℕ) : Type 0 where
+  -- the messages and the summary were written
+  pub written : Took (bgp_text setup events) out_before out_now
+  -- the status is 0 exactly where no forgery is counted and no session reached a faulty message
+  pub counted : (status ≡ 0) ↔ ((forgeries (run setup events).history ≡ 0) × (bgp_faults (run setup events) ≡ 0))
+  -- the messages written for each session are those of its delivered bytes, in whatever pieces they were taken
+  pub told : TellsMessages setup events
+  -- where no forgery is counted they begin the messages in the bytes given to its partner
+  pub in_order : SpeaksInOrder (run setup events)
+  -- prefix, one partner, end of stream, acknowledgement, rollover, no gap, origin and reset
+  pub lawful : Lawful setup events
+
+-- of the run of a node with these rows
+pub record DeliversNode (rows : List Row) (events : List NodeEvent) (out_before out_now : Side) (status : ℕ) : Type 0 where
+  -- the answers were written
+  pub written : Took (node_text rows events) out_before out_now
+  pub done : status ≡ 0
+  -- each connection gives the answers that it would give alone
+  pub alone : (pair : Pair) → Alone pair rows events
+
+-- of a pcap file: it is judged as its line form is
+pub record DeliversPackets (name keys input : List ℕ) : Type 0 where
+  pub as_lines : All (λ b. b < 256) input → length (line_form input) ≤ 268435456 →
+      answer (codes "check" ∷ codes "--pcap" ∷ name ∷ []) keys input ≡ answer (codes "check" ∷ name ∷ []) keys (line_form input)
 
 -- the tables of the key that a script names
 abbrev pub named_tables : Script → List Table
 named_tables s = shared_by s s.shared
 
--- with the words of `link` or `link KEYS`, done
-pub record LinkDelivers (words : List (List ℕ)) (keys input : List ℕ) (before now : Sides) (status : ℕ) : Type 0 where
-  pub link : words ≡ codes "link" ∷ [] → status < 2 → LinkFile false named_tables input before now status
-  pub link_keys : (name : List ℕ) → words ≡ codes "link" ∷ name ∷ [] → status < 2 → KeyedLinkFile keys input before now status
+-- of the run of a link file over these tables
+abbrev pub LinkFile : List Table → Script → (before now : Sides) → ℕ → Type 0
+LinkFile tables s before now status = Delivers (setup_of tables s.a s.b) s.events before.out now.out status
+
+-- of the run of a link file with waits over these tables
+abbrev pub TimedFile : List Table → TimedScript → (before now : Sides) → ℕ → Type 0
+TimedFile tables s before now status = DeliversTimed (setup_of tables s.a s.b) s.events before.out now.out status
+
+-- of the messages in a link file's run over these tables
+abbrev pub MessageFile : List Table → Script → (before now : Sides) → ℕ → Type 0
+MessageFile tables s before now status = DeliversMessages (setup_of tables s.a s.b) s.events before.out now.out status
+
+-- of the run of a node's file over these tables; an address that no node has stands for an empty table
+abbrev pub NodeFile : List Table → NodeScript → (before now : Sides) → ℕ → Type 0
+NodeFile tables s before now status = DeliversNode (rows_at tables s.address) s.events before.out now.out status
+
+-- with the words of one of these commands, done
+pub record CommandsDeliver (words : List (List ℕ)) (keys input : List ℕ) (before now : Sides) (status : ℕ) : Type 0 where
+  pub link : words ≡ codes "link" ∷ [] → status < 2 →
+      Says (script_of false) input now.input (λ s. LinkFile (named_tables s) s before now status)
+  pub link_keys : (name : List ℕ) → words ≡ codes "link" ∷ name ∷ [] → status < 2 →
+      Keyed keys now.keys (λ tables. Says (script_of true) input now.input (λ s. LinkFile tables s before now status))
+  pub timed : (name : List ℕ) → words ≡ codes "timed" ∷ name ∷ [] → status < 2 →
+      Keyed keys now.keys (λ tables. Says timed_script_of input now.input (λ s. TimedFile tables s before now status))
+  pub bgp : (name : List ℕ) → words ≡ codes "bgp" ∷ name ∷ [] → status < 2 →
+      Keyed keys now.keys (λ tables. Says (script_of true) input now.input (λ s. MessageFile tables s before now status))
+  pub node : (name : List ℕ) → words ≡ codes "node" ∷ name ∷ [] → status < 2 →
+      Keyed keys now.keys (λ tables. Says node_script_of input now.input (λ s. NodeFile tables s before now status))
+  pub packets : (name : List ℕ) → words ≡ codes "check" ∷ codes "--pcap" ∷ name ∷ [] → status < 2 → DeliversPackets name keys input

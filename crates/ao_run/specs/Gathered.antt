@@ -1,26 +1,26 @@
 -- What reading and running answer, before anything is written.
-use Rattle.std.specs.Prelude.{◌≡◌, ◌≢◌, ◌⊎◌, ℕ, ◌+◌, ◌<◌, ◌≤◌, nat_le, nat_lt, ◌&&◌, Bool, true, false, List, [], length, Option, Some, None, is_some, Result, IfOk, IfErr, if◌then◌else◌}
+use Rattle.std.specs.Prelude.{◌≡◌, ◌≢◌, ◌⊎◌, ℕ, ◌+◌, ◌<◌, ◌≤◌, nat_le, nat_lt, ◌&&◌, Bool, true, false, List, [], length, Option, Some, None, is_some, Result, Ok, IfOk, IfErr, if◌then◌else◌}
 use Rattle.ao_base.specs.Outside.{Side, Gave, Rose, IsAtEnd}
+use Rattle.key_model.specs.Nodes.{tables_of}
 use Rattle.key_model.specs.Rows.{Table}
 use Rattle.format_model.specs.declared.command.Command.{Command}
 use Rattle.format_model.specs.declared.command.Command.TheVariants as command
-use Rattle.format_model.specs.Answers.{Answer, answer_of as answer_of_today, answer_over as over_today, most_keys, most_input, refuse, too_long}
+use Rattle.format_model.specs.Answers.{Answer, answer_of, answer_over, most_keys, most_input, refuse, too_long}
 use Rattle.format_model.specs.Commands.{reads_keys, reads_input}
 use Rattle.ao_run.specs.declared.stop.Output.{Output}
 use Rattle.ao_run.specs.declared.stop.Stop.{Stop}
 use Rattle.ao_run.specs.Obeys.{Unread, asks_keys, asks_input, most_of}
 use Rattle.ao_run.specs.Stops.{status_of, text_of, made}
-use Rattle.ao_run.specs.Today.{is_built}
 
 -- a storm draws at most 10,000 events
 abbrev pub draws_few : Command → Bool
 draws_few (command.Storm seed count) = nat_le count 10000
 draws_few _ = true
 
--- the words name a command that is built, or none
+-- the words name no command, or one that draws few events
 abbrev pub is_ready : Option Command → Bool
 is_ready None = true
-is_ready (Some c) = is_built c && draws_few c
+is_ready (Some c) = draws_few c
 
 -- the tables that a command has
 abbrev pub tables_in : Option (List Table) → List Table
@@ -28,8 +28,8 @@ tables_in None = []
 tables_in (Some tables) = tables
 
 -- the answer of a command over tables, whose input may be past its limit
-abbrev pub within_today : Command → List Table → List ℕ → Answer
-within_today c tables input = if reads_input c && nat_lt (most_input c) (length input) then refuse 4 too_long else over_today c tables input
+abbrev pub answer_in : Command → List Table → List ℕ → Answer
+answer_in c tables input = if reads_input c && nat_lt (most_input c) (length input) then refuse 4 too_long else answer_over c tables input
 
 -- the key file gave these bytes: the tables, where the command reads it
 pub record KeysGathered (c : Command) (keys : List ℕ) (before now : Side) (result : Result (Option (List Table)) Stop) : Type 0 where
@@ -38,10 +38,11 @@ pub record KeysGathered (c : Command) (keys : List ℕ) (before now : Side) (res
   pub alone : reads_keys c ≡ false → Unread keys before now
   pub some : IfOk result (λ t. is_some t ≡ reads_keys c)
   pub over : IfOk result (λ t. reads_keys c ≡ true → IsAtEnd now)
-  pub value : IfOk result (λ t. (input : List ℕ) → answer_of_today (Some c) keys input ≡ within_today c (tables_in t) input)
+  pub value : IfOk result (λ t. (input : List ℕ) → answer_of (Some c) keys input ≡ answer_in c (tables_in t) input)
+  pub file : IfOk result (λ t. (tables : List Table) → t ≡ Some tables → (tables_of keys ≡ Ok tables) × (length keys ≤ most_keys))
   pub asked : IfErr result (λ stop. reads_keys c ≡ true)
   pub within : IfErr result (λ stop. (3 ≤ status_of stop) × (status_of stop < 8) × (status_of stop ≢ 4) × (status_of stop ≢ 6))
-  pub refused : IfErr result (λ stop. status_of stop ≡ 3 → (input : List ℕ) → answer_of_today (Some c) keys input ≡ refuse 3 (text_of stop))
+  pub refused : IfErr result (λ stop. status_of stop ≡ 3 → (input : List ℕ) → answer_of (Some c) keys input ≡ refuse 3 (text_of stop))
   pub judged : IfErr result (λ stop. status_of stop ≡ 3 → IsAtEnd now ⊎ (most_keys < length keys))
   pub fault : IfErr result (λ stop. status_of stop ≡ 5 → Rose before now)
 
@@ -52,10 +53,10 @@ pub record InputGathered (c : Command) (input : List ℕ) (before now : Side) (r
   pub alone : reads_input c ≡ false → Unread input before now
   pub same : IfOk result (λ text. text ≡ input)
   pub over : IfOk result (λ text. reads_input c ≡ true → IsAtEnd now)
-  pub value : IfOk result (λ text. (tables : List Table) → within_today c tables input ≡ over_today c tables input)
+  pub value : IfOk result (λ text. (tables : List Table) → answer_in c tables input ≡ answer_over c tables input)
   pub asked : IfErr result (λ stop. reads_input c ≡ true)
   pub within : IfErr result (λ stop. (4 ≤ status_of stop) × (status_of stop < 8) × (status_of stop ≢ 6))
-  pub refused : IfErr result (λ stop. status_of stop ≡ 4 → (tables : List Table) → within_today c tables input ≡ refuse 4 (text_of stop))
+  pub refused : IfErr result (λ stop. status_of stop ≡ 4 → (tables : List Table) → answer_in c tables input ≡ refuse 4 (text_of stop))
   pub judged : IfErr result (λ stop. status_of stop ≡ 4 → most_input c < length input)
   pub fault : IfErr result (λ stop. status_of stop ≡ 5 → Rose before now)
 
@@ -71,17 +72,17 @@ pub record Gathered (command : Option Command) (keys input : List ℕ) (before n
   pub few_keys : length keys ≤ most_keys + 1
   pub few_input : length input ≤ most_of command + 1
   pub keys_alone : asks_keys command ≡ false → Unread keys before.keys now.keys
-  pub input_alone : (asks_input command ≡ false) ⊎ ((answer_of_today command keys input).status ≡ 3) → Unread input before.input now.input
+  pub input_alone : (asks_input command ≡ false) ⊎ ((answer_of command keys input).status ≡ 3) → Unread input before.input now.input
   pub keys_first : asks_keys command ≡ true → IsAtEnd now.keys ⊎ Unread input before.input now.input
-  pub done : IfOk result (λ o. (answer_of_today command keys input ≡ made o) × (o.status < 2))
+  pub done : IfOk result (λ o. (answer_of command keys input ≡ made o) × (o.status < 2))
   pub keys_end : IfOk result (λ o. asks_keys command ≡ true → IsAtEnd now.keys)
   pub input_end : IfOk result (λ o. asks_input command ≡ true → IsAtEnd now.input)
   pub usage : command ≡ None → IfErr result (λ stop. status_of stop ≡ 2) × IfOk result (λ o. ⊥)
   pub within : IfErr result (λ stop. (2 ≤ status_of stop) × (status_of stop < 8) × (status_of stop ≢ 6))
-  pub refused : IfErr result (λ stop. status_of stop < 5 → answer_of_today command keys input ≡ refuse (status_of stop) (text_of stop))
+  pub refused : IfErr result (λ stop. status_of stop < 5 → answer_of command keys input ≡ refuse (status_of stop) (text_of stop))
   pub keys_judged : IfErr result (λ stop. status_of stop ≡ 3 → IsAtEnd now.keys ⊎ (most_keys < length keys))
   pub keys_over : IfErr result (λ stop. status_of stop ≡ 4 → asks_keys command ≡ true → IsAtEnd now.keys)
   pub judged : IfErr result (λ stop. status_of stop ≡ 4 → IsAtEnd now.input ⊎ (most_of command < length input))
   pub fault : IfErr result (λ stop. status_of stop ≡ 5 →
       ((asks_keys command ≡ true) × Rose before.keys now.keys × Unread input before.input now.input)
-      ⊎ ((asks_input command ≡ true) × ((answer_of_today command keys input).status ≢ 3) × Rose before.input now.input))
+      ⊎ ((asks_input command ≡ true) × ((answer_of command keys input).status ≢ 3) × Rose before.input now.input))

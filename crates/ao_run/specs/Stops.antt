@@ -1,9 +1,16 @@
 -- The status and the text of each way to end without output.
 use Rattle.std.specs.Prelude.{◌≡◌, ◌<◌, ℕ, List, [], Result, Ok, Err}
 use Rattle.ao_run.specs.declared.stop.Stop.{Stop}
-use Rattle.ao_run.specs.declared.stop.Stop.TheVariants.{Usage, KeysTooLong, Keys, TooLong, Input, Read, Write, Memory}
+use Rattle.ao_run.specs.declared.stop.Stop.TheVariants.{Usage, KeysTooLong, Keys, TooLong, Input, TooManyEvents, Read, Write, Memory}
 use Rattle.ao_run.specs.declared.stop.Output.{Output}
-use Rattle.format_model.specs.Answers.{Answer, refuse, keys_too_long, too_long, read_fault, write_fault, memory}
+use Rattle.line_model.specs.declared.text_fault.TextFault.TheVariants.{Line}
+use Rattle.line_model.specs.Faults.{fault_text}
+use Rattle.wire_model.specs.Packets.{BadHead, BadRecord}
+use Rattle.capture_lines.specs.declared.check.Halt.{Halt}
+use Rattle.capture_lines.specs.declared.check.Halt.TheVariants as halt
+use Rattle.capture_packets.specs.declared.check.PacketHalt.{PacketHalt}
+use Rattle.capture_packets.specs.declared.check.PacketHalt.TheVariants as packet_halt
+use Rattle.format_model.specs.Answers.{Answer, refuse, keys_too_long, too_long, too_many_events, pcap_fault_line, read_fault, write_fault, memory}
 use Rattle.format_model.specs.Commands.{usage}
 
 -- the exit status of each way to end without output
@@ -13,6 +20,7 @@ status_of KeysTooLong = 3
 status_of (Keys text) = 3
 status_of TooLong = 4
 status_of (Input text) = 4
+status_of TooManyEvents = 4
 status_of Read = 5
 status_of Write = 6
 status_of Memory = 7
@@ -24,6 +32,7 @@ text_of KeysTooLong = keys_too_long
 text_of (Keys text) = text
 text_of TooLong = too_long
 text_of (Input text) = text
+text_of TooManyEvents = too_many_events
 text_of Read = read_fault
 text_of Write = write_fault
 text_of Memory = memory
@@ -37,9 +46,27 @@ abbrev pub Stopped : Stop → Answer → Type 0
 Stopped Memory a = Unit {0}
 Stopped (Keys text) a = a ≡ refuse 3 text
 Stopped (Input text) a = a ≡ refuse 4 text
+Stopped TooManyEvents a = a ≡ refuse 4 too_many_events
 Stopped _ a = ⊥
 
 -- what a command made of its input is the answer, and an output has the status 0 or 1
 abbrev pub Makes : Result Output Stop → Answer → Type 0
 Makes (Ok o) a = (a ≡ made o) × (o.status < 2)
 Makes (Err stop) a = Stopped stop a
+
+-- a check of lines that stopped so has this stop; there may be no memory for the text of a line's fault
+abbrev pub IsHalted : Halt → Stop → Type 0
+IsHalted (halt.Line n kind) stop = Stopped stop (refuse 4 (fault_text (Line n kind)))
+IsHalted halt.TooLong stop = stop ≡ TooLong
+IsHalted halt.Read stop = stop ≡ Read
+IsHalted halt.Write stop = stop ≡ Write
+IsHalted halt.Memory stop = stop ≡ Memory
+
+-- and a check of a pcap file
+abbrev pub IsPacketHalted : PacketHalt → Stop → Type 0
+IsPacketHalted (packet_halt.Head fault) stop = Stopped stop (refuse 4 (pcap_fault_line (BadHead fault)))
+IsPacketHalted (packet_halt.Record n) stop = Stopped stop (refuse 4 (pcap_fault_line (BadRecord n)))
+IsPacketHalted packet_halt.TooLong stop = stop ≡ TooLong
+IsPacketHalted packet_halt.Read stop = stop ≡ Read
+IsPacketHalted packet_halt.Write stop = stop ≡ Write
+IsPacketHalted packet_halt.Memory stop = stop ≡ Memory

@@ -4,8 +4,7 @@ ghost use Rattle.key_model.specs.Times.{time_of};
 ghost use Rattle.format_model.specs.Commands.{alone_of, command_of, keys_of, lint_of, pcap_of, reads_input, reads_keys, storm_of, three_of, up_to, with_keys_of};
 ghost use Rattle.format_model.specs.Answers.{most_input};
 ghost use Rattle.ao_run.specs.Gathered.{is_ready};
-ghost use Rattle.ao_run.specs.KeyFiles.{key_word, second};
-ghost use Rattle.ao_run.specs.Today.{command_today, is_built};
+ghost use Rattle.ao_run.specs.KeyFiles.{key_word, second, third};
 
 use ao_base::{Words, read_decimal};
 use format_model::{Command, Plan};
@@ -130,7 +129,7 @@ fn lint(lead: &[u8], lag: &[u8], from: &[u8], to: &[u8]) -> Option<Command>
     }
 }
 
-/// The command that the words name, built or not.
+/// The command that the words name.
 #[tactic(auto, unfolding(format_model::specs::Commands::command_of))]
 fn command_of(words: &Words) -> Option<Command>
     ensures { result ≡ command_of words.now }
@@ -149,36 +148,13 @@ fn command_of(words: &Words) -> Option<Command>
     }
 }
 
-/// Whether the command is built.
-fn is_built(command: Command) -> bool
-    ensures { result ≡ is_built command }
-{
-    match command {
-        Command::Check => false,
-        Command::CheckPcap => false,
-        Command::Bgp => false,
-        Command::Timed => false,
-        Command::Node => false,
-        _ => true,
-    }
-}
-
-/// The command that the words name, where it is built; None exactly where they are in no such
-/// command's form.
+/// The command that the words name, which draws at most 10,000 events; None exactly where they are in
+/// no command's form.
 pub(crate) fn named(words: &Words) -> Option<Command>
-    ensures command { result ≡ command_today words.now }
+    ensures command { result ≡ command_of words.now }
     ensures ready { is_ready result ≡ true }
 {
-    match command_of(words) {
-        Some(command) => {
-            if is_built(command) {
-                Some(command)
-            } else {
-                None
-            }
-        }
-        None => None,
-    }
+    command_of(words)
 }
 
 /// Whether the command reads the key file.
@@ -225,12 +201,22 @@ fn second(words: &Words) -> Option<&[u8]>
     }
 }
 
+fn third(words: &Words) -> Option<&[u8]>
+    ensures { option_map (λ w. w.now) result ≡ third words.now }
+{
+    match words.as_slice() {
+        [_name, _option, word, ..] => Some(word.as_slice()),
+        _ => None,
+    }
+}
+
 /// The word that names the key file; None exactly where the words ask for none, or are in no form of
-/// a command that is built.
+/// a command.
 pub fn key_file(words: &Words) -> Option<&[u8]>
     ensures { option_map (λ w. w.now) result ≡ key_word words.now }
 {
     match named(words) {
+        Some(Command::CheckPcap) => third(words),
         Some(command) => {
             if reads_keys(command) {
                 second(words)

@@ -1,7 +1,8 @@
 //! What completeness says over memory of which no call is told to fail: a proved caller of the top
 //! call.
 ghost use Rattle.std.specs.Prelude.{◌≡◌, ◌⊎◌, ◌<◌, [], IfOk, length};
-ghost use Rattle.ao_run.specs.Today.{answer_today};
+ghost use Rattle.format_model.specs.Answers.{answer_of};
+ghost use Rattle.format_model.specs.Commands.{command_of};
 
 use crate::run;
 use ao_base::{Bytes, MemSink, MemSource, Numbers, QuietSink, Words};
@@ -23,10 +24,10 @@ fn over_memory(
     input: Bytes,
     room: usize,
 ) -> Result<(u8, MemSink), AllocError>
-    requires done { (answer_today words.now keys input).status < 2 }
-    requires room { length (answer_today words.now keys input).output < room }
+    requires done { (answer_of (command_of words.now) keys input).status < 2 }
+    requires room { length (answer_of (command_of words.now) keys input).output < room }
     ensures { IfOk result (λ told.
-        ((told.0 ≡ (answer_today words.now keys input).status) × (told.1.held ≡ (answer_today words.now keys input).output))
+        ((told.0 ≡ (answer_of (command_of words.now) keys input).status) × (told.1.held ≡ (answer_of (command_of words.now) keys input).output))
         ⊎ (told.0 ≡ 7)) }
 {
     let mut keys = source(alloc, keys);

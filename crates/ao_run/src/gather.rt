@@ -1,14 +1,16 @@
 //! Reading what a command reads, and making its output.
-ghost use Rattle.std.specs.Prelude.{◌≡◌, ℕ, List, true, is_some};
-ghost use Rattle.format_model.specs.Answers.{answer_over as over_today};
+ghost use Rattle.std.specs.Prelude.{◌≡◌, ℕ, List, true, false, Some, is_some};
+ghost use Rattle.format_model.specs.Answers.{answer_over};
 ghost use Rattle.format_model.specs.Commands.{reads_keys};
 ghost use Rattle.ao_run.specs.Gathered.{Gathered, InputGathered, KeysGathered, is_ready, tables_in};
+ghost use Rattle.ao_run.specs.Obeys.{writes_along};
 ghost use Rattle.ao_run.specs.Stops.{Makes};
 
 use crate::command::{most_input, reads_input, reads_keys};
 use crate::key_commands::{judge, list_keys};
 use crate::key_fault::stop_of;
 use crate::link::{link, link_keys, run_storm};
+use crate::runs::{bgp, node, timed};
 use crate::stop::{Output, Stop};
 use crate::texts::{show_all, verify_all};
 use ao_base::{Bytes, ReadProblem, Source, read_all};
@@ -20,7 +22,7 @@ use std::alloc::Global;
 const MOST_KEYS: u64 = 1_048_576;
 
 /// The tables of the key file, where the command reads it.
-fn tables_for<K: Source>(
+pub(crate) fn tables_for<K: Source>(
     alloc: Global,
     command: Command,
     keys: &mut K,
@@ -65,8 +67,9 @@ fn answer(
     input: &[u8],
 ) -> Result<Output, Stop>
     requires ready { is_ready (Some command) ≡ true }
+    requires last { writes_along (Some command) ≡ false }
     requires tables { is_some tables ≡ reads_keys command }
-    ensures { Makes result (over_today command (tables_in tables) input.now) }
+    ensures { Makes result (answer_over command (tables_in tables) input.now) }
 {
     match (command, tables) {
         (Command::Link, _) => link(alloc, input),
@@ -76,6 +79,9 @@ fn answer(
         (Command::Keys(time), Some(tables)) => list_keys(alloc, &tables, time),
         (Command::Lint(plan), Some(tables)) => judge(alloc, &tables, plan, input),
         (Command::Storm(seed, count), _) => run_storm(alloc, seed, count),
+        (Command::Bgp, Some(tables)) => bgp(alloc, tables, input),
+        (Command::Timed, Some(tables)) => timed(alloc, tables, input),
+        (Command::Node, Some(tables)) => node(alloc, &tables, input),
         _ => unreachable!(),
     }
 }
@@ -87,7 +93,8 @@ pub(crate) fn gather<K: Source, I: Source>(
     keys: &mut K,
     input: &mut I,
 ) -> Result<Output, Stop>
-    requires { is_ready command ≡ true }
+    requires ready { is_ready command ≡ true }
+    requires last { writes_along command ≡ false }
     ensures { (k : List ℕ) × (i : List ℕ) × Gathered command k i
         (record { keys = K.side keys.old; input = I.side input.old })
         (record { keys = K.side keys.new; input = I.side input.new })

@@ -10,7 +10,10 @@ mod gather;
 mod key_commands;
 mod key_fault;
 mod link;
+mod pcap_fault;
+mod runs;
 mod stop;
+mod stream;
 #[cfg(test)]
 mod tests;
 mod texts;

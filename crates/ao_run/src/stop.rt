@@ -2,10 +2,13 @@
 ghost use Rattle.std.specs.Prelude.{◌≡◌};
 ghost use Rattle.line_model.specs.Faults.{fault_text};
 ghost use Rattle.format_model.specs.Answers.{refuse};
-ghost use Rattle.ao_run.specs.Stops.{Stopped, status_of, text_of};
+ghost use Rattle.ao_run.specs.Stops.{IsHalted, IsPacketHalted, Stopped, status_of, text_of};
 ghost use Rattle.ao_run.specs.declared.stop.Stop.TheVariants.{Memory};
 
+use crate::pcap_fault::{of_head, of_record};
 use ao_base::Bytes;
+use capture_lines::Halt;
+use capture_packets::PacketHalt;
 use line_model::TextFault;
 use std::alloc::{AllocError, Global};
 use text_lines::print_fault;
@@ -34,6 +37,8 @@ pub(crate) enum Stop {
     TooLong,
     /// The input isn't in the command's grammar; with the text that names its fault.
     Input(Bytes),
+    /// The plain run of a link with timers has more events than one may have.
+    TooManyEvents,
     /// A read failed.
     Read,
     /// A write failed.
@@ -65,6 +70,33 @@ impl Stop {
         }
     }
 
+    /// Why a check of lines ended so.
+    pub(crate) fn of_check(alloc: Global, halt: Halt) -> Stop
+        ensures { IsHalted halt result }
+    {
+        match halt {
+            Halt::Line(number, kind) => Stop::of_input(alloc, &TextFault::Line(number, kind)),
+            Halt::TooLong => Stop::TooLong,
+            Halt::Read => Stop::Read,
+            Halt::Write => Stop::Write,
+            Halt::Memory => Stop::Memory,
+        }
+    }
+
+    /// Why a check of a pcap file ended so.
+    pub(crate) fn of_packets(alloc: Global, halt: PacketHalt) -> Stop
+        ensures { IsPacketHalted halt result }
+    {
+        match halt {
+            PacketHalt::Head(fault) => of_head(alloc, fault),
+            PacketHalt::Record(number) => of_record(alloc, number),
+            PacketHalt::TooLong => Stop::TooLong,
+            PacketHalt::Read => Stop::Read,
+            PacketHalt::Write => Stop::Write,
+            PacketHalt::Memory => Stop::Memory,
+        }
+    }
+
     /// The status of the program.
     pub(crate) fn status(&self) -> u8
         ensures { result ≡ status_of self.now }
@@ -75,6 +107,7 @@ impl Stop {
             Stop::Keys(_) => 3,
             Stop::TooLong => 4,
             Stop::Input(_) => 4,
+            Stop::TooManyEvents => 4,
             Stop::Read => 5,
             Stop::Write => 6,
             Stop::Memory => 7,
@@ -91,6 +124,7 @@ impl Stop {
             Stop::Keys(text) => text.as_slice(),
             Stop::TooLong => b"input: too long\n",
             Stop::Input(text) => text.as_slice(),
+            Stop::TooManyEvents => b"input: too many events\n",
             Stop::Read => b"read fault\n",
             Stop::Write => b"write fault\n",
             Stop::Memory => b"memory\n",

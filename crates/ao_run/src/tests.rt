@@ -1,16 +1,61 @@
 //! Runs of the top call, against texts written by hand from the formats. The datagrams are those of
 //! an independent program.
+mod bgp;
+mod check;
+mod hostile;
 mod keys;
 mod link;
 mod link_keys;
+mod node;
 mod outside;
+mod packets;
 mod storm;
 mod texts;
+mod timed;
 
 use crate::run;
 use ao_base::{Bytes, MemSink, MemSource, Numbers, Words};
 use std::alloc::{AllocError, Global};
 use std::test::Fail;
+
+/// Two routers that send in the first hour of 1970 and accept for a minute more.
+const ONE_ROW: &[u8] = br#"[[node]]
+name = "r1"
+address = "10.0.0.1"
+[[node.key]]
+AdminKeyName = "first"
+LocalKeyName = "1"
+PeerKeyName = "1"
+Peers = ["10.0.0.2"]
+Protocol = "TCP-AO"
+ProtocolSpecificInfo = "options"
+KDF = "HMAC-SHA-1"
+AlgID = "HMAC-SHA-1-96"
+Key = "0b0b0b0b0b0b0b0b0b0b0b0b0b0b0b0b0b0b0b0b"
+Direction = "both"
+SendLifetimeStart = "19700101000000Z"
+SendLifetimeEnd = "19700101010000Z"
+AcceptLifetimeStart = "19700101000000Z"
+AcceptLifetimeEnd = "19700101010100Z"
+[[node]]
+name = "r2"
+address = "10.0.0.2"
+[[node.key]]
+AdminKeyName = "first"
+LocalKeyName = "1"
+PeerKeyName = "1"
+Peers = ["10.0.0.1"]
+Protocol = "TCP-AO"
+ProtocolSpecificInfo = "options"
+KDF = "HMAC-SHA-1"
+AlgID = "HMAC-SHA-1-96"
+Key = "0b0b0b0b0b0b0b0b0b0b0b0b0b0b0b0b0b0b0b0b"
+Direction = "both"
+SendLifetimeStart = "19700101000000Z"
+SendLifetimeEnd = "19700101010000Z"
+AcceptLifetimeStart = "19700101000000Z"
+AcceptLifetimeEnd = "19700101010100Z"
+"#;
 
 /// What a call with these words over memory is to do.
 #[derive(Clone, Copy)]
@@ -41,6 +86,15 @@ fn source_of(alloc: Global, bytes: &[u8]) -> Result<MemSource, AllocError> {
 /// A sink with room for each of these tests, no call of which is told to fail.
 fn sink(alloc: Global) -> Result<MemSink, AllocError> {
     MemSink::new(alloc, 65_536, Numbers::from_vec(Vec::new(alloc)))
+}
+
+/// These pieces, one behind the other.
+fn joined(alloc: Global, pieces: &[&[u8]]) -> Result<Vec<u8>, AllocError> {
+    let mut whole = Vec::new(alloc);
+    for piece in pieces {
+        whole.extend_from_slice(piece)?;
+    }
+    Ok(whole)
 }
 
 /// Runs the case, and compares what it left.

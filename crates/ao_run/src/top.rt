@@ -1,24 +1,76 @@
 //! The top call.
-ghost use Rattle.std.specs.Prelude.{ℕ, List};
-ghost use Rattle.ao_run.specs.Obeys.{Sides};
+ghost use Rattle.std.specs.Prelude.{◌≡◌, ℕ, List, true, false};
+ghost use Rattle.ao_run.specs.Ended.{Ended};
+ghost use Rattle.ao_run.specs.Gathered.{is_ready};
+ghost use Rattle.ao_run.specs.Obeys.{Sides, writes_along};
 ghost use Rattle.ao_run.specs.Runs.{Runs};
 
 use crate::command::named;
 use crate::gather::gather;
 use crate::stop::Stop;
+use crate::stream::{check_file, check_lines};
 use ao_base::{Failed, Sink, Source, Words, write_all};
+use format_model::Command;
 use std::alloc::Global;
+
+/// Reads all that the command reads, and then writes its whole output.
+fn make_whole<K: Source, I: Source, O: Sink>(
+    alloc: Global,
+    command: Option<Command>,
+    keys: &mut K,
+    input: &mut I,
+    out: &mut O,
+) -> Result<u8, Stop>
+    requires ready { is_ready command ≡ true }
+    requires last { writes_along command ≡ false }
+    ensures { (k : List ℕ) × (i : List ℕ) × Ended command k i
+        (record { keys = K.side keys.old; input = I.side input.old })
+        (record { keys = K.side keys.new; input = I.side input.new })
+        (O.side out.old) (O.side out.new) result }
+{
+    let output = match gather(alloc, command, keys, input) {
+        Ok(output) => output,
+        Err(stop) => return Err(stop),
+    };
+    match write_all(out, output.bytes.as_slice()) {
+        Ok(()) => Ok(output.status),
+        Err(Failed) => Err(Stop::Write),
+    }
+}
+
+/// Does what the command says, or stops; tells nothing.
+fn act<K: Source, I: Source, O: Sink>(
+    alloc: Global,
+    command: Option<Command>,
+    keys: &mut K,
+    input: &mut I,
+    out: &mut O,
+) -> Result<u8, Stop>
+    requires { is_ready command ≡ true }
+    ensures { (k : List ℕ) × (i : List ℕ) × Ended command k i
+        (record { keys = K.side keys.old; input = I.side input.old })
+        (record { keys = K.side keys.new; input = I.side input.new })
+        (O.side out.old) (O.side out.new) result }
+{
+    match command {
+        Some(Command::Check) => check_lines(alloc, keys, input, out),
+        Some(Command::CheckPcap) => check_file(alloc, keys, input, out),
+        _ => make_whole(alloc, command, keys, input, out),
+    }
+}
 
 /// Does what the words say, and answers the program's status.
 ///
 /// `keys` is the key file, `input` standard input, `out` standard output and `err` standard error.
 /// The words are looked at first, then the key file is read, where the words ask for it, then the
-/// input; then the whole output is written. The first fault in this order is answered.
+/// input; then the whole output is written. The first fault in this order is answered. `check` judges
+/// its input as it reads it, a line or a packet at a time, and writes what it says of each segment
+/// before it looks at the next; it answers the first fault that it meets.
 ///
 /// | status | comes | text for `err` |
 /// |---|---|---|
 /// | 0 | done | none |
-/// | 1 | done, with something amiss in the output: a forgery, a vector that differs, a connection that isn't aligned | none |
+/// | 1 | done, with something amiss in the output: a forgery, a vector that differs, a connection that isn't aligned, a segment that is no pass | none |
 /// | 2 | exactly where the words are in no command's form; nothing is read | the usage |
 /// | 3 | exactly where the key file isn't one of valid tables, or has over 1,048,576 bytes; the input isn't read | `keys: ..` |
 /// | 4 | exactly where the input isn't in the command's grammar, or is over its limit | `input: ..` |
@@ -26,7 +78,9 @@ use std::alloc::Global;
 /// | 6 | only where `out` failed; a proper front part of the output was written | `write fault` |
 /// | 7 | for want of memory | `memory` |
 ///
-/// With 2 to 5 and 7 nothing is written to `out`. A fault of `err` changes no status.
+/// With 2 to 5 and 7 nothing is written to `out`, except by `check`: with 4, 5 and 7 it has written
+/// the lines of the segments before, and with 6 they are followed by a front part of the next one. A
+/// fault of `err` changes no status.
 pub fn run<K: Source, I: Source, O: Sink, E: Sink>(
     alloc: Global,
     words: &Words,
@@ -40,13 +94,11 @@ pub fn run<K: Source, I: Source, O: Sink, E: Sink>(
         (record { keys = K.side keys.new; input = I.side input.new; out = O.side out.new; err = E.side err.new })
         result }
 {
-    let stop = match gather(alloc, named(words), keys, input) {
-        Ok(output) => match write_all(out, output.bytes.as_slice()) {
-            Ok(()) => return output.status,
-            Err(Failed) => Stop::Write,
-        },
-        Err(stop) => stop,
-    };
-    let _ = write_all(err, stop.text());
-    stop.status()
+    match act(alloc, named(words), keys, input, out) {
+        Ok(status) => status,
+        Err(stop) => {
+            let _ = write_all(err, stop.text());
+            stop.status()
+        }
+    }
 }

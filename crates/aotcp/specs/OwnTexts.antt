@@ -13,5 +13,5 @@ asked_by _ = None
 -- the text that it tells then
 abbrev pub text_of : OwnText → List ℕ
 text_of Help =
-    usage ++ codes "\nlink reads a link file on standard input and writes the report of its run.\nshow reads datagrams in hexadecimal, one a line, and writes their fields.\nvectors reads test vectors and writes whether each is as computed.\nkeys writes the rows of the key file KEYS with their state at TIME.\nlint reads connections and writes whether the tables of KEYS carry each through its rollovers.\nstorm writes the summary of a run of COUNT events that is made from the number SEED.\nThe other commands aren't built yet: their words are a usage fault.\nStatus 0: done; 1: done, with something amiss; 2: usage; 3: key file; 4: input;\n5: a read failed; 6: a write failed; 7: out of memory.\n"
+    usage ++ codes "\nlink reads a link file on standard input and writes the report of its run.\nshow reads datagrams in hexadecimal, one a line, and writes their fields.\nvectors reads test vectors and writes whether each is as computed.\ncheck reads stored segments, with --pcap those of a pcap file, and writes what the tables of KEYS say of each.\nkeys writes the rows of the key file KEYS with their state at TIME.\nlint reads connections and writes whether the tables of KEYS carry each through its rollovers.\nstorm writes the summary of a run of COUNT events that is made from the number SEED.\nbgp reads a link file and writes the BGP messages that its sessions delivered.\ntimed reads a link file with waits and writes the report of its run with timers.\nnode reads a node's file and writes the answers of its run.\nStatus 0: done; 1: done, with something amiss; 2: usage; 3: key file; 4: input;\n5: a read failed; 6: a write failed; 7: out of memory.\n"
 text_of Version = codes "aotcp 0.1.0\n"

@@ -10,10 +10,13 @@ const HELP: &[u8] =
 link reads a link file on standard input and writes the report of its run.
 show reads datagrams in hexadecimal, one a line, and writes their fields.
 vectors reads test vectors and writes whether each is as computed.
+check reads stored segments, with --pcap those of a pcap file, and writes what the tables of KEYS say of each.
 keys writes the rows of the key file KEYS with their state at TIME.
 lint reads connections and writes whether the tables of KEYS carry each through its rollovers.
 storm writes the summary of a run of COUNT events that is made from the number SEED.
-The other commands aren't built yet: their words are a usage fault.
+bgp reads a link file and writes the BGP messages that its sessions delivered.
+timed reads a link file with waits and writes the report of its run with timers.
+node reads a node's file and writes the answers of its run.
 Status 0: done; 1: done, with something amiss; 2: usage; 3: key file; 4: input;
 5: a read failed; 6: a write failed; 7: out of memory.
 ";

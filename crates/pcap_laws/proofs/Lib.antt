@@ -1,3 +1,3 @@
 mod Lines
-mod Records
-mod Judged
+pub mod Records
+pub mod Judged

@@ -1,50 +1,11 @@
 //! Runs of `keys` and `lint`.
-use super::{Case, expect};
+use super::{Case, ONE_ROW, expect};
 use std::test::Fail;
-
-/// A router that sends in the first hour of 1970 and accepts for a minute more, and its peer.
-const KEYS: &[u8] = br#"[[node]]
-name = "r1"
-address = "10.0.0.1"
-[[node.key]]
-AdminKeyName = "first"
-LocalKeyName = "1"
-PeerKeyName = "1"
-Peers = ["10.0.0.2"]
-Protocol = "TCP-AO"
-ProtocolSpecificInfo = "options"
-KDF = "HMAC-SHA-1"
-AlgID = "HMAC-SHA-1-96"
-Key = "0b0b0b0b0b0b0b0b0b0b0b0b0b0b0b0b0b0b0b0b"
-Direction = "both"
-SendLifetimeStart = "19700101000000Z"
-SendLifetimeEnd = "19700101010000Z"
-AcceptLifetimeStart = "19700101000000Z"
-AcceptLifetimeEnd = "19700101010100Z"
-[[node]]
-name = "r2"
-address = "10.0.0.2"
-[[node.key]]
-AdminKeyName = "first"
-LocalKeyName = "1"
-PeerKeyName = "1"
-Peers = ["10.0.0.1"]
-Protocol = "TCP-AO"
-ProtocolSpecificInfo = "options"
-KDF = "HMAC-SHA-1"
-AlgID = "HMAC-SHA-1-96"
-Key = "0b0b0b0b0b0b0b0b0b0b0b0b0b0b0b0b0b0b0b0b"
-Direction = "both"
-SendLifetimeStart = "19700101000000Z"
-SendLifetimeEnd = "19700101010000Z"
-AcceptLifetimeStart = "19700101000000Z"
-AcceptLifetimeEnd = "19700101010100Z"
-"#;
 
 fn rows_are_shown_at_a_time_case() -> Case<'static> {
     Case {
         words: &[b"keys", b"keys.toml", b"19700101010001Z"],
-        keys: KEYS,
+        keys: ONE_ROW,
         input: b"",
         status: 0,
         out: b"node 1 r1 10.0.0.1
@@ -93,7 +54,7 @@ fn a_connection_is_aligned_for_a_lag_of_a_minute_case() -> Case<'static> {
             b"19700101000000Z",
             b"19700101010000Z",
         ],
-        keys: KEYS,
+        keys: ONE_ROW,
         input: b"10.0.0.1 1000 10.0.0.2 2000\n",
         status: 0,
         out: b"1 aligned\n",
@@ -119,7 +80,7 @@ fn it_is_not_for_a_second_more_case() -> Case<'static> {
             b"19700101000000Z",
             b"19700101010000Z",
         ],
-        keys: KEYS,
+        keys: ONE_ROW,
         input: b"10.0.0.1 1000 10.0.0.2 2000\n",
         status: 1,
         out: b"1 short-accept a 1\n",

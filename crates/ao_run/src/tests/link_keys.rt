@@ -1,48 +1,9 @@
 //! Runs of `link KEYS`.
-use super::{Case, expect};
+use super::{Case, ONE_ROW, expect};
 use std::alloc::{AllocError, Global};
 use std::test::Fail;
 
 const LINK_KEYS: &[&[u8]] = &[b"link", b"keys.toml"];
-
-/// Two routers that send in the first hour of 1970 and accept for a minute more.
-const ONE_ROW: &[u8] = br#"[[node]]
-name = "r1"
-address = "10.0.0.1"
-[[node.key]]
-AdminKeyName = "first"
-LocalKeyName = "1"
-PeerKeyName = "1"
-Peers = ["10.0.0.2"]
-Protocol = "TCP-AO"
-ProtocolSpecificInfo = "options"
-KDF = "HMAC-SHA-1"
-AlgID = "HMAC-SHA-1-96"
-Key = "0b0b0b0b0b0b0b0b0b0b0b0b0b0b0b0b0b0b0b0b"
-Direction = "both"
-SendLifetimeStart = "19700101000000Z"
-SendLifetimeEnd = "19700101010000Z"
-AcceptLifetimeStart = "19700101000000Z"
-AcceptLifetimeEnd = "19700101010100Z"
-[[node]]
-name = "r2"
-address = "10.0.0.2"
-[[node.key]]
-AdminKeyName = "first"
-LocalKeyName = "1"
-PeerKeyName = "1"
-Peers = ["10.0.0.1"]
-Protocol = "TCP-AO"
-ProtocolSpecificInfo = "options"
-KDF = "HMAC-SHA-1"
-AlgID = "HMAC-SHA-1-96"
-Key = "0b0b0b0b0b0b0b0b0b0b0b0b0b0b0b0b0b0b0b0b"
-Direction = "both"
-SendLifetimeStart = "19700101000000Z"
-SendLifetimeEnd = "19700101010000Z"
-AcceptLifetimeStart = "19700101000000Z"
-AcceptLifetimeEnd = "19700101010100Z"
-"#;
 
 /// The second row is sent with from the second hour on, and accepted ten minutes before.
 const TWO_ROWS: &[u8] = br#"[[node]]

@@ -1,6 +1,8 @@
-use Rattle.std.proofs.Common.{sym, ◌∙◌}
-use Rattle.ao_run.proofs.CommandLaws.{found_ready}
+use Rattle.std.proofs.Common.{◌≡◌, true, Option, sym, subst}
+use Rattle.format_model.specs.declared.command.Command.{Command}
+use Rattle.ao_run.specs.Gathered.{is_ready}
+use Rattle.ao_run.proofs.CommandLaws.{named_ready}
 use Rattle.ao_run.proofs.command.named.Goals as goal
 
-pub returns-then-is_built-clause-ready : goal.returns-then-is_built-clause-ready
-returns-then-is_built-clause-ready c = found_ready c.args.words.now c.in-Some.command c.in-Some.ensures (sym c.is_built.ensures ∙ c.if-is_built.true)
+pub returns-clause-ready : goal.returns-clause-ready
+returns-clause-ready c = subst (λ (o : Option Command). is_ready o ≡ true) (sym c.command_of.ensures) (named_ready c.args.words.now)

@@ -1,0 +1,67 @@
+//! The commands that write as they read: `check KEYS` and `check --pcap KEYS`.
+ghost use Rattle.std.specs.Prelude.{◌≡◌, ℕ, List, Some, if◌then◌else◌};
+ghost use Rattle.format_model.specs.declared.command.Command.TheVariants.{Check, CheckPcap};
+ghost use Rattle.ao_run.specs.Ended.{Ended};
+
+use crate::gather::tables_for;
+use crate::stop::Stop;
+use ao_base::{Sink, Source};
+use capture_lines::check_segments;
+use capture_packets::check_packets;
+use format_model::Command;
+use std::alloc::Global;
+
+/// The status of a check that came to the input's end: 1 where a segment is no pass.
+fn status_of(amiss: bool) -> u8
+    ensures { result ≡ (if amiss then 1 else 0) }
+{
+    if amiss { 1 } else { 0 }
+}
+
+/// Reads the key file, and then judges the stored segments of the input line by line; the answer is
+/// the status of the program.
+pub(crate) fn check_lines<K: Source, I: Source, O: Sink>(
+    alloc: Global,
+    keys: &mut K,
+    input: &mut I,
+    out: &mut O,
+) -> Result<u8, Stop>
+    ensures { (k : List ℕ) × (i : List ℕ) × Ended (Some Check) k i
+        (record { keys = K.side keys.old; input = I.side input.old })
+        (record { keys = K.side keys.new; input = I.side input.new })
+        (O.side out.old) (O.side out.new) result }
+{
+    let tables = match tables_for(alloc, Command::Check, keys) {
+        Ok(Some(tables)) => tables,
+        Ok(None) => unreachable!(),
+        Err(stop) => return Err(stop),
+    };
+    match check_segments(alloc, tables, input, out) {
+        Ok(amiss) => Ok(status_of(amiss)),
+        Err(halt) => Err(Stop::of_check(alloc, halt)),
+    }
+}
+
+/// Reads the key file, and then judges the packets of the input, a pcap file, one by one; the answer
+/// is the status of the program.
+pub(crate) fn check_file<K: Source, I: Source, O: Sink>(
+    alloc: Global,
+    keys: &mut K,
+    input: &mut I,
+    out: &mut O,
+) -> Result<u8, Stop>
+    ensures { (k : List ℕ) × (i : List ℕ) × Ended (Some CheckPcap) k i
+        (record { keys = K.side keys.old; input = I.side input.old })
+        (record { keys = K.side keys.new; input = I.side input.new })
+        (O.side out.old) (O.side out.new) result }
+{
+    let tables = match tables_for(alloc, Command::CheckPcap, keys) {
+        Ok(Some(tables)) => tables,
+        Ok(None) => unreachable!(),
+        Err(stop) => return Err(stop),
+    };
+    match check_packets(alloc, tables, input, out) {
+        Ok(amiss) => Ok(status_of(amiss)),
+        Err(halt) => Err(Stop::of_packets(alloc, halt)),
+    }
+}

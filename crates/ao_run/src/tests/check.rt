@@ -1,0 +1,168 @@
+//! `check KEYS`: stored segments that `bench/stored_segments.py` made, a program on Python's `hmac`
+//! alone.
+ghost use Rattle.std.specs.Prelude.{◌≤◌};
+
+use super::{sink, source_of, words_of};
+use crate::run;
+use ao_base::{Bytes, MemSink, MemSource, Numbers};
+use std::alloc::{AllocError, Global};
+use std::test::Fail;
+
+/// Two nodes with one key.
+pub(super) fn keys() -> &'static [u8] {
+    b"[[node]]
+name = \"client\"
+address = \"10.0.0.1\"
+[[node.key]]
+AdminKeyName = \"first\"
+LocalKeyName = \"0\"
+PeerKeyName = \"0\"
+Peers = [\"any\"]
+Protocol = \"TCP-AO\"
+ProtocolSpecificInfo = \"options\"
+KDF = \"HMAC-SHA-1\"
+AlgID = \"HMAC-SHA-1-96\"
+Key = \"74657374766563746f72\"
+Direction = \"both\"
+[[node]]
+name = \"server\"
+address = \"10.0.0.2\"
+[[node.key]]
+AdminKeyName = \"first\"
+LocalKeyName = \"0\"
+PeerKeyName = \"0\"
+Peers = [\"any\"]
+Protocol = \"TCP-AO\"
+ProtocolSpecificInfo = \"options\"
+KDF = \"HMAC-SHA-1\"
+AlgID = \"HMAC-SHA-1-96\"
+Key = \"74657374766563746f72\"
+Direction = \"both\"
+"
+}
+
+/// A SYN, a SYN with ACK, ten segments of one byte at numbers that lie 2^30 apart, and one that lies 2^31
+/// past the number expected.
+fn thirteen() -> &'static [u8] {
+    b"0 4500003800004000400626be0a0000010a00000203e807d0000000640000000090020200105a00001d1000007ea73786bb128f7ecf895001\n\
+0 4500003800004000400626be0a0000020a00000107d003e8000000c80000006590120200b11300001d1000001f5d71ab36d7e281e733ed21\n\
+0 4500003900004000400626bd0a0000010a00000203e807d000000065000000c990100200839500001d100000a50224117cc8c10206a726af78\n\
+0 4500003900004000400626bd0a0000010a00000203e807d040000065000000c9901002005af100001d10000061fd0abf9fd1444d5f636c9a78\n\
+0 4500003900004000400626bd0a0000010a00000203e807d080000065000000c990100200377000001d100000f1660b8b8e5650491dd306f578\n\
+0 4500003900004000400626bd0a0000010a00000203e807d0c0000065000000c990100200284400001d1000004ad85870fdf7b26f4d1a2ebb78\n\
+0 4500003900004000400626bd0a0000010a00000203e807d000000065000000c990100200437800001d10000076080d7d08936aca01eb7b8478\n\
+0 4500003900004000400626bd0a0000010a00000203e807d040000065000000c99010020088d800001d1000008be182a59c6377a6e2b7e9a878\n\
+0 4500003900004000400626bd0a0000010a00000203e807d080000065000000c990100200391100001d1000004d561c0cb7f1eb421f83d29e78\n\
+0 4500003900004000400626bd0a0000010a00000203e807d0c0000065000000c9901002005d8700001d100000009ace5ae1f980e544c123ad78\n\
+0 4500003900004000400626bd0a0000010a00000203e807d000000065000000c9901002008f7500001d100000f5cebc4282403d29beedf7eb78\n\
+0 4500003900004000400626bd0a0000010a00000203e807d040000065000000c990100200785400001d10000082888a5b275f7e03d0c67c6878\n\
+0 4500003900004000400626bd0a0000010a00000203e807d0c0000066000000c990100200544f00001d100000ff5debdd982bfe6c2fc0f1e478\n"
+}
+
+fn said() -> &'static [u8] {
+    b"1 pass row 1 number 100 checksum good
+2 pass row 1 number 200 checksum good
+3 pass row 1 number 101 checksum good
+4 pass row 1 number 1073741925 checksum good
+5 pass row 1 number 2147483749 checksum good
+6 pass row 1 number 3221225573 checksum good
+7 pass row 1 number 4294967397 checksum good
+8 pass row 1 number 5368709221 checksum good
+9 pass row 1 number 6442451045 checksum good
+10 pass row 1 number 7516192869 checksum good
+11 pass row 1 number 8589934693 checksum good
+12 pass row 1 number 9663676517 checksum good
+13 refused bad-mac checksum good
+"
+}
+
+/// Three segments of a connection, three of another one between the same sockets, and one of the first.
+fn second_connection() -> &'static [u8] {
+    b"0 4500003800004000400626be0a0000010a00000203e807d0000000640000000090020200105a00001d1000007ea73786bb128f7ecf895001\n\
+0 4500003800004000400626be0a0000020a00000107d003e8000000c80000006590120200b11300001d1000001f5d71ab36d7e281e733ed21\n\
+0 4500003900004000400626bd0a0000010a00000203e807d000000065000000c990100200839500001d100000a50224117cc8c10206a726af78\n\
+0 4500003800004000400626be0a0000010a00000203e807d0000013880000000090020200b87e00001d100000f28840d0e951bd1c1a347105\n\
+0 4500003800004000400626be0a0000020a00000107d003e800001b580000138990120200dc7f00001d1000001252f76accd56d0e7ce56510\n\
+0 4500003900004000400626bd0a0000010a00000203e807d00000138900001b5990100200e32b00001d100000df9e024be8b9f4422d73b99079\n\
+0 4500003900004000400626bd0a0000010a00000203e807d000000065000000c990100200839500001d100000a50224117cc8c10206a726af78\n"
+}
+
+/// What a run left: its status, and what was written to the output and for errors.
+#[derive(Drop)]
+struct Left {
+    status: u8,
+    out: MemSink,
+    err: MemSink,
+}
+
+/// Checks this input, given in pieces of that size, with a write that fails.
+fn checked(alloc: Global, input: &[u8], piece: u32, failing: &[u64]) -> Result<Left, AllocError>
+    requires { 1 ≤ piece }
+{
+    let words = words_of(alloc, [b"check".as_slice(), b"KEYS".as_slice()].as_slice())?;
+    let mut keys = source_of(alloc, keys())?;
+    let content = Bytes::from_vec(Vec::from_slice(alloc, input)?);
+    let mut input = MemSource::new(content, piece, Numbers::from_vec(Vec::new(alloc)));
+    let failing = Numbers::from_vec(Vec::from_slice(alloc, failing)?);
+    let mut out = MemSink::new(alloc, 65_536, failing)?;
+    let mut err = sink(alloc)?;
+    let status = run(alloc, &words, &mut keys, &mut input, &mut out, &mut err);
+    Ok(Left { status, out, err })
+}
+
+#[test]
+fn the_extension_reaches_two_in_pieces_of_any_size(rt: HostRuntime) -> Result<(), Fail> {
+    let left = checked(rt.alloc(), thirteen(), 1, &[])?;
+    assert_eq!(rt; left.status, 1);
+    assert_eq!(rt; left.out.bytes(), said());
+    let left = checked(rt.alloc(), thirteen(), 7, &[])?;
+    assert_eq!(rt; left.status, 1);
+    assert_eq!(rt; left.out.bytes(), said());
+    let left = checked(rt.alloc(), thirteen(), 4_096, &[])?;
+    assert_eq!(rt; left.out.bytes(), said());
+    Ok(())
+}
+
+#[test]
+fn a_second_connection_has_keys_of_its_own(rt: HostRuntime) -> Result<(), Fail> {
+    let left = checked(rt.alloc(), second_connection(), 100, &[])?;
+    assert_eq!(rt; left.status, 1);
+    assert_eq!(rt;
+        left.out.bytes(),
+        b"1 pass row 1 number 100 checksum good
+2 pass row 1 number 200 checksum good
+3 pass row 1 number 101 checksum good
+4 pass row 1 number 5000 checksum good
+5 pass row 1 number 7000 checksum good
+6 pass row 1 number 5001 checksum good
+7 refused bad-mac checksum good
+"
+            .as_slice()
+    );
+    Ok(())
+}
+
+#[test]
+fn a_write_that_fails_ends_it(rt: HostRuntime) -> Result<(), Fail> {
+    let left = checked(rt.alloc(), thirteen(), 7, &[4])?;
+    assert_eq!(rt; left.status, 6);
+    assert_eq!(rt;
+        left.out.bytes(),
+        b"1 pass row 1 number 100 checksum good
+2 pass row 1 number 200 checksum good
+3 pass row 1 number 101 checksum good
+"
+            .as_slice()
+    );
+    assert_eq!(rt; left.err.bytes(), b"write fault\n".as_slice());
+    Ok(())
+}
+
+#[test]
+fn a_faulty_line_ends_it_with_the_lines_before(rt: HostRuntime) -> Result<(), Fail> {
+    let left = checked(rt.alloc(), b"0 45\n# 0\n0 4\n0 45\n", 7, &[])?;
+    assert_eq!(rt; left.status, 4);
+    assert_eq!(rt; left.out.bytes(), b"1 bad truncated\n".as_slice());
+    assert_eq!(rt; left.err.bytes(), b"input: line 3 hex\n".as_slice());
+    Ok(())
+}
