@@ -28,8 +28,7 @@ is_apart (byte ∷ line) = is_blank byte
 -- words are what stands between blanks, each of at least one byte
 unfoldable pub words_of : List ℕ → List (List ℕ)
 words_of [] = []
-words_of (byte ∷ line) = cond (is_blank byte) (words_of line)
-    (cond (is_apart line) ((byte ∷ []) ∷ words_of line) (onto_first byte (words_of line)))
+words_of (byte ∷ line) = cond (is_blank byte) (words_of line) (cond (is_apart line) ((byte ∷ []) ∷ words_of line) (onto_first byte (words_of line)))
 
 -- the line that begins at the place; the next one begins after its newline
 pub record IsNextLine (text : List ℕ) (from : ℕ) (cut : Cut) : Type 0 where

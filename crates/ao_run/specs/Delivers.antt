@@ -18,7 +18,8 @@ use Rattle.format_model.specs.declared.timed.TimedScript.{TimedScript}
 use Rattle.format_model.specs.Answers.{answer, most_events, shared_by}
 use Rattle.format_model.specs.BgpRuns.{bgp_faults, bgp_text}
 use Rattle.format_model.specs.LinkFiles.{script_of}
-use Rattle.format_model.specs.NodeRuns.{Alone, node_script_of, node_text}
+use Rattle.format_model.specs.NodeRuns.{node_script_of, node_text}
+use Rattle.node_laws.specs.Alone.{Alone}
 use Rattle.format_model.specs.TimedRuns.{expand, timed_script_of}
 use Rattle.bgp_link.specs.Tellings.{SpeaksInOrder, TellsMessages}
 use Rattle.link_headline.specs.Lawful.{Lawful}

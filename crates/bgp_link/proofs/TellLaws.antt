@@ -12,8 +12,8 @@ use Rattle.wire_model.proofs.Streams.{none_before}
 use Rattle.endpoint_model.specs.States.{ready}
 use Rattle.link_model.specs.declared.event.Event.{Event}
 use Rattle.link_model.specs.declared.event.Event.TheVariants.{Clock, Connect, Listen, Start, Give, Fill, Send, Resend, Deliver, Inject, Alter, Take, Close, Abort, AddRow, Withdraw, Dump}
-use Rattle.link_model.specs.Headline.{ComesFrom}
-use Rattle.link_model.specs.Laws.{SetupFits, EventFits}
+use Rattle.link_laws.specs.Headline.{ComesFrom}
+use Rattle.link_laws.specs.Laws.{SetupFits, EventFits}
 use Rattle.link_model.specs.Reports.{summary}
 use Rattle.link_model.specs.Runs.{empty, run_from, run}
 use Rattle.link_model.specs.Steps.{Stepped, step}

@@ -2,7 +2,7 @@
 ghost use Rattle.std.specs.Prelude.{List};
 ghost use Rattle.std.specs.List.{AllByRecursion};
 ghost use Rattle.link_model.specs.declared.event.Event.{Event};
-ghost use Rattle.link_model.specs.Laws.{SetupFits, EventFits};
+ghost use Rattle.link_laws.specs.Laws.{SetupFits, EventFits};
 ghost use Rattle.link_model.specs.Runs.{run};
 ghost use Rattle.link_model.specs.Worlds.{Setup};
 ghost use Rattle.bgp_link.specs.Tellings.{SpeaksInOrder, TellsMessages};

@@ -78,22 +78,19 @@ fin_of None false new = None
 
 -- a FIN at number f is in the window, and no byte stands at or past it (own)
 abbrev pub records_fin : EndState → (ℕ → Option ℕ) → Segment → ℕ → Bool
-records_fin s m d f =
-    let high = s.expected + window s in has FIN d && within f s.expected high && (runs m false f (high - f) == 0)
+records_fin s m d f = let high = s.expected + window s in has FIN d && within f s.expected high && (runs m false f (high - f) == 0)
 
 -- the bytes are kept and a FIN recorded, unless too many separate runs would arise; the number expected moves to the first missing one (RFC 9293, section 3.10.7.4; the limit of runs: own)
 abbrev pub heard_runs : EndState → (ℕ → Option ℕ) → Segment → ℕ → ℕ → Bool → Moved
 heard_runs s m d n now true = answered (owing s) TooManyRuns
-heard_runs s m d n now false =
-    let f = n + length d.payload in
+heard_runs s m d n now false = let f = n + length d.payload in
     let t = record s { received = m; fin = fin_of s.fin (records_fin s m d f) f; ack_owed = true; expected = first_missing m s.expected (window s) } in
     finish (pass_fin t t.fin) now
 
 -- payload and FIN, where they are heard: bytes in the window and before a recorded FIN that aren't kept yet are kept (RFC 9293, section 3.10.7.4)
 abbrev pub hear_data : EndState → Segment → ℕ → ℕ → Bool → Moved
 hear_data s d n now false = finish s now
-hear_data s d n now true =
-    let high = s.expected + window s in
+hear_data s d n now true = let high = s.expected + window s in
     let m = keep s.received n d.payload s.expected (below_limit s.fin high) in
     let at = first_missing m s.expected (window s) in
     heard_runs s m d n now (nat_lt 64 (runs m false at (high - at)))
@@ -122,8 +119,7 @@ acked s (Some a) = if nat_lt s.una a then record s { una = a } else s
 
 -- window, own FIN, payload and FIN (RFC 9293, section 3.10.7.4)
 abbrev pub go_on : EndState → ℕ → Segment → ℕ → ℕ → Option ℕ → Moved
-go_on s old_una d n now a =
-    let t = acked_fin (windowed s old_una d n a) a in
+go_on s old_una d n now a = let t = acked_fin (windowed s old_una d n a) a in
     hear_data t d n now (hears t.phase && (nat_lt 0 (length d.payload) || has FIN d))
 
 -- the acknowledgement, by the phase (RFC 9293, section 3.10.7.4)
@@ -138,8 +134,7 @@ reset s n = if n == s.expected then answered (record s { phase = Closed }) Reset
 
 -- an acceptable segment: RST, SYN, ACK (RFC 9293, section 3.10.7.4; RFC 5961, sections 3.2 and 4.2); f is the state once the RNextKeyID is heard
 abbrev pub ordinary : EndState → EndState → Segment → ℕ → ℕ → Moved
-ordinary s f d n now =
-    if has RST d then reset s n
+ordinary s f d n now = if has RST d then reset s n
     else (if has SYN d then answered (owing f) Challenge
     else (if not (has ACK d) then answered f NoAck
     else acknowledged f d n now (meant d.acknowledgement f.una) f.phase))
@@ -162,13 +157,11 @@ syn_ack_alone d = has SYN d && has ACK d && not (has RST d) && not (has FIN d)
 
 -- in LISTEN (RFC 9293, section 3.10.7.2)
 abbrev pub in_listen : Pair → EndState → EndState → Segment → ℕ → Moved
-in_listen pair s f d n =
-    if syn_alone d then answered (record (opened pair f d n) { phase = SynReceived }) Taken else answered s Unexpected
+in_listen pair s f d n = if syn_alone d then answered (record (opened pair f d n) { phase = SynReceived }) Taken else answered s Unexpected
 
 -- in SYN-SENT (RFC 9293, section 3.10.7.3)
 abbrev pub in_syn_sent : Pair → EndState → EndState → Segment → ℕ → Moved
-in_syn_sent pair s f d n =
-    if not (syn_ack_alone d) then answered s Unexpected
+in_syn_sent pair s f d n = if not (syn_ack_alone d) then answered s Unexpected
     else (if nat_lt s.isn s.next && (d.acknowledgement == (s.isn + 1) % ring)
     then answered (record (opened pair f d n) { phase = Established; una = s.isn + 1; wl2 = s.isn + 1; ack_owed = true }) Taken
     else answered s BadAck)
@@ -177,8 +170,7 @@ in_syn_sent pair s f d n =
 abbrev pub after_check : Pair → EndState → EndState → Segment → ℕ → ℕ → Phase → Moved
 after_check pair s f d n now Listen = in_listen pair s f d n
 after_check pair s f d n now SynSent = in_syn_sent pair s f d n
-after_check pair s f d n now _ =
-    if fits_window n (segment_length d) s.expected (window s) then ordinary s f d n now
+after_check pair s f d n now _ = if fits_window n (segment_length d) s.expected (window s) then ordinary s f d n now
     else answered (if has RST d then s else owing s) Window
 
 -- nothing changes, and nothing passed
@@ -214,8 +206,7 @@ from_peer pair d = same_socket d.source pair.remote && same_socket d.destination
 -- the datagram's fault, its sockets, its checksum, the phase, its verdict
 abbrev pub arrive_read : List Row → Pair → ℕ → EndState → Reading → Arrived
 arrive_read rows pair now s (Unread fault) = unmoved s (Bad fault)
-arrive_read rows pair now s (Read d) =
-    if not (from_peer pair d) then unmoved s Foreign
+arrive_read rows pair now s (Read d) = if not (from_peer pair d) then unmoved s Foreign
     else (if not (good d) then unmoved s Checksum
     else (if is_closed s.phase then unmoved s AtClosed
     else arrive_judged rows pair now s d (judged_by rows pair now s d)))

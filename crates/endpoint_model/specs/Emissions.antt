@@ -38,8 +38,7 @@ pub record Emission : Type 0 where
 
 -- nothing to send, no row to send with, or a segment
 pub data Emitted : Type 0 where
-  Quiet : Emitted
-  NoKey : Emitted
+  Quiet NoKey : Emitted
   Emits : (emission : Emission) → Emitted
 
 -- the phases in which data is sent (RFC 9293, section 3.10.2)
@@ -133,8 +132,7 @@ fitting s most = min (unsent s) (min (window_end s - s.next) most)
 
 -- what is sent next, with at most so many bytes: RST, SYN, SYN with ACK, data, FIN, ACK (RFC 9293, section 3.10)
 unfoldable pub to_emit : EndState → ℕ → Option Draft
-to_emit s most =
-    if s.rst_owed then Some (rst_draft s)
+to_emit s most = if s.rst_owed then Some (rst_draft s)
     else (if is_syn_sent s.phase && (s.next == s.isn) then Some (syn_draft s (record s { next = s.isn + 1 }))
     else (if is_syn_received s.phase && (s.next == s.isn) then Some (syn_ack_draft s (record s { next = s.isn + 1 }))
     else (if sends_data s then Some (data_draft s (fitting s most))
@@ -152,8 +150,7 @@ resends _ = false
 
 -- what isn't acknowledged: bytes, at most so many, or the FIN (RFC 9293, section 3.10.8)
 abbrev pub unacknowledged : EndState → ℕ → Draft
-unacknowledged s most =
-    if nat_lt s.una (given_end s) then again_draft s (min (s.next - s.una) most) else fin_again_draft s
+unacknowledged s most = if nat_lt s.una (given_end s) then again_draft s (min (s.next - s.una) most) else fin_again_draft s
 
 -- all that was sent is acknowledged, and the peer's window is zero (RFC 9293, section 3.8.6.1)
 abbrev pub is_blocked : EndState → Bool
@@ -165,8 +162,7 @@ probe s = if nat_lt 0 (unsent s) then Some (data_draft s 1) else (if s.closing t
 
 -- what is sent again, with at most so many bytes: the SYN, what isn't acknowledged, or a probe (RFC 9293, section 3.10.8)
 unfoldable pub to_resend : EndState → ℕ → Option Draft
-to_resend s most =
-    if is_syn_sent s.phase && nat_lt s.isn s.next then Some (syn_draft s s)
+to_resend s most = if is_syn_sent s.phase && nat_lt s.isn s.next then Some (syn_draft s s)
     else (if is_syn_received s.phase && nat_lt s.isn s.next then Some (syn_ack_draft s s)
     else (if resends s.phase && nat_lt s.una s.next then Some (unacknowledged s most)
     else (if is_blocked s then probe s else None)))
@@ -185,8 +181,7 @@ most_bytes pair s sending = min (own_mss pair.local.address) s.mss - ao_length s
 
 -- the IPv4 header of the written form with its checksum zero: service 0, identification 0, don't fragment, TTL 64 (RFC 791, section 3.1; the values: own)
 abbrev pub ip_words : Pair → ℕ → List ℕ
-ip_words pair total =
-    69 ∷ 0 ∷ put2 total (0 ∷ 0 ∷ 64 ∷ 0 ∷ 64 ∷ 6 ∷ 0 ∷ 0 ∷ octets pair.local.address ++ octets pair.remote.address)
+ip_words pair total = 69 ∷ 0 ∷ put2 total (0 ∷ 0 ∷ 64 ∷ 0 ∷ 64 ∷ 6 ∷ 0 ∷ 0 ∷ octets pair.local.address ++ octets pair.remote.address)
 
 -- the IP header of the written form over so many TCP bytes (RFC 791, section 3.1; RFC 8200, section 3; the values: own)
 abbrev pub written_ip : Pair → ℕ → Address → IpHeader
@@ -213,21 +208,11 @@ told_window s flags = if sets flags RST then 0 else (if sets flags ACK then wind
 
 -- the segment of a draft with this MAC, its checksum still 0
 abbrev pub written : Pair → EndState → Draft → Sending → List ℕ → Segment
-written pair s out sending m =
-    record {
-      ip = written_ip pair (24 + length m + ao_place (sets out.flags SYN) + length out.payload) pair.local.address;
-      source = pair.local;
-      destination = pair.remote;
-      sequence = out.number % ring;
-      acknowledgement = if sets out.flags ACK then s.expected % ring else 0;
-      reserved = 0;
-      flags = out.flags;
-      window = told_window s out.flags;
-      checksum = 0;
-      urgent = 0;
-      area = written_area pair (sets out.flags SYN) sending m;
-      payload = out.payload;
-    }
+written pair s out sending m = record {
+      ip = written_ip pair (24 + length m + ao_place (sets out.flags SYN) + length out.payload) pair.local.address; source = pair.local;
+      destination = pair.remote; sequence = out.number % ring; acknowledgement = if sets out.flags ACK then s.expected % ring else 0;
+      reserved = 0; flags = out.flags; window = told_window s out.flags; checksum = 0; urgent = 0;
+      area = written_area pair (sets out.flags SYN) sending m; payload = out.payload }
 
 -- a MAC that is still zero
 abbrev pub no_mac : Sending → List ℕ
@@ -252,17 +237,10 @@ seal_of pair s out sending context =
 
 -- the segment of a draft under this context; the row is the current one from now on
 abbrev pub sealed : Pair → EndState → Draft → Sending → List ℕ → Emission
-sealed pair s out sending context =
-    record {
-      state = record (out.state) { current = Some sending.number };
-      flags = out.flags;
-      number = out.number;
-      acknowledged = if sets out.flags ACK then Some s.expected else None;
-      sending = sending;
-      context = context;
-      input = input_of pair s out sending;
-      segment = finished (written pair s out sending (seal_of pair s out sending context));
-    }
+sealed pair s out sending context = record {
+      state = record (out.state) { current = Some sending.number }; flags = out.flags; number = out.number;
+      acknowledged = if sets out.flags ACK then Some s.expected else None; sending = sending; context = context;
+      input = input_of pair s out sending; segment = finished (written pair s out sending (seal_of pair s out sending context)) }
 
 -- the segment of a draft, where its context is known: it always is, in a run
 abbrev pub seal_known : Pair → EndState → Draft → Sending → Option (List ℕ) → Emitted

@@ -63,29 +63,10 @@ default_mss (V6 bytes) = 1220
 
 -- a session as it begins in a phase
 abbrev pub beginning : Pair → Phase → ℕ → EndState
-beginning pair phase isn =
-    record {
-      phase = phase;
-      isn = isn;
-      peer_isn = None;
-      una = isn;
-      next = isn;
-      send_window = 0;
-      wl1 = 0;
-      wl2 = 0;
-      expected = 0;
-      given = [];
-      taken = [];
-      received = λ p. None;
-      fin = None;
-      ack_owed = false;
-      closing = false;
-      aborted = false;
-      rst_owed = false;
-      mss = default_mss pair.local.address;
-      deadline = None;
-      current = None;
-    }
+beginning pair phase isn = record {
+      phase = phase; isn = isn; peer_isn = None; una = isn; next = isn; send_window = 0; wl1 = 0; wl2 = 0; expected = 0; given = [];
+      taken = []; received = λ p. None; fin = None; ack_owed = false; closing = false; aborted = false; rst_owed = false;
+      mss = default_mss pair.local.address; deadline = None; current = None }
 
 -- an active open (RFC 9293, section 3.10.1)
 abbrev pub connected : Pair → ℕ → EndState
@@ -97,17 +78,9 @@ listening pair isn = beginning pair Listen isn
 
 -- a session whose two initial sequence numbers are known (own)
 abbrev pub started : Pair → ℕ → ℕ → EndState
-started pair isn peer =
-    record (beginning pair Established isn) {
-      peer_isn = Some peer;
-      una = isn + 1;
-      next = isn + 1;
-      expected = peer + 1;
-      send_window = 65535;
-      wl1 = peer;
-      wl2 = isn + 1;
-      mss = own_mss pair.local.address;
-    }
+started pair isn peer = record (beginning pair Established isn) {
+      peer_isn = Some peer; una = isn + 1; next = isn + 1; expected = peer + 1; send_window = 65535; wl1 = peer; wl2 = isn + 1;
+      mss = own_mss pair.local.address }
 
 -- the number after the last given byte
 abbrev pub given_end : EndState → ℕ
@@ -147,8 +120,7 @@ taking count s = take count (ready s)
 
 -- so many of the ready bytes are taken, or all of them; an ACK is owed where the window opens (RFC 9293, section 3.8.6.2.2)
 abbrev pub take_out : ℕ → EndState → EndState
-take_out count s =
-    let t = record s { taken = s.taken ++ taking count s } in record t { ack_owed = s.ack_owed || opens s t }
+take_out count s = let t = record s { taken = s.taken ++ taking count s } in record t { ack_owed = s.ack_owed || opens s t }
 
 -- the number expected is past the peer's FIN
 abbrev pub passed_fin : Option ℕ → ℕ → Bool

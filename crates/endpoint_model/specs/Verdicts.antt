@@ -83,8 +83,7 @@ abbrev pub judge_ao : List Row → Pair → ℕ → Option ℕ → Segment → O
 judge_ao rows pair now expected d context Absent = Refuse NoAo
 judge_ao rows pair now expected d context Two = Refuse TwoAo
 judge_ao rows pair now expected d context FoundMd5 = Refuse WithMd5
-judge_ao rows pair now expected d context (One ao) =
-    judge_row rows pair d ao expected context (accept_row rows pair ao.key_id now)
+judge_ao rows pair now expected d context (One ao) = judge_row rows pair d ao expected context (accept_row rows pair ao.key_id now)
 
 -- the first refusal that holds, else a pass; from the own initial sequence number, the peer's and the number expected as far as they are known, and the time (RFC 5925, section 7.5)
 unfoldable pub judge : List Row → Pair → ℕ → Option ℕ → Option ℕ → ℕ → Segment → Judgement

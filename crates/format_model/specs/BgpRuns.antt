@@ -42,8 +42,7 @@ fault_line p bytes old new = []
 
 -- what a take adds to the messages of a session: the messages that it completes, and the fault that it reaches
 abbrev pub taken_lines : Place → List ℕ → List ℕ → List ℕ
-taken_lines p old new =
-    message_lines p (drop (length (messages old)) (messages new)) ++ fault_line p new (fault_in old) (fault_in new)
+taken_lines p old new = message_lines p (drop (length (messages old)) (messages new)) ++ fault_line p new (fault_in old) (fault_in new)
 
 -- the bytes that a live session took
 abbrev pub taken_by : Option Session → List ℕ
@@ -63,8 +62,7 @@ event_lines n _ before after = []
 -- the lines of events, numbered from here on
 abbrev pub bgp_lines_from : Setup → ℕ → World → List Event → List ℕ
 bgp_lines_from setup n w [] = []
-bgp_lines_from setup n w (e ∷ es) =
-    let after = (step setup w e).world in event_lines n e w after ++ bgp_lines_from setup (suc n) after es
+bgp_lines_from setup n w (e ∷ es) = let after = (step setup w e).world in event_lines n e w after ++ bgp_lines_from setup (suc n) after es
 
 -- the messages of all sessions in the order in which they were taken, and the summary of the run
 unfoldable pub bgp_text : Setup → List Event → List ℕ

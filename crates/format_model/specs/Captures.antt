@@ -44,8 +44,7 @@ pub record Heard : Type 0 where
 
 -- the connection is between these two sockets, in either order
 abbrev pub joins : Socket → Socket → Connection → Bool
-joins a b c =
-    (same_socket c.one.socket a && same_socket c.two.socket b) || (same_socket c.one.socket b && same_socket c.two.socket a)
+joins a b c = (same_socket c.one.socket a && same_socket c.two.socket b) || (same_socket c.one.socket b && same_socket c.two.socket a)
 
 -- the connection seen from its side with this socket, which comes first
 abbrev pub seen_from : Socket → Connection → Connection
@@ -71,16 +70,12 @@ judge_later rows pair now d (Some c) = judge rows pair c.two.isn (Some c.one.isn
 
 -- the verdict on a segment; a SYN tells its own initial sequence number, and with ACK the other one (RFC 5925, section 5.2)
 abbrev pub judge_stored : List Row → Pair → ℕ → Segment → Option Connection → Judgement
-judge_stored rows pair now d known =
-    if has SYN d then judge rows pair (acknowledged_isn d) None None now d else judge_later rows pair now d known
+judge_stored rows pair now d known = if has SYN d then judge rows pair (acknowledged_isn d) None None now d else judge_later rows pair now d known
 
 -- the connection that a SYN with ACK fixes (RFC 9293, section 3.5)
 abbrev pub fixed : Segment → Connection
-fixed d =
-    record {
-      one = record { socket = d.source; isn = d.sequence; expected = d.sequence + 1 };
-      two = record { socket = d.destination; isn = acknowledged_isn d; expected = acknowledged_isn d + 1 };
-    }
+fixed d = record { one = record { socket = d.source; isn = d.sequence; expected = d.sequence + 1 };
+      two = record { socket = d.destination; isn = acknowledged_isn d; expected = acknowledged_isn d + 1 } }
 
 -- the connection has these initial sequence numbers already
 abbrev pub same_isns : Connection → Connection → Bool
@@ -94,22 +89,19 @@ most_connections = 65536
 abbrev pub hear_syn_ack : List Connection → Segment → Judgement → Option Connection → Heard
 hear_syn_ack held d j (Some c) =
     record { connections = if same_isns c (fixed d) then held else with_connection (fixed d) held; saying = Judged j (good d) }
-hear_syn_ack held d j None =
-    if nat_le most_connections (length held) then record { connections = held; saying = Full (good d) }
+hear_syn_ack held d j None = if nat_le most_connections (length held) then record { connections = held; saying = Full (good d) }
     else record { connections = with_connection (fixed d) held; saying = Judged j (good d) }
 
 -- a segment without SYN passed at number n: what is expected of its side is at least the number behind it (own)
 abbrev pub hear_later : List Connection → Segment → ℕ → Judgement → Option Connection → Heard
 hear_later held d n j None = record { connections = held; saying = Judged j (good d) }
-hear_later held d n j (Some c) =
-    let side = record (c.one) { expected = max c.one.expected (n + segment_length d) } in
+hear_later held d n j (Some c) = let side = record (c.one) { expected = max c.one.expected (n + segment_length d) } in
     record { connections = with_connection (record c { one = side }) held; saying = Judged j (good d) }
 
 -- a segment with its verdict; a SYN alone fixes nothing
 abbrev pub hear_judged : List Connection → Segment → Option Connection → Judgement → Heard
 hear_judged held d known (Refuse why) = record { connections = held; saying = Judged (Refuse why) (good d) }
-hear_judged held d known (Admit p) =
-    if not (has SYN d) then hear_later held d p.number (Admit p) known
+hear_judged held d known (Admit p) = if not (has SYN d) then hear_later held d p.number (Admit p) known
     else (if has ACK d then hear_syn_ack held d (Admit p) known
     else record { connections = held; saying = Judged (Admit p) (good d) })
 
@@ -120,8 +112,7 @@ pair_at d = record { local = d.destination; remote = d.source }
 -- a segment, judged by the table of its destination; no node has it, or both sockets are one (own)
 abbrev pub hear_at : Option Table → List Connection → ℕ → Segment → Heard
 hear_at None held now d = record { connections = held; saying = UnknownNode }
-hear_at (Some t) held now d =
-    if same_socket d.source d.destination then record { connections = held; saying = UnknownNode }
+hear_at (Some t) held now d = if same_socket d.source d.destination then record { connections = held; saying = UnknownNode }
     else (let known = connection_of d held in hear_judged held d known (judge_stored t.rows (pair_at d) now d known))
 
 -- what is said of a stored datagram, and the connections after it
@@ -136,8 +127,7 @@ hear tables held time bytes = hear_read tables held time (reading bytes)
 -- what is said of each of the stored datagrams, one after another
 abbrev pub sayings_from : List Table → List Connection → List Stored → List Saying
 sayings_from tables held [] = []
-sayings_from tables held (s ∷ rest) =
-    let h = hear tables held s.time s.bytes in h.saying ∷ sayings_from tables h.connections rest
+sayings_from tables held (s ∷ rest) = let h = hear tables held s.time s.bytes in h.saying ∷ sayings_from tables h.connections rest
 
 -- whether a checksum is right
 abbrev pub checksum_text : Bool → List ℕ

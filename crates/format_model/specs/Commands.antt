@@ -15,15 +15,13 @@ up_to most w = do
 
 -- `link`, `show`, `vectors`
 abbrev pub alone_of : List ℕ → Option Command
-alone_of name =
-    if bytes_eq name (codes "link") then Some command.Link
+alone_of name = if bytes_eq name (codes "link") then Some command.Link
     else if bytes_eq name (codes "show") then Some command.Show
     else if bytes_eq name (codes "vectors") then Some command.Vectors else None
 
 -- `link KEYS`, `check KEYS`, `bgp KEYS`, `timed KEYS`, `node KEYS`
 abbrev pub with_keys_of : List ℕ → Option Command
-with_keys_of name =
-    if bytes_eq name (codes "link") then Some command.LinkKeys
+with_keys_of name = if bytes_eq name (codes "link") then Some command.LinkKeys
     else if bytes_eq name (codes "check") then Some command.Check
     else if bytes_eq name (codes "bgp") then Some command.Bgp
     else if bytes_eq name (codes "timed") then Some command.Timed
@@ -48,8 +46,7 @@ storm_of seed count = do
 
 -- a command of three words
 abbrev pub three_of : List ℕ → List ℕ → List ℕ → Option Command
-three_of name second third =
-    if bytes_eq name (codes "keys") then keys_of third
+three_of name second third = if bytes_eq name (codes "keys") then keys_of third
     else if bytes_eq name (codes "storm") then storm_of second third
     else if bytes_eq name (codes "check") then pcap_of second else None
 

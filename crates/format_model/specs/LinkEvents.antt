@@ -5,7 +5,7 @@ use Rattle.ao_base.specs.declared.end.End.{End}
 use Rattle.ao_base.specs.declared.line_kind.LineKind.{LineKind}
 use Rattle.ao_base.specs.declared.line_kind.LineKind.TheVariants.{Word, Range}
 use Rattle.key_model.specs.Lifetimes.{greatest_time}
-use Rattle.line_model.specs.Words.{◌>>=◌, Taken, word_in, word_as, nothing_in, choice_in, end_in, algorithm_in, number_in, sized_hex_in, some_hex_in, byte_in}
+use Rattle.line_model.specs.Words.{◌>>=◌, Taken, word_in, word_as, nothing_in, choice_in, end_in, algorithm_in, number_in, sized_hex_in, some_hex_in, byte_in, ending}
 use Rattle.link_model.specs.declared.event.Event.{Event}
 use Rattle.link_model.specs.declared.event.Event.TheVariants as event
 
@@ -19,52 +19,39 @@ most_segments = 20000
 
 -- an end alone: `send END`, `resend END`, `close END`, `abort END`
 abbrev pub end_of : (End → Event) → List (List ℕ) → Result Event LineKind
-end_of made ws = do
-  e ← end_in ws
-  none ← nothing_in e.rest
-  Ok (made e.value)
+end_of made ws = ending made (end_in ws)
 
 -- an end and a number from low to high: `clock END SECONDS`, `open END ISN`, `listen END ISN`, `deliver END N`, `take END COUNT`, `withdraw END ROW`
 abbrev pub number_of : (End → ℕ → Event) → ℕ → ℕ → List (List ℕ) → Result Event LineKind
 number_of made low high ws = do
   e ← end_in ws
-  n ← number_in low high e.rest
-  none ← nothing_in n.rest
-  Ok (made e.value n.value)
+  ending (made e.value) (number_in low high e.rest)
 
 -- `start END ISN PEERISN`
 unfoldable pub start_of : List (List ℕ) → Result Event LineKind
 start_of ws = do
   e ← end_in ws
   own ← number_in 0 greatest_isn e.rest
-  peer ← number_in 0 greatest_isn own.rest
-  none ← nothing_in peer.rest
-  Ok (event.Start e.value own.value peer.value)
+  ending (event.Start e.value own.value) (number_in 0 greatest_isn own.rest)
 
 -- `give END HEX`, at least one byte
 unfoldable pub give_of : List (List ℕ) → Result Event LineKind
 give_of ws = do
   e ← end_in ws
-  bytes ← some_hex_in e.rest
-  none ← nothing_in bytes.rest
-  Ok (event.Give e.value bytes.value)
+  ending (event.Give e.value) (some_hex_in e.rest)
 
 -- `fill END COUNT BYTE`
 unfoldable pub fill_of : List (List ℕ) → Result Event LineKind
 fill_of ws = do
   e ← end_in ws
   count ← number_in 0 65535 e.rest
-  byte ← byte_in count.rest
-  none ← nothing_in byte.rest
-  Ok (event.Fill e.value count.value byte.value)
+  ending (event.Fill e.value count.value) (byte_in count.rest)
 
 -- `inject END HEX`, 1 to 65,575 bytes
 unfoldable pub inject_of : List (List ℕ) → Result Event LineKind
 inject_of ws = do
   e ← end_in ws
-  bytes ← sized_hex_in 1 65575 e.rest
-  none ← nothing_in bytes.rest
-  Ok (event.Inject e.value bytes.value)
+  ending (event.Inject e.value) (sized_hex_in 1 65575 e.rest)
 
 -- `alter END N PLACE MASK keep` or `fix`
 unfoldable pub alter_of : List (List ℕ) → Result Event LineKind
@@ -73,9 +60,7 @@ alter_of ws = do
   segment ← number_in 1 most_segments e.rest
   place ← number_in 0 65535 segment.rest
   mask ← byte_in place.rest
-  fixing ← choice_in (codes "keep") (codes "fix") mask.rest
-  none ← nothing_in fixing.rest
-  Ok (event.Alter e.value segment.value place.value mask.value fixing.value)
+  ending (event.Alter e.value segment.value place.value mask.value) (choice_in (codes "keep") (codes "fix") mask.rest)
 
 -- whether a row receives, and whether it sends (RFC 7210, section 2)
 pub record Ways : Type 0 where
@@ -84,8 +69,7 @@ pub record Ways : Type 0 where
 
 -- the ways that a word of a Direction names (RFC 7210, section 2)
 abbrev pub ways_of : List ℕ → Option Ways
-ways_of w =
-    if bytes_eq w (codes "in") then Some (record { receive = true; send = false })
+ways_of w = if bytes_eq w (codes "in") then Some (record { receive = true; send = false })
     else if bytes_eq w (codes "out") then Some (record { receive = false; send = true })
     else if bytes_eq w (codes "both") then Some (record { receive = true; send = true })
     else if bytes_eq w (codes "disabled") then Some (record { receive = false; send = false }) else None
@@ -110,30 +94,17 @@ add_of ws = do
   accept_last ← last_in accept_first.value accept_first.rest
   none ← nothing_in accept_last.rest
   Ok (event.AddRow e.value (record {
-    recv_id = recv_id.value;
-    send_id = send_id.value;
-    algorithm = algorithm.value;
-    master = master.value;
-    with_options = apart.value;
-    receive = ways.value.receive;
-    send = ways.value.send;
-    send_first = send_first.value;
-    send_last = send_last.value;
-    accept_first = accept_first.value;
-    accept_last = accept_last.value;
-  }))
+    recv_id = recv_id.value; send_id = send_id.value; algorithm = algorithm.value; master = master.value; with_options = apart.value;
+    receive = ways.value.receive; send = ways.value.send; send_first = send_first.value; send_last = send_last.value;
+    accept_first = accept_first.value; accept_last = accept_last.value }))
 
 -- `dump N`
 unfoldable pub dump_of : List (List ℕ) → Result Event LineKind
-dump_of ws = do
-  segment ← number_in 1 most_segments ws
-  none ← nothing_in segment.rest
-  Ok (event.Dump segment.value)
+dump_of ws = ending event.Dump (number_in 1 most_segments ws)
 
 -- the event that the first word names, of the words after it
 unfoldable pub event_named : List ℕ → List (List ℕ) → Result Event LineKind
-event_named name ws =
-    if bytes_eq name (codes "clock") then number_of event.Clock 0 greatest_time ws
+event_named name ws = if bytes_eq name (codes "clock") then number_of event.Clock 0 greatest_time ws
     else if bytes_eq name (codes "open") then number_of event.Connect 0 greatest_isn ws
     else if bytes_eq name (codes "listen") then number_of event.Listen 0 greatest_isn ws
     else if bytes_eq name (codes "start") then start_of ws

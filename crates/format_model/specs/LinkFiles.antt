@@ -11,7 +11,7 @@ use Rattle.line_model.specs.declared.text_fault.TextFault.{TextFault}
 use Rattle.line_model.specs.declared.text_fault.TextFault.TheVariants as fault
 use Rattle.line_model.specs.Lines.{Line, saying_lines}
 use Rattle.line_model.specs.Said.{numbered, if_few_lines}
-use Rattle.line_model.specs.Words.{◌>>=◌, nothing_in, literal_in, socket_in, algorithm_in, sized_hex_in}
+use Rattle.line_model.specs.Words.{◌>>=◌, nothing_in, literal_in, socket_in, algorithm_in, sized_hex_in, ending}
 use Rattle.link_model.specs.declared.event.Event.{Event}
 use Rattle.format_model.specs.declared.script.SharedKey.{SharedKey}
 use Rattle.format_model.specs.declared.script.Script.{Script}
@@ -33,9 +33,7 @@ title_of title ws = do
 unfoldable pub socket_of : List ℕ → List (List ℕ) → Result Socket LineKind
 socket_of end ws = do
   name ← literal_in end ws
-  socket ← socket_in name.rest
-  none ← nothing_in socket.rest
-  Ok socket.value
+  ending (λ socket. socket) (socket_in name.rest)
 
 -- two addresses of one family that differ
 abbrev pub are_two_of_a_family : Address → Address → Bool
@@ -54,9 +52,7 @@ unfoldable pub shared_key_of : List (List ℕ) → Result SharedKey LineKind
 shared_key_of ws = do
   name ← literal_in (codes "shared") ws
   algorithm ← algorithm_in name.rest
-  master ← sized_hex_in 1 255 algorithm.rest
-  none ← nothing_in master.rest
-  Ok (record { alg = algorithm.value; master = master.value })
+  ending (λ master. record { alg = algorithm.value; master = master }) (sized_hex_in 1 255 algorithm.rest)
 
 -- what a line says, every fault of it being of one kind
 abbrev pub at_line : {A : Type 0} → ℕ → LineKind → List Line → Result A LineKind → Result (Left A) TextFault

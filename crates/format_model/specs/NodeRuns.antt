@@ -1,6 +1,5 @@
 -- Many connections at one node, each an end of its own. Our own format.
-use Rattle.std.specs.Prelude.{◌≡◌, ℕ, suc, ◌+◌, nat_lt, nat_le, Bool, true, false, not, ◌&&◌, List, [], ◌∷◌, ◌++◌, length, codes, decimal, Option, Some, None, Result, Ok, Err, if◌then◌else◌}
-use Rattle.std.specs.List.{list_any}
+use Rattle.std.specs.Prelude.{ℕ, suc, ◌+◌, nat_lt, nat_le, Bool, not, ◌&&◌, List, [], ◌∷◌, ◌++◌, length, codes, decimal, Option, Some, None, Result, Ok, Err, if◌then◌else◌}
 use Rattle.std.specs.Str.{bytes_eq}
 use Rattle.ao_base.specs.declared.address.Address.{Address}
 use Rattle.ao_base.specs.declared.address.Pair.{Pair}
@@ -8,7 +7,6 @@ use Rattle.ao_base.specs.declared.line_kind.LineKind.{LineKind}
 use Rattle.ao_base.specs.declared.line_kind.LineKind.TheVariants as kind
 use Rattle.ao_base.specs.Hexadecimal.{hex_of}
 use Rattle.segment_model.specs.Sockets.{same_socket}
-use Rattle.segment_model.specs.declared.fault.DatagramFault.{DatagramFault}
 use Rattle.segment_model.specs.Segments.{Segment, Reading, Read, Bad as Unread, reading, spell}
 use Rattle.key_model.specs.Lifetimes.{greatest_time}
 use Rattle.key_model.specs.Rows.{Row}
@@ -16,11 +14,11 @@ use Rattle.line_model.specs.declared.text_fault.TextFault.{TextFault}
 use Rattle.line_model.specs.Lines.{Line, saying_lines}
 use Rattle.line_model.specs.Said.{numbered, if_few_lines}
 use Rattle.line_model.specs.Texts.{numbered_text}
-use Rattle.line_model.specs.Words.{◌>>=◌, Taken, word_in, nothing_in, literal_in, address_in, number_in, sized_hex_in, some_hex_in}
+use Rattle.line_model.specs.Words.{◌>>=◌, Taken, word_in, literal_in, address_in, number_in, sized_hex_in, some_hex_in, ending}
 use Rattle.endpoint_model.specs.declared.arrival.Arrival.{Arrival}
 use Rattle.endpoint_model.specs.declared.arrival.Arrival.TheVariants.{Bad}
 use Rattle.endpoint_model.specs.States.{EndState, connected, listening, started, gives, room, give, taking, take_out, at_end, close, abort, tick}
-use Rattle.endpoint_model.specs.Arrivals.{Arrived, arrive}
+use Rattle.endpoint_model.specs.Arrivals.{arrive}
 use Rattle.endpoint_model.specs.Emissions.{Emission, Emitted, Quiet, NoKey, Emits, emit, resend}
 use Rattle.link_model.specs.Reports.{answer_texts, flags_text, number_text, hex_or_none, end_mark}
 use Rattle.format_model.specs.declared.node.Act.{Act}
@@ -29,7 +27,7 @@ use Rattle.format_model.specs.declared.node.NodeEvent.{NodeEvent}
 use Rattle.format_model.specs.declared.node.NodeEvent.TheVariants as event
 use Rattle.format_model.specs.declared.node.NodeScript.{NodeScript}
 use Rattle.format_model.specs.LinkEvents.{greatest_isn}
-use Rattle.format_model.specs.LinkFiles.{Left, line_in, title_of, are_two_of_a_family, missing_in}
+use Rattle.format_model.specs.LinkFiles.{line_in, title_of, are_two_of_a_family, missing_in}
 
 -- an end of a node, under the pair of its connection
 pub record Held : Type 0 where
@@ -43,16 +41,9 @@ pub record NodeState : Type 0 where
 
 -- what an event of a node answers
 pub data NodeOutcome : Type 0 where
-  Done : NodeOutcome
-  InUse : NodeOutcome
-  NodeFull : NodeOutcome
-  NoConnection : NodeOutcome
-  Full : NodeOutcome
-  HasClosed : NodeOutcome
+  Done InUse NodeFull NoConnection Full HasClosed : NodeOutcome
   Sent : (emission : Emission) → NodeOutcome
-  WithoutKey : NodeOutcome
-  Idle : NodeOutcome
-  Nothing : NodeOutcome
+  WithoutKey Idle Nothing : NodeOutcome
   Answered : (answer : Arrival) → NodeOutcome
   Took : (bytes : List ℕ) (end_shown : Bool) → NodeOutcome
 
@@ -95,8 +86,7 @@ called s outcome = record { state = s; outcome = outcome }
 
 -- a piece is given, unless the end is closed or there is no room for it
 abbrev pub offered : List ℕ → EndState → Called
-offered piece s =
-    if not (gives s) then called s HasClosed else (if nat_lt (room s) (length piece) then called s Full else called (give piece s) Done)
+offered piece s = if not (gives s) then called s HasClosed else (if nat_lt (room s) (length piece) then called s Full else called (give piece s) Done)
 
 -- a segment is made, or none
 abbrev pub sent : EndState → NodeOutcome → Emitted → Called
@@ -134,8 +124,7 @@ on_held rows n pair s a = after_call n pair (act_on rows pair n.clock s a)
 
 -- a new end, where there is room for it
 abbrev pub new_end : ℕ → NodeState → Pair → EndState → NodeStep
-new_end most n pair s =
-    if nat_le most (length n.ends) then stays n NodeFull
+new_end most n pair s = if nat_le most (length n.ends) then stays n NodeFull
     else record { node = record n { ends = n.ends ++ record { pair = pair; state = s } ∷ [] }; outcome = Done }
 
 -- an event of a pair that isn't held
@@ -188,40 +177,6 @@ outcomes_from most rows n (e ∷ es) = let s = node_step most rows n e in s.outc
 unfoldable pub outcomes : List Row → List NodeEvent → List NodeOutcome
 outcomes rows events = outcomes_from most_ends rows no_ends events
 
--- the datagram is for the connection of this pair
-abbrev pub is_for : Pair → Reading → Bool
-is_for pair (Unread fault) = false
-is_for pair (Read d) = same_pair (pair_of d) pair
-
--- the event happens at the connection of this pair: the clock's, its own, and its datagrams
-abbrev pub is_mine : Pair → NodeEvent → Bool
-is_mine pair (event.Clock seconds) = true
-is_mine pair (event.Inject bytes) = is_for pair (reading bytes)
-is_mine pair (event.On other a) = same_pair other pair
-
--- the events of a connection
-abbrev pub mine : Pair → List NodeEvent → List NodeEvent
-mine pair [] = []
-mine pair (e ∷ es) = if is_mine pair e then e ∷ mine pair es else mine pair es
-
--- the answers to the events of a connection, among the answers to all
-abbrev pub my_outcomes : Pair → List NodeEvent → List NodeOutcome → List NodeOutcome
-my_outcomes pair (e ∷ es) (o ∷ os) = if is_mine pair e then o ∷ my_outcomes pair es os else my_outcomes pair es os
-my_outcomes pair _ _ = []
-
--- the answer isn't that the node is full
-abbrev pub is_placed : NodeOutcome → Bool
-is_placed NodeFull = false
-is_placed _ = true
-
--- none of the events of a connection found the node full
-abbrev pub IsPlaced : Pair → List Row → List NodeEvent → Type 0
-IsPlaced pair rows events = list_any (λ o. not (is_placed o)) (my_outcomes pair events (outcomes rows events)) ≡ false
-
--- each connection gives the answers that it would give alone, whatever comes between
-abbrev pub Alone : Pair → List Row → List NodeEvent → Type 0
-Alone pair rows events = IsPlaced pair rows events → my_outcomes pair events (outcomes rows events) ≡ outcomes rows (mine pair events)
-
 -- the words for a segment that was made
 abbrev pub sent_texts : Emission → List (List ℕ)
 sent_texts e =
@@ -263,54 +218,38 @@ pair_in own ws = do
 
 -- a connection, and nothing else
 abbrev pub act_alone : Act → Address → List (List ℕ) → Result NodeEvent LineKind
-act_alone made own ws = do
-  pair ← pair_in own ws
-  none ← nothing_in pair.rest
-  Ok (event.On pair.value made)
+act_alone made own ws = ending (λ pair. event.On pair made) (pair_in own ws)
 
 -- a connection and a number
 abbrev pub act_number : (ℕ → Act) → ℕ → Address → List (List ℕ) → Result NodeEvent LineKind
 act_number made high own ws = do
   pair ← pair_in own ws
-  n ← number_in 0 high pair.rest
-  none ← nothing_in n.rest
-  Ok (event.On pair.value (made n.value))
+  ending (λ n. event.On pair.value (made n)) (number_in 0 high pair.rest)
 
 -- a connection and two initial sequence numbers
 abbrev pub act_start : Address → List (List ℕ) → Result NodeEvent LineKind
 act_start own ws = do
   pair ← pair_in own ws
   isn ← number_in 0 greatest_isn pair.rest
-  peer ← number_in 0 greatest_isn isn.rest
-  none ← nothing_in peer.rest
-  Ok (event.On pair.value (act.Start isn.value peer.value))
+  ending (λ peer. event.On pair.value (act.Start isn.value peer)) (number_in 0 greatest_isn isn.rest)
 
 -- a connection and at least one byte
 abbrev pub act_give : Address → List (List ℕ) → Result NodeEvent LineKind
 act_give own ws = do
   pair ← pair_in own ws
-  bytes ← some_hex_in pair.rest
-  none ← nothing_in bytes.rest
-  Ok (event.On pair.value (act.Give bytes.value))
+  ending (λ bytes. event.On pair.value (act.Give bytes)) (some_hex_in pair.rest)
 
 -- `clock SECONDS`
 abbrev pub clock_of : List (List ℕ) → Result NodeEvent LineKind
-clock_of ws = do
-  seconds ← number_in 0 greatest_time ws
-  none ← nothing_in seconds.rest
-  Ok (event.Clock seconds.value)
+clock_of ws = ending event.Clock (number_in 0 greatest_time ws)
 
 -- `inject HEX`, 1 to 65,575 bytes
 abbrev pub inject_of : List (List ℕ) → Result NodeEvent LineKind
-inject_of ws = do
-  bytes ← sized_hex_in 1 65575 ws
-  none ← nothing_in bytes.rest
-  Ok (event.Inject bytes.value)
+inject_of ws = ending event.Inject (sized_hex_in 1 65575 ws)
 
 -- the event that the first word names, of the words after it
 unfoldable pub node_event_named : Address → List ℕ → List (List ℕ) → Result NodeEvent LineKind
-node_event_named own name ws =
-    if bytes_eq name (codes "clock") then clock_of ws
+node_event_named own name ws = if bytes_eq name (codes "clock") then clock_of ws
     else if bytes_eq name (codes "inject") then inject_of ws
     else if bytes_eq name (codes "open") then act_number act.Open greatest_isn own ws
     else if bytes_eq name (codes "listen") then act_number act.Listen greatest_isn own ws
@@ -342,9 +281,7 @@ node_events_of own (l ∷ ls) = do
 abbrev pub address_of : List (List ℕ) → Result Address LineKind
 address_of ws = do
   name ← literal_in (codes "node") ws
-  address ← address_in name.rest
-  none ← nothing_in address.rest
-  Ok address.value
+  ending (λ address. address) (address_in name.rest)
 
 -- the script that the saying lines make
 unfoldable pub node_script_in : ℕ → List Line → Result NodeScript TextFault

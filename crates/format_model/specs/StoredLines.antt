@@ -5,7 +5,7 @@ use Rattle.ao_base.specs.declared.line_kind.LineKind.TheVariants.{Range}
 use Rattle.ao_base.specs.Lines.{lines_of, words_of}
 use Rattle.key_model.specs.Lifetimes.{greatest_time}
 use Rattle.line_model.specs.Lines.{says_something}
-use Rattle.line_model.specs.Words.{◌>>=◌, number_in, sized_hex_in, nothing_in}
+use Rattle.line_model.specs.Words.{◌>>=◌, number_in, sized_hex_in, ending}
 use Rattle.format_model.specs.Captures.{Stored}
 
 -- the most bytes of a line
@@ -16,9 +16,7 @@ most_line = 131200
 abbrev pub stored_of : ℕ → List (List ℕ) → Result Stored LineKind
 stored_of n ws = do
   time ← number_in 0 greatest_time ws
-  bytes ← sized_hex_in 1 65575 time.rest
-  none ← nothing_in bytes.rest
-  Ok (record { number = n; time = time.value; bytes = bytes.value })
+  ending (λ bytes. record { number = n; time = time.value; bytes = bytes }) (sized_hex_in 1 65575 time.rest)
 
 -- what a line that says something has, or nothing
 abbrev pub stored_in : ℕ → List (List ℕ) → Result (Option Stored) LineKind

@@ -8,7 +8,7 @@ use Rattle.key_model.specs.Lifetimes.{greatest_time}
 use Rattle.line_model.specs.declared.text_fault.TextFault.{TextFault}
 use Rattle.line_model.specs.Lines.{Line, saying_lines}
 use Rattle.line_model.specs.Said.{if_few_lines}
-use Rattle.line_model.specs.Words.{◌>>=◌, word_in, nothing_in, end_in, number_in}
+use Rattle.line_model.specs.Words.{◌>>=◌, word_in, end_in, number_in, ending}
 use Rattle.wire_model.specs.declared.timer.Timer.{Timer}
 use Rattle.wire_model.specs.Timers.{new_timer, sampled, expired}
 use Rattle.endpoint_model.specs.States.{EndState, is_closed}
@@ -80,13 +80,11 @@ stopped w = record w { deadline = None; timed = None }
 -- what is timed was acknowledged: a sample is taken (RFC 6298, section 3)
 abbrev pub sampled_by : ℕ → ℕ → Watch → Option Timed → Watch
 sampled_by una reading w None = w
-sampled_by una reading w (Some t) =
-    if nat_le t.number una then record w { timer = sampled w.timer (reading - t.reading); timed = None } else w
+sampled_by una reading w (Some t) = if nat_le t.number una then record w { timer = sampled w.timer (reading - t.reading); timed = None } else w
 
 -- an acknowledgement of new data (RFC 6298, sections 5.2 and 5.3)
 abbrev pub acknowledged : ℕ → Front → Watch → Watch
-acknowledged reading f w =
-    let s = sampled_by f.una reading w w.timed in if nat_lt f.una f.next then started_anew reading s else stopped s
+acknowledged reading f w = let s = sampled_by f.una reading w w.timed in if nat_lt f.una f.next then started_anew reading s else stopped s
 
 -- the timer runs from now on, unless it runs already (RFC 6298, section 5.1)
 abbrev pub running : ℕ → Watch → Option ℕ → Watch
@@ -104,8 +102,7 @@ sent_more reading f again w = let r = running reading w w.deadline in timing rea
 
 -- an event between two fronts of an end: una grew, or next grew
 abbrev pub moved : ℕ → Bool → Front → Front → Watch → Watch
-moved reading again old new w =
-    if nat_lt old.una new.una then acknowledged reading new w
+moved reading again old new w = if nat_lt old.una new.una then acknowledged reading new w
     else (if nat_lt old.next new.next then sent_more reading new again w else w)
 
 -- the same, where an end may have no front; without one the timer doesn't run
@@ -143,8 +140,7 @@ untimed false w = w
 
 -- the timer of the end of an event, after it: a new session has a new one
 abbrev pub watch_after : World → Event → End → Stepped → Watch → Watch
-watch_after before event e after w =
-    if is_begin event && is_done after.outcome then new_watch
+watch_after before event e after w = if is_begin event && is_done after.outcome then new_watch
     else untimed (is_again event && is_sent after.outcome)
     (between (side after.world e).clock (is_again event) (front_at before e) (front_at after.world e) w)
 
@@ -192,8 +188,7 @@ reading_at p e = (side p.world e).clock
 
 -- the end's clock goes to this reading, unless it is there
 abbrev pub until : Setup → End → ℕ → Progress → Expanded
-until setup e to p =
-    if reading_at p e == to then record { events = []; progress = p }
+until setup e to p = if reading_at p e == to then record { events = []; progress = p }
     else record { events = event.Clock e to ∷ []; progress = plain setup p (event.Clock e to) }
 
 -- when the timer of an end expires next, at least one second after the reading
@@ -203,8 +198,7 @@ due reading (Some d) = Some (max d (reading + 1))
 
 -- the timer expired: its value is doubled, and it runs anew (RFC 6298, sections 5.5 and 5.6)
 abbrev pub after_expiry : End → Progress → Progress
-after_expiry e p =
-    let w = watch_of p e in with_watch p e (started_anew (reading_at p e) (record w { timer = expired w.timer }))
+after_expiry e p = let w = watch_of p e in with_watch p e (started_anew (reading_at p e) (record w { timer = expired w.timer }))
 
 -- the two events of an expiry: the clock goes to it, and the end sends again (RFC 6298, section 5.4)
 abbrev pub expiry : End → ℕ → List Event
@@ -214,8 +208,7 @@ expiry e d = event.Clock e d ∷ event.Resend e ∷ []
 abbrev pub waited : ℕ → Setup → End → ℕ → Progress → Option ℕ → Expanded
 waited zero setup e to p next = until setup e to p
 waited (suc n) setup e to p None = until setup e to p
-waited (suc n) setup e to p (Some d) =
-    if nat_lt to d then until setup e to p
+waited (suc n) setup e to p (Some d) = if nat_lt to d then until setup e to p
     else (let q = after_expiry e (plain setup (plain setup p (event.Clock e d)) (event.Resend e)) in
     before (expiry e d) (waited n setup e to q (due (reading_at q e) (watch_of q e).deadline)))
 
@@ -242,9 +235,7 @@ expand setup events = expand_from setup (begins_timed setup) events
 unfoldable pub wait_of : List (List ℕ) → Result TimedEvent LineKind
 wait_of ws = do
   e ← end_in ws
-  count ← number_in 1 3600 e.rest
-  none ← nothing_in count.rest
-  Ok (Wait e.value count.value)
+  ending (Wait e.value) (number_in 1 3600 e.rest)
 
 -- a plain event
 abbrev pub plain_named : List ℕ → List (List ℕ) → Result TimedEvent LineKind

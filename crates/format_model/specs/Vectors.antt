@@ -8,14 +8,14 @@ use Rattle.ao_base.specs.declared.line_kind.LineKind.{LineKind}
 use Rattle.ao_base.specs.declared.line_kind.LineKind.TheVariants.{Word, Range}
 use Rattle.ao_base.specs.Algorithms.{mac_length_of}
 use Rattle.segment_model.specs.Bytes.{ring}
-use Rattle.segment_model.specs.Options.{Ao, AoFound, Absent, One, Two, WithMd5, find_ao}
+use Rattle.segment_model.specs.Options.{Ao, AoFound, One, find_ao}
 use Rattle.segment_model.specs.Segments.{Segment, Reading, Bad, Read, reading}
 use Rattle.mac_model.specs.Ciphers.{aes, cmac, prf}
 use Rattle.mac_model.specs.Contexts.{context}
 use Rattle.mac_model.specs.Hmac.{hmac}
 use Rattle.mac_model.specs.Keys.{mac, traffic_key}
 use Rattle.mac_model.specs.MacInput.{mac_input}
-use Rattle.line_model.specs.Words.{◌>>=◌, Taken, or_fault, word_in, nothing_in, hex_in, sized_hex_in, number_in, algorithm_in}
+use Rattle.line_model.specs.Words.{◌>>=◌, Taken, or_fault, word_in, nothing_in, hex_in, sized_hex_in, number_in, algorithm_in, ending}
 use Rattle.format_model.specs.VectorWords.{message_in, context_in, covering_in}
 
 -- a test vector: what is computed, and what its line says
@@ -34,9 +34,7 @@ unfoldable pub keyed_of : List (List ℕ) → Result Keyed LineKind
 keyed_of ws = do
   key ← hex_in ws
   message ← message_in key.rest
-  out ← hex_in message.rest
-  no_more ← nothing_in out.rest
-  Ok (record { key = key.value; message = message.value; expected = out.value })
+  ending (λ out. record { key = key.value; message = message.value; expected = out }) (hex_in message.rest)
 
 -- `KEY MESSAGE OUT` of an algorithm
 abbrev pub keyed_vector : (List ℕ → List ℕ → List ℕ) → List (List ℕ) → Result Vector LineKind
@@ -61,18 +59,14 @@ unfoldable pub cmac_vector : List (List ℕ) → Result Vector LineKind
 cmac_vector ws = do
   key ← sized_hex_in 16 16 ws
   message ← message_in key.rest
-  out ← hex_in message.rest
-  no_more ← nothing_in out.rest
-  Ok (record { computed = cmac key.value message.value; expected = out.value })
+  ending (λ out. record { computed = cmac key.value message.value; expected = out }) (hex_in message.rest)
 
 -- AES-128, `KEY BLOCK OUT` with 16 bytes each of key and block (FIPS 197)
 unfoldable pub aes_vector : List (List ℕ) → Result Vector LineKind
 aes_vector ws = do
   key ← sized_hex_in 16 16 ws
   block ← sized_hex_in 16 16 key.rest
-  out ← hex_in block.rest
-  no_more ← nothing_in out.rest
-  Ok (record { computed = aes key.value block.value; expected = out.value })
+  ending (λ out. record { computed = aes key.value block.value; expected = out }) (hex_in block.rest)
 
 -- `ALGORITHM MASTER CONTEXT OUT`: the traffic key (RFC 5926, section 3.1)
 unfoldable pub kdf_vector : List (List ℕ) → Result Vector LineKind
@@ -80,9 +74,7 @@ kdf_vector ws = do
   algorithm ← algorithm_in ws
   master ← sized_hex_in 1 255 algorithm.rest
   context ← context_in master.rest
-  out ← hex_in context.rest
-  no_more ← nothing_in out.rest
-  Ok (record { computed = traffic_key algorithm.value master.value context.value; expected = out.value })
+  ending (λ out. record { computed = traffic_key algorithm.value master.value context.value; expected = out }) (hex_in context.rest)
 
 -- a datagram with its TCP-AO option (RFC 5925, section 2.2)
 pub record Signed : Type 0 where
@@ -92,9 +84,7 @@ pub record Signed : Type 0 where
 -- one TCP-AO option with a MAC of the algorithm's length (RFC 5926, section 3.2, and own)
 abbrev pub signed_by : Algorithm → Segment → AoFound → Option Signed
 signed_by algorithm d (One ao) = if length ao.mac == mac_length_of algorithm then Some (record { segment = d; ao = ao }) else None
-signed_by algorithm d Absent = None
-signed_by algorithm d Two = None
-signed_by algorithm d WithMd5 = None
+signed_by algorithm d _ = None
 
 -- the datagram that was read, where it has such an option
 abbrev pub signed_in_reading : Algorithm → Reading → Option Signed
@@ -145,8 +135,7 @@ segment_vector ws = do
 
 -- the vector that the first word names, of the words after it
 unfoldable pub vector_named : List ℕ → List (List ℕ) → Result Vector LineKind
-vector_named name ws =
-    if bytes_eq name (codes "hmac") then hmac_vector ws
+vector_named name ws = if bytes_eq name (codes "hmac") then hmac_vector ws
     else if bytes_eq name (codes "hmac256") then hmac256_vector ws
     else if bytes_eq name (codes "aes") then aes_vector ws
     else if bytes_eq name (codes "cmac") then cmac_vector ws

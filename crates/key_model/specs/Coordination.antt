@@ -34,8 +34,7 @@ rnext_key_id_of (Some preferred) own = preferred.row.recv_id
 
 -- a row with the two ids that go with it
 abbrev pub sending_by : Option Numbered → Numbered → Sending
-sending_by preferred n =
-    record { number = n.number; row = n.row; key_id = n.row.send_id; rnext_key_id = rnext_key_id_of preferred n.row }
+sending_by preferred n = record { number = n.number; row = n.row; key_id = n.row.send_id; rnext_key_id = rnext_key_id_of preferred n.row }
 
 -- what a segment is sent with, where some row is sendable (RFC 5925, sections 6.1 and 7.4)
 unfoldable pub choose : Option ℕ → List Row → Pair → ℕ → Option Sending

@@ -24,6 +24,18 @@ pub record Taken (A : Type 0) : Type 0 where
   pub value : A
   pub rest : List (List ℕ)
 
+-- no word is surplus (own)
+unfoldable pub nothing_in : List (List ℕ) → Result (Unit {0}) LineKind
+nothing_in [] = Ok tt
+nothing_in (w ∷ ws) = Err Word
+
+-- what the last value of a line makes: no word is behind it (own)
+abbrev pub ending : {A B : Type 0} → (A → B) → Result (Taken A) LineKind → Result B LineKind
+ending made reading = do
+  x ← reading
+  none ← nothing_in x.rest
+  Ok (made x.value)
+
 -- a value that may be missing, or the fault (own)
 abbrev pub or_fault : {A : Type 0} → Option A → LineKind → Result A LineKind
 or_fault (Some x) kind = Ok x
@@ -33,11 +45,6 @@ or_fault None kind = Err kind
 unfoldable pub word_in : List (List ℕ) → Result (Taken (List ℕ)) LineKind
 word_in [] = Err Word
 word_in (w ∷ ws) = Ok (record { value = w; rest = ws })
-
--- no word is surplus (own)
-unfoldable pub nothing_in : List (List ℕ) → Result (Unit {0}) LineKind
-nothing_in [] = Ok tt
-nothing_in (w ∷ ws) = Err Word
 
 -- a word that is what a reading makes of it, or else is of the kind (own)
 abbrev pub word_as : {A : Type 0} → (List ℕ → Option A) → LineKind → List (List ℕ) → Result (Taken A) LineKind

@@ -14,7 +14,7 @@ use Rattle.key_model.specs.Shared.{shared_row}
 use Rattle.key_model.proofs.ValidLaws.{empty-valid, shared-valid, tables_of-valid}
 use Rattle.link_model.specs.declared.event.Event.{Event}
 use Rattle.link_model.specs.declared.event.Event.TheVariants.{Clock, Connect, Listen, Start, Give, Fill, Send, Resend, Deliver, Inject, Alter, Take, Close, Abort, AddRow, Withdraw, Dump}
-use Rattle.link_model.specs.Laws.{EventFits, OneFamily, RowFits, SetupFits}
+use Rattle.link_laws.specs.Laws.{EventFits, OneFamily, RowFits, SetupFits}
 use Rattle.link_model.specs.Worlds.{rows_of, setup_of}
 use Rattle.format_model.specs.declared.script.Script.{Script}
 use Rattle.format_model.specs.declared.script.SharedKey.{SharedKey}

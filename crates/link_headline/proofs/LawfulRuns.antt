@@ -3,7 +3,7 @@ use Rattle.std.proofs.Common.{◌≡◌, List, [], ◌∷◌, ◌++◌, subst, s
 use Rattle.std.specs.List.{AllByRecursion}
 use Rattle.link_model.specs.declared.event.Event.{Event}
 use Rattle.link_model.specs.declared.event.Event.TheVariants.{Clock, Connect, Listen, Start, Give, Fill, Send, Resend, Deliver, Inject, Alter, Take, Close, Abort, AddRow, Withdraw, Dump}
-use Rattle.link_model.specs.Laws.{SetupFits, EventFits}
+use Rattle.link_laws.specs.Laws.{SetupFits, EventFits}
 use Rattle.link_model.specs.Runs.{run}
 use Rattle.link_model.specs.Worlds.{Setup, World}
 use Rattle.link_laws.proofs.Gaps.{never_keyless}

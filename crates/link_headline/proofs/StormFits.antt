@@ -8,7 +8,7 @@ use Rattle.segment_model.specs.Spelling.{AreBytes}
 use Rattle.key_model.specs.Overlaps.{IsValid}
 use Rattle.key_model.specs.Shared.{shared_row}
 use Rattle.link_model.specs.declared.event.Event.{Event}
-use Rattle.link_model.specs.Laws.{EventFits, RowFits, SetupFits}
+use Rattle.link_laws.specs.Laws.{EventFits, RowFits, SetupFits}
 use Rattle.link_model.specs.Runs.{empty, run_from}
 use Rattle.link_model.specs.Steps.{step}
 use Rattle.link_model.specs.Storm.{draw, drawn, end_of, event_by, event_of, events_drawn, last_delivered, one_delivered, storm_events, storm_setup, storm_starts}

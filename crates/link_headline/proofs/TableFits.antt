@@ -14,7 +14,7 @@ use Rattle.key_model.specs.Columns.{algorithm_at, columns_of, count, id_of_text,
 use Rattle.key_model.specs.Nodes.{node_name_of, node_address_of, rows_of, fields_of, node_of, nodes_from, overlap_in, unless, nodes_of, tables_of_document, document_of, tables_of}
 use Rattle.key_model.specs.Reading.{◌>>=◌, or_fault, must, each}
 use Rattle.key_model.specs.Rows.{Row, Table, node_limit, row_limit}
-use Rattle.link_model.specs.Laws.{RowFits}
+use Rattle.link_laws.specs.Laws.{RowFits}
 use Rattle.std.specs.Result.{result_ok}
 use Rattle.hex.specs.Hex.{IsBytes, decode_of}
 use Rattle.hex.specs.declared.error.FromHexError.{FromHexError}

@@ -9,7 +9,7 @@ use Rattle.key_model.specs.Rows.{Table}
 use Rattle.key_model.proofs.ValidLaws.{tables_of-valid}
 use Rattle.link_model.specs.declared.event.Event.{Event}
 use Rattle.link_model.specs.declared.event.Event.TheVariants.{Clock, Resend}
-use Rattle.link_model.specs.Laws.{EventFits, SetupFits}
+use Rattle.link_laws.specs.Laws.{EventFits, SetupFits}
 use Rattle.link_model.specs.Worlds.{Setup, setup_of}
 use Rattle.format_model.specs.declared.timed.TimedEvent.{TimedEvent}
 use Rattle.format_model.specs.declared.timed.TimedEvent.TheVariants.{Plain, Wait}

@@ -2,8 +2,8 @@
 use Rattle.std.specs.Prelude.{◌≡◌, ◌≢◌, ℕ, Bool, List, ◌∷◌, ◌++◌}
 use Rattle.link_model.specs.declared.event.Event.{Event}
 use Rattle.link_model.specs.declared.event.Event.TheVariants.{Send, Resend, Deliver, Take}
-use Rattle.link_model.specs.Headline.{DeliversInOrder, EndsWhole, ShowsEnds, TookFrom, AcknowledgedWasReceived, OnePartner, PartnerIsOne}
-use Rattle.link_model.specs.Laws.{IsCovered, RollsOver, IsAdmitted, HasOrigin, ResetsByAbort}
+use Rattle.link_laws.specs.Headline.{DeliversInOrder, EndsWhole, ShowsEnds, TookFrom, AcknowledgedWasReceived, OnePartner, PartnerIsOne}
+use Rattle.link_laws.specs.Laws.{IsCovered, RollsOver, IsAdmitted, HasOrigin, ResetsByAbort}
 use Rattle.link_model.specs.Outcomes.{Took, WithoutKey}
 use Rattle.link_model.specs.Runs.{run}
 use Rattle.link_model.specs.Steps.{step}

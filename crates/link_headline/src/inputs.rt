@@ -3,7 +3,7 @@ ghost use Rattle.std.specs.Prelude.{◌≡◌, ℕ, Bool, List, true, false, Ok}
 ghost use Rattle.std.specs.List.{AllByRecursion};
 ghost use Rattle.key_model.specs.Nodes.{tables_of};
 ghost use Rattle.key_model.specs.Rows.{Table};
-ghost use Rattle.link_model.specs.Laws.{SetupFits, EventFits};
+ghost use Rattle.link_laws.specs.Laws.{SetupFits, EventFits};
 ghost use Rattle.link_model.specs.Storm.{storm_setup, storm_events};
 ghost use Rattle.link_model.specs.Worlds.{Setup, setup_of};
 ghost use Rattle.format_model.specs.declared.script.Script.{Script};

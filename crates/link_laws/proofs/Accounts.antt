@@ -9,7 +9,7 @@ use Rattle.segment_model.proofs.Fields.{and_tells, some_is, same_bytes_tells}
 use Rattle.mac_model.specs.Keys.{same_algorithm}
 use Rattle.endpoint_model.specs.Verdicts.{Key, key_of, same_key, Finding}
 use Rattle.link_model.specs.Worlds.{other, same_end, Setup, Made, Happening, Making, Coming, World, side, accounts_for, was_made, forged}
-use Rattle.link_model.specs.Laws.{IsAmong}
+use Rattle.link_laws.specs.Laws.{IsAmong}
 use Rattle.link_laws.proofs.Invariant.{MadeOk, AllMadeOk}
 
 pub record Found (setup : Setup) (w : World) (at : End) (p : Finding) (past : List Happening) : Type 0 where

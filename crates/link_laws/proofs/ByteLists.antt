@@ -14,7 +14,7 @@ use Rattle.segment_model.proofs.ByteLaws.{bytes_drop, bytes_take, nil_bytes}
 use Rattle.mac_model.specs.Contexts.{context}
 use Rattle.mac_model.specs.MacInput.{covered, mac_input}
 use Rattle.link_model.specs.Alterations.{masked, place_in, altered}
-use Rattle.link_model.specs.Laws.{OneFamily}
+use Rattle.link_laws.specs.Laws.{OneFamily}
 use Rattle.link_laws.proofs.Tests.{choose}
 
 -- numbers below 256, as a record, so that the list is told by the fact

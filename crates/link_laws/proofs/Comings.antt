@@ -19,7 +19,7 @@ use Rattle.link_model.specs.declared.event.Event.TheVariants.{Clock, Connect, Li
 use Rattle.link_model.specs.Outcomes.{Outcome, Idle, Nothing, HasClosed, Full, Done, NoPlace}
 use Rattle.link_model.specs.Worlds.{Setup, pair_of, Session, Side, Made, Came, Happening, Making, Coming, World, side, live, segment_named}
 use Rattle.link_model.specs.Steps.{Act, add, put, with_rows, with_clock, act_on, on_live, quietly, begin, given, sent, send, send_again, come, took, deliver, alter, add_row, withdraw, step}
-use Rattle.link_model.specs.Laws.{SetupFits, EventFits}
+use Rattle.link_laws.specs.Laws.{SetupFits, EventFits}
 use Rattle.link_laws.proofs.Invariant.{Inv}
 use Rattle.link_laws.proofs.Running.{named_bytes}
 

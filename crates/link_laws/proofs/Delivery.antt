@@ -14,7 +14,7 @@ use Rattle.link_laws.proofs.ByteLists.{altered_bytes, repeated}
 use Rattle.link_model.specs.Alterations.{has_place, altered}
 use Rattle.link_model.specs.declared.event.Event.{Event}
 use Rattle.link_model.specs.declared.event.Event.TheVariants.{Clock, Connect, Listen as Await, Start, Give, Fill, Send, Resend, Deliver, Inject, Alter, Take, Close, Abort, AddRow, Withdraw, Dump}
-use Rattle.link_model.specs.Laws.{SetupFits, EventFits}
+use Rattle.link_laws.specs.Laws.{SetupFits, EventFits}
 use Rattle.link_model.specs.Worlds.{other, Setup, pair_of, Session, Side, Made, World, side, find, segment_named}
 use Rattle.link_model.specs.Steps.{Stepped, Act, put, with_sessions, with_rows, ticked, with_clock, acted, act_on, begin, on_live, come, deliver, alter, add_row, withdraw, step}
 use Rattle.link_model.specs.Runs.{empty, run_from, run}

@@ -15,9 +15,9 @@ use Rattle.endpoint_model.specs.Emissions.{slice_at, sets, written, blank, own_a
 use Rattle.segment_model.specs.Spelling.{finished}
 use Rattle.link_laws.proofs.Carrying.{GivenAt, given-later}
 use Rattle.link_laws.proofs.Written.{area_ao, same_input, same_context}
-use Rattle.link_model.specs.Entries.{StandsIn, AcknowledgesAs, FromRow, Written, Protected, Placed, AsMade, AllMade, Carried}
+use Rattle.link_laws.specs.Entries.{StandsIn, AcknowledgesAs, FromRow, Written, Protected, Placed, AsMade, AllMade, Carried}
 use Rattle.link_model.specs.declared.event.Event.{Event}
-use Rattle.link_model.specs.Laws.{SetupFits, EventFits}
+use Rattle.link_laws.specs.Laws.{SetupFits, EventFits}
 use Rattle.link_model.specs.Worlds.{Setup, pair_of, Session, Made, Happening, Making, Coming, World, side}
 use Rattle.link_model.specs.Runs.{run}
 use Rattle.link_laws.proofs.Invariant.{MadeBy, MadeOk, AllMadeOk, mac_in, wired}

@@ -14,7 +14,7 @@ use Rattle.link_model.specs.Outcomes.{Outcome, WithoutKey, Idle, Nothing}
 use Rattle.link_model.specs.declared.event.Event.TheVariants.{Send, Resend}
 use Rattle.link_model.specs.Worlds.{Setup, pair_of, Session, World, side}
 use Rattle.link_model.specs.Steps.{Act, sent, send, send_again, act_on, step}
-use Rattle.link_model.specs.Laws.{IsCovered}
+use Rattle.link_laws.specs.Laws.{IsCovered}
 
 sent_keyless : (e : End) (w : World) (s : EndState) (without : Outcome) (o : Emitted) → without ≢ WithoutKey → (sent e w s without o).outcome ≡ WithoutKey → o ≡ NoKey
 sent_keyless e w s without Quiet apart is = absurd (apart is)

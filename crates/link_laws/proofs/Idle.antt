@@ -11,7 +11,7 @@ use Rattle.key_model.specs.Coordination.{Sending, choose}
 use Rattle.endpoint_model.specs.States.{EndState}
 use Rattle.endpoint_model.specs.Emissions.{Draft, Quiet, NoKey, to_emit, to_resend, most_bytes, blank, seal_known, keyed, emitted, emit, resend}
 use Rattle.link_model.specs.declared.event.Event.{Event}
-use Rattle.link_model.specs.Laws.{SetupFits, EventFits}
+use Rattle.link_laws.specs.Laws.{SetupFits, EventFits}
 use Rattle.link_model.specs.Runs.{run}
 use Rattle.link_model.specs.Worlds.{Setup, pair_of, Session, side, live}
 use Rattle.link_laws.proofs.Drafts.{emit_same, resend_same}

@@ -28,7 +28,7 @@ use Rattle.link_laws.proofs.Carrying.{Carries}
 use Rattle.link_laws.proofs.ByteLists.{PairFits, zeros, context_bytes, input_bytes, spell_bytes}
 use Rattle.link_laws.proofs.Written.{mac_words, written_fits}
 use Rattle.link_model.specs.Worlds.{Setup, pair_of, Session, Made, Happening, Making, Coming, World, side, find, live}
-use Rattle.link_model.specs.Laws.{RowFits, OneFamily, SetupFits}
+use Rattle.link_laws.specs.Laws.{RowFits, OneFamily, SetupFits}
 
 -- as made: how a session made a segment, in its state and from its table then, and what it kept since
 pub record MadeBy (setup : Setup) (t : EndState) (m : Made) : Type 0 where

@@ -15,7 +15,7 @@ use Rattle.link_laws.proofs.Whole.{Whole}
 use Rattle.link_laws.proofs.Gains.{Brings, BringsFin, BringsAck}
 use Rattle.link_model.specs.Worlds.{Setup, pair_of, Session, Side, Made, Happening, Making, Coming, World, side, find}
 use Rattle.link_model.specs.Steps.{Act, add, put, with_sessions, acted, act_on}
-use Rattle.link_model.specs.Laws.{RowFits}
+use Rattle.link_laws.specs.Laws.{RowFits}
 use Rattle.link_laws.proofs.Invariant.{MadeBy, made-later, MadeOk, AllMadeOk, AllSound, AllWhole, AllShown, Distinct, Inv, Grows}
 use Rattle.link_laws.proofs.Arriving.{Passing}
 use Rattle.link_laws.proofs.Sessions.{both, grows_refl, grows_head, find_own}

@@ -15,7 +15,7 @@ use Rattle.link_laws.proofs.Drafts.{DraftOk, MayDraft, most_low, emit_ok, resend
 use Rattle.link_model.specs.Outcomes.{Outcome, Idle, Nothing, WithoutKey}
 use Rattle.link_model.specs.Worlds.{Setup, pair_of, World, side}
 use Rattle.link_model.specs.Steps.{quietly, sent, send, send_again}
-use Rattle.link_model.specs.Laws.{RowFits}
+use Rattle.link_laws.specs.Laws.{RowFits}
 use Rattle.link_laws.proofs.Keeping.{same_gained, ActOk}
 use Rattle.link_laws.proofs.Calls.{still_ok}
 

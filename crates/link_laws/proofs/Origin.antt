@@ -26,7 +26,7 @@ use Rattle.link_laws.proofs.Written.{area_ao}
 use Rattle.link_model.specs.declared.event.Event.{Event}
 use Rattle.link_model.specs.Worlds.{other, Setup, pair_of, Session, Made, Came, Coming, World, side, find, partner, forged, forgeries}
 use Rattle.link_model.specs.Steps.{step}
-use Rattle.link_model.specs.Laws.{SetupFits, EventFits, IsAmong, Repeats, FromPartner, Arrives, HasOrigin, ResetsByAbort}
+use Rattle.link_laws.specs.Laws.{SetupFits, EventFits, IsAmong, Repeats, FromPartner, Arrives, HasOrigin, ResetsByAbort}
 use Rattle.link_laws.proofs.Invariant.{live_sound, live_whole, MadeBy, Inv, blank_in, blank_fits}
 use Rattle.link_laws.proofs.Arriving.{Passing, ArrivedOk, arrive_ok}
 use Rattle.link_laws.proofs.Accounts.{Found, found_made, none_forged, Accounts, accounts_tell}

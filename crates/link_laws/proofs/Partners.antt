@@ -4,8 +4,8 @@ use Rattle.std.specs.List.{AllByRecursion}
 use Rattle.segment_model.proofs.Fields.{eqb_is, some_is}
 use Rattle.endpoint_model.specs.States.{EndState}
 use Rattle.link_model.specs.declared.event.Event.{Event}
-use Rattle.link_model.specs.Headline.{ArePartners, OnePartner, PartnerIsOne}
-use Rattle.link_model.specs.Laws.{SetupFits, EventFits}
+use Rattle.link_laws.specs.Headline.{ArePartners, OnePartner, PartnerIsOne}
+use Rattle.link_laws.specs.Laws.{SetupFits, EventFits}
 use Rattle.link_model.specs.Runs.{run}
 use Rattle.link_model.specs.Worlds.{other, Setup, Session, World, side, find, is_known, known_by, partner_among}
 use Rattle.link_laws.proofs.Invariant.{Distinct}

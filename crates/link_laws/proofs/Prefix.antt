@@ -8,8 +8,8 @@ use Rattle.link_laws.proofs.Whole.{Whole}
 use Rattle.link_laws.proofs.Carrying.{GivenAt}
 use Rattle.link_laws.proofs.Lists.{bytes_from-add, length-bytes_from}
 use Rattle.link_model.specs.declared.event.Event.{Event}
-use Rattle.link_model.specs.Headline.{IsPrefixOf, ComesFrom, DeliversInOrder, IsWhole, EndsWhole, ShowsEnds, AckedBy, Acknowledges, IsReceived, AcknowledgedWasReceived}
-use Rattle.link_model.specs.Laws.{SetupFits, EventFits}
+use Rattle.link_laws.specs.Headline.{IsPrefixOf, ComesFrom, DeliversInOrder, IsWhole, EndsWhole, ShowsEnds, AckedBy, Acknowledges, IsReceived, AcknowledgedWasReceived}
+use Rattle.link_laws.specs.Laws.{SetupFits, EventFits}
 use Rattle.link_model.specs.Worlds.{other, Setup, Session, side, partner_among}
 use Rattle.link_model.specs.Runs.{run}
 use Rattle.link_laws.proofs.Invariant.{AllWhole, AllShown}

@@ -15,8 +15,8 @@ use Rattle.link_laws.proofs.Stream.{Stream}
 use Rattle.link_laws.proofs.Whole.{Whole}
 use Rattle.link_laws.proofs.Gains.{Brings, BringsFin, BringsAck}
 use Rattle.link_laws.proofs.Carrying.{GivenAt, given-later}
-use Rattle.link_model.specs.Headline.{GivesFew}
-use Rattle.link_model.specs.Laws.{SetupFits, Repeats}
+use Rattle.link_laws.specs.Headline.{GivesFew}
+use Rattle.link_laws.specs.Laws.{SetupFits, Repeats}
 use Rattle.link_model.specs.Worlds.{other, Setup, pair_of, Session, Side, Made, Came, Happening, Making, Coming, World, side, find, forged, forgeries}
 use Rattle.link_model.specs.Steps.{add, put}
 use Rattle.link_laws.proofs.Invariant.{MadeBy, Inv, Grows}

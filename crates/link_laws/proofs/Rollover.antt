@@ -36,7 +36,7 @@ use Rattle.link_laws.proofs.Written.{area_ao, same_input, same_context}
 use Rattle.link_model.specs.declared.event.Event.TheVariants.{Deliver}
 use Rattle.link_model.specs.Worlds.{other, Setup, pair_of, Session, Made, World, side, find, live, is_known, addressed}
 use Rattle.link_model.specs.Steps.{Act, act_on, come, deliver, step}
-use Rattle.link_model.specs.Laws.{SetupFits, IsNear, RollsOver, IsHeard, IsAdmitted}
+use Rattle.link_laws.specs.Laws.{SetupFits, IsNear, RollsOver, IsHeard, IsAdmitted}
 use Rattle.link_laws.proofs.Invariant.{live_sound, Inv, mac_in, row_in, wired}
 use Rattle.link_laws.proofs.Running.{named_ok}
 use Rattle.link_laws.proofs.Accepted.{same_bytes-refl, same_socket-refl, option_is, meant_near, context_met, Passes, judged_pass}

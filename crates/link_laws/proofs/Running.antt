@@ -32,7 +32,7 @@ use Rattle.link_model.specs.declared.event.Event.TheVariants.{Clock, Connect, Li
 use Rattle.link_model.specs.Worlds.{Setup, pair_of, Session, Made, Came, Happening, Making, Coming, World, side, find, segment_named}
 use Rattle.link_model.specs.Steps.{Stepped, with_sessions, with_rows, ticked, with_clock, begin, on_live, come, deliver, alter, add_row, withdraw, step}
 use Rattle.link_model.specs.Runs.{empty, run_from, run}
-use Rattle.link_model.specs.Laws.{RowFits, SetupFits, EventFits}
+use Rattle.link_laws.specs.Laws.{RowFits, SetupFits, EventFits}
 use Rattle.link_laws.proofs.Invariant.{MadeOk, AllMadeOk, AllSound, AllWhole, AllShown, Distinct, Inv, Grows, wired}
 use Rattle.link_laws.proofs.Sessions.{grows_refl, grows_head, grows_new, both}
 use Rattle.link_laws.proofs.Keeping.{put_keeps, Gained, HasPassed, same_gained, ActOk, act_keeps}

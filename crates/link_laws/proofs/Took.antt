@@ -3,7 +3,7 @@ use Rattle.std.proofs.Common.{◌≡◌, ℕ, Bool, true, false, ◌||◌, List,
 use Rattle.ao_base.specs.declared.end.End.{End}
 use Rattle.ao_base.specs.declared.end.End.TheVariants.{A, B}
 use Rattle.endpoint_model.specs.States.{taking, take_out, at_end}
-use Rattle.link_model.specs.Headline.{TookFrom}
+use Rattle.link_laws.specs.Headline.{TookFrom}
 use Rattle.link_model.specs.declared.event.Event.TheVariants.{Take}
 use Rattle.link_model.specs.Outcomes.{Took}
 use Rattle.link_model.specs.Worlds.{Setup, Session, Side, Happening, World, side, live}

@@ -22,7 +22,7 @@ use Rattle.mac_model.specs.MacInput.{covered, mac_input}
 use Rattle.key_model.specs.Coordination.{Sending}
 use Rattle.endpoint_model.specs.States.{EndState, window, own_mss}
 use Rattle.endpoint_model.specs.Emissions.{Draft, sets, ip_words, written_ip, written_area, ao_place, written, no_mac, blank, own_ao}
-use Rattle.link_model.specs.Laws.{OneFamily}
+use Rattle.link_laws.specs.Laws.{OneFamily}
 use Rattle.link_laws.proofs.ByteLists.{Byted, cons, two, PairFits}
 use Rattle.link_laws.proofs.Drafts.{DraftOk}
 

@@ -11,15 +11,6 @@ pub data Outcome : Type 0 where
   Took : (bytes : List ℕ) (end_shown : Bool) → Outcome
   Image : (bytes : List ℕ) → Outcome
   Added : (number : ℕ) → Outcome
-  IsnUsed : Outcome
-  NoSession : Outcome
-  NoSegment : Outcome
-  NoPlace : Outcome
-  Full : Outcome
-  HasClosed : Outcome
-  WithoutKey : Outcome
-  Idle : Outcome
-  Nothing : Outcome
-  TooManyRows : Outcome
+  IsnUsed NoSession NoSegment NoPlace Full HasClosed WithoutKey Idle Nothing TooManyRows : Outcome
   OverlapWith : (number : ℕ) → Outcome
   NoRow : Outcome

@@ -59,8 +59,7 @@ number_text (Some n) = decimal n
 
 -- the words for a segment that was made
 abbrev pub sent_texts : Made → List (List ℕ)
-sent_texts m =
-    let e = m.emission in
+sent_texts m = let e = m.emission in
     codes "sent" ∷ decimal m.name ∷ flags_text e.flags ∷ codes "seq" ∷ decimal e.number ∷ codes "ack" ∷ number_text e.acknowledged
     ∷ codes "len" ∷ decimal (length e.segment.payload) ∷ codes "key" ∷ decimal e.sending.key_id ∷ codes "next" ∷ decimal e.sending.rnext_key_id ∷ []
 

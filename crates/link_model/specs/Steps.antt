@@ -52,8 +52,7 @@ acted s act = record { state = act.state; end_shown = s.end_shown || act.shown }
 -- a call on the newest session
 abbrev pub act_on : World → End → List Session → (EndState → Act) → Stepped
 act_on w e [] call = record { world = w; outcome = NoSession }
-act_on w e (s ∷ rest) call =
-    let act = call s.state in
+act_on w e (s ∷ rest) call = let act = call s.state in
     record { world = put w e (with_sessions (side w e) (acted s act ∷ rest)) act.happened; outcome = act.outcome }
 
 -- a call on the live session of an end
@@ -85,8 +84,7 @@ begin_new w e s = begin w e s (find (side w e).sessions s.isn)
 
 -- a piece is given, unless the end is closed or there is no room for it
 abbrev pub given : List ℕ → EndState → Act
-given piece s =
-    if not (gives s) then quietly s HasClosed
+given piece s = if not (gives s) then quietly s HasClosed
     else (if nat_lt (room s) (length piece) then quietly s Full else quietly (give piece s) Done)
 
 -- the entry of a segment: each gets the next number from 1
@@ -111,13 +109,9 @@ send_again setup e w s = sent e w s Nothing (resend (side w e).rows (pair_of set
 
 -- the entry of an arrival
 abbrev pub came : End → World → List ℕ → EndState → Arrived → Act
-came e w bytes s r =
-    record {
-      state = r.state;
-      shown = false;
+came e w bytes s r = record { state = r.state; shown = false;
       happened = Some (Coming (record { at = e; isn = s.isn; clock = (side w e).clock; bytes = bytes; answer = r.answer; passed = r.passed }));
-      outcome = Answered r.answer;
-    }
+      outcome = Answered r.answer }
 
 -- bytes come to the live session
 abbrev pub come : Setup → End → World → List ℕ → EndState → Act
@@ -125,8 +119,7 @@ come setup e w bytes s = came e w bytes s (arrive (side w e).rows (pair_of setup
 
 -- bytes are taken
 abbrev pub took : ℕ → EndState → Act
-took count s =
-    let t = take_out count s in record { state = t; shown = at_end t; happened = None; outcome = Took (taking count s) (at_end t) }
+took count s = let t = take_out count s in record { state = t; shown = at_end t; happened = None; outcome = Took (taking count s) (at_end t) }
 
 -- a segment is delivered as it was made
 abbrev pub deliver : Setup → End → World → Option Made → Stepped

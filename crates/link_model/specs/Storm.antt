@@ -25,8 +25,7 @@ mixed z shift factor = bit_xor z (z / shift) * factor % words_of_64
 
 -- what a state draws: the shifts are by 30, 27 and 31 bits (SplitMix64)
 unfoldable pub draw : ℕ → ℕ
-draw state =
-    let z = mixed (mixed state 1073741824 0xbf58476d1ce4e5b9) 134217728 0x94d049bb133111eb in bit_xor z (z / 2147483648)
+draw state = let z = mixed (mixed state 1073741824 0xbf58476d1ce4e5b9) 134217728 0x94d049bb133111eb in bit_xor z (z / 2147483648)
 
 -- an even number is for end a
 abbrev pub end_of : ℕ → End
@@ -44,8 +43,7 @@ one_delivered e (suc n) v = Deliver e (1 + v % suc n)
 
 -- the event that a draw makes of a world: which kind, and with which number
 abbrev pub event_by : World → End → (kind v : ℕ) → Event
-event_by w e kind v =
-    if kind == 0 then Fill e (v % 1000) (v / 1000 % 256)
+event_by w e kind v = if kind == 0 then Fill e (v % 1000) (v / 1000 % 256)
     else (if kind == 1 then Send e else (if kind == 2 then Send e
     else (if kind == 3 then last_delivered e (segment_named (segments w.history) w.history)
     else (if kind == 4 then last_delivered e (segment_named (segments w.history) w.history)
@@ -64,14 +62,9 @@ events_drawn setup w state (suc n) =
 
 -- the link of a storm: two ends over IPv4 that share a key
 abbrev pub storm_setup : Setup
-storm_setup =
-    let row = shared_row HmacSha1 (replicate 20 11) in
-    record {
-      a = record { address = V4 (10 ∷ 0 ∷ 0 ∷ 1 ∷ []); port = 1000 };
-      b = record { address = V4 (10 ∷ 0 ∷ 0 ∷ 2 ∷ []); port = 2000 };
-      a_rows = row ∷ [];
-      b_rows = row ∷ [];
-    }
+storm_setup = let row = shared_row HmacSha1 (replicate 20 11) in
+    record { a = record { address = V4 (10 ∷ 0 ∷ 0 ∷ 1 ∷ []); port = 1000 }; b = record { address = V4 (10 ∷ 0 ∷ 0 ∷ 2 ∷ []); port = 2000 };
+      a_rows = row ∷ []; b_rows = row ∷ [] }
 
 -- both ends of a storm begin established, soon before a lap of the sequence numbers
 abbrev pub storm_starts : List Event
@@ -79,5 +72,4 @@ storm_starts = Start A 4294960000 4000000000 ∷ Start B 4000000000 4294960000 �
 
 -- the events of the storm from a seed, so many of them drawn
 unfoldable pub storm_events : ℕ → ℕ → List Event
-storm_events seed count =
-    storm_starts ++ events_drawn storm_setup (run_from storm_setup (empty storm_setup) storm_starts) seed count
+storm_events seed count = storm_starts ++ events_drawn storm_setup (run_from storm_setup (empty storm_setup) storm_starts) seed count

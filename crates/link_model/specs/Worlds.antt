@@ -128,8 +128,7 @@ addressed d s r =
 
 -- the other end made this entry, with what passed: the same algorithm, master key, context and MAC input
 abbrev pub accounts_for : End → Finding → Made → Bool
-accounts_for at p m =
-    let e = m.emission in
+accounts_for at p m = let e = m.emission in
     same_end m.maker (other at) && same_key (key_of e.sending.row) p.key && same_bytes e.context p.context && same_bytes e.input p.input
 
 -- the other end made an entry with what passed

@@ -5,7 +5,8 @@ use Rattle.std.specs.List.{list_any}
 use Rattle.ao_base.specs.declared.address.Pair.{Pair}
 use Rattle.key_model.specs.Rows.{Row}
 use Rattle.format_model.specs.declared.node.NodeEvent.{NodeEvent}
-use Rattle.format_model.specs.NodeRuns.{NodeState, NodeOutcome, Alone, no_ends, most_ends, node_step, outcomes, outcomes_from, is_mine, mine, my_outcomes, is_placed}
+use Rattle.format_model.specs.NodeRuns.{NodeState, NodeOutcome, no_ends, most_ends, node_step, outcomes, outcomes_from}
+use Rattle.node_laws.specs.Alone.{Alone, is_mine, mine, my_outcomes, is_placed}
 use Rattle.node_laws.proofs.Held.{IsOnce}
 use Rattle.node_laws.proofs.Steps.{alone, mine_step, other_step, once_step}
 

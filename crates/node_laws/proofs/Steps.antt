@@ -10,7 +10,8 @@ use Rattle.format_model.specs.declared.node.Act.{Act}
 use Rattle.format_model.specs.declared.node.Act.TheVariants as act
 use Rattle.format_model.specs.declared.node.NodeEvent.{NodeEvent}
 use Rattle.format_model.specs.declared.node.NodeEvent.TheVariants as event
-use Rattle.format_model.specs.NodeRuns.{Held, NodeState, NodeStep, Called, Answered, Done, NodeFull, called, same_pair, end_of, ticked, act_on, stays, after_call, on_held, new_end, on_other, on_pair, arrived_at, pair_of, injected, node_step, is_for, is_mine, is_placed}
+use Rattle.format_model.specs.NodeRuns.{Held, NodeState, NodeStep, Called, Answered, Done, NodeFull, called, same_pair, end_of, ticked, act_on, stays, after_call, on_held, new_end, on_other, on_pair, arrived_at, pair_of, injected, node_step}
+use Rattle.node_laws.specs.Alone.{is_for, is_mine, is_placed}
 use Rattle.node_laws.proofs.Held.{held, IsOnce, end_with_same, end_with_other, end_without_other, end_ticked, end_pushed_other, end_pushed_same, once_with, once_without, once_ticked, once_pushed}
 use Rattle.node_laws.proofs.Pairs.{same_pair_is, same_pair-refl}
 

@@ -3,7 +3,7 @@ ghost use Rattle.std.specs.Prelude.{List};
 ghost use Rattle.ao_base.specs.declared.address.Pair.{Pair};
 ghost use Rattle.key_model.specs.Rows.{Row};
 ghost use Rattle.format_model.specs.declared.node.NodeEvent.{NodeEvent};
-ghost use Rattle.format_model.specs.NodeRuns.{Alone};
+ghost use Rattle.node_laws.specs.Alone.{Alone};
 
 /// Each connection of a node gives the answers that it would give alone, whatever events of others
 /// come between: for each pair none of whose own events found the node full, the answers to the

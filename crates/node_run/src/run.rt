@@ -1,7 +1,8 @@
 //! The run of a node's script.
 ghost use Rattle.std.specs.Prelude.{◌≡◌, ◌<◌, ◌≤◌, [], length, IfOk, OnOk};
 ghost use Rattle.ao_base.specs.declared.address.Pair.{Pair as OnePair};
-ghost use Rattle.format_model.specs.NodeRuns.{Alone, most_ends, no_ends, node_from, node_text};
+ghost use Rattle.format_model.specs.NodeRuns.{most_ends, no_ends, node_from, node_text};
+ghost use Rattle.node_laws.specs.Alone.{Alone};
 ghost use Rattle.node_script.specs.Scripts.{IsScript};
 ghost use Rattle.node_run.specs.Nodes.{HoldsAs};
 

@@ -30,8 +30,7 @@ ending p = record { kind = 0; body = []; place = p }
 
 -- the bytes from a place on are these options and then the tail: kind 0 stands at most last, and only behind it is there a tail (RFC 9293, section 3.2)
 abbrev pub AreaAt : ℕ → List Opt → List ℕ → List ℕ → Type 0
-AreaAt p list tail bytes =
-    (Open p list × (tail ≡ []) × (bytes ≡ spell_options list))
+AreaAt p list tail bytes = (Open p list × (tail ≡ []) × (bytes ≡ spell_options list))
     ⊎ ((before : List Opt) × Open p before × (list ≡ before ++ ending (p + length (spell_options before)) ∷ []) × (bytes ≡ spell_options before ++ 0 ∷ tail))
 
 -- the bytes are these options and then the tail (RFC 9293, section 3.2)

@@ -7,4 +7,3 @@ pub mod Received
 pub mod Segments
 pub mod Sockets
 pub mod Spelling
-pub mod Written

@@ -4,8 +4,7 @@ use Rattle.segment_model.specs.Bytes.{ring}
 
 -- the integer with this remainder modulo 2^32 that lies from 2^31 below to below 2^31 above the expected one; None is below 0 (RFC 5925, section 6.2)
 unfoldable pub meant : ℕ → ℕ → Option ℕ
-meant seq expected =
-    let ahead = (seq + ring - expected % ring) % ring in
+meant seq expected = let ahead = (seq + ring - expected % ring) % ring in
     if nat_lt ahead 2147483648 then Some (expected + ahead)
     else (if nat_le (ring - ahead) expected then Some (expected - (ring - ahead)) else None)
 

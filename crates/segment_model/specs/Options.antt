@@ -25,10 +25,7 @@ least kind = if kind == 29 then 4 else 2
 
 -- what stands at the front of an area: nothing, kind 0, a fault, or an option with its size and the bytes behind it (RFC 9293, section 3.2)
 pub data Front : Type 0 where
-  NoMore : Front
-  Ending : Front
-  TooShort : Front
-  TooLong : Front
+  NoMore Ending TooShort TooLong : Front
   Leading : (kind : ℕ) (body : List ℕ) (size : ℕ) (rest : List ℕ) → Front
 
 -- kinds 0 and 1 are one byte; every other option has kind, length and body (RFC 9293, section 3.2)
@@ -37,8 +34,7 @@ front [] = NoMore
 front (zero ∷ rest) = Ending
 front (suc zero ∷ rest) = Leading 1 [] 1 rest
 front (suc (suc k) ∷ []) = TooLong
-front (suc (suc k) ∷ size ∷ rest) =
-    if nat_lt size (least (suc (suc k))) then TooShort
+front (suc (suc k) ∷ size ∷ rest) = if nat_lt size (least (suc (suc k))) then TooShort
     else (if nat_lt (length rest + 2) size then TooLong else Leading (suc (suc k)) (take (size - 2) rest) size (drop (size - 2) rest))
 
 -- the options from a place on, where this stands there and the others are known
@@ -90,8 +86,7 @@ AreListed (Faulty fault) = ⊥
 -- the first option of kind 2 with a body of two bytes (RFC 9293, section 3.2)
 abbrev pub mss_among : List Opt → Option ℕ
 mss_among [] = None
-mss_among (o ∷ os) =
-    if (o.kind == 2) && (length o.body == 2) then Some (slice_index o.body 0 * 256 + slice_index o.body 1) else mss_among os
+mss_among (o ∷ os) = if (o.kind == 2) && (length o.body == 2) then Some (slice_index o.body 0 * 256 + slice_index o.body 1) else mss_among os
 
 -- the TCP-AO option of a segment (RFC 5925, section 2.2)
 pub record Ao : Type 0 where
@@ -104,8 +99,7 @@ pub record Ao : Type 0 where
 pub data AoFound : Type 0 where
   Absent : AoFound
   One : (ao : Ao) → AoFound
-  Two : AoFound
-  WithMd5 : AoFound
+  Two WithMd5 : AoFound
 
 -- the fields of an option of kind 29 (RFC 5925, section 2.2)
 abbrev pub ao_of : Opt → Ao

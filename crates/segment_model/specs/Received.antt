@@ -13,8 +13,7 @@ first_known None o = o
 
 -- a payload at number n, kept at the numbers from low to below high that have no byte yet (RFC 9293, section 3.10.7.4)
 unfoldable pub keep : (ℕ → Option ℕ) → ℕ → List ℕ → ℕ → ℕ → ℕ → Option ℕ
-keep m n payload low high p =
-    first_known (m p) (if nat_le low p && nat_lt p high && nat_le n p then slice_get payload (p - n) else None)
+keep m n payload low high p = first_known (m p) (if nat_le low p && nat_lt p high && nat_le n p then slice_get payload (p - n) else None)
 
 -- the first number from p on that has no byte, within so many (RFC 9293, section 3.10.7.4)
 abbrev pub first_missing : (ℕ → Option ℕ) → ℕ → ℕ → ℕ

@@ -58,8 +58,7 @@ pseudo d rest = pseudo_of d.ip d rest
 
 -- the 20 bytes of the TCP header with this checksum, and then the rest (RFC 9293, section 3.1)
 unfoldable pub header : Segment → ℕ → List ℕ → List ℕ
-header d checksum rest =
-    put2 d.source.port (put2 d.destination.port (put4 d.sequence (put4 d.acknowledgement
+header d checksum rest = put2 d.source.port (put2 d.destination.port (put4 d.sequence (put4 d.acknowledgement
     ((80 + 4 * length d.area + d.reserved) ∷ d.flags ∷ put2 d.window (put2 checksum (put2 d.urgent rest))))))
 
 -- the TCP header with this checksum, the options and the payload (RFC 9293, section 3.1)
@@ -143,8 +142,7 @@ option_fault (Faulty fault) = Some (BadOption fault)
 
 -- the eighth and the ninth test, over the TCP bytes (RFC 9293, section 3.1)
 abbrev pub tcp_fault : List ℕ → Option DatagramFault
-tcp_fault t =
-    let size = 4 * (slice_index t 12 / 16) in
+tcp_fault t = let size = 4 * (slice_index t 12 / 16) in
     refuse (nat_lt (length t) 20) DataOffset
     (refuse (nat_lt size 20) DataOffset
     (refuse (nat_lt (length t) size) DataOffset
@@ -152,8 +150,7 @@ tcp_fault t =
 
 -- the tests of a datagram over IPv4, in order (RFC 791, section 3.1)
 abbrev pub v4_fault : List ℕ → Option DatagramFault
-v4_fault b =
-    let size = 4 * (slice_index b 0 % 16) in
+v4_fault b = let size = 4 * (slice_index b 0 % 16) in
     let total = two_at b 2 in
     refuse (nat_lt (length b) 20) Truncated
     (refuse (nat_lt (length b) total) Truncated
@@ -170,8 +167,7 @@ is_extension next = (next == 0) || (next == 43) || (next == 44) || (next == 60)
 
 -- the tests of a datagram over IPv6, in order (RFC 8200, section 3)
 abbrev pub v6_fault : List ℕ → Option DatagramFault
-v6_fault b =
-    let size = two_at b 4 in
+v6_fault b = let size = two_at b 4 in
     let next = slice_index b 6 in
     refuse (nat_lt (length b) 40) Truncated
     (refuse (nat_lt (length b) (40 + size)) Truncated
@@ -182,33 +178,20 @@ v6_fault b =
 -- the first of the nine tests that holds
 unfoldable pub first_fault : List ℕ → Option DatagramFault
 first_fault [] = Some Truncated
-first_fault (first ∷ rest) =
-    refuse (not ((first / 16 == 4) || (first / 16 == 6))) Version
+first_fault (first ∷ rest) = refuse (not ((first / 16 == 4) || (first / 16 == 6))) Version
     (if first / 16 == 4 then v4_fault (first ∷ rest) else v6_fault (first ∷ rest))
 
 -- the fields of the TCP bytes (RFC 9293, section 3.1)
 abbrev pub tcp_fields : IpHeader → Address → Address → List ℕ → Segment
-tcp_fields ip source destination t =
-    let size = 4 * (slice_index t 12 / 16) in
+tcp_fields ip source destination t = let size = 4 * (slice_index t 12 / 16) in
     record {
-      ip = ip;
-      source = record { address = source; port = two_at t 0 };
-      destination = record { address = destination; port = two_at t 2 };
-      sequence = four_at t 4;
-      acknowledgement = four_at t 8;
-      reserved = slice_index t 12 % 16;
-      flags = slice_index t 13;
-      window = two_at t 14;
-      checksum = two_at t 16;
-      urgent = two_at t 18;
-      area = slice_range t 20 size;
-      payload = drop size t;
-    }
+      ip = ip; source = record { address = source; port = two_at t 0 }; destination = record { address = destination; port = two_at t 2 };
+      sequence = four_at t 4; acknowledgement = four_at t 8; reserved = slice_index t 12 % 16; flags = slice_index t 13;
+      window = two_at t 14; checksum = two_at t 16; urgent = two_at t 18; area = slice_range t 20 size; payload = drop size t }
 
 -- the fields of a datagram over IPv4 (RFC 791, section 3.1)
 abbrev pub v4_fields : List ℕ → Segment
-v4_fields b =
-    let size = 4 * (slice_index b 0 % 16) in
+v4_fields b = let size = 4 * (slice_index b 0 % 16) in
     tcp_fields (Ipv4 (slice_index b 1) (two_at b 4) (slice_index b 6 / 64) (slice_index b 8) (two_at b 10) (slice_range b 20 size))
     (V4 (slice_range b 12 16)) (V4 (slice_range b 16 20)) (slice_range b size (two_at b 2))
 

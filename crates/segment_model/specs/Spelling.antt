@@ -99,12 +99,9 @@ addresses_in b = if slice_index b 0 / 16 == 4 then take 8 (drop 12 b) else take 
 
 -- the pseudo-header of a datagram's bytes whose IP header has no options, and then the rest (RFC 9293, section 3.1; RFC 8200, section 8.1)
 abbrev pub pseudo_in : List ℕ → List ℕ → List ℕ
-pseudo_in b rest =
-    if slice_index b 0 / 16 == 4 then addresses_in b ++ (0 ∷ 6 ∷ put2 (length b - 20) rest)
+pseudo_in b rest = if slice_index b 0 / 16 == 4 then addresses_in b ++ (0 ∷ 6 ∷ put2 (length b - 20) rest)
     else addresses_in b ++ put4 (length b - 40) (0 ∷ 0 ∷ 0 ∷ 6 ∷ rest)
 
 -- a datagram's bytes with the TCP checksum set right, whatever else they hold (RFC 9293, section 3.1)
 unfoldable pub with_right_checksum : List ℕ → List ℕ
-with_right_checksum b =
-    let t = drop (ip_length b) b in
-    take (ip_length b) b ++ with_checksum t (complement_of (pseudo_in b (with_checksum t 0)))
+with_right_checksum b = let t = drop (ip_length b) b in take (ip_length b) b ++ with_checksum t (complement_of (pseudo_in b (with_checksum t 0)))

@@ -10,7 +10,7 @@ use Rattle.segment_model.specs.Options.{Opt, Listed, AreListed, Ao, One, options
 use Rattle.segment_model.proofs.AreaLaws.{area_is}
 use Rattle.segment_model.specs.Segments.{IpHeader, Segment, words_sum, sums, complement_of, checksum_of, tcp_length, pseudo, header, tcp_bytes, spell_as, spell, first_fault, fields}
 use Rattle.segment_model.specs.Spelling.{AreBytes, IsV4, IsV6, FitsIp, Fits, with_sum, with_checksum, addresses_in}
-use Rattle.segment_model.specs.Written.{mss_option, ip_words}
+use Rattle.tcp_segment.specs.Written.{mss_option, ip_words}
 use Rattle.segment_model.proofs.ByteLaws.{two_back, bytes_take, bytes_drop}
 use Rattle.segment_model.proofs.SumLaws.{words_pseudo, complement_completes, complement_fits, is_right, spell_with, fits_with, finished_fits, finished_good}
 use Rattle.segment_model.proofs.SpellLaws.{finished_again}

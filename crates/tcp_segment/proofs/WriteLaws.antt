@@ -10,7 +10,7 @@ use Rattle.segment_model.specs.Bytes.{put2, put4}
 use Rattle.segment_model.specs.Sockets.{octets}
 use Rattle.segment_model.specs.Segments.{Segment, words_sum, complement_of, tcp_length, header, tcp_bytes, spell_as, spell}
 use Rattle.segment_model.specs.Spelling.{with_sum}
-use Rattle.segment_model.specs.Written.{mss_option, ip_words}
+use Rattle.tcp_segment.specs.Written.{mss_option, ip_words}
 use Rattle.segment_model.proofs.SumLaws.{words_append, spell_with}
 use Rattle.tcp_segment.specs.declared.writing.Head.{Head}
 use Rattle.tcp_segment.specs.Sums.{complement_at}

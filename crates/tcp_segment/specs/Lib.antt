@@ -4,3 +4,4 @@ pub mod Parts
 pub mod Places
 pub mod Sums
 pub mod Writing
+pub mod Written

@@ -5,7 +5,7 @@ use Rattle.ao_base.specs.declared.address.Address.TheVariants.{V4, V6}
 use Rattle.segment_model.specs.Bytes.{put2, put4, ring}
 use Rattle.segment_model.specs.Segments.{IpHeader, Segment, complement_of, spell, reading, Read}
 use Rattle.segment_model.specs.Spelling.{Fits, Good, with_sum, finished}
-use Rattle.segment_model.specs.Written.{area_heads, written_area, ip_words, ip_as, written}
+use Rattle.tcp_segment.specs.Written.{area_heads, written_area, ip_words, ip_as, written}
 use Rattle.tcp_segment.specs.declared.writing.Head.{Head}
 
 -- the length of the option of the maximum segment size

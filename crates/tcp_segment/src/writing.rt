@@ -3,7 +3,7 @@ ghost use Rattle.std.specs.Prelude.{◌≡◌, ◌+◌, ◌-◌, ◌*◌, ◌/�
 ghost use Rattle.segment_model.specs.Bytes.{put2};
 ghost use Rattle.segment_model.specs.Sockets.{octets};
 ghost use Rattle.segment_model.specs.Segments.{complement_of};
-ghost use Rattle.segment_model.specs.Written.{ip_words};
+ghost use Rattle.tcp_segment.specs.Written.{ip_words};
 ghost use Rattle.tcp_segment.specs.Writing.{ip_start, ip_size, tcp_start, mss_length, option_heads, header_length, IsSized, HasNumbers, IsHead, HoldsDraft};
 ghost use Rattle.tcp_segment.specs.Drafts.{Drafted};
 

@@ -46,8 +46,7 @@ is_kind kind = nat_le OPEN kind && nat_le kind ROUTE_REFRESH
 
 -- the least length of a message of this type (RFC 4271, sections 4.2 to 4.5; RFC 2918, section 3)
 abbrev pub least_length : ℕ → ℕ
-least_length kind =
-    if kind == OPEN then 29
+least_length kind = if kind == OPEN then 29
     else if kind == UPDATE then 23
     else if kind == NOTIFICATION then 21
     else if kind == ROUTE_REFRESH then 23 else header_length
@@ -85,8 +84,7 @@ kind_in header = slice_index header 18
 
 -- what is wrong with a header, the first of: the marker, the length, the type, the length against the type (RFC 4271, section 6.1)
 unfoldable pub header_fault : List ℕ → Option BgpFault
-header_fault header =
-    if not (bytes_eq (take 16 header) marker) then Some Marker
+header_fault header = if not (bytes_eq (take 16 header) marker) then Some Marker
     else if nat_lt (length_in header) header_length || nat_lt greatest_length (length_in header) then Some Length
     else if not (is_kind (kind_in header)) then Some Kind
     else if not (fits_kind (kind_in header) (length_in header)) then Some Length else None
@@ -100,8 +98,7 @@ pub data Front : Type 0 where
 -- the front of bytes that begin with a header, by the header's fault, type and length (RFC 4271, section 4.1)
 abbrev pub front_by : Option BgpFault → ℕ → ℕ → List ℕ → Front
 front_by (Some fault) kind len bytes = Faulty fault
-front_by None kind len bytes =
-    if nat_lt (length bytes) len then Unfinished
+front_by None kind len bytes = if nat_lt (length bytes) len then Unfinished
     else Leading (record { kind = kind; body = slice_range bytes header_length len }) (drop len bytes)
 
 -- the same, by the header

@@ -28,8 +28,7 @@ order_of head = if four_at Big head 0 == magic then Some Big else if four_at Lit
 
 -- link type 1 is Ethernet, 101 is IP alone (pcap-linktype)
 abbrev pub link_of : ByteOrder → ℕ → Result Head HeadFault
-link_of order link =
-    if link == 1 then Ok (record { order = order; link = Ethernet })
+link_of order link = if link == 1 then Ok (record { order = order; link = Ethernet })
     else if link == 101 then Ok (record { order = order; link = Raw }) else Err head_fault.LinkType
 
 -- what a header in this order says: version 2.4, and the link type in the low 16 bits of the last field (pcap-savefile; the other fields and bits don't count, own)
@@ -63,22 +62,18 @@ most_kept = 262144
 
 -- what stands at the front of records: nothing, a record that isn't whole, or a record and what follows it
 pub data Front : Type 0 where
-  Done : Front
-  Broken : Front
+  Done Broken : Front
   Whole : (kept : Kept) (rest : List ℕ) → Front
 
 -- the record at the front, with this kept length
 abbrev pub record_by : ByteOrder → ℕ → List ℕ → Front
-record_by order len text =
-    if nat_lt most_kept len then Broken
+record_by order len text = if nat_lt most_kept len then Broken
     else if nat_lt (length text) (16 + len) then Broken
     else Whole (record { seconds = four_at order text 0; bytes = take len (drop 16 text) }) (drop (16 + len) text)
 
 -- the record at the front: seconds, microseconds, kept length and original length of four bytes each, and then the kept bytes (pcap-savefile)
 unfoldable pub record_at : ByteOrder → List ℕ → Front
-record_at order text =
-    if length text == 0 then Done
-    else if nat_lt (length text) 16 then Broken else record_by order (four_at order text 8) text
+record_at order text = if length text == 0 then Done else if nat_lt (length text) 16 then Broken else record_by order (four_at order text 8) text
 
 -- bytes 12 and 13 of an Ethernet header say IPv4 or IPv6 (RFC 894; RFC 2464, section 3)
 abbrev pub is_ip : List ℕ → Bool
@@ -111,8 +106,7 @@ pub record Packets : Type 0 where
 
 -- a packet before others; it is passed over where its datagram has no byte
 abbrev pub with_packet : Packet → Packets → Packets
-with_packet p others =
-    if length p.datagram == 0 then others else record { list = p ∷ others.list; fault = others.fault }
+with_packet p others = if length p.datagram == 0 then others else record { list = p ∷ others.list; fault = others.fault }
 
 -- the packets of records with this front, the first of number n, where those of what follows are known
 abbrev pub packets_by : Head → ℕ → Front → (List ℕ → Packets) → Packets

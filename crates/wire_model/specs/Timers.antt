@@ -39,9 +39,7 @@ value_of s = bounded (s.mean + max granularity (4 * s.variation))
 
 -- the timer after a sample of so many seconds (RFC 6298, sections 2.2 and 2.3)
 abbrev pub sampled : Timer → ℕ → Timer
-sampled t seconds =
-    let s = smoothed_with t.smoothed (round_trip seconds) in
-    record { value = value_of s; smoothed = Some s }
+sampled t seconds = let s = smoothed_with t.smoothed (round_trip seconds) in record { value = value_of s; smoothed = Some s }
 
 -- the timer after it expired: its value is doubled, up to the greatest (RFC 6298, section 5.5)
 abbrev pub expired : Timer → Timer
