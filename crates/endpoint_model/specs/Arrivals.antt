@@ -119,8 +119,7 @@ acked s (Some a) = if nat_lt s.una a then record s { una = a } else s
 
 -- window, own FIN, payload and FIN (RFC 9293, section 3.10.7.4)
 abbrev pub go_on : EndState → ℕ → Segment → ℕ → ℕ → Option ℕ → Moved
-go_on s old_una d n now a = let t = acked_fin (windowed s old_una d n a) a in
-    hear_data t d n now (hears t.phase && (nat_lt 0 (length d.payload) || has FIN d))
+go_on s old_una d n now a = let t = acked_fin (windowed s old_una d n a) a in hear_data t d n now (hears t.phase && (nat_lt 0 (length d.payload) || has FIN d))
 
 -- the acknowledgement, by the phase (RFC 9293, section 3.10.7.4)
 abbrev pub acknowledged : EndState → Segment → ℕ → ℕ → Option ℕ → Phase → Moved

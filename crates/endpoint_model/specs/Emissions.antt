@@ -209,10 +209,19 @@ told_window s flags = if sets flags RST then 0 else (if sets flags ACK then wind
 -- the segment of a draft with this MAC, its checksum still 0
 abbrev pub written : Pair → EndState → Draft → Sending → List ℕ → Segment
 written pair s out sending m = record {
-      ip = written_ip pair (24 + length m + ao_place (sets out.flags SYN) + length out.payload) pair.local.address; source = pair.local;
-      destination = pair.remote; sequence = out.number % ring; acknowledgement = if sets out.flags ACK then s.expected % ring else 0;
-      reserved = 0; flags = out.flags; window = told_window s out.flags; checksum = 0; urgent = 0;
-      area = written_area pair (sets out.flags SYN) sending m; payload = out.payload }
+  ip = written_ip pair (24 + length m + ao_place (sets out.flags SYN) + length out.payload) pair.local.address;
+  source = pair.local;
+  destination = pair.remote;
+  sequence = out.number % ring;
+  acknowledgement = if sets out.flags ACK then s.expected % ring else 0;
+  reserved = 0;
+  flags = out.flags;
+  window = told_window s out.flags;
+  checksum = 0;
+  urgent = 0;
+  area = written_area pair (sets out.flags SYN) sending m;
+  payload = out.payload;
+}
 
 -- a MAC that is still zero
 abbrev pub no_mac : Sending → List ℕ
@@ -232,15 +241,20 @@ input_of pair s out sending = mac_input out.number (blank pair s out sending) (o
 
 -- the MAC of a draft under this context (RFC 5925, section 7.4)
 abbrev pub seal_of : Pair → EndState → Draft → Sending → List ℕ → List ℕ
-seal_of pair s out sending context =
-    mac sending.row.algorithm (traffic_key sending.row.algorithm sending.row.master context) (input_of pair s out sending)
+seal_of pair s out sending context = mac sending.row.algorithm (traffic_key sending.row.algorithm sending.row.master context) (input_of pair s out sending)
 
 -- the segment of a draft under this context; the row is the current one from now on
 abbrev pub sealed : Pair → EndState → Draft → Sending → List ℕ → Emission
 sealed pair s out sending context = record {
-      state = record (out.state) { current = Some sending.number }; flags = out.flags; number = out.number;
-      acknowledged = if sets out.flags ACK then Some s.expected else None; sending = sending; context = context;
-      input = input_of pair s out sending; segment = finished (written pair s out sending (seal_of pair s out sending context)) }
+  state = record (out.state) { current = Some sending.number };
+  flags = out.flags;
+  number = out.number;
+  acknowledged = if sets out.flags ACK then Some s.expected else None;
+  sending = sending;
+  context = context;
+  input = input_of pair s out sending;
+  segment = finished (written pair s out sending (seal_of pair s out sending context));
+}
 
 -- the segment of a draft, where its context is known: it always is, in a run
 abbrev pub seal_known : Pair → EndState → Draft → Sending → Option (List ℕ) → Emitted

@@ -64,9 +64,27 @@ default_mss (V6 bytes) = 1220
 -- a session as it begins in a phase
 abbrev pub beginning : Pair → Phase → ℕ → EndState
 beginning pair phase isn = record {
-      phase = phase; isn = isn; peer_isn = None; una = isn; next = isn; send_window = 0; wl1 = 0; wl2 = 0; expected = 0; given = [];
-      taken = []; received = λ p. None; fin = None; ack_owed = false; closing = false; aborted = false; rst_owed = false;
-      mss = default_mss pair.local.address; deadline = None; current = None }
+  phase = phase;
+  isn = isn;
+  peer_isn = None;
+  una = isn;
+  next = isn;
+  send_window = 0;
+  wl1 = 0;
+  wl2 = 0;
+  expected = 0;
+  given = [];
+  taken = [];
+  received = λ p. None;
+  fin = None;
+  ack_owed = false;
+  closing = false;
+  aborted = false;
+  rst_owed = false;
+  mss = default_mss pair.local.address;
+  deadline = None;
+  current = None;
+}
 
 -- an active open (RFC 9293, section 3.10.1)
 abbrev pub connected : Pair → ℕ → EndState
@@ -79,8 +97,15 @@ listening pair isn = beginning pair Listen isn
 -- a session whose two initial sequence numbers are known (own)
 abbrev pub started : Pair → ℕ → ℕ → EndState
 started pair isn peer = record (beginning pair Established isn) {
-      peer_isn = Some peer; una = isn + 1; next = isn + 1; expected = peer + 1; send_window = 65535; wl1 = peer; wl2 = isn + 1;
-      mss = own_mss pair.local.address }
+  peer_isn = Some peer;
+  una = isn + 1;
+  next = isn + 1;
+  expected = peer + 1;
+  send_window = 65535;
+  wl1 = peer;
+  wl2 = isn + 1;
+  mss = own_mss pair.local.address;
+}
 
 -- the number after the last given byte
 abbrev pub given_end : EndState → ℕ

@@ -58,8 +58,7 @@ judge_mac ao p = if same_bytes ao.mac (mac_of p) then Admit p else Refuse BadMac
 -- the number is at least 0, and the segment ends at 2^63 at most (own)
 abbrev pub judge_number : Numbered → Segment → Ao → List ℕ → Option ℕ → Judgement
 judge_number r d ao context None = Refuse Range
-judge_number r d ao context (Some n) =
-    if nat_lt 9223372036854775808 (n + segment_length d) then Refuse Range else judge_mac ao (found_with r d ao context n)
+judge_number r d ao context (Some n) = if nat_lt 9223372036854775808 (n + segment_length d) then Refuse Range else judge_mac ao (found_with r d ao context n)
 
 -- the number of a segment: with SYN its sequence, else what that means near the number expected (RFC 5925, section 6.2)
 abbrev pub number_of : Segment → Option ℕ → Option ℕ

@@ -74,8 +74,10 @@ judge_stored rows pair now d known = if has SYN d then judge rows pair (acknowle
 
 -- the connection that a SYN with ACK fixes (RFC 9293, section 3.5)
 abbrev pub fixed : Segment → Connection
-fixed d = record { one = record { socket = d.source; isn = d.sequence; expected = d.sequence + 1 };
-      two = record { socket = d.destination; isn = acknowledged_isn d; expected = acknowledged_isn d + 1 } }
+fixed d = record {
+  one = record { socket = d.source; isn = d.sequence; expected = d.sequence + 1 };
+  two = record { socket = d.destination; isn = acknowledged_isn d; expected = acknowledged_isn d + 1 };
+}
 
 -- the connection has these initial sequence numbers already
 abbrev pub same_isns : Connection → Connection → Bool
@@ -87,8 +89,7 @@ most_connections = 65536
 
 -- a SYN with ACK passed: it fixes both initial sequence numbers, unless they are fixed already, or too many connections are held (own)
 abbrev pub hear_syn_ack : List Connection → Segment → Judgement → Option Connection → Heard
-hear_syn_ack held d j (Some c) =
-    record { connections = if same_isns c (fixed d) then held else with_connection (fixed d) held; saying = Judged j (good d) }
+hear_syn_ack held d j (Some c) = record { connections = if same_isns c (fixed d) then held else with_connection (fixed d) held; saying = Judged j (good d) }
 hear_syn_ack held d j None = if nat_le most_connections (length held) then record { connections = held; saying = Full (good d) }
     else record { connections = with_connection (fixed d) held; saying = Judged j (good d) }
 

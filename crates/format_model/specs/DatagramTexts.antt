@@ -28,8 +28,7 @@ options_texts (o ∷ os) = option_text o ∷ map option_text os
 
 -- the numbers of a datagram, its flags and the length of its payload (RFC 9293, section 3.1)
 abbrev pub number_texts : Segment → List (List ℕ) → List (List ℕ)
-number_texts d others =
-    codes "seq" ∷ decimal d.sequence ∷ codes "ack" ∷ decimal d.acknowledgement ∷ codes "flags" ∷ hex_of (d.flags ∷ [])
+number_texts d others = codes "seq" ∷ decimal d.sequence ∷ codes "ack" ∷ decimal d.acknowledgement ∷ codes "flags" ∷ hex_of (d.flags ∷ [])
     ∷ codes "window" ∷ decimal d.window ∷ codes "urgent" ∷ decimal d.urgent ∷ codes "len" ∷ decimal (length d.payload) ∷ others
 
 -- whether its checksum is right, and its options (RFC 9293, section 3.1)

@@ -94,9 +94,18 @@ add_of ws = do
   accept_last ← last_in accept_first.value accept_first.rest
   none ← nothing_in accept_last.rest
   Ok (event.AddRow e.value (record {
-    recv_id = recv_id.value; send_id = send_id.value; algorithm = algorithm.value; master = master.value; with_options = apart.value;
-    receive = ways.value.receive; send = ways.value.send; send_first = send_first.value; send_last = send_last.value;
-    accept_first = accept_first.value; accept_last = accept_last.value }))
+    recv_id = recv_id.value;
+    send_id = send_id.value;
+    algorithm = algorithm.value;
+    master = master.value;
+    with_options = apart.value;
+    receive = ways.value.receive;
+    send = ways.value.send;
+    send_first = send_first.value;
+    send_last = send_last.value;
+    accept_first = accept_first.value;
+    accept_last = accept_last.value;
+  }))
 
 -- `dump N`
 unfoldable pub dump_of : List (List ℕ) → Result Event LineKind

@@ -215,8 +215,7 @@ waited (suc n) setup e to p (Some d) = if nat_lt to d then until setup e to p
 -- an event of a timed link; a wait of so many seconds ends at the greatest time at last
 abbrev pub timed_event : Setup → Progress → TimedEvent → Expanded
 timed_event setup p (Plain event) = record { events = event ∷ []; progress = plain setup p event }
-timed_event setup p (Wait e count) =
-    waited (count + 1) setup e (min (reading_at p e + count) greatest_time) p (due (reading_at p e) (watch_of p e).deadline)
+timed_event setup p (Wait e count) = waited (count + 1) setup e (min (reading_at p e + count) greatest_time) p (due (reading_at p e) (watch_of p e).deadline)
 
 -- the events of a timed link as plain events
 abbrev pub expand_from : Setup → Progress → List TimedEvent → Expanded

@@ -105,8 +105,7 @@ pub record Making : Type 0 where
 
 -- the MAC of a datagram under the traffic key of its sockets and these initial sequence numbers, with this sequence number extension (RFC 5925, sections 5.1, 5.2 and 6.2)
 abbrev pub mac_of_signed : List ℕ → Making → Signed → List ℕ
-mac_of_signed master m s =
-    let key = traffic_key m.algorithm master (context s.segment.source s.segment.destination m.source_isn m.dest_isn) in
+mac_of_signed master m s = let key = traffic_key m.algorithm master (context s.segment.source s.segment.destination m.source_isn m.dest_isn) in
     mac m.algorithm key (mac_input (m.extension * ring + s.segment.sequence) s.segment s.ao m.covering)
 
 -- the greatest number of four bytes (RFC 9293, section 3.4)

@@ -48,8 +48,7 @@ answer_texts Taken = codes "taken" ∷ []
 
 -- the flags of a segment that was made: S, SA, AP, AF, A or R
 abbrev pub flags_text : ℕ → List ℕ
-flags_text flags =
-    if flags == SYN then codes "S" else (if flags == SYN + ACK then codes "SA" else (if flags == PSH + ACK then codes "AP"
+flags_text flags = if flags == SYN then codes "S" else (if flags == SYN + ACK then codes "SA" else (if flags == PSH + ACK then codes "AP"
     else (if flags == FIN + ACK then codes "AF" else (if flags == ACK then codes "A" else codes "R"))))
 
 -- a number, or a sign for none

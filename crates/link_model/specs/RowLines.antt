@@ -15,6 +15,15 @@ direction_of false false = Disabled
 -- the row matches every pair (RFC 7210, section 2)
 abbrev pub row_of : RowLine → Row
 row_of l = record {
-      recv_id = l.recv_id; send_id = l.send_id; peers = None ∷ []; local_port = None; peer_port = None; algorithm = l.algorithm;
-      master = l.master; with_options = l.with_options; direction = direction_of l.receive l.send;
-      sending = record { first = l.send_first; last = l.send_last }; accepting = record { first = l.accept_first; last = l.accept_last } }
+  recv_id = l.recv_id;
+  send_id = l.send_id;
+  peers = None ∷ [];
+  local_port = None;
+  peer_port = None;
+  algorithm = l.algorithm;
+  master = l.master;
+  with_options = l.with_options;
+  direction = direction_of l.receive l.send;
+  sending = record { first = l.send_first; last = l.send_last };
+  accepting = record { first = l.accept_first; last = l.accept_last };
+}

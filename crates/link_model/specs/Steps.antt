@@ -75,8 +75,7 @@ with_clock s seconds = record { clock = seconds; rows = s.rows; sessions = ticke
 -- a new session, unless the end used its initial sequence number before
 abbrev pub begin : World → End → EndState → Option Session → Stepped
 begin w e s (Some used) = record { world = w; outcome = IsnUsed }
-begin w e s None =
-    record { world = put w e (with_sessions (side w e) (record { state = s; end_shown = false } ∷ (side w e).sessions)) None; outcome = Done }
+begin w e s None = record { world = put w e (with_sessions (side w e) (record { state = s; end_shown = false } ∷ (side w e).sessions)) None; outcome = Done }
 
 -- a new session of an end; the one before is dropped
 abbrev pub begin_new : World → End → EndState → Stepped
@@ -84,8 +83,7 @@ begin_new w e s = begin w e s (find (side w e).sessions s.isn)
 
 -- a piece is given, unless the end is closed or there is no room for it
 abbrev pub given : List ℕ → EndState → Act
-given piece s = if not (gives s) then quietly s HasClosed
-    else (if nat_lt (room s) (length piece) then quietly s Full else quietly (give piece s) Done)
+given piece s = if not (gives s) then quietly s HasClosed else (if nat_lt (room s) (length piece) then quietly s Full else quietly (give piece s) Done)
 
 -- the entry of a segment: each gets the next number from 1
 abbrev pub made_of : End → World → EndState → Emission → Made
@@ -96,8 +94,7 @@ made_of e w s out =
 abbrev pub sent : End → World → EndState → Outcome → Emitted → Act
 sent e w s without Quiet = quietly s without
 sent e w s without NoKey = quietly s WithoutKey
-sent e w s without (Emits out) =
-    let made = made_of e w s out in record { state = out.state; shown = false; happened = Some (Making made); outcome = Sent made }
+sent e w s without (Emits out) = let made = made_of e w s out in record { state = out.state; shown = false; happened = Some (Making made); outcome = Sent made }
 
 -- the live session sends
 abbrev pub send : Setup → End → World → EndState → Act
@@ -109,9 +106,12 @@ send_again setup e w s = sent e w s Nothing (resend (side w e).rows (pair_of set
 
 -- the entry of an arrival
 abbrev pub came : End → World → List ℕ → EndState → Arrived → Act
-came e w bytes s r = record { state = r.state; shown = false;
-      happened = Some (Coming (record { at = e; isn = s.isn; clock = (side w e).clock; bytes = bytes; answer = r.answer; passed = r.passed }));
-      outcome = Answered r.answer }
+came e w bytes s r = record {
+  state = r.state;
+  shown = false;
+  happened = Some (Coming (record { at = e; isn = s.isn; clock = (side w e).clock; bytes = bytes; answer = r.answer; passed = r.passed }));
+  outcome = Answered r.answer;
+}
 
 -- bytes come to the live session
 abbrev pub come : Setup → End → World → List ℕ → EndState → Act
@@ -129,8 +129,7 @@ deliver setup e w (Some m) = on_live w e (come setup e w m.bytes)
 -- an altered copy of a segment is delivered
 abbrev pub alter : Setup → End → World → ℕ → ℕ → Bool → Option Made → Stepped
 alter setup e w place mask fix None = record { world = w; outcome = NoSegment }
-alter setup e w place mask fix (Some m) =
-    if has_place m.bytes place then on_live w e (come setup e w (altered m.bytes place mask fix))
+alter setup e w place mask fix (Some m) = if has_place m.bytes place then on_live w e (come setup e w (altered m.bytes place mask fix))
     else record { world = w; outcome = NoPlace }
 
 -- the bytes of a segment

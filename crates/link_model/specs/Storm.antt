@@ -57,14 +57,17 @@ event_of w r = event_by w (end_of r) (r / 2 % 8) (r / 256)
 -- so many events, each drawn after the ones before it were stepped
 abbrev pub events_drawn : Setup → World → ℕ → ℕ → List Event
 events_drawn setup w state zero = []
-events_drawn setup w state (suc n) =
-    let event = event_of w (draw (drawn state)) in event ∷ events_drawn setup (step setup w event).world (drawn state) n
+events_drawn setup w state (suc n) = let event = event_of w (draw (drawn state)) in event ∷ events_drawn setup (step setup w event).world (drawn state) n
 
 -- the link of a storm: two ends over IPv4 that share a key
 abbrev pub storm_setup : Setup
 storm_setup = let row = shared_row HmacSha1 (replicate 20 11) in
-    record { a = record { address = V4 (10 ∷ 0 ∷ 0 ∷ 1 ∷ []); port = 1000 }; b = record { address = V4 (10 ∷ 0 ∷ 0 ∷ 2 ∷ []); port = 2000 };
-      a_rows = row ∷ []; b_rows = row ∷ [] }
+    record {
+      a = record { address = V4 (10 ∷ 0 ∷ 0 ∷ 1 ∷ []); port = 1000 };
+      b = record { address = V4 (10 ∷ 0 ∷ 0 ∷ 2 ∷ []); port = 2000 };
+      a_rows = row ∷ [];
+      b_rows = row ∷ [];
+    }
 
 -- both ends of a storm begin established, soon before a lap of the sequence numbers
 abbrev pub storm_starts : List Event

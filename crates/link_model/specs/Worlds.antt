@@ -123,8 +123,7 @@ partner w e s = partner_among (side w (other e)).sessions s.isn s.peer_isn
 
 -- a segment of session s is addressed to session r of the other end: any, for SYN without ACK; one with the number known as the peer's, for SYN with ACK; else the partner
 abbrev pub addressed : Segment → EndState → EndState → Bool
-addressed d s r =
-    if has SYN d then (if has ACK d then is_known s.peer_isn r.isn else true) else is_known s.peer_isn r.isn && is_known r.peer_isn s.isn
+addressed d s r = if has SYN d then (if has ACK d then is_known s.peer_isn r.isn else true) else is_known s.peer_isn r.isn && is_known r.peer_isn s.isn
 
 -- the other end made this entry, with what passed: the same algorithm, master key, context and MAC input
 abbrev pub accounts_for : End → Finding → Made → Bool

@@ -185,9 +185,19 @@ first_fault (first ∷ rest) = refuse (not ((first / 16 == 4) || (first / 16 == 
 abbrev pub tcp_fields : IpHeader → Address → Address → List ℕ → Segment
 tcp_fields ip source destination t = let size = 4 * (slice_index t 12 / 16) in
     record {
-      ip = ip; source = record { address = source; port = two_at t 0 }; destination = record { address = destination; port = two_at t 2 };
-      sequence = four_at t 4; acknowledgement = four_at t 8; reserved = slice_index t 12 % 16; flags = slice_index t 13;
-      window = two_at t 14; checksum = two_at t 16; urgent = two_at t 18; area = slice_range t 20 size; payload = drop size t }
+      ip = ip;
+      source = record { address = source; port = two_at t 0 };
+      destination = record { address = destination; port = two_at t 2 };
+      sequence = four_at t 4;
+      acknowledgement = four_at t 8;
+      reserved = slice_index t 12 % 16;
+      flags = slice_index t 13;
+      window = two_at t 14;
+      checksum = two_at t 16;
+      urgent = two_at t 18;
+      area = slice_range t 20 size;
+      payload = drop size t;
+    }
 
 -- the fields of a datagram over IPv4 (RFC 791, section 3.1)
 abbrev pub v4_fields : List ℕ → Segment

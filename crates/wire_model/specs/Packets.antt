@@ -34,8 +34,7 @@ link_of order link = if link == 1 then Ok (record { order = order; link = Ethern
 -- what a header in this order says: version 2.4, and the link type in the low 16 bits of the last field (pcap-savefile; the other fields and bits don't count, own)
 abbrev pub head_in : Option ByteOrder → List ℕ → Result Head HeadFault
 head_in None head = Err head_fault.Magic
-head_in (Some order) head =
-    if (two_at order head 4 == 2) && (two_at order head 6 == 4) then link_of order (four_at order head 20 % 65536)
+head_in (Some order) head = if (two_at order head 4 == 2) && (two_at order head 6 == 4) then link_of order (four_at order head 20 % 65536)
     else Err head_fault.Version
 
 -- what the 24 bytes of a header say, or the first fault (pcap-savefile)
