@@ -7,3 +7,4 @@ pub mod InMemory
 pub mod Lines
 pub mod Outside
 pub mod ReadAll
+pub mod Results

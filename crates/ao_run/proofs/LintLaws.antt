@@ -6,7 +6,7 @@ use Rattle.line_model.specs.declared.text_fault.TextFault.{TextFault}
 use Rattle.line_model.specs.declared.text_fault.TextFault.TheVariants as text_fault
 use Rattle.line_model.specs.Faults.{fault_text}
 use Rattle.line_model.specs.Said.{Said, said_in}
-use Rattle.line_model.specs.Words.{◌>>=◌}
+use Rattle.ao_base.specs.Results.{◌>>=◌}
 use Rattle.text_lines.specs.Readings.{Fails}
 use Rattle.format_model.specs.declared.command.Plan.{Plan}
 use Rattle.format_model.specs.Answers.{Answer, done, if_read, linted, refuse}

@@ -6,7 +6,7 @@ use Rattle.segment_model.specs.Options.{Plain}
 use Rattle.line_model.specs.declared.text_fault.TextFault.{TextFault}
 use Rattle.line_model.specs.declared.text_fault.TextFault.TheVariants as fault
 use Rattle.line_model.specs.Lines.{Line}
-use Rattle.line_model.specs.Words.{◌>>=◌}
+use Rattle.ao_base.specs.Results.{◌>>=◌}
 use Rattle.line_model.specs.Said.{Said, numbered, said_by}
 use Rattle.text_lines.specs.Readings.{Fails}
 use Rattle.ao_show.specs.Loops.{shown_from}

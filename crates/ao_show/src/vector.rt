@@ -2,12 +2,12 @@
 ghost use Rattle.std.specs.Prelude.{◌≡◌, ◌≤◌, length, Ok};
 ghost use Rattle.sha1.specs.Sha1.{sha1};
 ghost use Rattle.sha2.specs.Sha256.{sha256};
-ghost use Rattle.mac_model.specs.Ciphers.{aes, cmac};
+ghost use Rattle.mac_model.specs.Ciphers.{aes, cmac, prf as prf_of};
 ghost use Rattle.mac_model.specs.Hmac.{hmac};
 ghost use Rattle.ao_mac.specs.Macs.{HasAo};
 ghost use Rattle.text_lines.specs.Readings.{Tells, gives};
 ghost use Rattle.ao_show.specs.Signed.{IsMadeVector};
-ghost use Rattle.format_model.specs.Vectors.{aes_vector, cmac_vector, hmac256_vector, hmac_vector, kdf_vector, keyed_of, making_in, prf_vector, segment_vector, vector_named, vector_of};
+ghost use Rattle.format_model.specs.Vectors.{aes_vector, cmac_vector, kdf_vector, keyed_of, keyed_vector, making_in, segment_vector, vector_named, vector_of};
 
 use crate::keys::{key_of, read_context};
 use crate::signed::{Making, SignedDatagram, mac_of, signed};
@@ -106,27 +106,24 @@ fn aes_of(key: &[u8; 16], block: &[u8; 16]) -> [u8; 16]
     Aes128::new(key).encrypt(block)
 }
 
-#[tactic(auto, unfolding(format_model::specs::Vectors::hmac_vector))]
 fn hmac_vector(alloc: Global, words: &mut LineWords) -> Result<Vector, Refusal>
-    ensures { Tells result (hmac_vector words.old) }
+    ensures { Tells result (keyed_vector (hmac sha1) words.old) }
 {
     let keyed = Keyed::read(alloc, words)?;
     let computed = hmac_sha1_of(keyed.key.as_slice(), keyed.message.as_slice());
     Vector::new(alloc, &computed, keyed.expected)
 }
 
-#[tactic(auto, unfolding(format_model::specs::Vectors::hmac256_vector))]
 fn hmac256_vector(alloc: Global, words: &mut LineWords) -> Result<Vector, Refusal>
-    ensures { Tells result (hmac256_vector words.old) }
+    ensures { Tells result (keyed_vector (hmac sha256) words.old) }
 {
     let keyed = Keyed::read(alloc, words)?;
     let computed = hmac_sha256_of(keyed.key.as_slice(), keyed.message.as_slice());
     Vector::new(alloc, &computed, keyed.expected)
 }
 
-#[tactic(auto, unfolding(format_model::specs::Vectors::prf_vector))]
 fn prf_vector(alloc: Global, words: &mut LineWords) -> Result<Vector, Refusal>
-    ensures { Tells result (prf_vector words.old) }
+    ensures { Tells result (keyed_vector prf_of words.old) }
 {
     let keyed = Keyed::read(alloc, words)?;
     let computed = prf(keyed.key.as_slice(), keyed.message.as_slice());

@@ -8,6 +8,7 @@ use Rattle.endpoint_model.specs.declared.verdict.Passed.{Passed}
 use Rattle.endpoint_model.specs.declared.verdict.Verdict.{Verdict}
 use Rattle.endpoint_model.specs.declared.verdict.Verdict.TheVariants.{Pass}
 use Rattle.format_model.specs.Captures as book
+use Rattle.format_model.specs.DatagramTexts.{checksum_text}
 use Rattle.capture_check.specs.declared.answer.CheckLine.{CheckLine}
 use Rattle.capture_check.specs.declared.answer.CheckLine.TheVariants as line
 
@@ -41,7 +42,7 @@ verdict_texts why = codes "refused" ∷ verdict_text why ∷ []
 
 -- the words for a checksum
 abbrev pub checksum_texts : Bool → List (List ℕ)
-checksum_texts right = codes "checksum" ∷ book.checksum_text right ∷ []
+checksum_texts right = codes "checksum" ∷ checksum_text right ∷ []
 
 -- the words for an answer
 abbrev pub answer_texts : CheckLine → List (List ℕ)

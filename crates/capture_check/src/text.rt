@@ -3,7 +3,8 @@ ghost use Rattle.std.specs.Prelude.{◌≡◌, ◌++◌, ◌∷◌, [], OnOk, co
 ghost use Rattle.segment_model.specs.Faults.{fault_text};
 ghost use Rattle.link_model.specs.Reports.{verdict_text};
 ghost use Rattle.line_model.specs.Texts.{numbered_text, spaced};
-ghost use Rattle.format_model.specs.Captures.{Saying, saying_texts, checksum_text};
+ghost use Rattle.format_model.specs.Captures.{Saying, saying_texts};
+ghost use Rattle.format_model.specs.DatagramTexts.{checksum_text};
 ghost use Rattle.format_model.specs.Captures as book;
 ghost use Rattle.capture_check.specs.Answers.{Says, answer_texts, verdict_texts};
 

@@ -12,6 +12,7 @@ use Rattle.key_model.specs.Rows.{Row, Table, has_address}
 use Rattle.endpoint_model.specs.Verdicts.{Finding, Judgement, Refuse, Admit, judge}
 use Rattle.link_model.specs.Reports.{verdict_text}
 use Rattle.line_model.specs.Texts.{numbered_text}
+use Rattle.format_model.specs.DatagramTexts.{checksum_text}
 
 -- a datagram that was stored: its number in the input, its time, its bytes
 pub record Stored : Type 0 where
@@ -129,11 +130,6 @@ hear tables held time bytes = hear_read tables held time (reading bytes)
 abbrev pub sayings_from : List Table → List Connection → List Stored → List Saying
 sayings_from tables held [] = []
 sayings_from tables held (s ∷ rest) = let h = hear tables held s.time s.bytes in h.saying ∷ sayings_from tables h.connections rest
-
--- whether a checksum is right
-abbrev pub checksum_text : Bool → List ℕ
-checksum_text true = codes "good"
-checksum_text false = codes "wrong"
 
 -- the words for what is said of a segment
 abbrev pub saying_texts : Saying → List (List ℕ)

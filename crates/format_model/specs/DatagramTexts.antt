@@ -1,5 +1,5 @@
 -- The fields of a datagram as text. Our own format.
-use Rattle.std.specs.Prelude.{ℕ, nat_lt, if◌then◌else◌, Bool, true, false, List, [], ◌∷◌, ◌++◌, length, map, codes, decimal}
+use Rattle.std.specs.Prelude.{ℕ, nat_lt, if◌then◌else◌, Bool, List, [], ◌∷◌, ◌++◌, length, map, codes, decimal}
 use Rattle.ao_base.specs.declared.address.Address.{Address}
 use Rattle.ao_base.specs.declared.address.Address.TheVariants.{V4, V6}
 use Rattle.ao_base.specs.Hexadecimal.{hex_of}
@@ -14,8 +14,7 @@ family_text (V6 bytes) = codes "ipv6"
 
 -- whether a checksum is right
 abbrev pub checksum_text : Bool → List ℕ
-checksum_text true = codes "good"
-checksum_text false = codes "wrong"
+checksum_text right = if right then codes "good" else codes "wrong"
 
 -- the kind, and from kind 2 on a colon and the body (RFC 9293, section 3.2)
 abbrev pub option_text : Plain → List ℕ

@@ -1,5 +1,5 @@
 -- What is written of a key file: its fault, and its rows with their state at a time. Our own format.
-use Rattle.std.specs.Prelude.{ℕ, suc, Bool, true, false, List, [], ◌∷◌, ◌++◌, ◌&&◌, codes, decimal}
+use Rattle.std.specs.Prelude.{ℕ, suc, Bool, List, [], ◌∷◌, ◌++◌, ◌&&◌, codes, decimal, if◌then◌else◌}
 use Rattle.ao_base.specs.Addresses.{address_text}
 use Rattle.ao_base.specs.Algorithms.{name_of}
 use Rattle.key_model.specs.declared.direction.Direction.{Direction}
@@ -57,8 +57,7 @@ direction_text Disabled = codes "disabled"
 
 -- whether something holds
 abbrev pub yes_or_no : Bool → List ℕ
-yes_or_no true = codes "yes"
-yes_or_no false = codes "no"
+yes_or_no holds = if holds then codes "yes" else codes "no"
 
 -- the line of a row: its ids, algorithm and direction, and whether it sends and accepts at a time, whatever the pair (RFC 7210, section 3)
 abbrev pub row_line : ℕ → ℕ → Row → List ℕ

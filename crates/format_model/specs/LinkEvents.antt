@@ -5,7 +5,8 @@ use Rattle.ao_base.specs.declared.end.End.{End}
 use Rattle.ao_base.specs.declared.line_kind.LineKind.{LineKind}
 use Rattle.ao_base.specs.declared.line_kind.LineKind.TheVariants.{Word, Range}
 use Rattle.key_model.specs.Lifetimes.{greatest_time}
-use Rattle.line_model.specs.Words.{◌>>=◌, Taken, word_in, word_as, nothing_in, choice_in, end_in, algorithm_in, number_in, sized_hex_in, some_hex_in, byte_in, ending}
+use Rattle.line_model.specs.Words.{Taken, word_in, word_as, nothing_in, choice_in, end_in, algorithm_in, number_in, sized_hex_in, some_hex_in, byte_in, ending}
+use Rattle.ao_base.specs.Results.{◌>>=◌}
 use Rattle.link_model.specs.declared.event.Event.{Event}
 use Rattle.link_model.specs.declared.event.Event.TheVariants as event
 
@@ -74,11 +75,7 @@ ways_of w = if bytes_eq w (codes "in") then Some (record { receive = true; send 
     else if bytes_eq w (codes "both") then Some (record { receive = true; send = true })
     else if bytes_eq w (codes "disabled") then Some (record { receive = false; send = false }) else None
 
--- a lifetime's last second, not below its first
-abbrev pub last_in : ℕ → List (List ℕ) → Result (Taken ℕ) LineKind
-last_in first ws = number_in first greatest_time ws
-
--- `add END RECVID SENDID ALGORITHM HEX FLAG DIRECTION SENDFIRST SENDLAST ACCEPTFIRST ACCEPTLAST`
+-- `add END RECVID SENDID ALGORITHM HEX FLAG DIRECTION SENDFIRST SENDLAST ACCEPTFIRST ACCEPTLAST`; no lifetime's last second is before its first
 unfoldable pub add_of : List (List ℕ) → Result Event LineKind
 add_of ws = do
   e ← end_in ws
@@ -89,9 +86,9 @@ add_of ws = do
   apart ← choice_in (codes "no-options") (codes "options") master.rest
   ways ← word_as ways_of Word apart.rest
   send_first ← number_in 0 greatest_time ways.rest
-  send_last ← last_in send_first.value send_first.rest
+  send_last ← number_in send_first.value greatest_time send_first.rest
   accept_first ← number_in 0 greatest_time send_last.rest
-  accept_last ← last_in accept_first.value accept_first.rest
+  accept_last ← number_in accept_first.value greatest_time accept_first.rest
   none ← nothing_in accept_last.rest
   Ok (event.AddRow e.value (record {
     recv_id = recv_id.value;

@@ -11,7 +11,8 @@ use Rattle.line_model.specs.declared.text_fault.TextFault.{TextFault}
 use Rattle.line_model.specs.declared.text_fault.TextFault.TheVariants as fault
 use Rattle.line_model.specs.Lines.{Line, saying_lines}
 use Rattle.line_model.specs.Said.{numbered, if_few_lines}
-use Rattle.line_model.specs.Words.{◌>>=◌, nothing_in, literal_in, socket_in, algorithm_in, sized_hex_in, ending}
+use Rattle.line_model.specs.Words.{nothing_in, literal_in, socket_in, algorithm_in, sized_hex_in, ending}
+use Rattle.ao_base.specs.Results.{◌>>=◌}
 use Rattle.link_model.specs.declared.event.Event.{Event}
 use Rattle.format_model.specs.declared.script.SharedKey.{SharedKey}
 use Rattle.format_model.specs.declared.script.Script.{Script}

@@ -11,7 +11,8 @@ use Rattle.key_model.specs.Plans.{lint_of}
 use Rattle.key_model.specs.Rows.{Table}
 use Rattle.line_model.specs.Said.{Said}
 use Rattle.line_model.specs.Texts.{numbered_text, end_text}
-use Rattle.line_model.specs.Words.{◌>>=◌, Taken, address_in, number_in, socket_in, ending}
+use Rattle.line_model.specs.Words.{Taken, address_in, number_in, socket_in, ending}
+use Rattle.ao_base.specs.Results.{◌>>=◌}
 use Rattle.format_model.specs.declared.command.Plan.{Plan}
 use Rattle.format_model.specs.LinkFiles.{are_two_of_a_family}
 

@@ -14,7 +14,8 @@ use Rattle.line_model.specs.declared.text_fault.TextFault.{TextFault}
 use Rattle.line_model.specs.Lines.{Line, saying_lines}
 use Rattle.line_model.specs.Said.{numbered, if_few_lines}
 use Rattle.line_model.specs.Texts.{numbered_text}
-use Rattle.line_model.specs.Words.{◌>>=◌, Taken, word_in, literal_in, address_in, number_in, sized_hex_in, some_hex_in, ending}
+use Rattle.line_model.specs.Words.{Taken, word_in, literal_in, address_in, number_in, sized_hex_in, some_hex_in, ending}
+use Rattle.ao_base.specs.Results.{◌>>=◌}
 use Rattle.endpoint_model.specs.declared.arrival.Arrival.{Arrival}
 use Rattle.endpoint_model.specs.declared.arrival.Arrival.TheVariants.{Bad}
 use Rattle.endpoint_model.specs.States.{EndState, connected, listening, started, gives, room, give, taking, take_out, at_end, close, abort, tick}

@@ -7,7 +7,8 @@ use Rattle.segment_model.specs.Segments.{Reading, Bad, Read, reading}
 use Rattle.line_model.specs.declared.text_fault.TextFault.{TextFault}
 use Rattle.line_model.specs.Said.{Said, said_in}
 use Rattle.line_model.specs.Texts.{numbered_text}
-use Rattle.line_model.specs.Words.{◌>>=◌, hex_in, nothing_in}
+use Rattle.line_model.specs.Words.{hex_in, nothing_in}
+use Rattle.ao_base.specs.Results.{◌>>=◌}
 use Rattle.format_model.specs.DatagramTexts.{datagram_texts}
 
 -- a line is bytes in hexadecimal

@@ -5,7 +5,8 @@ use Rattle.ao_base.specs.declared.line_kind.LineKind.TheVariants.{Range}
 use Rattle.ao_base.specs.Lines.{lines_of, words_of}
 use Rattle.key_model.specs.Lifetimes.{greatest_time}
 use Rattle.line_model.specs.Lines.{says_something}
-use Rattle.line_model.specs.Words.{◌>>=◌, number_in, sized_hex_in, ending}
+use Rattle.line_model.specs.Words.{number_in, sized_hex_in, ending}
+use Rattle.ao_base.specs.Results.{◌>>=◌}
 use Rattle.format_model.specs.Captures.{Stored}
 
 -- the most bytes of a line

@@ -8,7 +8,8 @@ use Rattle.key_model.specs.Lifetimes.{greatest_time}
 use Rattle.line_model.specs.declared.text_fault.TextFault.{TextFault}
 use Rattle.line_model.specs.Lines.{Line, saying_lines}
 use Rattle.line_model.specs.Said.{if_few_lines}
-use Rattle.line_model.specs.Words.{◌>>=◌, word_in, end_in, number_in, ending}
+use Rattle.line_model.specs.Words.{word_in, end_in, number_in, ending}
+use Rattle.ao_base.specs.Results.{◌>>=◌}
 use Rattle.wire_model.specs.declared.timer.Timer.{Timer}
 use Rattle.wire_model.specs.Timers.{new_timer, sampled, expired}
 use Rattle.endpoint_model.specs.States.{EndState, is_closed}
@@ -135,8 +136,7 @@ is_sent _ = false
 
 -- what was sent again isn't timed (RFC 6298, section 3)
 abbrev pub untimed : Bool → Watch → Watch
-untimed true w = record w { timed = None }
-untimed false w = w
+untimed again w = if again then record w { timed = None } else w
 
 -- the timer of the end of an event, after it: a new session has a new one
 abbrev pub watch_after : World → Event → End → Stepped → Watch → Watch

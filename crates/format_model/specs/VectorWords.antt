@@ -4,7 +4,8 @@ use Rattle.std.specs.Str.{bytes_eq}
 use Rattle.ao_base.specs.declared.line_kind.LineKind.{LineKind}
 use Rattle.ao_base.specs.declared.line_kind.LineKind.TheVariants.{Hex, Range}
 use Rattle.ao_base.specs.Hexadecimal.{bytes_of_hex}
-use Rattle.line_model.specs.Words.{◌>>=◌, Taken, word_as, choice_in, hex_in}
+use Rattle.line_model.specs.Words.{Taken, word_as, choice_in, hex_in}
+use Rattle.ao_base.specs.Results.{◌>>=◌}
 
 -- the bytes of a message: a hyphen is the empty one
 abbrev pub message_of : List ℕ → Option (List ℕ)

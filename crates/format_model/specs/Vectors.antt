@@ -15,8 +15,10 @@ use Rattle.mac_model.specs.Contexts.{context}
 use Rattle.mac_model.specs.Hmac.{hmac}
 use Rattle.mac_model.specs.Keys.{mac, traffic_key}
 use Rattle.mac_model.specs.MacInput.{mac_input}
-use Rattle.line_model.specs.Words.{◌>>=◌, Taken, or_fault, word_in, nothing_in, hex_in, sized_hex_in, number_in, algorithm_in, ending}
+use Rattle.line_model.specs.Words.{Taken, word_in, nothing_in, hex_in, sized_hex_in, number_in, algorithm_in, ending}
+use Rattle.ao_base.specs.Results.{◌>>=◌, or_fault}
 use Rattle.format_model.specs.VectorWords.{message_in, context_in, covering_in}
+use Rattle.format_model.specs.LinkEvents.{greatest_isn}
 
 -- a test vector: what is computed, and what its line says
 pub record Vector : Type 0 where
@@ -41,18 +43,6 @@ abbrev pub keyed_vector : (List ℕ → List ℕ → List ℕ) → List (List �
 keyed_vector algorithm ws = do
   k ← keyed_of ws
   Ok (record { computed = algorithm k.key k.message; expected = k.expected })
-
--- HMAC-SHA-1 (RFC 2104)
-unfoldable pub hmac_vector : List (List ℕ) → Result Vector LineKind
-hmac_vector ws = keyed_vector (hmac sha1) ws
-
--- HMAC-SHA-256 (RFC 2104)
-unfoldable pub hmac256_vector : List (List ℕ) → Result Vector LineKind
-hmac256_vector ws = keyed_vector (hmac sha256) ws
-
--- AES-CMAC-PRF-128 (RFC 4615)
-unfoldable pub prf_vector : List (List ℕ) → Result Vector LineKind
-prf_vector ws = keyed_vector prf ws
 
 -- AES-CMAC, `KEY MESSAGE OUT` with a key of 16 bytes (RFC 4493)
 unfoldable pub cmac_vector : List (List ℕ) → Result Vector LineKind
@@ -108,16 +98,12 @@ abbrev pub mac_of_signed : List ℕ → Making → Signed → List ℕ
 mac_of_signed master m s = let key = traffic_key m.algorithm master (context s.segment.source s.segment.destination m.source_isn m.dest_isn) in
     mac m.algorithm key (mac_input (m.extension * ring + s.segment.sequence) s.segment s.ao m.covering)
 
--- the greatest number of four bytes (RFC 9293, section 3.4)
-abbrev pub greatest : ℕ
-greatest = 4294967295
-
 -- `SOURCEISN DESTISN EXTENSION options`, or `no-options`
 unfoldable pub making_in : Algorithm → List (List ℕ) → Result (Taken Making) LineKind
 making_in algorithm ws = do
-  source_isn ← number_in 0 greatest ws
-  dest_isn ← number_in 0 greatest source_isn.rest
-  extension ← number_in 0 greatest dest_isn.rest
+  source_isn ← number_in 0 greatest_isn ws
+  dest_isn ← number_in 0 greatest_isn source_isn.rest
+  extension ← number_in 0 greatest_isn dest_isn.rest
   covering ← covering_in extension.rest
   Ok (record { value = record { algorithm = algorithm; source_isn = source_isn.value; dest_isn = dest_isn.value; extension = extension.value; covering = covering.value }; rest = covering.rest })
 
@@ -132,13 +118,13 @@ segment_vector ws = do
   no_more ← nothing_in bytes.rest
   Ok (record { computed = mac_of_signed master.value making.value signed; expected = signed.ao.mac })
 
--- the vector that the first word names, of the words after it
+-- the vector that the first word names, of the words after it (RFC 2104, FIPS 197, RFC 4493, RFC 4615, RFC 5926, RFC 5925)
 unfoldable pub vector_named : List ℕ → List (List ℕ) → Result Vector LineKind
-vector_named name ws = if bytes_eq name (codes "hmac") then hmac_vector ws
-    else if bytes_eq name (codes "hmac256") then hmac256_vector ws
+vector_named name ws = if bytes_eq name (codes "hmac") then keyed_vector (hmac sha1) ws
+    else if bytes_eq name (codes "hmac256") then keyed_vector (hmac sha256) ws
     else if bytes_eq name (codes "aes") then aes_vector ws
     else if bytes_eq name (codes "cmac") then cmac_vector ws
-    else if bytes_eq name (codes "prf") then prf_vector ws
+    else if bytes_eq name (codes "prf") then keyed_vector prf ws
     else if bytes_eq name (codes "kdf") then kdf_vector ws
     else if bytes_eq name (codes "segment") then segment_vector ws
     else Err Word

@@ -6,7 +6,7 @@ use Rattle.ao_base.specs.Hexadecimal.{hex_of}
 use Rattle.line_model.specs.declared.text_fault.TextFault.{TextFault}
 use Rattle.line_model.specs.Said.{Said, said_in}
 use Rattle.line_model.specs.Texts.{line_text, numbered_text}
-use Rattle.line_model.specs.Words.{◌>>=◌}
+use Rattle.ao_base.specs.Results.{◌>>=◌}
 use Rattle.format_model.specs.declared.verified.Verified.{Verified}
 use Rattle.format_model.specs.Vectors.{Vector, vector_of}
 

@@ -12,7 +12,8 @@ use Rattle.key_model.proofs.OverlapLaws.{first_overlap-none}
 use Rattle.key_model.specs.declared.fault.TableFault.{TableFault}
 use Rattle.key_model.specs.declared.fault.Column.TheVariants as column
 use Rattle.key_model.specs.declared.fault.TableFault.TheVariants as fault
-use Rattle.key_model.specs.Reading.{◌>>=◌, or_fault, each}
+use Rattle.key_model.specs.Reading.{each}
+use Rattle.ao_base.specs.Results.{◌>>=◌, or_fault}
 use Rattle.key_model.specs.Columns.{count, only, text_of, row_of}
 use Rattle.key_model.specs.Nodes.{node_name_of, node_address_of, rows_of, fields_of, node_of, nodes_from, overlap_of, overlap_in, unless, nodes_of, tables_of_document, document_of, tables_of}
 

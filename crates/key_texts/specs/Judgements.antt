@@ -4,7 +4,7 @@ use Rattle.ao_base.specs.declared.address.Pair.{Pair}
 use Rattle.key_model.specs.Rows.{Table}
 use Rattle.line_model.specs.declared.text_fault.TextFault.{TextFault}
 use Rattle.line_model.specs.Said.{Said, said_in}
-use Rattle.line_model.specs.Words.{◌>>=◌}
+use Rattle.ao_base.specs.Results.{◌>>=◌}
 use Rattle.format_model.specs.declared.command.Plan.{Plan}
 use Rattle.format_model.specs.LintTexts.{connection_of, has_misfit, lint_text}
 use Rattle.key_texts.specs.declared.judged.Judged.{Judged}

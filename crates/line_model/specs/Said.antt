@@ -5,7 +5,7 @@ use Rattle.ao_base.specs.Lines.{lines_of}
 use Rattle.line_model.specs.declared.text_fault.TextFault.{TextFault}
 use Rattle.line_model.specs.declared.text_fault.TextFault.TheVariants as fault
 use Rattle.line_model.specs.Lines.{Line, most_lines, saying_lines}
-use Rattle.line_model.specs.Words.{◌>>=◌}
+use Rattle.ao_base.specs.Results.{◌>>=◌}
 
 -- what a line says, with its number among all lines (own)
 pub record Said (A : Type 0) : Type 0 where

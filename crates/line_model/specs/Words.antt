@@ -12,12 +12,7 @@ use Rattle.ao_base.specs.Addresses.{address_of}
 use Rattle.ao_base.specs.Algorithms.{algorithm_of}
 use Rattle.ao_base.specs.Decimals.{decimal_of}
 use Rattle.ao_base.specs.Hexadecimal.{bytes_of_hex}
-
-infixl 10 ◌>>=◌
--- one reading after another, up to the first fault (own)
-abbrev pub ◌>>=◌ : {A B F : Type 0} → Result A F → (A → Result B F) → Result B F
-(Ok x) >>= f = f x
-(Err e) >>= f = Err e
+use Rattle.ao_base.specs.Results.{◌>>=◌, or_fault}
 
 -- what words in front say, and the words after them (own)
 pub record Taken (A : Type 0) : Type 0 where
@@ -35,11 +30,6 @@ ending made reading = do
   x ← reading
   none ← nothing_in x.rest
   Ok (made x.value)
-
--- a value that may be missing, or the fault (own)
-abbrev pub or_fault : {A : Type 0} → Option A → LineKind → Result A LineKind
-or_fault (Some x) kind = Ok x
-or_fault None kind = Err kind
 
 -- the next word, which may not be missing (own)
 unfoldable pub word_in : List (List ℕ) → Result (Taken (List ℕ)) LineKind

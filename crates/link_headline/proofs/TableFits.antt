@@ -12,7 +12,8 @@ use Rattle.key_model.specs.declared.fault.TableFault.TheVariants as fault
 use Rattle.key_model.specs.declared.groups.Ids.{Ids}
 use Rattle.key_model.specs.Columns.{algorithm_at, columns_of, count, id_of_text, ids_of, is_admin, master_of, only, peers_of, ports_of, protocol_of, row_keys, row_of, sized, terms_of, text_of, up_to}
 use Rattle.key_model.specs.Nodes.{node_name_of, node_address_of, rows_of, fields_of, node_of, nodes_from, overlap_in, unless, nodes_of, tables_of_document, document_of, tables_of}
-use Rattle.key_model.specs.Reading.{◌>>=◌, or_fault, must, each}
+use Rattle.key_model.specs.Reading.{must, each}
+use Rattle.ao_base.specs.Results.{◌>>=◌, or_fault}
 use Rattle.key_model.specs.Rows.{Row, Table, node_limit, row_limit}
 use Rattle.link_laws.specs.Laws.{RowFits}
 use Rattle.std.specs.Result.{result_ok}

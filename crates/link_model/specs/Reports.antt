@@ -118,8 +118,7 @@ phase_text Closed = codes "closed"
 
 -- whether a take showed the end of the stream
 abbrev pub shown_text : Bool → List ℕ
-shown_text true = codes "end"
-shown_text false = codes "open"
+shown_text shown = if shown then codes "end" else codes "open"
 
 -- the line of a session
 abbrev pub session_line : End → ℕ → List ℕ → Session → List ℕ

@@ -21,9 +21,8 @@ other B = A
 -- the same end
 abbrev pub same_end : End → End → Bool
 same_end A A = true
-same_end A B = false
-same_end B A = false
 same_end B B = true
+same_end _ _ = false
 
 -- the two sockets of a link, and the rows with which its ends begin
 pub record Setup : Type 0 where

@@ -4,7 +4,7 @@ use Rattle.std.proofs.lemmas.List.{append-nil}
 use Rattle.ao_base.specs.declared.line_kind.LineKind.{LineKind}
 use Rattle.line_model.specs.declared.text_fault.TextFault.{TextFault}
 use Rattle.line_model.specs.declared.text_fault.TextFault.TheVariants as fault
-use Rattle.line_model.specs.Words.{◌>>=◌}
+use Rattle.ao_base.specs.Results.{◌>>=◌}
 use Rattle.line_model.specs.Lines.{Line}
 use Rattle.text_lines.specs.Readings.{Fails}
 use Rattle.format_model.specs.LinkFiles.{event_at, events_of}

@@ -5,10 +5,11 @@ use Rattle.ao_base.specs.declared.end.End.{End}
 use Rattle.ao_base.specs.declared.line_kind.LineKind.{LineKind}
 use Rattle.ao_base.specs.declared.line_kind.LineKind.TheVariants.{Word}
 use Rattle.key_model.specs.Lifetimes.{greatest_time}
-use Rattle.line_model.specs.Words.{◌>>=◌, word_as, word_in, nothing_in, choice_in, end_in, algorithm_in, number_in, sized_hex_in, some_hex_in, byte_in}
+use Rattle.line_model.specs.Words.{word_as, word_in, nothing_in, choice_in, end_in, algorithm_in, number_in, sized_hex_in, some_hex_in, byte_in}
+use Rattle.ao_base.specs.Results.{◌>>=◌}
 use Rattle.link_model.specs.declared.event.Event.{Event}
 use Rattle.link_model.specs.declared.event.Event.TheVariants as event
-use Rattle.format_model.specs.LinkEvents.{greatest_isn, most_segments, end_of, number_of, start_of, give_of, fill_of, inject_of, alter_of, last_in, ways_of}
+use Rattle.format_model.specs.LinkEvents.{greatest_isn, most_segments, end_of, number_of, start_of, give_of, fill_of, inject_of, alter_of, ways_of}
 use Rattle.format_model.specs.LinkEvents.{add_of, dump_of, event_named, event_of}
 use Rattle.link_script.specs.Scripts.{IsEvent, IsWithin}
 use Rattle.link_script.proofs.WordRanges.{bind_ok, number_ok, hex_ok, some_hex_ok, byte_ok}
@@ -96,9 +97,9 @@ after_ok P (Err e) f y h next = absurd (cc h)
 abbrev lifetimes_of : (ℕ → ℕ → ℕ → ℕ → Event) → List (List ℕ) → Result Event LineKind
 lifetimes_of made ws = do
   send_first ← number_in 0 greatest_time ws
-  send_last ← last_in send_first.value send_first.rest
+  send_last ← number_in send_first.value greatest_time send_first.rest
   accept_first ← number_in 0 greatest_time send_last.rest
-  accept_last ← last_in accept_first.value accept_first.rest
+  accept_last ← number_in accept_first.value greatest_time accept_first.rest
   none ← nothing_in accept_last.rest
   Ok (made send_first.value send_last.value accept_first.value accept_last.value)
 
@@ -107,9 +108,9 @@ lifetimes_ok : (made : ℕ → ℕ → ℕ → ℕ → Event) (ws : List (List �
     lifetimes_of made ws ≡ Ok x → IsEvent x
 lifetimes_ok made ws x ranged h =
     after_ok (IsEvent x) (number_in 0 greatest_time ws) _ x h (λ sf is_sf h1.
-    after_ok (IsEvent x) (last_in sf.value sf.rest) _ x h1 (λ sl is_sl h2.
+    after_ok (IsEvent x) (number_in sf.value greatest_time sf.rest) _ x h1 (λ sl is_sl h2.
     after_ok (IsEvent x) (number_in 0 greatest_time sl.rest) _ x h2 (λ af is_af h3.
-    after_ok (IsEvent x) (last_in af.value af.rest) _ x h3 (λ al is_al h4.
+    after_ok (IsEvent x) (number_in af.value greatest_time af.rest) _ x h3 (λ al is_al h4.
     after_ok (IsEvent x) (nothing_in al.rest) _ x h4 (λ none is_none h5.
     let is : made sf.value sl.value af.value al.value ≡ x = cc h5 in
     rw (← is) (ranged sf.value sl.value af.value al.value (number_ok 0 greatest_time ws sf is_sf).most (number_ok sf.value greatest_time sf.rest sl is_sl)

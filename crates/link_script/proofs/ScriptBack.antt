@@ -8,7 +8,8 @@ use Rattle.ao_base.specs.Lines.{lines_of}
 use Rattle.ao_base.specs.Algorithms.{name_of}
 use Rattle.ao_base.specs.Hexadecimal.{hex_of}
 use Rattle.line_model.specs.declared.text_fault.TextFault.{TextFault}
-use Rattle.line_model.specs.Words.{◌>>=◌, word_in, nothing_in, literal_in, socket_in}
+use Rattle.line_model.specs.Words.{word_in, nothing_in, literal_in, socket_in}
+use Rattle.ao_base.specs.Results.{◌>>=◌}
 use Rattle.link_model.specs.declared.event.Event.{Event}
 use Rattle.link_model.specs.declared.event.Event.TheVariants as event
 use Rattle.format_model.specs.declared.script.SharedKey.{SharedKey}

@@ -10,7 +10,8 @@ use Rattle.line_model.specs.declared.text_fault.TextFault.{TextFault}
 use Rattle.line_model.specs.declared.text_fault.TextFault.TheVariants as fault
 use Rattle.line_model.specs.Lines.{Line, saying_from}
 use Rattle.line_model.specs.Said.{numbered}
-use Rattle.line_model.specs.Words.{◌>>=◌, end_in, nothing_in, number_in, word_in}
+use Rattle.line_model.specs.Words.{end_in, nothing_in, number_in, word_in}
+use Rattle.ao_base.specs.Results.{◌>>=◌}
 use Rattle.format_model.specs.declared.timed.TimedEvent.{TimedEvent}
 use Rattle.format_model.specs.declared.timed.TimedEvent.TheVariants.{Plain, Wait}
 use Rattle.format_model.specs.declared.timed.TimedScript.{TimedScript}

@@ -3,7 +3,8 @@ use Rattle.std.proofs.Common.{◌≡◌, ℕ, cond, Bool, true, false, List, [],
 use Rattle.std.specs.Str.{bytes_eq}
 use Rattle.ao_base.specs.declared.line_kind.LineKind.{LineKind}
 use Rattle.ao_base.specs.declared.line_kind.LineKind.TheVariants.{Word}
-use Rattle.line_model.specs.Words.{◌>>=◌, Taken, literal_in, or_fault, word_in}
+use Rattle.line_model.specs.Words.{Taken, literal_in, word_in}
+use Rattle.ao_base.specs.Results.{◌>>=◌, or_fault}
 use Rattle.text_lines.specs.Readings.{Tells}
 use Rattle.text_lines.specs.declared.refusal.Refusal.{Refusal}
 use Rattle.text_lines.specs.declared.refusal.Refusal.TheVariants as refusal

@@ -2,7 +2,7 @@
 use Rattle.std.specs.Prelude.{◌≡◌, ◌+◌, ℕ, ◌≤◌, true, List, length, Result, Ok, All}
 use Rattle.ao_base.specs.declared.line_kind.LineKind.{LineKind}
 use Rattle.line_model.specs.Lines.{most_lines}
-use Rattle.line_model.specs.Words.{◌>>=◌}
+use Rattle.ao_base.specs.Results.{◌>>=◌}
 use Rattle.format_model.specs.declared.timed.TimedEvent.{TimedEvent}
 use Rattle.format_model.specs.declared.timed.TimedEvent.TheVariants.{Plain, Wait}
 use Rattle.format_model.specs.declared.timed.TimedScript.{TimedScript}

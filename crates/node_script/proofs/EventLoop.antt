@@ -6,7 +6,7 @@ use Rattle.line_model.specs.declared.text_fault.TextFault.{TextFault}
 use Rattle.line_model.specs.declared.text_fault.TextFault.TheVariants as fault
 use Rattle.line_model.specs.Lines.{Line}
 use Rattle.line_model.specs.Said.{numbered}
-use Rattle.line_model.specs.Words.{◌>>=◌}
+use Rattle.ao_base.specs.Results.{◌>>=◌}
 use Rattle.text_lines.specs.Readings.{Fails}
 use Rattle.format_model.specs.declared.node.NodeEvent.{NodeEvent}
 use Rattle.format_model.specs.NodeRuns.{node_event_of, node_events_of}

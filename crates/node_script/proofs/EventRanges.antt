@@ -6,7 +6,8 @@ use Rattle.ao_base.specs.declared.address.Pair.{Pair}
 use Rattle.ao_base.specs.declared.line_kind.LineKind.{LineKind}
 use Rattle.ao_base.specs.declared.line_kind.LineKind.TheVariants.{Range}
 use Rattle.key_model.specs.Lifetimes.{greatest_time}
-use Rattle.line_model.specs.Words.{◌>>=◌, Taken, word_in, nothing_in, address_in, number_in, sized_hex_in, some_hex_in}
+use Rattle.line_model.specs.Words.{Taken, word_in, nothing_in, address_in, number_in, sized_hex_in, some_hex_in}
+use Rattle.ao_base.specs.Results.{◌>>=◌}
 use Rattle.format_model.specs.declared.node.Act.{Act}
 use Rattle.format_model.specs.declared.node.Act.TheVariants as act
 use Rattle.format_model.specs.declared.node.NodeEvent.{NodeEvent}

@@ -6,7 +6,7 @@ use Rattle.line_model.specs.declared.text_fault.TextFault.{TextFault}
 use Rattle.line_model.specs.declared.text_fault.TextFault.TheVariants as fault
 use Rattle.line_model.specs.Lines.{Line, saying_from, says_something}
 use Rattle.line_model.specs.Said.{Said, numbered, said_by}
-use Rattle.line_model.specs.Words.{◌>>=◌}
+use Rattle.ao_base.specs.Results.{◌>>=◌}
 use Rattle.text_lines.specs.declared.refusal.Refusal.{Refusal}
 use Rattle.text_lines.specs.declared.refusal.Refusal.TheVariants as refusal
 use Rattle.text_lines.specs.Readings.{Fails, Tells, fault_at}
