@@ -1,24 +1,30 @@
 #!/usr/bin/env python3
-"""Whether the book is closed: every definition that a clause of `ao_run::run` cites, directly or through others, stands in a
-crate of the book, with the plain types that it cites, or in the list of what may stand outside. Names each one that doesn't,
-and fails; prints the reading list with --list: each file of the book that the clauses reach, with its lines."""
+"""Whether the book is closed, and short: every definition that a clause of `ao_run::run` cites, directly or through others, stands
+in a crate of the book, with the plain types that it cites, or in the list of what may stand outside; and the definitions that
+`answer` reaches are fewer than 3,000 lines, without comments, blank lines and imports. Names each one that stands elsewhere, and
+fails; prints the reading list with --list: each file of the book that the clauses reach, with its lines."""
 import os
 import re
 import sys
 
 TOP = os.path.dirname(os.path.dirname(os.path.abspath(__file__)))
-BOOK = ["ao_base", "segment_model", "mac_model", "key_model", "endpoint_model", "link_model", "line_model", "wire_model", "format_model"]
-# What may stand outside the book, a file of a crate: the relations by which the top call speaks of what was read and written,
-# of a check that writes as it reads, of each run of a link and of the messages in it, and of the line form of a pcap file.
+BOOK = ["ao_base", "segment_model", "mac_model", "key_model", "endpoint_model", "line_model", "link_model", "wire_model", "format_model"]
+# What may stand outside the book, a file of a crate: the relations by which the top call speaks of what was read and written and
+# of a check that writes as it reads, the statements of the laws of each run of a link and of a node, what a run tells of
+# messages, and the line form of a pcap file.
 OUTSIDE = ["ao_run/specs/Runs.antt", "ao_run/specs/Obeys.antt", "ao_run/specs/Delivers.antt", "ao_run/specs/Completes.antt",
-           "link_headline/specs/Lawful.antt", "bgp_link/specs/Tellings.antt",
-           "pcap_laws/specs/LineForms.antt", "capture_lines/specs/Checked.antt", "capture_lines/src/check.rt",
-           "capture_packets/specs/Checked.antt", "capture_packets/src/check.rt", "pcap_file/specs/Reading.antt"]
+           "link_headline/specs/Lawful.antt", "link_laws/specs/Headline.antt", "link_laws/specs/Laws.antt", "node_laws/specs/Alone.antt",
+           "bgp_link/specs/Tellings.antt", "pcap_laws/specs/LineForms.antt", "capture_lines/specs/Checked.antt",
+           "capture_lines/src/check.rt", "capture_packets/specs/Checked.antt", "capture_packets/src/check.rt",
+           "pcap_file/specs/Reading.antt"]
 ENTRY = ("ao_run", "src/top.rt", "run")
+ANSWER = ("format_model/specs/Answers.antt", "answer")
+MOST_LINES = 3000
 
 WORD = re.compile(r"[^\s(){}\[\],;:]+")
 USE = re.compile(r"(?:pub\s+)?(?:ghost\s+)?use\s+Rattle\.([\w.]+?)(?:\.\{([^}]*)\}|\s+as\s+(\w+))?;?\s*(?=\n|\Z)")
-DEFINES = re.compile(r"(?m)^(?:(?:pub|abbrev|unfoldable|opaque)\s+)*(record|data)?\s*([^\s:(){},]+)\s*(?=[:(])")
+HEAD = re.compile(r"(?:(?:pub|abbrev|unfoldable|opaque|record|data)\s+)*(\S+)")
+CONSTRUCTORS = re.compile(r"\s+(?:pub\s+)?([A-Z]\w*(?: [A-Z]\w*)*)\s*:")
 
 
 def imports(text):
@@ -33,26 +39,22 @@ def imports(text):
     return found
 
 
-def blocks(text):
-    """The definitions of a file by name; the constructors and fields of a type belong to it."""
-    found, current = {}, None
-    for line in text.split("\n"):
-        if re.match(r"\s*--", line) or line.startswith("use "):
-            current = None if not line.strip() else current
+def definitions(text):
+    """The definitions of a file by name, without comments; the constructors of a type belong to it. A blank line ends one."""
+    found = {}
+    for part in re.split(r"\n\s*\n", text):
+        lines = [it for it in part.split("\n") if it.strip() and not re.match(r"\s*--|(pub )?(use|mod) |infix", it)]
+        if not lines:
             continue
-        at = DEFINES.match(line)
-        if line and not line[0].isspace() and at:
-            current = at[2]
-            found.setdefault(current, [])
-        elif line and not line[0].isspace():
-            name = WORD.match(line)
-            current = current if name is None or current is not None else name[0]
-        if current is not None:
-            found.setdefault(current, []).append(line)
-            inner = re.match(r"\s+(?:pub\s+)?([^\s:(){},]+)\s*:", line)
-            if inner and found[current] and re.match(r"(pub\s+)?(record|data)", found[current][0]):
-                found.setdefault(inner[1], found[current])
-    return {name: "\n".join(lines) for name, lines in found.items()}
+        body = "\n".join(re.sub(r"  -- .*$", "", it) for it in lines)
+        found[HEAD.match(lines[0])[1]] = body
+        if re.match(r"(pub )?data ", lines[0]):
+            for line in lines[1:]:
+                names = CONSTRUCTORS.match(line)
+                found.update({it: body for it in names[1].split()} if names else {})
+    if "◌>>=◌" in found:
+        found["do"] = found["◌>>=◌"]
+    return found
 
 
 def read(path):
@@ -76,42 +78,56 @@ def module(path):
     return None
 
 
-def contract(text, function):
+def names_of(file):
+    """What the words of a file mean: its imports and its own definitions."""
+    path = file.removesuffix(".antt").replace("/", ".")
+    found = imports(read(file))
+    if "◌>>=◌" in found:
+        found["do"] = (found["◌>>=◌"][0], "◌>>=◌")
+    return {**{it: (path, it) for it in definitions(read(file))}, **found}
+
+
+def cited(names, body):
+    """The files and names that the words of a body cite."""
+    for word in set(WORD.findall(body)):
+        first, *rest = word.split(".")
+        name, rest = (word, []) if word in names else (first, rest)
+        if name in names:
+            path, there = names[name]
+            yield module(path), there or (rest[0] if rest else None)
+
+
+def reached(names, body, origin):
+    """Each definition that a body reaches, as file and name, with the file that cites it first."""
+    found, todo = {}, [(origin, names, body)]
+    while todo:
+        where, names, body = todo.pop()
+        for target, wanted in cited(names, body):
+            if target is None or (target, wanted) in found:
+                continue
+            found[target, wanted] = where
+            if target.endswith(".antt") and wanted in definitions(read(target)):
+                todo.append((target, names_of(target), definitions(read(target))[wanted]))
+    return found
+
+
+def contract():
+    crate, file, function = ENTRY
+    text = read(f"{crate}/{file}")
     start = text.index(f"pub fn {function}")
-    return text[start : text.index("\n{", start)]
+    return imports(text), text[start : text.index("\n{", start)], f"{crate}/{file}"
+
+
+def lines_of_answer():
+    file, name = ANSWER
+    found = {ANSWER: None, **reached(names_of(file), definitions(read(file))[name], file)}
+    bodies = {(target, definitions(read(target)).get(wanted)) for target, wanted in found if target.endswith(".antt")}
+    return sum(body.count("\n") + 1 for _, body in bodies if body)
 
 
 def main(words):
-    crate, file, function = ENTRY
-    text = read(f"{crate}/{file}")
-    todo, seen, files = [(f"{crate}/{file}", imports(text), contract(text, function))], set(), {f"{crate}/{file}": 0}
-    outside = {}
-    while todo:
-        where, names, body = todo.pop()
-        for word in set(WORD.findall(body)):
-            parts = word.split(".")
-            for name, rest in ((word, []), (parts[0], parts[1:])):
-                if name not in names:
-                    continue
-                path, there = names[name]
-                target = module(path)
-                wanted = there or (rest[0] if rest else None)
-                if target is None or (target, wanted) in seen:
-                    continue
-                seen.add((target, wanted))
-                files[target] = files.get(target, 0) + 1
-                home = target.split("/")[0]
-                if home not in BOOK and home not in OUTSIDE and target not in OUTSIDE:
-                    outside.setdefault(target, set()).add(f"{wanted} (cited by {where})")
-                if target.endswith(".antt"):
-                    source = read(target)
-                    here = imports(source)
-                    found = blocks(source)
-                    for other in found:
-                        here.setdefault(other, (path if not path.endswith("TheVariants") else path, other))
-                    if wanted in found:
-                        todo.append((target, here, found[wanted]))
-                break
+    found = reached(*contract())
+    files = {target for target, _ in found}
     if "--list" in words:
         total = 0
         for one in BOOK:
@@ -120,9 +136,15 @@ def main(words):
                 total += lines
                 print(f"{target} {lines}")
         print(f"in all {total}")
+    outside = {}
+    for (target, wanted), where in found.items():
+        if target.split("/")[0] not in BOOK and target not in OUTSIDE and target != f"{ENTRY[0]}/{ENTRY[1]}":
+            outside.setdefault(target, set()).add(f"{wanted} (cited by {where})")
     for target in sorted(outside):
         print(f"outside the book: {target}: {', '.join(sorted(outside[target]))}")
-    return 1 if outside else 0
+    lines = lines_of_answer()
+    print(f"the definitions that `answer` reaches: {lines} lines")
+    return 1 if outside or lines >= MOST_LINES else 0
 
 
 sys.exit(main(sys.argv[1:]))
