@@ -127,13 +127,10 @@ bgp_over tables s = spoken (setup_of tables s.a s.b) s.events
 abbrev pub most_events : ℕ
 most_events = 20000
 
--- the report of the plain run, unless it has too many events
-abbrev pub timed_reported : Setup → List Event → Answer
-timed_reported setup events = if nat_lt most_events (length events) then refuse 4 too_many_events else reported setup events
-
--- `timed KEYS`: the plain run of a script with waits over the tables (RFC 6298, section 5)
+-- `timed KEYS`: the report of the plain run of a script with waits over the tables, unless it has too many events (RFC 6298, section 5)
 abbrev pub timed_over : List Table → TimedScript → Answer
-timed_over tables s = let setup = setup_of tables s.a s.b in timed_reported setup (expand setup s.events).events
+timed_over tables s = let setup = setup_of tables s.a s.b in let events = (expand setup s.events).events in
+    if nat_lt most_events (length events) then refuse 4 too_many_events else reported setup events
 
 -- `node KEYS`: the run of a node's script over the node's table
 abbrev pub node_over : List Table → NodeScript → Answer

@@ -7,13 +7,9 @@ use Rattle.ao_base.specs.Hexadecimal.{bytes_of_hex}
 use Rattle.line_model.specs.Words.{Taken, word_as, choice_in, hex_in}
 use Rattle.ao_base.specs.Results.{◌>>=◌}
 
--- the bytes of a message: a hyphen is the empty one
-abbrev pub message_of : List ℕ → Option (List ℕ)
-message_of w = if bytes_eq w (codes "-") then Some [] else bytes_of_hex w
-
 -- a message in hexadecimal, or a hyphen for the empty one
 unfoldable pub message_in : List (List ℕ) → Result (Taken (List ℕ)) LineKind
-message_in ws = word_as message_of Hex ws
+message_in ws = word_as (λ w. if bytes_eq w (codes "-") then Some [] else bytes_of_hex w) Hex ws
 
 -- the context of a traffic key: 20 bytes over IPv4, 44 over IPv6 (RFC 5925, section 5.2)
 unfoldable pub context_in : List (List ℕ) → Result (Taken (List ℕ)) LineKind

@@ -1,5 +1,6 @@
 //! Rows that an operator adds, and why one isn't added or withdrawn.
 ghost use Rattle.key_model.specs.declared.new_row.AddRefusal.TheVariants.{Memory};
+ghost use Rattle.key_model.specs.MasterKeys.{IsMasterKey};
 ghost use Rattle.std.specs.Prelude.{◌≡◌};
 
 use crate::direction::Direction;
@@ -14,13 +15,14 @@ pub struct NewRow {
     pub recv_id: u8,
     pub send_id: u8,
     pub algorithm: Algorithm,
-    /// The master key, 1 to 255 bytes.
+    /// The master key.
     pub master: Bytes,
     /// Whether the MAC covers the TCP options (RFC 5925, section 5.1).
     pub with_options: bool,
     pub direction: Direction,
     pub sending: Lifetime,
     pub accepting: Lifetime,
+    pub ghost key: { IsMasterKey master },
 }
 
 /// Why a row isn't added.

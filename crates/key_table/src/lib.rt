@@ -7,6 +7,7 @@
 mod columns;
 mod gap;
 mod ids;
+mod master_key;
 mod new_row;
 mod nodes;
 mod overlap;

@@ -1,9 +1,10 @@
 //! Rows that an operator adds while the table is in use, and rows that are withdrawn.
-ghost use Rattle.std.specs.Prelude.{◌≡◌, ◌+◌, ◌≤◌, [], ◌∷◌, length, IfOk};
+ghost use Rattle.std.specs.Prelude.{◌≡◌, ◌≤◌, length, IfOk};
 ghost use Rattle.std.specs.List.{position_from};
 ghost use Rattle.key_model.specs.Overlaps.{overlaps};
 ghost use Rattle.key_model.specs.Tables.{disabled, row_of_new};
 
+use crate::master_key::MasterKey;
 use crate::overlap::overlaps;
 use crate::row::Row;
 use key_model::{Direction, NewRow};
@@ -11,8 +12,6 @@ use std::alloc::{AllocError, Global};
 
 /// The row that is added.
 pub(crate) fn row_of_new(alloc: Global, new: NewRow) -> Result<Row, AllocError>
-    requires low { 1 ≤ length new.master }
-    requires high { length new.master ≤ 255 }
     ensures { IfOk result (λ r. r ≡ row_of_new new) }
 {
     let mut peers = Vec::new(alloc);
@@ -24,7 +23,9 @@ pub(crate) fn row_of_new(alloc: Global, new: NewRow) -> Result<Row, AllocError>
         local_port: None,
         peer_port: None,
         algorithm: new.algorithm,
-        master: new.master.into_vec(),
+        master: MasterKey {
+            bytes: new.master.into_vec(),
+        },
         with_options: new.with_options,
         direction: new.direction,
         sending: new.sending,

@@ -6,6 +6,7 @@ ghost use Rattle.key_model.specs.Columns.{text_of, is_absent_or, options_of, pro
 ghost use Rattle.key_model.specs.Reading.{Gives};
 
 use crate::columns::{is_text, is_word_at, member_at, must, text_at};
+use crate::master_key::MasterKey;
 use ao_base::{Algorithm, HexProblem, read_hex};
 use key_model::{Column, TableFault};
 use std::alloc::Global;
@@ -100,10 +101,8 @@ pub(crate) fn master_at(
     node: u8,
     row: u8,
     text: Option<&str>,
-) -> Result<Vec<u8>, TableFault>
-    ensures value { Gives (λ v. v.items) result (master_of node row (option_map (λ s. s.now) text.entry)) }
-    ensures low { IfOk result (λ v. 1 ≤ length v.items) }
-    ensures high { IfOk result (λ v. length v.items ≤ 255) }
+) -> Result<MasterKey, TableFault>
+    ensures { Gives (λ key. key.bytes.items) result (master_of node row (option_map (λ s. s.now) text.entry)) }
 {
     let fault = TableFault::Field(node, row, Column::Key);
     let Some(text) = text else {
@@ -113,7 +112,7 @@ pub(crate) fn master_at(
         Ok(bytes) => {
             let bytes = bytes.into_vec();
             if !bytes.is_empty() && bytes.len() <= 255 {
-                Ok(bytes)
+                Ok(MasterKey { bytes })
             } else {
                 Err(fault)
             }

@@ -163,12 +163,10 @@ impl Table {
 
     /// Adds a row behind the last one, for any peer and any ports, and gives its number. `TooMany`
     /// exactly where there are 64 rows; else `Overlap` exactly where a row overlaps the new one, with
-    /// the least such. After a refusal the table is as it was; other rows stay. The master key has 1
-    /// to 255 bytes, and no lifetime ends before it begins or after `LATEST`.
+    /// the least such. After a refusal the table is as it was; other rows stay. No lifetime ends before
+    /// it begins or after `LATEST`.
     #[tactic(auto, unfolding(key_model::specs::Tables::adding))]
     pub fn add(&mut self, alloc: Global, row: NewRow) -> Result<u8, AddRefusal>
-        requires low { 1 ≤ length row.master }
-        requires high { length row.master ≤ 255 }
         requires sending { row.sending.first ≤ row.sending.last }
         requires sent { row.sending.last ≤ greatest_time }
         requires accepting { row.accepting.first ≤ row.accepting.last }

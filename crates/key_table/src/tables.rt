@@ -3,12 +3,14 @@ ghost use Rattle.std.specs.Prelude.{◌≡◌, ◌≤◌, ◌-◌, ◌∷◌, []
 ghost use Rattle.std.specs.List.{find};
 ghost use Rattle.segment_model.specs.Sockets.{same_address};
 ghost use Rattle.key_model.specs.Rows.{Table as Sheet, has_address};
+ghost use Rattle.key_model.specs.MasterKeys.{IsMasterKey};
 ghost use Rattle.key_model.specs.Shared.{shared_row, shared_tables};
 ghost use Rattle.std.specs.Borrow.{sem};
 ghost use Rattle.std.specs.Option.{option_copied_mut};
 ghost use Rattle.std.specs.Prelude.{slice_get};
 ghost use Rattle.key_table.specs.Lending.{LendsAt, place_of};
 
+use crate::master_key::MasterKey;
 use crate::row::{Row, is_same_address};
 use crate::table::Table;
 use ao_base::{Address, Algorithm};
@@ -33,10 +35,8 @@ impl Model for Tables {
     ghost invariant = { λ t. length t.items.items ≤ 16 };
 }
 
-fn shared_row(alloc: Global, algorithm: Algorithm, master: &[u8]) -> Result<Row, AllocError>
-    requires low { 1 ≤ length master.now }
-    requires high { length master.now ≤ 255 }
-    ensures { IfOk result (λ r. r ≡ shared_row algorithm master.now) }
+fn shared_row(alloc: Global, algorithm: Algorithm, master: MasterKey) -> Result<Row, AllocError>
+    ensures { IfOk result (λ r. r ≡ shared_row algorithm master.bytes.items) }
 {
     let mut peers = Vec::new(alloc);
     peers.push(None)?;
@@ -51,7 +51,7 @@ fn shared_row(alloc: Global, algorithm: Algorithm, master: &[u8]) -> Result<Row,
         local_port: None,
         peer_port: None,
         algorithm,
-        master: Vec::from_slice(alloc, master)?,
+        master,
         with_options: true,
         direction: Direction::Both,
         sending: always,
@@ -72,8 +72,8 @@ fn table_of(alloc: Global, name: &[u8], address: Address, row: Row) -> Result<Ta
 }
 
 impl Tables {
-    /// The tables of two nodes `a` and `b` that share one master key of 1 to 255 bytes: each has
-    /// one row with ids 0, any peer, any port, direction both and all times, with options.
+    /// The tables of two nodes `a` and `b` that share one master key: each has one row with ids 0,
+    /// any peer, any port, direction both and all times, with options.
     pub fn shared(
         alloc: Global,
         a: Address,
@@ -82,14 +82,15 @@ impl Tables {
         master: &[u8],
     ) -> Result<Tables, AllocError>
         requires differ { same_address a b ≡ false }
-        requires low { 1 ≤ length master.now }
-        requires high { length master.now ≤ 255 }
+        requires key { IsMasterKey master.now }
         ensures { IfOk result (λ t. t ≡ shared_tables a b algorithm master.now) }
     {
         let mut items = Vec::new(alloc);
-        let row = shared_row(alloc, algorithm, master)?;
+        let bytes = Vec::from_slice(alloc, master)?;
+        let row = shared_row(alloc, algorithm, MasterKey { bytes })?;
         items.push(table_of(alloc, b"a", a, row)?)?;
-        let row = shared_row(alloc, algorithm, master)?;
+        let bytes = Vec::from_slice(alloc, master)?;
+        let row = shared_row(alloc, algorithm, MasterKey { bytes })?;
         items.push(table_of(alloc, b"b", b, row)?)?;
         Ok(Tables { items })
     }

@@ -24,10 +24,6 @@ bounded value = min (max value least_value) greatest_value
 abbrev pub new_timer : Timer
 new_timer = record { value = 1000; smoothed = None }
 
--- a round-trip time R of so many seconds in milliseconds; more than a day counts as a day (own)
-abbrev pub round_trip : ℕ → ℕ
-round_trip seconds = 1000 * min seconds 86400
-
 -- what a round-trip time makes of the smoothed ones: the first is SRTT, and its half RTTVAR (RFC 6298, section 2.2); a later one counts for an eighth of SRTT, and its distance from the old SRTT for a quarter of RTTVAR (section 2.3)
 abbrev pub smoothed_with : Option Smoothed → ℕ → Smoothed
 smoothed_with None r = record { mean = r; variation = r / 2 }
@@ -39,7 +35,7 @@ value_of s = bounded (s.mean + max granularity (4 * s.variation))
 
 -- the timer after a sample of so many seconds (RFC 6298, sections 2.2 and 2.3)
 abbrev pub sampled : Timer → ℕ → Timer
-sampled t seconds = let s = smoothed_with t.smoothed (round_trip seconds) in record { value = value_of s; smoothed = Some s }
+sampled t seconds = let s = smoothed_with t.smoothed (1000 * min seconds 86400) in record { value = value_of s; smoothed = Some s }
 
 -- the timer after it expired: its value is doubled, up to the greatest (RFC 6298, section 5.5)
 abbrev pub expired : Timer → Timer
