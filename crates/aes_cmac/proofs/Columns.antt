@@ -1,12 +1,12 @@
-use Rattle.std.proofs.Common.{◌≡◌, ◌+◌, ◌*◌, ◌/◌, ◌%◌, ◌<◌, ◌^◌, ℕ, List, [], ◌∷◌, ◌++◌, refl, ap₂, ap, ◌∙◌, arith, length, get_or, take, drop, ◌≤◌, drop-cons, add-one}
-use Rattle.std.proofs.lemmas.Nat.{xor_shr, xor_mod, xor_comm, xor_lt, or_comm, or_shifted}
+use Rattle.std.proofs.Common.{◌≡◌, ◌+◌, ◌/◌, ◌%◌, ◌<◌, ◌^◌, ℕ, List, [], ◌∷◌, ◌++◌, refl, ap₂, ap, ◌∙◌, arith, length, get_or, take, drop, ◌≤◌, drop-cons, add-one}
+use Rattle.std.proofs.lemmas.Nat.{xor_shr, xor_mod, xor_comm, xor_lt}
 use Rattle.std.proofs.lemmas.List.{take-append-drop, drop-drop, take_all, length-drop}
 use Rattle.std.specs.Int.Bits.{xor_assoc}
-use Rattle.std.specs.Int.{w32, rotate_right, from_be_bytes}
-use Rattle.std.specs.Prelude.{bit_xor, bit_or}
+use Rattle.std.specs.Int.{w32, from_be_bytes}
+use Rattle.std.specs.Prelude.{bit_xor}
 use Rattle.segment_model.specs.Bytes.{put4}
 use Rattle.mac_model.specs.Ciphers.{xor, xtime, mixed}
-use Rattle.aes_cmac.specs.Block.{products_of}
+use Rattle.aes_cmac.specs.Block.{products_of, second_products_of, third_products_of, fourth_products_of}
 
 four : (a b c d p q r s : ℕ) → a ≡ p → b ≡ q → c ≡ r → d ≡ s → ◌≡◌ {A = List ℕ} (a ∷ b ∷ c ∷ d ∷ []) (p ∷ q ∷ r ∷ s ∷ [])
 four a b c d p q r s e f g h = cc
@@ -18,44 +18,6 @@ place_xor x y k = ap (λ n. n % 2 ^ 8) (xor_shr x y k) ∙ xor_mod (x / 2 ^ k) (
 pub put4_xor : (x y : ℕ) → put4 (bit_xor x y) [] ≡ xor (put4 x []) (put4 y [])
 unfolding put4
 put4_xor x y = four _ _ _ _ _ _ _ _ (place_xor x y 24) (place_xor x y 16) (place_xor x y 8) (xor_mod x y 8)
-
--- a word turned right by one, two and three bytes
-turned_one : (n : ℕ) → n < 2 ^ 32 → put4 (rotate_right w32 n 8) [] ≡ n % 256 ∷ n / 16777216 % 256 ∷ n / 65536 % 256 ∷ n / 256 % 256 ∷ []
-unfolding put4
-turned_one n h =
-    let high : (n * 16777216) % 4294967296 ≡ (n % 256) * 16777216 = omega arith in
-    let low : n / 256 < 2 ^ 24 = omega arith in
-    let sum : bit_or (n / 256) ((n * 16777216) % 4294967296) ≡ (n % 256) * 16777216 + n / 256 = rw (high, or_comm) (or_shifted (n % 256) 24 (n / 256) low) in
-    rw sum (four _ _ _ _ _ _ _ _ (omega arith) (omega arith) (omega arith) (omega arith))
-
-turned_two : (n : ℕ) → n < 2 ^ 32 → put4 (rotate_right w32 n 16) [] ≡ n / 256 % 256 ∷ n % 256 ∷ n / 16777216 % 256 ∷ n / 65536 % 256 ∷ []
-unfolding put4
-turned_two n h =
-    let high : (n * 65536) % 4294967296 ≡ (n % 65536) * 65536 = omega arith in
-    let low : n / 65536 < 2 ^ 16 = omega arith in
-    let sum : bit_or (n / 65536) ((n * 65536) % 4294967296) ≡ (n % 65536) * 65536 + n / 65536 = rw (high, or_comm) (or_shifted (n % 65536) 16 (n / 65536) low) in
-    rw sum (four _ _ _ _ _ _ _ _ (omega arith) (omega arith) (omega arith) (omega arith))
-
-turned_three : (n : ℕ) → n < 2 ^ 32 → put4 (rotate_right w32 n 24) [] ≡ n / 65536 % 256 ∷ n / 256 % 256 ∷ n % 256 ∷ n / 16777216 % 256 ∷ []
-unfolding put4
-turned_three n h =
-    let high : (n * 256) % 4294967296 ≡ (n % 16777216) * 256 = omega arith in
-    let low : n / 16777216 < 2 ^ 8 = omega arith in
-    let sum : bit_or (n / 16777216) ((n * 256) % 4294967296) ≡ (n % 16777216) * 256 + n / 16777216 = rw (high, or_comm) (or_shifted (n % 16777216) 8 (n / 16777216) low) in
-    rw sum (four _ _ _ _ _ _ _ _ (omega arith) (omega arith) (omega arith) (omega arith))
-
--- the same of a word with a byte's products
-products_one : (n s : ℕ) → n < 2 ^ 32 → put4 n [] ≡ products_of s → put4 (rotate_right w32 n 8) [] ≡ bit_xor (xtime s) s ∷ xtime s ∷ s ∷ s ∷ []
-unfolding put4
-products_one n s h e = turned_one n h ∙ four _ _ _ _ _ _ _ _ (cc) (cc) (cc) (cc)
-
-products_two : (n s : ℕ) → n < 2 ^ 32 → put4 n [] ≡ products_of s → put4 (rotate_right w32 n 16) [] ≡ s ∷ bit_xor (xtime s) s ∷ xtime s ∷ s ∷ []
-unfolding put4
-products_two n s h e = turned_two n h ∙ four _ _ _ _ _ _ _ _ (cc) (cc) (cc) (cc)
-
-products_three : (n s : ℕ) → n < 2 ^ 32 → put4 n [] ≡ products_of s → put4 (rotate_right w32 n 24) [] ≡ s ∷ s ∷ bit_xor (xtime s) s ∷ xtime s ∷ []
-unfolding put4
-products_three n s h e = turned_three n h ∙ four _ _ _ _ _ _ _ _ (cc) (cc) (cc) (cc)
 
 -- a xor of five, in the orders of the four rows
 row_0 : (p q c d k : ℕ) → bit_xor (bit_xor (bit_xor (bit_xor p q) c) d) k ≡ bit_xor k (bit_xor p (bit_xor q (bit_xor c d)))
@@ -71,8 +33,7 @@ row_3 : (q b c p k : ℕ) → bit_xor (bit_xor (bit_xor (bit_xor q b) c) p) k �
 row_3 q b c p k = rw (xor_comm _ k, xor_comm _ p, xor_assoc q b c) refl
 
 -- the four products of four bytes, with a key, are MixColumns with the key
-mixed_rows : (a b c d k : ℕ) →
-    xor (xor (xor (xor (products_of a) (bit_xor (xtime b) b ∷ xtime b ∷ b ∷ b ∷ [])) (c ∷ bit_xor (xtime c) c ∷ xtime c ∷ c ∷ [])) (d ∷ d ∷ bit_xor (xtime d) d ∷ xtime d ∷ [])) (put4 k [])
+mixed_rows : (a b c d k : ℕ) → xor (xor (xor (xor (products_of a) (second_products_of b)) (third_products_of c)) (fourth_products_of d)) (put4 k [])
     ≡ xor (put4 k []) (mixed a b c d ∷ mixed b c d a ∷ mixed c d a b ∷ mixed d a b c ∷ [])
 unfolding put4
 mixed_rows a b c d k = four _ _ _ _ _ _ _ _
@@ -81,12 +42,10 @@ mixed_rows a b c d k = four _ _ _ _ _ _ _ _
     (row_2 a b (xtime c) (bit_xor (xtime d) d) (k / 256 % 256))
     (row_3 (bit_xor (xtime a) a) b c (xtime d) (k % 256))
 
-pub mixed_word : (ta tb tc td rb rc rd k a b c d : ℕ) → tb < 2 ^ 32 → tc < 2 ^ 32 → td < 2 ^ 32
-    → rb ≡ rotate_right w32 tb 8 → rc ≡ rotate_right w32 tc 16 → rd ≡ rotate_right w32 td 24
-    → put4 ta [] ≡ products_of a → put4 tb [] ≡ products_of b → put4 tc [] ≡ products_of c → put4 td [] ≡ products_of d
-    → put4 (bit_xor (bit_xor (bit_xor (bit_xor ta rb) rc) rd) k) [] ≡ xor (put4 k []) (mixed a b c d ∷ mixed b c d a ∷ mixed c d a b ∷ mixed d a b c ∷ [])
-mixed_word ta tb tc td rb rc rd k a b c d hb hc hd eb ec ed pa pb pc pd =
-    rw (put4_xor, put4_xor, put4_xor, put4_xor, eb, ec, ed, pa, products_one tb b hb pb, products_two tc c hc pc, products_three td d hd pd) (mixed_rows a b c d k)
+pub mixed_word : (ta tb tc td k a b c d : ℕ)
+    → put4 ta [] ≡ products_of a → put4 tb [] ≡ second_products_of b → put4 tc [] ≡ third_products_of c → put4 td [] ≡ fourth_products_of d
+    → put4 (bit_xor (bit_xor (bit_xor (bit_xor ta tb) tc) td) k) [] ≡ xor (put4 k []) (mixed a b c d ∷ mixed b c d a ∷ mixed c d a b ∷ mixed d a b c ∷ [])
+mixed_word ta tb tc td k a b c d pa pb pc pd = rw (put4_xor, put4_xor, put4_xor, put4_xor, pa, pb, pc, pd) (mixed_rows a b c d k)
 
 -- four bytes, and the number that they spell
 pub spelt : (a b c d : ℕ) → a < 2 ^ 8 → b < 2 ^ 8 → c < 2 ^ 8 → d < 2 ^ 8 → put4 (from_be_bytes w32 (a ∷ b ∷ c ∷ d ∷ [])) [] ≡ a ∷ b ∷ c ∷ d ∷ []

@@ -1,9 +1,9 @@
-use Rattle.std.proofs.Common.{◌≡◌, ◌<◌, ◌==◌, ◌&&◌, ℕ, zero, suc, Bool, true, List, [], ◌∷◌, get_or, refl, ap₂, arith, eqb-true, inl, inr}
+use Rattle.std.proofs.Common.{◌≡◌, ◌<◌, ◌==◌, ◌&&◌, ℕ, zero, suc, Bool, true, List, [], ◌∷◌, get_or, refl, ap, ap₂, ◌∙◌, arith, eqb-true, inl, inr}
 use Rattle.std.proofs.lemmas.Bool.{cases_eq, and_parts}
 use Rattle.segment_model.specs.Bytes.{put4, same_bytes}
 use Rattle.mac_model.specs.Ciphers.{sbox, inverse, times}
-use Rattle.aes_cmac.specs.Block.{products_of}
-use Rattle.aes_cmac.specs.declared.table.TheConstants.{PRODUCTS}
+use Rattle.aes_cmac.specs.Block.{products_of, second_products_of, third_products_of, fourth_products_of}
+use Rattle.aes_cmac.specs.declared.table.TheConstants.{PRODUCTS, SECOND_PRODUCTS, THIRD_PRODUCTS, FOURTH_PRODUCTS}
 
 same_true : (xs ys : List ℕ) → same_bytes xs ys ≡ true → xs ≡ ys
 same_true [] [] h = refl
@@ -35,3 +35,40 @@ all_entries = refl
 
 pub entry_at : (x : ℕ) → x < 256 → put4 (get_or PRODUCTS x 0) [] ≡ products_of (sbox x)
 entry_at x h = same_true _ _ (all_at is_right_at 256 all_entries x h)
+
+-- the last of four bytes, and then the others
+unfoldable turned : List ℕ → List ℕ
+turned (a ∷ b ∷ c ∷ d ∷ []) = d ∷ a ∷ b ∷ c ∷ []
+turned xs = xs
+
+-- a table has at this byte what the table before it has, turned right by a byte
+abbrev is_turned_at : List ℕ → List ℕ → ℕ → Bool
+is_turned_at before table x = same_bytes (put4 (get_or table x 0) []) (turned (put4 (get_or before x 0) []))
+
+second_entries : all_below (is_turned_at PRODUCTS SECOND_PRODUCTS) 256 ≡ true
+unfolding all_below put4 turned
+second_entries = refl
+
+third_entries : all_below (is_turned_at SECOND_PRODUCTS THIRD_PRODUCTS) 256 ≡ true
+unfolding all_below put4 turned
+third_entries = refl
+
+fourth_entries : all_below (is_turned_at THIRD_PRODUCTS FOURTH_PRODUCTS) 256 ≡ true
+unfolding all_below put4 turned
+fourth_entries = refl
+
+turned_at : (before table : List ℕ) → all_below (is_turned_at before table) 256 ≡ true → (x : ℕ) → x < 256
+    → put4 (get_or table x 0) [] ≡ turned (put4 (get_or before x 0) [])
+turned_at before table entries x h = same_true _ _ (all_at (is_turned_at before table) 256 entries x h)
+
+pub second_entry_at : (x : ℕ) → x < 256 → put4 (get_or SECOND_PRODUCTS x 0) [] ≡ second_products_of (sbox x)
+unfolding turned
+second_entry_at x h = turned_at PRODUCTS SECOND_PRODUCTS second_entries x h ∙ ap turned (entry_at x h)
+
+pub third_entry_at : (x : ℕ) → x < 256 → put4 (get_or THIRD_PRODUCTS x 0) [] ≡ third_products_of (sbox x)
+unfolding turned
+third_entry_at x h = turned_at SECOND_PRODUCTS THIRD_PRODUCTS third_entries x h ∙ ap turned (second_entry_at x h)
+
+pub fourth_entry_at : (x : ℕ) → x < 256 → put4 (get_or FOURTH_PRODUCTS x 0) [] ≡ fourth_products_of (sbox x)
+unfolding turned
+fourth_entry_at x h = turned_at THIRD_PRODUCTS FOURTH_PRODUCTS fourth_entries x h ∙ ap turned (third_entry_at x h)

@@ -4,7 +4,7 @@ ghost use Rattle.segment_model.specs.Bytes.{put4};
 ghost use Rattle.mac_model.specs.Ciphers.{xor, mix, mixed, sub_shift, sbox, next_key, doubled};
 ghost use Rattle.aes_cmac.specs.Block.{bytes_of};
 
-use crate::table::{products, substitute};
+use crate::table::{fourth_products, products, second_products, substitute, third_products};
 
 /// The highest bit of a column.
 const TOP_BIT: u32 = 0x8000_0000;
@@ -150,11 +150,7 @@ fn word_at(bytes: &[u8], at: usize) -> u32
 fn mixed_column(a: u8, b: u8, c: u8, d: u8, key: u32) -> u32
     ensures { put4 result [] ≡ xor (put4 key []) (mix (sbox a ∷ sbox b ∷ sbox c ∷ sbox d ∷ [])) }
 {
-    products(a)
-        ^ products(b).rotate_right(8)
-        ^ products(c).rotate_right(16)
-        ^ products(d).rotate_right(24)
-        ^ key
+    products(a) ^ second_products(b) ^ third_products(c) ^ fourth_products(d) ^ key
 }
 
 /// SubBytes of the bytes of a column.
