@@ -33,7 +33,7 @@ smoothed_with (Some s) r = record { mean = (7 * s.mean + r) / 8; variation = (3 
 abbrev pub value_of : Smoothed → ℕ
 value_of s = bounded (s.mean + max granularity (4 * s.variation))
 
--- the timer after a sample of so many seconds (RFC 6298, sections 2.2 and 2.3)
+-- the timer after a sample of so many seconds, of which more than a day counts as a day (RFC 6298, sections 2.2 and 2.3, and own)
 abbrev pub sampled : Timer → ℕ → Timer
 sampled t seconds = let s = smoothed_with t.smoothed (1000 * min seconds 86400) in record { value = value_of s; smoothed = Some s }
 
