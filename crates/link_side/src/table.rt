@@ -1,8 +1,7 @@
 //! The events at an end's table.
 ghost use Rattle.std.specs.Prelude.{◌≡◌, OnErr, IfOk};
 ghost use Rattle.link_model.specs.declared.event.Event.TheVariants.{AddRow, Withdraw};
-ghost use Rattle.key_model.specs.Tables.{row_of_new};
-ghost use Rattle.link_model.specs.RowLines.{direction_of, row_of};
+ghost use Rattle.link_model.specs.RowLines.{direction_of};
 ghost use Rattle.link_model.specs.Worlds.{Side as EndSide};
 ghost use Rattle.link_side.specs.Sides.{StandsSide};
 ghost use Rattle.link_side.specs.Steps.{Steps, IsRowLine};
@@ -26,29 +25,6 @@ fn direction_of(receive: bool, send: bool) -> Direction
     }
 }
 
-/// The row of a line, which matches every pair.
-fn new_row(alloc: Global, line: &RowLine) -> Result<NewRow, AllocError>
-    ensures { IfOk result (λ row. row_of_new row ≡ row_of line.now) }
-{
-    let master = Bytes::from_vec(Vec::from_slice(alloc, line.master.as_slice())?);
-    Ok(NewRow {
-        recv_id: line.recv_id,
-        send_id: line.send_id,
-        algorithm: line.algorithm,
-        master,
-        with_options: line.with_options,
-        direction: direction_of(line.receive, line.send),
-        sending: Lifetime {
-            first: line.send_first,
-            last: line.send_last,
-        },
-        accepting: Lifetime {
-            first: line.accept_first,
-            last: line.accept_last,
-        },
-    })
-}
-
 impl Side {
     /// A row is added behind the last one of the end's table, unless it has 64, or one of them
     /// overlaps it; the live session goes on under the new table. The row is in the ranges of a link
@@ -59,7 +35,23 @@ impl Side {
         ensures step { IfOk result (λ told. Steps self.old self.new (λ e. AddRow e line.now) told) }
         ensures same { OnErr result ((m : EndSide) → StandsSide self.old m → StandsSide self.new m) }
     {
-        let row = new_row(alloc, line)?;
+        let master = Bytes::from_vec(Vec::from_slice(alloc, line.master.as_slice())?);
+        let row = NewRow {
+            recv_id: line.recv_id,
+            send_id: line.send_id,
+            algorithm: line.algorithm,
+            master,
+            with_options: line.with_options,
+            direction: direction_of(line.receive, line.send),
+            sending: Lifetime {
+                first: line.send_first,
+                last: line.send_last,
+            },
+            accepting: Lifetime {
+                first: line.accept_first,
+                last: line.accept_last,
+            },
+        };
         match self.table.add(alloc, row) {
             Ok(number) => Ok(Answer::Added(number)),
             Err(AddRefusal::Memory) => Err(AllocError),

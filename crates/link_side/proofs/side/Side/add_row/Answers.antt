@@ -1,4 +1,3 @@
-use Rattle.key_model.specs.Tables.{row_of_new}
 use Rattle.link_side.proofs.FitLaws.{fits_added_to}
 use Rattle.link_side.proofs.side.Side.add_row.Goals as goal
 
@@ -9,5 +8,5 @@ invariant_of-self c =
       family = d.family;
       time = d.time;
       bound = d.bound;
-      fits = λ x e. fits_added_to d.table c.add.new.self c.add.result (row_of_new c.in_ok-row.row) x.endpoint c.add.ensures (d.fits x e);
+      fits = λ x e. fits_added_to d.table c.add.new.self c.add.result _ x.endpoint c.add.ensures (d.fits x e);
     }
