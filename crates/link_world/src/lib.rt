@@ -19,3 +19,6 @@ pub use front::Front;
 pub use link_report::Outcome;
 pub use setup::Setup;
 pub use world::World;
+
+#[cfg(test)]
+mod tests;
