@@ -4,8 +4,6 @@
 #![tactic(auto)]
 
 mod command;
-#[cfg(test)]
-mod completeness;
 mod gather;
 mod key_commands;
 mod key_fault;
@@ -14,8 +12,6 @@ mod pcap_fault;
 mod runs;
 mod stop;
 mod stream;
-#[cfg(test)]
-mod tests;
 mod texts;
 mod top;
 

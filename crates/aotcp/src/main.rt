@@ -3,6 +3,8 @@
 #![tactic(auto)]
 
 mod own_text;
+#[cfg(test)]
+mod tests;
 
 use ao_base::{Bytes, Failed, QuietSource, ReadSource, Source, Words, WriteSink, write_all};
 use ao_run::{key_file, run};

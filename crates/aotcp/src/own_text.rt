@@ -4,8 +4,8 @@ ghost use Rattle.aotcp.specs.OwnTexts.{asked_by, text_of};
 
 use ao_base::Words;
 
-const HELP: &[u8] =
-    b"usage: aotcp link [KEYS] | check KEYS | show | vectors | keys KEYS TIME | lint KEYS LEAD LAG FROM TO | storm SEED COUNT | check --pcap KEYS | bgp KEYS | timed KEYS | node KEYS
+const HELP: &[u8] = b"usage: aotcp link [KEYS] | check KEYS | show | vectors | keys KEYS TIME | \
+lint KEYS LEAD LAG FROM TO | storm SEED COUNT | check --pcap KEYS | bgp KEYS | timed KEYS | node KEYS
 
 link reads a link file on standard input and writes the report of its run.
 show reads datagrams in hexadecimal, one a line, and writes their fields.

@@ -1,11 +1,7 @@
 //! `check KEYS`: stored segments that `bench/stored_segments.py` made, a program on Python's `hmac`
 //! alone.
-ghost use Rattle.std.specs.Prelude.{◌≤◌};
-
-use super::{sink, source_of, words_of};
-use crate::run;
-use ao_base::{Bytes, MemSink, MemSource, Numbers};
-use std::alloc::{AllocError, Global};
+use super::{Case, Disturbed, expect_disturbed, in_pieces};
+use std::alloc::Global;
 use std::test::Fail;
 
 /// Two nodes with one key.
@@ -43,7 +39,7 @@ Direction = \"both\"
 
 /// A SYN, a SYN with ACK, ten segments of one byte at numbers that lie 2^30 apart, and one that lies 2^31
 /// past the number expected.
-fn thirteen() -> &'static [u8] {
+pub(super) fn thirteen() -> &'static [u8] {
     b"0 4500003800004000400626be0a0000010a00000203e807d0000000640000000090020200105a00001d1000007ea73786bb128f7ecf895001\n\
 0 4500003800004000400626be0a0000020a00000107d003e8000000c80000006590120200b11300001d1000001f5d71ab36d7e281e733ed21\n\
 0 4500003900004000400626bd0a0000010a00000203e807d000000065000000c990100200839500001d100000a50224117cc8c10206a726af78\n\
@@ -87,49 +83,36 @@ fn second_connection() -> &'static [u8] {
 0 4500003900004000400626bd0a0000010a00000203e807d000000065000000c990100200839500001d100000a50224117cc8c10206a726af78\n"
 }
 
-/// What a run left: its status, and what was written to the output and for errors.
-#[derive(Drop)]
-struct Left {
+/// Checks this input by those keys, disturbed so, and compares what it left.
+pub(super) fn expect_checked(
+    alloc: Global,
+    input: &[u8],
+    how: Disturbed,
     status: u8,
-    out: MemSink,
-    err: MemSink,
-}
-
-/// Checks this input, given in pieces of that size, with a write that fails.
-fn checked(alloc: Global, input: &[u8], piece: u32, failing: &[u64]) -> Result<Left, AllocError>
-    requires { 1 ≤ piece }
-{
-    let words = words_of(alloc, [b"check".as_slice(), b"KEYS".as_slice()].as_slice())?;
-    let mut keys = source_of(alloc, keys())?;
-    let content = Bytes::from_vec(Vec::from_slice(alloc, input)?);
-    let mut input = MemSource::new(content, piece, Numbers::from_vec(Vec::new(alloc)));
-    let failing = Numbers::from_vec(Vec::from_slice(alloc, failing)?);
-    let mut out = MemSink::new(alloc, 65_536, failing)?;
-    let mut err = sink(alloc)?;
-    let status = run(alloc, &words, &mut keys, &mut input, &mut out, &mut err);
-    Ok(Left { status, out, err })
+    out: &[u8],
+    err: &[u8],
+) -> Result<(), Fail> {
+    let case = Case {
+        words: &[b"check", b"KEYS"],
+        keys: keys(),
+        input,
+        status,
+        out,
+        err,
+    };
+    expect_disturbed(alloc, case, how)
 }
 
 #[test]
 fn the_extension_reaches_two_in_pieces_of_any_size(rt: HostRuntime) -> Result<(), Fail> {
-    let left = checked(rt.alloc(), thirteen(), 1, &[])?;
-    assert_eq!(rt; left.status, 1);
-    assert_eq!(rt; left.out.bytes(), said());
-    let left = checked(rt.alloc(), thirteen(), 7, &[])?;
-    assert_eq!(rt; left.status, 1);
-    assert_eq!(rt; left.out.bytes(), said());
-    let left = checked(rt.alloc(), thirteen(), 4_096, &[])?;
-    assert_eq!(rt; left.out.bytes(), said());
+    for piece in [1, 7, 4_096] {
+        expect_checked(rt.alloc(), thirteen(), in_pieces(piece), 1, said(), b"")?;
+    }
     Ok(())
 }
 
-#[test]
-fn a_second_connection_has_keys_of_its_own(rt: HostRuntime) -> Result<(), Fail> {
-    let left = checked(rt.alloc(), second_connection(), 100, &[])?;
-    assert_eq!(rt; left.status, 1);
-    assert_eq!(rt;
-        left.out.bytes(),
-        b"1 pass row 1 number 100 checksum good
+fn said_of_two_connections() -> &'static [u8] {
+    b"1 pass row 1 number 100 checksum good
 2 pass row 1 number 200 checksum good
 3 pass row 1 number 101 checksum good
 4 pass row 1 number 5000 checksum good
@@ -137,32 +120,28 @@ fn a_second_connection_has_keys_of_its_own(rt: HostRuntime) -> Result<(), Fail> 
 6 pass row 1 number 5001 checksum good
 7 refused bad-mac checksum good
 "
-            .as_slice()
-    );
-    Ok(())
 }
 
 #[test]
-fn a_write_that_fails_ends_it(rt: HostRuntime) -> Result<(), Fail> {
-    let left = checked(rt.alloc(), thirteen(), 7, &[4])?;
-    assert_eq!(rt; left.status, 6);
-    assert_eq!(rt;
-        left.out.bytes(),
-        b"1 pass row 1 number 100 checksum good
-2 pass row 1 number 200 checksum good
-3 pass row 1 number 101 checksum good
-"
-            .as_slice()
-    );
-    assert_eq!(rt; left.err.bytes(), b"write fault\n".as_slice());
-    Ok(())
+fn a_second_connection_has_keys_of_its_own(rt: HostRuntime) -> Result<(), Fail> {
+    expect_checked(
+        rt.alloc(),
+        second_connection(),
+        in_pieces(100),
+        1,
+        said_of_two_connections(),
+        b"",
+    )
 }
 
 #[test]
 fn a_faulty_line_ends_it_with_the_lines_before(rt: HostRuntime) -> Result<(), Fail> {
-    let left = checked(rt.alloc(), b"0 45\n# 0\n0 4\n0 45\n", 7, &[])?;
-    assert_eq!(rt; left.status, 4);
-    assert_eq!(rt; left.out.bytes(), b"1 bad truncated\n".as_slice());
-    assert_eq!(rt; left.err.bytes(), b"input: line 3 hex\n".as_slice());
-    Ok(())
+    expect_checked(
+        rt.alloc(),
+        b"0 45\n# 0\n0 4\n0 45\n",
+        in_pieces(7),
+        4,
+        b"1 bad truncated\n",
+        b"input: line 3 hex\n",
+    )
 }

@@ -4,8 +4,8 @@ ghost use Rattle.std.specs.Prelude.{◌≡◌, ◌⊎◌, ◌<◌, [], IfOk, len
 ghost use Rattle.format_model.specs.Answers.{answer_of};
 ghost use Rattle.format_model.specs.Commands.{command_of};
 
-use crate::run;
 use ao_base::{Bytes, MemSink, MemSource, Numbers, QuietSink, Words};
+use ao_run::run;
 use std::alloc::{AllocError, Global};
 
 /// A source of these bytes, no call of which is told to fail.

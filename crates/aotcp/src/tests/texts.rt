@@ -1,5 +1,5 @@
 //! Runs of `show` and `vectors`, and words of no command.
-use super::{Case, expect};
+use super::{Case, expect, usage};
 use std::test::Fail;
 
 fn datagrams_are_shown_case() -> Case<'static> {
@@ -52,7 +52,7 @@ fn words_of_no_command_tell_the_usage_case() -> Case<'static> {
         input: b"",
         status: 2,
         out: b"",
-        err: b"usage: aotcp link [KEYS] | check KEYS | show | vectors | keys KEYS TIME | lint KEYS LEAD LAG FROM TO | storm SEED COUNT | check --pcap KEYS | bgp KEYS | timed KEYS | node KEYS\n",
+        err: usage(),
     }
 }
 

@@ -1,5 +1,5 @@
 //! Runs of `bgp KEYS`.
-use super::{Case, ONE_ROW, expect};
+use super::{Case, expect, one_row};
 use std::test::Fail;
 
 const BGP: &[&[u8]] = &[b"bgp", b"keys.toml"];
@@ -7,7 +7,7 @@ const BGP: &[&[u8]] = &[b"bgp", b"keys.toml"];
 fn a_keepalive_in_two_pieces_case() -> Case<'static> {
     Case {
         words: BGP,
-        keys: ONE_ROW,
+        keys: one_row(),
         input: b"aotcp-link 1
 a 10.0.0.1 1000
 b 10.0.0.2 2000
@@ -37,7 +37,7 @@ fn a_keepalive_in_two_pieces(rt: HostRuntime) -> Result<(), Fail> {
 fn a_faulty_marker_is_amiss_case() -> Case<'static> {
     Case {
         words: BGP,
-        keys: ONE_ROW,
+        keys: one_row(),
         input: b"aotcp-link 1
 a 10.0.0.1 1000
 b 10.0.0.2 2000
@@ -67,7 +67,7 @@ fn a_faulty_marker_is_amiss(rt: HostRuntime) -> Result<(), Fail> {
 fn a_forgery_is_amiss_case() -> Case<'static> {
     Case {
         words: BGP,
-        keys: ONE_ROW,
+        keys: one_row(),
         input: b"aotcp-link 1
 a 10.0.0.1 1000
 b 10.0.0.2 2000
@@ -90,7 +90,7 @@ fn a_forgery_is_amiss(rt: HostRuntime) -> Result<(), Fail> {
 fn a_wait_is_no_word_of_a_link_file_case() -> Case<'static> {
     Case {
         words: BGP,
-        keys: ONE_ROW,
+        keys: one_row(),
         input: b"aotcp-link 1
 a 10.0.0.1 1000
 b 10.0.0.2 2000

@@ -1,11 +1,11 @@
 //! Runs of `keys` and `lint`.
-use super::{Case, ONE_ROW, expect};
+use super::{Case, expect, one_row};
 use std::test::Fail;
 
 fn rows_are_shown_at_a_time_case() -> Case<'static> {
     Case {
         words: &[b"keys", b"keys.toml", b"19700101010001Z"],
-        keys: ONE_ROW,
+        keys: one_row(),
         input: b"",
         status: 0,
         out: b"node 1 r1 10.0.0.1
@@ -54,7 +54,7 @@ fn a_connection_is_aligned_for_a_lag_of_a_minute_case() -> Case<'static> {
             b"19700101000000Z",
             b"19700101010000Z",
         ],
-        keys: ONE_ROW,
+        keys: one_row(),
         input: b"10.0.0.1 1000 10.0.0.2 2000\n",
         status: 0,
         out: b"1 aligned\n",
@@ -80,7 +80,7 @@ fn it_is_not_for_a_second_more_case() -> Case<'static> {
             b"19700101000000Z",
             b"19700101010000Z",
         ],
-        keys: ONE_ROW,
+        keys: one_row(),
         input: b"10.0.0.1 1000 10.0.0.2 2000\n",
         status: 1,
         out: b"1 short-accept a 1\n",

@@ -1,12 +1,13 @@
 //! Runs of `link KEYS`.
-use super::{Case, ONE_ROW, expect};
+use super::{Case, expect, one_row};
 use std::alloc::{AllocError, Global};
 use std::test::Fail;
 
 const LINK_KEYS: &[&[u8]] = &[b"link", b"keys.toml"];
 
 /// The second row is sent with from the second hour on, and accepted ten minutes before.
-const TWO_ROWS: &[u8] = br#"[[node]]
+fn two_rows() -> &'static [u8] {
+    br#"[[node]]
 name = "r1"
 address = "10.0.0.1"
 [[node.key]]
@@ -68,10 +69,12 @@ Key = "0c0c0c0c0c0c0c0c0c0c0c0c0c0c0c0c0c0c0c0c"
 Direction = "both"
 SendLifetimeStart = "19700101010000Z"
 AcceptLifetimeStart = "19700101005000Z"
-"#;
+"#
+}
 
 /// Two routers over IPv6, whose rows are each for a year and a week.
-const THREE_YEARS: &[u8] = br#"[[node]]
+fn three_years() -> &'static [u8] {
+    br#"[[node]]
 name = "r1"
 address = "20010db8000000000000000000000001"
 [[node.key]]
@@ -167,12 +170,13 @@ SendLifetimeStart = "20250101000000Z"
 SendLifetimeEnd = "20260108000000Z"
 AcceptLifetimeStart = "20241231000000Z"
 AcceptLifetimeEnd = "20260109000000Z"
-"#;
+"#
+}
 
 fn a_row_is_accepted_for_a_minute_more_case() -> Case<'static> {
     Case {
         words: LINK_KEYS,
-        keys: ONE_ROW,
+        keys: one_row(),
         input: b"aotcp-link 1
 a 10.0.0.1 1000
 b 10.0.0.2 2000
@@ -214,7 +218,7 @@ fn a_row_is_accepted_for_a_minute_more(rt: HostRuntime) -> Result<(), Fail> {
 fn a_rollover_with_a_late_segment_case() -> Case<'static> {
     Case {
         words: LINK_KEYS,
-        keys: TWO_ROWS,
+        keys: two_rows(),
         input: b"aotcp-link 1
 a 10.0.0.1 1000
 b 10.0.0.2 2000
@@ -278,7 +282,7 @@ fn a_rollover_with_a_late_segment(rt: HostRuntime) -> Result<(), Fail> {
 fn a_key_is_missing_for_a_second_case() -> Case<'static> {
     Case {
         words: LINK_KEYS,
-        keys: ONE_ROW,
+        keys: one_row(),
         input: b"aotcp-link 1
 a 10.0.0.1 1000
 b 10.0.0.2 2000
@@ -314,7 +318,7 @@ fn a_key_is_missing_for_a_second(rt: HostRuntime) -> Result<(), Fail> {
 fn a_shared_line_beside_a_key_file_case() -> Case<'static> {
     Case {
         words: LINK_KEYS,
-        keys: ONE_ROW,
+        keys: one_row(),
         input: b"aotcp-link 1
 a 10.0.0.1 1000
 b 10.0.0.2 2000
@@ -333,7 +337,8 @@ fn a_shared_line_beside_a_key_file(rt: HostRuntime) -> Result<(), Fail> {
     expect(rt.alloc(), a_shared_line_beside_a_key_file_case())
 }
 
-const A_YEAR: &[u8] = b"aotcp-link 1
+fn a_year() -> &'static [u8] {
+    b"aotcp-link 1
 a 20010db8000000000000000000000001 50000
 b 20010db8000000000000000000000002 179
 clock a 1704067199
@@ -375,9 +380,11 @@ deliver b 12
 take a 1
 take b 1
 clock a 1704067440
-";
+"
+}
 
-const BEFORE_THE_BYTES: &[u8] = b"1 ok
+fn before_the_bytes() -> &'static [u8] {
+    b"1 ok
 2 ok
 3 ok
 4 ok
@@ -403,9 +410,11 @@ const BEFORE_THE_BYTES: &[u8] = b"1 ok
 24 taken
 25 taken
 26 taken
-27 took ";
+27 took "
+}
 
-const AFTER_THE_BYTES: &[u8] = b"
+fn after_the_bytes() -> &'static [u8] {
+    b"
 29 ok
 30 sent 10 AF seq 4294970001 ack 11001 len 0 key 2 next 2
 31 taken
@@ -420,11 +429,12 @@ const AFTER_THE_BYTES: &[u8] = b"
 session a 1 isn 4294966000 peer 7000 closed given 4000 delivered 4000 end
 session b 1 isn 7000 peer 4294966000 closed given 4000 delivered 4000 end
 segments 12 forgeries 0
-";
+"
+}
 
 /// The report of the year: its two takes give 4,000 bytes each.
 fn report_of_a_year(alloc: Global) -> Result<Vec<u8>, AllocError> {
-    let mut report = Vec::from_slice(alloc, BEFORE_THE_BYTES)?;
+    let mut report = Vec::from_slice(alloc, before_the_bytes())?;
     for _ in 0..4_000 {
         report.extend_from_slice(b"62")?;
     }
@@ -432,7 +442,7 @@ fn report_of_a_year(alloc: Global) -> Result<Vec<u8>, AllocError> {
     for _ in 0..4_000 {
         report.extend_from_slice(b"61")?;
     }
-    report.extend_from_slice(AFTER_THE_BYTES)?;
+    report.extend_from_slice(after_the_bytes())?;
     Ok(report)
 }
 
@@ -441,8 +451,8 @@ fn two_routers_over_a_new_year(rt: HostRuntime) -> Result<(), Fail> {
     let report = report_of_a_year(rt.alloc())?;
     let case = Case {
         words: LINK_KEYS,
-        keys: THREE_YEARS,
-        input: A_YEAR,
+        keys: three_years(),
+        input: a_year(),
         status: 0,
         out: report.as_slice(),
         err: b"",

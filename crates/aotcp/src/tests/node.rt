@@ -1,5 +1,5 @@
 //! Runs of `node KEYS`.
-use super::{Case, ONE_ROW, expect};
+use super::{Case, expect, one_row};
 use std::test::Fail;
 
 const NODE: &[&[u8]] = &[b"node", b"keys.toml"];
@@ -7,7 +7,7 @@ const NODE: &[&[u8]] = &[b"node", b"keys.toml"];
 fn three_connections_case() -> Case<'static> {
     Case {
         words: NODE,
-        keys: ONE_ROW,
+        keys: one_row(),
         input: b"aotcp-node 1
 node 10.0.0.1
 start 1000 10.0.0.2 2000 100 200
@@ -41,7 +41,7 @@ fn three_connections(rt: HostRuntime) -> Result<(), Fail> {
 fn an_address_of_no_node_has_no_key_case() -> Case<'static> {
     Case {
         words: NODE,
-        keys: ONE_ROW,
+        keys: one_row(),
         input: b"aotcp-node 1
 node 10.0.0.9
 open 1000 10.0.0.2 2000 100
@@ -63,7 +63,7 @@ fn an_address_of_no_node_has_no_key(rt: HostRuntime) -> Result<(), Fail> {
 fn the_node_itself_is_no_remote_address_case() -> Case<'static> {
     Case {
         words: NODE,
-        keys: ONE_ROW,
+        keys: one_row(),
         input: b"aotcp-node 1
 node 10.0.0.1
 open 1000 10.0.0.1 2000 100

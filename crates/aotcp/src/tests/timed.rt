@@ -1,5 +1,5 @@
 //! Runs of `timed KEYS`.
-use super::{Case, ONE_ROW, expect, joined};
+use super::{Case, expect, one_row};
 use std::alloc::{AllocError, Global};
 use std::test::Fail;
 
@@ -8,7 +8,7 @@ const TIMED: &[&[u8]] = &[b"timed", b"keys.toml"];
 fn a_wait_sends_again_case() -> Case<'static> {
     Case {
         words: TIMED,
-        keys: ONE_ROW,
+        keys: one_row(),
         input: b"aotcp-link 1
 a 10.0.0.1 1000
 b 10.0.0.2 2000
@@ -47,7 +47,7 @@ fn a_wait_sends_again(rt: HostRuntime) -> Result<(), Fail> {
 fn a_sample_makes_the_wait_longer_case() -> Case<'static> {
     Case {
         words: TIMED,
-        keys: ONE_ROW,
+        keys: one_row(),
         input: b"aotcp-link 1
 a 10.0.0.1 1000
 b 10.0.0.2 2000
@@ -93,7 +93,7 @@ fn a_sample_makes_the_wait_longer(rt: HostRuntime) -> Result<(), Fail> {
 fn a_forgery_is_amiss_case() -> Case<'static> {
     Case {
         words: TIMED,
-        keys: ONE_ROW,
+        keys: one_row(),
         input: b"aotcp-link 1
 a 10.0.0.1 1000
 b 10.0.0.2 2000
@@ -120,7 +120,7 @@ fn a_forgery_is_amiss(rt: HostRuntime) -> Result<(), Fail> {
 fn a_wait_of_no_second_is_named_case() -> Case<'static> {
     Case {
         words: TIMED,
-        keys: ONE_ROW,
+        keys: one_row(),
         input: b"aotcp-link 1
 a 10.0.0.1 1000
 b 10.0.0.2 2000
@@ -137,18 +137,20 @@ fn a_wait_of_no_second_is_named(rt: HostRuntime) -> Result<(), Fail> {
     expect(rt.alloc(), a_wait_of_no_second_is_named_case())
 }
 
-const BEFORE_THE_WAITS: &[u8] = b"aotcp-link 1
+fn before_the_waits() -> &'static [u8] {
+    b"aotcp-link 1
 a 10.0.0.1 1000
 b 10.0.0.2 2000
 start a 100 200
 give a 41
 send a
-";
+"
+}
 
 /// A file of 206 lines whose plain run has over 20,000 events: in each hour a byte is sent again about
 /// once a minute.
 fn two_hundred_hours(alloc: Global) -> Result<Vec<u8>, AllocError> {
-    let mut text = joined(alloc, [BEFORE_THE_WAITS].as_slice())?;
+    let mut text = Vec::from_slice(alloc, before_the_waits())?;
     for _ in 0..200 {
         text.extend_from_slice(b"wait a 3600\n")?;
     }
@@ -160,7 +162,7 @@ fn too_many_events_are_refused(rt: HostRuntime) -> Result<(), Fail> {
     let input = two_hundred_hours(rt.alloc())?;
     let case = Case {
         words: TIMED,
-        keys: ONE_ROW,
+        keys: one_row(),
         input: input.as_slice(),
         status: 4,
         out: b"",

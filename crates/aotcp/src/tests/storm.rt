@@ -1,5 +1,5 @@
 //! Runs of `storm`.
-use super::{Case, expect};
+use super::{Case, expect, usage};
 use std::test::Fail;
 
 fn no_event_is_drawn_case() -> Case<'static> {
@@ -47,7 +47,7 @@ fn one_event_too_many_case() -> Case<'static> {
         input: b"",
         status: 2,
         out: b"",
-        err: b"usage: aotcp link [KEYS] | check KEYS | show | vectors | keys KEYS TIME | lint KEYS LEAD LAG FROM TO | storm SEED COUNT | check --pcap KEYS | bgp KEYS | timed KEYS | node KEYS\n",
+        err: usage(),
     }
 }
 
