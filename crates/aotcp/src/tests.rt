@@ -14,6 +14,7 @@ mod packets;
 mod storm;
 mod texts;
 mod timed;
+mod window;
 
 use ao_base::{Bytes, MemSink, MemSource, Numbers, Words};
 use ao_run::run;
