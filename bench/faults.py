@@ -114,8 +114,16 @@ def stored_runs(folder, kinds):
 
 
 def run(program, library, words, text, **faults):
+    """Runs the program over a file: what a pipe gives at once differs from run to run, and so the number of reads."""
     names = {"LD_PRELOAD": str(library)} | {name: str(value) for name, value in faults.items()}
-    return subprocess.run([program, *words], input=text, capture_output=True, check=False, env=os.environ | names)
+    with tempfile.TemporaryFile() as source:
+        source.write(text)
+        source.seek(0)
+        return subprocess.run([program, *words], stdin=source, capture_output=True, check=False, env=os.environ | names)
+
+
+def ends_alike(one, other):
+    return (one.returncode, one.stdout, one.stderr) == (other.returncode, other.stdout, other.stderr)
 
 
 def tried(program, library, folder, name, words, text):
@@ -127,9 +135,11 @@ def tried(program, library, folder, name, words, text):
     for kind, (status, said) in TEXTS.items():
         for number in range(1, seen[kind] + 1):
             got = run(program, library, words, text, **{f"FAIL_{kind}": number})
-            part = kind == "WRITE" or words[0] in AS_IT_READS
+            part = kind == "WRITE" or bool(words) and words[0] in AS_IT_READS
             right = got.returncode == status and got.stderr == said
             right &= whole.stdout.startswith(got.stdout) if part else got.stdout == b""
+            # A word that isn't hexadecimal is told as such also where there is no memory for its bytes.
+            right |= kind == "MEMORY" and whole.returncode == 4 and ends_alike(got, whole)
             if not right:
                 amiss.append(f"{name}: {kind.lower()} {number}: status {got.returncode}, {len(got.stdout)} bytes, {got.stderr!r}")
     print(f"{name}: {seen['MEMORY']} requests for memory, {seen['READ']} reads, {seen['WRITE']} writes, {len(amiss)} amiss")
