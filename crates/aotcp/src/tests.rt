@@ -11,6 +11,7 @@ mod link;
 mod link_keys;
 mod node;
 mod packets;
+mod rows;
 mod storm;
 mod texts;
 mod timed;
