@@ -3,7 +3,8 @@ use Rattle.std.proofs.lemmas.Bool.{cases_lt}
 use Rattle.std.specs.Prelude.{slice_index}
 use Rattle.aes_cmac.specs.declared.block.Block.{Block}
 use Rattle.aes_cmac.specs.Block.{bytes_of}
-use Rattle.aes_cmac.specs.Cipher.{key_at, empty}
+use Rattle.aes_cmac.specs.Cipher.{IsKeyed, key_at, empty}
+use Rattle.aes_cmac.specs.declared.cipher.Aes128.{Aes128}
 use Rattle.mac_model.specs.Ciphers.{aes, aes_rounds, round_constants, next_key, xor, mix, sub_shift}
 
 -- before the first round
@@ -26,6 +27,13 @@ aes_step i j k next s e l h n =
     let up : i ≡ j + 1 = omega arith in
     let lt : j + 1 < 10 = omega arith in
     rw (n, up) (rounds_more round_constants j k s lt)
+
+-- one more round of a keyed cipher, whose round keys are those of this key
+pub aes_round : (cipher : Aes128) (key : List ℕ) (j : ℕ) (s t : Block) → IsKeyed cipher key → j < 9
+    → bytes_of t ≡ xor (key_at cipher.keys (j + 1)) (mix (sub_shift (bytes_of s)))
+    → aes_rounds (drop j round_constants) (key_at cipher.keys j) (bytes_of s) ≡ aes_rounds (drop (j + 1) round_constants) (key_at cipher.keys (j + 1)) (bytes_of t)
+aes_round cipher key j s t h lt e =
+    rw e (aes_step (j + 1) j (key_at cipher.keys j) (key_at cipher.keys (j + 1)) (bytes_of s) (omega arith) (omega arith) (omega arith) (h.next j (omega arith)))
 
 -- the last round
 pub aes_last : (k next s : List ℕ) → next ≡ next_key k 54 → aes_rounds (drop 9 round_constants) k s ≡ xor next (sub_shift s)

@@ -2,10 +2,12 @@
 ghost use Rattle.std.specs.Prelude.{◌≡◌, ◌+◌, ◌≤◌, ◌∷◌, ℕ, List, [], length, take, drop, bit_xor};
 ghost use Rattle.segment_model.specs.Bytes.{put4};
 ghost use Rattle.mac_model.specs.Ciphers.{xor, mix, mixed, sub_shift, sbox, next_key, doubled};
-ghost use Rattle.aes_cmac.specs.Block.{bytes_of};
+ghost use Rattle.aes_cmac.specs.Block.{bytes_of, halves_bytes};
 
 use crate::table::{fourth_products, products, second_products, substitute, third_products};
 
+/// The bits of a column.
+const WORD: u64 = 0xffff_ffff;
 /// The highest bit of a column.
 const TOP_BIT: u32 = 0x8000_0000;
 /// What doubling adds where a bit goes out at the top (RFC 4493, section 2.3).
@@ -24,6 +26,38 @@ pub struct Block {
     pub second: u32,
     pub third: u32,
     pub fourth: u32,
+}
+
+/// A block of 16 bytes as two numbers, each with the first byte highest: the form in which a chain
+/// hands a block on, since both fit registers.
+#[derive(Clone, Copy)]
+pub struct Halves {
+    pub high: u64,
+    pub low: u64,
+}
+
+impl Halves {
+    /// The columns of the block.
+    pub fn to_columns(self) -> Block
+        ensures { bytes_of result ≡ halves_bytes self }
+    {
+        Block {
+            first: (self.high >> 32) as u32,
+            second: (self.high & WORD) as u32,
+            third: (self.low >> 32) as u32,
+            fourth: (self.low & WORD) as u32,
+        }
+    }
+
+    /// The two blocks, byte by byte.
+    pub fn xor(self, other: Halves) -> Halves
+        ensures { halves_bytes result ≡ xor (halves_bytes self) (halves_bytes other) }
+    {
+        Halves {
+            high: self.high ^ other.high,
+            low: self.low ^ other.low,
+        }
+    }
 }
 
 impl Block {
@@ -51,6 +85,16 @@ impl Block {
         [
             a0, a1, a2, a3, b0, b1, b2, b3, c0, c1, c2, c3, d0, d1, d2, d3,
         ]
+    }
+
+    /// The halves of the block.
+    pub fn to_halves(self) -> Halves
+        ensures { halves_bytes result ≡ bytes_of self }
+    {
+        Halves {
+            high: (u64::from(self.first) << 32) + u64::from(self.second),
+            low: (u64::from(self.third) << 32) + u64::from(self.fourth),
+        }
     }
 
     /// The two blocks, byte by byte.

@@ -1,10 +1,10 @@
 //! AES-128 under one key.
 ghost use Rattle.std.specs.Prelude.{◌≡◌, ℕ, List};
 ghost use Rattle.mac_model.specs.Ciphers.{aes};
-ghost use Rattle.aes_cmac.specs.Block.{bytes_of};
+ghost use Rattle.aes_cmac.specs.Block.{bytes_of, halves_bytes};
 ghost use Rattle.aes_cmac.specs.Cipher.{IsKeyed};
 
-use crate::block::Block;
+use crate::block::{Block, Halves};
 
 /// The number of rounds (FIPS 197, section 5).
 const ROUNDS: usize = 10;
@@ -40,17 +40,34 @@ impl Aes128 {
     pub fn encrypt(&self, block: &[u8; 16]) -> [u8; 16]
         ensures { (key : List ℕ) → IsKeyed self.now key → result ≡ aes key block.now }
     {
-        self.encrypt_block(Block::of(block)).to_bytes()
+        self.encrypt_halves(Block::of(block).to_halves())
+            .to_columns()
+            .to_bytes()
     }
 
-    /// The block under the cipher, as columns.
-    pub fn encrypt_block(&self, block: Block) -> Block
+    /// The block under the cipher, as halves.
+    pub fn encrypt_halves(&self, block: Halves) -> Halves
+        ensures { (key : List ℕ) → IsKeyed self.now key → halves_bytes result ≡ aes key (halves_bytes block) }
+    {
+        self.encrypt_columns(block.to_columns()).to_halves()
+    }
+
+    // The block under the cipher, as columns. The rounds are written out, so that no register counts
+    // them.
+    fn encrypt_columns(&self, block: Block) -> Block
         ensures { (key : List ℕ) → IsKeyed self.now key → bytes_of result ≡ aes key (bytes_of block) }
     {
-        let mut state = self.keys[0].xor(block);
-        for i in 1..ROUNDS {
-            state = state.round(self.keys[i]);
-        }
-        state.last_round(self.keys[ROUNDS])
+        self.keys[0]
+            .xor(block)
+            .round(self.keys[1])
+            .round(self.keys[2])
+            .round(self.keys[3])
+            .round(self.keys[4])
+            .round(self.keys[5])
+            .round(self.keys[6])
+            .round(self.keys[7])
+            .round(self.keys[8])
+            .round(self.keys[9])
+            .last_round(self.keys[10])
     }
 }

@@ -1,11 +1,11 @@
 //! CMAC fed in pieces, and its PRF.
 ghost use Rattle.std.specs.Prelude.{◌≡◌, ◌+◌, ◌-◌, ◌<◌, ◌≤◌, ◌++◌, ◌∷◌, List, [], ℕ, length, take, replicate, ◌==◌, if◌then◌else◌};
 ghost use Rattle.mac_model.specs.Ciphers.{cmac, prf, xor, last_block};
-ghost use Rattle.aes_cmac.specs.Block.{bytes_of};
+ghost use Rattle.aes_cmac.specs.Block.{bytes_of, halves_bytes};
 ghost use Rattle.aes_cmac.specs.Cipher.{IsKeyed};
 ghost use Rattle.aes_cmac.specs.Chain.{goes_on};
 
-use crate::block::Block;
+use crate::block::{Block, Halves};
 use crate::cipher::Aes128;
 
 /// The length of a block in bytes (RFC 4493, section 2.4).
@@ -24,7 +24,7 @@ const END: u8 = 0x80;
 #[derive(Drop)]
 pub struct Cmac {
     cipher: Aes128,
-    state: Block,
+    state: Halves,
     /// The last bytes, up to a whole block: the last block of the message takes another step.
     held: [u8; BLOCK_LEN],
     filled: usize,
@@ -54,7 +54,9 @@ impl Cmac {
         }
         let (front, rest) = piece.split_at(room);
         let block = overlaid(self.held, filled, front);
-        let state = self.cipher.encrypt_block(self.state.xor(Block::of(&block)));
+        let state = self
+            .cipher
+            .encrypt_halves(self.state.xor(Block::of(&block).to_halves()));
         let (state, last) = absorbed(&self.cipher, state, rest);
         self.state = state;
         self.held = overlaid(block, 0, last);
@@ -73,7 +75,7 @@ impl Cmac {
     {
         Cmac {
             cipher: Aes128::under(key),
-            state: ZEROS,
+            state: ZEROS.to_halves(),
             held: [0; BLOCK_LEN],
             filled: 0,
         }
@@ -88,8 +90,9 @@ impl Cmac {
             held,
             filled,
         } = self;
-        let subkey = cipher.encrypt_block(ZEROS);
-        cipher.encrypt_block(state.xor(closed(subkey, held, filled)))
+        let subkey = cipher.encrypt_halves(ZEROS.to_halves()).to_columns();
+        let last = closed(subkey, held, filled).to_halves();
+        cipher.encrypt_halves(state.xor(last)).to_columns()
     }
 }
 
@@ -122,15 +125,15 @@ fn message_code(key: Block, message: &[u8]) -> Block
 }
 
 /// The chain over whole blocks, as long as bytes follow them, and the bytes that are left.
-fn absorbed<'a>(cipher: &Aes128, from: Block, bytes: &'a [u8]) -> (Block, &'a [u8])
+fn absorbed<'a>(cipher: &Aes128, from: Halves, bytes: &'a [u8]) -> (Halves, &'a [u8])
     ensures short { length result.1.now ≤ 16 }
-    ensures same { (key more : List ℕ) → IsKeyed cipher.now key → goes_on key (bytes_of from) (bytes.now ++ more) ≡ goes_on key (bytes_of result.0) (result.1.now ++ more) }
+    ensures same { (key more : List ℕ) → IsKeyed cipher.now key → goes_on key (halves_bytes from) (bytes.now ++ more) ≡ goes_on key (halves_bytes result.0) (result.1.now ++ more) }
 {
     let mut state = from;
     let mut rest = bytes;
     while rest.len() > BLOCK_LEN {
         let (block, after) = rest.split_at(BLOCK_LEN);
-        state = cipher.encrypt_block(state.xor(Block::of(block)));
+        state = cipher.encrypt_halves(state.xor(Block::of(block).to_halves()));
         rest = after;
     }
     (state, rest)

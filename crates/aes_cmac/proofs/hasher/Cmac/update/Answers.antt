@@ -1,6 +1,6 @@
 use Rattle.std.proofs.Common.{◌≡◌, ◌+◌, ◌<◌, ◌-◌, ◌≤◌, ◌∙◌, ◌++◌, length, take, rules, arith, sym, refl}
 use Rattle.std.proofs.lemmas.List.{take_all, take-append-drop}
-use Rattle.aes_cmac.specs.Block.{bytes_of}
+use Rattle.aes_cmac.specs.Block.{halves_bytes}
 use Rattle.mac_model.specs.Ciphers.{aes, xor}
 use Rattle.aes_cmac.proofs.Chains.{fed_over, fed_within}
 use Rattle.aes_cmac.proofs.hasher.Cmac.update.Goals as goal
@@ -11,7 +11,7 @@ returns-then-piece-room c = λ key fed h.
     let piece = c.args.piece.now in
     record {
       keyed = h.keyed;
-      same = λ more. fed_within key fed piece (take s.filled s.held) _ (bytes_of s.state) more (h.same (piece ++ more)) c.overlaid-self.ensures;
+      same = λ more. fed_within key fed piece (take s.filled s.held) _ (halves_bytes s.state) more (h.same (piece ++ more)) c.overlaid-self.ensures;
     }
 
 pub returns : goal.returns
@@ -29,9 +29,9 @@ returns c = λ key fed h.
     let some : 0 < length rest = omega (arith, c.split_at.ensures.back_len, c.if-piece-room.false) in
     let none : 0 + length c.absorbed.result.1.now ≡ length c.absorbed.result.1.now = omega arith in
     let last = rw none at c.overlaid-self-2.ensures in
-    let chained : bytes_of c.encrypt_block-state.result ≡ aes key (xor (bytes_of s.state) block) = rw (c.encrypt_block-state.ensures key h.keyed, c.xor.ensures, c.of.ensures) refl in
+    let chained : halves_bytes c.encrypt_halves-state.result ≡ aes key (xor (halves_bytes s.state) block) = rw (c.encrypt_halves-state.ensures key h.keyed, c.xor.ensures, c.to_halves.ensures, c.of.ensures) refl in
     record {
       keyed = h.keyed;
       same = λ more.
-          rw last (fed_over key fed piece front rest (take s.filled s.held) block (bytes_of s.state) more (h.same (piece ++ more)) cut whole len some ∙ (rw chained at (c.absorbed.ensures.same key more h.keyed)));
+          rw last (fed_over key fed piece front rest (take s.filled s.held) block (halves_bytes s.state) more (h.same (piece ++ more)) cut whole len some ∙ (rw chained at (c.absorbed.ensures.same key more h.keyed)));
     }
