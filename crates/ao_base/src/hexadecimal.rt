@@ -52,7 +52,7 @@ fn decode(word: &[u8], bytes: &mut [u8]) -> bool
     }
 }
 
-// The bytes of whole blocks, 16 at a time; a test for each block costs little, and one for each digit much.
+// The bytes of the whole blocks of 16; each block is tested as a whole, which costs little.
 fn decode_blocks(word: &[u8], bytes: &mut [u8]) -> bool
     requires { length word.now ≡ 2 * length bytes.old }
     ensures length { length bytes.new ≡ length bytes.old }
@@ -68,7 +68,8 @@ fn decode_blocks(word: &[u8], bytes: &mut [u8]) -> bool
     true
 }
 
-// By vectors, since what is compiled of a loop over pairs gathers its digits one by one.
+// The 16 bytes from `at` on. By vectors, since what is compiled of a loop over pairs gathers its
+// digits one by one.
 fn decode_block(word: &[u8], bytes: &mut [u8], at: usize) -> bool
     requires twice { length word.now ≡ 2 * length bytes.old }
     requires room { at + 16 ≤ length bytes.old }
@@ -110,7 +111,7 @@ fn digits(word: &[u8], at: usize) -> u8x16
         .select(number, letter_or_none)
 }
 
-// Whether each is the value of a digit; one test of a mask for all 16.
+// Whether each of 16 is the value of a digit.
 fn are_digits(values: u8x16) -> bool
     requires { length values ≡ 16 }
     ensures yes { IsTrue result → (i : ℕ) → i < 16 → slice_index values i < 16 }
@@ -119,7 +120,7 @@ fn are_digits(values: u8x16) -> bool
     values.simd_ge(u8x16::splat(16)).to_bitmask() == 0
 }
 
-// The bytes after those of whole blocks, one at a time, since fewer than 16 are left.
+// The bytes behind the whole blocks, fewer than 16.
 fn decode_rest(word: &[u8], bytes: &mut [u8]) -> bool
     requires twice { length word.now ≡ 2 * length bytes.old }
     requires read { (i : ℕ) → i < length bytes.old / 16 * 16
