@@ -1,14 +1,14 @@
 -- What `hex` decodes, and printed bytes are read back.
-use Rattle.std.proofs.Common.{◌≡◌, ℕ, ◌+◌, ◌*◌, ◌%◌, ◌<◌, ◌≤◌, max, true, false, List, [], ◌∷◌, length, take, drop, slice_index, slice_set, Option, Some, None, is_some, unwrap_or, Result, Ok, Err, refl, sym, ap, ◌∙◌, ⊎_elim, arith}
+use Rattle.std.proofs.Common.{◌≡◌, ℕ, ◌+◌, ◌*◌, ◌%◌, ◌<◌, ◌≤◌, max, true, false, List, [], ◌∷◌, length, slice_index, slice_set, Option, Some, None, is_some, unwrap_or, Result, Ok, Err, refl, sym, ap, ◌∙◌, ⊎_elim, inl, inr, suc, arith, get_or-set_other, get_or-set_same}
 use Rattle.std.specs.Char.{is_ascii_hexdigit}
 use Rattle.std.specs.List.{list_all}
 use Rattle.std.specs.Result.{result_ok}
 use Rattle.std.proofs.lemmas.Bool.{both_ways, cases_lt}
 use Rattle.std.proofs.lemmas.List.Sums.{AllPass-from_list_all, list_all-from_AllPass}
 use Rattle.std.proofs.lemmas.Bool.Decides.{nat_tests}
-use Rattle.hex.specs.Hex.{decode_of, decode_pairs, hex_digit_value, is_hex_digit, pair_value, IsBytes}
+use Rattle.hex.specs.Hex.{decode_of, decode_pairs, digit_or_error, hex_digit_value, is_hex_digit, pair_value, IsBytes, ◌>>=◌}
 use Rattle.hex.specs.declared.error.FromHexError.{FromHexError}
-use Rattle.hex.proofs.Pairs.{prepend, decode_step, decode_done}
+use Rattle.hex.proofs.Pairs.{cons_byte, decode_pairs-ok_pair}
 use Rattle.hex.proofs.HexLemmas.{decode_of-even, decode_of-digits, decode_of-ok, decode_of-encode_lower, length-encode_with}
 use Rattle.ao_base.specs.Hexadecimal.{bytes_of_hex, hex_of}
 
@@ -61,22 +61,26 @@ unknown (Some w) value small e great = let s = small w refl in absurd (omega (ar
 unknown None value small e great = refl
 
 -- another byte at a place
-none_at : (word : List ℕ) (place value : ℕ) → place < length word → value ≡ unwrap_or (hex_digit_value (slice_index word place)) 16 →
+pub none_at : (word : List ℕ) (place value : ℕ) → place < length word → value ≡ unwrap_or (hex_digit_value (slice_index word place)) 16 →
     16 ≤ value → bytes_of_hex word ≡ None
 unfolding bytes_of_hex
 none_at word place value within e great =
     let bad = unknown (hex_digit_value (slice_index word place)) value (below (slice_index word place)) e great in
     no_result word (decode_of word) (λ bytes h. both_ways _ bad ((decode_of-ok word bytes h).1 place 0 within))
 
-both_read : (a b i high low : ℕ) → high ≡ unwrap_or (hex_digit_value a) 16 → low ≡ unwrap_or (hex_digit_value b) 16 → high < 16 → low < 16 →
+pub both_read : (a b i high low : ℕ) → high ≡ unwrap_or (hex_digit_value a) 16 → low ≡ unwrap_or (hex_digit_value b) 16 → high < 16 → low < 16 →
     pair_value a b i ≡ Ok (high * 16 + low)
 both_read a b i high low eh el sh sl =
     let h = known (hex_digit_value a) high eh sh in
     let l = known (hex_digit_value b) low el sl in rw (h, l) refl
 
+-- the byte at a place is that of its two digits
+abbrev pub IsRead : List ℕ → List ℕ → ℕ → Type 0
+IsRead word bytes j = pair_value (slice_index word (2 * j)) (slice_index word (2 * j + 1)) (2 * j) ≡ Ok (slice_index bytes j)
+
 -- what holds once `i` bytes are written, with the greatest value that was met
 pub record Decoding (word bytes : List ℕ) (i greatest : ℕ) : Type 0 where
-  pub read : greatest < 16 → decode_pairs 0 word ≡ prepend (take i bytes) (decode_pairs (2 * i) (drop (2 * i) word))
+  pub read : greatest < 16 → (j : ℕ) → j < i → IsRead word bytes j
   pub other : 16 ≤ greatest → bytes_of_hex word ≡ None
 
 none_of_three : (word : List ℕ) (greatest a high b low : ℕ) → (16 ≤ greatest → bytes_of_hex word ≡ None) → a < length word → b < length word →
@@ -93,18 +97,53 @@ pub decoding_on : (word bytes : List ℕ) (i greatest high low : ℕ) → 2 * i 
     Decoding word bytes i greatest →
     Decoding word (slice_set bytes i (high % 16 * 16 + low % 16)) (i + 1) (max (max greatest high) low)
 decoding_on word bytes i greatest high low within room eh el before = record {
-  read = λ small.
+  read = λ small j le.
       let sh : high < 16 = omega arith in
       let sl : low < 16 = omega arith in
       let same : high % 16 * 16 + low % 16 ≡ high * 16 + low = omega arith in
-      rw same (decode_step word bytes i (high * 16 + low) within room (both_read (slice_index word (2 * i)) (slice_index word (2 * i + 1)) (2 * i) high low eh el sh sl) (before.read (omega arith)));
+      elim (cases_lt j i) [
+        | inl l ↦ before.read (omega arith) j l ∙ ap Ok (sym (get_or-set_other bytes i j (high % 16 * 16 + low % 16) 0 (omega arith)))
+        | inr g ↦
+            let e : j ≡ i = omega arith in
+            rw (e, get_or-set_same bytes i (high % 16 * 16 + low % 16) 0 room, same)
+            (both_read (slice_index word (2 * i)) (slice_index word (2 * i + 1)) (2 * i) high low eh el sh sl)
+      ];
   other = none_of_three word greatest (2 * i) high (2 * i + 1) low before.other (omega arith) within eh el;
 }
+
+-- every byte is that of its digits
+all_read : (place : ℕ) (word bytes : List ℕ) → length word ≡ 2 * length bytes →
+    ((j : ℕ) → j < length bytes → (at : ℕ) → pair_value (slice_index word (2 * j)) (slice_index word (2 * j + 1)) at ≡ Ok (slice_index bytes j)) →
+    decode_pairs place word ≡ Ok bytes
+unfolding decode_pairs
+all_read place [] [] long h = refl
+all_read place [] (y ∷ ys) long h = absurd (omega arith)
+all_read place (a ∷ word) [] long h = absurd (omega arith)
+all_read place (a ∷ []) (y ∷ ys) long h = absurd (omega arith)
+all_read place (a ∷ b ∷ word) (y ∷ ys) long h =
+    decode_pairs-ok_pair place a b y word (h 0 (omega arith) place)
+    ∙ ap (cons_byte y) (all_read (place + 2) word ys (omega arith)
+    (λ j l at.
+    let low : 2 * suc j + 1 ≡ suc (suc (2 * j + 1)) = omega arith in
+    let high : 2 * suc j ≡ suc (suc (2 * j)) = omega arith in
+    rw (low, high) at (h (suc j) (omega arith) at)))
+
+-- where two digits read doesn't matter to what they read as
+elsewhere : (a b i v : ℕ) → pair_value a b i ≡ Ok v → (at : ℕ) → pair_value a b at ≡ Ok v
+elsewhere a b i v h at = go (hex_digit_value a) (hex_digit_value b) h
+  where
+    go : (x y : Option ℕ) →
+        (digit_or_error a i x >>= (λ h. digit_or_error b (i + 1) y >>= (λ l. Ok (h * 16 + l)))) ≡ Ok v →
+        (digit_or_error a at x >>= (λ h. digit_or_error b (at + 1) y >>= (λ l. Ok (h * 16 + l)))) ≡ Ok v
+    go (Some x) (Some y) h = h
+    go (Some x) None h = cc h
+    go None y h = cc h
 
 pub decoding_done : (word bytes : List ℕ) (i greatest : ℕ) → length word ≡ 2 * length bytes → length bytes ≤ i → greatest < 16 →
     Decoding word bytes i greatest → bytes_of_hex word ≡ Some bytes
 decoding_done word bytes i greatest twice all small before =
-    decoded word bytes (decode_of-even word (omega (arith, twice)) ∙ decode_done word bytes i all (omega (arith, twice)) (before.read small))
+    decoded word bytes (decode_of-even word (omega (arith, twice))
+    ∙ all_read 0 word bytes twice (λ j l. elsewhere (slice_index word (2 * j)) (slice_index word (2 * j + 1)) (2 * j) (slice_index bytes j) (before.read small j (omega arith))))
 
 -- printed bytes are read back
 pub bytes_of_hex-hex_of : (bytes : List ℕ) → IsBytes bytes → bytes_of_hex (hex_of bytes) ≡ Some bytes

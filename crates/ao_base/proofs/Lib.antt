@@ -1,6 +1,7 @@
 pub mod Examples
 pub mod LineLaws
 pub mod DecimalLaws
+mod HexadecimalLanes
 pub mod HexadecimalLaws
 pub mod InMemoryLaws
 pub mod AddressLaws

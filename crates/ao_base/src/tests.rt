@@ -1,7 +1,7 @@
 use crate::{
-    Address, Algorithm, Buffer, Bytes, MemSink, MemSource, Numbers, QuietSource, ReadProblem,
-    ReadSource, WriteSink, print_address, push_decimal, push_hex, read_address, read_all, read_hex,
-    write_all,
+    Address, Algorithm, Buffer, Bytes, HexProblem, MemSink, MemSource, Numbers, QuietSource,
+    ReadProblem, ReadSource, WriteSink, print_address, push_decimal, push_hex, read_address,
+    read_all, read_hex, write_all,
 };
 use std::alloc::{AllocError, Global};
 use std::io::{Error, Read, Write};
@@ -64,6 +64,36 @@ fn small_sink(alloc: Global, failing: &[u64]) -> Result<MemSink, AllocError> {
 fn hexadecimal_is_read_in_either_case(rt: HostRuntime) -> Result<(), Fail> {
     let bytes = read_hex(rt.alloc(), b"00fFA5".as_slice())?;
     assert_eq!(rt; bytes.as_slice(), [0u8, 255, 165].as_slice());
+    Ok(())
+}
+
+#[test]
+fn a_long_word_of_hexadecimal_is_read(rt: HostRuntime) -> Result<(), Fail> {
+    let word = b"0b30557a9FC4e90E33587DA2c7eC11365B80a5cAEF14395E83a8CDf2173C6186ABd0f51A3f6489ae";
+    let bytes = read_hex(rt.alloc(), word.as_slice())?;
+    let expected = [
+        11u8, 48, 85, 122, 159, 196, 233, 14, 51, 88, 125, 162, 199, 236, 17, 54, 91, 128, 165,
+        202, 239, 20, 57, 94, 131, 168, 205, 242, 23, 60, 97, 134, 171, 208, 245, 26, 63, 100, 137,
+        174,
+    ];
+    assert_eq!(rt; bytes.as_slice(), expected.as_slice());
+    Ok(())
+}
+
+#[test]
+fn a_long_word_with_another_byte_is_not_hexadecimal(rt: HostRuntime) -> Result<(), Fail> {
+    let late = b"0b30557a9FC4e90E33587DA2c7eC11365B80a5cAEF143g5E83a8CDf2173C6186ABd0f51A3f6489ae";
+    let refused = matches!(
+        read_hex(rt.alloc(), late.as_slice()),
+        Err(HexProblem::NotHex)
+    );
+    assert!(rt; refused);
+    let last = b"0b30557a9FC4e90E33587DA2c7eC11365B80a5cAEF14395E83a8CDf2173C6186ABd0f5/A3f6489ae";
+    let refused = matches!(
+        read_hex(rt.alloc(), last.as_slice()),
+        Err(HexProblem::NotHex)
+    );
+    assert!(rt; refused);
     Ok(())
 }
 
