@@ -13,6 +13,7 @@ use Rattle.link_laws.proofs.Prefix.{delivers_in_order, ends_whole, shows_ends, a
 use Rattle.link_laws.proofs.Rollover.{rolls_over}
 use Rattle.link_laws.proofs.Running.{run_inv}
 use Rattle.link_laws.proofs.Took.{took_from}
+use Rattle.link_progress.proofs.Progressing.{never_stuck, each_trip_gains, catches_up}
 use Rattle.link_headline.specs.Lawful.{Lawful, TakesAsTold, AdmitsInTime, HasKey}
 
 abbrev Fit : List Event → Type 0
@@ -99,4 +100,7 @@ module _ (setup : Setup) (fits : SetupFits setup) where
         never_keyless = λ front event rest is. has_key setup (run setup front) event;
         has_origin = λ front event rest is. has_origin setup fits (run setup front) event (coming front event rest is) (run_inv setup fits front (moment front (event ∷ rest) is));
         reset_by_abort = λ front event rest is. resets_by_abort setup fits (run setup front) event (coming front event rest is) (run_inv setup fits front (moment front (event ∷ rest) is));
+        never_stuck = λ front rest is. never_stuck setup fits front (moment front rest is);
+        each_trip_gains = λ front rest is. each_trip_gains setup fits front (moment front rest is);
+        catches_up = λ front rest is. catches_up setup fits front (moment front rest is);
       }

@@ -5,6 +5,7 @@ use Rattle.link_model.specs.declared.event.Event.TheVariants.{Send, Resend, Deli
 use Rattle.link_laws.specs.Headline.{DeliversInOrder, EndsWhole, ShowsEnds, TookFrom, AcknowledgedWasReceived, OnePartner, PartnerIsOne}
 use Rattle.link_laws.specs.Laws.{IsCovered, RollsOver, IsAdmitted, HasOrigin, ResetsByAbort}
 use Rattle.link_model.specs.Outcomes.{Took, WithoutKey}
+use Rattle.link_progress.specs.Progress.{NeverStuck, EachTripGains, CatchesUp}
 use Rattle.link_model.specs.Runs.{run}
 use Rattle.link_model.specs.Steps.{step}
 use Rattle.link_model.specs.Worlds.{Setup, Made, World, side, live}
@@ -58,3 +59,7 @@ pub record Lawful (setup : Setup) (events : List Event) : Type 0 where
   -- where none is counted: what passes says what the session's partner had said before, and a reset comes only of a partner that was aborted
   pub has_origin : AtEachEvent setup events (HasOrigin setup)
   pub reset_by_abort : AtEachEvent setup events (ResetsByAbort setup)
+  -- where none is counted, and the link is up: over a way that loses nothing, one round trip moves what waits at an end, each of both ends moves both, and enough of them leave nothing that waits
+  pub never_stuck : AtEachMoment setup events (NeverStuck setup)
+  pub each_trip_gains : AtEachMoment setup events (EachTripGains setup)
+  pub catches_up : AtEachMoment setup events (CatchesUp setup)

@@ -28,7 +28,7 @@ give_ok setup e s piece unclosed fits bytes h whole =
     let few = h.few in
     let top = h.next_high in
     record {
-      later = record { same_isn = refl; peer = λ q e. e; grown = (piece, refl); took = omega arith; closed = λ e. absurd (cc); stopped = λ e. e; ended = λ f e. e; up = omega arith };
+      later = record { same_isn = refl; peer = λ q e. e; grown = (piece, refl); took = omega arith; closed = λ e. absurd (cc); stopped = λ e. e; ended = λ f e. e; up = omega arith; sent = omega arith };
       sound = record {
         isn_fits = h.isn_fits;
         peer_isn_fits = h.peer_isn_fits;
@@ -94,6 +94,7 @@ took_ok setup e count s h whole =
         stopped = λ e. e;
         ended = λ f e. e;
         up = omega arith;
+        sent = omega arith;
       };
       sound = h;
       whole = record { stream = took_stream s.peer_isn s.taken s.received s.fin s.expected count whole.stream; missing = whole.missing; moved = whole.moved; ends = whole.ends };
@@ -118,7 +119,7 @@ ended_ok setup e s h whole =
 closing_ok : (setup : Setup) (e : End) (s : EndState) → Sound s → Whole s → ActOk setup e s (quietly (record s { closing = true }) Done)
 closing_ok setup e s h whole =
     record {
-      later = record { same_isn = refl; peer = λ q e. e; grown = ([], sym (append-nil s.given)); took = omega arith; closed = λ e. (refl, refl); stopped = λ e. e; ended = λ f e. e; up = omega arith };
+      later = record { same_isn = refl; peer = λ q e. e; grown = ([], sym (append-nil s.given)); took = omega arith; closed = λ e. (refl, refl); stopped = λ e. e; ended = λ f e. e; up = omega arith; sent = omega arith };
       sound = record {
         isn_fits = h.isn_fits;
         peer_isn_fits = h.peer_isn_fits;
@@ -149,7 +150,7 @@ or_true P false b one two e = two e
 pub abort_ok : (setup : Setup) (e : End) (s : EndState) → Sound s → Whole s → ActOk setup e s (quietly (abort s) Done)
 abort_ok setup e s h whole =
     record {
-      later = record { same_isn = refl; peer = λ q e. e; grown = ([], sym (append-nil s.given)); took = omega arith; closed = λ e. (e, refl); stopped = λ e. refl; ended = λ f e. e; up = omega arith };
+      later = record { same_isn = refl; peer = λ q e. e; grown = ([], sym (append-nil s.given)); took = omega arith; closed = λ e. (e, refl); stopped = λ e. refl; ended = λ f e. e; up = omega arith; sent = omega arith };
       sound = record {
         isn_fits = h.isn_fits;
         peer_isn_fits = h.peer_isn_fits;

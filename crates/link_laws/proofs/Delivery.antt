@@ -69,7 +69,7 @@ module _ (setup : Setup) (fits : SetupFits setup) where
   new_heard w e s None is low empty no_fin h =
       let u : Session = record { state = s; end_shown = false } in
       put_heard w e (with_sessions (side w e) (u ∷ (side w e).sessions)) None h (grows_new u (side w e).sessions is) (λ all. all.1)
-      (λ none all. (record { bytes = λ p b r. let z = empty p in absurd (cc); fins = λ f r. absurd (cc) }, all))
+      (λ none all. (record { bytes = λ p b r. let z = empty p in absurd (cc); fins = λ f r. absurd (cc); sent = λ p b r. let z = empty p in absurd (cc); gone = λ f r. absurd (cc) }, all))
       (λ none few all. (inl low, all))
 
   arrive_heard : (w : World) (e : End) (bytes : List ℕ) → AreBytes bytes → Inv setup w → Heard w → Heard (on_live w e (come setup e w bytes)).world
@@ -95,7 +95,7 @@ module _ (setup : Setup) (fits : SetupFits setup) where
   withdraw_heard w e None h = h
   withdraw_heard w e (Some rows) h = quiet_heard w e (with_rows (side w e) rows) refl h
 
-  step_heard : (w : World) (event : Event) → EventFits event → Inv setup w → Heard w → Heard (step setup w event).world
+  pub step_heard : (w : World) (event : Event) → EventFits event → Inv setup w → Heard w → Heard (step setup w event).world
   step_heard w (Clock e seconds) f inv h = clock_heard w e seconds inv h
   step_heard w (Connect e isn) f inv h = new_heard w e (connected (pair_of setup e) isn) (find (side w e).sessions isn) refl (omega arith) (λ p. refl) refl h
   step_heard w (Await e isn) f inv h = new_heard w e (listening (pair_of setup e) isn) (find (side w e).sessions isn) refl (omega arith) (λ p. refl) refl h
@@ -114,7 +114,7 @@ module _ (setup : Setup) (fits : SetupFits setup) where
   step_heard w (Withdraw e n) f inv h = withdraw_heard w e (withdrawn (side w e).rows n) h
   step_heard w (Dump name) f inv h = h
 
-  heard_from : (w : World) (events : List Event) → AllByRecursion EventFits events → Inv setup w → Heard w → Heard (run_from setup w events)
+  pub heard_from : (w : World) (events : List Event) → AllByRecursion EventFits events → Inv setup w → Heard w → Heard (run_from setup w events)
   heard_from w [] f inv h = h
   heard_from w (event ∷ events) f inv h = heard_from (step setup w event).world events f.1 (step_keeps setup fits w event f.0 inv) (step_heard w event f.0 inv h)
 

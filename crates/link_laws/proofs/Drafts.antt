@@ -13,7 +13,7 @@ use Rattle.key_model.specs.Coordination.{Sending}
 use Rattle.endpoint_model.specs.Emissions.{Draft, is_sending, is_silent, is_syn_sent, is_syn_received, unsent, slice_at, rst_draft, syn_draft, syn_ack_draft, data_draft, again_draft, fin_draft, fin_again_draft, ack_draft, window_end, sends_data, sends_fin, fitting, to_emit, resends, unacknowledged, is_blocked, probe, to_resend, sets, most_bytes}
 use Rattle.link_laws.proofs.Tests.{choose, by_bool}
 use Rattle.link_laws.proofs.Phases.{fin_gone, sending_unfinished, fin_sent_gone, fin_sent_knows, resends_made, syn_sent_unfinished, syn_received_unfinished}
-use Rattle.link_laws.proofs.Sound.{Sound, Later, later_refl}
+use Rattle.link_laws.proofs.Sound.{Sound, Later, later_refl, later_next}
 
 -- what holds of a segment that an end is about to make
 pub record DraftOk (s : EndState) (out : Draft) : Type 0 where
@@ -26,6 +26,7 @@ pub record DraftOk (s : EndState) (out : Draft) : Type 0 where
   pub small : out.number + (length out.payload + bit_of (sets out.flags SYN) + bit_of (sets out.flags FIN)) ≤ 2 ^ 63
   pub bytes : AreBytes out.payload
   pub long : length out.payload ≤ 1460
+  pub sent : out.number + (length out.payload + bit_of (sets out.flags FIN)) ≤ out.state.next
 
 -- the draft, if there is one
 abbrev pub MayDraft : EndState → Option Draft → Type 0
@@ -79,14 +80,15 @@ rst_ok s owed h =
       small = omega arith;
       bytes = nil_bytes;
       long = omega arith;
+      sent = omega arith;
     }
 
 -- a SYN, or a SYN with ACK
-syn_ok : (s : EndState) (next : ℕ) → next ≤ given_end s → Sound s → DraftOk s (syn_draft s (record s { next = next }))
-syn_ok s next high h =
+syn_ok : (s : EndState) (next : ℕ) → next ≤ given_end s → s.next ≤ next → s.isn ≤ next → Sound s → DraftOk s (syn_draft s (record s { next = next }))
+syn_ok s next high more low h =
     let few = h.few in
     record {
-      later = later_refl s;
+      later = later_next s next more;
       sound = next_sound s next high h;
       flags = omega arith;
       syn = λ e. (refl, refl);
@@ -95,13 +97,14 @@ syn_ok s next high h =
       small = omega arith;
       bytes = nil_bytes;
       long = omega arith;
+      sent = omega arith;
     }
 
-syn_ack_ok : (s : EndState) (next : ℕ) → next ≤ given_end s → Sound s → DraftOk s (syn_ack_draft s (record s { next = next }))
-syn_ack_ok s next high h =
+syn_ack_ok : (s : EndState) (next : ℕ) → next ≤ given_end s → s.next ≤ next → s.isn ≤ next → Sound s → DraftOk s (syn_ack_draft s (record s { next = next }))
+syn_ack_ok s next high more low h =
     let few = h.few in
     record {
-      later = later_refl s;
+      later = later_next s next more;
       sound = next_sound s next high h;
       flags = omega arith;
       syn = λ e. (refl, refl);
@@ -110,6 +113,7 @@ syn_ack_ok s next high h =
       small = omega arith;
       bytes = nil_bytes;
       long = omega arith;
+      sent = omega arith;
     }
 
 ack_ok : (s : EndState) → Sound s → DraftOk s (ack_draft s)
@@ -126,6 +130,7 @@ ack_ok s h =
       small = omega arith;
       bytes = nil_bytes;
       long = omega arith;
+      sent = omega arith;
     }
 
 slice_bytes : (s : EndState) (n count : ℕ) → AreBytes s.given → AreBytes (slice_at s n count)
@@ -139,7 +144,7 @@ data_ok s count fits most h =
     let few = h.few in
     let long = slice_long s s.next count in
     record {
-      later = later_refl s;
+      later = later_next s (s.next + count) (omega arith);
       sound = next_sound s (s.next + count) fits h;
       flags = omega arith;
       syn = λ e. absurd (cc);
@@ -148,6 +153,7 @@ data_ok s count fits most h =
       small = omega arith;
       bytes = slice_bytes s s.next count h.bytes;
       long = omega arith;
+      sent = omega arith;
     }
 
 again_ok : (s : EndState) (count : ℕ) → s.una + count ≤ s.next → count ≤ 1460 → Sound s → DraftOk s (again_draft s count)
@@ -165,6 +171,7 @@ again_ok s count fits most h =
       small = omega arith;
       bytes = slice_bytes s s.una count h.bytes;
       long = omega arith;
+      sent = omega arith;
     }
 
 fin_ok : (s : EndState) → is_sending s.phase ≡ true → s.closing ≡ true → given_end s ≤ s.next → Sound s → DraftOk s (fin_draft s)
@@ -172,7 +179,7 @@ fin_ok s phase closing all h =
     let few = h.few in
     let top = h.unfinished (sending_unfinished s.phase phase) in
     record {
-      later = later_refl s;
+      later = later_next s (s.next + 1) (omega arith);
       sound = record {
         isn_fits = h.isn_fits;
         peer_isn_fits = h.peer_isn_fits;
@@ -191,6 +198,7 @@ fin_ok s phase closing all h =
       small = omega arith;
       bytes = nil_bytes;
       long = omega arith;
+      sent = omega arith;
     }
 
 fin_again_ok : (s : EndState) → resends s.phase ≡ true → s.una < s.next → given_end s ≤ s.una → Sound s → DraftOk s (fin_again_draft s)
@@ -208,6 +216,7 @@ fin_again_ok s phase sent past h =
       small = omega arith;
       bytes = nil_bytes;
       long = omega arith;
+      sent = omega arith;
     }
 
 pub sends_data_says : (s : EndState) → sends_data s ≡ true → (is_sending s.phase ≡ true) × (0 < unsent s)
@@ -226,8 +235,8 @@ unfolding to_emit
 emit_ok s most low h =
     let P = MayDraft s in
     choose P s.rst_owed (Some (rst_draft s)) _ (λ owed. rst_ok s owed h) (λ e1.
-    choose P (is_syn_sent s.phase && (s.next == s.isn)) (Some (syn_draft s (record s { next = s.isn + 1 }))) _ (λ t. syn_ok s (s.isn + 1) (omega arith) h) (λ e2.
-    choose P (is_syn_received s.phase && (s.next == s.isn)) (Some (syn_ack_draft s (record s { next = s.isn + 1 }))) _ (λ t. syn_ack_ok s (s.isn + 1) (omega arith) h) (λ e3.
+    choose P (is_syn_sent s.phase && (s.next == s.isn)) (Some (syn_draft s (record s { next = s.isn + 1 }))) _ (λ t. let at = eqb_is s.next s.isn (and_tells (is_syn_sent s.phase) (s.next == s.isn) t).1 in syn_ok s (s.isn + 1) (omega arith) (omega arith) (omega arith) h) (λ e2.
+    choose P (is_syn_received s.phase && (s.next == s.isn)) (Some (syn_ack_draft s (record s { next = s.isn + 1 }))) _ (λ t. let at = eqb_is s.next s.isn (and_tells (is_syn_received s.phase) (s.next == s.isn) t).1 in syn_ack_ok s (s.isn + 1) (omega arith) (omega arith) (omega arith) h) (λ e3.
     choose P (sends_data s) (Some (data_draft s (fitting s most))) _ (λ t. let some = (sends_data_says s t).1 in data_ok s (fitting s most) (omega arith) (omega arith) h) (λ e4.
     choose P (sends_fin s) (Some (fin_draft s)) _ (λ t. let says = sends_fin_says s t in let none = says.2 in fin_ok s says.0 says.1 (omega arith) h) (λ e5.
     choose P (s.ack_owed && not (is_silent s.phase)) (Some (ack_draft s)) None (λ t. ack_ok s h) (λ t. tt))))))
@@ -251,9 +260,9 @@ unfolding to_resend
 resend_ok s most low h =
     let P = MayDraft s in
     choose P (is_syn_sent s.phase && nat_lt s.isn s.next) (Some (syn_draft s s)) _
-    (λ t. syn_ok s s.next (h.unfinished (syn_sent_unfinished s.phase (and_tells (is_syn_sent s.phase) (nat_lt s.isn s.next) t).0)) h) (λ e1.
+    (λ t. let says = and_tells (is_syn_sent s.phase) (nat_lt s.isn s.next) t in let sent = lt_is s.isn s.next says.1 in syn_ok s s.next (h.unfinished (syn_sent_unfinished s.phase says.0)) (omega arith) (omega arith) h) (λ e1.
     choose P (is_syn_received s.phase && nat_lt s.isn s.next) (Some (syn_ack_draft s s)) _
-    (λ t. syn_ack_ok s s.next (h.unfinished (syn_received_unfinished s.phase (and_tells (is_syn_received s.phase) (nat_lt s.isn s.next) t).0)) h) (λ e2.
+    (λ t. let says = and_tells (is_syn_received s.phase) (nat_lt s.isn s.next) t in let sent = lt_is s.isn s.next says.1 in syn_ack_ok s s.next (h.unfinished (syn_received_unfinished s.phase says.0)) (omega arith) (omega arith) h) (λ e2.
     choose P (resends s.phase && nat_lt s.una s.next) (Some (unacknowledged s most)) _
     (λ t. let one = and_tells (resends s.phase) (nat_lt s.una s.next) t in unacknowledged_ok s most low one.0 (lt_is s.una s.next one.1) h) (λ e3.
     choose P (is_blocked s) (probe s) None (λ t. probe_ok s t h) (λ t. tt))))

@@ -1,5 +1,5 @@
 -- What every made entry is, and what else holds in each state of each run.
-use Rattle.std.proofs.Common.{◌≡◌, ℕ, ◌≤◌, ◌<◌, ◌%◌, Bool, true, false, List, [], ◌∷◌, length, replicate, Option, Some, None, sym, ap, ◌∙◌, subst, arith, append-nil}
+use Rattle.std.proofs.Common.{◌≡◌, ℕ, ◌+◌, ◌≤◌, ◌<◌, ◌%◌, Bool, true, false, List, [], ◌∷◌, length, replicate, Option, Some, None, sym, ap, ◌∙◌, subst, arith, append-nil}
 use Rattle.std.specs.Prelude.{⊤, if◌then◌else◌}
 use Rattle.std.specs.List.{AllByRecursion}
 use Rattle.ao_base.specs.declared.address.Address.{Address}
@@ -8,7 +8,7 @@ use Rattle.ao_base.specs.declared.end.End.{End}
 use Rattle.ao_base.specs.declared.end.End.TheVariants.{A, B}
 use Rattle.ao_base.specs.Algorithms.{mac_length_of}
 use Rattle.std.proofs.lemmas.List.{length-replicate}
-use Rattle.segment_model.specs.Segments.{Segment, Read, reading, good, spell, has, ACK, SYN}
+use Rattle.segment_model.specs.Segments.{Segment, Read, reading, good, spell, has, bit_of, ACK, FIN, SYN}
 use Rattle.segment_model.specs.Spelling.{AreBytes, Fits, finished}
 use Rattle.segment_model.proofs.Fields.{some_is}
 use Rattle.segment_model.proofs.SpellLaws.{read_front, finished_is_good}
@@ -20,7 +20,7 @@ use Rattle.key_model.specs.Overlaps.{IsValid}
 use Rattle.key_model.specs.Coordination.{Sending, choose as choose_row}
 use Rattle.key_model.proofs.SendingLaws.{Chosen, chosen}
 use Rattle.endpoint_model.specs.States.{EndState, at_end}
-use Rattle.endpoint_model.specs.Emissions.{Draft, no_mac, blank, own_ao, written, seal_of, input_of, sealed}
+use Rattle.endpoint_model.specs.Emissions.{Draft, sets, no_mac, blank, own_ao, written, seal_of, input_of, sealed}
 use Rattle.link_laws.proofs.Sound.{Sound, Later, later_then}
 use Rattle.link_laws.proofs.Drafts.{DraftOk}
 use Rattle.link_laws.proofs.Whole.{Whole}
@@ -47,6 +47,7 @@ pub record MadeBy (setup : Setup) (t : EndState) (m : Made) : Type 0 where
   pub emission : m.emission ≡ sealed (pair_of setup m.maker) state draft sending context
   pub bytes : m.bytes ≡ spell m.emission.segment
   pub isn : state.isn ≡ m.isn
+  pub sent : draft.number + (length draft.payload + bit_of (sets draft.flags FIN)) ≤ t.next
 
 pub made-later : (setup : Setup) (t u : EndState) (m : Made) → Later t u → MadeBy setup t m → MadeBy setup u m
 made-later setup t u m l h =
@@ -66,6 +67,7 @@ made-later setup t u m l h =
       emission = h.emission;
       bytes = h.bytes;
       isn = h.isn;
+      sent = (let low = h.sent in let more = l.sent in omega arith);
     }
 
 -- one of these sessions made it

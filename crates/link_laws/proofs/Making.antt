@@ -51,6 +51,7 @@ module _ (setup : Setup) (e : End) (w : World) (rows_fit : AllByRecursion RowFit
             emission = refl;
             bytes = refl;
             isn = refl;
+            sent = ok.sent;
           },
         );
         gained = same_gained setup e s (record (out.state) { current = Some sending.number }) _ carry.same_received carry.same_fin carry.same_una;

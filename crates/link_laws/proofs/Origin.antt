@@ -44,7 +44,7 @@ family_met (Ipv4 a b c f g o) (Ipv6 a2 b2) d e h k same = absurd (not_both e.sou
 family_met (Ipv6 a b) (Ipv4 a2 b2 c2 f2 g2 o2) d e h k same = absurd (not_both e.source.address k.source (subst IsV6 same h.source))
 
 -- the pair seen from the other end
-seen : (setup : Setup) (e : End) → ((pair_of setup (other e)).local ≡ (pair_of setup e).remote) × ((pair_of setup (other e)).remote ≡ (pair_of setup e).local)
+pub seen : (setup : Setup) (e : End) → ((pair_of setup (other e)).local ≡ (pair_of setup e).remote) × ((pair_of setup (other e)).remote ≡ (pair_of setup e).local)
 seen setup A = (refl, refl)
 seen setup B = (refl, refl)
 

@@ -60,7 +60,7 @@ partner_comes s (Some t) start n each =
     prefix_from s.received t.state.given start n (λ i low.
     let r = each i low in (r.0, r.1, subst (λ (u : Session). slice_get u.state.given i ≡ Some r.0) (sym (some_is t r.2 r.3)) r.4))
 
-comes : (others : List Session) (s : EndState) → Whole s → Received others s → ComesFrom (partner_among others s.isn s.peer_isn) (s.taken ++ ready s)
+pub comes : (others : List Session) (s : EndState) → Whole s → Received others s → ComesFrom (partner_among others s.isn s.peer_isn) (s.taken ++ ready s)
 comes others s h from =
     let start = first s.peer_isn in
     let o = partner_among others s.isn s.peer_isn in
@@ -82,7 +82,7 @@ all_come others (s ∷ rest) whole from = (comes others s.state whole.0 from.0, 
 
 -- ---- the end of the stream
 
-whole_prefix : (xs ys : List ℕ) → IsPrefixOf xs ys → length xs ≡ length ys → xs ≡ ys
+pub whole_prefix : (xs ys : List ℕ) → IsPrefixOf xs ys → length xs ≡ length ys → xs ≡ ys
 whole_prefix xs ys ([], e) same = sym (append-nil xs) ∙ e
 whole_prefix xs ys (r ∷ rest, e) same =
     let more = length-append xs (r ∷ rest) in

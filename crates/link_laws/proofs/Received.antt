@@ -1,10 +1,11 @@
 -- Received was given, and acknowledged was received, in each state of each run.
 use Rattle.std.proofs.Common.{◌≡◌, ℕ, ◌+◌, ◌-◌, ◌/◌, ◌%◌, ◌≤◌, ◌^◌, ◌<◌, ◌==◌, Bool, true, false, List, [], ◌∷◌, ◌++◌, length, slice_get, Option, Some, None, ◌⊎◌, inl, inr, ⊎_elim, if◌then◌else◌, refl, sym, ap, ◌∙◌, subst, arith, length-append}
 use Rattle.std.specs.List.{AllByRecursion}
+use Rattle.std.proofs.lemmas.Option.{slice_get_within}
 use Rattle.ao_base.specs.declared.end.End.{End}
 use Rattle.ao_base.specs.declared.end.End.TheVariants.{A, B}
 use Rattle.segment_model.specs.Options.{Ao}
-use Rattle.segment_model.specs.Segments.{Segment, has, SYN, ACK}
+use Rattle.segment_model.specs.Segments.{Segment, has, bit_of, FIN, SYN, ACK}
 use Rattle.segment_model.proofs.Fields.{some_is}
 use Rattle.endpoint_model.specs.States.{EndState, first}
 use Rattle.segment_model.specs.Received.{below_limit}
@@ -44,6 +45,8 @@ pub record OfPartner (others : List Session) (s : EndState) (P : EndState → Ty
 pub record Received (others : List Session) (s : EndState) : Type 0 where
   pub bytes : (p b : ℕ) → s.received p ≡ Some b → OfPartner others s (λ t. GivenAt t p b)
   pub fins : (f : ℕ) → s.fin ≡ Some f → OfPartner others s (λ t. FinMade t f)
+  pub sent : (p b : ℕ) → s.received p ≡ Some b → OfPartner others s (λ t. p < t.next)
+  pub gone : (f : ℕ) → s.fin ≡ Some f → OfPartner others s (λ t. f < t.next)
 
 abbrev pub AllReceived : List Session → List Session → Type 0
 AllReceived others sessions = AllByRecursion (λ (s : Session). Received others s.state) sessions
@@ -71,16 +74,16 @@ fin-later old new f l (closing, at) =
     let len : length new.given ≡ length old.given = ap length c.1 in
     (c.0, omega arith)
 
-of-grows : (others now : List Session) (s : EndState) (P : EndState → Type 0) → ((t u : EndState) → Later t u → P t → P u) → Grows others now → OfPartner others s P → OfPartner now s P
+pub of-grows : (others now : List Session) (s : EndState) (P : EndState → Type 0) → ((t u : EndState) → Later t u → P t → P u) → Grows others now → OfPartner others s P → OfPartner now s P
 of-grows others now s P more g o =
     let r = g o.peer o.session o.found in
     record { peer = o.peer; knows = o.knows; session = r.0; found = r.1; back = r.2.peer s.isn o.back; what = more o.session.state r.0.state r.2 o.what }
 
-of-later : (others : List Session) (old new : EndState) (P : EndState → Type 0) → Later old new → OfPartner others old P → OfPartner others new P
+pub of-later : (others : List Session) (old new : EndState) (P : EndState → Type 0) → Later old new → OfPartner others old P → OfPartner others new P
 of-later others old new P l o =
     record { peer = o.peer; knows = l.peer o.peer o.knows; session = o.session; found = o.found; back = o.back ∙ ap (λ n. Some n) (sym l.same_isn); what = o.what }
 
-of-map : (others : List Session) (s : EndState) (P Q : EndState → Type 0) → ((t : EndState) → t.peer_isn ≡ Some s.isn → P t → Q t) → OfPartner others s P → OfPartner others s Q
+pub of-map : (others : List Session) (s : EndState) (P Q : EndState → Type 0) → ((t : EndState) → t.peer_isn ≡ Some s.isn → P t → Q t) → OfPartner others s P → OfPartner others s Q
 of-map others s P Q f o = record { peer = o.peer; knows = o.knows; session = o.session; found = o.found; back = o.back; what = f o.session.state o.back o.what }
 
 received-grows : (others now : List Session) (s : EndState) → Grows others now → Received others s → Received now s
@@ -88,6 +91,8 @@ received-grows others now s g h =
     record {
       bytes = λ p b e. of-grows others now s (λ t. GivenAt t p b) (λ t u l x. given-later t u p b l x) g (h.bytes p b e);
       fins = λ f e. of-grows others now s (λ t. FinMade t f) (λ t u l x. fin-later t u f l x) g (h.fins f e);
+      sent = λ p b e. of-grows others now s (λ t. p < t.next) (λ t u l x. let more = l.sent in omega arith) g (h.sent p b e);
+      gone = λ f e. of-grows others now s (λ t. f < t.next) (λ t u l x. let more = l.sent in omega arith) g (h.gone f e);
     }
 
 all_received-grows : (others now sessions : List Session) → Grows others now → AllReceived others sessions → AllReceived now sessions
@@ -103,14 +108,14 @@ all_acked-grows : (others now sessions : List Session) → Grows others now → 
 all_acked-grows others now [] g h = h
 all_acked-grows others now (s ∷ rest) g h = (acked-grows others now s.state g h.0, all_acked-grows others now rest g h.1)
 
-fewer_forgeries : (happened : Option Happening) (history : List Happening) → forgeries (add happened history) ≡ 0 → forgeries history ≡ 0
+pub fewer_forgeries : (happened : Option Happening) (history : List Happening) → forgeries (add happened history) ≡ 0 → forgeries history ≡ 0
 fewer_forgeries None history e = e
 fewer_forgeries (Some (Making m)) history e = e
 fewer_forgeries (Some (Coming r)) history e = omega arith
 
 -- ---- what an arrival brings was made by the partner
 
-passed_origin : (setup : Setup) (w : World) (e : End) (s : EndState) (r : Came) (p : Finding) → SetupFits setup → Inv setup w → Sound s → forgeries (Coming r ∷ w.history) ≡ 0 → r.at ≡ e → r.passed ≡ Some p
+pub passed_origin : (setup : Setup) (w : World) (e : End) (s : EndState) (r : Came) (p : Finding) → SetupFits setup → Inv setup w → Sound s → forgeries (Coming r ∷ w.history) ≡ 0 → r.at ≡ e → r.passed ≡ Some p
     → (g : Passing (pair_of setup e) s r.bytes p) → Origin setup w e s p.number g.segment g.judged.ao
 passed_origin setup w e s r p fits inv sound none at passed g =
     let zero_now : forged r.at r.passed w.history ≡ 0 = omega arith in
@@ -118,10 +123,10 @@ passed_origin setup w e s r p fits inv sound none at passed g =
     origin_of setup w e s r.bytes p fits sound g (found_made setup w e p w.history (none_forged e r.passed p w.history passed z) inv.made)
 
 -- what a segment says of its origin's session
-abbrev Says : Setup → (Segment → ℕ → Type 0) → (EndState → Type 0) → Type 0
+abbrev pub Says : Setup → (Segment → ℕ → Type 0) → (EndState → Type 0) → Type 0
 Says setup Q P = (d : Segment) (n : ℕ) (ao : Ao) → Q d n → (t : EndState) (m : Made) (h : MadeBy setup t m) → h.draft.flags ≡ d.flags → Repeats m n d ao → P t
 
-brought : (setup : Setup) (w : World) (e : End) (s : EndState) (happened : Option Happening) (d : Segment) (n : ℕ) (Q : Segment → ℕ → Type 0) (P : EndState → Type 0) → SetupFits setup → Inv setup w → Sound s
+pub brought : (setup : Setup) (w : World) (e : End) (s : EndState) (happened : Option Happening) (d : Segment) (n : ℕ) (Q : Segment → ℕ → Type 0) (P : EndState → Type 0) → SetupFits setup → Inv setup w → Sound s
     → forgeries (add happened w.history) ≡ 0 → HasPassed setup e s happened d n → Q d n → ((c : Segment) (k : ℕ) → Q c k → has SYN c ≡ false) → Says setup Q P → OfPartner (side w (other e)).sessions s P
 brought setup w e s None d n Q P fits inv sound none h q plain says = absurd h
 brought setup w e s (Some (Making m)) d n Q P fits inv sound none h q plain says = absurd h
@@ -131,10 +136,10 @@ brought setup w e s (Some (Coming r)) d n Q P fits inv sound none (at, p, passed
     let l = o.linked (plain g.segment p.number here) in
     record { peer = l.0; knows = l.1; session = o.session; found = l.2; back = l.3; what = says g.segment p.number g.judged.ao here o.session.state o.made o.by o.flags o.repeats }
 
-payload_in : (setup : Setup) (t : EndState) (m : Made) (h : MadeBy setup t m) → m.emission.segment.payload ≡ h.draft.payload
+pub payload_in : (setup : Setup) (t : EndState) (m : Made) (h : MadeBy setup t m) → m.emission.segment.payload ≡ h.draft.payload
 payload_in setup t m h = ap (λ x. x.segment.payload) h.emission
 
-number_in : (setup : Setup) (t : EndState) (m : Made) (h : MadeBy setup t m) → m.emission.number ≡ h.draft.number
+pub number_in : (setup : Setup) (t : EndState) (m : Made) (h : MadeBy setup t m) → m.emission.number ≡ h.draft.number
 number_in setup t m h = ap (λ x. x.number) h.emission
 
 byte_says : (setup : Setup) (p b : ℕ) → Says setup (λ d n. Brings d n p b) (λ t. GivenAt t p b)
@@ -145,6 +150,26 @@ byte_says setup p b d n ao x t m h flags same =
     let low = x.1 in
     let place : h.draft.number + (p - n) ≡ p = omega arith in
     given-later h.state t p b h.later (subst (λ (k : ℕ). GivenAt h.state k b) place (h.carries.carried (p - n) b byte))
+
+sent_says : (setup : Setup) (p b : ℕ) → Says setup (λ d n. Brings d n p b) (λ t. p < t.next)
+sent_says setup p b d n ao x t m h flags same =
+    let payload : h.draft.payload ≡ d.payload = sym (payload_in setup t m h) ∙ same.payload in
+    let number : h.draft.number ≡ n = sym (number_in setup t m h) ∙ same.number in
+    let inside = slice_get_within d.payload (p - n) b x.2 in
+    let long : length h.draft.payload ≡ length d.payload = ap length payload in
+    let low = x.1 in
+    let sent = h.sent in
+    omega arith
+
+gone_says : (setup : Setup) (f : ℕ) → Says setup (λ d n. BringsFin d n f) (λ t. f < t.next)
+gone_says setup f d n ao x t m h flags same =
+    let fin : sets h.draft.flags FIN ≡ true = ap (λ (k : ℕ). (k / 1) % 2 == 1) flags ∙ x.1 in
+    let payload : length h.draft.payload ≡ length d.payload = ap (λ (l : List ℕ). length l) (sym (payload_in setup t m h) ∙ same.payload) in
+    let number : h.draft.number ≡ n = sym (number_in setup t m h) ∙ same.number in
+    let one : bit_of (sets h.draft.flags FIN) ≡ 1 = ap bit_of fin in
+    let at = x.2 in
+    let sent = h.sent in
+    omega arith
 
 fin_says : (setup : Setup) (f : ℕ) → Says setup (λ d n. BringsFin d n f) (λ t. FinMade t f)
 fin_says setup f d n ao x t m h flags same =
@@ -160,11 +185,11 @@ fin_says setup f d n ao x t m h flags same =
 abbrev Told : ℕ → EndState → Type 0
 Told una t = (a : ℕ) × (a % ring ≡ una % ring) × (a ≤ t.expected) × ((q : ℕ) → t.peer_isn ≡ Some q → q + 1 ≤ a)
 
-low_limit : (n : ℕ) (fin : Option ℕ) (x : ℕ) → n ≤ below_limit fin x → n ≤ x
+pub low_limit : (n : ℕ) (fin : Option ℕ) (x : ℕ) → n ≤ below_limit fin x → n ≤ x
 low_limit n None x h = h
 low_limit n (Some f) x h = omega arith
 
-stream_low : (o : Option ℕ) (taken : List ℕ) (m : ℕ → Option ℕ) (fin : Option ℕ) (x : ℕ) → Stream o taken m fin x → first o ≤ x
+pub stream_low : (o : Option ℕ) (taken : List ℕ) (m : ℕ → Option ℕ) (fin : Option ℕ) (x : ℕ) → Stream o taken m fin x → first o ≤ x
 stream_low o taken m fin x h = let low = low_limit (first o + length taken) fin x h.begun in omega arith
 
 ack_is : (b : Bool) (x : ℕ) → b ≡ true → (if b then x else 0) ≡ x
@@ -209,6 +234,18 @@ module _ (setup : Setup) (fits : SetupFits setup) (w : World) (e : End) (inv : I
             (⊎_elim (λ (x : s.fin ≡ Some f). old.fins f x)
             (λ (x : (d : Segment) × (n : ℕ) × HasPassed setup e s happened d n × BringsFin d n f).
             brought setup w e s happened x.0 x.1 (λ d n. BringsFin d n f) (λ t. FinMade t f) fits inv sound none x.2 x.3 (λ c k q. q.0) (fin_says setup f))
+            (gained.fins f r));
+        sent = λ p b r.
+            of-later others s u (λ t. p < t.next) l
+            (⊎_elim (λ (x : s.received p ≡ Some b). old.sent p b x)
+            (λ (x : (d : Segment) × (n : ℕ) × HasPassed setup e s happened d n × Brings d n p b).
+            brought setup w e s happened x.0 x.1 (λ d n. Brings d n p b) (λ t. p < t.next) fits inv sound none x.2 x.3 (λ c k q. q.0) (sent_says setup p b))
+            (gained.bytes p b r));
+        gone = λ f r.
+            of-later others s u (λ t. f < t.next) l
+            (⊎_elim (λ (x : s.fin ≡ Some f). old.gone f x)
+            (λ (x : (d : Segment) × (n : ℕ) × HasPassed setup e s happened d n × BringsFin d n f).
+            brought setup w e s happened x.0 x.1 (λ d n. BringsFin d n f) (λ t. f < t.next) fits inv sound none x.2 x.3 (λ c k q. q.0) (gone_says setup f))
             (gained.fins f r));
       }
 

@@ -22,11 +22,11 @@ use Rattle.key_model.specs.Plans.{mirrored, IsMet, AlignedFrom}
 use Rattle.key_model.proofs.SendingLaws.{chosen}
 use Rattle.key_model.proofs.PlanLaws.{Meets, meets, same_key_tells}
 use Rattle.endpoint_model.specs.States.{EndState, is_closed}
-use Rattle.endpoint_model.specs.Verdicts.{Finding, Admit, mac_of, found_with, number_of}
+use Rattle.endpoint_model.specs.Verdicts.{Key, key_of, Finding, Admit, mac_of, found_with, number_of}
 use Rattle.endpoint_model.specs.declared.arrival.Arrival.{Arrival}
 use Rattle.endpoint_model.specs.declared.arrival.Arrival.TheVariants.{Foreign, Checksum, Closed as AtClosed, Unexpected, Window, Challenge, NoAck, BadAck, TooManyRuns, Reset, Taken}
 use Rattle.endpoint_model.specs.Arrivals.{Arrived, unmoved, heard, after_check, arrive_judged, number_expected, judged_by, from_peer, arrive_read, arrive}
-use Rattle.endpoint_model.specs.Emissions.{Draft, sets, written, blank, own_ao, seal_of, input_of}
+use Rattle.endpoint_model.specs.Emissions.{Draft, Emission, sets, written, blank, own_ao, seal_of, input_of}
 use Rattle.segment_model.specs.Spelling.{finished}
 use Rattle.link_laws.proofs.Tests.{choose, by_bool, not_true}
 use Rattle.link_laws.proofs.Sound.{Sound, Later}
@@ -157,12 +157,27 @@ counted pair st out sending m t s sound ok to near =
     let x = known_expected s s.peer_isn t.isn back in
     record { expects = expects_known (has SYN d) (number_expected s s.peer_isn) s.expected x; number = plain_number d out.number s.expected (number_expected s s.peer_isn) x plain refl (near plain); syn = λ e. absurd (cc) })
 
+-- what the receiver finds of a segment in the written form, under a row that meets the sender's
+pub record Judges (rows : List Row) (pair : Pair) (now : ℕ) (s : EndState) (d : Segment) (sending : Sending) (c : List ℕ) (n : ℕ) (input : List ℕ) : Type 0 where
+  pub found : Finding
+  pub key : found.key ≡ key_of sending.row
+  pub context : found.context ≡ c
+  pub number : found.number ≡ n
+  pub message : found.input ≡ input
+  pub syn : has SYN d ≡ true → n < 2 ^ 32
+  pub verdict : judged_by rows pair now s d ≡ Admit found
+  pub ours : from_peer pair d ≡ true
+
+key_met : (a b : Row) → a.algorithm ≡ b.algorithm → a.master ≡ b.master → key_of a ≡ key_of b
+key_met a b e f = let half : key_of a ≡ record { algorithm = b.algorithm; master = a.master } = ap (λ (x : Algorithm). let k : Key = record { algorithm = x; master = a.master } in k) e in
+    half ∙ ap (λ (x : List ℕ). let k : Key = record { algorithm = b.algorithm; master = x } in k) f
+
 -- a segment in the written form passes under a row that meets the sender's
-sent_heard : (rows : List Row) (pair there : Pair) (now : ℕ) (s t st : EndState) (out : Draft) (sending : Sending) (c : List ℕ) → Sent there st out sending c → Later st t → mirrored there ≡ pair
-    → Meets rows pair sending.row.send_id now sending.row → Sound s → is_closed s.phase ≡ false
+sent_judged : (rows : List Row) (pair there : Pair) (now : ℕ) (s t st : EndState) (out : Draft) (sending : Sending) (c : List ℕ) → Sent there st out sending c → Later st t → mirrored there ≡ pair
+    → Meets rows pair sending.row.send_id now sending.row
     → addressed (finished (written there st out sending (seal_of there st out sending c))) t s ≡ true → (sets out.flags SYN ≡ false → IsNear out.number s.expected)
-    → IsHeard (arrive_read rows pair now s (Read (finished (written there st out sending (seal_of there st out sending c))))).answer
-sent_heard rows pair there now s t st out sending c h later turn met sound awake to near =
+    → Judges rows pair now s (finished (written there st out sending (seal_of there st out sending c))) sending c out.number (input_of there st out sending)
+sent_judged rows pair there now s t st out sending c h later turn met to near =
     let m = seal_of there st out sending c in
     let d = finished (written there st out sending m) in
     let ao = own_ao out sending m in
@@ -186,10 +201,22 @@ sent_heard rows pair there now s t st out sending c h later turn met sound awake
       range = grind (arith, nat_tests);
       right = mac_met there st out sending c r h.mac_long key.algorithm key.master key.flag;
     } in
-    let verdict = judged_pass rows pair now s d ao r c out.number all in
-    let ours : from_peer pair d ≡ true = subst (λ (p : Pair). from_peer p d ≡ true) turn (rw (same_socket-refl there.local, same_socket-refl there.remote) refl) in
-    read_heard rows pair now s d ours h.right awake
-    (subst (λ v. IsHeard (arrive_judged rows pair now s d v).answer) (sym verdict) (pass_heard rows pair now s d (found_with r d ao c out.number) n.syn sound))
+    record {
+      found = found_with r d ao c out.number;
+      key = key_met r.row sending.row key.algorithm key.master;
+      context = refl;
+      number = refl;
+      message = ap (mac_input out.number d ao) key.flag ∙ same_input there st out sending m out.number sending.row.with_options h.mac_long;
+      syn = n.syn;
+      verdict = judged_pass rows pair now s d ao r c out.number all;
+      ours = subst (λ (p : Pair). from_peer p d ≡ true) turn (rw (same_socket-refl there.local, same_socket-refl there.remote) refl);
+    }
+
+judges_heard : (rows : List Row) (pair : Pair) (now : ℕ) (s : EndState) (d : Segment) (sending : Sending) (c : List ℕ) (n : ℕ) (input : List ℕ) → Judges rows pair now s d sending c n input → Sound s → is_closed s.phase ≡ false → good d ≡ true
+    → IsHeard (arrive_read rows pair now s (Read d)).answer
+judges_heard rows pair now s d sending c n input j sound awake right =
+    read_heard rows pair now s d j.ours right awake
+    (subst (λ v. IsHeard (arrive_judged rows pair now s d v).answer) (sym j.verdict) (pass_heard rows pair now s d j.found (λ e. subst (λ k. k < 2 ^ 32) (sym j.number) (j.syn e)) sound))
 
 -- the live session's answer is the outcome
 live_admitted : (w : World) (e : End) (sessions : List Session) (call : EndState → Act) (r : Session) → live sessions ≡ Some r → IsAdmitted (call r.state).outcome → IsAdmitted (act_on w e sessions call).outcome
@@ -202,8 +229,14 @@ met_row P current rows pair now s h e = let c = chosen P current rows pair now s
 session_is : (a b : Session) → Some a ≡ Some b → a ≡ b
 session_is a b e = cc
 
-pub rolls_over : (setup : Setup) (fits : SetupFits setup) (w : World) (e : End) (name : ℕ) (m : Made) → Inv setup w → RollsOver setup w e name m → IsAdmitted (step setup w (Deliver e name)).outcome
-rolls_over setup fits w e name m inv c =
+-- what the receiver finds of a segment that is delivered as it was made
+pub record FindsMade (setup : Setup) (w : World) (e : End) (r : EndState) (m : Made) : Type 0 where
+  pub reads : reading m.bytes ≡ Read m.emission.segment
+  pub right : good m.emission.segment ≡ true
+  pub judges : Judges (side w e).rows (pair_of setup e) (side w e).clock r m.emission.segment m.emission.sending m.emission.context m.emission.number m.emission.input
+
+pub finds_made : (setup : Setup) (fits : SetupFits setup) (w : World) (e : End) (name : ℕ) (m : Made) → Inv setup w → (c : RollsOver setup w e name m) → FindsMade setup w e c.receiver.state m
+finds_made setup fits w e name m inv c =
     let rows = (side w e).rows in
     let pair = pair_of setup e in
     let now = (side w e).clock in
@@ -238,6 +271,18 @@ rolls_over setup fits w e name m inv c =
     let to : addressed d c.sender.state r.state ≡ true = subst (λ (x : Segment). addressed x c.sender.state r.state ≡ true) segment c.addressed in
     let near : sets h.draft.flags SYN ≡ false → IsNear h.draft.number r.state.expected =
     λ plain. subst (λ (k : ℕ). IsNear k r.state.expected) number (c.near (ap (λ (x : Segment). has SYN x) segment ∙ plain)) in
-    let answer = sent_heard rows pair there now r.state c.sender.state h.state h.draft h.sending h.context sent later turn meets_here (live_sound (side w e).sessions r c.lives (inv.sound e)) c.awake to near in
-    let admitted : IsAdmitted (come setup e w m.bytes r.state).outcome = arrive_heard rows pair now r.state m.bytes d (wire.reads ∙ ap Read segment) answer in
+    let found = sent_judged rows pair there now r.state c.sender.state h.state h.draft h.sending h.context sent later turn meets_here to near in
+    let there_found : Judges rows pair now r.state m.emission.segment m.emission.sending m.emission.context m.emission.number m.emission.input =
+    subst (λ (x : Emission). Judges rows pair now r.state x.segment x.sending x.context x.number x.input) (sym h.emission) found in
+    record { reads = wire.reads; right = wire.right; judges = there_found }
+
+pub rolls_over : (setup : Setup) (fits : SetupFits setup) (w : World) (e : End) (name : ℕ) (m : Made) → Inv setup w → RollsOver setup w e name m → IsAdmitted (step setup w (Deliver e name)).outcome
+rolls_over setup fits w e name m inv c =
+    let rows = (side w e).rows in
+    let pair = pair_of setup e in
+    let now = (side w e).clock in
+    let r = c.receiver in
+    let f = finds_made setup fits w e name m inv c in
+    let answer = judges_heard rows pair now r.state m.emission.segment m.emission.sending m.emission.context m.emission.number m.emission.input f.judges (live_sound (side w e).sessions r c.lives (inv.sound e)) c.awake f.right in
+    let admitted : IsAdmitted (come setup e w m.bytes r.state).outcome = arrive_heard rows pair now r.state m.bytes m.emission.segment f.reads answer in
     subst (λ (o : Option Made). IsAdmitted (deliver setup e w o).outcome) (sym c.made) (live_admitted w e (side w e).sessions (come setup e w m.bytes) r c.lives admitted)

@@ -22,7 +22,7 @@ abbrev pub Sound : EndState → Type 0
 Sound s = SoundOf s.phase s.isn s.peer_isn s.next s.given s.closing s.aborted s.rst_owed
 
 -- what a session keeps, whatever comes
-pub record LaterOf (isn new_isn : ℕ) (peer_isn new_peer : Option ℕ) (given new_given taken new_taken : List ℕ) (closing new_closing aborted new_aborted : Bool) (fin new_fin : Option ℕ) (x new_x : ℕ) : Type 0 where
+pub record LaterOf (isn new_isn : ℕ) (peer_isn new_peer : Option ℕ) (given new_given taken new_taken : List ℕ) (closing new_closing aborted new_aborted : Bool) (fin new_fin : Option ℕ) (x new_x next new_next : ℕ) : Type 0 where
   pub same_isn : new_isn ≡ isn
   pub peer : (q : ℕ) → peer_isn ≡ Some q → new_peer ≡ Some q
   pub grown : (rest : List ℕ) × (new_given ≡ given ++ rest)
@@ -31,10 +31,11 @@ pub record LaterOf (isn new_isn : ℕ) (peer_isn new_peer : Option ℕ) (given n
   pub stopped : aborted ≡ true → new_aborted ≡ true
   pub ended : (f : ℕ) → fin ≡ Some f → new_fin ≡ Some f
   pub up : x ≤ new_x
+  pub sent : next ≤ new_next
 
 abbrev pub Later : EndState → EndState → Type 0
 Later s t =
-    LaterOf s.isn t.isn s.peer_isn t.peer_isn s.given t.given s.taken t.taken s.closing t.closing s.aborted t.aborted s.fin t.fin s.expected t.expected
+    LaterOf s.isn t.isn s.peer_isn t.peer_isn s.given t.given s.taken t.taken s.closing t.closing s.aborted t.aborted s.fin t.fin s.expected t.expected s.next t.next
 
 pub later_refl : (s : EndState) → Later s s
 later_refl s =
@@ -47,6 +48,22 @@ later_refl s =
       stopped = λ e. e;
       ended = λ f e. e;
       up = omega arith;
+      sent = omega arith;
+    }
+
+-- a later number is the next one
+pub later_next : (s : EndState) (next : ℕ) → s.next ≤ next → Later s (record s { next = next })
+later_next s next more =
+    record {
+      same_isn = refl;
+      peer = λ q e. e;
+      grown = ([], sym (append-nil s.given));
+      took = omega arith;
+      closed = λ e. (e, refl);
+      stopped = λ e. e;
+      ended = λ f e. e;
+      up = omega arith;
+      sent = more;
     }
 
 pub later_then : (s t u : EndState) → Later s t → Later t u → Later s u
@@ -60,6 +77,7 @@ later_then s t u a b =
       stopped = λ e. b.stopped (a.stopped e);
       ended = λ f e. b.ended f (a.ended f e);
       up = (let one = a.up in let two = b.up in omega arith);
+      sent = (let one = a.sent in let two = b.sent in omega arith);
     }
 
 -- a change that an arrival may make, in the fields that Sound speaks of
@@ -123,6 +141,7 @@ steady_later s t took ended up h =
       stopped = λ e. h.same_aborted ∙ e;
       ended = ended;
       up = up;
+      sent = (let same = h.same_next in omega arith);
     }
 
 pub steady_sound : (s t : EndState) → Steady s t → Sound s → Sound t

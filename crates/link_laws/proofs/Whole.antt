@@ -55,11 +55,11 @@ rested_whole : (s : EndState) (now : ℕ) (phase : Phase) (o : Option ℕ) → W
 rested_whole s now TimeWait None h = h
 rested_whole s now _ _ h = h
 
-finish_whole : (s : EndState) (now : ℕ) → Whole s → Whole (finish s now).state
+pub finish_whole : (s : EndState) (now : ℕ) → Whole s → Whole (finish s now).state
 finish_whole s now h = rested_whole s now s.phase s.deadline h
 
 -- the bytes are kept, and the number expected moves to the first missing one
-heard : (o : Option ℕ) (taken : List ℕ) (m : ℕ → Option ℕ) (fin : Option ℕ) (x n : ℕ) (payload : List ℕ) → (q : ℕ) × (o ≡ Some q) → Stream o taken m fin x
+pub heard : (o : Option ℕ) (taken : List ℕ) (m : ℕ → Option ℕ) (fin : Option ℕ) (x n : ℕ) (payload : List ℕ) → (q : ℕ) × (o ≡ Some q) → Stream o taken m fin x
     → let new = keep m n payload x (below_limit fin (x + room_of o taken fin x)) in
     let y = first_missing new x (room_of o taken fin x) in Stream o taken new fin y × (new y ≡ None)
 heard None taken m fin x n payload known h = absurd (cc)
@@ -69,7 +69,7 @@ heard (Some q) taken m fin x n payload known h =
     (moved q taken new fin x k, moved_missing q taken new fin x k)
 
 -- a FIN is recorded only where no byte stands at or past it
-fin_whole : (o : Option ℕ) (taken : List ℕ) (m : ℕ → Option ℕ) (fin : Option ℕ) (x y f : ℕ) (b : Bool) → (q : ℕ) × (o ≡ Some q)
+pub fin_whole : (o : Option ℕ) (taken : List ℕ) (m : ℕ → Option ℕ) (fin : Option ℕ) (x y f : ℕ) (b : Bool) → (q : ℕ) × (o ≡ Some q)
     → first o + length taken ≤ below_limit fin x → y ≡ first_missing m x (room_of o taken fin x)
     → (b ≡ true → (x ≤ f) × (f < x + room_of o taken fin x) × (runs m false f (x + room_of o taken fin x - f) ≡ 0))
     → Stream o taken m fin y → Stream o taken m (fin_of fin b f) y
@@ -112,12 +112,12 @@ pass_if t f true is e stream missing ends =
 pass_if t f false is e stream missing ends =
     record { stream = stream; missing = missing; moved = λ g e2 at. let same : f ≡ g = some_is f g (sym e ∙ e2) in eqb_not f t.expected is (same ∙ sym at); ends = ends }
 
-pass_whole : (t : EndState) (o : Option ℕ) → t.fin ≡ o → Stream t.peer_isn t.taken t.received t.fin t.expected → t.received t.expected ≡ None
+pub pass_whole : (t : EndState) (o : Option ℕ) → t.fin ≡ o → Stream t.peer_isn t.taken t.received t.fin t.expected → t.received t.expected ≡ None
     → EndsOf t.phase t.isn t.peer_isn t.una t.next t.rst_owed → Whole (pass_fin t o)
 pass_whole t None e stream missing ends = record { stream = stream; missing = missing; moved = λ g e2 at. absurd (cc); ends = ends }
 pass_whole t (Some f) e stream missing ends = pass_if t f (f == t.expected) refl e stream missing ends
 
-record_says : (a b : Bool) (f low high k : ℕ) → (a && within f low high && b) ≡ true → b ≡ (k == 0) → (low ≤ f) × (f < high) × (k ≡ 0)
+pub record_says : (a b : Bool) (f low high k : ℕ) → (a && within f low high && b) ≡ true → b ≡ (k == 0) → (low ≤ f) × (f < high) × (k ≡ 0)
 record_says a b f low high k e is =
     let one = and_tells (a && within f low high) b e in
     let two = and_tells a (within f low high) one.0 in
@@ -141,11 +141,11 @@ hear_whole : (s : EndState) (d : Segment) (n now : ℕ) (b : Bool) → (b ≡ tr
 hear_whole s d n now false known h = finish_whole s now h
 hear_whole s d n now true known h = hear_if s d n now _ (known refl) h
 
-windowed_whole : (s : EndState) (old : ℕ) (d : Segment) (k : ℕ) (a : Option ℕ) → Whole s → Whole (windowed s old d k a)
+pub windowed_whole : (s : EndState) (old : ℕ) (d : Segment) (k : ℕ) (a : Option ℕ) → Whole s → Whole (windowed s old d k a)
 windowed_whole s old d k None h = h
 windowed_whole s old d k (Some a) h = pick _ (record s { send_window = d.window; wl1 = k; wl2 = a }) s (λ e. h) (λ e. h)
 
-acked_fin_whole : (s : EndState) (a : Option ℕ) → Whole s → Whole (acked_fin s a)
+pub acked_fin_whole : (s : EndState) (a : Option ℕ) → Whole s → Whole (acked_fin s a)
 acked_fin_whole s a h = pick _ (record s { phase = after_own_fin s.phase }) s (λ e. whole_phase s (after_own_fin s.phase) (own_kept s.phase) h) (λ e. h)
 
 go_on_whole : (s : EndState) (old : ℕ) (d : Segment) (n now : ℕ) (a : Option ℕ) → Whole s → Whole (go_on s old d n now a).state
@@ -160,7 +160,7 @@ una_whole s a more top h =
     let low = h.ends.una_low in
     record { stream = h.stream; missing = h.missing; moved = h.moved; ends = record { una_low = omega arith; una_high = top; begun = λ p. omega arith; known = h.ends.known; resets = h.ends.resets } }
 
-acked_whole : (s : EndState) (o : Option ℕ) → above o s.next ≡ false → Whole s → Whole (acked s o)
+pub acked_whole : (s : EndState) (o : Option ℕ) → above o s.next ≡ false → Whole s → Whole (acked s o)
 acked_whole s None e h = h
 acked_whole s (Some a) e h = pick (nat_lt s.una a) (record s { una = a }) s (λ up. una_whole s a (lt_is s.una a up) (lt_not s.next a e) h) (λ e. h)
 
@@ -177,7 +177,7 @@ established_whole s a true up e is t h =
       ends = record { una_low = omega arith; una_high = lt_not s.next a e; begun = λ p. omega arith; known = λ p. h.ends.known (ap is_silent is); resets = h.ends.resets };
     }
 
-established_any : (s : EndState) (o : Option ℕ) → above o s.una ≡ true → above o s.next ≡ false → s.phase ≡ SynReceived → Whole s → Whole (record (acked s o) { phase = Established })
+pub established_any : (s : EndState) (o : Option ℕ) → above o s.una ≡ true → above o s.next ≡ false → s.phase ≡ SynReceived → Whole s → Whole (record (acked s o) { phase = Established })
 established_any s None up e is h = absurd (cc)
 established_any s (Some a) up e is h = established_whole s a (nat_lt s.una a) up e is up h
 
