@@ -2,7 +2,7 @@
 use Rattle.std.specs.Prelude.{◌≡◌, ◌≢◌, ℕ, Bool, List, ◌∷◌, ◌++◌}
 use Rattle.link_model.specs.declared.event.Event.{Event}
 use Rattle.link_model.specs.declared.event.Event.TheVariants.{Send, Resend, Deliver, Take}
-use Rattle.link_laws.specs.Headline.{DeliversInOrder, EndsWhole, ShowsEnds, TookFrom, AcknowledgedWasReceived, OnePartner, PartnerIsOne}
+use Rattle.link_laws.specs.Headline.{GivesFew, DeliversInOrder, EndsWhole, ShowsEnds, TookFrom, AcknowledgedWasReceived, OnePartner, PartnerIsOne}
 use Rattle.link_laws.specs.Laws.{IsCovered, RollsOver, IsAdmitted, HasOrigin, ResetsByAbort}
 use Rattle.link_model.specs.Outcomes.{Took, WithoutKey}
 use Rattle.link_progress.specs.Progress.{NeverStuck, EachTripGains, CatchesUp}
@@ -59,7 +59,7 @@ pub record Lawful (setup : Setup) (events : List Event) : Type 0 where
   -- where none is counted: what passes says what the session's partner had said before, and a reset comes only of a partner that was aborted
   pub has_origin : AtEachEvent setup events (HasOrigin setup)
   pub reset_by_abort : AtEachEvent setup events (ResetsByAbort setup)
-  -- where none is counted, and the link is up: over a way that loses nothing, one round trip moves what waits at an end, each of both ends moves both, and enough of them leave nothing that waits
-  pub never_stuck : AtEachMoment setup events (NeverStuck setup)
-  pub each_trip_gains : AtEachMoment setup events (EachTripGains setup)
-  pub catches_up : AtEachMoment setup events (CatchesUp setup)
+  -- where none is counted, each session was given fewer than 2^31 bytes, and the link is up: over a way that loses nothing, one round trip moves what waits at an end, each of both ends moves both, and enough of them leave nothing that waits
+  pub never_stuck : AtEachMoment setup events (λ w. GivesFew w → NeverStuck setup w)
+  pub each_trip_gains : AtEachMoment setup events (λ w. GivesFew w → EachTripGains setup w)
+  pub catches_up : AtEachMoment setup events (λ w. GivesFew w → CatchesUp setup w)
