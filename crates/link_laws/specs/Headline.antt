@@ -48,6 +48,10 @@ pub record TookFrom (before after : Option Session) (bytes : List ℕ) (shown : 
 abbrev pub GivesFew : World → Type 0
 GivesFew w = (e : End) → AllByRecursion (λ (s : Session). length s.state.given < 2 ^ 31) (side w e).sessions
 
+-- so many events at most give each session few bytes: each gives it 65,535 at most (own)
+abbrev pub few_events : ℕ
+few_events = 32768
+
 -- no byte is acknowledged, or all that are have numbers below the one that the partner expects
 abbrev pub AckedBy : Option Session → EndState → Type 0
 AckedBy None s = s.una ≤ s.isn + 1
