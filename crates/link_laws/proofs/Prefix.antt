@@ -48,7 +48,7 @@ all_bytes s h =
     let sum : length s.taken + ready_count s ≡ below_limit s.fin s.expected - first s.peer_isn = omega arith in
     ap (λ l. l ++ ready s) v.took ∙ sym (bytes_from-add s.received (first s.peer_isn) (length s.taken) (ready_count s)) ∙ ap (bytes_from s.received (first s.peer_isn)) sum
 
-the_partner : (others : List Session) (s : EndState) (P : EndState → Type 0) (o : OfPartner others s P) → partner_among others s.isn s.peer_isn ≡ Some o.session
+pub the_partner : (others : List Session) (s : EndState) (P : EndState → Type 0) (o : OfPartner others s P) → partner_among others s.isn s.peer_isn ≡ Some o.session
 the_partner others s P o = partner_is others s.isn s.peer_isn o.peer o.session o.knows o.found o.back
 
 abbrev Each : EndState → Option Session → ℕ → ℕ → Type 0

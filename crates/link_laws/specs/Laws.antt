@@ -28,7 +28,7 @@ pub record RowFits (r : Row) : Type 0 where
   pub send_id : r.send_id < 256
   pub master : AreBytes r.master
 
--- the sockets fit their places: two addresses of one family, and ports of 16 bits (RFC 9293, section 3.1)
+-- two addresses of one family, each as long as its family's are (RFC 791, section 3.1; RFC 8200, section 3)
 abbrev pub OneFamily : Address → Address → Type 0
 OneFamily (V4 one) (V4 two) = IsV4 (V4 one) × IsV4 (V4 two)
 OneFamily (V6 one) (V6 two) = IsV6 (V6 one) × IsV6 (V6 two)
@@ -62,7 +62,7 @@ EventFits (AddRow e row) = RowFits (row_of row)
 EventFits (Withdraw e number) = ⊤
 EventFits (Dump name) = ⊤
 
--- a reading at which an end has a row to send with from one time to another
+-- a range of times that has no gap in the end's table, and that holds the end's reading (own)
 pub record IsCovered (setup : Setup) (w : World) (e : End) : Type 0 where
   pub low : ℕ
   pub high : ℕ

@@ -1,3 +1,4 @@
 pub mod Entries
 pub mod Headline
 pub mod Laws
+pub mod Sessions

@@ -6,6 +6,7 @@ ghost use Rattle.endpoint_model.specs.Emissions.{Quiet, emit, resend, to_emit, t
 ghost use Rattle.link_model.specs.declared.event.Event.{Event};
 ghost use Rattle.link_laws.specs.Entries.{AsMade, AllMade, Carried};
 ghost use Rattle.link_laws.specs.Laws.{SetupFits, EventFits};
+ghost use Rattle.link_laws.specs.Sessions.{OnlyGrow};
 ghost use Rattle.link_model.specs.Reports.{outcome_line, lines_from, summary, report};
 ghost use Rattle.link_model.specs.Runs.{empty, run, outcomes_from};
 ghost use Rattle.link_model.specs.Steps.{step};
@@ -24,6 +25,16 @@ pub fn what_was_made()
 /// at that place, and its datagram is the spelling of that segment.
 pub fn carries_given()
     ensures { (setup : Setup) (events : List Event) → SetupFits setup → AllByRecursion EventFits events → AllMade (Carried (run setup events)) (run setup events).history }
+{}
+
+/// From step to step, and so from any moment to any later one, each session of each end is still
+/// there, with its two initial sequence numbers; the bytes that it was given begin those that it is
+/// given later, and the number that it expects doesn't go down.
+pub fn sessions_only_grow()
+    ensures step { (setup : Setup) (events : List Event) (event : Event) → SetupFits setup → AllByRecursion EventFits events → EventFits event
+        → OnlyGrow (run setup events) (step setup (run setup events) event).world }
+    ensures run { (setup : Setup) (events more : List Event) → SetupFits setup → AllByRecursion EventFits events → AllByRecursion EventFits more
+        → OnlyGrow (run setup events) (run setup (events ++ more)) }
 {}
 
 /// What was made and what came stays as it was: more events only add to the history.
