@@ -28,7 +28,7 @@ use Rattle.link_laws.proofs.Carrying.{Carries}
 use Rattle.link_laws.proofs.ByteLists.{PairFits, zeros, context_bytes, input_bytes, spell_bytes}
 use Rattle.link_laws.proofs.Written.{mac_words, written_fits}
 use Rattle.link_model.specs.Worlds.{Setup, pair_of, Session, Made, Happening, Making, Coming, World, side, find, live}
-use Rattle.link_laws.specs.Laws.{RowFits, OneFamily, SetupFits}
+use Rattle.link_laws.specs.Laws.{RowFits, OneFamily, SetupFits, TablesFit}
 
 -- as made: how a session made a segment, in its state and from its table then, and what it kept since
 pub record MadeBy (setup : Setup) (t : EndState) (m : Made) : Type 0 where
@@ -115,7 +115,7 @@ pub record Inv (setup : Setup) (w : World) : Type 0 where
   pub shown : (e : End) → AllShown (side w e).sessions
   pub distinct : (e : End) → Distinct (side w e).sessions
   pub rows : (e : End) → AllByRecursion RowFits (side w e).rows
-  pub valid : (e : End) → IsValid (side w e).rows
+  pub valid : TablesFit setup → (e : End) → IsValid (side w e).rows
   pub clock : (e : End) → (side w e).clock ≤ greatest_time
 
 -- later states of the same sessions, and maybe more sessions

@@ -15,7 +15,7 @@ use Rattle.link_laws.proofs.Whole.{Whole}
 use Rattle.link_laws.proofs.Gains.{Brings, BringsFin, BringsAck}
 use Rattle.link_model.specs.Worlds.{Setup, pair_of, Session, Side, Made, Happening, Making, Coming, World, side, find}
 use Rattle.link_model.specs.Steps.{Act, add, put, with_sessions, acted, act_on}
-use Rattle.link_laws.specs.Laws.{RowFits}
+use Rattle.link_laws.specs.Laws.{RowFits, TablesFit}
 use Rattle.link_laws.proofs.Invariant.{MadeBy, made-later, MadeOk, AllMadeOk, AllSound, AllWhole, AllShown, Distinct, Inv, Grows}
 use Rattle.link_laws.proofs.Arriving.{Passing}
 use Rattle.link_laws.proofs.Sessions.{both, grows_refl, grows_head, find_own}
@@ -44,31 +44,31 @@ made_add setup v e (Some (Making m)) history new h = (subst (λ (f : End). MadeO
 made_add setup v e (Some (Coming r)) history new h = h
 
 -- an end of which this holds
-pub record SideOk (now : Side) : Type 0 where
+pub record SideOk (setup : Setup) (now : Side) : Type 0 where
   pub sound : AllSound now.sessions
   pub whole : AllWhole now.sessions
   pub shown : AllShown now.sessions
   pub distinct : Distinct now.sessions
   pub rows : AllByRecursion RowFits now.rows
-  pub valid : IsValid now.rows
+  pub valid : TablesFit setup → IsValid now.rows
   pub clock : now.clock ≤ greatest_time
 
-pub side_ok : (setup : Setup) (w : World) (e : End) → Inv setup w → SideOk (side w e)
-side_ok setup w e inv = record { sound = inv.sound e; whole = inv.whole e; shown = inv.shown e; distinct = inv.distinct e; rows = inv.rows e; valid = inv.valid e; clock = inv.clock e }
+pub side_ok : (setup : Setup) (w : World) (e : End) → Inv setup w → SideOk setup (side w e)
+side_ok setup w e inv = record { sound = inv.sound e; whole = inv.whole e; shown = inv.shown e; distinct = inv.distinct e; rows = inv.rows e; valid = λ t. inv.valid t e; clock = inv.clock e }
 
-inv_of : (setup : Setup) (v : World) → AllMadeOk setup v v.history → ((e : End) → SideOk (side v e)) → Inv setup v
-inv_of setup v made ok = record { made = made; sound = λ e. (ok e).sound; whole = λ e. (ok e).whole; shown = λ e. (ok e).shown; distinct = λ e. (ok e).distinct; rows = λ e. (ok e).rows; valid = λ e. (ok e).valid; clock = λ e. (ok e).clock }
+inv_of : (setup : Setup) (v : World) → AllMadeOk setup v v.history → ((e : End) → SideOk setup (side v e)) → Inv setup v
+inv_of setup v made ok = record { made = made; sound = λ e. (ok e).sound; whole = λ e. (ok e).whole; shown = λ e. (ok e).shown; distinct = λ e. (ok e).distinct; rows = λ e. (ok e).rows; valid = λ t e. (ok e).valid t; clock = λ e. (ok e).clock }
 
 pub put_keeps : (setup : Setup) (w : World) (e : End) (now : Side) (happened : Option Happening) → Inv setup w → Grows (side w e).sessions now.sessions
-    → NewMade setup e now.sessions happened → SideOk now → Inv setup (put w e now happened)
+    → NewMade setup e now.sessions happened → SideOk setup now → Inv setup (put w e now happened)
 put_keeps setup w A now happened inv g new ok =
     let v = put w A now happened in
     let grows : (f : End) → Grows (side w f).sessions (side v f).sessions = both (λ f. Grows (side w f).sessions (side v f).sessions) g (grows_refl w.b.sessions) in
-    inv_of setup v (made_add setup v A happened w.history new (all_made-grows setup w v w.history grows inv.made)) (both (λ f. SideOk (side v f)) ok (side_ok setup w B inv))
+    inv_of setup v (made_add setup v A happened w.history new (all_made-grows setup w v w.history grows inv.made)) (both (λ f. SideOk setup (side v f)) ok (side_ok setup w B inv))
 put_keeps setup w B now happened inv g new ok =
     let v = put w B now happened in
     let grows : (f : End) → Grows (side w f).sessions (side v f).sessions = both (λ f. Grows (side w f).sessions (side v f).sessions) (grows_refl w.a.sessions) g in
-    inv_of setup v (made_add setup v B happened w.history new (all_made-grows setup w v w.history grows inv.made)) (both (λ f. SideOk (side v f)) (side_ok setup w A inv) ok)
+    inv_of setup v (made_add setup v B happened w.history new (all_made-grows setup w v w.history grows inv.made)) (both (λ f. SideOk setup (side v f)) (side_ok setup w A inv) ok)
 
 -- what a call of a session made
 abbrev pub NewBy : Setup → End → EndState → Option Happening → Type 0
@@ -127,4 +127,4 @@ act_keeps setup w e (s ∷ rest) call is inv ok =
     put_keeps setup w e (with_sessions (side w e) (u ∷ rest)) act.happened inv
     (subst (λ (l : List Session). Grows l (u ∷ rest)) (sym is) (grows_head s u rest done.later))
     (new_made setup e u rest act.happened done.made)
-    (record { sound = (done.sound, sound.1); whole = (done.whole, whole.1); shown = (shown_now s.state act.state s.end_shown act.shown whole.0 done.later shown.0 done.shown, shown.1); distinct = (subst (λ (n : ℕ). find rest n ≡ None) (sym done.later.same_isn) apart.0, apart.1); rows = inv.rows e; valid = inv.valid e; clock = inv.clock e })
+    (record { sound = (done.sound, sound.1); whole = (done.whole, whole.1); shown = (shown_now s.state act.state s.end_shown act.shown whole.0 done.later shown.0 done.shown, shown.1); distinct = (subst (λ (n : ℕ). find rest n ≡ None) (sym done.later.same_isn) apart.0, apart.1); rows = inv.rows e; valid = λ t. inv.valid t e; clock = inv.clock e })

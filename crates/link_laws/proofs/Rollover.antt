@@ -36,7 +36,7 @@ use Rattle.link_laws.proofs.Written.{area_ao, same_input, same_context}
 use Rattle.link_model.specs.declared.event.Event.TheVariants.{Deliver}
 use Rattle.link_model.specs.Worlds.{other, Setup, pair_of, Session, Made, World, side, find, live, is_known, addressed}
 use Rattle.link_model.specs.Steps.{Act, act_on, come, deliver, step}
-use Rattle.link_laws.specs.Laws.{SetupFits, IsNear, RollsOver, IsHeard, IsAdmitted}
+use Rattle.link_laws.specs.Laws.{SetupFits, IsNear, RollsOver, IsHeard, IsAdmitted, TablesFit}
 use Rattle.link_laws.proofs.Invariant.{live_sound, Inv, mac_in, row_in, wired}
 use Rattle.link_laws.proofs.Running.{named_ok}
 use Rattle.link_laws.proofs.Accepted.{same_bytes-refl, same_socket-refl, option_is, meant_near, context_met, Passes, judged_pass}
@@ -235,8 +235,8 @@ pub record FindsMade (setup : Setup) (w : World) (e : End) (r : EndState) (m : M
   pub right : good m.emission.segment ≡ true
   pub judges : Judges (side w e).rows (pair_of setup e) (side w e).clock r m.emission.segment m.emission.sending m.emission.context m.emission.number m.emission.input
 
-pub finds_made : (setup : Setup) (fits : SetupFits setup) (w : World) (e : End) (name : ℕ) (m : Made) → Inv setup w → (c : RollsOver setup w e name m) → FindsMade setup w e c.receiver.state m
-finds_made setup fits w e name m inv c =
+pub finds_made : (setup : Setup) (fits : SetupFits setup) → TablesFit setup → (w : World) (e : End) (name : ℕ) (m : Made) → Inv setup w → (c : RollsOver setup w e name m) → FindsMade setup w e c.receiver.state m
+finds_made setup fits tables w e name m inv c =
     let rows = (side w e).rows in
     let pair = pair_of setup e in
     let now = (side w e).clock in
@@ -252,7 +252,7 @@ finds_made setup fits w e name m inv c =
     let aligned : AllByRecursion (IsMet rows there c.lead c.lag) m.rows = subst (λ (p : Pair). AlignedFrom m.rows rows p c.lead c.lag) (sym there_is) c.aligned in
     let met = met_row (IsMet rows there c.lead c.lag) h.state.current m.rows there m.clock h.sending aligned h.picked in
     let meets_now : Meets rows (mirrored there) h.sending.row.send_id now h.sending.row =
-    meets rows there c.lead c.lag h.sending.row m.clock now met.0 met.1 (inv.valid e) c.early c.late (inv.clock e) in
+    meets rows there c.lead c.lag h.sending.row m.clock now met.0 met.1 (inv.valid tables e) c.early c.late (inv.clock e) in
     let meets_here : Meets rows pair h.sending.row.send_id now h.sending.row = subst (λ (p : Pair). Meets rows p h.sending.row.send_id now h.sending.row) turn meets_now in
     let wire = wired setup ok.session.state m h fits in
     let mac = mac_in setup ok.session.state m h in
@@ -276,13 +276,13 @@ finds_made setup fits w e name m inv c =
     subst (λ (x : Emission). Judges rows pair now r.state x.segment x.sending x.context x.number x.input) (sym h.emission) found in
     record { reads = wire.reads; right = wire.right; judges = there_found }
 
-pub rolls_over : (setup : Setup) (fits : SetupFits setup) (w : World) (e : End) (name : ℕ) (m : Made) → Inv setup w → RollsOver setup w e name m → IsAdmitted (step setup w (Deliver e name)).outcome
-rolls_over setup fits w e name m inv c =
+pub rolls_over : (setup : Setup) (fits : SetupFits setup) → TablesFit setup → (w : World) (e : End) (name : ℕ) (m : Made) → Inv setup w → RollsOver setup w e name m → IsAdmitted (step setup w (Deliver e name)).outcome
+rolls_over setup fits tables w e name m inv c =
     let rows = (side w e).rows in
     let pair = pair_of setup e in
     let now = (side w e).clock in
     let r = c.receiver in
-    let f = finds_made setup fits w e name m inv c in
+    let f = finds_made setup fits tables w e name m inv c in
     let answer = judges_heard rows pair now r.state m.emission.segment m.emission.sending m.emission.context m.emission.number m.emission.input f.judges (live_sound (side w e).sessions r c.lives (inv.sound e)) c.awake f.right in
     let admitted : IsAdmitted (come setup e w m.bytes r.state).outcome = arrive_heard rows pair now r.state m.bytes m.emission.segment f.reads answer in
     subst (λ (o : Option Made). IsAdmitted (deliver setup e w o).outcome) (sym c.made) (live_admitted w e (side w e).sessions (come setup e w m.bytes) r c.lives admitted)

@@ -184,7 +184,7 @@ module _ (setup : Setup) (fits : SetupFits setup) where
   new_keeps w e s None is sound whole inv =
       let u : Session = record { state = s; end_shown = false } in
       put_keeps setup w e (with_sessions (side w e) (u ∷ (side w e).sessions)) None inv (grows_new u (side w e).sessions is) tt
-      (record { sound = (sound, inv.sound e); whole = (whole, inv.whole e); shown = (λ t. absurd (cc), inv.shown e); distinct = (is, inv.distinct e); rows = inv.rows e; valid = inv.valid e; clock = inv.clock e })
+      (record { sound = (sound, inv.sound e); whole = (whole, inv.whole e); shown = (λ t. absurd (cc), inv.shown e); distinct = (is, inv.distinct e); rows = inv.rows e; valid = λ t. inv.valid t e; clock = inv.clock e })
 
   named_if : (w : World) (k m : Made) (o : Option Made) (b : Bool) → MadeOk setup (side w k.maker).sessions k → (o ≡ Some m → MadeOk setup (side w m.maker).sessions m) → (if b then Some k else o) ≡ Some m
       → MadeOk setup (side w m.maker).sessions m
@@ -219,7 +219,7 @@ module _ (setup : Setup) (fits : SetupFits setup) where
   add_keeps w e row (OverlapsRow n) is f inv = inv
   add_keeps w e row (AddedAs n rows) is f inv =
       put_keeps setup w e (with_rows (side w e) rows) None inv (grows_refl (side w e).sessions) tt
-      (record { sound = inv.sound e; whole = inv.whole e; shown = inv.shown e; distinct = inv.distinct e; rows = all_added RowFits (side w e).rows row n rows is (inv.rows e) f; valid = valid_added (side w e).rows row n rows is (inv.valid e); clock = inv.clock e })
+      (record { sound = inv.sound e; whole = inv.whole e; shown = inv.shown e; distinct = inv.distinct e; rows = all_added RowFits (side w e).rows row n rows is (inv.rows e) f; valid = λ t. valid_added (side w e).rows row n rows is (inv.valid t e); clock = inv.clock e })
 
   withdraw_keeps : (w : World) (e : End) (n : ℕ) (o : Option (List Row)) → withdrawn (side w e).rows n ≡ o → Inv setup w → Inv setup (withdraw w e o).world
   withdraw_keeps w e n None is inv = inv
@@ -231,14 +231,14 @@ module _ (setup : Setup) (fits : SetupFits setup) where
         shown = inv.shown e;
         distinct = inv.distinct e;
         rows = all_withdrawn RowFits (side w e).rows n rows is (λ r f. record { recv_id = f.recv_id; send_id = f.send_id; master = f.master }) (inv.rows e);
-        valid = valid_withdrawn (side w e).rows n rows is (inv.valid e);
+        valid = λ t. valid_withdrawn (side w e).rows n rows is (inv.valid t e);
         clock = inv.clock e;
       })
 
   pub step_keeps : (w : World) (event : Event) → EventFits event → Inv setup w → Inv setup (step setup w event).world
   step_keeps w (Clock e seconds) f inv =
       put_keeps setup w e (with_clock (side w e) seconds) None inv (ticked_grows seconds (side w e).sessions) tt
-      (record { sound = ticked_sound seconds (side w e).sessions (inv.sound e); whole = ticked_whole seconds (side w e).sessions (inv.whole e); shown = ticked_shown seconds (side w e).sessions (inv.whole e) (inv.shown e); distinct = ticked_distinct seconds (side w e).sessions (inv.distinct e); rows = inv.rows e; valid = inv.valid e; clock = f })
+      (record { sound = ticked_sound seconds (side w e).sessions (inv.sound e); whole = ticked_whole seconds (side w e).sessions (inv.whole e); shown = ticked_shown seconds (side w e).sessions (inv.whole e) (inv.shown e); distinct = ticked_distinct seconds (side w e).sessions (inv.distinct e); rows = inv.rows e; valid = λ t. inv.valid t e; clock = f })
   step_keeps w (Connect e isn) f inv = new_keeps w e (connected (pair_of setup e) isn) (find (side w e).sessions isn) refl (begun_sound (pair_of setup e) SynSent isn refl f) (begun_whole (pair_of setup e) SynSent isn refl refl) inv
   step_keeps w (Await e isn) f inv = new_keeps w e (listening (pair_of setup e) isn) (find (side w e).sessions isn) refl (begun_sound (pair_of setup e) Listen isn refl f) (begun_whole (pair_of setup e) Listen isn refl refl) inv
   step_keeps w (Start e isn peer) f inv = new_keeps w e (started (pair_of setup e) isn peer) (find (side w e).sessions isn) refl (started_sound setup e isn peer f.0 f.1) (started_whole setup e isn peer) inv
@@ -269,7 +269,7 @@ module _ (setup : Setup) (fits : SetupFits setup) where
         shown = both (λ e. AllShown (side (empty setup) e).sessions) tt tt;
         distinct = both (λ e. Distinct (side (empty setup) e).sessions) tt tt;
         rows = both (λ e. AllByRecursion RowFits (side (empty setup) e).rows) (fits.rows A) (fits.rows B);
-        valid = both (λ e. IsValid (side (empty setup) e).rows) (fits.valid A) (fits.valid B);
+        valid = λ t. both (λ e. IsValid (side (empty setup) e).rows) (t.valid A) (t.valid B);
         clock = both (λ e. (side (empty setup) e).clock ≤ greatest_time) (omega arith) (omega arith);
       }
 

@@ -34,12 +34,16 @@ OneFamily (V4 one) (V4 two) = IsV4 (V4 one) × IsV4 (V4 two)
 OneFamily (V6 one) (V6 two) = IsV6 (V6 one) × IsV6 (V6 two)
 OneFamily _ _ = ⊥
 
--- what the types of a setup say, and that its tables are valid (RFC 7210, section 3)
+-- what the types of a setup say (RFC 9293, section 3.1; RFC 7210, section 2)
 pub record SetupFits (setup : Setup) : Type 0 where
   pub family : OneFamily setup.a.address setup.b.address
   pub a_port : setup.a.port < 65536
   pub b_port : setup.b.port < 65536
   pub rows : (e : End) → AllByRecursion RowFits (rows_of setup e)
+
+-- the tables with which both ends begin are valid: no two of their rows overlap
+-- (RFC 7210, section 3)
+pub record TablesFit (setup : Setup) : Type 0 where
   pub valid : (e : End) → IsValid (rows_of setup e)
 
 -- what the types of an event say: initial sequence numbers are 32-bit numbers (RFC 9293, section 3.4.1), contents are bytes, clock readings are times of a key file
