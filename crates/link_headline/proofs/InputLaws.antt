@@ -1,5 +1,6 @@
 -- What a link file and a key file say fits a link.
-use Rattle.std.proofs.Common.{◌≡◌, ℕ, suc, Bool, true, false, cond, List, [], ◌∷◌, Option, Some, None, Ok, arith}
+use Rattle.std.proofs.Common.{◌≡◌, ◌≤◌, ℕ, suc, ◌+◌, Bool, true, false, cond, List, [], ◌∷◌, ◌++◌, length, map, Option, Some, None, Ok, ap, ◌∙◌, arith, length-append}
+use Rattle.std.proofs.lemmas.List.{length-map}
 use Rattle.std.specs.List.{All, AllByRecursion, find}
 use Rattle.ao_base.specs.declared.address.Address.{Address}
 use Rattle.ao_base.specs.declared.address.Address.TheVariants.{V4, V6}
@@ -14,12 +15,13 @@ use Rattle.key_model.specs.Shared.{shared_row}
 use Rattle.key_model.proofs.ValidLaws.{empty-valid, shared-valid, tables_of-valid}
 use Rattle.link_model.specs.declared.event.Event.{Event}
 use Rattle.link_model.specs.declared.event.Event.TheVariants.{Clock, Connect, Listen, Start, Give, Fill, Send, Resend, Deliver, Inject, Alter, Take, Close, Abort, AddRow, Withdraw, Dump}
-use Rattle.link_laws.specs.Laws.{EventFits, OneFamily, RowFits, SetupFits}
+use Rattle.link_laws.specs.Laws.{EventFits, OneFamily, RowFits, SetupFits, TablesFit}
 use Rattle.link_model.specs.Worlds.{rows_of, setup_of}
 use Rattle.format_model.specs.declared.script.Script.{Script}
 use Rattle.format_model.specs.declared.script.SharedKey.{SharedKey}
 use Rattle.format_model.specs.Answers.{shared_by}
 use Rattle.format_model.specs.LinkFiles.{are_two_of_a_family, script_of}
+use Rattle.link_script.specs.Printed.{event_words, key_lines, script_lines}
 use Rattle.link_script.specs.Scripts.{IsAddress, IsEvent, IsKey, IsScript, IsSocket}
 use Rattle.link_script.proofs.ScriptRanges.{script_of_ok}
 use Rattle.link_headline.proofs.TableFits.{Fit, tables_fit}
@@ -80,8 +82,8 @@ valid_at (t ∷ ts) address all =
 
 -- the ends of two sockets, over tables
 pub fits : (tables : List Table) (a b : Socket) → IsSocket a → IsSocket b → are_two_of_a_family a.address b.address ≡ true
-    → AllByRecursion Fit tables → All (λ (t : Table). IsValid t.rows) tables → SetupFits (setup_of tables a b)
-fits tables a b is_a is_b two fit valid =
+    → AllByRecursion Fit tables → SetupFits (setup_of tables a b)
+fits tables a b is_a is_b two fit =
     let a_port = is_a.port in
     let b_port = is_b.port in
     record {
@@ -89,21 +91,26 @@ fits tables a b is_a is_b two fit valid =
       a_port = omega (arith, a_port);
       b_port = omega (arith, b_port);
       rows = of_end;
-      valid = valid_of_end;
     }
   where
     of_end : (e : End) → AllByRecursion RowFits (rows_of (setup_of tables a b) e)
     of_end A = fit_at tables a.address fit
     of_end B = fit_at tables b.address fit
 
+valid_tables : (tables : List Table) (a b : Socket) → All (λ (t : Table). IsValid t.rows) tables → TablesFit (setup_of tables a b)
+valid_tables tables a b valid = record { valid = valid_of_end }
+  where
     valid_of_end : (e : End) → IsValid (rows_of (setup_of tables a b) e)
     valid_of_end A = valid_at tables a.address valid
     valid_of_end B = valid_at tables b.address valid
 
+pub keyed_tables : (keys : List ℕ) (tables : List Table) (a b : Socket) → tables_of keys ≡ Ok tables → TablesFit (setup_of tables a b)
+keyed_tables keys tables a b read = valid_tables tables a b (tables_of-valid keys tables read)
+
 pub keyed_fits : (keys text : List ℕ) (tables : List Table) (script : Script) → tables_of keys ≡ Ok tables → script_of true text ≡ Ok script → SetupFits (setup_of tables script.a script.b)
 keyed_fits keys text tables script read is =
     let s : IsScript script = (script_of_ok true text script is).0 in
-    fits tables script.a script.b s.a s.b s.two (tables_fit keys tables read) (tables_of-valid keys tables read)
+    fits tables script.a script.b s.a s.b s.two (tables_fit keys tables read)
 
 shared_fit : (script : Script) (shared : Option SharedKey) → IsKey shared → AllByRecursion Fit (shared_by script shared)
 shared_fit script None is = tt
@@ -118,4 +125,20 @@ shared_valid script (Some key) = shared-valid script.a.address script.b.address 
 pub shared_fits : (text : List ℕ) (script : Script) → script_of false text ≡ Ok script → SetupFits (setup_of (shared_by script script.shared) script.a script.b)
 shared_fits text script is =
     let s : IsScript script = (script_of_ok false text script is).0 in
-    fits (shared_by script script.shared) script.a script.b s.a s.b s.two (shared_fit script script.shared s.key) (shared_valid script script.shared)
+    fits (shared_by script script.shared) script.a script.b s.a s.b s.two (shared_fit script script.shared s.key)
+
+pub shared_tables_fit : (script : Script) → TablesFit (setup_of (shared_by script script.shared) script.a script.b)
+shared_tables_fit script = valid_tables (shared_by script script.shared) script.a script.b (shared_valid script script.shared)
+
+-- ---- how many events
+
+script_few : (script : Script) → IsScript script → length script.events ≤ 20000
+unfolding script_lines
+script_few script s =
+    let lines = s.lines in
+    let all : length (key_lines script.shared ++ map event_words script.events) ≡ length (key_lines script.shared) + length script.events =
+    length-append (key_lines script.shared) (map event_words script.events) ∙ ap (λ n. length (key_lines script.shared) + n) (length-map script.events event_words) in
+    omega arith
+
+pub few_in : (with_keys : Bool) (text : List ℕ) (script : Script) → script_of with_keys text ≡ Ok script → length script.events ≤ 20000
+few_in with_keys text script is = script_few script (script_of_ok with_keys text script is).0

@@ -3,23 +3,25 @@ use Rattle.std.proofs.Common.{◌≡◌, List, [], ◌∷◌, ◌++◌, subst, s
 use Rattle.std.specs.List.{AllByRecursion}
 use Rattle.link_model.specs.declared.event.Event.{Event}
 use Rattle.link_model.specs.declared.event.Event.TheVariants.{Clock, Connect, Listen, Start, Give, Fill, Send, Resend, Deliver, Inject, Alter, Take, Close, Abort, AddRow, Withdraw, Dump}
-use Rattle.link_laws.specs.Laws.{SetupFits, EventFits}
+use Rattle.link_laws.specs.Laws.{SetupFits, TablesFit, EventFits}
 use Rattle.link_model.specs.Runs.{run}
 use Rattle.link_model.specs.Worlds.{Setup, World}
+use Rattle.link_laws.proofs.Entries.{as_made, carries_given}
 use Rattle.link_laws.proofs.Gaps.{never_keyless}
+use Rattle.link_laws.proofs.Onward.{steps_only_grow}
 use Rattle.link_laws.proofs.Origin.{has_origin, resets_by_abort}
 use Rattle.link_laws.proofs.Partners.{partner_is_one, one_partner}
-use Rattle.link_laws.proofs.Prefix.{delivers_in_order, ends_whole, shows_ends, acknowledged_was_received}
+use Rattle.link_laws.proofs.Prefix.{delivers_in_order, ends_whole, shows_ends}
+use Rattle.link_laws.proofs.Receiving.{receives_given}
 use Rattle.link_laws.proofs.Rollover.{rolls_over}
 use Rattle.link_laws.proofs.Running.{run_inv}
 use Rattle.link_laws.proofs.Took.{took_from}
-use Rattle.link_progress.proofs.Progressing.{never_stuck, each_trip_gains, catches_up}
 use Rattle.link_headline.specs.Lawful.{Lawful, TakesAsTold, AdmitsInTime, HasKey}
 
-abbrev Fit : List Event → Type 0
+abbrev pub Fit : List Event → Type 0
 Fit events = AllByRecursion EventFits events
 
-front_fits : (front rest : List Event) → Fit (front ++ rest) → Fit front
+pub front_fits : (front rest : List Event) → Fit (front ++ rest) → Fit front
 front_fits [] rest all = tt
 front_fits (e ∷ front) rest all = (all.0, front_fits front rest all.1)
 
@@ -66,24 +68,24 @@ has_key setup w (Withdraw e number) = tt
 has_key setup w (Dump name) = tt
 
 module _ (setup : Setup) (fits : SetupFits setup) where
-  admits : (front : List Event) (event : Event) → Fit front → AdmitsInTime setup (run setup front) event
-  admits front (Deliver e name) all = λ m rolling. rolls_over setup fits (run setup front) e name m (run_inv setup fits front all) rolling
-  admits front (Send e) all = tt
-  admits front (Resend e) all = tt
-  admits front (Take e count) all = tt
-  admits front (Clock e seconds) all = tt
-  admits front (Connect e isn) all = tt
-  admits front (Listen e isn) all = tt
-  admits front (Start e isn peer) all = tt
-  admits front (Give e piece) all = tt
-  admits front (Fill e count byte) all = tt
-  admits front (Inject e bytes) all = tt
-  admits front (Alter e name place mask fix) all = tt
-  admits front (Close e) all = tt
-  admits front (Abort e) all = tt
-  admits front (AddRow e row) all = tt
-  admits front (Withdraw e number) all = tt
-  admits front (Dump name) all = tt
+  admits : TablesFit setup → (front : List Event) (event : Event) → Fit front → AdmitsInTime setup (run setup front) event
+  admits tables front (Deliver e name) all = λ m rolling. rolls_over setup fits tables (run setup front) e name m (run_inv setup fits front all) rolling
+  admits tables front (Send e) all = tt
+  admits tables front (Resend e) all = tt
+  admits tables front (Take e count) all = tt
+  admits tables front (Clock e seconds) all = tt
+  admits tables front (Connect e isn) all = tt
+  admits tables front (Listen e isn) all = tt
+  admits tables front (Start e isn peer) all = tt
+  admits tables front (Give e piece) all = tt
+  admits tables front (Fill e count byte) all = tt
+  admits tables front (Inject e bytes) all = tt
+  admits tables front (Alter e name place mask fix) all = tt
+  admits tables front (Close e) all = tt
+  admits tables front (Abort e) all = tt
+  admits tables front (AddRow e row) all = tt
+  admits tables front (Withdraw e number) all = tt
+  admits tables front (Dump name) all = tt
 
   pub lawful : (events : List Event) → Fit events → Lawful setup events
   lawful events all =
@@ -91,16 +93,16 @@ module _ (setup : Setup) (fits : SetupFits setup) where
       let coming = λ (front : List Event) (event : Event) (rest : List Event) (is : front ++ event ∷ rest ≡ events). event_fits front event rest (subst Fit (sym is) all) in
       record {
         in_order = λ front rest is. delivers_in_order setup fits front (moment front rest is);
+        received = λ front rest is. receives_given setup fits front (moment front rest is);
+        only_grow = λ front event rest is. steps_only_grow setup fits front event (moment front (event ∷ rest) is) (coming front event rest is);
+        as_made = λ front rest is. as_made setup fits front (moment front rest is);
+        carries = λ front rest is. carries_given setup fits front (moment front rest is);
         one_partner = λ front rest is. (one_partner setup fits front (moment front rest is), partner_is_one (run setup front));
         ends_whole = λ front rest is. ends_whole setup fits front (moment front rest is);
         shows_ends = λ front rest is. shows_ends setup fits front (moment front rest is);
         takes = λ front event rest is. takes setup (run setup front) event;
-        acknowledged = λ front rest is. acknowledged_was_received setup fits front (moment front rest is);
-        rolls_over = λ front event rest is. admits front event (moment front (event ∷ rest) is);
+        rolls_over = λ tables front event rest is. admits tables front event (moment front (event ∷ rest) is);
         never_keyless = λ front event rest is. has_key setup (run setup front) event;
         has_origin = λ front event rest is. has_origin setup fits (run setup front) event (coming front event rest is) (run_inv setup fits front (moment front (event ∷ rest) is));
         reset_by_abort = λ front event rest is. resets_by_abort setup fits (run setup front) event (coming front event rest is) (run_inv setup fits front (moment front (event ∷ rest) is));
-        never_stuck = λ front rest is. never_stuck setup fits front (moment front rest is);
-        each_trip_gains = λ front rest is. each_trip_gains setup fits front (moment front rest is);
-        catches_up = λ front rest is. catches_up setup fits front (moment front rest is);
       }

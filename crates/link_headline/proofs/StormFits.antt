@@ -1,5 +1,5 @@
 -- The link of a storm and each of its events fit.
-use Rattle.std.proofs.Common.{◌<◌, ◌/◌, ◌%◌, ◌==◌, ℕ, zero, suc, Bool, true, false, cond, [], ◌∷◌, replicate, Option, Some, None, refl, arith, lit<}
+use Rattle.std.proofs.Common.{◌≡◌, ◌<◌, ◌+◌, ◌/◌, ◌%◌, ◌==◌, ℕ, zero, suc, Bool, true, false, cond, [], ◌∷◌, replicate, Option, Some, None, length, refl, ap, arith, lit<}
 use Rattle.std.specs.List.{AllByRecursion}
 use Rattle.ao_base.specs.declared.algorithm.Algorithm.TheVariants.{HmacSha1}
 use Rattle.ao_base.specs.declared.end.End.{End}
@@ -8,7 +8,7 @@ use Rattle.segment_model.specs.Spelling.{AreBytes}
 use Rattle.key_model.specs.Overlaps.{IsValid}
 use Rattle.key_model.specs.Shared.{shared_row}
 use Rattle.link_model.specs.declared.event.Event.{Event}
-use Rattle.link_laws.specs.Laws.{EventFits, RowFits, SetupFits}
+use Rattle.link_laws.specs.Laws.{EventFits, RowFits, SetupFits, TablesFit}
 use Rattle.link_model.specs.Runs.{empty, run_from}
 use Rattle.link_model.specs.Steps.{step}
 use Rattle.link_model.specs.Storm.{draw, drawn, end_of, event_by, event_of, events_drawn, last_delivered, one_delivered, storm_events, storm_setup, storm_starts}
@@ -44,8 +44,10 @@ storm_fits = record {
   a_port = lit< tt;
   b_port = lit< tt;
   rows = one_fits;
-  valid = one_valid;
 }
+
+pub storm_tables : TablesFit storm_setup
+storm_tables = record { valid = one_valid }
 
 delivered : (e : End) (o : Option Made) → EventFits (last_delivered e o)
 delivered e None = tt
@@ -80,3 +82,13 @@ pub events_fit : (seed count : ℕ) → AllByRecursion EventFits (storm_events s
 unfolding storm_events
 events_fit seed count =
     ((lit< tt, lit< tt), ((lit< tt, lit< tt), drawn_fit storm_setup (run_from storm_setup (empty storm_setup) storm_starts) seed count))
+
+drawn_long : (setup : Setup) (w : World) (state n : ℕ) → length (events_drawn setup w state n) ≡ n
+drawn_long setup w state zero = refl
+drawn_long setup w state (suc n) =
+    let event = event_of w (draw (drawn state)) in ap suc (drawn_long setup (step setup w event).world (drawn state) n)
+
+pub storm_long : (seed count : ℕ) → length (storm_events seed count) ≡ count + 2
+unfolding storm_events
+storm_long seed count =
+    let long = drawn_long storm_setup (run_from storm_setup (empty storm_setup) storm_starts) seed count in omega arith

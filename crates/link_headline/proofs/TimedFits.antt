@@ -6,7 +6,6 @@ use Rattle.ao_base.specs.declared.end.End.{End}
 use Rattle.key_model.specs.Lifetimes.{greatest_time}
 use Rattle.key_model.specs.Nodes.{tables_of}
 use Rattle.key_model.specs.Rows.{Table}
-use Rattle.key_model.proofs.ValidLaws.{tables_of-valid}
 use Rattle.link_model.specs.declared.event.Event.{Event}
 use Rattle.link_model.specs.declared.event.Event.TheVariants.{Clock, Resend}
 use Rattle.link_laws.specs.Laws.{EventFits, SetupFits}
@@ -68,4 +67,4 @@ pub timed_fits : (keys text : List ℕ) (tables : List Table) (script : TimedScr
     → SetupFits (setup_of tables script.a script.b)
 timed_fits keys text tables script read is =
     let s : IsTimedScript script = timed_script_ok text script is in
-    fits tables script.a script.b s.a s.b s.two (tables_fit keys tables read) (tables_of-valid keys tables read)
+    fits tables script.a script.b s.a s.b s.two (tables_fit keys tables read)

@@ -1,1 +1,2 @@
+pub mod GetsThrough
 pub mod Lawful

@@ -5,5 +5,5 @@
 mod inputs;
 mod lawful;
 
-pub use inputs::{link_files_fit, storms_fit, timed_files_fit};
-pub use lawful::{reports_end_in_counts, runs_are_lawful};
+pub use inputs::{link_files_fit, link_files_get_through, storms_fit, tables_fit, timed_files_fit};
+pub use lawful::{reports_end_in_counts, runs_are_lawful, runs_get_through};
