@@ -28,6 +28,10 @@ pub trait BlockHash<const N: usize>: Drop {
     fn hashed(self) -> [u8; N]
         ensures { (message : List ℕ) → holds self message → result ≡ hash message };
 
+    /// The same hasher again.
+    fn copied(&self) -> Self
+        ensures { result ≡ self.now };
+
     // A hash fits a block.
     ghost fits: { N ≤ 64 };
 }
@@ -49,6 +53,13 @@ impl BlockHash<20> for Sha1 {
         self.finalize()
     }
 
+    fn copied(&self) -> Sha1 {
+        match self.clone() {
+            Ok(hasher) => hasher,
+            Err(_) => unreachable!(),
+        }
+    }
+
     ghost fits = { lit≤ tt };
 }
 
@@ -67,6 +78,13 @@ impl BlockHash<32> for Sha256 {
 
     fn hashed(self) -> [u8; 32] {
         Digest::finalize(self)
+    }
+
+    fn copied(&self) -> Sha256 {
+        match self.clone() {
+            Ok(hasher) => hasher,
+            Err(_) => unreachable!(),
+        }
     }
 
     ghost fits = { lit≤ tt };

@@ -40,6 +40,17 @@ impl<H: BlockHash<N>, const N: usize> Hmac<H, N> {
         Hmac { inner, outer }
     }
 
+    /// The same hasher again: a key that is kept ready as a hasher to which nothing was fed needs no
+    /// block of its own to be hashed for each message.
+    pub fn copied(&self) -> Hmac<H, N>
+        ensures { result ≡ self.now }
+    {
+        Hmac {
+            inner: self.inner.copied(),
+            outer: self.outer.copied(),
+        }
+    }
+
     /// Feeds the next piece of the message, of any length.
     pub fn update(&mut self, piece: &[u8])
         ensures { (key fed : List ℕ) → StandsFor H.holds H.hash self.old key fed → StandsFor H.holds H.hash self.new key (fed ++ piece.now) }
