@@ -4,9 +4,11 @@ use Rattle.mac_model.specs.Ciphers.{cmac}
 use Rattle.aes_cmac.specs.Block.{halves_bytes}
 use Rattle.aes_cmac.specs.Cipher.{IsKeyed}
 use Rattle.aes_cmac.specs.Chain.{goes_on}
+use Rattle.aes_cmac.specs.Subkeys.{AreSubkeys}
 use Rattle.aes_cmac.specs.declared.hasher.Cmac.{Cmac}
 
 -- the bytes that were fed to a hasher under a key, in whatever pieces: the CMAC of them and whatever comes goes on from here (RFC 4493, 2.4)
 pub record StandsFor (hasher : Cmac) (key fed : List ℕ) : Type 0 where
   pub keyed : IsKeyed hasher.cipher key
+  pub subkeys : AreSubkeys hasher.subkeys key
   pub same : (more : List ℕ) → cmac key (fed ++ more) ≡ goes_on key (halves_bytes hasher.state) (take hasher.filled hasher.held ++ more)

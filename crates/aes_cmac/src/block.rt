@@ -18,6 +18,14 @@ const REDUCTION: Block = Block {
     fourth: 0x87,
 };
 
+/// A block of zeros.
+pub const ZEROS: Block = Block {
+    first: 0,
+    second: 0,
+    third: 0,
+    fourth: 0,
+};
+
 /// A block of 16 bytes as its four columns, each with the first byte highest (FIPS 197, section
 /// 3.4).
 #[derive(Clone, Copy)]

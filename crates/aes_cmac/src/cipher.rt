@@ -12,7 +12,7 @@ const ROUNDS: usize = 10;
 const ROUND_CONSTANTS: [u8; ROUNDS] = [0x01, 0x02, 0x04, 0x08, 0x10, 0x20, 0x40, 0x80, 0x1b, 0x36];
 
 /// AES-128 under one key (FIPS 197).
-#[derive(Drop)]
+#[derive(Clone, Copy)]
 pub struct Aes128 {
     keys: [Block; ROUNDS + 1],
 }
@@ -26,7 +26,7 @@ impl Aes128 {
     }
 
     /// The cipher under a key, as columns.
-    pub fn under(key: Block) -> Aes128
+    pub(crate) fn under(key: Block) -> Aes128
         ensures { IsKeyed result (bytes_of key) }
     {
         let mut keys = [key; ROUNDS + 1];
@@ -46,7 +46,7 @@ impl Aes128 {
     }
 
     /// The block under the cipher, as halves.
-    pub fn encrypt_halves(&self, block: Halves) -> Halves
+    pub(crate) fn encrypt_halves(&self, block: Halves) -> Halves
         ensures { (key : List ℕ) → IsKeyed self.now key → halves_bytes result ≡ aes key (halves_bytes block) }
     {
         self.encrypt_columns(block.to_columns()).to_halves()

@@ -1,22 +1,17 @@
 //! CMAC fed in pieces, and its PRF.
 ghost use Rattle.std.specs.Prelude.{◌≡◌, ◌+◌, ◌-◌, ◌<◌, ◌≤◌, ◌++◌, ◌∷◌, List, [], ℕ, length, take, replicate, ◌==◌, if◌then◌else◌};
-ghost use Rattle.mac_model.specs.Ciphers.{cmac, prf, xor, last_block};
+ghost use Rattle.mac_model.specs.Ciphers.{aes, cmac, prf, xor, last_block};
 ghost use Rattle.aes_cmac.specs.Block.{bytes_of, halves_bytes};
 ghost use Rattle.aes_cmac.specs.Cipher.{IsKeyed};
 ghost use Rattle.aes_cmac.specs.Chain.{goes_on};
+ghost use Rattle.aes_cmac.specs.Subkeys.{AreSubkeys};
 
-use crate::block::{Block, Halves};
+use crate::block::{Block, Halves, ZEROS};
 use crate::cipher::Aes128;
+use crate::subkeys::Subkeys;
 
 /// The length of a block in bytes (RFC 4493, section 2.4).
 const BLOCK_LEN: usize = 16;
-/// A block of zeros.
-const ZEROS: Block = Block {
-    first: 0,
-    second: 0,
-    third: 0,
-    fourth: 0,
-};
 /// The byte that ends a message before its padding (RFC 4493, section 2.4).
 const END: u8 = 0x80;
 
@@ -24,6 +19,7 @@ const END: u8 = 0x80;
 #[derive(Drop)]
 pub struct Cmac {
     cipher: Aes128,
+    subkeys: Subkeys,
     state: Halves,
     /// The last bytes, up to a whole block: the last block of the message takes another step.
     held: [u8; BLOCK_LEN],
@@ -39,6 +35,20 @@ impl Cmac {
         ensures { StandsFor result key.now [] }
     {
         Cmac::under(Block::of(key))
+    }
+
+    /// The same hasher again: a key that is kept ready as a hasher to which nothing was fed needs
+    /// neither its round keys nor its subkeys computed for each message.
+    pub fn copied(&self) -> Cmac
+        ensures { result ≡ self.now }
+    {
+        Cmac {
+            cipher: self.cipher,
+            subkeys: self.subkeys,
+            state: self.state,
+            held: self.held,
+            filled: self.filled,
+        }
     }
 
     /// Feeds the next piece of the message, of any length.
@@ -73,8 +83,10 @@ impl Cmac {
     fn under(key: Block) -> Cmac
         ensures { StandsFor result (bytes_of key) [] }
     {
+        let cipher = Aes128::under(key);
         Cmac {
-            cipher: Aes128::under(key),
+            cipher,
+            subkeys: Subkeys::of(&cipher),
             state: ZEROS.to_halves(),
             held: [0; BLOCK_LEN],
             filled: 0,
@@ -86,12 +98,12 @@ impl Cmac {
     {
         let Cmac {
             cipher,
+            subkeys,
             state,
             held,
             filled,
         } = self;
-        let subkey = cipher.encrypt_halves(ZEROS.to_halves()).to_columns();
-        let last = closed(subkey, held, filled).to_halves();
+        let last = closed(subkeys, held, filled);
         cipher.encrypt_halves(state.xor(last)).to_columns()
     }
 }
@@ -149,15 +161,16 @@ fn overlaid(mut block: [u8; BLOCK_LEN], at: usize, bytes: &[u8]) -> [u8; BLOCK_L
 }
 
 /// The last block of a message, whole or padded, with its subkey (RFC 4493, section 2.4).
-fn closed(subkey: Block, held: [u8; BLOCK_LEN], filled: usize) -> Block
+fn closed(subkeys: Subkeys, held: [u8; BLOCK_LEN], filled: usize) -> Halves
     requires { filled ≤ 16 }
-    ensures { bytes_of result ≡ last_block (bytes_of subkey) (take filled held) }
+    ensures { (key : List ℕ) → AreSubkeys subkeys key → halves_bytes result ≡ last_block (aes key (replicate 16 0)) (take filled held) }
 {
-    let once = subkey.doubled();
     if filled == BLOCK_LEN {
-        Block::of(&held).xor(once)
+        Block::of(&held).to_halves().xor(subkeys.whole)
     } else {
-        Block::of(&padded(held, filled)).xor(once.doubled())
+        Block::of(&padded(held, filled))
+            .to_halves()
+            .xor(subkeys.padded)
     }
 }
 

@@ -7,6 +7,7 @@
 mod block;
 mod cipher;
 mod hasher;
+mod subkeys;
 mod table;
 
 pub use cipher::Aes128;

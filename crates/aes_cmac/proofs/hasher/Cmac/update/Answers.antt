@@ -11,6 +11,7 @@ returns-then-piece-room c = λ key fed h.
     let piece = c.args.piece.now in
     record {
       keyed = h.keyed;
+      subkeys = h.subkeys;
       same = λ more. fed_within key fed piece (take s.filled s.held) _ (halves_bytes s.state) more (h.same (piece ++ more)) c.overlaid-self.ensures;
     }
 
@@ -32,6 +33,7 @@ returns c = λ key fed h.
     let chained : halves_bytes c.encrypt_halves-state.result ≡ aes key (xor (halves_bytes s.state) block) = rw (c.encrypt_halves-state.ensures key h.keyed, c.xor.ensures, c.to_halves.ensures, c.of.ensures) refl in
     record {
       keyed = h.keyed;
+      subkeys = h.subkeys;
       same = λ more.
           rw last (fed_over key fed piece front rest (take s.filled s.held) block (halves_bytes s.state) more (h.same (piece ++ more)) cut whole len some ∙ (rw chained at (c.absorbed.ensures.same key more h.keyed)));
     }
