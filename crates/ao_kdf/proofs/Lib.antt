@@ -1,2 +1,3 @@
 pub mod CacheLaws
+pub mod HasherLaws
 pub mod InputLaws

@@ -6,6 +6,7 @@
 #![tactic(auto)]
 
 mod cache;
+mod hasher;
 mod input;
 mod key;
 #[cfg(test)]
@@ -13,6 +14,7 @@ mod tests;
 mod way;
 
 pub use cache::KeyCache;
+pub use hasher::Hasher;
 pub use key::{TrafficKey, traffic_key};
 pub use mac_model::Context;
 pub use way::Way;
