@@ -10,9 +10,10 @@ use Rattle.key_model.specs.declared.lint.LintAnswer.TheVariants as answer
 use Rattle.key_model.specs.Lifetimes.{is_covered, IsFirstGap}
 use Rattle.segment_model.proofs.Fields.{and_tells}
 use Rattle.key_model.proofs.PlanLaws.{found_at}
-use Rattle.key_model.specs.Plans.{accepts_from, accepts_throughout, outlasts, mirrored, AlignedFrom, send_lifetimes, has_sendable, gap, IsGap, lint_rows}
+use Rattle.key_model.specs.Plans.{accepts_from, accepts_throughout, outlasts, mirrored, send_lifetimes, has_sendable, gap, IsGap, lint_rows}
 use Rattle.key_model.specs.Rows.{Row}
 use Rattle.key_model.proofs.GapLaws.{covered_is_sendable, gap_exactly, is_gap, lint_aligned}
+use Rattle.key_lint.specs.CarriesThrough.{CarriesThrough}
 
 -- a row that accepts throughout accepts
 pub accepted_too : (others : List Row) (pair : Pair) (lead lag : ℕ) (r : Row) → list_any (accepts_throughout pair lead lag r) others ≡ true → list_any (accepts_from pair r) others ≡ true
@@ -38,12 +39,12 @@ gap_told ls rows pair low high o same some none = sym (is_gap rows pair low high
     told None some none = λ t a b. sendable_at t true (none t a b)
     told (Some time) first none = (first.above, first.below, sendable_at time false first.free, λ t a b. sendable_at t true (first.least t a b))
 
-pub aligned_exactly : (a b : List Row) (pair : Pair) (lead lag low high : ℕ) → (lint_rows a b pair lead lag low high ≡ answer.Aligned)
-    ↔ (AlignedFrom a b pair lead lag × AlignedFrom b a (mirrored pair) lead lag × IsGap a pair low high None × IsGap b (mirrored pair) low high None)
+pub aligned_exactly : (a b : List Row) (pair : Pair) (lead lag low high : ℕ)
+    → (lint_rows a b pair lead lag low high ≡ answer.Aligned) ↔ CarriesThrough a b pair lead lag low high
 aligned_exactly a b pair lead lag low high =
     let law = lint_aligned a b pair lead lag low high in
     let here = gap_exactly a pair low high None in
     let there = gap_exactly b (mirrored pair) low high None in (
-      λ e. let t = law.0 e in (t.0.0, t.0.1, here.0 t.1, there.0 t.2),
-      λ h. law.1 ((h.0, h.1), here.1 h.2, there.1 h.3),
+      λ e. let t = law.0 e in record { taken_at_b = t.0.0; taken_at_a = t.0.1; keyed_at_a = here.0 t.1; keyed_at_b = there.0 t.2 },
+      λ h. law.1 ((h.taken_at_b, h.taken_at_a), here.1 h.keyed_at_a, there.1 h.keyed_at_b),
     )

@@ -1,1 +1,2 @@
+pub mod CarriesThrough
 pub mod Unmet

@@ -1,6 +1,8 @@
 //! The judgement on the tables of the two ends of a connection.
-ghost use Rattle.std.specs.Prelude.{◌≡◌, ◌≤◌, length};
+ghost use Rattle.std.specs.Prelude.{◌≡◌, ◌≤◌, ◌↔◌, length};
+ghost use Rattle.key_model.specs.declared.lint.LintAnswer.TheVariants as answer;
 ghost use Rattle.key_model.specs.Plans.{lint_of, rows_at};
+ghost use Rattle.key_lint.specs.CarriesThrough.{CarriesThrough};
 
 use crate::gap::gap;
 use crate::way::Way;
@@ -22,18 +24,9 @@ fn rows_at<'a>(tables: &'a Tables, address: &Address) -> &'a [Row]
     }
 }
 
-/// Judges the tables of the two ends of a connection; end A is the local one. An address that no node
-/// has stands for a table without rows.
-///
-/// First each row that sends over the connection, those of A in order and then those of B:
-/// `NoPeerRow` exactly where no matching row for what comes in at the other end has this row's SendID
-/// as RecvID and the same key, algorithm and option flag (RFC 5925, section 3.1); `ShortAccept` exactly
-/// where there is one and none of them accepts both `lead` seconds before the first second in which
-/// this row sends, or at 0, and `lag` seconds after the last, or at `LATEST`. Then `Gap` exactly where
-/// at some time from `from` to `to`, in seconds since 1970, an end has no sendable row (RFC 7210,
-/// section 3): the least such time, of A if it has one. Else `Aligned`.
+/// The judgement: the first row that isn't met, of A and then of B, before a gap of A and then of B.
 #[tactic(auto, unfolding(key_model::specs::Plans::lint_rows, key_model::specs::Plans::first_misaligned))]
-pub fn lint(tables: &Tables, pair: &Pair, lead: u64, lag: u64, from: u64, to: u64) -> LintAnswer
+fn judge(tables: &Tables, pair: &Pair, lead: u64, lag: u64, from: u64, to: u64) -> LintAnswer
     ensures { result ≡ lint_of tables.now pair.now lead lag from to }
 {
     let there = Way {
@@ -57,4 +50,24 @@ pub fn lint(tables: &Tables, pair: &Pair, lead: u64, lag: u64, from: u64, to: u6
         return LintAnswer::Gap(End::B, time);
     }
     LintAnswer::Aligned
+}
+
+/// Judges the tables of the two ends of a connection; end A is the local one. An address that no node
+/// has stands for a table without rows.
+///
+/// First each row that sends over the connection, those of A in order and then those of B:
+/// `NoPeerRow` exactly where no matching row for what comes in at the other end has this row's SendID
+/// as RecvID and the same key, algorithm and option flag (RFC 5925, section 3.1); `ShortAccept` exactly
+/// where there is one and none of them accepts both `lead` seconds before the first second in which
+/// this row sends, or at 0, and `lag` seconds after the last, or at `LATEST`. Then `Gap` exactly where
+/// at some time from `from` to `to`, in seconds since 1970, an end has no sendable row (RFC 7210,
+/// section 3): the least such time, of A if it has one. Else `Aligned`: exactly where the tables carry
+/// a rollover through, the premise of the laws that no segment is refused for its key and that an end
+/// always has one.
+pub fn lint(tables: &Tables, pair: &Pair, lead: u64, lag: u64, from: u64, to: u64) -> LintAnswer
+    ensures answer { result ≡ lint_of tables.now pair.now lead lag from to }
+    ensures carries_through { (result ≡ answer.Aligned)
+        ↔ CarriesThrough (rows_at tables.now pair.now.local.address) (rows_at tables.now pair.now.remote.address) pair.now lead lag from to }
+{
+    judge(tables, pair, lead, lag, from, to)
 }

@@ -1,9 +1,10 @@
 //! What the judgement promises of a rollover.
-ghost use Rattle.std.specs.Prelude.{◌≡◌, ◌↔◌, ℕ, List, None};
+ghost use Rattle.std.specs.Prelude.{◌≡◌, ◌↔◌, ℕ, List};
 ghost use Rattle.ao_base.specs.declared.address.Pair.{Pair};
 ghost use Rattle.key_model.specs.declared.lint.LintAnswer.TheVariants as answer;
-ghost use Rattle.key_model.specs.Plans.{mirrored, AlignedFrom, IsGap, lint_of, rows_at};
+ghost use Rattle.key_model.specs.Plans.{lint_of, rows_at};
 ghost use Rattle.key_model.specs.Rows.{Table};
+ghost use Rattle.key_lint.specs.CarriesThrough.{CarriesThrough};
 
 /// The judgement is `Aligned` exactly where each end's rows are aligned with the other end's, with
 /// this lead and lag, and at each time of the range each end has a sendable row.
@@ -14,9 +15,6 @@ ghost use Rattle.key_model.specs.Rows.{Table};
 /// the range an end has a row to send with (`never_keyless`).
 pub fn aligned_carries_through()
     ensures { (tables : List Table) (pair : Pair) (lead lag low high : ℕ) →
-        let a = rows_at tables pair.local.address in
-        let b = rows_at tables pair.remote.address in
         (lint_of tables pair lead lag low high ≡ answer.Aligned)
-        ↔ (AlignedFrom a b pair lead lag × AlignedFrom b a (mirrored pair) lead lag
-        × IsGap a pair low high None × IsGap b (mirrored pair) low high None) }
+        ↔ CarriesThrough (rows_at tables pair.local.address) (rows_at tables pair.remote.address) pair lead lag low high }
 {}

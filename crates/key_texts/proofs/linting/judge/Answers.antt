@@ -19,8 +19,8 @@ loop-line-preserved c =
     line_judged c.args.tables.now c.args.plan c.loop-line.out.items c.loop-line.has_misfit
     (record { number = c.in-Some.line.number; words = c.in-Some.line.words }) c.next.new.self c.loop-line.lines
     (judged_from c.args.tables.now c.args.plan [] false (said_by connection_of c.args.lines)) c.in-Some.ensures c.loop-line.invariant
-    c.in_ok-pair.pair c.push_line.new.out.items _ c.in_ok-pair.ensures (rw c.lint-answer.ensures at c.in_ok-push_line.ensures)
-    (ap (λ b. c.loop-line.has_misfit || not b) (c.is_aligned.ensures ∙ ap is_aligned c.lint-answer.ensures))
+    c.in_ok-pair.pair c.push_line.new.out.items _ c.in_ok-pair.ensures (rw c.lint-answer.ensures.answer at c.in_ok-push_line.ensures)
+    (ap (λ b. c.loop-line.has_misfit || not b) (c.is_aligned.ensures ∙ ap is_aligned c.lint-answer.ensures.answer))
 
 pub returns : goal.returns
 returns c =
