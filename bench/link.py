@@ -1,21 +1,18 @@
 #!/usr/bin/env python3
-"""Times link files of 20,000 lines, one of five bytes, and a storm, and says where a run takes too long or too much memory.
+"""Times link files of 20,000 lines, one of five bytes, and a storm.
 
-    bench/link.py PROGRAM
+    bench/link.py PROGRAM [small]
 
-PROGRAM is the built aotcp. Each run is made three times, with the same output, and its best processor time taken. The gate
-doesn't run it.
+Each run is made three times, and its best time taken. Status 0: each ends with status 0 and the same output each time, takes at most
+a second of a processor (that of five bytes 0.02) and less than 80 MiB. With `small` files of 1,000 lines, and the same bounds.
 """
 import itertools
-import os
-import pathlib
-import subprocess
-import sys
-import tempfile
+
+import measure
 
 LINES = 20_000
-# In KiB. A run's figure is never below what this script has itself: so files and outputs stay on disk.
-MOST_MEMORY = 80 * 1024
+# In MiB. A run's figure is never below what this script has itself: so files and outputs stay on disk.
+MOST_MEMORY = 80
 HEAD = [
     "aotcp-link 1",
     "a 10.0.0.1 1000",
@@ -86,36 +83,25 @@ FILES = [
 ]
 
 
-def run(program, words, source, target):
-    """The status, the processor time and the most memory in KiB of a run."""
-    with open(source, "rb") as given, open(target, "wb") as said:
-        with subprocess.Popen([program, *words], stdin=given, stdout=said) as child:
-            _, status, used = os.wait4(child.pid, 0)
-            child.returncode = os.waitstatus_to_exitcode(status)
-    return child.returncode, used.ru_utime + used.ru_stime, used.ru_maxrss
+def timed(program, folder, name, words, most):
+    """The row of three runs."""
+    command = [program, *words]
+    runs = {str(n): (command, folder / "given", folder / f"said-{n}") for n in range(3)}
+    used = list(measure.best_in_turns(runs, 1).values())
+    same = all(measure.is_same(folder / "said-0", target) for _, _, target in runs.values())
+    seconds, memory = min(each.seconds for each in used), max(each.memory for each in used)
+    right = same and not any(each.status for each in used) and seconds < most and memory < MOST_MEMORY
+    return measure.Row(name, f"{seconds:.3f} s, {memory:.0f} MiB", right)
 
 
-def is_within(program, folder, name, words, most):
-    """Whether three runs end well with the same output, and within the bounds."""
-    targets = [folder / f"said-{n}" for n in range(3)]
-    runs = [run(program, words, folder / "given", target) for target in targets]
-    seconds, memory = min(each[1] for each in runs), max(each[2] for each in runs)
-    same = all(subprocess.run(["cmp", "-s", targets[0], other], check=False).returncode == 0 for other in targets[1:])
-    right = same and not any(each[0] for each in runs) and seconds < most and memory < MOST_MEMORY
-    print(f"{name}: {seconds:.3f} s, {memory // 1024} MiB", "" if right else "AMISS", flush=True)
-    return right
-
-
-def main():
-    with tempfile.TemporaryDirectory() as place:
-        folder, amiss = pathlib.Path(place), 0
-        for lines, most in FILES:
-            with open(folder / "given", "w", encoding="ascii") as given:
-                given.writelines(line + "\n" for line in itertools.islice(itertools.chain(HEAD, lines()), LINES))
-            amiss += not is_within(sys.argv[1], folder, lines.__name__, ["link"], most)
-        amiss += not is_within(sys.argv[1], folder, "storm 7 10000", ["storm", "7", "10000"], 1.0)
-    sys.exit(amiss > 0)
+def bench(program, folder, small):
+    for lines, most in FILES:
+        with open(folder / "given", "w", encoding="ascii") as given:
+            events = itertools.islice(itertools.chain(HEAD, lines()), 1_000 if small else LINES)
+            given.writelines(line + "\n" for line in events)
+        yield timed(program, folder, lines.__name__.replace("_", " "), ["link"], most)
+    yield timed(program, folder, "storm 7 10000", ["storm", "7", "10000"], 1.0)
 
 
 if __name__ == "__main__":
-    main()
+    measure.main(bench)

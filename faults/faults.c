@@ -16,9 +16,7 @@ enum { MEMORY, READ, WRITE, KINDS };
 static long seen[KINDS], failing[KINDS];
 static int ready;
 
-static int is_turn(int kind) {
-    return ready && ++seen[kind] == failing[kind];
-}
+static int is_turn(int kind) { return ready && ++seen[kind] == failing[kind]; }
 
 __attribute__((constructor)) static void begin(void) {
     static const char *names[KINDS] = {"FAIL_MEMORY", "FAIL_READ", "FAIL_WRITE"};
@@ -42,7 +40,8 @@ __attribute__((destructor)) static void end(void) {
     close(file);
 }
 
-extern void *__libc_malloc(size_t), *__libc_calloc(size_t, size_t), *__libc_realloc(void *, size_t), *__libc_memalign(size_t, size_t);
+extern void *__libc_malloc(size_t), *__libc_calloc(size_t, size_t), *__libc_realloc(void *, size_t),
+    *__libc_memalign(size_t, size_t);
 
 void *malloc(size_t size) { return is_turn(MEMORY) ? NULL : __libc_malloc(size); }
 void *calloc(size_t count, size_t size) { return is_turn(MEMORY) ? NULL : __libc_calloc(count, size); }
@@ -58,12 +57,18 @@ int posix_memalign(void **out, size_t to, size_t size) {
 
 ssize_t read(int file, void *into, size_t size) {
     ssize_t (*plain)(int, void *, size_t) = dlsym(RTLD_NEXT, "read");
-    if (is_turn(READ)) { errno = EIO; return -1; }
+    if (is_turn(READ)) {
+        errno = EIO;
+        return -1;
+    }
     return plain(file, into, size);
 }
 
 ssize_t write(int file, const void *from, size_t size) {
     ssize_t (*plain)(int, const void *, size_t) = dlsym(RTLD_NEXT, "write");
-    if (file != 2 && is_turn(WRITE)) { errno = EIO; return -1; }
+    if (file != 2 && is_turn(WRITE)) {
+        errno = EIO;
+        return -1;
+    }
     return plain(file, from, size);
 }
