@@ -1,5 +1,5 @@
 /* Makes one request for memory, one read or one write of a program fail: the one with the number in FAIL_MEMORY, FAIL_READ or
- * FAIL_WRITE, counted from 1. Built by bench/faults.sh as a library that is loaded in front of the C library. At the end it
+ * FAIL_WRITE, counted from 1. Built by faults/faults.py as a library that is loaded in front of the C library. At the end it
  * writes how many of each there were to the file named by FAULTS_SEEN. */
 #define _GNU_SOURCE
 #include <dlfcn.h>
