@@ -1,12 +1,12 @@
 #!/usr/bin/env python3
 """Makes each request for memory, each read and each write of a built program fail in turn, and checks how it ends: with status 7,
-5 or 6 and its text, and with nothing or a front part of the output written. The gate doesn't run it.
+5 or 6 and its text, and with nothing or a front part of the output written.
 
-    bench/faults.py PROGRAM [FOLDER [KIND..]]
+    faults/faults.py PROGRAM [KIND..]
 
 PROGRAM is the built aotcp. Three runs are made here: two routers over a year with a rollover, a key file with an overlap, and datagrams
-that are shown. FOLDER has more, as for bench/cases.sh: FOLDER/KIND/NAME.words (a line of words, in which KEYS stands for the path of
-NAME.keys) with NAME.input; the first three of each KIND are taken. bench/faults.c is built with cc and loaded in front of the C library.
+that are shown. The first three cases of each kind of oracle/cases follow, or of these kinds; of the kind `none`, no more. faults.c is built
+with cc and loaded in front of the C library. Status 0: each fault ended so.
 """
 import os
 import pathlib
@@ -15,6 +15,13 @@ import sys
 import tempfile
 
 HERE = pathlib.Path(__file__).resolve().parent
+sys.path.insert(0, str(HERE.parent / "oracle"))
+
+import case_file  # noqa: E402
+
+CASES = HERE.parent / "oracle" / "cases"
+# How many cases of a kind are taken.
+OF_A_KIND = 3
 TEXTS = {"MEMORY": (7, b"memory\n"), "READ": (5, b"read fault\n"), "WRITE": (6, b"write fault\n")}
 # What writes as it reads may have written a front part whatever failed.
 AS_IT_READS = {"check"}
@@ -105,12 +112,9 @@ def own_runs(folder):
 
 
 def stored_runs(folder, kinds):
-    for kind in kinds or sorted(place.name for place in folder.iterdir() if place.is_dir()):
-        for words in sorted((folder / kind).glob("*.words"))[:3]:
-            case = words.with_suffix("")
-            line = [f"{case}.keys" if word == "KEYS" else word for word in words.read_text().split()]
-            text = pathlib.Path(f"{case}.input")
-            yield f"{kind}/{case.name}", line, text.read_bytes() if text.exists() else b""
+    for kind in kinds or sorted(path.stem for path in CASES.glob("*.txt")):
+        for case in case_file.read(CASES / f"{kind}.txt")[:OF_A_KIND] if kind != "none" else []:
+            yield f"{kind}/{case.name}", case_file.words_over(case, folder), case.parts.get("input", b"")
 
 
 def run(program, library, words, text, **faults):
@@ -152,9 +156,7 @@ def main():
         folder = pathlib.Path(place)
         library = folder / "faults.so"
         subprocess.run(["cc", "-O2", "-shared", "-fPIC", "-o", library, HERE / "faults.c", "-ldl"], check=True)
-        runs = list(own_runs(folder))
-        if len(sys.argv) > 2:
-            runs += stored_runs(pathlib.Path(sys.argv[2]), sys.argv[3:])
+        runs = [*own_runs(folder), *stored_runs(folder, sys.argv[2:])]
         total, amiss = 0, []
         for name, words, text in runs:
             made, wrong = tried(program, library, folder, name, words, text)

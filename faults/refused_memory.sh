@@ -1,8 +1,8 @@
 #!/usr/bin/env bash
 # Refuses each allocation of the read of the two-node file in key_table's tests in turn, and prints
-# what `read_tables` answered to each. The gate doesn't run it. Status 0: every refused read answered
+# what `read_tables` answered to each. Status 0: every refused read answered
 # `Memory`, and the next read had both nodes.
-# Usage: bench/refused_memory.sh [LAST], where LAST is past the last allocation of the read.
+# Usage: faults/refused_memory.sh [LAST], where LAST is past the last allocation of the read. It needs `rt`.
 #
 # `rt try --test --fail-alloc LAST` refuses the LASTth allocation of each test, since each test has
 # a process of its own. It takes about a minute, nearly all of it to build, so one run tries all: in

@@ -5,7 +5,9 @@ A client with initial sequence number 100 opens a connection to a server with 20
 bytes at numbers that lie 2^30 apart, so that the extension reaches 2; then one segment that lies 2^31
 past the number expected, and the beginning of another one. Behind an empty line, two connections of the
 same sockets, one after the other, beside one of another port. The derivation and the MAC input are built
-anew from RFC 5925 (sections 5.1 and 5.2) and RFC 5926 (section 3.1). The gate doesn't run it.
+anew from RFC 5925 (sections 5.1 and 5.2) and RFC 5926 (section 3.1).
+
+    oracle/stored_segments.py
 """
 import hashlib
 import hmac

@@ -2,8 +2,9 @@
 """Prints the signed segments of the tests of ao_check, made by Python's hmac and hashlib alone.
 
 It builds the inputs of the key derivation and of the MAC anew, from the rules of RFC 5925 (sections
-5.1 and 5.2) and RFC 5926 (section 3.1), over the headers of `vectors_sha256.py`. The gate doesn't
-run it.
+5.1 and 5.2) and RFC 5926 (section 3.1), over the headers of `vectors_sha256.py`.
+
+    oracle/vectors_check.py
 """
 import hashlib
 import hmac

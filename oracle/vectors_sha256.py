@@ -4,7 +4,9 @@
 The expected values in the tests of ao_kdf and ao_mac are those of this program: it builds the
 inputs of the key derivation and of the MAC anew, from the rules of RFC 5925 (sections 5.1 and 5.2)
 and RFC 5926 (section 3.1) and this project's own third algorithm (a traffic key of 256 bits, a MAC
-of 128 bits). The gate doesn't run it.
+of 128 bits).
+
+    oracle/vectors_sha256.py
 """
 import hashlib
 import hmac
