@@ -11,7 +11,7 @@ import itertools
 import measure
 
 LINES = 20_000
-# In MiB. A run's figure is never below what this script has itself: so files and outputs stay on disk.
+# In MiB.
 MOST_MEMORY = 80
 HEAD = [
     "aotcp-link 1",

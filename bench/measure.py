@@ -1,7 +1,10 @@
 """What the benches share: a run with the processor time and memory that it took, the best of some in turns, and the rows that are printed."""
+import atexit
 import dataclasses
-import os
+import functools
 import pathlib
+import shutil
+import subprocess
 import sys
 import tempfile
 
@@ -28,16 +31,22 @@ class Row:
     right: bool
 
 
+@functools.cache
+def tools():
+    """A folder with `used`, built from used.c."""
+    folder = pathlib.Path(tempfile.mkdtemp())
+    atexit.register(shutil.rmtree, folder)
+    subprocess.run(["cc", "-O2", "-o", folder / "used", BENCH / "used.c"], check=True)
+    return folder
+
+
 def run(command, source, target):
     """Runs a command over a file into a file."""
+    report = tools() / "report"
     with open(source, "rb") as given, open(target, "wb") as said:
-        child = os.fork()
-        if child == 0:
-            os.dup2(given.fileno(), 0)
-            os.dup2(said.fileno(), 1)
-            os.execvp(command[0], command)
-        _, status, used = os.wait4(child, 0)
-    return Used(used.ru_utime + used.ru_stime, used.ru_maxrss / 1024, os.waitstatus_to_exitcode(status))
+        subprocess.run([tools() / "used", report, *command], stdin=given, stdout=said, check=True)
+    microseconds, kibibytes, status = map(int, report.read_text(encoding="ascii").split())
+    return Used(microseconds / 1e6, kibibytes / 1024, status)
 
 
 def best_in_turns(commands, turns):
@@ -60,7 +69,7 @@ def print_rows(name, rows):
     """Prints the rows of a bench as they come: whether all are right."""
     right = True
     for row in rows:
-        print(f"{name:12}{row.what:44}{row.figures:58}{'' if row.right else 'AMISS'}".rstrip(), flush=True)
+        print(f"{name:12}{row.what:52}{row.figures:58}{'' if row.right else 'AMISS'}".rstrip(), flush=True)
         right &= row.right
     return right
 
