@@ -69,7 +69,7 @@ def print_rows(name, rows):
     """Prints the rows of a bench as they come: whether all are right."""
     right = True
     for row in rows:
-        print(f"{name:12}{row.what:52}{row.figures:58}{'' if row.right else 'AMISS'}".rstrip(), flush=True)
+        print(f"{name:12}{row.what:52}{row.figures}{'' if row.right else '  AMISS'}", flush=True)
         right &= row.right
     return right
 
