@@ -1,6 +1,6 @@
 #!/usr/bin/env python3
-"""Whether all that docs/CONFORMANCE.md names exists: each definition in its file of `specs`, and each law, test, edit and example in the last
-column of its tables. Names what is missing, and fails."""
+"""Whether all that docs/CONFORMANCE.md names exists: each definition in its file of `specs`, and each law, test, edit and example in the
+last column of its tables. Names what is missing, and fails."""
 import pathlib
 import re
 import sys

@@ -1,10 +1,11 @@
 #!/usr/bin/env python3
-"""Measures the memory of `check`: for 65,536 connections, with what is said of one more, and for 1,000 and 90,000 segments of one connection.
+"""Measures the memory of `check`: for 65,536 connections, with what is said of one more, and for 1,000 and 90,000 segments of one
+connection.
 
     bench/check.py PROGRAM [small]
 
-Status 0: the one more is `full` and all before pass, that takes under 200 MiB, and the memory for the two inputs of segments differs by less
-than 1 MiB. With `small` 3,000 in place of 90,000. It needs the package cryptography.
+Status 0: the one more is `full` and all before pass, that takes under 200 MiB, and the memory for the two inputs of segments differs
+by less than 1 MiB. With `small` 3,000 in place of 90,000. It needs the package cryptography.
 """
 import measure
 import make_capture

@@ -3,7 +3,7 @@
 
     bench/link.py PROGRAM [small]
 
-Each run is made three times, and its best time taken. Status 0: each ends with status 0 and the same output each time, takes at most
+Each run is made three times, and its best time taken. Status 0: each ends with status 0 and the same whole report each time, takes at most
 a second of a processor (that of five bytes 0.02) and less than 80 MiB. With `small` files of 1,000 lines, and the same bounds.
 """
 import itertools
@@ -89,8 +89,10 @@ def timed(program, folder, name, words, most):
     runs = {str(n): (command, folder / "given", folder / f"said-{n}") for n in range(3)}
     used = list(measure.best_in_turns(runs, 1).values())
     same = all(measure.is_same(folder / "said-0", target) for _, _, target in runs.values())
+    last = (folder / "said-0").read_bytes().rstrip(b"\n").rpartition(b"\n")[2]
+    whole = last.startswith(b"segments ") and last.endswith(b" forgeries 0")
     seconds, memory = min(each.seconds for each in used), max(each.memory for each in used)
-    right = same and not any(each.status for each in used) and seconds < most and memory < MOST_MEMORY
+    right = same and whole and not any(each.status for each in used) and seconds < most and memory < MOST_MEMORY
     return measure.Row(name, f"{seconds:.3f} s, {memory:.0f} MiB", right)
 
 

@@ -1,6 +1,6 @@
 #!/usr/bin/env python3
-"""Times `lint` on 20,000 lines of one connection over a key file that makes its judgement long: 16 nodes of 64 rows, all with one id and one
-key and 16 peers each, where the row that meets a row is the last of those that could.
+"""Times `lint` on 20,000 lines of one connection over a key file that makes its judgement long: 16 nodes of 64 rows, all with one id and
+one key and 16 peers each, where the row that meets a row is the last of those that could.
 
     bench/lint.py PROGRAM [small]
 

@@ -1,4 +1,4 @@
-"""What the benches share: a run with the processor time and memory that it took, the best of some in turns, and the rows that are printed."""
+"""What the benches share: a run with the processor time and memory that it took, the best of some in turns, and the rows."""
 import atexit
 import dataclasses
 import functools

@@ -1,5 +1,6 @@
 #!/usr/bin/env python3
-"""Times a node's file of 20,000 lines over 1,024 connections, each of which sends nine segments of 500 bytes, and whose clock is set 542 times.
+"""Times a node's file of 20,000 lines over 1,024 connections, each of which sends nine segments of 500 bytes, and whose clock is set 542
+times.
 
     bench/node.py PROGRAM [small]
 

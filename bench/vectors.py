@@ -1,6 +1,6 @@
 #!/usr/bin/env python3
-"""Times 10,000 test vectors for each algorithm, each the MAC of a datagram of 1,400 bytes, beside a Python program that reads the same lines and
-hashes their datagrams once (SHA-1, or SHA-256 for the third algorithm).
+"""Times 10,000 test vectors for each algorithm, each the MAC of a datagram of 1,400 bytes, beside a Python program that reads the same
+lines and hashes their datagrams once (SHA-1, or SHA-256 for the third algorithm).
 
     bench/vectors.py PROGRAM [small]
 
@@ -17,7 +17,7 @@ ALGORITHMS = [("HMAC-SHA-1-96", 16, "sha1"), ("AES-128-CMAC-96", 16, "sha1"), ("
 
 
 def front_of(option):
-    """The IPv4 header, then ports, sequence, acknowledgement, offset and flags, window, checksum, urgent pointer, then TCP-AO up to its MAC."""
+    """The IPv4 header, ports, sequence, acknowledgement, offset and flags, window, checksum, urgent pointer, and TCP-AO up to its MAC."""
     front = bytes.fromhex("4500057800004000400600000a0000010a000002")
     front = front[:10] + (0xFFFF ^ sum16(front)).to_bytes(2, "big") + front[12:]
     front += bytes.fromhex("03e807d000000065000000c9") + bytes([(20 + option) * 4, 24]) + bytes.fromhex("ffff00000000")
