@@ -1,5 +1,5 @@
--- What an operator may rely on in a run of a link, whatever is delivered, lost, repeated, reordered,
--- altered or injected, and whatever the clocks read.
+-- What an operator may rely on in a run of a link, whatever is delivered, lost, repeated,
+-- reordered, altered or injected, and whatever the clocks read.
 use Rattle.std.specs.Prelude.{◌≡◌, ◌≢◌, ℕ, Bool, List, ◌∷◌, ◌++◌}
 use Rattle.link_model.specs.declared.event.Event.{Event}
 use Rattle.link_model.specs.declared.event.Event.TheVariants.{Send, Resend, Deliver, Take}
@@ -52,8 +52,8 @@ TakesAsTold setup w (Take e count) =
     → TookFrom (live (side w e).sessions) (live (side after.world e).sessions) bytes shown
 TakesAsTold setup w _ = Unit {0}
 
--- a segment that comes as it was made, within the lead and the lag for which the tables are aligned,
--- is admitted (RFC 5925, section 7.5)
+-- a segment that comes as it was made, within the lead and the lag for which the tables are
+-- aligned, is admitted (RFC 5925, section 7.5)
 abbrev pub AdmitsInTime : Setup → World → Event → Type 0
 AdmitsInTime setup w (Deliver e name) =
     (m : Made) → RollsOver setup w e name m → IsAdmitted (step setup w (Deliver e name)).outcome

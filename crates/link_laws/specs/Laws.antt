@@ -1,5 +1,6 @@
 -- What holds of every run: no gap, rollover, origin and reset.
-use Rattle.std.specs.Prelude.{◌≡◌, ◌⊎◌, ℕ, ◌+◌, ◌<◌, ◌≤◌, ◌^◌, true, false, List, [], ◌∷◌, Some, None, ⊤}
+use Rattle.std.specs.Prelude.{◌≡◌, ◌⊎◌, ℕ, ◌+◌, ◌<◌, ◌≤◌, ◌^◌, true, false, List, [], ◌∷◌}
+use Rattle.std.specs.Prelude.{Some, None, ⊤}
 use Rattle.std.specs.List.{AllByRecursion}
 use Rattle.ao_base.specs.declared.address.Address.{Address}
 use Rattle.ao_base.specs.declared.address.Address.TheVariants.{V4, V6}
@@ -14,21 +15,32 @@ use Rattle.key_model.specs.Plans.{AlignedFrom, IsGap}
 use Rattle.endpoint_model.specs.States.{EndState, is_closed}
 use Rattle.endpoint_model.specs.Verdicts.{Finding}
 use Rattle.endpoint_model.specs.declared.arrival.Arrival.{Arrival}
-use Rattle.endpoint_model.specs.declared.arrival.Arrival.TheVariants.{Bad, Foreign, Checksum, Closed as AtClosed, Refused, Unexpected, Window, Challenge, NoAck, BadAck, TooManyRuns, Reset, Taken}
+use Rattle.endpoint_model.specs.declared.arrival.Arrival.TheVariants.{Bad, Foreign, Checksum}
+use Rattle.endpoint_model.specs.declared.arrival.Arrival.TheVariants.{Closed as AtClosed, Refused}
+use Rattle.endpoint_model.specs.declared.arrival.Arrival.TheVariants.{Unexpected, Window, Challenge}
+use Rattle.endpoint_model.specs.declared.arrival.Arrival.TheVariants.{NoAck, BadAck, TooManyRuns}
+use Rattle.endpoint_model.specs.declared.arrival.Arrival.TheVariants.{Reset, Taken}
 use Rattle.link_model.specs.declared.event.Event.{Event}
-use Rattle.link_model.specs.declared.event.Event.TheVariants.{Clock, Connect, Listen, Start, Give, Fill, Send, Resend, Deliver, Inject, Alter, Take, Close, Abort, AddRow, Withdraw, Dump}
+use Rattle.link_model.specs.declared.event.Event.TheVariants.{Clock, Connect, Listen, Start, Give}
+use Rattle.link_model.specs.declared.event.Event.TheVariants.{Fill, Send, Resend, Deliver, Inject}
+use Rattle.link_model.specs.declared.event.Event.TheVariants.{Alter, Take, Close, Abort, AddRow}
+use Rattle.link_model.specs.declared.event.Event.TheVariants.{Withdraw, Dump}
 use Rattle.link_model.specs.Outcomes.{Outcome, Answered}
 use Rattle.link_model.specs.RowLines.{row_of}
-use Rattle.link_model.specs.Worlds.{other, Setup, pair_of, rows_of, Session, Made, Came, Happening, Making, Coming, World, side, find, live, partner, addressed, forgeries, segment_named}
+use Rattle.link_model.specs.Worlds.{other, Setup, pair_of, rows_of, Session, Made, Came, Happening}
+use Rattle.link_model.specs.Worlds.{Making, Coming, World, side, find, live, partner, addressed}
+use Rattle.link_model.specs.Worlds.{forgeries, segment_named}
 use Rattle.link_model.specs.Steps.{step}
 
--- the columns of a row fit their places: ids of one byte, a key of bytes (RFC 5925, section 2.2; RFC 7210, section 2)
+-- the columns of a row fit their places: ids of one byte, a key of bytes
+-- (RFC 5925, section 2.2; RFC 7210, section 2)
 pub record RowFits (r : Row) : Type 0 where
   pub recv_id : r.recv_id < 256
   pub send_id : r.send_id < 256
   pub master : AreBytes r.master
 
--- two addresses of one family, each as long as its family's are (RFC 791, section 3.1; RFC 8200, section 3)
+-- two addresses of one family, each as long as its family's are
+-- (RFC 791, section 3.1; RFC 8200, section 3)
 abbrev pub OneFamily : Address → Address → Type 0
 OneFamily (V4 one) (V4 two) = IsV4 (V4 one) × IsV4 (V4 two)
 OneFamily (V6 one) (V6 two) = IsV6 (V6 one) × IsV6 (V6 two)
@@ -46,7 +58,8 @@ pub record SetupFits (setup : Setup) : Type 0 where
 pub record TablesFit (setup : Setup) : Type 0 where
   pub valid : (e : End) → IsValid (rows_of setup e)
 
--- what the types of an event say: initial sequence numbers are 32-bit numbers (RFC 9293, section 3.4.1), contents are bytes, clock readings are times of a key file
+-- what the types of an event say: initial sequence numbers are 32-bit numbers (RFC 9293, section
+-- 3.4.1), contents are bytes; and clock readings are times of a key file (own)
 abbrev pub EventFits : Event → Type 0
 EventFits (Clock e seconds) = seconds ≤ greatest_time
 EventFits (Connect e isn) = isn < 2 ^ 32
@@ -79,7 +92,10 @@ pub record IsNear (n x : ℕ) : Type 0 where
   pub ahead : n < x + 2147483648
   pub behind : x ≤ n + 2147483648
 
--- a segment that the other end made is about to be delivered as it was made, within so long before and after its making; the tables are aligned, from the maker's when it was made to the receiver's now; the live session isn't closed, and the segment is addressed to it
+-- a segment that the other end made is about to be delivered as it was made, within so long before
+-- and after its making; the tables are aligned, from the maker's when it was made to the receiver's
+-- now; the live session isn't closed, and the segment is addressed to it
+-- (RFC 5925, section 7.5; the premises: own)
 pub record RollsOver (setup : Setup) (w : World) (e : End) (name : ℕ) (m : Made) : Type 0 where
   pub made : segment_named name w.history ≡ Some m
   pub maker : m.maker ≡ other e
@@ -96,7 +112,7 @@ pub record RollsOver (setup : Setup) (w : World) (e : End) (name : ℕ) (m : Mad
   pub addressed : addressed m.emission.segment sender.state receiver.state ≡ true
   pub near : has SYN m.emission.segment ≡ false → IsNear m.emission.number receiver.state.expected
 
--- an answer other than Bad, Foreign, Checksum and Refused
+-- an answer other than Bad, Foreign, Checksum and Refused (own)
 abbrev pub IsHeard : Arrival → Type 0
 IsHeard (Bad fault) = ⊥
 IsHeard Foreign = ⊥
@@ -112,12 +128,12 @@ IsHeard TooManyRuns = ⊤
 IsHeard Reset = ⊤
 IsHeard Taken = ⊤
 
--- an arrival with such an answer
+-- an arrival with such an answer (own)
 abbrev pub IsAdmitted : Outcome → Type 0
 IsAdmitted (Answered answer) = IsHeard answer
 IsAdmitted _ = ⊥
 
--- an entry was made in this history
+-- an entry was made in this history (own)
 abbrev pub IsAmong : Made → List Happening → Type 0
 IsAmong m [] = ⊥
 IsAmong m (Making k ∷ past) = (k ≡ m) ⊎ IsAmong m past
@@ -133,8 +149,9 @@ pub record Repeats (m : Made) (n : ℕ) (d : Segment) (ao : Ao) : Type 0 where
   pub rnext_key_id : m.emission.sending.rnext_key_id ≡ ao.rnext_key_id
   pub payload : m.emission.segment.payload ≡ d.payload
 
--- the session's partner had made a segment that says what this one says
-pub record FromPartner (w : World) (e : End) (s : EndState) (n : ℕ) (d : Segment) (ao : Ao) : Type 0 where
+-- the session's partner had made a segment that says what this one says (own)
+pub record FromPartner (w : World) (e : End) (s : EndState)
+    (n : ℕ) (d : Segment) (ao : Ao) : Type 0 where
   pub session : Session
   pub is_partner : partner w e s ≡ Some session
   pub made : Made
@@ -143,26 +160,31 @@ pub record FromPartner (w : World) (e : End) (s : EndState) (n : ℕ) (d : Segme
   pub isn : made.isn ≡ session.state.isn
   pub repeats : Repeats made n d ao
 
--- the session's partner had abort called on it
+-- the session's partner had abort called on it (RFC 9293, section 3.10.5)
 pub record PartnerAborted (w : World) (e : End) (s : EndState) : Type 0 where
   pub session : Session
   pub is_partner : partner w e s ≡ Some session
   pub aborted : session.state.aborted ≡ true
 
--- an event of this world is an arrival at the live session of an end
+-- an event of this world is an arrival at the live session of an end (own)
 pub record Arrives (setup : Setup) (w : World) (event : Event) (r : Came) : Type 0 where
   pub session : Session
   pub lives : live (side w r.at).sessions ≡ Some session
   pub came : (step setup w event).world.history ≡ Coming r ∷ w.history
 
--- where no forgery is counted: an arrival without SYN that passes says what the session's partner had said before
+-- where no forgery is counted: an arrival without SYN that passes says what the session's partner
+-- had said before (RFC 5925, section 5.1)
 abbrev pub HasOrigin : Setup → World → Event → Type 0
 HasOrigin setup w event =
-    forgeries (step setup w event).world.history ≡ 0 → (r : Came) (a : Arrives setup w event r) (p : Finding) (d : Segment)
+    forgeries (step setup w event).world.history ≡ 0
+    → (r : Came) (a : Arrives setup w event r) (p : Finding) (d : Segment)
     → r.passed ≡ Some p → reading r.bytes ≡ Read d → has SYN d ≡ false
     → (ao : Ao) × (find_ao d.area ≡ One ao) × FromPartner w r.at a.session.state p.number d ao
 
 -- where no forgery is counted: a reset comes only of a partner that had abort called
+-- (RFC 9293, section 3.10.5)
 abbrev pub ResetsByAbort : Setup → World → Event → Type 0
 ResetsByAbort setup w event =
-    forgeries (step setup w event).world.history ≡ 0 → (r : Came) (a : Arrives setup w event r) → r.answer ≡ Reset → PartnerAborted w r.at a.session.state
+    forgeries (step setup w event).world.history ≡ 0
+    → (r : Came) (a : Arrives setup w event r) → r.answer ≡ Reset
+    → PartnerAborted w r.at a.session.state

@@ -42,4 +42,5 @@ ReceivesFrom (Some t) s = ReceivedFrom t.state s
 abbrev pub ReceivesGiven : World → Type 0
 ReceivesGiven w =
     forgeries w.history ≡ 0 → (e : End)
-    → AllByRecursion (λ (s : Session). ReceivesFrom (partner w e s.state) s.state) (side w e).sessions
+    → AllByRecursion (λ (s : Session). ReceivesFrom (partner w e s.state) s.state)
+    (side w e).sessions
