@@ -14,7 +14,8 @@ BOOK = ["ao_base", "segment_model", "mac_model", "key_model", "endpoint_model", 
 # of a check that writes as it reads, the statements of the laws of each run of a link and of a node, what a run tells of
 # messages, and the line form of a pcap file.
 OUTSIDE = ["ao_run/specs/Runs.antt", "ao_run/specs/Obeys.antt", "ao_run/specs/Delivers.antt", "ao_run/specs/Completes.antt",
-           "link_headline/specs/Lawful.antt", "link_laws/specs/Headline.antt", "link_laws/specs/Laws.antt",
+           "link_headline/specs/GetsThrough.antt", "link_headline/specs/Lawful.antt", "link_laws/specs/Entries.antt",
+           "link_laws/specs/Headline.antt", "link_laws/specs/Laws.antt", "link_laws/specs/Sessions.antt",
            "link_progress/specs/Progress.antt", "node_laws/specs/Alone.antt",
            "bgp_link/specs/Tellings.antt", "pcap_laws/specs/LineForms.antt", "capture_lines/specs/Checked.antt",
            "capture_lines/src/check.rt", "capture_packets/specs/Checked.antt", "capture_packets/src/check.rt",
