@@ -1,5 +1,5 @@
 -- The headlines, from the contract for every command and the theorems on every run.
-use Rattle.std.proofs.Common.{◌≡◌, ◌↔◌, inl, ℕ, ◌==◌, ◌<◌, ◌≤◌, ◌||◌, ◌&&◌, if◌then◌else◌, List, [], ◌∷◌, length, codes, Bool, true, false, not, All, Option, Some, None, option_map, Result, Ok, Err, refl, ap, ◌∙◌, arith, nat_lt}
+use Rattle.std.proofs.Common.{◌≡◌, ◌↔◌, inl, ℕ, ◌==◌, ◌<◌, ◌≤◌, ◌||◌, ◌&&◌, if◌then◌else◌, List, [], ◌∷◌, length, codes, Bool, true, false, not, All, Option, Some, None, option_map, Result, Ok, Err, refl, sym, ap, ◌∙◌, arith, nat_lt}
 use Rattle.std.proofs.lemmas.Bool.Decides.{nat_tests}
 use Rattle.ao_base.specs.Outside.{Side, Took, IsAtEnd}
 use Rattle.key_model.specs.declared.fault.TableFault.{TableFault}
@@ -10,13 +10,14 @@ use Rattle.line_model.specs.declared.text_fault.TextFault.{TextFault}
 use Rattle.wire_model.specs.Packets.{FileFault, packets_of}
 use Rattle.link_model.specs.declared.event.Event.{Event}
 use Rattle.link_model.specs.Runs.{run}
+use Rattle.link_model.specs.Storm.{storm_events, storm_setup}
 use Rattle.link_model.specs.Worlds.{Setup, forgeries, setup_of}
 use Rattle.format_model.specs.declared.command.Command.{Command}
 use Rattle.format_model.specs.declared.command.Command.TheVariants as command
 use Rattle.format_model.specs.declared.node.NodeScript.{NodeScript}
 use Rattle.format_model.specs.declared.script.Script.{Script}
 use Rattle.format_model.specs.declared.timed.TimedScript.{TimedScript}
-use Rattle.format_model.specs.Answers.{Answer, answer_by, answer_of, answer_over, answer_with_keys, answer_within, bgp_over, if_read, judged, keys_too_long, linked, linked_by_shared, most_events, most_input, most_keys, node_over, packets_checked, pcap_fault_line, refuse, reported, spoken, stored_packet, timed_over, too_long, too_many_events}
+use Rattle.format_model.specs.Answers.{Answer, answer_by, answer_of, answer_over, answer_with_keys, answer_within, bgp_over, if_read, judged, keys_too_long, linked, linked_by_shared, most_events, most_input, most_keys, node_over, packets_checked, pcap_fault_line, refuse, reported, spoken, stored_packet, stormed, timed_over, too_long, too_many_events}
 use Rattle.format_model.specs.BgpRuns.{bgp_faults}
 use Rattle.format_model.specs.Captures.{Stored}
 use Rattle.format_model.specs.Commands.{command_of, reads_input, reads_keys}
@@ -24,17 +25,24 @@ use Rattle.format_model.specs.LinkFiles.{script_of}
 use Rattle.format_model.specs.NodeRuns.{node_script_of}
 use Rattle.format_model.specs.TimedRuns.{expand, timed_script_of}
 use Rattle.bgp_link.proofs.TellLaws.{speaks_in_order, tells_messages}
+use Rattle.link_headline.specs.GetsThrough.{GetsThrough}
 use Rattle.link_headline.specs.Lawful.{Lawful}
-use Rattle.link_headline.proofs.InputLaws.{events_fit, keyed_fits, shared_fits}
+use Rattle.link_headline.proofs.FilesThrough.{keyed_through, shared_through, timed_through}
+use Rattle.link_headline.proofs.InputLaws.{events_fit, keyed_fits, keyed_tables, shared_fits, shared_tables_fit}
 use Rattle.link_headline.proofs.LawfulRuns.{lawful}
 use Rattle.link_headline.proofs.ReportEnds.{last_line}
+use Rattle.link_headline.proofs.StormFits.{storm_fits, storm_tables, events_fit as events_fit_storm}
+use Rattle.link_headline.proofs.Through.{storm_through}
+use Rattle.link_laws.specs.Laws.{TablesFit}
 use Rattle.node_laws.proofs.Runs.{each_alone}
 use Rattle.pcap_laws.specs.LineForms.{line_form}
 use Rattle.pcap_laws.proofs.Judged.{answers_alike}
 use Rattle.pcap_laws.proofs.Records.{line_form_shows}
-use Rattle.ao_run.specs.Delivers.{CommandsDeliver, Delivers, DeliversPackets, Keyed, LinkFile, MessageFile, NodeFile, Says, TimedFile, named_tables}
+use Rattle.ao_run.specs.Delivers.{CommandsDeliver, Delivers, DeliversPackets, DeliversStorm, Keyed, LinkFile, MessageFile, NodeFile, Says, TimedFile, named_tables}
 use Rattle.ao_run.specs.Obeys.{Obeys, Sides, asks_input, asks_keys}
+use Rattle.ao_run.specs.Gathered.{is_ready}
 use Rattle.ao_run.proofs.AnswerLaws.{keyed}
+use Rattle.ao_run.proofs.CommandLaws.{named_ready}
 use Rattle.link_headline.proofs.TimedFits.{expanded_fit, timed_fits}
 
 -- the answer to words, by what they name
@@ -116,12 +124,14 @@ module _ (words : List (List ℕ)) (k i : List ℕ) (b n : Sides) (s : ℕ) (x :
   known = x.known (omega (arith, small))
 
   -- of a run whose report is the answer
-  delivers : (setup : Setup) (events : List Event) → answer words k i ≡ reported setup events → Lawful setup events → Delivers setup events b.out n.out s
-  delivers setup events is law = record {
+  delivers : (setup : Setup) (events : List Event) → answer words k i ≡ reported setup events → TablesFit setup → Lawful setup events → GetsThrough setup events → Delivers setup events b.out n.out s
+  delivers setup events is tables law through = record {
     written = rw is at (x.whole small);
     counted = counted s (forgeries (run setup events).history) (known ∙ ap (λ (y : Answer). y.status) is);
     last_line = last_line setup events;
+    tables = tables;
     lawful = law;
+    gets_through = through;
   }
 
   -- of a link whose ends have timers
@@ -133,11 +143,14 @@ module _ (words : List (List ℕ)) (k i : List ℕ) (b n : Sides) (s : ℕ) (x :
       let long = nat_lt most_events (length events) in
       let known_is = known ∙ ap (λ (y : Answer). y.status) is in
       let short : long ≡ false = not_refused long (reported setup events) 4 s too_many_events small (omega arith) known_is in
+      let few : length events ≤ most_events = grind (arith, nat_tests) in
       record {
-        few = grind (arith, nat_tests);
+        few = few;
         plain_run =
             delivers setup events (is ∙ within long (reported setup events) 4 s too_many_events small (omega arith) known_is)
-            (lawful setup (timed_fits k i tables script key_file read) events (expanded_fit setup i script read));
+            (keyed_tables k tables script.a script.b key_file)
+            (lawful setup (timed_fits k i tables script key_file read) events (expanded_fit setup i script read))
+            (timed_through k i tables script key_file read few);
       }
 
   -- of messages
@@ -152,8 +165,20 @@ module _ (words : List (List ℕ)) (k i : List ℕ) (b n : Sides) (s : ℕ) (x :
         counted = both s (forgeries (run setup script.events).history) (bgp_faults (run setup script.events)) (known ∙ ap (λ (y : Answer). y.status) is);
         told = tells_messages setup script.events;
         in_order = speaks_in_order setup script.events fits all;
+        tables = keyed_tables k tables script.a script.b key_file;
         lawful = lawful setup fits script.events all;
+        gets_through = keyed_through k i tables script key_file read;
       }
+
+  -- of a storm
+  storm_delivers : (seed count : ℕ) → count ≤ 10000 → answer words k i ≡ stormed (storm_events seed count) → DeliversStorm (storm_events seed count) b.out n.out s
+  storm_delivers seed count low is = record {
+    written = rw is at (x.whole small);
+    counted = counted s (forgeries (run storm_setup (storm_events seed count)).history) (known ∙ ap (λ (y : Answer). y.status) is);
+    tables = storm_tables;
+    lawful = lawful storm_setup storm_fits (storm_events seed count) (events_fit_storm seed count);
+    gets_through = storm_through seed count low;
+  }
 
   -- of a node
   node_delivers : (tables : List Table) (script : NodeScript) → answer words k i ≡ node_over tables script → NodeFile tables script b n s
@@ -227,8 +252,8 @@ linked_file k i b n s x small =
     says (script_of false) linked_by_shared (λ script. LinkFile (named_tables script) script b n s) i n.input (answer ws k i) s small is_known
     (input_ended ws command.Link k i b n s x small named_link refl) is
     (λ script found made.
-    delivers ws k i b n s x small (setup_of (named_tables script) script.a script.b) script.events made
-    (lawful (setup_of (named_tables script) script.a script.b) (shared_fits i script found) script.events (events_fit false i script found)))
+    delivers ws k i b n s x small (setup_of (named_tables script) script.a script.b) script.events made (shared_tables_fit script)
+    (lawful (setup_of (named_tables script) script.a script.b) (shared_fits i script found) script.events (events_fit false i script found)) (shared_through i script found))
 
 linked_keys_file : (name k i : List ℕ) (b n : Sides) (s : ℕ) → Obeys (codes "link" ∷ name ∷ []) k i b n s → s < 2 →
     Keyed k n.keys (λ tables. Says (script_of true) i n.input (λ script. LinkFile tables script b n s))
@@ -237,8 +262,9 @@ linked_keys_file name k i b n s x small =
     let o = over_tables ws command.LinkKeys k i b n s x small (named_link_keys name) refl in
     keyed_file ws command.LinkKeys k i b n s x small (named_link_keys name) (script_of true) linked (λ tables script. LinkFile tables script b n s) refl refl o refl
     (λ script found made.
-    delivers ws k i b n s x small (setup_of o.tables script.a script.b) script.events made
-    (lawful (setup_of o.tables script.a script.b) (keyed_fits k i o.tables script o.is_key_file found) script.events (events_fit true i script found)))
+    delivers ws k i b n s x small (setup_of o.tables script.a script.b) script.events made (keyed_tables k o.tables script.a script.b o.is_key_file)
+    (lawful (setup_of o.tables script.a script.b) (keyed_fits k i o.tables script o.is_key_file found) script.events (events_fit true i script found))
+    (keyed_through k i o.tables script o.is_key_file found))
 
 timed_file : (name k i : List ℕ) (b n : Sides) (s : ℕ) → Obeys (codes "timed" ∷ name ∷ []) k i b n s → s < 2 →
     Keyed k n.keys (λ tables. Says timed_script_of i n.input (λ script. TimedFile tables script b n s))
@@ -255,6 +281,17 @@ message_file name k i b n s x small =
     let o = over_tables ws command.Bgp k i b n s x small (named_bgp name) refl in
     keyed_file ws command.Bgp k i b n s x small (named_bgp name) (script_of true) bgp_over (λ tables script. MessageFile tables script b n s) refl refl o refl
     (λ script found made. messages_delivered ws k i b n s x small o.tables script o.is_key_file found made)
+
+-- a storm that words name draws at most 10,000 events
+storm_low : (ws : List (List ℕ)) (seed count : ℕ) → command_of ws ≡ Some (command.Storm seed count) → count ≤ 10000
+storm_low ws seed count is =
+    let ready : is_ready (Some (command.Storm seed count)) ≡ true = ap is_ready (sym is) ∙ named_ready ws in
+    grind (arith, nat_tests)
+
+stormed_run : (ws : List (List ℕ)) (seed count : ℕ) (k i : List ℕ) (b n : Sides) (s : ℕ) → Obeys ws k i b n s → s < 2 → command_of ws ≡ Some (command.Storm seed count) →
+    DeliversStorm (storm_events seed count) b.out n.out s
+stormed_run ws seed count k i b n s x small is =
+    storm_delivers ws k i b n s x small seed count (storm_low ws seed count is) (answer_is ws (command.Storm seed count) k i b n s x small is)
 
 node_file : (name k i : List ℕ) (b n : Sides) (s : ℕ) → Obeys (codes "node" ∷ name ∷ []) k i b n s → s < 2 →
     Keyed k n.keys (λ tables. Says node_script_of i n.input (λ script. NodeFile tables script b n s))
@@ -284,6 +321,7 @@ commands_deliver words k i b n s x = record {
   link = λ is small. linked_file k i b n s (rw is at x) small;
   link_keys = λ name is small. linked_keys_file name k i b n s (rw is at x) small;
   timed = λ name is small. timed_file name k i b n s (rw is at x) small;
+  storm = λ seed count is small. stormed_run words seed count k i b n s x small is;
   bgp = λ name is small. message_file name k i b n s (rw is at x) small;
   node = λ name is small. node_file name k i b n s (rw is at x) small;
   packets = λ name is small. packets_delivered name k i b n s (rw is at x) small;

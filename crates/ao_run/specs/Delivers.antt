@@ -1,5 +1,6 @@
 -- The headlines: what the commands that run say of every input, over every key file.
-use Rattle.std.specs.Prelude.{◌≡◌, ◌↔◌, ℕ, ◌<◌, ◌≤◌, List, [], ◌∷◌, ◌++◌, length, All, true, false, codes, Result, Ok}
+use Rattle.std.specs.Prelude.{◌≡◌, ◌↔◌, ℕ, ◌<◌, ◌≤◌, List, [], ◌∷◌, ◌++◌, length, All}
+use Rattle.std.specs.Prelude.{true, false, codes, Some, Result, Ok}
 use Rattle.ao_base.specs.declared.address.Pair.{Pair}
 use Rattle.ao_base.specs.Outside.{Side, Took, IsAtEnd}
 use Rattle.key_model.specs.Nodes.{tables_of}
@@ -7,9 +8,11 @@ use Rattle.key_model.specs.Plans.{rows_at}
 use Rattle.key_model.specs.Rows.{Row, Table}
 use Rattle.line_model.specs.declared.text_fault.TextFault.{TextFault}
 use Rattle.link_model.specs.declared.event.Event.{Event}
-use Rattle.link_model.specs.Reports.{report, counts_line}
+use Rattle.link_model.specs.Reports.{report, counts_line, summary}
 use Rattle.link_model.specs.Runs.{run}
+use Rattle.link_model.specs.Storm.{storm_events, storm_setup}
 use Rattle.link_model.specs.Worlds.{Setup, forgeries, setup_of}
+use Rattle.format_model.specs.declared.command.Command.TheVariants.{Storm}
 use Rattle.format_model.specs.declared.node.NodeEvent.{NodeEvent}
 use Rattle.format_model.specs.declared.node.NodeScript.{NodeScript}
 use Rattle.format_model.specs.declared.script.Script.{Script}
@@ -17,12 +20,15 @@ use Rattle.format_model.specs.declared.timed.TimedEvent.{TimedEvent}
 use Rattle.format_model.specs.declared.timed.TimedScript.{TimedScript}
 use Rattle.format_model.specs.Answers.{answer, most_events, shared_by}
 use Rattle.format_model.specs.BgpRuns.{bgp_faults, bgp_text}
+use Rattle.format_model.specs.Commands.{command_of}
 use Rattle.format_model.specs.LinkFiles.{script_of}
 use Rattle.format_model.specs.NodeRuns.{node_script_of, node_text}
 use Rattle.node_laws.specs.Alone.{Alone}
 use Rattle.format_model.specs.TimedRuns.{expand, timed_script_of}
 use Rattle.bgp_link.specs.Tellings.{SpeaksInOrder, TellsMessages}
+use Rattle.link_headline.specs.GetsThrough.{GetsThrough}
 use Rattle.link_headline.specs.Lawful.{Lawful}
+use Rattle.link_laws.specs.Laws.{TablesFit}
 use Rattle.pcap_laws.specs.LineForms.{line_form}
 use Rattle.ao_run.specs.Obeys.{Sides}
 
@@ -48,8 +54,12 @@ pub record Delivers (setup : Setup) (events : List Event) (out_before out_now : 
   pub counted : (status ≡ 0) ↔ (forgeries (run setup events).history ≡ 0)
   -- the last line of the report says how many are
   pub last_line : (front : List ℕ) × (report setup events ≡ front ++ counts_line (run setup events))
-  -- prefix, one partner, end of stream, acknowledgement, rollover, no gap, origin and reset
+  -- the tables with which its ends begin have no overlap (RFC 7210, section 3)
+  pub tables : TablesFit setup
+  -- prefix, what was received and made, one partner, end of stream, rollover, no gap, origin, reset
   pub lawful : Lawful setup events
+  -- few bytes given, acknowledgement, and progress over a way that loses nothing
+  pub gets_through : GetsThrough setup events
 
 -- of the run of a link whose ends have timers (RFC 6298): its plain run isn't too long, and of that run
 pub record DeliversTimed (setup : Setup) (events : List TimedEvent) (out_before out_now : Side) (status : ℕ) : Type 0 where
@@ -66,8 +76,24 @@ pub record DeliversMessages (setup : Setup) (events : List Event) (out_before ou
   pub told : TellsMessages setup events
   -- where no forgery is counted they begin the messages in the bytes given to its partner
   pub in_order : SpeaksInOrder (run setup events)
-  -- prefix, one partner, end of stream, acknowledgement, rollover, no gap, origin and reset
+  -- the tables with which its ends begin have no overlap (RFC 7210, section 3)
+  pub tables : TablesFit setup
+  -- prefix, what was received and made, one partner, end of stream, rollover, no gap, origin, reset
   pub lawful : Lawful setup events
+  -- few bytes given, acknowledgement, and progress over a way that loses nothing
+  pub gets_through : GetsThrough setup events
+
+-- of the run of these events of a storm's link, of which only the summary is written (own)
+pub record DeliversStorm (events : List Event) (out_before out_now : Side)
+    (status : ℕ) : Type 0 where
+  -- the summary was written
+  pub written : Took (summary (run storm_setup events)) out_before out_now
+  -- the status is 0 exactly where no forgery is counted
+  pub counted : (status ≡ 0) ↔ (forgeries (run storm_setup events).history ≡ 0)
+  -- as of a link's run
+  pub tables : TablesFit storm_setup
+  pub lawful : Lawful storm_setup events
+  pub gets_through : GetsThrough storm_setup events
 
 -- of the run of a node with these rows
 pub record DeliversNode (rows : List Row) (events : List NodeEvent) (out_before out_now : Side) (status : ℕ) : Type 0 where
@@ -112,6 +138,8 @@ pub record CommandsDeliver (words : List (List ℕ)) (keys input : List ℕ) (be
       Keyed keys now.keys (λ tables. Says timed_script_of input now.input (λ s. TimedFile tables s before now status))
   pub bgp : (name : List ℕ) → words ≡ codes "bgp" ∷ name ∷ [] → status < 2 →
       Keyed keys now.keys (λ tables. Says (script_of true) input now.input (λ s. MessageFile tables s before now status))
+  pub storm : (seed count : ℕ) → command_of words ≡ Some (Storm seed count) → status < 2 →
+      DeliversStorm (storm_events seed count) before.out now.out status
   pub node : (name : List ℕ) → words ≡ codes "node" ∷ name ∷ [] → status < 2 →
       Keyed keys now.keys (λ tables. Says node_script_of input now.input (λ s. NodeFile tables s before now status))
   pub packets : (name : List ℕ) → words ≡ codes "check" ∷ codes "--pcap" ∷ name ∷ [] → status < 2 → DeliversPackets name keys input
