@@ -54,7 +54,7 @@ const SYN_CMAC_ALONE: [u8; 76] = [
 ];
 
 /// A first segment from port 1000 of 10.0.0.1 to port 2000 of 10.0.0.2: HMAC-SHA-256, all options
-/// covered. It is the third line of `bench/vectors_sha256.py`, a program on Python's `hmac` alone.
+/// covered. It is the third line of `oracle/vectors_sha256.py`, a program on Python's `hmac` alone.
 const SYN_SHA256: [u8; 64] = [
     0x45, 0x00, 0x00, 0x40, 0x00, 0x00, 0x40, 0x00, 0x40, 0x06, 0x26, 0xb6, 0x0a, 0x00, 0x00, 0x01,
     0x0a, 0x00, 0x00, 0x02, 0x03, 0xe8, 0x07, 0xd0, 0x00, 0x00, 0x00, 0x64, 0x00, 0x00, 0x00, 0x00,
@@ -243,7 +243,7 @@ fn sealed_by_hmac_has_its_mac_when_read_again(rt: HostRuntime) -> Result<(), Fai
     Ok(())
 }
 
-/// The MAC is that of the last line of `bench/vectors_sha256.py`.
+/// The MAC is that of the last line of `oracle/vectors_sha256.py`.
 #[test]
 fn sealed_by_hmac_sha256_has_its_mac_when_read_again(rt: HostRuntime) -> Result<(), Fail> {
     let expected = [

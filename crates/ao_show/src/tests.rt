@@ -196,7 +196,7 @@ fn vectors_of_hashes_and_ciphers_agree(rt: HostRuntime) -> Result<(), Fail> {
 }
 
 /// RFC 9235, section 4.1.1; a context over IPv6, and two segments, by an independent program; two
-/// keys and two segments of the third algorithm, by `bench/vectors_sha256.py`. The MACs under
+/// keys and two segments of the third algorithm, by `oracle/vectors_sha256.py`. The MACs under
 /// `no-options` leave the options out, and that of the last line too.
 const KEYED: &str = "# traffic keys
 kdf HMAC-SHA-1-96 74657374766563746f72 0a0b0c0dac1b1c1de9d700b3fbfbab5a00000000 6d63ef1b02fe1509d4b1402707fd7b0416abb74f

@@ -1,5 +1,5 @@
 //! Stored segments of a connection whose extension reaches 2, and of two connections of the same sockets,
-//! made by `bench/stored_segments.py`, a program on Python's `hmac` alone.
+//! made by `oracle/stored_segments.py`, a program on Python's `hmac` alone.
 ghost use Rattle.std.specs.Prelude.{◌≡◌, ◌<◌};
 
 use crate::{Checker, LineProblem, Stored, push_check_line, read_line};

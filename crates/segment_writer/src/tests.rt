@@ -13,7 +13,7 @@ use std::test::Fail;
 use stream_buffers::SendQueue;
 use tcp_segment::{Datagram, read_datagram};
 
-/// The third line of `bench/vectors_sha256.py`, a program on Python's `hmac` alone: from port
+/// The third line of `oracle/vectors_sha256.py`, a program on Python's `hmac` alone: from port
 /// 1000 of 10.0.0.1 to port 2000 of 10.0.0.2 by HMAC-SHA-256 under the ids 1 and 2.
 const SYN: [u8; 64] = [
     0x45, 0x00, 0x00, 0x40, 0x00, 0x00, 0x40, 0x00, 0x40, 0x06, 0x26, 0xb6, 0x0a, 0x00, 0x00, 0x01,

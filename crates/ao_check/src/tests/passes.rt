@@ -1,4 +1,4 @@
-//! Segments that were signed elsewhere: by RFC 9235, and by `bench/vectors_check.py`, a program on
+//! Segments that were signed elsewhere: by RFC 9235, and by `oracle/vectors_check.py`, a program on
 //! Python's `hmac` alone. Their master key is `testvector`.
 use super::{END, LAST, PAIR, four_rows, verdict};
 use crate::Verdict;

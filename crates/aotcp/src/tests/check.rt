@@ -1,4 +1,4 @@
-//! `check KEYS`: stored segments that `bench/stored_segments.py` made, a program on Python's `hmac`
+//! `check KEYS`: stored segments that `oracle/stored_segments.py` made, a program on Python's `hmac`
 //! alone.
 use super::{Case, Disturbed, expect_disturbed, in_pieces};
 use std::alloc::Global;
