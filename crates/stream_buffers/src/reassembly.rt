@@ -3,7 +3,7 @@ ghost use Rattle.std.specs.Prelude.{◌≡◌, ℕ, ◌+◌, ◌^◌, ◌≤◌,
 ghost use Rattle.segment_model.specs.Received.{below_limit, bytes_from};
 ghost use Rattle.stream_buffers.specs.Kept.{IsKept, RunsFrom, Shows, byte_at, forgotten_below, grown, missing_then, ready_count, runs_then, window};
 
-use crate::buffer::{LAP, write};
+use crate::buffer::{BUFFER_LENGTH, write};
 use crate::run::{Run, Span};
 use crate::walk::{Place, find, join};
 use ao_base::Steps;
@@ -11,6 +11,7 @@ use slot_list::Slots;
 use std::alloc::{AllocError, Global};
 use std::marker::Model;
 use std::sync::ledger::Ledger;
+use thiserror::Error;
 
 /// How many positions lie from the first one that isn't taken to the end of the window: as many as
 /// the window field can say (RFC 9293, section 3.1).
@@ -19,7 +20,8 @@ const WINDOW: u64 = 65_535;
 const MOST_RUNS: u32 = 64;
 
 /// More than 64 separate runs would lie past the first missing position.
-#[derive(Clone, Copy, Debug, PartialEq, Eq)]
+#[derive(Clone, Copy, Debug, Error, PartialEq, Eq)]
+#[error("too many runs")]
 pub struct TooManyRuns;
 
 /// The bytes that were received and aren't taken, seen as a finite map from positions to bytes,
@@ -57,7 +59,7 @@ impl Reassembly {
         requires { first ≤ 2 ^ 63 }
         ensures { IfOk result (λ r. Shows r first first (λ p. None)) }
     {
-        let buffer = vec![in alloc; 0; LAP as usize]?;
+        let buffer = vec![in alloc; 0; BUFFER_LENGTH as usize]?;
         let runs = Slots::new(alloc, MOST_RUNS)?;
         Ok(Reassembly {
             buffer,
@@ -97,7 +99,7 @@ impl Reassembly {
     /// piece begins at position `number` and ends at 2^63 at the latest.
     ///
     /// `TooManyRuns` exactly where more than 64 separate runs would then lie past the first missing
-    /// position; then nothing changes. It counts at most 65 steps.
+    /// position; then nothing changes. It counts at most 65 steps, and none for a piece without bytes.
     pub fn keep<L: Ledger>(
         &mut self,
         number: u64,
@@ -113,6 +115,7 @@ impl Reassembly {
             (grown self.old number bytes.now limit)) }
         ensures err { OnErr result (self.new ≡ self.old) }
         ensures steps { steps.new ≤ steps.old + 65 }
+        ensures bare { length bytes.now ≡ 0 → steps.new ≡ steps.old }
     {
         let low = number.max(self.expected);
         let edge = below(limit, self.from + WINDOW);
@@ -164,7 +167,7 @@ impl Reassembly {
     {
         let count = out.len().min((self.expected - self.from) as usize);
         for index in 0..count {
-            out[index] = self.buffer[((self.from + index as u64) % LAP) as usize];
+            out[index] = self.buffer[((self.from + index as u64) % BUFFER_LENGTH) as usize];
         }
         self.from += count as u64;
         count

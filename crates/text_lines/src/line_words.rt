@@ -204,10 +204,7 @@ impl<'a> LineWords<'a> {
         ensures { Tells (gives result self.new) (byte_in self.old) }
     {
         let bytes = self.sized_hex(alloc, 1, 1)?;
-        match bytes.as_slice() {
-            [byte, ..] => Ok(*byte),
-            [] => Ok(0),
-        }
+        Ok(bytes.as_slice()[0])
     }
 }
 

@@ -6,13 +6,16 @@ ghost use Rattle.text_lines.specs.Readings.{fault_at};
 use ao_base::LineKind;
 use line_model::TextFault;
 use std::alloc::AllocError;
+use thiserror::Error;
 
 /// Why a line isn't read: memory ran out, or the kind of its first faulty word.
-#[derive(Clone, Copy, Debug, PartialEq, Eq)]
+#[derive(Clone, Copy, Debug, Error, PartialEq, Eq)]
 pub enum Refusal {
     /// Memory ran out.
+    #[error("out of memory")]
     Memory,
     /// The first faulty word is of this kind.
+    #[error("faulty word: {0:?}")]
     Kind(LineKind),
 }
 

@@ -1,6 +1,8 @@
 //! A number of a stream in two halves.
 ghost use Rattle.std.specs.Prelude.{◌≡◌, ◌+◌, ◌<◌, ◌^◌};
 
+use crate::ring::LAP;
+
 /// A number below 2^64 as the sequence number on the wire and the sequence number extension (RFC
 /// 5925, section 6.2).
 #[derive(Clone, Copy, Debug, PartialEq, Eq)]
@@ -19,8 +21,8 @@ impl Counter {
         ensures { number result ≡ value }
     {
         Counter {
-            low: (value % (1 << 32)) as u32,
-            extension: (value >> 32) as u32,
+            low: (value % LAP) as u32,
+            extension: (value / LAP) as u32,
         }
     }
 
@@ -28,7 +30,7 @@ impl Counter {
     pub fn value(&self) -> u64
         ensures { result ≡ number self.now }
     {
-        (u64::from(self.extension) << 32) + u64::from(self.low)
+        u64::from(self.extension) * LAP + u64::from(self.low)
     }
 
     /// Moves on by `by`; the number stays below 2^64.

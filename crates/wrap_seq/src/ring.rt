@@ -1,9 +1,11 @@
 //! Numbers around the ring of 2^32.
-ghost use Rattle.std.specs.Prelude.{◌≡◌, ◌≤◌, ◌^◌, ◌↔◌, IsTrue, IfSome, IfNone, Some};
+ghost use Rattle.std.specs.Prelude.{◌≡◌, ◌+◌, ◌≤◌, ◌^◌, ◌↔◌, IsTrue, IfSome, IfNone, Some};
+ghost use Rattle.segment_model.specs.Bytes.{ring};
 ghost use Rattle.segment_model.specs.Meant.{meant, IsAhead, IsInWindow};
+ghost use Rattle.wrap_seq.specs.Ring.{next_from};
 
-/// The length of the ring.
-const LAP: u64 = 0x1_0000_0000;
+/// The length of the ring: how many sequence numbers there are.
+pub(crate) const LAP: u64 = 0x1_0000_0000;
 /// Half of the ring: a field this far ahead or farther means a number behind.
 const HALF: u32 = 0x8000_0000;
 
@@ -36,4 +38,13 @@ pub fn in_window(seq: u32, start: u32, size: u32) -> bool
     ensures { IsTrue result ↔ IsInWindow seq start size }
 {
     seq.wrapping_sub(start) < size
+}
+
+/// The first number from `at` on whose low half is `low`; it is less than one lap past `at` (RFC
+/// 9293, section 3.4). `at` is one lap below 2^64 at most.
+pub fn next_from(low: u32, at: u64) -> u64
+    requires { at + ring ≤ 2 ^ 64 }
+    ensures { result ≡ next_from low at }
+{
+    at + u64::from(low.wrapping_sub((at % LAP) as u32))
 }

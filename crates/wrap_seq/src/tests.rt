@@ -1,5 +1,5 @@
 //! The edges of the halves, of the ring and of 64 bits.
-use crate::{Counter, ahead, extend, in_window};
+use crate::{Counter, ahead, extend, in_window, next_from};
 
 /// A field, an expected number, and the number that the field means there.
 const EDGES: [(u32, u64, Option<u64>); 28] = [
@@ -66,4 +66,12 @@ fn a_counter_carries_into_its_extension(rt: HostRuntime) {
     assert!(rt; counter.value() == 0x2_0000_0001);
     assert!(rt; counter.low == 1 && counter.extension == 2);
     assert!(rt; Counter::of(0xffff_ffff_ffff_ffff).value() == 0xffff_ffff_ffff_ffff);
+}
+
+#[test]
+fn the_next_number_is_less_than_a_lap_ahead(rt: HostRuntime) {
+    assert!(rt; next_from(5, 5) == 5);
+    assert!(rt; next_from(4, 5) == 0x1_0000_0004);
+    assert!(rt; next_from(0, 0x7_ffff_ffff) == 0x8_0000_0000);
+    assert!(rt; next_from(0xffff_fffe, 0x7_ffff_ffff) == 0x8_ffff_fffe);
 }
