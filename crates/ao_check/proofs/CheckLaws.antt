@@ -106,7 +106,7 @@ field_long rows a now d s v x A at =
 -- the table still fits, and the steps are counted
 pub record Left (rows : List Row) (a : Bond) (row : Option ℕ) (way : Way) (flag : Bool) (keys : Cache) (old new : ℕ) : Type 0 where
   pub fits : Fits rows (record { pair = a.pair; own = a.own; peer = a.peer; current = a.current; keys = keys })
-  pub counted : Counted a.keys keys row way flag old new
+  pub counted : Counted a.keys keys row true way flag old new
 
 pub left_by_check : (rows : List Row) (a : Bond) (now : ℕ) (d : Segment) (s : Screened) (v : book.Judgement) (x : Row) (key : List ℕ) (keys : Cache) (syn : Bool) (old new : ℕ)
     → Fits rows a → Awaits rows a.pair a.own a.peer now d s v → d.source ≡ a.pair.remote → d.destination ≡ a.pair.local → ((e : Row) → x ≡ get_or rows (s.row - 1) e)

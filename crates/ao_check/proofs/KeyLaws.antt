@@ -131,13 +131,14 @@ stay_after false c n way key right m w k e =
 
 pub counted_after : (syn : Bool) (c : Cache) (n : ℕ) (way : Way) (key : List ℕ) (keys : Cache) (old new : ℕ) (row : Option ℕ) (flag : Bool) → keys ≡ keys_after syn c n way key → syn ≡ flag → row ≡ Some n
     → (syn ≡ false → IsRight (kept c n way) key) → (syn ≡ false → kept keys n way ≡ Some key) → new ≡ old + steps_of syn (kept c n way)
-    → Counted c keys row way flag old new
+    → Counted c keys row true way flag old new
 counted_after syn c n way key keys old new row flag e g at right is count =
     let most = one_step syn (kept c n way) in
     record {
       room = ap (λ (x : Cache). x.rows) e ∙ rows_after syn c n way key;
       least = omega arith;
       most = omega arith;
+      idle = λ e. absurd (cc);
       none = λ m k s r h.
           let same : m ≡ n = numbers_same m n (sym r ∙ at) in
           let here : kept c n way ≡ Some k = rw (← same) h in

@@ -1,5 +1,5 @@
 -- What the check answers, as the verdict of the definitions.
-use Rattle.std.specs.Prelude.{◌≡◌, ◌≤◌, ◌+◌, ◌-◌, ◌^◌, ℕ, slice_get, List, length, Option, Some, None, Result, Ok, Err, ⊤}
+use Rattle.std.specs.Prelude.{◌≡◌, ◌≤◌, ◌+◌, ◌-◌, ◌^◌, ℕ, Bool, true, false, slice_get, List, length, Option, Some, None, Result, Ok, Err, ⊤}
 use Rattle.ao_base.specs.declared.address.Pair.{Pair}
 use Rattle.ao_base.specs.Algorithms.{mac_length_of}
 use Rattle.segment_model.specs.Options.{Ao, AoFound, Absent, One, Two, WithMd5 as FoundMd5, find_ao}
@@ -36,6 +36,12 @@ abbrev pub IsExpected : Option ℕ → Option ℕ → Type 0
 IsExpected peer None = ⊤
 IsExpected None (Some x) = ⊥
 IsExpected (Some peer) (Some x) = x ≤ 2 ^ 63
+
+-- a segment with this verdict has come as far as its MAC (RFC 5925, section 7.5)
+abbrev pub is_judged : Verdict → Bool
+is_judged (verdicts.Pass p) = true
+is_judged verdicts.BadMac = true
+is_judged _ = false
 
 -- the number of the row that judges the segment
 abbrev pub judging : List Row → Pair → ℕ → AoFound → Option ℕ

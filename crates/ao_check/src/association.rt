@@ -1,5 +1,5 @@
 //! An association of one end with its peer.
-ghost use Rattle.std.specs.Prelude.{◌≡◌, ◌≤◌, ◌<◌, ◌-◌, ◌+◌, ◌/◌, ◌^◌, ℕ, List, length, Option, Some, None, IfOk, IfSome, option_map, slice_get, slice_index_or};
+ghost use Rattle.std.specs.Prelude.{◌≡◌, true, ◌≤◌, ◌<◌, ◌-◌, ◌+◌, ◌/◌, ◌^◌, ℕ, List, length, Option, Some, None, IfOk, IfSome, option_map, slice_get, slice_index_or};
 ghost use Rattle.segment_model.specs.Bytes.{ring};
 ghost use Rattle.segment_model.specs.Options.{find_ao};
 ghost use Rattle.segment_model.specs.Segments.{has, SYN};
@@ -16,7 +16,7 @@ ghost use Rattle.mac_model.specs.Contexts.{bytes_of};
 ghost use Rattle.ao_kdf.specs.declared.way.Way.TheVariants.{Inbound, Outbound};
 ghost use Rattle.key_coordination.specs.Sendings.{told};
 ghost use Rattle.ao_check.specs.Bonds.{fresh, Fits, Counted};
-ghost use Rattle.ao_check.specs.Verdicts.{Tells, IsExpected, judging};
+ghost use Rattle.ao_check.specs.Verdicts.{Tells, IsExpected, is_judged, judging};
 ghost use Rattle.ao_check.specs.Signings.{IsToSign, has_field};
 
 use crate::context::{has_syn, outgoing};
@@ -32,6 +32,7 @@ use std::alloc::{AllocError, Global};
 use std::marker::Model;
 use std::sync::ledger::Ledger;
 use tcp_segment::{Datagram, DatagramMut};
+use wrap_seq::Counter;
 
 /// What one end knows of a connection: its sockets, both initial sequence numbers, the current row,
 /// and the traffic keys that it derived.
@@ -88,8 +89,9 @@ impl Association {
 
     /// The verdict on a segment from the peer: the first refusal that holds, else a pass (RFC 5925,
     /// section 7.5). `expected` is the number expected, at most 2^63, if a peer's initial sequence
-    /// number is known. At most one step is counted, and none for a segment without SYN whose key is
-    /// kept; nothing changes but the keys that are kept, and none of them is dropped.
+    /// number is known. At most one step is counted: none where the segment is refused before its MAC
+    /// is judged, and none for a segment without SYN whose key is kept. Nothing changes but the keys
+    /// that are kept, and none of them is dropped.
     pub fn check<L: Ledger>(
         &mut self,
         table: &Table,
@@ -105,7 +107,7 @@ impl Association {
         ensures verdict { Tells table.now.rows self.old.pair datagram.now result (judge table.now.rows self.old.pair self.old.own self.old.peer expected now datagram.now) }
         ensures same { self.new ≡ record self.old { keys = self.new.keys } }
         ensures fits { Fits table.now.rows self.new }
-        ensures counted { Counted self.old.keys self.new.keys (judging table.now.rows self.old.pair now (find_ao datagram.now.area)) Inbound (has SYN datagram.now) steps.old steps.new }
+        ensures counted { Counted self.old.keys self.new.keys (judging table.now.rows self.old.pair now (find_ao datagram.now.area)) (is_judged result) Inbound (has SYN datagram.now) steps.old steps.new }
     {
         let seen = match screen_segment(
             &self.pair,
@@ -189,7 +191,7 @@ impl Association {
         ensures fits { Fits table.now.rows self.new }
         ensures most { steps.new ≤ steps.old + 1 }
         ensures counted { (h : Head) (old payload rest : List ℕ) → Drafted datagram.old h old payload rest
-            → Counted self.old.keys self.new.keys (Some sending.now.row) Outbound (has SYN (drafted h old payload)) steps.old steps.new }
+            → Counted self.old.keys self.new.keys (Some sending.now.row) true Outbound (has SYN (drafted h old payload)) steps.old steps.new }
     {
         let row = table.row(sending.row);
         let plan = outgoing(&datagram.as_datagram(), self.own_isn, self.peer_isn);
@@ -205,7 +207,7 @@ impl Association {
         seal(
             &key,
             row.algorithm(),
-            (number >> 32) as u32,
+            Counter::of(number).extension,
             datagram,
             row.with_options(),
         );

@@ -20,6 +20,7 @@ use endpoint_model::Verdict;
 use key_table::{Accept, Row, Table};
 use tcp_options::AoFound;
 use tcp_segment::Datagram;
+use wrap_seq::Counter;
 
 /// What was found of a segment whose MAC is still to be judged.
 #[derive(Drop)]
@@ -113,7 +114,7 @@ pub(crate) fn is_right(
     let code = mac(
         key,
         row.algorithm(),
-        (number >> 32) as u32,
+        Counter::of(number).extension,
         datagram,
         row.with_options(),
     );

@@ -8,7 +8,7 @@ use Rattle.endpoint_model.specs.Arrivals.{arrive}
 use Rattle.format_model.specs.NodeRuns.{pair_of, same_pair}
 use Rattle.tcp_endpoint.specs.declared.arrival.Arrived.{Arrived}
 use Rattle.tcp_endpoint.specs.declared.endpoint.Endpoint.{Endpoint}
-use Rattle.tcp_endpoint.specs.Arriving.{Arrives, LeavesAll}
+use Rattle.tcp_endpoint.specs.Arriving.{Arrives, IsBeforeCheck, LeavesAll}
 use Rattle.tcp_endpoint.specs.Ends.{Stands, FitsEnd, IsUnmoved}
 use Rattle.ao_node.specs.declared.answer.NodeArrival.{NodeArrival}
 use Rattle.ao_node.specs.declared.answer.NodeArrival.TheVariants as answers
@@ -17,6 +17,7 @@ use Rattle.ao_node.specs.Held.{Holding, end_at, ends}
 -- what a datagram does to an end: the step of the definitions, of whatever state it stands for
 pub record Hears (rows : List Row) (now : ℕ) (d : Segment) (before after : Endpoint) (told : Arrived) : Type 0 where
   pub arrives : (s : EndState) → Stands before s → Arrives rows before.pair (Read d) after told (arrive rows before.pair now s (Read d))
+  pub untouched : IsBeforeCheck told.arrival → after ≡ before
   pub unchanged : LeavesAll told.arrival → IsUnmoved before after
   pub pair : after.pair ≡ before.pair
   pub fits : FitsEnd rows after

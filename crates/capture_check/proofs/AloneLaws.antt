@@ -18,9 +18,9 @@ no_key None way pair own peer k p e = absurd (cc)
 no_key (Some r) way pair own None k p e = absurd (cc)
 no_key (Some r) way pair own (Some x) k p e = absurd (cc)
 
-pub alone_counts : (rows : List Row) (now : ℕ) (d : Segment) (before after : Bond) (old new : ℕ) → Fits rows after → after.peer ≡ None
-    → before.pair ≡ pair_at d → Counted before.keys after.keys (judging rows before.pair now (find_ao d.area)) Inbound (has SYN d) old new → AloneCounts rows now d old new
-alone_counts rows now d before after old new f none p c =
+pub alone_counts : (rows : List Row) (now : ℕ) (d : Segment) (before after : Bond) (computed : Bool) (old new : ℕ) → Fits rows after → after.peer ≡ None
+    → before.pair ≡ pair_at d → Counted before.keys after.keys (judging rows before.pair now (find_ao d.area)) computed Inbound (has SYN d) old new → AloneCounts rows now d old new
+alone_counts rows now d before after computed old new f none p c =
     let least = c.least in
     let most = c.most in
     record {

@@ -1,5 +1,5 @@
 -- What a checker answers to a segment with SYN, and what it knows afterwards, is what the definitions say.
-use Rattle.std.proofs.Common.{◌≡◌, ◌<◌, ◌^◌, ℕ, Bool, true, false, not, List, length, Option, Some, None, refl, sym, ap, ◌∙◌, subst, arith}
+use Rattle.std.proofs.Common.{◌≡◌, ◌+◌, ◌<◌, ◌^◌, ℕ, Bool, true, false, not, List, length, Option, Some, None, refl, sym, ap, ◌∙◌, subst, arith}
 use Rattle.std.proofs.lemmas.Bool.Decides.{nat_tests}
 use Rattle.std.specs.Prelude.{◌==◌, ◌&&◌, nat_le, if◌then◌else◌}
 use Rattle.ao_base.specs.declared.address.Pair.{Pair}
@@ -22,7 +22,8 @@ use Rattle.capture_check.specs.declared.flow.Flow.{Flow}
 use Rattle.capture_check.specs.declared.flows.Flows.{Flows}
 use Rattle.capture_check.specs.Answers.{IsJudged, is_pass}
 use Rattle.capture_check.specs.Ends.{is_low}
-use Rattle.capture_check.specs.Flows.{rows_of, way, both, flow_from, new_flow, new_flows, IsFlow, shown}
+use Rattle.capture_check.specs.Flows.{rows_of, way, both, flow_from, counter_of, new_flow, new_flows, IsFlow, shown}
+use Rattle.wrap_seq.specs.Counter.{number}
 use Rattle.capture_check.specs.Checking.{found, IsSound, told, StandsFor, Hears, Isns, isns, KeepsKeys}
 use Rattle.capture_check.specs.Hearing.{Puts, key_at, from_low, Alone, Fixed, TooMany, Fixes, has_isns, fixing, DoesFix}
 use Rattle.capture_check.proofs.EndsLaws.{low_turned}
@@ -47,10 +48,13 @@ new_second : (tables : List Table) (s t : Socket) (i j : ℕ) → same_socket s 
 new_second tables s t i j ne =
     ap (λ (v : Bool). way v (new_flows tables s t i j)) (low_turned s t ne) ∙ way_second (is_low s t) (new_flow tables s t i j) (new_flow tables t s j i)
 
+stands_at : (n : ℕ) → number (counter_of n) ≡ n
+stands_at n = omega arith
+
 shown_new : (tables : List Table) (d : Segment) → same_socket d.source d.destination ≡ false
     → shown d.source d.destination (new_flows tables d.source d.destination d.sequence (acknowledged_isn d)) ≡ fixed d
 shown_new tables d ne =
-    rw (new_first tables d.source d.destination d.sequence (acknowledged_isn d), new_second tables d.source d.destination d.sequence (acknowledged_isn d) ne) refl
+    rw (new_first tables d.source d.destination d.sequence (acknowledged_isn d), new_second tables d.source d.destination d.sequence (acknowledged_isn d) ne, stands_at (d.sequence + 1), stands_at (acknowledged_isn d + 1)) refl
 
 new_sound : (tables : List Table) (s t : Socket) (i j : ℕ) → i < 2 ^ 32 → IsFlow tables s t (new_flow tables s t i j) (new_flow tables t s j i)
 new_sound tables s t i j small =

@@ -14,6 +14,7 @@ use Rattle.endpoint_model.specs.Verdicts.{Finding, Judgement, Admit, Refuse, jud
 use Rattle.format_model.specs.Captures.{Connection, Heard, connection_of, hear_judged, hear_later, judge_stored, pair_at, with_connection}
 use Rattle.ao_kdf.specs.declared.way.Way.TheVariants.{Inbound}
 use Rattle.ao_check.specs.Bonds.{Bond}
+use Rattle.wrap_seq.specs.Counter.{number}
 use Rattle.ao_check.specs.Verdicts.{Tells, judging}
 use Rattle.capture_check.specs.declared.answer.CheckLine.{CheckLine}
 use Rattle.capture_check.specs.declared.answer.CheckLine.TheVariants as line
@@ -78,7 +79,7 @@ pub met : (es : List (Ends × Flows)) (held : List Connection) (d : Segment) (o 
 met es held d o S ne f = sym (S.same d.source d.destination ne) ∙ ap (told d.source d.destination) f
 
 judged_as : (rows : List Row) (now : ℕ) (d : Segment) (f : Flow) (pair : Pair) (own : ℕ) → f.receiver.pair ≡ pair → f.receiver.own ≡ own → f.receiver.peer ≡ Some f.isn
-    → judged_on rows now d f ≡ judge rows pair own (Some f.isn) (Some f.expected) now d
+    → judged_on rows now d f ≡ judge rows pair own (Some f.isn) (Some (number f.expected)) now d
 judged_as rows now d f pair own p o e = rw (p, o, e) refl
 
 -- ---- a segment without SYN of a connection that is known
@@ -88,7 +89,7 @@ other_stays : (rows : List Row) (now : ℕ) (d : Segment) (h next : Flows) (v : 
     → FlowsHear rows now d (from_low d) h next v old new → flow_from d.destination d.source next ≡ flow_from d.destination d.source h
 other_stays rows now d h next v old new ne H = rw (low_turned d.source d.destination ne) H.other
 
-shown_later : (s t : Socket) (h next : Flows) (x : ℕ) → (flow_from s t next).isn ≡ (flow_from s t h).isn → flow_from t s next ≡ flow_from t s h → (flow_from s t next).expected ≡ x
+shown_later : (s t : Socket) (h next : Flows) (x : ℕ) → (flow_from s t next).isn ≡ (flow_from s t h).isn → flow_from t s next ≡ flow_from t s h → number (flow_from s t next).expected ≡ x
     → shown s t next ≡ record { one = record { socket = s; isn = (flow_from s t h).isn; expected = x }; two = side_of t (flow_from t s h) }
 shown_later s t h next x i o e = rw (i, o, e) refl
 
@@ -99,13 +100,13 @@ not_first false after l x y e h = h
 
 heard_known : (before after : List (Ends × Flows)) (held : List Connection) (s t : Socket) (d : Segment) (h next : Flows) (v : Verdict) (j : Judgement)
     → StandsFor before held → same_socket s t ≡ false → found before (key_of s t) ≡ Some h → Puts before after (key_of s t) next → has SYN d ≡ false
-    → (flow_from s t next).isn ≡ (flow_from s t h).isn → flow_from t s next ≡ flow_from t s h → IsJudged v j → (flow_from s t next).expected ≡ expected_after (flow_from s t h).expected d j
+    → (flow_from s t next).isn ≡ (flow_from s t h).isn → flow_from t s next ≡ flow_from t s h → IsJudged v j → number (flow_from s t next).expected ≡ expected_after (number (flow_from s t h).expected) d j
     → Hears after (line.Verdict v (good d)) (hear_judged held d (Some (shown s t h)) j)
 heard_known before after held s t d h next v (Refuse why) S ne f P syn i o is_told e =
-    let is = shown_later s t h next (flow_from s t h).expected i o e in
+    let is = shown_later s t h next (number (flow_from s t h).expected) i o e in
     record { says = (Refuse why, refl, is_told); stands = stands_same before after held s t h next S P ne f is }
 heard_known before after held s t d h next v (Admit p) S ne f P syn i o is_told e =
-    let is = shown_later s t h next (max (flow_from s t h).expected (p.number + segment_length d)) i o e in
+    let is = shown_later s t h next (max (number (flow_from s t h).expected) (p.number + segment_length d)) i o e in
     not_first (has SYN d) after (line.Verdict v (good d)) (hear_later held d p.number (Admit p) (Some (shown s t h))) _ syn
     (record { says = (Admit p, refl, is_told); stands = subst (λ (c : Connection). StandsFor after (with_connection c held)) is (stands_put before after held s t next S P ne) })
 

@@ -9,6 +9,7 @@ use Rattle.endpoint_model.specs.declared.verdict.Verdict.{Verdict}
 use Rattle.endpoint_model.specs.declared.verdict.Verdict.TheVariants.{Pass}
 use Rattle.format_model.specs.Captures as book
 use Rattle.format_model.specs.DatagramTexts.{checksum_text}
+use Rattle.ao_check.specs.Verdicts.{is_judged}
 use Rattle.capture_check.specs.declared.answer.CheckLine.{CheckLine}
 use Rattle.capture_check.specs.declared.answer.CheckLine.TheVariants as line
 
@@ -29,6 +30,12 @@ Says (line.Bad fault) s = s ≡ book.Unreadable fault
 Says line.UnknownNode s = s ≡ book.UnknownNode
 Says (line.Verdict v right) s = (j : Judgement) × (s ≡ book.Judged j right) × IsJudged v j
 Says (line.Full right) s = s ≡ book.Full right
+
+-- the segment came as far as its MAC
+abbrev pub is_computed : CheckLine → Bool
+is_computed (line.Verdict v right) = is_judged v
+is_computed (line.Full right) = true
+is_computed _ = false
 
 -- a pass
 abbrev pub is_pass : Verdict → Bool

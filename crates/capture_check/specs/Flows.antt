@@ -1,17 +1,20 @@
 -- What is known of a connection: both ways of it (own).
-use Rattle.std.specs.Prelude.{◌≡◌, ◌≤◌, ◌+◌, ◌^◌, ℕ, max, Bool, true, false, List, [], length, Option, Some, None}
+use Rattle.std.specs.Prelude.{◌≡◌, ◌≤◌, ◌+◌, ◌%◌, ◌/◌, ◌^◌, ℕ, max, Bool, true, false, List, [], length, Option, Some, None}
 use Rattle.std.specs.List.{find}
 use Rattle.ao_base.specs.declared.address.Socket.{Socket}
+use Rattle.segment_model.specs.Bytes.{ring}
 use Rattle.segment_model.specs.Options.{find_ao}
 use Rattle.segment_model.specs.Segments.{Segment, has, segment_length, SYN}
 use Rattle.key_model.specs.Rows.{Row, Table, has_address}
 use Rattle.endpoint_model.specs.declared.verdict.Verdict.{Verdict}
 use Rattle.endpoint_model.specs.Verdicts.{Judgement, Admit, Refuse, judge}
 use Rattle.format_model.specs.Captures.{Connection, Side}
+use Rattle.wrap_seq.specs.declared.counter.Counter.{Counter}
+use Rattle.wrap_seq.specs.Counter.{number}
 use Rattle.ao_kdf.specs.declared.way.Way.TheVariants.{Inbound}
 use Rattle.ao_kdf.specs.Cache.{empty}
 use Rattle.ao_check.specs.Bonds.{Fits, Counted}
-use Rattle.ao_check.specs.Verdicts.{Tells, judging}
+use Rattle.ao_check.specs.Verdicts.{Tells, is_judged, judging}
 use Rattle.capture_check.specs.declared.flow.Flow.{Flow}
 use Rattle.capture_check.specs.declared.flows.Flows.{Flows}
 use Rattle.capture_check.specs.Ends.{is_low}
@@ -25,12 +28,16 @@ rows_in (Some t) = t.rows
 abbrev pub rows_of : List Table → Socket → List Row
 rows_of tables s = rows_in (find (has_address s.address) tables)
 
+-- the counter that stands at a number (RFC 5925, section 6.2)
+abbrev pub counter_of : ℕ → Counter
+counter_of n = record { low = n % ring; extension = n / ring }
+
 -- the way from one socket to another as it begins: the number behind the SYN is expected (RFC 9293, section 3.5), and no key is kept
 abbrev pub new_flow : List Table → Socket → Socket → ℕ → ℕ → Flow
 new_flow tables from to isn other =
     record {
       isn = isn;
-      expected = isn + 1;
+      expected = counter_of (isn + 1);
       receiver = record { pair = record { local = to; remote = from }; own = other; peer = Some isn; current = None; keys = empty (length (rows_of tables to)) };
     }
 
@@ -39,7 +46,7 @@ pub record IsFlow (tables : List Table) (from to : Socket) (f other : Flow) : Ty
   pub pair : f.receiver.pair ≡ record { local = to; remote = from }
   pub own : f.receiver.own ≡ other.isn
   pub peer : f.receiver.peer ≡ Some f.isn
-  pub expected : f.expected ≤ 2 ^ 63
+  pub expected : number f.expected ≤ 2 ^ 63
   pub fits : Fits (rows_of tables to) f.receiver
 
 -- the way from the lower socket, or from the higher one
@@ -62,7 +69,7 @@ new_flows tables a b isn other = both (is_low a b) (new_flow tables a b isn othe
 
 -- the side of a connection that sends this way
 abbrev pub side_of : Socket → Flow → Side
-side_of socket f = record { socket = socket; isn = f.isn; expected = f.expected }
+side_of socket f = record { socket = socket; isn = f.isn; expected = number f.expected }
 
 -- the connection as the first socket sees it
 abbrev pub shown : Socket → Socket → Flows → Connection
@@ -70,7 +77,7 @@ shown a b h = record { one = side_of a (flow_from a b h); two = side_of b (flow_
 
 -- the verdict on a segment that goes this way
 abbrev pub judged_on : List Row → ℕ → Segment → Flow → Judgement
-judged_on rows now d f = judge rows f.receiver.pair f.receiver.own f.receiver.peer (Some f.expected) now d
+judged_on rows now d f = judge rows f.receiver.pair f.receiver.own f.receiver.peer (Some (number f.expected)) now d
 
 -- what is expected of the sender after a segment with this verdict: where it passed, at least the number behind it
 abbrev pub expected_after : ℕ → Segment → Judgement → ℕ
@@ -81,8 +88,8 @@ expected_after x d (Admit p) = max x (p.number + segment_length d)
 pub record FlowHears (rows : List Row) (now : ℕ) (d : Segment) (before after : Flow) (verdict : Verdict) (old new : ℕ) : Type 0 where
   pub tells : Tells rows before.receiver.pair d verdict (judged_on rows now d before)
   pub isn : after.isn ≡ before.isn
-  pub expected : after.expected ≡ expected_after before.expected d (judged_on rows now d before)
-  pub small : after.expected ≤ 2 ^ 63
+  pub expected : number after.expected ≡ expected_after (number before.expected) d (judged_on rows now d before)
+  pub small : number after.expected ≤ 2 ^ 63
   pub receiver : after.receiver ≡ record before.receiver { keys = after.receiver.keys }
   pub fits : Fits rows after.receiver
-  pub counted : Counted before.receiver.keys after.receiver.keys (judging rows before.receiver.pair now (find_ao d.area)) Inbound (has SYN d) old new
+  pub counted : Counted before.receiver.keys after.receiver.keys (judging rows before.receiver.pair now (find_ao d.area)) (is_judged verdict) Inbound (has SYN d) old new

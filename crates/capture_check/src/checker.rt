@@ -6,7 +6,7 @@ ghost use Rattle.segment_model.specs.Sockets.{same_socket};
 ghost use Rattle.key_model.specs.Rows.{has_address};
 ghost use Rattle.format_model.specs.Captures.{Connection, hear, hear_at};
 ghost use Rattle.capture_check.specs.Checking.{IsSound, StandsFor, Hears, KeepsKeys, Derives};
-ghost use Rattle.capture_check.specs.Answers.{is_pass};
+ghost use Rattle.capture_check.specs.Answers.{is_computed, is_pass};
 ghost use Rattle.capture_check.specs.Flows.{rows_of};
 
 use crate::answer::CheckLine;
@@ -63,6 +63,7 @@ fn hear_first<L: Ledger>(
     ensures sound { IsSound tables.now connections.new.entries }
     ensures keys { KeepsKeys connections.old.entries connections.new.entries }
     ensures derives { Derives connections.old.entries connections.new.entries table.now.rows time datagram.now steps.old steps.new }
+    ensures idle { IfOk result (λ line. is_computed line ≡ false → steps.new ≡ steps.old) }
 {
     let right = datagram.checksum_ok();
     let own = acknowledged_isn(datagram);
@@ -100,6 +101,7 @@ fn hear_next<L: Ledger>(
     ensures sound { IsSound tables.now connections.new.entries }
     ensures keys { KeepsKeys connections.old.entries connections.new.entries }
     ensures derives { Derives connections.old.entries connections.new.entries table.now.rows time datagram.now steps.old steps.new }
+    ensures idle { IfOk result (λ line. is_computed line ≡ false → steps.new ≡ steps.old) }
 {
     let right = datagram.checksum_ok();
     match hear_later(connections, alloc, tables, table, time, datagram, steps) {
@@ -130,9 +132,10 @@ impl Checker {
     /// the connections that the checker knows afterwards, are those of the definition, whatever
     /// connections it knew. After want of memory it is as it was.
     ///
-    /// At most one step is counted, and none for a segment without SYN where a key is kept for its
-    /// connection, direction and row; a key that is derived for such a segment is kept. Kept keys
-    /// are dropped exactly where the initial sequence numbers of their connection are fixed anew.
+    /// At most one step is counted: none where the segment is refused before its MAC is judged, and none
+    /// for a segment without SYN where a key is kept for its connection, direction and row; a key that
+    /// is derived for such a segment is kept. Kept keys are dropped exactly where the initial sequence
+    /// numbers of their connection are fixed anew.
     pub fn next<L: Ledger>(
         &mut self,
         alloc: Global,
@@ -146,6 +149,7 @@ impl Checker {
         ensures unchanged { OnErr result (self.new ≡ self.old) }
         ensures keys { KeepsKeys self.old.entries self.new.entries }
         ensures derives { (d : Segment) → reading bytes.now ≡ Read d → Derives self.old.entries self.new.entries (rows_of self.old.tables d.destination) time d steps.old steps.new }
+        ensures idle { IfOk result (λ line. is_computed line ≡ false → steps.new ≡ steps.old) }
         ensures least { steps.old ≤ steps.new }
         ensures most { steps.new ≤ steps.old + 1 }
     {

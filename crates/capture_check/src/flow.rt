@@ -1,6 +1,7 @@
 //! What is known of the segments of a connection that go one way.
 ghost use Rattle.std.specs.Prelude.{◌≡◌, ◌≤◌, ◌^◌, length, Some, IfOk};
 ghost use Rattle.capture_check.specs.Flows.{new_flow, rows_of, FlowHears};
+ghost use Rattle.wrap_seq.specs.Counter.{number};
 ghost use Rattle.ao_check.specs.Bonds.{fresh, Fits};
 
 use crate::segment::length_of;
@@ -10,13 +11,14 @@ use key_table::{Table, Tables};
 use std::alloc::{AllocError, Global};
 use std::sync::ledger::Ledger;
 use tcp_segment::Datagram;
+use wrap_seq::Counter;
 
 /// One way of a connection: the initial sequence number of the sender, the number expected of it, at
 /// most 2^63, and the receiver's association, which keeps the traffic keys of this way.
 #[derive(Drop)]
 pub(crate) struct Flow {
     pub(crate) isn: u32,
-    pub(crate) expected: u64,
+    pub(crate) expected: Counter,
     pub(crate) receiver: Association,
 }
 
@@ -59,7 +61,7 @@ impl Flow {
         receiver.learn(isn);
         Ok(Flow {
             isn,
-            expected: u64::from(isn) + 1,
+            expected: Counter::of(u64::from(isn) + 1),
             receiver,
         })
     }
@@ -77,15 +79,15 @@ impl Flow {
         requires source { datagram.now.source ≡ self.old.receiver.pair.remote }
         requires destination { datagram.now.destination ≡ self.old.receiver.pair.local }
         requires peer { self.old.receiver.peer ≡ Some self.old.isn }
-        requires expected { self.old.expected ≤ 2 ^ 63 }
+        requires expected { number self.old.expected ≤ 2 ^ 63 }
         ensures { FlowHears table.now.rows time datagram.now self.old self.new result steps.old steps.new }
     {
-        let expected = self.expected;
+        let expected = self.expected.value();
         let verdict = self
             .receiver
             .check(table, time, Some(expected), datagram, steps);
         if let Verdict::Pass(passed) = &verdict {
-            self.expected = expected.max(passed.number + length_of(datagram));
+            self.expected = Counter::of(expected.max(passed.number + length_of(datagram)));
         }
         verdict
     }

@@ -1,5 +1,6 @@
 //! Both ways of a connection.
 ghost use Rattle.std.specs.Prelude.{◌≡◌, ◌≤◌, ◌^◌, Some, IfOk, not};
+ghost use Rattle.wrap_seq.specs.Counter.{number};
 ghost use Rattle.ao_check.specs.Bonds.{Fits};
 ghost use Rattle.capture_check.specs.Flows.{new_flows, rows_of, flow_from, way};
 ghost use Rattle.capture_check.specs.Hearing.{FlowsHear, has_isns};
@@ -72,7 +73,7 @@ impl Flows {
         requires source { datagram.now.source ≡ (way low self.old).receiver.pair.remote }
         requires destination { datagram.now.destination ≡ (way low self.old).receiver.pair.local }
         requires peer { (way low self.old).receiver.peer ≡ Some (way low self.old).isn }
-        requires expected { (way low self.old).expected ≤ 2 ^ 63 }
+        requires expected { number (way low self.old).expected ≤ 2 ^ 63 }
         ensures { FlowsHear table.now.rows time datagram.now low self.old self.new result steps.old steps.new }
     {
         if low {

@@ -4,6 +4,7 @@ ghost use Rattle.std.specs.List.{find};
 ghost use Rattle.key_model.specs.Rows.{has_address};
 ghost use Rattle.segment_model.specs.Sockets.{same_socket};
 ghost use Rattle.std.specs.Prelude.{false};
+ghost use Rattle.ao_check.specs.Verdicts.{is_judged};
 ghost use Rattle.capture_check.specs.Checking.{found, IsSound};
 ghost use Rattle.capture_check.specs.Hearing.{Alone, AloneCounts, HearsLater, fixing, DoesFix, key_at};
 
@@ -32,6 +33,7 @@ pub(crate) fn judge_alone<L: Ledger>(
 ) -> Result<Verdict, AllocError>
     ensures alone { IfOk result (λ v. Alone table.now.rows time own_isn datagram.now v) }
     ensures counts { AloneCounts table.now.rows time datagram.now steps.old steps.new }
+    ensures idle { IfOk result (λ v. is_judged v ≡ false → steps.new ≡ steps.old) }
 {
     let pair = pair_at(datagram);
     let mut association = Association::new(alloc, table, pair, own_isn, table.rows())?;
@@ -53,6 +55,7 @@ pub(crate) fn hear_later<L: Ledger>(
     requires table { find (has_address datagram.now.destination.address) tables.now ≡ Some table.now }
     requires differ { same_socket datagram.now.source datagram.now.destination ≡ false }
     ensures heard { IfOk result (λ v. HearsLater table.now.rows time datagram.now connections.old.entries connections.new.entries (found connections.old.entries (key_at datagram.now)) v steps.old steps.new) }
+    ensures idle { IfOk result (λ v. is_judged v ≡ false → steps.new ≡ steps.old) }
     ensures unchanged { OnErr result (connections.new.entries ≡ connections.old.entries) }
     ensures free { OnErr result (AloneCounts table.now.rows time datagram.now steps.old steps.new) }
 {

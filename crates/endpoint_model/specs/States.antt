@@ -128,6 +128,10 @@ gives s = not s.closing && not (is_closed s.phase)
 abbrev pub give : List ℕ → EndState → EndState
 give piece s = record s { given = s.given ++ piece }
 
+-- a piece is offered, and told with the state after it: `closed` where the end takes none, else `full` where it has no room for it, else `done` (RFC 9293, section 3.10.2)
+abbrev pub offered : {A B : Type 0} → (EndState → B → A) → B → B → B → List ℕ → EndState → A
+offered tell closed full done piece s = if not (gives s) then tell s closed else (if nat_lt (room s) (length piece) then tell s full else tell (give piece s) done)
+
 -- the phases in which data is heard (RFC 9293, section 3.10.7.4)
 abbrev pub hears : Phase → Bool
 hears Established = true

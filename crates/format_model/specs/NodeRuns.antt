@@ -18,7 +18,7 @@ use Rattle.line_model.specs.Words.{Taken, word_in, literal_in, address_in, numbe
 use Rattle.ao_base.specs.Results.{◌>>=◌}
 use Rattle.endpoint_model.specs.declared.arrival.Arrival.{Arrival}
 use Rattle.endpoint_model.specs.declared.arrival.Arrival.TheVariants.{Bad}
-use Rattle.endpoint_model.specs.States.{EndState, connected, listening, started, gives, room, give, taking, take_out, at_end, close, abort, tick}
+use Rattle.endpoint_model.specs.States.{EndState, connected, listening, started, offered, taking, take_out, at_end, close, abort, tick}
 use Rattle.endpoint_model.specs.Arrivals.{arrive}
 use Rattle.endpoint_model.specs.Emissions.{Emission, Emitted, Quiet, NoKey, Emits, emit, resend}
 use Rattle.link_model.specs.Reports.{answer_texts, flags_text, number_text, hex_or_none, end_mark}
@@ -85,10 +85,6 @@ pub record Called : Type 0 where
 abbrev pub called : EndState → NodeOutcome → Called
 called s outcome = record { state = s; outcome = outcome }
 
--- a piece is given, unless the end is closed or there is no room for it
-abbrev pub offered : List ℕ → EndState → Called
-offered piece s = if not (gives s) then called s HasClosed else (if nat_lt (room s) (length piece) then called s Full else called (give piece s) Done)
-
 -- a segment is made, or none
 abbrev pub sent : EndState → NodeOutcome → Emitted → Called
 sent s without Quiet = called s without
@@ -97,7 +93,7 @@ sent s without (Emits out) = called out.state (Sent out)
 
 -- a call of a held end (RFC 9293, section 3.10)
 abbrev pub act_on : List Row → Pair → ℕ → EndState → Act → Called
-act_on rows pair now s (act.Give piece) = offered piece s
+act_on rows pair now s (act.Give piece) = offered called HasClosed Full Done piece s
 act_on rows pair now s (act.Take count) = let t = take_out count s in called t (Took (taking count s) (at_end t))
 act_on rows pair now s act.Send = sent s Idle (emit rows pair now s)
 act_on rows pair now s act.Resend = sent s Nothing (resend rows pair now s)

@@ -5,7 +5,7 @@ use Rattle.ao_base.specs.declared.end.End.TheVariants.{A, B}
 use Rattle.segment_model.specs.Segments.{reading, spell}
 use Rattle.key_model.specs.Rows.{Row}
 use Rattle.key_model.specs.Tables.{Adding, AddedAs, TooMany, OverlapsRow, adding, withdrawn}
-use Rattle.endpoint_model.specs.States.{EndState, connected, listening, started, room, gives, give, taking, take_out, at_end, close, abort, tick}
+use Rattle.endpoint_model.specs.States.{EndState, connected, listening, started, offered, taking, take_out, at_end, close, abort, tick}
 use Rattle.endpoint_model.specs.Arrivals.{Arrived, arrive}
 use Rattle.endpoint_model.specs.Emissions.{Emission, Emitted, Quiet, NoKey, Emits, emit, resend}
 use Rattle.link_model.specs.Alterations.{has_place, altered}
@@ -83,7 +83,7 @@ begin_new w e s = begin w e s (find (side w e).sessions s.isn)
 
 -- a piece is given, unless the end is closed or there is no room for it
 abbrev pub given : List ℕ → EndState → Act
-given piece s = if not (gives s) then quietly s HasClosed else (if nat_lt (room s) (length piece) then quietly s Full else quietly (give piece s) Done)
+given piece s = offered quietly HasClosed Full Done piece s
 
 -- the entry of a segment: each gets the next number from 1
 abbrev pub made_of : End → World → EndState → Emission → Made

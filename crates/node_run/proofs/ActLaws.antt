@@ -4,6 +4,7 @@ use Rattle.std.specs.Prelude.{◌++◌, drop, length, nat_lt, not, take, if◌th
 use Rattle.std.proofs.Math.Seq.{take-append_seam}
 use Rattle.segment_model.specs.Segments.{spell}
 use Rattle.endpoint_model.specs.States.{EndState, at_end, give, gives, room, take_out, taking}
+use Rattle.endpoint_model.specs.States as states
 use Rattle.endpoint_model.specs.Emissions.{Emitted, Quiet, NoKey, Emits, Emission as BookEmission}
 use Rattle.format_model.specs.NodeRuns as book
 use Rattle.tcp_endpoint.specs.declared.emission.Emission.{Emission}
@@ -33,7 +34,7 @@ given_if false false piece room s e r is stands = rw is (record { stands = stand
 
 -- a piece is offered
 pub given_follows : (piece bytes : List ℕ) (s : EndState) (e : Endpoint) (r : GiveAnswer) → r ≡ give_answer s piece → Stands e (offered piece s)
-    → Follows e bytes (told_given r) (book.offered piece s)
+    → Follows e bytes (told_given r) (states.offered book.called book.HasClosed book.Full book.Done piece s)
 given_follows piece bytes s e r is stands = given_if (not (gives s)) (nat_lt (room s) (length piece)) piece bytes s e r is stands
 
 -- ---- sending

@@ -1,5 +1,5 @@
 -- What was laid out, sealed and finished is the segment of each draft that was to be written.
-use Rattle.std.proofs.Common.{◌≡◌, ℕ, ◌+◌, ◌-◌, ◌≤◌, List, length, drop, Option, Some, None, refl, sym, ap, subst, ◌∙◌, arith, get_or}
+use Rattle.std.proofs.Common.{◌≡◌, ℕ, ◌+◌, ◌-◌, ◌≤◌, true, List, length, drop, Option, Some, None, refl, sym, ap, subst, ◌∙◌, arith, get_or}
 use Rattle.std.specs.Prelude.{slice_get}
 use Rattle.ao_base.specs.declared.address.Pair.{Pair}
 use Rattle.ao_base.specs.Algorithms.{mac_length_of}
@@ -16,6 +16,7 @@ use Rattle.tcp_segment.specs.Writing.{drafted, header_length, OneFamily, IsFinis
 use Rattle.ao_kdf.specs.Cache.{Cache}
 use Rattle.ao_kdf.specs.declared.way.Way.TheVariants.{Outbound}
 use Rattle.ao_check.specs.Bonds.{Bond, Counted}
+use Rattle.wrap_seq.specs.Counter.{number as value_of}
 use Rattle.ao_check.specs.Signings.{IsToSign}
 use Rattle.ao_check.proofs.KeyLaws.{got}
 use Rattle.ao_check.proofs.SignedLaws.{to_sign}
@@ -67,7 +68,7 @@ pub written_so : (o : Outgoing) (a : Bond) (rows : List Row) (sending : Told) (p
     → IsLaid o rows sending pair h r → IsOf o a rows sending s draft chosen → p ≡ bytes_in o.payload
     → OneFamily h.source.address h.destination.address
     → length code ≡ h.mac_length → count ≡ header_length h + length p
-    → HasCode h p r context o.number code
+    → HasCode h p r context (value_of o.number) code
     → IsFinished h code p (drop count before) after
     → IsWritten (sealed pair s draft chosen context).segment count before after
 written_so o a rows sending pair h r s draft chosen p context code before after count l i copied family long size is f =
@@ -75,9 +76,9 @@ written_so o a rows sending pair h r s draft chosen p context code before after 
     let head : h ≡ k = head_is o a rows sending pair h r s draft chosen l i in
     let row : r ≡ chosen.row = row_is o a rows sending pair h r s draft chosen l i in
     let text : p ≡ draft.payload = copied ∙ i.payload in
-    let is1 = subst (λ (x : Head). HasCode x p r context o.number code) head is in
-    let is2 = subst (λ (x : List ℕ). HasCode k x r context o.number code) text is1 in
-    let is3 = subst (λ (x : Row). HasCode k draft.payload x context o.number code) row is2 in
+    let is1 = subst (λ (x : Head). HasCode x p r context (value_of o.number) code) head is in
+    let is2 = subst (λ (x : List ℕ). HasCode k x r context (value_of o.number) code) text is1 in
+    let is3 = subst (λ (x : Row). HasCode k draft.payload x context (value_of o.number) code) row is2 in
     let is4 = subst (λ (x : ℕ). HasCode k draft.payload chosen.row context x code) i.number is3 in
     let f1 = subst (λ (x : Head). IsFinished x code p (drop count before) after) head f in
     let f2 = subst (λ (x : List ℕ). IsFinished k code x (drop count before) after) text f1 in
@@ -103,9 +104,9 @@ is_ready d o pair sending n h code p rest a D e same known =
 -- with SYN or without it, as was to be written
 pub is_counted : (before after : Cache) (row old new : ℕ) (o : Outgoing) (pair : Pair) (sending : Told) (n : ℕ) (h : Head)
     → h ≡ head_of pair o sending n
-    → Counted before after (Some row) Outbound (sets h.flags SYN) old new → Counted before after (Some row) Outbound (sets o.flags SYN) old new
+    → Counted before after (Some row) true Outbound (sets h.flags SYN) old new → Counted before after (Some row) true Outbound (sets o.flags SYN) old new
 is_counted before after row old new o pair sending n h e k =
-    subst (λ (x : ℕ). Counted before after (Some row) Outbound (sets x SYN) old new) (ap (λ (x : Head). x.flags) e) k
+    subst (λ (x : ℕ). Counted before after (Some row) true Outbound (sets x SYN) old new) (ap (λ (x : Head). x.flags) e) k
 
 -- the row at its place
 pub is_here : (rows : List Row) (n : ℕ) (r : Row) → 1 ≤ n → n ≤ length rows → ((d : Row) → r ≡ get_or rows (n - 1) d)

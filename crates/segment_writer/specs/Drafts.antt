@@ -9,6 +9,7 @@ use Rattle.endpoint_model.specs.States.{EndState, window}
 use Rattle.endpoint_model.specs.Emissions.{Draft, sets}
 use Rattle.key_coordination.specs.declared.choice.Sending.{Sending}
 use Rattle.key_coordination.specs.Sendings.{told}
+use Rattle.wrap_seq.specs.Counter.{number as value_of}
 use Rattle.ao_check.specs.Bonds.{Bond}
 use Rattle.segment_writer.specs.declared.outgoing.Outgoing.{Outgoing}
 use Rattle.segment_writer.specs.declared.outgoing.Piece.{Piece}
@@ -25,7 +26,7 @@ IsKnown flags (Some peer) = ⊤
 -- what is to be written is this draft of an end in this state, sent with this row of the table; the association knows the end's initial sequence numbers
 pub record IsOf (o : Outgoing) (a : Bond) (rows : List Row) (sending : Sending) (s : EndState) (draft : Draft) (chosen : book.Sending) : Type 0 where
   pub flags : o.flags ≡ draft.flags
-  pub number : o.number ≡ draft.number
+  pub number : value_of o.number ≡ draft.number
   pub expected : o.expected ≡ s.expected % ring
   pub window_is : o.window ≡ window s
   pub payload : bytes_in o.payload ≡ draft.payload

@@ -4,6 +4,7 @@ use Rattle.ao_base.specs.declared.address.Address.{Address}
 use Rattle.ao_base.specs.declared.address.Pair.{Pair}
 use Rattle.ao_base.specs.Algorithms.{mac_length_of}
 use Rattle.segment_model.specs.Bytes.{ring}
+use Rattle.wrap_seq.specs.Counter.{number as value_of}
 use Rattle.segment_model.specs.Segments.{SYN, RST, ACK}
 use Rattle.key_model.specs.Rows.{Row}
 use Rattle.key_model.specs.Coordination as book
@@ -32,7 +33,7 @@ head_of pair o sending mac_length =
     record {
       source = pair.local;
       destination = pair.remote;
-      sequence = o.number % ring;
+      sequence = value_of o.number % ring;
       acknowledgement = expected_with o.flags o.expected;
       flags = o.flags;
       window = window_with o.flags o.window;

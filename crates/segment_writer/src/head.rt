@@ -1,13 +1,16 @@
 //! The head of a segment that an end makes.
-ghost use Rattle.std.specs.Prelude.{◌≡◌, ◌<◌};
+ghost use Rattle.std.specs.Prelude.{◌≡◌, ◌<◌, ◌%◌};
+ghost use Rattle.segment_model.specs.Bytes.{ring};
 ghost use Rattle.endpoint_model.specs.Emissions.{sets};
 ghost use Rattle.endpoint_model.specs.States.{own_mss};
+ghost use Rattle.wrap_seq.specs.Counter.{number as value_of};
 ghost use Rattle.segment_writer.specs.Heads.{head_of, mss_with, window_with, expected_with};
 
 use crate::outgoing::Outgoing;
 use ao_base::{Address, Pair};
 use key_coordination::Sending;
 use tcp_segment::Head;
+use wrap_seq::Counter;
 
 /// The flags of TCP that decide on fields of the head (RFC 9293, section 3.1).
 const SYN: u8 = 0x02;
@@ -33,6 +36,13 @@ fn sets(flags: u8, flag: u8) -> bool
     ensures { result ≡ sets flags flag }
 {
     flags / flag % 2 == 1
+}
+
+/// The sequence field: the low half of the number.
+fn sequence_of(number: Counter) -> u32
+    ensures { result ≡ value_of number % ring }
+{
+    number.low
 }
 
 /// The maximum segment size, which is told with SYN alone.
@@ -76,7 +86,7 @@ pub(crate) fn head_of(
     Head {
         source: pair.local,
         destination: pair.remote,
-        sequence: (outgoing.number % (1 << 32)) as u32,
+        sequence: sequence_of(outgoing.number),
         acknowledgement: acknowledgement_of(flags, outgoing.expected),
         flags,
         window: window_of(flags, outgoing.window),

@@ -2,6 +2,7 @@
 
 use ao_kdf::Context;
 use stream_buffers::SendQueue;
+use wrap_seq::Counter;
 
 /// So many bytes of a send queue, from a place on; they stay in the queue.
 #[derive(Clone, Copy)]
@@ -19,9 +20,9 @@ pub struct Outgoing<'a> {
     /// The flags (RFC 9293, section 3.1).
     pub flags: u8,
     /// The number of its SYN, or else of its first byte or its FIN, in the stream of the end: at most
-    /// 2^63. The sequence number is its remainder modulo 2^32, the extension its quotient (RFC 5925,
+    /// 2^63. The sequence field is its low half, and its extension goes into the MAC (RFC 5925,
     /// section 6.2).
-    pub number: u64,
+    pub number: Counter,
     /// The sequence number expected of the peer, which is told with ACK alone.
     pub expected: u32,
     /// The window, which is told with ACK and without RST alone.

@@ -1,6 +1,7 @@
 //! A segment that another program made is written, and what is written passes at the other end.
 ghost use Rattle.std.specs.Prelude.{◌≡◌, ◌≤◌, ◌<◌, ◌+◌, length, IfSome};
 ghost use Rattle.tcp_segment.specs.Writing.{IsOneFamily};
+ghost use Rattle.wrap_seq.specs.Counter.{number as value_of};
 
 use crate::{Outgoing, Piece, Written, write_segment};
 use ao_base::{Address, Algorithm, Bytes, Pair, Socket, Steps};
@@ -12,6 +13,7 @@ use std::sync::ledger::{Blank, Ledger};
 use std::test::Fail;
 use stream_buffers::SendQueue;
 use tcp_segment::{Datagram, read_datagram};
+use wrap_seq::Counter;
 
 /// The third line of `oracle/vectors_sha256.py`, a program on Python's `hmac` alone: from port
 /// 1000 of 10.0.0.1 to port 2000 of 10.0.0.2 by HMAC-SHA-256 under the ids 1 and 2.
@@ -85,7 +87,7 @@ fn made<L: Ledger>(
     requires part { 0 < blank.parts }
     requires room { 1500 ≤ length out.old }
     requires family { IsOneFamily pair.local.address pair.remote.address }
-    requires number { outgoing.now.number ≤ 1000 }
+    requires number { value_of outgoing.now.number ≤ 1000 }
     requires piece { outgoing.now.payload.offset + outgoing.now.payload.count ≤ length outgoing.now.payload.queue.now }
     requires few { outgoing.now.payload.count ≤ 100 }
 {
@@ -155,7 +157,7 @@ fn write(
 ) -> Result<Option<Written>, AllocError>
     requires room { 1500 ≤ length out.old }
     requires family { IsOneFamily pair.local.address pair.remote.address }
-    requires number { outgoing.now.number ≤ 1000 }
+    requires number { value_of outgoing.now.number ≤ 1000 }
     requires piece { outgoing.now.payload.offset + outgoing.now.payload.count ≤ length outgoing.now.payload.queue.now }
     requires few { outgoing.now.payload.count ≤ 100 }
 {
@@ -172,7 +174,7 @@ fn passes(
 ) -> Result<Option<u64>, AddRefusal>
     requires room { 1500 ≤ length out.old }
     requires family { IsOneFamily pair.local.address pair.remote.address }
-    requires number { outgoing.now.number ≤ 1000 }
+    requires number { value_of outgoing.now.number ≤ 1000 }
     requires piece { outgoing.now.payload.offset + outgoing.now.payload.count ≤ length outgoing.now.payload.queue.now }
     requires few { outgoing.now.payload.count ≤ 100 }
 {
@@ -190,13 +192,13 @@ fn passes(
 
 /// A SYN without payload.
 fn syn<'a>(queue: &'a SendQueue) -> Outgoing<'a>
-    ensures number { result.number ≡ 100 }
+    ensures number { value_of result.number ≡ 100 }
     ensures offset { result.payload.offset ≡ 0 }
     ensures count { result.payload.count ≡ 0 }
 {
     Outgoing {
         flags: 0x02,
-        number: 100,
+        number: Counter::of(100),
         expected: 201,
         window: 512,
         payload: Piece {
@@ -239,7 +241,7 @@ fn bytes_over_ipv6_pass_at_the_other_end(rt: HostRuntime) -> Result<(), Fail> {
     let mut out = [0; 1500];
     let outgoing = Outgoing {
         flags: 0x18,
-        number: 105,
+        number: Counter::of(105),
         expected: 201,
         window: 512,
         payload: Piece {

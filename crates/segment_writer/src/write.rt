@@ -1,5 +1,5 @@
 //! A segment, written and sealed.
-ghost use Rattle.std.specs.Prelude.{◌≡◌, ◌≤◌, ◌+◌, ◌-◌, ◌^◌, ℕ, length, Some, slice_index_or};
+ghost use Rattle.std.specs.Prelude.{◌≡◌, true, ◌≤◌, ◌+◌, ◌-◌, ◌^◌, ℕ, length, Some, slice_index_or};
 ghost use Rattle.ao_base.specs.declared.address.Pair.{Pair as Sockets};
 ghost use Rattle.key_model.specs.Coordination.{Sending as Chosen};
 ghost use Rattle.key_model.specs.Rows.{Row};
@@ -10,6 +10,7 @@ ghost use Rattle.mac_model.specs.Contexts.{bytes_of};
 ghost use Rattle.tcp_segment.specs.Writing.{IsOneFamily};
 ghost use Rattle.ao_kdf.specs.declared.way.Way.TheVariants.{Outbound};
 ghost use Rattle.ao_check.specs.Bonds.{Counted, Fits};
+ghost use Rattle.wrap_seq.specs.Counter.{number as value_of};
 ghost use Rattle.segment_writer.specs.Drafts.{IsKnown, IsOf, IsWritten};
 ghost use Rattle.segment_writer.specs.Heads.{size_of};
 
@@ -45,7 +46,7 @@ pub fn write_segment<L: Ledger>(
     requires family { IsOneFamily pair.now.local.address pair.now.remote.address }
     requires sockets { association.old.pair ≡ pair.now }
     requires known { IsKnown outgoing.now.flags association.old.peer }
-    requires number { outgoing.now.number ≤ 2 ^ 63 }
+    requires number { value_of outgoing.now.number ≤ 2 ^ 63 }
     requires piece { outgoing.now.payload.offset + outgoing.now.payload.count ≤ length outgoing.now.payload.queue.now }
     requires fits { Fits table.now.rows association.old }
     requires low { 1 ≤ sending.now.row }
@@ -59,14 +60,20 @@ pub fn write_segment<L: Ledger>(
     ensures same { association.new ≡ record association.old { keys = association.new.keys } }
     ensures fits { Fits table.now.rows association.new }
     ensures most { steps.new ≤ steps.old + 1 }
-    ensures counted { Counted association.old.keys association.new.keys (Some sending.now.row) Outbound (sets outgoing.now.flags SYN) steps.old steps.new }
+    ensures counted { Counted association.old.keys association.new.keys (Some sending.now.row) true Outbound (sets outgoing.now.flags SYN) steps.old steps.new }
 {
     let mac_length = table.row(sending.row).algorithm().mac_length();
     let head = head_of(pair, outgoing, sending, mac_length);
     let piece = outgoing.payload;
     let mut datagram = write_datagram(out, &head, piece.count);
     piece.queue.copy_at(piece.offset, datagram.payload_mut());
-    let context = association.sign(table, sending, outgoing.number, &mut datagram, steps);
+    let context = association.sign(
+        table,
+        sending,
+        outgoing.number.value(),
+        &mut datagram,
+        steps,
+    );
     Written {
         length: datagram.finish(),
         context,

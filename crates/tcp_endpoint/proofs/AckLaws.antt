@@ -20,6 +20,9 @@ ack_if : (s : EndState) (d : Segment) (n now : ℕ) (a : Option ℕ) → book.ab
     → book.acknowledged s d n now a SynReceived ≡ book.go_on (record (book.acked s a) { phase = Established }) s.una d n now a
 ack_if s d n now a p q = ap (λ b. if b then book.go_on (record (book.acked s a) { phase = Established }) s.una d n now a else book.answered s answers.BadAck) (both (book.above a s.una) (book.above a s.next) p q)
 
+pub both_true : (a b : Bool) → a ≡ true → b ≡ true → (a && b) ≡ true
+both_true a b p q = rw (p, q) refl
+
 -- the acknowledgement of the own SYN
 pub syn_acked : (s : EndState) (d : Segment) (n now una next : ℕ) (a b : Option ℕ) (p : Phase) → SynReceived ≡ p → a ≡ b → una ≡ s.una → next ≡ s.next → book.above a una ≡ true → book.above a next ≡ false
     → book.acknowledged s d n now b p ≡ book.go_on (record (book.acked s a) { phase = Established }) una d n now a

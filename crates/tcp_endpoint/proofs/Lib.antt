@@ -6,6 +6,7 @@ pub mod AckLaws
 pub mod PhaseLaws
 pub mod JudgeLaws
 pub mod PassLaws
+pub mod CostLaws
 pub mod FamilyLaws
 pub mod FitLaws
 pub mod MakeLaws

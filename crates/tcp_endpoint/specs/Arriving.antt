@@ -1,15 +1,17 @@
 -- What an end answers to an arrival, as the definitions answer.
-use Rattle.std.specs.Prelude.{◌≡◌, ◌+◌, ◌≤◌, ◌<◌, ◌^◌, true, length, ℕ, List, Option, Some, None, ⊤}
+use Rattle.std.specs.Prelude.{◌≡◌, ◌+◌, ◌≤◌, ◌<◌, ◌^◌, Bool, true, false, length, ℕ, List, Option, Some, None, ⊤}
 use Rattle.ao_base.specs.declared.address.Pair.{Pair}
 use Rattle.segment_model.specs.Options as options
-use Rattle.segment_model.specs.Segments.{Reading, Read, Segment, has, FIN, segment_length}
+use Rattle.segment_model.specs.Segments.{Reading, Read, Segment, has, FIN, SYN, segment_length}
 use Rattle.key_model.specs.Rows.{Row}
 use Rattle.endpoint_model.specs.declared.verdict.Passed.{Passed}
 use Rattle.endpoint_model.specs.declared.arrival.Arrival.{Arrival}
 use Rattle.endpoint_model.specs.declared.arrival.Arrival.TheVariants as answers
 use Rattle.endpoint_model.specs.Verdicts.{Finding}
 use Rattle.endpoint_model.specs.Arrivals as book
-use Rattle.ao_check.specs.Verdicts.{Names}
+use Rattle.ao_kdf.specs.declared.way.Way.TheVariants.{Inbound}
+use Rattle.ao_check.specs.Bonds.{Counted}
+use Rattle.ao_check.specs.Verdicts.{Names, is_judged, judging}
 use Rattle.tcp_endpoint.specs.declared.arrival.Arrived.{Arrived}
 use Rattle.tcp_endpoint.specs.declared.endpoint.Endpoint.{Endpoint}
 use Rattle.tcp_endpoint.specs.Ends.{Stands}
@@ -45,6 +47,31 @@ pub record Arrives (rows : List Row) (pair : Pair) (r : Reading) (e : Endpoint) 
   pub stands : Stands e m.state
   pub answer : told.arrival ≡ m.answer
   pub passed : TellsPassed rows pair r told.passed m.passed
+
+-- the answers that come before the check (RFC 9293, section 3.10.7)
+abbrev pub IsBeforeCheck : Arrival → Type 0
+IsBeforeCheck (answers.Bad fault) = ⊤
+IsBeforeCheck answers.Foreign = ⊤
+IsBeforeCheck answers.Checksum = ⊤
+IsBeforeCheck answers.Closed = ⊤
+IsBeforeCheck _ = ⊥
+
+-- the segment came as far as its MAC (RFC 5925, section 7.5)
+abbrev pub is_computed : Arrival → Bool
+is_computed (answers.Bad fault) = false
+is_computed answers.Foreign = false
+is_computed answers.Checksum = false
+is_computed answers.Closed = false
+is_computed (answers.Refused why) = is_judged why
+is_computed _ = true
+
+-- the work of an arrival: that on its MAC, and behind it at most 65 links of the received runs, none where nothing passed or came with it
+pub record Costs (rows : List Row) (now : ℕ) (d : Segment) (before after : Endpoint) (told : Arrived) (old new : ℕ) : Type 0 where
+  pub checked : ℕ
+  pub counted : Counted before.association.keys after.association.keys (judging rows before.pair now (options.find_ao d.area)) (is_computed told.arrival) Inbound (has SYN d) old checked
+  pub links : new ≤ checked + 65
+  pub refused : told.passed ≡ None → new ≡ checked
+  pub bare : length d.payload ≡ 0 → new ≡ checked
 
 -- the answers after which all that an end stands for is as it was
 abbrev pub LeavesAll : Arrival → Type 0

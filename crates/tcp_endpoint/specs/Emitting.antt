@@ -1,9 +1,13 @@
 -- What an end answers where it may make a segment, as the definitions answer.
-use Rattle.std.specs.Prelude.{◌≡◌, ℕ, List, length, ⊤}
+use Rattle.std.specs.Prelude.{◌≡◌, ℕ, true, List, length, Some, ⊤}
+use Rattle.segment_model.specs.Segments.{SYN}
 use Rattle.mac_model.specs.Contexts.{bytes_of}
 use Rattle.key_coordination.specs.Sendings.{told}
 use Rattle.endpoint_model.specs.States.{EndState}
 use Rattle.endpoint_model.specs.Emissions as book
+use Rattle.ao_kdf.specs.declared.way.Way.TheVariants.{Outbound}
+use Rattle.ao_kdf.specs.Cache.{Cache}
+use Rattle.ao_check.specs.Bonds.{Counted}
 use Rattle.segment_writer.specs.Drafts.{IsWritten}
 use Rattle.tcp_endpoint.specs.declared.emission.Made.{Made}
 use Rattle.tcp_endpoint.specs.declared.emission.Emission.{Emission}
@@ -59,6 +63,20 @@ pub record Emits (s : EndState) (e : Endpoint) (before after : List ℕ) (answer
 pub record Resends (s : EndState) (e : Endpoint) (before after : List ℕ) (answer : Resent) (b : book.Emitted) : Type 0 where
   pub stands : Stands e (state_after s b)
   pub answer_is : AnswersAgainAs before after answer b
+
+-- the work of a segment: that on its MAC, under the key of the row that it was sealed with
+abbrev pub MakeCosts : Cache → Cache → Made → ℕ → ℕ → Type 0
+MakeCosts before after m old new = Counted before after (Some m.sending.row) true Outbound (book.sets m.flags SYN) old new
+
+-- the work of emit: that of its segment, and none without one
+abbrev pub EmitCosts : Cache → Cache → Emission → ℕ → ℕ → Type 0
+EmitCosts before after (emissions.Segment m) old new = MakeCosts before after m old new
+EmitCosts before after _ old new = new ≡ old
+
+-- the same of resend
+abbrev pub ResendCosts : Cache → Cache → Resent → ℕ → ℕ → Type 0
+ResendCosts before after (resents.Segment m) old new = MakeCosts before after m old new
+ResendCosts before after _ old new = new ≡ old
 
 -- no segment was made
 abbrev pub MakesNone : Emission → Type 0

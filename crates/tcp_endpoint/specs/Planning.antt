@@ -62,7 +62,7 @@ IsCarried e plans.FinAgain = IsKnown e
 
 -- the outline is that of the draft: its number, and its bytes from the queue
 pub record IsOutlineOf (queue : List ℕ) (o : Outline) (draft : book.Draft) : Type 0 where
-  pub number_is : o.number ≡ draft.number
+  pub number_is : number o.number ≡ draft.number
   pub payload : take o.count (drop o.offset queue) ≡ draft.payload
 
 -- of so many unsent bytes, for so many of which the peer's window is free, at most so many are carried

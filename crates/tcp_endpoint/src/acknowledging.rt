@@ -82,7 +82,7 @@ impl Endpoint {
                         });
                     }
                 }
-                None => {}
+                None => unreachable!(),
             },
             None => {}
         }

@@ -3,14 +3,14 @@ ghost use Rattle.std.specs.Prelude.{◌≡◌, ◌+◌, ◌≤◌, ℕ, Option, 
 ghost use Rattle.ao_base.specs.declared.address.Socket.{Socket};
 ghost use Rattle.segment_model.specs.Options.{One, find_ao};
 ghost use Rattle.segment_model.specs.Sockets.{same_socket};
-ghost use Rattle.segment_model.specs.Segments.{reading};
+ghost use Rattle.segment_model.specs.Segments.{Read, Segment, reading};
 ghost use Rattle.endpoint_model.specs.States.{EndState};
 ghost use Rattle.endpoint_model.specs.Arrivals as book;
 ghost use Rattle.key_model.specs.Lifetimes.{greatest_time};
 ghost use Rattle.ao_check.specs.Verdicts.{IsExpected};
 ghost use Rattle.tcp_endpoint.specs.Numbers.{expected_in};
 ghost use Rattle.tcp_endpoint.specs.Ends.{Stands, FitsEnd, IsUnmoved};
-ghost use Rattle.tcp_endpoint.specs.Arriving.{Arrives, LeavesAll, rnext_of};
+ghost use Rattle.tcp_endpoint.specs.Arriving.{Arrives, Costs, IsBeforeCheck, LeavesAll, rnext_of};
 
 use crate::arrival::Arrived;
 use crate::endpoint::Endpoint;
@@ -66,10 +66,12 @@ fn rnext_of(datagram: &Datagram<'_>) -> u8
 
 impl Endpoint {
     /// A datagram arrives at `now`, in seconds since 1970 and at most LATEST: the first answer that
-    /// holds (RFC 9293, section 3.10.7; RFC 5925, section 7.5). After `Bad`, `Foreign`, `Checksum`,
-    /// `Closed`, `Refused` and `Unexpected` all that the end stands for is as before; a traffic key
-    /// that the check derived may be kept. At most 66 steps are counted: one derivation, and the
-    /// links that a piece walks among the received runs.
+    /// holds (RFC 9293, section 3.10.7; RFC 5925, section 7.5). After `Bad`, `Foreign`, `Checksum` and
+    /// `Closed` nothing has changed, and no step is counted. After `Refused` and `Unexpected` all that
+    /// the end stands for is as before; a traffic key that the check derived may be kept.
+    ///
+    /// At most 66 steps are counted: one derivation, as for the check, and the links that a piece walks
+    /// among the received runs. No kept key is dropped.
     #[tactic(auto, unfolding(endpoint_model::specs::Arrivals::arrive))]
     pub fn arrive<L: Ledger>(
         &mut self,
@@ -82,7 +84,9 @@ impl Endpoint {
         requires now { now ≤ greatest_time }
         ensures arrives { (s : EndState) → Stands self.old s
             → Arrives table.now.rows self.old.pair (reading bytes.now) self.new result (book.arrive table.now.rows self.old.pair now s (reading bytes.now)) }
+        ensures untouched { IsBeforeCheck result.arrival → (self.new ≡ self.old) × (steps.new ≡ steps.old) }
         ensures unchanged { LeavesAll result.arrival → IsUnmoved self.old self.new }
+        ensures costs { (d : Segment) → reading bytes.now ≡ Read d → Costs table.now.rows now d self.old self.new result steps.old steps.new }
         ensures pair { self.new.pair ≡ self.old.pair }
         ensures fits { FitsEnd table.now.rows self.new }
         ensures steps { steps.new ≤ steps.old + 66 }

@@ -11,7 +11,7 @@ ghost use Rattle.ao_check.specs.Bonds.{Fits};
 ghost use Rattle.tcp_endpoint.specs.Halves.{waits};
 ghost use Rattle.tcp_endpoint.specs.Numbers.{expected_in};
 ghost use Rattle.tcp_endpoint.specs.Ends.{Stands};
-ghost use Rattle.tcp_endpoint.specs.Arriving.{Reaches, InRange, LeavesAll};
+ghost use Rattle.tcp_endpoint.specs.Arriving.{Reaches, InRange, LeavesAll, is_computed};
 
 use crate::endpoint::Endpoint;
 use crate::flags::{ACK, FIN, RST, SYN, has};
@@ -81,6 +81,7 @@ impl Endpoint {
         ensures told { LeavesAll result → ⊥ }
         ensures pair { self.new.pair ≡ self.old.pair }
         ensures steps { steps.new ≤ steps.old + 65 }
+        ensures bare { length datagram.now.payload ≡ 0 → steps.new ≡ steps.old }
     {
         self.hear_window(old_una, datagram, number, acknowledged);
         self.hear_own_fin(acknowledged);
@@ -109,6 +110,7 @@ impl Endpoint {
         ensures told { LeavesAll result → ⊥ }
         ensures pair { self.new.pair ≡ self.old.pair }
         ensures steps { steps.new ≤ steps.old + 65 }
+        ensures bare { length datagram.now.payload ≡ 0 → steps.new ≡ steps.old }
     {
         let una = self.sequence.una.value();
         let acknowledged = acknowledged_by(datagram.acknowledgement(), self.sequence.una);
@@ -156,7 +158,9 @@ impl Endpoint {
         ensures told { LeavesAll result → ⊥ }
         ensures pair { self.new.pair ≡ self.old.pair }
         ensures fits { Fits table.now.rows self.old.association → Fits table.now.rows self.new.association }
+        ensures keys { self.new.association.keys ≡ self.old.association.keys }
         ensures steps { steps.new ≤ steps.old + 65 }
+        ensures bare { length datagram.now.payload ≡ 0 → steps.new ≡ steps.old }
     {
         if has(datagram, RST) {
             if number == expected_in(self.sequence.received).value() {
@@ -201,7 +205,10 @@ impl Endpoint {
         ensures unchanged { LeavesAll result → self.new ≡ self.old }
         ensures pair { self.new.pair ≡ self.old.pair }
         ensures fits { Fits table.now.rows self.old.association → Fits table.now.rows self.new.association }
+        ensures checked { is_computed result ≡ true }
+        ensures keys { self.new.association.keys ≡ self.old.association.keys }
         ensures steps { steps.new ≤ steps.old + 65 }
+        ensures bare { length datagram.now.payload ≡ 0 → steps.new ≡ steps.old }
     {
         match self.phase {
             Phase::Listen => self.hear_syn(table, datagram, rnext, now),

@@ -44,6 +44,7 @@ fn begin(
     ensures fits { IfOk result (λ e. FitsEnd table.now.rows e) }
     ensures pair { IfOk result (λ e. e.pair ≡ pair) }
 {
+    // It tells that a table has at most as many rows.
     let _rows = table.rows();
     let association = Association::new(alloc, table, pair, isn, ROWS)?;
     let queue = SendQueue::new(alloc)?;
@@ -122,6 +123,7 @@ impl Endpoint {
         ensures fits { IfOk result (λ e. FitsEnd table.now.rows e) }
         ensures pair { IfOk result (λ e. e.pair ≡ pair) }
     {
+        // It tells that a table has at most as many rows.
         let _rows = table.rows();
         let mut association = Association::new(alloc, table, pair, own_isn, ROWS)?;
         association.learn(peer_isn);

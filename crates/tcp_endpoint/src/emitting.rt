@@ -3,7 +3,7 @@ ghost use Rattle.std.specs.Prelude.{◌≡◌, ◌+◌, ◌≤◌, length};
 ghost use Rattle.endpoint_model.specs.States.{EndState};
 ghost use Rattle.endpoint_model.specs.Emissions as book;
 ghost use Rattle.tcp_endpoint.specs.Ends.{Stands, FitsEnd, IsUnchanged};
-ghost use Rattle.tcp_endpoint.specs.Emitting.{Emits, Resends, MakesNone, ResendsNone, length_made, length_made_again};
+ghost use Rattle.tcp_endpoint.specs.Emitting.{Emits, EmitCosts, Resends, ResendCosts, MakesNone, ResendsNone, length_made, length_made_again};
 
 use crate::emission::{Emission, Resent};
 use crate::endpoint::Endpoint;
@@ -17,8 +17,9 @@ impl Endpoint {
     /// section 3.10). It is sealed under the key of the current row, or of the sendable row with the
     /// greatest send start, which becomes current (RFC 5925, section 7.4); what stands behind the
     /// segment in `out` stays. `Idle` exactly where nothing is to be sent, `NoKey` exactly where
-    /// something is and no row is sendable; after both nothing has changed. At most one step is
-    /// counted.
+    /// something is and no row is sendable; after both nothing has changed, and no step is
+    /// counted. For a segment at most one is: none without SYN where its key is kept, and no kept key
+    /// is dropped.
     pub fn emit<L: Ledger>(
         &mut self,
         table: &Table,
@@ -30,6 +31,7 @@ impl Endpoint {
         requires room { 1500 ≤ length out.old }
         ensures emits { (s : EndState) → Stands self.old s
             → Emits s self.new out.old out.new result (book.emit table.now.rows self.old.pair now s) }
+        ensures costs { EmitCosts self.old.association.keys self.new.association.keys result steps.old steps.new }
         ensures short { length_made result ≤ 1500 }
         ensures unchanged { MakesNone result → IsUnchanged self.old self.new × (out.new ≡ out.old) }
         ensures pair { self.new.pair ≡ self.old.pair }
@@ -60,6 +62,7 @@ impl Endpoint {
         requires room { 1500 ≤ length out.old }
         ensures resends { (s : EndState) → Stands self.old s
             → Resends s self.new out.old out.new result (book.resend table.now.rows self.old.pair now s) }
+        ensures costs { ResendCosts self.old.association.keys self.new.association.keys result steps.old steps.new }
         ensures short { length_made_again result ≤ 1500 }
         ensures unchanged { ResendsNone result → IsUnchanged self.old self.new × (out.new ≡ out.old) }
         ensures pair { self.new.pair ≡ self.old.pair }

@@ -8,6 +8,7 @@ ghost use Rattle.tcp_endpoint.specs.Answers.{give_answer, offered, IsRefused};
 
 use crate::endpoint::Endpoint;
 use crate::phases::is_closed;
+use stream_buffers::Full;
 
 /// The greatest number of a stream, its FIN's included.
 const LAST_NUMBER: u64 = (1 << 63) - 1;
@@ -58,7 +59,7 @@ impl Endpoint {
         }
         match self.queue.push(piece) {
             Ok(()) => {}
-            Err(_) => return GiveAnswer::Full,
+            Err(Full) => unreachable!(),
         }
         self.given += piece.len() as u64;
         GiveAnswer::Ok

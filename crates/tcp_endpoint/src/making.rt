@@ -8,7 +8,7 @@ ghost use Rattle.endpoint_model.specs.Emissions as book;
 ghost use Rattle.tcp_endpoint.specs.Numbers.{expected_in};
 ghost use Rattle.tcp_endpoint.specs.Ends.{Stands, FitsEnd};
 ghost use Rattle.tcp_endpoint.specs.Planning.{draft_of, flags_of, IsCarried};
-ghost use Rattle.tcp_endpoint.specs.Emitting.{Makes};
+ghost use Rattle.tcp_endpoint.specs.Emitting.{MakeCosts, Makes};
 
 use crate::emission::Made;
 use crate::endpoint::Endpoint;
@@ -63,9 +63,11 @@ impl Endpoint {
         ensures makes { (s : EndState) (chosen : Chosen) → Stands self.old s → s.current ≡ Some chosen.number
             → sending.now ≡ told chosen → slice_get table.now.rows (chosen.number - 1) ≡ Some chosen.row
             → Makes self.new out.old out.new result (book.keyed self.old.pair s chosen (Some (draft_of s (book.most_bytes self.old.pair s chosen) plan))) }
+        ensures sending { result.sending ≡ sending.now }
         ensures short { result.length ≤ 1500 }
         ensures pair { self.new.pair ≡ self.old.pair }
         ensures fits { FitsEnd table.now.rows self.new }
+        ensures costs { MakeCosts self.old.association.keys self.new.association.keys result steps.old steps.new }
         ensures steps { steps.new ≤ steps.old + 1 }
     {
         let flags = flags_of(plan);
@@ -96,7 +98,7 @@ impl Endpoint {
         Made {
             length,
             sending: *sending,
-            number: outline.number,
+            number: outline.number.value(),
             ack,
             flags,
             payload: outline.count,

@@ -1,12 +1,12 @@
 //! The segments that open a connection.
-ghost use Rattle.std.specs.Prelude.{◌≡◌, ◌+◌, ◌<◌, ◌%◌, ◌^◌, ◌==◌, ◌&&◌, not, nat_lt, ℕ, List};
+ghost use Rattle.std.specs.Prelude.{◌≡◌, true, ◌+◌, ◌<◌, ◌%◌, ◌^◌, ◌==◌, ◌&&◌, not, nat_lt, ℕ, List};
 ghost use Rattle.segment_model.specs.Bytes.{ring};
 ghost use Rattle.endpoint_model.specs.declared.phase.Phase.TheVariants.{Listen, SynSent};
 ghost use Rattle.endpoint_model.specs.States.{EndState};
 ghost use Rattle.endpoint_model.specs.Arrivals as book;
 ghost use Rattle.ao_check.specs.Bonds.{Fits};
 ghost use Rattle.tcp_endpoint.specs.Ends.{Stands};
-ghost use Rattle.tcp_endpoint.specs.Arriving.{Reaches, LeavesAll};
+ghost use Rattle.tcp_endpoint.specs.Arriving.{Reaches, LeavesAll, is_computed};
 
 use crate::beginning::default_mss;
 use crate::endpoint::Endpoint;
@@ -49,7 +49,7 @@ fn is_syn_ack_alone(datagram: &Datagram<'_>) -> bool
 fn acknowledges_syn(isn: u32, next: u64, acknowledgement: u32) -> bool
     ensures { result ≡ (nat_lt isn next && (acknowledgement == (isn + 1) % ring)) }
 {
-    u64::from(isn) < next && u64::from(acknowledgement) == (u64::from(isn) + 1) % 0x1_0000_0000
+    u64::from(isn) < next && acknowledgement == Counter::of(u64::from(isn) + 1).low
 }
 
 impl Endpoint {
@@ -66,7 +66,9 @@ impl Endpoint {
             → Reaches self.new result (book.after_check self.old.pair s
             (book.heard table.now.rows self.old.pair now s rnext) datagram.now datagram.now.sequence now Listen) }
         ensures unchanged { LeavesAll result → self.new ≡ self.old }
+        ensures checked { is_computed result ≡ true }
         ensures pair { self.new.pair ≡ self.old.pair }
+        ensures keys { self.new.association.keys ≡ self.old.association.keys }
         ensures fits { Fits table.now.rows self.old.association → Fits table.now.rows self.new.association }
     {
         if !is_syn_alone(datagram) {
@@ -102,7 +104,9 @@ impl Endpoint {
             → Reaches self.new result (book.after_check self.old.pair s
             (book.heard table.now.rows self.old.pair now s rnext) datagram.now datagram.now.sequence now SynSent) }
         ensures unchanged { LeavesAll result → self.new ≡ self.old }
+        ensures checked { is_computed result ≡ true }
         ensures pair { self.new.pair ≡ self.old.pair }
+        ensures keys { self.new.association.keys ≡ self.old.association.keys }
         ensures fits { Fits table.now.rows self.old.association → Fits table.now.rows self.new.association }
     {
         if !is_syn_ack_alone(datagram) {

@@ -4,14 +4,17 @@ ghost use Rattle.ao_base.specs.Algorithms.{mac_length_of};
 ghost use Rattle.segment_model.specs.Segments.{SYN as Syn};
 ghost use Rattle.endpoint_model.specs.States.{EndState, own_mss};
 ghost use Rattle.endpoint_model.specs.Emissions.{sets};
+ghost use Rattle.wrap_seq.specs.Counter.{number};
 ghost use Rattle.tcp_endpoint.specs.Ends.{Stands};
 ghost use Rattle.tcp_endpoint.specs.Planning.{draft_of, flags_of, IsCarried, IsCounted, IsOutlineOf, IsWithin};
 
 use crate::endpoint::Endpoint;
 use crate::flags::{ACK, FIN, PSH, RST, SYN};
 use crate::planning::Plan;
+use crate::sequence::SequenceState;
 use ao_base::Algorithm;
 use segment_writer::own_mss;
+use wrap_seq::Counter;
 
 /// The length of the TCP-AO option without its MAC (RFC 5925, section 2.2).
 const AO_HEAD: u64 = 4;
@@ -19,7 +22,7 @@ const AO_HEAD: u64 = 4;
 /// What a planned segment is made of: its number, and which bytes of the queue it carries.
 #[derive(Clone, Copy)]
 pub(crate) struct Outline {
-    pub(crate) number: u64,
+    pub(crate) number: Counter,
     /// How many bytes of the queue stand before those that are carried.
     pub(crate) offset: usize,
     pub(crate) count: usize,
@@ -27,7 +30,7 @@ pub(crate) struct Outline {
 
 impl Outline {
     /// A segment at this number without payload.
-    fn bare(number: u64) -> Outline
+    fn bare(number: Counter) -> Outline
         ensures { result ≡ record { number = number; offset = 0; count = 0 } }
     {
         Outline {
@@ -72,40 +75,41 @@ impl Endpoint {
     pub(crate) fn outline(&self, plan: Plan, most: u64) -> Outline
         requires carried { IsCarried self.now plan }
         ensures outlines { (s : EndState) → Stands self.now s → IsOutlineOf self.now.queue result (draft_of s most plan) }
-        ensures number { result.number ≤ 2 ^ 63 }
+        ensures number { number result.number ≤ 2 ^ 63 }
         ensures piece { result.offset + result.count ≤ length self.now.queue }
         ensures few { result.count ≤ max 1 most }
         ensures bare { sets (flags_of plan) Syn ≡ true → result.count ≡ 0 }
         ensures counted { IsCounted self.now most plan result.count }
         ensures within { IsWithin self.now plan result.count }
     {
-        let una = self.sequence.una.value();
-        let next = self.sequence.next.value();
+        let isn = Counter::of(u64::from(self.isn));
+        let SequenceState { una, next, .. } = self.sequence;
         match plan {
             Plan::Reset => Outline::bare(next),
-            Plan::Syn => Outline::bare(u64::from(self.isn)),
-            Plan::SynAck => Outline::bare(u64::from(self.isn)),
+            Plan::Syn => Outline::bare(isn),
+            Plan::SynAck => Outline::bare(isn),
             Plan::Data => {
-                let window_end = una + u64::from(self.send_window);
-                let count = self.unsent().min(window_end.saturating_sub(next)).min(most);
+                let window_end = una.value() + u64::from(self.send_window);
+                let free = window_end.saturating_sub(next.value());
+                let count = self.unsent().min(free).min(most);
                 Outline {
                     number: next,
-                    offset: (next - una) as usize,
+                    offset: (next.value() - una.value()) as usize,
                     count: count as usize,
                 }
             }
             Plan::Probe => Outline {
                 number: next,
-                offset: (next - una) as usize,
+                offset: (next.value() - una.value()) as usize,
                 count: 1,
             },
             Plan::Fin => Outline::bare(next),
             Plan::Ack => Outline::bare(next),
-            Plan::SynAgain => Outline::bare(u64::from(self.isn)),
-            Plan::SynAckAgain => Outline::bare(u64::from(self.isn)),
+            Plan::SynAgain => Outline::bare(isn),
+            Plan::SynAckAgain => Outline::bare(isn),
             Plan::Again => {
                 let unacknowledged = self.queue.len() as u64;
-                let count = (next - una).min(most).min(unacknowledged);
+                let count = (next.value() - una.value()).min(most).min(unacknowledged);
                 Outline {
                     number: una,
                     offset: 0,

@@ -20,7 +20,7 @@ use tcp_segment::Datagram;
 use wrap_seq::Counter;
 
 /// How long TIME-WAIT lasts, in seconds (RFC 9293, section 3.4.2).
-const REST: u64 = 240;
+const TIME_WAIT_SECONDS: u64 = 240;
 
 /// The value of a counter, where there is one.
 fn value_in(counter: Option<Counter>) -> Option<u64>
@@ -105,7 +105,7 @@ impl Endpoint {
         match self.phase {
             Phase::TimeWait => match self.deadline {
                 Some(_) => {}
-                None => self.deadline = Some(now + REST),
+                None => self.deadline = Some(now + TIME_WAIT_SECONDS),
             },
             _ => {}
         }
@@ -128,10 +128,11 @@ impl Endpoint {
         ensures told { LeavesAll result → ⊥ }
         ensures pair { self.new.pair ≡ self.old.pair }
         ensures steps { steps.new ≤ steps.old + 65 }
+        ensures bare { length datagram.now.payload ≡ 0 → steps.new ≡ steps.old }
     {
         let received = match self.sequence.received {
             Some(received) => received,
-            None => return Arrival::Taken,
+            None => unreachable!(),
         };
         let payload = datagram.payload();
         let expected = self.reassembly.expected();

@@ -26,6 +26,7 @@ impl Endpoint {
         ensures pair { self.new.pair ≡ self.old.pair }
         ensures fits { (rows : List Row) → FitsEnd rows self.old → FitsEnd rows self.new }
     {
+        // It tells that the reassembly is sound, of which `take` says nothing.
         let _expected = self.reassembly.expected();
         let before = self.reassembly.window();
         let count = self.reassembly.take(out);

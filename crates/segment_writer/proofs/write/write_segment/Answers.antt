@@ -6,6 +6,7 @@ use Rattle.tcp_segment.specs.Lending.{with_payload}
 use Rattle.tcp_segment.proofs.WriteLaws.{payload_set}
 use Rattle.segment_writer.specs.Heads.{head_of, size_of}
 use Rattle.segment_writer.proofs.LaidLaws.{IsLaid, emits_so, written_so, is_ready, is_counted, is_here}
+use Rattle.segment_writer.proofs.SealLaws.{HasCode}
 use Rattle.segment_writer.proofs.SizeLaws.{size_told, is_head, copied, rest_is}
 use Rattle.segment_writer.proofs.write.write_segment.Goals as goal
 
@@ -83,7 +84,7 @@ returns-clause-written g c = λ s draft chosen i.
     let f = rest_is h S.mac p _ _ (length p) x.count c.finish.result k.count_is size F in
     let w = written_so o c.args.association.now c.args.table.now.rows c.args.sending.now c.args.pair.now h r s draft chosen p
     (bytes_of c.sign-context.result) S.mac _ _
-    c.finish.result l i k.same S.drafted_so.head.family S.drafted_so.mac_length size S.of_old f in search (rules, w)
+    c.finish.result l i k.same S.drafted_so.head.family S.drafted_so.mac_length size (subst (λ (n : ℕ). HasCode h p r (bytes_of c.sign-context.result) n S.mac) c.value.ensures S.of_old) f in search (rules, w)
 
 pub returns-clause-counted : goal.returns-clause-counted
 returns-clause-counted g c =

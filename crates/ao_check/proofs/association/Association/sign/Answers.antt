@@ -1,4 +1,4 @@
-use Rattle.std.proofs.Common.{◌≡◌, false, sym, ap, ◌∙◌, refl, Some, arith, subst}
+use Rattle.std.proofs.Common.{◌≡◌, true, false, sym, ap, ◌∙◌, refl, Some, arith, subst}
 use Rattle.segment_model.specs.Segments.{Segment, has, SYN}
 use Rattle.mac_model.specs.Keys.{traffic_key}
 use Rattle.key_model.specs.Rows.{Row}
@@ -33,7 +33,7 @@ returns-clause-sealed g c = λ h old payload rest r D here.
     let x = c.row-row.result.now in
     let same = same_at c.args.table.now.rows c.args.sending.now.row x r c.requires.low c.requires.high c.row-row.ensures here in
     let key = c.key_of-key.ensures.key ∙ ap (λ (y : Row). traffic_key y.algorithm y.master (bytes_of c.outgoing-plan.result.context)) same in
-    sealed_as _ h old payload rest _ _ _ _ _ _ _ _ (c.algorithm.ensures ∙ ap (λ (y : Row). y.algorithm) same) key refl (c.with_options.ensures ∙ ap (λ (y : Row). y.with_options) same) (c.seal.ensures.sealed h old payload rest D)
+    sealed_as _ h old payload rest _ _ _ _ _ _ _ _ (c.algorithm.ensures ∙ ap (λ (y : Row). y.algorithm) same) key (omega (arith, c.of.ensures)) (c.with_options.ensures ∙ ap (λ (y : Row). y.with_options) same) (c.seal.ensures.sealed h old payload rest D)
 
 pub returns-clause-fits : goal.returns-clause-fits
 returns-clause-fits g c =
@@ -66,7 +66,7 @@ returns-clause-counted g c = λ h old payload rest F.
     let l = left_by_sign c.args.table.now.rows a c.as_datagram.result c.args.sending.now.row c.row-row.result.now (bytes_of c.outgoing-plan.result.context) c.key_of-key.result c.key_of-key.new.keys c.outgoing-plan.result.syn
     c.args.steps.now c.key_of-key.new.steps fits q k.key k.keys c.outgoing-plan.ensures.syn k.kept k.counted in
     let same = c.as_datagram.ensures.drafted h old payload rest F in
-    rw (← c.self.view_is) (subst (λ (s : Segment). Counted a.keys c.key_of-key.new.keys (Some c.args.sending.now.row) Outbound (has SYN s) c.args.steps.now c.key_of-key.new.steps) same l.counted)
+    rw (← c.self.view_is) (subst (λ (s : Segment). Counted a.keys c.key_of-key.new.keys (Some c.args.sending.now.row) true Outbound (has SYN s) c.args.steps.now c.key_of-key.new.steps) same l.counted)
 
 pub returns-clause-most : goal.returns-clause-most
 returns-clause-most g c = omega (arith, c.key_of-key.ensures.counted, one_step c.outgoing-plan.result.syn (Rattle.ao_kdf.specs.Cache.kept c.self.inside.keys c.args.sending.now.row Outbound))

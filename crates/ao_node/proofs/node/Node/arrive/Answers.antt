@@ -37,6 +37,7 @@ returns-clause-comes g c =
           (rw w.self-inside-is (subst (λ (x : Pair). of_entries most (c.get_mut.follows.lender f).entries ≡ written x c.args.self.now f) seen new))
           (record {
             arrives = rw c.in-Ok.ensures.read at w.arrive.ensures.arrives;
+            untouched = λ b. (w.arrive.ensures.untouched b).0;
             unchanged = w.arrive.ensures.unchanged;
             pair = w.arrive.ensures.pair;
             fits = w.arrive.ensures.fits;

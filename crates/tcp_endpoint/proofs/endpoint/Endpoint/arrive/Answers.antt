@@ -3,6 +3,8 @@ use Rattle.endpoint_model.specs.Verdicts as v
 use Rattle.ao_check.specs.Verdicts.{Names}
 use Rattle.tcp_endpoint.specs.Numbers.{expected_in}
 use Rattle.tcp_endpoint.proofs.ReadyLaws.{nothing_known, something_known}
+use Rattle.endpoint_model.specs.declared.arrival.Arrival.TheVariants.{Foreign, Closed}
+use Rattle.tcp_endpoint.proofs.CostLaws.{early_costs, refused_costs, untold, none_before, passed_costs}
 use Rattle.tcp_endpoint.proofs.JudgeLaws.{number_first, number_near}
 use Rattle.tcp_endpoint.proofs.PassLaws.{arrives_pass, arrives_refused, refused_by, judged_is, rnext_is, number_is}
 use Rattle.tcp_endpoint.proofs.endpoint.Endpoint.arrive.Goals as goal
@@ -39,6 +41,7 @@ returns-in_default g c =
             deadline = h.deadline;
             current = ap (λ b. b.current) c.check.ensures.same ∙ h.current;
           });
+      untouched = λ b. absurd (untold c.check.result c.without-in_default.result c.without-in_default.ensures b);
       unchanged = λ _. record {
         association = c.check.ensures.same;
         pair = refl;
@@ -60,6 +63,7 @@ returns-in_default g c =
       pair = refl;
       fits = c.check.ensures.fits;
       steps = omega (arith, c.check.ensures.counted.most);
+      costs = λ x read. refused_costs rows c.args.now e d x c.check.result c.without-in_default.result e.association.pair _ _ c.without-in_default.ensures (sym c.in-Ok.ensures.read ∙ read) e.bound.pair c.check.ensures.counted;
     }
 
 pub hear-arrival-requires-clause-number : goal.hear-arrival-requires-clause-number
@@ -80,6 +84,23 @@ hear-arrival-requires-clause-near g c = λ begun syn.
     let some = c.expected_of-expected.ensures.some (something_known e begun (sym c.if-is_closed.ensures)) in
     let pass = subst (λ x. v.judge rows e.association.pair e.association.own e.association.peer x c.args.now d ≡ v.Admit told.0) some told.1 in
     number_near rows e.association.pair e.association.own e.association.peer (expected_in e.sequence.received) c.args.now d told.0 pass syn ∙ ap Some (sym (number_is rows e.association.pair d c.in-Pass.passed told.0 told.2))
+
+pub returns-then-not-is_from_peer-clause-costs : goal.returns-then-not-is_from_peer-clause-costs
+returns-then-not-is_from_peer-clause-costs g c = λ x read.
+    early_costs c.args.table.now.rows c.args.now c.args.self.now x Foreign c.without-then-not-is_from_peer.result c.args.steps.now c.without-then-not-is_from_peer.ensures
+
+pub returns-then-is_closed-clause-costs : goal.returns-then-is_closed-clause-costs
+returns-then-is_closed-clause-costs g c = λ x read.
+    early_costs c.args.table.now.rows c.args.now c.args.self.now x Closed c.without-then-is_closed.result c.args.steps.now c.without-then-is_closed.ensures
+
+pub returns-clause-untouched : goal.returns-clause-untouched
+returns-clause-untouched g c = λ b. absurd (none_before c.hear-arrival.result c.hear-arrival.ensures.checked b)
+
+pub returns-clause-costs : goal.returns-clause-costs
+returns-clause-costs g c = λ x read.
+    let e = c.args.self.now in
+    passed_costs c.args.table.now.rows c.args.now e c.in-Ok.datagram x c.in-Pass.passed c.hear-arrival.result e.association.pair _ _ _ _ (sym c.in-Ok.ensures.read ∙ read) e.bound.pair
+    c.hear-arrival.ensures.checked c.hear-arrival.ensures.keys c.hear-arrival.ensures.steps c.hear-arrival.ensures.bare c.in-Pass.ensures.counted
 
 pub returns-clause-arrives : goal.returns-clause-arrives
 returns-clause-arrives g c = λ s h.

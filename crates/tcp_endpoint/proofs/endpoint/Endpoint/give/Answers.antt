@@ -4,11 +4,8 @@ use Rattle.endpoint_model.specs.States.{room}
 use Rattle.tcp_endpoint.proofs.ReadyLaws.{room_is, una_given, gives_true, offered_is}
 use Rattle.tcp_endpoint.proofs.endpoint.Endpoint.give.Goals as goal
 
-pub returns-in-Err-clause-answer : goal.returns-in-Err-clause-answer
-returns-in-Err-clause-answer c = let h = c.in-Err.ensures.variant.1 (omega (arith, c.free.ensures.value, c.free.ensures.small, c.if-free-piece.false)) in absurd (cc)
-
-pub returns-in-Err-clause-stands : goal.returns-in-Err-clause-stands
-returns-in-Err-clause-stands c = let h = c.in-Err.ensures.variant.1 (omega (arith, c.free.ensures.value, c.free.ensures.small, c.if-free-piece.false)) in absurd (cc)
+pub unreachable-requires : goal.unreachable-requires
+unreachable-requires c = let h = c.in-Err.ensures.variant.1 (omega (arith, c.free.ensures.value, c.free.ensures.small, c.if-free-piece.false)) in absurd (cc)
 
 pub returns-clause-stands : goal.returns-clause-stands
 returns-clause-stands c = λ s h.

@@ -8,6 +8,7 @@ use Rattle.endpoint_model.specs.declared.arrival.Arrival.TheVariants as answers
 use Rattle.endpoint_model.specs.Arrivals as book
 use Rattle.tcp_endpoint.specs.Ends.{Stands}
 use Rattle.tcp_endpoint.proofs.ReadyLaws.{window_is}
+use Rattle.tcp_endpoint.proofs.CostLaws.{moved_on}
 use Rattle.tcp_endpoint.proofs.HearLaws.{reaches_of}
 use Rattle.tcp_endpoint.proofs.PhaseLaws.{not_waiting, known_is, window_move}
 use Rattle.tcp_endpoint.proofs.endpoint.Endpoint.hear.Goals as goal
@@ -26,10 +27,16 @@ returns-then-not-is_acceptable g c = record {
       (subst (λ b. Stands c.owe_unless.new.self (if b then s else book.owing s)) c.has.ensures (c.owe_unless.ensures.stands s h))
       refl;
   unchanged = λ b. absurd b;
+  checked = refl;
   pair = c.owe_unless.ensures.pair;
+  keys = ap (λ b. b.keys) c.owe_unless.ensures.bond;
   fits = λ k. subst (λ b. Fits c.args.table.now.rows b) (sym c.owe_unless.ensures.bond) k;
   steps = omega arith;
+  bare = λ _. refl;
 }
+
+pub returns-else-not-is_acceptable-clause-checked : goal.returns-else-not-is_acceptable-clause-checked
+returns-else-not-is_acceptable-clause-checked g c = moved_on c.hear_acceptable.result c.hear_acceptable.ensures.told
 
 pub is_acceptable-requires-clause-near : goal.is_acceptable-requires-clause-near
 is_acceptable-requires-clause-near g c = λ syn.
