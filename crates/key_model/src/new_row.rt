@@ -39,7 +39,8 @@ pub enum AddRefusal {
 }
 
 /// The table has no row of this number.
-#[derive(Clone, Copy, Debug, PartialEq, Eq)]
+#[derive(Clone, Copy, Debug, PartialEq, Eq, Error)]
+#[error("no row of this number")]
 pub struct NoRow;
 
 impl From<AllocError> for AddRefusal {
