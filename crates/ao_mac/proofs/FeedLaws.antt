@@ -1,52 +1,15 @@
--- A hasher of an algorithm goes on as the hasher in it does.
+-- What a hasher answers is the MAC of what was fed to it, in whatever pieces.
 use Rattle.std.proofs.Common.{◌≡◌, ℕ, List, ◌++◌, take, ap, ◌∙◌, subst, append_assoc}
+use Rattle.ao_base.specs.Algorithms.{mac_length_of}
 use Rattle.ao_base.specs.declared.algorithm.Algorithm.{Algorithm}
 use Rattle.ao_base.specs.declared.algorithm.Algorithm.TheVariants.{HmacSha1, AesCmac, HmacSha256}
 use Rattle.hmac_sha1.specs.Hasher as hmac_hasher
 use Rattle.aes_cmac.specs.declared.hasher.Cmac as cmac_hasher
 use Rattle.aes_cmac.specs.Hasher as cmac_fed
 use Rattle.mac_model.specs.Keys.{untruncated, mac}
-use Rattle.ao_mac.specs.declared.hasher.Hasher.{Hasher}
-use Rattle.ao_mac.specs.declared.hasher.Hasher.TheVariants.{Sha1, Cmac, Sha256}
-use Rattle.ao_mac.specs.Feeds.{StandsFor}
-
--- ---- a piece is fed
-
-fed_sha1 : (h g : hmac_hasher.HmacSha1) (algorithm : Algorithm) (key fed piece : List ℕ)
-    → ((key fed : List ℕ) → hmac_hasher.StandsForSha1 h key fed → hmac_hasher.StandsForSha1 g key (fed ++ piece))
-    → StandsFor (Sha1 h) algorithm key fed → StandsFor (Sha1 g) algorithm key (fed ++ piece)
-fed_sha1 h g HmacSha1 key fed piece f s = f key fed s
-fed_sha1 h g AesCmac key fed piece f s = absurd s
-fed_sha1 h g HmacSha256 key fed piece f s = absurd s
-
-pub feeds_sha1 : (old : Hasher) (h g : hmac_hasher.HmacSha1) (piece : List ℕ) → old ≡ Sha1 h
-    → ((key fed : List ℕ) → hmac_hasher.StandsForSha1 h key fed → hmac_hasher.StandsForSha1 g key (fed ++ piece))
-    → (algorithm : Algorithm) (key fed : List ℕ) → StandsFor old algorithm key fed → StandsFor (Sha1 g) algorithm key (fed ++ piece)
-feeds_sha1 old h g piece is f algorithm key fed s = fed_sha1 h g algorithm key fed piece f (subst (λ o. StandsFor o algorithm key fed) is s)
-
-fed_cmac : (h g : cmac_hasher.Cmac) (algorithm : Algorithm) (key fed piece : List ℕ)
-    → ((key fed : List ℕ) → cmac_fed.StandsFor h key fed → cmac_fed.StandsFor g key (fed ++ piece))
-    → StandsFor (Cmac h) algorithm key fed → StandsFor (Cmac g) algorithm key (fed ++ piece)
-fed_cmac h g HmacSha1 key fed piece f s = absurd s
-fed_cmac h g AesCmac key fed piece f s = f key fed s
-fed_cmac h g HmacSha256 key fed piece f s = absurd s
-
-pub feeds_cmac : (old : Hasher) (h g : cmac_hasher.Cmac) (piece : List ℕ) → old ≡ Cmac h
-    → ((key fed : List ℕ) → cmac_fed.StandsFor h key fed → cmac_fed.StandsFor g key (fed ++ piece))
-    → (algorithm : Algorithm) (key fed : List ℕ) → StandsFor old algorithm key fed → StandsFor (Cmac g) algorithm key (fed ++ piece)
-feeds_cmac old h g piece is f algorithm key fed s = fed_cmac h g algorithm key fed piece f (subst (λ o. StandsFor o algorithm key fed) is s)
-
-fed_sha256 : (h g : hmac_hasher.HmacSha256) (algorithm : Algorithm) (key fed piece : List ℕ)
-    → ((key fed : List ℕ) → hmac_hasher.StandsForSha256 h key fed → hmac_hasher.StandsForSha256 g key (fed ++ piece))
-    → StandsFor (Sha256 h) algorithm key fed → StandsFor (Sha256 g) algorithm key (fed ++ piece)
-fed_sha256 h g HmacSha1 key fed piece f s = absurd s
-fed_sha256 h g AesCmac key fed piece f s = absurd s
-fed_sha256 h g HmacSha256 key fed piece f s = f key fed s
-
-pub feeds_sha256 : (old : Hasher) (h g : hmac_hasher.HmacSha256) (piece : List ℕ) → old ≡ Sha256 h
-    → ((key fed : List ℕ) → hmac_hasher.StandsForSha256 h key fed → hmac_hasher.StandsForSha256 g key (fed ++ piece))
-    → (algorithm : Algorithm) (key fed : List ℕ) → StandsFor old algorithm key fed → StandsFor (Sha256 g) algorithm key (fed ++ piece)
-feeds_sha256 old h g piece is f algorithm key fed s = fed_sha256 h g algorithm key fed piece f (subst (λ o. StandsFor o algorithm key fed) is s)
+use Rattle.ao_kdf.specs.declared.hasher.Hasher.{Hasher}
+use Rattle.ao_kdf.specs.declared.hasher.Hasher.TheVariants.{Sha1, Cmac, Sha256}
+use Rattle.ao_kdf.specs.Hashers.{StandsFor}
 
 -- ---- the first bytes of the code are the MAC
 
@@ -85,6 +48,32 @@ pub finishes_sha256 : (old : Hasher) (h : hmac_hasher.HmacSha256) (bytes : List 
     → ((key fed : List ℕ) → hmac_hasher.StandsForSha256 h key fed → bytes ≡ untruncated HmacSha256 key fed)
     → (algorithm : Algorithm) (key fed : List ℕ) → StandsFor old algorithm key fed → take 16 bytes ≡ mac algorithm key fed
 finishes_sha256 old h bytes is f algorithm key fed s = sha256_mac h algorithm key fed bytes f (subst (λ o. StandsFor o algorithm key fed) is s)
+
+-- ---- how long the MAC is
+
+long_sha1 : (h : hmac_hasher.HmacSha1) (algorithm : Algorithm) (key fed : List ℕ) (n : ℕ) → n ≡ 12 → StandsFor (Sha1 h) algorithm key fed → n ≡ mac_length_of algorithm
+long_sha1 h HmacSha1 key fed n e s = e
+long_sha1 h AesCmac key fed n e s = absurd s
+long_sha1 h HmacSha256 key fed n e s = absurd s
+
+long_cmac : (h : cmac_hasher.Cmac) (algorithm : Algorithm) (key fed : List ℕ) (n : ℕ) → n ≡ 12 → StandsFor (Cmac h) algorithm key fed → n ≡ mac_length_of algorithm
+long_cmac h HmacSha1 key fed n e s = absurd s
+long_cmac h AesCmac key fed n e s = e
+long_cmac h HmacSha256 key fed n e s = absurd s
+
+long_sha256 : (h : hmac_hasher.HmacSha256) (algorithm : Algorithm) (key fed : List ℕ) (n : ℕ) → n ≡ 16 → StandsFor (Sha256 h) algorithm key fed → n ≡ mac_length_of algorithm
+long_sha256 h HmacSha1 key fed n e s = absurd s
+long_sha256 h AesCmac key fed n e s = absurd s
+long_sha256 h HmacSha256 key fed n e s = e
+
+pub lasts_sha1 : (old : Hasher) (h : hmac_hasher.HmacSha1) (n : ℕ) → old ≡ Sha1 h → n ≡ 12 → (algorithm : Algorithm) (key fed : List ℕ) → StandsFor old algorithm key fed → n ≡ mac_length_of algorithm
+lasts_sha1 old h n is e algorithm key fed s = long_sha1 h algorithm key fed n e (subst (λ o. StandsFor o algorithm key fed) is s)
+
+pub lasts_cmac : (old : Hasher) (h : cmac_hasher.Cmac) (n : ℕ) → old ≡ Cmac h → n ≡ 12 → (algorithm : Algorithm) (key fed : List ℕ) → StandsFor old algorithm key fed → n ≡ mac_length_of algorithm
+lasts_cmac old h n is e algorithm key fed s = long_cmac h algorithm key fed n e (subst (λ o. StandsFor o algorithm key fed) is s)
+
+pub lasts_sha256 : (old : Hasher) (h : hmac_hasher.HmacSha256) (n : ℕ) → old ≡ Sha256 h → n ≡ 16 → (algorithm : Algorithm) (key fed : List ℕ) → StandsFor old algorithm key fed → n ≡ mac_length_of algorithm
+lasts_sha256 old h n is e algorithm key fed s = long_sha256 h algorithm key fed n e (subst (λ o. StandsFor o algorithm key fed) is s)
 
 -- three pieces, and two, as one
 pub fed_three : (h : Hasher) (algorithm : Algorithm) (key fed p q r x : List ℕ) → p ++ (q ++ r) ≡ x → StandsFor h algorithm key (((fed ++ p) ++ q) ++ r) → StandsFor h algorithm key (fed ++ x)

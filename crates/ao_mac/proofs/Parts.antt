@@ -70,22 +70,18 @@ covered-all area ao n e = rw (drop_rest, e) refl
 pub zeros : (n : ℕ) → n ≤ 40 → take n (replicate {A = ℕ} 40 0) ≡ replicate n 0
 zeros n h = take-replicate n 40 0 h
 
--- a number of two bytes
-pub put2-short : (n : ℕ) → n < 65536 → n / 256 ∷ n % 256 ∷ [] ≡ put2 n []
+-- a number of two bytes, written as two and as four
+pub pseudo_tail4 : (a b : List ℕ) (n : ℕ) → a ++ (b ++ (0 ∷ 6 ∷ n / 256 % 256 ∷ n % 256 ∷ [])) ≡ a ++ (b ++ (0 ∷ 6 ∷ put2 n []))
 unfolding put2
-put2-short n h = let e : n / 256 % 256 ≡ n / 256 = omega arith in rw e refl
+pseudo_tail4 a b n = refl
 
-pub put4-short : (n : ℕ) (rest : List ℕ) → n < 65536 → 0 ∷ 0 ∷ n / 256 ∷ n % 256 ∷ rest ≡ put4 n rest
+put4-short : (n : ℕ) (rest : List ℕ) → n < 65536 → 0 ∷ 0 ∷ n / 256 % 256 ∷ n % 256 ∷ rest ≡ put4 n rest
 unfolding put4
 put4-short n rest h =
     let a : n / 16777216 % 256 ≡ 0 = omega arith in
-    let b : n / 65536 % 256 ≡ 0 = omega arith in
-    let e : n / 256 % 256 ≡ n / 256 = omega arith in rw (a, b, e) refl
+    let b : n / 65536 % 256 ≡ 0 = omega arith in rw (a, b) refl
 
-pub pseudo_tail4 : (a b : List ℕ) (n : ℕ) → n < 65536 → a ++ (b ++ (0 ∷ 6 ∷ n / 256 ∷ n % 256 ∷ [])) ≡ a ++ (b ++ (0 ∷ 6 ∷ put2 n []))
-pseudo_tail4 a b n h = ap (λ (l : List ℕ). a ++ (b ++ (0 ∷ 6 ∷ l))) (put2-short n h)
-
-pub pseudo_tail6 : (a b : List ℕ) (n : ℕ) → n < 65536 → a ++ (b ++ (0 ∷ 0 ∷ n / 256 ∷ n % 256 ∷ 0 ∷ 0 ∷ 0 ∷ 6 ∷ [])) ≡ a ++ (b ++ put4 n (0 ∷ 0 ∷ 0 ∷ 6 ∷ []))
+pub pseudo_tail6 : (a b : List ℕ) (n : ℕ) → n < 65536 → a ++ (b ++ (0 ∷ 0 ∷ n / 256 % 256 ∷ n % 256 ∷ 0 ∷ 0 ∷ 0 ∷ 6 ∷ [])) ≡ a ++ (b ++ put4 n (0 ∷ 0 ∷ 0 ∷ 6 ∷ []))
 pseudo_tail6 a b n h = ap (λ (l : List ℕ). a ++ (b ++ l)) (put4-short n (0 ∷ 0 ∷ 0 ∷ 6 ∷ []) h)
 
 pub pseudo_sized4 : (d : Segment) (a b : List ℕ) (n : ℕ) → FitsIp d.ip d → d.source.address ≡ V4 a → d.destination.address ≡ V4 b → n ≡ tcp_length d
@@ -106,11 +102,11 @@ mac_input-fed number extension d ao flag e =
     rw (put4-append, pseudo-append, header-append) (simp append_assoc) in
     rw (← e) (sym whole)
 
--- the MAC of what was fed, under the key that was given
-pub mac_of_fed : (algorithm : Algorithm) (k key bytes : List ℕ) (number extension : ℕ) (d : Segment) (ao : Ao) (flag : Bool) (b q : List ℕ)
-    → bytes ≡ mac algorithm k ((((b ++ pseudo d []) ++ header d 0 []) ++ covered flag d.area ao) ++ q)
-    → k ≡ key → number / 4294967296 ≡ extension → b ≡ put4 extension [] → q ≡ d.payload → bytes ≡ mac algorithm key (mac_input number d ao flag)
-mac_of_fed algorithm k key bytes number extension d ao flag b q e same is front back =
+-- the MAC of what was fed
+pub mac_of_fed : (algorithm : Algorithm) (key bytes : List ℕ) (number extension : ℕ) (d : Segment) (ao : Ao) (flag : Bool) (b q : List ℕ)
+    → bytes ≡ mac algorithm key ((((b ++ pseudo d []) ++ header d 0 []) ++ covered flag d.area ao) ++ q)
+    → number / 4294967296 ≡ extension → b ≡ put4 extension [] → q ≡ d.payload → bytes ≡ mac algorithm key (mac_input number d ao flag)
+mac_of_fed algorithm key bytes number extension d ao flag b q e is front back =
     let fed : (((b ++ pseudo d []) ++ header d 0 []) ++ covered flag d.area ao) ++ q ≡ mac_input number d ao flag =
     rw (front, back) (mac_input-fed number extension d ao flag is) in
-    e ∙ ap (λ f. mac algorithm k f) fed ∙ ap (λ l. mac algorithm l (mac_input number d ao flag)) same
+    e ∙ ap (λ f. mac algorithm key f) fed

@@ -1,13 +1,12 @@
 -- The MAC of a draft doesn't depend on what stands in its MAC field.
-use Rattle.std.proofs.Common.{◌≡◌, ℕ, ◌+◌, ◌/◌, Bool, true, false, List, [], ◌∷◌, ◌++◌, length, take, drop, replicate, refl, sym, ap, subst, ◌∙◌, arith, inl, inr}
-use Rattle.std.specs.Prelude.{◌⊎◌}
-use Rattle.std.proofs.lemmas.List.{length-append, take_at, drop_all}
+use Rattle.std.proofs.Common.{◌≡◌, ℕ, ◌+◌, ◌/◌, Bool, true, false, List, [], ◌∷◌, ◌++◌, length, take, drop, replicate, refl, sym, ap, subst, ◌∙◌, arith}
+use Rattle.std.proofs.lemmas.List.{take_at, drop_all}
 use Rattle.ao_base.specs.declared.address.Address.{Address}
 use Rattle.ao_base.specs.declared.address.Address.TheVariants.{V4, V6}
 use Rattle.ao_base.specs.declared.algorithm.Algorithm.{Algorithm}
 use Rattle.segment_model.specs.Bytes.{put4}
 use Rattle.segment_model.specs.Options.{Ao, AoFound, One, find_ao}
-use Rattle.segment_model.specs.Segments.{Segment, pseudo_of, pseudo, header, spell}
+use Rattle.segment_model.specs.Segments.{Segment, pseudo_of, pseudo, header}
 use Rattle.mac_model.specs.Keys.{mac}
 use Rattle.mac_model.specs.MacInput.{covered, mac_input}
 use Rattle.tcp_segment.specs.declared.writing.Head.{Head}

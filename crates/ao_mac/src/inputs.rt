@@ -5,7 +5,7 @@ ghost use Rattle.segment_model.specs.Segments.{pseudo, header};
 ghost use Rattle.mac_model.specs.MacInput.{covered, mac_input};
 ghost use Rattle.ao_mac.specs.Macs.{HasAo, IsSameInput};
 
-use crate::macs::tcp_length_of;
+use crate::macs::{AO_KIND, tcp_length_of};
 use ao_base::Address;
 use std::marker::Model;
 use tcp_options::{AoFound, AoOption};
@@ -57,7 +57,7 @@ impl<'a> Covered<'a> {
             }
         } else {
             match index {
-                0 => 29,
+                0 => AO_KIND,
                 1 => 4 + self.ao.mac.len() as u8,
                 2 => self.ao.key_id,
                 3 => self.ao.rnext,
@@ -92,16 +92,18 @@ fn same_options(
     other: &Datagram<'_>,
     other_with_options: bool,
 ) -> bool
+    requires one { HasAo datagram.now }
+    requires other { HasAo other.now }
     ensures { (ao other_ao : Ao) → find_ao datagram.now.area ≡ One ao → find_ao other.now.area ≡ One other_ao
         → (IsTrue result ↔ (covered with_options datagram.now.area ao ≡ covered other_with_options other.now.area other_ao)) }
 {
     let options = datagram.options();
     let other_options = other.options();
     let AoFound::One(ao) = options.find_ao() else {
-        return false;
+        unreachable!()
     };
     let AoFound::One(other_ao) = other_options.find_ao() else {
-        return false;
+        unreachable!()
     };
     let one = Covered {
         area: options.area(),

@@ -31,14 +31,18 @@ impl MacBytes {
     }
 
     /// The first bytes of a longer code.
-    pub(crate) fn front_of<const N: usize>(code: [u8; N], length: usize) -> MacBytes
-        requires within { length ≤ N }
-        requires most { length ≤ 16 }
-        ensures { result ≡ take length code.entry }
+    pub(crate) fn front_of<const N: usize>(code: [u8; N], count: usize) -> MacBytes
+        requires within { count ≤ N }
+        requires most { count ≤ 16 }
+        ensures bytes { result ≡ take count code.entry }
+        ensures length { length result ≡ count }
     {
         let mut bytes = [0; LONGEST];
         let code = &code[..];
-        bytes[..length].copy_from_slice(&code[..length]);
-        MacBytes { bytes, length }
+        bytes[..count].copy_from_slice(&code[..count]);
+        MacBytes {
+            bytes,
+            length: count,
+        }
     }
 }

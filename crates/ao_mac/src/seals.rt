@@ -3,7 +3,7 @@ ghost use Rattle.std.specs.Prelude.{◌≡◌, ◌+◌, ℕ, List, length};
 ghost use Rattle.ao_base.specs.Algorithms.{mac_length_of};
 ghost use Rattle.tcp_segment.specs.Drafts.{Drafted};
 ghost use Rattle.tcp_segment.specs.declared.writing.Head.{Head};
-ghost use Rattle.mac_model.specs.Keys.{key_length};
+ghost use Rattle.ao_base.specs.declared.algorithm.Algorithm.TheVariants.{AesCmac};
 ghost use Rattle.ao_mac.specs.Sealed.{IsSealed};
 
 use crate::macs::mac;
@@ -15,7 +15,7 @@ use tcp_segment::DatagramMut;
 ///
 /// `sne` is the sequence number extension. With `with_options` all options are covered, else the
 /// TCP-AO option alone. The headers and the payload stay as they are; what stood in the MAC field
-/// doesn't count. The field has the algorithm's length, and the key is one of the algorithm.
+/// doesn't count. The field has the algorithm's length; AES-CMAC takes keys of 16 bytes alone.
 pub fn seal(
     key: &TrafficKey,
     alg: Algorithm,
@@ -24,7 +24,7 @@ pub fn seal(
     with_options: bool,
 )
     requires field { datagram.old.mac + mac_length_of alg ≡ datagram.old.payload }
-    requires key { length key.now ≡ key_length alg }
+    requires key { alg ≡ AesCmac → length key.now ≡ 16 }
     ensures same_buffer { datagram.new.out.ghost_name ≡ datagram.old.out.ghost_name }
     ensures sealed { (h : Head) (old payload rest : List ℕ) → Drafted datagram.old h old payload rest
         → IsSealed datagram.new h old payload rest alg key.now sne with_options }
