@@ -1,5 +1,5 @@
 -- What a hasher answers is the MAC of what was fed to it, in whatever pieces.
-use Rattle.std.proofs.Common.{◌≡◌, ℕ, List, ◌++◌, take, ap, ◌∙◌, subst, append_assoc}
+use Rattle.std.proofs.Common.{◌≡◌, ℕ, List, take, ap, subst}
 use Rattle.ao_base.specs.Algorithms.{mac_length_of}
 use Rattle.ao_base.specs.declared.algorithm.Algorithm.{Algorithm}
 use Rattle.ao_base.specs.declared.algorithm.Algorithm.TheVariants.{HmacSha1, AesCmac, HmacSha256}
@@ -74,17 +74,3 @@ lasts_cmac old h n is e algorithm key fed s = long_cmac h algorithm key fed n e 
 
 pub lasts_sha256 : (old : Hasher) (h : hmac_hasher.HmacSha256) (n : ℕ) → old ≡ Sha256 h → n ≡ 16 → (algorithm : Algorithm) (key fed : List ℕ) → StandsFor old algorithm key fed → n ≡ mac_length_of algorithm
 lasts_sha256 old h n is e algorithm key fed s = long_sha256 h algorithm key fed n e (subst (λ o. StandsFor o algorithm key fed) is s)
-
--- three pieces, and two, as one
-pub fed_three : (h : Hasher) (algorithm : Algorithm) (key fed p q r x : List ℕ) → p ++ (q ++ r) ≡ x → StandsFor h algorithm key (((fed ++ p) ++ q) ++ r) → StandsFor h algorithm key (fed ++ x)
-fed_three h algorithm key fed p q r x e s =
-    let all : ((fed ++ p) ++ q) ++ r ≡ fed ++ (p ++ (q ++ r)) = simp append_assoc in
-    subst (λ l. StandsFor h algorithm key l) (all ∙ ap (λ l. fed ++ l) e) s
-
-pub fed_two : (h : Hasher) (algorithm : Algorithm) (key fed p q x : List ℕ) → p ++ q ≡ x → StandsFor h algorithm key ((fed ++ p) ++ q) → StandsFor h algorithm key (fed ++ x)
-fed_two h algorithm key fed p q x e s =
-    let all : (fed ++ p) ++ q ≡ fed ++ (p ++ q) = simp append_assoc in
-    subst (λ l. StandsFor h algorithm key l) (all ∙ ap (λ l. fed ++ l) e) s
-
-pub fed_one : (h : Hasher) (algorithm : Algorithm) (key fed p x : List ℕ) → p ≡ x → StandsFor h algorithm key (fed ++ p) → StandsFor h algorithm key (fed ++ x)
-fed_one h algorithm key fed p x e s = subst (λ l. StandsFor h algorithm key (fed ++ l)) e s

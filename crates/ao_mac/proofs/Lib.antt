@@ -1,4 +1,5 @@
 pub mod FeedLaws
+pub mod FrontLaws
 pub mod Parts
 pub mod SealLaws
 pub mod InputLaws

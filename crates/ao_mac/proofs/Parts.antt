@@ -103,10 +103,10 @@ mac_input-fed number extension d ao flag e =
     rw (← e) (sym whole)
 
 -- the MAC of what was fed
-pub mac_of_fed : (algorithm : Algorithm) (key bytes : List ℕ) (number extension : ℕ) (d : Segment) (ao : Ao) (flag : Bool) (b q : List ℕ)
-    → bytes ≡ mac algorithm key ((((b ++ pseudo d []) ++ header d 0 []) ++ covered flag d.area ao) ++ q)
-    → number / 4294967296 ≡ extension → b ≡ put4 extension [] → q ≡ d.payload → bytes ≡ mac algorithm key (mac_input number d ao flag)
-mac_of_fed algorithm key bytes number extension d ao flag b q e is front back =
-    let fed : (((b ++ pseudo d []) ++ header d 0 []) ++ covered flag d.area ao) ++ q ≡ mac_input number d ao flag =
-    rw (front, back) (mac_input-fed number extension d ao flag is) in
+pub mac_of_fed : (algorithm : Algorithm) (key bytes : List ℕ) (number extension : ℕ) (d : Segment) (ao : Ao) (flag : Bool) (q : List ℕ)
+    → bytes ≡ mac algorithm key ((((put4 extension [] ++ pseudo d []) ++ header d 0 []) ++ covered flag d.area ao) ++ q)
+    → number / 4294967296 ≡ extension → q ≡ d.payload → bytes ≡ mac algorithm key (mac_input number d ao flag)
+mac_of_fed algorithm key bytes number extension d ao flag q e is back =
+    let fed : (((put4 extension [] ++ pseudo d []) ++ header d 0 []) ++ covered flag d.area ao) ++ q ≡ mac_input number d ao flag =
+    rw back (mac_input-fed number extension d ao flag is) in
     e ∙ ap (λ f. mac algorithm key f) fed

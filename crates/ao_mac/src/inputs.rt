@@ -5,7 +5,7 @@ ghost use Rattle.segment_model.specs.Segments.{pseudo, header};
 ghost use Rattle.mac_model.specs.MacInput.{covered, mac_input};
 ghost use Rattle.ao_mac.specs.Macs.{HasAo, IsSameInput};
 
-use crate::macs::{AO_KIND, tcp_length_of};
+use crate::front::{AO_KIND, tcp_length_of};
 use ao_base::Address;
 use std::marker::Model;
 use tcp_options::{AoFound, AoOption};

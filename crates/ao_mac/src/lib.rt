@@ -5,6 +5,7 @@
 //! copies a payload.
 #![tactic(auto)]
 
+mod front;
 mod hasher;
 mod inputs;
 mod mac_bytes;

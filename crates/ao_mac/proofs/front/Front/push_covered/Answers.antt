@@ -1,8 +1,8 @@
 use Rattle.std.proofs.Common.{sym}
 use Rattle.tcp_options.specs.Views.{view_ao}
 use Rattle.segment_model.proofs.Found.{found_within}
-use Rattle.ao_mac.proofs.macs.feed_covered.Goals as goal
+use Rattle.ao_mac.proofs.front.Front.push_covered.Goals as goal
 
-pub feed_options-requires-clause-within : goal.feed_options-requires-clause-within
-feed_options-requires-clause-within c =
+pub push_options-requires-clause-within : goal.push_options-requires-clause-within
+push_options-requires-clause-within c =
     rw c.area.ensures (found_within c.options-options.result (view_ao c.in-One.ao) (sym c.in-One.ensures))

@@ -1,0 +1,6 @@
+use Rattle.ao_mac.proofs.FrontLaws.{put_three}
+use Rattle.ao_mac.proofs.Parts.{pseudo_tail4}
+use Rattle.ao_mac.proofs.front.Front.push_pseudo_v4.Goals as goal
+
+pub returns-clause-bytes : goal.returns-clause-bytes
+returns-clause-bytes c = put_three _ _ _ _ _ _ _ _ (pseudo_tail4 c.args.source.now c.args.destination.now c.args.total) c.push.ensures c.push-2.ensures (rw c.to_be_bytes.ensures at c.push-3.ensures)
