@@ -7,7 +7,7 @@ use Rattle.key_model.specs.Rows.{Table}
 use Rattle.line_model.specs.declared.text_fault.TextFault.{TextFault}
 use Rattle.format_model.specs.declared.command.Command.{Command}
 use Rattle.format_model.specs.declared.command.Command.TheVariants as command
-use Rattle.format_model.specs.Answers.{Answer, answer_by, answer_of, answer_over, answer_with_keys, answer_within, bgp_over, done, if_read, judged, keys_too_long, linked, linked_by_shared, linted, most_input, most_keys, node_over, refuse, timed_over, too_long, verified}
+use Rattle.format_model.specs.Answers.{Answer, answer_by, answer_of, answer_over, answer_with_keys, answer_within, bgp_over, done, if_read, judged, keys_too_long, linked, linked_by_shared, linted, long_text, most_input, most_keys, node_over, refuse, timed_over, too_long, verified}
 use Rattle.format_model.specs.Captures.{Stored, capture_run, has_refusal}
 use Rattle.format_model.specs.Commands.{reads_keys, reads_input}
 use Rattle.format_model.specs.KeyTexts.{keys_text, table_fault_line}
@@ -20,7 +20,7 @@ use Rattle.format_model.specs.TimedRuns.{timed_script_of}
 use Rattle.format_model.specs.Verified.{vectors_of}
 use Rattle.line_model.specs.Said.{said_in}
 use Rattle.ao_run.specs.Gathered.{answer_in}
-use Rattle.ao_run.specs.Obeys.{asks_keys, asks_input, most_of}
+use Rattle.ao_run.specs.Obeys.{asks_keys, asks_input, most_of, writes_along}
 
 -- a test is one or the other
 pub either : (b : Bool) → (b ≡ true) ⊎ (b ≡ false)
@@ -98,10 +98,25 @@ long_keys c keys input holds many =
     keyed c keys input holds ∙ rw long refl
 
 -- the answer to an input past its limit
-pub long_input : (c : Command) (tables : List Table) (input : List ℕ) → reads_input c ≡ true → most_input c < length input → answer_in c tables input ≡ refuse 4 too_long
+pub long_input : (c : Command) (tables : List Table) (input : List ℕ) → reads_input c ≡ true → most_input c < length input → answer_in c tables input ≡ refuse 4 (long_text c input)
 long_input c tables input holds many =
     let long : nat_lt (most_input c) (length input) ≡ true = longer (most_input c) (length input) many in
     rw (holds, long) refl
+
+-- but for a pcap file it has one text
+pub long_plain : (c : Command) (input : List ℕ) → writes_along (Some c) ≡ false → long_text c input ≡ too_long
+long_plain command.Link input last = refl
+long_plain command.LinkKeys input last = refl
+long_plain command.Check input last = refl
+long_plain command.CheckPcap input last = absurd (cc)
+long_plain command.Show input last = refl
+long_plain command.Vectors input last = refl
+long_plain (command.Keys time) input last = refl
+long_plain (command.Lint plan) input last = refl
+long_plain (command.Storm seed count) input last = refl
+long_plain command.Bgp input last = refl
+long_plain command.Timed input last = refl
+long_plain command.Node input last = refl
 
 limited : (a b : Bool) (x y : Answer) → b ≡ false → (if a && b then x else y) ≡ y
 limited true b x y lacks = rw lacks refl
@@ -110,7 +125,7 @@ limited false b x y lacks = refl
 -- the answer to an input within it
 pub short_input : (c : Command) (tables : List Table) (input : List ℕ) → length input ≤ most_input c → answer_in c tables input ≡ answer_over c tables input
 short_input c tables input few =
-    limited (reads_input c) (nat_lt (most_input c) (length input)) (refuse 4 too_long) (answer_over c tables input) (shorter (most_input c) (length input) few)
+    limited (reads_input c) (nat_lt (most_input c) (length input)) (refuse 4 (long_text c input)) (answer_over c tables input) (shorter (most_input c) (length input) few)
 
 pub unread_input : (c : Command) (tables : List Table) (input : List ℕ) → reads_input c ≡ false → answer_in c tables input ≡ answer_over c tables input
 unread_input c tables input lacks = rw lacks refl
@@ -154,7 +169,7 @@ over_plain command.Node tables input = read_plain (node_over tables) (node_scrip
 
 pub within_plain : (c : Command) (tables : List Table) (input : List ℕ) → Plain (answer_in c tables input).status
 within_plain c tables input =
-    if_plain (reads_input c && nat_lt (most_input c) (length input)) (refuse 4 too_long) (answer_over c tables input) four (over_plain c tables input)
+    if_plain (reads_input c && nat_lt (most_input c) (length input)) (refuse 4 (long_text c input)) (answer_over c tables input) four (over_plain c tables input)
 
 not_four : (b : Bool) → ◌≡◌ {A = ℕ} (if b then 1 else 0) 4 → ⊥
 not_four true h = omega arith
@@ -213,7 +228,7 @@ by_long : (c : Command) (input : List ℕ) (b : Bool) (r : Result (List Table) T
 by_long c input true r holds reads many = omega arith
 by_long c input false (Err e) holds reads many = omega arith
 by_long c input false (Ok tables) holds reads many =
-    let is : answer_within c tables input ≡ refuse 4 too_long = within_same c tables input holds ∙ long_input c tables input reads many in
+    let is : answer_within c tables input ≡ refuse 4 (long_text c input) = within_same c tables input holds ∙ long_input c tables input reads many in
     rw is (omega arith)
 
 -- an input past its limit has no output

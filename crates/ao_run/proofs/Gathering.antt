@@ -22,9 +22,9 @@ use Rattle.ao_run.specs.declared.stop.Output.{Output}
 use Rattle.ao_run.specs.declared.stop.Stop.{Stop}
 use Rattle.ao_run.specs.declared.stop.Stop.TheVariants.{Usage, KeysTooLong, Keys, TooLong, Input, TooManyEvents, Read, Write, Memory}
 use Rattle.ao_run.specs.Gathered.{Gathered, InputGathered, KeysGathered, Sources, tables_in, answer_in}
-use Rattle.ao_run.specs.Obeys.{Unread, asks_keys, asks_input, most_of}
+use Rattle.ao_run.specs.Obeys.{Unread, asks_keys, asks_input, most_of, writes_along}
 use Rattle.ao_run.specs.Stops.{Makes, Stopped, made, status_of, text_of}
-use Rattle.ao_run.proofs.AnswerLaws.{either, faulty_tables, long_input, long_keys, over_tables, short_input, unkeyed, unread_four, unread_input, within_plain}
+use Rattle.ao_run.proofs.AnswerLaws.{either, faulty_tables, long_input, long_keys, long_plain, over_tables, short_input, unkeyed, unread_four, unread_input, within_plain}
 
 -- an input with a fault has no output
 pub refused_makes : {A : Type 0} (said : Result A TextFault) (value : A → Answer) (e : TextFault) (stop : Stop) →
@@ -242,7 +242,7 @@ module _ (c : Command) (i : List ℕ) (i0 i1 : Side) (holds : reads_input c ≡ 
     value = tt;
     asked = holds;
     within = (omega arith, omega arith, λ h. absurd (omega arith));
-    refused = λ _ tables. long_input c tables i holds (r.long.0 refl);
+    refused = λ _ last tables. long_input c tables i holds (r.long.0 refl) ∙ ap (λ (text : List ℕ). refuse 4 text) (long_plain c i last);
     judged = λ _. r.long.0 refl;
     fault = λ h. absurd (omega arith);
   }
@@ -311,9 +311,9 @@ module _ (c : Command) (k i : List ℕ) (k0 k1 i0 i1 : Side) (t : Option (List T
       status_of stop < 5 → a ≡ refuse (status_of stop) (text_of stop)
   four_or_more stop a b same low is small = let four : status_of stop ≡ 4 = omega (arith, low, small) in rw four (same ∙ is four)
 
-  pub input_stopped : (stop : Stop) → InputGathered c i i0 i1 (Err stop) →
+  pub input_stopped : (stop : Stop) → writes_along (Some c) ≡ false → InputGathered c i i0 i1 (Err stop) →
       Gathered (Some c) k i (record { keys = k0; input = i0 }) (record { keys = k1; input = i1 }) (Err stop)
-  input_stopped stop y = record {
+  input_stopped stop last y = record {
     gave_keys = x.gave;
     gave_input = y.gave;
     few_keys = x.few;
@@ -326,7 +326,7 @@ module _ (c : Command) (k i : List ℕ) (k0 k1 i0 i1 : Side) (t : Option (List T
     input_end = tt;
     usage = λ h. absurd (cc);
     within = (omega (arith, y.within.0), y.within.1, y.within.2);
-    refused = four_or_more stop (answer_of (Some c) k i) (answer_in c (tables_in t) i) (x.value i) y.within.0 (λ four. y.refused four (tables_in t));
+    refused = four_or_more stop (answer_of (Some c) k i) (answer_in c (tables_in t) i) (x.value i) y.within.0 (λ four. y.refused four last (tables_in t));
     keys_judged = λ three. absurd (omega (arith, y.within.0, three));
     keys_over = λ four. x.over;
     judged = λ four. inr (y.judged four);

@@ -1,6 +1,7 @@
 -- The headlines, from the contract for every command and the theorems on every run.
-use Rattle.std.proofs.Common.{◌≡◌, ◌↔◌, inl, ℕ, ◌==◌, ◌<◌, ◌≤◌, ◌||◌, ◌&&◌, if◌then◌else◌, List, [], ◌∷◌, length, codes, Bool, true, false, not, All, Option, Some, None, option_map, Result, Ok, Err, refl, sym, ap, ◌∙◌, arith, nat_lt}
+use Rattle.std.proofs.Common.{◌≡◌, ◌↔◌, inl, ℕ, ◌==◌, ◌<◌, ◌≤◌, ◌||◌, ◌&&◌, if◌then◌else◌, List, [], ◌∷◌, length, codes, Bool, true, false, not, All, Option, Some, None, option_map, Result, Ok, Err, refl, sym, ap, ◌∙◌, arith, nat_lt, inr}
 use Rattle.std.proofs.lemmas.Bool.Decides.{nat_tests}
+use Rattle.std.proofs.lemmas.List.Elements.{All-from_get_or}
 use Rattle.ao_base.specs.Outside.{Side, Took, IsAtEnd}
 use Rattle.key_model.specs.declared.fault.TableFault.{TableFault}
 use Rattle.key_model.specs.Nodes.{tables_of}
@@ -17,7 +18,7 @@ use Rattle.format_model.specs.declared.command.Command.TheVariants as command
 use Rattle.format_model.specs.declared.node.NodeScript.{NodeScript}
 use Rattle.format_model.specs.declared.script.Script.{Script}
 use Rattle.format_model.specs.declared.timed.TimedScript.{TimedScript}
-use Rattle.format_model.specs.Answers.{Answer, answer_by, answer_of, answer_over, answer_with_keys, answer_within, bgp_over, if_read, judged, keys_too_long, linked, linked_by_shared, most_events, most_input, most_keys, node_over, packets_checked, pcap_fault_line, refuse, reported, spoken, stored_packet, stormed, timed_over, too_long, too_many_events}
+use Rattle.format_model.specs.Answers.{Answer, answer_by, answer_of, answer_over, answer_with_keys, answer_within, bgp_over, if_read, judged, keys_too_long, linked, linked_by_shared, most_events, most_input, most_keys, node_over, packets_checked, pcap_fault_line, refuse, reported, spoken, stored_packet, stormed, timed_over, too_long, too_many_events, long_text}
 use Rattle.format_model.specs.BgpRuns.{bgp_faults}
 use Rattle.format_model.specs.Captures.{Stored}
 use Rattle.format_model.specs.Commands.{command_of, reads_input, reads_keys}
@@ -35,11 +36,12 @@ use Rattle.link_headline.proofs.StormFits.{storm_fits, storm_tables, events_fit 
 use Rattle.link_headline.proofs.Through.{storm_through}
 use Rattle.link_laws.specs.Laws.{TablesFit}
 use Rattle.node_laws.proofs.Runs.{each_alone}
+use Rattle.pcap_file.specs.Reading.{IsByte}
 use Rattle.pcap_laws.specs.LineForms.{line_form}
 use Rattle.pcap_laws.proofs.Judged.{answers_alike}
 use Rattle.pcap_laws.proofs.Records.{line_form_shows}
 use Rattle.ao_run.specs.Delivers.{CommandsDeliver, Delivers, DeliversPackets, DeliversStorm, Keyed, LinkFile, MessageFile, NodeFile, Says, TimedFile, named_tables}
-use Rattle.ao_run.specs.Obeys.{Obeys, Sides, asks_input, asks_keys}
+use Rattle.ao_run.specs.Obeys.{Obeys, Sides, asks_input, asks_keys, Along, text_of}
 use Rattle.ao_run.specs.Gathered.{is_ready}
 use Rattle.ao_run.proofs.AnswerLaws.{keyed}
 use Rattle.ao_run.proofs.CommandLaws.{named_ready}
@@ -108,8 +110,8 @@ over c k i s holds small known =
     record {
       tables = t.0;
       is_key_file = t.1;
-      short = not_refused long (answer_over c t.0 i) 4 s too_long small (omega arith) known_three;
-      is = three ∙ within long (answer_over c t.0 i) 4 s too_long small (omega arith) known_three;
+      short = not_refused long (answer_over c t.0 i) 4 s (long_text c i) small (omega arith) known_three;
+      is = three ∙ within long (answer_over c t.0 i) 4 s (long_text c i) small (omega arith) known_three;
     }
 
 -- an input with an output says what the answer is made of
@@ -306,15 +308,31 @@ no_fault : (tables : List Table) (stored : List Stored) (fault : Option FileFaul
 no_fault tables stored None s small known = refl
 no_fault tables stored (Some f) s small known = absurd (omega (arith, small, known))
 
-packets_delivered : (name k i : List ℕ) (b n : Sides) (s : ℕ) → Obeys (codes "check" ∷ codes "--pcap" ∷ name ∷ []) k i b n s → s < 2 → DeliversPackets name k i
-packets_delivered name k i b n s x small =
+-- all that was read of a pcap file are bytes
+file_bytes : (text k i : List ℕ) (b n : Sides) (s : ℕ) → Along (Some command.CheckPcap) k text i b n s → All IsByte i
+file_bytes text k i b n s (inl none) = rw (none.unread.1) (All-from_get_or IsByte [] 0 (λ j within. absurd (omega arith)))
+file_bytes text k i b n s (inr begun) = begun.checks.judges.bytes
+
+-- one that was read to its end within the limit, without a fault
+faultless_file : (name k i : List ℕ) (b n : Sides) (s : ℕ) → Obeys (codes "check" ∷ codes "--pcap" ∷ name ∷ []) k i b n s → s < 2 → ((packets_of i).fault ≡ None) × (length i ≤ 268435456)
+faultless_file name k i b n s x small =
     let ws = codes "check" ∷ codes "--pcap" ∷ name ∷ [] in
     let o = over_tables ws command.CheckPcap k i b n s x small (named_packets name) refl in
     let short : nat_lt 268435456 (length i) ≡ false = o.short in
     let few : length i ≤ 268435456 = grind (arith, nat_tests) in
     let is : answer ws k i ≡ answer_over command.CheckPcap o.tables i = answer_is ws command.CheckPcap k i b n s x small (named_packets name) ∙ o.is in
     let none : (packets_of i).fault ≡ None = no_fault o.tables _ (packets_of i).fault s small (known ws k i b n s x small ∙ ap (λ (y : Answer). y.status) is) in
-    record { as_lines = λ all few_lines. (answers_alike name k i (line_form i) few few_lines (line_form_shows i all)).whole none }
+    (none, few)
+
+packets_delivered : (name k i : List ℕ) (b n : Sides) (s : ℕ) → Obeys (codes "check" ∷ codes "--pcap" ∷ name ∷ []) k i b n s → DeliversPackets name k i s
+packets_delivered name k i b n s x =
+    let along : Along (Some command.CheckPcap) k (text_of s (answer_of (Some command.CheckPcap) k i)) i b n s = rw (named_packets name) at x.along in
+    let all = file_bytes (text_of s (answer_of (Some command.CheckPcap) k i)) k i b n s along in
+    record {
+      lines = λ short. (answers_alike name k i (line_form i) short.0 short.1 (line_form_shows i all)).output;
+      whole = λ short none. (answers_alike name k i (line_form i) short.0 short.1 (line_form_shows i all)).whole none;
+      faultless = faultless_file name k i b n s x;
+    }
 
 pub commands_deliver : (words : List (List ℕ)) (k i : List ℕ) (b n : Sides) (s : ℕ) → Obeys words k i b n s → CommandsDeliver words k i b n s
 commands_deliver words k i b n s x = record {
@@ -324,5 +342,5 @@ commands_deliver words k i b n s x = record {
   storm = λ seed count is small. stormed_run words seed count k i b n s x small is;
   bgp = λ name is small. message_file name k i b n s (rw is at x) small;
   node = λ name is small. node_file name k i b n s (rw is at x) small;
-  packets = λ name is small. packets_delivered name k i b n s (rw is at x) small;
+  packets = λ name is. packets_delivered name k i b n s (rw is at x);
 }

@@ -12,7 +12,7 @@ use Rattle.capture_lines.specs.declared.check.Halt.{Halt}
 use Rattle.capture_lines.specs.declared.check.Halt.TheVariants as halt
 use Rattle.capture_lines.proofs.RunLaws.{input_is, run_longer, stored_append}
 use Rattle.format_model.specs.declared.command.Command.TheVariants.{Check}
-use Rattle.format_model.specs.Answers.{Answer, done, line_fault_line, lines_checked}
+use Rattle.format_model.specs.Answers.{Answer, done, line_fault_line, lines_checked, long_text}
 use Rattle.format_model.specs.Captures.{Stored, capture_run}
 use Rattle.format_model.specs.StoredLines.{LineFault, StoredInput, stored_from, stored_input}
 use Rattle.ao_run.specs.Gathered.{answer_in}
@@ -24,7 +24,7 @@ use Rattle.ao_run.proofs.Given.{all_given, no_more}
 -- a line is refused within the limit and past it
 refused_within : (tables : List Table) (input : List ℕ) (n : ℕ) (kind : LineKind) → (stored_input input).fault ≡ Some (record { number = n; kind = kind }) → (answer_in Check tables input).status ≡ 4
 refused_within tables input n kind is =
-    past_refused (nat_lt 268435456 (length input)) (lines_checked tables (stored_input input))
+    past_refused (nat_lt 268435456 (length input)) (long_text Check input) (lines_checked tables (stored_input input))
     (judged_refused tables (stored_input input).stored (line_fault_line (record { number = n; kind = kind })) (option_map line_fault_line (stored_input input).fault)
     (ap (λ (fault : Option LineFault). option_map line_fault_line fault) is))
 
@@ -76,7 +76,7 @@ module _ (tables : List Table) (i : List ℕ) (i0 i1 o0 o1 : Side) where
       let read : List (List ℕ) = br.read ++ br.last ∷ [] in
       let ahead = lines_ahead i read br.rest input i1 i0.bytes is consumes br.has_read in
       let output : (answer_in Check tables input).output ≡ capture_run tables (stored_input input).stored =
-      past_output (nat_lt 268435456 (length input)) tables (stored_input input).stored (option_map line_fault_line (stored_input input).fault) small in
+      past_output (nat_lt 268435456 (length input)) (long_text Check input) tables (stored_input input).stored (option_map line_fault_line (stored_input input).fault) small in
       let more = run_longer tables (segments_of read) ahead.0 in
       let size : length (answer_in Check tables input).output ≡ length (capture_run tables (segments_of read ++ ahead.0)) =
       ap length output ∙ ap (λ (xs : List Stored). length (capture_run tables xs)) ahead.1 in
@@ -86,7 +86,7 @@ module _ (tables : List Table) (i : List ℕ) (i0 i1 o0 o1 : Side) where
   of_end : (end : Result Bool Halt) → Ends tables i i0 i1 o0 o1 end → Facts Check tables i i0 i1 o0 o1 (lines_end end).0
   of_end (Ok amiss) f = done_facts Check tables i i0 i1 o0 o1 amiss (capture_run tables (stored_input i).stored) (finish_is tables i i1 o0 o1 amiss f) f.at_end f.wrote
   of_end (Err (halt.Line n kind)) f = refused_facts Check tables i i0 i1 o0 o1 (refused_within tables i n kind f.fault) (still_refused n kind f)
-  of_end (Err halt.TooLong) f = refused_facts Check tables i i0 i1 o0 o1 (ap (λ (a : Answer). a.status) (long_input Check tables i refl f.0)) (still_long f.0)
+  of_end (Err halt.TooLong) f = refused_facts Check tables i i0 i1 o0 o1 (ap (λ (a : Answer). a.status) (long_input Check tables i refl f.more)) (still_long f.more)
   of_end (Err halt.Read) f = read_facts Check tables i i0 i1 o0 o1 f.0
   of_end (Err halt.Write) f = write_facts Check tables i i0 i1 o0 o1 f.rose (fewer f)
   of_end (Err halt.Memory) f = memory_facts Check tables i i0 i1 o0 o1

@@ -8,10 +8,11 @@ use Rattle.key_model.specs.Rows.{Table}
 use Rattle.wire_model.specs.Packets.{BadHead, BadRecord, FileFault, Packet, Packets, packets_of}
 use Rattle.capture_lines.proofs.RunLaws.{run_longer}
 use Rattle.capture_packets.specs.Checked.{Breaks, Ends, Finishes, Refuses, segments_of, written_of}
+use Rattle.pcap_file.specs.Reading.{packets_at}
 use Rattle.capture_packets.specs.declared.check.PacketHalt.{PacketHalt}
 use Rattle.capture_packets.specs.declared.check.PacketHalt.TheVariants as halt
 use Rattle.format_model.specs.declared.command.Command.TheVariants.{CheckPcap}
-use Rattle.format_model.specs.Answers.{Answer, done, packets_checked, pcap_fault_line, stored_packet}
+use Rattle.format_model.specs.Answers.{Answer, done, long_text, packets_checked, pcap_fault_line, stored_packet}
 use Rattle.format_model.specs.Captures.{Stored, capture_run}
 use Rattle.ao_run.specs.Gathered.{answer_in}
 use Rattle.ao_run.specs.Obeys.{ChecksPackets, EndsSo, Sides, packets_end}
@@ -22,7 +23,7 @@ use Rattle.ao_run.proofs.Given.{no_more}
 -- a file is refused within the limit and past it
 refused_within : (tables : List Table) (input : List ℕ) (fault : FileFault) → (packets_of input).fault ≡ Some fault → (answer_in CheckPcap tables input).status ≡ 4
 refused_within tables input fault is =
-    past_refused (nat_lt 268435456 (length input)) (packets_checked tables (packets_of input))
+    past_refused (nat_lt 268435456 (length input)) (long_text CheckPcap input) (packets_checked tables (packets_of input))
     (judged_refused tables (segments_of input) (pcap_fault_line fault) (option_map pcap_fault_line (packets_of input).fault) (ap (λ (f : Option FileFault). option_map pcap_fault_line f) is))
 
 finish_is : (tables : List Table) (input : List ℕ) (i1 o0 o1 : Side) (amiss : Bool) → Finishes tables input i1 o0 o1 amiss →
@@ -52,14 +53,14 @@ module _ (tables : List Table) (i : List ℕ) (i0 i1 o0 o1 : Side) where
       let left : List ℕ = told i1.bytes in
       let split : input ≡ has.front ++ (has.rest ++ left) =
       told_given i0.bytes i1.bytes i input is consumes ∙ (ap (λ (xs : List ℕ). xs ++ left) has.split ∙ append_assoc has.front has.rest left) in
-      let others = has.begins (has.rest ++ left) in
-      let list : (packets_of input).list ≡ read ++ others.0.list = ap (λ (xs : List ℕ). (packets_of xs).list) split ∙ ap (λ (p : Packets). p.list) others.1 in
-      let stored : segments_of input ≡ map stored_packet read ++ map stored_packet others.0.list =
-      ap (λ (xs : List Packet). map stored_packet xs) list ∙ map-append stored_packet read others.0.list in
+      let others : Packets = packets_at has.reader (has.rest ++ left) in
+      let list : (packets_of input).list ≡ read ++ others.list = ap (λ (xs : List ℕ). (packets_of xs).list) split ∙ ap (λ (p : Packets). p.list) (has.goes_on (has.rest ++ left)) in
+      let stored : segments_of input ≡ map stored_packet read ++ map stored_packet others.list =
+      ap (λ (xs : List Packet). map stored_packet xs) list ∙ map-append stored_packet read others.list in
       let output : (answer_in CheckPcap tables input).output ≡ capture_run tables (segments_of input) =
-      past_output (nat_lt 268435456 (length input)) tables (segments_of input) (option_map pcap_fault_line (packets_of input).fault) small in
-      let more = run_longer tables (map stored_packet read) (map stored_packet others.0.list) in
-      let size : length (answer_in CheckPcap tables input).output ≡ length (capture_run tables (map stored_packet read ++ map stored_packet others.0.list)) =
+      past_output (nat_lt 268435456 (length input)) (long_text CheckPcap input) tables (segments_of input) (option_map pcap_fault_line (packets_of input).fault) small in
+      let more = run_longer tables (map stored_packet read) (map stored_packet others.list) in
+      let size : length (answer_in CheckPcap tables input).output ≡ length (capture_run tables (map stored_packet read ++ map stored_packet others.list)) =
       ap length output ∙ ap (λ (xs : List Stored). length (capture_run tables xs)) stored in
       let cut : length (take br.n (written_of tables read)) ≤ length (written_of tables read) = grind (arith, length-take) in
       record { n = length (take br.n (written_of tables read)); few = omega (arith, more, size, cut); counts = br.wrote.counts }
@@ -68,7 +69,7 @@ module _ (tables : List Table) (i : List ℕ) (i0 i1 o0 o1 : Side) where
   of_end (Ok amiss) f = done_facts CheckPcap tables i i0 i1 o0 o1 amiss (capture_run tables (segments_of i)) (finish_is tables i i1 o0 o1 amiss f) f.at_end f.wrote
   of_end (Err (halt.Head fault)) f = refused_facts CheckPcap tables i i0 i1 o0 o1 (refused_within tables i (BadHead fault) f.fault_is) (still_refused (BadHead fault) f)
   of_end (Err (halt.Record n)) f = refused_facts CheckPcap tables i i0 i1 o0 o1 (refused_within tables i (BadRecord n) f.fault_is) (still_refused (BadRecord n) f)
-  of_end (Err halt.TooLong) f = refused_facts CheckPcap tables i i0 i1 o0 o1 (ap (λ (a : Answer). a.status) (long_input CheckPcap tables i refl f.0)) (still_long f.0)
+  of_end (Err halt.TooLong) f = refused_facts CheckPcap tables i i0 i1 o0 o1 (ap (λ (a : Answer). a.status) (long_input CheckPcap tables i refl f.more)) (still_long f.more)
   of_end (Err halt.Read) f = read_facts CheckPcap tables i i0 i1 o0 o1 f.0
   of_end (Err halt.Write) f = write_facts CheckPcap tables i i0 i1 o0 o1 f.rose (fewer f)
   of_end (Err halt.Memory) f = memory_facts CheckPcap tables i i0 i1 o0 o1

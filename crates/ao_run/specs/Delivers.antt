@@ -1,6 +1,5 @@
 -- The headlines: what the commands that run say of every input, over every key file.
-use Rattle.std.specs.Prelude.{◌≡◌, ◌↔◌, ℕ, ◌<◌, ◌≤◌, List, [], ◌∷◌, ◌++◌, length, All}
-use Rattle.std.specs.Prelude.{true, false, codes, Some, Result, Ok}
+use Rattle.std.specs.Prelude.{◌≡◌, ◌↔◌, ℕ, ◌<◌, ◌≤◌, List, [], ◌∷◌, ◌++◌, length, All, true, false, codes, Some, Result, Ok, None}
 use Rattle.ao_base.specs.declared.address.Pair.{Pair}
 use Rattle.ao_base.specs.Outside.{Side, Took, IsAtEnd}
 use Rattle.key_model.specs.Nodes.{tables_of}
@@ -18,13 +17,14 @@ use Rattle.format_model.specs.declared.node.NodeScript.{NodeScript}
 use Rattle.format_model.specs.declared.script.Script.{Script}
 use Rattle.format_model.specs.declared.timed.TimedEvent.{TimedEvent}
 use Rattle.format_model.specs.declared.timed.TimedScript.{TimedScript}
-use Rattle.format_model.specs.Answers.{answer, most_events, shared_by}
+use Rattle.format_model.specs.Answers.{Answer, answer, most_events, shared_by}
 use Rattle.format_model.specs.BgpRuns.{bgp_faults, bgp_text}
 use Rattle.format_model.specs.Commands.{command_of}
 use Rattle.format_model.specs.LinkFiles.{script_of}
 use Rattle.format_model.specs.NodeRuns.{node_script_of, node_text}
 use Rattle.node_laws.specs.Alone.{Alone}
 use Rattle.format_model.specs.TimedRuns.{expand, timed_script_of}
+use Rattle.wire_model.specs.Packets.{packets_of}
 use Rattle.bgp_link.specs.Tellings.{SpeaksInOrder, TellsMessages}
 use Rattle.link_headline.specs.GetsThrough.{GetsThrough}
 use Rattle.link_headline.specs.Lawful.{Lawful}
@@ -103,10 +103,25 @@ pub record DeliversNode (rows : List Row) (events : List NodeEvent) (out_before 
   -- each connection gives the answers that it would give alone
   pub alone : (pair : Pair) → Alone pair rows events
 
--- of a pcap file: it is judged as its line form is
-pub record DeliversPackets (name keys input : List ℕ) : Type 0 where
-  pub as_lines : All (λ b. b < 256) input → length (line_form input) ≤ 268435456 →
-      answer (codes "check" ∷ codes "--pcap" ∷ name ∷ []) keys input ≡ answer (codes "check" ∷ name ∷ []) keys (line_form input)
+-- the answer to a pcap file, and that to its line form
+abbrev pub of_packets : (name keys file : List ℕ) → Answer
+of_packets name keys file = answer (codes "check" ∷ codes "--pcap" ∷ name ∷ []) keys file
+
+abbrev pub of_lines : (name keys file : List ℕ) → Answer
+of_lines name keys file = answer (codes "check" ∷ name ∷ []) keys (line_form file)
+
+-- a file and its line form are within the limit of an input
+abbrev pub IsShort : List ℕ → Type 0
+IsShort file = (length file ≤ 268435456) × (length (line_form file) ≤ 268435456)
+
+-- of what was read of a pcap file, with the status of the call: it is judged as its line form is
+pub record DeliversPackets (name keys file : List ℕ) (status : ℕ) : Type 0 where
+  -- up to the first fault, if there is one, the same lines are written
+  pub lines : IsShort file → (of_packets name keys file).output ≡ (of_lines name keys file).output
+  -- without a fault the whole answer is the same
+  pub whole : IsShort file → (packets_of file).fault ≡ None → of_packets name keys file ≡ of_lines name keys file
+  -- with 0 and 1 there is none, and the file is within the limit
+  pub faultless : status < 2 → ((packets_of file).fault ≡ None) × (length file ≤ 268435456)
 
 -- the tables of the key that a script names
 abbrev pub named_tables : Script → List Table
@@ -142,4 +157,4 @@ pub record CommandsDeliver (words : List (List ℕ)) (keys input : List ℕ) (be
       DeliversStorm (storm_events seed count) before.out now.out status
   pub node : (name : List ℕ) → words ≡ codes "node" ∷ name ∷ [] → status < 2 →
       Keyed keys now.keys (λ tables. Says node_script_of input now.input (λ s. NodeFile tables s before now status))
-  pub packets : (name : List ℕ) → words ≡ codes "check" ∷ codes "--pcap" ∷ name ∷ [] → status < 2 → DeliversPackets name keys input
+  pub packets : (name : List ℕ) → words ≡ codes "check" ∷ codes "--pcap" ∷ name ∷ [] → DeliversPackets name keys input status

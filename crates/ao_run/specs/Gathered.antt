@@ -5,11 +5,11 @@ use Rattle.key_model.specs.Nodes.{tables_of}
 use Rattle.key_model.specs.Rows.{Table}
 use Rattle.format_model.specs.declared.command.Command.{Command}
 use Rattle.format_model.specs.declared.command.Command.TheVariants as command
-use Rattle.format_model.specs.Answers.{Answer, answer_of, answer_over, most_keys, most_input, refuse, too_long}
+use Rattle.format_model.specs.Answers.{Answer, answer_of, answer_over, long_text, most_keys, most_input, refuse}
 use Rattle.format_model.specs.Commands.{reads_keys, reads_input}
 use Rattle.ao_run.specs.declared.stop.Output.{Output}
 use Rattle.ao_run.specs.declared.stop.Stop.{Stop}
-use Rattle.ao_run.specs.Obeys.{Unread, asks_keys, asks_input, most_of}
+use Rattle.ao_run.specs.Obeys.{Unread, asks_keys, asks_input, most_of, writes_along}
 use Rattle.ao_run.specs.Stops.{status_of, text_of, made}
 
 -- a storm draws at most 10,000 events
@@ -29,7 +29,7 @@ tables_in (Some tables) = tables
 
 -- the answer of a command over tables, whose input may be past its limit
 abbrev pub answer_in : Command → List Table → List ℕ → Answer
-answer_in c tables input = if reads_input c && nat_lt (most_input c) (length input) then refuse 4 too_long else answer_over c tables input
+answer_in c tables input = if reads_input c && nat_lt (most_input c) (length input) then refuse 4 (long_text c input) else answer_over c tables input
 
 -- the key file gave these bytes: the tables, where the command reads it
 pub record KeysGathered (c : Command) (keys : List ℕ) (before now : Side) (result : Result (Option (List Table)) Stop) : Type 0 where
@@ -56,7 +56,7 @@ pub record InputGathered (c : Command) (input : List ℕ) (before now : Side) (r
   pub value : IfOk result (λ text. (tables : List Table) → answer_in c tables input ≡ answer_over c tables input)
   pub asked : IfErr result (λ stop. reads_input c ≡ true)
   pub within : IfErr result (λ stop. (4 ≤ status_of stop) × (status_of stop < 8) × (status_of stop ≢ 6))
-  pub refused : IfErr result (λ stop. status_of stop ≡ 4 → (tables : List Table) → answer_in c tables input ≡ refuse 4 (text_of stop))
+  pub refused : IfErr result (λ stop. status_of stop ≡ 4 → writes_along (Some c) ≡ false → (tables : List Table) → answer_in c tables input ≡ refuse 4 (text_of stop))
   pub judged : IfErr result (λ stop. status_of stop ≡ 4 → most_input c < length input)
   pub fault : IfErr result (λ stop. status_of stop ≡ 5 → Rose before now)
 

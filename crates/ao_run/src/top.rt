@@ -64,8 +64,9 @@ fn act<K: Source, I: Source, O: Sink>(
 /// `keys` is the key file, `input` standard input, `out` standard output and `err` standard error.
 /// The words are looked at first, then the key file is read, where the words ask for it, then the
 /// input; then the whole output is written. The first fault in this order is answered. `check` judges
-/// its input as it reads it, a line or a packet at a time, and writes what it says of each segment
-/// before it looks at the next; it answers the first fault that it meets.
+/// its input as it reads it, a line or a packet at a time, and writes what it says of each segment as
+/// it reads on: however it ends, no more than 196,736 bytes, or 327,720 of a pcap file, were taken
+/// behind the last line or packet that it judged.
 ///
 /// | status | comes | text for `err` |
 /// |---|---|---|
@@ -79,8 +80,8 @@ fn act<K: Source, I: Source, O: Sink>(
 /// | 7 | for want of memory | `memory` |
 ///
 /// With 2 to 5 and 7 nothing is written to `out`, except by `check`: with 4, 5 and 7 it has written
-/// the lines of the segments before, and with 6 they are followed by a front part of the next one. A
-/// fault of `err` changes no status.
+/// what it says of the segments that it judged, but with 7 perhaps not of the last one, and with 6 a
+/// front part of what it says of the last one follows. A fault of `err` changes no status.
 pub fn run<K: Source, I: Source, O: Sink, E: Sink>(
     alloc: Global,
     words: &Words,

@@ -9,9 +9,9 @@ use Rattle.ao_base.proofs.Sides.{gave_more, gave_none, rose_after, took_none}
 use Rattle.key_model.specs.Rows.{Table}
 use Rattle.line_reader.specs.declared.reader.LineStep.{LineStep}
 use Rattle.line_reader.specs.declared.reader.LineStep.TheVariants as step
-use Rattle.line_reader.specs.Reading.{Advances, HasShown, IsLong, Reading, Stops as StopsReading}
+use Rattle.line_reader.specs.Reading.{Advances, IsLong, Reading, Stops as StopsReading}
 use Rattle.line_reader.proofs.Newlines.{longer}
-use Rattle.line_reader.proofs.Showing.{shown_none, shown_still}
+use Rattle.line_reader.proofs.Showing.{HasShown, shown_none, shown_still}
 use Rattle.format_model.specs.StoredLines.{StoredInput, stored_from, stored_input, stored_line}
 use Rattle.capture_lines.specs.Checked.{Checks, HasRead, Stops, segments_of, written_of}
 use Rattle.capture_lines.specs.Judging.{HasHeard, Judging}
@@ -30,10 +30,10 @@ pub record Going (tables : List Table) (reading : Reading) (judging : Judging) (
   pub longest : reading.longest ≡ 131200
   pub most : reading.most ≡ 268435456
   pub going : reading.over ≡ false
-  pub at_end : reading.ended ≡ true → IsAtEnd source_now
+  pub newline : reading.lacks_newline ≡ false
   pub within : reading.taken - length reading.kept ≤ 268435456
 
-pub going_none : (tables : List Table) (reading : Reading) (judging : Judging) (source out : Side) → reading ≡ record { longest = 131200; most = 268435456; kept = []; taken = 0; ended = false; over = false; line = None } →
+pub going_none : (tables : List Table) (reading : Reading) (judging : Judging) (source out : Side) → reading ≡ record { longest = 131200; most = 268435456; kept = []; taken = 0; lacks_newline = false; over = false; line = None } →
     judging.checking.tables ≡ tables → HasHeard judging [] → Going tables reading judging 0 [] [] source source out out
 going_none tables reading judging source out is same heard = rw is (record {
   gave = gave_none source;
@@ -46,9 +46,12 @@ going_none tables reading judging source out is same heard = rw is (record {
   longest = refl;
   most = refl;
   going = refl;
-  at_end = λ ended. absurd (cc);
+  newline = refl;
   within = omega arith;
 })
+
+neither : (b : Bool) → b ≡ false → b ≡ true → ⊥
+neither b f t = absurd (cc)
 
 pub either : (b : Bool) → (b ≡ true) ⊎ (b ≡ false)
 either true = inl refl
@@ -59,26 +62,26 @@ unfolding stored_line
 too_long n line long = let over : nat_lt 131200 (length line) ≡ true = grind (arith, nat_tests) in rw over refl
 
 -- what was read, by what the reader has shown
-pub has_read : (reading : Reading) (given : List ℕ) (read : List (List ℕ)) (source : Side) → HasShown reading given read → (reading.ended ≡ true → IsAtEnd source) →
+pub has_read : (reading : Reading) (given : List ℕ) (read : List (List ℕ)) (source : Side) → HasShown reading given read → (reading.lacks_newline ≡ true → IsAtEnd source) →
     (stored_from 1 read).fault ≡ None → HasRead given read reading.kept source
 has_read reading given read source shown at_end faultless = record {
   front = shown.front;
   split = shown.split;
   lines = shown.lines;
-  follows = elim (either reading.ended) [
+  follows = elim (either reading.lacks_newline) [
     | inl ended ↦ inl (shown.last ended, at_end ended)
     | inr still ↦ inr (λ more. ap (λ (xs : List ℕ). lines_of (xs ++ more)) shown.split ∙ (ap lines_of (append_assoc shown.front reading.kept more) ∙ shown.behind still (reading.kept ++ more)))
   ];
   faultless = faultless;
 }
 
-no_lines : (read : List (List ℕ)) (rest : List ℕ) → rest ≡ [] → read ++ lines_of rest ≡ read
+pub no_lines : (read : List (List ℕ)) (rest : List ℕ) → rest ≡ [] → read ++ lines_of rest ≡ read
 unfolding lines_of
 no_lines read rest none = rw none (append-nil read)
 
 -- all the lines of what was given
 pub lines_then : (reading : Reading) (given : List ℕ) (read : List (List ℕ)) → HasShown reading given read → (lines_of given ≡ read ++ lines_of reading.kept)
-lines_then reading given read shown = elim (either reading.ended) [
+lines_then reading given read shown = elim (either reading.lacks_newline) [
   | inl ended ↦
       let none : reading.kept ≡ [] = shown.last ended in
       ap lines_of (shown.split ∙ (ap (λ (xs : List ℕ). shown.front ++ xs) none ∙ append-nil shown.front)) ∙ (shown.lines ∙ sym (no_lines read reading.kept none))
@@ -90,16 +93,12 @@ module _ (tables : List Table) (reader now : Reading) (judge : Judging) (number 
   gives : {s : LineStep} → Advances reader now i0 i1 more s → Gave (given ++ more) ib i1
   gives advances = gave_more given more ib i0 i1 going.gave advances.gave
 
-  -- the source is at its end where the last line was shown before
-  ended_still : {s : LineStep} → Advances reader now i0 i1 more s → reader.ended ≡ true → IsAtEnd i1
-  ended_still advances ended = subst IsAtEnd (sym (advances.alone ended).0) (going.at_end ended)
-
   module _ (s : LineStep) (advances : Advances reader now i0 i1 more s) (stops : StopsReading reader now more) where
     still : HasShown now (given ++ more) read
-    still = shown_still reader now i0 i1 more given read s going.shown advances stops
+    still = shown_still reader now i0 i1 more given read s going.shown going.newline advances stops
 
     read_still : HasRead (given ++ more) read now.kept i1
-    read_still = has_read now (given ++ more) read i1 still (λ ended. ended_still advances (sym stops.ended ∙ ended)) going.faultless
+    read_still = has_read now (given ++ more) read i1 still (λ lacks. absurd (neither now.lacks_newline (stops.lacks_newline ∙ going.newline) lacks)) going.faultless
 
     bounded : length (given ++ more) ≤ 268435456 + 196736
     bounded =
@@ -111,27 +110,34 @@ module _ (tables : List Table) (reader now : Reading) (judge : Judging) (number 
         let long = going.longest in
         omega arith
 
-    pub stopped : Stops tables (given ++ more) i1 ob on
-    stopped = record { read = read; rest = now.kept; has_read = read_still; wrote = going.wrote }
+    pub stopped : (stops : Stops tables (given ++ more) i1 ob on) × (length stops.has_read.front ≤ 268435456)
+    stopped =
+        let has = read_still in
+        let split : length (given ++ more) ≡ length has.front + length now.kept = ap (λ (xs : List ℕ). length xs) has.split ∙ length-append has.front now.kept in
+        let whole : length (given ++ more) ≡ length given + length more = length-append given more in
+        let kept : length now.kept ≡ length reader.kept + length more = ap (λ (xs : List ℕ). length xs) stops.kept ∙ length-append reader.kept more in
+        let taken = going.shown.taken in
+        let within = going.within in
+        let bound = advances.bound in
+        let long = going.longest in
+        (record { read = read; rest = now.kept; has_read = has; few = omega arith; wrote = going.wrote }, omega arith)
 
   pub fault_ends : Advances reader now i0 i1 more step.Fault → Checks tables (given ++ more) ib i1 ob on (Err halt.Read)
   fault_ends advances = record {
     gave = gives advances;
     few = bounded step.Fault advances advances.answers.0;
-    ends = (rose_after (length given) ib i0 i1 going.gave.counts advances.answers.1, stopped step.Fault advances advances.answers.0);
+    ends = (rose_after (length given) ib i0 i1 going.gave.counts advances.answers.1, (stopped step.Fault advances advances.answers.0).0);
   }
 
   pub long_ends : Advances reader now i0 i1 more step.TooLong → Checks tables (given ++ more) ib i1 ob on (Err halt.TooLong)
   long_ends advances = record {
     gave = gives advances;
     few = bounded step.TooLong advances advances.answers.0;
-    ends = (
-      let taken = (still step.TooLong advances advances.answers.0).taken in
-          let most = going.most in
-          let over = advances.answers.1 in
-          omega arith,
-      stopped step.TooLong advances advances.answers.0,
-    );
+    ends = record {
+      more = (let taken = (still step.TooLong advances advances.answers.0).taken in let most = going.most in let over = advances.answers.1 in omega arith);
+      stops = (stopped step.TooLong advances advances.answers.0).0;
+      within = (stopped step.TooLong advances advances.answers.0).1;
+    };
   }
 
   all_lines : Advances reader now i0 i1 more step.End → lines_of (given ++ more) ≡ read
@@ -149,10 +155,7 @@ module _ (tables : List Table) (reader now : Reading) (judge : Judging) (number 
         gave = gives advances;
         few = bounded step.End advances advances.answers.0;
         ends = record {
-          at_end = elim (advances.answers.1.at_end) [
-            | inl ended ↦ ended_still advances ended
-            | inr at_end ↦ at_end
-          ];
+          at_end = advances.answers.1.at_end;
           within = omega arith;
           faultless = ap (λ (i : StoredInput). i.fault) input ∙ going.faultless;
           amiss_is = rw (input, ← going.tables_same) going.heard.amiss;
@@ -168,7 +171,7 @@ module _ (tables : List Table) (reader now : Reading) (judge : Judging) (number 
   pub long_line_ends : Advances reader now i0 i1 more step.LongLine → Checks tables (given ++ more) ib i1 ob on (Err (halt.Line (number + 1) Range))
   long_line_ends advances =
       let kept = still step.LongLine advances advances.answers.0 in
-      let open_still : now.ended ≡ false = advances.answers.0.ended ∙ goes_on advances in
+      let open_still : now.lacks_newline ≡ false = advances.answers.0.lacks_newline ∙ going.newline in
       let long : IsLong 131200 (lines_of now.kept) = rw going.longest at advances.answers.1 in
       let at : number + 1 ≡ length read + 1 = rw going.counted refl in
       let whole : (tail : List ℕ) → stored_input ((given ++ more) ++ tail) ≡ record { stored = segments_of read; fault = Some (record { number = number + 1; kind = Range }) } =
@@ -196,12 +199,6 @@ module _ (tables : List Table) (reader now : Reading) (judge : Judging) (number 
           whatever = inr (λ tail. whole tail ∙ sym here);
         };
       }
-    where
-      goes_on : Advances reader now i0 i1 more step.LongLine → reader.ended ≡ false
-      goes_on advances = elim (either reader.ended) [
-        | inl ended ↦ let no = (advances.alone ended).2 in absurd (cc)
-        | inr open_still ↦ open_still
-      ]
 
 -- nothing was read or written
 pub nothing_ends : (tables : List Table) (source out : Side) → Checks tables [] source source out out (Err halt.Memory)
@@ -213,6 +210,7 @@ nothing_ends tables source out = record {
     read = [];
     rest = [];
     has_read = record { front = []; split = refl; lines = refl; follows = inr (λ more. refl); faultless = refl };
+    few = omega arith;
     wrote = rw (run_none tables) (took_none out);
   };
 }

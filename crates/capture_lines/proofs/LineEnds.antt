@@ -1,5 +1,5 @@
 -- A check of lines with one more line read: it goes on, or ends there.
-use Rattle.std.proofs.Common.{◌≡◌, inl, inr, ℕ, suc, ◌+◌, ◌-◌, ◌<◌, ◌≤◌, Bool, true, false, List, [], ◌∷◌, ◌++◌, length, take, Option, Some, Err, refl, sym, ap, subst, ◌∙◌, append_assoc, arith}
+use Rattle.std.proofs.Common.{◌≡◌, inl, inr, ℕ, suc, ◌+◌, ◌-◌, ◌<◌, ◌≤◌, Bool, true, false, List, [], ◌∷◌, ◌++◌, length, take, Option, Some, Ok, Err, refl, sym, ap, subst, ◌∙◌, append_assoc, arith}
 use Rattle.std.proofs.lemmas.List.{append-nil, length-append}
 use Rattle.ao_base.specs.declared.line_kind.LineKind.{LineKind}
 use Rattle.ao_base.specs.Lines.{lines_of}
@@ -7,14 +7,14 @@ use Rattle.ao_base.specs.Outside.{Side, Gave, Took, IsAtEnd}
 use Rattle.ao_base.proofs.Sides.{gave_more, rose_after, took_more}
 use Rattle.key_model.specs.Rows.{Table}
 use Rattle.line_reader.specs.declared.reader.LineStep.TheVariants as step
-use Rattle.line_reader.specs.Reading.{Advances, HasShown, IsCut, Reading, Shows}
-use Rattle.line_reader.proofs.Showing.{shown_more}
-use Rattle.format_model.specs.StoredLines.{StoredInput, stored_input, stored_line}
+use Rattle.line_reader.specs.Reading.{Advances, IsCut, Reading, Shows}
+use Rattle.line_reader.proofs.Showing.{HasShown, shown_more}
+use Rattle.format_model.specs.StoredLines.{StoredInput, stored_from, stored_input, stored_line}
 use Rattle.capture_lines.specs.Checked.{BreaksLine, Checks, HasRead, JudgedLine, JudgesLine, segments_of, written_of}
 use Rattle.capture_lines.specs.declared.check.Halt.{Halt}
 use Rattle.capture_lines.specs.Judging.{Judging}
 use Rattle.capture_lines.specs.declared.check.Halt.TheVariants as halt
-use Rattle.capture_lines.proofs.Goings.{Going, either, has_read, lines_then}
+use Rattle.capture_lines.proofs.Goings.{Going, either, has_read, lines_then, no_lines}
 use Rattle.capture_lines.proofs.RunLaws.{input_is, line_refused}
 
 end_of : (text line rest : List ℕ) (b : Bool) (side : Side) → b ≡ true → IsCut text line rest b side → IsAtEnd side
@@ -40,16 +40,10 @@ take_behind (x ∷ xs) ys n = let same : length (x ∷ xs) + n ≡ suc (length x
 module _ (tables : List Table) (reader now : Reading) (judge : Judging) (number : ℕ) (given more line : List ℕ) (read : List (List ℕ)) (ib i0 i1 ob o0 o1 : Side)
     (going : Going tables reader judge number given read ib i0 ob o0) (advances : Advances reader now i0 i1 more step.Line) (shows : Shows reader now i1 more line) where
   more_shown : HasShown now (given ++ more) (read ++ line ∷ [])
-  more_shown = shown_more reader now i0 i1 more given line read going.shown advances shows
+  more_shown = shown_more reader now i0 i1 more given line read going.shown going.newline advances shows
 
-  end_now : now.ended ≡ true → IsAtEnd i1
-  end_now ended = end_of (reader.kept ++ more) line now.kept now.ended i1 ended shows.cut
-
-  goes_on : reader.ended ≡ false
-  goes_on = elim (either reader.ended) [
-    | inl ended ↦ let no = (advances.alone ended).2 in absurd (cc)
-    | inr open_still ↦ open_still
-  ]
+  end_now : now.lacks_newline ≡ true → IsAtEnd i1
+  end_now ended = end_of (reader.kept ++ more) line now.kept now.lacks_newline i1 ended shows.cut
 
   all_length : length (given ++ more) ≡ length (more_shown.front) + length now.kept
   all_length = ap length more_shown.split ∙ length-append more_shown.front now.kept
@@ -76,8 +70,11 @@ module _ (tables : List Table) (reader now : Reading) (judge : Judging) (number 
   unwritten : Took [] o0 o1 → Took (written_of tables read) ob o1
   unwritten none = let same : written_of tables read ++ [] ≡ written_of tables read = append-nil (written_of tables read) in rw same at (took_more (written_of tables read) [] ob o0 o1 going.wrote none)
 
-  pub goes : (after : Judging) → JudgedLine tables after read line o0 o1 → Going tables now after (number + 1) (given ++ more) (read ++ line ∷ []) ib i1 ob o1
-  goes after judged =
+  written_now : (after : Judging) → JudgedLine tables after read line o0 o1 → Took (written_of tables (read ++ line ∷ [])) ob o1
+  written_now after judged = rw judged.whole (took_more (written_of tables read) judged.text ob o0 o1 going.wrote judged.wrote)
+
+  pub goes : (after : Judging) → now.lacks_newline ≡ false → JudgedLine tables after read line o0 o1 → Going tables now after (number + 1) (given ++ more) (read ++ line ∷ []) ib i1 ob o1
+  goes after newline judged =
       let count : length (read ++ line ∷ []) ≡ length read + 1 = length-append read (line ∷ []) in
       let counted = going.counted in
       record {
@@ -86,13 +83,35 @@ module _ (tables : List Table) (reader now : Reading) (judge : Judging) (number 
         faultless = judged.faultless;
         tables_same = judged.tables_same;
         heard = judged.heard;
-        wrote = rw judged.whole (took_more (written_of tables read) judged.text ob o0 o1 going.wrote judged.wrote);
+        wrote = written_now after judged;
         counted = omega arith;
         longest = advances.longest ∙ going.longest;
         most = advances.most ∙ going.most;
         going = shows.going;
-        at_end = end_now;
+        newline = newline;
         within = let within = shows.within in let most = going.most in omega arith;
+      }
+
+  -- a line without a newline is the last one
+  pub last_ends : (after : Judging) → now.lacks_newline ≡ true → JudgedLine tables after read line o0 o1 → Checks tables (given ++ more) ib i1 ob o1 (Ok after.amiss)
+  last_ends after lacks judged =
+      let none : now.kept ≡ [] = more_shown.last lacks in
+      let lines : lines_of (given ++ more) ≡ read ++ line ∷ [] = lines_then now (given ++ more) (read ++ line ∷ []) more_shown ∙ no_lines (read ++ line ∷ []) now.kept none in
+      let input : stored_input (given ++ more) ≡ stored_from 1 (read ++ line ∷ []) = input_is (given ++ more) (read ++ line ∷ []) lines in
+      let kept : length now.kept ≡ 0 = ap length none in
+      let taken = more_shown.taken in
+      let within = shows.within in
+      let most = going.most in
+      record {
+        gave = gives;
+        few = few_now;
+        ends = record {
+          at_end = end_now lacks;
+          within = omega arith;
+          faultless = ap (λ (i : StoredInput). i.fault) input ∙ judged.faultless;
+          amiss_is = rw (input, ← judged.tables_same) judged.heard.amiss;
+          wrote = rw input (written_now after judged);
+        };
       }
 
   read_before : HasRead (given ++ more) read (reader.kept ++ more) i1
@@ -102,12 +121,15 @@ module _ (tables : List Table) (reader now : Reading) (judge : Judging) (number 
         front = going.shown.front;
         split = split;
         lines = going.shown.lines;
-        follows = inr (λ tail. ap (λ (xs : List ℕ). lines_of (xs ++ tail)) split ∙ (ap lines_of (append_assoc going.shown.front (reader.kept ++ more) tail) ∙ going.shown.behind goes_on ((reader.kept ++ more) ++ tail)));
+        follows = inr (λ tail. ap (λ (xs : List ℕ). lines_of (xs ++ tail)) split ∙ (ap lines_of (append_assoc going.shown.front (reader.kept ++ more) tail) ∙ going.shown.behind going.newline ((reader.kept ++ more) ++ tail)));
         faultless = going.faultless;
       }
 
   pub memory_ends : Took [] o0 o1 → Checks tables (given ++ more) ib i1 ob o1 (Err halt.Memory)
-  memory_ends none = record { gave = gives; few = few_now; ends = record { read = read; rest = reader.kept ++ more; has_read = read_before; wrote = unwritten none } }
+  memory_ends none =
+      let held = advances.held in
+      let long = going.longest in
+      record { gave = gives; few = few_now; ends = record { read = read; rest = reader.kept ++ more; has_read = read_before; few = omega arith; wrote = unwritten none } }
 
   pub refused_ends : (n : ℕ) (kind : LineKind) → n ≡ length read + 1 → stored_line n line ≡ Err kind → Took [] o0 o1 → Checks tables (given ++ more) ib i1 ob o1 (Err (halt.Line n kind))
   refused_ends n kind at is none =
@@ -130,7 +152,7 @@ module _ (tables : List Table) (reader now : Reading) (judge : Judging) (number 
           few = omega arith;
           fault = ap (λ (i : StoredInput). i.fault) here;
           wrote = rw here (unwritten none);
-          whatever = elim (either now.ended) [
+          whatever = elim (either now.lacks_newline) [
             | inl ended ↦ inl (end_now ended)
             | inr open_still ↦ inr (λ tail. refused ((given ++ more) ++ tail) (lines_of (now.kept ++ tail))
                 (ap (λ (xs : List ℕ). lines_of (xs ++ tail)) more_shown.split ∙ (ap lines_of (append_assoc more_shown.front now.kept tail) ∙ more_shown.behind open_still (now.kept ++ tail))) ∙ sym here)
@@ -175,7 +197,7 @@ module _ (tables : List Table) (reader now : Reading) (judge : Judging) (number 
   -- more of the limit is used up
   pub smaller : 268435456 - (now.taken - length now.kept) < 268435456 - (reader.taken - length reader.kept)
   smaller =
-      let grown = cut_length (reader.kept ++ more) line now.kept now.ended i1 shows.cut in
+      let grown = cut_length (reader.kept ++ more) line now.kept now.lacks_newline i1 shows.cut in
       let kept = length-append reader.kept more in
       let total : reader.taken ≡ length given = going.shown.taken in
       let split : length given ≡ length (going.shown.front) + length reader.kept = ap (λ (xs : List ℕ). length xs) going.shown.split ∙ length-append going.shown.front reader.kept in

@@ -53,12 +53,20 @@ pub record Refuses (tables : List Table) (given : List ℕ) (source_now out_befo
   pub wrote : Took (capture_run tables (stored_input given).stored) out_before out_now
   pub whatever : IsAtEnd source_now ⊎ ((more : List ℕ) → stored_input (given ++ more) ≡ stored_input given)
 
--- it ended between two lines: the lines of the segments of all lines before were written
+-- it ended between two lines: the lines of the segments of all lines before were written, and nothing
+-- was taken behind those but what the reader keeps
 pub record Stops (tables : List Table) (given : List ℕ) (source_now out_before out_now : Side) : Type 0 where
   pub read : List (List ℕ)
   pub rest : List ℕ
   pub has_read : HasRead given read rest source_now
+  pub few : length rest ≤ most_ahead
   pub wrote : Took (written_of tables read) out_before out_now
+
+-- more was given than the most bytes of an input: it ended between two lines within those bytes
+pub record Exceeds (tables : List Table) (given : List ℕ) (source_now out_before out_now : Side) : Type 0 where
+  pub more : most_bytes < length given
+  pub stops : Stops tables given source_now out_before out_now
+  pub within : length stops.has_read.front ≤ most_bytes
 
 -- a write failed: of the segment of the last line that was read a front part of its line was written, and nothing was taken behind that line but what the reader keeps
 pub record Breaks (tables : List Table) (given : List ℕ) (source_now out_before out_now : Side) : Type 0 where
@@ -79,7 +87,7 @@ pub record Breaks (tables : List Table) (given : List ℕ) (source_now out_befor
 abbrev pub Ends : List Table → List ℕ → (source_before source_now out_before out_now : Side) → Result Bool Halt → Type 0
 Ends tables given source_before source_now out_before out_now (Ok amiss) = Finishes tables given source_now out_before out_now amiss
 Ends tables given source_before source_now out_before out_now (Err (Line n kind)) = Refuses tables given source_now out_before out_now n kind
-Ends tables given source_before source_now out_before out_now (Err TooLong) = (most_bytes < length given) × Stops tables given source_now out_before out_now
+Ends tables given source_before source_now out_before out_now (Err TooLong) = Exceeds tables given source_now out_before out_now
 Ends tables given source_before source_now out_before out_now (Err Read) = Rose source_before source_now × Stops tables given source_now out_before out_now
 Ends tables given source_before source_now out_before out_now (Err Write) = Breaks tables given source_now out_before out_now
 Ends tables given source_before source_now out_before out_now (Err Memory) = Stops tables given source_now out_before out_now

@@ -98,18 +98,23 @@ fn check_counted<L: Ledger, I: Source, O: Sink>(
             Ok(()) => {}
             Err(halt) => return Err(halt),
         }
+        // The source was at its end, and isn't asked again.
+        if reader.lacks_newline() {
+            return Ok(judge.is_amiss());
+        }
     }
 }
 
-/// Judges the stored segments of an input by the tables, and writes the line of each before the next
-/// line is read. Ok at the input's end, and whether a segment is no pass.
+/// Judges the stored segments of an input by the tables, and writes the line of each as it reads on.
+/// Ok at the input's end, and whether a segment is no pass.
 ///
-/// Besides the longest line no more than 65,536 bytes are kept. Line, with a faulty line's number,
-/// comes with the lines of all segments before it written, and nothing but what is kept was read
-/// behind it. TooLong comes only where more than 268,435,456 bytes were given; Read only where the
-/// source's count of faults rose, and Write only where the sink's did, with a front part of the line
-/// that failed written; Memory for want of memory. With each of them the lines of all segments of the
-/// lines before were written.
+/// At most 196,736 bytes are kept: those of the longest line, and 65,536. Line, with a faulty line's
+/// number, comes with the lines of all segments before it written; Write only where the sink's count
+/// of faults rose, with a front part of the line that failed written. No more bytes than are kept were
+/// taken behind that line of the input. TooLong comes only where more than 268,435,456 bytes were
+/// given, Read only where the source's count of faults rose, and Memory for want of memory. With these
+/// three all lines in front of at most so many bytes were judged, and the lines of their segments
+/// written; with TooLong they lie within the 268,435,456 bytes.
 pub fn check_segments<I: Source, O: Sink>(
     alloc: Global,
     tables: Tables,

@@ -1,11 +1,12 @@
 -- What a check of a pcap file reads and writes, packet by packet (own).
-use Rattle.std.specs.Prelude.{◌≡◌, ℕ, ◌+◌, ◌<◌, ◌≤◌, Bool, List, [], ◌∷◌, ◌++◌, length, map, take, Some, None, Result, Ok, Err}
+use Rattle.std.specs.Prelude.{◌≡◌, ℕ, ◌+◌, ◌<◌, ◌≤◌, Bool, List, [], ◌∷◌, ◌++◌, length, map, take, Some, None, Result, Ok, Err, IsOk}
+use Rattle.std.specs.List.{All}
 use Rattle.ao_base.specs.Outside.{Side, Gave, Took, Rose, IsAtEnd, told}
 use Rattle.key_model.specs.Rows.{Table}
-use Rattle.wire_model.specs.Packets.{BadHead, BadRecord, FileFault, Packet, Packets, packets_of}
+use Rattle.wire_model.specs.Packets.{BadHead, BadRecord, FileFault, Packet, opened, packets_of}
 use Rattle.format_model.specs.Answers.{stored_packet}
 use Rattle.format_model.specs.Captures.{Stored, capture_run, has_refusal}
-use Rattle.pcap_file.specs.Reading.{and_packet, in_front}
+use Rattle.pcap_file.specs.Reading.{IsByte, Reading, and_packet, in_front, packets_at}
 use Rattle.capture_lines.specs.Judging.{HasHeard, Judging}
 use Rattle.capture_packets.specs.declared.check.PacketHalt.{PacketHalt}
 use Rattle.capture_packets.specs.declared.check.PacketHalt.TheVariants.{Head, Record, TooLong, Read, Write, Memory}
@@ -18,7 +19,8 @@ most_bytes = 268435456
 abbrev pub most_ahead : ℕ
 most_ahead = 327696
 
--- the most bytes that are taken past the record of the last packet that was read: before the first one those of the header besides
+-- the most bytes that are taken past the last record that was read; before the first one those of
+-- the header besides
 abbrev pub most_behind : ℕ
 most_behind = 327720
 
@@ -38,13 +40,15 @@ pub record Finishes (tables : List Table) (given : List ℕ) (source_now out_bef
   pub amiss_is : amiss ≡ has_refusal tables (segments_of given)
   pub wrote : Took (capture_run tables (segments_of given)) out_before out_now
 
--- these packets were read: those of the bytes in front, whatever follows, and little more was taken
+-- these packets were read: they are those of the bytes in front, and whatever follows is read by a
+-- reader that stands there, so the bytes in front are none, or end with a record; little more was taken
 pub record HasRead (given : List ℕ) (read : List Packet) : Type 0 where
   pub front : List ℕ
   pub rest : List ℕ
   pub split : given ≡ front ++ rest
   pub few : length rest ≤ most_behind
-  pub begins : (more : List ℕ) → (others : Packets) × (packets_of (front ++ more) ≡ in_front read others)
+  pub reader : Reading
+  pub goes_on : (more : List ℕ) → packets_of (front ++ more) ≡ in_front read (packets_at reader more)
 
 -- the header or a record is faulty: the lines of the packets before it were written
 pub record Refuses (tables : List Table) (given : List ℕ) (source_now out_before out_now : Side) (fault : FileFault) : Type 0 where
@@ -59,6 +63,14 @@ pub record Stops (tables : List Table) (given : List ℕ) (out_before out_now : 
   pub has_read : HasRead given read
   pub wrote : Took (written_of tables read) out_before out_now
 
+-- more was given than the most bytes of a file, whose header isn't faulty: it ended between two
+-- packets within those bytes
+pub record Exceeds (tables : List Table) (given : List ℕ) (out_before out_now : Side) : Type 0 where
+  pub more : most_bytes < length given
+  pub header : IsOk (opened given)
+  pub stops : Stops tables given out_before out_now
+  pub within : length stops.has_read.front ≤ most_bytes
+
 -- memory ran out: the lines of all packets that were read were written, but for the last one
 pub record Lacks (tables : List Table) (given : List ℕ) (out_before out_now : Side) : Type 0 where
   pub read : List Packet
@@ -67,13 +79,16 @@ pub record Lacks (tables : List Table) (given : List ℕ) (out_before out_now : 
   pub has_read : HasRead given (read ++ later)
   pub wrote : Took (written_of tables read) out_before out_now
 
--- a write failed: of the line of the last packet that was read a front part was written; with its record the bytes in front end, and no more was taken past it than the reader keeps
+-- a write failed: of the line of the last packet that was read a front part was written; with its
+-- record the bytes in front end, as no shorter part of them has that packet, and no more was taken past
+-- it than the reader keeps
 pub record Breaks (tables : List Table) (given : List ℕ) (out_before out_now : Side) : Type 0 where
   pub read : List Packet
   pub last : Packet
   pub n : ℕ
   pub has_read : HasRead given (read ++ last ∷ [])
   pub alone : packets_of has_read.front ≡ record { list = read ++ last ∷ []; fault = None }
+  pub least : (k : ℕ) → k < length has_read.front → length (packets_of (take k has_read.front)).list ≤ length read
   pub near : length has_read.rest ≤ most_ahead
   pub all_before : length (written_of tables read) ≤ n
   pub not_all : n < length (written_of tables (read ++ last ∷ []))
@@ -85,7 +100,7 @@ abbrev pub Ends : List Table → List ℕ → (source_before source_now out_befo
 Ends tables given source_before source_now out_before out_now (Ok amiss) = Finishes tables given source_now out_before out_now amiss
 Ends tables given source_before source_now out_before out_now (Err (Head fault)) = Refuses tables given source_now out_before out_now (BadHead fault)
 Ends tables given source_before source_now out_before out_now (Err (Record n)) = Refuses tables given source_now out_before out_now (BadRecord n)
-Ends tables given source_before source_now out_before out_now (Err TooLong) = (most_bytes < length given) × Stops tables given out_before out_now
+Ends tables given source_before source_now out_before out_now (Err TooLong) = Exceeds tables given out_before out_now
 Ends tables given source_before source_now out_before out_now (Err Read) = Rose source_before source_now × Stops tables given out_before out_now
 Ends tables given source_before source_now out_before out_now (Err Write) = Breaks tables given out_before out_now
 Ends tables given source_before source_now out_before out_now (Err Memory) = Lacks tables given out_before out_now
@@ -93,6 +108,7 @@ Ends tables given source_before source_now out_before out_now (Err Memory) = Lac
 -- a check of a pcap file, in which the source gave these bytes
 pub record Checks (tables : List Table) (given : List ℕ) (source_before source_now out_before out_now : Side) (result : Result Bool PacketHalt) : Type 0 where
   pub gave : Gave given source_before source_now
+  pub bytes : All IsByte given
   pub few : length given ≤ most_bytes + most_ahead
   pub ends : Ends tables given source_before source_now out_before out_now result
 

@@ -95,15 +95,16 @@ fn check_counted<L: Ledger, I: Source, O: Sink>(
 }
 
 /// Judges the packets of a pcap file by the tables, in their order, and writes the line of each that
-/// has a datagram, which begins with the packet's number, before the next one is read. Ok at the
-/// file's end, and whether a segment is no pass.
+/// has a datagram, which begins with the packet's number, as it reads on. Ok at the file's end, and
+/// whether a segment is no pass.
 ///
-/// At most 327,696 bytes are kept, and no more were taken past a packet's record before its line is
-/// written. Head and Record come exactly where the header, or the record behind the packets whose
-/// lines were written, is faulty; TooLong only where more than 268,435,456 bytes were given; Read only
-/// where the source's count of faults rose, and Write only where the sink's did, with a front part of
-/// the line that failed written; Memory for want of memory. With each of them the lines of all packets
-/// before were written.
+/// At most 327,696 bytes are kept. Write comes only where the sink's count of faults rose, with a front
+/// part of the line that failed written; no more bytes than are kept were taken past the record of its
+/// packet. Head comes where the header is faulty, and Record where the record behind the packets whose
+/// lines were written is; TooLong only where more than 268,435,456 bytes were given and the header isn't
+/// faulty; Read only where the source's count of faults rose, and Memory for want of memory. With these
+/// the packets in front of at most 327,720 bytes were read, and the lines of all of them written, but
+/// with Memory perhaps not that of the last one; with TooLong they lie within the 268,435,456 bytes.
 pub fn check_packets<I: Source, O: Sink>(
     alloc: Global,
     tables: Tables,

@@ -11,9 +11,10 @@ use Rattle.line_model.specs.declared.text_fault.TextFault.TheVariants.{Line}
 use Rattle.line_model.specs.Faults.{fault_text}
 use Rattle.line_model.specs.Said.{Said, said_in}
 use Rattle.line_model.specs.Texts.{line_text}
+use Rattle.wire_model.specs.declared.pcap_head.Head.{Head}
 use Rattle.wire_model.specs.declared.pcap_head.HeadFault.{HeadFault}
 use Rattle.wire_model.specs.declared.pcap_head.HeadFault.TheVariants as head_fault
-use Rattle.wire_model.specs.Packets.{Packet, Packets, FileFault, BadHead, BadRecord, packets_of}
+use Rattle.wire_model.specs.Packets.{Packet, Packets, FileFault, BadHead, BadRecord, opened, packets_of}
 use Rattle.link_model.specs.declared.event.Event.{Event}
 use Rattle.link_model.specs.Reports.{report, summary}
 use Rattle.link_model.specs.Runs.{run}
@@ -194,9 +195,20 @@ most_input command.Check = 268435456
 most_input command.CheckPcap = 268435456
 most_input _ = 33554432
 
+-- the text of a pcap file that is too long: that of its header's fault, where it has one
+abbrev pub long_file_text : Result (Head × List ℕ) HeadFault → List ℕ
+long_file_text (Ok body) = too_long
+long_file_text (Err fault) = pcap_fault_line (BadHead fault)
+
+-- the text of an input past its limit; the header of a pcap file is judged before
+abbrev pub long_text : Command → List ℕ → List ℕ
+long_text command.CheckPcap input = long_file_text (opened input)
+long_text _ input = too_long
+
 -- the answer of a command over tables; an input past its limit is refused
 abbrev pub answer_within : Command → List Table → List ℕ → Answer
-answer_within c tables input = if reads_input c && nat_lt (most_input c) (length input) then refuse 4 too_long else answer_over c tables input
+answer_within c tables input = if reads_input c && nat_lt (most_input c) (length input)
+    then refuse 4 (long_text c input) else answer_over c tables input
 
 -- the answer of a command over the tables of a key file; one with a fault is refused, and the input isn't looked at
 abbrev pub answer_by : Command → List ℕ → Result (List Table) TableFault → Answer

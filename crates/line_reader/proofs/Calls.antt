@@ -39,17 +39,18 @@ quiet_call before now source_before source_now given left step advances quiet =
 -- what a reader is seen as
 abbrev pub reading : ℕ → ℕ → ℕ → Bool → Bool → Bool → Buffered → Reading
 reading longest most handed shown ended over buffer =
-    record { longest = longest; most = most; kept = buffer.kept; taken = handed + length buffer.kept; ended = ended; over = over; line = cond shown (Some buffer.piece) None }
+    record { longest = longest; most = most; kept = buffer.kept; taken = handed + length buffer.kept; lacks_newline = ended; over = over; line = cond shown (Some buffer.piece) None }
 
 -- the line that a search found goes out, with its newline
 pub line_call : (longest most handed past n : ℕ) (shown ended over : Bool) (before now : Buffered) (a b : Side) (given : List ℕ) →
-    over ≡ false → ended ≡ false → handed ≤ most → before.size ≡ longest + 65536 → past ≡ min (n + 1) (length now.kept) →
+    over ≡ false → handed ≤ most → before.size ≡ longest + 65536 → past ≡ min (n + 1) (length now.kept) →
     Finds longest (most - handed) before now a b given (found.Line n) →
     Advances (reading longest most handed shown ended over before)
     (reading longest most (handed + past) true (past == n) over (record { kept = drop past now.kept; piece = slice_range now.kept 0 n; size = now.size })) a b given Line
-line_call longest most handed past n shown ended over before now a b given going open_still in_limit size past_is finds =
+line_call longest most handed past n shown ended over before now a b given going in_limit size past_is finds =
     let rest : length (drop past now.kept) ≡ length now.kept - past = length-drop past now.kept in
-    let all : length now.kept ≡ length before.kept + length given = ap length finds.kept ∙ length-append before.kept given in
+    let whole : length (before.kept ++ given) ≡ length before.kept + length given = length-append before.kept given in
+    let all : length now.kept ≡ length before.kept + length given = ap length finds.kept ∙ whole in
     let fits = finds.fits in
     let same = finds.size in
     let found = finds.found in
@@ -62,7 +63,7 @@ line_call longest most handed past n shown ended over before now a b given going
       taken = omega arith;
       counted = omega arith;
       bound = omega arith;
-      alone = λ done. absurd (cc);
+      held = omega arith;
       answers = (
         take n now.kept,
         record {
@@ -79,10 +80,11 @@ line_call longest most handed past n shown ended over before now a b given going
 
 -- a line that is too long ends the reading
 pub long_call : (longest most handed : ℕ) (shown ended over : Bool) (before now : Buffered) (a b : Side) (given : List ℕ) →
-    ended ≡ false → before.size ≡ longest + 65536 → Finds longest (most - handed) before now a b given found.LongLine →
+    before.size ≡ longest + 65536 → Finds longest (most - handed) before now a b given found.LongLine →
     Advances (reading longest most handed shown ended over before) (record (reading longest most handed shown ended over now) { over = true; line = None }) a b given LongLine
-long_call longest most handed shown ended over before now a b given open_still size finds =
-    let all : length now.kept ≡ length before.kept + length given = ap length finds.kept ∙ length-append before.kept given in
+long_call longest most handed shown ended over before now a b given size finds =
+    let whole : length (before.kept ++ given) ≡ length before.kept + length given = length-append before.kept given in
+    let all : length now.kept ≡ length before.kept + length given = ap length finds.kept ∙ whole in
     let fits = finds.fits in
     let same = finds.size in
     record {
@@ -92,6 +94,6 @@ long_call longest most handed shown ended over before now a b given open_still s
       taken = omega arith;
       counted = omega arith;
       bound = omega arith;
-      alone = λ done. absurd (cc);
-      answers = (record { line = refl; kept = finds.kept; ended = refl; over = refl }, long_line longest now.kept finds.found);
+      held = omega arith;
+      answers = (record { line = refl; kept = finds.kept; lacks_newline = refl; over = refl }, long_line longest now.kept finds.found);
     }

@@ -1,18 +1,18 @@
 -- What one call of a reader of lines does (own).
-use Rattle.std.specs.Prelude.{◌≡◌, ◌⊎◌, ℕ, ◌+◌, ◌-◌, ◌<◌, ◌≤◌, Bool, true, false, List, [], ◌∷◌, ◌++◌, length, drop, Option, None, Some}
+use Rattle.std.specs.Prelude.{◌≡◌, ℕ, ◌+◌, ◌-◌, ◌<◌, ◌≤◌, Bool, true, false, List, [], ◌∷◌, ◌++◌, length, drop, Option, None, Some}
 use Rattle.std.specs.List.{position_or_len}
 use Rattle.ao_base.specs.Outside.{Side, Gave, Rose, IsAtEnd, told}
 use Rattle.ao_base.specs.Lines.{is_newline, lines_of}
 use Rattle.line_reader.specs.declared.reader.LineStep.{LineStep}
 use Rattle.line_reader.specs.declared.reader.LineStep.TheVariants.{Line, End, Fault, TooLong, LongLine}
 
--- a reader of lines is: its limits, the bytes that it took and hasn't handed out, the number of bytes that it took, whether it showed a last line without a newline, whether a call has answered anything but Line, and the line of the last call, where it answered Line
+-- a reader of lines is: its limits, the bytes that it took and hasn't handed out, the number of bytes that it took, whether the line that it showed last has no newline, whether a call has answered anything but Line, and the line of the last call, where it answered Line
 pub record Reading : Type 0 where
   pub longest : ℕ
   pub most : ℕ
   pub kept : List ℕ
   pub taken : ℕ
-  pub ended : Bool
+  pub lacks_newline : Bool
   pub over : Bool
   pub line : Option (List ℕ)
 
@@ -36,7 +36,7 @@ abbrev pub IsPlain : List ℕ → Type 0
 IsPlain line = position_or_len is_newline line ≡ length line
 
 -- the line stands in front of the text with its newline byte; or it is the whole text, at the source's end
-abbrev pub IsCut : (text line rest : List ℕ) → (ended : Bool) → Side → Type 0
+abbrev pub IsCut : (text line rest : List ℕ) → (lacks_newline : Bool) → Side → Type 0
 IsCut text line rest false source = text ≡ line ++ 10 ∷ rest
 IsCut text line rest true source = (text ≡ line) × (rest ≡ []) × (0 < length line) × IsAtEnd source
 
@@ -45,7 +45,7 @@ pub record Shows (before now : Reading) (source_now : Side) (given line : List �
   pub shown : now.line ≡ Some line
   pub first : IsFirstLine ((before.kept ++ given) ++ told source_now.bytes) line (now.kept ++ told source_now.bytes)
   pub plain : IsPlain line
-  pub cut : IsCut (before.kept ++ given) line now.kept now.ended source_now
+  pub cut : IsCut (before.kept ++ given) line now.kept now.lacks_newline source_now
   pub short : length line ≤ before.longest
   pub within : now.taken - length now.kept ≤ before.most
   pub going : now.over ≡ false
@@ -54,12 +54,12 @@ pub record Shows (before now : Reading) (source_now : Side) (given line : List �
 pub record Stops (before now : Reading) (given : List ℕ) : Type 0 where
   pub line : now.line ≡ None
   pub kept : now.kept ≡ before.kept ++ given
-  pub ended : now.ended ≡ before.ended
+  pub lacks_newline : now.lacks_newline ≡ before.lacks_newline
   pub over : now.over ≡ true
 
 -- at the source's end, with all lines shown
 pub record Ends (before now : Reading) (source_now : Side) : Type 0 where
-  pub at_end : (before.ended ≡ true) ⊎ IsAtEnd source_now
+  pub at_end : IsAtEnd source_now
   pub all : now.kept ≡ []
   pub most : now.taken ≤ before.most
 
@@ -78,9 +78,9 @@ pub record Advances (before now : Reading) (source_before source_now : Side) (gi
   pub most : now.most ≡ before.most
   pub taken : now.taken ≡ before.taken + length given
   pub counted : length now.kept ≤ now.taken
+  -- the bytes that the call had at once, and those that it left
+  pub held : length (before.kept ++ given) ≤ before.longest + 65536
   pub bound : length now.kept ≤ before.longest + 65536
-  -- behind a last line without a newline the source isn't asked
-  pub alone : before.ended ≡ true → (source_now ≡ source_before) × (given ≡ []) × (step ≡ End)
   pub answers : Answers before now source_before source_now given step
 
 -- a line, or the end
@@ -95,13 +95,3 @@ pub record IsQuiet (reading : Reading) (source_before source_now : Side) (left :
   pub most : reading.taken + length left ≤ reading.most
   pub longest : NoneLong reading.longest (lines_of (reading.kept ++ left))
   pub quiet : ¬ Rose source_before source_now
-
--- the reader took these bytes in all and showed these lines: they are the lines of the bytes in front of those that it keeps, whatever follows, unless the last one had no newline
-pub record HasShown (reading : Reading) (given : List ℕ) (shown : List (List ℕ)) : Type 0 where
-  pub front : List ℕ
-  pub split : given ≡ front ++ reading.kept
-  pub lines : lines_of front ≡ shown
-  pub behind : reading.ended ≡ false → (more : List ℕ) → lines_of (front ++ more) ≡ shown ++ lines_of more
-  pub few : length shown ≤ length front
-  pub taken : reading.taken ≡ length given
-  pub last : reading.ended ≡ true → reading.kept ≡ []

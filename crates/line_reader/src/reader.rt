@@ -35,27 +35,27 @@ pub struct LineReader {
     // how many bytes were taken and aren't kept
     handed: u64,
     shown: bool,
-    // the source gave no more, and everything was shown
-    ended: bool,
+    // the line that was shown last has no newline
+    lacks_newline: bool,
     over: bool,
 }
 
 impl Model for LineReader {
-    ghost use Rattle.std.specs.Prelude.{◌≡◌, ◌+◌, ◌≤◌, cond, true, [], Some, None, length};
+    ghost use Rattle.std.specs.Prelude.{◌≡◌, ◌+◌, ◌≤◌, cond, Some, None, length};
     ghost use Rattle.line_reader.specs.Reading.{Reading};
 
     ghost Value = { Reading };
 
-    ghost view = { λ r. record { longest = r.longest; most = r.most; kept = r.buffer.kept; taken = r.handed + length r.buffer.kept; ended = r.ended; over = r.over; line = cond r.shown (Some r.buffer.piece) None } };
+    ghost view = { λ r. record { longest = r.longest; most = r.most; kept = r.buffer.kept; taken = r.handed + length r.buffer.kept; lacks_newline = r.lacks_newline; over = r.over; line = cond r.shown (Some r.buffer.piece) None } };
 
-    ghost invariant = { λ r. (r.handed ≤ r.most) × (r.buffer.size ≡ r.longest + 65536) × (r.ended ≡ true → r.buffer.kept ≡ []) };
+    ghost invariant = { λ r. (r.handed ≤ r.most) × (r.buffer.size ≡ r.longest + 65536) };
 }
 
 impl LineReader {
     /// A reader of lines of at most `longest` bytes, without their newline, of a source of at most
     /// `most` bytes. It takes all its memory here.
     pub fn new(alloc: Global, longest: u32, most: u64) -> Result<LineReader, AllocError>
-        ensures { IfOk result (λ r. r ≡ record { longest = longest; most = most; kept = []; taken = 0; ended = false; over = false; line = None }) }
+        ensures { IfOk result (λ r. r ≡ record { longest = longest; most = most; kept = []; taken = 0; lacks_newline = false; over = false; line = None }) }
     {
         let buffer = Buffer::new(alloc, longest as usize + SPARE)?;
         Ok(LineReader {
@@ -64,7 +64,7 @@ impl LineReader {
             most,
             handed: 0,
             shown: false,
-            ended: false,
+            lacks_newline: false,
             over: false,
         })
     }
@@ -73,11 +73,12 @@ impl LineReader {
     ///
     /// The content is what the reader keeps, and then what the source has left. Line: the first line
     /// of the content is shown, and the content afterwards is what follows it and its newline; a line
-    /// without a newline is shown only at the source's end, and the source isn't asked again after
-    /// it. So the lines shown so far are those in front of the bytes given so far, whatever the source
+    /// without a newline is shown only at the source's end, and `lacks_newline` tells it. So up to such a
+    /// line the lines shown so far are those in front of the bytes given so far, whatever the source
     /// tells. End comes only at the source's end, with all lines shown; Fault only where the source's
     /// count of faults rose; TooLong only where the source gave more than `most` bytes; LongLine only
     /// where the next line has more than `longest`. Where none of this is so, the answer is Line or End.
+    /// No more than `longest` and 65,536 bytes are kept at any time.
     pub fn next<S: Source>(&mut self, src: &mut S) -> LineStep
         requires { self.old.over ≡ false }
         ensures advances { (given : List ℕ) × Advances self.old self.new (S.side src.old) (S.side src.new) given result }
@@ -90,9 +91,6 @@ impl LineReader {
         requires { self.old.over ≡ false }
         ensures { (given : List ℕ) × Advances self.old self.new (S.side src.old) (S.side src.new) given result }
     {
-        if self.ended {
-            return self.stop(LineStep::End);
-        }
         let allowed = self.most - self.handed;
         match find_line(&mut self.buffer, src, self.longest as usize, allowed) {
             Found::Line(len) => {
@@ -100,7 +98,7 @@ impl LineReader {
                 self.buffer.pass(0, len, past);
                 self.handed += past as u64;
                 self.shown = true;
-                self.ended = past == len;
+                self.lacks_newline = past == len;
                 LineStep::Line
             }
             Found::End => self.stop(LineStep::End),
@@ -117,6 +115,14 @@ impl LineReader {
         self.shown = false;
         self.over = true;
         step
+    }
+
+    /// Whether the line that was shown last has no newline; the source was at its end then. False where
+    /// no line was shown.
+    pub fn lacks_newline(&self) -> bool
+        ensures { result ≡ self.now.lacks_newline }
+    {
+        self.lacks_newline
     }
 
     /// The line of the last `next`, without its newline. That call answered Line.

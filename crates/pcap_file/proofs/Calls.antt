@@ -1,6 +1,8 @@
 -- One call of a reader of packets.
 use Rattle.std.proofs.Common.{◌≡◌, ℕ, ◌+◌, ◌-◌, ◌<◌, ◌≤◌, Bool, true, false, cond, List, [], ◌++◌, length, take, drop, Option, None, Some, Ok, refl, sym, ap, ◌∙◌, append_assoc, arith}
 use Rattle.std.proofs.lemmas.List.{append-nil, length-append, length-drop, drop-append-le}
+use Rattle.std.specs.List.{All}
+use Rattle.std.proofs.lemmas.List.Elements.{All-append}
 use Rattle.ao_base.specs.Buffered.{Buffered}
 use Rattle.ao_base.specs.Outside.{Side, Gave, Rose, IsAtEnd, told}
 use Rattle.ao_base.proofs.Sides.{gave_more, nothing_told}
@@ -10,11 +12,12 @@ use Rattle.pcap_file.specs.declared.records.Found.{Found}
 use Rattle.pcap_file.specs.declared.records.Opened.TheVariants as opening
 use Rattle.pcap_file.specs.declared.packets.PacketStep.TheVariants as step
 use Rattle.pcap_file.specs.Parts.{Opens, Finds}
-use Rattle.pcap_file.specs.Reading.{Reading, opened_from, header_length, Stops, Steps}
+use Rattle.pcap_file.specs.Reading.{IsByte, Reading, opened_from, header_length, Stops, Steps}
 
 -- past the header and at a record
 pub record Reached (had : Option Head) (head : Head) (before now : Buffered) (a b : Side) (given : List ℕ) : Type 0 where
   pub gave : Gave given a b
+  pub bytes : All IsByte given
   pub opens : (left : List ℕ) → opened_from had ((before.kept ++ given) ++ left) ≡ Ok (head, now.kept ++ left)
   pub kept : now.kept ≡ drop (header_length had) (before.kept ++ given)
   pub count : header_length had + length now.kept ≡ length before.kept + length given
@@ -36,6 +39,7 @@ reach had head result before middle now a s b first second opens finds =
     let size3 : length (first ++ second) ≡ length first + length second = length-append first second in
     record {
       gave = gave_more first second a s b opens.gave finds.gave;
+      bytes = All-append IsByte first second opens.bytes finds.bytes;
       opens = λ left. rw (text left, body left) (opens.is.0 (second ++ left));
       kept = whole;
       count = omega arith;
@@ -62,7 +66,7 @@ module _ (handed count seconds : ℕ) (had : Option Head) (head : Head) (shown o
       Steps (reading handed count seconds had shown over before) (stopped (handed + header_length had) count (Some head) now) a b given step.TooLong
   long_step len all lt =
       let n = reached.count in let same = reached.size in let fits = reached.fits in
-      record { gave = reached.gave; taken = omega arith; counted = omega arith; bound = omega arith; answers = (stops, omega arith, (head, _, reached.opens (told b.bytes), refl, tt)) }
+      record { gave = reached.gave; bytes = reached.bytes; taken = omega arith; counted = omega arith; bound = omega arith; answers = (stops, omega arith, (head, _, reached.opens (told b.bytes), refl, tt)) }
 
   pub end_step : handed + header_length had ≤ 268435456 → now.kept ≡ [] → IsAtEnd b →
       Steps (reading handed count seconds had shown over before) (stopped (handed + header_length had) count (Some head) now) a b given step.End
@@ -71,19 +75,19 @@ module _ (handed count seconds : ℕ) (had : Option Head) (head : Head) (shown o
       let gone : told b.bytes ≡ [] = nothing_told b end in
       let body : now.kept ++ told b.bytes ≡ [] = rw (none, gone) refl in
       let zero : length now.kept ≡ 0 = ap length none in
-      record { gave = reached.gave; taken = omega arith; counted = omega arith; bound = omega arith; answers = (stops, (head, _, reached.opens (told b.bytes), refl, body), end, none, omega arith) }
+      record { gave = reached.gave; bytes = reached.bytes; taken = omega arith; counted = omega arith; bound = omega arith; answers = (stops, (head, _, reached.opens (told b.bytes), refl, body), end, none, omega arith) }
 
   pub broken_step : record_at head.order (now.kept ++ told b.bytes) ≡ Broken → record_at head.order now.kept ≡ Broken →
       Steps (reading handed count seconds had shown over before) (stopped (handed + header_length had) count (Some head) now) a b given (step.BadRecord (count + 1))
   broken_step broken kept_broken =
       let all : opened_from had (before.kept ++ given) ≡ Ok (head, now.kept) = rw (append-nil (before.kept ++ given), append-nil now.kept) at (reached.opens []) in
       let n = reached.count in let same = reached.size in let fits = reached.fits in
-      record { gave = reached.gave; taken = omega arith; counted = omega arith; bound = omega arith; answers = (stops, refl, (head, _, reached.opens (told b.bytes), refl, broken), (head, now.kept, all, refl, kept_broken)) }
+      record { gave = reached.gave; bytes = reached.bytes; taken = omega arith; counted = omega arith; bound = omega arith; answers = (stops, refl, (head, _, reached.opens (told b.bytes), refl, broken), (head, now.kept, all, refl, kept_broken)) }
 
   pub fault_step : Rose a b → Steps (reading handed count seconds had shown over before) (stopped (handed + header_length had) count (Some head) now) a b given step.Fault
   fault_step rose =
       let n = reached.count in let same = reached.size in let fits = reached.fits in
-      record { gave = reached.gave; taken = omega arith; counted = omega arith; bound = omega arith; answers = (stops, rose) }
+      record { gave = reached.gave; bytes = reached.bytes; taken = omega arith; counted = omega arith; bound = omega arith; answers = (stops, rose) }
 
   pub packet_step : (secs len : ℕ) (datagram : List ℕ) → over ≡ false → 16 + len ≤ length now.kept → (handed + header_length had) + (16 + len) ≤ 268435456 →
       record_at head.order (now.kept ++ told b.bytes) ≡ Whole (record { seconds = secs; bytes = take len (drop 16 now.kept) }) (drop (16 + len) now.kept ++ told b.bytes) →
@@ -95,6 +99,7 @@ module _ (handed count seconds : ℕ) (had : Option Head) (head : Head) (shown o
       let rest : length (drop (16 + len) now.kept) ≡ length now.kept - (16 + len) = length-drop (16 + len) now.kept in
       record {
         gave = reached.gave;
+        bytes = reached.bytes;
         taken = omega arith;
         counted = omega arith;
         bound = omega arith;

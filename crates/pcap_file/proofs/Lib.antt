@@ -4,4 +4,5 @@ pub mod Parts
 pub mod Walking
 mod Fronts
 pub mod Going
+pub mod Shorter
 pub mod Showing

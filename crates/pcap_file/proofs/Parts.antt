@@ -2,6 +2,7 @@
 use Rattle.std.proofs.Common.{◌≡◌, ◌==◌, if◌then◌else◌, inl, inr, ℕ, ◌+◌, ◌-◌, ◌<◌, ◌≤◌, min, List, [], ◌++◌, length, take, drop, Option, None, Ok, Err, refl, sym, ap, ◌∙◌, append_assoc, arith}
 use Rattle.std.proofs.lemmas.List.{length-append, length-drop, length-take, take-append-le, drop-append-le, append-nil, nil_from_length, take_min, get_or_append_left}
 use Rattle.std.proofs.lemmas.Bool.{cases_eq, eq-eqb, ne_eqb, le-ltb}
+use Rattle.std.proofs.lemmas.List.Elements.{All-append}
 use Rattle.std.specs.Prelude.{slice_range, slice_index}
 use Rattle.ao_base.specs.Buffered.{Buffered}
 use Rattle.ao_base.specs.Outside.{Side, told}
@@ -18,7 +19,7 @@ use Rattle.pcap_file.specs.declared.filling.Filled.TheVariants as filled
 use Rattle.pcap_file.specs.declared.records.Found.TheVariants as found
 use Rattle.pcap_file.specs.declared.records.Opened.TheVariants as opening
 use Rattle.pcap_file.specs.Parts.{Fills, Opens, Finds}
-use Rattle.pcap_file.specs.Reading.{opened_from}
+use Rattle.pcap_file.specs.Reading.{IsByte, opened_from}
 
 -- a header whose bytes are all kept
 head_ready : (text left : List ℕ) (head : Head) → 24 ≤ length text → Ok head ≡ head_of (take 24 text) → opened_from None (text ++ left) ≡ Ok (head, drop 24 text ++ left)
@@ -38,6 +39,7 @@ open_ok had before middle now a b given head none fills is kept size =
     let enough : 24 ≤ length middle.kept = fills.fills in
     rw none (record {
       gave = fills.gave;
+      bytes = fills.bytes;
       size = size ∙ fills.size;
       is = (λ left. rw (← fills.kept, kept) (head_ready middle.kept left head enough is), rw (← fills.kept) kept, rw (← fills.kept) enough);
     })
@@ -49,6 +51,7 @@ open_bad had before now a b given fault none fills is =
     let enough : 24 ≤ length now.kept = fills.fills in
     rw none (record {
       gave = fills.gave;
+      bytes = fills.bytes;
       size = fills.size;
       is = (
         refl,
@@ -75,12 +78,12 @@ all_kept before now given b kept none = rw none (append-nil now.kept ∙ kept)
 found_short : (order : ByteOrder) (before now : Buffered) (a b : Side) (given : List ℕ) → Fills 16 before now a b given filled.Ended → 0 < length now.kept → Finds order before now a b given found.Broken
 found_short order before now a b given fills some =
     let all : now.kept ++ told b.bytes ≡ now.kept = rw (nothing_told b fills.fills.1) (append-nil now.kept) in
-    record { gave = fills.gave; kept = fills.kept; size = fills.size; fits = fills.fits; is = let short = record_short order now.kept some fills.fills.0 in (rw all short, short) }
+    record { gave = fills.gave; bytes = fills.bytes; kept = fills.kept; size = fills.size; fits = fills.fits; is = let short = record_short order now.kept some fills.fills.0 in (rw all short, short) }
 
 -- no record is left
 found_done : (order : ByteOrder) (before now : Buffered) (a b : Side) (given : List ℕ) → Fills 16 before now a b given filled.Ended → length now.kept ≡ 0 → Finds order before now a b given found.Done
 found_done order before now a b given fills none =
-    record { gave = fills.gave; kept = fills.kept; size = fills.size; fits = fills.fits; is = (nil_from_length now.kept none, fills.fills.1) }
+    record { gave = fills.gave; bytes = fills.bytes; kept = fills.kept; size = fills.size; fits = fills.fits; is = (nil_from_length now.kept none, fills.fills.1) }
 
 -- the source is at its end before the 16 bytes of a record
 pub found_end : (order : ByteOrder) (before now : Buffered) (a b : Side) (given : List ℕ) → Fills 16 before now a b given filled.Ended →
@@ -98,13 +101,14 @@ found_over order before now a b given len fills len_is over =
     let enough : 16 ≤ length now.kept = fills.fills in
     let size = length-append now.kept (told b.bytes) in
     let number : four_at order (now.kept ++ told b.bytes) 8 ≡ len = four_in_front order now.kept (told b.bytes) 8 (omega arith) ∙ sym len_is in
-    record { gave = fills.gave; kept = fills.kept; size = fills.size; fits = fills.fits; is = (record_over order (now.kept ++ told b.bytes) (omega arith) (rw number over), record_over order now.kept enough (rw len_is at over)) }
+    record { gave = fills.gave; bytes = fills.bytes; kept = fills.kept; size = fills.size; fits = fills.fits; is = (record_over order (now.kept ++ told b.bytes) (omega arith) (rw number over), record_over order now.kept enough (rw len_is at over)) }
 
 -- a read failed on the way to the rest of a record
 pub found_fault : (order : ByteOrder) (before middle now : Buffered) (a s b : Side) (first second : List ℕ) (wanted : ℕ) → Fills 16 before middle a s first filled.Enough →
     Fills wanted middle now s b second filled.Fault → Finds order before now a b (first ++ second) found.Fault
 found_fault order before middle now a s b first second wanted one two = record {
   gave = gave_more first second a s b one.gave two.gave;
+  bytes = All-append IsByte first second one.bytes two.bytes;
   kept = two.kept ∙ (ap (λ xs. xs ++ second) one.kept ∙ append_assoc before.kept first second);
   size = two.size ∙ one.size;
   fits = two.fits;
@@ -122,6 +126,7 @@ found_part order before middle now a s b first second len one two len_is le =
     let number : four_at order (middle.kept ++ second) 8 ≡ len = four_in_front order middle.kept second 8 (omega arith) ∙ sym len_is in
     record {
       gave = gave_more first second a s b one.gave two.gave;
+      bytes = All-append IsByte first second one.bytes two.bytes;
       kept = two.kept ∙ (ap (λ xs. xs ++ second) one.kept ∙ append_assoc before.kept first second);
       size = two.size ∙ one.size;
       fits = two.fits;
@@ -149,6 +154,7 @@ found_whole order before middle now a s b first second seconds len one two secon
     let whole = rw (number, time, bytes, after) at (record_whole order (now.kept ++ left) (omega arith) fits all) in
     record {
       gave = gave_more first second a s b one.gave two.gave;
+      bytes = All-append IsByte first second one.bytes two.bytes;
       kept = two.kept ∙ (ap (λ xs. xs ++ second) one.kept ∙ append_assoc before.kept first second);
       size = two.size ∙ one.size;
       fits = two.fits;

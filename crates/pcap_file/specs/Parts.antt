@@ -1,5 +1,6 @@
 -- What reading a header and a record does to a buffer (own).
 use Rattle.std.specs.Prelude.{◌≡◌, ℕ, ◌+◌, ◌<◌, ◌≤◌, List, [], ◌++◌, length, take, drop, Option, None, Ok, Err}
+use Rattle.std.specs.List.{All}
 use Rattle.ao_base.specs.Buffered.{Buffered}
 use Rattle.ao_base.specs.Outside.{Side, Gave, Rose, IsAtEnd, told}
 use Rattle.wire_model.specs.declared.pcap_head.ByteOrder.{ByteOrder}
@@ -11,7 +12,7 @@ use Rattle.pcap_file.specs.declared.records.Opened.{Opened}
 use Rattle.pcap_file.specs.declared.records.Opened.TheVariants as opening
 use Rattle.pcap_file.specs.declared.records.Found.{Found}
 use Rattle.pcap_file.specs.declared.records.Found.TheVariants as found
-use Rattle.pcap_file.specs.Reading.{opened_from, header_length}
+use Rattle.pcap_file.specs.Reading.{IsByte, opened_from, header_length}
 
 -- as many as wanted, or all to the end
 abbrev pub IsFilled : ℕ → List ℕ → Side → Side → Filled → Type 0
@@ -28,6 +29,7 @@ pub record Filling (before now : Buffered) (source_before source_now : Side) (gi
 -- taking until enough bytes are kept
 pub record Fills (wanted : ℕ) (before now : Buffered) (source_before source_now : Side) (given : List ℕ) (result : Filled) : Type 0 where
   pub gave : Gave given source_before source_now
+  pub bytes : All IsByte given
   pub kept : now.kept ≡ before.kept ++ given
   pub size : now.size ≡ before.size
   pub fits : length now.kept ≤ now.size
@@ -44,6 +46,7 @@ IsOpened had text now source_before source_now opening.Fault = Rose source_befor
 -- reading the header
 pub record Opens (had : Option Head) (before now : Buffered) (source_before source_now : Side) (given : List ℕ) (result : Opened) : Type 0 where
   pub gave : Gave given source_before source_now
+  pub bytes : All IsByte given
   pub size : now.size ≡ before.size
   pub is : IsOpened had (before.kept ++ given) now source_before source_now result
 
@@ -58,6 +61,7 @@ IsFound order kept source_before source_now found.Fault = Rose source_before sou
 -- reading a record
 pub record Finds (order : ByteOrder) (before now : Buffered) (source_before source_now : Side) (given : List ℕ) (result : Found) : Type 0 where
   pub gave : Gave given source_before source_now
+  pub bytes : All IsByte given
   pub kept : now.kept ≡ before.kept ++ given
   pub size : now.size ≡ before.size
   pub fits : length now.kept ≤ now.size

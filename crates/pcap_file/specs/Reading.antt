@@ -1,5 +1,6 @@
 -- What one call of a reader of packets does (own).
 use Rattle.std.specs.Prelude.{◌≡◌, ℕ, ◌+◌, ◌-◌, ◌<◌, ◌≤◌, ◌==◌, if◌then◌else◌, Bool, true, false, List, [], ◌∷◌, ◌++◌, length, drop, Option, Some, None, Result, Ok, Err}
+use Rattle.std.specs.List.{All}
 use Rattle.ao_base.specs.Outside.{Side, Gave, Rose, IsAtEnd, told}
 use Rattle.wire_model.specs.declared.pcap_head.Head.{Head}
 use Rattle.wire_model.specs.declared.pcap_head.HeadFault.{HeadFault}
@@ -69,9 +70,14 @@ Answers before now source_before source_now given text (step.BadRecord n) =
     Stops before now given × (n ≡ before.count + 1) × Opening before now text (λ head body. record_at head.order body ≡ Broken)
     × Opening before now (before.kept ++ given) (λ head body. record_at head.order body ≡ Broken)
 
+-- a byte
+abbrev pub IsByte : ℕ → Type 0
+IsByte b = b < 256
+
 -- one call of `next`, in which the source gave these bytes
 pub record Steps (before now : Reading) (source_before source_now : Side) (given : List ℕ) (result : PacketStep) : Type 0 where
   pub gave : Gave given source_before source_now
+  pub bytes : All IsByte given
   pub taken : now.taken ≡ before.taken + length given
   pub counted : length now.kept ≤ now.taken
   pub bound : length now.kept ≤ 327696
@@ -153,10 +159,3 @@ and_packet shown p = if length p.datagram == 0 then shown else shown ++ p ∷ []
 -- these packets in front of others
 abbrev pub in_front : List Packet → Packets → Packets
 in_front shown others = record { list = shown ++ others.list; fault = others.fault }
-
--- the reader took these bytes in all and showed these packets, besides those without a datagram: they are the packets of the bytes in front of those that it keeps, whatever follows
-pub record HasShown (reading : Reading) (given : List ℕ) (shown : List Packet) : Type 0 where
-  pub front : List ℕ
-  pub split : given ≡ front ++ reading.kept
-  pub packets : (more : List ℕ) → packets_of (front ++ more) ≡ in_front shown (packets_at reading more)
-  pub taken : reading.taken ≡ length given

@@ -1,7 +1,9 @@
 //! As many bytes in a buffer as are wanted.
-ghost use Rattle.std.specs.Prelude.{ℕ, ◌≤◌, List};
+ghost use Rattle.std.specs.Prelude.{◌≡◌, ℕ, ◌≤◌, List, length};
+ghost use Rattle.std.specs.List.{All};
 ghost use Rattle.ao_base.specs.Outside.{Side};
 ghost use Rattle.pcap_file.specs.Parts.{Fills};
+ghost use Rattle.pcap_file.specs.Reading.{IsByte};
 
 use ao_base::{Buffer, Source};
 
@@ -16,13 +18,21 @@ pub(crate) enum Filled {
     Fault,
 }
 
+// How many bytes there are.
+fn count(bytes: &[u8]) -> usize
+    ensures count { result ≡ length bytes.now }
+    ensures bytes { All IsByte bytes.now }
+{
+    bytes.len()
+}
+
 /// Takes bytes until as many are kept as are wanted.
 pub(crate) fn fill<S: Source>(buffer: &mut Buffer, src: &mut S, wanted: usize) -> Filled
     requires { wanted ≤ buffer.old.size }
     ensures { (given : List ℕ) × Fills wanted buffer.old buffer.new (S.side src.old) (S.side src.new) given result }
 {
     'takes: loop {
-        if buffer.kept().len() >= wanted {
+        if count(buffer.kept()) >= wanted {
             return Filled::Enough;
         }
         match buffer.more(src) {

@@ -14,7 +14,8 @@ pub returns-in-Err-input_for : goal.returns-in-Err-input_for
 returns-in-Err-input_for g c =
     let k = c.in-Ok.ensures in
     let i = c.in-Err-input_for.ensures in
-    (k.0, i.0, rw c.in-Some.is (input_stopped c.in-Some.command k.0 i.0 _ _ _ _ c.in-Ok.tables k.1 c.in-Err-input_for.stop i.1))
+    let last = rw c.in-Some.is at c.requires.last in
+    (k.0, i.0, rw c.in-Some.is (input_stopped c.in-Some.command k.0 i.0 _ _ _ _ c.in-Ok.tables k.1 c.in-Err-input_for.stop last i.1))
 
 pub returns : goal.returns
 returns g c =

@@ -1,8 +1,8 @@
-use Rattle.std.proofs.Common.{◌≡◌, ◌+◌, List, [], ◌∷◌, ◌++◌, length, Err, subst, arith}
+use Rattle.std.proofs.Common.{◌≡◌, ◌+◌, List, [], ◌∷◌, ◌++◌, length, Err, subst, sym, ◌∙◌, arith}
 use Rattle.key_model.specs.Rows.{Table}
 use Rattle.capture_lines.specs.Checked.{JudgesLine}
 use Rattle.capture_lines.proofs.Goings.{end_ends, fault_ends, going_none, long_ends, long_line_ends, nothing_ends}
-use Rattle.capture_lines.proofs.LineEnds.{err_ends, goes, shows_of, smaller}
+use Rattle.capture_lines.proofs.LineEnds.{err_ends, goes, last_ends, shows_of, smaller}
 use Rattle.capture_lines.proofs.check.check_counted.Goals as goal
 
 pub returns-in-Err : goal.returns-in-Err
@@ -55,10 +55,11 @@ lines-preserved g c =
     let shows = shows_of c.lines.reader c.next.new.self _ _ more.0 c.line.result.now more.1 c.line.ensures in
     let counted = going.counted in
     let at : c.lines.number + 1 ≡ length c.lines.invariant.1 + 1 = omega arith in
-    let judged = rw going.tables_same at (c.in-Ok-judge_line.ensures c.lines.invariant.1 at going.faultless going.heard) in (
+    let judged = rw going.tables_same at (c.in-Ok-judge_line.ensures c.lines.invariant.1 at going.faultless going.heard) in
+    let newline = sym c.lacks_newline.ensures ∙ c.if-lacks_newline.false in (
       c.lines.invariant.0 ++ more.0,
       c.lines.invariant.1 ++ c.line.result.now ∷ [],
-      goes c.args.tables c.lines.reader c.next.new.self c.lines.judge c.lines.number c.lines.invariant.0 more.0 c.line.result.now c.lines.invariant.1 _ _ _ _ _ _ going more.1 shows c.judge_line.new.judge judged,
+      goes c.args.tables c.lines.reader c.next.new.self c.lines.judge c.lines.number c.lines.invariant.0 more.0 c.line.result.now c.lines.invariant.1 _ _ _ _ _ _ going more.1 shows c.judge_line.new.judge newline judged,
     )
 
 pub returns-in-Err-judge_line : goal.returns-in-Err-judge_line
@@ -74,4 +75,17 @@ returns-in-Err-judge_line g c =
     subst (λ (tables : List Table). JudgesLine tables c.judge_line.new.judge c.lines.invariant.1 c.line.result.now (g.O.Sink.side c.lines.out) (g.O.Sink.side c.judge_line.new.out) (Err c.in-Err-judge_line.halt)) going.tables_same told in (
       c.lines.invariant.0 ++ more.0,
       err_ends c.args.tables c.lines.reader c.next.new.self c.lines.judge c.lines.number c.lines.invariant.0 more.0 c.line.result.now c.lines.invariant.1 _ _ _ _ _ _ going more.1 shows c.judge_line.new.judge c.in-Err-judge_line.halt judged,
+    )
+
+pub returns-then-lacks_newline : goal.returns-then-lacks_newline
+returns-then-lacks_newline g c =
+    let more = c.in-Line.ensures.advances in
+    let going = c.lines.invariant.2 in
+    let shows = shows_of c.lines.reader c.next.new.self _ _ more.0 c.line.result.now more.1 c.line.ensures in
+    let counted = going.counted in
+    let at : c.lines.number + 1 ≡ length c.lines.invariant.1 + 1 = omega arith in
+    let judged = rw going.tables_same at (c.in-Ok-judge_line.ensures c.lines.invariant.1 at going.faultless going.heard) in
+    let lacks = sym c.lacks_newline.ensures ∙ c.if-lacks_newline.true in (
+      c.lines.invariant.0 ++ more.0,
+      rw c.is_amiss-then-lacks_newline.ensures (last_ends c.args.tables c.lines.reader c.next.new.self c.lines.judge c.lines.number c.lines.invariant.0 more.0 c.line.result.now c.lines.invariant.1 _ _ _ _ _ _ going more.1 shows c.judge_line.new.judge lacks judged),
     )

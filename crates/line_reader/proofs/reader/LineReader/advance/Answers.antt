@@ -15,14 +15,14 @@ returns-in-Line g c =
     let past = rw c.kept.ensures.value at c.past_line-past.ensures.place in (
       c.in-Line.ensures.0,
       rw (← c.self.view_is, c.pass.ensures)
-          (line_call c.self.inside.longest c.self.inside.most c.self.inside.handed c.past_line-past.result c.in-Line.len c.self.inside.shown c.self.inside.ended c.self.inside.over c.self.inside.buffer c.find_line.new.buffer
-          _ _ c.in-Line.ensures.0 over c.if-self.false c.self.invariant.0 c.self.invariant.1 past c.in-Line.ensures.1),
+          (line_call c.self.inside.longest c.self.inside.most c.self.inside.handed c.past_line-past.result c.in-Line.len c.self.inside.shown c.self.inside.lacks_newline c.self.inside.over c.self.inside.buffer c.find_line.new.buffer
+          _ _ c.in-Line.ensures.0 over c.self.invariant.0 c.self.invariant.1 past c.in-Line.ensures.1),
     )
 
 pub returns-in-LongLine : goal.returns-in-LongLine
 returns-in-LongLine g c = (
   c.in-LongLine.ensures.0,
   rw (← c.self.view_is, c.stop-in-LongLine.ensures.step, c.stop-in-LongLine.ensures.over)
-      (long_call c.self.inside.longest c.self.inside.most c.self.inside.handed c.self.inside.shown c.self.inside.ended c.self.inside.over c.self.inside.buffer c.find_line.new.buffer
-      _ _ c.in-LongLine.ensures.0 c.if-self.false c.self.invariant.1 c.in-LongLine.ensures.1),
+      (long_call c.self.inside.longest c.self.inside.most c.self.inside.handed c.self.inside.shown c.self.inside.lacks_newline c.self.inside.over c.self.inside.buffer c.find_line.new.buffer
+      _ _ c.in-LongLine.ensures.0 c.self.invariant.1 c.in-LongLine.ensures.1),
 )
