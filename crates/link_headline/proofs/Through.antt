@@ -1,7 +1,6 @@
 -- A run in which each session was given few bytes gets through, and so does each run of few events.
 use Rattle.std.proofs.Common.{◌≡◌, ℕ, ◌≤◌, List, ◌++◌, length, sym, ap, subst, arith, length-append}
 use Rattle.link_model.specs.declared.event.Event.{Event}
-use Rattle.link_model.specs.Runs.{run}
 use Rattle.link_model.specs.Storm.{storm_events, storm_setup}
 use Rattle.link_model.specs.Worlds.{Setup}
 use Rattle.link_laws.specs.Headline.{GivesFew, few_events}

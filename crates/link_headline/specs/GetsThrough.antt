@@ -1,6 +1,6 @@
 -- What an operator may rely on in a run whose sessions were given few bytes, besides what holds of
 -- each run.
-use Rattle.std.specs.Prelude.{◌≡◌, ℕ, List}
+use Rattle.std.specs.Prelude.{◌≡◌, List}
 use Rattle.std.specs.List.{AllByRecursion}
 use Rattle.ao_base.specs.declared.end.End.{End}
 use Rattle.link_model.specs.declared.event.Event.{Event}

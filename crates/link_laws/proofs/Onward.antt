@@ -1,5 +1,5 @@
 -- Each session goes on from step to step: what it was given and the number that it expects only grow.
-use Rattle.std.proofs.Common.{◌≡◌, ◌<◌, ℕ, Bool, false, List, [], ◌∷◌, ◌++◌, replicate, Option, Some, None, refl, sym, ap, ◌∙◌, subst}
+use Rattle.std.proofs.Common.{◌≡◌, ◌<◌, ℕ, Bool, false, List, [], ◌∷◌, ◌++◌, replicate, Option, Some, None, refl, sym, subst}
 use Rattle.std.specs.List.{AllByRecursion}
 use Rattle.ao_base.specs.declared.end.End.{End}
 use Rattle.ao_base.specs.declared.end.End.TheVariants.{A, B}
@@ -24,7 +24,7 @@ use Rattle.link_laws.proofs.Keeping.{ActOk}
 use Rattle.link_laws.proofs.Making.{send_ok, resend_act_ok}
 use Rattle.link_laws.proofs.Running.{come_ok, named_bytes, run_inv, step_keeps, ticked_grows}
 use Rattle.link_laws.proofs.Sessions.{both, grows_head, grows_new, grows_refl}
-use Rattle.link_laws.proofs.Sound.{Later, Sound, later_then}
+use Rattle.link_laws.proofs.Sound.{Sound, later_then}
 use Rattle.link_laws.proofs.Tests.{choose}
 use Rattle.link_laws.proofs.Whole.{Whole}
 

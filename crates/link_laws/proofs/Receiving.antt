@@ -1,13 +1,13 @@
 -- All that each session received is its partner's, in each state of each run.
-use Rattle.std.proofs.Common.{◌≡◌, ℕ, ◌+◌, ◌∙◌, true, List, [], ◌∷◌, length, Option, Some, None, refl, sym, subst}
+use Rattle.std.proofs.Common.{◌≡◌, ℕ, ◌∙◌, List, [], ◌∷◌, Option, Some, None, refl, sym, subst}
 use Rattle.std.specs.List.{AllByRecursion}
 use Rattle.segment_model.proofs.Fields.{some_is}
-use Rattle.endpoint_model.specs.States.{EndState, given_end}
+use Rattle.endpoint_model.specs.States.{EndState}
 use Rattle.link_model.specs.declared.event.Event.{Event}
 use Rattle.link_model.specs.Runs.{run}
 use Rattle.link_model.specs.Worlds.{other, Setup, Session, side, partner_among}
 use Rattle.link_laws.specs.Laws.{SetupFits, EventFits}
-use Rattle.link_laws.specs.Sessions.{IsGivenAt, ReceivedFrom, ReceivesFrom, ReceivesGiven}
+use Rattle.link_laws.specs.Sessions.{IsGivenAt, ReceivesFrom, ReceivesGiven}
 use Rattle.link_laws.proofs.Delivery.{run_heard}
 use Rattle.link_laws.proofs.Prefix.{the_partner}
 use Rattle.link_laws.proofs.Received.{FinMade, OfPartner, Received, AllReceived}
