@@ -51,11 +51,11 @@ abbrev pub found_with : Numbered → Segment → Ao → List ℕ → ℕ → Fin
 found_with r d ao context n =
     record { row = r.number; key = key_of r.row; rnext_key_id = ao.rnext_key_id; context = context; number = n; input = mac_input n d ao r.row.with_options }
 
--- the MAC is right
+-- refused where the MAC is wrong, else passed (RFC 5925, section 7.5)
 abbrev pub judge_mac : Ao → Finding → Judgement
 judge_mac ao p = if same_bytes ao.mac (mac_of p) then Admit p else Refuse BadMac
 
--- the number is at least 0, and the segment ends at 2^63 at most (own)
+-- refused where the number is below 0 or the segment ends past 2^63 (own)
 abbrev pub judge_number : Numbered → Segment → Ao → List ℕ → Option ℕ → Judgement
 judge_number r d ao context None = Refuse Range
 judge_number r d ao context (Some n) = if nat_lt 9223372036854775808 (n + segment_length d) then Refuse Range else judge_mac ao (found_with r d ao context n)
@@ -65,25 +65,28 @@ abbrev pub number_of : Segment → Option ℕ → Option ℕ
 number_of d None = Some d.sequence
 number_of d (Some expected) = if has SYN d then Some d.sequence else meant d.sequence expected
 
--- the context is known; without SYN a number is expected too (RFC 5925, section 5.2)
+-- refused where the context isn't known or, without SYN, no number is expected (RFC 5925, section 5.2)
 abbrev pub judge_context : Numbered → Segment → Ao → Option ℕ → Option (List ℕ) → Judgement
 judge_context r d ao expected None = Refuse NoContext
 judge_context r d ao expected (Some context) =
     if not (has SYN d) && not (is_some expected) then Refuse NoContext else judge_number r d ao context (number_of d expected)
 
--- an acceptable row has the KeyID, and the MAC has the length of its algorithm (RFC 5925, section 7.5; RFC 5926, section 3.2)
+-- refused where no row takes the KeyID, where none does now, or where the MAC hasn't the length of the
+-- row's algorithm (RFC 5925, section 7.5; RFC 5926, section 3.2)
 abbrev pub judge_row : List Row → Pair → Segment → Ao → Option ℕ → Option (List ℕ) → Option Numbered → Judgement
 judge_row rows pair d ao expected context None = if has_id rows pair ao.key_id then Refuse Expired else Refuse NoTuple
 judge_row rows pair d ao expected context (Some r) =
     if not (length ao.mac == mac_length_of r.row.algorithm) then Refuse MacLength else judge_context r d ao expected context
 
--- one TCP-AO option and no TCP MD5 option (RFC 5925, section 2.2)
+-- refused without a TCP-AO option, with more than one, or with TCP MD5 beside it (RFC 5925, section 2.2)
 abbrev pub judge_ao : List Row → Pair → ℕ → Option ℕ → Segment → Option (List ℕ) → AoFound → Judgement
 judge_ao rows pair now expected d context Absent = Refuse NoAo
 judge_ao rows pair now expected d context Two = Refuse TwoAo
 judge_ao rows pair now expected d context FoundMd5 = Refuse WithMd5
 judge_ao rows pair now expected d context (One ao) = judge_row rows pair d ao expected context (accept_row rows pair ao.key_id now)
 
--- the first refusal that holds, else a pass; from the own initial sequence number, the peer's and the number expected as far as they are known, and the time (RFC 5925, section 7.5)
+-- the first refusal that holds, else a pass; from the own initial sequence number, the peer's and the
+-- number expected as far as they are known, and the time (RFC 5925, section 7.5); `Passing.Passes` says
+-- of a pass what holds then
 unfoldable pub judge : List Row → Pair → ℕ → Option ℕ → Option ℕ → ℕ → Segment → Judgement
 judge rows pair own peer expected now d = judge_ao rows pair now expected d (context_of d peer (Some own)) (find_ao d.area)
