@@ -1,6 +1,7 @@
 pub mod Areas
 pub mod Bytes
 pub mod Faults
+pub mod Folded
 pub mod Meant
 pub mod Options
 pub mod Received

@@ -1,9 +1,10 @@
 //! The laws above option areas and datagrams.
-ghost use Rattle.std.specs.Prelude.{◌≡◌, ℕ, List, [], ◌++◌};
+ghost use Rattle.std.specs.Prelude.{◌≡◌, ◌↔◌, ℕ, ◌-◌, ◌<◌, true, List, [], ◌++◌};
 ghost use Rattle.segment_model.specs.Areas.{Area, FaultAt};
 ghost use Rattle.segment_model.specs.declared.fault.OptionFault.{OptionFault};
 ghost use Rattle.segment_model.specs.Options.{Opt, Listed, Faulty, options_of, AreListed, listed};
-ghost use Rattle.segment_model.specs.Segments.{Segment, spell, reading, Read};
+ghost use Rattle.segment_model.specs.Segments.{Segment, spell, reading, Read, words_sum, sums, complement_of};
+ghost use Rattle.segment_model.specs.Folded.{folded};
 ghost use Rattle.segment_model.specs.Spelling.{AreBytes, Fits, Spells, Good, finished};
 
 /// The options that are read are those of the grammar: a list of options exactly where the bytes
@@ -30,4 +31,12 @@ pub fn reading_is_the_spelling()
     ensures read { (bytes : List ℕ) (d : Segment) → AreBytes bytes → reading bytes ≡ Read d → (rest : List ℕ) × Fits d × (bytes ≡ spell d ++ rest) }
     ensures only { (bytes rest : List ℕ) (d : Segment) → Fits d → bytes ≡ spell d ++ rest → reading bytes ≡ Read d }
     ensures finished { (d : Segment) (rest : List ℕ) → Fits d → Good (finished d) × Fits (finished d) × (reading (spell (finished d) ++ rest) ≡ Read (finished d)) }
+{}
+
+/// A checksum is right exactly where the folded one's complement sum of all words is ffff; the
+/// checksum that makes it so is ffff less the folded sum of the words (RFC 1071, section 1).
+pub fn checksums_are_folded_sums()
+    ensures fits { (sum : ℕ) → folded sum < 0x10000 }
+    ensures right { (bytes : List ℕ) → (sums bytes ≡ true) ↔ (folded (words_sum bytes) ≡ 0xffff) }
+    ensures complement { (bytes : List ℕ) → complement_of bytes ≡ 0xffff - folded (words_sum bytes) }
 {}

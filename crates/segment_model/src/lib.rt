@@ -8,5 +8,8 @@ mod laws;
 mod meant;
 
 pub use fault::{DatagramFault, OptionFault};
-pub use laws::{options_are_the_grammar, reading_is_the_spelling, spellings_are_unique};
+pub use laws::{
+    checksums_are_folded_sums, options_are_the_grammar, reading_is_the_spelling,
+    spellings_are_unique,
+};
 pub use meant::meant_is_nearest;
