@@ -213,7 +213,7 @@ from_makes pair s r n Q m at q = record {
   holds = (record { flags = m.flags; same = m.same; opened = m.opened; next = m.next; bytes = m.bytes; fin = λ on. (m.fin on).0; small = m.small; number = at }, q);
 }
 
-fits_known : (a b : EndState) (out : Draft) → PlainFlags out.flags → out.state.isn ≡ a.isn → out.state.peer_isn ≡ Some b.isn → b.peer_isn ≡ Some out.state.isn → out.number ≡ b.expected → Fits a b out
+pub fits_known : (a b : EndState) (out : Draft) → PlainFlags out.flags → out.state.isn ≡ a.isn → out.state.peer_isn ≡ Some b.isn → b.peer_isn ≡ Some out.state.isn → out.number ≡ b.expected → Fits a b out
 fits_known a b out flags isn here there at = record {
   to = plain_to (sets out.flags SYN) _ (is_known out.state.peer_isn b.isn) (is_known b.peer_isn out.state.isn) flags.syn (known_so out.state.peer_isn b.isn here) (known_so b.peer_isn out.state.isn there);
   near = λ e. record { ahead = omega arith; behind = omega arith };
@@ -226,7 +226,7 @@ fits_known a b out flags isn here there at = record {
     plain_to false x true false e f g = g
     plain_to false x false z e f g = absurd (cc)
 
-ack_on : (b : Bool) (k : ℕ) → b ≡ true → (if b then k else 0) ≡ k
+pub ack_on : (b : Bool) (k : ℕ) → b ≡ true → (if b then k else 0) ≡ k
 ack_on true k e = refl
 ack_on false k e = absurd (cc)
 

@@ -148,7 +148,7 @@ comes setup fits w lead lag y a b m r just awake to near =
       addressed = to;
       near = near;
     } in
-    let found = finds_made setup fits w y m.name m r.facts.inv rolls in
+    let found = finds_made setup fits r.facts.tables w y m.name m r.facts.inv rolls in
     let j = found.judges in
     let p = j.found in
     let rows = (side w y).rows in
