@@ -7,6 +7,7 @@ use Rattle.link_laws.specs.Headline.{GivesFew, few_events}
 use Rattle.link_laws.specs.Laws.{SetupFits, TablesFit}
 use Rattle.link_laws.proofs.Giving.{gives_few}
 use Rattle.link_laws.proofs.Prefix.{acknowledged_was_received}
+use Rattle.link_progress.proofs.Connecting.{connects}
 use Rattle.link_progress.proofs.Progressing.{never_stuck, each_trip_gains, catches_up}
 use Rattle.link_headline.specs.GetsThrough.{GetsThrough}
 use Rattle.link_headline.specs.Lawful.{AtEachMoment}
@@ -28,6 +29,7 @@ through setup events fits tables all few =
     record {
       few = few;
       acknowledged = λ front rest is none e. acknowledged_was_received setup fits front (moment front rest is) none (few front rest is) e;
+      connects = λ front rest is. connects setup fits tables front (moment front rest is);
       never_stuck = λ front rest is. never_stuck setup fits tables front (moment front rest is) (few front rest is);
       each_trip_gains = λ front rest is. each_trip_gains setup fits tables front (moment front rest is) (few front rest is);
       catches_up = λ front rest is. catches_up setup fits tables front (moment front rest is) (few front rest is);

@@ -6,7 +6,7 @@ use Rattle.ao_base.specs.declared.end.End.{End}
 use Rattle.link_model.specs.declared.event.Event.{Event}
 use Rattle.link_model.specs.Worlds.{Setup, Session, World, side, partner, forgeries}
 use Rattle.link_laws.specs.Headline.{GivesFew, IsReceived}
-use Rattle.link_progress.specs.Progress.{NeverStuck, EachTripGains, CatchesUp}
+use Rattle.link_progress.specs.Progress.{Connects, NeverStuck, EachTripGains, CatchesUp}
 use Rattle.link_headline.specs.Lawful.{AtEachMoment}
 
 -- where no forgery is counted: each given byte that is acknowledged was received
@@ -22,6 +22,9 @@ pub record GetsThrough (setup : Setup) (events : List Event) : Type 0 where
   pub few : AtEachMoment setup events GivesFew
   -- where no forgery is counted: each given byte that is acknowledged was received
   pub acknowledged : AtEachMoment setup events AcknowledgedIsReceived
+  -- where none is counted, and a connection is opening: over a way that loses nothing, one handshake
+  -- brings it up
+  pub connects : AtEachMoment setup events (Connects setup)
   -- where none is counted, and the link is up: over a way that loses nothing, one round trip moves
   -- what waits at an end, each of both ends moves both, and enough of them leave nothing that waits
   pub never_stuck : AtEachMoment setup events (NeverStuck setup)
