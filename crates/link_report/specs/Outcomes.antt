@@ -40,6 +40,12 @@ Shows outcome.TooManyRows is = is ≡ book.TooManyRows
 Shows (outcome.Overlap row) is = is ≡ book.OverlapWith row
 Shows outcome.NoRow is = is ≡ book.NoRow
 
+-- the bytes that a told outcome carries: those that were taken, or those of a segment (own)
+abbrev pub content_of : Outcome → List ℕ
+content_of (outcome.Took bytes shown) = bytes
+content_of (outcome.Image bytes) = bytes
+content_of _ = []
+
 -- the told outcomes show these, one by one
 abbrev pub AreShown : List Outcome → List book.Outcome → Type 0
 AreShown [] [] = ⊤

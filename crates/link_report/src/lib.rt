@@ -3,6 +3,7 @@
 #![tactic(auto)]
 
 mod arrival;
+mod copying;
 mod outcome;
 mod summary;
 #[cfg(test)]

@@ -2,6 +2,7 @@ pub mod ActLaws
 pub mod AlterLaws
 pub mod ComeLaws
 pub mod EntranceLaws
+pub mod RoomLaws
 pub mod RunLaws
 pub mod SendLaws
 pub mod SetupLaws

@@ -10,6 +10,7 @@ mod copying;
 mod front;
 mod happening;
 mod looking;
+mod room;
 mod sending;
 mod setup;
 mod showing;

@@ -12,6 +12,7 @@ ghost use Rattle.link_world.specs.Events.{CanHappen};
 ghost use Rattle.link_world.specs.Links.{AreOfLink};
 
 use crate::happening::happen;
+use crate::room::room_for;
 use crate::setup::{Setup, take_table};
 use ao_base::Pair;
 use link_log::Log;
@@ -62,23 +63,27 @@ impl World {
         })
     }
 
-    /// Steps through one event; `outcome` tells its outcome then. Fewer than 2^32 - 1 were stepped
-    /// through before, a clock is set to LATEST at most, and a row that is added is one of a link file.
-    /// Out of memory the world stands for what it stood for.
-    pub fn step(&mut self, alloc: Global, event: &Event) -> Result<(), AllocError>
+    /// Steps through one event, and answers its outcome. Fewer than 2^32 - 1 were stepped through
+    /// before, a clock is set to LATEST at most, and a row that is added is one of a link file. Out of
+    /// memory the world stands for what it stood for.
+    pub fn step(&mut self, alloc: Global, event: &Event) -> Result<Outcome, AllocError>
         requires steps { steps_taken self.old < 4294967295 }
         requires event { CanHappen event.now }
         ensures stands { OnOk result ((setup : Link) (events : List Happening) → StandsFor self.old setup events
             → StandsFor self.new setup (events ++ event.now ∷ [])) }
+        ensures shows { IfOk result (λ told. (setup : Link) (events : List Happening) → StandsFor self.old setup events
+            → Shows told (step setup (run setup events) event.now).outcome) }
         ensures steps { OnOk result (steps_taken self.new ≡ steps_taken self.old + 1) }
         ensures same { OnErr result ((setup : Link) (events : List Happening) → StandsFor self.old setup events → StandsFor self.new setup events) }
         ensures unstepped { OnErr result (steps_taken self.new ≡ steps_taken self.old) }
     {
         self.outcomes.reserve(1)?;
+        let room = room_for(&self.log, alloc, event)?;
         let outcome = happen(&mut self.a, &mut self.b, &mut self.log, alloc, event)?;
+        let told = outcome.copied(room);
         let pushed: Result<_, _> = self.outcomes.push(outcome);
         pushed.unwrap();
-        Ok(())
+        Ok(told)
     }
 
     /// The outcome of the last event. There was one.

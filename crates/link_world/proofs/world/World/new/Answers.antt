@@ -1,11 +1,10 @@
-use Rattle.std.proofs.Common.{◌≡◌, ℕ, List, [], length, sym, ap, ◌∙◌, subst, arith}
+use Rattle.std.proofs.Common.{◌≡◌, List, [], length, sym, ap, ◌∙◌, subst, arith}
 use Rattle.key_model.specs.Plans.{rows_at}
 use Rattle.key_model.specs.Rows.{Row}
 use Rattle.link_model.specs.Runs.{empty}
 use Rattle.link_report.specs.declared.outcome.Outcome.{Outcome}
 use Rattle.link_report.specs.Outcomes.{AreShown}
 use Rattle.link_side.specs.Sides.{StandsSide}
-use Rattle.link_world.specs.Links.{StandsLink}
 use Rattle.link_world.specs.Standing.{setup_of}
 use Rattle.link_world.proofs.SetupLaws.{apart}
 use Rattle.link_world.proofs.WorldLaws.{begun}

@@ -1,12 +1,14 @@
 use Rattle.std.proofs.Common.{◌≡◌, ◌+◌, ◌<◌, ℕ, List, [], ◌∷◌, ◌++◌, length, vec_len, vec_capacity, ap, ◌∙◌, arith, length-append}
-use mathlib.Core.Logic.{∥∥₁_map}
+use Rattle.std.specs.Coded.{le_prop}
+use mathlib.Core.Logic.{∥∥₁_elim, ∥∥₁_map}
 use Rattle.link_log.proofs.LogLaws.{only_ok}
 use Rattle.link_report.specs.declared.outcome.Outcome.{Outcome}
+use Rattle.link_world.proofs.RoomLaws.{told_fits}
 use Rattle.link_world.proofs.WorldLaws.{moved_of, on_err, rested, rested_of, stepped}
 use Rattle.link_world.proofs.world.World.step.Goals as goal
 
-pub invariant_of-self-in-Break-branch-2 : goal.invariant_of-self-in-Break-branch-2
-invariant_of-self-in-Break-branch-2 c =
+pub invariant_of-self-in-Break-branch-3 : goal.invariant_of-self-in-Break-branch-3
+invariant_of-self-in-Break-branch-3 c =
     let w = c.args.self.now in
     let same = ap length c.reserve.ensures.items in
     let made = c.in_err-outcome.ensures.made in
@@ -20,6 +22,15 @@ invariant_of-self-in-Break-branch-2 c =
       made = omega (arith, made, old_made, same);
       forged = omega (arith, forged, old_forged, same);
     }
+
+pub invariant_of-self-in-Break-branch-2 : goal.invariant_of-self-in-Break-branch-2
+invariant_of-self-in-Break-branch-2 c =
+    let w = c.args.self.now in
+    let same = ap length c.reserve.ensures.items in
+    let few = w.few in
+    let made = w.made in
+    let forged = w.forged in
+    record { link = w.link; few = omega (arith, few, same); made = omega (arith, made, same); forged = omega (arith, forged, same) }
 
 pub returns-in_err-outcome-clause-same : goal.returns-in_err-outcome-clause-same
 returns-in_err-outcome-clause-same c =
@@ -56,3 +67,11 @@ returns-clause-stands c = λ setup events h.
     only_ok c.push-pushed.result _ _ _ (c.push-pushed.ensures.succeeds room) c.push-pushed.ensures.items
     ∙ ap (λ (xs : List Outcome). xs ++ o ∷ []) c.reserve.ensures.items in
     stepped w _ setup events c.args.event.now o h c.in_ok-outcome.ensures items
+
+pub copied-told-requires : goal.copied-told-requires
+copied-told-requires c =
+    record {
+      room = ∥∥₁_elim c.args.self.now.link le_prop (λ l.
+      told_fits l.setup l.world c.args.event.now c.in_ok-outcome.outcome _ (c.in_ok-outcome.ensures.shows l.setup l.world l.stands)
+      (c.in_ok-room.ensures l.world.history l.stands.log_is));
+    }
