@@ -2,6 +2,8 @@ use Rattle.std.proofs.Common.{◌≡◌, ◌+◌, ◌<◌, ℕ, List, [], ◌∷
 use Rattle.std.specs.Coded.{le_prop}
 use mathlib.Core.Logic.{∥∥₁_elim, ∥∥₁_map}
 use Rattle.link_log.proofs.LogLaws.{only_ok}
+use Rattle.link_headline.proofs.LawfulRuns.{lawful}
+use Rattle.link_headline.proofs.Through.{few_through}
 use Rattle.link_report.specs.declared.outcome.Outcome.{Outcome}
 use Rattle.link_world.proofs.RoomLaws.{told_fits}
 use Rattle.link_world.proofs.WorldLaws.{moved_of, on_err, rested, rested_of, stepped}
@@ -75,3 +77,9 @@ copied-told-requires c =
       told_fits l.setup l.world c.args.event.now c.in_ok-outcome.outcome _ (c.in_ok-outcome.ensures.shows l.setup l.world l.stands)
       (c.in_ok-room.ensures l.world.history l.stands.log_is));
     }
+
+pub returns-clause-lawful : goal.returns-clause-lawful
+returns-clause-lawful c = λ setup events h fits all. lawful setup fits (events ++ c.args.event.now ∷ []) all
+
+pub returns-clause-gets_through : goal.returns-clause-gets_through
+returns-clause-gets_through c = λ setup events h fits tables all few. few_through setup (events ++ c.args.event.now ∷ []) fits tables all few
