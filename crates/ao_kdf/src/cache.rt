@@ -32,11 +32,11 @@ impl Model for KeyCache {
     ghost invariant = { λ c. (length c.inbound.items ≡ c.rows) × (length c.outbound.items ≡ c.rows) };
 }
 
-/// Room for so many keys, of which none is kept.
+/// Room for exactly so many keys, of which none is kept: a key that is ready has 300 bytes.
 fn no_keys(alloc: Global, rows: u8) -> Result<Vec<Option<TrafficKey>>, AllocError>
     ensures { IfOk result (λ v. v.items ≡ replicate rows None) }
 {
-    let mut keys = Vec::new(alloc);
+    let mut keys = Vec::with_capacity(alloc, usize::from(rows))?;
     for _row in 0..rows {
         keys.push(None)?;
     }

@@ -47,19 +47,22 @@ pub(crate) fn is_low(one: Socket, two: Socket) -> bool
     }
 }
 
-/// The two sockets in their order.
-pub(crate) fn ends_of(one: Socket, two: Socket) -> Ends
-    ensures { result ≡ key_of one two }
+/// Whether the first socket stands first in the order, and the two sockets in their order.
+pub(crate) fn ends_of(one: Socket, two: Socket) -> (bool, Ends)
+    ensures low { result.0 ≡ is_low one two }
+    ensures ends { result.1 ≡ key_of one two }
 {
     if is_low(one, two) {
-        Ends {
+        let ends = Ends {
             low: place_of(one),
             high: place_of(two),
-        }
+        };
+        (true, ends)
     } else {
-        Ends {
+        let ends = Ends {
             low: place_of(two),
             high: place_of(one),
-        }
+        };
+        (false, ends)
     }
 }

@@ -8,7 +8,7 @@ ghost use Rattle.ao_check.specs.Verdicts.{is_judged};
 ghost use Rattle.capture_check.specs.Checking.{found, IsSound};
 ghost use Rattle.capture_check.specs.Hearing.{Alone, AloneCounts, HearsLater, fixing, DoesFix, key_at};
 
-use crate::ends::{Ends, ends_of, is_low};
+use crate::ends::{Ends, ends_of};
 use crate::flows::Flows;
 use crate::segment::{acknowledged_isn, pair_at};
 use ao_base::Steps;
@@ -61,8 +61,8 @@ pub(crate) fn hear_later<L: Ledger>(
 {
     let source = datagram.source();
     let destination = datagram.destination();
-    let low = is_low(source, destination);
-    match connections.get_mut(&ends_of(source, destination)) {
+    let (low, ends) = ends_of(source, destination);
+    match connections.get_mut(&ends) {
         Some(flows) => Ok(flows.hear(low, table, time, datagram, steps)),
         None => judge_alone(alloc, table, 0, time, datagram, steps),
     }
@@ -83,8 +83,7 @@ pub(crate) fn fix(
 {
     let source = datagram.source();
     let destination = datagram.destination();
-    let ends = ends_of(source, destination);
-    let low = is_low(source, destination);
+    let (low, ends) = ends_of(source, destination);
     let isn = datagram.sequence();
     let other = acknowledged_isn(datagram);
     match connections.get(&ends) {
