@@ -45,7 +45,7 @@ length-hmac hash n key m long = long (xored_key hash key opad ++ hash (xored_key
 
 -- ---- AES and CMAC
 
-length-xor : (xs ys : List ℕ) → length (xor xs ys) ≡ min (length xs) (length ys)
+pub length-xor : (xs ys : List ℕ) → length (xor xs ys) ≡ min (length xs) (length ys)
 length-xor [] ys = omega arith
 length-xor (x ∷ xs) [] = omega arith
 length-xor (x ∷ xs) (y ∷ ys) = let more = length-xor xs ys in omega arith
