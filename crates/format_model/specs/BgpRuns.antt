@@ -68,7 +68,7 @@ bgp_lines_from setup n w (e ∷ es) = let after = (step setup w e).world in even
 unfoldable pub bgp_text : Setup → List Event → List ℕ
 bgp_text setup events = bgp_lines_from setup 1 (empty setup) events ++ summary (run setup events)
 
--- a stream has a faulty header
+-- 1 for a stream that ends in a faulty header, else 0
 abbrev pub is_faulty : Option BgpFault → ℕ
 is_faulty None = 0
 is_faulty (Some f) = 1

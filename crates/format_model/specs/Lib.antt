@@ -2,6 +2,7 @@ pub mod Answers
 pub mod BgpRuns
 pub mod Captures
 pub mod Commands
+pub mod Connections
 pub mod DatagramTexts
 pub mod KeyTexts
 pub mod LinkEvents
