@@ -95,8 +95,11 @@ def show(lines):
         row(crate, crates[crate])
     total = {kind: sum(it.get(kind, 0) for it in crates.values()) for kind in KINDS}
     row("sum", total)
-    if "all" in whole:
-        print(f"{'rest':<18}{whole['all'] - sum(total.values()):>36.1f}")
+    rest = whole.get("all", 0) - sum(total.values())
+    if rest < 0:
+        print("what was waited for is less than what was seen: rt was stopped, so there is no line `all`")
+    else:
+        print(f"{'rest':<18}{rest:>36.1f}")
         print(f"{'all':<18}{whole['all']:>36.1f}   {whole['all'] / 60:.1f} minutes of a processor, by the clock {whole.get('clock', 0) / 60:.1f}")
 
 
