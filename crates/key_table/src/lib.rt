@@ -32,6 +32,3 @@ pub use row::Row;
 pub use table::Table;
 pub use tables::Tables;
 pub use time::read_time;
-
-#[cfg(test)]
-mod tests;

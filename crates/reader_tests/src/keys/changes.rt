@@ -1,7 +1,7 @@
 //! Rows that are added and withdrawn.
-use crate::tests::{PAIR, both_tables};
-use crate::{Accept, AddRefusal, Direction, Lifetime, NewRow, NoRow, Table};
+use crate::keys::{PAIR, both_tables};
 use ao_base::{Address, Algorithm, Bytes};
+use key_table::{Accept, AddRefusal, Direction, Lifetime, NewRow, NoRow, Table};
 use std::alloc::Global;
 use std::test::Fail;
 

@@ -1,6 +1,6 @@
 //! Rows with a faulty column, and the last values that are accepted.
-use crate::tests::fault_of;
-use crate::{Column, TableFault};
+use crate::keys::fault_of;
+use key_table::{Column, TableFault};
 use std::test::Fail;
 
 /// What a row of the first node may not hold, each with its column.

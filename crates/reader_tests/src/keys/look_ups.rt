@@ -1,23 +1,13 @@
 //! Tables that were read, times, and gaps.
-use crate::tests::{PAIR, both_tables, tables_with_row};
-use crate::{Accept, Direction, Lifetime, Table, Tables, first_gap, read_time};
+use crate::keys::{PAIR, both_tables, tables_with_row};
 use ao_base::{Address, Algorithm};
+use key_table::{Accept, Direction, Lifetime, Table, Tables, first_gap, read_time};
 use std::test::Fail;
-
-#[test]
-fn two_nodes_are_read(rt: HostRuntime) -> Result<(), Fail> {
-    let tables = both_tables(rt.alloc())?;
-    assert_eq!(rt; tables.nodes(), 2);
-    let table = tables.table(&Address::V4([10, 0, 0, 2])).ok_or("no node")?;
-    assert_eq!(rt; table.name(), b"r2".as_slice());
-    assert_eq!(rt; table.rows(), 1);
-    assert_eq!(rt; tables.table(&Address::V4([10, 0, 0, 3])).is_none(), true);
-    Ok(())
-}
 
 #[test]
 fn all_columns_of_a_row_are_read(rt: HostRuntime) -> Result<(), Fail> {
     let tables = both_tables(rt.alloc())?;
+    assert_eq!(rt; tables.table(&Address::V4([10, 0, 0, 3])).is_none(), true);
     let table = tables.table(&PAIR.local.address).ok_or("no node")?;
     assert_eq!(rt; table.rows(), 1);
     let row = table.row(1);

@@ -1,6 +1,6 @@
 //! Files and nodes with a fault, and rows that overlap.
-use crate::tests::{fault_of, fault_of_longer, fault_with_row};
-use crate::{Column, TableFault, read_tables};
+use crate::keys::{fault_of, fault_of_longer, fault_with_row};
+use key_table::{Column, TableFault, read_tables};
 use std::alloc::{AllocError, Global};
 use std::test::Fail;
 
