@@ -1,5 +1,5 @@
 -- What holds of an end before and in SYN-RECEIVED: nothing but the SYN was sent, and nothing was heard but the peer's.
-use Rattle.std.proofs.Common.{◌≡◌, ℕ, ◌+◌, ◌%◌, ◌<◌, ◌≤◌, ◌==◌, min, Bool, true, false, not, ◌&&◌, ◌||◌, nat_lt, List, [], ◌∷◌, length, replicate, Option, Some, None, ◌⊎◌, inl, inr, ◌-◌, if◌then◌else◌, refl, sym, ap, ◌∙◌, subst, arith}
+use Rattle.std.proofs.Common.{◌≡◌, ℕ, ◌+◌, ◌%◌, ◌≤◌, ◌==◌, min, Bool, true, false, not, ◌&&◌, nat_lt, List, [], ◌∷◌, length, replicate, Option, Some, None, ◌⊎◌, inl, inr, ◌-◌, if◌then◌else◌, refl, ap, subst, arith}
 use Rattle.std.specs.Prelude.{⊤, is_some}
 use Rattle.std.specs.List.{AllByRecursion}
 use Rattle.ao_base.specs.declared.address.Pair.{Pair}
@@ -7,9 +7,9 @@ use Rattle.ao_base.specs.declared.end.End.{End}
 use Rattle.ao_base.specs.declared.end.End.TheVariants.{A, B}
 use Rattle.segment_model.specs.Bytes.{ring}
 use Rattle.segment_model.specs.Meant.{meant}
-use Rattle.segment_model.specs.Received.{keep, first_missing, runs, below_limit}
-use Rattle.segment_model.specs.Segments.{Segment, Reading, Read, Bad as Unread, reading, good, has, segment_length, FIN, SYN, RST, ACK}
-use Rattle.segment_model.proofs.Fields.{and_tells, eqb_is}
+use Rattle.segment_model.specs.Received.{keep, first_missing, below_limit}
+use Rattle.segment_model.specs.Segments.{Segment, Reading, Read, Bad as Unread, reading, good, has, segment_length, SYN, RST, ACK}
+use Rattle.segment_model.proofs.Fields.{and_tells}
 use Rattle.key_model.specs.Rows.{Row}
 use Rattle.key_model.specs.Coordination.{Sending, follow, choose as choose_row}
 use Rattle.key_model.specs.Tables.{Adding, AddedAs, TooMany, OverlapsRow, adding, withdrawn}
@@ -17,9 +17,9 @@ use Rattle.mac_model.specs.Contexts.{context_of}
 use Rattle.endpoint_model.specs.declared.phase.Phase.{Phase}
 use Rattle.endpoint_model.specs.declared.phase.Phase.TheVariants.{Listen, SynSent, SynReceived, Established, FinWait1, FinWait2, CloseWait, Closing, LastAck, TimeWait, Closed}
 use Rattle.endpoint_model.specs.declared.arrival.Arrival.TheVariants.{Foreign, Checksum, Closed as AtClosed, BadAck}
-use Rattle.endpoint_model.specs.States.{EndState, first, window, hears, is_closed, given_end, room, gives, give, close_in, abort, is_due, tick_in, connected, listening, started}
+use Rattle.endpoint_model.specs.States.{EndState, first, window, is_closed, given_end, room, gives, give, close_in, abort, is_due, tick_in, connected, listening, started}
 use Rattle.endpoint_model.specs.Verdicts.{Judgement, Refuse, Admit}
-use Rattle.endpoint_model.specs.Arrivals.{Moved, Arrived, answered, owing, above, fits_window, rested, finish, past_fin, pass_fin, fin_of, records_fin, heard_runs, hear_data, after_own_fin, acked_fin, windowed, acked, go_on, acknowledged, ordinary, syn_alone, syn_ack_alone, after_check, unmoved, arrive_judged, judged_by, from_peer, arrive_read, arrive}
+use Rattle.endpoint_model.specs.Arrivals.{Moved, Arrived, answered, owing, above, fits_window, rested, past_fin, pass_fin, fin_of, records_fin, heard_runs, hear_data, after_own_fin, acked_fin, windowed, acked, go_on, acknowledged, ordinary, syn_alone, syn_ack_alone, after_check, unmoved, arrive_judged, judged_by, from_peer, arrive_read, arrive}
 use Rattle.endpoint_model.specs.Emissions.{Draft, Emitted, Quiet, NoKey, is_sending, is_silent, is_syn_sent, is_syn_received, fin_sent, unsent, rst_draft, syn_draft, syn_ack_draft, data_draft, again_draft, fin_draft, fin_again_draft, ack_draft, sends_data, sends_fin, fitting, to_emit, resends, unacknowledged, is_blocked, probe, to_resend, most_bytes, blank, seal_known, keyed, emitted, emit, resend}
 use Rattle.link_model.specs.Alterations.{has_place, altered}
 use Rattle.link_model.specs.declared.event.Event.{Event}

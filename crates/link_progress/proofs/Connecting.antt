@@ -1,40 +1,39 @@
 -- A handshake over a way that loses nothing brings a connection up, whatever was lost of it before.
-use Rattle.std.proofs.Common.{◌≡◌, ℕ, ◌+◌, ◌-◌, ◌%◌, ◌^◌, ◌<◌, ◌≤◌, ◌==◌, Bool, true, false, not, ◌&&◌, ◌||◌, nat_lt, List, [], ◌∷◌, length, Option, Some, None, ◌⊎◌, inl, inr, ⊎_elim, if◌then◌else◌, refl, sym, ap, ◌∙◌, subst, arith}
+use Rattle.std.proofs.Common.{◌≡◌, ℕ, ◌+◌, ◌%◌, ◌<◌, ◌==◌, Bool, true, false, not, ◌&&◌, ◌||◌, nat_lt, List, [], ◌∷◌, Option, Some, None, if◌then◌else◌, refl, sym, ap, ◌∙◌, subst, arith}
 use Rattle.std.specs.List.{AllByRecursion}
 use Rattle.ao_base.specs.declared.address.Pair.{Pair}
 use Rattle.ao_base.specs.declared.end.End.{End}
 use Rattle.ao_base.specs.declared.end.End.TheVariants.{A, B}
 use Rattle.segment_model.specs.Bytes.{ring}
 use Rattle.segment_model.specs.Meant.{meant}
-use Rattle.segment_model.specs.Segments.{Segment, has, segment_length, SYN, FIN, RST, PSH, ACK}
-use Rattle.segment_model.proofs.Fields.{lt_is, lt_not, and_tells}
+use Rattle.segment_model.specs.Segments.{has, segment_length, SYN, FIN, RST, ACK}
+use Rattle.segment_model.proofs.Fields.{lt_is, lt_not}
 use Rattle.key_model.specs.Rows.{Row}
 use Rattle.key_model.specs.Coordination.{choose as choose_row}
 use Rattle.key_model.specs.Plans.{has_sendable}
 use Rattle.endpoint_model.specs.declared.phase.Phase.{Phase}
 use Rattle.endpoint_model.specs.declared.phase.Phase.TheVariants.{Listen, SynSent, SynReceived, Established}
-use Rattle.endpoint_model.specs.States.{EndState, first, window, take_out, given_end, is_closed}
-use Rattle.endpoint_model.specs.Arrivals.{fits_window, after_check}
-use Rattle.endpoint_model.specs.Emissions.{Draft, Emitted, Quiet, is_silent, is_sending, is_syn_sent, is_syn_received, sets, unsent, window_end, syn_draft, syn_ack_draft, data_draft, ack_draft, sends_data, sends_fin, fitting, to_emit, most_bytes, emitted, emit, resend}
+use Rattle.endpoint_model.specs.States.{EndState, first, window, take_out, is_closed}
+use Rattle.endpoint_model.specs.Arrivals.{fits_window}
+use Rattle.endpoint_model.specs.Emissions.{Draft, is_silent, is_sending, is_syn_sent, is_syn_received, sets, unsent, window_end, syn_draft, syn_ack_draft, data_draft, ack_draft, sends_data, fitting, to_emit, most_bytes, emitted, emit}
 use Rattle.link_model.specs.declared.event.Event.{Event}
-use Rattle.link_model.specs.Worlds.{other, Setup, pair_of, Session, World, side, live, is_known}
+use Rattle.link_model.specs.Worlds.{other, Setup, pair_of, Session, World, side, live}
 use Rattle.link_model.specs.Runs.{run_from, run}
 use Rattle.link_laws.specs.Headline.{ArePartners}
-use Rattle.link_laws.specs.Laws.{SetupFits, TablesFit, EventFits, IsNear}
+use Rattle.link_laws.specs.Laws.{SetupFits, TablesFit, EventFits}
 use Rattle.link_laws.proofs.Accepted.{meant_near}
-use Rattle.link_laws.proofs.Invariant.{live_sound, live_whole}
+use Rattle.link_laws.proofs.Invariant.{live_whole}
 use Rattle.link_laws.proofs.Moves.{following}
 use Rattle.link_laws.proofs.Sessions.{known_so}
-use Rattle.link_laws.proofs.Stream.{or_lt}
 use Rattle.link_laws.proofs.Tests.{by_bool}
 use Rattle.link_laws.proofs.Whole.{Whole}
-use Rattle.link_progress.specs.Progress.{Turn, Sends, Resends, turn_events, exchange, is_open, is_up, all_end, IsUp, IsSame, awaits, IsOpening, handshake, Connected, Connects}
+use Rattle.link_progress.specs.Progress.{Sends, Resends, turn_events, is_open, is_up, IsSame, awaits, IsOpening, handshake, Connected, Connects}
 use Rattle.link_progress.proofs.Calm.{Calm, is_before}
 use Rattle.link_progress.proofs.Facts.{Fit, live_all, unowed, back_again}
-use Rattle.link_progress.proofs.Greeting.{is_asking, sends_nothing, resends_nothing, sends_syn, resends_syn, sends_syn_ack, resends_syn_ack, Greeted, greeted, Met, met, joined, joins, as_established, joins_effect, joins_steady}
+use Rattle.link_progress.proofs.Greeting.{is_asking, sends_nothing, resends_nothing, sends_syn, resends_syn, sends_syn_ack, resends_syn_ack, Greeted, greeted, Met, met, joins, as_established, joins_effect, joins_steady}
 use Rattle.link_progress.proofs.Halving.{fits_known, ack_on}
-use Rattle.link_progress.proofs.Hearing.{Frame, frame, IsPlain, Effect}
-use Rattle.link_progress.proofs.Joining.{Ready, sides, sides_live, ready_flip, ready_back, SealsAs, Fits, Turned, Rested, turned, turned_quiet}
+use Rattle.link_progress.proofs.Hearing.{Frame, IsPlain, Effect}
+use Rattle.link_progress.proofs.Joining.{Ready, sides, sides_live, ready_flip, ready_back, SealsAs, Fits, Turned, turned, turned_quiet}
 use Rattle.link_progress.proofs.Kept.{run_facts}
 use Rattle.link_progress.proofs.Making.{IsOpen, PlainFlags, plain_data, plain_ack, emitted_seals, has_row, emit_data, emit_ack}
 use Rattle.link_progress.proofs.Progressing.{after, after_turn, after_none}

@@ -1,29 +1,28 @@
 -- What is made and heard before both SYNs are acknowledged.
-use Rattle.std.proofs.Common.{◌≡◌, ℕ, ◌+◌, ◌-◌, ◌%◌, ◌<◌, ◌≤◌, ◌==◌, Bool, true, false, not, ◌&&◌, ◌||◌, nat_lt, List, length, Option, Some, None, ◌⊎◌, inl, inr, ⊎_elim, if◌then◌else◌, refl, sym, ap, ◌∙◌, subst, arith}
+use Rattle.std.proofs.Common.{◌≡◌, ℕ, ◌+◌, ◌%◌, ◌<◌, ◌≤◌, ◌==◌, Bool, true, false, not, ◌&&◌, ◌||◌, nat_lt, List, length, Option, Some, None, if◌then◌else◌, refl, sym, ap, ◌∙◌, subst, arith}
 use Rattle.std.proofs.lemmas.Bool.Decides.{nat_tests}
 use Rattle.ao_base.specs.declared.address.Pair.{Pair}
 use Rattle.segment_model.specs.Bytes.{ring}
 use Rattle.segment_model.specs.Meant.{meant}
 use Rattle.segment_model.specs.Received.{keep, first_missing, below_limit}
 use Rattle.segment_model.specs.Segments.{Segment, has, segment_length, FIN, SYN, RST, ACK}
-use Rattle.segment_model.proofs.Fields.{and_tells}
 use Rattle.mac_model.specs.Contexts.{context, context_known, context_of}
 use Rattle.key_model.specs.Rows.{Row}
 use Rattle.key_model.specs.Coordination.{Sending, choose as choose_row}
 use Rattle.key_model.specs.Plans.{has_sendable}
 use Rattle.endpoint_model.specs.declared.phase.Phase.{Phase}
-use Rattle.endpoint_model.specs.declared.phase.Phase.TheVariants.{Listen, SynSent, SynReceived, Established, FinWait1, FinWait2, CloseWait, Closing, LastAck, TimeWait, Closed}
-use Rattle.endpoint_model.specs.declared.arrival.Arrival.TheVariants.{Taken, Unexpected, Window, Challenge, NoAck, BadAck, TooManyRuns}
+use Rattle.endpoint_model.specs.declared.phase.Phase.TheVariants.{Listen, SynSent, SynReceived, Established, TimeWait}
+use Rattle.endpoint_model.specs.declared.arrival.Arrival.TheVariants.{Taken, Unexpected, Window, Challenge, NoAck, BadAck}
 use Rattle.endpoint_model.specs.States.{EndState, window, hears}
-use Rattle.endpoint_model.specs.Arrivals.{Moved, answered, owing, above, fits_window, reset, rested, finish, pass_fin, fin_of, records_fin, heard_runs, hear_data, after_own_fin, acked_fin, windowed, acked, go_on, acknowledged, ordinary, opened, syn_alone, syn_ack_alone, after_check}
-use Rattle.endpoint_model.specs.Emissions.{Draft, Emitted, Quiet, Emits, is_sending, is_silent, is_syn_sent, is_syn_received, unsent, rst_draft, syn_draft, syn_ack_draft, data_draft, fin_draft, ack_draft, window_end, sends_data, sends_fin, fitting, to_emit, resends, unacknowledged, is_blocked, probe, to_resend, sets, most_bytes, blank, sealed, seal_known, keyed, emitted, emit, resend}
+use Rattle.endpoint_model.specs.Arrivals.{Moved, answered, owing, above, fits_window, reset, rested, pass_fin, fin_of, records_fin, heard_runs, hear_data, after_own_fin, acked_fin, windowed, acked, go_on, acknowledged, ordinary, opened, syn_alone, syn_ack_alone, after_check}
+use Rattle.endpoint_model.specs.Emissions.{Draft, Quiet, is_sending, is_silent, is_syn_sent, is_syn_received, unsent, rst_draft, syn_draft, syn_ack_draft, data_draft, fin_draft, ack_draft, window_end, sends_data, sends_fin, fitting, to_emit, resends, unacknowledged, is_blocked, probe, to_resend, sets, most_bytes, blank, seal_known, keyed, emitted, emit, resend}
 use Rattle.link_laws.proofs.Moves.{following}
 use Rattle.link_laws.proofs.Sessions.{known_is}
-use Rattle.link_laws.proofs.Tests.{choose, by_bool}
-use Rattle.link_progress.specs.Progress.{is_open, IsSame, awaits}
+use Rattle.link_laws.proofs.Tests.{choose}
+use Rattle.link_progress.specs.Progress.{IsSame, awaits}
 use Rattle.link_progress.proofs.Making.{both_false, second_false, not_both, if_on, if_off, has_row, emitted_quiet, plain_context}
 use Rattle.link_progress.proofs.Finishing.{not_on3, not_on4}
-use Rattle.link_progress.proofs.Hearing.{Core, core, IsPlain, Effect, acked_core, acked_una, windowed_core, go_on_effect}
+use Rattle.link_progress.proofs.Hearing.{IsPlain, Effect, acked_core, acked_una, go_on_effect}
 use Rattle.link_progress.proofs.Joining.{SealsAs}
 
 -- ---- which draft

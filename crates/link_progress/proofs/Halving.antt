@@ -1,26 +1,23 @@
 -- A link of which one end is past the handshake, and the other, in SYN-RECEIVED, waits for the last ACK.
-use Rattle.std.proofs.Common.{◌≡◌, ℕ, ◌+◌, ◌-◌, ◌%◌, ◌^◌, ◌<◌, ◌≤◌, max, Bool, true, false, not, ◌&&◌, ◌||◌, List, [], ◌∷◌, length, Option, Some, None, ◌⊎◌, inl, inr, ⊎_elim, if◌then◌else◌, refl, sym, ap, ◌∙◌, subst, arith}
+use Rattle.std.proofs.Common.{◌≡◌, ℕ, ◌+◌, ◌-◌, ◌%◌, ◌^◌, ◌<◌, ◌≤◌, Bool, true, false, not, ◌&&◌, List, length, Option, Some, ◌⊎◌, inl, inr, ⊎_elim, if◌then◌else◌, refl, sym, ap, ◌∙◌, subst, arith}
 use Rattle.std.specs.List.{AllByRecursion}
 use Rattle.ao_base.specs.declared.address.Pair.{Pair}
 use Rattle.ao_base.specs.declared.end.End.{End}
 use Rattle.ao_base.specs.declared.end.End.TheVariants.{A, B}
 use Rattle.segment_model.specs.Bytes.{ring}
 use Rattle.segment_model.specs.Meant.{meant}
-use Rattle.segment_model.specs.Received.{below_limit}
 use Rattle.segment_model.specs.Segments.{Segment, has, bit_of, segment_length, SYN, FIN, RST, ACK}
-use Rattle.segment_model.proofs.Fields.{some_is}
 use Rattle.key_model.specs.Rows.{Row}
 use Rattle.key_model.specs.Plans.{has_sendable}
-use Rattle.endpoint_model.specs.declared.phase.Phase.{Phase}
-use Rattle.endpoint_model.specs.declared.phase.Phase.TheVariants.{Listen, SynSent, SynReceived, Established, FinWait1, FinWait2, CloseWait, Closing, LastAck, TimeWait, Closed}
+use Rattle.endpoint_model.specs.declared.phase.Phase.TheVariants.{SynReceived, Established, LastAck, Closed}
 use Rattle.endpoint_model.specs.declared.arrival.Arrival.TheVariants.{Window, Challenge}
-use Rattle.endpoint_model.specs.States.{EndState, first, window, take_out, given_end, is_closed, hears, passed_fin}
+use Rattle.endpoint_model.specs.States.{EndState, first, window, take_out, given_end, is_closed, hears}
 use Rattle.endpoint_model.specs.Arrivals.{Moved, answered, owing, fits_window, reset, ordinary, after_check}
 use Rattle.endpoint_model.specs.Emissions.{Draft, Emitted, Quiet, is_silent, is_sending, is_syn_received, sets, sends_data, sends_fin, syn_ack_draft, ack_draft, emit, resend}
-use Rattle.link_model.specs.Worlds.{other, Setup, pair_of, Session, World, side, live, is_known}
+use Rattle.link_model.specs.Worlds.{other, Setup, pair_of, Session, World, side, is_known}
 use Rattle.link_model.specs.Runs.{run_from}
 use Rattle.link_laws.specs.Headline.{GivesFew, ArePartners}
-use Rattle.link_laws.specs.Laws.{SetupFits, IsNear}
+use Rattle.link_laws.specs.Laws.{SetupFits}
 use Rattle.link_laws.proofs.Accepted.{meant_near}
 use Rattle.link_laws.proofs.Carrying.{GivenAt}
 use Rattle.link_laws.proofs.Invariant.{live_sound, live_whole}
@@ -33,17 +30,16 @@ use Rattle.link_laws.proofs.Sound.{Sound}
 use Rattle.link_laws.proofs.Stream.{or_lt}
 use Rattle.link_laws.proofs.Tests.{choose, by_bool}
 use Rattle.link_laws.proofs.Whole.{Whole}
-use Rattle.link_progress.specs.Progress.{Turn, Sends, Resends, turn_events, is_open, all_end, IsWaiting, IsSame}
+use Rattle.link_progress.specs.Progress.{Sends, Resends, turn_events, is_open, all_end, IsWaiting, IsSame}
 use Rattle.link_progress.proofs.Acting.{StaysUp}
 use Rattle.link_progress.proofs.Calm.{Calm, is_before}
-use Rattle.link_progress.proofs.Facts.{Facts, Fit, live_all, partner_live, back_again, forth_again, bit_low, limit_is, passed_is, unpassed_is, past_unless, open_speaks, unowed, gone_made}
-use Rattle.link_progress.proofs.Greeting.{is_asking, sends_nothing, sends_ack, resends_syn_ack, joined, joins, as_established, joins_effect}
+use Rattle.link_progress.proofs.Facts.{Fit, live_all, partner_live, forth_again, limit_is, passed_is, unpassed_is, past_unless, open_speaks, unowed, gone_made}
+use Rattle.link_progress.proofs.Greeting.{is_asking, sends_nothing, sends_ack, resends_syn_ack, joins, as_established, joins_effect}
 use Rattle.link_progress.proofs.Hearing.{Frame, frame, IsPlain, reach, Due, Effect, checked_phase, after_check_effect}
 use Rattle.link_progress.proofs.Joining.{Ready, sides, sides_near, sides_far, sides_live, ready_flip, ready_back, SealsAs, Fits, Turned, Rested, live_few, turned, turned_quiet, turned_either}
-use Rattle.link_progress.proofs.Making.{IsOpen, Numbers, PlainFlags, plain_ack, Rest, rest, takes, Makes, SendCase, ResendCase, send_case, resend_case}
-use Rattle.link_progress.proofs.Opened.{BothOpen}
+use Rattle.link_progress.proofs.Making.{IsOpen, Numbers, PlainFlags, plain_ack, Rest, rest, takes, Makes, send_case, resend_case}
 use Rattle.link_progress.proofs.Trips.{Tripped, Over, flip, second, third, fourth, sends_so, same_then, same_rest, same_stays}
-use Rattle.link_progress.proofs.Turning.{Two, After, AfterMade, in_window, or_owed, took_window}
+use Rattle.link_progress.proofs.Turning.{Two, AfterMade, in_window, or_owed, took_window}
 
 -- ---- both past the handshake
 

@@ -1,5 +1,5 @@
 -- Two live sessions whose keys, tables and clocks let them hear each other, in whatever phases: what a turn does.
-use Rattle.std.proofs.Common.{◌≡◌, ◌⊎◌, inl, inr, ⊎_elim, ℕ, ◌+◌, ◌%◌, ◌^◌, ◌<◌, ◌≤◌, Bool, true, false, ◌&&◌, List, [], ◌∷◌, length, Option, Some, None, if◌then◌else◌, refl, sym, ap, ◌∙◌, subst, arith}
+use Rattle.std.proofs.Common.{◌≡◌, ◌⊎◌, inl, inr, ⊎_elim, ℕ, ◌%◌, ◌^◌, ◌<◌, true, false, ◌&&◌, List, [], ◌∷◌, length, Option, Some, if◌then◌else◌, refl, sym, ap, ◌∙◌, subst, arith}
 use Rattle.std.specs.List.{AllByRecursion}
 use Rattle.ao_base.specs.declared.address.Pair.{Pair}
 use Rattle.ao_base.specs.declared.end.End.{End}
@@ -11,7 +11,7 @@ use Rattle.key_model.specs.Coordination.{Sending, follow}
 use Rattle.key_model.specs.Plans.{AlignedFrom, has_sendable}
 use Rattle.endpoint_model.specs.States.{EndState, take_out, is_closed}
 use Rattle.endpoint_model.specs.Arrivals.{heard, passes, after_check, arrive}
-use Rattle.endpoint_model.specs.Emissions.{Draft, Emission, Emitted, Quiet, Emits, sets, sealed, emit, resend}
+use Rattle.endpoint_model.specs.Emissions.{Draft, Emitted, Quiet, Emits, sets, sealed, emit, resend}
 use Rattle.link_model.specs.declared.event.Event.{Event}
 use Rattle.link_model.specs.declared.event.Event.TheVariants.{Send, Resend, Deliver, Take}
 use Rattle.link_model.specs.Outcomes.{Outcome, Sent, Idle, Nothing}
@@ -26,7 +26,7 @@ use Rattle.link_progress.specs.Progress.{Turn, Sends, Resends, maker, delivering
 use Rattle.link_progress.proofs.Finishing.{named_last}
 use Rattle.link_progress.proofs.Facts.{Facts, live_all, live_found}
 use Rattle.link_progress.proofs.Kept.{facts_step}
-use Rattle.link_progress.proofs.Acting.{instead, instead_here, instead_other, instead_there, instead_far, Acted, act_live}
+use Rattle.link_progress.proofs.Acting.{instead_here, instead_other, instead_there, instead_far, Acted, act_live}
 use Rattle.link_progress.proofs.Turning.{JustMade, arrives_so, unforged_now, all_taken}
 
 -- ---- the two sessions
