@@ -1,5 +1,6 @@
-pub mod Headers
-pub mod Fronts
-pub mod Streams
-pub mod Spelled
 pub mod Captures
+pub mod Files
+pub mod Fronts
+pub mod Headers
+pub mod Spelled
+pub mod Streams

@@ -1,3 +1,4 @@
 pub mod Messages
+pub mod PacketFiles
 pub mod Packets
 pub mod Timers

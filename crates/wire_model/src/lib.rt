@@ -9,6 +9,6 @@ mod pcap_head;
 mod timer;
 
 pub use bgp_fault::BgpFault;
-pub use laws::{messages_are_the_greatest, messages_of_more_begin_alike};
+pub use laws::{messages_are_the_greatest, messages_of_more_begin_alike, packets_are_the_grammar};
 pub use pcap_head::{ByteOrder, Head, HeadFault, LinkType};
 pub use timer::{Smoothed, Timer};
