@@ -72,7 +72,9 @@ pub record DeliversMessages (setup : Setup) (events : List Event) (out_before ou
   pub written : Took (bgp_text setup events) out_before out_now
   -- the status is 0 exactly where no forgery is counted and no session reached a faulty message
   pub counted : (status ≡ 0) ↔ ((forgeries (run setup events).history ≡ 0) × (bgp_faults (run setup events) ≡ 0))
-  -- the messages written for each session are those of its delivered bytes, in whatever pieces they were taken
+  -- the lines written for each session are those of the messages in its delivered bytes, in whatever
+  -- pieces they were taken, and of the fault that ends them; so many lines as sessions with a fault
+  -- are of faults
   pub told : TellsMessages setup events
   -- where no forgery is counted they begin the messages in the bytes given to its partner
   pub in_order : SpeaksInOrder (run setup events)

@@ -45,7 +45,7 @@ lines_more setup n w (e ∷ events) event =
 
 -- ---- the faults of streams
 
-abbrev faults_in : List (List ℕ) → ℕ
+abbrev pub faults_in : List (List ℕ) → ℕ
 faults_in [] = 0
 faults_in (b ∷ bs) = is_faulty (fault_in b) + faults_in bs
 
@@ -54,14 +54,14 @@ faults_of_streams [] = refl
 faults_of_streams (s ∷ ss) = ap (λ n. is_faulty (fault_in s.state.taken) + n) (faults_of_streams ss)
 
 -- the faults of both ends
-faults_both : (w : World) → bgp_faults w ≡ faults_in (streams w A) + faults_in (streams w B)
+pub faults_both : (w : World) → bgp_faults w ≡ faults_in (streams w A) + faults_in (streams w B)
 faults_both w = let a = faults_of_streams w.a.sessions in let b = faults_of_streams w.b.sessions in omega (arith, a, b)
 
-faults_at : (w : World) (e : End) → bgp_faults w ≡ faults_in (streams w e) + faults_in (streams w (other e))
+pub faults_at : (w : World) (e : End) → bgp_faults w ≡ faults_in (streams w e) + faults_in (streams w (other e))
 faults_at w A = faults_both w
 faults_at w B = let both = faults_both w in omega (arith, both)
 
-sound_start : fault_in [] ≡ None
+pub sound_start : fault_in [] ≡ None
 sound_start =
     let here = front_short [] (omega arith) in
     ap (λ (l : List ℕ). fault_of (front l)) (behind_none [] (none_before [] here)) ∙ ap fault_of here
@@ -91,11 +91,11 @@ shows_used _ is h used = refl
 
 -- ---- what follows an event
 
-newest_taken : (ss : List Session) → taken_by (live ss) ≡ newest (streams_of ss)
+pub newest_taken : (ss : List Session) → taken_by (live ss) ≡ newest (streams_of ss)
 newest_taken [] = refl
 newest_taken (s ∷ ss) = refl
 
-both : (P : End → Type 0) (e : End) → P e → P (other e) → (f : End) → P f
+pub both : (P : End → Type 0) (e : End) → P e → P (other e) → (f : End) → P f
 both P A one two A = one
 both P A one two B = two
 both P B one two A = two

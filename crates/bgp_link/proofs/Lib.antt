@@ -1,3 +1,4 @@
+pub mod AddedLaws
 pub mod FollowLaws
 pub mod LineLaws
 pub mod ReadLaws

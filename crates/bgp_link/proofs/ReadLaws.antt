@@ -97,7 +97,7 @@ fault_front Unfinished fault is = absurd (cc)
 fault_front (Faulty one) fault is = cc
 fault_front (Leading m rest) fault is = absurd (cc)
 
-place_stays : (bytes more : List ℕ) (fault : BgpFault) → fault_in bytes ≡ Some fault → place_in (bytes ++ more) ≡ place_in bytes
+pub place_stays : (bytes more : List ℕ) (fault : BgpFault) → fault_in bytes ≡ Some fault → place_in (bytes ++ more) ≡ place_in bytes
 unfolding place_in
 place_stays bytes more fault is = rw (fault_messages bytes more fault is) refl
 

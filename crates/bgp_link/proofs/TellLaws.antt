@@ -1,11 +1,10 @@
--- The messages that a run's text tells are those of the bytes that were delivered.
-use Rattle.std.proofs.Common.{◌≡◌, ◌⊎◌, inl, inr, ℕ, suc, ◌<◌, ◌≤◌, ◌==◌, Bool, true, false, ◌&&◌, List, [], ◌∷◌, ◌++◌, length, drop, Option, Some, None, if◌then◌else◌, refl, sym, ap, ◌∙◌, subst, arith, append_assoc, append-nil}
+-- The messages and the faults that a run's text tells are those of the bytes that were delivered.
+use Rattle.std.proofs.Common.{◌≡◌, ◌⊎◌, inl, inr, ℕ, suc, ◌+◌, ◌<◌, ◌≤◌, ◌==◌, Bool, true, false, ◌&&◌, List, [], ◌∷◌, ◌++◌, length, Option, Some, None, if◌then◌else◌, refl, sym, ap, ◌∙◌, subst, arith, append_assoc, append-nil}
 use Rattle.std.specs.Prelude.{⊤}
 use Rattle.std.proofs.lemmas.Bool.Decides.{nat_tests}
 use Rattle.std.specs.List.{AllByRecursion}
 use Rattle.ao_base.specs.declared.end.End.{End}
 use Rattle.ao_base.specs.declared.end.End.TheVariants.{A, B}
-use Rattle.wire_model.specs.declared.bgp_fault.BgpFault.{BgpFault}
 use Rattle.wire_model.specs.Messages.{Message, messages, place_of as place_in, fault_in}
 use Rattle.wire_model.proofs.Fronts.{front_short}
 use Rattle.wire_model.proofs.Streams.{none_before}
@@ -19,28 +18,18 @@ use Rattle.link_model.specs.Runs.{empty, run_from, run}
 use Rattle.link_model.specs.Steps.{Stepped, step}
 use Rattle.link_model.specs.Worlds.{Setup, Session, World, other, same_end, side, live, partner}
 use Rattle.link_laws.proofs.Prefix.{delivers_in_order}
-use Rattle.format_model.specs.BgpRuns.{Place, message_line, message_lines, fault_line, taken_lines, taken_by, place_at, event_lines, bgp_lines_from, bgp_text}
+use Rattle.format_model.specs.BgpRuns.{Place, bgp_faults, is_faulty, taken_by, place_at, event_lines, bgp_lines_from, bgp_text}
 use Rattle.bgp_link.specs.Streams.{streams_of, streams, newest}
-use Rattle.bgp_link.specs.Tellings.{Tells, Fails, Telling, line_of, lines_of, message_in, is_of, messages_told, AllNumbered, TellsMessages, ComeFrom, SpeaksInOrder}
+use Rattle.bgp_link.specs.Tellings.{What, Telling, line_of, lines_of, is_of, told_of, tells, fails, to_tell, faults_told, AllNumbered, TellsMessages, TellsRun, ComeFrom, SpeaksInOrder}
+use Rattle.bgp_link.proofs.AddedLaws.{at, added, added_lines, at_of, at_none, none_added, added_is, added_faults, faults_append}
+use Rattle.bgp_link.proofs.FollowLaws.{both, faults_at, faults_both, faults_in, newest_taken, sound_start}
 use Rattle.bgp_link.proofs.ReadLaws.{further, further_is}
-use Rattle.bgp_link.proofs.TakenLaws.{AllSame, Begins, Takes, changes}
+use Rattle.bgp_link.proofs.TakenLaws.{AllSame, Begins, Delivers, Takes, changes}
 
--- ---- the tellings of a run
-
-all_told : Place → List Message → List Telling
-all_told p [] = []
-all_told p (m ∷ ms) = record { place = p; what = Tells m } ∷ all_told p ms
-
-fault_told : Place → List ℕ → Option BgpFault → Option BgpFault → List Telling
-fault_told p bytes None (Some f) = record { place = p; what = Fails f (place_in bytes) } ∷ []
-fault_told p bytes None None = []
-fault_told p bytes (Some g) o = []
-
-take_told : Place → List ℕ → List ℕ → List Telling
-take_told p old new = all_told p (drop (length (messages old)) (messages new)) ++ fault_told p new (fault_in old) (fault_in new)
+-- ---- the lines of a run
 
 told_by : ℕ → Event → World → World → List Telling
-told_by n (Take e count) before after = take_told (place_at before e n) (taken_by (live (side before e).sessions)) (taken_by (live (side after e).sessions))
+told_by n (Take e count) before after = at (place_at before e n) (added (taken_by (live (side before e).sessions)) (taken_by (live (side after e).sessions)))
 told_by n _ before after = []
 
 told_from : Setup → ℕ → World → List Event → List Telling
@@ -53,29 +42,9 @@ lines_append : (one two : List Telling) → lines_of (one ++ two) ≡ lines_of o
 lines_append [] two = refl
 lines_append (t ∷ ts) two = ap (λ l. line_of t.place t.what ++ l) (lines_append ts two) ∙ sym (append_assoc (line_of t.place t.what) (lines_of ts) (lines_of two))
 
-all_lines : (p : Place) (ms : List Message) → lines_of (all_told p ms) ≡ message_lines p ms
-unfolding all_told
-all_lines p [] = refl
-all_lines p (m ∷ ms) = ap (λ l. message_line p m ++ l) (all_lines p ms)
-
-fault_lines : (p : Place) (bytes : List ℕ) (o n : Option BgpFault) → lines_of (fault_told p bytes o n) ≡ fault_line p bytes o n
-unfolding fault_told
-fault_lines p bytes None (Some f) = append-nil (line_of p (Fails f (place_in bytes)))
-fault_lines p bytes None None = refl
-fault_lines p bytes (Some g) None = refl
-fault_lines p bytes (Some g) (Some f) = refl
-
-take_lines : (p : Place) (old new : List ℕ) → lines_of (take_told p old new) ≡ taken_lines p old new
-unfolding take_told
-take_lines p old new =
-    let ms = drop (length (messages old)) (messages new) in
-    lines_append (all_told p ms) (fault_told p new (fault_in old) (fault_in new))
-    ∙ ap (λ l. l ++ lines_of (fault_told p new (fault_in old) (fault_in new))) (all_lines p ms)
-    ∙ ap (λ l. message_lines p ms ++ l) (fault_lines p new (fault_in old) (fault_in new))
-
 event_told : (n : ℕ) (e : Event) (before after : World) → lines_of (told_by n e before after) ≡ event_lines n e before after
 unfolding told_by
-event_told n (Take e count) before after = take_lines (place_at before e n) (taken_by (live (side before e).sessions)) (taken_by (live (side after e).sessions))
+event_told n (Take e count) before after = added_lines (place_at before e n) (taken_by (live (side before e).sessions)) (taken_by (live (side after e).sessions))
 event_told n _ before after = refl
 
 from_told : (setup : Setup) (n : ℕ) (w : World) (es : List Event) → lines_of (told_from setup n w es) ≡ bgp_lines_from setup n w es
@@ -87,52 +56,13 @@ from_told setup n w (e ∷ es) =
     ∙ ap (λ l. l ++ lines_of (told_from setup (suc n) v es)) (event_told n e w v)
     ∙ ap (λ l. event_lines n e w v ++ l) (from_told setup (suc n) v es)
 
--- ---- the messages told of a session
+-- ---- the lines of a session
 
-told_append : (e : End) (i : ℕ) (one two : List Telling) → messages_told e i (one ++ two) ≡ messages_told e i one ++ messages_told e i two
+told_append : (e : End) (i : ℕ) (one two : List Telling) → told_of e i (one ++ two) ≡ told_of e i one ++ told_of e i two
 told_append e i [] two = refl
 told_append e i (t ∷ ts) two =
-    let here : List Message = if is_of e i t.place then message_in t.what else [] in
-    ap (λ l. here ++ l) (told_append e i ts two) ∙ sym (append_assoc here (messages_told e i ts) (messages_told e i two))
-
-all_of : (e : End) (i : ℕ) (p : Place) (ms : List Message) → is_of e i p ≡ true → messages_told e i (all_told p ms) ≡ ms
-unfolding all_told
-all_of e i p [] is = refl
-all_of e i p (m ∷ ms) is =
-    ap (λ (b : Bool). (if b then m ∷ [] else []) ++ messages_told e i (all_told p ms)) is ∙ ap (λ l. m ∷ l) (all_of e i p ms is)
-
-none_of : (e : End) (i : ℕ) (p : Place) (ms : List Message) → is_of e i p ≡ false → messages_told e i (all_told p ms) ≡ []
-unfolding all_told
-none_of e i p [] is = refl
-none_of e i p (m ∷ ms) is =
-    ap (λ (b : Bool). (if b then m ∷ [] else []) ++ messages_told e i (all_told p ms)) is ∙ none_of e i p ms is
-
-either_nil : (b : Bool) (nil : List Message) → (if b then nil else nil) ≡ nil
-either_nil true nil = refl
-either_nil false nil = refl
-
-fault_of : (e : End) (i : ℕ) (p : Place) (bytes : List ℕ) (o n : Option BgpFault) → messages_told e i (fault_told p bytes o n) ≡ []
-unfolding fault_told
-fault_of e i p bytes None (Some f) = ap (λ (l : List Message). l ++ []) (either_nil (is_of e i p) [])
-fault_of e i p bytes None None = refl
-fault_of e i p bytes (Some g) None = refl
-fault_of e i p bytes (Some g) (Some f) = refl
-
-take_of : (e : End) (i : ℕ) (p : Place) (old new : List ℕ) → is_of e i p ≡ true → messages_told e i (take_told p old new) ≡ drop (length (messages old)) (messages new)
-unfolding take_told
-take_of e i p old new is =
-    let ms = drop (length (messages old)) (messages new) in
-    told_append e i (all_told p ms) (fault_told p new (fault_in old) (fault_in new))
-    ∙ ap (λ l. messages_told e i (all_told p ms) ++ l) (fault_of e i p new (fault_in old) (fault_in new))
-    ∙ append-nil (messages_told e i (all_told p ms)) ∙ all_of e i p ms is
-
-take_none : (e : End) (i : ℕ) (p : Place) (old new : List ℕ) → is_of e i p ≡ false → messages_told e i (take_told p old new) ≡ []
-unfolding take_told
-take_none e i p old new is =
-    let ms = drop (length (messages old)) (messages new) in
-    told_append e i (all_told p ms) (fault_told p new (fault_in old) (fault_in new))
-    ∙ ap (λ l. messages_told e i (all_told p ms) ++ l) (fault_of e i p new (fault_in old) (fault_in new))
-    ∙ append-nil (messages_told e i (all_told p ms)) ∙ none_of e i p ms is
+    let here : List What = if is_of e i t.place then t.what ∷ [] else [] in
+    ap (λ l. here ++ l) (told_append e i ts two) ∙ sym (append_assoc here (told_of e i ts) (told_of e i two))
 
 same_number : (e : End) (i : ℕ) → (same_end e e && (i == i)) ≡ true
 same_number A i = grind (arith, nat_tests)
@@ -150,131 +80,173 @@ other_end B i j = refl
 
 -- ---- what is told so far
 
--- of each stream of an end what is told are its messages
+-- of each stream of an end is told what is to be told
 abbrev AllTold : End → List Telling → List (List ℕ) → Type 0
 AllTold e ts [] = ⊤
-AllTold e ts (b ∷ bs) = (messages_told e (suc (length bs)) ts ≡ messages b) × AllTold e ts bs
+AllTold e ts (b ∷ bs) = (told_of e (suc (length bs)) ts ≡ to_tell b) × AllTold e ts bs
 
 -- of an end, and nothing is told of sessions that it hasn't
 record IsTold (e : End) (ts : List Telling) (bs : List (List ℕ)) : Type 0 where
   all : AllTold e ts bs
-  none : (i : ℕ) → length bs < i → messages_told e i ts ≡ []
+  none : (i : ℕ) → length bs < i → told_of e i ts ≡ []
 
 no_messages : messages [] ≡ []
 no_messages = none_before [] (front_short [] (omega arith))
 
-more_told : (e : End) (ts us : List Telling) (bs : List (List ℕ)) → ((i : ℕ) → i ≤ length bs → messages_told e i us ≡ []) → AllTold e ts bs → AllTold e (ts ++ us) bs
+nothing_to_tell : to_tell [] ≡ []
+nothing_to_tell = ap (λ ms. tells ms ++ fails (fault_in []) (place_in [])) no_messages ∙ ap (λ o. fails o (place_in [])) sound_start
+
+more_told : (e : End) (ts us : List Telling) (bs : List (List ℕ)) → ((i : ℕ) → i ≤ length bs → told_of e i us ≡ []) → AllTold e ts bs → AllTold e (ts ++ us) bs
 more_told e ts us [] h all = tt
 more_told e ts us (b ∷ bs) h all =
     let i = suc (length bs) in (
-      told_append e i ts us ∙ ap (λ l. messages_told e i ts ++ l) (h i (omega arith)) ∙ append-nil (messages_told e i ts) ∙ all.0,
+      told_append e i ts us ∙ ap (λ l. told_of e i ts ++ l) (h i (omega arith)) ∙ append-nil (told_of e i ts) ∙ all.0,
       more_told e ts us bs (λ j le. h j (omega (arith, le))) all.1,
     )
 
-still_told : (e : End) (ts us : List Telling) (bs : List (List ℕ)) → ((i : ℕ) → messages_told e i us ≡ []) → IsTold e ts bs → IsTold e (ts ++ us) bs
+still_told : (e : End) (ts us : List Telling) (bs : List (List ℕ)) → ((i : ℕ) → told_of e i us ≡ []) → IsTold e ts bs → IsTold e (ts ++ us) bs
 still_told e ts us bs h t =
     record {
       all = more_told e ts us bs (λ i le. h i) t.all;
-      none = λ i lt. told_append e i ts us ∙ ap (λ l. messages_told e i ts ++ l) (h i) ∙ append-nil (messages_told e i ts) ∙ t.none i lt;
+      none = λ i lt. told_append e i ts us ∙ ap (λ l. told_of e i ts ++ l) (h i) ∙ append-nil (told_of e i ts) ∙ t.none i lt;
     }
 
 begun_told : (e : End) (ts : List Telling) (bs : List (List ℕ)) → IsTold e ts bs → IsTold e ts ([] ∷ bs)
 begun_told e ts bs t =
-    record { all = (t.none (suc (length bs)) (omega arith) ∙ sym no_messages, t.all); none = λ i lt. t.none i (omega (arith, lt)) }
+    record { all = (t.none (suc (length bs)) (omega arith) ∙ sym nothing_to_tell, t.all); none = λ i lt. t.none i (omega (arith, lt)) }
 
 took_told : (e : End) (ts : List Telling) (p : Place) (old bytes : List ℕ) (older : List (List ℕ)) → p.end ≡ e → p.session ≡ suc (length older) → IsTold e ts (old ∷ older)
-    → IsTold e (ts ++ take_told p old (old ++ bytes)) ((old ++ bytes) ∷ older)
-took_told e ts p old bytes older at number t =
-    let us = take_told p old (old ++ bytes) in
+    → IsTold e (ts ++ at p (added old (old ++ bytes))) ((old ++ bytes) ∷ older)
+took_told e ts p old bytes older here_is number t =
+    let more : List What = added old (old ++ bytes) in
+    let us = at p more in
     let k = suc (length older) in
-    let here : (i : ℕ) (b : Bool) → (same_end e e && (i == k)) ≡ b → is_of e i p ≡ b = λ i b is. ap (λ (f : End). same_end e f && (i == p.session)) at ∙ ap (λ (n : ℕ). same_end e e && (i == n)) number ∙ is in
-    let of : messages_told e k us ≡ further old bytes = take_of e k p old (old ++ bytes) (here k true (same_number e k)) in
-    let not : (i : ℕ) → (i < k) ⊎ (k < i) → messages_told e i us ≡ [] = λ i apart. take_none e i p old (old ++ bytes) (here i false (other_number e i k apart)) in
+    let here : (i : ℕ) (b : Bool) → (same_end e e && (i == k)) ≡ b → is_of e i p ≡ b = λ i b is. ap (λ (f : End). same_end e f && (i == p.session)) here_is ∙ ap (λ (n : ℕ). same_end e e && (i == n)) number ∙ is in
+    let of : told_of e k us ≡ more = at_of e k p more (here k true (same_number e k)) in
+    let not : (i : ℕ) → (i < k) ⊎ (k < i) → told_of e i us ≡ [] = λ i apart. at_none e i p more (here i false (other_number e i k apart)) in
     record {
       all = (
-        told_append e k ts us ∙ ap (λ l. messages_told e k ts ++ l) of ∙ ap (λ l. l ++ further old bytes) t.all.0 ∙ sym (further_is old bytes),
+        told_append e k ts us ∙ ap (λ l. told_of e k ts ++ l) of ∙ ap (λ l. l ++ more) t.all.0 ∙ sym (added_is old bytes),
         more_told e ts us older (λ i le. not i (inl (omega (arith, le)))) t.all.1,
       );
-      none = λ i lt. told_append e i ts us ∙ ap (λ l. messages_told e i ts ++ l) (not i (inr (omega (arith, lt)))) ∙ append-nil (messages_told e i ts) ∙ t.none i (omega (arith, lt));
+      none = λ i lt. told_append e i ts us ∙ ap (λ l. told_of e i ts ++ l) (not i (inr (omega (arith, lt)))) ∙ append-nil (told_of e i ts) ∙ t.none i (omega (arith, lt));
     }
 
--- both ends
-Told : World → List Telling → Type 0
-Told w ts = (e : End) → IsTold e ts (streams w e)
+-- ---- how many faults
 
-both : (P : End → Type 0) (e : End) → P e → P (other e) → (f : End) → P f
-both P A one two A = one
-both P A one two B = two
-both P B one two A = two
-both P B one two B = one
+-- what was delivered stays, and with it the faults
+same_faults : (w v : World) → AllSame w v → bgp_faults v ≡ bgp_faults w
+same_faults w v same =
+    let ones = faults_both w in
+    let twos = faults_both v in
+    let a = ap faults_in (same A) in
+    let b = ap faults_in (same B) in
+    omega (arith, ones, twos, a, b)
+
+-- a new session has no fault
+begins_faults : (e : End) (w : World) (after : Stepped) → Begins e w after → bgp_faults after.world ≡ bgp_faults w
+begins_faults e w after b =
+    let ones = faults_at w e in
+    let twos = faults_at after.world e in
+    let others = ap faults_in b.others in
+    let none : is_faulty (fault_in []) ≡ 0 = ap is_faulty sound_start in
+    elim b.either [
+      | inl is ↦ let new = ap faults_in (b.new is) in omega (arith, ones, twos, others, none, new)
+      | inr is ↦ let used = ap faults_in (b.used is) in omega (arith, ones, twos, others, used)
+    ]
+
+-- the faults that a take adds are those of its lines
+takes_faults : (e : End) (p : Place) (bytes : List ℕ) (w v : World) (d : Delivers e w bytes v) → streams v (other e) ≡ streams w (other e)
+    → bgp_faults w + faults_told (at p (added d.old (d.old ++ bytes))) ≡ bgp_faults v
+takes_faults e p bytes w v d same =
+    let ones = faults_at w e in
+    let twos = faults_at v e in
+    let others = ap faults_in same in
+    let before = ap faults_in d.before in
+    let after = ap faults_in d.after in
+    let counted = added_faults p d.old bytes in
+    omega (arith, ones, twos, others, before, after, counted)
+
+-- ---- a run
+
+-- of both ends, and how many lines are of faults
+record Told (w : World) (ts : List Telling) : Type 0 where
+  of : (e : End) → IsTold e ts (streams w e)
+  count : faults_told ts ≡ bgp_faults w
 
 nothing : (e : End) (ts : List Telling) (bs : List (List ℕ)) → IsTold e ts bs → IsTold e (ts ++ []) bs
 nothing e ts bs t = subst (λ l. IsTold e l bs) (sym (append-nil ts)) t
 
+-- nothing was told, and there are as many faults
+as_before : (w v : World) (ts : List Telling) → Told w ts → bgp_faults v ≡ bgp_faults w → ((e : End) → IsTold e ts (streams v e)) → Told v (ts ++ [])
+as_before w v ts t same of =
+    record { of = λ e. nothing e ts (streams v e) (of e); count = ap faults_told (append-nil ts) ∙ t.count ∙ sym same }
+
 same_told : (w v : World) (ts : List Telling) → AllSame w v → Told w ts → Told v (ts ++ [])
-unfolding Told
-same_told w v ts same t = λ e. nothing e ts (streams v e) (subst (IsTold e ts) (sym (same e)) (t e))
+same_told w v ts same t = as_before w v ts t (same_faults w v same) (λ e. subst (IsTold e ts) (sym (same e)) (t.of e))
 
 begins_told : (e : End) (w : World) (after : Stepped) (ts : List Telling) → Begins e w after → Told w ts → Told after.world (ts ++ [])
-unfolding Told
 begins_told e w after ts b t =
-    let P : End → Type 0 = λ f. IsTold f (ts ++ []) (streams after.world f) in
-    let there : IsTold e ts (streams after.world e) = elim b.either [
-      | inl is ↦ subst (IsTold e ts) (sym (b.new is)) (begun_told e ts (streams w e) (t e))
-      | inr is ↦ subst (IsTold e ts) (sym (b.used is)) (t e)
+    let P : End → Type 0 = λ f. IsTold f ts (streams after.world f) in
+    let there : P e = elim b.either [
+      | inl is ↦ subst (IsTold e ts) (sym (b.new is)) (begun_told e ts (streams w e) (t.of e))
+      | inr is ↦ subst (IsTold e ts) (sym (b.used is)) (t.of e)
     ] in
-    both P e (nothing e ts (streams after.world e) there)
-    (nothing (other e) ts (streams after.world (other e)) (subst (IsTold (other e) ts) (sym b.others) (t (other e))))
-
-newest_taken : (ss : List Session) → taken_by (live ss) ≡ newest (streams_of ss)
-newest_taken [] = refl
-newest_taken (s ∷ ss) = refl
+    as_before w after.world ts t (begins_faults e w after b) (both P e there (subst (IsTold (other e) ts) (sym b.others) (t.of (other e))))
 
 as_many : (ss : List Session) → length (streams_of ss) ≡ length ss
 as_many [] = refl
 as_many (s ∷ ss) = ap suc (as_many ss)
 
-drop_length : (ms : List Message) → drop (length ms) ms ≡ []
-drop_length [] = refl
-drop_length (m ∷ ms) = drop_length ms
+-- what a take adds, at its end
+abbrev take_told : ℕ → End → World → World → List Telling
+take_told n e w v = at (place_at w e n) (added (taken_by (live (side w e).sessions)) (taken_by (live (side v e).sessions)))
 
-all_none : (p : Place) (bytes : List ℕ) → (e : End) (i : ℕ) → messages_told e i (take_told p bytes bytes) ≡ []
-unfolding take_told all_told
-all_none p bytes e i =
-    let none = drop_length (messages bytes) in
-    told_append e i (all_told p (drop (length (messages bytes)) (messages bytes))) (fault_told p bytes (fault_in bytes) (fault_in bytes))
-    ∙ ap (λ l. messages_told e i (all_told p l) ++ messages_told e i (fault_told p bytes (fault_in bytes) (fault_in bytes))) none
-    ∙ fault_of e i p bytes (fault_in bytes) (fault_in bytes)
-
-takes_told : (n : ℕ) (e : End) (w : World) (after : Stepped) (ts : List Telling) → Takes e w after → Told w ts
-    → Told after.world (ts ++ take_told (place_at w e n) (taken_by (live (side w e).sessions)) (taken_by (live (side after.world e).sessions)))
-unfolding Told
-takes_told n e w after ts k t =
-    let p = place_at w e n in
+-- without a session nothing is told
+none_taken : (n : ℕ) (e : End) (w v : World) → streams v e ≡ streams w e → take_told n e w v ≡ []
+none_taken n e w v none =
     let old = taken_by (live (side w e).sessions) in
-    let new = taken_by (live (side after.world e).sessions) in
-    let us = take_told p old new in
-    let P : End → Type 0 = λ f. IsTold f (ts ++ us) (streams after.world f) in
-    let was : old ≡ newest (streams w e) = newest_taken (side w e).sessions in
-    let is : new ≡ newest (streams after.world e) = newest_taken (side after.world e).sessions in
-    let elsewhere : (i : ℕ) → messages_told (other e) i us ≡ [] = λ i. take_none (other e) i p old new (other_end e i p.session) in
-    let far : P (other e) = subst (IsTold (other e) (ts ++ us)) (sym k.others) (still_told (other e) ts us (streams w (other e)) elsewhere (t (other e))) in
-    let near : P e = elim k.either [
-      | inl none ↦
-          let same : new ≡ old = is ∙ ap newest (k.none none) ∙ sym was in
-          let quiet : (i : ℕ) → messages_told e i us ≡ [] = λ i. ap (λ l. messages_told e i (take_told p old l)) same ∙ all_none p old e i in
-          subst (IsTold e (ts ++ us)) (sym (k.none none)) (still_told e ts us (streams w e) quiet (t e))
-      | inr (bytes, shown, took) ↦
-          let d = k.some bytes shown took in
-          let old_is : old ≡ d.old = was ∙ ap newest d.before in
-          let new_is : new ≡ d.old ++ bytes = is ∙ ap newest d.after in
-          let number : p.session ≡ suc (length d.older) = sym (as_many (side w e).sessions) ∙ ap length d.before in
-          let before : IsTold e ts (d.old ∷ d.older) = subst (IsTold e ts) d.before (t e) in
-          let told = took_told e ts p d.old bytes d.older refl number before in
-          let same : take_told p d.old (d.old ++ bytes) ≡ us = ap (λ l. take_told p l (d.old ++ bytes)) (sym old_is) ∙ ap (take_told p old) (sym new_is) in
-          subst (IsTold e (ts ++ us)) (sym d.after) (subst (λ l. IsTold e (ts ++ l) ((d.old ++ bytes) ∷ d.older)) same told)
-    ] in
-    both P e near far
+    let new = taken_by (live (side v e).sessions) in
+    let same : new ≡ old = newest_taken (side v e).sessions ∙ ap newest none ∙ sym (newest_taken (side w e).sessions) in
+    ap (λ l. at (place_at w e n) (added old l)) same ∙ ap (at (place_at w e n)) (none_added old)
+
+-- with one, what the bytes add to its stream
+some_taken : (n : ℕ) (e : End) (bytes : List ℕ) (w v : World) (d : Delivers e w bytes v) → at (place_at w e n) (added d.old (d.old ++ bytes)) ≡ take_told n e w v
+some_taken n e bytes w v d =
+    let old_is : taken_by (live (side w e).sessions) ≡ d.old = newest_taken (side w e).sessions ∙ ap newest d.before in
+    let new_is : taken_by (live (side v e).sessions) ≡ d.old ++ bytes = newest_taken (side v e).sessions ∙ ap newest d.after in
+    ap (λ l. at (place_at w e n) (added l (d.old ++ bytes))) (sym old_is)
+    ∙ ap (λ l. at (place_at w e n) (added (taken_by (live (side w e).sessions)) l)) (sym new_is)
+
+some_told : (n : ℕ) (e : End) (bytes : List ℕ) (w v : World) (ts : List Telling) → Delivers e w bytes v → streams v (other e) ≡ streams w (other e) → Told w ts → Told v (ts ++ take_told n e w v)
+some_told n e bytes w v ts d same t =
+    let p = place_at w e n in
+    let us = take_told n e w v in
+    let lines : List Telling = at p (added d.old (d.old ++ bytes)) in
+    let is : lines ≡ us = some_taken n e bytes w v d in
+    let P : End → Type 0 = λ f. IsTold f (ts ++ us) (streams v f) in
+    let elsewhere : (i : ℕ) → told_of (other e) i us ≡ [] =
+    λ i. at_none (other e) i p (added (taken_by (live (side w e).sessions)) (taken_by (live (side v e).sessions))) (other_end e i p.session) in
+    let far : P (other e) = subst (IsTold (other e) (ts ++ us)) (sym same) (still_told (other e) ts us (streams w (other e)) elsewhere (t.of (other e))) in
+    let number : p.session ≡ suc (length d.older) = sym (as_many (side w e).sessions) ∙ ap length d.before in
+    let before : IsTold e ts (d.old ∷ d.older) = subst (IsTold e ts) d.before (t.of e) in
+    let told : IsTold e (ts ++ lines) ((d.old ++ bytes) ∷ d.older) = took_told e ts p d.old bytes d.older refl number before in
+    let near : P e = subst (IsTold e (ts ++ us)) (sym d.after) (subst (λ l. IsTold e (ts ++ l) ((d.old ++ bytes) ∷ d.older)) is told) in
+    record {
+      of = both P e near far;
+      count = faults_append ts us ∙ ap (λ k. k + faults_told us) t.count ∙ ap (λ l. bgp_faults w + faults_told l) (sym is) ∙ takes_faults e p bytes w v d same;
+    }
+
+none_told_by : (n : ℕ) (e : End) (w v : World) (ts : List Telling) → streams v e ≡ streams w e → streams v (other e) ≡ streams w (other e) → Told w ts → Told v (ts ++ take_told n e w v)
+none_told_by n e w v ts none others t =
+    let same : AllSame w v = both (λ f. streams v f ≡ streams w f) e none others in
+    subst (λ l. Told v (ts ++ l)) (sym (none_taken n e w v none)) (same_told w v ts same t)
+
+takes_told : (n : ℕ) (e : End) (w : World) (after : Stepped) (ts : List Telling) → Takes e w after → Told w ts → Told after.world (ts ++ take_told n e w after.world)
+takes_told n e w after ts k t = elim k.either [
+  | inl none ↦ none_told_by n e w after.world ts (k.none none) k.others t
+  | inr (bytes, shown, took) ↦ some_told n e bytes w after.world ts (k.some bytes shown took) k.others t
+]
 
 step_told : (setup : Setup) (n : ℕ) (w : World) (event : Event) (ts : List Telling) → Told w ts → Told (step setup w event).world (ts ++ told_by n event w (step setup w event).world)
 unfolding told_by
@@ -305,24 +277,34 @@ run_told setup n w (e ∷ es) ts t =
     (run_told setup (suc n) v es (ts ++ told_by n e w v) (step_told setup n w e ts t))
 
 none_told : (setup : Setup) → Told (empty setup) []
-unfolding Told
-none_told setup = both (λ e. IsTold e [] (streams (empty setup) e)) A (record { all = tt; none = λ i lt. refl }) (record { all = tt; none = λ i lt. refl })
+none_told setup =
+    record {
+      of = both (λ e. IsTold e [] (streams (empty setup) e)) A (record { all = tt; none = λ i lt. refl }) (record { all = tt; none = λ i lt. refl });
+      count = refl;
+    }
 
-each_session : (e : End) (ts : List Telling) (ss : List Session) → AllTold e ts (streams_of ss) → AllNumbered (λ i s. messages_told e i ts ≡ messages s.state.taken) ss
+each_session : (e : End) (ts : List Telling) (ss : List Session) → AllTold e ts (streams_of ss) → AllNumbered (λ i s. told_of e i ts ≡ to_tell s.state.taken) ss
 each_session e ts [] h = tt
-each_session e ts (s ∷ ss) h = (ap (λ n. messages_told e (suc n) ts) (sym (as_many ss)) ∙ h.0, each_session e ts ss h.1)
+each_session e ts (s ∷ ss) h = (ap (λ n. told_of e (suc n) ts) (sym (as_many ss)) ∙ h.0, each_session e ts ss h.1)
 
--- a run's text tells of each session the messages of what it delivered
+-- a run's text tells of each session the messages and the fault of what it delivered, and so many faults
 pub tells_messages : (setup : Setup) (events : List Event) → TellsMessages setup events
-unfolding Told bgp_text
+unfolding bgp_text
 tells_messages setup events =
     let ts = told_from setup 1 (empty setup) events in
     let told : Told (run setup events) ts = run_told setup 1 (empty setup) events [] (none_told setup) in
     record {
       tellings = ts;
-      text = ap (λ l. l ++ summary (run setup events)) (sym (from_told setup 1 (empty setup) events));
-      each = λ e. each_session e ts (side (run setup events) e).sessions (told e).all;
+      text_is = ap (λ l. l ++ summary (run setup events)) (sym (from_told setup 1 (empty setup) events));
+      each = λ e. each_session e ts (side (run setup events) e).sessions (told.of e).all;
+      count = told.count;
     }
+
+-- a text and a number that are those of a run
+pub tells_run : (setup : Setup) (events : List Event) (text : List ℕ) (faults : ℕ) → text ≡ bgp_text setup events → faults ≡ bgp_faults (run setup events) → TellsRun (run setup events) text faults
+tells_run setup events text faults text_is faults_are =
+    let t = tells_messages setup events in
+    record { tellings = t.tellings; text_is = text_is ∙ t.text_is; each = t.each; count = t.count ∙ sym faults_are }
 
 -- ---- in order
 

@@ -1,15 +1,15 @@
 -- What the text of a run tells of each session: the theorem on messages.
-use Rattle.std.specs.Prelude.{◌≡◌, ℕ, suc, ◌==◌, Bool, ◌&&◌, List, [], ◌∷◌, ◌++◌, length, codes, decimal, Option, Some, None, if◌then◌else◌, ⊤}
+use Rattle.std.specs.Prelude.{◌≡◌, ℕ, suc, ◌+◌, ◌==◌, Bool, ◌&&◌, List, [], ◌∷◌, ◌++◌, length, codes, decimal, Option, Some, None, if◌then◌else◌, ⊤}
 use Rattle.std.specs.List.{AllByRecursion}
 use Rattle.ao_base.specs.declared.end.End.{End}
 use Rattle.line_model.specs.Texts.{end_text, numbered_text}
 use Rattle.wire_model.specs.declared.bgp_fault.BgpFault.{BgpFault}
-use Rattle.wire_model.specs.Messages.{Message, messages}
+use Rattle.wire_model.specs.Messages.{Message, messages, fault_in, place_of}
 use Rattle.link_model.specs.declared.event.Event.{Event}
 use Rattle.link_model.specs.Reports.{summary}
 use Rattle.link_model.specs.Runs.{run}
 use Rattle.link_model.specs.Worlds.{Setup, Session, World, side, partner, forgeries, same_end}
-use Rattle.format_model.specs.BgpRuns.{Place, bgp_fault_text, message_line, bgp_text}
+use Rattle.format_model.specs.BgpRuns.{Place, bgp_fault_text, bgp_faults, message_line, bgp_text}
 
 -- what a line tells of a session: a message, or a fault behind so many bytes of messages
 pub data What : Type 0 where
@@ -32,30 +32,58 @@ abbrev pub lines_of : List Telling → List ℕ
 lines_of [] = []
 lines_of (t ∷ ts) = line_of t.place t.what ++ lines_of ts
 
--- the message that is told
-abbrev pub message_in : What → List Message
-message_in (Tells m) = m ∷ []
-message_in (Fails fault at) = []
-
 -- the line is of session i of the end
 abbrev pub is_of : End → ℕ → Place → Bool
 is_of e i p = same_end e p.end && (i == p.session)
 
--- the messages that lines tell of session i of an end
-abbrev pub messages_told : End → ℕ → List Telling → List Message
-messages_told e i [] = []
-messages_told e i (t ∷ ts) = (if is_of e i t.place then message_in t.what else []) ++ messages_told e i ts
+-- what lines tell of session i of an end
+abbrev pub told_of : End → ℕ → List Telling → List What
+told_of e i [] = []
+told_of e i (t ∷ ts) = (if is_of e i t.place then t.what ∷ [] else []) ++ told_of e i ts
+
+-- messages, told
+abbrev pub tells : List Message → List What
+tells [] = []
+tells (m ∷ ms) = Tells m ∷ tells ms
+
+-- a fault, told with its place
+abbrev pub fails : Option BgpFault → ℕ → List What
+fails None at = []
+fails (Some fault) at = Fails fault at ∷ []
+
+-- what is to be told of a stream: its messages in order, and then the fault that ends them, where
+-- there is one, behind the bytes of these messages (RFC 4271, sections 4 and 6.1)
+abbrev pub to_tell : List ℕ → List What
+to_tell bytes = tells (messages bytes) ++ fails (fault_in bytes) (place_of bytes)
+
+-- 1 for the line of a fault
+abbrev pub is_fault : What → ℕ
+is_fault (Tells m) = 0
+is_fault (Fails fault at) = 1
+
+-- how many of the lines are those of faults
+abbrev pub faults_told : List Telling → ℕ
+faults_told [] = 0
+faults_told (t ∷ ts) = is_fault t.what + faults_told ts
 
 -- of each session with its number, from 1 for the oldest
 abbrev pub AllNumbered : (ℕ → Session → Type 0) → List Session → Type 0
 AllNumbered P [] = ⊤
 AllNumbered P (s ∷ older) = P (suc (length older)) s × AllNumbered P older
 
--- a run's text is lines and the summary, and the messages that the lines tell of a session are those of the bytes that it delivered
-pub record TellsMessages (setup : Setup) (events : List Event) : Type 0 where
+-- a text is lines and the summary of a run; of each session the lines tell, in order, the messages
+-- and the one fault of the bytes that it delivered; and `faults` is how many lines are of faults
+pub record TellsRun (w : World) (text : List ℕ) (faults : ℕ) : Type 0 where
   pub tellings : List Telling
-  pub text : bgp_text setup events ≡ lines_of tellings ++ summary (run setup events)
-  pub each : (e : End) → AllNumbered (λ i s. messages_told e i tellings ≡ messages s.state.taken) (side (run setup events) e).sessions
+  pub text_is : text ≡ lines_of tellings ++ summary w
+  pub each : (e : End) →
+      AllNumbered (λ i s. told_of e i tellings ≡ to_tell s.state.taken) (side w e).sessions
+  pub count : faults_told tellings ≡ faults
+
+-- a run's text and the number of its sessions with a fault are those of such lines
+abbrev pub TellsMessages : Setup → List Event → Type 0
+TellsMessages setup events =
+    let w = run setup events in TellsRun w (bgp_text setup events) (bgp_faults w)
 
 -- the messages begin those of the bytes that were given to the partner; without a partner there are none
 abbrev pub ComeFrom : Option Session → List Message → Type 0

@@ -10,6 +10,7 @@ ghost use Rattle.link_world.specs.Events.{CanHappen};
 ghost use Rattle.link_world.specs.Standing.{StandsFor as WorldStands, setup_of, steps_taken};
 ghost use Rattle.bgp_link.specs.Follows.{Follows, IsHeard, is_done, renewed, taken_in, turn_of};
 ghost use Rattle.bgp_link.specs.Reads.{count_of};
+ghost use Rattle.bgp_link.specs.Tellings.{TellsRun};
 
 use crate::lines::Place;
 use crate::reading::read_piece;
@@ -189,9 +190,10 @@ fn follow(
 }
 
 /// Runs the events on the link, and reads what the takes of each session gave as the messages of one
-/// stream (RFC 4271, section 4): a line for each message that a take completes, one for the first
-/// fault of a session, and then the summary of the run. Both readers are new; afterwards each stands
-/// for the bytes that its end's live session delivered, and for no byte where there is none.
+/// stream (RFC 4271, section 4): a line for each message that a take completes, one for the fault of
+/// a session, with its kind and its place, and then the summary of the run. `faults` is how many of
+/// the lines are of faults. Both readers are new; afterwards each stands for the bytes that its end's
+/// live session delivered, and for no byte where there is none.
 ///
 /// The two addresses differ and are of one family. There are at most 20,000 events: clocks are set to
 /// LATEST at most, and rows that are added are those of a link file. An error comes only for want of
@@ -211,6 +213,7 @@ pub fn run_bgp(
     ensures text { IfOk result (λ r. r.text ≡ bgp_text (setup_of setup) events.now) }
     ensures forgeries { IfOk result (λ r. r.forgeries ≡ forgeries (run (setup_of setup) events.now).history) }
     ensures faults { IfOk result (λ r. r.faults ≡ bgp_faults (run (setup_of setup) events.now)) }
+    ensures told { IfOk result (λ r. TellsRun (run (setup_of setup) events.now) r.text r.faults) }
     ensures a { OnOk result (StandsFor a.new (taken_by (live (run (setup_of setup) events.now).a.sessions))) }
     ensures b { OnOk result (StandsFor b.new (taken_by (live (run (setup_of setup) events.now).b.sessions))) }
 {

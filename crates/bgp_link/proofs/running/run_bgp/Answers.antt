@@ -2,6 +2,7 @@ use Rattle.std.proofs.Common.{refl, arith, ◌∙◌}
 use Rattle.link_world.specs.Standing.{setup_of}
 use Rattle.bgp_link.proofs.FollowLaws.{reader_a, reader_b, starts, whole_text}
 use Rattle.bgp_link.proofs.RunLaws.{followed, one_more, stood}
+use Rattle.bgp_link.proofs.TellLaws.{tells_run}
 use Rattle.bgp_link.proofs.running.run_bgp.Goals as goal
 
 pub loop-event-init : goal.loop-event-init
@@ -63,3 +64,15 @@ returns-clause-faults c =
     let setup = setup_of c.args.setup in
     let events = c.args.events.now in
     (followed setup events l.event-index l.a l.b l.said.text.items l.said.faults le l.invariant.4).faults_are
+
+pub returns-clause-told : goal.returns-clause-told
+returns-clause-told c =
+    let l = c.loop-event in
+    let le = rw c.as_slice-event-items.ensures at c.loop-event-test.false in
+    let setup = setup_of c.args.setup in
+    let events = c.args.events.now in
+    let more = rw c.as_slice.ensures at c.in_ok-extend_from_slice.ensures.items in
+    let f = followed setup events l.event-index l.a l.b l.said.text.items l.said.faults le l.invariant.4 in
+    tells_run setup events c.from_vec.result l.said.faults
+    (whole_text setup events l.a l.b l.said.text.items c.from_vec.result c.in_ok-summary.summary l.said.faults f (c.from_vec.ensures ∙ more)
+    (c.in_ok-summary.ensures setup events (stood l.world setup events l.event-index le l.invariant.0))) f.faults_are
