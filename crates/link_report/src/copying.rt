@@ -35,7 +35,10 @@ impl Outcome {
             Outcome::Idle => Outcome::Idle,
             Outcome::Nothing => Outcome::Nothing,
             Outcome::Arrival(arrival) => Outcome::Arrival(*arrival),
-            Outcome::Took(bytes, end_shown) => Outcome::Took(filled(room, bytes.as_slice()), *end_shown),
+            Outcome::Took(bytes, end_shown) => Outcome::Took(
+                filled(room, bytes.as_slice()),
+                *end_shown,
+            ),
             Outcome::Image(bytes) => Outcome::Image(filled(room, bytes.as_slice())),
             Outcome::Added(row) => Outcome::Added(*row),
             Outcome::TooManyRows => Outcome::TooManyRows,

@@ -74,8 +74,8 @@ pub copied-told-requires : goal.copied-told-requires
 copied-told-requires c =
     record {
       room = ∥∥₁_elim c.args.self.now.link le_prop (λ l.
-      told_fits l.setup l.world c.args.event.now c.in_ok-outcome.outcome _ (c.in_ok-outcome.ensures.shows l.setup l.world l.stands)
-      (c.in_ok-room.ensures l.world.history l.stands.log_is));
+          told_fits l.setup l.world c.args.event.now c.in_ok-outcome.outcome _ (c.in_ok-outcome.ensures.shows l.setup l.world l.stands)
+          (c.in_ok-room.ensures l.world.history l.stands.log_is));
     }
 
 pub returns-clause-lawful : goal.returns-clause-lawful
