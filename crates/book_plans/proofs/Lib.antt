@@ -1,0 +1,5 @@
+pub mod DifferenceLaws
+pub mod FindingLaws
+pub mod MarginLaws
+pub mod OrderLaws
+pub mod TimeLaws

@@ -1,0 +1,57 @@
+//! Theorems about the margins of a plan, as clauses of functions that do nothing.
+ghost use Rattle.std.specs.Prelude.{◌≡◌, ◌↔◌, ℕ, List, [], true, Ok};
+ghost use Rattle.ao_base.specs.declared.address.Address.{Address};
+ghost use Rattle.ao_base.specs.declared.address.Pair.{Pair};
+ghost use Rattle.key_model.specs.declared.lint.LintAnswer.TheVariants as answer;
+ghost use Rattle.key_model.specs.Plans.{accepts_from, outlasts, lint_of, lint_rows, rows_at};
+ghost use Rattle.key_model.specs.Nodes.{tables_of};
+ghost use Rattle.key_model.specs.Rows.{Row, Table};
+ghost use Rattle.book_plans.specs.Differences.{differences, is_alike};
+ghost use Rattle.book_plans.specs.Findings.{findings, first_answer, wanted_accepting, widened, accepting_in};
+ghost use Rattle.book_plans.specs.Margins.{IsOrdered, AreOrdered, AlignedAtLead, AlignedAtLag, IsMargin, lead_margin, lag_margin, lead_margin_of, lag_margin_of, SaysAlignedAtLead, SaysAlignedAtLag};
+
+/// Two tables are aligned exactly with the leads within the one margin, at the given lag, and with
+/// the lags within the other, at the given lead: with none, with each, or with those up to a
+/// greatest.
+pub fn margins_are_greatest()
+    ensures lead { (a b : List Row) (pair : Pair) (lag : ℕ) → AreOrdered a → AreOrdered b → IsMargin (AlignedAtLead a b pair lag) (lead_margin a b pair lag) }
+    ensures lag { (a b : List Row) (pair : Pair) (lead : ℕ) → AreOrdered a → AreOrdered b → IsMargin (AlignedAtLag a b pair lead) (lag_margin a b pair lead) }
+{}
+
+/// Where the judgement on a connection is `Aligned`, it stays so exactly for the leads within the one
+/// margin, with all else as it is, and exactly for the lags within the other.
+pub fn lint_holds_within_margins()
+    ensures lead { (tables : List Table) (pair : Pair) (lead lag low high : ℕ)
+        → AreOrdered (rows_at tables pair.local.address) → AreOrdered (rows_at tables pair.remote.address)
+        → lint_of tables pair lead lag low high ≡ answer.Aligned
+        → IsMargin (SaysAlignedAtLead tables pair lag low high) (lead_margin_of tables pair lag) }
+    ensures lag { (tables : List Table) (pair : Pair) (lead lag low high : ℕ)
+        → AreOrdered (rows_at tables pair.local.address) → AreOrdered (rows_at tables pair.remote.address)
+        → lint_of tables pair lead lag low high ≡ answer.Aligned
+        → IsMargin (SaysAlignedAtLag tables pair lead low high) (lag_margin_of tables pair lead) }
+{}
+
+/// A row of the other end accepts what a row sends, at whatever time, exactly where it differs in no
+/// column.
+pub fn alike_rows_accept()
+    ensures { (pair : Pair) (r other : Row) → is_alike (differences pair r other) ≡ accepts_from pair r other }
+{}
+
+/// There is no finding exactly where the judgement is `Aligned`, and of the findings the first is what
+/// it says.
+pub fn findings_are_of_lint()
+    ensures first { (a b : List Row) (pair : Pair) (lead lag low high : ℕ) → first_answer (findings a b pair lead lag low high) ≡ lint_rows a b pair lead lag low high }
+    ensures none { (a b : List Row) (pair : Pair) (lead lag low high : ℕ) → (findings a b pair lead lag low high ≡ []) ↔ (lint_rows a b pair lead lag low high ≡ answer.Aligned) }
+{}
+
+/// A row that accepts for as long as before, and as long as another row wants, accepts throughout what
+/// that row sends.
+pub fn widened_rows_outlast()
+    ensures { (lead lag : ℕ) (r other : Row) → IsOrdered r → outlasts lead lag r (accepting_in (widened other.accepting (wanted_accepting lead lag r)) other) ≡ true }
+{}
+
+/// In each table of a key file without a fault no row ends sending before it begins, or after the last
+/// time that a key file can write.
+pub fn rows_of_files_are_ordered()
+    ensures { (text : List ℕ) (tables : List Table) (address : Address) → tables_of text ≡ Ok tables → AreOrdered (rows_at tables address) }
+{}

@@ -1,0 +1,20 @@
+//! The rows of a node.
+ghost use Rattle.std.specs.Prelude.{◌≡◌, ◌≤◌, length};
+ghost use Rattle.key_model.specs.Plans.{rows_at};
+
+use ao_base::Address;
+use key_table::{Row, Tables};
+
+/// The rows of the node with this address; none where no node has it.
+pub(crate) fn rows_at<'a>(tables: &'a Tables, address: &Address) -> &'a [Row]
+    ensures value { result.now ≡ rows_at tables.now address.now }
+    ensures limit { length result.now ≤ 64 }
+{
+    match tables.table(address) {
+        Some(table) => {
+            let _count = table.rows();
+            table.entries()
+        }
+        None => &[],
+    }
+}

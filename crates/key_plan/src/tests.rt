@@ -1,0 +1,158 @@
+//! Margins and findings of two nodes with one row each.
+use crate::{
+    Finding, Margin, differences, findings, lag_margin, lead_margin, wanted_accepting, widened,
+};
+use ao_base::{Address, Algorithm, Bytes, End, Pair, Socket};
+use key_table::{Direction, Lifetime, NewRow, Table, Tables};
+use std::alloc::Global;
+use std::test::Fail;
+
+const A: Address = Address::V4([10, 0, 0, 1]);
+
+const B: Address = Address::V4([10, 0, 0, 2]);
+
+/// The connection between two nodes, as the first one sees it.
+fn pair(local: Address, remote: Address) -> Pair {
+    Pair {
+        local: Socket {
+            address: local,
+            port: 1000,
+        },
+        remote: Socket {
+            address: remote,
+            port: 2000,
+        },
+    }
+}
+
+/// The row of a node: its direction and its key, and the last second in which it sends and accepts,
+/// both from 0 on.
+#[derive(Clone, Copy)]
+struct Terms {
+    direction: Direction,
+    key: u8,
+    sent: u16,
+    accepted: u16,
+}
+
+/// A row that sends at 0 to 3600 and accepts at 0 to 3660.
+const BOTH: Terms = Terms {
+    direction: Direction::Both,
+    key: 11,
+    sent: 3600,
+    accepted: 3660,
+};
+
+const SHORT: Terms = Terms {
+    accepted: 3659,
+    ..BOTH
+};
+
+const OTHER_KEY: Terms = Terms { key: 12, ..BOTH };
+
+const SEND: Terms = Terms {
+    direction: Direction::Send,
+    ..BOTH
+};
+
+const RECEIVE: Terms = Terms {
+    direction: Direction::Receive,
+    ..BOTH
+};
+
+/// Withdraws row 1, and adds row 2 with these terms.
+fn replace_row(alloc: Global, table: &mut Table, terms: Terms) -> Result<(), Fail> {
+    table.withdraw(1).ok().ok_or("no row")?;
+    let row = NewRow {
+        recv_id: 1,
+        send_id: 1,
+        algorithm: Algorithm::HmacSha1,
+        master: Bytes::from_vec(Vec::from_slice(alloc, &[terms.key])?),
+        with_options: true,
+        direction: terms.direction,
+        sending: Lifetime {
+            first: 0,
+            last: u64::from(terms.sent),
+        },
+        accepting: Lifetime {
+            first: 0,
+            last: u64::from(terms.accepted),
+        },
+    };
+    table.add(alloc, row)?;
+    Ok(())
+}
+
+fn two_nodes(alloc: Global, a: Terms, b: Terms) -> Result<Tables, Fail> {
+    let mut tables = Tables::shared(alloc, A, B, Algorithm::HmacSha1, &[1])?;
+    for (address, terms) in [(A, a), (B, b)] {
+        let table = tables.table_mut(&address).ok_or("no node")?;
+        replace_row(alloc, table, terms)?;
+    }
+    Ok(tables)
+}
+
+const ALWAYS: Terms = Terms {
+    sent: 65535,
+    accepted: 65535,
+    ..BOTH
+};
+
+/// The rows of the two ends, and with which lags they are aligned where the lead is 0.
+const CASES: [(Terms, Terms, Option<Margin>); 7] = [
+    (BOTH, BOTH, Some(Margin::UpTo(60))),
+    (SHORT, BOTH, Some(Margin::UpTo(59))),
+    (BOTH, SHORT, Some(Margin::UpTo(59))),
+    (ALWAYS, ALWAYS, Some(Margin::UpTo(0))),
+    (BOTH, OTHER_KEY, None),
+    (SEND, BOTH, None),
+    (RECEIVE, RECEIVE, Some(Margin::Any)),
+];
+
+#[test]
+fn each_margin_is_that_of_the_shortest_row(rt: HostRuntime) -> Result<(), Fail> {
+    for (i, (a, b, margin)) in CASES.into_iter().enumerate() {
+        let tables = two_nodes(rt.alloc(), a, b)?;
+        assert_eq!(rt; lag_margin(&tables, &pair(A, B), 0), margin, "case {i}");
+        let leads = match margin {
+            None => None,
+            Some(_) => Some(Margin::Any),
+        };
+        assert_eq!(rt; lead_margin(&tables, &pair(A, B), 0), leads, "case {i}");
+    }
+    Ok(())
+}
+
+#[test]
+fn all_findings_are_told(rt: HostRuntime) -> Result<(), Fail> {
+    let tables = two_nodes(rt.alloc(), BOTH, OTHER_KEY)?;
+    let found = findings(rt.alloc(), &tables, &pair(A, B), 0, 0, 3500, 3700)?;
+    let expected = [
+        Finding::NoPeerRow(End::A, 2),
+        Finding::NoPeerRow(End::B, 2),
+        Finding::Gap(End::A, 3601, 3700),
+        Finding::Gap(End::B, 3601, 3700),
+    ];
+    assert_eq!(rt; found.len(), expected.len());
+    for (finding, wanted) in found.iter().zip(expected.iter()) {
+        assert_eq!(rt; *finding, *wanted);
+    }
+    Ok(())
+}
+
+#[test]
+fn a_short_row_is_told_what_it_lacks(rt: HostRuntime) -> Result<(), Fail> {
+    let tables = two_nodes(rt.alloc(), BOTH, SHORT)?;
+    let found = findings(rt.alloc(), &tables, &pair(A, B), 0, 60, 0, 3600)?;
+    assert_eq!(rt; found.len(), 1);
+    assert_eq!(rt; found[0], Finding::ShortAccept(End::A, 2));
+    let here = tables.table(&A).ok_or("no node")?;
+    let there = tables.table(&B).ok_or("no node")?;
+    assert_eq!(rt; (here.rows(), there.rows()), (2, 2));
+    let row = here.row(2);
+    let other = there.row(2);
+    assert_eq!(rt; differences(&pair(A, B), row, other).is_none(), true);
+    let set = widened(other.accepting(), wanted_accepting(row, 0, 60));
+    assert_eq!(rt; (set.first, set.last), (0, 3660));
+    Ok(())
+}
