@@ -1,1 +1,4 @@
+pub mod BlockLaws
+pub mod Fronts
 pub mod Passing
+pub mod RecordLaws

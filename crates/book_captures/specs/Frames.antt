@@ -1,4 +1,5 @@
--- The datagram in a frame: behind the link's header, tags, a session's header and a stack of labels.
+-- The datagram in a frame: behind the link's header, tags, a session's header and a stack of
+-- labels.
 use Rattle.std.specs.Prelude.{ℕ, zero, suc, ◌+◌, ◌-◌, ◌*◌, ◌/◌, ◌%◌, ◌==◌, nat_lt, Bool, true, false, List, [], ◌∷◌, length, take, drop, slice_index, Option, Some, None, Result, Ok, Err, if◌then◌else◌}
 use Rattle.ao_base.specs.Results.{◌>>=◌}
 use Rattle.wire_model.specs.declared.pcap_head.ByteOrder.TheVariants.{Big, Little}
@@ -55,8 +56,8 @@ ppp n = if n == 0x21 then Ipv4
     else if n == 0x283 then Labels
     else Other
 
--- the protocol of an address family: 2 is IPv4 everywhere; IPv6 is 24 for NetBSD and OpenBSD, 28 for
--- FreeBSD and 30 for Darwin (libpcap, LINKTYPE_NULL)
+-- the protocol of an address family: 2 is IPv4 everywhere; IPv6 is 24 for NetBSD and OpenBSD, 28
+-- for FreeBSD and 30 for Darwin (libpcap, LINKTYPE_NULL)
 unfoldable pub family : ℕ → Protocol
 family n = if n == 2 then Ipv4
     else if n == 24 then Ipv6
@@ -69,7 +70,8 @@ abbrev pub or_else : Protocol → Protocol → Protocol
 or_else Other second = second
 or_else first second = first
 
--- how long the header of a link is (RFC 894; libpcap, LINKTYPE_LINUX_SLL, LINKTYPE_LINUX_SLL2, LINKTYPE_NULL)
+-- how long the header of a link is (RFC 894; libpcap, LINKTYPE_LINUX_SLL, LINKTYPE_LINUX_SLL2,
+-- LINKTYPE_NULL)
 abbrev pub header_length : LinkType → ℕ
 header_length Ethernet = 14
 header_length LinuxCooked = 16
@@ -82,7 +84,8 @@ abbrev pub protocol_in : LinkType → List ℕ → Protocol
 protocol_in Ethernet frame = ethertype (two_at Big frame 12)
 protocol_in LinuxCooked frame = ethertype (two_at Big frame 14)
 protocol_in LinuxCookedV2 frame = ethertype (two_at Big frame 0)
-protocol_in BsdLoopback frame = or_else (family (four_at Big frame 0)) (family (four_at Little frame 0))
+protocol_in BsdLoopback frame =
+    or_else (family (four_at Big frame 0)) (family (four_at Little frame 0))
 protocol_in RawIp frame = Ip
 protocol_in RawIpv4 frame = Ipv4
 protocol_in RawIpv6 frame = Ipv6
@@ -92,15 +95,16 @@ unfoldable pub behind_link : LinkType → List ℕ → Result Layer Skipped
 behind_link link frame = if nat_lt (length frame) (header_length link) then Err (Short header.Link)
     else Ok (record { protocol = protocol_in link frame; body = drop (header_length link) frame })
 
--- what follows any number of tags: each has two bytes of control information, and then the EtherType of
--- what follows it (IEEE 802.1Q, 9.6)
+-- what follows any number of tags: each has two bytes of control information, and then the
+-- EtherType of what follows it (IEEE 802.1Q, 9.6)
 unfoldable pub behind_tags : Protocol → List ℕ → Result Layer Skipped
 behind_tags Tag (a ∷ b ∷ c ∷ d ∷ rest) = behind_tags (ethertype (c * 256 + d)) rest
 behind_tags Tag body = Err (Short header.Tag)
 behind_tags protocol body = Ok (record { protocol = protocol; body = body })
 
--- what follows the header of a session of PPPoE, where one stands: version 1 and type 1, code 0, two
--- bytes of session and two of length, and then PPP's protocol (RFC 2516, section 4; RFC 1661, section 2)
+-- what follows the header of a session of PPPoE, where one stands: version 1 and type 1, code 0,
+-- two bytes of session and two of length, and then PPP's protocol (RFC 2516, section 4; RFC 1661,
+-- section 2)
 unfoldable pub behind_session : Protocol → List ℕ → Result Layer Skipped
 behind_session Session body = if nat_lt (length body) 8 then Err (Short header.Session)
     else if two_at Big body 0 == 0x1100
@@ -124,8 +128,8 @@ innermost link frame = do
   carried ← behind_session untagged.protocol untagged.body
   behind_labels carried.protocol carried.body
 
--- the version of IP that a protocol lets a datagram's first four bits say (RFC 791, section 3.1; RFC
--- 8200, section 3)
+-- the version of IP that a protocol lets a datagram's first four bits say (RFC 791, section 3.1;
+-- RFC 8200, section 3)
 abbrev pub version_by : Protocol → ℕ → Result IpVersion Skipped
 version_by Ip n = if n == 4 then Ok V4 else if n == 6 then Ok V6 else Err Version
 version_by Ipv4 n = if n == 4 then Ok V4 else Err Version
@@ -151,14 +155,15 @@ abbrev pub is_zero : IpVersion → ℕ → List ℕ → Bool
 is_zero V6 at bytes = false
 is_zero V4 at bytes = if nat_lt (length bytes) 20 then false else two_at Big bytes at == 0
 
--- how long a datagram is by its own header, or the header where it isn't all there (RFC 791, section
--- 3.1; RFC 8200, section 3)
+-- how long a datagram is by its own header, or the header where it isn't all there (RFC 791,
+-- section 3.1; RFC 8200, section 3)
 abbrev pub told_length : IpVersion → List ℕ → ℕ
 told_length V4 bytes = if nat_lt (length bytes) 20 then 20 else two_at Big bytes 2
 told_length V6 bytes = if nat_lt (length bytes) 40 then 40 else 40 + two_at Big bytes 4
 
--- how long a datagram is that begins these bytes, of a packet of which so many bytes are missing; it has
--- no length of its own where a network card was to fill it in, and then reaches to the end (own)
+-- how long a datagram is that begins these bytes, of a packet of which so many bytes are missing;
+-- it has no length of its own where a network card was to fill it in, and then reaches to the end
+-- (own)
 abbrev pub full_length : IpVersion → List ℕ → ℕ → ℕ
 full_length version bytes missing = if is_zero version 2 bytes then length bytes + missing
     else told_length version bytes
@@ -168,8 +173,8 @@ abbrev pub extent_of : (full here missing : ℕ) → Extent
 extent_of full here missing = if nat_lt (here + missing) full then extent.Short
     else if nat_lt here full then extent.Cut else extent.Whole
 
--- a datagram as far as it was captured; whether its total length and its header's checksum are 0, as
--- where a network card was to fill them in
+-- a datagram as far as it was captured; whether its total length and its header's checksum are 0,
+-- as where a network card was to fill them in
 pub record Datagram : Type 0 where
   pub version : IpVersion
   pub bytes : List ℕ
@@ -177,7 +182,8 @@ pub record Datagram : Type 0 where
   pub no_length : Bool
   pub no_checksum : Bool
 
--- the datagram of this version that begins these bytes, of a packet of which so many bytes are missing
+-- the datagram of this version that begins these bytes, of a packet of which so many bytes are
+-- missing
 unfoldable pub datagram_at : IpVersion → List ℕ → ℕ → Datagram
 datagram_at version bytes missing = record {
   version = version;

@@ -1,5 +1,9 @@
-//! The laws above the frames of a link.
-ghost use Rattle.std.specs.Prelude.{◌≡◌, ℕ, List, ◌++◌, Ok};
+//! The laws above the frames of a link, and above the records and blocks of a file.
+ghost use Rattle.std.specs.Prelude.{◌≡◌, ℕ, List, ◌++◌, Option, Ok};
+ghost use Rattle.wire_model.specs.declared.pcap_head.ByteOrder.{ByteOrder};
+ghost use Rattle.book_captures.specs.declared.pcap_head.PcapHead.{PcapHead};
+ghost use Rattle.book_captures.specs.PcapFiles.{Kept, record_at, IsRecord};
+ghost use Rattle.book_captures.specs.Blocks.{Block, block_at, IsBlock};
 ghost use Rattle.std.specs.List.{All};
 ghost use Rattle.book_captures.specs.declared.link_type.Protocol.TheVariants.{Ip, Labels};
 ghost use Rattle.book_captures.specs.Frames.{ethertype, behind_tags, behind_labels};
@@ -12,4 +16,22 @@ pub fn tags_and_labels_are_passed_over()
         → behind_tags (ethertype (first_kind tags kind)) (spell_tags tags kind body) ≡ behind_tags (ethertype kind) body }
     ensures labels { (above : List LabelEntry) (bottom : LabelEntry) (body : List ℕ)
         → behind_labels Labels (spell_labels above (spell_label bottom 1 ++ body)) ≡ Ok (record { protocol = Ip; body = body }) }
+{}
+
+/// A record of a classic pcap file is read exactly where the bytes are one, with what follows it (libpcap,
+/// pcap-savefile).
+pub fn records_are_their_grammar()
+    ensures read { (head : PcapHead) (text : List ℕ) (kept : Kept) (rest : List ℕ) → record_at head text ≡ Ok (kept, rest)
+        → (one : List ℕ) × IsRecord head kept one × (text ≡ one ++ rest) }
+    ensures only { (head : PcapHead) (kept : Kept) (one rest : List ℕ) → IsRecord head kept one
+        → record_at head (one ++ rest) ≡ Ok (kept, rest) }
+{}
+
+/// A block of a pcapng file is read exactly where the bytes are one, with what follows it
+/// (draft-ietf-opsawg-pcapng, section 3.1).
+pub fn blocks_are_their_grammar()
+    ensures read { (section : Option ByteOrder) (text : List ℕ) (block : Block) (rest : List ℕ) → block_at section text ≡ Ok (block, rest)
+        → (one : List ℕ) × IsBlock section block one × (text ≡ one ++ rest) }
+    ensures only { (section : Option ByteOrder) (block : Block) (one rest : List ℕ) → IsBlock section block one
+        → block_at section (one ++ rest) ≡ Ok (block, rest) }
 {}

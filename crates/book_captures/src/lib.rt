@@ -1,13 +1,18 @@
-//! Captures as people have them: the frames of a link and the datagrams in them. Definitions, with the
-//! plain types that code shares with them; the empty functions carry theorems about the definitions.
+//! Captures as people have them: pcap and pcapng files, the frames of a link, and the datagrams in them.
+//! Definitions, with the plain types that code shares with them; the empty functions carry theorems about
+//! the definitions.
 #![tactic(auto)]
 
+mod block_parts;
 mod datagram_parts;
 mod laws;
 mod link_type;
+mod pcap_head;
 mod reasons;
 
+pub use block_parts::{BlockFault, BodyFault, Interface, TimeResolution};
 pub use datagram_parts::{Extent, IpVersion};
-pub use laws::tags_and_labels_are_passed_over;
+pub use laws::{blocks_are_their_grammar, records_are_their_grammar, tags_and_labels_are_passed_over};
 pub use link_type::{LinkType, Protocol};
+pub use pcap_head::{PcapHead, PcapHeadFault, RecordFault, Resolution};
 pub use reasons::{Header, Skipped};

@@ -1,0 +1,24 @@
+-- Numbers among the first bytes, whatever follows them.
+use Rattle.std.proofs.Common.{◌≡◌, ℕ, zero, suc, ◌+◌, ◌<◌, ◌≤◌, List, [], ◌∷◌, ◌++◌, length, take, drop, refl, ap, arith}
+use Rattle.std.specs.Prelude.{slice_index}
+use Rattle.std.proofs.lemmas.List.{get_or_append_left}
+use Rattle.wire_model.specs.declared.pcap_head.ByteOrder.{ByteOrder}
+use Rattle.wire_model.specs.declared.pcap_head.ByteOrder.TheVariants.{Big, Little}
+use Rattle.wire_model.specs.Packets.{two_at, four_at}
+
+index : (xs ys : List ℕ) (i : ℕ) → i < length xs → slice_index (xs ++ ys) i ≡ slice_index xs i
+index xs ys i lt = get_or_append_left xs ys 0 i lt
+
+pub four_front : (order : ByteOrder) (xs ys : List ℕ) (i : ℕ) → i + 3 < length xs → four_at order (xs ++ ys) i ≡ four_at order xs i
+four_front Big xs ys i lt = rw (index xs ys i (omega arith), index xs ys (i + 1) (omega arith), index xs ys (i + 2) (omega arith), index xs ys (i + 2 + 1) (omega arith)) refl
+four_front Little xs ys i lt = rw (index xs ys i (omega arith), index xs ys (i + 1) (omega arith), index xs ys (i + 2) (omega arith), index xs ys (i + 2 + 1) (omega arith)) refl
+
+take_none : (n : ℕ) → [] ≡ take {A = ℕ} n []
+take_none zero = refl
+take_none (suc n) = refl
+
+pub take_drop : (m n k : ℕ) (xs : List ℕ) → m ≡ n + k → drop k (take m xs) ≡ take n (drop k xs)
+take_drop m n zero xs e = let same : m ≡ n = omega arith in ap (λ (i : ℕ). take i xs) same
+take_drop zero n (suc k) xs e = absurd (omega arith)
+take_drop (suc m) n (suc k) [] e = take_none n
+take_drop (suc m) n (suc k) (x ∷ xs) e = take_drop m n k xs (omega arith)

@@ -1,0 +1,96 @@
+-- Classic pcap files of either resolution: a header, and then records (libpcap, pcap-savefile).
+use Rattle.std.specs.Prelude.{◌≡◌, ℕ, ◌+◌, ◌*◌, ◌%◌, ◌==◌, ◌&&◌, ◌≤◌, nat_lt, List, [], ◌∷◌, ◌++◌, take, drop, length, Option, Some, None, Result, Ok, Err, if◌then◌else◌}
+use Rattle.wire_model.specs.declared.pcap_head.ByteOrder.{ByteOrder}
+use Rattle.wire_model.specs.declared.pcap_head.ByteOrder.TheVariants.{Big, Little}
+use Rattle.wire_model.specs.Packets.{two_at, four_at}
+use Rattle.book_captures.specs.declared.pcap_head.Resolution.{Resolution}
+use Rattle.book_captures.specs.declared.pcap_head.Resolution.TheVariants.{Microseconds, Nanoseconds}
+use Rattle.book_captures.specs.declared.pcap_head.PcapHead.{PcapHead}
+use Rattle.book_captures.specs.declared.pcap_head.PcapHeadFault.{PcapHeadFault}
+use Rattle.book_captures.specs.declared.pcap_head.PcapHeadFault.TheVariants as head_fault
+use Rattle.book_captures.specs.declared.pcap_head.RecordFault.{RecordFault}
+use Rattle.book_captures.specs.declared.pcap_head.RecordFault.TheVariants as record_fault
+
+-- the number that begins a file (libpcap, pcap-savefile)
+abbrev pub magic : Resolution → ℕ
+magic Microseconds = 0xa1b2c3d4
+magic Nanoseconds = 0xa1b23c4d
+
+-- the resolution that the first four bytes tell in this order
+abbrev pub resolution_by : ByteOrder → List ℕ → Option Resolution
+resolution_by order head = if four_at order head 0 == magic Microseconds then Some Microseconds
+    else if four_at order head 0 == magic Nanoseconds then Some Nanoseconds else None
+
+-- what a header in this order and resolution says: version 2.4, and the link type in the low 16
+-- bits of the last field (pcap-savefile; the other fields and bits don't count, own)
+abbrev pub head_by : ByteOrder → Resolution → List ℕ → Result PcapHead PcapHeadFault
+head_by order resolution head = if (two_at order head 4 == 2) && (two_at order head 6 == 4)
+    then Ok (record {
+      order = order;
+      resolution = resolution;
+      link = four_at order head 20 % 65536;
+    })
+    else Err head_fault.Version
+
+-- what a header says, where the first four bytes tell these resolutions in both orders
+abbrev pub head_for : (big little : Option Resolution) → List ℕ → Result PcapHead PcapHeadFault
+head_for (Some resolution) little head = head_by Big resolution head
+head_for None (Some resolution) head = head_by Little resolution head
+head_for None None head = Err head_fault.Magic
+
+-- what the header at the front of a file says, or its first fault (pcap-savefile)
+unfoldable pub pcap_head : List ℕ → Result PcapHead PcapHeadFault
+pcap_head file = if nat_lt (length file) 24 then Err head_fault.Short
+    else head_for (resolution_by Big file) (resolution_by Little file) file
+
+-- how many nanoseconds a unit has
+abbrev pub nanoseconds : Resolution → ℕ
+nanoseconds Microseconds = 1000
+nanoseconds Nanoseconds = 1
+
+-- a packet as a capture keeps it: when it was seen, in nanoseconds since 1970, how many bytes it
+-- had, and those that the snapshot left
+pub record Kept : Type 0 where
+  pub time : ℕ
+  pub original : ℕ
+  pub bytes : List ℕ
+
+-- the time of a record: seconds since 1970, and units of the file's resolution (pcap-savefile)
+abbrev pub record_time : PcapHead → List ℕ → ℕ
+record_time head text = four_at head.order text 0 * 1000000000
+    + four_at head.order text 4 * nanoseconds head.resolution
+
+-- the most bytes that a record may keep (libpcap; own)
+abbrev pub most_kept : ℕ
+most_kept = 262144
+
+-- the record at the front with this kept length, and the bytes behind it
+abbrev pub record_of_length : PcapHead → ℕ → List ℕ → Result (Kept × List ℕ) RecordFault
+record_of_length head len text = if nat_lt most_kept len then Err record_fault.TooLong
+    else if nat_lt (length text) (16 + len) then Err record_fault.Short
+    else Ok (record {
+      time = record_time head text;
+      original = four_at head.order text 12;
+      bytes = take len (drop 16 text);
+    }, drop (16 + len) text)
+
+-- the record at the front, and the bytes behind it: its time, kept length and original length, of
+-- four bytes each, and the kept bytes (pcap-savefile)
+unfoldable pub record_at : PcapHead → List ℕ → Result (Kept × List ℕ) RecordFault
+record_at head text = if nat_lt (length text) 16 then Err record_fault.Short
+    else record_of_length head (four_at head.order text 8) text
+
+-- the bytes are a record that keeps this packet (pcap-savefile)
+pub record IsRecord (head : PcapHead) (kept : Kept) (bytes : List ℕ) : Type 0 where
+  pub time : record_time head bytes ≡ kept.time
+  pub kept_length : four_at head.order bytes 8 ≡ length kept.bytes
+  pub original : four_at head.order bytes 12 ≡ kept.original
+  pub kept_bytes : drop 16 bytes ≡ kept.bytes
+  pub most : length kept.bytes ≤ most_kept
+  pub whole : length bytes ≡ 16 + length kept.bytes
+
+-- the bytes are records that keep these packets, one after another (pcap-savefile)
+abbrev pub AreRecords : PcapHead → List Kept → List ℕ → Type 0
+AreRecords head [] bytes = bytes ≡ []
+AreRecords head (k ∷ ks) bytes = (one : List ℕ) × (others : List ℕ)
+    × IsRecord head k one × AreRecords head ks others × (bytes ≡ one ++ others)
