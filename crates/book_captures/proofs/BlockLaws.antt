@@ -25,7 +25,7 @@ order_front section xs ys le =
 
 -- the block of this length
 abbrev whole : ByteOrder → ℕ → List ℕ → Block
-whole order len text = record { order = order; kind = four_at order text 0; body = take (len - 12) (drop 8 text) }
+whole order len text = record { order = order; kind = four_at order text 0; body = take (len - 4 - 8) (drop 8 text) }
 
 no_length_fault : (len : ℕ) → 12 ≤ len → len ≤ 16777216 → len % 4 ≡ 0 → length_fault len ≡ None
 no_length_fault len least most aligned = rw (le-ltb len 12 least, le-ltb 16777216 len most, aligned) refl
@@ -60,12 +60,11 @@ block_read section b one rest is =
     let last : four_at b.order (one ++ rest) (length one - 4) ≡ length one = four_front b.order one rest (length one - 4) (omega arith) ∙ is.last_length in
     let kind : four_at b.order (one ++ rest) 0 ≡ b.kind = four_front b.order one rest 0 (omega arith) ∙ is.kind in
     let behind = length-drop 8 one in
-    let body : take (length one - 12) (drop 8 (one ++ rest)) ≡ b.body =
-        ap (take (length one - 12)) (drop-append-le 8 one rest (omega arith))
-        ∙ (take-append-le (length one - 12) (drop 8 one) rest (omega arith)
-        ∙ (sym (take_drop (length one - 4) (length one - 12) 8 one (omega arith)) ∙ is.body)) in
+    let body : take (length one - 4 - 8) (drop 8 (one ++ rest)) ≡ b.body =
+    ap (take (length one - 4 - 8)) (drop-append-le 8 one rest (omega arith))
+    ∙ (take-append-le (length one - 4 - 8) (drop 8 one) rest (omega arith) ∙ is.body) in
     at_whole section b.order (length one) (one ++ rest) (order_front section one rest least ∙ is.order) first least most is.aligned (omega arith) last
-    ∙ (ap (λ (x : Block). Ok (x, drop (length one) (one ++ rest))) (same_block b (four_at b.order (one ++ rest) 0) (take (length one - 12) (drop 8 (one ++ rest))) kind body)
+    ∙ (ap (λ (x : Block). Ok (x, drop (length one) (one ++ rest))) (same_block b (four_at b.order (one ++ rest) 0) (take (length one - 4 - 8) (drop 8 (one ++ rest))) kind body)
     ∙ ap (λ (xs : List ℕ). Ok (b, xs)) (drop_at one rest (length one) refl))
 
 -- a block at the front, as the grammar has it
@@ -83,22 +82,22 @@ front_whole section order len text order_is len_is least most aligned all last =
     let size : length (take len text) ≡ len = length-take-le len text all in
     let parts : take len text ++ drop len text ≡ text = take-append-drop len text in
     let told : order_at section (take len text) ≡ Ok order =
-        sym (order_front section (take len text) (drop len text) (omega arith)) ∙ (ap (order_at section) parts ∙ order_is) in
+    sym (order_front section (take len text) (drop len text) (omega arith)) ∙ (ap (order_at section) parts ∙ order_is) in
     let kind : four_at order (take len text) 0 ≡ four_at order text 0 =
-        sym (four_front order (take len text) (drop len text) 0 (omega arith)) ∙ ap (λ (xs : List ℕ). four_at order xs 0) parts in
+    sym (four_front order (take len text) (drop len text) 0 (omega arith)) ∙ ap (λ (xs : List ℕ). four_at order xs 0) parts in
     let first : four_at order (take len text) 4 ≡ len =
-        sym (four_front order (take len text) (drop len text) 4 (omega arith)) ∙ (ap (λ (xs : List ℕ). four_at order xs 4) parts ∙ len_is) in
+    sym (four_front order (take len text) (drop len text) 4 (omega arith)) ∙ (ap (λ (xs : List ℕ). four_at order xs 4) parts ∙ len_is) in
     let last_one : four_at order (take len text) (len - 4) ≡ len =
-        sym (four_front order (take len text) (drop len text) (len - 4) (omega arith)) ∙ (ap (λ (xs : List ℕ). four_at order xs (len - 4)) parts ∙ last) in
-    let inner : drop 8 (take (len - 4) (take len text)) ≡ take (len - 12) (drop 8 text) =
-        ap (drop 8) (take-take (len - 4) len text (omega arith)) ∙ take_drop (len - 4) (len - 12) 8 text (omega arith) in
+    sym (four_front order (take len text) (drop len text) (len - 4) (omega arith)) ∙ (ap (λ (xs : List ℕ). four_at order xs (len - 4)) parts ∙ last) in
+    let inner : take (len - 4 - 8) (drop 8 (take len text)) ≡ take (len - 4 - 8) (drop 8 text) =
+    ap (take (len - 4 - 8)) (take_drop len (len - 8) 8 text (omega arith)) ∙ take-take (len - 4 - 8) (len - 8) (drop 8 text) (omega arith) in
     record {
       one = take len text;
       is = record {
         order = told;
         kind = kind;
         first_length = first ∙ sym size;
-        body = ap (λ (n : ℕ). drop 8 (take (n - 4) (take len text))) size ∙ inner;
+        body = ap (λ (n : ℕ). take (n - 4 - 8) (drop 8 (take len text))) size ∙ inner;
         last_length = ap (λ (n : ℕ). four_at order (take len text) (n - 4)) size ∙ (last_one ∙ sym size);
         least = omega arith;
         most = omega arith;

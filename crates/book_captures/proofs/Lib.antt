@@ -1,4 +1,5 @@
 pub mod BlockLaws
+pub mod CaptureLaws
 pub mod Fronts
 pub mod Passing
 pub mod RecordLaws

@@ -1,5 +1,5 @@
 -- A record at the front is read by its grammar.
-use Rattle.std.proofs.Common.{◌≡◌, ℕ, ◌+◌, ◌*◌, ◌<◌, ◌≤◌, Bool, true, false, List, ◌++◌, length, take, drop, nat_lt, Result, Ok, Err, if◌then◌else◌, refl, sym, ap, ◌∙◌, subst, arith}
+use Rattle.std.proofs.Common.{◌≡◌, ℕ, ◌+◌, ◌-◌, ◌*◌, ◌<◌, ◌≤◌, Bool, true, false, List, ◌++◌, length, take, drop, nat_lt, Result, Ok, Err, if◌then◌else◌, refl, sym, ap, ◌∙◌, subst, arith}
 use Rattle.std.proofs.lemmas.Bool.{le-ltb, ltb-false}
 use Rattle.std.proofs.lemmas.List.{length-append, length-drop, length-take-le, take-append-drop, take_at, drop_at, drop-append-le}
 use Rattle.wire_model.specs.Packets.{four_at}
@@ -14,9 +14,13 @@ time_front head xs ys le =
     ap (λ (n : ℕ). n * 1000000000 + four_at head.order (xs ++ ys) 4 * nanoseconds head.resolution) (four_front head.order xs ys 0 (omega arith))
     ∙ ap (λ (n : ℕ). four_at head.order xs 0 * 1000000000 + n * nanoseconds head.resolution) (four_front head.order xs ys 4 (omega arith))
 
+-- the length of what is kept
+same_length : (n : ℕ) → 16 + n - 16 ≡ n
+same_length n = omega arith
+
 -- the packet of a record of this length
 abbrev whole : PcapHead → ℕ → List ℕ → Kept
-whole head len text = record { time = record_time head text; original = four_at head.order text 12; bytes = take len (drop 16 text) }
+whole head len text = record { time = record_time head text; original = four_at head.order text 12; bytes = take (16 + len - 16) (drop 16 text) }
 
 record_whole : (head : PcapHead) (text : List ℕ) → 16 ≤ length text → four_at head.order text 8 ≤ 262144 → 16 + four_at head.order text 8 ≤ length text
     → record_at head text ≡ Ok (whole head (four_at head.order text 8) text, drop (16 + four_at head.order text 8) text)
@@ -41,11 +45,13 @@ record_read head k one rest r =
     let time : record_time head (one ++ rest) ≡ k.time = time_front head one rest (omega arith) ∙ r.time in
     let original : four_at head.order (one ++ rest) 12 ≡ k.original = four_front head.order one rest 12 (omega arith) ∙ r.original in
     let split : drop 16 (one ++ rest) ≡ k.bytes ++ rest = drop-append-le 16 one rest (omega arith) ∙ ap (λ (xs : List ℕ). xs ++ rest) r.kept_bytes in
-    let kept : take (four_at head.order (one ++ rest) 8) (drop 16 (one ++ rest)) ≡ k.bytes = rw (len, split) (take_at k.bytes rest (length k.bytes) refl) in
+    let kept : take (16 + four_at head.order (one ++ rest) 8 - 16) (drop 16 (one ++ rest)) ≡ k.bytes =
+    ap (λ (n : ℕ). take n (drop 16 (one ++ rest))) (same_length (four_at head.order (one ++ rest) 8) ∙ len)
+    ∙ (ap (take (length k.bytes)) split ∙ take_at k.bytes rest (length k.bytes) refl) in
     let others : drop (16 + four_at head.order (one ++ rest) 8) (one ++ rest) ≡ rest = drop_at one rest (16 + four_at head.order (one ++ rest) 8) (omega arith) in
     record_whole head (one ++ rest) (omega arith) (omega arith) (omega arith)
     ∙ (ap (λ (x : Kept). Ok (x, drop (16 + four_at head.order (one ++ rest) 8) (one ++ rest)))
-    (same_kept k (record_time head (one ++ rest)) (four_at head.order (one ++ rest) 12) (take (four_at head.order (one ++ rest) 8) (drop 16 (one ++ rest))) time original kept)
+    (same_kept k (record_time head (one ++ rest)) (four_at head.order (one ++ rest) 12) (take (16 + four_at head.order (one ++ rest) 8 - 16) (drop 16 (one ++ rest))) time original kept)
     ∙ ap (λ (xs : List ℕ). Ok (k, xs)) others)
 
 -- a record at the front, as the grammar has it
@@ -64,9 +70,10 @@ front_whole head text long fits all =
     let time : record_time head one ≡ record_time head text = sym (time_front head one rest (omega arith)) ∙ ap (record_time head) parts in
     let original : four_at head.order one 12 ≡ four_at head.order text 12 = sym (four_front head.order one rest 12 (omega arith)) ∙ ap (λ (xs : List ℕ). four_at head.order xs 12) parts in
     let count : four_at head.order one 8 ≡ four_at head.order text 8 = sym (four_front head.order one rest 8 (omega arith)) ∙ ap (λ (xs : List ℕ). four_at head.order xs 8) parts in
-    let cut : drop 16 one ≡ take (four_at head.order text 8) (drop 16 text) = take_drop (16 + four_at head.order text 8) (four_at head.order text 8) 16 text (omega arith) in
+    let cut : drop 16 one ≡ take (16 + four_at head.order text 8 - 16) (drop 16 text) = take_drop (16 + four_at head.order text 8) (16 + four_at head.order text 8 - 16) 16 text (omega arith) in
     let behind = length-drop 16 text in
-    let kept_size : length (take (four_at head.order text 8) (drop 16 text)) ≡ four_at head.order text 8 = length-take-le (four_at head.order text 8) (drop 16 text) (omega arith) in
+    let kept_size : length (take (16 + four_at head.order text 8 - 16) (drop 16 text)) ≡ four_at head.order text 8 =
+    length-take-le (16 + four_at head.order text 8 - 16) (drop 16 text) (omega arith) ∙ same_length (four_at head.order text 8) in
     record {
       one = one;
       is = record { time = time; kept_length = count ∙ sym kept_size; original = original; kept_bytes = cut; most = omega arith; whole = omega arith };
@@ -84,7 +91,7 @@ read_as head text = Ok (whole head (four_at head.order text 8) text, drop (16 + 
 found_by : (short over part : Bool) (head : PcapHead) (text : List ℕ) (k : Kept) (rest : List ℕ) → nat_lt (length text) 16 ≡ short
     → nat_lt 262144 (four_at head.order text 8) ≡ over → nat_lt (length text) (16 + four_at head.order text 8) ≡ part
     → (if short then Err record_fault.Short else if over then Err record_fault.TooLong else if part then Err record_fault.Short
-        else read_as head text) ≡ Ok (k, rest)
+    else read_as head text) ≡ Ok (k, rest)
     → AtFront head text k rest
 found_by true over part head text k rest s o p e = absurd (cc)
 found_by false true part head text k rest s o p e = absurd (cc)

@@ -24,7 +24,7 @@ resolution_in zero order options = Decimal 6
 resolution_in (suc k) order options = if nat_lt (length options) 5 then Decimal 6
     else if two_at order options 0 == 0 then Decimal 6
     else if (two_at order options 0 == 9) && (two_at order options 2 == 1)
-        then resolution_of (slice_index options 4)
+    then resolution_of (slice_index options 4)
     else resolution_in k order (drop (4 + padded (two_at order options 2)) options)
 
 -- what the body of a block of type 1 says of an interface (section 4.2)
@@ -88,7 +88,7 @@ pub record Plain : Type 0 where
 unfoldable pub simple_in : ByteOrder → ℕ → List ℕ → Result Plain BodyFault
 simple_in order snapshot body = if nat_lt (length body) 4 then Err fault.Short
     else if nat_lt (length body) (4 + simple_length snapshot (four_at order body 0))
-        then Err fault.Short
+    then Err fault.Short
     else Ok (record {
       original = four_at order body 0;
       bytes = take (simple_length snapshot (four_at order body 0)) (drop 4 body);

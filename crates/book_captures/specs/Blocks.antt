@@ -1,5 +1,5 @@
 -- The blocks of a pcapng file (draft-ietf-opsawg-pcapng).
-use Rattle.std.specs.Prelude.{◌≡◌, ℕ, ◌-◌, ◌%◌, ◌==◌, ◌≤◌, nat_lt, List, take, drop, length, Option, Some, None, Result, Ok, Err, if◌then◌else◌}
+use Rattle.std.specs.Prelude.{◌≡◌, ℕ, ◌-◌, ◌%◌, ◌==◌, ◌≤◌, nat_lt, List, drop, length, slice_range, Option, Some, None, Result, Ok, Err, if◌then◌else◌}
 use Rattle.ao_base.specs.Results.{◌>>=◌, or_fault}
 use Rattle.wire_model.specs.declared.pcap_head.ByteOrder.{ByteOrder}
 use Rattle.wire_model.specs.declared.pcap_head.ByteOrder.TheVariants.{Big, Little}
@@ -47,11 +47,14 @@ abbrev pub block_of_length : ByteOrder → ℕ → Option BlockFault → List �
 block_of_length order len (Some why) text = Err why
 block_of_length order len None text = if nat_lt (length text) len then Err fault.Short
     else if four_at order text (len - 4) == len
-        then Ok (record {
-          order = order;
-          kind = four_at order text 0;
-          body = take (len - 12) (drop 8 text);
-        }, drop len text)
+    then Ok (
+      record {
+        order = order;
+        kind = four_at order text 0;
+        body = slice_range text 8 (len - 4);
+      },
+      drop len text,
+    )
     else Err fault.Trailer
 
 -- the block at the front, in a section of this order, if in one, and the bytes behind it: its type
@@ -66,7 +69,7 @@ pub record IsBlock (section : Option ByteOrder) (block : Block) (bytes : List �
   pub order : order_at section bytes ≡ Ok block.order
   pub kind : four_at block.order bytes 0 ≡ block.kind
   pub first_length : four_at block.order bytes 4 ≡ length bytes
-  pub body : drop 8 (take (length bytes - 4) bytes) ≡ block.body
+  pub body : slice_range bytes 8 (length bytes - 4) ≡ block.body
   pub last_length : four_at block.order bytes (length bytes - 4) ≡ length bytes
   pub least : 12 ≤ length bytes
   pub most : length bytes ≤ most_in_block

@@ -1,5 +1,5 @@
 -- Classic pcap files of either resolution: a header, and then records (libpcap, pcap-savefile).
-use Rattle.std.specs.Prelude.{◌≡◌, ℕ, ◌+◌, ◌*◌, ◌%◌, ◌==◌, ◌&&◌, ◌≤◌, nat_lt, List, [], ◌∷◌, ◌++◌, take, drop, length, Option, Some, None, Result, Ok, Err, if◌then◌else◌}
+use Rattle.std.specs.Prelude.{◌≡◌, ℕ, ◌+◌, ◌*◌, ◌%◌, ◌==◌, ◌&&◌, ◌≤◌, nat_lt, List, [], ◌∷◌, ◌++◌, drop, length, slice_range, Option, Some, None, Result, Ok, Err, if◌then◌else◌}
 use Rattle.wire_model.specs.declared.pcap_head.ByteOrder.{ByteOrder}
 use Rattle.wire_model.specs.declared.pcap_head.ByteOrder.TheVariants.{Big, Little}
 use Rattle.wire_model.specs.Packets.{two_at, four_at}
@@ -68,11 +68,14 @@ most_kept = 262144
 abbrev pub record_of_length : PcapHead → ℕ → List ℕ → Result (Kept × List ℕ) RecordFault
 record_of_length head len text = if nat_lt most_kept len then Err record_fault.TooLong
     else if nat_lt (length text) (16 + len) then Err record_fault.Short
-    else Ok (record {
-      time = record_time head text;
-      original = four_at head.order text 12;
-      bytes = take len (drop 16 text);
-    }, drop (16 + len) text)
+    else Ok (
+      record {
+        time = record_time head text;
+        original = four_at head.order text 12;
+        bytes = slice_range text 16 (16 + len);
+      },
+      drop (16 + len) text,
+    )
 
 -- the record at the front, and the bytes behind it: its time, kept length and original length, of
 -- four bytes each, and the kept bytes (pcap-savefile)

@@ -1,9 +1,10 @@
 //! The laws above the frames of a link, and above the records and blocks of a file.
-ghost use Rattle.std.specs.Prelude.{◌≡◌, ℕ, List, ◌++◌, Option, Ok};
+ghost use Rattle.std.specs.Prelude.{◌≡◌, ℕ, List, ◌++◌, Option, Some, None, Ok};
 ghost use Rattle.wire_model.specs.declared.pcap_head.ByteOrder.{ByteOrder};
 ghost use Rattle.book_captures.specs.declared.pcap_head.PcapHead.{PcapHead};
 ghost use Rattle.book_captures.specs.PcapFiles.{Kept, record_at, IsRecord};
 ghost use Rattle.book_captures.specs.Blocks.{Block, block_at, IsBlock};
+ghost use Rattle.book_captures.specs.Captures.{AreBlocks, Broken, blocks_of, EndsBroken};
 ghost use Rattle.std.specs.List.{All};
 ghost use Rattle.book_captures.specs.declared.link_type.Protocol.TheVariants.{Ip, Labels};
 ghost use Rattle.book_captures.specs.Frames.{ethertype, behind_tags, behind_labels};
@@ -34,4 +35,14 @@ pub fn blocks_are_their_grammar()
         → (one : List ℕ) × IsBlock section block one × (text ≡ one ++ rest) }
     ensures only { (section : Option ByteOrder) (block : Block) (one rest : List ℕ) → IsBlock section block one
         → block_at section (one ++ rest) ≡ Ok (block, rest) }
+{}
+
+/// A pcapng file has these blocks and no fault exactly where it is these, one after another; and these and
+/// a fault, at this block and byte, exactly where behind them stand bytes that don't begin with a block,
+/// for that reason (draft-ietf-opsawg-pcapng, section 3).
+pub fn captures_are_their_grammar()
+    ensures read { (list : List Block) (file : List ℕ) → blocks_of file ≡ record { list = list; broken = None } → AreBlocks None list file }
+    ensures only { (list : List Block) (file : List ℕ) → AreBlocks None list file → blocks_of file ≡ record { list = list; broken = None } }
+    ensures broken { (list : List Block) (why : Broken) (file : List ℕ) → blocks_of file ≡ record { list = list; broken = Some why } → EndsBroken list why file }
+    ensures only_broken { (list : List Block) (why : Broken) (file : List ℕ) → EndsBroken list why file → blocks_of file ≡ record { list = list; broken = Some why } }
 {}

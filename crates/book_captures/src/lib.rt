@@ -12,7 +12,10 @@ mod reasons;
 
 pub use block_parts::{BlockFault, BodyFault, Interface, TimeResolution};
 pub use datagram_parts::{Extent, IpVersion};
-pub use laws::{blocks_are_their_grammar, records_are_their_grammar, tags_and_labels_are_passed_over};
+pub use laws::{
+    blocks_are_their_grammar, captures_are_their_grammar, records_are_their_grammar,
+    tags_and_labels_are_passed_over,
+};
 pub use link_type::{LinkType, Protocol};
 pub use pcap_head::{PcapHead, PcapHeadFault, RecordFault, Resolution};
 pub use reasons::{Header, Skipped};
