@@ -1,6 +1,13 @@
 -- What a reading found, seen as the book says it (own).
 use Rattle.std.specs.Prelude.{◌≡◌, ℕ, List, slice_range, Result, Ok, Err}
 use Rattle.book_captures.specs.Frames.{Layer, Datagram}
+use Rattle.book_captures.specs.PcapFiles.{Kept}
+use Rattle.book_captures.specs.Blocks as blocks
+use Rattle.capture_reader.specs.declared.blocks.Block.{Block}
+use Rattle.capture_reader.specs.declared.pcap_files.Record.{Record}
+use Rattle.book_captures.specs.BlockContents as contents
+use Rattle.capture_reader.specs.declared.contents.Plain.{Plain}
+use Rattle.capture_reader.specs.declared.contents.Stamped.{Stamped}
 use Rattle.capture_reader.specs.declared.layers.Follows.{Follows}
 use Rattle.capture_reader.specs.declared.frames.FoundDatagram.{FoundDatagram}
 
@@ -26,3 +33,24 @@ seen frame d = record {
   no_length = d.no_length;
   no_checksum = d.no_checksum;
 }
+
+-- a packet of a record, without where it lies in memory
+abbrev pub seen_record : Record → Kept
+seen_record r = record { time = r.time; original = r.original; bytes = r.bytes.now }
+
+-- a block, without where it lies in memory
+abbrev pub seen_block : Block → blocks.Block
+seen_block b = record { order = b.order; kind = b.kind; body = b.body.now }
+
+-- a packet of a block, without where it lies in memory
+abbrev pub seen_stamped : Stamped → contents.Stamped
+seen_stamped p = record {
+  interface = p.interface;
+  count = p.count;
+  original = p.original;
+  bytes = p.bytes.now;
+}
+
+-- a packet of a simple block, without where it lies in memory
+abbrev pub seen_plain : Plain → contents.Plain
+seen_plain p = record { original = p.original; bytes = p.bytes.now }

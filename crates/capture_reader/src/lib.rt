@@ -4,14 +4,27 @@
 //! are those that `book_captures` defines.
 #![tactic(auto)]
 
+mod blocks;
+mod contents;
+#[cfg(test)]
+mod file_tests;
+#[cfg(test)]
+mod frame_tests;
 mod frames;
 mod layers;
 mod measures;
 mod numbered;
 mod numbers;
-#[cfg(test)]
-mod tests;
+mod pcap_files;
+mod times;
 
-pub use book_captures::{Extent, Header, IpVersion, LinkType, Skipped};
+pub use blocks::{Block, LEAST_IN_BLOCK, MOST_IN_BLOCK, read_block};
+pub use book_captures::{
+    BlockFault, BodyFault, Extent, Header, Interface, IpVersion, LinkType, PcapHead, PcapHeadFault,
+    RecordFault, Resolution, Skipped, TimeResolution,
+};
+pub use contents::{Plain, Stamped, read_enhanced, read_interface, read_old, read_simple};
 pub use frames::{FoundDatagram, find_datagram};
 pub use numbered::link_type;
+pub use pcap_files::{MOST_KEPT, PCAP_HEAD, RECORD_HEAD, Record, read_pcap_head, read_record};
+pub use times::nanoseconds;

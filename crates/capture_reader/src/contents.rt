@@ -1,0 +1,181 @@
+//! What the blocks of a pcapng file say.
+ghost use Rattle.std.specs.Prelude.{◌≡◌, ◌==◌, ◌&&◌, drop};
+ghost use Rattle.book_captures.specs.BlockContents.{resolution_of as resolution_told, resolution_in as resolution_of_options, interface_in, stamped_in, enhanced_in, old_in, simple_length as length_of_simple, simple_in, padded as padded_length};
+ghost use Rattle.capture_reader.specs.Found.{Gives, as_it_is, seen_stamped, seen_plain};
+
+use crate::numbers::{four, two};
+use book_captures::{BodyFault, Interface, TimeResolution};
+use wire_model::ByteOrder;
+
+/// A packet with its time, as a block keeps it.
+#[derive(Clone, Copy, Debug)]
+pub struct Stamped<'a> {
+    /// The number of its interface in the section, from 0 on.
+    pub interface: u32,
+    /// When it was seen, in the units of its interface since 1970.
+    pub count: u64,
+    /// How many bytes it had.
+    pub original: u32,
+    /// The bytes that the snapshot left.
+    pub bytes: &'a [u8],
+}
+
+/// A packet without a time, as a simple block keeps it.
+#[derive(Clone, Copy, Debug)]
+pub struct Plain<'a> {
+    /// How many bytes it had.
+    pub original: u32,
+    /// The bytes that the snapshot left.
+    pub bytes: &'a [u8],
+}
+
+/// What the body of a block of type 1 says of an interface. Short: it has fewer than eight bytes.
+#[tactic(auto, unfolding(book_captures::specs::BlockContents::interface_in))]
+pub fn read_interface(order: ByteOrder, body: &[u8]) -> Result<Interface, BodyFault>
+    ensures { Gives as_it_is result (interface_in order body.now) }
+{
+    if body.len() < 8 {
+        return Err(BodyFault::Short);
+    }
+    let (_fields, options) = body.split_at(8);
+    Ok(Interface {
+        link: two(order, body, 0) as u32,
+        snapshot: four(order, body, 4),
+        resolution: resolution_in(order, options, body.len()),
+    })
+}
+
+// The resolution that options tell, of which there are at most so many.
+#[tactic(auto, using(crate::proofs::Options::ends_short, crate::proofs::Options::ends_here, crate::proofs::Options::tells_here, crate::proofs::Options::goes_on))]
+fn resolution_in(order: ByteOrder, options: &[u8], most: usize) -> TimeResolution
+    ensures { result ≡ resolution_of_options most order options.now }
+{
+    let mut options = options;
+    'options: for _ in 0..most {
+        if options.len() < 5 {
+            return TimeResolution::Decimal(6);
+        }
+        let code = two(order, options, 0);
+        if code == 0 {
+            return TimeResolution::Decimal(6);
+        }
+        let len = two(order, options, 2);
+        if is_resolution(code, len) {
+            return resolution_of(options[4]);
+        }
+        options = behind(options, 4 + padded(len));
+    }
+    TimeResolution::Decimal(6)
+}
+
+// An option of this code and length tells the resolution.
+fn is_resolution(code: u16, len: u16) -> bool
+    ensures { result ≡ ((code == 9) && (len == 1)) }
+{
+    code == 9 && len == 1
+}
+
+// The resolution that a byte tells.
+fn resolution_of(byte: u8) -> TimeResolution
+    ensures { result ≡ resolution_told byte }
+{
+    if byte < 128 {
+        TimeResolution::Decimal(byte)
+    } else {
+        TimeResolution::Binary(byte - 128)
+    }
+}
+
+// The length of an option's value with its padding.
+fn padded(len: u16) -> usize
+    ensures { result ≡ padded_length len }
+{
+    (len as usize + 3) / 4 * 4
+}
+
+// The bytes behind so many, if there are as many.
+fn behind(bytes: &[u8], past: usize) -> &[u8]
+    ensures { result.now ≡ drop past bytes.now }
+{
+    if bytes.len() < past {
+        return &[];
+    }
+    let (_front, rest) = bytes.split_at(past);
+    rest
+}
+
+/// The packet in the body of an enhanced block, of type 6. Short: the body has no room for it.
+#[tactic(auto, unfolding(book_captures::specs::BlockContents::enhanced_in))]
+pub fn read_enhanced(order: ByteOrder, body: &[u8]) -> Result<Stamped<'_>, BodyFault>
+    ensures { Gives seen_stamped result (enhanced_in order body.now) }
+{
+    if body.len() < 20 {
+        return Err(BodyFault::Short);
+    }
+    packet_in(order, four(order, body, 0), body)
+}
+
+/// The packet in the body of an old block, of type 2. Short: the body has no room for it.
+#[tactic(auto, unfolding(book_captures::specs::BlockContents::old_in))]
+pub fn read_old(order: ByteOrder, body: &[u8]) -> Result<Stamped<'_>, BodyFault>
+    ensures { Gives seen_stamped result (old_in order body.now) }
+{
+    if body.len() < 20 {
+        return Err(BodyFault::Short);
+    }
+    packet_in(order, two(order, body, 0) as u32, body)
+}
+
+// The packet in the body of a block, of the interface of this number.
+fn packet_in(order: ByteOrder, interface: u32, body: &[u8]) -> Result<Stamped<'_>, BodyFault>
+    ensures { Gives seen_stamped result (stamped_in order interface body.now) }
+{
+    if body.len() < 20 {
+        return Err(BodyFault::Short);
+    }
+    let kept = four(order, body, 12) as usize;
+    if body.len() < 20 + kept {
+        return Err(BodyFault::Short);
+    }
+    let high = four(order, body, 4) as u64;
+    let count = high * 0x1_0000_0000 + four(order, body, 8) as u64;
+    let original = four(order, body, 16);
+    let (_fields, behind) = body.split_at(20);
+    let (bytes, _padding) = behind.split_at(kept);
+    Ok(Stamped {
+        interface,
+        count,
+        original,
+        bytes,
+    })
+}
+
+/// The packet in the body of a simple block, of type 3, of an interface with this snapshot. Short: the
+/// body has no room for it.
+#[tactic(auto, unfolding(book_captures::specs::BlockContents::simple_in))]
+pub fn read_simple(order: ByteOrder, snapshot: u32, body: &[u8]) -> Result<Plain<'_>, BodyFault>
+    ensures { Gives seen_plain result (simple_in order snapshot body.now) }
+{
+    if body.len() < 4 {
+        return Err(BodyFault::Short);
+    }
+    let original = four(order, body, 0);
+    let kept = simple_length(snapshot, original) as usize;
+    if body.len() < 4 + kept {
+        return Err(BodyFault::Short);
+    }
+    let (_original, behind) = body.split_at(4);
+    let (bytes, _padding) = behind.split_at(kept);
+    Ok(Plain { original, bytes })
+}
+
+// How many bytes a simple block keeps of a packet that had so many.
+fn simple_length(snapshot: u32, original: u32) -> u32
+    ensures { result ≡ length_of_simple snapshot original }
+{
+    if snapshot == 0 {
+        original
+    } else {
+        original.min(snapshot)
+    }
+}
