@@ -1,7 +1,8 @@
 //! Captures as people have them, read.
 //!
-//! `find_datagram` says where in a frame its datagram lies, or why the packet is passed over; its answers
-//! are those that `book_captures` defines.
+//! `read_pcap_head` and `read_record` read a classic pcap file, `read_block` and the calls for what blocks say
+//! a pcapng file, each at the front of bytes. `find_datagram` says where in a frame its datagram lies, or
+//! why the packet is passed over. All answers are those that `book_captures` defines.
 #![tactic(auto)]
 
 mod blocks;
