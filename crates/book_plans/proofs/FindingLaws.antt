@@ -1,16 +1,17 @@
 -- The first finding is what the judgement says, and there is none exactly where it says that all holds.
-use Rattle.std.proofs.Common.{◌≡◌, ◌↔◌, ℕ, zero, suc, ◌+◌, ◌-◌, ◌<◌, ◌≤◌, ◌==◌, max, min, Bool, true, false, ◌&&◌, List, [], ◌∷◌, ◌++◌, map, Option, Some, None, refl, sym, ap, ◌∙◌, arith, nat_le, if◌then◌else◌}
+use Rattle.std.proofs.Common.{◌≡◌, ◌↔◌, ℕ, zero, suc, ◌+◌, ◌-◌, ◌<◌, ◌≤◌, ◌==◌, max, min, Bool, true, false, ◌&&◌, List, [], ◌∷◌, ◌++◌, map, Option, Some, None, ◌⊎◌, inl, inr, refl, sym, ap, ◌∙◌, subst, arith, nat_le, if◌then◌else◌}
 use Rattle.std.specs.Prelude.{option_map}
 use Rattle.std.specs.Option.{option_or}
 use Rattle.std.proofs.lemmas.Bool.Decides.{nat_tests}
-use Rattle.std.proofs.lemmas.Bool.{eq-eqb, ne_eqb}
+use Rattle.std.proofs.lemmas.Bool.{eq-eqb, ne_eqb, eqb-false, cases_lt}
 use Rattle.ao_base.specs.declared.address.Pair.{Pair}
 use Rattle.ao_base.specs.declared.end.End.{End}
 use Rattle.ao_base.specs.declared.end.End.TheVariants.{A, B}
 use Rattle.book_plans.specs.declared.finding.Finding.{Finding}
 use Rattle.book_plans.specs.declared.finding.Finding.TheVariants as finding
-use Rattle.book_plans.specs.Findings.{finding_by, with_finding, unmet_findings, Span, lengthened, failing_spans, gap_finding, gap_findings, findings, first_answer, wanted_accepting, widened, accepting_in}
+use Rattle.book_plans.specs.Findings.{IsFirstSpan, AreLongest, finding_by, with_finding, unmet_findings, Span, lengthened, failing_spans, gap_finding, gap_findings, findings, first_answer, wanted_accepting, widened, accepting_in}
 use Rattle.book_plans.specs.Margins.{IsOrdered}
+use Rattle.segment_model.proofs.Fields.{eqb_is}
 use Rattle.key_model.specs.declared.lifetime.Lifetime.{Lifetime}
 use Rattle.key_model.specs.declared.lint.LintAnswer.{LintAnswer}
 use Rattle.key_model.specs.declared.lint.LintAnswer.TheVariants as answer
@@ -147,6 +148,80 @@ widened_outlasts lead lag r other good =
     both_true (contains l (r.sending.first - lead)) (contains l (min greatest_time (r.sending.last + lag)))
     (inside l (r.sending.first - lead) (omega arith) (omega arith))
     (inside l (min greatest_time (r.sending.last + lag)) (omega arith) (omega arith))
+
+-- ---- the spans are the longest
+
+here_or_later : (low t : ℕ) → low ≤ t → (low ≡ t) ⊎ (low + 1 ≤ t)
+here_or_later low t h = elim (cases_lt low t) [ inl lt ↦ inr (omega arith) | inr ge ↦ inl (omega arith) ]
+
+-- what holds at a time and of the later ones
+from_here : (good : ℕ → Bool) (b : Bool) (low : ℕ) (P : ℕ → Type 0) → good low ≡ b → ((t : ℕ) → low + 1 ≤ t → P t → good t ≡ b) → (t : ℕ) → low ≤ t → P t → good t ≡ b
+from_here good b low P here more t a p = elim (here_or_later low t a) [
+  | inl e ↦ subst (λ (u : ℕ). good u ≡ b) e here
+  | inr e ↦ more t e p
+]
+
+passes_here : (good : ℕ → Bool) (low end : ℕ) (ss : List Span) → good low ≡ true → AreLongest good (low + 1) end ss → AreLongest good low end ss
+passes_here good low end [] here more = from_here good true low (λ t. t < end) here more
+passes_here good low end (s ∷ ss) here more =
+    let f = more.0 in
+    let begins = f.begins in (
+      record {
+        begins = omega arith;
+        ordered = f.ordered;
+        within = f.within;
+        before = from_here good true low (λ t. t < s.first) here f.before;
+        fails = f.fails;
+        after = f.after;
+      },
+      more.1,
+    )
+
+-- a time that fails alone, where the next passes or is the end
+stands_alone : (good : ℕ → Bool) (low end : ℕ) → low < end → good low ≡ false → (low + 1 < end → good (low + 1) ≡ true) → IsFirstSpan good low end (record { first = low; last = low })
+stands_alone good low end within bad next = record {
+  begins = omega arith;
+  ordered = omega arith;
+  within = within;
+  before = λ t a b. absurd (omega arith);
+  fails = λ t a b. let same : low ≡ t = omega arith in subst (λ (u : ℕ). good u ≡ false) same bad;
+  after = next;
+}
+
+fails_here : (good : ℕ → Bool) (low end : ℕ) (ss : List Span) → low < end → good low ≡ false → AreLongest good (low + 1) end ss → AreLongest good low end (lengthened low ss)
+fails_here good low end [] within bad more = (stands_alone good low end within bad (λ some. more (low + 1) (omega arith) some), more)
+fails_here good low end (s ∷ ss) within bad more = by_test (s.first == low + 1) refl
+  where
+    by_test : (b : Bool) → (s.first == low + 1) ≡ b
+        → AreLongest good low end (if b then record { first = low; last = s.last } ∷ ss else record { first = low; last = low } ∷ s ∷ ss)
+    by_test true is =
+        let f = more.0 in
+        let start = eqb_is s.first (low + 1) is in
+        let ordered = f.ordered in (
+          record {
+            begins = omega arith;
+            ordered = omega arith;
+            within = f.within;
+            before = λ t a b. absurd (omega arith);
+            fails = from_here good false low (λ t. t ≤ s.last) bad (λ t a b. f.fails t (omega arith) b);
+            after = f.after;
+          },
+          more.1,
+        )
+    by_test false is =
+        let f = more.0 in
+        let apart = eqb-false s.first (low + 1) is in
+        let begins = f.begins in
+        (stands_alone good low end within bad (λ some. f.before (low + 1) (omega arith) (omega arith)), more)
+
+pub are_longest : (good : ℕ → Bool) (low n end : ℕ) → end ≡ low + n → AreLongest good low end (failing_spans good low n)
+are_longest good low zero end same = λ t a b. absurd (omega arith)
+are_longest good low (suc n) end same = by_test (good low) refl (are_longest good (low + 1) n end (omega arith))
+  where
+    by_test : (b : Bool) → good low ≡ b → AreLongest good (low + 1) end (failing_spans good (low + 1) n)
+        → AreLongest good low end (if b then failing_spans good (low + 1) n else lengthened low (failing_spans good (low + 1) n))
+    by_test true is more = passes_here good low end (failing_spans good (low + 1) n) is more
+    by_test false is more = fails_here good low end (failing_spans good (low + 1) n) (omega arith) is more
 
 -- ---- runs of times, for code that goes from span to span
 

@@ -1,3 +1,4 @@
+pub mod CalendarLaws
 pub mod DifferenceLaws
 pub mod FindingLaws
 pub mod MarginLaws

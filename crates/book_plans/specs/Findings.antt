@@ -1,5 +1,5 @@
 -- All that doesn't hold of a planned rollover: each row that isn't met, and each gap.
-use Rattle.std.specs.Prelude.{ℕ, zero, suc, ◌+◌, ◌-◌, ◌==◌, min, max, Bool, List, [], ◌∷◌, ◌++◌, map, Option, Some, None, option_map, if◌then◌else◌}
+use Rattle.std.specs.Prelude.{◌≡◌, ◌≤◌, ◌<◌, true, false, ℕ, zero, suc, ◌+◌, ◌-◌, ◌==◌, min, max, Bool, List, [], ◌∷◌, ◌++◌, map, Option, Some, None, option_map, if◌then◌else◌}
 use Rattle.ao_base.specs.declared.address.Pair.{Pair}
 use Rattle.ao_base.specs.declared.end.End.{End}
 use Rattle.ao_base.specs.declared.end.End.TheVariants.{A, B}
@@ -45,6 +45,21 @@ abbrev pub failing_spans : (ℕ → Bool) → ℕ → ℕ → List Span
 failing_spans good time zero = []
 failing_spans good time (suc n) =
     if good time then failing_spans good (time + 1) n else lengthened time (failing_spans good (time + 1) n)
+
+-- the first span of times that fail: all times before it pass, all its times fail, and it ends with the
+-- times that are looked at, or the next passes
+pub record IsFirstSpan (good : ℕ → Bool) (low end : ℕ) (s : Span) : Type 0 where
+  pub begins : low ≤ s.first
+  pub ordered : s.first ≤ s.last
+  pub within : s.last < end
+  pub before : (t : ℕ) → low ≤ t → t < s.first → good t ≡ true
+  pub fails : (t : ℕ) → s.first ≤ t → t ≤ s.last → good t ≡ false
+  pub after : s.last + 1 < end → good (s.last + 1) ≡ true
+
+-- the spans are all the longest in which each time from low on and before the end fails
+abbrev pub AreLongest : (ℕ → Bool) → ℕ → ℕ → List Span → Type 0
+AreLongest good low end [] = (t : ℕ) → low ≤ t → t < end → good t ≡ true
+AreLongest good low end (s ∷ ss) = IsFirstSpan good low end s × AreLongest good (s.last + 1) end ss
 
 -- the finding on a span in which this end has no row to send with
 abbrev pub gap_finding : End → Span → Finding

@@ -1,3 +1,4 @@
+pub mod Calendar
 pub mod Differences
 pub mod Findings
 pub mod Margins

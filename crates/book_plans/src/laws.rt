@@ -1,13 +1,15 @@
 //! Theorems about the margins of a plan, as clauses of functions that do nothing.
-ghost use Rattle.std.specs.Prelude.{◌≡◌, ◌↔◌, ℕ, List, [], true, Ok};
+ghost use Rattle.std.specs.Prelude.{◌≡◌, ◌↔◌, ◌+◌, ℕ, Bool, List, [], true, Ok};
 ghost use Rattle.ao_base.specs.declared.address.Address.{Address};
 ghost use Rattle.ao_base.specs.declared.address.Pair.{Pair};
 ghost use Rattle.key_model.specs.declared.lint.LintAnswer.TheVariants as answer;
 ghost use Rattle.key_model.specs.Plans.{accepts_from, outlasts, lint_of, lint_rows, rows_at};
 ghost use Rattle.key_model.specs.Nodes.{tables_of};
 ghost use Rattle.key_model.specs.Rows.{Row, Table};
+ghost use Rattle.std.specs.List.{All};
+ghost use Rattle.book_plans.specs.Calendar.{Keeps, turns_after};
 ghost use Rattle.book_plans.specs.Differences.{differences, is_alike};
-ghost use Rattle.book_plans.specs.Findings.{findings, first_answer, wanted_accepting, widened, accepting_in};
+ghost use Rattle.book_plans.specs.Findings.{AreLongest, failing_spans, findings, first_answer, wanted_accepting, widened, accepting_in};
 ghost use Rattle.book_plans.specs.Margins.{IsOrdered, AreOrdered, AlignedAtLead, AlignedAtLag, IsMargin, lead_margin, lag_margin, lead_margin_of, lag_margin_of, SaysAlignedAtLead, SaysAlignedAtLag};
 
 /// Two tables are aligned exactly with the leads within the one margin, at the given lag, and with
@@ -54,4 +56,15 @@ pub fn widened_rows_outlast()
 /// time that a key file can write.
 pub fn rows_of_files_are_ordered()
     ensures { (text : List ℕ) (tables : List Table) (address : Address) → tables_of text ≡ Ok tables → AreOrdered (rows_at tables address) }
+{}
+
+/// The spans of a number of times that fail a test are the longest, and none is left out: before each
+/// and behind the last all times pass.
+pub fn gaps_are_longest()
+    ensures { (good : ℕ → Bool) (low n : ℕ) → AreLongest good low (low + n) (failing_spans good low n) }
+{}
+
+/// In a second in which no lifetime of a row begins or ends nothing turns.
+pub fn steady_rows_dont_turn()
+    ensures { (a b : List Row) (pair : Pair) (time : ℕ) → All (Keeps time) a → All (Keeps time) b → turns_after a b pair time ≡ [] }
 {}

@@ -7,11 +7,13 @@ mod differences;
 mod finding;
 mod laws;
 mod margin;
+mod turn;
 
 pub use differences::Differences;
 pub use finding::Finding;
 pub use laws::{
-    alike_rows_accept, findings_are_of_lint, lint_holds_within_margins, margins_are_greatest,
-    rows_of_files_are_ordered, widened_rows_outlast,
+    alike_rows_accept, findings_are_of_lint, gaps_are_longest, lint_holds_within_margins,
+    margins_are_greatest, rows_of_files_are_ordered, steady_rows_dont_turn, widened_rows_outlast,
 };
 pub use margin::Margin;
+pub use turn::{Role, Turn};

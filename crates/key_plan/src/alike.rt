@@ -2,7 +2,7 @@
 ghost use Rattle.std.specs.Prelude.{◌≡◌};
 ghost use Rattle.segment_model.specs.Bytes.{same_bytes};
 ghost use Rattle.key_model.specs.Plans.{mirrored, same_algorithm, same_flag, accepts_from};
-ghost use Rattle.key_model.specs.Rows.{receives, sends_for};
+ghost use Rattle.key_model.specs.Rows.{receives, sends, sends_for};
 ghost use Rattle.book_plans.specs.Differences.{differences};
 
 use ao_base::{Algorithm, Pair};
@@ -23,10 +23,18 @@ pub(crate) fn mirrored(pair: &Pair) -> Pair
 pub(crate) fn is_sending_for(row: &Row, pair: &Pair) -> bool
     ensures { result ≡ sends_for pair.now row.now }
 {
-    row.matches(pair) && matches!(row.direction(), Direction::Send | Direction::Both)
+    row.matches(pair) && is_sending(row)
 }
 
-fn is_receiving(row: &Row) -> bool
+/// Whether the row is for what goes out.
+pub(crate) fn is_sending(row: &Row) -> bool
+    ensures { result ≡ sends row.now.direction }
+{
+    matches!(row.direction(), Direction::Send | Direction::Both)
+}
+
+/// Whether the row is for what comes in.
+pub(crate) fn is_receiving(row: &Row) -> bool
     ensures { result ≡ receives row.now.direction }
 {
     matches!(row.direction(), Direction::Receive | Direction::Both)

@@ -1,6 +1,6 @@
 //! What is asked of a planned rollover beside its judgement: how far the plan may be off, all that
-//! doesn't hold of it and not the first alone, and in which columns a row differs from the one that it
-//! is to meet.
+//! doesn't hold of it and not the first alone, in which columns a row differs from the one that it is to
+//! meet, and when each row begins and ends to be used.
 #![tactic(auto)]
 
 mod alike;
@@ -8,12 +8,14 @@ mod finding;
 mod gaps;
 mod margin;
 mod tables;
+mod turns;
 mod way;
 
 pub use alike::differences;
-pub use book_plans::{Differences, Finding, Margin};
+pub use book_plans::{Differences, Finding, Margin, Role, Turn};
 pub use finding::{findings, wanted_accepting, widened};
 pub use margin::{lag_margin, lead_margin};
+pub use turns::calendar;
 
 #[cfg(test)]
 mod tests;

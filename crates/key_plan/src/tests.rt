@@ -1,6 +1,7 @@
-//! Margins and findings of two nodes with one row each.
+//! Margins, findings and calendars of two nodes with one row each.
 use crate::{
-    Finding, Margin, differences, findings, lag_margin, lead_margin, wanted_accepting, widened,
+    Finding, Margin, Role, calendar, differences, findings, lag_margin, lead_margin,
+    wanted_accepting, widened,
 };
 use ao_base::{Address, Algorithm, Bytes, End, Pair, Socket};
 use key_table::{Direction, Lifetime, NewRow, Table, Tables};
@@ -154,5 +155,30 @@ fn a_short_row_is_told_what_it_lacks(rt: HostRuntime) -> Result<(), Fail> {
     assert_eq!(rt; differences(&pair(A, B), row, other).is_none(), true);
     let set = widened(other.accepting(), wanted_accepting(row, 0, 60));
     assert_eq!(rt; (set.first, set.last), (0, 3660));
+    Ok(())
+}
+
+#[test]
+fn the_calendar_names_each_turn(rt: HostRuntime) -> Result<(), Fail> {
+    let tables = two_nodes(rt.alloc(), BOTH, BOTH)?;
+    let turns = calendar(rt.alloc(), &tables, &pair(A, B), 0, 4000)?;
+    let expected = [
+        (3601, End::A, Role::Sendable),
+        (3601, End::A, Role::SentWith),
+        (3601, End::B, Role::Sendable),
+        (3601, End::B, Role::SentWith),
+        (3661, End::A, Role::Acceptable),
+        (3661, End::A, Role::AskedFor),
+        (3661, End::B, Role::Acceptable),
+        (3661, End::B, Role::AskedFor),
+    ];
+    assert_eq!(rt; turns.len(), expected.len());
+    for (turn, (time, end, role)) in turns.iter().zip(expected) {
+        assert_eq!(rt;
+            (turn.time, turn.end, turn.row, turn.role),
+            (time, end, 2, role)
+        );
+        assert_eq!(rt; turn.begins, false);
+    }
     Ok(())
 }
