@@ -1,8 +1,10 @@
--- A message in whole blocks, as AES-CMAC takes it (RFC 4493, section 2.4).
-use Rattle.std.specs.Prelude.{ℕ, zero, suc, ◌+◌, ◌-◌, ◌/◌, ◌%◌, ◌==◌, Bool, not, ◌&&◌, List, [], ◌∷◌, ◌++◌, length, take, drop, replicate, if◌then◌else◌}
+-- A message in whole blocks, as AES-CMAC takes it (RFC 4493, section 2.4): the chain of AES over
+-- the blocks of `with_subkey` is the CMAC, which a law says.
+use Rattle.std.specs.Prelude.{ℕ, zero, suc, ◌+◌, ◌-◌, ◌/◌, ◌%◌, ◌==◌, Bool, not, ◌&&◌}
+use Rattle.std.specs.Prelude.{List, [], ◌∷◌, ◌++◌, length, take, drop, replicate, if◌then◌else◌}
 use Rattle.mac_model.specs.Ciphers.{xor, aes, doubled}
 
--- so many blocks of 16 bytes, one after another
+-- so many blocks of 16 bytes, one after another (RFC 4493, section 2.4, step 2)
 abbrev pub blocks : ℕ → List ℕ → List (List ℕ)
 blocks zero bytes = []
 blocks (suc n) bytes = take 16 bytes ∷ blocks n (drop 16 bytes)
@@ -22,11 +24,14 @@ padded m = if is_complete m then m else m ++ 0x80 ∷ replicate (15 - length m %
 
 -- the subkey K1 where the last block is complete, else K2 (RFC 4493, section 2.3)
 abbrev pub subkey : List ℕ → List ℕ → List ℕ
-subkey key m = let l = aes key (replicate 16 0) in if is_complete m then doubled l else doubled (doubled l)
+subkey key m =
+    let l = aes key (replicate 16 0) in
+    if is_complete m then doubled l else doubled (doubled l)
 
 -- the padded message with the subkey in its last block (RFC 4493, section 2.4, step 4)
 abbrev pub with_subkey : List ℕ → List ℕ → List ℕ
-with_subkey key m = let last = length (padded m) - 16 in
+with_subkey key m =
+    let last = length (padded m) - 16 in
     take last (padded m) ++ xor (drop last (padded m)) (subkey key m)
 
 -- a step of the chain: the state, xor a block, through AES (RFC 4493, section 2.4, steps 6 and 7)
