@@ -1,10 +1,14 @@
--- The names of the faults of datagrams. Our own format.
+-- The names of the faults of datagrams (own).
 use Rattle.std.specs.Prelude.{ℕ, List, ◌++◌, codes, decimal}
 use Rattle.segment_model.specs.declared.fault.OptionFault.TheVariants.{ShortLength, PastEnd}
 use Rattle.segment_model.specs.declared.fault.DatagramFault.{DatagramFault}
-use Rattle.segment_model.specs.declared.fault.DatagramFault.TheVariants.{Truncated, Version, HeaderLength, HeaderChecksum, Fragment, NotTcp, ExtensionHeader, DataOffset, BadOption}
+use Rattle.segment_model.specs.declared.fault.DatagramFault.TheVariants.{Truncated, Version}
+use Rattle.segment_model.specs.declared.fault.DatagramFault.TheVariants.{HeaderLength}
+use Rattle.segment_model.specs.declared.fault.DatagramFault.TheVariants.{HeaderChecksum, Fragment}
+use Rattle.segment_model.specs.declared.fault.DatagramFault.TheVariants.{NotTcp, ExtensionHeader}
+use Rattle.segment_model.specs.declared.fault.DatagramFault.TheVariants.{DataOffset, BadOption}
 
--- the text of a fault, with the place of a faulty option in its area
+-- the text of a fault, with the place of a faulty option in its area (own)
 abbrev pub fault_text : DatagramFault → List ℕ
 fault_text Truncated = codes "truncated"
 fault_text Version = codes "version"
