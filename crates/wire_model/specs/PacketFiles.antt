@@ -1,5 +1,7 @@
--- Classic pcap files as a grammar: a header, and then records (libpcap, pcap-savefile).
-use Rattle.std.specs.Prelude.{◌≡◌, ℕ, ◌+◌, ◌%◌, ◌==◌, ◌≤◌, ◌<◌, List, [], ◌∷◌, ◌++◌, length, drop, if◌then◌else◌}
+-- Classic pcap files as a grammar: a header, and then records (libpcap, pcap-savefile). `IsFile` is
+-- the file's top, and `with_datagrams` says which packets are judged.
+use Rattle.std.specs.Prelude.{◌≡◌, ℕ, ◌+◌, ◌%◌, ◌==◌, ◌≤◌, ◌<◌, if◌then◌else◌}
+use Rattle.std.specs.Prelude.{List, [], ◌∷◌, ◌++◌, length, drop}
 use Rattle.wire_model.specs.declared.pcap_head.ByteOrder.{ByteOrder}
 use Rattle.wire_model.specs.declared.pcap_head.LinkType.{LinkType}
 use Rattle.wire_model.specs.declared.pcap_head.LinkType.TheVariants.{Ethernet, Raw}
@@ -11,8 +13,8 @@ abbrev pub link_number : LinkType → ℕ
 link_number Ethernet = 1
 link_number Raw = 101
 
--- the bytes are a header that says this: the magic number, version 2.4, and the link type in the low
--- 16 bits of the last field (pcap-savefile; the other fields and bits may be anything, own)
+-- the bytes are a header that says this: the magic number, version 2.4, and the link type in the
+-- low 16 bits of the last field (pcap-savefile; the other fields and bits may be anything, own)
 pub record IsHeader (head : Head) (bytes : List ℕ) : Type 0 where
   pub magic_number : four_at head.order bytes 0 ≡ magic
   pub major_version : two_at head.order bytes 4 ≡ 2
@@ -21,8 +23,8 @@ pub record IsHeader (head : Head) (bytes : List ℕ) : Type 0 where
   pub whole : length bytes ≡ 24
 
 -- the bytes are a record that keeps this packet: seconds, microseconds, kept length and original
--- length of four bytes each, and then the kept bytes (pcap-savefile; microseconds and original length
--- may be anything, own)
+-- length of four bytes each, and then the kept bytes (pcap-savefile; microseconds and original
+-- length may be anything, own)
 pub record IsRecord (order : ByteOrder) (kept : Kept) (bytes : List ℕ) : Type 0 where
   pub seen : four_at order bytes 0 ≡ kept.seconds
   pub kept_length : four_at order bytes 8 ≡ length kept.bytes
@@ -33,13 +35,15 @@ pub record IsRecord (order : ByteOrder) (kept : Kept) (bytes : List ℕ) : Type 
 -- the bytes are records that keep these packets, one after another (pcap-savefile)
 abbrev pub AreRecords : ByteOrder → List Kept → List ℕ → Type 0
 AreRecords order [] bytes = bytes ≡ []
-AreRecords order (k ∷ ks) bytes = (one : List ℕ) × (others : List ℕ)
+AreRecords order (k ∷ ks) bytes =
+    (one : List ℕ) × (others : List ℕ)
     × IsRecord order k one × AreRecords order ks others × (bytes ≡ one ++ others)
 
 -- the bytes don't begin with a record, and there are some (own)
 pub record IsBroken (order : ByteOrder) (bytes : List ℕ) : Type 0 where
   pub some : 0 < length bytes
-  pub no_record : (kept : Kept) (one rest : List ℕ) → IsRecord order kept one → bytes ≡ one ++ rest → ⊥
+  pub no_record : (kept : Kept) (one rest : List ℕ)
+      → IsRecord order kept one → bytes ≡ one ++ rest → ⊥
 
 -- the file is a header, records that keep these packets, and a tail (pcap-savefile)
 pub record IsFile (head : Head) (kept : List Kept) (tail file : List ℕ) : Type 0 where
