@@ -13,7 +13,7 @@ use Rattle.segment_model.specs.Spelling.{AreBytes}
 use Rattle.segment_model.proofs.ByteLaws.{bytes_drop, bytes_take, nil_bytes}
 use Rattle.segment_model.proofs.Fields.{lt_is}
 use Rattle.mac_model.specs.Hmac.{ipad, opad, xored_key, hmac}
-use Rattle.mac_model.specs.Ciphers.{xor, xtime, times_bits, times, power_from, inverse, turned, affine, sbox, shifted, sub_shift, mixed, mix, chained, next_key, aes_rounds, round_constants, aes, shift_left, doubled, last_block, cmac_from, cmac, prf}
+use Rattle.mac_model.specs.Ciphers.{xor, xtime, times_bits, times, power_from, inverse, rotate_left, affine, sbox, shifted, sub_shift, mixed, mix, chained, next_key, aes_rounds, round_constants, aes, shift_left, doubled, last_block, cmac_from, cmac, prf}
 use Rattle.mac_model.specs.Keys.{derivation_input, untruncated, traffic_key, mac}
 use Rattle.mac_model.proofs.LengthLaws.{length-traffic_key, length-mac}
 
@@ -107,7 +107,7 @@ inverse_low a low = power_low a a 6 low low
 
 affine_low : (b : ℕ) → b < 256 → affine b < 256
 affine_low b low =
-    xor_of_8 b _ low (xor_of_8 (turned b 2) _ (omega arith) (xor_of_8 (turned b 4) _ (omega arith) (xor_of_8 (turned b 8) _ (omega arith) (xor_of_8 (turned b 16) 99 (omega arith) (omega arith)))))
+    xor_of_8 b _ low (xor_of_8 (rotate_left b 1) _ (omega arith) (xor_of_8 (rotate_left b 2) _ (omega arith) (xor_of_8 (rotate_left b 3) _ (omega arith) (xor_of_8 (rotate_left b 4) 99 (omega arith) (omega arith)))))
 
 sbox_low : (a : ℕ) → a < 256 → sbox a < 256
 unfolding sbox
