@@ -1,5 +1,7 @@
 -- What a segment passes by: the conditions of the check, each by itself (RFC 5925, section 7.5).
-use Rattle.std.specs.Prelude.{◌≡◌, ℕ, ◌+◌, ◌^◌, ◌≤◌, true, false, List, [], ◌∷◌, length, Option, Some}
+-- Its top: `Passes`.
+use Rattle.std.specs.Prelude.{◌≡◌, ℕ, ◌+◌, ◌≤◌, true, false, List, [], ◌∷◌, length, Option}
+use Rattle.std.specs.Prelude.{Some}
 use Rattle.ao_base.specs.declared.address.Pair.{Pair}
 use Rattle.ao_base.specs.Algorithms.{mac_length_of}
 use Rattle.segment_model.specs.Meant.{meant}
@@ -8,20 +10,21 @@ use Rattle.segment_model.specs.Segments.{Segment, has, SYN, segment_length}
 use Rattle.mac_model.specs.Contexts.{context_of}
 use Rattle.key_model.specs.Rows.{Row}
 use Rattle.key_model.specs.Choices.{Numbered, acceptable_as, IsLowest}
+use Rattle.endpoint_model.specs.States.{number_limit}
 use Rattle.endpoint_model.specs.Verdicts.{Finding, mac_of, found_with}
 
--- the options of this kind that a segment has (RFC 9293, section 3.2)
+-- The options of this kind that a segment has (RFC 9293, section 3.2).
 abbrev pub options_in : ℕ → Segment → List Opt
 options_in kind d = of_kind kind (listed (options_of d.area))
 
--- the number of a segment: with SYN its sequence, without SYN what its sequence means near the
--- number expected (RFC 5925, section 6.2)
+-- The number of a segment is with SYN its sequence, without SYN what its sequence means near the
+-- number expected (RFC 5925, section 6.2).
 pub record HasNumber (d : Segment) (expected : Option ℕ) (n : ℕ) : Type 0 where
   pub with_syn : has SYN d ≡ true → n ≡ d.sequence
   pub without : has SYN d ≡ false → (e : ℕ) × (expected ≡ Some e) × (meant d.sequence e ≡ Some n)
 
--- a segment passes with these findings, where the own initial sequence number, the peer's and the
--- number expected are known so far (RFC 5925, section 7.5; the range is own)
+-- A segment passes with this finding, where the own initial sequence number, the peer's and the
+-- number expected are known so far (RFC 5925, section 7.5; the range: own).
 pub record Passes (rows : List Row) (pair : Pair) (own : ℕ) (peer expected : Option ℕ) (now : ℕ)
     (d : Segment) (p : Finding) : Type 0 where
   pub option : Opt  -- its one TCP-AO option
@@ -34,6 +37,6 @@ pub record Passes (rows : List Row) (pair : Pair) (own : ℕ) (peer expected : O
   pub mac_length : length ao.mac ≡ mac_length_of row.row.algorithm
   pub known_context : context_of d peer (Some own) ≡ Some p.context
   pub number : HasNumber d expected p.number
-  pub in_range : p.number + segment_length d ≤ 2 ^ 63
+  pub in_range : p.number + segment_length d ≤ number_limit
   pub finding : p ≡ found_with row d ao p.context p.number
   pub right_mac : ao.mac ≡ mac_of p
