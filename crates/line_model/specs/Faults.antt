@@ -1,7 +1,8 @@
--- What is written of an input that isn't read. Our own format.
+-- What is written of an input that isn't read. Our own format. Its top is `fault_text`.
 use Rattle.std.specs.Prelude.{ℕ, List, [], ◌∷◌, codes, decimal}
 use Rattle.ao_base.specs.declared.line_kind.LineKind.{LineKind}
-use Rattle.ao_base.specs.declared.line_kind.LineKind.TheVariants.{Word, Number, Hex, Range, Header, Shared}
+use Rattle.ao_base.specs.declared.line_kind.LineKind.TheVariants.{Word, Number, Hex, Range, Header}
+use Rattle.ao_base.specs.declared.line_kind.LineKind.TheVariants.{Shared}
 use Rattle.line_model.specs.declared.text_fault.TextFault.{TextFault}
 use Rattle.line_model.specs.declared.text_fault.TextFault.TheVariants as fault
 use Rattle.line_model.specs.Texts.{line_text}
@@ -15,7 +16,8 @@ kind_text Range = codes "range"
 kind_text Header = codes "header"
 kind_text Shared = codes "shared"
 
--- a fault's text: the faulty line with its kind, or too many lines; want of memory has its own (own)
+-- the text of an input's fault: the faulty line with its kind, or too many lines; want of memory
+-- has a text of its own (own)
 abbrev pub fault_text : TextFault → List ℕ
 fault_text fault.Memory = codes "memory\n"
 fault_text fault.TooManyLines = codes "input: too many lines\n"

@@ -1,4 +1,4 @@
--- The lines of an input that say something. Our own format.
+-- The lines of an input that say something. Our own format. Its top is `saying_lines`.
 use Rattle.std.specs.Prelude.{ℕ, ◌+◌, ◌==◌, not, if◌then◌else◌, Bool, false, List, [], ◌∷◌}
 use Rattle.ao_base.specs.Lines.{lines_of, words_of}
 
@@ -11,7 +11,7 @@ pub record Line : Type 0 where
   pub number : ℕ
   pub words : List (List ℕ)
 
--- the first byte is a number sign (own)
+-- the first byte of a word is a number sign (own)
 abbrev pub is_comment : List ℕ → Bool
 is_comment [] = false
 is_comment (b ∷ bs) = b == 35
@@ -24,7 +24,10 @@ says_something (w ∷ ws) = not (is_comment w)
 -- the lines that say something, the first line having the number n (own)
 unfoldable pub saying_from : ℕ → List (List ℕ) → List Line
 saying_from n [] = []
-saying_from n (l ∷ ls) = if says_something (words_of l) then record { number = n; words = words_of l } ∷ saying_from (n + 1) ls else saying_from (n + 1) ls
+saying_from n (l ∷ ls) =
+    if says_something (words_of l)
+    then record { number = n; words = words_of l } ∷ saying_from (n + 1) ls
+    else saying_from (n + 1) ls
 
 -- the lines of a text that say something (own)
 abbrev pub saying_lines : List ℕ → List Line

@@ -1,4 +1,4 @@
--- What the lines of an input say, or its first faulty line. Our own format.
+-- What the lines of an input say, or its first faulty line. Our own format. Its top is `said_in`.
 use Rattle.std.specs.Prelude.{ℕ, nat_lt, if◌then◌else◌, List, [], ◌∷◌, length, Result, Ok, Err}
 use Rattle.ao_base.specs.declared.line_kind.LineKind.{LineKind}
 use Rattle.ao_base.specs.Lines.{lines_of}
@@ -12,13 +12,14 @@ pub record Said (A : Type 0) : Type 0 where
   pub number : ℕ
   pub value : A
 
--- the kind of a line's fault, at its number (own)
+-- a line's fault, whose kind is known, with the line's number (own)
 abbrev pub numbered : {A : Type 0} → ℕ → Result A LineKind → Result A TextFault
 numbered n (Ok x) = Ok x
 numbered n (Err kind) = Err (fault.Line n kind)
 
 -- what each line says by this meaning of its words, or the first faulty line (own)
-unfoldable pub said_by : {A : Type 0} → (List (List ℕ) → Result A LineKind) → List Line → Result (List (Said A)) TextFault
+unfoldable pub said_by : {A : Type 0} → (List (List ℕ) → Result A LineKind) → List Line →
+    Result (List (Said A)) TextFault
 said_by meaning [] = Ok []
 said_by meaning (l ∷ ls) = do
   value ← numbered l.number (meaning l.words)
@@ -27,8 +28,10 @@ said_by meaning (l ∷ ls) = do
 
 -- what is made of the lines of a text, where they aren't too many (own)
 abbrev pub if_few_lines : {A : Type 0} → List ℕ → Result A TextFault → Result A TextFault
-if_few_lines text made = if nat_lt most_lines (length (lines_of text)) then Err fault.TooManyLines else made
+if_few_lines text made =
+    if nat_lt most_lines (length (lines_of text)) then Err fault.TooManyLines else made
 
 -- what the lines of a text say (own)
-unfoldable pub said_in : {A : Type 0} → (List (List ℕ) → Result A LineKind) → List ℕ → Result (List (Said A)) TextFault
+unfoldable pub said_in : {A : Type 0} → (List (List ℕ) → Result A LineKind) → List ℕ →
+    Result (List (Said A)) TextFault
 said_in meaning text = if_few_lines text (said_by meaning (saying_lines text))

@@ -1,4 +1,4 @@
--- The lines of an output. Our own format.
+-- The lines of an output. Our own format. Its top is `numbered_text`.
 use Rattle.std.specs.Prelude.{ℕ, List, [], ◌∷◌, ◌++◌, codes, decimal}
 use Rattle.ao_base.specs.declared.address.Socket.{Socket}
 use Rattle.ao_base.specs.declared.end.End.{End}
