@@ -3,7 +3,7 @@ use Rattle.std.specs.Prelude.{ℕ, Bool, List}
 use Rattle.endpoint_model.specs.declared.arrival.Arrival.{Arrival}
 use Rattle.link_model.specs.Worlds.{Made}
 
--- what an event answers
+-- what an event answers (own)
 pub data Outcome : Type 0 where
   Done : Outcome
   Sent : (made : Made) → Outcome

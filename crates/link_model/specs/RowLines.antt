@@ -1,4 +1,4 @@
--- A row as an event adds it.
+-- A row as an event adds it. Its top is `row_of`.
 use Rattle.std.specs.Prelude.{Bool, true, false, [], ◌∷◌, None}
 use Rattle.key_model.specs.declared.direction.Direction.{Direction}
 use Rattle.key_model.specs.declared.direction.Direction.TheVariants.{Receive, Send, Both, Disabled}
@@ -12,7 +12,7 @@ direction_of true false = Receive
 direction_of false true = Send
 direction_of false false = Disabled
 
--- the row matches every pair (RFC 7210, section 2)
+-- the row that a line adds, which matches every pair (RFC 7210, section 2, and own)
 abbrev pub row_of : RowLine → Row
 row_of l = record {
   recv_id = l.recv_id;
