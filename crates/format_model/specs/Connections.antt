@@ -1,4 +1,5 @@
--- The connections that are held while stored datagrams are judged, as a map (own).
+-- The connections that are held while stored datagrams are judged, as a map (own). Its top is
+-- `IsMap`.
 use Rattle.std.specs.Prelude.{◌≡◌, ℕ, ◌<◌, true, List, [], ◌∷◌, length, slice_index_or}
 use Rattle.ao_base.specs.declared.address.Socket.{Socket}
 use Rattle.key_model.specs.Rows.{Table}
@@ -12,5 +13,7 @@ connections_after tables held (s ∷ rest) =
 
 -- at most one of the connections is between two sockets, whichever they are (own)
 abbrev pub IsMap : List Connection → Type 0
-IsMap held = (a b : Socket) (j k : ℕ) (d : Connection) → j < length held → k < length held
-    → joins a b (slice_index_or held j d) ≡ true → joins a b (slice_index_or held k d) ≡ true → j ≡ k
+IsMap held =
+    (a b : Socket) (j k : ℕ) (d : Connection) → j < length held → k < length held
+    → joins a b (slice_index_or held j d) ≡ true → joins a b (slice_index_or held k d) ≡ true
+    → j ≡ k

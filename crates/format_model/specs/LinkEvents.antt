@@ -1,11 +1,14 @@
--- What a line of a link file says of one event. Our own format.
-use Rattle.std.specs.Prelude.{ℕ, nat_le, nat_lt, Bool, true, false, List, codes, Option, Some, None, Result, Ok, Err, if◌then◌else◌}
+-- What a line of a link file says of one event. Our own format. Its top is `event_of`.
+use Rattle.std.specs.Prelude.{ℕ, nat_le, nat_lt, Bool, true, false, List, codes, Option, Some, None}
+use Rattle.std.specs.Prelude.{Result, Ok, Err, if◌then◌else◌}
 use Rattle.std.specs.Str.{bytes_eq}
 use Rattle.ao_base.specs.declared.end.End.{End}
 use Rattle.ao_base.specs.declared.line_kind.LineKind.{LineKind}
 use Rattle.ao_base.specs.declared.line_kind.LineKind.TheVariants.{Word, Range}
 use Rattle.key_model.specs.Lifetimes.{greatest_time}
-use Rattle.line_model.specs.Words.{Taken, word_in, word_as, nothing_in, choice_in, end_in, algorithm_in, number_in, sized_hex_in, some_hex_in, byte_in, ending}
+use Rattle.line_model.specs.Words.{Taken, word_in, word_as, nothing_in, choice_in, end_in}
+use Rattle.line_model.specs.Words.{algorithm_in, number_in, sized_hex_in, some_hex_in, byte_in}
+use Rattle.line_model.specs.Words.{ending}
 use Rattle.ao_base.specs.Results.{◌>>=◌}
 use Rattle.link_model.specs.declared.event.Event.{Event}
 use Rattle.link_model.specs.declared.event.Event.TheVariants as event
@@ -14,54 +17,56 @@ use Rattle.link_model.specs.declared.event.Event.TheVariants as event
 abbrev pub greatest_isn : ℕ
 greatest_isn = 4294967295
 
--- the most segments of a link
+-- the most segments that a link makes (own)
 abbrev pub most_segments : ℕ
 most_segments = 20000
 
--- an end alone: `send END`, `resend END`, `close END`, `abort END`
+-- an event of an end alone: `send END`, `resend END`, `close END`, `abort END` (own)
 abbrev pub end_of : (End → Event) → List (List ℕ) → Result Event LineKind
 end_of made ws = ending made (end_in ws)
 
--- an end and a number from low to high: `clock END SECONDS`, `open END ISN`, `listen END ISN`, `deliver END N`, `take END COUNT`, `withdraw END ROW`
+-- an event of an end and a number from low to high: `clock END SECONDS`, `open END ISN`, `listen
+-- END ISN`, `deliver END N`, `take END COUNT`, `withdraw END ROW` (own)
 abbrev pub number_of : (End → ℕ → Event) → ℕ → ℕ → List (List ℕ) → Result Event LineKind
 number_of made low high ws = do
   e ← end_in ws
   ending (made e.value) (number_in low high e.rest)
 
--- `start END ISN PEERISN`
+-- the event `start END ISN PEERISN` (own)
 unfoldable pub start_of : List (List ℕ) → Result Event LineKind
 start_of ws = do
   e ← end_in ws
   own ← number_in 0 greatest_isn e.rest
   ending (event.Start e.value own.value) (number_in 0 greatest_isn own.rest)
 
--- `give END HEX`, at least one byte
+-- the event `give END HEX`, of at least one byte (own)
 unfoldable pub give_of : List (List ℕ) → Result Event LineKind
 give_of ws = do
   e ← end_in ws
   ending (event.Give e.value) (some_hex_in e.rest)
 
--- `fill END COUNT BYTE`
+-- the event `fill END COUNT BYTE` (own)
 unfoldable pub fill_of : List (List ℕ) → Result Event LineKind
 fill_of ws = do
   e ← end_in ws
   count ← number_in 0 65535 e.rest
   ending (event.Fill e.value count.value) (byte_in count.rest)
 
--- `inject END HEX`, 1 to 65,575 bytes
+-- the event `inject END HEX`, of 1 to 65,575 bytes (own)
 unfoldable pub inject_of : List (List ℕ) → Result Event LineKind
 inject_of ws = do
   e ← end_in ws
   ending (event.Inject e.value) (sized_hex_in 1 65575 e.rest)
 
--- `alter END N PLACE MASK keep` or `fix`
+-- the event `alter END N PLACE MASK keep` or `fix` (own)
 unfoldable pub alter_of : List (List ℕ) → Result Event LineKind
 alter_of ws = do
   e ← end_in ws
   segment ← number_in 1 most_segments e.rest
   place ← number_in 0 65535 segment.rest
   mask ← byte_in place.rest
-  ending (event.Alter e.value segment.value place.value mask.value) (choice_in (codes "keep") (codes "fix") mask.rest)
+  ending (event.Alter e.value segment.value place.value mask.value)
+      (choice_in (codes "keep") (codes "fix") mask.rest)
 
 -- whether a row receives, and whether it sends (RFC 7210, section 2)
 pub record Ways : Type 0 where
@@ -70,12 +75,15 @@ pub record Ways : Type 0 where
 
 -- the ways that a word of a Direction names (RFC 7210, section 2)
 abbrev pub ways_of : List ℕ → Option Ways
-ways_of w = if bytes_eq w (codes "in") then Some (record { receive = true; send = false })
+ways_of w =
+    if bytes_eq w (codes "in") then Some (record { receive = true; send = false })
     else if bytes_eq w (codes "out") then Some (record { receive = false; send = true })
     else if bytes_eq w (codes "both") then Some (record { receive = true; send = true })
-    else if bytes_eq w (codes "disabled") then Some (record { receive = false; send = false }) else None
+    else if bytes_eq w (codes "disabled") then Some (record { receive = false; send = false })
+    else None
 
--- `add END RECVID SENDID ALGORITHM HEX FLAG DIRECTION SENDFIRST SENDLAST ACCEPTFIRST ACCEPTLAST`; no lifetime's last second is before its first
+-- the event `add END RECVID SENDID ALGORITHM HEX FLAG DIRECTION SENDFIRST SENDLAST ACCEPTFIRST
+-- ACCEPTLAST`; no lifetime's last second is before its first (RFC 7210, section 2, and own)
 unfoldable pub add_of : List (List ℕ) → Result Event LineKind
 add_of ws = do
   e ← end_in ws
@@ -104,13 +112,14 @@ add_of ws = do
     accept_last = accept_last.value;
   }))
 
--- `dump N`
+-- the event `dump N` (own)
 unfoldable pub dump_of : List (List ℕ) → Result Event LineKind
 dump_of ws = ending event.Dump (number_in 1 most_segments ws)
 
--- the event that the first word names, of the words after it
+-- the event that the first word of a line names, of the words after it (own)
 unfoldable pub event_named : List ℕ → List (List ℕ) → Result Event LineKind
-event_named name ws = if bytes_eq name (codes "clock") then number_of event.Clock 0 greatest_time ws
+event_named name ws =
+    if bytes_eq name (codes "clock") then number_of event.Clock 0 greatest_time ws
     else if bytes_eq name (codes "open") then number_of event.Connect 0 greatest_isn ws
     else if bytes_eq name (codes "listen") then number_of event.Listen 0 greatest_isn ws
     else if bytes_eq name (codes "start") then start_of ws
@@ -129,7 +138,7 @@ event_named name ws = if bytes_eq name (codes "clock") then number_of event.Cloc
     else if bytes_eq name (codes "dump") then dump_of ws
     else Err Word
 
--- the event of a line
+-- the event that the words of a line say (own)
 unfoldable pub event_of : List (List ℕ) → Result Event LineKind
 event_of ws = do
   name ← word_in ws

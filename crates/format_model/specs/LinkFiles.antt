@@ -1,5 +1,6 @@
--- The script that a link file is, or its first fault. Our own format.
-use Rattle.std.specs.Prelude.{ℕ, ◌+◌, not, Bool, true, false, List, [], ◌∷◌, length, codes, Option, Some, None, Result, Ok, Err, if◌then◌else◌}
+-- The script that a link file is, or its first fault. Our own format. Its top is `script_of`.
+use Rattle.std.specs.Prelude.{ℕ, ◌+◌, not, Bool, true, false, List, [], ◌∷◌, length, codes, Option}
+use Rattle.std.specs.Prelude.{Some, None, Result, Ok, Err, if◌then◌else◌}
 use Rattle.std.specs.Str.{bytes_eq}
 use Rattle.ao_base.specs.declared.address.Address.{Address}
 use Rattle.ao_base.specs.declared.address.Address.TheVariants.{V4, V6}
@@ -11,90 +12,97 @@ use Rattle.line_model.specs.declared.text_fault.TextFault.{TextFault}
 use Rattle.line_model.specs.declared.text_fault.TextFault.TheVariants as fault
 use Rattle.line_model.specs.Lines.{Line, saying_lines}
 use Rattle.line_model.specs.Said.{numbered, if_few_lines}
-use Rattle.line_model.specs.Words.{nothing_in, literal_in, socket_in, algorithm_in, sized_hex_in, ending}
+use Rattle.line_model.specs.Words.{nothing_in, literal_in, socket_in, algorithm_in, sized_hex_in}
+use Rattle.line_model.specs.Words.{ending}
 use Rattle.ao_base.specs.Results.{◌>>=◌}
 use Rattle.link_model.specs.declared.event.Event.{Event}
 use Rattle.format_model.specs.declared.script.SharedKey.{SharedKey}
 use Rattle.format_model.specs.declared.script.Script.{Script}
 use Rattle.format_model.specs.LinkEvents.{event_of}
 
--- what a line says, and the lines after it
+-- what a line says, and the lines after it (own)
 pub record Left (A : Type 0) : Type 0 where
   pub value : A
   pub rest : List Line
 
--- a title of two words: a name and its version
+-- the line of a file's title, of two words: a name and its version (own)
 unfoldable pub title_of : List ℕ → List (List ℕ) → Result (Unit {0}) LineKind
 title_of title ws = do
   name ← literal_in title ws
   version ← literal_in (codes "1") name.rest
   nothing_in version.rest
 
--- `a ADDRESS PORT`, or with `b`
+-- the line `a ADDRESS PORT`, or with `b` (own)
 unfoldable pub socket_of : List ℕ → List (List ℕ) → Result Socket LineKind
 socket_of end ws = do
   name ← literal_in end ws
   ending (λ socket. socket) (socket_in name.rest)
 
--- two addresses of one family that differ
+-- two addresses are of one family and differ (own)
 abbrev pub are_two_of_a_family : Address → Address → Bool
 are_two_of_a_family (V4 x) (V4 y) = not (bytes_eq x y)
 are_two_of_a_family (V6 x) (V6 y) = not (bytes_eq x y)
 are_two_of_a_family _ _ = false
 
--- `b ADDRESS PORT`, beside the socket of a
+-- the line `b ADDRESS PORT`, beside the socket of a (own)
 unfoldable pub peer_of : Socket → List (List ℕ) → Result Socket LineKind
 peer_of a ws = do
   b ← socket_of (codes "b") ws
   if are_two_of_a_family a.address b.address then Ok b else Err kind.Word
 
--- `shared ALGORITHM HEX`, 1 to 255 bytes
+-- the line `shared ALGORITHM HEX`, of 1 to 255 bytes (own)
 unfoldable pub shared_key_of : List (List ℕ) → Result SharedKey LineKind
 shared_key_of ws = do
   name ← literal_in (codes "shared") ws
   algorithm ← algorithm_in name.rest
-  ending (λ master. record { alg = algorithm.value; master = master }) (sized_hex_in 1 255 algorithm.rest)
+  ending (λ master. record { alg = algorithm.value; master = master })
+      (sized_hex_in 1 255 algorithm.rest)
 
--- what a line says, every fault of it being of one kind
-abbrev pub at_line : {A : Type 0} → ℕ → LineKind → List Line → Result A LineKind → Result (Left A) TextFault
+-- what a line says, every fault of it being of one kind (own)
+abbrev pub at_line : {A : Type 0} → ℕ → LineKind → List Line → Result A LineKind →
+    Result (Left A) TextFault
 at_line n kind rest (Ok x) = Ok (record { value = x; rest = rest })
 at_line n kind rest (Err e) = Err (fault.Line n kind)
 
--- what the next line says; one that is missing has the number after all lines
-unfoldable pub line_in : {A : Type 0} → ℕ → LineKind → (List (List ℕ) → Result A LineKind) → List Line → Result (Left A) TextFault
+-- what the next line says; one that is missing has the number after all lines (own)
+unfoldable pub line_in : {A : Type 0} → ℕ → LineKind → (List (List ℕ) → Result A LineKind) →
+    List Line → Result (Left A) TextFault
 line_in missing kind meaning [] = Err (fault.Line missing kind)
 line_in missing kind meaning (l ∷ ls) = at_line l.number kind ls (meaning l.words)
 
--- the shared key, where there is no key file
+-- the shared key that a line says, where there is no key file (own)
 unfoldable pub key_in : Bool → ℕ → List Line → Result (Left (Option SharedKey)) TextFault
 key_in true missing ls = Ok (record { value = None; rest = ls })
 key_in false missing ls = do
   key ← line_in missing kind.Shared shared_key_of ls
   Ok (record { value = Some key.value; rest = key.rest })
 
--- the line's first word is `shared`
+-- the first word of a line is `shared` (own)
 unfoldable pub is_shared : List (List ℕ) → Bool
 is_shared [] = false
 is_shared (w ∷ ws) = bytes_eq w (codes "shared")
 
--- what a line of an event says; a `shared` line there is refused however it goes on
+-- what a line of an event says; a `shared` line there is refused however it goes on (own)
 abbrev pub event_at : {A : Type 0} → (List (List ℕ) → Result A LineKind) → Line → Result A TextFault
-event_at meaning l = if is_shared l.words then Err (fault.Line l.number kind.Shared) else numbered l.number (meaning l.words)
+event_at meaning l =
+    if is_shared l.words then Err (fault.Line l.number kind.Shared)
+    else numbered l.number (meaning l.words)
 
--- what the lines of events say
-unfoldable pub events_of : {A : Type 0} → (List (List ℕ) → Result A LineKind) → List Line → Result (List A) TextFault
+-- what the lines of events say (own)
+unfoldable pub events_of : {A : Type 0} → (List (List ℕ) → Result A LineKind) → List Line →
+    Result (List A) TextFault
 events_of meaning [] = Ok []
 events_of meaning (l ∷ ls) = do
   e ← event_at meaning l
   others ← events_of meaning ls
   Ok (e ∷ others)
 
--- the two sockets in front of the events
+-- the two sockets that a link file names in front of its events (own)
 pub record Head : Type 0 where
   pub a : Socket
   pub b : Socket
 
--- the three lines in front
+-- what the three lines in front say (own)
 unfoldable pub head_in : ℕ → List Line → Result (Left Head) TextFault
 head_in missing ls = do
   title ← line_in missing kind.Header (title_of (codes "aotcp-link")) ls
@@ -102,7 +110,7 @@ head_in missing ls = do
   b ← line_in missing kind.Header (peer_of a.value) a.rest
   Ok (record { value = record { a = a.value; b = b.value }; rest = b.rest })
 
--- the script that the saying lines make
+-- the script that the lines of a link file make (own)
 unfoldable pub script_in : Bool → ℕ → List Line → Result Script TextFault
 script_in with_keys missing ls = do
   head ← head_in missing ls
@@ -110,10 +118,11 @@ script_in with_keys missing ls = do
   events ← events_of event_of key.rest
   Ok (record { a = head.value.a; b = head.value.b; shared = key.value; events = events })
 
--- the number of a line that is missing
+-- the number that a missing line of a text has (own)
 abbrev pub missing_in : List ℕ → ℕ
 missing_in text = length (lines_of text) + 1
 
--- the script of a text, or its first fault
+-- the script of a link file, or its first fault (own)
 unfoldable pub script_of : Bool → List ℕ → Result Script TextFault
-script_of with_keys text = if_few_lines text (script_in with_keys (missing_in text) (saying_lines text))
+script_of with_keys text =
+    if_few_lines text (script_in with_keys (missing_in text) (saying_lines text))

@@ -1,5 +1,8 @@
--- Many connections at one node, each an end of its own. Our own format.
-use Rattle.std.specs.Prelude.{ℕ, suc, ◌+◌, nat_lt, nat_le, Bool, not, ◌&&◌, List, [], ◌∷◌, ◌++◌, length, codes, decimal, Option, Some, None, Result, Ok, Err, if◌then◌else◌}
+-- Many connections at one node, each an end of its own. Our own format. Its tops are
+-- `node_script_of` and `node_text`.
+use Rattle.std.specs.Prelude.{ℕ, suc, ◌+◌, nat_lt, nat_le, Bool, not, ◌&&◌, List, [], ◌∷◌, ◌++◌}
+use Rattle.std.specs.Prelude.{length, codes, decimal, Option, Some, None, Result, Ok, Err}
+use Rattle.std.specs.Prelude.{if◌then◌else◌}
 use Rattle.std.specs.Str.{bytes_eq}
 use Rattle.ao_base.specs.declared.address.Address.{Address}
 use Rattle.ao_base.specs.declared.address.Pair.{Pair}
@@ -14,11 +17,13 @@ use Rattle.line_model.specs.declared.text_fault.TextFault.{TextFault}
 use Rattle.line_model.specs.Lines.{Line, saying_lines}
 use Rattle.line_model.specs.Said.{numbered, if_few_lines}
 use Rattle.line_model.specs.Texts.{numbered_text}
-use Rattle.line_model.specs.Words.{Taken, word_in, literal_in, address_in, number_in, sized_hex_in, some_hex_in, ending}
+use Rattle.line_model.specs.Words.{Taken, word_in, literal_in, address_in, number_in, sized_hex_in}
+use Rattle.line_model.specs.Words.{some_hex_in, ending}
 use Rattle.ao_base.specs.Results.{◌>>=◌}
 use Rattle.endpoint_model.specs.declared.arrival.Arrival.{Arrival}
 use Rattle.endpoint_model.specs.declared.arrival.Arrival.TheVariants.{Bad}
-use Rattle.endpoint_model.specs.States.{EndState, connected, listening, started, offered, taking, take_out, at_end, close, abort, tick}
+use Rattle.endpoint_model.specs.States.{EndState, connected, listening, started, offered, taking}
+use Rattle.endpoint_model.specs.States.{take_out, at_end, close, abort, tick}
 use Rattle.endpoint_model.specs.Arrivals.{arrive}
 use Rattle.endpoint_model.specs.Emissions.{Emission, Emitted, Quiet, NoKey, Emits, emit, resend}
 use Rattle.link_model.specs.Reports.{answer_texts, flags_text, number_text, hex_or_none, end_mark}
@@ -30,17 +35,17 @@ use Rattle.format_model.specs.declared.node.NodeScript.{NodeScript}
 use Rattle.format_model.specs.LinkEvents.{greatest_isn}
 use Rattle.format_model.specs.LinkFiles.{line_in, title_of, are_two_of_a_family, missing_in}
 
--- an end of a node, under the pair of its connection
+-- an end that a node holds, under the pair of its connection (own)
 pub record Held : Type 0 where
   pub pair : Pair
   pub state : EndState
 
--- a node: its clock, and its ends; no pair is held twice
+-- a node: its clock, and its ends; no pair is held twice (own)
 pub record NodeState : Type 0 where
   pub clock : ℕ
   pub ends : List Held
 
--- what an event of a node answers
+-- what an event of a node answers (own)
 pub data NodeOutcome : Type 0 where
   Done InUse NodeFull NoConnection Full HasClosed : NodeOutcome
   Sent : (emission : Emission) → NodeOutcome
@@ -48,44 +53,47 @@ pub data NodeOutcome : Type 0 where
   Answered : (answer : Arrival) → NodeOutcome
   Took : (bytes : List ℕ) (end_shown : Bool) → NodeOutcome
 
--- the most ends that a node holds
+-- the most ends that a node holds (own)
 abbrev pub most_ends : ℕ
 most_ends = 1024
 
--- the same pair
+-- two pairs have the same sockets (own)
 abbrev pub same_pair : Pair → Pair → Bool
 same_pair one two = same_socket one.local two.local && same_socket one.remote two.remote
 
--- the end of a pair
+-- the end that a node holds for a pair (own)
 abbrev pub end_of : Pair → List Held → Option EndState
 end_of pair [] = None
 end_of pair (h ∷ hs) = if same_pair h.pair pair then Some h.state else end_of pair hs
 
--- the ends with this one in the place of its pair's
+-- the ends with this one in the place of its pair's (own)
 abbrev pub with_end : Pair → EndState → List Held → List Held
 with_end pair s [] = []
-with_end pair s (h ∷ hs) = if same_pair h.pair pair then record { pair = pair; state = s } ∷ hs else h ∷ with_end pair s hs
+with_end pair s (h ∷ hs) =
+    if same_pair h.pair pair then record { pair = pair; state = s } ∷ hs
+    else h ∷ with_end pair s hs
 
--- the ends without this pair's
+-- the ends without this pair's (own)
 abbrev pub without_end : Pair → List Held → List Held
 without_end pair [] = []
 without_end pair (h ∷ hs) = if same_pair h.pair pair then hs else h ∷ without_end pair hs
 
--- all ends tick
+-- all ends of a node when its clock is set: each of them ticks (own)
 abbrev pub ticked : ℕ → List Held → List Held
 ticked now [] = []
 ticked now (h ∷ hs) = record { pair = h.pair; state = tick now h.state } ∷ ticked now hs
 
--- the state after a call of an end, and its answer
+-- the state after a call of an end, and its answer (own)
 pub record Called : Type 0 where
   pub state : EndState
   pub outcome : NodeOutcome
 
--- a state with its answer
+-- a state with the answer of a call (own)
 abbrev pub called : EndState → NodeOutcome → Called
 called s outcome = record { state = s; outcome = outcome }
 
--- a segment is made, or none
+-- what comes of a call that makes a segment, or none: then the answer is the word for nothing to
+-- send, or that no key may be used (own)
 abbrev pub sent : EndState → NodeOutcome → Emitted → Called
 sent s without Quiet = called s without
 sent s without NoKey = called s WithoutKey
@@ -94,93 +102,115 @@ sent s without (Emits out) = called out.state (Sent out)
 -- a call of a held end (RFC 9293, section 3.10)
 abbrev pub act_on : List Row → Pair → ℕ → EndState → Act → Called
 act_on rows pair now s (act.Give piece) = offered called HasClosed Full Done piece s
-act_on rows pair now s (act.Take count) = let t = take_out count s in called t (Took (taking count s) (at_end t))
+act_on rows pair now s (act.Take count) =
+    let t = take_out count s in
+    called t (Took (taking count s) (at_end t))
 act_on rows pair now s act.Send = sent s Idle (emit rows pair now s)
 act_on rows pair now s act.Resend = sent s Nothing (resend rows pair now s)
 act_on rows pair now s act.Close = called (close s) Done
 act_on rows pair now s act.Abort = called (abort s) Done
 act_on rows pair now s _ = called s InUse
 
--- an event's new node, and its answer
+-- the node after an event, and the event's answer (own)
 pub record NodeStep : Type 0 where
   pub node : NodeState
   pub outcome : NodeOutcome
 
--- the node stays
+-- a node that stays as it is, with an answer (own)
 abbrev pub stays : NodeState → NodeOutcome → NodeStep
 stays n outcome = record { node = n; outcome = outcome }
 
--- the end of a pair after a call
+-- a node after a call of the end of a pair (own)
 abbrev pub after_call : NodeState → Pair → Called → NodeStep
-after_call n pair c = record { node = record n { ends = with_end pair c.state n.ends }; outcome = c.outcome }
+after_call n pair c = record {
+  node = record n { ends = with_end pair c.state n.ends };
+  outcome = c.outcome;
+}
 
--- an event of a pair that is held
+-- an act on a pair that is held (own)
 abbrev pub on_held : List Row → NodeState → Pair → EndState → Act → NodeStep
-on_held rows n pair s act.Remove = record { node = record n { ends = without_end pair n.ends }; outcome = Done }
+on_held rows n pair s act.Remove = record {
+  node = record n { ends = without_end pair n.ends };
+  outcome = Done;
+}
 on_held rows n pair s a = after_call n pair (act_on rows pair n.clock s a)
 
--- a new end, where there is room for it
+-- a new end of a node, where there is room for it (own)
 abbrev pub new_end : ℕ → NodeState → Pair → EndState → NodeStep
-new_end most n pair s = if nat_le most (length n.ends) then stays n NodeFull
-    else record { node = record n { ends = n.ends ++ record { pair = pair; state = s } ∷ [] }; outcome = Done }
+new_end most n pair s =
+    if nat_le most (length n.ends) then stays n NodeFull
+    else record {
+      node = record n { ends = n.ends ++ record { pair = pair; state = s } ∷ [] };
+      outcome = Done;
+    }
 
--- an event of a pair that isn't held
+-- an act on a pair that isn't held (own)
 abbrev pub on_other : ℕ → NodeState → Pair → Act → NodeStep
 on_other most n pair (act.Open isn) = new_end most n pair (connected pair isn)
 on_other most n pair (act.Listen isn) = new_end most n pair (listening pair isn)
 on_other most n pair (act.Start isn peer) = new_end most n pair (started pair isn peer)
 on_other most n pair _ = stays n NoConnection
 
--- an event of a pair
+-- an act on a pair, whose end is held or isn't (own)
 abbrev pub on_pair : ℕ → List Row → NodeState → Pair → Act → Option EndState → NodeStep
 on_pair most rows n pair a None = on_other most n pair a
 on_pair most rows n pair a (Some s) = on_held rows n pair s a
 
--- an arrival at the end of a pair
+-- a datagram arrives at the end of a pair, where one is held (RFC 9293, section 3.10.7, and own)
 abbrev pub arrived_at : List Row → NodeState → Pair → Reading → Option EndState → NodeStep
 arrived_at rows n pair r None = stays n NoConnection
-arrived_at rows n pair r (Some s) = let a = arrive rows pair n.clock s r in after_call n pair (called a.state (Answered a.answer))
+arrived_at rows n pair r (Some s) =
+    let a = arrive rows pair n.clock s r in
+    after_call n pair (called a.state (Answered a.answer))
 
--- the pair of a datagram as the node sees it
+-- the pair of a datagram as the node sees it (own)
 abbrev pub pair_of : Segment → Pair
 pair_of d = record { local = d.destination; remote = d.source }
 
--- a datagram arrives
+-- a datagram arrives at a node: at the end of its pair (own)
 abbrev pub injected : List Row → NodeState → Reading → NodeStep
 injected rows n (Unread fault) = stays n (Answered (Bad fault))
 injected rows n (Read d) = arrived_at rows n (pair_of d) (Read d) (end_of (pair_of d) n.ends)
 
--- the node after an event, and the answer; at most so many ends are held
+-- the node after an event, and the answer; at most so many ends are held (own)
 abbrev pub node_step : ℕ → List Row → NodeState → NodeEvent → NodeStep
-node_step most rows n (event.Clock seconds) = record { node = record { clock = seconds; ends = ticked seconds n.ends }; outcome = Done }
+node_step most rows n (event.Clock seconds) = record {
+  node = record { clock = seconds; ends = ticked seconds n.ends };
+  outcome = Done;
+}
 node_step most rows n (event.Inject bytes) = injected rows n (reading bytes)
 node_step most rows n (event.On pair a) = on_pair most rows n pair a (end_of pair n.ends)
 
--- a node as it begins: the clock 0, and no end
+-- a node as it begins: the clock 0, and no end (own)
 abbrev pub no_ends : NodeState
 no_ends = record { clock = 0; ends = [] }
 
--- the node after these events
+-- the node after events that begin at this one (own)
 abbrev pub node_from : ℕ → List Row → NodeState → List NodeEvent → NodeState
 node_from most rows n [] = n
 node_from most rows n (e ∷ es) = node_from most rows (node_step most rows n e).node es
 
--- the answers to these events
+-- the answers to events that begin at this node (own)
 abbrev pub outcomes_from : ℕ → List Row → NodeState → List NodeEvent → List NodeOutcome
 outcomes_from most rows n [] = []
-outcomes_from most rows n (e ∷ es) = let s = node_step most rows n e in s.outcome ∷ outcomes_from most rows s.node es
+outcomes_from most rows n (e ∷ es) =
+    let s = node_step most rows n e in
+    s.outcome ∷ outcomes_from most rows s.node es
 
--- the answers of a node to these events
+-- the answers to events that begin at a node without ends (own)
 unfoldable pub outcomes : List Row → List NodeEvent → List NodeOutcome
 outcomes rows events = outcomes_from most_ends rows no_ends events
 
--- the words for a segment that was made
+-- the words for a segment that an end of a node made (own)
 abbrev pub sent_texts : Emission → List (List ℕ)
 sent_texts e =
-    codes "sent" ∷ flags_text e.flags ∷ codes "seq" ∷ decimal e.number ∷ codes "ack" ∷ number_text e.acknowledged ∷ codes "len" ∷ decimal (length e.segment.payload)
-    ∷ codes "key" ∷ decimal e.sending.key_id ∷ codes "next" ∷ decimal e.sending.rnext_key_id ∷ codes "datagram" ∷ hex_of (spell e.segment) ∷ []
+    codes "sent" ∷ flags_text e.flags
+    ∷ codes "seq" ∷ decimal e.number ∷ codes "ack" ∷ number_text e.acknowledged
+    ∷ codes "len" ∷ decimal (length e.segment.payload)
+    ∷ codes "key" ∷ decimal e.sending.key_id ∷ codes "next" ∷ decimal e.sending.rnext_key_id
+    ∷ codes "datagram" ∷ hex_of (spell e.segment) ∷ []
 
--- the words for an answer
+-- the words for an answer of a node (own)
 abbrev pub node_texts : NodeOutcome → List (List ℕ)
 node_texts Done = codes "ok" ∷ []
 node_texts InUse = codes "in-use" ∷ []
@@ -195,58 +225,67 @@ node_texts Nothing = codes "nothing" ∷ []
 node_texts (Answered answer) = answer_texts answer
 node_texts (Took bytes shown) = codes "took" ∷ hex_or_none bytes ∷ end_mark shown
 
--- a line for each answer, numbered from here on
+-- a line for each answer of a node, the first one having this number (own)
 abbrev pub node_lines : ℕ → List NodeOutcome → List ℕ
 node_lines n [] = []
 node_lines n (o ∷ os) = numbered_text n (node_texts o) ++ node_lines (suc n) os
 
--- the text of a node's run
+-- the text of a node's run (own)
 unfoldable pub node_text : List Row → List NodeEvent → List ℕ
 node_text rows events = node_lines 1 (outcomes rows events)
 
--- `LOCALPORT ADDRESS REMOTEPORT`, seen from the node with this address
+-- the next words as a pair, `LOCALPORT ADDRESS REMOTEPORT`, seen from the node with this address
+-- (own)
 abbrev pub pair_in : Address → List (List ℕ) → Result (Taken Pair) LineKind
 pair_in own ws = do
   local ← number_in 0 65535 ws
   address ← address_in local.rest
   far ← (if are_two_of_a_family own address.value then Ok address.value else Err kind.Range)
   port ← number_in 0 65535 address.rest
-  Ok (record { value = record { local = record { address = own; port = local.value }; remote = record { address = far; port = port.value } }; rest = port.rest })
+  Ok (record {
+    value = record {
+      local = record { address = own; port = local.value };
+      remote = record { address = far; port = port.value };
+    };
+    rest = port.rest;
+  })
 
--- a connection, and nothing else
+-- an act on a connection, with no further word (own)
 abbrev pub act_alone : Act → Address → List (List ℕ) → Result NodeEvent LineKind
 act_alone made own ws = ending (λ pair. event.On pair made) (pair_in own ws)
 
--- a connection and a number
+-- an act on a connection with a number up to a greatest one (own)
 abbrev pub act_number : (ℕ → Act) → ℕ → Address → List (List ℕ) → Result NodeEvent LineKind
 act_number made high own ws = do
   pair ← pair_in own ws
   ending (λ n. event.On pair.value (made n)) (number_in 0 high pair.rest)
 
--- a connection and two initial sequence numbers
+-- the act `start` on a connection, with two initial sequence numbers (own)
 abbrev pub act_start : Address → List (List ℕ) → Result NodeEvent LineKind
 act_start own ws = do
   pair ← pair_in own ws
   isn ← number_in 0 greatest_isn pair.rest
-  ending (λ peer. event.On pair.value (act.Start isn.value peer)) (number_in 0 greatest_isn isn.rest)
+  ending (λ peer. event.On pair.value (act.Start isn.value peer))
+      (number_in 0 greatest_isn isn.rest)
 
--- a connection and at least one byte
+-- the act `give` on a connection, with at least one byte (own)
 abbrev pub act_give : Address → List (List ℕ) → Result NodeEvent LineKind
 act_give own ws = do
   pair ← pair_in own ws
   ending (λ bytes. event.On pair.value (act.Give bytes)) (some_hex_in pair.rest)
 
--- `clock SECONDS`
+-- the event `clock SECONDS` (own)
 abbrev pub clock_of : List (List ℕ) → Result NodeEvent LineKind
 clock_of ws = ending event.Clock (number_in 0 greatest_time ws)
 
--- `inject HEX`, 1 to 65,575 bytes
+-- the event `inject HEX`, of 1 to 65,575 bytes (own)
 abbrev pub inject_of : List (List ℕ) → Result NodeEvent LineKind
 inject_of ws = ending event.Inject (sized_hex_in 1 65575 ws)
 
--- the event that the first word names, of the words after it
+-- the event that the first word of a line names, of the words after it (own)
 unfoldable pub node_event_named : Address → List ℕ → List (List ℕ) → Result NodeEvent LineKind
-node_event_named own name ws = if bytes_eq name (codes "clock") then clock_of ws
+node_event_named own name ws =
+    if bytes_eq name (codes "clock") then clock_of ws
     else if bytes_eq name (codes "inject") then inject_of ws
     else if bytes_eq name (codes "open") then act_number act.Open greatest_isn own ws
     else if bytes_eq name (codes "listen") then act_number act.Listen greatest_isn own ws
@@ -260,13 +299,13 @@ node_event_named own name ws = if bytes_eq name (codes "clock") then clock_of ws
     else if bytes_eq name (codes "remove") then act_alone act.Remove own ws
     else Err kind.Word
 
--- the event of a line
+-- the event that the words of a line say (own)
 unfoldable pub node_event_of : Address → List (List ℕ) → Result NodeEvent LineKind
 node_event_of own ws = do
   name ← word_in ws
   node_event_named own name.value name.rest
 
--- the events of lines
+-- the events that lines say, or the first faulty line (own)
 unfoldable pub node_events_of : Address → List Line → Result (List NodeEvent) TextFault
 node_events_of own [] = Ok []
 node_events_of own (l ∷ ls) = do
@@ -274,13 +313,13 @@ node_events_of own (l ∷ ls) = do
   others ← node_events_of own ls
   Ok (e ∷ others)
 
--- `node ADDRESS`
+-- the line `node ADDRESS` (own)
 abbrev pub address_of : List (List ℕ) → Result Address LineKind
 address_of ws = do
   name ← literal_in (codes "node") ws
   ending (λ address. address) (address_in name.rest)
 
--- the script that the saying lines make
+-- the script that the lines of a node's file make (own)
 unfoldable pub node_script_in : ℕ → List Line → Result NodeScript TextFault
 node_script_in missing ls = do
   title ← line_in missing kind.Header (title_of (codes "aotcp-node")) ls
@@ -288,6 +327,6 @@ node_script_in missing ls = do
   events ← node_events_of address.value address.rest
   Ok (record { address = address.value; events = events })
 
--- the script of a node's file, or its first fault
+-- the script of a node's file, or its first fault (own)
 unfoldable pub node_script_of : List ℕ → Result NodeScript TextFault
 node_script_of text = if_few_lines text (node_script_in (missing_in text) (saying_lines text))

@@ -1,5 +1,8 @@
 -- A link whose ends have retransmission timers, as a plain run (RFC 6298, section 5, and own).
-use Rattle.std.specs.Prelude.{ℕ, zero, suc, ◌+◌, ◌-◌, ◌/◌, ◌==◌, min, max, nat_lt, nat_le, Bool, true, false, not, ◌&&◌, List, [], ◌∷◌, ◌++◌, length, codes, Option, Some, None, Result, Ok, Err, if◌then◌else◌}
+-- Its tops are `timed_script_of` and `expand`.
+use Rattle.std.specs.Prelude.{ℕ, zero, suc, ◌+◌, ◌-◌, ◌/◌, ◌==◌, min, max, nat_lt, nat_le, Bool}
+use Rattle.std.specs.Prelude.{true, false, not, ◌&&◌, List, [], ◌∷◌, ◌++◌, length, codes, Option}
+use Rattle.std.specs.Prelude.{Some, None, Result, Ok, Err, if◌then◌else◌}
 use Rattle.std.specs.Str.{bytes_eq}
 use Rattle.ao_base.specs.declared.end.End.{End}
 use Rattle.ao_base.specs.declared.end.End.TheVariants.{A, B}
@@ -25,7 +28,8 @@ use Rattle.format_model.specs.declared.timed.TimedScript.{TimedScript}
 use Rattle.format_model.specs.LinkEvents.{event_named}
 use Rattle.format_model.specs.LinkFiles.{head_in, events_of, missing_in}
 
--- a number whose acknowledgement is timed, and the reading at which it was sent (RFC 6298, section 3)
+-- a number whose acknowledgement is timed, and the reading at which it was sent (RFC 6298,
+-- section 3)
 pub record Timed : Type 0 where
   pub number : ℕ
   pub reading : ℕ
@@ -41,31 +45,34 @@ abbrev pub new_watch : Watch
 new_watch = record { timer = new_timer; deadline = None; timed = None }
 
 -- how far an end has sent: the oldest number that isn't acknowledged, and the one to send next
+-- (RFC 9293, section 3.3.1: SND.UNA and SND.NXT)
 pub record Front : Type 0 where
   pub una : ℕ
   pub next : ℕ
 
--- the front of a session that isn't closed
+-- the front of a session that isn't closed (own)
 abbrev pub front_of : Option Session → Option Front
 front_of None = None
-front_of (Some s) = if is_closed s.state.phase then None else Some (record { una = s.state.una; next = s.state.next })
+front_of (Some s) =
+    if is_closed s.state.phase then None
+    else Some (record { una = s.state.una; next = s.state.next })
 
--- the front of an end's live session
+-- the front of an end's live session (own)
 abbrev pub front_at : World → End → Option Front
 front_at w e = front_of (live (side w e).sessions)
 
--- a link and the timers of its two ends
+-- a link and the timers of its two ends (own)
 pub record Progress : Type 0 where
   pub world : World
   pub a : Watch
   pub b : Watch
 
--- the timer of an end
+-- the timer of an end of a link (own)
 abbrev pub watch_of : Progress → End → Watch
 watch_of p A = p.a
 watch_of p B = p.b
 
--- the timer of an end becomes another
+-- a link and its timers, where the timer of an end becomes another (own)
 abbrev pub with_watch : Progress → End → Watch → Progress
 with_watch p A w = record p { a = w }
 with_watch p B w = record p { b = w }
@@ -81,11 +88,16 @@ stopped w = record w { deadline = None; timed = None }
 -- what is timed was acknowledged: a sample is taken (RFC 6298, section 3)
 abbrev pub sampled_by : ℕ → ℕ → Watch → Option Timed → Watch
 sampled_by una reading w None = w
-sampled_by una reading w (Some t) = if nat_le t.number una then record w { timer = sampled w.timer (reading - t.reading); timed = None } else w
+sampled_by una reading w (Some t) =
+    if nat_le t.number una
+    then record w { timer = sampled w.timer (reading - t.reading); timed = None }
+    else w
 
 -- an acknowledgement of new data (RFC 6298, sections 5.2 and 5.3)
 abbrev pub acknowledged : ℕ → Front → Watch → Watch
-acknowledged reading f w = let s = sampled_by f.una reading w w.timed in if nat_lt f.una f.next then started_anew reading s else stopped s
+acknowledged reading f w =
+    let s = sampled_by f.una reading w w.timed in
+    if nat_lt f.una f.next then started_anew reading s else stopped s
 
 -- the timer runs from now on, unless it runs already (RFC 6298, section 5.1)
 abbrev pub running : ℕ → Watch → Option ℕ → Watch
@@ -94,42 +106,49 @@ running reading w (Some d) = w
 
 -- the number is timed, unless another one is, or it was sent again (RFC 6298, section 3)
 abbrev pub timing : ℕ → ℕ → Bool → Watch → Option Timed → Watch
-timing reading next again w None = if again then w else record w { timed = Some (record { number = next; reading = reading }) }
+timing reading next again w None =
+    if again then w else record w { timed = Some (record { number = next; reading = reading }) }
 timing reading next again w (Some t) = w
 
 -- new numbers were sent (RFC 6298, section 5.1)
 abbrev pub sent_more : ℕ → Front → Bool → Watch → Watch
-sent_more reading f again w = let r = running reading w w.deadline in timing reading f.next again r r.timed
+sent_more reading f again w =
+    let r = running reading w w.deadline in
+    timing reading f.next again r r.timed
 
--- an event between two fronts of an end: una grew, or next grew
+-- the timer after an event between two fronts of an end: the oldest number that isn't
+-- acknowledged grew, or the one to send next did (RFC 6298, section 5)
 abbrev pub moved : ℕ → Bool → Front → Front → Watch → Watch
-moved reading again old new w = if nat_lt old.una new.una then acknowledged reading new w
-    else (if nat_lt old.next new.next then sent_more reading new again w else w)
+moved reading again old new w =
+    if nat_lt old.una new.una then acknowledged reading new w
+    else if nat_lt old.next new.next then sent_more reading new again w
+    else w
 
--- the same, where an end may have no front; without one the timer doesn't run
+-- the timer after an event between two fronts of an end, where there may be none; without one it
+-- doesn't run (RFC 6298, section 5, and own)
 abbrev pub between : ℕ → Bool → Option Front → Option Front → Watch → Watch
 between reading again old None w = stopped w
 between reading again None (Some new) w = w
 between reading again (Some old) (Some new) w = moved reading again old new w
 
--- the event begins a session
+-- an event begins a session (own)
 abbrev pub is_begin : Event → Bool
 is_begin (event.Connect e isn) = true
 is_begin (event.Listen e isn) = true
 is_begin (event.Start e isn peer) = true
 is_begin _ = false
 
--- the event sends again
+-- an event sends again (own)
 abbrev pub is_again : Event → Bool
 is_again (event.Resend e) = true
 is_again _ = false
 
--- an outcome of an event that did something
+-- an outcome is of an event that did something (own)
 abbrev pub is_done : Outcome → Bool
 is_done Done = true
 is_done _ = false
 
--- a segment was made
+-- an outcome is that a segment was made (own)
 abbrev pub is_sent : Outcome → Bool
 is_sent (Sent made) = true
 is_sent _ = false
@@ -138,13 +157,16 @@ is_sent _ = false
 abbrev pub untimed : Bool → Watch → Watch
 untimed again w = if again then record w { timed = None } else w
 
--- the timer of the end of an event, after it: a new session has a new one
+-- the timer of the end of an event, after it: a new session has a new timer (RFC 6298, sections
+-- 2.1 and 5)
 abbrev pub watch_after : World → Event → End → Stepped → Watch → Watch
-watch_after before event e after w = if is_begin event && is_done after.outcome then new_watch
+watch_after before event e after w =
+    if is_begin event && is_done after.outcome then new_watch
     else untimed (is_again event && is_sent after.outcome)
-    (between (side after.world e).clock (is_again event) (front_at before e) (front_at after.world e) w)
+    (between (side after.world e).clock (is_again event)
+    (front_at before e) (front_at after.world e) w)
 
--- the end of an event; `dump` has none
+-- the end of an event; `dump` has none (own)
 abbrev pub end_of : Event → Option End
 end_of (event.Clock e seconds) = Some e
 end_of (event.Connect e isn) = Some e
@@ -164,65 +186,78 @@ end_of (event.AddRow e row) = Some e
 end_of (event.Withdraw e n) = Some e
 end_of (event.Dump n) = None
 
--- a step of the link, and what it does to the timer of the event's end
+-- a step of the link, and what it does to the timer of the event's end (own)
 abbrev pub stepped_at : Progress → Event → Stepped → Option End → Progress
 stepped_at p event s None = record p { world = s.world }
-stepped_at p event s (Some e) = with_watch (record p { world = s.world }) e (watch_after p.world event e s (watch_of p e))
+stepped_at p event s (Some e) =
+    with_watch (record p { world = s.world }) e (watch_after p.world event e s (watch_of p e))
 
--- a plain event
+-- a link and its timers after a plain event (own)
 abbrev pub plain : Setup → Progress → Event → Progress
 plain setup p event = stepped_at p event (step setup p.world event) (end_of event)
 
--- plain events, and what they lead to
+-- plain events, and what they lead to (own)
 pub record Expanded : Type 0 where
   pub events : List Event
   pub progress : Progress
 
--- the events in front of others
+-- events in front of those that they lead to (own)
 abbrev pub before : List Event → Expanded → Expanded
 before events x = record { events = events ++ x.events; progress = x.progress }
 
--- the reading of an end
+-- the reading of an end's clock (own)
 abbrev pub reading_at : Progress → End → ℕ
 reading_at p e = (side p.world e).clock
 
--- the end's clock goes to this reading, unless it is there
+-- the event that sets the end's clock to this reading, unless it has it (own)
 abbrev pub until : Setup → End → ℕ → Progress → Expanded
-until setup e to p = if reading_at p e == to then record { events = []; progress = p }
+until setup e to p =
+    if reading_at p e == to then record { events = []; progress = p }
     else record { events = event.Clock e to ∷ []; progress = plain setup p (event.Clock e to) }
 
--- when the timer of an end expires next, at least one second after the reading
+-- when the timer of an end expires next, at least one second after the reading (RFC 6298, section
+-- 5, and own)
 abbrev pub due : ℕ → Option ℕ → Option ℕ
 due reading None = None
 due reading (Some d) = Some (max d (reading + 1))
 
 -- the timer expired: its value is doubled, and it runs anew (RFC 6298, sections 5.5 and 5.6)
 abbrev pub after_expiry : End → Progress → Progress
-after_expiry e p = let w = watch_of p e in with_watch p e (started_anew (reading_at p e) (record w { timer = expired w.timer }))
+after_expiry e p =
+    let w = watch_of p e in
+    with_watch p e (started_anew (reading_at p e) (record w { timer = expired w.timer }))
 
--- the two events of an expiry: the clock goes to it, and the end sends again (RFC 6298, section 5.4)
+-- the two events of an expiry: the clock goes to it, and the end sends again (RFC 6298, section
+-- 5.4)
 abbrev pub expiry : End → ℕ → List Event
 expiry e d = event.Clock e d ∷ event.Resend e ∷ []
 
--- a wait up to this reading: the timer's expiries, while they come before it; the first argument bounds their number
+-- a wait up to this reading: the timer's expiries, while they come before it; the first argument
+-- bounds their number (RFC 6298, section 5, and own)
 abbrev pub waited : ℕ → Setup → End → ℕ → Progress → Option ℕ → Expanded
 waited zero setup e to p next = until setup e to p
 waited (suc n) setup e to p None = until setup e to p
-waited (suc n) setup e to p (Some d) = if nat_lt to d then until setup e to p
-    else (let q = after_expiry e (plain setup (plain setup p (event.Clock e d)) (event.Resend e)) in
-    before (expiry e d) (waited n setup e to q (due (reading_at q e) (watch_of q e).deadline)))
+waited (suc n) setup e to p (Some d) =
+    if nat_lt to d then until setup e to p
+    else let sent_again = plain setup (plain setup p (event.Clock e d)) (event.Resend e) in
+    let q = after_expiry e sent_again in
+    before (expiry e d) (waited n setup e to q (due (reading_at q e) (watch_of q e).deadline))
 
--- an event of a timed link; a wait of so many seconds ends at the greatest time at last
+-- an event of a timed link; a wait of so many seconds ends at the greatest time at last (own)
 abbrev pub timed_event : Setup → Progress → TimedEvent → Expanded
 timed_event setup p (Plain event) = record { events = event ∷ []; progress = plain setup p event }
-timed_event setup p (Wait e count) = waited (count + 1) setup e (min (reading_at p e + count) greatest_time) p (due (reading_at p e) (watch_of p e).deadline)
+timed_event setup p (Wait e count) =
+    waited (count + 1) setup e (min (reading_at p e + count) greatest_time) p
+    (due (reading_at p e) (watch_of p e).deadline)
 
--- the events of a timed link as plain events
+-- the events of a timed link as plain events (own)
 abbrev pub expand_from : Setup → Progress → List TimedEvent → Expanded
 expand_from setup p [] = record { events = []; progress = p }
-expand_from setup p (e ∷ es) = let x = timed_event setup p e in before x.events (expand_from setup x.progress es)
+expand_from setup p (e ∷ es) =
+    let x = timed_event setup p e in
+    before x.events (expand_from setup x.progress es)
 
--- a link as it begins, with new timers
+-- a link as it begins, with new timers (own)
 abbrev pub begins_timed : Setup → Progress
 begins_timed setup = record { world = empty setup; a = new_watch; b = new_watch }
 
@@ -230,31 +265,31 @@ begins_timed setup = record { world = empty setup; a = new_watch; b = new_watch 
 unfoldable pub expand : Setup → List TimedEvent → Expanded
 expand setup events = expand_from setup (begins_timed setup) events
 
--- `wait END COUNT`
+-- the event `wait END COUNT` (own)
 unfoldable pub wait_of : List (List ℕ) → Result TimedEvent LineKind
 wait_of ws = do
   e ← end_in ws
   ending (Wait e.value) (number_in 1 3600 e.rest)
 
--- a plain event
+-- a plain event of a link, by its first word (own)
 abbrev pub plain_named : List ℕ → List (List ℕ) → Result TimedEvent LineKind
 plain_named name ws = do
   e ← event_named name ws
   Ok (Plain e)
 
--- the event of a line of a link file with waits
+-- the event of a line of a link file with waits (own)
 unfoldable pub timed_event_of : List (List ℕ) → Result TimedEvent LineKind
 timed_event_of ws = do
   name ← word_in ws
   if bytes_eq name.value (codes "wait") then wait_of name.rest else plain_named name.value name.rest
 
--- the script that the saying lines make, for a key file
+-- the script that the lines of a link file with waits make (own)
 unfoldable pub timed_script_in : ℕ → List Line → Result TimedScript TextFault
 timed_script_in missing ls = do
   head ← head_in missing ls
   events ← events_of timed_event_of head.rest
   Ok (record { a = head.value.a; b = head.value.b; events = events })
 
--- the script of a text with waits, or its first fault
+-- the script of a link file with waits, or its first fault (own)
 unfoldable pub timed_script_of : List ℕ → Result TimedScript TextFault
 timed_script_of text = if_few_lines text (timed_script_in (missing_in text) (saying_lines text))

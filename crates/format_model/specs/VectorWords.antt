@@ -1,5 +1,6 @@
 -- What the words of a test vector say. Our own format.
-use Rattle.std.specs.Prelude.{ℕ, ◌||◌, ◌==◌, if◌then◌else◌, Bool, List, [], length, codes, Option, Some, Result, Ok, Err}
+use Rattle.std.specs.Prelude.{ℕ, ◌||◌, ◌==◌, if◌then◌else◌, Bool, List, [], length, codes, Option}
+use Rattle.std.specs.Prelude.{Some, Result, Ok, Err}
 use Rattle.std.specs.Str.{bytes_eq}
 use Rattle.ao_base.specs.declared.line_kind.LineKind.{LineKind}
 use Rattle.ao_base.specs.declared.line_kind.LineKind.TheVariants.{Hex, Range}
@@ -7,7 +8,7 @@ use Rattle.ao_base.specs.Hexadecimal.{bytes_of_hex}
 use Rattle.line_model.specs.Words.{Taken, word_as, choice_in, hex_in}
 use Rattle.ao_base.specs.Results.{◌>>=◌}
 
--- a message in hexadecimal, or a hyphen for the empty one
+-- the next word as a message in hexadecimal, or a hyphen for the empty one (own)
 unfoldable pub message_in : List (List ℕ) → Result (Taken (List ℕ)) LineKind
 message_in ws = word_as (λ w. if bytes_eq w (codes "-") then Some [] else bytes_of_hex w) Hex ws
 
