@@ -1,10 +1,13 @@
--- The calendar of a planned rollover: when each row begins and ends to be used, and how.
-use Rattle.std.specs.Prelude.{◌≡◌, ℕ, zero, suc, ◌+◌, ◌-◌, ◌==◌, Bool, true, false, List, [], ◌∷◌, ◌++◌, Option, Some, None}
+-- The calendar of a planned rollover: when each row begins and ends to be used, and how. Its top
+-- is `calendar_of`.
+use Rattle.std.specs.Prelude.{◌≡◌, ℕ, zero, suc, ◌+◌, ◌-◌, ◌==◌, Bool, true, false, List, [], ◌∷◌}
+use Rattle.std.specs.Prelude.{◌++◌, Option, Some, None}
 use Rattle.ao_base.specs.declared.address.Pair.{Pair}
 use Rattle.ao_base.specs.declared.end.End.{End}
 use Rattle.ao_base.specs.declared.end.End.TheVariants.{A, B}
 use Rattle.book_plans.specs.declared.turn.Role.{Role}
-use Rattle.book_plans.specs.declared.turn.Role.TheVariants.{Acceptable, AskedFor, Sendable, SentWith}
+use Rattle.book_plans.specs.declared.turn.Role.TheVariants.{Acceptable, AskedFor, Sendable}
+use Rattle.book_plans.specs.declared.turn.Role.TheVariants.{SentWith}
 use Rattle.book_plans.specs.declared.turn.Turn.{Turn}
 use Rattle.key_model.specs.Choices.{send_row, next_row}
 use Rattle.key_model.specs.Lifetimes.{contains}
@@ -12,7 +15,7 @@ use Rattle.key_model.specs.Lookups.{number_of}
 use Rattle.key_model.specs.Plans.{mirrored, rows_at}
 use Rattle.key_model.specs.Rows.{Row, Table, sendable, acceptable}
 
--- the row that was found has this number
+-- the row that was found has this number (own)
 abbrev pub is_number : ℕ → Option ℕ → Bool
 is_number n None = false
 is_number n (Some found) = found == n
@@ -24,18 +27,32 @@ has_role rows pair n r AskedFor time = is_number n (number_of (next_row rows pai
 has_role rows pair n r Sendable time = sendable pair time r
 has_role rows pair n r SentWith time = is_number n (number_of (send_row rows pair time))
 
--- the turn of a row and a role by whether it has it before and now: it begins, it ends, or there is none
+-- the turn of a row and a role by whether it has it before and now: it begins, it ends, or there
+-- is none (own)
 abbrev pub turn_by : ℕ → End → ℕ → Role → Bool → Bool → List Turn
-turn_by time end n role false true = record { time = time; end = end; row = n; role = role; begins = true } ∷ []
-turn_by time end n role true false = record { time = time; end = end; row = n; role = role; begins = false } ∷ []
+turn_by time end n role false true = record {
+  time = time;
+  end = end;
+  row = n;
+  role = role;
+  begins = true;
+} ∷ []
+turn_by time end n role true false = record {
+  time = time;
+  end = end;
+  row = n;
+  role = role;
+  begins = false;
+} ∷ []
 turn_by time end n role before now = []
 
--- the turn of a row and a role in the second after this time
+-- the turn of a row and a role in the second after this time (own)
 abbrev pub role_turn : End → List Row → Pair → ℕ → ℕ → Row → Role → List Turn
 role_turn end rows pair time n r role =
-    turn_by (time + 1) end n role (has_role rows pair n r role time) (has_role rows pair n r role (time + 1))
+    turn_by (time + 1) end n role (has_role rows pair n r role time)
+    (has_role rows pair n r role (time + 1))
 
--- the turns of a row in the second after this time
+-- the turns of a row in the second after this time (own)
 abbrev pub row_turns : End → List Row → Pair → ℕ → ℕ → Row → List Turn
 row_turns end rows pair time n r =
     role_turn end rows pair time n r Acceptable
@@ -43,21 +60,23 @@ row_turns end rows pair time n r =
     ++ (role_turn end rows pair time n r Sendable
     ++ role_turn end rows pair time n r SentWith))
 
--- the turns of some of the rows of an end in the second after this time, the first having number n
+-- the turns of some of the rows of an end in the second after this time, the first having number
+-- n (own)
 abbrev pub turns_from : End → List Row → Pair → ℕ → ℕ → List Row → List Turn
 turns_from end rows pair time n [] = []
-turns_from end rows pair time n (r ∷ rs) = row_turns end rows pair time n r ++ turns_from end rows pair time (n + 1) rs
+turns_from end rows pair time n (r ∷ rs) =
+    row_turns end rows pair time n r ++ turns_from end rows pair time (n + 1) rs
 
--- the turns at both ends in the second after this time
+-- the turns at both ends in the second after this time (own)
 abbrev pub turns_after : List Row → List Row → Pair → ℕ → List Turn
 turns_after a b pair time = turns_from A a pair time 1 a ++ turns_from B b (mirrored pair) time 1 b
 
--- the turns at both ends in so many seconds after this time
+-- the turns at both ends in so many seconds after this time (own)
 abbrev pub turns_in : List Row → List Row → Pair → ℕ → ℕ → List Turn
 turns_in a b pair time zero = []
 turns_in a b pair time (suc n) = turns_after a b pair time ++ turns_in a b pair (time + 1) n
 
--- neither lifetime of the row begins or ends in the second after the time
+-- neither lifetime of a row begins or ends in the second after the time (RFC 7210, section 3)
 pub record Keeps (time : ℕ) (r : Row) : Type 0 where
   pub sending : contains r.sending time ≡ contains r.sending (time + 1)
   pub accepting : contains r.accepting time ≡ contains r.accepting (time + 1)
@@ -65,4 +84,5 @@ pub record Keeps (time : ℕ) (r : Row) : Type 0 where
 -- all turns after one time until another, at both ends of a connection, in order (own)
 abbrev pub calendar_of : List Table → Pair → ℕ → ℕ → List Turn
 calendar_of tables pair low high =
-    turns_in (rows_at tables pair.local.address) (rows_at tables pair.remote.address) pair low (high - low)
+    turns_in (rows_at tables pair.local.address) (rows_at tables pair.remote.address) pair low
+    (high - low)

@@ -1,4 +1,5 @@
--- In which columns a row of the other end differs from one that accepts what a row sends.
+-- In which columns a row of the other end differs from one that accepts what a row sends. Its top
+-- is `differences`.
 use Rattle.std.specs.Prelude.{◌==◌, ◌&&◌, not, Bool}
 use Rattle.ao_base.specs.declared.address.Pair.{Pair}
 use Rattle.segment_model.specs.Bytes.{same_bytes}
@@ -17,6 +18,8 @@ differences pair r other = record {
   options = not (same_flag other.with_options r.with_options);
 }
 
--- there are none
+-- no column differs (own)
 abbrev pub is_alike : Differences → Bool
-is_alike d = not d.connection && (not d.direction && (not d.key_id && (not d.master && (not d.algorithm && not d.options))))
+is_alike d =
+    not d.connection
+    && (not d.direction && (not d.key_id && (not d.master && (not d.algorithm && not d.options))))

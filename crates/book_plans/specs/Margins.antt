@@ -1,5 +1,7 @@
--- The margins of a planned rollover: with which leads, and with which lags, two tables are aligned.
-use Rattle.std.specs.Prelude.{◌≡◌, ◌↔◌, ℕ, ◌-◌, ◌≤◌, ◌==◌, max, min, nat_le, Bool, true, false, List, [], ◌∷◌, Option, Some, None, if◌then◌else◌}
+-- The margins of a planned rollover: with which leads, and with which lags, two tables are
+-- aligned. Its tops are `lead_margin_of` and `lag_margin_of`.
+use Rattle.std.specs.Prelude.{◌≡◌, ◌↔◌, ℕ, ◌-◌, ◌≤◌, ◌==◌, max, min, nat_le, Bool, true, false}
+use Rattle.std.specs.Prelude.{List, [], ◌∷◌, Option, Some, None, if◌then◌else◌}
 use Rattle.std.specs.List.{AllByRecursion}
 use Rattle.ao_base.specs.declared.address.Pair.{Pair}
 use Rattle.book_plans.specs.declared.margin.Margin.{Margin}
@@ -9,19 +11,19 @@ use Rattle.key_model.specs.declared.lint.LintAnswer.TheVariants as answer
 use Rattle.key_model.specs.Plans.{mirrored, accepts_throughout, Aligned, rows_at, lint_of}
 use Rattle.key_model.specs.Rows.{Row, Table, sends_for}
 
--- the number is within the margin; none is within no margin
+-- the number is within the margin; none is within no margin (own)
 abbrev pub is_within : Option Margin → ℕ → Bool
 is_within None n = false
 is_within (Some Any) n = true
 is_within (Some (UpTo most)) n = nat_le n most
 
--- what holds of a number holds of none, of each, or exactly of those up to the margin
+-- what holds of a number holds of none, of each, or exactly of those up to the margin (own)
 abbrev pub IsMargin : (ℕ → Type 0) → Option Margin → Type 0
 IsMargin Holds None = (n : ℕ) → Holds n → ⊥
 IsMargin Holds (Some Any) = (n : ℕ) → Holds n
 IsMargin Holds (Some (UpTo most)) = (n : ℕ) → Holds n ↔ (n ≤ most)
 
--- the greater of two margins, no margin being the least
+-- the greater of two margins, no margin being the least (own)
 abbrev pub wider : Option Margin → Option Margin → Option Margin
 wider None two = two
 wider (Some Any) two = Some Any
@@ -29,7 +31,7 @@ wider (Some (UpTo one)) None = Some (UpTo one)
 wider (Some (UpTo one)) (Some Any) = Some Any
 wider (Some (UpTo one)) (Some (UpTo two)) = Some (UpTo (max one two))
 
--- the lesser of two margins
+-- the lesser of two margins (own)
 abbrev pub narrower : Option Margin → Option Margin → Option Margin
 narrower None two = None
 narrower (Some Any) two = two
@@ -37,52 +39,61 @@ narrower (Some (UpTo one)) None = None
 narrower (Some (UpTo one)) (Some Any) = Some (UpTo one)
 narrower (Some (UpTo one)) (Some (UpTo two)) = Some (UpTo (min one two))
 
--- the widest of this margin and those of the rows
+-- the widest of this margin and those of the rows (own)
 abbrev pub widest : (Row → Option Margin) → Option Margin → List Row → Option Margin
 widest margin so_far [] = so_far
 widest margin so_far (r ∷ rs) = widest margin (wider so_far (margin r)) rs
 
--- the narrowest of this margin and those of the rows
+-- the narrowest of this margin and those of the rows (own)
 abbrev pub narrowest : (Row → Option Margin) → Option Margin → List Row → Option Margin
 narrowest margin so_far [] = so_far
 narrowest margin so_far (r ∷ rs) = narrowest margin (narrower so_far (margin r)) rs
 
 -- by how much accepting from this time on begins before sending from that time on; always, from 0
+-- (own)
 abbrev pub time_before : ℕ → ℕ → Margin
 time_before accepted sent = if accepted == 0 then Any else UpTo (sent - accepted)
 
 -- by how much accepting until this time ends after sending until that time; always, at the last
+-- (own)
 abbrev pub time_after : ℕ → ℕ → Margin
 time_after accepted sent = if nat_le greatest_time accepted then Any else UpTo (accepted - sent)
 
--- the margin, where the test holds
+-- the margin, where the test holds (own)
 abbrev pub margin_where : Bool → Margin → Option Margin
 margin_where true margin = Some margin
 margin_where false margin = None
 
 -- the leads with which, at this lag, the other end's row accepts throughout what this row sends
+-- (own)
 abbrev pub lead_by : Pair → ℕ → Row → Row → Option Margin
 lead_by pair lag r other =
-    margin_where (accepts_throughout pair 0 lag r other) (time_before other.accepting.first r.sending.first)
+    margin_where (accepts_throughout pair 0 lag r other)
+    (time_before other.accepting.first r.sending.first)
 
 -- the lags with which, at this lead, the other end's row accepts throughout what this row sends
+-- (own)
 abbrev pub lag_by : Pair → ℕ → Row → Row → Option Margin
 lag_by pair lead r other =
-    margin_where (accepts_throughout pair lead 0 r other) (time_after other.accepting.last r.sending.last)
+    margin_where (accepts_throughout pair lead 0 r other)
+    (time_after other.accepting.last r.sending.last)
 
 -- the leads with which, at this lag, the row is met; a row that doesn't send asks for nothing
+-- (own)
 abbrev pub lead_of_row : List Row → Pair → ℕ → Row → Option Margin
-lead_of_row others pair lag r = if sends_for pair r then widest (lead_by pair lag r) None others else Some Any
+lead_of_row others pair lag r =
+    if sends_for pair r then widest (lead_by pair lag r) None others else Some Any
 
--- the lags with which, at this lead, the row is met
+-- the lags with which, at this lead, the row is met (own)
 abbrev pub lag_of_row : List Row → Pair → ℕ → Row → Option Margin
-lag_of_row others pair lead r = if sends_for pair r then widest (lag_by pair lead r) None others else Some Any
+lag_of_row others pair lead r =
+    if sends_for pair r then widest (lag_by pair lead r) None others else Some Any
 
--- the leads with which, at this lag, each row of a sender's table is met in the receiver's
+-- the leads with which, at this lag, each row of a sender's table is met in the receiver's (own)
 abbrev pub lead_from : List Row → List Row → Pair → ℕ → Option Margin
 lead_from rows others pair lag = narrowest (lead_of_row others pair lag) (Some Any) rows
 
--- the lags with which, at this lead, each row of a sender's table is met in the receiver's
+-- the lags with which, at this lead, each row of a sender's table is met in the receiver's (own)
 abbrev pub lag_from : List Row → List Row → Pair → ℕ → Option Margin
 lag_from rows others pair lead = narrowest (lag_of_row others pair lead) (Some Any) rows
 
@@ -94,37 +105,41 @@ lead_margin a b pair lag = narrower (lead_from a b pair lag) (lead_from b a (mir
 abbrev pub lag_margin : List Row → List Row → Pair → ℕ → Option Margin
 lag_margin a b pair lead = narrower (lag_from a b pair lead) (lag_from b a (mirrored pair) lead)
 
--- the leads by the tables of a key file
+-- the leads by the tables of a key file (own)
 abbrev pub lead_margin_of : List Table → Pair → ℕ → Option Margin
 lead_margin_of tables pair lag =
     lead_margin (rows_at tables pair.local.address) (rows_at tables pair.remote.address) pair lag
 
--- the lags by the tables of a key file
+-- the lags by the tables of a key file (own)
 abbrev pub lag_margin_of : List Table → Pair → ℕ → Option Margin
 lag_margin_of tables pair lead =
     lag_margin (rows_at tables pair.local.address) (rows_at tables pair.remote.address) pair lead
 
 -- a row ends sending no earlier than it begins, and by the last time that a key file can write
+-- (RFC 7210, section 2, and own)
 pub record IsOrdered (r : Row) : Type 0 where
   pub ordered : r.sending.first ≤ r.sending.last
   pub written : r.sending.last ≤ greatest_time
 
--- each row of a table is so
+-- each row of a table ends sending no earlier than it begins, and by the last time that a key
+-- file can write (RFC 7210, section 2, and own)
 abbrev pub AreOrdered : List Row → Type 0
 AreOrdered rows = AllByRecursion IsOrdered rows
 
--- at this lag the tables are aligned with the lead
+-- at this lag the tables are aligned with the lead (own)
 abbrev pub AlignedAtLead : List Row → List Row → Pair → ℕ → ℕ → Type 0
 AlignedAtLead a b pair lag lead = Aligned a b pair lead lag
 
--- at this lead the tables are aligned with the lag
+-- at this lead the tables are aligned with the lag (own)
 abbrev pub AlignedAtLag : List Row → List Row → Pair → ℕ → ℕ → Type 0
 AlignedAtLag a b pair lead lag = Aligned a b pair lead lag
 
--- at this lag the judgement is that a connection is aligned with the lead
+-- at this lag the judgement is that a connection is aligned with the lead (own)
 abbrev pub SaysAlignedAtLead : List Table → Pair → ℕ → ℕ → ℕ → ℕ → Type 0
-SaysAlignedAtLead tables pair lag low high lead = lint_of tables pair lead lag low high ≡ answer.Aligned
+SaysAlignedAtLead tables pair lag low high lead =
+    lint_of tables pair lead lag low high ≡ answer.Aligned
 
--- at this lead the judgement is that a connection is aligned with the lag
+-- at this lead the judgement is that a connection is aligned with the lag (own)
 abbrev pub SaysAlignedAtLag : List Table → Pair → ℕ → ℕ → ℕ → ℕ → Type 0
-SaysAlignedAtLag tables pair lead low high lag = lint_of tables pair lead lag low high ≡ answer.Aligned
+SaysAlignedAtLag tables pair lead low high lag =
+    lint_of tables pair lead lag low high ≡ answer.Aligned
