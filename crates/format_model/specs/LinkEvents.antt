@@ -8,7 +8,6 @@ use Rattle.ao_base.specs.declared.line_kind.LineKind.TheVariants.{Word, Range}
 use Rattle.key_model.specs.Lifetimes.{greatest_time}
 use Rattle.line_model.specs.Words.{Taken, word_in, word_as, nothing_in, choice_in, end_in}
 use Rattle.line_model.specs.Words.{algorithm_in, number_in, sized_hex_in, some_hex_in, byte_in}
-use Rattle.line_model.specs.Words.{ending}
 use Rattle.ao_base.specs.Results.{◌>>=◌}
 use Rattle.link_model.specs.declared.event.Event.{Event}
 use Rattle.link_model.specs.declared.event.Event.TheVariants as event
@@ -23,40 +22,53 @@ most_segments = 20000
 
 -- an event of an end alone: `send END`, `resend END`, `close END`, `abort END` (own)
 abbrev pub end_of : (End → Event) → List (List ℕ) → Result Event LineKind
-end_of made ws = ending made (end_in ws)
+end_of made ws = do
+  e ← end_in ws
+  none ← nothing_in e.rest
+  Ok (made e.value)
 
 -- an event of an end and a number from low to high: `clock END SECONDS`, `open END ISN`, `listen
 -- END ISN`, `deliver END N`, `take END COUNT`, `withdraw END ROW` (own)
 abbrev pub number_of : (End → ℕ → Event) → ℕ → ℕ → List (List ℕ) → Result Event LineKind
 number_of made low high ws = do
   e ← end_in ws
-  ending (made e.value) (number_in low high e.rest)
+  n ← number_in low high e.rest
+  none ← nothing_in n.rest
+  Ok (made e.value n.value)
 
 -- the event `start END ISN PEERISN` (own)
 unfoldable pub start_of : List (List ℕ) → Result Event LineKind
 start_of ws = do
   e ← end_in ws
   own ← number_in 0 greatest_isn e.rest
-  ending (event.Start e.value own.value) (number_in 0 greatest_isn own.rest)
+  peer ← number_in 0 greatest_isn own.rest
+  none ← nothing_in peer.rest
+  Ok (event.Start e.value own.value peer.value)
 
 -- the event `give END HEX`, of at least one byte (own)
 unfoldable pub give_of : List (List ℕ) → Result Event LineKind
 give_of ws = do
   e ← end_in ws
-  ending (event.Give e.value) (some_hex_in e.rest)
+  bytes ← some_hex_in e.rest
+  none ← nothing_in bytes.rest
+  Ok (event.Give e.value bytes.value)
 
 -- the event `fill END COUNT BYTE` (own)
 unfoldable pub fill_of : List (List ℕ) → Result Event LineKind
 fill_of ws = do
   e ← end_in ws
   count ← number_in 0 65535 e.rest
-  ending (event.Fill e.value count.value) (byte_in count.rest)
+  byte ← byte_in count.rest
+  none ← nothing_in byte.rest
+  Ok (event.Fill e.value count.value byte.value)
 
 -- the event `inject END HEX`, of 1 to 65,575 bytes (own)
 unfoldable pub inject_of : List (List ℕ) → Result Event LineKind
 inject_of ws = do
   e ← end_in ws
-  ending (event.Inject e.value) (sized_hex_in 1 65575 e.rest)
+  bytes ← sized_hex_in 1 65575 e.rest
+  none ← nothing_in bytes.rest
+  Ok (event.Inject e.value bytes.value)
 
 -- the event `alter END N PLACE MASK keep` or `fix` (own)
 unfoldable pub alter_of : List (List ℕ) → Result Event LineKind
@@ -65,8 +77,9 @@ alter_of ws = do
   segment ← number_in 1 most_segments e.rest
   place ← number_in 0 65535 segment.rest
   mask ← byte_in place.rest
-  ending (event.Alter e.value segment.value place.value mask.value)
-      (choice_in (codes "keep") (codes "fix") mask.rest)
+  fixing ← choice_in (codes "keep") (codes "fix") mask.rest
+  none ← nothing_in fixing.rest
+  Ok (event.Alter e.value segment.value place.value mask.value fixing.value)
 
 -- whether a row receives, and whether it sends (RFC 7210, section 2)
 pub record Ways : Type 0 where
@@ -114,7 +127,10 @@ add_of ws = do
 
 -- the event `dump N` (own)
 unfoldable pub dump_of : List (List ℕ) → Result Event LineKind
-dump_of ws = ending event.Dump (number_in 1 most_segments ws)
+dump_of ws = do
+  segment ← number_in 1 most_segments ws
+  none ← nothing_in segment.rest
+  Ok (event.Dump segment.value)
 
 -- the event that the first word of a line names, of the words after it (own)
 unfoldable pub event_named : List ℕ → List (List ℕ) → Result Event LineKind

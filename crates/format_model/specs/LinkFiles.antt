@@ -13,7 +13,6 @@ use Rattle.line_model.specs.declared.text_fault.TextFault.TheVariants as fault
 use Rattle.line_model.specs.Lines.{Line, saying_lines}
 use Rattle.line_model.specs.Said.{numbered, if_few_lines}
 use Rattle.line_model.specs.Words.{nothing_in, literal_in, socket_in, algorithm_in, sized_hex_in}
-use Rattle.line_model.specs.Words.{ending}
 use Rattle.ao_base.specs.Results.{◌>>=◌}
 use Rattle.link_model.specs.declared.event.Event.{Event}
 use Rattle.format_model.specs.declared.script.SharedKey.{SharedKey}
@@ -36,7 +35,9 @@ title_of title ws = do
 unfoldable pub socket_of : List ℕ → List (List ℕ) → Result Socket LineKind
 socket_of end ws = do
   name ← literal_in end ws
-  ending (λ socket. socket) (socket_in name.rest)
+  socket ← socket_in name.rest
+  none ← nothing_in socket.rest
+  Ok socket.value
 
 -- two addresses are of one family and differ (own)
 abbrev pub are_two_of_a_family : Address → Address → Bool
@@ -55,8 +56,9 @@ unfoldable pub shared_key_of : List (List ℕ) → Result SharedKey LineKind
 shared_key_of ws = do
   name ← literal_in (codes "shared") ws
   algorithm ← algorithm_in name.rest
-  ending (λ master. record { alg = algorithm.value; master = master })
-      (sized_hex_in 1 255 algorithm.rest)
+  master ← sized_hex_in 1 255 algorithm.rest
+  none ← nothing_in master.rest
+  Ok (record { alg = algorithm.value; master = master.value })
 
 -- what a line says, every fault of it being of one kind (own)
 abbrev pub at_line : {A : Type 0} → ℕ → LineKind → List Line → Result A LineKind →

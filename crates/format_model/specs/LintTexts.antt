@@ -13,7 +13,7 @@ use Rattle.key_model.specs.Plans.{lint_of}
 use Rattle.key_model.specs.Rows.{Table}
 use Rattle.line_model.specs.Said.{Said}
 use Rattle.line_model.specs.Texts.{numbered_text, end_text}
-use Rattle.line_model.specs.Words.{Taken, address_in, number_in, socket_in, ending}
+use Rattle.line_model.specs.Words.{Taken, address_in, number_in, socket_in, nothing_in}
 use Rattle.ao_base.specs.Results.{◌>>=◌}
 use Rattle.format_model.specs.declared.command.Plan.{Plan}
 use Rattle.format_model.specs.LinkFiles.{are_two_of_a_family}
@@ -30,8 +30,9 @@ unfoldable pub connection_of : List (List ℕ) → Result Pair LineKind
 connection_of ws = do
   a ← socket_in ws
   b ← address_beside a.value.address a.rest
-  ending (λ port. record { local = a.value; remote = record { address = b.value; port = port } })
-      (number_in 0 65535 b.rest)
+  port ← number_in 0 65535 b.rest
+  none ← nothing_in port.rest
+  Ok (record { local = a.value; remote = record { address = b.value; port = port.value } })
 
 -- the words for a judgement on a connection (own)
 abbrev pub lint_texts : LintAnswer → List (List ℕ)

@@ -18,7 +18,7 @@ use Rattle.line_model.specs.Lines.{Line, saying_lines}
 use Rattle.line_model.specs.Said.{numbered, if_few_lines}
 use Rattle.line_model.specs.Texts.{numbered_text}
 use Rattle.line_model.specs.Words.{Taken, word_in, literal_in, address_in, number_in, sized_hex_in}
-use Rattle.line_model.specs.Words.{some_hex_in, ending}
+use Rattle.line_model.specs.Words.{some_hex_in, nothing_in}
 use Rattle.ao_base.specs.Results.{◌>>=◌}
 use Rattle.endpoint_model.specs.declared.arrival.Arrival.{Arrival}
 use Rattle.endpoint_model.specs.declared.arrival.Arrival.TheVariants.{Bad}
@@ -252,35 +252,49 @@ pair_in own ws = do
 
 -- an act on a connection, with no further word (own)
 abbrev pub act_alone : Act → Address → List (List ℕ) → Result NodeEvent LineKind
-act_alone made own ws = ending (λ pair. event.On pair made) (pair_in own ws)
+act_alone made own ws = do
+  pair ← pair_in own ws
+  none ← nothing_in pair.rest
+  Ok (event.On pair.value made)
 
 -- an act on a connection with a number up to a greatest one (own)
 abbrev pub act_number : (ℕ → Act) → ℕ → Address → List (List ℕ) → Result NodeEvent LineKind
 act_number made high own ws = do
   pair ← pair_in own ws
-  ending (λ n. event.On pair.value (made n)) (number_in 0 high pair.rest)
+  n ← number_in 0 high pair.rest
+  none ← nothing_in n.rest
+  Ok (event.On pair.value (made n.value))
 
 -- the act `start` on a connection, with two initial sequence numbers (own)
 abbrev pub act_start : Address → List (List ℕ) → Result NodeEvent LineKind
 act_start own ws = do
   pair ← pair_in own ws
   isn ← number_in 0 greatest_isn pair.rest
-  ending (λ peer. event.On pair.value (act.Start isn.value peer))
-      (number_in 0 greatest_isn isn.rest)
+  peer ← number_in 0 greatest_isn isn.rest
+  none ← nothing_in peer.rest
+  Ok (event.On pair.value (act.Start isn.value peer.value))
 
 -- the act `give` on a connection, with at least one byte (own)
 abbrev pub act_give : Address → List (List ℕ) → Result NodeEvent LineKind
 act_give own ws = do
   pair ← pair_in own ws
-  ending (λ bytes. event.On pair.value (act.Give bytes)) (some_hex_in pair.rest)
+  bytes ← some_hex_in pair.rest
+  none ← nothing_in bytes.rest
+  Ok (event.On pair.value (act.Give bytes.value))
 
 -- the event `clock SECONDS` (own)
 abbrev pub clock_of : List (List ℕ) → Result NodeEvent LineKind
-clock_of ws = ending event.Clock (number_in 0 greatest_time ws)
+clock_of ws = do
+  seconds ← number_in 0 greatest_time ws
+  none ← nothing_in seconds.rest
+  Ok (event.Clock seconds.value)
 
 -- the event `inject HEX`, of 1 to 65,575 bytes (own)
 abbrev pub inject_of : List (List ℕ) → Result NodeEvent LineKind
-inject_of ws = ending event.Inject (sized_hex_in 1 65575 ws)
+inject_of ws = do
+  bytes ← sized_hex_in 1 65575 ws
+  none ← nothing_in bytes.rest
+  Ok (event.Inject bytes.value)
 
 -- the event that the first word of a line names, of the words after it (own)
 unfoldable pub node_event_named : Address → List ℕ → List (List ℕ) → Result NodeEvent LineKind
@@ -317,7 +331,9 @@ node_events_of own (l ∷ ls) = do
 abbrev pub address_of : List (List ℕ) → Result Address LineKind
 address_of ws = do
   name ← literal_in (codes "node") ws
-  ending (λ address. address) (address_in name.rest)
+  address ← address_in name.rest
+  none ← nothing_in address.rest
+  Ok address.value
 
 -- the script that the lines of a node's file make (own)
 unfoldable pub node_script_in : ℕ → List Line → Result NodeScript TextFault

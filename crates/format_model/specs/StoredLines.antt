@@ -7,7 +7,7 @@ use Rattle.ao_base.specs.declared.line_kind.LineKind.TheVariants.{Range}
 use Rattle.ao_base.specs.Lines.{lines_of, words_of}
 use Rattle.key_model.specs.Lifetimes.{greatest_time}
 use Rattle.line_model.specs.Lines.{says_something}
-use Rattle.line_model.specs.Words.{number_in, sized_hex_in, ending}
+use Rattle.line_model.specs.Words.{number_in, sized_hex_in, nothing_in}
 use Rattle.ao_base.specs.Results.{◌>>=◌}
 use Rattle.format_model.specs.Captures.{Stored}
 
@@ -19,8 +19,9 @@ most_line = 131200
 abbrev pub stored_of : ℕ → List (List ℕ) → Result Stored LineKind
 stored_of n ws = do
   time ← number_in 0 greatest_time ws
-  ending (λ bytes. record { number = n; time = time.value; bytes = bytes })
-      (sized_hex_in 1 65575 time.rest)
+  bytes ← sized_hex_in 1 65575 time.rest
+  none ← nothing_in bytes.rest
+  Ok (record { number = n; time = time.value; bytes = bytes.value })
 
 -- what the words of a line have: nothing, where the line says nothing (own)
 abbrev pub stored_in : ℕ → List (List ℕ) → Result (Option Stored) LineKind

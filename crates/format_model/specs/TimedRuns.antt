@@ -11,7 +11,7 @@ use Rattle.key_model.specs.Lifetimes.{greatest_time}
 use Rattle.line_model.specs.declared.text_fault.TextFault.{TextFault}
 use Rattle.line_model.specs.Lines.{Line, saying_lines}
 use Rattle.line_model.specs.Said.{if_few_lines}
-use Rattle.line_model.specs.Words.{word_in, end_in, number_in, ending}
+use Rattle.line_model.specs.Words.{word_in, end_in, number_in, nothing_in}
 use Rattle.ao_base.specs.Results.{◌>>=◌}
 use Rattle.wire_model.specs.declared.timer.Timer.{Timer}
 use Rattle.wire_model.specs.Timers.{new_timer, sampled, expired}
@@ -269,7 +269,9 @@ expand setup events = expand_from setup (begins_timed setup) events
 unfoldable pub wait_of : List (List ℕ) → Result TimedEvent LineKind
 wait_of ws = do
   e ← end_in ws
-  ending (Wait e.value) (number_in 1 3600 e.rest)
+  count ← number_in 1 3600 e.rest
+  none ← nothing_in count.rest
+  Ok (Wait e.value count.value)
 
 -- a plain event of a link, by its first word (own)
 abbrev pub plain_named : List ℕ → List (List ℕ) → Result TimedEvent LineKind

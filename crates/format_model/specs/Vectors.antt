@@ -17,7 +17,7 @@ use Rattle.mac_model.specs.Hmac.{hmac}
 use Rattle.mac_model.specs.Keys.{mac, traffic_key}
 use Rattle.mac_model.specs.MacInput.{mac_input}
 use Rattle.line_model.specs.Words.{Taken, word_in, nothing_in, hex_in, sized_hex_in, number_in}
-use Rattle.line_model.specs.Words.{algorithm_in, ending}
+use Rattle.line_model.specs.Words.{algorithm_in}
 use Rattle.ao_base.specs.Results.{◌>>=◌, or_fault}
 use Rattle.format_model.specs.VectorWords.{message_in, context_in, covering_in}
 use Rattle.format_model.specs.LinkEvents.{greatest_isn}
@@ -38,8 +38,9 @@ unfoldable pub keyed_of : List (List ℕ) → Result Keyed LineKind
 keyed_of ws = do
   key ← hex_in ws
   message ← message_in key.rest
-  ending (λ out. record { key = key.value; message = message.value; expected = out })
-      (hex_in message.rest)
+  out ← hex_in message.rest
+  none ← nothing_in out.rest
+  Ok (record { key = key.value; message = message.value; expected = out.value })
 
 -- the test vector `KEY MESSAGE OUT` of an algorithm (own)
 abbrev pub keyed_vector : (List ℕ → List ℕ → List ℕ) → List (List ℕ) → Result Vector LineKind
@@ -53,8 +54,9 @@ unfoldable pub cmac_vector : List (List ℕ) → Result Vector LineKind
 cmac_vector ws = do
   key ← sized_hex_in 16 16 ws
   message ← message_in key.rest
-  ending (λ out. record { computed = cmac key.value message.value; expected = out })
-      (hex_in message.rest)
+  out ← hex_in message.rest
+  none ← nothing_in out.rest
+  Ok (record { computed = cmac key.value message.value; expected = out.value })
 
 -- the test vector `KEY BLOCK OUT` of AES-128, with 16 bytes each of key and block (FIPS 197,
 -- section 5.1, and own)
@@ -62,8 +64,9 @@ unfoldable pub aes_vector : List (List ℕ) → Result Vector LineKind
 aes_vector ws = do
   key ← sized_hex_in 16 16 ws
   block ← sized_hex_in 16 16 key.rest
-  ending (λ out. record { computed = aes key.value block.value; expected = out })
-      (hex_in block.rest)
+  out ← hex_in block.rest
+  none ← nothing_in out.rest
+  Ok (record { computed = aes key.value block.value; expected = out.value })
 
 -- the test vector `ALGORITHM MASTER CONTEXT OUT` of a traffic key (RFC 5926, section 3.1, and
 -- own)
@@ -72,10 +75,12 @@ kdf_vector ws = do
   algorithm ← algorithm_in ws
   master ← sized_hex_in 1 255 algorithm.rest
   context ← context_in master.rest
-  ending (λ out. record {
+  out ← hex_in context.rest
+  none ← nothing_in out.rest
+  Ok (record {
     computed = traffic_key algorithm.value master.value context.value;
-    expected = out;
-  }) (hex_in context.rest)
+    expected = out.value;
+  })
 
 -- a datagram with its TCP-AO option (RFC 5925, section 2.2)
 pub record Signed : Type 0 where

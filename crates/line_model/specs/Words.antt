@@ -27,13 +27,6 @@ unfoldable pub nothing_in : List (List ℕ) → Result (Unit {0}) LineKind
 nothing_in [] = Ok tt
 nothing_in (w ∷ ws) = Err Word
 
--- what the last value of a line makes: no word is behind it (own)
-abbrev pub ending : {A B : Type 0} → (A → B) → Result (Taken A) LineKind → Result B LineKind
-ending made reading = do
-  x ← reading
-  none ← nothing_in x.rest
-  Ok (made x.value)
-
 -- the next word, which may not be missing (own)
 unfoldable pub word_in : List (List ℕ) → Result (Taken (List ℕ)) LineKind
 word_in [] = Err Word
