@@ -3,6 +3,7 @@
 use Rattle.std.specs.Prelude.{ℕ, zero, suc, ◌+◌, ◌-◌, ◌/◌, ◌==◌, min, max, nat_lt, nat_le, Bool}
 use Rattle.std.specs.Prelude.{true, false, not, ◌&&◌, List, [], ◌∷◌, ◌++◌, length, codes, Option}
 use Rattle.std.specs.Prelude.{Some, None, Result, Ok, Err, if◌then◌else◌}
+use Rattle.std.specs.Option.{option_or}
 use Rattle.std.specs.Str.{bytes_eq}
 use Rattle.ao_base.specs.declared.end.End.{End}
 use Rattle.ao_base.specs.declared.end.End.TheVariants.{A, B}
@@ -93,43 +94,25 @@ sampled_by una reading w (Some t) =
     then record w { timer = sampled w.timer (reading - t.reading); timed = None }
     else w
 
--- an acknowledgement of new data (RFC 6298, sections 5.2 and 5.3)
-abbrev pub acknowledged : ℕ → Front → Watch → Watch
-acknowledged reading f w =
-    let s = sampled_by f.una reading w w.timed in
-    if nat_lt f.una f.next then started_anew reading s else stopped s
-
--- the timer runs from now on, unless it runs already (RFC 6298, section 5.1)
-abbrev pub running : ℕ → Watch → Option ℕ → Watch
-running reading w None = started_anew reading w
-running reading w (Some d) = w
-
--- the number is timed, unless another one is, or it was sent again (RFC 6298, section 3)
-abbrev pub timing : ℕ → ℕ → Bool → Watch → Option Timed → Watch
-timing reading next again w None =
-    if again then w else record w { timed = Some (record { number = next; reading = reading }) }
-timing reading next again w (Some t) = w
-
--- new numbers were sent (RFC 6298, section 5.1)
-abbrev pub sent_more : ℕ → Front → Bool → Watch → Watch
-sent_more reading f again w =
-    let r = running reading w w.deadline in
-    timing reading f.next again r r.timed
-
--- the timer after an event between two fronts of an end: the oldest number that isn't
--- acknowledged grew, or the one to send next did (RFC 6298, section 5)
-abbrev pub moved : ℕ → Bool → Front → Front → Watch → Watch
-moved reading again old new w =
-    if nat_lt old.una new.una then acknowledged reading new w
-    else if nat_lt old.next new.next then sent_more reading new again w
+-- the timer of an end at this reading, by its front before an event and after it, where there may
+-- be none; what is sent again isn't timed. With no front it doesn't run. An acknowledgement of new
+-- data takes a sample (RFC 6298, section 3), and then the timer runs anew where more isn't
+-- acknowledged (section 5.3), else it stops (5.2). When new numbers are sent, it runs, from now on
+-- unless it ran already (5.1), and they are timed unless others are (3)
+abbrev pub watch_by : ℕ → (again : Bool) → (old new : Option Front) → Watch → Watch
+watch_by reading again old None w = stopped w
+watch_by reading again None (Some new) w = w
+watch_by reading again (Some old) (Some new) w =
+    let sample = sampled_by new.una reading w w.timed in
+    let sending = if again then None else Some (record { number = new.next; reading = reading }) in
+    if nat_lt old.una new.una
+    then (if nat_lt new.una new.next then started_anew reading sample else stopped sample)
+    else if nat_lt old.next new.next
+    then record w {
+      deadline = option_or w.deadline (started_anew reading w).deadline;
+      timed = option_or w.timed sending;
+    }
     else w
-
--- the timer after an event between two fronts of an end, where there may be none; without one it
--- doesn't run (RFC 6298, section 5, and own)
-abbrev pub between : ℕ → Bool → Option Front → Option Front → Watch → Watch
-between reading again old None w = stopped w
-between reading again None (Some new) w = w
-between reading again (Some old) (Some new) w = moved reading again old new w
 
 -- an event begins a session (own)
 abbrev pub is_begin : Event → Bool
@@ -153,18 +136,15 @@ abbrev pub is_sent : Outcome → Bool
 is_sent (Sent made) = true
 is_sent _ = false
 
--- what was sent again isn't timed (RFC 6298, section 3)
-abbrev pub untimed : Bool → Watch → Watch
-untimed again w = if again then record w { timed = None } else w
-
--- the timer of the end of an event, after it: a new session has a new timer (RFC 6298, sections
--- 2.1 and 5)
+-- the timer of the end of an event, after it: a new session has a new timer (RFC 6298, section
+-- 2.1), and what was sent again isn't timed (section 3)
 abbrev pub watch_after : World → Event → End → Stepped → Watch → Watch
 watch_after before event e after w =
+    let fronts = watch_by (side after.world e).clock (is_again event) in
+    let now = fronts (front_at before e) (front_at after.world e) w in
     if is_begin event && is_done after.outcome then new_watch
-    else untimed (is_again event && is_sent after.outcome)
-    (between (side after.world e).clock (is_again event)
-    (front_at before e) (front_at after.world e) w)
+    else if is_again event && is_sent after.outcome then record now { timed = None }
+    else now
 
 -- the end of an event; `dump` has none (own)
 abbrev pub end_of : Event → Option End

@@ -34,7 +34,8 @@ use Rattle.link_laws.proofs.Drafts.{sends_fin_says}
 use Rattle.segment_model.proofs.Fields.{and_tells}
 use Rattle.format_model.specs.declared.timed.TimedEvent.{TimedEvent}
 use Rattle.format_model.specs.declared.timed.TimedEvent.TheVariants.{Plain, Wait}
-use Rattle.format_model.specs.TimedRuns.{Timed, Watch, new_watch, Front, front_of, front_at, Progress, watch_of, with_watch, started_anew, stopped, sampled_by, acknowledged, running, timing, sent_more, moved, between, is_again, is_done, is_sent, untimed, plain, Expanded, before, reading_at, until, due, after_expiry, expiry, waited, timed_event, expand_from, begins_timed, expand}
+use Rattle.std.specs.Option.{option_or}
+use Rattle.format_model.specs.TimedRuns.{Timed, Watch, new_watch, Front, front_of, front_at, Progress, watch_of, with_watch, started_anew, stopped, sampled_by, watch_by, is_again, is_done, is_sent, plain, Expanded, before, reading_at, until, due, after_expiry, expiry, waited, timed_event, expand_from, begins_timed, expand}
 use Rattle.link_progress.specs.Waits.{WaitsResend}
 use Rattle.link_progress.proofs.Calm.{Calm, AllCalm, AllCalms, is_before, calm_step}
 use Rattle.link_progress.proofs.Finishing.{LeavesIf, closed_arrives, emits_leave, resends_leave}
@@ -224,34 +225,32 @@ module _ (setup : Setup) (w : World) (calm : AllCalms w) where
 abbrev Watched : Option Front → Watch → Type 0
 Watched o w = (f : Front) → o ≡ Some f → f.una < f.next → (d : ℕ) × (w.deadline ≡ Some d)
 
+-- nothing is timed, where this holds
+abbrev untimed : Bool → Watch → Watch
+untimed again w = if again then record w { timed = None } else w
+
 untimed_same : (again : Bool) (w : Watch) → (untimed again w).deadline ≡ w.deadline
 untimed_same true w = refl
 untimed_same false w = refl
 
-running_runs : (now : ℕ) (w : Watch) (o : Option ℕ) → w.deadline ≡ o → (d : ℕ) × ((running now w o).deadline ≡ Some d)
-running_runs now w None e = (_, refl)
-running_runs now w (Some d) e = (d, e)
+first_runs : (o : Option ℕ) (d : ℕ) → (k : ℕ) × (option_or o (Some d) ≡ Some k)
+first_runs None d = (d, refl)
+first_runs (Some k) d = (k, refl)
 
-timing_same : (now next : ℕ) (again : Bool) (w : Watch) (o : Option Timed) → (timing now next again w o).deadline ≡ w.deadline
-timing_same now next again w None = choose (λ (x : Watch). x.deadline ≡ w.deadline) again w (record w { timed = Some (record { number = next; reading = now }) }) (λ e. refl) (λ e. refl)
-timing_same now next again w (Some k) = refl
-
-more_runs : (now : ℕ) (f : Front) (again : Bool) (w : Watch) → (d : ℕ) × ((sent_more now f again w).deadline ≡ Some d)
-more_runs now f again w =
-    let r = running now w w.deadline in
-    let k = running_runs now w w.deadline refl in
-    (k.0, timing_same now f.next again r r.timed ∙ k.1)
-
-acknowledged_runs : (now : ℕ) (f : Front) (w : Watch) → f.una < f.next → (d : ℕ) × ((acknowledged now f w).deadline ≡ Some d)
-acknowledged_runs now f w low =
-    let s = sampled_by f.una now w w.timed in
+acknowledged_runs : (now : ℕ) (f : Front) (s : Watch) → f.una < f.next → (d : ℕ) × ((if nat_lt f.una f.next then started_anew now s else stopped s).deadline ≡ Some d)
+acknowledged_runs now f s low =
     choose (λ (x : Watch). (d : ℕ) × (x.deadline ≡ Some d)) (nat_lt f.una f.next) (started_anew now s) (stopped s) (λ e. (_, refl)) (λ e. let no = lt_not f.una f.next e in absurd (omega arith))
 
-moved_watched : (now : ℕ) (again : Bool) (old new : Front) (w : Watch) → old.una ≤ new.una → Watched (Some old) w → new.una < new.next → (d : ℕ) × ((moved now again old new w).deadline ≡ Some d)
+moved_watched : (now : ℕ) (again : Bool) (old new : Front) (w : Watch) → old.una ≤ new.una → Watched (Some old) w → new.una < new.next → (d : ℕ) × ((watch_by now again (Some old) (Some new) w).deadline ≡ Some d)
 moved_watched now again old new w up h low =
     let P : Watch → Type 0 = λ x. (d : ℕ) × (x.deadline ≡ Some d) in
-    choose P (nat_lt old.una new.una) (acknowledged now new w) _ (λ e. acknowledged_runs now new w low) (λ e1.
-    choose P (nat_lt old.next new.next) (sent_more now new again w) w (λ e. more_runs now new again w) (λ e2.
+    let sample : Watch = sampled_by new.una now w w.timed in
+    let more : Watch = record w {
+      deadline = option_or w.deadline (started_anew now w).deadline;
+      timed = option_or w.timed (if again then None else Some (record { number = new.next; reading = now }));
+    } in
+    choose P (nat_lt old.una new.una) (if nat_lt new.una new.next then started_anew now sample else stopped sample) _ (λ e. acknowledged_runs now new sample low) (λ e1.
+    choose P (nat_lt old.next new.next) more w (λ e. first_runs w.deadline _) (λ e2.
     let una = lt_not old.una new.una e1 in
     let next = lt_not old.next new.next e2 in
     h old refl (omega arith)))
@@ -260,7 +259,7 @@ moved_watched now again old new w up h low =
 abbrev front_if : Bool → Session → Option Front
 front_if shut s = if shut then None else Some (record { una = s.state.una; next = s.state.next })
 
-pair_watched : (now : ℕ) (again : Bool) (s t : Session) (w : Watch) (bs bt : Bool) → (bs ≡ true → bt ≡ true) → s.state.una ≤ t.state.una → Watched (front_if bs s) w → Watched (front_if bt t) (between now again (front_if bs s) (front_if bt t) w)
+pair_watched : (now : ℕ) (again : Bool) (s t : Session) (w : Watch) (bs bt : Bool) → (bs ≡ true → bt ≡ true) → s.state.una ≤ t.state.una → Watched (front_if bs s) w → Watched (front_if bt t) (watch_by now again (front_if bs s) (front_if bt t) w)
 pair_watched now again s t w bs true shut up h f is low = absurd (cc)
 pair_watched now again s t w true false shut up h f is low = let off = shut refl in absurd (cc)
 pair_watched now again s t w false false shut up h f is low =
@@ -269,7 +268,7 @@ pair_watched now again s t w false false shut up h f is low =
     let same : new ≡ f = some_is new f is in
     moved_watched now again old new w up h (subst (λ (k : Front). k.una < k.next) (sym same) low)
 
-between_watched : (now : ℕ) (again : Bool) (o k : Option Session) (w : Watch) → Goes_on o k → Watched (front_of o) w → Watched (front_of k) (between now again (front_of o) (front_of k) w)
+between_watched : (now : ℕ) (again : Bool) (o k : Option Session) (w : Watch) → Goes_on o k → Watched (front_of o) w → Watched (front_of k) (watch_by now again (front_of o) (front_of k) w)
 between_watched now again None None w g h f is low = absurd (cc)
 between_watched now again None (Some t) w g h f is low = absurd g
 between_watched now again (Some s) None w g h f is low = absurd g
@@ -278,9 +277,9 @@ between_watched now again (Some s) (Some t) w g h f is low = pair_watched now ag
 untimed_watched : (o : Option Front) (again : Bool) (w : Watch) → Watched o w → Watched o (untimed again w)
 untimed_watched o again w h f is low = let k = h f is low in (k.0, untimed_same again w ∙ k.1)
 
-steps_watched : (w v : World) (e : End) (now : ℕ) (again made : Bool) (x : Watch) → Steps_on w v e → Watched (front_at w e) x → Watched (front_at v e) (untimed made (between now again (front_at w e) (front_at v e) x))
+steps_watched : (w v : World) (e : End) (now : ℕ) (again made : Bool) (x : Watch) → Steps_on w v e → Watched (front_at w e) x → Watched (front_at v e) (untimed made (watch_by now again (front_at w e) (front_at v e) x))
 steps_watched w v e now again made x h watched =
-    untimed_watched (front_at v e) made (between now again (front_at w e) (front_at v e) x) (between_watched now again (live (side w e).sessions) (live (side v e).sessions) x h.here watched)
+    untimed_watched (front_at v e) made (watch_by now again (front_at w e) (front_at v e) x) (between_watched now again (live (side w e).sessions) (live (side v e).sessions) x h.here watched)
 
 -- ---- a timed link
 
@@ -301,10 +300,10 @@ with_watched p v B x h calm there here = record {
 
 -- an event that begins no session
 plain_steps : (setup : Setup) (p : Progress) (ev : Event) (e : End) (now : ℕ) (again made : Bool) → IsWatched p → Steps_on p.world (step setup p.world ev).world e
-    → IsWatched (with_watch (record p { world = (step setup p.world ev).world }) e (untimed made (between now again (front_at p.world e) (front_at (step setup p.world ev).world e) (watch_of p e))))
+    → IsWatched (with_watch (record p { world = (step setup p.world ev).world }) e (untimed made (watch_by now again (front_at p.world e) (front_at (step setup p.world ev).world e) (watch_of p e))))
 plain_steps setup p ev e now again made h steps =
     let v = (step setup p.world ev).world in
-    with_watched p v e (untimed made (between now again (front_at p.world e) (front_at v e) (watch_of p e))) h (calm_step setup p.world ev h.calm) steps.there
+    with_watched p v e (untimed made (watch_by now again (front_at p.world e) (front_at v e) (watch_of p e))) h (calm_step setup p.world ev h.calm) steps.there
     (steps_watched p.world v e now again made (watch_of p e) steps (h.watched e))
 
 -- a new session has nothing unacknowledged
@@ -321,9 +320,9 @@ begun_watched s w same f is low = by_front (is_closed s.state.phase) is
 
 begin_watched : (setup : Setup) (p : Progress) (ev : Event) (e : End) (s : EndState) (o : Option Session) (now : ℕ) → IsWatched p → AllCalms (begin p.world e s o).world → s.una ≡ s.next
     → let r = begin p.world e s o in
-    IsWatched (with_watch (record p { world = r.world }) e (if is_done r.outcome then new_watch else untimed false (between now false (front_at p.world e) (front_at r.world e) (watch_of p e))))
+    IsWatched (with_watch (record p { world = r.world }) e (if is_done r.outcome then new_watch else untimed false (watch_by now false (front_at p.world e) (front_at r.world e) (watch_of p e))))
 begin_watched setup p ev e s (Some used) now h calm same =
-    with_watched p p.world e (between now false (front_at p.world e) (front_at p.world e) (watch_of p e)) h calm refl (steps_watched p.world p.world e now false false (watch_of p e) (still p.world e) (h.watched e))
+    with_watched p p.world e (watch_by now false (front_at p.world e) (front_at p.world e) (watch_of p e)) h calm refl (steps_watched p.world p.world e now false false (watch_of p e) (still p.world e) (h.watched e))
 begin_watched setup p ev A s None now h calm same =
     let u : Session = record { state = s; end_shown = false } in
     with_watched p (begin p.world A s None).world A new_watch h calm refl (begun_watched u new_watch same)
@@ -334,7 +333,7 @@ begin_watched setup p ev B s None now h calm same =
 module _ (setup : Setup) where
   by_event : (p : Progress) (ev : Event) (e : End) → IsWatched p → Steps_on p.world (step setup p.world ev).world e
       → let s = step setup p.world ev in
-      IsWatched (with_watch (record p { world = s.world }) e (untimed (is_again ev && is_sent s.outcome) (between (side s.world e).clock (is_again ev) (front_at p.world e) (front_at s.world e) (watch_of p e))))
+      IsWatched (with_watch (record p { world = s.world }) e (untimed (is_again ev && is_sent s.outcome) (watch_by (side s.world e).clock (is_again ev) (front_at p.world e) (front_at s.world e) (watch_of p e))))
   by_event p ev e h steps = let s = step setup p.world ev in plain_steps setup p ev e (side s.world e).clock (is_again ev) (is_again ev && is_sent s.outcome) h steps
 
   plain_watched : (p : Progress) (ev : Event) → IsWatched p → IsWatched (plain setup p ev)

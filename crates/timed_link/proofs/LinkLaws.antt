@@ -64,9 +64,11 @@ pub record Tells (c : Change) (setup : Setup) (past : List Event) (x : Event) (e
 
 change_by : (begins done again sent begins' done' again' sent' : Bool) (r r' : ℕ) (old new old' new' : Option book.Front) (w : book.Watch)
     → begins ≡ begins' → done ≡ done' → again ≡ again' → sent ≡ sent' → r ≡ r' → old ≡ old' → new ≡ new'
-    → cond (begins && done) book.new_watch (book.untimed (again && sent) (book.between r again old new w))
-    ≡ cond (begins' && done') book.new_watch (book.untimed (again' && sent') (book.between r' again' old' new' w))
-change_by begins done again sent begins' done' again' sent' r r' old new old' new' w a b c d e f g = cc
+    → (let now : book.Watch = book.watch_by r again old new w in
+    cond (begins && done) book.new_watch (cond (again && sent) (record now { timed = None }) now))
+    ≡ (let now : book.Watch = book.watch_by r' again' old' new' w in
+    cond (begins' && done') book.new_watch (cond (again' && sent') (record now { timed = None }) now))
+change_by begins done again sent begins' done' again' sent' r r' old new old' new' w a b c d e f g = rw (a, b, c, d, e, f, g) refl
 
 change_is : (c : Change) (setup : Setup) (past : List Event) (x : Event) (e : End) (w : book.Watch) → Tells c setup past x e
     → changed c w ≡ book.watch_after (run setup past) x e (step setup (run setup past) x) w

@@ -1,5 +1,6 @@
 -- What the timer of an end stands for.
-use Rattle.std.specs.Prelude.{ℕ, Option, option_map}
+use Rattle.std.specs.Prelude.{ℕ, nat_lt, Bool, Option, Some, None, option_map, if◌then◌else◌}
+use Rattle.std.specs.Option.{option_or}
 use Rattle.format_model.specs.TimedRuns as book
 use Rattle.link_world.specs.declared.front.Front.{Front}
 use Rattle.link_world.specs.Fronts.{front_of}
@@ -18,6 +19,18 @@ seen w = record { timer = w.timer; deadline = w.deadline; timed = option_map tim
 -- a front that may be missing, as the definitions have it
 abbrev pub front_seen : Option Front → Option book.Front
 front_seen f = option_map front_of f
+
+-- an acknowledgement of new data (RFC 6298, sections 3, 5.2 and 5.3)
+abbrev pub acknowledged_at : ℕ → book.Front → book.Watch → book.Watch
+acknowledged_at reading f w =
+    let sample = book.sampled_by f.una reading w w.timed in
+    if nat_lt f.una f.next then book.started_anew reading sample else book.stopped sample
+
+-- new numbers were sent, which are timed unless others are, or they were sent before (RFC 6298, sections 3 and 5.1)
+abbrev pub sent_more : ℕ → book.Front → (again : Bool) → book.Watch → book.Watch
+sent_more reading f again w =
+    let sending = if again then None else Some (record { number = f.next; reading = reading }) in
+    record w { deadline = option_or w.deadline (book.started_anew reading w).deadline; timed = option_or w.timed sending }
 
 -- the timer expired at this reading (RFC 6298, sections 5.5 and 5.6)
 abbrev pub expired_at : ℕ → book.Watch → book.Watch

@@ -1,9 +1,9 @@
 //! The timer of an end.
-ghost use Rattle.std.specs.Prelude.{◌≡◌, ◌≤◌, None, IfSome};
-ghost use Rattle.format_model.specs.TimedRuns.{acknowledged, between, due, moved, new_watch, sampled_by, sent_more, started_anew, stopped};
+ghost use Rattle.std.specs.Prelude.{◌≡◌, ◌≤◌, None, Some, IfSome};
+ghost use Rattle.format_model.specs.TimedRuns.{due, new_watch, sampled_by, started_anew, stopped, watch_by};
 ghost use Rattle.key_model.specs.Lifetimes.{greatest_time};
 ghost use Rattle.link_world.specs.Fronts.{front_of};
-ghost use Rattle.timed_link.specs.Watches.{expired_at, front_seen, seen};
+ghost use Rattle.timed_link.specs.Watches.{acknowledged_at, expired_at, front_seen, seen, sent_more};
 
 use link_world::Front;
 use rto_timer::Rto;
@@ -86,7 +86,7 @@ impl Watch {
     /// New data was acknowledged (RFC 6298, sections 5.2 and 5.3).
     fn acknowledge(&mut self, reading: u64, front: Front)
         requires { reading ≤ greatest_time }
-        ensures { seen self.new ≡ acknowledged reading (front_of front) (seen self.old) }
+        ensures { seen self.new ≡ acknowledged_at reading (front_of front) (seen self.old) }
     {
         self.sample(front.una, reading);
         if front.una < front.next {
@@ -115,7 +115,7 @@ impl Watch {
     /// The end got from one front to another.
     fn advance(&mut self, reading: u64, again: bool, old: Front, new: Front)
         requires { reading ≤ greatest_time }
-        ensures { seen self.new ≡ moved reading again (front_of old) (front_of new) (seen self.old) }
+        ensures { seen self.new ≡ watch_by reading again (Some (front_of old)) (Some (front_of new)) (seen self.old) }
     {
         if old.una < new.una {
             self.acknowledge(reading, new);
@@ -133,7 +133,7 @@ impl Watch {
         new: Option<Front>,
     )
         requires { reading ≤ greatest_time }
-        ensures { seen self.new ≡ between reading again (front_seen old) (front_seen new) (seen self.old) }
+        ensures { seen self.new ≡ watch_by reading again (front_seen old) (front_seen new) (seen self.old) }
     {
         match (old, new) {
             (_, None) => self.stop(),
