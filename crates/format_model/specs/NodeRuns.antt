@@ -95,21 +95,9 @@ called s outcome = record { state = s; outcome = outcome }
 -- what comes of a call that makes a segment, or none: then the answer is the word for nothing to
 -- send, or that no key may be used (own)
 abbrev pub sent : EndState → NodeOutcome → Emitted → Called
-sent s without Quiet = called s without
-sent s without NoKey = called s WithoutKey
-sent s without (Emits out) = called out.state (Sent out)
-
--- a call of a held end (RFC 9293, section 3.10)
-abbrev pub act_on : List Row → Pair → ℕ → EndState → Act → Called
-act_on rows pair now s (act.Give piece) = offered called HasClosed Full Done piece s
-act_on rows pair now s (act.Take count) =
-    let t = take_out count s in
-    called t (Took (taking count s) (at_end t))
-act_on rows pair now s act.Send = sent s Idle (emit rows pair now s)
-act_on rows pair now s act.Resend = sent s Nothing (resend rows pair now s)
-act_on rows pair now s act.Close = called (close s) Done
-act_on rows pair now s act.Abort = called (abort s) Done
-act_on rows pair now s _ = called s InUse
+sent s no_segment Quiet = called s no_segment
+sent s no_segment NoKey = called s WithoutKey
+sent s no_segment (Emits out) = called out.state (Sent out)
 
 -- the node after an event, and the event's answer (own)
 pub record NodeStep : Type 0 where
@@ -127,13 +115,29 @@ after_call n pair c = record {
   outcome = c.outcome;
 }
 
--- an act on a pair that is held (own)
+-- bytes are taken of an end, and whether its stream has ended is shown (own)
+abbrev pub take_called : ℕ → EndState → Called
+take_called count s =
+    let t = take_out count s in
+    called t (Took (taking count s) (at_end t))
+
+-- what each act on a pair does whose end is held, and what it answers (RFC 9293, section 3.10, and
+-- own)
 abbrev pub on_held : List Row → NodeState → Pair → EndState → Act → NodeStep
+on_held rows n pair s (act.Open isn) = after_call n pair (called s InUse)
+on_held rows n pair s (act.Listen isn) = after_call n pair (called s InUse)
+on_held rows n pair s (act.Start isn peer) = after_call n pair (called s InUse)
+on_held rows n pair s (act.Give piece) =
+    after_call n pair (offered called HasClosed Full Done piece s)
+on_held rows n pair s (act.Take count) = after_call n pair (take_called count s)
+on_held rows n pair s act.Send = after_call n pair (sent s Idle (emit rows pair n.clock s))
+on_held rows n pair s act.Resend = after_call n pair (sent s Nothing (resend rows pair n.clock s))
+on_held rows n pair s act.Close = after_call n pair (called (close s) Done)
+on_held rows n pair s act.Abort = after_call n pair (called (abort s) Done)
 on_held rows n pair s act.Remove = record {
   node = record n { ends = without_end pair n.ends };
   outcome = Done;
 }
-on_held rows n pair s a = after_call n pair (act_on rows pair n.clock s a)
 
 -- a new end of a node, where there is room for it (own)
 abbrev pub new_end : ℕ → NodeState → Pair → EndState → NodeStep
@@ -144,12 +148,18 @@ new_end most n pair s =
       outcome = Done;
     }
 
--- an act on a pair that isn't held (own)
+-- what each act on a pair does whose end isn't held, and what it answers (own)
 abbrev pub on_other : ℕ → NodeState → Pair → Act → NodeStep
 on_other most n pair (act.Open isn) = new_end most n pair (connected pair isn)
 on_other most n pair (act.Listen isn) = new_end most n pair (listening pair isn)
 on_other most n pair (act.Start isn peer) = new_end most n pair (started pair isn peer)
-on_other most n pair _ = stays n NoConnection
+on_other most n pair (act.Give piece) = stays n NoConnection
+on_other most n pair (act.Take count) = stays n NoConnection
+on_other most n pair act.Send = stays n NoConnection
+on_other most n pair act.Resend = stays n NoConnection
+on_other most n pair act.Close = stays n NoConnection
+on_other most n pair act.Abort = stays n NoConnection
+on_other most n pair act.Remove = stays n NoConnection
 
 -- an act on a pair, whose end is held or isn't (own)
 abbrev pub on_pair : ℕ → List Row → NodeState → Pair → Act → Option EndState → NodeStep

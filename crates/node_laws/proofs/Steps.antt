@@ -4,16 +4,27 @@ use Rattle.std.specs.Prelude.{nat_le, option_map, if◌then◌else◌}
 use Rattle.ao_base.specs.declared.address.Pair.{Pair}
 use Rattle.segment_model.specs.Segments.{Reading, Read, Bad as Unread, reading}
 use Rattle.key_model.specs.Rows.{Row}
-use Rattle.endpoint_model.specs.States.{EndState, connected, listening, started, tick}
+use Rattle.endpoint_model.specs.States.{EndState, connected, listening, started, offered, close, abort, tick}
+use Rattle.endpoint_model.specs.Emissions.{emit, resend}
 use Rattle.endpoint_model.specs.Arrivals.{arrive}
 use Rattle.format_model.specs.declared.node.Act.{Act}
 use Rattle.format_model.specs.declared.node.Act.TheVariants as act
 use Rattle.format_model.specs.declared.node.NodeEvent.{NodeEvent}
 use Rattle.format_model.specs.declared.node.NodeEvent.TheVariants as event
-use Rattle.format_model.specs.NodeRuns.{Held, NodeState, NodeStep, Called, Answered, Done, NodeFull, called, same_pair, end_of, ticked, act_on, stays, after_call, on_held, new_end, on_other, on_pair, arrived_at, pair_of, injected, node_step}
+use Rattle.format_model.specs.NodeRuns.{Held, NodeState, NodeStep, Called, Answered, Done, NodeFull, InUse, Full, HasClosed, Idle, Nothing, called, sent, take_called, same_pair, end_of, ticked, stays, after_call, on_held, new_end, on_other, on_pair, arrived_at, pair_of, injected, node_step}
 use Rattle.node_laws.specs.Alone.{is_for, is_mine, is_placed}
 use Rattle.node_laws.proofs.Held.{held, IsOnce, end_with_same, end_with_other, end_without_other, end_ticked, end_pushed_other, end_pushed_same, once_with, once_without, once_ticked, once_pushed}
 use Rattle.node_laws.proofs.Pairs.{same_pair_is, same_pair-refl}
+
+-- a call of a held end
+abbrev act_on : List Row → Pair → ℕ → EndState → Act → Called
+act_on rows pair now s (act.Give piece) = offered called HasClosed Full Done piece s
+act_on rows pair now s (act.Take count) = take_called count s
+act_on rows pair now s act.Send = sent s Idle (emit rows pair now s)
+act_on rows pair now s act.Resend = sent s Nothing (resend rows pair now s)
+act_on rows pair now s act.Close = called (close s) Done
+act_on rows pair now s act.Abort = called (abort s) Done
+act_on rows pair now s _ = called s InUse
 
 -- this end alone, if there is one
 abbrev pub only : Pair → Option EndState → List Held

@@ -18,7 +18,7 @@ use Rattle.tcp_endpoint.specs.declared.giving.GiveAnswer.TheVariants as given
 use Rattle.tcp_endpoint.specs.Answers.{give_answer, offered}
 use Rattle.tcp_endpoint.specs.Emitting.{IsMade, Emits as EmitsAs, Resends as ResendsAs}
 use Rattle.tcp_endpoint.specs.Ends.{Stands}
-use Rattle.node_run.specs.Acting.{Follows, told_given, told_made, told_again, took}
+use Rattle.node_run.specs.Acting.{Follows, told_given, told_made, told_again}
 use Rattle.node_run.specs.Telling.{TellsMade}
 use Rattle.node_run.specs.declared.told.Told.TheVariants as tells
 
@@ -88,5 +88,5 @@ taken_bytes count n size s old out rest cut bytes whole long taken left are =
 
 -- bytes are taken
 pub took_follows : (count : ℕ) (s : EndState) (e : Endpoint) (room bytes : List ℕ) (shown : Bool) → bytes ≡ taking count s → shown ≡ at_end (take_out count s)
-    → Stands e (take_out count s) → Follows e room (tells.Took bytes shown) (took count s)
+    → Stands e (take_out count s) → Follows e room (tells.Took bytes shown) (book.take_called count s)
 took_follows count s e room bytes shown are is stands = rw (are, is) (record { stands = stands; tells = refl })

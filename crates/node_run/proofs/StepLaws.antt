@@ -11,7 +11,7 @@ use Rattle.format_model.specs.declared.node.Act.{Act}
 use Rattle.format_model.specs.declared.node.Act.TheVariants as act
 use Rattle.format_model.specs.declared.node.NodeEvent.TheVariants as event
 use Rattle.format_model.specs.NodeRuns as book
-use Rattle.format_model.specs.NodeRuns.{NodeState, NodeStep, most_ends, same_pair, end_of, with_end, act_on, arrived_at, called, stays, after_call, new_end, injected, node_step, pair_of}
+use Rattle.format_model.specs.NodeRuns.{NodeState, NodeStep, most_ends, same_pair, end_of, with_end, arrived_at, called, stays, after_call, new_end, injected, node_step, pair_of}
 use Rattle.node_laws.proofs.Pairs.{same_pair_is}
 use Rattle.node_laws.proofs.Held.{held, once_with, once_without, once_ticked, once_pushed}
 use Rattle.tcp_endpoint.specs.declared.endpoint.Endpoint.{Endpoint}
@@ -24,7 +24,7 @@ use Rattle.ao_node.specs.Arrivals.{Comes, ComesTo}
 use Rattle.ao_node.specs.Held.{Holding, end_at, ends, holds, refusal, Adds, Begins, FitsAll, IsRefused, Removes, Ticks}
 use Rattle.ao_node.specs.Lending.{written}
 use Rattle.ao_node.proofs.MapLaws.{written_finds, written_count}
-use Rattle.node_run.specs.Acting.{Follows, HasActed}
+use Rattle.node_run.specs.Acting.{Follows, HasActed, act_on}
 use Rattle.node_run.specs.Nodes.{StandsFor, StandsAt, StandsNode, Reaches, IsBegun, called_at, told_of}
 use Rattle.node_run.specs.declared.told.Told.{Told}
 use Rattle.node_run.specs.declared.told.Told.TheVariants as tells

@@ -2,8 +2,10 @@
 use Rattle.std.specs.Prelude.{ℕ, List}
 use Rattle.ao_base.specs.declared.address.Pair.{Pair}
 use Rattle.key_model.specs.Rows.{Row}
-use Rattle.endpoint_model.specs.States.{EndState, at_end, take_out, taking}
+use Rattle.endpoint_model.specs.States.{EndState, offered, close, abort}
+use Rattle.endpoint_model.specs.Emissions.{emit, resend}
 use Rattle.format_model.specs.declared.node.Act.{Act}
+use Rattle.format_model.specs.declared.node.Act.TheVariants as act
 use Rattle.format_model.specs.NodeRuns as book
 use Rattle.tcp_endpoint.specs.declared.endpoint.Endpoint.{Endpoint}
 use Rattle.tcp_endpoint.specs.declared.emission.Emission.{Emission}
@@ -40,10 +42,16 @@ pub record Follows (e : Endpoint) (room : List ℕ) (told : Told) (c : book.Call
   pub stands : Stands e c.state
   pub tells : Tells room told c.outcome
 
+-- what a call of an end that is held makes of its state, and what it answers; the other acts are no calls
+abbrev pub act_on : List Row → Pair → ℕ → EndState → Act → book.Called
+act_on rows pair now s (act.Give piece) = offered book.called book.HasClosed book.Full book.Done piece s
+act_on rows pair now s (act.Take count) = book.take_called count s
+act_on rows pair now s act.Send = book.sent s book.Idle (emit rows pair now s)
+act_on rows pair now s act.Resend = book.sent s book.Nothing (resend rows pair now s)
+act_on rows pair now s act.Close = book.called (close s) book.Done
+act_on rows pair now s act.Abort = book.called (abort s) book.Done
+act_on rows pair now s _ = book.called s book.InUse
+
 -- the end stands for what the call makes of its state
 abbrev pub HasActed : List Row → Pair → ℕ → EndState → Act → Endpoint → List ℕ → Told → Type 0
-HasActed rows pair now s a e room told = Follows e room told (book.act_on rows pair now s a)
-
--- bytes are taken
-abbrev pub took : ℕ → EndState → book.Called
-took count s = let t = take_out count s in book.called t (book.Took (taking count s) (at_end t))
+HasActed rows pair now s a e room told = Follows e room told (act_on rows pair now s a)

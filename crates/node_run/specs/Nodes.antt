@@ -6,7 +6,7 @@ use Rattle.key_model.specs.Rows.{Row}
 use Rattle.endpoint_model.specs.States.{EndState}
 use Rattle.endpoint_model.specs.declared.arrival.Arrival.TheVariants as answers
 use Rattle.format_model.specs.declared.node.Act.{Act}
-use Rattle.format_model.specs.NodeRuns.{Held, NodeState, NodeStep, NoConnection, most_ends, end_of, without_end, stays, after_call, act_on}
+use Rattle.format_model.specs.NodeRuns.{Held, NodeState, NodeStep, NoConnection, most_ends, end_of, without_end, stays, after_call}
 use Rattle.tcp_endpoint.specs.declared.endpoint.Endpoint.{Endpoint}
 use Rattle.tcp_endpoint.specs.Ends.{Stands, FitsEnd}
 use Rattle.ao_node.specs.declared.answer.NodeArrival.{NodeArrival}
@@ -14,6 +14,7 @@ use Rattle.ao_node.specs.declared.answer.NodeArrival.TheVariants as arrivals
 use Rattle.ao_node.specs.declared.answer.NodeRefusal.{NodeRefusal}
 use Rattle.ao_node.specs.declared.answer.NodeRefusal.TheVariants as refusals
 use Rattle.ao_node.specs.Held.{Holding, end_at, ends}
+use Rattle.node_run.specs.Acting.{act_on}
 use Rattle.node_run.specs.declared.told.Told.{Told}
 use Rattle.node_run.specs.declared.told.Told.TheVariants as tells
 use Rattle.node_run.specs.Telling.{Tells}

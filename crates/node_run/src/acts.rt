@@ -3,7 +3,8 @@ ghost use Rattle.std.specs.Prelude.{◌≡◌, ◌≤◌, ℕ, List, length, IfO
 ghost use Rattle.key_model.specs.Rows.{Row};
 ghost use Rattle.endpoint_model.specs.States.{EndState};
 ghost use Rattle.tcp_endpoint.specs.Ends.{Stands, FitsEnd};
-ghost use Rattle.node_run.specs.Acting.{Follows, HasActed, took, told_given, told_made, told_again};
+ghost use Rattle.format_model.specs.NodeRuns.{take_called};
+ghost use Rattle.node_run.specs.Acting.{Follows, HasActed, told_given, told_made, told_again};
 ghost use Rattle.node_run.specs.Telling.{length_told};
 
 use crate::told::Told;
@@ -49,7 +50,7 @@ fn told_again(resent: Resent) -> Told
 
 /// So many of the ready bytes are taken, or all.
 fn take(alloc: Global, end: &mut Endpoint, count: u16) -> Result<Told, AllocError>
-    ensures took { IfOk result (λ told. (s : EndState) (room : List ℕ) → Stands end.old s → Follows end.new room told (took count s)) }
+    ensures took { IfOk result (λ told. (s : EndState) (room : List ℕ) → Stands end.old s → Follows end.new room told (take_called count s)) }
     ensures short { IfOk result (λ told. length_told told ≡ 0) }
     ensures pair { end.new.pair ≡ end.old.pair }
     ensures fits { (rows : List Row) → FitsEnd rows end.old → FitsEnd rows end.new }
