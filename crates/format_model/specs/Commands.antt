@@ -1,6 +1,6 @@
 -- The words of each command, and what it reads. Our own format. Its top is `command_of`.
-use Rattle.std.specs.Prelude.{ℕ, ◌&&◌, ◌||◌, nat_le, Bool, true, false, List, [], ◌∷◌, codes}
-use Rattle.std.specs.Prelude.{Option, Some, None, if◌then◌else◌}
+use Rattle.std.specs.Prelude.{ℕ, ◌&&◌, ◌||◌, nat_le, Bool, true, false, List, [], ◌∷◌, ◌++◌}
+use Rattle.std.specs.Prelude.{codes, Option, Some, None, if◌then◌else◌}
 use Rattle.std.specs.Str.{bytes_eq}
 use Rattle.ao_base.specs.Decimals.{decimal_of}
 use Rattle.key_model.specs.Lifetimes.{greatest_time}
@@ -95,5 +95,6 @@ reads_input _ = true
 -- the text where the words name no command (own)
 abbrev pub usage : List ℕ
 usage =
-    codes
-    "usage: aotcp link [KEYS] | check KEYS | show | vectors | keys KEYS TIME | lint KEYS LEAD LAG FROM TO | storm SEED COUNT | check --pcap KEYS | bgp KEYS | timed KEYS | node KEYS\n"
+    codes "usage: aotcp link [KEYS] | check KEYS | show | vectors | keys KEYS TIME | "
+    ++ codes "lint KEYS LEAD LAG FROM TO | storm SEED COUNT | check --pcap KEYS | "
+    ++ codes "bgp KEYS | timed KEYS | node KEYS\n"
