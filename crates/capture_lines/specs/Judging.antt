@@ -1,5 +1,6 @@
--- A judge of stored segments: what it has heard, and what it writes (own).
-use Rattle.std.specs.Prelude.{◌≡◌, ℕ, ◌<◌, Bool, List, [], ◌∷◌, ◌++◌, length, take, Result, Ok, Err, IfOk}
+-- A judge of stored segments: what it has heard, and what it writes (own). Its top is `Judges`.
+use Rattle.std.specs.Prelude.{◌≡◌, ℕ, ◌<◌, Bool, List, [], ◌∷◌, ◌++◌, length, take, Result, Ok, Err}
+use Rattle.std.specs.Prelude.{IfOk}
 use Rattle.ao_base.specs.Outside.{Side, Took, Rose}
 use Rattle.key_model.specs.Rows.{Table}
 use Rattle.line_model.specs.Texts.{numbered_text}
@@ -8,33 +9,38 @@ use Rattle.capture_check.specs.Checking.{Checking, StandsFor}
 use Rattle.capture_lines.specs.declared.judge.Unwritten.{Unwritten}
 use Rattle.capture_lines.specs.declared.judge.Unwritten.TheVariants.{Memory, Write}
 
--- a judge is: what its checker knows, and whether a segment was no pass
+-- a judge is: what its checker knows, and whether a segment was no pass (own)
 pub record Judging : Type 0 where
   pub checking : Checking
   pub amiss : Bool
 
--- the connections that are held after these segments
+-- the connections that are held after these segments (own)
 abbrev pub held_after : List Table → List Connection → List Stored → List Connection
 held_after tables held [] = held
-held_after tables held (s ∷ rest) = held_after tables (hear tables held s.time s.bytes).connections rest
+held_after tables held (s ∷ rest) =
+    held_after tables (hear tables held s.time s.bytes).connections rest
 
--- the judge has heard these segments
+-- the judge has heard these segments (own)
 pub record HasHeard (judging : Judging) (stored : List Stored) : Type 0 where
   pub stands : StandsFor judging.checking.entries (held_after judging.checking.tables [] stored)
   pub amiss : judging.amiss ≡ has_refusal judging.checking.tables stored
 
--- the line of a segment that comes behind these
+-- the line of a segment that comes behind these (own)
 abbrev pub line_after : List Table → List Stored → Stored → List ℕ
-line_after tables stored s = numbered_text s.number (saying_texts (hear tables (held_after tables [] stored) s.time s.bytes).saying)
+line_after tables stored s =
+    numbered_text s.number
+    (saying_texts (hear tables (held_after tables [] stored) s.time s.bytes).saying)
 
--- what was written of a line
+-- what was written of a line (own)
 abbrev pub Wrote : List ℕ → Side → Side → Result (Unit {0}) Unwritten → Type 0
 Wrote line before now (Ok done) = Took line before now
 Wrote line before now (Err Memory) = Took [] before now
-Wrote line before now (Err Write) = (n : ℕ) × (n < length line) × Took (take n line) before now × Rose before now
+Wrote line before now (Err Write) =
+    (n : ℕ) × (n < length line) × Took (take n line) before now × Rose before now
 
--- one more segment is judged by those before it, and its line written
-pub record Judges (before now : Judging) (stored : List Stored) (s : Stored) (out_before out_now : Side) (result : Result (Unit {0}) Unwritten) : Type 0 where
+-- one more segment is judged by those before it, and its line written (own)
+pub record Judges (before now : Judging) (stored : List Stored) (s : Stored)
+    (out_before out_now : Side) (result : Result (Unit {0}) Unwritten) : Type 0 where
   pub tables : now.checking.tables ≡ before.checking.tables
   pub heard : IfOk result (λ _. HasHeard now (stored ++ s ∷ []))
   pub wrote : Wrote (line_after before.checking.tables stored s) out_before out_now result
