@@ -1,5 +1,6 @@
--- What a check of a pcap file reads and writes, packet by packet (own).
-use Rattle.std.specs.Prelude.{◌≡◌, ℕ, ◌+◌, ◌<◌, ◌≤◌, Bool, List, [], ◌∷◌, ◌++◌, length, map, take, Some, None, Result, Ok, Err, IsOk}
+-- What a check of a pcap file reads and writes, packet by packet (own). Its top is `Checks`.
+use Rattle.std.specs.Prelude.{◌≡◌, ℕ, ◌+◌, ◌<◌, ◌≤◌, Bool, List, [], ◌∷◌, ◌++◌, length, map, take}
+use Rattle.std.specs.Prelude.{Some, None, Result, Ok, Err, IsOk}
 use Rattle.std.specs.List.{All}
 use Rattle.ao_base.specs.Outside.{Side, Gave, Took, Rose, IsAtEnd, told}
 use Rattle.key_model.specs.Rows.{Table}
@@ -9,62 +10,68 @@ use Rattle.format_model.specs.Captures.{Stored, capture_run, has_refusal}
 use Rattle.pcap_file.specs.Reading.{IsByte, Reading, and_packet, in_front, packets_at}
 use Rattle.capture_lines.specs.Judging.{HasHeard, Judging}
 use Rattle.capture_packets.specs.declared.check.PacketHalt.{PacketHalt}
-use Rattle.capture_packets.specs.declared.check.PacketHalt.TheVariants.{Head, Record, TooLong, Read, Write, Memory}
+use Rattle.capture_packets.specs.declared.check.PacketHalt.TheVariants.{Head, Record, TooLong, Read}
+use Rattle.capture_packets.specs.declared.check.PacketHalt.TheVariants.{Write, Memory}
 
--- the most bytes of a file
+-- the most bytes of a file (own)
 abbrev pub most_bytes : ℕ
 most_bytes = 268435456
 
--- the most bytes that are taken past the record of a packet before its line is written: those of the longest record and 65,536
+-- the most bytes that are taken past the record of a packet before its line is written: those of
+-- the longest record and 65,536 (own)
 abbrev pub most_ahead : ℕ
 most_ahead = 327696
 
 -- the most bytes that are taken past the last record that was read; before the first one those of
--- the header besides
+-- the header besides (own)
 abbrev pub most_behind : ℕ
 most_behind = 327720
 
--- the lines that are written of these packets
+-- the lines that are written of these packets (own)
 abbrev pub written_of : List Table → List Packet → List ℕ
 written_of tables packets = capture_run tables (map stored_packet packets)
 
--- the stored segments of the packets of a file
+-- the stored segments of the packets of a file (own)
 abbrev pub segments_of : List ℕ → List Stored
 segments_of file = map stored_packet (packets_of file).list
 
--- the whole file was read, and the lines of all its packets written
-pub record Finishes (tables : List Table) (given : List ℕ) (source_now out_before out_now : Side) (amiss : Bool) : Type 0 where
+-- the whole file was read, and the lines of all its packets written (own)
+pub record Finishes (tables : List Table) (given : List ℕ) (source_now out_before out_now : Side)
+    (amiss : Bool) : Type 0 where
   pub at_end : IsAtEnd source_now
   pub within : length given ≤ most_bytes
   pub faultless : (packets_of given).fault ≡ None
   pub amiss_is : amiss ≡ has_refusal tables (segments_of given)
   pub wrote : Took (capture_run tables (segments_of given)) out_before out_now
 
--- these packets were read: they are those of the bytes in front, and whatever follows is read by a
--- reader that stands there, so the bytes in front are none, or end with a record; little more was taken
+-- these packets were read: they are those of the bytes in front, and whatever follows is read by
+-- a reader that stands there, so the bytes in front are none, or end with a record; little more
+-- was taken (own)
 pub record HasRead (given : List ℕ) (read : List Packet) : Type 0 where
   pub front : List ℕ
   pub rest : List ℕ
   pub split : given ≡ front ++ rest
   pub few : length rest ≤ most_behind
   pub reader : Reading
-  pub goes_on : (more : List ℕ) → packets_of (front ++ more) ≡ in_front read (packets_at reader more)
+  pub goes_on : (more : List ℕ) →
+      packets_of (front ++ more) ≡ in_front read (packets_at reader more)
 
--- the header or a record is faulty: the lines of the packets before it were written
-pub record Refuses (tables : List Table) (given : List ℕ) (source_now out_before out_now : Side) (fault : FileFault) : Type 0 where
+-- the header or a record is faulty: the lines of the packets before it were written (own)
+pub record Refuses (tables : List Table) (given : List ℕ) (source_now out_before out_now : Side)
+    (fault : FileFault) : Type 0 where
   pub has_read : HasRead given (packets_of given).list
   pub fault_is : (packets_of given).fault ≡ Some fault
   pub all : packets_of (given ++ told source_now.bytes) ≡ packets_of given
   pub wrote : Took (capture_run tables (segments_of given)) out_before out_now
 
--- it ended between two packets: the lines of all packets before were written
+-- it ended between two packets: the lines of all packets before were written (own)
 pub record Stops (tables : List Table) (given : List ℕ) (out_before out_now : Side) : Type 0 where
   pub read : List Packet
   pub has_read : HasRead given read
   pub wrote : Took (written_of tables read) out_before out_now
 
 -- more was given than the most bytes of a file, whose header isn't faulty: it ended between two
--- packets within those bytes
+-- packets within those bytes (own)
 pub record Exceeds (tables : List Table) (given : List ℕ) (out_before out_now : Side) : Type 0 where
   pub more : most_bytes < length given
   pub header : IsOk (opened given)
@@ -72,6 +79,7 @@ pub record Exceeds (tables : List Table) (given : List ℕ) (out_before out_now 
   pub within : length stops.has_read.front ≤ most_bytes
 
 -- memory ran out: the lines of all packets that were read were written, but for the last one
+-- (own)
 pub record Lacks (tables : List Table) (given : List ℕ) (out_before out_now : Side) : Type 0 where
   pub read : List Packet
   pub later : List Packet
@@ -80,48 +88,63 @@ pub record Lacks (tables : List Table) (given : List ℕ) (out_before out_now : 
   pub wrote : Took (written_of tables read) out_before out_now
 
 -- a write failed: of the line of the last packet that was read a front part was written; with its
--- record the bytes in front end, as no shorter part of them has that packet, and no more was taken past
--- it than the reader keeps
+-- record the bytes in front end, as no shorter part of them has that packet, and no more was
+-- taken past it than the reader keeps (own)
 pub record Breaks (tables : List Table) (given : List ℕ) (out_before out_now : Side) : Type 0 where
   pub read : List Packet
   pub last : Packet
   pub n : ℕ
   pub has_read : HasRead given (read ++ last ∷ [])
   pub alone : packets_of has_read.front ≡ record { list = read ++ last ∷ []; fault = None }
-  pub least : (k : ℕ) → k < length has_read.front → length (packets_of (take k has_read.front)).list ≤ length read
+  pub least : (k : ℕ) → k < length has_read.front →
+      length (packets_of (take k has_read.front)).list ≤ length read
   pub near : length has_read.rest ≤ most_ahead
   pub all_before : length (written_of tables read) ≤ n
   pub not_all : n < length (written_of tables (read ++ last ∷ []))
   pub wrote : Took (take n (written_of tables (read ++ last ∷ []))) out_before out_now
   pub rose : Rose out_before out_now
 
--- how each end comes
-abbrev pub Ends : List Table → List ℕ → (source_before source_now out_before out_now : Side) → Result Bool PacketHalt → Type 0
-Ends tables given source_before source_now out_before out_now (Ok amiss) = Finishes tables given source_now out_before out_now amiss
-Ends tables given source_before source_now out_before out_now (Err (Head fault)) = Refuses tables given source_now out_before out_now (BadHead fault)
-Ends tables given source_before source_now out_before out_now (Err (Record n)) = Refuses tables given source_now out_before out_now (BadRecord n)
-Ends tables given source_before source_now out_before out_now (Err TooLong) = Exceeds tables given out_before out_now
-Ends tables given source_before source_now out_before out_now (Err Read) = Rose source_before source_now × Stops tables given out_before out_now
-Ends tables given source_before source_now out_before out_now (Err Write) = Breaks tables given out_before out_now
-Ends tables given source_before source_now out_before out_now (Err Memory) = Lacks tables given out_before out_now
+-- how each end comes (own)
+abbrev pub Ends : List Table → List ℕ → (source_before source_now out_before out_now : Side) →
+    Result Bool PacketHalt → Type 0
+Ends tables given source_before source_now out_before out_now (Ok amiss) =
+    Finishes tables given source_now out_before out_now amiss
+Ends tables given source_before source_now out_before out_now (Err (Head fault)) =
+    Refuses tables given source_now out_before out_now (BadHead fault)
+Ends tables given source_before source_now out_before out_now (Err (Record n)) =
+    Refuses tables given source_now out_before out_now (BadRecord n)
+Ends tables given source_before source_now out_before out_now (Err TooLong) =
+    Exceeds tables given out_before out_now
+Ends tables given source_before source_now out_before out_now (Err Read) =
+    Rose source_before source_now × Stops tables given out_before out_now
+Ends tables given source_before source_now out_before out_now (Err Write) =
+    Breaks tables given out_before out_now
+Ends tables given source_before source_now out_before out_now (Err Memory) =
+    Lacks tables given out_before out_now
 
--- a check of a pcap file, in which the source gave these bytes
-pub record Checks (tables : List Table) (given : List ℕ) (source_before source_now out_before out_now : Side) (result : Result Bool PacketHalt) : Type 0 where
+-- a check of a pcap file, in which the source gave these bytes (own)
+pub record Checks (tables : List Table) (given : List ℕ)
+    (source_before source_now out_before out_now : Side) (result : Result Bool PacketHalt)
+    : Type 0 where
   pub gave : Gave given source_before source_now
   pub bytes : All IsByte given
   pub few : length given ≤ most_bytes + most_ahead
   pub ends : Ends tables given source_before source_now out_before out_now result
 
--- one more packet is judged, and its line written, unless it has no datagram
-pub record JudgedPacket (before now : Judging) (shown : List Packet) (p : Packet) (out_before out_now : Side) : Type 0 where
+-- one more packet is judged, and its line written, unless it has no datagram (own)
+pub record JudgedPacket (before now : Judging) (shown : List Packet) (p : Packet)
+    (out_before out_now : Side) : Type 0 where
   pub text : List ℕ
   pub tables_same : now.checking.tables ≡ before.checking.tables
   pub heard : HasHeard now (map stored_packet (and_packet shown p))
-  pub whole : written_of before.checking.tables (and_packet shown p) ≡ written_of before.checking.tables shown ++ text
+  pub whole : written_of before.checking.tables (and_packet shown p) ≡ written_of
+      before.checking.tables shown
+      ++ text
   pub wrote : Took text out_before out_now
 
--- a part of the line of one more packet is written
-pub record BreaksPacket (tables : List Table) (shown : List Packet) (p : Packet) (out_before out_now : Side) : Type 0 where
+-- a part of the line of one more packet is written (own)
+pub record BreaksPacket (tables : List Table) (shown : List Packet) (p : Packet)
+    (out_before out_now : Side) : Type 0 where
   pub text : List ℕ
   pub n : ℕ
   pub behind : and_packet shown p ≡ shown ++ p ∷ []
@@ -130,10 +153,13 @@ pub record BreaksPacket (tables : List Table) (shown : List Packet) (p : Packet)
   pub wrote : Took (take n text) out_before out_now
   pub rose : Rose out_before out_now
 
--- what became of one more packet behind these
-abbrev pub JudgesPacket : Judging → Judging → List Packet → Packet → Side → Side → Result (Unit {0}) PacketHalt → Type 0
-JudgesPacket before now shown p out_before out_now (Ok done) = JudgedPacket before now shown p out_before out_now
-JudgesPacket before now shown p out_before out_now (Err Write) = BreaksPacket before.checking.tables shown p out_before out_now
+-- what became of one more packet behind these (own)
+abbrev pub JudgesPacket : Judging → Judging → List Packet → Packet → Side → Side →
+    Result (Unit {0}) PacketHalt → Type 0
+JudgesPacket before now shown p out_before out_now (Ok done) =
+    JudgedPacket before now shown p out_before out_now
+JudgesPacket before now shown p out_before out_now (Err Write) =
+    BreaksPacket before.checking.tables shown p out_before out_now
 JudgesPacket before now shown p out_before out_now (Err Memory) = Took [] out_before out_now
 JudgesPacket before now shown p out_before out_now (Err (Head fault)) = ⊥
 JudgesPacket before now shown p out_before out_now (Err (Record n)) = ⊥
