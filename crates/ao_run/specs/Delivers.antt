@@ -1,5 +1,7 @@
--- The headlines: what the commands that run say of every input, over every key file.
-use Rattle.std.specs.Prelude.{◌≡◌, ◌↔◌, ℕ, ◌<◌, ◌≤◌, List, [], ◌∷◌, ◌++◌, length, All, true, false, codes, Some, Result, Ok, None}
+-- The headlines: what the commands that run say of every input, over every key file. Its top is
+-- `CommandsDeliver` (own).
+use Rattle.std.specs.Prelude.{◌≡◌, ◌↔◌, ℕ, ◌<◌, ◌≤◌, List, [], ◌∷◌, ◌++◌, length, All, true, false}
+use Rattle.std.specs.Prelude.{codes, Some, Result, Ok, None}
 use Rattle.ao_base.specs.declared.address.Pair.{Pair}
 use Rattle.ao_base.specs.Outside.{Side, Took, IsAtEnd}
 use Rattle.key_model.specs.Nodes.{tables_of}
@@ -32,22 +34,26 @@ use Rattle.link_laws.specs.Laws.{TablesFit}
 use Rattle.pcap_laws.specs.LineForms.{line_form}
 use Rattle.ao_run.specs.Obeys.{Sides}
 
--- the key file is one of valid tables, it was read to its end, and over these
+-- the key file is one of valid tables, it was read to its end, and what is said of tables holds
+-- of these (own)
 pub record Keyed (keys : List ℕ) (now : Side) (Over : List Table → Type 0) : Type 0 where
   pub keys_read_out : IsAtEnd now
   pub tables : List Table
   pub is_key_file : tables_of keys ≡ Ok tables
   pub over : Over tables
 
--- the input is in the command's grammar, it was read to its end, and of what it says
-pub record Says {S : Type 0} (script_in : List ℕ → Result S TextFault) (input : List ℕ) (now : Side) (Holds : S → Type 0) : Type 0 where
+-- the input is in the command's grammar, it was read to its end, and what is said of scripts
+-- holds of the one that it says (own)
+pub record Says {S : Type 0} (script_in : List ℕ → Result S TextFault) (input : List ℕ) (now : Side)
+    (Holds : S → Type 0) : Type 0 where
   pub read_out : IsAtEnd now
   pub script : S
   pub is_script : script_in input ≡ Ok script
   pub holds : Holds script
 
--- of the run of these events, with the status of the call
-pub record Delivers (setup : Setup) (events : List Event) (out_before out_now : Side) (status : ℕ) : Type 0 where
+-- what holds of the run of these events, with the status of the call (own)
+pub record Delivers (setup : Setup) (events : List Event) (out_before out_now : Side) (status : ℕ)
+    : Type 0 where
   -- its report was written
   pub written : Took (report setup events) out_before out_now
   -- the status is 0 exactly where no forgery is counted
@@ -61,20 +67,24 @@ pub record Delivers (setup : Setup) (events : List Event) (out_before out_now : 
   -- few bytes given, acknowledgement, and progress over a way that loses nothing
   pub gets_through : GetsThrough setup events
 
--- of the run of a link whose ends have timers (RFC 6298): its plain run isn't too long, and of that run
-pub record DeliversTimed (setup : Setup) (events : List TimedEvent) (out_before out_now : Side) (status : ℕ) : Type 0 where
+-- what holds of the run of a link whose ends have timers (RFC 6298): its plain run isn't too
+-- long, and what holds of runs holds of that one (own)
+pub record DeliversTimed (setup : Setup) (events : List TimedEvent) (out_before out_now : Side)
+    (status : ℕ) : Type 0 where
   pub few : length (expand setup events).events ≤ most_events
   pub plain_run : Delivers setup (expand setup events).events out_before out_now status
 
 -- of the run of these events, whose delivered bytes are read as BGP messages (RFC 4271)
-pub record DeliversMessages (setup : Setup) (events : List Event) (out_before out_now : Side) (status : ℕ) : Type 0 where
+pub record DeliversMessages (setup : Setup) (events : List Event) (out_before out_now : Side)
+    (status : ℕ) : Type 0 where
   -- the messages and the summary were written
   pub written : Took (bgp_text setup events) out_before out_now
   -- the status is 0 exactly where no forgery is counted and no session reached a faulty message
-  pub counted : (status ≡ 0) ↔ ((forgeries (run setup events).history ≡ 0) × (bgp_faults (run setup events) ≡ 0))
-  -- the lines written for each session are those of the messages in its delivered bytes, in whatever
-  -- pieces they were taken, and of the fault that ends them; so many lines as sessions with a fault
-  -- are of faults
+  pub counted : (status ≡ 0) ↔ ((forgeries (run setup events).history ≡ 0)
+      × (bgp_faults (run setup events) ≡ 0))
+  -- the lines written for each session are those of the messages in its delivered bytes, in
+  -- whatever pieces they were taken, and of the fault that ends them; so many lines as sessions
+  -- with a fault are of faults
   pub told : TellsMessages setup events
   -- where no forgery is counted they begin the messages in the bytes given to its partner
   pub in_order : SpeaksInOrder (run setup events)
@@ -85,9 +95,10 @@ pub record DeliversMessages (setup : Setup) (events : List Event) (out_before ou
   -- few bytes given, acknowledgement, and progress over a way that loses nothing
   pub gets_through : GetsThrough setup events
 
--- of the run of these events of a storm's link, of which only the summary is written (own)
-pub record DeliversStorm (events : List Event) (out_before out_now : Side)
-    (status : ℕ) : Type 0 where
+-- what holds of the run of these events of a storm's link, of which only the summary is written
+-- (own)
+pub record DeliversStorm (events : List Event) (out_before out_now : Side) (status : ℕ)
+    : Type 0 where
   -- the summary was written
   pub written : Took (summary (run storm_setup events)) out_before out_now
   -- the status is 0 exactly where no forgery is counted
@@ -97,66 +108,82 @@ pub record DeliversStorm (events : List Event) (out_before out_now : Side)
   pub lawful : Lawful storm_setup events
   pub gets_through : GetsThrough storm_setup events
 
--- of the run of a node with these rows
-pub record DeliversNode (rows : List Row) (events : List NodeEvent) (out_before out_now : Side) (status : ℕ) : Type 0 where
+-- what holds of the run of a node with these rows (own)
+pub record DeliversNode (rows : List Row) (events : List NodeEvent) (out_before out_now : Side)
+    (status : ℕ) : Type 0 where
   -- the answers were written
   pub written : Took (node_text rows events) out_before out_now
   pub done : status ≡ 0
   -- each connection gives the answers that it would give alone
   pub alone : (pair : Pair) → Alone pair rows events
 
--- the answer to a pcap file, and that to its line form
+-- the answer to a pcap file (own)
 abbrev pub of_packets : (name keys file : List ℕ) → Answer
 of_packets name keys file = answer (codes "check" ∷ codes "--pcap" ∷ name ∷ []) keys file
 
+-- the answer to the line form of a pcap file (own)
 abbrev pub of_lines : (name keys file : List ℕ) → Answer
 of_lines name keys file = answer (codes "check" ∷ name ∷ []) keys (line_form file)
 
--- a file and its line form are within the limit of an input
+-- a file and its line form are within the limit of an input (own)
 abbrev pub IsShort : List ℕ → Type 0
 IsShort file = (length file ≤ 268435456) × (length (line_form file) ≤ 268435456)
 
 -- of what was read of a pcap file, with the status of the call: it is judged as its line form is
+-- (own)
 pub record DeliversPackets (name keys file : List ℕ) (status : ℕ) : Type 0 where
   -- up to the first fault, if there is one, the same lines are written
   pub lines : IsShort file → (of_packets name keys file).output ≡ (of_lines name keys file).output
   -- without a fault the whole answer is the same
-  pub whole : IsShort file → (packets_of file).fault ≡ None → of_packets name keys file ≡ of_lines name keys file
+  pub whole : IsShort file → (packets_of file).fault ≡ None →
+      of_packets name keys file ≡ of_lines name keys file
   -- with 0 and 1 there is none, and the file is within the limit
   pub faultless : status < 2 → ((packets_of file).fault ≡ None) × (length file ≤ 268435456)
 
--- the tables of the key that a script names
+-- the tables of the key that a script names (own)
 abbrev pub named_tables : Script → List Table
 named_tables s = shared_by s s.shared
 
--- of the run of a link file over these tables
+-- what holds of the run of a link file over these tables (own)
 abbrev pub LinkFile : List Table → Script → (before now : Sides) → ℕ → Type 0
-LinkFile tables s before now status = Delivers (setup_of tables s.a s.b) s.events before.out now.out status
+LinkFile tables s before now status =
+    Delivers (setup_of tables s.a s.b) s.events before.out now.out status
 
--- of the run of a link file with waits over these tables
+-- what holds of the run of a link file with waits over these tables (own)
 abbrev pub TimedFile : List Table → TimedScript → (before now : Sides) → ℕ → Type 0
-TimedFile tables s before now status = DeliversTimed (setup_of tables s.a s.b) s.events before.out now.out status
+TimedFile tables s before now status =
+    DeliversTimed (setup_of tables s.a s.b) s.events before.out now.out status
 
--- of the messages in a link file's run over these tables
+-- what holds of the messages in a link file's run over these tables (own)
 abbrev pub MessageFile : List Table → Script → (before now : Sides) → ℕ → Type 0
-MessageFile tables s before now status = DeliversMessages (setup_of tables s.a s.b) s.events before.out now.out status
+MessageFile tables s before now status =
+    DeliversMessages (setup_of tables s.a s.b) s.events before.out now.out status
 
--- of the run of a node's file over these tables; an address that no node has stands for an empty table
+-- what holds of the run of a node's file over these tables; an address that no node has stands
+-- for an empty table (own)
 abbrev pub NodeFile : List Table → NodeScript → (before now : Sides) → ℕ → Type 0
-NodeFile tables s before now status = DeliversNode (rows_at tables s.address) s.events before.out now.out status
+NodeFile tables s before now status =
+    DeliversNode (rows_at tables s.address) s.events before.out now.out status
 
--- with the words of one of these commands, done
-pub record CommandsDeliver (words : List (List ℕ)) (keys input : List ℕ) (before now : Sides) (status : ℕ) : Type 0 where
+-- what holds of a call with the words of each command, once it is done (own)
+pub record CommandsDeliver (words : List (List ℕ)) (keys input : List ℕ) (before now : Sides)
+    (status : ℕ) : Type 0 where
   pub link : words ≡ codes "link" ∷ [] → status < 2 →
       Says (script_of false) input now.input (λ s. LinkFile (named_tables s) s before now status)
   pub link_keys : (name : List ℕ) → words ≡ codes "link" ∷ name ∷ [] → status < 2 →
-      Keyed keys now.keys (λ tables. Says (script_of true) input now.input (λ s. LinkFile tables s before now status))
+      Keyed keys now.keys
+      (λ tables. Says (script_of true) input now.input (λ s. LinkFile tables s before now status))
   pub timed : (name : List ℕ) → words ≡ codes "timed" ∷ name ∷ [] → status < 2 →
-      Keyed keys now.keys (λ tables. Says timed_script_of input now.input (λ s. TimedFile tables s before now status))
+      Keyed keys now.keys
+      (λ tables. Says timed_script_of input now.input (λ s. TimedFile tables s before now status))
   pub bgp : (name : List ℕ) → words ≡ codes "bgp" ∷ name ∷ [] → status < 2 →
-      Keyed keys now.keys (λ tables. Says (script_of true) input now.input (λ s. MessageFile tables s before now status))
+      Keyed keys now.keys
+      (λ tables. Says (script_of true) input now.input
+      (λ s. MessageFile tables s before now status))
   pub storm : (seed count : ℕ) → command_of words ≡ Some (Storm seed count) → status < 2 →
       DeliversStorm (storm_events seed count) before.out now.out status
   pub node : (name : List ℕ) → words ≡ codes "node" ∷ name ∷ [] → status < 2 →
-      Keyed keys now.keys (λ tables. Says node_script_of input now.input (λ s. NodeFile tables s before now status))
-  pub packets : (name : List ℕ) → words ≡ codes "check" ∷ codes "--pcap" ∷ name ∷ [] → DeliversPackets name keys input status
+      Keyed keys now.keys
+      (λ tables. Says node_script_of input now.input (λ s. NodeFile tables s before now status))
+  pub packets : (name : List ℕ) → words ≡ codes "check" ∷ codes "--pcap" ∷ name ∷ [] →
+      DeliversPackets name keys input status

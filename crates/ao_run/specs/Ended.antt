@@ -1,4 +1,4 @@
--- What a call for a command has read and written before its text is told.
+-- What a call for a command has read and written before its text is told (own).
 use Rattle.std.specs.Prelude.{ℕ, List, Option, Result, Ok, Err}
 use Rattle.ao_base.specs.Outside.{Side}
 use Rattle.format_model.specs.declared.command.Command.{Command}
@@ -7,14 +7,24 @@ use Rattle.ao_run.specs.Gathered.{Sources}
 use Rattle.ao_run.specs.Obeys.{ObeysAs, Offers, Sides}
 use Rattle.ao_run.specs.Stops.{status_of, text_of}
 
--- these sources, the output and standard error
+-- these sources, the output and standard error (own)
 abbrev pub with_ends : Sources → Side → Side → Sides
-with_ends sources out err = record { keys = sources.keys; input = sources.input; out = out; err = err }
+with_ends sources out err = record {
+  keys = sources.keys;
+  input = sources.input;
+  out = out;
+  err = err;
+}
 
--- it ended with a status, and standard error is left alone; or with a stop, whose text is to be offered to standard error
-abbrev pub Ended : Option Command → (keys input : List ℕ) → (before now : Sources) → (out_before out_now : Side) → Result ℕ Stop → Type 0
+-- it ended with a status, and standard error is left alone; or with a stop, whose text is to be
+-- offered to standard error (own)
+abbrev pub Ended : Option Command → (keys input : List ℕ) → (before now : Sources) →
+    (out_before out_now : Side) → Result ℕ Stop → Type 0
 Ended command keys input before now out_before out_now (Ok status) =
-    (err : Side) → ObeysAs command keys input (with_ends before out_before err) (with_ends now out_now err) status
+    (err : Side)
+    → ObeysAs command keys input (with_ends before out_before err) (with_ends now out_now err)
+    status
 Ended command keys input before now out_before out_now (Err stop) =
-    (err_before err_now : Side) → Offers (text_of stop) err_before err_now →
-    ObeysAs command keys input (with_ends before out_before err_before) (with_ends now out_now err_now) (status_of stop)
+    (err_before err_now : Side) → Offers (text_of stop) err_before err_now
+    → ObeysAs command keys input (with_ends before out_before err_before)
+    (with_ends now out_now err_now) (status_of stop)

@@ -1,11 +1,13 @@
--- The contract of the top call.
+-- The contract of the top call. Its top is `Runs` (own).
 use Rattle.std.specs.Prelude.{ℕ, List}
 use Rattle.ao_run.specs.Completes.{Completes}
 use Rattle.ao_run.specs.Delivers.{CommandsDeliver}
 use Rattle.ao_run.specs.Obeys.{Obeys, Sides}
 
--- in a call with these words the key file and standard input gave these bytes, and it ended with this status
-pub record Runs (words : List (List ℕ)) (keys input : List ℕ) (before now : Sides) (status : ℕ) : Type 0 where
+-- in a call with these words the key file and standard input gave these bytes, and it ended with
+-- this status (own)
+pub record Runs (words : List (List ℕ)) (keys input : List ℕ) (before now : Sides) (status : ℕ)
+    : Type 0 where
   -- what was read, answered and written
   pub obeys : Obeys words keys input before now status
   -- the headlines: what the commands that run say of every input

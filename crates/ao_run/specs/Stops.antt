@@ -1,7 +1,8 @@
--- The status and the text of each way to end without output.
+-- The status and the text of each way to end without output (own).
 use Rattle.std.specs.Prelude.{◌≡◌, ◌<◌, ℕ, List, [], Result, Ok, Err}
 use Rattle.ao_run.specs.declared.stop.Stop.{Stop}
-use Rattle.ao_run.specs.declared.stop.Stop.TheVariants.{Usage, KeysTooLong, Keys, TooLong, Input, TooManyEvents, Read, Write, Memory}
+use Rattle.ao_run.specs.declared.stop.Stop.TheVariants.{Usage, KeysTooLong, Keys, TooLong, Input}
+use Rattle.ao_run.specs.declared.stop.Stop.TheVariants.{TooManyEvents, Read, Write, Memory}
 use Rattle.ao_run.specs.declared.stop.Output.{Output}
 use Rattle.line_model.specs.declared.text_fault.TextFault.TheVariants.{Line}
 use Rattle.line_model.specs.Faults.{fault_text}
@@ -10,10 +11,11 @@ use Rattle.capture_lines.specs.declared.check.Halt.{Halt}
 use Rattle.capture_lines.specs.declared.check.Halt.TheVariants as halt
 use Rattle.capture_packets.specs.declared.check.PacketHalt.{PacketHalt}
 use Rattle.capture_packets.specs.declared.check.PacketHalt.TheVariants as packet_halt
-use Rattle.format_model.specs.Answers.{Answer, refuse, keys_too_long, too_long, too_many_events, pcap_fault_line, read_fault, write_fault, memory}
+use Rattle.format_model.specs.Answers.{Answer, refuse, keys_too_long, too_long, too_many_events}
+use Rattle.format_model.specs.Answers.{pcap_fault_line, read_fault, write_fault, memory}
 use Rattle.format_model.specs.Commands.{usage}
 
--- the exit status of each way to end without output
+-- the exit status of each way to end without output (own)
 abbrev pub status_of : Stop → ℕ
 status_of Usage = 2
 status_of KeysTooLong = 3
@@ -25,7 +27,7 @@ status_of Read = 5
 status_of Write = 6
 status_of Memory = 7
 
--- the text that each of them writes to standard error
+-- the text that each of them writes to standard error (own)
 abbrev pub text_of : Stop → List ℕ
 text_of Usage = usage
 text_of KeysTooLong = keys_too_long
@@ -37,11 +39,12 @@ text_of Read = read_fault
 text_of Write = write_fault
 text_of Memory = memory
 
--- the answer that an output makes
+-- the answer that an output makes (own)
 abbrev pub made : Output → Answer
 made o = record { status = o.status; output = o.bytes; text = [] }
 
--- a command ends without output as the answer does, unless memory ran out; it ends in no other way
+-- a command ends without output as the answer does, unless memory ran out; it ends in no other
+-- way (own)
 abbrev pub Stopped : Stop → Answer → Type 0
 Stopped Memory a = Unit {0}
 Stopped (Keys text) a = a ≡ refuse 3 text
@@ -49,12 +52,13 @@ Stopped (Input text) a = a ≡ refuse 4 text
 Stopped TooManyEvents a = a ≡ refuse 4 too_many_events
 Stopped _ a = ⊥
 
--- what a command made of its input is the answer, and an output has the status 0 or 1
+-- what a command made of its input is the answer, and an output has the status 0 or 1 (own)
 abbrev pub Makes : Result Output Stop → Answer → Type 0
 Makes (Ok o) a = (a ≡ made o) × (o.status < 2)
 Makes (Err stop) a = Stopped stop a
 
--- a check of lines that stopped so has this stop; there may be no memory for the text of a line's fault
+-- a check of lines that stopped so has this stop; there may be no memory for the text of a line's
+-- fault (own)
 abbrev pub IsHalted : Halt → Stop → Type 0
 IsHalted (halt.Line n kind) stop = Stopped stop (refuse 4 (fault_text (Line n kind)))
 IsHalted halt.TooLong stop = stop ≡ TooLong
@@ -62,9 +66,11 @@ IsHalted halt.Read stop = stop ≡ Read
 IsHalted halt.Write stop = stop ≡ Write
 IsHalted halt.Memory stop = stop ≡ Memory
 
--- and a check of a pcap file
+-- a check of a pcap file that stopped so has this stop; there may be no memory for the text of a
+-- fault (own)
 abbrev pub IsPacketHalted : PacketHalt → Stop → Type 0
-IsPacketHalted (packet_halt.Head fault) stop = Stopped stop (refuse 4 (pcap_fault_line (BadHead fault)))
+IsPacketHalted (packet_halt.Head fault) stop =
+    Stopped stop (refuse 4 (pcap_fault_line (BadHead fault)))
 IsPacketHalted (packet_halt.Record n) stop = Stopped stop (refuse 4 (pcap_fault_line (BadRecord n)))
 IsPacketHalted packet_halt.TooLong stop = stop ≡ TooLong
 IsPacketHalted packet_halt.Read stop = stop ≡ Read
