@@ -1,9 +1,9 @@
 #!/usr/bin/env python3
 """Whether the book is closed, and short: every definition that a clause of `ao_run::run` cites, directly or through others, stands
 in a crate of the book, with the plain types that it cites, or in the list of what may stand outside; and the definitions that
-`answer` reaches are at most 3,400 lines of 100 columns, without comments, blank lines and imports: a longer line counts as the
-lines that it would fill. Names each one that stands elsewhere, and fails; prints how many definitions there are, and with --list
-the reading list: each file of the book that the clauses reach, with its lines."""
+`answer` reaches are at most 3,400 lines, without comments, blank lines and imports, of which none has more than 100 columns. Names
+each definition that stands elsewhere and each line that is too wide, and fails; prints how many definitions and lines there are, and
+with --list the reading list: each file of the book that the clauses reach, with its lines."""
 import os
 import re
 import sys
@@ -126,8 +126,8 @@ def lines_of_answer():
     file, name = ANSWER
     found = {ANSWER: None, **reached(names_of(file), definitions(read(file))[name], file)}
     bodies = {(target, definitions(read(target)).get(wanted)) for target, wanted in found if target.endswith(".antt")}
-    lines = [line for _, body in bodies if body for line in body.split("\n")]
-    return len({it for it in bodies if it[1]}), sum(-(-len(line) // COLUMNS) for line in lines), sum(len(line) > COLUMNS for line in lines)
+    lines = [(target, line) for target, body in sorted(it for it in bodies if it[1]) for line in body.split("\n")]
+    return len({it for it in bodies if it[1]}), len(lines), [it for it in lines if len(it[1]) > COLUMNS]
 
 
 def main(words):
@@ -148,8 +148,10 @@ def main(words):
     for target in sorted(outside):
         print(f"outside the book: {target}: {', '.join(sorted(outside[target]))}")
     count, lines, wide = lines_of_answer()
-    print(f"`answer` reaches {count} definitions: {lines} lines of {COLUMNS} columns ({wide} are wider) of at most {MOST_LINES}")
-    return 1 if outside or lines > MOST_LINES else 0
+    for target, line in wide:
+        print(f"more than {COLUMNS} columns: {target}: {line}")
+    print(f"`answer` reaches {count} definitions: {lines} lines of at most {MOST_LINES}, {len(wide)} of them with more than {COLUMNS} columns")
+    return 1 if outside or wide or lines > MOST_LINES else 0
 
 
 sys.exit(main(sys.argv[1:]))
