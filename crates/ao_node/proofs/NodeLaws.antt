@@ -7,7 +7,7 @@ use Rattle.std.specs.Map.Calls.{RetainsPairs}
 use Rattle.ao_base.specs.declared.address.Pair.{Pair}
 use Rattle.segment_model.specs.Segments.{Segment, Reading, Read}
 use Rattle.key_model.specs.Rows.{Row}
-use Rattle.format_model.specs.NodeRuns.{pair_of}
+use Rattle.format_model.specs.NodeRuns.{pair_reached}
 use Rattle.tcp_endpoint.specs.declared.arrival.Arrived.{Arrived}
 use Rattle.tcp_endpoint.specs.declared.endpoint.Endpoint.{Endpoint}
 use Rattle.ao_node.specs.declared.answer.NodeArrival.{NodeArrival}
@@ -51,15 +51,15 @@ module _ (most : ℕ) (es after : List (Key × Endpoint)) (k : Key) (p : Pair) (
 
 -- ---- arrivals
 
-pub comes_none : (rows : List Row) (now : ℕ) (r : Reading) (d : Segment) (before after : Holding) (told : NodeArrival) → r ≡ Read d → end_at before (pair_of d) ≡ None
+pub comes_none : (rows : List Row) (now : ℕ) (r : Reading) (d : Segment) (before after : Holding) (told : NodeArrival) → r ≡ Read d → end_at before (pair_reached d) ≡ None
     → told ≡ answers.NoConnection → after ≡ before → Comes rows now before after told r
 comes_none rows now r d before after told is none answer same = rw (is, none) (answer, same)
 
 pub comes_some : (rows : List Row) (now : ℕ) (r : Reading) (d : Segment) (before after : Holding) (told : NodeArrival) (e f : Endpoint) (arrived : Arrived) → r ≡ Read d
-    → end_at before (pair_of d) ≡ Some e → told ≡ answers.At (pair_of d) arrived → after ≡ written (pair_of d) before f → Hears rows now d e f arrived
+    → end_at before (pair_reached d) ≡ Some e → told ≡ answers.At (pair_reached d) arrived → after ≡ written (pair_reached d) before f → Hears rows now d e f arrived
     → Comes rows now before after told r
 comes_some rows now r d before after told e f arrived is found answer new hears =
-    let held : holds before (pair_of d) ≡ true = rw found refl in
+    let held : holds before (pair_reached d) ≡ true = rw found refl in
     rw (is, found) (
       arrived,
       answer,
@@ -67,8 +67,8 @@ comes_some rows now r d before after told e f arrived is found answer new hears 
         next = f;
         hears = hears;
         most = rw new refl;
-        finds = λ q. rw new (written_finds before (pair_of d) q f held);
-        count = rw new (written_count before (pair_of d) f);
+        finds = λ q. rw new (written_finds before (pair_reached d) q f held);
+        count = rw new (written_count before (pair_reached d) f);
       },
     )
 

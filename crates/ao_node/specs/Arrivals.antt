@@ -5,7 +5,7 @@ use Rattle.segment_model.specs.Segments.{Segment, Reading, Read, Bad as Unread}
 use Rattle.key_model.specs.Rows.{Row}
 use Rattle.endpoint_model.specs.States.{EndState}
 use Rattle.endpoint_model.specs.Arrivals.{arrive}
-use Rattle.format_model.specs.NodeRuns.{pair_of, same_pair}
+use Rattle.format_model.specs.NodeRuns.{pair_reached, same_pair}
 use Rattle.tcp_endpoint.specs.declared.arrival.Arrived.{Arrived}
 use Rattle.tcp_endpoint.specs.declared.endpoint.Endpoint.{Endpoint}
 use Rattle.tcp_endpoint.specs.Arriving.{Arrives, IsBeforeCheck, LeavesAll}
@@ -27,16 +27,16 @@ pub record HearsAt (rows : List Row) (now : ℕ) (d : Segment) (before after : H
   pub next : Endpoint
   pub hears : Hears rows now d e next told
   pub most : after.most ≡ before.most
-  pub finds : (q : Pair) → end_at after q ≡ (if same_pair (pair_of d) q then Some next else end_at before q)
+  pub finds : (q : Pair) → end_at after q ≡ (if same_pair (pair_reached d) q then Some next else end_at before q)
   pub count : ends after ≡ ends before
 
 -- a datagram comes to the end of its pair, if one is held
 abbrev pub ComesTo : List Row → ℕ → Segment → Holding → Holding → NodeArrival → Option Endpoint → Type 0
 ComesTo rows now d before after told None = (told ≡ answers.NoConnection) × (after ≡ before)
 ComesTo rows now d before after told (Some e) =
-    (arrived : Arrived) × (told ≡ answers.At (pair_of d) arrived) × HearsAt rows now d before after e arrived
+    (arrived : Arrived) × (told ≡ answers.At (pair_reached d) arrived) × HearsAt rows now d before after e arrived
 
 -- bytes come: they are no datagram, or come to the end whose local socket is the datagram's destination and whose remote one its source
 abbrev pub Comes : List Row → ℕ → Holding → Holding → NodeArrival → Reading → Type 0
 Comes rows now before after told (Unread fault) = (told ≡ answers.Bad fault) × (after ≡ before)
-Comes rows now before after told (Read d) = ComesTo rows now d before after told (end_at before (pair_of d))
+Comes rows now before after told (Read d) = ComesTo rows now d before after told (end_at before (pair_reached d))

@@ -7,12 +7,12 @@ use Rattle.key_model.specs.Rows.{Table}
 use Rattle.line_model.specs.declared.text_fault.TextFault.{TextFault}
 use Rattle.format_model.specs.declared.command.Command.{Command}
 use Rattle.format_model.specs.declared.command.Command.TheVariants as command
-use Rattle.format_model.specs.Answers.{Answer, answer_by, answer_of, answer_over, answer_with_keys, answer_within, bgp_over, done, if_read, judged, keys_too_long, linked, linked_by_shared, linted, long_text, most_input, most_keys, node_over, refuse, timed_over, too_long, verified}
+use Rattle.format_model.specs.Answers.{Answer, answer_by, answer_of, answer_over, answer_with_keys, answer_within, bgp_over, done, if_read, judged, keys_too_long, linked, linked_by_shared, linted, long_text, most_input, most_keys, node_over, refusal, timed_over, too_long, verified}
 use Rattle.format_model.specs.Captures.{Stored, capture_run, has_refusal}
 use Rattle.format_model.specs.Commands.{reads_keys, reads_input}
 use Rattle.format_model.specs.KeyTexts.{keys_text, table_fault_line}
 use Rattle.format_model.specs.LinkFiles.{script_of}
-use Rattle.format_model.specs.LintTexts.{connection_of}
+use Rattle.format_model.specs.LintTexts.{lint_pair_of}
 use Rattle.format_model.specs.NodeRuns.{node_script_of}
 use Rattle.format_model.specs.Show.{show_of}
 use Rattle.format_model.specs.StoredLines.{stored_input}
@@ -86,19 +86,19 @@ over_tables c keys input tables holds few is =
 
 -- the answer to a key file with a fault
 pub faulty_tables : (c : Command) (keys input : List ℕ) (e : TableFault) → reads_keys c ≡ true → length keys ≤ 1048576 → tables_of keys ≡ Err e →
-    answer_of (Some c) keys input ≡ refuse 3 (table_fault_line e)
+    answer_of (Some c) keys input ≡ refusal 3 (table_fault_line e)
 faulty_tables c keys input e holds few is =
     let short : nat_lt 1048576 (length keys) ≡ false = shorter 1048576 (length keys) few in
     keyed c keys input holds ∙ rw (short, is) refl
 
 -- the answer to a key file past its limit
-pub long_keys : (c : Command) (keys input : List ℕ) → reads_keys c ≡ true → 1048576 < length keys → answer_of (Some c) keys input ≡ refuse 3 keys_too_long
+pub long_keys : (c : Command) (keys input : List ℕ) → reads_keys c ≡ true → 1048576 < length keys → answer_of (Some c) keys input ≡ refusal 3 keys_too_long
 long_keys c keys input holds many =
     let long : nat_lt 1048576 (length keys) ≡ true = longer 1048576 (length keys) many in
     keyed c keys input holds ∙ rw long refl
 
 -- the answer to an input past its limit
-pub long_input : (c : Command) (tables : List Table) (input : List ℕ) → reads_input c ≡ true → most_input c < length input → answer_in c tables input ≡ refuse 4 (long_text c input)
+pub long_input : (c : Command) (tables : List Table) (input : List ℕ) → reads_input c ≡ true → most_input c < length input → answer_in c tables input ≡ refusal 4 (long_text c input)
 long_input c tables input holds many =
     let long : nat_lt (most_input c) (length input) ≡ true = longer (most_input c) (length input) many in
     rw (holds, long) refl
@@ -125,7 +125,7 @@ limited false b x y lacks = refl
 -- the answer to an input within it
 pub short_input : (c : Command) (tables : List Table) (input : List ℕ) → length input ≤ most_input c → answer_in c tables input ≡ answer_over c tables input
 short_input c tables input few =
-    limited (reads_input c) (nat_lt (most_input c) (length input)) (refuse 4 (long_text c input)) (answer_over c tables input) (shorter (most_input c) (length input) few)
+    limited (reads_input c) (nat_lt (most_input c) (length input)) (refusal 4 (long_text c input)) (answer_over c tables input) (shorter (most_input c) (length input) few)
 
 pub unread_input : (c : Command) (tables : List Table) (input : List ℕ) → reads_input c ≡ false → answer_in c tables input ≡ answer_over c tables input
 unread_input c tables input lacks = rw lacks refl
@@ -161,7 +161,7 @@ over_plain command.CheckPcap tables input = judged_plain tables _ _
 over_plain command.Show tables input = read_plain (done false) (show_of input) (λ text. done_plain false)
 over_plain command.Vectors tables input = read_plain verified (vectors_of input) (λ v. done_plain _)
 over_plain (command.Keys time) tables input = done_plain false
-over_plain (command.Lint plan) tables input = read_plain (linted tables plan) (said_in connection_of input) (λ s. done_plain _)
+over_plain (command.Lint plan) tables input = read_plain (linted tables plan) (said_in lint_pair_of input) (λ s. done_plain _)
 over_plain (command.Storm seed count) tables input = done_plain _
 over_plain command.Bgp tables input = read_plain (bgp_over tables) (script_of true input) (λ s. done_plain _)
 over_plain command.Timed tables input = read_plain (timed_over tables) (timed_script_of input) (λ s. if_plain _ _ _ four (done_plain _))
@@ -169,7 +169,7 @@ over_plain command.Node tables input = read_plain (node_over tables) (node_scrip
 
 pub within_plain : (c : Command) (tables : List Table) (input : List ℕ) → Plain (answer_in c tables input).status
 within_plain c tables input =
-    if_plain (reads_input c && nat_lt (most_input c) (length input)) (refuse 4 (long_text c input)) (answer_over c tables input) four (over_plain c tables input)
+    if_plain (reads_input c && nat_lt (most_input c) (length input)) (refusal 4 (long_text c input)) (answer_over c tables input) four (over_plain c tables input)
 
 not_four : (b : Bool) → ◌≡◌ {A = ℕ} (if b then 1 else 0) 4 → ⊥
 not_four true h = omega arith
@@ -191,7 +191,7 @@ unread_four command.Timed tables input lacks = cc
 unread_four command.Node tables input lacks = cc
 
 by_plain : (c : Command) (input other : List ℕ) (b : Bool) (r : Result (List Table) TableFault) → reads_keys c ≡ true →
-    (if b then refuse 3 keys_too_long else answer_by c input r).status ≡ 3 → (if b then refuse 3 keys_too_long else answer_by c other r).status ≡ 3
+    (if b then refusal 3 keys_too_long else answer_by c input r).status ≡ 3 → (if b then refusal 3 keys_too_long else answer_by c other r).status ≡ 3
 by_plain c input other true r holds three = refl
 by_plain c input other false (Err e) holds three = refl
 by_plain c input other false (Ok tables) holds three =
@@ -211,7 +211,7 @@ three_whatever c keys input other three = elim (either (reads_keys c)) [
 ]
 
 by_not_two : (c : Command) (input : List ℕ) (b : Bool) (r : Result (List Table) TableFault) → reads_keys c ≡ true →
-    (if b then refuse 3 keys_too_long else answer_by c input r).status ≢ 2
+    (if b then refusal 3 keys_too_long else answer_by c input r).status ≢ 2
 by_not_two c input true r holds = λ h. absurd (omega arith)
 by_not_two c input false (Err e) holds = λ h. absurd (omega arith)
 by_not_two c input false (Ok tables) holds = λ h. (within_plain c tables input).0 (ap (λ (a : Answer). a.status) (sym (within_same c tables input holds)) ∙ h)
@@ -224,11 +224,11 @@ not_two c keys input = elim (either (reads_keys c)) [
 ]
 
 by_long : (c : Command) (input : List ℕ) (b : Bool) (r : Result (List Table) TableFault) → reads_keys c ≡ true → reads_input c ≡ true → most_input c < length input →
-    2 < (if b then refuse 3 keys_too_long else answer_by c input r).status
+    2 < (if b then refusal 3 keys_too_long else answer_by c input r).status
 by_long c input true r holds reads many = omega arith
 by_long c input false (Err e) holds reads many = omega arith
 by_long c input false (Ok tables) holds reads many =
-    let is : answer_within c tables input ≡ refuse 4 (long_text c input) = within_same c tables input holds ∙ long_input c tables input reads many in
+    let is : answer_within c tables input ≡ refusal 4 (long_text c input) = within_same c tables input holds ∙ long_input c tables input reads many in
     rw is (omega arith)
 
 -- an input past its limit has no output
@@ -253,7 +253,7 @@ over_unread command.Timed tables input other lacks = cc
 over_unread command.Node tables input other lacks = cc
 
 by_unread : (c : Command) (input other : List ℕ) (b : Bool) (r : Result (List Table) TableFault) → reads_keys c ≡ true → reads_input c ≡ false →
-    (if b then refuse 3 keys_too_long else answer_by c input r) ≡ (if b then refuse 3 keys_too_long else answer_by c other r)
+    (if b then refusal 3 keys_too_long else answer_by c input r) ≡ (if b then refusal 3 keys_too_long else answer_by c other r)
 by_unread c input other true r holds lacks = refl
 by_unread c input other false (Err e) holds lacks = refl
 by_unread c input other false (Ok tables) holds lacks =

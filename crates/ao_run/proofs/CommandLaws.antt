@@ -10,7 +10,7 @@ use Rattle.format_model.specs.declared.command.Command.{Command}
 use Rattle.format_model.specs.declared.command.Command.TheVariants as command
 use Rattle.key_model.specs.Lifetimes.{greatest_time}
 use Rattle.format_model.specs.declared.command.Plan.{Plan}
-use Rattle.format_model.specs.Commands.{command_of, keys_of, lint_of, storm_of, up_to}
+use Rattle.format_model.specs.Commands.{command_of, keys_of, lint_command, storm_of, decimal_up_to}
 use Rattle.ao_run.specs.Gathered.{is_ready}
 
 -- a value in front of a reading that goes on
@@ -178,9 +178,9 @@ named_ready (name ∷ key_file ∷ []) =
     with_keys (bytes_eq name (codes "link")) (bytes_eq name (codes "check")) (bytes_eq name (codes "bgp")) (bytes_eq name (codes "timed")) (bytes_eq name (codes "node"))
 named_ready (name ∷ second ∷ third ∷ []) =
     three (bytes_eq name (codes "keys")) (bytes_eq name (codes "storm")) (bytes_eq name (codes "check")) (bytes_eq second (codes "--pcap")) (keys_of third) (storm_of second third)
-    (keys (time_of third)) (counted (decimal_of second) (up_to 10000 third) (most_of 10000 (decimal_of third)))
+    (keys (time_of third)) (counted (decimal_of second) (decimal_up_to 10000 third) (most_of 10000 (decimal_of third)))
 named_ready (name ∷ key_file ∷ lead ∷ lag ∷ []) = refl
 named_ready (name ∷ key_file ∷ lead ∷ lag ∷ from ∷ []) = refl
 named_ready (name ∷ key_file ∷ lead ∷ lag ∷ from ∷ to ∷ []) =
-    lint (bytes_eq name (codes "lint")) (lint_of lead lag from to) (plan (up_to greatest_time lead) (up_to greatest_time lag) (time_of from) (time_of to))
+    lint (bytes_eq name (codes "lint")) (lint_command lead lag from to) (plan (decimal_up_to greatest_time lead) (decimal_up_to greatest_time lag) (time_of from) (time_of to))
 named_ready (name ∷ key_file ∷ lead ∷ lag ∷ from ∷ to ∷ more ∷ words) = refl

@@ -6,7 +6,7 @@ use Rattle.key_model.specs.Nodes.{tables_of}
 use Rattle.key_model.specs.Rows.{Table}
 use Rattle.format_model.specs.declared.command.Command.{Command}
 use Rattle.format_model.specs.declared.command.Command.TheVariants as commands
-use Rattle.format_model.specs.Answers.{Answer, answer_of, keys_too_long, most_input, most_keys, refuse}
+use Rattle.format_model.specs.Answers.{Answer, answer_of, keys_too_long, most_input, most_keys, refusal}
 use Rattle.format_model.specs.Commands.{command_of, reads_input, reads_keys}
 use Rattle.ao_run.specs.Completes.{Completes, IsCalm, Tells}
 use Rattle.ao_run.specs.Gathered.{answer_in}
@@ -132,7 +132,7 @@ module _ (words : List (List ℕ)) (k i keys input : List ℕ) (b n : Sides) (sm
               not_three (rw same at (three_whatever c k i input t))
           | inr many ↦
               let few : length k ≤ length keys = no_more b.keys.bytes n.keys.bytes k keys x.gave_keys.bytes (tells_keys.told asks) in
-              let r : answer_of (Some c) keys input ≡ refuse 3 keys_too_long = long_keys c keys input holds (omega (arith, few, many)) in
+              let r : answer_of (Some c) keys input ≡ refusal 3 keys_too_long = long_keys c keys input holds (omega (arith, few, many)) in
               not_three (ap (λ (a : Answer). a.status) r)
         ]
 

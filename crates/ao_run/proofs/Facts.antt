@@ -4,7 +4,7 @@ use Rattle.std.specs.Io.KnownBytes.{Consumes}
 use Rattle.ao_base.specs.Outside.{Counts, IsAtEnd, Rose, Side, Took}
 use Rattle.key_model.specs.Rows.{Table}
 use Rattle.format_model.specs.declared.command.Command.{Command}
-use Rattle.format_model.specs.Answers.{Answer, done, judged, refuse}
+use Rattle.format_model.specs.Answers.{Answer, done, judged, refusal}
 use Rattle.format_model.specs.Captures.{Stored, capture_run, has_refusal}
 use Rattle.ao_run.specs.Gathered.{answer_in}
 
@@ -124,12 +124,12 @@ judged_output tables stored None = refl
 judged_output tables stored (Some text) = refl
 
 -- an input that is refused is so past the limit too
-pub past_refused : (past : Bool) (text : List ℕ) (a : Answer) → a.status ≡ 4 → (if past then refuse 4 text else a).status ≡ 4
+pub past_refused : (past : Bool) (text : List ℕ) (a : Answer) → a.status ≡ 4 → (if past then refusal 4 text else a).status ≡ 4
 past_refused true text a four = refl
 past_refused false text a four = four
 
 -- an output is that of the segments
-pub past_output : (past : Bool) (text : List ℕ) (tables : List Table) (stored : List Stored) (fault : Option (List ℕ)) → (if past then refuse 4 text else judged tables stored fault).status < 2 →
-    (if past then refuse 4 text else judged tables stored fault).output ≡ capture_run tables stored
+pub past_output : (past : Bool) (text : List ℕ) (tables : List Table) (stored : List Stored) (fault : Option (List ℕ)) → (if past then refusal 4 text else judged tables stored fault).status < 2 →
+    (if past then refusal 4 text else judged tables stored fault).output ≡ capture_run tables stored
 past_output true text tables stored fault small = absurd (omega (arith, small))
 past_output false text tables stored fault small = judged_output tables stored fault

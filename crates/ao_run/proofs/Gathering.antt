@@ -15,7 +15,7 @@ use Rattle.line_model.specs.declared.text_fault.TextFault.TheVariants as text_fa
 use Rattle.line_model.specs.Faults.{fault_text}
 use Rattle.text_lines.specs.Readings.{Answers, Fails}
 use Rattle.format_model.specs.declared.command.Command.{Command}
-use Rattle.format_model.specs.Answers.{Answer, answer_of, answer_over, if_read, most_input, refuse, too_many_events}
+use Rattle.format_model.specs.Answers.{Answer, answer_of, answer_over, if_read, most_input, refusal, too_many_events}
 use Rattle.format_model.specs.Commands.{reads_keys, reads_input}
 use Rattle.format_model.specs.KeyTexts.{table_fault_line}
 use Rattle.ao_run.specs.declared.stop.Output.{Output}
@@ -28,7 +28,7 @@ use Rattle.ao_run.proofs.AnswerLaws.{either, faulty_tables, long_input, long_key
 
 -- an input with a fault has no output
 pub refused_makes : {A : Type 0} (said : Result A TextFault) (value : A → Answer) (e : TextFault) (stop : Stop) →
-    Fails e said → Stopped stop (refuse 4 (fault_text e)) → (e ≡ text_fault.Memory → stop ≡ Memory) → Makes (Err stop) (if_read value said)
+    Fails e said → Stopped stop (refusal 4 (fault_text e)) → (e ≡ text_fault.Memory → stop ≡ Memory) → Makes (Err stop) (if_read value said)
 refused_makes said value text_fault.Memory stop fails stopped none = rw (none refl) tt
 refused_makes said value text_fault.TooManyLines stop fails stopped none = rw fails stopped
 refused_makes said value (text_fault.Line n kind) stop fails stopped none = rw fails stopped
@@ -133,7 +133,7 @@ module _ (c : Command) (k : List ℕ) (k0 k1 : Side) (holds : reads_keys c ≡ t
       }
 
   refused_keys : (stop : Stop) → Gave k k0 k1 → length k ≤ 1048577 → IsAtEnd k1 → status_of stop ≡ 3 →
-      ((input : List ℕ) → answer_of (Some c) k input ≡ refuse 3 (text_of stop)) → KeysGathered c k k0 k1 (Err stop)
+      ((input : List ℕ) → answer_of (Some c) k input ≡ refusal 3 (text_of stop)) → KeysGathered c k k0 k1 (Err stop)
   refused_keys stop gave few over three is = record {
     gave = gave;
     few = few;
@@ -150,7 +150,7 @@ module _ (c : Command) (k : List ℕ) (k0 k1 : Side) (holds : reads_keys c ≡ t
   }
 
   stopped_keys : (text : List ℕ) (e : TableFault) (stop : Stop) → ReadsAll k0 k1 1048576 k (Ok text) → tables_of k ≡ Err e →
-      Stopped stop (refuse 3 (table_fault_line e)) → KeysGathered c k k0 k1 (Err stop)
+      Stopped stop (refusal 3 (table_fault_line e)) → KeysGathered c k k0 k1 (Err stop)
   stopped_keys text e Memory r is stopped = memory_keys r
   stopped_keys text e (Keys line) r is stopped =
       refused_keys (Keys line) r.gave r.few r.whole.1 refl (λ input. faulty_tables c k input e holds (fits 1048576 k text k0 k1 r) is ∙ stopped)
@@ -163,7 +163,7 @@ module _ (c : Command) (k : List ℕ) (k0 k1 : Side) (holds : reads_keys c ≡ t
   stopped_keys text e Write r is stopped = absurd stopped
 
   pub faulty_gathered : (text : List ℕ) (e : TableFault) (stop : Stop) → ReadsAll k0 k1 1048576 k (Ok text) → Gives {X = List Table} (λ t. t) (Err e) (tables_of text) →
-      Stopped stop (refuse 3 (table_fault_line e)) → (e ≡ fault.Memory → stop ≡ Memory) → KeysGathered c k k0 k1 (Err stop)
+      Stopped stop (refusal 3 (table_fault_line e)) → (e ≡ fault.Memory → stop ≡ Memory) → KeysGathered c k k0 k1 (Err stop)
   faulty_gathered text fault.Memory stop r is stopped none = rw (none refl) (memory_keys r)
   faulty_gathered text fault.Syntax stop r is stopped none = stopped_keys text fault.Syntax stop r (rw r.whole.0 at is) stopped
   faulty_gathered text (fault.Field n m c2) stop r is stopped none = stopped_keys text (fault.Field n m c2) stop r (rw r.whole.0 at is) stopped
@@ -242,7 +242,7 @@ module _ (c : Command) (i : List ℕ) (i0 i1 : Side) (holds : reads_input c ≡ 
     value = tt;
     asked = holds;
     within = (omega arith, omega arith, λ h. absurd (omega arith));
-    refused = λ _ last tables. long_input c tables i holds (r.long.0 refl) ∙ ap (λ (text : List ℕ). refuse 4 text) (long_plain c i last);
+    refused = λ _ last tables. long_input c tables i holds (r.long.0 refl) ∙ ap (λ (text : List ℕ). refusal 4 text) (long_plain c i last);
     judged = λ _. r.long.0 refl;
     fault = λ h. absurd (omega arith);
   }
@@ -270,8 +270,8 @@ usage_gathered k0 i0 = record {
 }
 
 module _ (c : Command) (k : List ℕ) (k0 k1 i0 : Side) where
-  three_or_more : (stop : Stop) (a : Answer) → (3 ≤ status_of stop) → status_of stop ≢ 4 → (status_of stop ≡ 3 → a ≡ refuse 3 (text_of stop)) →
-      status_of stop < 5 → a ≡ refuse (status_of stop) (text_of stop)
+  three_or_more : (stop : Stop) (a : Answer) → (3 ≤ status_of stop) → status_of stop ≢ 4 → (status_of stop ≡ 3 → a ≡ refusal 3 (text_of stop)) →
+      status_of stop < 5 → a ≡ refusal (status_of stop) (text_of stop)
   three_or_more stop a low lacks is small = let three : status_of stop ≡ 3 = omega (arith, low, small, lacks) in rw three (is three)
 
   pub keys_stopped : (stop : Stop) → KeysGathered c k k0 k1 (Err stop) →
@@ -307,8 +307,8 @@ module _ (c : Command) (k i : List ℕ) (k0 k1 i0 i1 : Side) (t : Option (List T
   first_keys : reads_keys c ≡ true → IsAtEnd k1 ⊎ Unread i i0 i1
   first_keys holds = inl (x.over holds)
 
-  four_or_more : (stop : Stop) (a b : Answer) → a ≡ b → (4 ≤ status_of stop) → (status_of stop ≡ 4 → b ≡ refuse 4 (text_of stop)) →
-      status_of stop < 5 → a ≡ refuse (status_of stop) (text_of stop)
+  four_or_more : (stop : Stop) (a b : Answer) → a ≡ b → (4 ≤ status_of stop) → (status_of stop ≡ 4 → b ≡ refusal 4 (text_of stop)) →
+      status_of stop < 5 → a ≡ refusal (status_of stop) (text_of stop)
   four_or_more stop a b same low is small = let four : status_of stop ≡ 4 = omega (arith, low, small) in rw four (same ∙ is four)
 
   pub input_stopped : (stop : Stop) → writes_along (Some c) ≡ false → InputGathered c i i0 i1 (Err stop) →
@@ -338,7 +338,7 @@ module _ (c : Command) (k i : List ℕ) (k0 k1 i0 i1 : Side) (t : Option (List T
     answered = x.value i ∙ (y.value (tables_in t) ∙ ap (λ (l : List ℕ). answer_over c (tables_in t) l) (sym y.same))
 
     ended : (stop : Stop) → (2 ≤ status_of stop) → status_of stop < 8 → status_of stop ≢ 6 → status_of stop ≢ 5 → status_of stop ≢ 3 →
-        (status_of stop < 5 → answer_of (Some c) k i ≡ refuse (status_of stop) (text_of stop)) → (status_of stop ≡ 4 → IsAtEnd i1) →
+        (status_of stop < 5 → answer_of (Some c) k i ≡ refusal (status_of stop) (text_of stop)) → (status_of stop ≡ 4 → IsAtEnd i1) →
         Gathered (Some c) k i (record { keys = k0; input = i0 }) (record { keys = k1; input = i1 }) (Err stop)
     ended stop low high six five three is at_end = record {
       gave_keys = x.gave;
@@ -360,7 +360,7 @@ module _ (c : Command) (k i : List ℕ) (k0 k1 i0 i1 : Side) (t : Option (List T
       fault = λ h. absurd (five h);
     }
 
-    input_ended : (line : List ℕ) → answer_over c (tables_in t) text ≡ refuse 4 line → IsAtEnd i1
+    input_ended : (line : List ℕ) → answer_over c (tables_in t) text ≡ refusal 4 line → IsAtEnd i1
     input_ended line is = elim (either (reads_input c)) [
       | inl holds ↦ y.over holds
       | inr lacks ↦ absurd (unread_four c (tables_in t) text lacks (ap (λ (a : Answer). a.status) is))
@@ -395,7 +395,7 @@ module _ (c : Command) (k i : List ℕ) (k0 k1 i0 i1 : Side) (t : Option (List T
         ended TooManyEvents (omega arith) (omega arith) (λ h. omega arith) (λ h. omega arith) (λ h. omega arith) (λ h. answered ∙ m) (λ h. input_ended too_many_events m)
     made_gathered (Err (Keys line)) m = absurd (three line m)
       where
-        three : (line : List ℕ) → answer_over c (tables_in t) text ≡ refuse 3 line → ⊥
+        three : (line : List ℕ) → answer_over c (tables_in t) text ≡ refusal 3 line → ⊥
         three line is = not_three (ap (λ (a : Answer). a.status) (answered ∙ is))
     made_gathered (Err Usage) m = absurd m
     made_gathered (Err KeysTooLong) m = absurd m

@@ -18,7 +18,7 @@ use Rattle.format_model.specs.declared.command.Command.TheVariants as command
 use Rattle.format_model.specs.declared.node.NodeScript.{NodeScript}
 use Rattle.format_model.specs.declared.script.Script.{Script}
 use Rattle.format_model.specs.declared.timed.TimedScript.{TimedScript}
-use Rattle.format_model.specs.Answers.{Answer, answer_by, answer_of, answer_over, answer_with_keys, answer_within, bgp_over, if_read, judged, keys_too_long, linked, linked_by_shared, most_events, most_input, most_keys, node_over, packets_checked, pcap_fault_line, refuse, reported, spoken, stored_packet, stormed, timed_over, too_long, too_many_events, long_text}
+use Rattle.format_model.specs.Answers.{Answer, answer_by, answer_of, answer_over, answer_with_keys, answer_within, bgp_over, if_read, judged, keys_too_long, linked, linked_by_shared, most_events, most_input, most_keys, node_over, packets_checked, pcap_fault_line, refusal, reported, spoken, stored_packet, stormed, timed_over, too_long, too_many_events, long_text}
 use Rattle.format_model.specs.BgpRuns.{bgp_faults}
 use Rattle.format_model.specs.Captures.{Stored}
 use Rattle.format_model.specs.Commands.{command_of, reads_input, reads_keys}
@@ -52,11 +52,11 @@ abbrev answer : List (List ℕ) → List ℕ → List ℕ → Answer
 answer words keys input = answer_of (command_of words) keys input
 
 -- an answer that is done isn't refused
-not_refused : (b : Bool) (a : Answer) (n s : ℕ) (text : List ℕ) → s < 2 → 2 < n → s ≡ (if b then refuse n text else a).status → b ≡ false
+not_refused : (b : Bool) (a : Answer) (n s : ℕ) (text : List ℕ) → s < 2 → 2 < n → s ≡ (if b then refusal n text else a).status → b ≡ false
 not_refused true a n s text small large known = absurd (omega (arith, small, large, known))
 not_refused false a n s text small large known = refl
 
-within : (b : Bool) (a : Answer) (n s : ℕ) (text : List ℕ) → s < 2 → 2 < n → s ≡ (if b then refuse n text else a).status → (if b then refuse n text else a) ≡ a
+within : (b : Bool) (a : Answer) (n s : ℕ) (text : List ℕ) → s < 2 → 2 < n → s ≡ (if b then refusal n text else a).status → (if b then refusal n text else a) ≡ a
 within true a n s text small large known = absurd (omega (arith, small, large, known))
 within false a n s text small large known = refl
 

@@ -9,8 +9,8 @@ use Rattle.line_model.specs.Said.{Said, said_in}
 use Rattle.ao_base.specs.Results.{◌>>=◌}
 use Rattle.text_lines.specs.Readings.{Fails}
 use Rattle.format_model.specs.declared.command.Plan.{Plan}
-use Rattle.format_model.specs.Answers.{Answer, done, if_read, linted, refuse}
-use Rattle.format_model.specs.LintTexts.{connection_of, has_misfit, lint_text}
+use Rattle.format_model.specs.Answers.{Answer, done, if_read, linted, refusal}
+use Rattle.format_model.specs.LintTexts.{lint_pair_of, has_misfit, lint_text}
 use Rattle.key_texts.specs.declared.judged.Judged.{Judged}
 use Rattle.key_texts.specs.Judgements.{judgements}
 use Rattle.ao_run.specs.declared.stop.Stop.{Stop}
@@ -30,9 +30,9 @@ made_of tables plan (Ok said) j is =
 
 -- the judgements are the answer
 pub judged_makes : (tables : List Table) (plan : Plan) (text : List ℕ) (j : Judged) → judgements tables plan text ≡ Ok j →
-    if_read (linted tables plan) (said_in connection_of text) ≡ done j.has_misfit j.text
+    if_read (linted tables plan) (said_in lint_pair_of text) ≡ done j.has_misfit j.text
 unfolding judgements
-judged_makes tables plan text j is = made_of tables plan (said_in connection_of text) j is
+judged_makes tables plan text j is = made_of tables plan (said_in lint_pair_of text) j is
 
 fault_of : (tables : List Table) (plan : Plan) (r : Result (List (Said Pair)) TextFault) (e : TextFault) → judging tables plan r ≡ Err e → r ≡ Err e
 fault_of tables plan (Err f) e is = let same : f ≡ e = cc in ap (λ (x : TextFault). Err x) same
@@ -45,10 +45,10 @@ fails tables plan r (text_fault.Line n kind) f = fault_of tables plan r (text_fa
 
 -- a text without judgements has no output
 pub refused_makes : (tables : List Table) (plan : Plan) (text : List ℕ) (e : TextFault) (stop : Stop) → Fails e (judgements tables plan text) →
-    Stopped stop (refuse 4 (fault_text e)) → (e ≡ text_fault.Memory → stop ≡ Memory) → Makes (Err stop) (if_read (linted tables plan) (said_in connection_of text))
+    Stopped stop (refusal 4 (fault_text e)) → (e ≡ text_fault.Memory → stop ≡ Memory) → Makes (Err stop) (if_read (linted tables plan) (said_in lint_pair_of text))
 unfolding judgements
 refused_makes tables plan text e stop f stopped none =
-    refused (said_in connection_of text) (linted tables plan) e stop (fails tables plan (said_in connection_of text) e f) stopped none
+    refused (said_in lint_pair_of text) (linted tables plan) e stop (fails tables plan (said_in lint_pair_of text) e f) stopped none
 
 -- the status says whether something is amiss
 pub amiss_ends : (a : Answer) (b : Bool) (text : List ℕ) (s : ℕ) → a ≡ done b text → b ≡ true → s ≡ 1 → (a ≡ record { status = s; output = text; text = [] }) × (s < 2)

@@ -11,7 +11,7 @@ use Rattle.capture_packets.specs.declared.check.PacketHalt.{PacketHalt}
 use Rattle.capture_packets.specs.declared.check.PacketHalt.TheVariants as packet_halt
 use Rattle.format_model.specs.declared.command.Command.{Command}
 use Rattle.format_model.specs.declared.command.Command.TheVariants as commands
-use Rattle.format_model.specs.Answers.{Answer, answer_of as answer, memory, most_input, refuse}
+use Rattle.format_model.specs.Answers.{Answer, answer_of as answer, memory, most_input, refusal}
 use Rattle.format_model.specs.Commands.{reads_input, reads_keys}
 use Rattle.ao_run.specs.declared.stop.Stop.{Stop}
 use Rattle.ao_run.specs.declared.stop.Stop.TheVariants.{Usage, KeysTooLong, Keys, TooLong, Input, TooManyEvents, Read, Write, Memory}
@@ -41,8 +41,8 @@ stops_early Read h = inr (inl refl)
 stops_early Write h = absurd (h.3 refl)
 stops_early Memory h = inr (inr refl)
 
-three_then : (stop : Stop) (a : Answer) → (3 ≤ status_of stop) × (status_of stop < 8) × (status_of stop ≢ 4) × (status_of stop ≢ 6) → (status_of stop ≡ 3 → a ≡ refuse 3 (text_of stop)) →
-    status_of stop < 5 → a ≡ refuse (status_of stop) (text_of stop)
+three_then : (stop : Stop) (a : Answer) → (3 ≤ status_of stop) × (status_of stop < 8) × (status_of stop ≢ 4) × (status_of stop ≢ 6) → (status_of stop ≡ 3 → a ≡ refusal 3 (text_of stop)) →
+    status_of stop < 5 → a ≡ refusal (status_of stop) (text_of stop)
 three_then stop a h is small = let three : status_of stop ≡ 3 = omega (arith, h, small) in rw three (is three)
 
 no_written : (s : ℕ) → (3 ≤ s) × (s < 8) × (s ≢ 4) × (s ≢ 6) → (s < 2) ⊎ (s ≡ 6) → ⊥
@@ -132,7 +132,7 @@ module _ (c : Command) (along : writes_along (Some c) ≡ true) (keyed : reads_k
       }
 
 -- a fault of the input has this text, or there was no memory for it
-refused_ends : (text : List ℕ) (stop : Stop) (e0 e1 : Side) → Stopped stop (refuse 4 text) → Offers (text_of stop) e0 e1 → EndsSo (4, text) e0 e1 (status_of stop)
+refused_ends : (text : List ℕ) (stop : Stop) (e0 e1 : Side) → Stopped stop (refusal 4 text) → Offers (text_of stop) e0 e1 → EndsSo (4, text) e0 e1 (status_of stop)
 refused_ends text Memory e0 e1 stopped offers = inr (refl, refl, offers)
 refused_ends text (Input line) e0 e1 stopped offers = inl (refl, rw (ap (λ (a : Answer). a.text) stopped) offers)
 refused_ends text TooManyEvents e0 e1 stopped offers = inl (refl, rw (ap (λ (a : Answer). a.text) stopped) offers)

@@ -5,7 +5,7 @@ use Rattle.ao_base.specs.Outside.{Side, Took, WritesAll, IsAtEnd}
 use Rattle.ao_base.proofs.Sides.{took_none}
 use Rattle.format_model.specs.declared.command.Command.{Command}
 use Rattle.format_model.specs.declared.command.Command.TheVariants as commands
-use Rattle.format_model.specs.Answers.{Answer, answer_of as answer, refuse}
+use Rattle.format_model.specs.Answers.{Answer, answer_of as answer, refusal}
 use Rattle.ao_run.specs.declared.stop.Output.{Output}
 use Rattle.ao_run.specs.declared.stop.Stop.{Stop}
 use Rattle.ao_run.specs.declared.stop.Stop.TheVariants.{Usage, KeysTooLong, Keys, TooLong, Input, TooManyEvents, Read, Write, Memory}
@@ -20,7 +20,7 @@ offered a b text n (Ok x) w = (n, w.took, inl (omega (arith, w.whole)))
 offered a b text n (Err x) w = (n, w.took, inr w.failed.1)
 
 -- the text of a stop is that of the answer, or of a fault outside
-pub same_text : (stop : Stop) (a : Answer) → (status_of stop < 5 → a ≡ refuse (status_of stop) (text_of stop)) → text_with (status_of stop) a ≡ text_of stop
+pub same_text : (stop : Stop) (a : Answer) → (status_of stop < 5 → a ≡ refusal (status_of stop) (text_of stop)) → text_with (status_of stop) a ≡ text_of stop
 same_text Usage a h = ap (λ (x : Answer). x.text) (h (omega arith))
 same_text KeysTooLong a h = ap (λ (x : Answer). x.text) (h (omega arith))
 same_text (Keys t) a h = ap (λ (x : Answer). x.text) (h (omega arith))

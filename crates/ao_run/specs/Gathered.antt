@@ -8,7 +8,7 @@ use Rattle.key_model.specs.Rows.{Table}
 use Rattle.format_model.specs.declared.command.Command.{Command}
 use Rattle.format_model.specs.declared.command.Command.TheVariants as command
 use Rattle.format_model.specs.Answers.{Answer, answer_of, answer_over, long_text, most_keys}
-use Rattle.format_model.specs.Answers.{most_input, refuse}
+use Rattle.format_model.specs.Answers.{most_input, refusal}
 use Rattle.format_model.specs.Commands.{reads_keys, reads_input}
 use Rattle.ao_run.specs.declared.stop.Output.{Output}
 use Rattle.ao_run.specs.declared.stop.Stop.{Stop}
@@ -33,7 +33,7 @@ tables_in (Some tables) = tables
 -- the answer of a command over tables, whose input may be past its limit (own)
 abbrev pub answer_in : Command → List Table → List ℕ → Answer
 answer_in c tables input =
-    if reads_input c && nat_lt (most_input c) (length input) then refuse 4 (long_text c input)
+    if reads_input c && nat_lt (most_input c) (length input) then refusal 4 (long_text c input)
     else answer_over c tables input
 
 -- the key file gave these bytes: the tables, where the command reads it (own)
@@ -52,7 +52,7 @@ pub record KeysGathered (c : Command) (keys : List ℕ) (before now : Side)
   pub within : IfErr result (λ stop. (3 ≤ status_of stop) × (status_of stop < 8)
       × (status_of stop ≢ 4) × (status_of stop ≢ 6))
   pub refused : IfErr result (λ stop. status_of stop ≡ 3 → (input : List ℕ)
-      → answer_of (Some c) keys input ≡ refuse 3 (text_of stop))
+      → answer_of (Some c) keys input ≡ refusal 3 (text_of stop))
   pub judged : IfErr result (λ stop. status_of stop ≡ 3 → IsAtEnd now ⊎ (most_keys < length keys))
   pub fault : IfErr result (λ stop. status_of stop ≡ 5 → Rose before now)
 
@@ -70,7 +70,7 @@ pub record InputGathered (c : Command) (input : List ℕ) (before now : Side)
   pub within : IfErr result (λ stop. (4 ≤ status_of stop) × (status_of stop < 8)
       × (status_of stop ≢ 6))
   pub refused : IfErr result (λ stop. status_of stop ≡ 4 → writes_along (Some c) ≡ false
-      → (tables : List Table) → answer_in c tables input ≡ refuse 4 (text_of stop))
+      → (tables : List Table) → answer_in c tables input ≡ refusal 4 (text_of stop))
   pub judged : IfErr result (λ stop. status_of stop ≡ 4 → most_input c < length input)
   pub fault : IfErr result (λ stop. status_of stop ≡ 5 → Rose before now)
 
@@ -97,7 +97,7 @@ pub record Gathered (command : Option Command) (keys input : List ℕ) (before n
   pub within : IfErr result (λ stop. (2 ≤ status_of stop) × (status_of stop < 8)
       × (status_of stop ≢ 6))
   pub refused : IfErr result (λ stop. status_of stop < 5
-      → answer_of command keys input ≡ refuse (status_of stop) (text_of stop))
+      → answer_of command keys input ≡ refusal (status_of stop) (text_of stop))
   pub keys_judged : IfErr result (λ stop. status_of stop ≡ 3
       → IsAtEnd now.keys ⊎ (most_keys < length keys))
   pub keys_over : IfErr result (λ stop. status_of stop ≡ 4 → asks_keys command ≡ true

@@ -11,7 +11,7 @@ use Rattle.capture_lines.specs.declared.check.Halt.{Halt}
 use Rattle.capture_lines.specs.declared.check.Halt.TheVariants as halt
 use Rattle.capture_packets.specs.declared.check.PacketHalt.{PacketHalt}
 use Rattle.capture_packets.specs.declared.check.PacketHalt.TheVariants as packet_halt
-use Rattle.format_model.specs.Answers.{Answer, refuse, keys_too_long, too_long, too_many_events}
+use Rattle.format_model.specs.Answers.{Answer, refusal, keys_too_long, too_long, too_many_events}
 use Rattle.format_model.specs.Answers.{pcap_fault_line, read_fault, write_fault, memory}
 use Rattle.format_model.specs.Commands.{usage}
 
@@ -47,9 +47,9 @@ made o = record { status = o.status; output = o.bytes; text = [] }
 -- way (own)
 abbrev pub Stopped : Stop → Answer → Type 0
 Stopped Memory a = Unit {0}
-Stopped (Keys text) a = a ≡ refuse 3 text
-Stopped (Input text) a = a ≡ refuse 4 text
-Stopped TooManyEvents a = a ≡ refuse 4 too_many_events
+Stopped (Keys text) a = a ≡ refusal 3 text
+Stopped (Input text) a = a ≡ refusal 4 text
+Stopped TooManyEvents a = a ≡ refusal 4 too_many_events
 Stopped _ a = ⊥
 
 -- what a command made of its input is the answer, and an output has the status 0 or 1 (own)
@@ -60,7 +60,7 @@ Makes (Err stop) a = Stopped stop a
 -- a check of lines that stopped so has this stop; there may be no memory for the text of a line's
 -- fault (own)
 abbrev pub IsHalted : Halt → Stop → Type 0
-IsHalted (halt.Line n kind) stop = Stopped stop (refuse 4 (fault_text (Line n kind)))
+IsHalted (halt.Line n kind) stop = Stopped stop (refusal 4 (fault_text (Line n kind)))
 IsHalted halt.TooLong stop = stop ≡ TooLong
 IsHalted halt.Read stop = stop ≡ Read
 IsHalted halt.Write stop = stop ≡ Write
@@ -70,8 +70,9 @@ IsHalted halt.Memory stop = stop ≡ Memory
 -- fault (own)
 abbrev pub IsPacketHalted : PacketHalt → Stop → Type 0
 IsPacketHalted (packet_halt.Head fault) stop =
-    Stopped stop (refuse 4 (pcap_fault_line (BadHead fault)))
-IsPacketHalted (packet_halt.Record n) stop = Stopped stop (refuse 4 (pcap_fault_line (BadRecord n)))
+    Stopped stop (refusal 4 (pcap_fault_line (BadHead fault)))
+IsPacketHalted (packet_halt.Record n) stop =
+    Stopped stop (refusal 4 (pcap_fault_line (BadRecord n)))
 IsPacketHalted packet_halt.TooLong stop = stop ≡ TooLong
 IsPacketHalted packet_halt.Read stop = stop ≡ Read
 IsPacketHalted packet_halt.Write stop = stop ≡ Write

@@ -1,7 +1,7 @@
 //! The command that the words name, and what it reads.
 ghost use Rattle.std.specs.Prelude.{◌≡◌, option_map, true};
 ghost use Rattle.key_model.specs.Times.{time_of};
-ghost use Rattle.format_model.specs.Commands.{alone_of, command_of, keys_of, lint_of, pcap_of, reads_input, reads_keys, storm_of, three_of, up_to, with_keys_of};
+ghost use Rattle.format_model.specs.Commands.{alone_of, command_of, keys_of, lint_command, pcap_of, reads_input, reads_keys, storm_of, three_of, decimal_up_to, with_keys_of};
 ghost use Rattle.format_model.specs.Answers.{most_input};
 ghost use Rattle.ao_run.specs.Gathered.{is_ready};
 ghost use Rattle.ao_run.specs.KeyFiles.{key_word, second, third};
@@ -29,7 +29,7 @@ fn time_in(word: &[u8]) -> Option<u64>
 }
 
 fn up_to(most: u64, word: &[u8]) -> Option<u64>
-    ensures { result ≡ up_to most word.now }
+    ensures { result ≡ decimal_up_to most word.now }
 {
     match read_decimal(word) {
         Some(n) => { if n <= most { Some(n) } else { None } }
@@ -111,7 +111,7 @@ fn three(name: &[u8], second: &[u8], third: &[u8]) -> Option<Command>
 }
 
 fn lint(lead: &[u8], lag: &[u8], from: &[u8], to: &[u8]) -> Option<Command>
-    ensures { result ≡ lint_of lead.now lag.now from.now to.now }
+    ensures { result ≡ lint_command lead.now lag.now from.now to.now }
 {
     let lead = up_to(LATEST, lead)?;
     let lag = up_to(LATEST, lag)?;

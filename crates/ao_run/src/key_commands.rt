@@ -2,7 +2,7 @@
 ghost use Rattle.std.specs.Prelude.{false};
 ghost use Rattle.format_model.specs.Answers.{done, if_read, linted};
 ghost use Rattle.format_model.specs.KeyTexts.{keys_text};
-ghost use Rattle.format_model.specs.LintTexts.{connection_of};
+ghost use Rattle.format_model.specs.LintTexts.{lint_pair_of};
 ghost use Rattle.line_model.specs.Said.{said_in};
 ghost use Rattle.ao_run.specs.Stops.{Makes};
 
@@ -23,7 +23,7 @@ pub(crate) fn list_keys(alloc: Global, tables: &Tables, time: u64) -> Result<Out
 /// A line for each connection of the text; status 1 where one isn't aligned.
 #[tactic(auto, using(crate::proofs::LintLaws::judged_makes, crate::proofs::LintLaws::refused_makes))]
 pub(crate) fn judge(alloc: Global, tables: &Tables, plan: Plan, text: &[u8]) -> Result<Output, Stop>
-    ensures { Makes result (if_read (linted tables.now plan) (said_in connection_of text.now)) }
+    ensures { Makes result (if_read (linted tables.now plan) (said_in lint_pair_of text.now)) }
 {
     match lint_lines(alloc, tables, plan, text) {
         Ok(judged) => {

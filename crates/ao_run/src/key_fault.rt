@@ -1,7 +1,7 @@
 //! The text of a key file's fault.
 ghost use Rattle.std.specs.Prelude.{◌≡◌, ◌++◌, OnOk, IfOk};
 ghost use Rattle.format_model.specs.KeyTexts.{column_text, table_fault_line, table_fault_texts};
-ghost use Rattle.format_model.specs.Answers.{refuse};
+ghost use Rattle.format_model.specs.Answers.{refusal};
 ghost use Rattle.line_model.specs.Texts.{spaced};
 ghost use Rattle.ao_run.specs.Stops.{Stopped};
 
@@ -71,7 +71,7 @@ fn print_fault(alloc: Global, fault: TableFault) -> Result<Bytes, AllocError>
 
 /// Why a key file with this fault has no output.
 pub(crate) fn stop_of(alloc: Global, fault: TableFault) -> Stop
-    ensures text { Stopped result (refuse 3 (table_fault_line fault)) }
+    ensures text { Stopped result (refusal 3 (table_fault_line fault)) }
     ensures memory { fault ≡ TableFault.Memory → result ≡ Stop.Memory }
 {
     match fault {

@@ -1,7 +1,7 @@
 //! The text of a pcap file's fault.
 ghost use Rattle.std.specs.Prelude.{◌≡◌, IfOk};
 ghost use Rattle.wire_model.specs.Packets.{BadHead, BadRecord};
-ghost use Rattle.format_model.specs.Answers.{head_fault_text, pcap_fault_line, refuse};
+ghost use Rattle.format_model.specs.Answers.{head_fault_text, pcap_fault_line, refusal};
 ghost use Rattle.ao_run.specs.Stops.{Stopped};
 
 use crate::stop::Stop;
@@ -41,7 +41,7 @@ fn print_record_fault(alloc: Global, number: u32) -> Result<Bytes, AllocError>
 
 /// Why a file whose header is refused has no more output.
 pub(crate) fn of_head(alloc: Global, fault: HeadFault) -> Stop
-    ensures { Stopped result (refuse 4 (pcap_fault_line (BadHead fault))) }
+    ensures { Stopped result (refusal 4 (pcap_fault_line (BadHead fault))) }
 {
     match print_head_fault(alloc, fault) {
         Ok(text) => Stop::Input(text),
@@ -51,7 +51,7 @@ pub(crate) fn of_head(alloc: Global, fault: HeadFault) -> Stop
 
 /// Why a file whose record of this number is faulty has no more output.
 pub(crate) fn of_record(alloc: Global, number: u32) -> Stop
-    ensures { Stopped result (refuse 4 (pcap_fault_line (BadRecord number))) }
+    ensures { Stopped result (refusal 4 (pcap_fault_line (BadRecord number))) }
 {
     match print_record_fault(alloc, number) {
         Ok(text) => Stop::Input(text),

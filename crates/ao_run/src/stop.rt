@@ -1,7 +1,7 @@
 //! How a command ends: with output, or without.
 ghost use Rattle.std.specs.Prelude.{◌≡◌};
 ghost use Rattle.line_model.specs.Faults.{fault_text};
-ghost use Rattle.format_model.specs.Answers.{refuse};
+ghost use Rattle.format_model.specs.Answers.{refusal};
 ghost use Rattle.ao_run.specs.Stops.{IsHalted, IsPacketHalted, Stopped, status_of, text_of};
 ghost use Rattle.ao_run.specs.declared.stop.Stop.TheVariants.{Memory};
 
@@ -58,7 +58,7 @@ impl From<AllocError> for Stop {
 impl Stop {
     /// Why an input with this fault has no output.
     pub(crate) fn of_input(alloc: Global, fault: &TextFault) -> Stop
-        ensures text { Stopped result (refuse 4 (fault_text fault.now)) }
+        ensures text { Stopped result (refusal 4 (fault_text fault.now)) }
         ensures memory { fault.now ≡ TextFault.Memory → result ≡ Memory }
     {
         match fault {

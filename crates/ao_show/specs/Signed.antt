@@ -6,7 +6,7 @@ use Rattle.segment_model.specs.Segments.{Segment}
 use Rattle.text_lines.specs.declared.refusal.Refusal.{Refusal}
 use Rattle.text_lines.specs.declared.refusal.Refusal.TheVariants as refusal
 use Rattle.ao_show.specs.declared.signed.SignedDatagram.{SignedDatagram}
-use Rattle.format_model.specs.Vectors.{Making, Vector, mac_of_signed, signed_of}
+use Rattle.format_model.specs.Vectors.{MacMaking, Vector, mac_of_signed, signed_of}
 
 -- a datagram that was found with its MAC
 pub record IsSigned (algorithm : Algorithm) (bytes : List ℕ) (s : SignedDatagram) : Type 0 where
@@ -16,11 +16,11 @@ pub record IsSigned (algorithm : Algorithm) (bytes : List ℕ) (s : SignedDatagr
   pub signed : signed_of algorithm bytes ≡ Some (record { segment = s.datagram; ao = ao })
 
 -- the MAC that was made of a datagram, for the TCP-AO option that it has
-abbrev pub IsMade : List ℕ → Making → Segment → List ℕ → Type 0
+abbrev pub IsMade : List ℕ → MacMaking → Segment → List ℕ → Type 0
 IsMade master m d bytes = (ao : Ao) → find_ao d.area ≡ One ao → bytes ≡ mac_of_signed master m (record { segment = d; ao = ao })
 
 -- the vector that was made of a datagram
-abbrev pub IsMadeVector : List ℕ → Making → SignedDatagram → Result Vector Refusal → Type 0
+abbrev pub IsMadeVector : List ℕ → MacMaking → SignedDatagram → Result Vector Refusal → Type 0
 IsMadeVector master m s (Ok v) = IsMade master m s.datagram v.computed × (v.expected ≡ s.mac.now)
 IsMadeVector master m s (Err refusal.Memory) = Unit {0}
 IsMadeVector master m s (Err (refusal.Kind kind)) = ⊥

@@ -32,7 +32,7 @@ pub(crate) struct Making {
 }
 
 impl Model for Making {
-    ghost use Rattle.format_model.specs.Vectors.{Making as Made};
+    ghost use Rattle.format_model.specs.Vectors.{MacMaking as Made};
 
     ghost Value = { Made };
 

@@ -10,7 +10,7 @@ use Rattle.segment_model.proofs.Fields.{some_is}
 use Rattle.key_model.specs.Rows.{Row, Table}
 use Rattle.endpoint_model.specs.declared.verdict.Verdict.{Verdict}
 use Rattle.endpoint_model.specs.Verdicts.{Judgement, Admit, Refuse, judge}
-use Rattle.format_model.specs.Captures.{Connection, Heard, acknowledged_isn, connection_of, fixed, hear_judged, hear_later, hear_syn_ack, judge_stored, most_connections, pair_at, same_isns, with_connection}
+use Rattle.format_model.specs.Captures.{Connection, Heard, acknowledged_isn, connection_between, fixed, hear_judged, hear_later, hear_syn_ack, judge_stored, most_connections, pair_at, same_isns, with_connection}
 use Rattle.ao_kdf.specs.declared.way.Way.TheVariants.{Inbound}
 use Rattle.ao_kdf.proofs.CacheLaws.{kept-empty}
 use Rattle.ao_check.specs.Bonds.{Fits, fresh}
@@ -218,23 +218,23 @@ judged_first : (rows : List Row) (now own : ℕ) (d : Segment) (k : Option Conne
 judged_first rows now own d k syn e = rw (e, syn) refl
 
 pub first_refused : (rows : List Row) (after : List (Ends × Flows)) (held : List Connection) (now own : ℕ) (d : Segment) (v : Verdict) → StandsFor after held → has SYN d ≡ true → own ≡ acknowledged_isn d
-    → Alone rows now own d v → is_pass v ≡ false → Hears after (line.Verdict v (good d)) (hear_judged held d (connection_of d held) (judge_stored rows (pair_at d) now d (connection_of d held)))
+    → Alone rows now own d v → is_pass v ≡ false → Hears after (line.Verdict v (good d)) (hear_judged held d (connection_between d held) (judge_stored rows (pair_at d) now d (connection_between d held)))
 first_refused rows after held now own d v S syn e A no_pass =
     let is = told_judged rows (pair_at d) d v (judge rows (pair_at d) own None None now d) A.tells in
-    subst (λ (j : Judgement). Hears after (line.Verdict v (good d)) (hear_judged held d (connection_of d held) j)) (judged_first rows now own d (connection_of d held) syn e)
-    (heard_refused after held d (connection_of d held) v (judge rows (pair_at d) own None None now d) S no_pass is)
+    subst (λ (j : Judgement). Hears after (line.Verdict v (good d)) (hear_judged held d (connection_between d held) j)) (judged_first rows now own d (connection_between d held) syn e)
+    (heard_refused after held d (connection_between d held) v (judge rows (pair_at d) own None None now d) S no_pass is)
 
 pub first_alone : (rows : List Row) (after : List (Ends × Flows)) (held : List Connection) (now own : ℕ) (d : Segment) (v : Verdict) → StandsFor after held → has SYN d ≡ true → own ≡ acknowledged_isn d
-    → Alone rows now own d v → has ACK d ≡ false → Hears after (line.Verdict v (good d)) (hear_judged held d (connection_of d held) (judge_stored rows (pair_at d) now d (connection_of d held)))
+    → Alone rows now own d v → has ACK d ≡ false → Hears after (line.Verdict v (good d)) (hear_judged held d (connection_between d held) (judge_stored rows (pair_at d) now d (connection_between d held)))
 first_alone rows after held now own d v S syn e A ack =
     let is = told_judged rows (pair_at d) d v (judge rows (pair_at d) own None None now d) A.tells in
-    subst (λ (j : Judgement). Hears after (line.Verdict v (good d)) (hear_judged held d (connection_of d held) j)) (judged_first rows now own d (connection_of d held) syn e)
-    (heard_alone after held d (connection_of d held) v (judge rows (pair_at d) own None None now d) S syn ack is)
+    subst (λ (j : Judgement). Hears after (line.Verdict v (good d)) (hear_judged held d (connection_between d held) j)) (judged_first rows now own d (connection_between d held) syn e)
+    (heard_alone after held d (connection_between d held) v (judge rows (pair_at d) own None None now d) S syn ack is)
 
 -- a SYN with ACK passed, and what is to be done with its connection was done
 pub record First (tables : List Table) (rows : List Row) (before after : List (Ends × Flows)) (now : ℕ) (d : Segment) (v : Verdict) (result : Bool) : Type 0 where
   pub heard : (held : List Connection) → StandsFor before held
-      → Hears after (fixed_line result v (good d)) (hear_judged held d (connection_of d held) (judge_stored rows (pair_at d) now d (connection_of d held)))
+      → Hears after (fixed_line result v (good d)) (hear_judged held d (connection_between d held) (judge_stored rows (pair_at d) now d (connection_between d held)))
   pub sound : IsSound tables after
   pub keys : KeepsKeys before after
 
@@ -249,8 +249,8 @@ first tables rows before after now own d v result T ne syn ack e A pass small D 
           let is = told_judged rows (pair_at d) d v j A.tells in
           let done = hears_fixed tables before after held d v j o result S ne refl is D in
           let known_so = subst (λ (k : Option Connection). Hears after (fixed_line result v (good d)) (hear_syn_ack held d j k)) (sym (met before held d o S ne refl)) done in
-          subst (λ (i : Judgement). Hears after (fixed_line result v (good d)) (hear_judged held d (connection_of d held) i)) (judged_first rows now own d (connection_of d held) syn e)
-          (heard_fixed after held d (connection_of d held) v j (fixed_line result v (good d)) syn ack pass is known_so);
+          subst (λ (i : Judgement). Hears after (fixed_line result v (good d)) (hear_judged held d (connection_between d held) i)) (judged_first rows now own d (connection_between d held) syn e)
+          (heard_fixed after held d (connection_between d held) v j (fixed_line result v (good d)) syn ack pass is known_so);
       sound = sound_fixed tables before after d (found before (key_at d)) result T ne small D;
       keys = keys_fixed tables before after d (found before (key_at d)) result ne refl D;
     }

@@ -11,7 +11,7 @@ use Rattle.key_model.specs.Rows.{Row, Table, has_address}
 use Rattle.endpoint_model.specs.declared.verdict.Verdict.{Verdict}
 use Rattle.endpoint_model.specs.declared.verdict.Verdict.TheVariants.{Pass, NoAo, TwoAo, WithMd5, NoTuple, Expired, MacLength, NoContext, Range, BadMac}
 use Rattle.endpoint_model.specs.Verdicts.{Finding, Judgement, Admit, Refuse, judge}
-use Rattle.format_model.specs.Captures.{Connection, Heard, connection_of, hear_judged, hear_later, judge_stored, pair_at, with_connection}
+use Rattle.format_model.specs.Captures.{Connection, Heard, connection_between, hear_judged, hear_later, judge_stored, pair_at, with_connection}
 use Rattle.ao_kdf.specs.declared.way.Way.TheVariants.{Inbound}
 use Rattle.ao_check.specs.Bonds.{Bond}
 use Rattle.wrap_seq.specs.Counter.{number}
@@ -75,7 +75,7 @@ not_refused BadMac why e f = absurd (cc)
 
 -- the segment's connection is what the checker found
 pub met : (es : List (Ends × Flows)) (held : List Connection) (d : Segment) (o : Option Flows) → StandsFor es held → same_socket d.source d.destination ≡ false → found es (key_at d) ≡ o
-    → connection_of d held ≡ told d.source d.destination o
+    → connection_between d held ≡ told d.source d.destination o
 met es held d o S ne f = sym (S.same d.source d.destination ne) ∙ ap (told d.source d.destination) f
 
 judged_as : (rows : List Row) (now : ℕ) (d : Segment) (f : Flow) (pair : Pair) (own : ℕ) → f.receiver.pair ≡ pair → f.receiver.own ≡ own → f.receiver.peer ≡ Some f.isn
@@ -112,7 +112,7 @@ heard_known before after held s t d h next v (Admit p) S ne f P syn i o is_told 
 
 pub hears_known : (tables : List Table) (rows : List Row) (before after : List (Ends × Flows)) (held : List Connection) (now : ℕ) (d : Segment) (h : Flows) (v : Verdict) (old new : ℕ)
     → StandsFor before held → IsSound tables before → same_socket d.source d.destination ≡ false → found before (key_at d) ≡ Some h → OfKnown rows now d before after h v old new → has SYN d ≡ false
-    → Hears after (line.Verdict v (good d)) (hear_judged held d (connection_of d held) (judge_stored rows (pair_at d) now d (connection_of d held)))
+    → Hears after (line.Verdict v (good d)) (hear_judged held d (connection_between d held) (judge_stored rows (pair_at d) now d (connection_between d held)))
 hears_known tables rows before after held now d h v old new S T ne f K syn =
     let F = T d.source d.destination h ne f in
     let one = flow_from d.source d.destination h in
@@ -197,7 +197,7 @@ heard_unknown after held d v (Admit p) S syn is_told =
 
 pub hears_unknown : (rows : List Row) (before after : List (Ends × Flows)) (held : List Connection) (now : ℕ) (d : Segment) (v : Verdict) (old new : ℕ)
     → StandsFor before held → same_socket d.source d.destination ≡ false → found before (key_at d) ≡ None → OfUnknown rows now d before after v old new → has SYN d ≡ false
-    → Hears after (line.Verdict v (good d)) (hear_judged held d (connection_of d held) (judge_stored rows (pair_at d) now d (connection_of d held)))
+    → Hears after (line.Verdict v (good d)) (hear_judged held d (connection_between d held) (judge_stored rows (pair_at d) now d (connection_between d held)))
 hears_unknown rows before after held now d v old new S ne f U syn =
     let is_told = told_judged rows (pair_at d) d v _ U.alone.tells in
     let stands : StandsFor after held = rw U.same S in
@@ -219,7 +219,7 @@ derives_unknown rows before after now d v old new U =
 
 pub record Later (tables : List Table) (rows : List Row) (before after : List (Ends × Flows)) (now : ℕ) (d : Segment) (v : Verdict) (old new : ℕ) : Type 0 where
   pub heard : (held : List Connection) → StandsFor before held
-      → Hears after (line.Verdict v (good d)) (hear_judged held d (connection_of d held) (judge_stored rows (pair_at d) now d (connection_of d held)))
+      → Hears after (line.Verdict v (good d)) (hear_judged held d (connection_between d held) (judge_stored rows (pair_at d) now d (connection_between d held)))
   pub sound : IsSound tables after
   pub keys : KeepsKeys before after
   pub derives : Derives before after rows now d old new

@@ -29,7 +29,7 @@ abbrev pub Says : CheckLine → book.Saying → Type 0
 Says (line.Bad fault) s = s ≡ book.Unreadable fault
 Says line.UnknownNode s = s ≡ book.UnknownNode
 Says (line.Verdict v right) s = (j : Judgement) × (s ≡ book.Judged j right) × IsJudged v j
-Says (line.Full right) s = s ≡ book.Full right
+Says (line.Full right) s = s ≡ book.TooManyConnections right
 
 -- the segment came as far as its MAC
 abbrev pub is_computed : CheckLine → Bool

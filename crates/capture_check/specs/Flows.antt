@@ -8,7 +8,7 @@ use Rattle.segment_model.specs.Segments.{Segment, has, segment_length, SYN}
 use Rattle.key_model.specs.Rows.{Row, Table, has_address}
 use Rattle.endpoint_model.specs.declared.verdict.Verdict.{Verdict}
 use Rattle.endpoint_model.specs.Verdicts.{Judgement, Admit, Refuse, judge}
-use Rattle.format_model.specs.Captures.{Connection, Side}
+use Rattle.format_model.specs.Captures.{Connection, KnownSide}
 use Rattle.wrap_seq.specs.declared.counter.Counter.{Counter}
 use Rattle.wrap_seq.specs.Counter.{number}
 use Rattle.ao_kdf.specs.declared.way.Way.TheVariants.{Inbound}
@@ -68,7 +68,7 @@ abbrev pub new_flows : List Table → Socket → Socket → ℕ → ℕ → Flow
 new_flows tables a b isn other = both (is_low a b) (new_flow tables a b isn other) (new_flow tables b a other isn)
 
 -- the side of a connection that sends this way
-abbrev pub side_of : Socket → Flow → Side
+abbrev pub side_of : Socket → Flow → KnownSide
 side_of socket f = record { socket = socket; isn = f.isn; expected = number f.expected }
 
 -- the connection as the first socket sees it

@@ -7,8 +7,8 @@ use Rattle.ao_base.specs.declared.line_kind.LineKind.{LineKind}
 use Rattle.ao_base.specs.Lines.{lines_of}
 use Rattle.key_model.specs.Rows.{Table}
 use Rattle.line_model.specs.Texts.{numbered_text}
-use Rattle.format_model.specs.Captures.{Connection, Saying, Stored, capture_run, has_refusal, hear, is_pass, saying_lines, saying_texts, sayings_from}
-use Rattle.format_model.specs.StoredLines.{StoredInput, and_then, by_line, stored_from, stored_input, stored_line}
+use Rattle.format_model.specs.Captures.{Connection, Saying, Stored, capture_run, has_refusal, hear, is_pass, lines_of_sayings, saying_texts, sayings_from}
+use Rattle.format_model.specs.StoredLines.{StoredInput, with_stored, by_line, stored_from, stored_input, stored_line}
 use Rattle.capture_lines.specs.Checked.{segments_of}
 use Rattle.capture_lines.specs.Judging.{held_after, line_after}
 
@@ -28,12 +28,12 @@ sayings_more tables held (x ∷ stored) s =
     ap (λ (ws : List Saying). (hear tables held x.time x.bytes).saying ∷ ws) (sayings_more tables (hear tables held x.time x.bytes).connections stored s)
 
 texts_more : (tables : List Table) (held : List Connection) (stored : List Stored) (s : Stored) →
-    saying_lines (stored ++ s ∷ []) (sayings_from tables held (stored ++ s ∷ []))
-    ≡ saying_lines stored (sayings_from tables held stored) ++ numbered_text s.number (saying_texts (saying_after tables held stored s))
+    lines_of_sayings (stored ++ s ∷ []) (sayings_from tables held (stored ++ s ∷ []))
+    ≡ lines_of_sayings stored (sayings_from tables held stored) ++ numbered_text s.number (saying_texts (saying_after tables held stored s))
 texts_more tables held [] s = append-nil (numbered_text s.number (saying_texts (hear tables held s.time s.bytes).saying))
 texts_more tables held (x ∷ stored) s =
     ap (λ (ys : List ℕ). numbered_text x.number (saying_texts (hear tables held x.time x.bytes).saying) ++ ys) (texts_more tables (hear tables held x.time x.bytes).connections stored s)
-    ∙ sym (append_assoc (numbered_text x.number (saying_texts (hear tables held x.time x.bytes).saying)) (saying_lines stored (sayings_from tables (hear tables held x.time x.bytes).connections stored))
+    ∙ sym (append_assoc (numbered_text x.number (saying_texts (hear tables held x.time x.bytes).saying)) (lines_of_sayings stored (sayings_from tables (hear tables held x.time x.bytes).connections stored))
     (numbered_text s.number (saying_texts (saying_after tables (hear tables held x.time x.bytes).connections stored s))))
 
 pub run_none : (tables : List Table) → capture_run tables [] ≡ []
@@ -60,7 +60,7 @@ append_case : (n : ℕ) (v : Result (Option Stored) LineKind) (front behind whol
     by_line n v whole ≡ record { stored = (by_line n v front).stored ++ behind.stored; fault = behind.fault }
 append_case n (Err kind) front behind whole none more = absurd (cc)
 append_case n (Ok None) front behind whole none more = more none
-append_case n (Ok (Some s)) front behind whole none more = ap (λ (i : StoredInput). and_then (Some s) i) (more none)
+append_case n (Ok (Some s)) front behind whole none more = ap (λ (i : StoredInput). with_stored (Some s) i) (more none)
 
 -- lines behind lines of which none is faulty
 pub stored_append : (n m : ℕ) (lines others : List (List ℕ)) → m ≡ n + length lines → (stored_from n lines).fault ≡ None →

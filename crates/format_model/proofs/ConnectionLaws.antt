@@ -7,7 +7,7 @@ use Rattle.segment_model.specs.Segments.{Segment, Reading, Read, Bad, reading, h
 use Rattle.key_model.specs.Rows.{Table}
 use Rattle.key_model.proofs.OverlapLaws.{same_address-refl, same_address-true}
 use Rattle.endpoint_model.specs.Verdicts.{Judgement, Refuse, Admit}
-use Rattle.format_model.specs.Captures.{Stored, Connection, Heard, joins, with_connection, fixed, same_isns, most_connections, connection_of, hear_syn_ack, hear_later, hear_judged, judge_stored, pair_at, hear_at, hear_read, hear, sayings_from}
+use Rattle.format_model.specs.Captures.{Stored, Connection, Heard, joins, with_connection, fixed, same_isns, most_connections, connection_between, hear_syn_ack, hear_later, hear_judged, judge_stored, pair_at, hear_at, hear_read, hear, sayings_from}
 use Rattle.format_model.specs.Connections.{connections_after, IsMap}
 
 -- ---- which sockets a connection joins
@@ -154,7 +154,7 @@ at_map : (t : Option Table) (held : List Connection) (now : ℕ) (d : Segment) �
 at_map None held now d m = m
 at_map (Some t) held now d m =
     full_map (same_socket d.source d.destination) held _ _ m
-    (judged_map held d (connection_of d held) (judge_stored t.rows (pair_at d) now d (connection_of d held)) m)
+    (judged_map held d (connection_between d held) (judge_stored t.rows (pair_at d) now d (connection_between d held)) m)
 
 read_map : (tables : List Table) (held : List Connection) (now : ℕ) (r : Reading) → IsMapOf held → IsMapOf (hear_read tables held now r).connections
 read_map tables held now (Bad fault) m = m

@@ -37,7 +37,7 @@ use Rattle.format_model.specs.Captures.{Stored, capture_run, has_refusal}
 use Rattle.format_model.specs.Commands.{command_of, reads_keys, reads_input, usage}
 use Rattle.format_model.specs.KeyTexts.{keys_text, table_fault_line}
 use Rattle.format_model.specs.LinkFiles.{script_of}
-use Rattle.format_model.specs.LintTexts.{connection_of, has_misfit, lint_text}
+use Rattle.format_model.specs.LintTexts.{lint_pair_of, has_misfit, lint_text}
 use Rattle.format_model.specs.NodeRuns.{node_script_of, node_text}
 use Rattle.format_model.specs.Show.{show_of}
 use Rattle.format_model.specs.StoredLines.{LineFault, StoredInput, stored_input}
@@ -87,8 +87,8 @@ pcap_fault_line (BadHead fault) = line_text (codes "input: pcap" ∷ head_fault_
 pcap_fault_line (BadRecord n) = line_text (codes "input: pcap record" ∷ decimal n ∷ [])
 
 -- an answer without output, with this status and this text for standard error (own)
-abbrev pub refuse : ℕ → List ℕ → Answer
-refuse status text = record { status = status; output = []; text = text }
+abbrev pub refusal : ℕ → List ℕ → Answer
+refusal status text = record { status = status; output = []; text = text }
 
 -- an answer with the whole output, whose status says whether something in it is amiss (own)
 abbrev pub done : Bool → List ℕ → Answer
@@ -97,7 +97,7 @@ done amiss output = record { status = if amiss then 1 else 0; output = output; t
 -- what is made of an input that is read; one that isn't is refused (own)
 abbrev pub if_read : {A : Type 0} → (A → Answer) → Result A TextFault → Answer
 if_read made (Ok x) = made x
-if_read made (Err fault) = refuse 4 (fault_text fault)
+if_read made (Err fault) = refusal 4 (fault_text fault)
 
 -- a forgery is counted in a world (own)
 abbrev pub has_forgery : World → Bool
@@ -141,7 +141,7 @@ abbrev pub timed_over : List Table → TimedScript → Answer
 timed_over tables s =
     let setup = setup_of tables s.a s.b in
     let events = (expand setup s.events).events in
-    if nat_lt most_events (length events) then refuse 4 too_many_events else reported setup events
+    if nat_lt most_events (length events) then refusal 4 too_many_events else reported setup events
 
 -- `node KEYS`: the run of a node's script over the node's table (own)
 abbrev pub node_over : List Table → NodeScript → Answer
@@ -199,7 +199,7 @@ answer_over command.Show tables input = if_read (done false) (show_of input)
 answer_over command.Vectors tables input = if_read verified (vectors_of input)
 answer_over (command.Keys time) tables input = done false (keys_text time tables)
 answer_over (command.Lint plan) tables input =
-    if_read (linted tables plan) (said_in connection_of input)
+    if_read (linted tables plan) (said_in lint_pair_of input)
 answer_over (command.Storm seed count) tables input = stormed (storm_events seed count)
 answer_over command.Bgp tables input = if_read (bgp_over tables) (script_of true input)
 answer_over command.Timed tables input = if_read (timed_over tables) (timed_script_of input)
@@ -228,24 +228,24 @@ long_text _ input = too_long
 -- the answer of a command over tables; an input past its limit is refused (own)
 abbrev pub answer_within : Command → List Table → List ℕ → Answer
 answer_within c tables input =
-    if reads_input c && nat_lt (most_input c) (length input) then refuse 4 (long_text c input)
+    if reads_input c && nat_lt (most_input c) (length input) then refusal 4 (long_text c input)
     else answer_over c tables input
 
 -- the answer of a command over the tables of a key file; one with a fault is refused, and the
 -- input isn't looked at (own)
 abbrev pub answer_by : Command → List ℕ → Result (List Table) TableFault → Answer
 answer_by c input (Ok tables) = answer_within c tables input
-answer_by c input (Err fault) = refuse 3 (table_fault_line fault)
+answer_by c input (Err fault) = refusal 3 (table_fault_line fault)
 
 -- the answer of a command that reads a key file; one past its limit is refused (own)
 abbrev pub answer_with_keys : Command → List ℕ → List ℕ → Answer
 answer_with_keys c keys input =
-    if nat_lt most_keys (length keys) then refuse 3 keys_too_long
+    if nat_lt most_keys (length keys) then refusal 3 keys_too_long
     else answer_by c input (tables_of keys)
 
 -- the answer of a command, or of words that name none (own)
 abbrev pub answer_of : Option Command → List ℕ → List ℕ → Answer
-answer_of None keys input = refuse 2 usage
+answer_of None keys input = refusal 2 usage
 answer_of (Some c) keys input =
     if reads_keys c then answer_with_keys c keys input else answer_within c [] input
 

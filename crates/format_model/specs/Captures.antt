@@ -26,22 +26,22 @@ pub record Stored : Type 0 where
 
 -- one side of a connection: its socket, its initial sequence number, and the number expected of
 -- it (RFC 5925, section 5.2, and own)
-pub record Side : Type 0 where
+pub record KnownSide : Type 0 where
   pub socket : Socket
   pub isn : ℕ
   pub expected : ℕ
 
 -- a connection whose two initial sequence numbers are known (RFC 5925, section 5.2)
 pub record Connection : Type 0 where
-  pub one : Side
-  pub two : Side
+  pub one : KnownSide
+  pub two : KnownSide
 
 -- what is said of a stored segment; the truth value says whether its TCP checksum is right (own)
 pub data Saying : Type 0 where
   Unreadable : (fault : DatagramFault) → Saying
   UnknownNode : Saying
   Judged : (judgement : Judgement) (right : Bool) → Saying
-  Full : (right : Bool) → Saying
+  TooManyConnections : (right : Bool) → Saying
 
 -- the connections after a segment, and what is said of it (own)
 pub record Heard : Type 0 where
@@ -60,8 +60,9 @@ seen_from socket c =
     if same_socket c.one.socket socket then c else record { one = c.two; two = c.one }
 
 -- the connection of a segment, seen from its source (own)
-abbrev pub connection_of : Segment → List Connection → Option Connection
-connection_of d held = option_map (seen_from d.source) (find (joins d.source d.destination) held)
+abbrev pub connection_between : Segment → List Connection → Option Connection
+connection_between d held =
+    option_map (seen_from d.source) (find (joins d.source d.destination) held)
 
 -- the connections with this one in the place of the one between its sockets, or behind the others
 -- (own)
@@ -116,7 +117,7 @@ hear_syn_ack held d j (Some c) = record {
 }
 hear_syn_ack held d j None =
     if nat_le most_connections (length held)
-    then record { connections = held; saying = Full (good d) }
+    then record { connections = held; saying = TooManyConnections (good d) }
     else record { connections = with_connection (fixed d) held; saying = Judged j (good d) }
 
 -- a segment without SYN passed at number n: what is expected of its side is at least the number
@@ -149,7 +150,7 @@ abbrev pub hear_at : Option Table → List Connection → ℕ → Segment → He
 hear_at None held now d = record { connections = held; saying = UnknownNode }
 hear_at (Some t) held now d =
     if same_socket d.source d.destination then record { connections = held; saying = UnknownNode }
-    else let known = connection_of d held in
+    else let known = connection_between d held in
     hear_judged held d known (judge_stored t.rows (pair_at d) now d known)
 
 -- what is said of a stored datagram, and the connections after it (own)
@@ -178,7 +179,7 @@ saying_texts (Judged (Admit p) right) =
     ∷ codes "checksum" ∷ checksum_text right ∷ []
 saying_texts (Judged (Refuse why) right) =
     codes "refused" ∷ verdict_text why ∷ codes "checksum" ∷ checksum_text right ∷ []
-saying_texts (Full right) = codes "full" ∷ codes "checksum" ∷ checksum_text right ∷ []
+saying_texts (TooManyConnections right) = codes "full" ∷ codes "checksum" ∷ checksum_text right ∷ []
 
 -- what is said is a pass, whatever the checksum (own)
 abbrev pub is_pass : Saying → Bool
@@ -186,14 +187,15 @@ is_pass (Judged (Admit p) right) = true
 is_pass _ = false
 
 -- the lines of stored datagrams with what is said of them (own)
-abbrev pub saying_lines : List Stored → List Saying → List ℕ
-saying_lines [] sayings = []
-saying_lines (s ∷ rest) [] = []
-saying_lines (s ∷ rest) (w ∷ ws) = numbered_text s.number (saying_texts w) ++ saying_lines rest ws
+abbrev pub lines_of_sayings : List Stored → List Saying → List ℕ
+lines_of_sayings [] sayings = []
+lines_of_sayings (s ∷ rest) [] = []
+lines_of_sayings (s ∷ rest) (w ∷ ws) =
+    numbered_text s.number (saying_texts w) ++ lines_of_sayings rest ws
 
 -- the lines of stored datagrams, judged by the tables (own)
 unfoldable pub capture_run : List Table → List Stored → List ℕ
-capture_run tables stored = saying_lines stored (sayings_from tables [] stored)
+capture_run tables stored = lines_of_sayings stored (sayings_from tables [] stored)
 
 -- some stored datagram isn't a pass (own)
 abbrev pub has_refusal : List Table → List Stored → Bool

@@ -9,8 +9,8 @@ use Rattle.format_model.specs.declared.command.Command.{Command}
 use Rattle.format_model.specs.declared.command.Command.TheVariants as command
 
 -- a word as a decimal up to a number (own)
-abbrev pub up_to : ℕ → List ℕ → Option ℕ
-up_to most w = do
+abbrev pub decimal_up_to : ℕ → List ℕ → Option ℕ
+decimal_up_to most w = do
   n ← decimal_of w
   if nat_le n most then Some n else None
 
@@ -47,7 +47,7 @@ keys_of time = do
 abbrev pub storm_of : List ℕ → List ℕ → Option Command
 storm_of seed count = do
   s ← decimal_of seed
-  n ← up_to 10000 count
+  n ← decimal_up_to 10000 count
   Some (command.Storm s n)
 
 -- the command of three words (own)
@@ -59,10 +59,10 @@ three_of name second third =
     else None
 
 -- the command `lint KEYS LEAD LAG FROM TO`, where FROM isn't after TO (own)
-abbrev pub lint_of : (lead lag from to : List ℕ) → Option Command
-lint_of lead lag from to = do
-  a ← up_to greatest_time lead
-  b ← up_to greatest_time lag
+abbrev pub lint_command : (lead lag from to : List ℕ) → Option Command
+lint_command lead lag from to = do
+  a ← decimal_up_to greatest_time lead
+  b ← decimal_up_to greatest_time lag
   low ← time_of from
   high ← time_of to
   if nat_le low high
@@ -75,7 +75,7 @@ command_of (name ∷ []) = alone_of name
 command_of (name ∷ keys ∷ []) = with_keys_of name
 command_of (name ∷ second ∷ third ∷ []) = three_of name second third
 command_of (name ∷ keys ∷ lead ∷ lag ∷ from ∷ to ∷ []) =
-    if bytes_eq name (codes "lint") then lint_of lead lag from to else None
+    if bytes_eq name (codes "lint") then lint_command lead lag from to else None
 command_of _ = None
 
 -- the command reads the key file (own)

@@ -1,4 +1,4 @@
--- What a line of a link file says of one event. Our own format. Its top is `event_of`.
+-- What a line of a link file says of one event. Our own format. Its top is `link_event_of`.
 use Rattle.std.specs.Prelude.{ℕ, nat_le, nat_lt, Bool, true, false, List, codes, Option, Some, None}
 use Rattle.std.specs.Prelude.{Result, Ok, Err, if◌then◌else◌}
 use Rattle.std.specs.Str.{bytes_eq}
@@ -21,16 +21,16 @@ abbrev pub most_segments : ℕ
 most_segments = 20000
 
 -- an event of an end alone: `send END`, `resend END`, `close END`, `abort END` (own)
-abbrev pub end_of : (End → Event) → List (List ℕ) → Result Event LineKind
-end_of made ws = do
+abbrev pub event_of_end : (End → Event) → List (List ℕ) → Result Event LineKind
+event_of_end made ws = do
   e ← end_in ws
   none ← nothing_in e.rest
   Ok (made e.value)
 
 -- an event of an end and a number from low to high: `clock END SECONDS`, `open END ISN`, `listen
 -- END ISN`, `deliver END N`, `take END COUNT`, `withdraw END ROW` (own)
-abbrev pub number_of : (End → ℕ → Event) → ℕ → ℕ → List (List ℕ) → Result Event LineKind
-number_of made low high ws = do
+abbrev pub event_of_number : (End → ℕ → Event) → ℕ → ℕ → List (List ℕ) → Result Event LineKind
+event_of_number made low high ws = do
   e ← end_in ws
   n ← number_in low high e.rest
   none ← nothing_in n.rest
@@ -135,27 +135,27 @@ dump_of ws = do
 -- the event that the first word of a line names, of the words after it (own)
 unfoldable pub event_named : List ℕ → List (List ℕ) → Result Event LineKind
 event_named name ws =
-    if bytes_eq name (codes "clock") then number_of event.Clock 0 greatest_time ws
-    else if bytes_eq name (codes "open") then number_of event.Connect 0 greatest_isn ws
-    else if bytes_eq name (codes "listen") then number_of event.Listen 0 greatest_isn ws
+    if bytes_eq name (codes "clock") then event_of_number event.Clock 0 greatest_time ws
+    else if bytes_eq name (codes "open") then event_of_number event.Connect 0 greatest_isn ws
+    else if bytes_eq name (codes "listen") then event_of_number event.Listen 0 greatest_isn ws
     else if bytes_eq name (codes "start") then start_of ws
     else if bytes_eq name (codes "give") then give_of ws
     else if bytes_eq name (codes "fill") then fill_of ws
-    else if bytes_eq name (codes "send") then end_of event.Send ws
-    else if bytes_eq name (codes "resend") then end_of event.Resend ws
-    else if bytes_eq name (codes "deliver") then number_of event.Deliver 1 most_segments ws
+    else if bytes_eq name (codes "send") then event_of_end event.Send ws
+    else if bytes_eq name (codes "resend") then event_of_end event.Resend ws
+    else if bytes_eq name (codes "deliver") then event_of_number event.Deliver 1 most_segments ws
     else if bytes_eq name (codes "inject") then inject_of ws
     else if bytes_eq name (codes "alter") then alter_of ws
-    else if bytes_eq name (codes "take") then number_of event.Take 0 65535 ws
-    else if bytes_eq name (codes "close") then end_of event.Close ws
-    else if bytes_eq name (codes "abort") then end_of event.Abort ws
+    else if bytes_eq name (codes "take") then event_of_number event.Take 0 65535 ws
+    else if bytes_eq name (codes "close") then event_of_end event.Close ws
+    else if bytes_eq name (codes "abort") then event_of_end event.Abort ws
     else if bytes_eq name (codes "add") then add_of ws
-    else if bytes_eq name (codes "withdraw") then number_of event.Withdraw 1 64 ws
+    else if bytes_eq name (codes "withdraw") then event_of_number event.Withdraw 1 64 ws
     else if bytes_eq name (codes "dump") then dump_of ws
     else Err Word
 
 -- the event that the words of a line say (own)
-unfoldable pub event_of : List (List ℕ) → Result Event LineKind
-event_of ws = do
+unfoldable pub link_event_of : List (List ℕ) → Result Event LineKind
+link_event_of ws = do
   name ← word_in ws
   event_named name.value name.rest

@@ -17,7 +17,7 @@ use Rattle.ao_base.specs.Results.{◌>>=◌}
 use Rattle.link_model.specs.declared.event.Event.{Event}
 use Rattle.format_model.specs.declared.script.SharedKey.{SharedKey}
 use Rattle.format_model.specs.declared.script.Script.{Script}
-use Rattle.format_model.specs.LinkEvents.{event_of}
+use Rattle.format_model.specs.LinkEvents.{link_event_of}
 
 -- what a line says, and the lines after it (own)
 pub record Left (A : Type 0) : Type 0 where
@@ -46,8 +46,8 @@ are_two_of_a_family (V6 x) (V6 y) = not (bytes_eq x y)
 are_two_of_a_family _ _ = false
 
 -- the line `b ADDRESS PORT`, beside the socket of a (own)
-unfoldable pub peer_of : Socket → List (List ℕ) → Result Socket LineKind
-peer_of a ws = do
+unfoldable pub peer_socket_of : Socket → List (List ℕ) → Result Socket LineKind
+peer_socket_of a ws = do
   b ← socket_of (codes "b") ws
   if are_two_of_a_family a.address b.address then Ok b else Err kind.Word
 
@@ -105,19 +105,19 @@ pub record Head : Type 0 where
   pub b : Socket
 
 -- what the three lines in front say (own)
-unfoldable pub head_in : ℕ → List Line → Result (Left Head) TextFault
-head_in missing ls = do
+unfoldable pub link_head_in : ℕ → List Line → Result (Left Head) TextFault
+link_head_in missing ls = do
   title ← line_in missing kind.Header (title_of (codes "aotcp-link")) ls
   a ← line_in missing kind.Header (socket_of (codes "a")) title.rest
-  b ← line_in missing kind.Header (peer_of a.value) a.rest
+  b ← line_in missing kind.Header (peer_socket_of a.value) a.rest
   Ok (record { value = record { a = a.value; b = b.value }; rest = b.rest })
 
 -- the script that the lines of a link file make (own)
 unfoldable pub script_in : Bool → ℕ → List Line → Result Script TextFault
 script_in with_keys missing ls = do
-  head ← head_in missing ls
+  head ← link_head_in missing ls
   key ← key_in with_keys missing head.rest
-  events ← events_of event_of key.rest
+  events ← events_of link_event_of key.rest
   Ok (record { a = head.value.a; b = head.value.b; shared = key.value; events = events })
 
 -- the number that a missing line of a text has (own)

@@ -26,8 +26,8 @@ address_beside a ws = do
 
 -- the connection that the words of a line say: two sockets, and no more; the first one is end a
 -- (own)
-unfoldable pub connection_of : List (List ℕ) → Result Pair LineKind
-connection_of ws = do
+unfoldable pub lint_pair_of : List (List ℕ) → Result Pair LineKind
+lint_pair_of ws = do
   a ← socket_in ws
   b ← address_beside a.value.address a.rest
   port ← number_in 0 65535 b.rest

@@ -62,16 +62,15 @@ abbrev pub same_pair : Pair → Pair → Bool
 same_pair one two = same_socket one.local two.local && same_socket one.remote two.remote
 
 -- the end that a node holds for a pair (own)
-abbrev pub end_of : Pair → List Held → Option EndState
-end_of pair [] = None
-end_of pair (h ∷ hs) = if same_pair h.pair pair then Some h.state else end_of pair hs
+abbrev pub held_end : Pair → List Held → Option EndState
+held_end pair [] = None
+held_end pair (h ∷ hs) = if same_pair h.pair pair then Some h.state else held_end pair hs
 
 -- the ends with this one in the place of its pair's (own)
 abbrev pub with_end : Pair → EndState → List Held → List Held
 with_end pair s [] = []
 with_end pair s (h ∷ hs) =
-    if same_pair h.pair pair then record { pair = pair; state = s } ∷ hs
-    else h ∷ with_end pair s hs
+    if same_pair h.pair pair then record { pair = pair; state = s } ∷ hs else h ∷ with_end pair s hs
 
 -- the ends without this pair's (own)
 abbrev pub without_end : Pair → List Held → List Held
@@ -79,9 +78,9 @@ without_end pair [] = []
 without_end pair (h ∷ hs) = if same_pair h.pair pair then hs else h ∷ without_end pair hs
 
 -- all ends of a node when its clock is set: each of them ticks (own)
-abbrev pub ticked : ℕ → List Held → List Held
-ticked now [] = []
-ticked now (h ∷ hs) = record { pair = h.pair; state = tick now h.state } ∷ ticked now hs
+abbrev pub ends_ticked : ℕ → List Held → List Held
+ends_ticked now [] = []
+ends_ticked now (h ∷ hs) = record { pair = h.pair; state = tick now h.state } ∷ ends_ticked now hs
 
 -- the state after a call of an end, and its answer (own)
 pub record Called : Type 0 where
@@ -94,10 +93,10 @@ called s outcome = record { state = s; outcome = outcome }
 
 -- what comes of a call that makes a segment, or none: then the answer is the word for nothing to
 -- send, or that no key may be used (own)
-abbrev pub sent : EndState → NodeOutcome → Emitted → Called
-sent s no_segment Quiet = called s no_segment
-sent s no_segment NoKey = called s WithoutKey
-sent s no_segment (Emits out) = called out.state (Sent out)
+abbrev pub made_called : EndState → NodeOutcome → Emitted → Called
+made_called s no_segment Quiet = called s no_segment
+made_called s no_segment NoKey = called s WithoutKey
+made_called s no_segment (Emits out) = called out.state (Sent out)
 
 -- the node after an event, and the event's answer (own)
 pub record NodeStep : Type 0 where
@@ -130,8 +129,9 @@ on_held rows n pair s (act.Start isn peer) = after_call n pair (called s InUse)
 on_held rows n pair s (act.Give piece) =
     after_call n pair (offered called HasClosed Full Done piece s)
 on_held rows n pair s (act.Take count) = after_call n pair (take_called count s)
-on_held rows n pair s act.Send = after_call n pair (sent s Idle (emit rows pair n.clock s))
-on_held rows n pair s act.Resend = after_call n pair (sent s Nothing (resend rows pair n.clock s))
+on_held rows n pair s act.Send = after_call n pair (made_called s Idle (emit rows pair n.clock s))
+on_held rows n pair s act.Resend =
+    after_call n pair (made_called s Nothing (resend rows pair n.clock s))
 on_held rows n pair s act.Close = after_call n pair (called (close s) Done)
 on_held rows n pair s act.Abort = after_call n pair (called (abort s) Done)
 on_held rows n pair s act.Remove = record {
@@ -174,22 +174,23 @@ arrived_at rows n pair r (Some s) =
     after_call n pair (called a.state (Answered a.answer))
 
 -- the pair of a datagram as the node sees it (own)
-abbrev pub pair_of : Segment → Pair
-pair_of d = record { local = d.destination; remote = d.source }
+abbrev pub pair_reached : Segment → Pair
+pair_reached d = record { local = d.destination; remote = d.source }
 
 -- a datagram arrives at a node: at the end of its pair (own)
 abbrev pub injected : List Row → NodeState → Reading → NodeStep
 injected rows n (Unread fault) = stays n (Answered (Bad fault))
-injected rows n (Read d) = arrived_at rows n (pair_of d) (Read d) (end_of (pair_of d) n.ends)
+injected rows n (Read d) =
+    arrived_at rows n (pair_reached d) (Read d) (held_end (pair_reached d) n.ends)
 
 -- the node after an event, and the answer; at most so many ends are held (own)
 abbrev pub node_step : ℕ → List Row → NodeState → NodeEvent → NodeStep
 node_step most rows n (event.Clock seconds) = record {
-  node = record { clock = seconds; ends = ticked seconds n.ends };
+  node = record { clock = seconds; ends = ends_ticked seconds n.ends };
   outcome = Done;
 }
 node_step most rows n (event.Inject bytes) = injected rows n (reading bytes)
-node_step most rows n (event.On pair a) = on_pair most rows n pair a (end_of pair n.ends)
+node_step most rows n (event.On pair a) = on_pair most rows n pair a (held_end pair n.ends)
 
 -- a node as it begins: the clock 0, and no end (own)
 abbrev pub no_ends : NodeState
@@ -201,19 +202,19 @@ node_from most rows n [] = n
 node_from most rows n (e ∷ es) = node_from most rows (node_step most rows n e).node es
 
 -- the answers to events that begin at this node (own)
-abbrev pub outcomes_from : ℕ → List Row → NodeState → List NodeEvent → List NodeOutcome
-outcomes_from most rows n [] = []
-outcomes_from most rows n (e ∷ es) =
+abbrev pub node_outcomes_from : ℕ → List Row → NodeState → List NodeEvent → List NodeOutcome
+node_outcomes_from most rows n [] = []
+node_outcomes_from most rows n (e ∷ es) =
     let s = node_step most rows n e in
-    s.outcome ∷ outcomes_from most rows s.node es
+    s.outcome ∷ node_outcomes_from most rows s.node es
 
 -- the answers to events that begin at a node without ends (own)
 unfoldable pub outcomes : List Row → List NodeEvent → List NodeOutcome
-outcomes rows events = outcomes_from most_ends rows no_ends events
+outcomes rows events = node_outcomes_from most_ends rows no_ends events
 
 -- the words for a segment that an end of a node made (own)
-abbrev pub sent_texts : Emission → List (List ℕ)
-sent_texts e =
+abbrev pub node_sent_texts : Emission → List (List ℕ)
+node_sent_texts e =
     codes "sent" ∷ flags_text e.flags
     ∷ codes "seq" ∷ decimal e.number ∷ codes "ack" ∷ number_text e.acknowledged
     ∷ codes "len" ∷ decimal (length e.segment.payload)
@@ -228,7 +229,7 @@ node_texts NodeFull = codes "node-full" ∷ []
 node_texts NoConnection = codes "no-connection" ∷ []
 node_texts Full = codes "full" ∷ []
 node_texts HasClosed = codes "closed" ∷ []
-node_texts (Sent e) = sent_texts e
+node_texts (Sent e) = node_sent_texts e
 node_texts WithoutKey = codes "no-key" ∷ []
 node_texts Idle = codes "idle" ∷ []
 node_texts Nothing = codes "nothing" ∷ []
@@ -236,13 +237,13 @@ node_texts (Answered answer) = answer_texts answer
 node_texts (Took bytes shown) = codes "took" ∷ hex_or_none bytes ∷ end_mark shown
 
 -- a line for each answer of a node, the first one having this number (own)
-abbrev pub node_lines : ℕ → List NodeOutcome → List ℕ
-node_lines n [] = []
-node_lines n (o ∷ os) = numbered_text n (node_texts o) ++ node_lines (suc n) os
+abbrev pub outcome_lines : ℕ → List NodeOutcome → List ℕ
+outcome_lines n [] = []
+outcome_lines n (o ∷ os) = numbered_text n (node_texts o) ++ outcome_lines (suc n) os
 
 -- the text of a node's run (own)
 unfoldable pub node_text : List Row → List NodeEvent → List ℕ
-node_text rows events = node_lines 1 (outcomes rows events)
+node_text rows events = outcome_lines 1 (outcomes rows events)
 
 -- the next words as a pair, `LOCALPORT ADDRESS REMOTEPORT`, seen from the node with this address
 -- (own)
@@ -300,8 +301,8 @@ clock_of ws = do
   Ok (event.Clock seconds.value)
 
 -- the event `inject HEX`, of 1 to 65,575 bytes (own)
-abbrev pub inject_of : List (List ℕ) → Result NodeEvent LineKind
-inject_of ws = do
+abbrev pub node_inject_of : List (List ℕ) → Result NodeEvent LineKind
+node_inject_of ws = do
   bytes ← sized_hex_in 1 65575 ws
   none ← nothing_in bytes.rest
   Ok (event.Inject bytes.value)
@@ -310,7 +311,7 @@ inject_of ws = do
 unfoldable pub node_event_named : Address → List ℕ → List (List ℕ) → Result NodeEvent LineKind
 node_event_named own name ws =
     if bytes_eq name (codes "clock") then clock_of ws
-    else if bytes_eq name (codes "inject") then inject_of ws
+    else if bytes_eq name (codes "inject") then node_inject_of ws
     else if bytes_eq name (codes "open") then act_number act.Open greatest_isn own ws
     else if bytes_eq name (codes "listen") then act_number act.Listen greatest_isn own ws
     else if bytes_eq name (codes "start") then act_start own ws
@@ -338,8 +339,8 @@ node_events_of own (l ∷ ls) = do
   Ok (e ∷ others)
 
 -- the line `node ADDRESS` (own)
-abbrev pub address_of : List (List ℕ) → Result Address LineKind
-address_of ws = do
+abbrev pub own_address_of : List (List ℕ) → Result Address LineKind
+own_address_of ws = do
   name ← literal_in (codes "node") ws
   address ← address_in name.rest
   none ← nothing_in address.rest
@@ -349,7 +350,7 @@ address_of ws = do
 unfoldable pub node_script_in : ℕ → List Line → Result NodeScript TextFault
 node_script_in missing ls = do
   title ← line_in missing kind.Header (title_of (codes "aotcp-node")) ls
-  address ← line_in missing kind.Header address_of title.rest
+  address ← line_in missing kind.Header own_address_of title.rest
   events ← node_events_of address.value address.rest
   Ok (record { address = address.value; events = events })
 

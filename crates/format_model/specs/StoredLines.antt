@@ -43,9 +43,9 @@ pub record StoredInput : Type 0 where
   pub fault : Option LineFault
 
 -- a stored datagram, if there is one, in front of others (own)
-abbrev pub and_then : Option Stored → StoredInput → StoredInput
-and_then None input = input
-and_then (Some s) input = record { stored = s ∷ input.stored; fault = input.fault }
+abbrev pub with_stored : Option Stored → StoredInput → StoredInput
+with_stored None input = input
+with_stored (Some s) input = record { stored = s ∷ input.stored; fault = input.fault }
 
 -- what a line has, with what the lines behind it have (own)
 abbrev pub by_line : ℕ → Result (Option Stored) LineKind → StoredInput → StoredInput
@@ -53,7 +53,7 @@ by_line n (Err kind) others = record {
   stored = [];
   fault = Some (record { number = n; kind = kind });
 }
-by_line n (Ok s) others = and_then s others
+by_line n (Ok s) others = with_stored s others
 
 -- the stored datagrams of these lines, the first line having number n (own)
 abbrev pub stored_from : ℕ → List (List ℕ) → StoredInput

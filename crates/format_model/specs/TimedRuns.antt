@@ -27,7 +27,7 @@ use Rattle.format_model.specs.declared.timed.TimedEvent.{TimedEvent}
 use Rattle.format_model.specs.declared.timed.TimedEvent.TheVariants.{Plain, Wait}
 use Rattle.format_model.specs.declared.timed.TimedScript.{TimedScript}
 use Rattle.format_model.specs.LinkEvents.{event_named}
-use Rattle.format_model.specs.LinkFiles.{head_in, events_of, missing_in}
+use Rattle.format_model.specs.LinkFiles.{link_head_in, events_of, missing_in}
 
 -- a number whose acknowledgement is timed, and the reading at which it was sent (RFC 6298,
 -- section 3)
@@ -47,19 +47,19 @@ new_watch = record { timer = new_timer; deadline = None; timed = None }
 
 -- how far an end has sent: the oldest number that isn't acknowledged, and the one to send next
 -- (RFC 9293, section 3.3.1: SND.UNA and SND.NXT)
-pub record Front : Type 0 where
+pub record SendFront : Type 0 where
   pub una : ℕ
   pub next : ℕ
 
 -- the front of a session that isn't closed (own)
-abbrev pub front_of : Option Session → Option Front
+abbrev pub front_of : Option Session → Option SendFront
 front_of None = None
 front_of (Some s) =
     if is_closed s.state.phase then None
     else Some (record { una = s.state.una; next = s.state.next })
 
 -- the front of an end's live session (own)
-abbrev pub front_at : World → End → Option Front
+abbrev pub front_at : World → End → Option SendFront
 front_at w e = front_of (live (side w e).sessions)
 
 -- a link and the timers of its two ends (own)
@@ -99,7 +99,7 @@ sampled_by una reading w (Some t) =
 -- data takes a sample (RFC 6298, section 3), and then the timer runs anew where more isn't
 -- acknowledged (section 5.3), else it stops (5.2). When new numbers are sent, it runs, from now on
 -- unless it ran already (5.1), and they are timed unless others are (3)
-abbrev pub watch_by : ℕ → (again : Bool) → (old new : Option Front) → Watch → Watch
+abbrev pub watch_by : ℕ → (again : Bool) → (old new : Option SendFront) → Watch → Watch
 watch_by reading again old None w = stopped w
 watch_by reading again None (Some new) w = w
 watch_by reading again (Some old) (Some new) w =
@@ -147,24 +147,24 @@ watch_after before event e after w =
     else now
 
 -- the end of an event; `dump` has none (own)
-abbrev pub end_of : Event → Option End
-end_of (event.Clock e seconds) = Some e
-end_of (event.Connect e isn) = Some e
-end_of (event.Listen e isn) = Some e
-end_of (event.Start e isn peer) = Some e
-end_of (event.Give e bytes) = Some e
-end_of (event.Fill e count byte) = Some e
-end_of (event.Send e) = Some e
-end_of (event.Resend e) = Some e
-end_of (event.Deliver e n) = Some e
-end_of (event.Inject e bytes) = Some e
-end_of (event.Alter e n place mask fix) = Some e
-end_of (event.Take e count) = Some e
-end_of (event.Close e) = Some e
-end_of (event.Abort e) = Some e
-end_of (event.AddRow e row) = Some e
-end_of (event.Withdraw e n) = Some e
-end_of (event.Dump n) = None
+abbrev pub end_of_event : Event → Option End
+end_of_event (event.Clock e seconds) = Some e
+end_of_event (event.Connect e isn) = Some e
+end_of_event (event.Listen e isn) = Some e
+end_of_event (event.Start e isn peer) = Some e
+end_of_event (event.Give e bytes) = Some e
+end_of_event (event.Fill e count byte) = Some e
+end_of_event (event.Send e) = Some e
+end_of_event (event.Resend e) = Some e
+end_of_event (event.Deliver e n) = Some e
+end_of_event (event.Inject e bytes) = Some e
+end_of_event (event.Alter e n place mask fix) = Some e
+end_of_event (event.Take e count) = Some e
+end_of_event (event.Close e) = Some e
+end_of_event (event.Abort e) = Some e
+end_of_event (event.AddRow e row) = Some e
+end_of_event (event.Withdraw e n) = Some e
+end_of_event (event.Dump n) = None
 
 -- a step of the link, and what it does to the timer of the event's end (own)
 abbrev pub stepped_at : Progress → Event → Stepped → Option End → Progress
@@ -174,7 +174,7 @@ stepped_at p event s (Some e) =
 
 -- a link and its timers after a plain event (own)
 abbrev pub plain : Setup → Progress → Event → Progress
-plain setup p event = stepped_at p event (step setup p.world event) (end_of event)
+plain setup p event = stepped_at p event (step setup p.world event) (end_of_event event)
 
 -- plain events, and what they lead to (own)
 pub record Expanded : Type 0 where
@@ -268,7 +268,7 @@ timed_event_of ws = do
 -- the script that the lines of a link file with waits make (own)
 unfoldable pub timed_script_in : ℕ → List Line → Result TimedScript TextFault
 timed_script_in missing ls = do
-  head ← head_in missing ls
+  head ← link_head_in missing ls
   events ← events_of timed_event_of head.rest
   Ok (record { a = head.value.a; b = head.value.b; events = events })
 

@@ -108,7 +108,7 @@ signed_of algorithm bytes = signed_in_reading algorithm (reading bytes)
 -- how the MAC of a segment is made: the algorithm, the initial sequence numbers of its source and
 -- its destination, the sequence number extension, and whether all options are covered (RFC 5925,
 -- sections 3.1, 5.1, 5.2 and 6.2)
-pub record Making : Type 0 where
+pub record MacMaking : Type 0 where
   pub algorithm : Algorithm
   pub source_isn : ℕ
   pub dest_isn : ℕ
@@ -117,7 +117,7 @@ pub record Making : Type 0 where
 
 -- the MAC of a datagram under the traffic key of its sockets and these initial sequence numbers,
 -- with this sequence number extension (RFC 5925, sections 5.1, 5.2 and 6.2)
-abbrev pub mac_of_signed : List ℕ → Making → Signed → List ℕ
+abbrev pub mac_of_signed : List ℕ → MacMaking → Signed → List ℕ
 mac_of_signed master m s =
     let d = s.segment in
     let key_context = context d.source d.destination m.source_isn m.dest_isn in
@@ -126,7 +126,7 @@ mac_of_signed master m s =
 
 -- the next words as how a MAC is made: `SOURCEISN DESTISN EXTENSION options`, or `no-options`
 -- (own)
-unfoldable pub making_in : Algorithm → List (List ℕ) → Result (Taken Making) LineKind
+unfoldable pub making_in : Algorithm → List (List ℕ) → Result (Taken MacMaking) LineKind
 making_in algorithm ws = do
   source_isn ← number_in 0 greatest_isn ws
   dest_isn ← number_in 0 greatest_isn source_isn.rest

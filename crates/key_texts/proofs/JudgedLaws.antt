@@ -12,7 +12,7 @@ use Rattle.line_model.specs.Said.{Said, numbered, said_by}
 use Rattle.text_lines.specs.Readings.{Answers, Fails}
 use Rattle.text_lines.proofs.SaidLaws.{said_few, same_fault}
 use Rattle.format_model.specs.declared.command.Plan.{Plan}
-use Rattle.format_model.specs.LintTexts.{connection_of, has_misfit, is_aligned, lint_line, lint_said, lint_text}
+use Rattle.format_model.specs.LintTexts.{lint_pair_of, has_misfit, is_aligned, lint_line, lint_said, lint_text}
 use Rattle.key_texts.specs.declared.judged.Judged.{Judged}
 use Rattle.key_texts.specs.Judgements.{judged_from}
 
@@ -39,7 +39,7 @@ module _ (tables : List Table) (plan : Plan) where
 
   -- the answer so far, and then the connections of the lines
   abbrev from_lines : List ℕ → Bool → List Line → Result Judged TextFault
-  from_lines out misfit ls = judged_from tables plan out misfit (said_by connection_of ls)
+  from_lines out misfit ls = judged_from tables plan out misfit (said_by lint_pair_of ls)
 
   one_judged : (before out : List ℕ) (misfit now : Bool) (s : Said Pair) (others : Result (List (Said Pair)) TextFault)
       → out ≡ before ++ lint_line tables plan s → now ≡ (misfit || misfits s)
@@ -55,13 +55,13 @@ module _ (tables : List Table) (plan : Plan) where
     step : from_lines before misfit (l ∷ ls) ≡ whole
     step = sym (ap (λ x. from_lines before misfit x) next) ∙ so_far
 
-    pub line_judged : (pair : Pair) (out : List ℕ) (now : Bool) → Ok pair ≡ numbered l.number (connection_of l.words)
+    pub line_judged : (pair : Pair) (out : List ℕ) (now : Bool) → Ok pair ≡ numbered l.number (lint_pair_of l.words)
         → out ≡ before ++ lint_line tables plan (said_at l pair) → now ≡ (misfit || misfits (said_at l pair)) → from_lines out now ls ≡ whole
     unfolding said_by
     line_judged pair out now h text also =
-        one_judged before out misfit now (said_at l pair) (said_by connection_of ls) text also ∙ (rw (sym h) at step)
+        one_judged before out misfit now (said_at l pair) (said_by lint_pair_of ls) text also ∙ (rw (sym h) at step)
 
-    pub line_refused : (f : TextFault) → Err f ≡ numbered l.number (connection_of l.words) → Fails f whole
+    pub line_refused : (f : TextFault) → Err f ≡ numbered l.number (lint_pair_of l.words) → Fails f whole
     unfolding said_by
     line_refused fault.Memory h = tt
     line_refused fault.TooManyLines h = sym (rw (sym h) at step)
@@ -79,4 +79,4 @@ module _ (tables : List Table) (plan : Plan) where
 
   -- what lines say is never that they are too many
   pub never_too_many : (r : Result Judged TextFault) (ls : List Line) → Answers r (from_lines [] false ls) → r ≡ Err fault.TooManyLines → ⊥
-  never_too_many r ls h is = judged_few (said_by connection_of ls) (said_few connection_of ls) (rw is at h)
+  never_too_many r ls h is = judged_few (said_by lint_pair_of ls) (said_few lint_pair_of ls) (rw is at h)

@@ -6,13 +6,13 @@ use Rattle.line_model.specs.declared.text_fault.TextFault.{TextFault}
 use Rattle.line_model.specs.Said.{Said, said_in}
 use Rattle.ao_base.specs.Results.{◌>>=◌}
 use Rattle.format_model.specs.declared.command.Plan.{Plan}
-use Rattle.format_model.specs.LintTexts.{connection_of, has_misfit, lint_text}
+use Rattle.format_model.specs.LintTexts.{lint_pair_of, has_misfit, lint_text}
 use Rattle.key_texts.specs.declared.judged.Judged.{Judged}
 
 -- the lines of the connections of a text, and whether some connection isn't aligned; or the first faulty line
 unfoldable pub judgements : List Table → Plan → List ℕ → Result Judged TextFault
 judgements tables plan text = do
-  said ← said_in connection_of text
+  said ← said_in lint_pair_of text
   Ok (record { text = lint_text tables plan said; has_misfit = has_misfit tables plan said })
 
 -- the answer so far, and then the connections that are said

@@ -1,7 +1,7 @@
 //! The connection of a line: the sockets of its two ends.
 ghost use Rattle.std.specs.Prelude.{◌≡◌};
 ghost use Rattle.text_lines.specs.Readings.{gives};
-ghost use Rattle.format_model.specs.LintTexts.{address_beside, connection_of};
+ghost use Rattle.format_model.specs.LintTexts.{address_beside, lint_pair_of};
 
 use ao_base::{Address, LineKind, Pair, Socket};
 use text_lines::LineWords;
@@ -19,9 +19,9 @@ fn address_beside(a: &Address, words: &mut LineWords) -> Result<Address, LineKin
 }
 
 /// Two sockets, and no more; the first one is the local one.
-#[tactic(auto, unfolding(format_model::specs::LintTexts::connection_of))]
+#[tactic(auto, unfolding(format_model::specs::LintTexts::lint_pair_of))]
 pub(crate) fn read_connection(words: &mut LineWords) -> Result<Pair, LineKind>
-    ensures { result ≡ connection_of words.old }
+    ensures { result ≡ lint_pair_of words.old }
 {
     let local = words.socket()?;
     let address = address_beside(&local.address, words)?;

@@ -5,7 +5,7 @@ ghost use Rattle.line_model.specs.Lines.{most_lines};
 ghost use Rattle.line_model.specs.Said.{numbered, said_by};
 ghost use Rattle.line_model.specs.Texts.{end_text, numbered_text, spaced};
 ghost use Rattle.text_lines.specs.Readings.{Answers};
-ghost use Rattle.format_model.specs.LintTexts.{connection_of, is_aligned, lint_texts};
+ghost use Rattle.format_model.specs.LintTexts.{lint_pair_of, is_aligned, lint_texts};
 ghost use Rattle.key_texts.specs.Judgements.{judged_from, judgements};
 
 use crate::connection::read_connection;
@@ -21,7 +21,7 @@ use text_lines::{
 };
 
 fn connection_in(mut line: Saying) -> Result<Pair, TextFault>
-    ensures { result ≡ numbered line.entry.number (connection_of line.entry.words) }
+    ensures { result ≡ numbered line.entry.number (lint_pair_of line.entry.words) }
 {
     let number = line.number;
     match read_connection(&mut line.words) {
@@ -71,7 +71,7 @@ fn judge(
     plan: Plan,
     mut lines: SayingLines,
 ) -> Result<Judged, TextFault>
-    ensures { Answers result (judged_from tables.now plan [] false (said_by connection_of lines.entry)) }
+    ensures { Answers result (judged_from tables.now plan [] false (said_by lint_pair_of lines.entry)) }
 {
     let mut out = Vec::new(alloc);
     let mut has_misfit = false;

@@ -35,7 +35,7 @@ use Rattle.segment_model.proofs.Fields.{and_tells}
 use Rattle.format_model.specs.declared.timed.TimedEvent.{TimedEvent}
 use Rattle.format_model.specs.declared.timed.TimedEvent.TheVariants.{Plain, Wait}
 use Rattle.std.specs.Option.{option_or}
-use Rattle.format_model.specs.TimedRuns.{Timed, Watch, new_watch, Front, front_of, front_at, Progress, watch_of, with_watch, started_anew, stopped, sampled_by, watch_by, is_again, is_done, is_sent, plain, Expanded, before, reading_at, until, due, after_expiry, expiry, waited, timed_event, expand_from, begins_timed, expand}
+use Rattle.format_model.specs.TimedRuns.{Timed, Watch, new_watch, SendFront, front_of, front_at, Progress, watch_of, with_watch, started_anew, stopped, sampled_by, watch_by, is_again, is_done, is_sent, plain, Expanded, before, reading_at, until, due, after_expiry, expiry, waited, timed_event, expand_from, begins_timed, expand}
 use Rattle.link_progress.specs.Waits.{WaitsResend}
 use Rattle.link_progress.proofs.Calm.{Calm, AllCalm, AllCalms, is_before, calm_step}
 use Rattle.link_progress.proofs.Finishing.{LeavesIf, closed_arrives, emits_leave, resends_leave}
@@ -222,8 +222,8 @@ module _ (setup : Setup) (w : World) (calm : AllCalms w) where
 -- ---- the timers
 
 -- a timer that runs while something is unacknowledged
-abbrev Watched : Option Front → Watch → Type 0
-Watched o w = (f : Front) → o ≡ Some f → f.una < f.next → (d : ℕ) × (w.deadline ≡ Some d)
+abbrev Watched : Option SendFront → Watch → Type 0
+Watched o w = (f : SendFront) → o ≡ Some f → f.una < f.next → (d : ℕ) × (w.deadline ≡ Some d)
 
 -- nothing is timed, where this holds
 abbrev untimed : Bool → Watch → Watch
@@ -237,11 +237,11 @@ first_runs : (o : Option ℕ) (d : ℕ) → (k : ℕ) × (option_or o (Some d) �
 first_runs None d = (d, refl)
 first_runs (Some k) d = (k, refl)
 
-acknowledged_runs : (now : ℕ) (f : Front) (s : Watch) → f.una < f.next → (d : ℕ) × ((if nat_lt f.una f.next then started_anew now s else stopped s).deadline ≡ Some d)
+acknowledged_runs : (now : ℕ) (f : SendFront) (s : Watch) → f.una < f.next → (d : ℕ) × ((if nat_lt f.una f.next then started_anew now s else stopped s).deadline ≡ Some d)
 acknowledged_runs now f s low =
     choose (λ (x : Watch). (d : ℕ) × (x.deadline ≡ Some d)) (nat_lt f.una f.next) (started_anew now s) (stopped s) (λ e. (_, refl)) (λ e. let no = lt_not f.una f.next e in absurd (omega arith))
 
-moved_watched : (now : ℕ) (again : Bool) (old new : Front) (w : Watch) → old.una ≤ new.una → Watched (Some old) w → new.una < new.next → (d : ℕ) × ((watch_by now again (Some old) (Some new) w).deadline ≡ Some d)
+moved_watched : (now : ℕ) (again : Bool) (old new : SendFront) (w : Watch) → old.una ≤ new.una → Watched (Some old) w → new.una < new.next → (d : ℕ) × ((watch_by now again (Some old) (Some new) w).deadline ≡ Some d)
 moved_watched now again old new w up h low =
     let P : Watch → Type 0 = λ x. (d : ℕ) × (x.deadline ≡ Some d) in
     let sample : Watch = sampled_by new.una now w w.timed in
@@ -256,17 +256,17 @@ moved_watched now again old new w up h low =
     h old refl (omega arith)))
 
 -- the front of a session, where it isn't closed
-abbrev front_if : Bool → Session → Option Front
+abbrev front_if : Bool → Session → Option SendFront
 front_if shut s = if shut then None else Some (record { una = s.state.una; next = s.state.next })
 
 pair_watched : (now : ℕ) (again : Bool) (s t : Session) (w : Watch) (bs bt : Bool) → (bs ≡ true → bt ≡ true) → s.state.una ≤ t.state.una → Watched (front_if bs s) w → Watched (front_if bt t) (watch_by now again (front_if bs s) (front_if bt t) w)
 pair_watched now again s t w bs true shut up h f is low = absurd (cc)
 pair_watched now again s t w true false shut up h f is low = let off = shut refl in absurd (cc)
 pair_watched now again s t w false false shut up h f is low =
-    let old : Front = record { una = s.state.una; next = s.state.next } in
-    let new : Front = record { una = t.state.una; next = t.state.next } in
+    let old : SendFront = record { una = s.state.una; next = s.state.next } in
+    let new : SendFront = record { una = t.state.una; next = t.state.next } in
     let same : new ≡ f = some_is new f is in
-    moved_watched now again old new w up h (subst (λ (k : Front). k.una < k.next) (sym same) low)
+    moved_watched now again old new w up h (subst (λ (k : SendFront). k.una < k.next) (sym same) low)
 
 between_watched : (now : ℕ) (again : Bool) (o k : Option Session) (w : Watch) → Goes_on o k → Watched (front_of o) w → Watched (front_of k) (watch_by now again (front_of o) (front_of k) w)
 between_watched now again None None w g h f is low = absurd (cc)
@@ -274,7 +274,7 @@ between_watched now again None (Some t) w g h f is low = absurd g
 between_watched now again (Some s) None w g h f is low = absurd g
 between_watched now again (Some s) (Some t) w g h f is low = pair_watched now again s t w (is_closed s.state.phase) (is_closed t.state.phase) g.shut g.una h f is low
 
-untimed_watched : (o : Option Front) (again : Bool) (w : Watch) → Watched o w → Watched o (untimed again w)
+untimed_watched : (o : Option SendFront) (again : Bool) (w : Watch) → Watched o w → Watched o (untimed again w)
 untimed_watched o again w h f is low = let k = h f is low in (k.0, untimed_same again w ∙ k.1)
 
 steps_watched : (w v : World) (e : End) (now : ℕ) (again made : Bool) (x : Watch) → Steps_on w v e → Watched (front_at w e) x → Watched (front_at v e) (untimed made (watch_by now again (front_at w e) (front_at v e) x))
@@ -313,9 +313,9 @@ begun_watched s w same f is low = by_front (is_closed s.state.phase) is
     by_front : (b : Bool) → front_if b s ≡ Some f → (d : ℕ) × (w.deadline ≡ Some d)
     by_front true e = absurd (cc)
     by_front false e =
-        let new : Front = record { una = s.state.una; next = s.state.next } in
+        let new : SendFront = record { una = s.state.una; next = s.state.next } in
         let at : new ≡ f = some_is new f e in
-        let wrong : new.una < new.next = subst (λ (k : Front). k.una < k.next) (sym at) low in
+        let wrong : new.una < new.next = subst (λ (k : SendFront). k.una < k.next) (sym at) low in
         absurd (omega arith)
 
 begin_watched : (setup : Setup) (p : Progress) (ev : Event) (e : End) (s : EndState) (o : Option Session) (now : ℕ) → IsWatched p → AllCalms (begin p.world e s o).world → s.una ≡ s.next

@@ -7,7 +7,7 @@ use Rattle.link_model.specs.declared.event.Event.{Event}
 use Rattle.link_model.specs.declared.event.Event.TheVariants.{Clock, Resend}
 use Rattle.link_model.specs.Worlds.{Setup}
 use Rattle.format_model.specs.declared.timed.TimedEvent.TheVariants.{Wait}
-use Rattle.format_model.specs.TimedRuns.{Front, front_at, Progress, watch_of, reading_at, due}
+use Rattle.format_model.specs.TimedRuns.{SendFront, front_at, Progress, watch_of, reading_at, due}
 use Rattle.format_model.specs.TimedRuns.{timed_event}
 
 -- so many seconds from now reach to this reading (own)
@@ -25,6 +25,6 @@ BeginsAgain setup p e count d =
 -- to its expiry sends again (RFC 6298, sections 5.1 and 5.4)
 abbrev pub WaitsResend : Setup → Progress → Type 0
 WaitsResend setup p =
-    (e : End) (f : Front) → front_at p.world e ≡ Some f → f.una < f.next
+    (e : End) (f : SendFront) → front_at p.world e ≡ Some f → f.una < f.next
     → (d : ℕ) × (due (reading_at p e) (watch_of p e).deadline ≡ Some d)
     × ((count : ℕ) → Reaches p e count d → BeginsAgain setup p e count d)

@@ -9,12 +9,12 @@ use Rattle.line_model.specs.Words.{word_as, word_in, nothing_in, choice_in, end_
 use Rattle.ao_base.specs.Results.{◌>>=◌}
 use Rattle.link_model.specs.declared.event.Event.{Event}
 use Rattle.link_model.specs.declared.event.Event.TheVariants as event
-use Rattle.format_model.specs.LinkEvents.{greatest_isn, most_segments, end_of, number_of, start_of, give_of, fill_of, inject_of, alter_of, ways_of}
-use Rattle.format_model.specs.LinkEvents.{add_of, dump_of, event_named, event_of}
+use Rattle.format_model.specs.LinkEvents.{greatest_isn, most_segments, event_of_end, event_of_number, start_of, give_of, fill_of, inject_of, alter_of, ways_of}
+use Rattle.format_model.specs.LinkEvents.{add_of, dump_of, event_named, link_event_of}
 use Rattle.link_script.specs.Scripts.{IsEvent, IsWithin}
 use Rattle.link_script.proofs.WordRanges.{bind_ok, number_ok, hex_ok, some_hex_ok, byte_ok}
 
-alone_ok : (made : End → Event) (ws : List (List ℕ)) (x : Event) → ((e : End) → IsEvent (made e)) → end_of made ws ≡ Ok x → IsEvent x
+alone_ok : (made : End → Event) (ws : List (List ℕ)) (x : Event) → ((e : End) → IsEvent (made e)) → event_of_end made ws ≡ Ok x → IsEvent x
 alone_ok made ws x ranged h =
     let e = bind_ok (end_in ws) _ x h in
     let n = bind_ok (nothing_in e.0.rest) _ x e.2 in
@@ -22,7 +22,7 @@ alone_ok made ws x ranged h =
     rw (← is) (ranged e.0.value)
 
 numbered_ok : (made : End → ℕ → Event) (low high : ℕ) (ws : List (List ℕ)) (x : Event) → ((e : End) (n : ℕ) → IsWithin low high n → IsEvent (made e n)) →
-    number_of made low high ws ≡ Ok x → IsEvent x
+    event_of_number made low high ws ≡ Ok x → IsEvent x
 numbered_ok made low high ws x ranged h =
     let e = bind_ok (end_in ws) _ x h in
     let k = bind_ok (number_in low high e.0.rest) _ x e.2 in
@@ -173,7 +173,7 @@ named_ok name ws x =
     either (bytes_eq name (codes "withdraw")) _ _ x (IsEvent x) (numbered_ok event.Withdraw 1 64 ws x (λ e n h. h)) (
     either (bytes_eq name (codes "dump")) _ _ x (IsEvent x) (dump_ok ws x) (λ h. absurd (cc h))))))))))))))))))
 
-pub event_ok : (ws : List (List ℕ)) (x : Event) → event_of ws ≡ Ok x → IsEvent x
-unfolding event_of word_in
+pub event_ok : (ws : List (List ℕ)) (x : Event) → link_event_of ws ≡ Ok x → IsEvent x
+unfolding link_event_of word_in
 event_ok [] x h = absurd (cc h)
 event_ok (w ∷ ws) x h = named_ok w ws x h

@@ -9,19 +9,19 @@ use Rattle.line_model.specs.Words.{word_in, nothing_in}
 use Rattle.link_model.specs.declared.event.RowLine.{RowLine}
 use Rattle.link_model.specs.declared.event.Event.{Event}
 use Rattle.link_model.specs.declared.event.Event.TheVariants as event
-use Rattle.format_model.specs.LinkEvents.{greatest_isn, most_segments, end_of, number_of, event_of, event_named, start_of, give_of, fill_of, inject_of}
+use Rattle.format_model.specs.LinkEvents.{greatest_isn, most_segments, event_of_end, event_of_number, link_event_of, event_named, start_of, give_of, fill_of, inject_of}
 use Rattle.format_model.specs.LinkEvents.{alter_of, add_of, dump_of}
 use Rattle.link_script.specs.Printed.{direction_text, event_words, fixing_text, flag_text, row_texts, use_texts}
 use Rattle.link_script.specs.Scripts.{IsEvent, IsRow, IsWithin}
 use Rattle.link_script.proofs.WordsBack.{end_back, algorithm_back, number_back, within_back, hex_back, some_hex_back, byte_back, fixing_back, flag_back}
 use Rattle.link_script.proofs.WordsBack.{direction_back}
 
-alone_back : (made : End → Event) (e : End) → end_of made (end_text e ∷ []) ≡ Ok (made e)
+alone_back : (made : End → Event) (e : End) → event_of_end made (end_text e ∷ []) ≡ Ok (made e)
 unfolding nothing_in
 alone_back made e = rw (end_back e []) refl
 
 numbered_back : (made : End → ℕ → Event) (low high : ℕ) (e : End) (n : ℕ) → IsWithin low high n → high < 2 ^ 64 →
-    number_of made low high (end_text e ∷ decimal n ∷ []) ≡ Ok (made e n)
+    event_of_number made low high (end_text e ∷ decimal n ∷ []) ≡ Ok (made e n)
 unfolding nothing_in
 numbered_back made low high e n h small = rw (end_back e (decimal n ∷ []), within_back low high n [] h small) refl
 
@@ -77,8 +77,8 @@ add_back e r h = rw (
   within_back r.accept_first greatest_time r.accept_last [] h.accept_last (lit< tt),
 ) refl
 
-pub event_back : (e : Event) → IsEvent e → event_of (event_words e) ≡ Ok e
-unfolding event_of event_named word_in nothing_in event_words give_of inject_of dump_of
+pub event_back : (e : Event) → IsEvent e → link_event_of (event_words e) ≡ Ok e
+unfolding link_event_of event_named word_in nothing_in event_words give_of inject_of dump_of
 event_back (event.Clock e seconds) h = numbered_back event.Clock 0 greatest_time e seconds (from_zero h) (lit< tt)
 event_back (event.Connect e isn) h = numbered_back event.Connect 0 greatest_isn e isn (from_zero h) (lit< tt)
 event_back (event.Listen e isn) h = numbered_back event.Listen 0 greatest_isn e isn (from_zero h) (lit< tt)

@@ -14,8 +14,8 @@ use Rattle.link_model.specs.declared.event.Event.{Event}
 use Rattle.link_model.specs.declared.event.Event.TheVariants as event
 use Rattle.format_model.specs.declared.script.SharedKey.{SharedKey}
 use Rattle.format_model.specs.declared.script.Script.{Script}
-use Rattle.format_model.specs.LinkEvents.{event_of}
-use Rattle.format_model.specs.LinkFiles.{Left, are_two_of_a_family, event_at, events_of, head_in, is_shared, key_in, line_in, peer_of, script_in, script_of}
+use Rattle.format_model.specs.LinkEvents.{link_event_of}
+use Rattle.format_model.specs.LinkFiles.{Left, are_two_of_a_family, event_at, events_of, link_head_in, is_shared, key_in, line_in, peer_socket_of, script_in, script_of}
 use Rattle.format_model.specs.LinkFiles.{shared_key_of, socket_of, title_of}
 use Rattle.link_script.specs.Printed.{event_words, title_words, socket_words, key_lines, script_lines, lines_text, text_of}
 use Rattle.link_script.specs.Scripts.{IsEvent, IsKey, IsScript, IsSocket}
@@ -44,10 +44,10 @@ not_shared (event.AddRow e row) = refl
 not_shared (event.Withdraw e row) = refl
 not_shared (event.Dump segment) = refl
 
-event_at-printed : (n : ℕ) (e : Event) → IsEvent e → event_at event_of (record { number = n; words = event_words e }) ≡ Ok e
+event_at-printed : (n : ℕ) (e : Event) → IsEvent e → event_at link_event_of (record { number = n; words = event_words e }) ≡ Ok e
 event_at-printed n e h = rw (not_shared e, event_back e h) refl
 
-events_of-printed : (n : ℕ) (es : List Event) → All IsEvent es → events_of event_of (numbered_from n (map event_words es)) ≡ Ok es
+events_of-printed : (n : ℕ) (es : List Event) → All IsEvent es → events_of link_event_of (numbered_from n (map event_words es)) ≡ Ok es
 unfolding events_of
 events_of-printed n [] h = refl
 events_of-printed n (e ∷ es) h =
@@ -65,8 +65,8 @@ socket_b_back : (s : Socket) → IsSocket s → socket_of (codes "b") (socket_wo
 unfolding socket_of socket_words socket_in literal_in word_in nothing_in
 socket_b_back s h = rw (address_back s.address (decimal s.port ∷ []) h.address, number_back 65535 s.port [] h.port (lit< tt)) refl
 
-peer_back : (a b : Socket) → IsSocket b → are_two_of_a_family a.address b.address ≡ true → peer_of a (socket_words (codes "b") b) ≡ Ok b
-unfolding peer_of
+peer_back : (a b : Socket) → IsSocket b → are_two_of_a_family a.address b.address ≡ true → peer_socket_of a (socket_words (codes "b") b) ≡ Ok b
+unfolding peer_socket_of
 peer_back a b h two = rw (socket_b_back b h, two) refl
 
 key_back : (k : SharedKey) → IsKey (Some k) → shared_key_of (codes "shared" ∷ name_of k.alg ∷ hex_of k.master ∷ []) ≡ Ok k
@@ -80,7 +80,7 @@ built x y key es = record { a = x; b = y; shared = key; events = es }
 abbrev after_key : Socket → Socket → Result (Left (Option SharedKey)) TextFault → Result Script TextFault
 after_key x y key = do
   k ← key
-  events ← events_of event_of k.rest
+  events ← events_of link_event_of k.rest
   Ok (built x y k.value events)
 
 rest_back : (key : Option SharedKey) (es : List Event) (missing n : ℕ) (x y : Socket) → IsKey key → All IsEvent es →
@@ -90,7 +90,7 @@ rest_back None es missing n x y h all = rw (events_of-printed n es all) refl
 rest_back (Some k) es missing n x y h all = rw (key_back k h, events_of-printed (n + 1) es all) refl
 
 script_in-printed : (s : Script) (missing : ℕ) → IsScript s → script_in (is_none s.shared) missing (numbered_from 1 (script_lines s)) ≡ Ok s
-unfolding script_in head_in script_lines line_in
+unfolding script_in link_head_in script_lines line_in
 script_in-printed s missing h =
     rw (title_back, socket_a_back s.a h.a, peer_back s.a s.b h.b h.two) (rest_back s.shared s.events missing 4 s.a s.b h.key h.events)
 

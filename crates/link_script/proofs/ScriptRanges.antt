@@ -16,8 +16,8 @@ use Rattle.line_model.specs.Words.{Taken, address_in, algorithm_in, sized_hex_in
 use Rattle.link_model.specs.declared.event.Event.{Event}
 use Rattle.format_model.specs.declared.script.SharedKey.{SharedKey}
 use Rattle.format_model.specs.declared.script.Script.{Script}
-use Rattle.format_model.specs.LinkEvents.{event_of}
-use Rattle.format_model.specs.LinkFiles.{Head, Left, are_two_of_a_family, at_line, event_at, events_of, head_in, is_shared, key_in, line_in, peer_of}
+use Rattle.format_model.specs.LinkEvents.{link_event_of}
+use Rattle.format_model.specs.LinkFiles.{Head, Left, are_two_of_a_family, at_line, event_at, events_of, link_head_in, is_shared, key_in, line_in, peer_socket_of}
 use Rattle.format_model.specs.LinkFiles.{script_in, script_of, shared_key_of, socket_of, title_of}
 use Rattle.text_lines.proofs.SaidLaws.{saying_length}
 use Rattle.link_script.specs.Printed.{event_words, key_lines, script_lines}
@@ -46,8 +46,8 @@ passed : {A : Type 0} (b : Bool) (x y : A) → cond b (Ok x) (Err kind.Word) ≡
 passed true x y h = (refl, cc h)
 passed false x y h = absurd (cc h)
 
-peer_ok : (a : Socket) (ws : List (List ℕ)) (b : Socket) → peer_of a ws ≡ Ok b → IsSocket b × (are_two_of_a_family a.address b.address ≡ true)
-unfolding peer_of
+peer_ok : (a : Socket) (ws : List (List ℕ)) (b : Socket) → peer_socket_of a ws ≡ Ok b → IsSocket b × (are_two_of_a_family a.address b.address ≡ true)
+unfolding peer_socket_of
 peer_ok a ws b h =
     let s = bind_ok (socket_of (codes "b") ws) (λ x. cond (are_two_of_a_family a.address x.address) (Ok x) (Err kind.Word)) b h in
     let c = passed (are_two_of_a_family a.address s.0.address) s.0 b s.2 in
@@ -88,15 +88,15 @@ pub record IsHead (h : Head) (before after : ℕ) : Type 0 where
   pub two : are_two_of_a_family h.a.address h.b.address ≡ true
   pub three : before ≡ 3 + after
 
-pub head_ok : (missing : ℕ) (ls : List Line) (t : Left Head) → head_in missing ls ≡ Ok t → IsHead t.value (length ls) (length t.rest)
-unfolding head_in
+pub head_ok : (missing : ℕ) (ls : List Line) (t : Left Head) → link_head_in missing ls ≡ Ok t → IsHead t.value (length ls) (length t.rest)
+unfolding link_head_in
 head_ok missing ls t h =
     let i = bind_ok (line_in missing kind.Header (title_of (codes "aotcp-link")) ls) _ t h in
     let a = bind_ok (line_in missing kind.Header (socket_of (codes "a")) i.0.rest) _ t i.2 in
-    let b = bind_ok (line_in missing kind.Header (peer_of a.0.value) a.0.rest) _ t a.2 in
+    let b = bind_ok (line_in missing kind.Header (peer_socket_of a.0.value) a.0.rest) _ t a.2 in
     let li = line_ok missing kind.Header (title_of (codes "aotcp-link")) ls i.0 i.1 in
     let la = line_ok missing kind.Header (socket_of (codes "a")) i.0.rest a.0 a.1 in
-    let lb = line_ok missing kind.Header (peer_of a.0.value) a.0.rest b.0 b.1 in
+    let lb = line_ok missing kind.Header (peer_socket_of a.0.value) a.0.rest b.0 b.1 in
     let p = peer_ok a.0.value lb.0 b.0.value lb.1 in
     let is : record { value = record { a = a.0.value; b = b.0.value }; rest = b.0.rest } ≡ t = cc b.2 in
     rw (← is) (record { a = socket_ok (codes "a") la.0 a.0.value la.1; b = p.0; two = p.1; three = omega (arith, li.2, la.2, lb.2) })
@@ -121,19 +121,19 @@ numbered_ok : (n : ℕ) (r : Result Event LineKind) (e : Event) → numbered n r
 numbered_ok n (Ok x) e h = cc h
 numbered_ok n (Err k) e h = absurd (cc h)
 
-event_at_ok : (l : Line) (e : Event) → event_at event_of l ≡ Ok e → IsEvent e
-event_at_ok l e h = event_ok l.words e (numbered_ok l.number (event_of l.words) e (refused (is_shared l.words) l.number kind.Shared _ e h))
+event_at_ok : (l : Line) (e : Event) → event_at link_event_of l ≡ Ok e → IsEvent e
+event_at_ok l e h = event_ok l.words e (numbered_ok l.number (link_event_of l.words) e (refused (is_shared l.words) l.number kind.Shared _ e h))
 
 one_more : (e : Event) (es : List Event) → IsEvent e → All IsEvent es → All IsEvent (e ∷ es)
 one_more e es here more zero d below = here
 one_more e es here more (suc k) d below = more k d (omega arith)
 
-events_ok : (ls : List Line) (es : List Event) → events_of event_of ls ≡ Ok es → All IsEvent es × (length es ≡ length ls)
+events_ok : (ls : List Line) (es : List Event) → events_of link_event_of ls ≡ Ok es → All IsEvent es × (length es ≡ length ls)
 unfolding events_of
 events_ok [] es h = let is : [] ≡ es = cc h in rw (← is) ((λ n d below. absurd (omega arith)), refl)
 events_ok (l ∷ ls) es h =
-    let e = bind_ok (event_at event_of l) _ es h in
-    let others = bind_ok (events_of event_of ls) _ es e.2 in
+    let e = bind_ok (event_at link_event_of l) _ es h in
+    let others = bind_ok (events_of link_event_of ls) _ es e.2 in
     let more = events_ok ls others.0 others.1 in
     let is : e.0 ∷ others.0 ≡ es = cc others.2 in
     rw (← is) (one_more e.0 others.0 (event_at_ok l e.0 e.1) more.0, omega (arith, more.1))
@@ -142,9 +142,9 @@ script_in_ok : (with_keys : Bool) (missing : ℕ) (ls : List Line) (s : Script) 
     IsScript s × (is_none s.shared ≡ with_keys)
 unfolding script_in script_lines
 script_in_ok with_keys missing ls s few h =
-    let t = bind_ok (head_in missing ls) _ s h in
+    let t = bind_ok (link_head_in missing ls) _ s h in
     let k = bind_ok (key_in with_keys missing t.0.rest) _ s t.2 in
-    let e = bind_ok (events_of event_of k.0.rest) _ s k.2 in
+    let e = bind_ok (events_of link_event_of k.0.rest) _ s k.2 in
     let lh = head_ok missing ls t.0 t.1 in
     let lk = key_lines_ok with_keys missing t.0.rest k.0 k.1 in
     let le = events_ok k.0.rest e.0 e.1 in

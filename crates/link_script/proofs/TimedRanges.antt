@@ -15,8 +15,8 @@ use Rattle.ao_base.specs.Results.{◌>>=◌}
 use Rattle.format_model.specs.declared.timed.TimedEvent.{TimedEvent}
 use Rattle.format_model.specs.declared.timed.TimedEvent.TheVariants.{Plain, Wait}
 use Rattle.format_model.specs.declared.timed.TimedScript.{TimedScript}
-use Rattle.format_model.specs.LinkEvents.{event_named, event_of}
-use Rattle.format_model.specs.LinkFiles.{event_at, events_of, head_in, is_shared}
+use Rattle.format_model.specs.LinkEvents.{event_named, link_event_of}
+use Rattle.format_model.specs.LinkFiles.{event_at, events_of, link_head_in, is_shared}
 use Rattle.format_model.specs.TimedRuns.{plain_named, timed_event_of, timed_script_in, timed_script_of, wait_of}
 use Rattle.text_lines.proofs.SaidLaws.{saying_length}
 use Rattle.link_script.specs.Timed.{IsTimedEvent, IsTimedScript}
@@ -34,7 +34,7 @@ wait_ok ws x h =
     rw (← is) (number_ok 1 3600 e.0.rest k.0 k.1)
 
 plain_ok : (name : List ℕ) (ws : List (List ℕ)) (x : TimedEvent) → plain_named name ws ≡ Ok x → IsTimedEvent x
-unfolding event_of word_in
+unfolding link_event_of word_in
 plain_ok name ws x h =
     let e = bind_ok (event_named name ws) (λ y. Ok (Plain y)) x h in
     let is : Plain e.0 ≡ x = cc e.2 in
@@ -78,7 +78,7 @@ events_ok (l ∷ ls) es h =
 script_in_ok : (missing : ℕ) (ls : List Line) (s : TimedScript) → length ls ≤ 20000 → timed_script_in missing ls ≡ Ok s → IsTimedScript s
 unfolding timed_script_in
 script_in_ok missing ls s few h =
-    let t = bind_ok (head_in missing ls) _ s h in
+    let t = bind_ok (link_head_in missing ls) _ s h in
     let e = bind_ok (events_of timed_event_of t.0.rest) _ s t.2 in
     let lh = head_ok missing ls t.0 t.1 in
     let le = events_ok t.0.rest e.0 e.1 in

@@ -11,7 +11,7 @@ use Rattle.text_lines.specs.declared.refusal.Refusal.TheVariants as refusal
 use Rattle.link_model.specs.declared.event.Event.{Event}
 use Rattle.format_model.specs.declared.timed.TimedEvent.{TimedEvent}
 use Rattle.format_model.specs.declared.timed.TimedEvent.TheVariants.{Plain}
-use Rattle.format_model.specs.LinkEvents.{event_of}
+use Rattle.format_model.specs.LinkEvents.{link_event_of}
 use Rattle.format_model.specs.TimedRuns.{plain_named, timed_event_of, wait_of}
 use Rattle.link_script.specs.Timed.{plain_of}
 
@@ -39,6 +39,6 @@ is_wait (w ∷ ws) rest h = chosen (bytes_eq w (codes "wait")) ws rest wait_of (
 
 -- a line that doesn't
 pub isnt_wait : (ws : List (List ℕ)) (e : LineKind) → Err e ≡ literal_in (codes "wait") ws → timed_event_of ws ≡ plain_of ws
-unfolding literal_in word_in timed_event_of event_of
+unfolding literal_in word_in timed_event_of link_event_of
 isnt_wait [] e h = refl
 isnt_wait (w ∷ ws) e h = other (bytes_eq w (codes "wait")) ws e (wait_of ws) (plain_named w ws) h

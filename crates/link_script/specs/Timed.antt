@@ -6,14 +6,14 @@ use Rattle.ao_base.specs.Results.{◌>>=◌}
 use Rattle.format_model.specs.declared.timed.TimedEvent.{TimedEvent}
 use Rattle.format_model.specs.declared.timed.TimedEvent.TheVariants.{Plain, Wait}
 use Rattle.format_model.specs.declared.timed.TimedScript.{TimedScript}
-use Rattle.format_model.specs.LinkEvents.{event_of}
+use Rattle.format_model.specs.LinkEvents.{link_event_of}
 use Rattle.format_model.specs.LinkFiles.{are_two_of_a_family}
 use Rattle.link_script.specs.Scripts.{IsEvent, IsSocket, IsWithin}
 
 -- the plain event of a line, as one of a link with waits
 abbrev pub plain_of : List (List ℕ) → Result TimedEvent LineKind
 plain_of ws = do
-  e ← event_of ws
+  e ← link_event_of ws
   Ok (Plain e)
 
 -- the numbers and lengths of an event are in their ranges, and a wait is of 1 to 3600 seconds

@@ -2,7 +2,7 @@
 ghost use Rattle.std.specs.Prelude.{◌≡◌, [], ◌∷◌, codes, IfOk, IfErr};
 ghost use Rattle.ao_base.specs.declared.line_kind.LineKind.TheVariants as line_kind;
 ghost use Rattle.line_model.specs.declared.text_fault.TextFault.TheVariants as fault;
-ghost use Rattle.format_model.specs.LinkFiles.{title_of, socket_of, are_two_of_a_family, peer_of, line_in, head_in};
+ghost use Rattle.format_model.specs.LinkFiles.{title_of, socket_of, are_two_of_a_family, peer_socket_of, line_in, link_head_in};
 ghost use Rattle.link_script.specs.Left.{leaves, said_head};
 
 use ao_base::{Address, LineKind, Socket};
@@ -62,9 +62,9 @@ fn are_two(a: &Address, b: &Address) -> bool
     }
 }
 
-#[tactic(auto, unfolding(format_model::specs::LinkFiles::peer_of))]
+#[tactic(auto, unfolding(format_model::specs::LinkFiles::peer_socket_of))]
 fn peer(a: &Socket, words: &mut LineWords) -> Result<Socket, LineKind>
-    ensures { result ≡ peer_of a.now words.old }
+    ensures { result ≡ peer_socket_of a.now words.old }
 {
     let b = socket(b"b", words)?;
     if are_two(&a.address, &b.address) {
@@ -101,7 +101,7 @@ fn socket_line(lines: &mut SayingLines, missing: u32) -> Result<Socket, TextFaul
 /// The line of b's socket, beside a's.
 #[tactic(auto, unfolding(format_model::specs::LinkFiles::line_in))]
 fn peer_line(lines: &mut SayingLines, missing: u32, a: &Socket) -> Result<Socket, TextFault>
-    ensures { leaves result lines.new ≡ line_in missing line_kind.Header (peer_of a.now) lines.old }
+    ensures { leaves result lines.new ≡ line_in missing line_kind.Header (peer_socket_of a.now) lines.old }
 {
     let mut line = next_line(lines, missing, LineKind::Header)?;
     match peer(a, &mut line.words) {
@@ -114,9 +114,9 @@ fn peer_line(lines: &mut SayingLines, missing: u32, a: &Socket) -> Result<Socket
 ///
 /// `Line` is the first faulty one of them, with the kind `Header`; one that is missing has the
 /// number `missing`, that after all lines. No more is said of the lines that are left after a fault.
-#[tactic(auto, unfolding(format_model::specs::LinkFiles::head_in))]
+#[tactic(auto, unfolding(format_model::specs::LinkFiles::link_head_in))]
 pub fn read_head(lines: &mut SayingLines, missing: u32) -> Result<Head, TextFault>
-    ensures { leaves (said_head result) lines.new ≡ head_in missing lines.old }
+    ensures { leaves (said_head result) lines.new ≡ link_head_in missing lines.old }
 {
     title_line(lines, missing)?;
     let a = socket_line(lines, missing)?;

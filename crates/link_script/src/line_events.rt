@@ -3,7 +3,7 @@ ghost use Rattle.std.specs.Prelude.{◌≡◌, ◌≤◌, ℕ};
 ghost use Rattle.ao_base.specs.declared.end.End.{End as OneEnd};
 ghost use Rattle.link_model.specs.declared.event.Event.{Event as OneEvent};
 ghost use Rattle.text_lines.specs.Readings.{Tells};
-ghost use Rattle.format_model.specs.LinkEvents.{end_of, number_of, start_of, give_of, fill_of, inject_of, alter_of, dump_of, event_named, event_of};
+ghost use Rattle.format_model.specs.LinkEvents.{event_of_end, event_of_number, start_of, give_of, fill_of, inject_of, alter_of, dump_of, event_named, link_event_of};
 ghost use Rattle.link_script.specs.Making.{MakesOfEnd, MakesOfNumber};
 ghost use Rattle.link_script.specs.Names.{name_text};
 
@@ -30,7 +30,7 @@ const MOST_ROWS: u64 = 64;
 /// What `made` makes of an end alone.
 fn end_alone<F: FnOnce(End) -> Event>(words: &mut LineWords, made: F) -> Result<Event, LineKind>
     requires { F.IsAlwaysCallable made }
-    ensures { (meant : OneEnd → OneEvent) → MakesOfEnd (F.post made) meant → result ≡ end_of meant words.old }
+    ensures { (meant : OneEnd → OneEvent) → MakesOfEnd (F.post made) meant → result ≡ event_of_end meant words.old }
 {
     let end = words.end()?;
     words.nothing()?;
@@ -45,7 +45,7 @@ fn numbered<F: FnOnce(End, u64) -> Event>(
     made: F,
 ) -> Result<Event, LineKind>
     requires { (e : OneEnd) (n : ℕ) → n ≤ high → F.pre made e n }
-    ensures { (meant : OneEnd → ℕ → OneEvent) → MakesOfNumber (F.post made) meant → result ≡ number_of meant low high words.old }
+    ensures { (meant : OneEnd → ℕ → OneEvent) → MakesOfNumber (F.post made) meant → result ≡ event_of_number meant low high words.old }
 {
     let end = words.end()?;
     let number = words.number(low, high)?;
@@ -149,9 +149,9 @@ fn named(alloc: Global, name: Name, words: &mut LineWords) -> Result<Event, Refu
 /// is missing or surplus, `Number` where it isn't a decimal below 2^64, `Hex` where it isn't
 /// hexadecimal, and `Range` where a number or a length is out of its range. `Memory` only for want
 /// of memory. No more is said of the words that are left.
-#[tactic(auto, unfolding(format_model::specs::LinkEvents::event_of), using(crate::proofs::NameLaws::named_or_not))]
+#[tactic(auto, unfolding(format_model::specs::LinkEvents::link_event_of), using(crate::proofs::NameLaws::named_or_not))]
 pub fn read_event(alloc: Global, words: &mut LineWords) -> Result<Event, Refusal>
-    ensures { Tells result (event_of words.old) }
+    ensures { Tells result (link_event_of words.old) }
 {
     match Name::read(words.word()?) {
         Some(name) => named(alloc, name, words),

@@ -3,7 +3,7 @@ ghost use Rattle.std.specs.Prelude.{◌≡◌, IfOk};
 ghost use Rattle.std.specs.Option.{is_none};
 ghost use Rattle.ao_base.specs.declared.line_kind.LineKind.TheVariants as line_kind;
 ghost use Rattle.text_lines.specs.Readings.{Answers, Tells};
-ghost use Rattle.format_model.specs.LinkEvents.{event_of};
+ghost use Rattle.format_model.specs.LinkEvents.{link_event_of};
 ghost use Rattle.format_model.specs.LinkFiles.{event_at, events_of, is_shared, key_in, line_in, script_of, shared_key_of};
 ghost use Rattle.link_script.specs.Left.{leaves};
 ghost use Rattle.link_script.specs.Scripts.{IsScript};
@@ -70,7 +70,7 @@ pub(crate) fn is_shared(words: &LineWords) -> bool
 
 /// The event of a line.
 fn event_line(alloc: Global, mut line: Saying) -> Result<Event, TextFault>
-    ensures { Answers result (event_at event_of (record { number = line.entry.number; words = line.entry.words })) }
+    ensures { Answers result (event_at link_event_of (record { number = line.entry.number; words = line.entry.words })) }
 {
     if is_shared(&line.words) {
         return Err(TextFault::Line(line.number, LineKind::Shared));
@@ -83,7 +83,7 @@ fn event_line(alloc: Global, mut line: Saying) -> Result<Event, TextFault>
 
 /// The events of the lines that are left.
 fn events(alloc: Global, lines: &mut SayingLines) -> Result<Events, TextFault>
-    ensures { Answers result (events_of event_of lines.old) }
+    ensures { Answers result (events_of link_event_of lines.old) }
 {
     let mut events = Vec::new(alloc);
     while let Some(line) = lines.next() {

@@ -4,5 +4,5 @@ use Rattle.format_model.specs.TimedRuns as book
 use Rattle.link_world.specs.declared.front.Front.{Front}
 
 -- the front of the definitions
-abbrev pub front_of : Front → book.Front
+abbrev pub front_of : Front → book.SendFront
 front_of f = record { una = f.una; next = f.next }

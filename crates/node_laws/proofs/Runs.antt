@@ -5,7 +5,7 @@ use Rattle.std.specs.List.{list_any}
 use Rattle.ao_base.specs.declared.address.Pair.{Pair}
 use Rattle.key_model.specs.Rows.{Row}
 use Rattle.format_model.specs.declared.node.NodeEvent.{NodeEvent}
-use Rattle.format_model.specs.NodeRuns.{NodeState, NodeOutcome, no_ends, most_ends, node_step, outcomes, outcomes_from}
+use Rattle.format_model.specs.NodeRuns.{NodeState, NodeOutcome, no_ends, most_ends, node_step, outcomes, node_outcomes_from}
 use Rattle.node_laws.specs.Alone.{Alone, is_mine, mine, my_outcomes, is_placed}
 use Rattle.node_laws.proofs.Held.{IsOnce}
 use Rattle.node_laws.proofs.Steps.{alone, mine_step, other_step, once_step}
@@ -22,18 +22,18 @@ placed_first o b e = at (is_placed o) e
     at false e = absurd (cc)
 
 run_alone : (most : ℕ) (rows : List Row) (p : Pair) (n : NodeState) (es : List NodeEvent) → nat_le most 0 ≡ false → IsOnce p n.ends
-    → finds_full (my_outcomes p es (outcomes_from most rows n es)) ≡ false
-    → my_outcomes p es (outcomes_from most rows n es) ≡ outcomes_from most rows (alone p n) (mine p es)
+    → finds_full (my_outcomes p es (node_outcomes_from most rows n es)) ≡ false
+    → my_outcomes p es (node_outcomes_from most rows n es) ≡ node_outcomes_from most rows (alone p n) (mine p es)
 run_alone most rows p n [] m once f = refl
 run_alone most rows p n (e ∷ es) m once f =
     at (is_mine p e) refl f (run_alone most rows p (node_step most rows n e).node es m (once_step most rows p n e once))
   where
     rest : List NodeOutcome
-    rest = my_outcomes p es (outcomes_from most rows (node_step most rows n e).node es)
+    rest = my_outcomes p es (node_outcomes_from most rows (node_step most rows n e).node es)
 
     at : (v : Bool) → is_mine p e ≡ v → finds_full (if v then (node_step most rows n e).outcome ∷ rest else rest) ≡ false
-        → (finds_full rest ≡ false → rest ≡ outcomes_from most rows (alone p (node_step most rows n e).node) (mine p es))
-        → (if v then (node_step most rows n e).outcome ∷ rest else rest) ≡ outcomes_from most rows (alone p n) (if v then e ∷ mine p es else mine p es)
+        → (finds_full rest ≡ false → rest ≡ node_outcomes_from most rows (alone p (node_step most rows n e).node) (mine p es))
+        → (if v then (node_step most rows n e).outcome ∷ rest else rest) ≡ node_outcomes_from most rows (alone p n) (if v then e ∷ mine p es else mine p es)
     at true i f next =
         let t = placed_first (node_step most rows n e).outcome (finds_full rest) f in
         let step = mine_step most rows p n e m once i t.0 in

@@ -11,7 +11,7 @@ use Rattle.format_model.specs.declared.node.Act.{Act}
 use Rattle.format_model.specs.declared.node.Act.TheVariants as act
 use Rattle.format_model.specs.declared.node.NodeEvent.{NodeEvent}
 use Rattle.format_model.specs.declared.node.NodeEvent.TheVariants as event
-use Rattle.format_model.specs.NodeRuns.{Held, NodeState, NodeStep, Called, Answered, Done, NodeFull, InUse, Full, HasClosed, Idle, Nothing, called, sent, take_called, same_pair, end_of, ticked, stays, after_call, on_held, new_end, on_other, on_pair, arrived_at, pair_of, injected, node_step}
+use Rattle.format_model.specs.NodeRuns.{Held, NodeState, NodeStep, Called, Answered, Done, NodeFull, InUse, Full, HasClosed, Idle, Nothing, called, made_called, take_called, same_pair, held_end, ends_ticked, stays, after_call, on_held, new_end, on_other, on_pair, arrived_at, pair_reached, injected, node_step}
 use Rattle.node_laws.specs.Alone.{is_for, is_mine, is_placed}
 use Rattle.node_laws.proofs.Held.{held, IsOnce, end_with_same, end_with_other, end_without_other, end_ticked, end_pushed_other, end_pushed_same, once_with, once_without, once_ticked, once_pushed}
 use Rattle.node_laws.proofs.Pairs.{same_pair_is, same_pair-refl}
@@ -20,8 +20,8 @@ use Rattle.node_laws.proofs.Pairs.{same_pair_is, same_pair-refl}
 abbrev act_on : List Row → Pair → ℕ → EndState → Act → Called
 act_on rows pair now s (act.Give piece) = offered called HasClosed Full Done piece s
 act_on rows pair now s (act.Take count) = take_called count s
-act_on rows pair now s act.Send = sent s Idle (emit rows pair now s)
-act_on rows pair now s act.Resend = sent s Nothing (resend rows pair now s)
+act_on rows pair now s act.Send = made_called s Idle (emit rows pair now s)
+act_on rows pair now s act.Resend = made_called s Nothing (resend rows pair now s)
 act_on rows pair now s act.Close = called (close s) Done
 act_on rows pair now s act.Abort = called (abort s) Done
 act_on rows pair now s _ = called s InUse
@@ -33,7 +33,7 @@ only p (Some s) = held p s ∷ []
 
 -- a node with the connection of this pair alone
 abbrev pub alone : Pair → NodeState → NodeState
-alone p n = record { clock = n.clock; ends = only p (end_of p n.ends) }
+alone p n = record { clock = n.clock; ends = only p (held_end p n.ends) }
 
 -- a step of it, beside the step of the whole node
 abbrev pub lone : Pair → NodeStep → NodeStep
@@ -42,22 +42,22 @@ lone p step = record { node = alone p step.node; outcome = step.outcome }
 at_ends : (p : Pair) (now : ℕ) (outcome : _) (hs ks : List Held) → hs ≡ ks → stays (record { clock = now; ends = hs }) outcome ≡ stays (record { clock = now; ends = ks }) outcome
 at_ends p now outcome hs ks e = rw e refl
 
-pub end_of_only : (p : Pair) (o : Option EndState) → end_of p (only p o) ≡ o
+pub end_of_only : (p : Pair) (o : Option EndState) → held_end p (only p o) ≡ o
 end_of_only p None = refl
 end_of_only p (Some s) = rw (same_pair-refl p) refl
 
 -- ---- an event of the connection
 
-after_call_alone : (p : Pair) (n : NodeState) (s : EndState) (c : Called) → end_of p n.ends ≡ Some s
+after_call_alone : (p : Pair) (n : NodeState) (s : EndState) (c : Called) → held_end p n.ends ≡ Some s
     → after_call (record { clock = n.clock; ends = only p (Some s) }) p c ≡ lone p (after_call n p c)
 after_call_alone p n s c e = rw (end_with_same p c.state s n.ends e, same_pair-refl p) refl
 
-arrived_alone : (rows : List Row) (p : Pair) (n : NodeState) (r : Reading) (o : Option EndState) → end_of p n.ends ≡ o
+arrived_alone : (rows : List Row) (p : Pair) (n : NodeState) (r : Reading) (o : Option EndState) → held_end p n.ends ≡ o
     → arrived_at rows (record { clock = n.clock; ends = only p o }) p r o ≡ lone p (arrived_at rows n p r o)
 arrived_alone rows p n r None e = rw e refl
 arrived_alone rows p n r (Some s) e = let a = arrive rows p n.clock s r in after_call_alone p n s (called a.state (Answered a.answer)) e
 
-new_end_alone : (most : ℕ) (p : Pair) (n : NodeState) (s : EndState) → nat_le most 0 ≡ false → end_of p n.ends ≡ None → is_placed (new_end most n p s).outcome ≡ true
+new_end_alone : (most : ℕ) (p : Pair) (n : NodeState) (s : EndState) → nat_le most 0 ≡ false → held_end p n.ends ≡ None → is_placed (new_end most n p s).outcome ≡ true
     → new_end most (record { clock = n.clock; ends = [] }) p s ≡ lone p (new_end most n p s)
 new_end_alone most p n s m e f = at (nat_le most (length n.ends)) f
   where
@@ -66,7 +66,7 @@ new_end_alone most p n s m e f = at (nat_le most (length n.ends)) f
     at true f = absurd (cc)
     at false f = rw (m, end_pushed_same p s n.ends e) refl
 
-other_alone : (most : ℕ) (p : Pair) (n : NodeState) (a : Act) → nat_le most 0 ≡ false → end_of p n.ends ≡ None → is_placed (on_other most n p a).outcome ≡ true
+other_alone : (most : ℕ) (p : Pair) (n : NodeState) (a : Act) → nat_le most 0 ≡ false → held_end p n.ends ≡ None → is_placed (on_other most n p a).outcome ≡ true
     → on_other most (record { clock = n.clock; ends = [] }) p a ≡ lone p (on_other most n p a)
 other_alone most p n (act.Open isn) m e f = new_end_alone most p n (connected p isn) m e f
 other_alone most p n (act.Listen isn) m e f = new_end_alone most p n (listening p isn) m e f
@@ -79,7 +79,7 @@ other_alone most p n act.Close m e f = rw e refl
 other_alone most p n act.Abort m e f = rw e refl
 other_alone most p n act.Remove m e f = rw e refl
 
-held_alone : (rows : List Row) (p : Pair) (n : NodeState) (s : EndState) (a : Act) → IsOnce p n.ends → end_of p n.ends ≡ Some s
+held_alone : (rows : List Row) (p : Pair) (n : NodeState) (s : EndState) (a : Act) → IsOnce p n.ends → held_end p n.ends ≡ Some s
     → on_held rows (record { clock = n.clock; ends = only p (Some s) }) p s a ≡ lone p (on_held rows n p s a)
 held_alone rows p n s act.Remove o e = rw (o, same_pair-refl p) refl
 held_alone rows p n s (act.Open isn) o e = after_call_alone p n s (act_on rows p n.clock s (act.Open isn)) e
@@ -92,7 +92,7 @@ held_alone rows p n s act.Resend o e = after_call_alone p n s (act_on rows p n.c
 held_alone rows p n s act.Close o e = after_call_alone p n s (act_on rows p n.clock s act.Close) e
 held_alone rows p n s act.Abort o e = after_call_alone p n s (act_on rows p n.clock s act.Abort) e
 
-pair_alone : (most : ℕ) (rows : List Row) (p : Pair) (n : NodeState) (a : Act) (o : Option EndState) → nat_le most 0 ≡ false → IsOnce p n.ends → end_of p n.ends ≡ o
+pair_alone : (most : ℕ) (rows : List Row) (p : Pair) (n : NodeState) (a : Act) (o : Option EndState) → nat_le most 0 ≡ false → IsOnce p n.ends → held_end p n.ends ≡ o
     → is_placed (on_pair most rows n p a o).outcome ≡ true
     → on_pair most rows (record { clock = n.clock; ends = only p o }) p a o ≡ lone p (on_pair most rows n p a o)
 pair_alone most rows p n a None m once e f = other_alone most p n a m e f
@@ -101,9 +101,9 @@ pair_alone most rows p n a (Some s) m once e f = held_alone rows p n s a once e
 -- an event of the connection does to the connection alone what it does to it among others
 pub mine_step : (most : ℕ) (rows : List Row) (p : Pair) (n : NodeState) (e : NodeEvent) → nat_le most 0 ≡ false → IsOnce p n.ends → is_mine p e ≡ true
     → is_placed (node_step most rows n e).outcome ≡ true → node_step most rows (alone p n) e ≡ lone p (node_step most rows n e)
-mine_step most rows p n (event.Clock seconds) m once i f = rw (end_ticked p seconds n.ends) (at (end_of p n.ends))
+mine_step most rows p n (event.Clock seconds) m once i f = rw (end_ticked p seconds n.ends) (at (held_end p n.ends))
   where
-    at : (o : Option EndState) → stays (record { clock = seconds; ends = ticked seconds (only p o) }) Done ≡ stays (record { clock = seconds; ends = only p (option_map (tick seconds) o) }) Done
+    at : (o : Option EndState) → stays (record { clock = seconds; ends = ends_ticked seconds (only p o) }) Done ≡ stays (record { clock = seconds; ends = only p (option_map (tick seconds) o) }) Done
     at None = refl
     at (Some s) = refl
 mine_step most rows p n (event.Inject bytes) m once i f = at (reading bytes) i
@@ -111,11 +111,11 @@ mine_step most rows p n (event.Inject bytes) m once i f = at (reading bytes) i
     at : (r : Reading) → is_for p r ≡ true → injected rows (alone p n) r ≡ lone p (injected rows n r)
     at (Unread fault) i = absurd (cc)
     at (Read d) i =
-        let is = same_pair_is (pair_of d) p i in
-        rw (is, end_of_only p (end_of p n.ends)) (arrived_alone rows p n (Read d) (end_of p n.ends) refl)
+        let is = same_pair_is (pair_reached d) p i in
+        rw (is, end_of_only p (held_end p n.ends)) (arrived_alone rows p n (Read d) (held_end p n.ends) refl)
 mine_step most rows p n (event.On q a) m once i f =
     let is = same_pair_is q p i in
-    rw (is, end_of_only p (end_of p n.ends)) (pair_alone most rows p n a (end_of p n.ends) m once refl (rw is at f))
+    rw (is, end_of_only p (held_end p n.ends)) (pair_alone most rows p n a (held_end p n.ends) m once refl (rw is at f))
 
 -- ---- an event of another connection
 
@@ -162,12 +162,12 @@ other_step most rows p n (event.Inject bytes) i = at (reading bytes) i
   where
     at : (r : Reading) → is_for p r ≡ false → alone p (injected rows n r).node ≡ alone p n
     at (Unread fault) i = refl
-    at (Read d) i = arrived_other rows p (pair_of d) n (Read d) (end_of (pair_of d) n.ends) i
-other_step most rows p n (event.On q a) i = pair_other most rows p q n a (end_of q n.ends) i
+    at (Read d) i = arrived_other rows p (pair_reached d) n (Read d) (held_end (pair_reached d) n.ends) i
+other_step most rows p n (event.On q a) i = pair_other most rows p q n a (held_end q n.ends) i
 
 -- ---- no pair is held twice after an event
 
-new_end_once : (most : ℕ) (p q : Pair) (n : NodeState) (s : EndState) → end_of q n.ends ≡ None → IsOnce p n.ends → IsOnce p (new_end most n q s).node.ends
+new_end_once : (most : ℕ) (p q : Pair) (n : NodeState) (s : EndState) → held_end q n.ends ≡ None → IsOnce p n.ends → IsOnce p (new_end most n q s).node.ends
 new_end_once most p q n s e o = at (nat_le most (length n.ends))
   where
     at : (v : Bool) → IsOnce p (let r : NodeStep = if v then stays n NodeFull else stays (record n { ends = n.ends ++ held q s ∷ [] }) Done in r.node.ends)
@@ -178,7 +178,7 @@ arrived_once : (rows : List Row) (p q : Pair) (n : NodeState) (r : Reading) (o :
 arrived_once rows p q n r None once = once
 arrived_once rows p q n r (Some s) once = once_with p q (arrive rows q n.clock s r).state n.ends once
 
-pair_once : (most : ℕ) (rows : List Row) (p q : Pair) (n : NodeState) (a : Act) (o : Option EndState) → end_of q n.ends ≡ o → IsOnce p n.ends
+pair_once : (most : ℕ) (rows : List Row) (p q : Pair) (n : NodeState) (a : Act) (o : Option EndState) → held_end q n.ends ≡ o → IsOnce p n.ends
     → IsOnce p (on_pair most rows n q a o).node.ends
 pair_once most rows p q n (act.Open isn) None e once = new_end_once most p q n (connected q isn) e once
 pair_once most rows p q n (act.Listen isn) None e once = new_end_once most p q n (listening q isn) e once
@@ -208,5 +208,5 @@ once_step most rows p n (event.Inject bytes) once = at (reading bytes)
   where
     at : (r : Reading) → IsOnce p (injected rows n r).node.ends
     at (Unread fault) = once
-    at (Read d) = arrived_once rows p (pair_of d) n (Read d) (end_of (pair_of d) n.ends) once
-once_step most rows p n (event.On q a) once = pair_once most rows p q n a (end_of q n.ends) refl once
+    at (Read d) = arrived_once rows p (pair_reached d) n (Read d) (held_end (pair_reached d) n.ends) once
+once_step most rows p n (event.On q a) once = pair_once most rows p q n a (held_end q n.ends) refl once

@@ -6,12 +6,12 @@ use Rattle.segment_model.specs.Segments.{Reading, Read, Bad as Unread, reading}
 use Rattle.key_model.specs.Rows.{Row}
 use Rattle.format_model.specs.declared.node.NodeEvent.{NodeEvent}
 use Rattle.format_model.specs.declared.node.NodeEvent.TheVariants as event
-use Rattle.format_model.specs.NodeRuns.{NodeOutcome, NodeFull, same_pair, pair_of, outcomes}
+use Rattle.format_model.specs.NodeRuns.{NodeOutcome, NodeFull, same_pair, pair_reached, outcomes}
 
 -- the datagram is for the connection of this pair
 abbrev pub is_for : Pair → Reading → Bool
 is_for pair (Unread fault) = false
-is_for pair (Read d) = same_pair (pair_of d) pair
+is_for pair (Read d) = same_pair (pair_reached d) pair
 
 -- the event happens at the connection of this pair: the clock's, its own, and its datagrams
 abbrev pub is_mine : Pair → NodeEvent → Bool

@@ -50,7 +50,7 @@ made_told before after m x h = record {
 }
 
 pub sent_follows : (s : EndState) (e : Endpoint) (before after : List ℕ) (a : Emission) (b : Emitted) → EmitsAs s e before after a b
-    → Follows e after (told_made a) (book.sent s book.Idle b)
+    → Follows e after (told_made a) (book.made_called s book.Idle b)
 sent_follows s e before after emissions.Idle Quiet h = record { stands = h.stands; tells = refl }
 sent_follows s e before after emissions.Idle NoKey h = absurd h.answer_is
 sent_follows s e before after emissions.Idle (Emits x) h = absurd h.answer_is
@@ -62,7 +62,7 @@ sent_follows s e before after (emissions.Segment m) NoKey h = absurd h.answer_is
 sent_follows s e before after (emissions.Segment m) (Emits x) h = record { stands = h.stands; tells = (x, refl, made_told before after m x h.answer_is) }
 
 pub resent_follows : (s : EndState) (e : Endpoint) (before after : List ℕ) (a : Resent) (b : Emitted) → ResendsAs s e before after a b
-    → Follows e after (told_again a) (book.sent s book.Nothing b)
+    → Follows e after (told_again a) (book.made_called s book.Nothing b)
 resent_follows s e before after resents.Nothing Quiet h = record { stands = h.stands; tells = refl }
 resent_follows s e before after resents.Nothing NoKey h = absurd h.answer_is
 resent_follows s e before after resents.Nothing (Emits x) h = absurd h.answer_is

@@ -5,7 +5,7 @@ use Rattle.std.specs.Prelude.{is_some, option_map, if◌then◌else◌}
 use Rattle.ao_base.specs.declared.address.Pair.{Pair}
 use Rattle.key_model.specs.Rows.{Row}
 use Rattle.endpoint_model.specs.States.{EndState, tick}
-use Rattle.format_model.specs.NodeRuns.{Held, same_pair, end_of, with_end, without_end, ticked}
+use Rattle.format_model.specs.NodeRuns.{Held, same_pair, held_end, with_end, without_end, ends_ticked}
 use Rattle.node_laws.proofs.Pairs.{same_pair_is}
 use Rattle.node_laws.proofs.Held.{held, IsOnce, end_with_same, end_with_other, end_without_other, end_ticked, end_pushed_other, end_pushed_same}
 use Rattle.tcp_endpoint.specs.declared.endpoint.Endpoint.{Endpoint}
@@ -22,16 +22,16 @@ length_with p s (h ∷ hs) = at (same_pair h.pair p) (length_with p s hs)
     at true i = refl
     at false i = omega arith
 
-length_without : (p : Pair) (s : EndState) (hs : List Held) → end_of p hs ≡ Some s → length (without_end p hs) + 1 ≡ length hs
+length_without : (p : Pair) (s : EndState) (hs : List Held) → held_end p hs ≡ Some s → length (without_end p hs) + 1 ≡ length hs
 length_without p s [] e = absurd (cc)
 length_without p s (h ∷ hs) e = at (same_pair h.pair p) (λ f. length_without p s hs f) e
   where
-    at : (v : Bool) → (end_of p hs ≡ Some s → length (without_end p hs) + 1 ≡ length hs) → (if v then Some h.state else end_of p hs) ≡ Some s
+    at : (v : Bool) → (held_end p hs ≡ Some s → length (without_end p hs) + 1 ≡ length hs) → (if v then Some h.state else held_end p hs) ≡ Some s
         → length (if v then hs else h ∷ without_end p hs) + 1 ≡ length (h ∷ hs)
     at true next e = omega arith
     at false next e = let i = next e in omega arith
 
-length_ticked : (now : ℕ) (hs : List Held) → length (ticked now hs) ≡ length hs
+length_ticked : (now : ℕ) (hs : List Held) → length (ends_ticked now hs) ≡ length hs
 length_ticked now [] = refl
 length_ticked now (h ∷ hs) = let i = length_ticked now hs in omega arith
 
@@ -52,40 +52,40 @@ ticks_at rows p now (Some e) after None h t = absurd h
 
 -- ---- what the node holds
 
-pub put_holds : (rows : List Row) (h after : Holding) (p : Pair) (f : Endpoint) (s t : EndState) (hs : List Held) → HoldsAs rows h hs → end_of p hs ≡ Some s
+pub put_holds : (rows : List Row) (h after : Holding) (p : Pair) (f : Endpoint) (s t : EndState) (hs : List Held) → HoldsAs rows h hs → held_end p hs ≡ Some s
     → ((q : Pair) → end_at after q ≡ (if same_pair p q then Some f else end_at h q)) → ends after ≡ ends h → StandsFor rows p f t → HoldsAs rows after (with_end p t hs)
 put_holds rows h after p f s t hs H e finds count S = record { each = λ q. at q (same_pair p q) refl; count = count ∙ H.count ∙ sym (length_with p t hs) }
   where
-    at : (q : Pair) (v : Bool) → same_pair p q ≡ v → StandsAt rows q (end_at after q) (end_of q (with_end p t hs))
-    at q true g = let is = same_pair_is p q g in let here : StandsAt rows p (Some f) (end_of p (with_end p t hs)) = rw (end_with_same p t s hs e) S in rw (finds q, g) (rw (← is) here)
+    at : (q : Pair) (v : Bool) → same_pair p q ≡ v → StandsAt rows q (end_at after q) (held_end q (with_end p t hs))
+    at q true g = let is = same_pair_is p q g in let here : StandsAt rows p (Some f) (held_end p (with_end p t hs)) = rw (end_with_same p t s hs e) S in rw (finds q, g) (rw (← is) here)
     at q false g = rw (finds q, g, end_with_other q p t hs g) (H.each q)
 
-pub drop_holds : (rows : List Row) (h after : Holding) (p : Pair) (s : EndState) (hs : List Held) → HoldsAs rows h hs → end_of p hs ≡ Some s → IsOnce p hs
+pub drop_holds : (rows : List Row) (h after : Holding) (p : Pair) (s : EndState) (hs : List Held) → HoldsAs rows h hs → held_end p hs ≡ Some s → IsOnce p hs
     → Removes h after p → HoldsAs rows after (without_end p hs)
 drop_holds rows h after p s hs H e once R = record { each = λ q. at q (same_pair p q) refl; count = count }
   where
-    at : (q : Pair) (v : Bool) → same_pair p q ≡ v → StandsAt rows q (end_at after q) (end_of q (without_end p hs))
-    at q true g = let is = same_pair_is p q g in let here : StandsAt rows p None (end_of p (without_end p hs)) = rw once tt in rw (R.finds q, g) (rw (← is) here)
+    at : (q : Pair) (v : Bool) → same_pair p q ≡ v → StandsAt rows q (end_at after q) (held_end q (without_end p hs))
+    at q true g = let is = same_pair_is p q g in let here : StandsAt rows p None (held_end p (without_end p hs)) = rw once tt in rw (R.finds q, g) (rw (← is) here)
     at q false g = rw (R.finds q, g, end_without_other q p hs g) (H.each q)
 
     count : ends after ≡ length (without_end p hs)
     count =
-        let is : holds h p ≡ true = held_alike rows p (end_at h p) (end_of p hs) (H.each p) ∙ rw e refl in
+        let is : holds h p ≡ true = held_alike rows p (end_at h p) (held_end p hs) (H.each p) ∙ rw e refl in
         let less : ends after + 1 ≡ ends h = rw is at R.count in
         let one = length_without p s hs e in
         let all = H.count in
         omega arith
 
-pub add_holds : (rows : List Row) (h after : Holding) (p : Pair) (f : Endpoint) (t : EndState) (hs : List Held) → HoldsAs rows h hs → end_of p hs ≡ None
+pub add_holds : (rows : List Row) (h after : Holding) (p : Pair) (f : Endpoint) (t : EndState) (hs : List Held) → HoldsAs rows h hs → held_end p hs ≡ None
     → Adds h after p f → StandsFor rows p f t → HoldsAs rows after (hs ++ held p t ∷ [])
 add_holds rows h after p f t hs H e A S = record { each = λ q. at q (same_pair p q) refl; count = A.count ∙ ap (λ n. n + 1) H.count ∙ sym (length-append hs (held p t ∷ [])) }
   where
-    at : (q : Pair) (v : Bool) → same_pair p q ≡ v → StandsAt rows q (end_at after q) (end_of q (hs ++ held p t ∷ []))
-    at q true g = let is = same_pair_is p q g in let here : StandsAt rows p (Some f) (end_of p (hs ++ held p t ∷ [])) = rw (end_pushed_same p t hs e) S in rw (A.finds q, g) (rw (← is) here)
+    at : (q : Pair) (v : Bool) → same_pair p q ≡ v → StandsAt rows q (end_at after q) (held_end q (hs ++ held p t ∷ []))
+    at q true g = let is = same_pair_is p q g in let here : StandsAt rows p (Some f) (held_end p (hs ++ held p t ∷ [])) = rw (end_pushed_same p t hs e) S in rw (A.finds q, g) (rw (← is) here)
     at q false g = rw (A.finds q, g, end_pushed_other q p t hs g) (H.each q)
 
-pub tick_holds : (rows : List Row) (h after : Holding) (now : ℕ) (hs : List Held) → HoldsAs rows h hs → Ticks now h after → HoldsAs rows after (ticked now hs)
+pub tick_holds : (rows : List Row) (h after : Holding) (now : ℕ) (hs : List Held) → HoldsAs rows h hs → Ticks now h after → HoldsAs rows after (ends_ticked now hs)
 tick_holds rows h after now hs H T = record {
-  each = λ q. rw (end_ticked q now hs) (ticks_at rows q now (end_at h q) (end_at after q) (end_of q hs) (H.each q) (T.each q));
+  each = λ q. rw (end_ticked q now hs) (ticks_at rows q now (end_at h q) (end_at after q) (held_end q hs) (H.each q) (T.each q));
   count = T.count ∙ H.count ∙ sym (length_ticked now hs);
 }

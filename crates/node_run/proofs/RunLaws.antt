@@ -4,7 +4,7 @@ use Rattle.std.proofs.lemmas.List.{append-nil, drop_more}
 use Rattle.key_model.specs.Rows.{Row}
 use Rattle.line_model.specs.Texts.{numbered_text}
 use Rattle.format_model.specs.declared.node.NodeEvent.{NodeEvent}
-use Rattle.format_model.specs.NodeRuns.{NodeState, NodeOutcome, most_ends, no_ends, node_step, node_from, outcomes, outcomes_from, node_lines, node_text, node_texts}
+use Rattle.format_model.specs.NodeRuns.{NodeState, NodeOutcome, most_ends, no_ends, node_step, node_from, outcomes, node_outcomes_from, outcome_lines, node_text, node_texts}
 use Rattle.ao_node.specs.Held.{Holding}
 use Rattle.node_run.specs.Nodes.{HoldsAs, StandsNode, Reaches}
 use Rattle.node_run.specs.Telling.{Tells}
@@ -14,7 +14,7 @@ use Rattle.node_run.specs.declared.told.Told.{Told}
 pub record Running (rows : List Row) (events : List NodeEvent) (i : ℕ) (h : Holding) (clock : ℕ) (out : List ℕ) : Type 0 where
   pub state : NodeState
   pub stands : StandsNode rows h clock state
-  pub text : out ++ node_lines (i + 1) (outcomes_from most_ends rows state (drop i events)) ≡ node_text rows events
+  pub text : out ++ outcome_lines (i + 1) (node_outcomes_from most_ends rows state (drop i events)) ≡ node_text rows events
   pub ends : node_from most_ends rows state (drop i events) ≡ node_from most_ends rows no_ends events
 
 -- a node that holds no end
@@ -28,8 +28,8 @@ running_first rows events h is = rw is (record { state = no_ends; stands = empty
 
 -- a line more, and the lines after it
 line_more : (n : ℕ) (o : NodeOutcome) (os : List NodeOutcome) (out after whole : List ℕ) → after ≡ out ++ numbered_text n (node_texts o)
-    → out ++ node_lines n (o ∷ os) ≡ whole → after ++ node_lines (suc n) os ≡ whole
-line_more n o os out after whole more so_far = rw more (append_assoc out (numbered_text n (node_texts o)) (node_lines (suc n) os) ∙ so_far)
+    → out ++ outcome_lines n (o ∷ os) ≡ whole → after ++ outcome_lines (suc n) os ≡ whole
+line_more n o os out after whole more so_far = rw more (append_assoc out (numbered_text n (node_texts o)) (outcome_lines (suc n) os) ∙ so_far)
 
 -- an event more
 pub running_more : (rows : List Row) (events : List NodeEvent) (i : ℕ) (e : NodeEvent) (h after : Holding) (clock later : ℕ) (room : List ℕ) (told : Told) (out more : List ℕ)
@@ -40,14 +40,14 @@ running_more rows events i e h after clock later room told out more R low here r
     let step = reaches R.state R.stands in
     let cut : drop i events ≡ e ∷ drop (i + 1) events = drop_more events i e low ∙ ap (λ (x : NodeEvent). x ∷ drop (i + 1) events) (sym here) in
     let next = node_step most_ends rows R.state e in
-    let text : out ++ node_lines (i + 1) (outcomes_from most_ends rows R.state (e ∷ drop (i + 1) events)) ≡ node_text rows events = rw cut at R.text in
+    let text : out ++ outcome_lines (i + 1) (node_outcomes_from most_ends rows R.state (e ∷ drop (i + 1) events)) ≡ node_text rows events = rw cut at R.text in
     let ends : node_from most_ends rows R.state (e ∷ drop (i + 1) events) ≡ node_from most_ends rows no_ends events = rw cut at R.ends in
     record {
       state = next.node;
       stands = step.stands;
       text =
-          ap (λ (n : ℕ). more ++ node_lines n (outcomes_from most_ends rows next.node (drop (i + 1) events))) (omega arith)
-          ∙ line_more (i + 1) next.outcome (outcomes_from most_ends rows next.node (drop (i + 1) events)) out more (node_text rows events) (line next.outcome step.tells) text;
+          ap (λ (n : ℕ). more ++ outcome_lines n (node_outcomes_from most_ends rows next.node (drop (i + 1) events))) (omega arith)
+          ∙ line_more (i + 1) next.outcome (node_outcomes_from most_ends rows next.node (drop (i + 1) events)) out more (node_text rows events) (line next.outcome step.tells) text;
       ends = ends;
     }
 

@@ -11,7 +11,7 @@ use Rattle.format_model.specs.declared.node.Act.{Act}
 use Rattle.format_model.specs.declared.node.Act.TheVariants as act
 use Rattle.format_model.specs.declared.node.NodeEvent.TheVariants as event
 use Rattle.format_model.specs.NodeRuns as book
-use Rattle.format_model.specs.NodeRuns.{NodeState, NodeStep, most_ends, same_pair, end_of, with_end, arrived_at, called, stays, after_call, new_end, injected, node_step, pair_of}
+use Rattle.format_model.specs.NodeRuns.{NodeState, NodeStep, most_ends, same_pair, held_end, with_end, arrived_at, called, stays, after_call, new_end, injected, node_step, pair_reached}
 use Rattle.node_laws.proofs.Pairs.{same_pair_is}
 use Rattle.node_laws.proofs.Held.{held, once_with, once_without, once_ticked, once_pushed}
 use Rattle.tcp_endpoint.specs.declared.endpoint.Endpoint.{Endpoint}
@@ -48,11 +48,11 @@ at_some rows p None m e h is = absurd (cc)
 
 -- every table that fits the states' ends fits what is held
 pub fits_all : (rows : List Row) (h : Holding) (clock : ℕ) (n : NodeState) → StandsNode rows h clock n → FitsAll rows h
-fits_all rows h clock n S q e is = (at_some rows q (end_at h q) (end_of q n.ends) e (S.holds.each q) is).stands.fits
+fits_all rows h clock n S q e is = (at_some rows q (end_at h q) (held_end q n.ends) e (S.holds.each q) is).stands.fits
 
 -- ---- an end is put in the place of its pair's
 
-put_stands : (rows : List Row) (h after : Holding) (clock : ℕ) (n : NodeState) (p : Pair) (f : Endpoint) (s t : EndState) → StandsNode rows h clock n → end_of p n.ends ≡ Some s
+put_stands : (rows : List Row) (h after : Holding) (clock : ℕ) (n : NodeState) (p : Pair) (f : Endpoint) (s t : EndState) → StandsNode rows h clock n → held_end p n.ends ≡ Some s
     → after.most ≡ h.most → ((q : Pair) → end_at after q ≡ (if same_pair p q then Some f else end_at h q)) → ends after ≡ ends h → StandsFor rows p f t
     → StandsNode rows after clock (record n { ends = with_end p t n.ends })
 put_stands rows h after clock n p f s t S e most finds count F = record {
@@ -66,9 +66,9 @@ put_stands rows h after clock n p f s t S e most finds count F = record {
 -- the end of a pair is called
 pub called_reaches : (rows : List Row) (h after : Holding) (clock : ℕ) (n : NodeState) (p from : Pair) (a : Act) (room : List ℕ) (told : Told) (e f : Endpoint)
     → StandsNode rows h clock n → end_at h p ≡ Some e → after ≡ written p h f → e.pair ≡ from → ((s : EndState) → Stands e s → HasActed rows from clock s a f room told)
-    → f.pair ≡ from → FitsEnd rows f → Reaches rows after clock room told (called_at rows n p a (end_of p n.ends))
+    → f.pair ≡ from → FitsEnd rows f → Reaches rows after clock room told (called_at rows n p a (held_end p n.ends))
 called_reaches rows h after clock n p from a room told e f S is new bound acted pair fits =
-    let k = at_some rows p (end_at h p) (end_of p n.ends) e (S.holds.each p) is in
+    let k = at_some rows p (end_at h p) (held_end p n.ends) e (S.holds.each p) is in
     let from_is : from ≡ p = sym bound ∙ k.stands.pair_is in
     let timed : Follows f room told (act_on rows from n.clock k.state a) =
     subst (λ (t : ℕ). Follows f room told (act_on rows from t k.state a)) (sym S.clock_is) (acted k.state k.stands.stands) in
@@ -84,9 +84,9 @@ called_reaches rows h after clock n p from a room told e f S is new bound acted 
 
 -- no end is called
 pub uncalled_reaches : (rows : List Row) (h after : Holding) (clock : ℕ) (n : NodeState) (p : Pair) (a : Act) (room : List ℕ) → StandsNode rows h clock n → end_at h p ≡ None → after ≡ h
-    → Reaches rows after clock room tells.NoConnection (called_at rows n p a (end_of p n.ends))
+    → Reaches rows after clock room tells.NoConnection (called_at rows n p a (held_end p n.ends))
 uncalled_reaches rows h after clock n p a room S is same =
-    rw (at_none rows p (end_at h p) (end_of p n.ends) (S.holds.each p) is, same) (record { stands = S; tells = refl })
+    rw (at_none rows p (end_at h p) (held_end p n.ends) (S.holds.each p) is, same) (record { stands = S; tells = refl })
 
 -- ---- an end begins
 
@@ -99,7 +99,7 @@ same_finds h p q e is = at (same_pair p q) refl
 
 -- the pair is held already
 in_use_reaches : (rows : List Row) (h after : Holding) (clock : ℕ) (n : NodeState) (p : Pair) (room : List ℕ) (told : Told) (r : Result ⊤ NodeRefusal) (e : Endpoint) (s : EndState)
-    → StandsNode rows h clock n → end_at h p ≡ Some e → end_of p n.ends ≡ Some s → StandsFor rows p e s → IsRefused r (Some refusals.InUse) → OnErr r (after ≡ h) → IsBegun r told
+    → StandsNode rows h clock n → end_at h p ≡ Some e → held_end p n.ends ≡ Some s → StandsFor rows p e s → IsRefused r (Some refusals.InUse) → OnErr r (after ≡ h) → IsBegun r told
     → Reaches rows after clock room told (after_call n p (called s book.InUse))
 in_use_reaches rows h after clock n p room told (Ok x) e s S is at F refused same begun = absurd (cc)
 in_use_reaches rows h after clock n p room told (Err why) e s S is at F refused same begun =
@@ -108,7 +108,7 @@ in_use_reaches rows h after clock n p room told (Err why) e s S is at F refused 
 
 -- the pair isn't held
 added_reaches : (rows : List Row) (h after : Holding) (clock : ℕ) (n : NodeState) (p : Pair) (room : List ℕ) (told : Told) (r : Result ⊤ NodeRefusal) (s : EndState) (full : Bool)
-    → StandsNode rows h clock n → end_of p n.ends ≡ None → IsRefused r (if full then Some refusals.Full else None) → OnErr r (after ≡ h)
+    → StandsNode rows h clock n → held_end p n.ends ≡ None → IsRefused r (if full then Some refusals.Full else None) → OnErr r (after ≡ h)
     → OnOk r ((e : Endpoint) × Adds h after p e × Begins rows p s e) → IsBegun r told
     → Reaches rows after clock room told (if full then stays n book.NodeFull else stays (record n { ends = n.ends ++ held p s ∷ [] }) book.Done)
 added_reaches rows h after clock n p room told (Ok x) s true S at refused same added begun = absurd (cc)
@@ -132,29 +132,29 @@ added_reaches rows h after clock n p room told (Ok x) s false S at refused same 
 -- an end begins, or doesn't; the step is given by what is held
 pub begun_reaches : (rows : List Row) (h after : Holding) (clock : ℕ) (n : NodeState) (p : Pair) (room : List ℕ) (told : Told) (r : Result ⊤ NodeRefusal) (s : EndState) (step : Option EndState → NodeStep)
     → StandsNode rows h clock n → IsRefused r (refusal h p) → OnErr r (after ≡ h) → OnOk r ((e : Endpoint) × Adds h after p e × Begins rows p s e) → IsBegun r told
-    → step None ≡ new_end most_ends n p s → ((t : EndState) → step (Some t) ≡ after_call n p (called t book.InUse)) → Reaches rows after clock room told (step (end_of p n.ends))
+    → step None ≡ new_end most_ends n p s → ((t : EndState) → step (Some t) ≡ after_call n p (called t book.InUse)) → Reaches rows after clock room told (step (held_end p n.ends))
 begun_reaches rows h after clock n p room told r s step S refused same added begun none some = at (end_at h p) refl refused
   where
     at : (o : Option Endpoint) → end_at h p ≡ o → IsRefused r (if is_some o then Some refusals.InUse else (if nat_le h.most (ends h) then Some refusals.Full else None))
-        → Reaches rows after clock room told (step (end_of p n.ends))
+        → Reaches rows after clock room told (step (held_end p n.ends))
     at (Some e) is refused =
-        let k = at_some rows p (end_at h p) (end_of p n.ends) e (S.holds.each p) is in
+        let k = at_some rows p (end_at h p) (held_end p n.ends) e (S.holds.each p) is in
         rw (k.is, some k.state) (in_use_reaches rows h after clock n p room told r e k.state S is k.is k.stands refused same begun)
     at None is refused =
-        let m = at_none rows p (end_at h p) (end_of p n.ends) (S.holds.each p) is in
+        let m = at_none rows p (end_at h p) (held_end p n.ends) (S.holds.each p) is in
         let full : IsRefused r (if nat_le most_ends (length n.ends) then Some refusals.Full else None) = rw (S.most, S.holds.count) at refused in
         rw (m, none) (added_reaches rows h after clock n p room told r s (nat_le most_ends (length n.ends)) S m full same added begun)
 
 -- ---- an end is dropped
 
 pub removed_reaches : (rows : List Row) (h after : Holding) (clock : ℕ) (n : NodeState) (p : Pair) (room : List ℕ) → StandsNode rows h clock n → holds h p ≡ true → Removes h after p
-    → Reaches rows after clock room tells.Done (book.on_pair most_ends rows n p act.Remove (end_of p n.ends))
+    → Reaches rows after clock room tells.Done (book.on_pair most_ends rows n p act.Remove (held_end p n.ends))
 removed_reaches rows h after clock n p room S is R = at (end_at h p) refl is
   where
-    at : (o : Option Endpoint) → end_at h p ≡ o → is_some o ≡ true → Reaches rows after clock room tells.Done (book.on_pair most_ends rows n p act.Remove (end_of p n.ends))
+    at : (o : Option Endpoint) → end_at h p ≡ o → is_some o ≡ true → Reaches rows after clock room tells.Done (book.on_pair most_ends rows n p act.Remove (held_end p n.ends))
     at None e i = absurd (cc)
     at (Some x) e i =
-        let k = at_some rows p (end_at h p) (end_of p n.ends) x (S.holds.each p) e in
+        let k = at_some rows p (end_at h p) (held_end p n.ends) x (S.holds.each p) e in
         rw k.is (record {
           stands = record {
             most = R.most ∙ S.most;
@@ -167,12 +167,12 @@ removed_reaches rows h after clock n p room S is R = at (end_at h p) refl is
         })
 
 pub unremoved_reaches : (rows : List Row) (h after : Holding) (clock : ℕ) (n : NodeState) (p : Pair) (room : List ℕ) → StandsNode rows h clock n → holds h p ≡ false → after ≡ h
-    → Reaches rows after clock room tells.NoConnection (book.on_pair most_ends rows n p act.Remove (end_of p n.ends))
+    → Reaches rows after clock room tells.NoConnection (book.on_pair most_ends rows n p act.Remove (held_end p n.ends))
 unremoved_reaches rows h after clock n p room S is same = at (end_at h p) refl is
   where
-    at : (o : Option Endpoint) → end_at h p ≡ o → is_some o ≡ false → Reaches rows after clock room tells.NoConnection (book.on_pair most_ends rows n p act.Remove (end_of p n.ends))
+    at : (o : Option Endpoint) → end_at h p ≡ o → is_some o ≡ false → Reaches rows after clock room tells.NoConnection (book.on_pair most_ends rows n p act.Remove (held_end p n.ends))
     at (Some x) e i = absurd (cc)
-    at None e i = rw (at_none rows p (end_at h p) (end_of p n.ends) (S.holds.each p) e, same) (record { stands = S; tells = refl })
+    at None e i = rw (at_none rows p (end_at h p) (held_end p n.ends) (S.holds.each p) e, same) (record { stands = S; tells = refl })
 
 -- ---- a datagram comes, and the clock
 
@@ -180,11 +180,11 @@ pub came_reaches : (rows : List Row) (h after : Holding) (clock : ℕ) (n : Node
     → Comes rows clock h after answer (reading bytes) → Reaches rows after clock room (told_of answer) (node_step most_ends rows n (event.Inject bytes))
 came_reaches rows h after clock n bytes room answer S C = at (reading bytes) C
   where
-    known : (p : Pair) (d : _) (o : Option Endpoint) → pair_of d ≡ p → end_at h p ≡ o → ComesTo rows clock d h after answer o
-        → Reaches rows after clock room (told_of answer) (arrived_at rows n p (Read d) (end_of p n.ends))
-    known p d None seen is c = rw (at_none rows p (end_at h p) (end_of p n.ends) (S.holds.each p) is, c.0, c.1) (record { stands = S; tells = refl })
+    known : (p : Pair) (d : _) (o : Option Endpoint) → pair_reached d ≡ p → end_at h p ≡ o → ComesTo rows clock d h after answer o
+        → Reaches rows after clock room (told_of answer) (arrived_at rows n p (Read d) (held_end p n.ends))
+    known p d None seen is c = rw (at_none rows p (end_at h p) (held_end p n.ends) (S.holds.each p) is, c.0, c.1) (record { stands = S; tells = refl })
     known p d (Some e) seen is c =
-        let k = at_some rows p (end_at h p) (end_of p n.ends) e (S.holds.each p) is in
+        let k = at_some rows p (end_at h p) (held_end p n.ends) e (S.holds.each p) is in
         let H = c.2.hears in
         let m = arrive rows p n.clock k.state (Read d) in
         let timed : Arrives rows e.pair (Read d) c.2.next c.0 (arrive rows e.pair n.clock k.state (Read d)) =
@@ -203,7 +203,7 @@ came_reaches rows h after clock n bytes room answer S C = at (reading bytes) C
 
     at : (r : Reading) → Comes rows clock h after answer r → Reaches rows after clock room (told_of answer) (injected rows n r)
     at (Unread fault) c = rw (c.0, c.1) (record { stands = S; tells = refl })
-    at (Read d) c = known (pair_of d) d (end_at h (pair_of d)) refl refl c
+    at (Read d) c = known (pair_reached d) d (end_at h (pair_reached d)) refl refl c
 
 pub ticked_reaches : (rows : List Row) (h after : Holding) (clock seconds : ℕ) (n : NodeState) (room : List ℕ) → StandsNode rows h clock n → seconds ≤ greatest_time → Ticks seconds h after
     → Reaches rows after seconds room tells.Done (node_step most_ends rows n (event.Clock seconds))
@@ -247,7 +247,7 @@ called_is rows n p (act.Start isn peer) o h = absurd h
 called_is rows n p act.Remove o h = absurd h
 
 pub call_reaches : {E : Type 0} (r : Result Told E) (rows : List Row) (h after : Holding) (clock : ℕ) (p : Pair) (a : Act) (room : List ℕ) → IsCall a
-    → IfOk r (λ told. (n : NodeState) → StandsNode rows h clock n → Reaches rows after clock room told (called_at rows n p a (end_of p n.ends)))
-    → IfOk r (λ told. (n : NodeState) → StandsNode rows h clock n → Reaches rows after clock room told (book.on_pair most_ends rows n p a (end_of p n.ends)))
-call_reaches (Ok told) rows h after clock p a room is reached = λ n S. rw (← called_is rows n p a (end_of p n.ends) is) (reached n S)
+    → IfOk r (λ told. (n : NodeState) → StandsNode rows h clock n → Reaches rows after clock room told (called_at rows n p a (held_end p n.ends)))
+    → IfOk r (λ told. (n : NodeState) → StandsNode rows h clock n → Reaches rows after clock room told (book.on_pair most_ends rows n p a (held_end p n.ends)))
+call_reaches (Ok told) rows h after clock p a room is reached = λ n S. rw (← called_is rows n p a (held_end p n.ends) is) (reached n S)
 call_reaches (Err e) rows h after clock p a room is reached = reached

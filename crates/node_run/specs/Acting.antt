@@ -46,8 +46,8 @@ pub record Follows (e : Endpoint) (room : List ℕ) (told : Told) (c : book.Call
 abbrev pub act_on : List Row → Pair → ℕ → EndState → Act → book.Called
 act_on rows pair now s (act.Give piece) = offered book.called book.HasClosed book.Full book.Done piece s
 act_on rows pair now s (act.Take count) = book.take_called count s
-act_on rows pair now s act.Send = book.sent s book.Idle (emit rows pair now s)
-act_on rows pair now s act.Resend = book.sent s book.Nothing (resend rows pair now s)
+act_on rows pair now s act.Send = book.made_called s book.Idle (emit rows pair now s)
+act_on rows pair now s act.Resend = book.made_called s book.Nothing (resend rows pair now s)
 act_on rows pair now s act.Close = book.called (close s) book.Done
 act_on rows pair now s act.Abort = book.called (abort s) book.Done
 act_on rows pair now s _ = book.called s book.InUse

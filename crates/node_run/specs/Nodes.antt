@@ -6,7 +6,7 @@ use Rattle.key_model.specs.Rows.{Row}
 use Rattle.endpoint_model.specs.States.{EndState}
 use Rattle.endpoint_model.specs.declared.arrival.Arrival.TheVariants as answers
 use Rattle.format_model.specs.declared.node.Act.{Act}
-use Rattle.format_model.specs.NodeRuns.{Held, NodeState, NodeStep, NoConnection, most_ends, end_of, without_end, stays, after_call}
+use Rattle.format_model.specs.NodeRuns.{Held, NodeState, NodeStep, NoConnection, most_ends, held_end, without_end, stays, after_call}
 use Rattle.tcp_endpoint.specs.declared.endpoint.Endpoint.{Endpoint}
 use Rattle.tcp_endpoint.specs.Ends.{Stands, FitsEnd}
 use Rattle.ao_node.specs.declared.answer.NodeArrival.{NodeArrival}
@@ -33,7 +33,7 @@ StandsAt rows pair _ _ = ⊥
 
 -- exactly the pairs of these ends are held, and each end stands for its state
 pub record HoldsAs (rows : List Row) (h : Holding) (hs : List Held) : Type 0 where
-  pub each : (pair : Pair) → StandsAt rows pair (end_at h pair) (end_of pair hs)
+  pub each : (pair : Pair) → StandsAt rows pair (end_at h pair) (held_end pair hs)
   pub count : ends h ≡ length hs
 
 -- a node with its clock stands for a node of the definitions, which holds no pair twice
@@ -42,7 +42,7 @@ pub record StandsNode (rows : List Row) (h : Holding) (clock : ℕ) (n : NodeSta
   pub clock_is : n.clock ≡ clock
   pub time : clock ≤ greatest_time
   pub holds : HoldsAs rows h n.ends
-  pub distinct : (pair : Pair) → end_of pair (without_end pair n.ends) ≡ None
+  pub distinct : (pair : Pair) → held_end pair (without_end pair n.ends) ≡ None
 
 -- the node stands for what a step makes, and it is told what that answers
 pub record Reaches (rows : List Row) (h : Holding) (clock : ℕ) (room : List ℕ) (told : Told) (step : NodeStep) : Type 0 where

@@ -2,7 +2,7 @@
 ghost use Rattle.std.specs.Prelude.{◌≡◌, ◌≤◌, length, IfOk};
 ghost use Rattle.key_model.specs.Lifetimes.{greatest_time};
 ghost use Rattle.tcp_segment.specs.Writing.{IsOneFamily};
-ghost use Rattle.format_model.specs.NodeRuns.{NodeState, most_ends, node_step, on_pair, end_of};
+ghost use Rattle.format_model.specs.NodeRuns.{NodeState, most_ends, node_step, on_pair, held_end};
 ghost use Rattle.node_script.specs.Scripts.{IsEvent};
 ghost use Rattle.ao_base.specs.declared.address.Address.{Address as OneAddress};
 ghost use Rattle.ao_node.specs.Held.{FitsAll};
@@ -46,7 +46,7 @@ fn call<L: Ledger>(
     requires fits { FitsAll table.now.rows node.old }
     requires room { 1500 ≤ length room.old }
     ensures reached { IfOk result (λ told. (n : NodeState) → StandsNode table.now.rows node.old clock n
-        → Reaches table.now.rows node.new clock room.new told (called_at table.now.rows n pair.now act.now (end_of pair.now n.ends))) }
+        → Reaches table.now.rows node.new clock room.new told (called_at table.now.rows n pair.now act.now (held_end pair.now n.ends))) }
     ensures short { IfOk result (λ told. length_told told ≤ 1500) }
 {
     match node.end_mut(pair) {
@@ -70,7 +70,7 @@ fn at_pair<L: Ledger>(
     requires room { 1500 ≤ length room.old }
     requires family { IsOneFamily pair.now.local.address pair.now.remote.address }
     ensures reached { IfOk result (λ told. (n : NodeState) → StandsNode table.now.rows node.old clock n
-        → Reaches table.now.rows node.new clock room.new told (on_pair most_ends table.now.rows n pair.now act.now (end_of pair.now n.ends))) }
+        → Reaches table.now.rows node.new clock room.new told (on_pair most_ends table.now.rows n pair.now act.now (held_end pair.now n.ends))) }
     ensures short { IfOk result (λ told. length_told told ≤ 1500) }
 {
     match act {

@@ -4,7 +4,7 @@ ghost use Rattle.ao_base.specs.Hexadecimal.{hex_of};
 ghost use Rattle.endpoint_model.specs.Emissions.{Emission};
 ghost use Rattle.line_model.specs.Texts.{numbered_text, spaced};
 ghost use Rattle.link_model.specs.Reports.{flags_text};
-ghost use Rattle.format_model.specs.NodeRuns.{NodeOutcome, node_texts, sent_texts};
+ghost use Rattle.format_model.specs.NodeRuns.{NodeOutcome, node_texts, node_sent_texts};
 ghost use Rattle.node_run.specs.Telling.{Tells, TellsMade, length_told};
 
 use crate::told::Told;
@@ -35,7 +35,7 @@ fn push_datagram(out: &mut Vec<u8>, bytes: &[u8]) -> Result<(), AllocError>
 /// Puts the words of a segment that was made behind `out`; its bytes stand in front of `room`.
 fn push_sent(out: &mut Vec<u8>, made: &Made, room: &[u8]) -> Result<(), AllocError>
     requires { made.now.length ≤ length room.now }
-    ensures { OnOk result ((e : Emission) → TellsMade room.now made.now e → out.new.items ≡ out.old.items ++ spaced (sent_texts e)) }
+    ensures { OnOk result ((e : Emission) → TellsMade room.now made.now e → out.new.items ≡ out.old.items ++ spaced (node_sent_texts e)) }
 {
     push_name(out, made)?;
     push_details(out, made)?;

@@ -14,7 +14,7 @@ use Rattle.format_model.specs.declared.node.NodeEvent.{NodeEvent}
 use Rattle.format_model.specs.declared.node.NodeEvent.TheVariants as event
 use Rattle.format_model.specs.LinkEvents.{greatest_isn}
 use Rattle.format_model.specs.LinkFiles.{are_two_of_a_family}
-use Rattle.format_model.specs.NodeRuns.{pair_in, act_alone, act_number, act_start, act_give, clock_of, inject_of, node_event_named, node_event_of}
+use Rattle.format_model.specs.NodeRuns.{pair_in, act_alone, act_number, act_start, act_give, clock_of, node_inject_of, node_event_named, node_event_of}
 use Rattle.link_script.proofs.WordRanges.{bind_ok, address_ok, number_ok, hex_ok, some_hex_ok}
 use Rattle.node_script.specs.Scripts.{IsAct, IsEvent, IsPair}
 
@@ -77,7 +77,7 @@ clock_ok own ws x h =
     let is : event.Clock k.0.value ≡ x = cc n.2 in
     rw (← is) (number_ok 0 greatest_time ws k.0 k.1).most
 
-inject_ok : (own : Address) (ws : List (List ℕ)) (x : NodeEvent) → inject_of ws ≡ Ok x → IsEvent own x
+inject_ok : (own : Address) (ws : List (List ℕ)) (x : NodeEvent) → node_inject_of ws ≡ Ok x → IsEvent own x
 inject_ok own ws x h =
     let b = bind_ok (sized_hex_in 1 65575 ws) _ x h in
     let n = bind_ok (nothing_in b.0.rest) _ x b.2 in

@@ -14,14 +14,14 @@ use Rattle.line_model.specs.Words.{address_in, literal_in, nothing_in}
 use Rattle.format_model.specs.declared.node.NodeEvent.{NodeEvent}
 use Rattle.format_model.specs.declared.node.NodeScript.{NodeScript}
 use Rattle.format_model.specs.LinkFiles.{Left, at_line, line_in, title_of}
-use Rattle.format_model.specs.NodeRuns.{address_of, node_event_of, node_events_of, node_script_in, node_script_of}
+use Rattle.format_model.specs.NodeRuns.{own_address_of, node_event_of, node_events_of, node_script_in, node_script_of}
 use Rattle.text_lines.proofs.SaidLaws.{saying_length}
 use Rattle.link_script.specs.Scripts.{IsAddress}
 use Rattle.link_script.proofs.WordRanges.{bind_ok, address_ok}
 use Rattle.node_script.specs.Scripts.{IsEvent, IsScript}
 use Rattle.node_script.proofs.EventRanges.{event_ok}
 
-address_of_ok : (ws : List (List ℕ)) (x : Address) → address_of ws ≡ Ok x → IsAddress x
+address_of_ok : (ws : List (List ℕ)) (x : Address) → own_address_of ws ≡ Ok x → IsAddress x
 address_of_ok ws x h =
     let l = bind_ok (literal_in (codes "node") ws) _ x h in
     let a = bind_ok (address_in l.0.rest) _ x l.2 in
@@ -68,10 +68,10 @@ script_in_ok : (missing : ℕ) (ls : List Line) (s : NodeScript) → length ls �
 unfolding node_script_in
 script_in_ok missing ls s few h =
     let i = bind_ok (line_in missing kind.Header (title_of (codes "aotcp-node")) ls) _ s h in
-    let a = bind_ok (line_in missing kind.Header address_of i.0.rest) _ s i.2 in
+    let a = bind_ok (line_in missing kind.Header own_address_of i.0.rest) _ s i.2 in
     let e = bind_ok (node_events_of a.0.value a.0.rest) _ s a.2 in
     let li = line_ok missing kind.Header (title_of (codes "aotcp-node")) ls i.0 i.1 in
-    let la = line_ok missing kind.Header address_of i.0.rest a.0 a.1 in
+    let la = line_ok missing kind.Header own_address_of i.0.rest a.0 a.1 in
     let le = events_ok a.0.value a.0.rest e.0 e.1 in
     let is : record { address = a.0.value; events = e.0 } ≡ s = cc e.2 in
     rw (← is) (record { address = address_of_ok la.0 a.0.value la.1; events = le.0; lines = omega (arith, li.2, la.2, le.1, few) })

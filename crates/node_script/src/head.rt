@@ -3,7 +3,7 @@ ghost use Rattle.std.specs.Prelude.{◌≡◌, [], ◌∷◌, codes, IfOk, IfErr
 ghost use Rattle.ao_base.specs.declared.line_kind.LineKind.TheVariants as line_kind;
 ghost use Rattle.line_model.specs.declared.text_fault.TextFault.TheVariants as fault;
 ghost use Rattle.format_model.specs.LinkFiles.{line_in, title_of};
-ghost use Rattle.format_model.specs.NodeRuns.{address_of};
+ghost use Rattle.format_model.specs.NodeRuns.{own_address_of};
 ghost use Rattle.link_script.specs.Left.{leaves};
 
 use ao_base::{Address, LineKind};
@@ -32,7 +32,7 @@ fn title(words: &mut LineWords) -> Result<(), LineKind>
 }
 
 fn address(words: &mut LineWords) -> Result<Address, LineKind>
-    ensures { result ≡ address_of words.old }
+    ensures { result ≡ own_address_of words.old }
 {
     words.literal(b"node")?;
     let address = words.address()?;
@@ -55,7 +55,7 @@ pub(crate) fn title_line(lines: &mut SayingLines, missing: u32) -> Result<(), Te
 /// The line of the node's address.
 #[tactic(auto, unfolding(format_model::specs::LinkFiles::line_in))]
 pub(crate) fn address_line(lines: &mut SayingLines, missing: u32) -> Result<Address, TextFault>
-    ensures { leaves result lines.new ≡ line_in missing line_kind.Header address_of lines.old }
+    ensures { leaves result lines.new ≡ line_in missing line_kind.Header own_address_of lines.old }
 {
     let mut line = next_line(lines, missing)?;
     match address(&mut line.words) {

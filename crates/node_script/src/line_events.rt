@@ -4,7 +4,7 @@ ghost use Rattle.text_lines.specs.Readings.{Tells, gives};
 ghost use Rattle.format_model.specs.declared.node.Act.TheVariants as acts;
 ghost use Rattle.format_model.specs.LinkEvents.{greatest_isn};
 ghost use Rattle.format_model.specs.LinkFiles.{are_two_of_a_family};
-ghost use Rattle.format_model.specs.NodeRuns.{act_alone, act_give, act_number, act_start, clock_of, inject_of, node_event_named, node_event_of, pair_in};
+ghost use Rattle.format_model.specs.NodeRuns.{act_alone, act_give, act_number, act_start, clock_of, node_inject_of, node_event_named, node_event_of, pair_in};
 ghost use Rattle.node_script.specs.Names.{name_text};
 
 use crate::name::Name;
@@ -111,7 +111,7 @@ fn clock(words: &mut LineWords) -> Result<NodeEvent, LineKind>
 }
 
 fn inject(alloc: Global, words: &mut LineWords) -> Result<NodeEvent, Refusal>
-    ensures { Tells result (inject_of words.old) }
+    ensures { Tells result (node_inject_of words.old) }
 {
     let bytes = words.sized_hex(alloc, 1, MOST_DATAGRAM)?;
     words.nothing()?;

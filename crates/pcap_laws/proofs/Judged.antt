@@ -8,7 +8,7 @@ use Rattle.wire_model.specs.Packets.{Packets, FileFault, packets_of}
 use Rattle.format_model.specs.declared.command.Command.TheVariants as command
 use Rattle.format_model.specs.Captures.{Stored}
 use Rattle.format_model.specs.Commands.{command_of}
-use Rattle.format_model.specs.Answers.{Answer, answer, answer_by, answer_within, judged, most_keys, packets_checked, pcap_fault_line, refuse, keys_too_long, lines_checked, stored_packet}
+use Rattle.format_model.specs.Answers.{Answer, answer, answer_by, answer_within, judged, most_keys, packets_checked, pcap_fault_line, refusal, keys_too_long, lines_checked, stored_packet}
 use Rattle.format_model.specs.StoredLines.{StoredInput, stored_input}
 use Rattle.pcap_laws.proofs.Records.{shows}
 
@@ -48,4 +48,4 @@ pub answers_alike : (name keys file form : List ℕ) → length file ≤ 2684354
     Alike (packets_of file).fault (answer (codes "check" ∷ codes "--pcap" ∷ name ∷ []) keys file) (answer (codes "check" ∷ name ∷ []) keys form)
 unfolding answer command_of
 answers_alike name keys file form few few_lines is =
-    either_alike (nat_lt most_keys (length keys)) (packets_of file).fault (refuse 3 keys_too_long) _ _ (by_alike (tables_of keys) file form few few_lines is)
+    either_alike (nat_lt most_keys (length keys)) (packets_of file).fault (refusal 3 keys_too_long) _ _ (by_alike (tables_of keys) file form few few_lines is)

@@ -12,7 +12,7 @@ use Rattle.link_model.specs.Worlds.{setup_of}
 use Rattle.format_model.specs.declared.timed.TimedEvent.{TimedEvent}
 use Rattle.format_model.specs.declared.timed.TimedEvent.TheVariants.{Plain, Wait}
 use Rattle.format_model.specs.declared.timed.TimedScript.{TimedScript}
-use Rattle.format_model.specs.Answers.{done, if_read, most_events, refuse, timed_over, too_many_events}
+use Rattle.format_model.specs.Answers.{done, if_read, most_events, refusal, timed_over, too_many_events}
 use Rattle.format_model.specs.TimedRuns.{expand, timed_script_of}
 use Rattle.text_lines.specs.Readings.{Fails}
 use Rattle.link_script.specs.Scripts.{IsEvent, IsRow}
@@ -71,7 +71,7 @@ answered_report tables text s a b report count h r =
 
 -- a script whose plain run has too many events
 pub answered_too_many : (tables : List Table) (text : List ℕ) (s : TimedScript) → timed_script_of text ≡ Ok s
-    → most_events < length (expand (setup_of tables s.a s.b) s.events).events → timed_answer tables text ≡ refuse 4 too_many_events
+    → most_events < length (expand (setup_of tables s.a s.b) s.events).events → timed_answer tables text ≡ refusal 4 too_many_events
 answered_too_many tables text s h many =
     let long : nat_lt most_events (length (expand (setup_of tables s.a s.b) s.events).events) ≡ true = lt-ltb _ _ many in
     ap (if_read (timed_over tables)) h ∙ rw long refl

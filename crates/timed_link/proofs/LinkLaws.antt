@@ -62,7 +62,7 @@ pub record Tells (c : Change) (setup : Setup) (past : List Event) (x : Event) (e
   pub old : front_seen c.old ≡ book.front_at (run setup past) e
   pub new : front_seen c.new ≡ book.front_at (run setup (past ++ x ∷ [])) e
 
-change_by : (begins done again sent begins' done' again' sent' : Bool) (r r' : ℕ) (old new old' new' : Option book.Front) (w : book.Watch)
+change_by : (begins done again sent begins' done' again' sent' : Bool) (r r' : ℕ) (old new old' new' : Option book.SendFront) (w : book.Watch)
     → begins ≡ begins' → done ≡ done' → again ≡ again' → sent ≡ sent' → r ≡ r' → old ≡ old' → new ≡ new'
     → (let now : book.Watch = book.watch_by r again old new w in
     cond (begins && done) book.new_watch (cond (again && sent) (record now { timed = None }) now))
@@ -87,7 +87,7 @@ abbrev pub at : Link → End → Watch
 at l A = l.a
 at l B = l.b
 
-plain_at : (l : Link) (setup : Setup) (past : List Event) (x : Event) (e : End) (world : World) (w : Watch) → book.end_of x ≡ Some e
+plain_at : (l : Link) (setup : Setup) (past : List Event) (x : Event) (e : End) (world : World) (w : Watch) → book.end_of_event x ≡ Some e
     → seen w ≡ book.watch_after (run setup past) x e (step setup (run setup past) x) (seen (at l e))
     → progress (after_at l world e w) setup (past ++ x ∷ []) ≡ book.plain setup (progress l setup past) x
 plain_at l setup past x A world w here is = rw (here, is, run_more setup past x) refl
@@ -102,7 +102,7 @@ one_longer : (past : List Event) (x : Event) → length past < most_events → l
 one_longer past x h = omega (arith, length-append past (x ∷ []))
 
 -- an event of an end is stepped through
-pub steps_at : (l : Link) (x : Event) (e : End) (world : World) (w : Watch) (c : Change) → book.end_of x ≡ Some e
+pub steps_at : (l : Link) (x : Event) (e : End) (world : World) (w : Watch) (c : Change) → book.end_of_event x ≡ Some e
     → ((setup : Setup) (past : List Event) → StandsFor l.world setup past → StandsFor world setup (past ++ x ∷ []))
     → ((setup : Setup) (past : List Event) → StandsFor l.world setup past → length past < most_events)
     → ((setup : Setup) (past : List Event) → StandsFor l.world setup past → Tells c setup past x e)
@@ -114,7 +114,7 @@ steps_at l x e world w c here stood few told is = λ setup past h.
     }
 
 -- the same, of an end that is known
-pub steps_here : (l : Link) (x : Event) (e here : End) (world : World) (w : Watch) (c : Change) → e ≡ here → book.end_of x ≡ Some e
+pub steps_here : (l : Link) (x : Event) (e here : End) (world : World) (w : Watch) (c : Change) → e ≡ here → book.end_of_event x ≡ Some e
     → ((setup : Setup) (past : List Event) → StandsFor l.world setup past → StandsFor world setup (past ++ x ∷ []))
     → ((setup : Setup) (past : List Event) → StandsFor l.world setup past → length past < most_events)
     → ((setup : Setup) (past : List Event) → StandsFor l.world setup past → Tells c setup past x e)
@@ -123,12 +123,12 @@ steps_here l x e here world w c same of stood few told is =
     let P : End → Type 0 = λ y. seen w ≡ changed c (seen (at l y)) → Does (steps x) l (after_at l world y w) (Ok tt) in
     subst P same (steps_at l x e world w c of stood few told) is
 
-plain_nowhere : (l : Link) (setup : Setup) (past : List Event) (x : Event) (world : World) → book.end_of x ≡ None
+plain_nowhere : (l : Link) (setup : Setup) (past : List Event) (x : Event) (world : World) → book.end_of_event x ≡ None
     → progress (record { world = world; a = l.a; b = l.b }) setup (past ++ x ∷ []) ≡ book.plain setup (progress l setup past) x
 plain_nowhere l setup past x world here = rw (here, run_more setup past x) refl
 
 -- an event of neither end is stepped through
-pub steps_nowhere : (l : Link) (x : Event) (world : World) → book.end_of x ≡ None
+pub steps_nowhere : (l : Link) (x : Event) (world : World) → book.end_of_event x ≡ None
     → ((setup : Setup) (past : List Event) → StandsFor l.world setup past → StandsFor world setup (past ++ x ∷ []))
     → ((setup : Setup) (past : List Event) → StandsFor l.world setup past → length past < most_events)
     → Does (steps x) l (record { world = world; a = l.a; b = l.b }) (Ok tt)

@@ -3,7 +3,7 @@ use Rattle.std.specs.Prelude.{◌≡◌, ◌==◌, ℕ, not, List, Result, Ok, E
 use Rattle.key_model.specs.Rows.{Table}
 use Rattle.line_model.specs.declared.text_fault.TextFault.TheVariants as fault
 use Rattle.line_model.specs.Faults.{fault_text}
-use Rattle.format_model.specs.Answers.{Answer, done, if_read, refuse, timed_over, too_many_events}
+use Rattle.format_model.specs.Answers.{Answer, done, if_read, refusal, timed_over, too_many_events}
 use Rattle.format_model.specs.TimedRuns.{timed_script_of}
 use Rattle.timed_link.specs.declared.answer.TimedProblem.{TimedProblem}
 use Rattle.timed_link.specs.declared.answer.TimedProblem.TheVariants.{Fault, TooManyEvents}
@@ -17,5 +17,5 @@ timed_answer tables text = if_read (timed_over tables) (timed_script_of text)
 abbrev pub AnswersTimed : List Table → List ℕ → Result TimedReport TimedProblem → Type 0
 AnswersTimed tables text (Ok r) = timed_answer tables text ≡ done (not (r.forgeries == 0)) r.text
 AnswersTimed tables text (Err (Fault fault.Memory)) = ⊤
-AnswersTimed tables text (Err (Fault f)) = timed_answer tables text ≡ refuse 4 (fault_text f)
-AnswersTimed tables text (Err TooManyEvents) = timed_answer tables text ≡ refuse 4 too_many_events
+AnswersTimed tables text (Err (Fault f)) = timed_answer tables text ≡ refusal 4 (fault_text f)
+AnswersTimed tables text (Err TooManyEvents) = timed_answer tables text ≡ refusal 4 too_many_events

@@ -1,6 +1,6 @@
 //! What an event changes at its end.
 ghost use Rattle.std.specs.Prelude.{◌≡◌, ◌≤◌};
-ghost use Rattle.format_model.specs.TimedRuns.{end_of, is_again, is_begin, is_done, is_sent};
+ghost use Rattle.format_model.specs.TimedRuns.{end_of_event, is_again, is_begin, is_done, is_sent};
 ghost use Rattle.key_model.specs.Lifetimes.{greatest_time};
 ghost use Rattle.link_model.specs.Outcomes.{Outcome as OneOutcome};
 ghost use Rattle.link_report.specs.Outcomes.{Shows};
@@ -31,7 +31,7 @@ pub(crate) struct Change {
 
 /// The end of an event; none for one that only shows a segment.
 pub(crate) fn end_of(event: &Event) -> Option<End>
-    ensures { result ≡ end_of event.now }
+    ensures { result ≡ end_of_event event.now }
 {
     match event {
         Event::Clock(end, _) => Some(*end),

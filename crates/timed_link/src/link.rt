@@ -1,7 +1,7 @@
 //! A link and the timers of its two ends.
 ghost use Rattle.std.specs.Prelude.{◌≡◌, ◌<◌, ◌≤◌, IfSome, List, Ok, OnOk, Some, length};
 ghost use Rattle.format_model.specs.Answers.{most_events};
-ghost use Rattle.format_model.specs.TimedRuns.{end_of as end_at};
+ghost use Rattle.format_model.specs.TimedRuns.{end_of_event as end_at};
 ghost use Rattle.key_model.specs.Lifetimes.{greatest_time};
 ghost use Rattle.link_model.specs.declared.event.Event.{Event as OneEvent};
 ghost use Rattle.link_model.specs.Worlds.{Setup as Plan};

@@ -1,11 +1,11 @@
 use Rattle.std.proofs.Common.{◌≡◌, length}
-use Rattle.format_model.specs.LinkEvents.{event_of}
+use Rattle.format_model.specs.LinkEvents.{link_event_of}
 use Rattle.format_model.specs.LinkFiles.{events_of}
 use Rattle.link_script.proofs.EventLoop.{after}
 use Rattle.link_script.proofs.reading.events.Given as goal
 
 abbrev pub invariant-loop-line : goal.invariant-loop-line
-invariant-loop-line l = after l.events.items (events_of event_of l.lines) ≡ events_of event_of l.fn.lines
+invariant-loop-line l = after l.events.items (events_of link_event_of l.lines) ≡ events_of link_event_of l.fn.lines
 
 abbrev pub decreases-loop-line : goal.decreases-loop-line
 decreases-loop-line l = length l.lines

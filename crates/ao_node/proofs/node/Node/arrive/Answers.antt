@@ -1,7 +1,7 @@
 use Rattle.std.proofs.Common.{◌≡◌, [], Some, None, refl, ap, subst, ◌∙◌}
 use Rattle.ao_base.specs.declared.address.Pair.{Pair}
 use Rattle.ao_base.specs.declared.address.Socket.{Socket}
-use Rattle.format_model.specs.NodeRuns.{pair_of}
+use Rattle.format_model.specs.NodeRuns.{pair_reached}
 use Rattle.ao_node.specs.declared.answer.NodeArrival.TheVariants as answers
 use Rattle.ao_node.specs.Held.{end_at}
 use Rattle.ao_node.specs.Lending.{written}
@@ -18,7 +18,7 @@ pub returns-clause-comes : goal.returns-clause-comes
 returns-clause-comes g c =
     let d = c.in-Ok.datagram in
     let q : Pair = record { local = c.destination.result; remote = c.source.result } in
-    let seen : q ≡ pair_of d =
+    let seen : q ≡ pair_reached d =
     ap (λ (s : Socket). let k : Pair = record { local = s; remote = c.source.result } in k) c.destination.ensures.value
     ∙ ap (λ (s : Socket). let k : Pair = record { local = d.destination; remote = s } in k) c.source.ensures.value in
     let most = c.self.inside.most in
