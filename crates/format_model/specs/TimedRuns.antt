@@ -94,23 +94,22 @@ sampled_by una reading w (Some t) =
     then record w { timer = sampled w.timer (reading - t.reading); timed = None }
     else w
 
--- the timer of an end at this reading, by its front before an event and after it, where there may
--- be none; what is sent again isn't timed. With no front it doesn't run. An acknowledgement of new
--- data takes a sample (RFC 6298, section 3), and then the timer runs anew where more isn't
--- acknowledged (section 5.3), else it stops (5.2). When new numbers are sent, it runs, from now on
--- unless it ran already (5.1), and they are timed unless others are (3)
+-- the timer of an end at this reading, by its front before an event and after it: with no front it
+-- doesn't run; else it stops, runs anew or starts, a sample is taken or a number timed, by the
+-- rules whose sections stand beside the cases (RFC 6298, sections 3 and 5)
 abbrev pub watch_by : ℕ → (again : Bool) → (old new : Option SendFront) → Watch → Watch
 watch_by reading again old None w = stopped w
 watch_by reading again None (Some new) w = w
 watch_by reading again (Some old) (Some new) w =
-    let sample = sampled_by new.una reading w w.timed in
+    let sample = sampled_by new.una reading w w.timed in  -- 3
     let sending = if again then None else Some (record { number = new.next; reading = reading }) in
-    if nat_lt old.una new.una
-    then (if nat_lt new.una new.next then started_anew reading sample else stopped sample)
-    else if nat_lt old.next new.next
+    if nat_lt old.una new.una  -- new data was acknowledged
+    then (if nat_lt new.una new.next then started_anew reading sample  -- 5.3
+    else stopped sample)  -- 5.2
+    else if nat_lt old.next new.next  -- new numbers were sent
     then record w {
-      deadline = option_or w.deadline (started_anew reading w).deadline;
-      timed = option_or w.timed sending;
+      deadline = option_or w.deadline (started_anew reading w).deadline;  -- 5.1
+      timed = option_or w.timed sending;  -- 3, Karn's algorithm
     }
     else w
 
@@ -136,14 +135,14 @@ abbrev pub is_sent : Outcome → Bool
 is_sent (Sent made) = true
 is_sent _ = false
 
--- the timer of the end of an event, after it: a new session has a new timer (RFC 6298, section
--- 2.1), and what was sent again isn't timed (section 3)
+-- the timer of the end of an event, after it: a new session has a new timer, and what was sent
+-- again isn't timed (RFC 6298, sections 2 and 3)
 abbrev pub watch_after : World → Event → End → Stepped → Watch → Watch
 watch_after before event e after w =
     let fronts = watch_by (side after.world e).clock (is_again event) in
     let now = fronts (front_at before e) (front_at after.world e) w in
-    if is_begin event && is_done after.outcome then new_watch
-    else if is_again event && is_sent after.outcome then record now { timed = None }
+    if is_begin event && is_done after.outcome then new_watch  -- 2.1
+    else if is_again event && is_sent after.outcome then record now { timed = None }  -- 3
     else now
 
 -- the end of an event; `dump` has none (own)
