@@ -9,7 +9,7 @@ name_of HmacSha1 = codes "HMAC-SHA-1-96"
 name_of AesCmac = codes "AES-128-CMAC-96"
 name_of HmacSha256 = codes "HMAC-SHA-256-128"
 
--- the algorithm of a name
+-- the algorithm of a name (own)
 abbrev pub algorithm_of : List ℕ → Option Algorithm
 algorithm_of word =
     if bytes_eq word (name_of HmacSha1) then Some HmacSha1
