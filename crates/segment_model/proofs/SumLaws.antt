@@ -1,6 +1,5 @@
 -- Sums of words over the parts of a datagram, and the checksum that a sender sets.
-use Rattle.std.proofs.Common.{◌≡◌, ℕ, zero, suc, ◌+◌, ◌-◌, ◌*◌, ◌/◌, ◌%◌, ◌<◌, ◌≤◌, true, List, [], ◌∷◌, ◌++◌, length, refl, ap, ◌∙◌, arith, append_assoc, eq-eqb, inl, inr}
-use Rattle.std.specs.Prelude.{◌==◌, if◌then◌else◌}
+use Rattle.std.proofs.Common.{◌≡◌, ℕ, zero, suc, ◌+◌, ◌*◌, ◌/◌, ◌%◌, ◌<◌, ◌≤◌, true, List, [], ◌∷◌, ◌++◌, length, refl, ap, ◌∙◌, arith, append_assoc, eq-eqb, inl, inr}
 use Rattle.std.proofs.lemmas.Bool.{lt-ltb, cases_eq, ne_eqb}
 use Rattle.std.proofs.lemmas.List.{length-append}
 use Rattle.ao_base.specs.declared.address.Address.{Address}
@@ -10,6 +9,7 @@ use Rattle.segment_model.specs.Sockets.{octets}
 use Rattle.segment_model.specs.Segments.{IpHeader, Ipv4, Ipv6, Segment, words_sum, sums, complement_of, tcp_length, pseudo_of, pseudo, header, tcp_bytes, checksum_of, good, spell_as, spell}
 use Rattle.segment_model.specs.Spelling.{AreBytes, IsV4, IsV6, FitsIp, Fits, with_sum, finished}
 use Rattle.segment_model.proofs.ByteLaws.{two_back}
+use Rattle.segment_model.proofs.Folding.{complement_at, sums_by, complement_by}
 
 pub words_append : (k : ℕ) (xs ys : List ℕ) → length xs ≡ 2 * k → words_sum (xs ++ ys) ≡ words_sum xs + words_sum ys
 words_append k [] ys e = omega arith
@@ -64,10 +64,6 @@ pub words_tcp : (d : Segment) (c : ℕ) → c < 65536 → words_sum (tcp_bytes d
 unfolding tcp_bytes header put2 put4
 words_tcp d c h = omega (arith, two_back c h)
 
--- the checksum for a plain sum
-abbrev complement_at : ℕ → ℕ
-complement_at s = if s == 0 then 65535 else (if s % 65535 == 0 then 0 else 65535 - s % 65535)
-
 abbrev Completes : ℕ → ℕ → Type 0
 Completes s c = (c < 65536) × (0 < s → (s + c) % 65535 ≡ 0)
 
@@ -81,16 +77,13 @@ completes s = elim (cases_eq s 0) [
 ]
 
 pub complement_fits : (b : List ℕ) → complement_of b < 65536
-unfolding complement_of
-complement_fits b = (completes (words_sum b)).0
+complement_fits b = rw (complement_by b) (completes (words_sum b)).0
 
 pub complement_completes : (b : List ℕ) → 0 < words_sum b → (words_sum b + complement_of b) % 65535 ≡ 0
-unfolding complement_of
-complement_completes b p = (completes (words_sum b)).1 p
+complement_completes b p = rw (complement_by b) ((completes (words_sum b)).1 p)
 
 pub is_right : (b : List ℕ) → 0 < words_sum b → words_sum b % 65535 ≡ 0 → sums b ≡ true
-unfolding sums
-is_right b p e = rw (lt-ltb 0 (words_sum b) p, eq-eqb (words_sum b % 65535) 0 e) refl
+is_right b p e = sums_by b ∙ rw (lt-ltb 0 (words_sum b) p, eq-eqb (words_sum b % 65535) 0 e) refl
 
 same_tcp : (d : Segment) (c n : ℕ) → tcp_bytes (with_sum d c) n ≡ tcp_bytes d n
 unfolding tcp_bytes header

@@ -1,7 +1,7 @@
 -- Datagrams as values: the fields of the IP header and of TCP, how they are spelled and read, and
 -- their checksums. `spell` and `reading` are the file's tops.
 use Rattle.std.specs.Prelude.{ℕ, ◌+◌, ◌-◌, ◌*◌, ◌/◌, ◌%◌, ◌==◌, nat_lt, if◌then◌else◌}
-use Rattle.std.specs.Prelude.{Bool, true, false, not, ◌&&◌, ◌||◌, Option, Some, None}
+use Rattle.std.specs.Prelude.{Bool, true, false, not, ◌||◌, Option, Some, None}
 use Rattle.std.specs.Prelude.{List, [], ◌∷◌, ◌++◌, length, take, drop, slice_index, slice_range}
 use Rattle.ao_base.specs.declared.address.Address.{Address}
 use Rattle.ao_base.specs.declared.address.Address.TheVariants.{V4, V6}
@@ -14,6 +14,7 @@ use Rattle.segment_model.specs.declared.fault.DatagramFault.TheVariants.{HeaderL
 use Rattle.segment_model.specs.declared.fault.DatagramFault.TheVariants.{HeaderChecksum, Fragment}
 use Rattle.segment_model.specs.declared.fault.DatagramFault.TheVariants.{NotTcp, ExtensionHeader}
 use Rattle.segment_model.specs.declared.fault.DatagramFault.TheVariants.{DataOffset, BadOption}
+use Rattle.segment_model.specs.Folded.{folded}
 use Rattle.segment_model.specs.Options.{Options, Listed, Faulty, options_of}
 
 -- the fields of an IP header but its addresses and lengths (RFC 791, section 3.1; RFC 8200, section
@@ -45,15 +46,11 @@ words_sum (x ∷ y ∷ rest) = x * 256 + y + words_sum rest
 
 -- the one's complement sum of bytes is ffff (RFC 1071, section 1)
 unfoldable pub sums : List ℕ → Bool
-sums bytes =
-    let s = words_sum bytes in
-    nat_lt 0 s && (s % 0xffff == 0)
+sums bytes = folded (words_sum bytes) == 0xffff
 
 -- the complement of the one's complement sum of bytes (RFC 1071, section 1)
 unfoldable pub complement_of : List ℕ → ℕ
-complement_of bytes =
-    let s = words_sum bytes in
-    if s == 0 then 0xffff else if s % 0xffff == 0 then 0 else 0xffff - s % 0xffff
+complement_of bytes = 0xffff - folded (words_sum bytes)
 
 -- the length of the TCP header with its options and the payload (RFC 9293, section 3.1)
 abbrev pub tcp_length : Segment → ℕ

@@ -1,5 +1,5 @@
 //! The laws above option areas and datagrams.
-ghost use Rattle.std.specs.Prelude.{◌≡◌, ◌↔◌, ℕ, ◌-◌, ◌<◌, true, List, [], ◌++◌};
+ghost use Rattle.std.specs.Prelude.{◌≡◌, ◌↔◌, ℕ, ◌-◌, ◌%◌, ◌<◌, true, List, [], ◌++◌};
 ghost use Rattle.segment_model.specs.Areas.{Area, FaultAt};
 ghost use Rattle.segment_model.specs.declared.fault.OptionFault.{OptionFault};
 ghost use Rattle.segment_model.specs.Options.{Opt, Listed, Faulty, options_of, AreListed, listed};
@@ -33,10 +33,15 @@ pub fn reading_is_the_spelling()
     ensures finished { (d : Segment) (rest : List ℕ) → Fits d → Good (finished d) × Fits (finished d) × (reading (spell (finished d) ++ rest) ≡ Read (finished d)) }
 {}
 
-/// A checksum is right exactly where the folded one's complement sum of all words is ffff; the
-/// checksum that makes it so is ffff less the folded sum of the words (RFC 1071, section 1).
-pub fn checksums_are_folded_sums()
+/// A folded sum fits 16 bits, and has the plain sum's remainder modulo ffff: a checksum is right
+/// exactly where the plain sum of all words is above 0 and divisible by ffff, and the checksum that
+/// makes it so is what the plain sum of the words lacks to a multiple of ffff, or is ffff where they
+/// are all 0 (RFC 1071, section 1).
+pub fn folded_sums_are_remainders()
     ensures fits { (sum : ℕ) → folded sum < 0x10000 }
-    ensures right { (bytes : List ℕ) → (sums bytes ≡ true) ↔ (folded (words_sum bytes) ≡ 0xffff) }
-    ensures complement { (bytes : List ℕ) → complement_of bytes ≡ 0xffff - folded (words_sum bytes) }
+    ensures same { (sum : ℕ) → folded sum % 0xffff ≡ sum % 0xffff }
+    ensures right { (bytes : List ℕ) → (sums bytes ≡ true) ↔ ((0 < words_sum bytes) × (words_sum bytes % 0xffff ≡ 0)) }
+    ensures complement { (bytes : List ℕ) → 0 < words_sum bytes → 0 < words_sum bytes % 0xffff → complement_of bytes ≡ 0xffff - words_sum bytes % 0xffff }
+    ensures divisible { (bytes : List ℕ) → 0 < words_sum bytes → words_sum bytes % 0xffff ≡ 0 → complement_of bytes ≡ 0 }
+    ensures zero { (bytes : List ℕ) → words_sum bytes ≡ 0 → complement_of bytes ≡ 0xffff }
 {}

@@ -9,7 +9,7 @@ mod meant;
 
 pub use fault::{DatagramFault, OptionFault};
 pub use laws::{
-    checksums_are_folded_sums, options_are_the_grammar, reading_is_the_spelling,
+    folded_sums_are_remainders, options_are_the_grammar, reading_is_the_spelling,
     spellings_are_unique,
 };
 pub use meant::meant_is_nearest;

@@ -12,6 +12,7 @@ use Rattle.segment_model.specs.Segments.{IpHeader, Segment, words_sum, sums, com
 use Rattle.segment_model.specs.Spelling.{AreBytes, IsV4, IsV6, FitsIp, Fits, with_sum, with_checksum, addresses_in}
 use Rattle.tcp_segment.specs.Written.{mss_option, ip_words}
 use Rattle.segment_model.proofs.ByteLaws.{two_back, bytes_take, bytes_drop}
+use Rattle.segment_model.proofs.Folding.{complement_by}
 use Rattle.segment_model.proofs.SumLaws.{words_pseudo, complement_completes, complement_fits, is_right, spell_with, fits_with, finished_fits, finished_good}
 use Rattle.segment_model.proofs.SpellLaws.{finished_again}
 use Rattle.segment_model.proofs.Again.{IsAgain, again}
@@ -323,12 +324,12 @@ unfolding tcp_bytes header put2 put4
 checksum_in d c n = refl
 
 checksum_over_is : (d : Segment) (c : ℕ) → FitsIp d.ip d → checksum_over (octets d.source.address ++ octets d.destination.address) (tcp_bytes d c) ≡ checksum_of d
-unfolding checksum_of complement_of
+unfolding checksum_of
 checksum_over_is d c f =
     let w = words_pseudo d (tcp_bytes d 0) f in
     let same : words_sum (octets d.source.address ++ octets d.destination.address) + 6 + length (tcp_bytes d c) + words_sum (with_checksum (tcp_bytes d c) 0) ≡ words_sum (pseudo d (tcp_bytes d 0)) =
     omega (arith, w, tcp_long d c, ap words_sum (checksum_in d c 0)) in
-    ap complement_at same
+    ap complement_at same ∙ sym (complement_by (pseudo d (tcp_bytes d 0)))
 
 -- what stands in the buffer once the checksum was set
 pub summed : {b : List ℕ} {header mac payload len c : ℕ} {h : Head} {code text rest : List ℕ} (after : List ℕ) → HoldsDraft b header mac payload len h c code text rest → AreBytes b → IsSet b after header len

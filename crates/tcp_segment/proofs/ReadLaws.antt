@@ -13,6 +13,7 @@ use Rattle.segment_model.specs.declared.fault.DatagramFault.{DatagramFault}
 use Rattle.segment_model.specs.Segments.{Segment, two_at, four_at, first_fault, fields, v4_fields, v6_fields, header, tcp_bytes, tcp_length, pseudo, spell, sums, good, words_sum, reading, Read, Bad, read_unless}
 use Rattle.segment_model.specs.Spelling.{AreBytes, Fits, Spells, addresses_in}
 use Rattle.segment_model.proofs.ByteLaws.{two_back, four_back, part_at}
+use Rattle.segment_model.proofs.Folding.{sums_by}
 use Rattle.segment_model.proofs.SumLaws.{words_pseudo}
 use Rattle.segment_model.proofs.Read.{spelled_by}
 use Rattle.tcp_segment.specs.declared.reading.Places.{Places}
@@ -218,8 +219,7 @@ unfolding fields
 addresses_are b = addresses_by (slice_index b 0 / 16 == 4) b
 
 sums_at : (b : List ℕ) (s : ℕ) → words_sum b ≡ s → 0 < s → (s % 65535 == 0) ≡ sums b
-unfolding sums
-sums_at b s e p = rw (e, lt-ltb 0 s p) refl
+sums_at b s e p = sym (sums_by b ∙ rw (e, lt-ltb 0 s p) refl)
 
 pub good_at : (b : List ℕ) (p : Places) (sum tcp_sum : ℕ) → IsRead b p → sum ≡ words_sum (addresses_in b) → tcp_sum ≡ words_sum (take (p.end - p.header) (drop p.header b))
     → ((sum + 6 + length (take (p.end - p.header) (drop p.header b)) + tcp_sum) % 65535 == 0) ≡ good (fields b)

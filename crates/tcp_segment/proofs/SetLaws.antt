@@ -6,6 +6,7 @@ use Rattle.segment_model.specs.Bytes.{put2, put4}
 use Rattle.segment_model.specs.Segments.{words_sum, complement_of}
 use Rattle.segment_model.specs.Spelling.{with_checksum, with_right_checksum, ip_length, addresses_in, pseudo_in}
 use Rattle.segment_model.proofs.ByteLaws.{two_back}
+use Rattle.segment_model.proofs.Folding.{complement_by}
 use Rattle.segment_model.proofs.SumLaws.{words_append}
 use Rattle.tcp_segment.specs.Parts.{spliced}
 use Rattle.tcp_segment.specs.Sums.{complement_at, checksum_over, HasPlainHeader, IsSet}
@@ -90,7 +91,7 @@ pseudo_in_words b rest h =
     w ∙ ap (λ (k : ℕ). words_sum (addresses_in b) + 6 + k + words_sum rest) (size_by (slice_index b 0 / 16 == 4) (length b))
 
 pub fixes : (b after : List ℕ) (header : ℕ) → header ≡ ip_length b → HasPlainHeader b → IsSet b after header (length b) → after ≡ with_right_checksum b
-unfolding with_right_checksum complement_of
+unfolding with_right_checksum
 fixes b after header e h set =
     let ip : List ℕ = take (ip_length b) b in
     let t : List ℕ = drop (ip_length b) b in
@@ -99,5 +100,5 @@ fixes b after header e h set =
     let lt : length t ≡ length b - ip_length b = length-drop (ip_length b) b in
     let whole : b ≡ ip ++ (t ++ []) = sym (take-append-drop (ip_length b) b) ∙ ap (λ (l : List ℕ). ip ++ l) (sym (append-nil t)) in
     let same : words_sum (addresses_in b) + 6 + length t + words_sum (with_checksum t 0) ≡ words_sum (pseudo_in b (with_checksum t 0)) = omega (arith, pseudo_in_words b (with_checksum t 0) h, lt) in
-    let sum : checksum_over (addresses_in b) t ≡ complement_at (words_sum (pseudo_in b (with_checksum t 0))) = ap complement_at same in
+    let sum : checksum_over (addresses_in b) t ≡ complement_of (pseudo_in b (with_checksum t 0)) = ap complement_at same ∙ sym (complement_by (pseudo_in b (with_checksum t 0))) in
     set ip t [] (omega arith) whole (omega arith) (omega arith) ∙ (ap (λ (l : List ℕ). ip ++ l) (append-nil (with_checksum t (checksum_over (addresses_in b) t))) ∙ ap (λ (x : ℕ). ip ++ with_checksum t x) sum)

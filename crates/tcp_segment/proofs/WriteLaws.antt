@@ -11,6 +11,7 @@ use Rattle.segment_model.specs.Sockets.{octets}
 use Rattle.segment_model.specs.Segments.{Segment, words_sum, complement_of, tcp_length, header, tcp_bytes, spell_as, spell}
 use Rattle.segment_model.specs.Spelling.{with_sum}
 use Rattle.tcp_segment.specs.Written.{mss_option, ip_words}
+use Rattle.segment_model.proofs.Folding.{complement_by}
 use Rattle.segment_model.proofs.SumLaws.{words_append, spell_with}
 use Rattle.tcp_segment.specs.declared.writing.Head.{Head}
 use Rattle.tcp_segment.specs.Sums.{complement_at}
@@ -34,10 +35,9 @@ ip_words_sum h total s = omega (arith, even_words h.source.address (octets h.des
 
 pub ip_checksum_is : (h : Head) (total start source destination c : ℕ) → IsSized h.source.address → start ≡ words_sum (69 ∷ 0 ∷ put2 total (0 ∷ 0 ∷ 64 ∷ 0 ∷ 64 ∷ 6 ∷ put2 0 []))
     → source ≡ words_sum (octets h.source.address) → destination ≡ words_sum (octets h.destination.address) → c ≡ complement_at (start + (source + destination)) → c ≡ complement_of (ip_words h.source.address h.destination.address total)
-unfolding complement_of
 ip_checksum_is h total start source destination c s e1 e2 e3 ec =
     let same : start + (source + destination) ≡ words_sum (ip_words h.source.address h.destination.address total) = omega (arith, ip_words_sum h total s, e1, e2, e3) in
-    ec ∙ ap complement_at same
+    ec ∙ (ap complement_at same ∙ sym (complement_by (ip_words h.source.address h.destination.address total)))
 
 -- ---- the bytes of a draft
 

@@ -43,7 +43,7 @@ pub(crate) fn words(bytes: &[u8]) -> u64
 }
 
 /// Whether the one's complement sum is ffff.
-#[tactic(auto, unfolding(segment_model::specs::Segments::sums))]
+#[tactic(auto, using(segment_model::proofs::Folding::sums_by))]
 pub(crate) fn is_right(bytes: &[u8]) -> bool
     requires { length bytes.now ≤ 131200 }
     ensures { result ≡ sums bytes.now }
