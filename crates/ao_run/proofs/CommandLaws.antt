@@ -5,7 +5,7 @@ use Rattle.std.proofs.lemmas.List.{get_or_past}
 use Rattle.std.proofs.lemmas.Str.{IsUtf8-from_ascii}
 use Rattle.std.specs.Str.{IsAscii, IsUtf8, bytes_eq}
 use Rattle.ao_base.specs.Decimals.{decimal_of}
-use Rattle.key_model.specs.Times.{◌>>=◌, two_at, time_of, time_of_digits}
+use Rattle.key_model.specs.Times.{◌>>=◌, two_digits_at, time_of, time_of_digits}
 use Rattle.format_model.specs.declared.command.Command.{Command}
 use Rattle.format_model.specs.declared.command.Command.TheVariants as command
 use Rattle.key_model.specs.Lifetimes.{greatest_time}
@@ -27,8 +27,8 @@ low : (x : ℕ) → (nat_le 48 x && nat_le x 57) ≡ true → x < 128
 low x h = grind (arith, nat_tests)
 
 -- two digits are of ASCII
-two_low : (w : List ℕ) (i n : ℕ) → two_at w i ≡ Some n → (slice_index w i < 128) × (slice_index w (i + 1) < 128)
-unfolding two_at
+two_low : (w : List ℕ) (i n : ℕ) → two_digits_at w i ≡ Some n → (slice_index w i < 128) × (slice_index w (i + 1) < 128)
+unfolding two_digits_at
 two_low w i n h =
     let a = slice_index w i in
     let b = slice_index w (i + 1) in
@@ -69,13 +69,13 @@ module _ (w : List ℕ) where
 digits_written : (w : List ℕ) (t : ℕ) → length w ≡ 15 → slice_index w 14 ≡ 90 → time_of_digits w ≡ Some t → Written w
 unfolding time_of_digits
 digits_written w t long z is =
-    let c = from_bind (two_at w 0) _ t is in
-    let y = from_bind (two_at w 2) _ t c.2 in
-    let mo = from_bind (two_at w 4) _ t y.2 in
-    let d = from_bind (two_at w 6) _ t mo.2 in
-    let h = from_bind (two_at w 8) _ t d.2 in
-    let mi = from_bind (two_at w 10) _ t h.2 in
-    let s = from_bind (two_at w 12) _ t mi.2 in
+    let c = from_bind (two_digits_at w 0) _ t is in
+    let y = from_bind (two_digits_at w 2) _ t c.2 in
+    let mo = from_bind (two_digits_at w 4) _ t y.2 in
+    let d = from_bind (two_digits_at w 6) _ t mo.2 in
+    let h = from_bind (two_digits_at w 8) _ t d.2 in
+    let mi = from_bind (two_digits_at w 10) _ t h.2 in
+    let s = from_bind (two_digits_at w 12) _ t mi.2 in
     record {
       c = two_low w 0 c.0 c.1;
       y = two_low w 2 y.0 y.1;

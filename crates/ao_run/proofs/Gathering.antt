@@ -8,7 +8,7 @@ use Rattle.ao_base.proofs.Sides.{gave_none}
 use Rattle.key_model.specs.declared.fault.TableFault.{TableFault}
 use Rattle.key_model.specs.declared.fault.TableFault.TheVariants as fault
 use Rattle.key_model.specs.Nodes.{tables_of}
-use Rattle.key_model.specs.Reading.{Gives}
+use Rattle.key_model.specs.Reading.{ReadingGives}
 use Rattle.key_model.specs.Rows.{Table}
 use Rattle.line_model.specs.declared.text_fault.TextFault.{TextFault}
 use Rattle.line_model.specs.declared.text_fault.TextFault.TheVariants as text_fault
@@ -162,7 +162,7 @@ module _ (c : Command) (k : List ℕ) (k0 k1 : Side) (holds : reads_keys c ≡ t
   stopped_keys text e Read r is stopped = absurd stopped
   stopped_keys text e Write r is stopped = absurd stopped
 
-  pub faulty_gathered : (text : List ℕ) (e : TableFault) (stop : Stop) → ReadsAll k0 k1 1048576 k (Ok text) → Gives {X = List Table} (λ t. t) (Err e) (tables_of text) →
+  pub faulty_gathered : (text : List ℕ) (e : TableFault) (stop : Stop) → ReadsAll k0 k1 1048576 k (Ok text) → ReadingGives {X = List Table} (λ t. t) (Err e) (tables_of text) →
       Stopped stop (refusal 3 (table_fault_line e)) → (e ≡ fault.Memory → stop ≡ Memory) → KeysGathered c k k0 k1 (Err stop)
   faulty_gathered text fault.Memory stop r is stopped none = rw (none refl) (memory_keys r)
   faulty_gathered text fault.Syntax stop r is stopped none = stopped_keys text fault.Syntax stop r (rw r.whole.0 at is) stopped

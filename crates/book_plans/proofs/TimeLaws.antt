@@ -8,7 +8,7 @@ use Rattle.jiff_core.proofs.SignedLemmas.{signed_arith}
 use Rattle.jiff_core.proofs.CalendarLemmas.{day_count-epoch, days_from_civil-day_count, day_count-later_year, day_count-day_of_year, day_count_bounds}
 use Rattle.segment_model.proofs.Fields.{and_tells, le_is}
 use Rattle.key_model.specs.Lifetimes.{greatest_time}
-use Rattle.key_model.specs.Times.{◌>>=◌, two_at, day_of, second_of, time_of_digits, time_of}
+use Rattle.key_model.specs.Times.{◌>>=◌, two_digits_at, day_of, second_of, time_of_digits, time_of}
 use borrow.Author.Differences.{up, down}
 
 some_if : (b : Bool) (x y : ℕ) → ◌≡◌ {A = Option ℕ} (if b then Some x else None) (Some y) → (b ≡ true) × (x ≡ y)
@@ -36,8 +36,8 @@ two_low a b n e =
     let is = c.1 in
     omega arith
 
-two_bound : (text : List ℕ) (i n : ℕ) → two_at text i ≡ Some n → n < 100
-unfolding two_at
+two_bound : (text : List ℕ) (i n : ℕ) → two_digits_at text i ≡ Some n → n < 100
+unfolding two_digits_at
 two_bound text i n e = two_low (slice_index text i) (slice_index text (i + 1)) n e
 
 later : (y : ℤ) → pos 1970 <ℤ y → 4_371_953 ≤ day_count y 1 1
@@ -94,13 +94,13 @@ some_is x y e = cc
 digits_bound : (text : List ℕ) (t : ℕ) → time_of_digits text ≡ Some t → t ≤ greatest_time
 unfolding time_of_digits
 digits_bound text t e =
-    let c = then_some (two_at text 0) _ t e in
-    let y = then_some (two_at text 2) _ t c.2 in
-    let mo = then_some (two_at text 4) _ t y.2 in
-    let d = then_some (two_at text 6) _ t mo.2 in
-    let h = then_some (two_at text 8) _ t d.2 in
-    let mi = then_some (two_at text 10) _ t h.2 in
-    let s = then_some (two_at text 12) _ t mi.2 in
+    let c = then_some (two_digits_at text 0) _ t e in
+    let y = then_some (two_digits_at text 2) _ t c.2 in
+    let mo = then_some (two_digits_at text 4) _ t y.2 in
+    let d = then_some (two_digits_at text 6) _ t mo.2 in
+    let h = then_some (two_digits_at text 8) _ t d.2 in
+    let mi = then_some (two_digits_at text 10) _ t h.2 in
+    let s = then_some (two_digits_at text 12) _ t mi.2 in
     let day = then_some (day_of (100 * c.0 + y.0) mo.0 d.0) _ t s.2 in
     let second = then_some (second_of h.0 mi.0 s.0) _ t day.2 in
     let century = two_bound text 0 c.0 c.1 in

@@ -2,7 +2,7 @@
 ghost use Rattle.std.specs.Prelude.{◌≡◌, ◌≤◌, ℕ, length, option_map, Some, None};
 ghost use Rattle.toml.specs.View.{view, items_view};
 ghost use Rattle.key_model.specs.Columns.{peer_of_text, peer_of, peer_at, peers_of};
-ghost use Rattle.key_model.specs.Reading.{Gives, each};
+ghost use Rattle.key_model.specs.Reading.{ReadingGives, each};
 
 use crate::columns::is_text;
 use ao_base::{Address, read_address};
@@ -43,7 +43,7 @@ fn each_peer(
     row: u8,
     values: &[Value],
 ) -> Result<Vec<Option<Address>>, TableFault>
-    ensures { Gives (λ v. v.items) result (each (peer_at node row) 1 (items_view values.now)) }
+    ensures { ReadingGives (λ v. v.items) result (each (peer_at node row) 1 (items_view values.now)) }
 {
     let mut peers = Vec::new(alloc);
     for value in values {
@@ -60,7 +60,7 @@ pub(crate) fn peers_at(
     row: u8,
     value: Option<&Value>,
 ) -> Result<Vec<Option<Address>>, TableFault>
-    ensures { Gives (λ v. v.items) result (peers_of node row (option_map (λ v. view v.now) value.entry)) }
+    ensures { ReadingGives (λ v. v.items) result (peers_of node row (option_map (λ v. view v.now) value.entry)) }
 {
     let fault = TableFault::Field(node, row, Column::Peers);
     match value {

@@ -2,8 +2,8 @@
 ghost use Rattle.std.specs.Prelude.{◌≡◌, ◌≤◌, codes, length, option_map, option_and_then, IfOk, Some, None};
 ghost use Rattle.toml.specs.Data.{get_member};
 ghost use Rattle.toml.specs.View.{table_view};
-ghost use Rattle.key_model.specs.Columns.{text_of, is_absent_or, options_of, protocol_of, kdf_of, algorithm_at, master_of};
-ghost use Rattle.key_model.specs.Reading.{Gives};
+ghost use Rattle.key_model.specs.Columns.{text_of, is_absent_or, options_flag_of, protocol_of, kdf_of, algorithm_at, master_of};
+ghost use Rattle.key_model.specs.Reading.{ReadingGives};
 
 use crate::columns::{is_text, is_word_at, member_at, must, text_at};
 use crate::master_key::MasterKey;
@@ -25,7 +25,7 @@ fn is_everywhere(table: &Table) -> bool
 }
 
 fn read_options(text: &str) -> Option<bool>
-    ensures { result ≡ options_of text.now }
+    ensures { result ≡ options_flag_of text.now }
 {
     if is_text(text, "options") {
         Some(true)
@@ -37,7 +37,7 @@ fn read_options(text: &str) -> Option<bool>
 }
 
 fn options_at(table: &Table) -> Option<bool>
-    ensures { result ≡ option_and_then options_of (text_of (codes "ProtocolSpecificInfo") (table_view table.now)) }
+    ensures { result ≡ option_and_then options_flag_of (text_of (codes "ProtocolSpecificInfo") (table_view table.now)) }
 {
     match text_at(table, "ProtocolSpecificInfo") {
         Some(text) => read_options(text),
@@ -102,7 +102,7 @@ pub(crate) fn master_at(
     row: u8,
     text: Option<&str>,
 ) -> Result<MasterKey, TableFault>
-    ensures { Gives (λ key. key.bytes.items) result (master_of node row (option_map (λ s. s.now) text.entry)) }
+    ensures { ReadingGives (λ key. key.bytes.items) result (master_of node row (option_map (λ s. s.now) text.entry)) }
 {
     let fault = TableFault::Field(node, row, Column::Key);
     let Some(text) = text else {
