@@ -4,7 +4,7 @@ use Rattle.std.proofs.lemmas.List.{length-append, take-append-drop, length-take,
 use Rattle.std.proofs.lemmas.Bool.{cases_lt, le-ltb, lt-ltb}
 use Rattle.segment_model.specs.declared.fault.OptionFault.{OptionFault}
 use Rattle.segment_model.specs.declared.fault.OptionFault.TheVariants.{ShortLength, PastEnd}
-use Rattle.segment_model.specs.Options.{Opt, Options, Listed, Faulty, and_then, least, Front, NoMore, Ending, TooShort, TooLong, Leading, front, options_at, options_of, listed, AreListed}
+use Rattle.segment_model.specs.Options.{Opt, Options, Listed, Faulty, and_then, least, OptionFront, NoMore, Ending, TooShort, TooLong, Leading, option_front, options_at, options_of, listed, AreListed}
 use Rattle.segment_model.specs.Areas.{spell_option, spell_options, IsOpen, Open, ending, AreaAt, Area, Refused, FaultFrom, FaultAt}
 use Rattle.segment_model.proofs.Walks.{step, leads, goes, ending_at, nothing_at, short_at, long_at, not_short, not_long}
 
@@ -13,7 +13,7 @@ abbrev opt : ℕ → ℕ → List ℕ → Opt
 opt p kind body = record { kind = kind; body = body; place = p }
 
 -- what one step says of the bytes
-abbrev Tells : Front → List ℕ → Type 0
+abbrev Tells : OptionFront → List ℕ → Type 0
 Tells NoMore bs = bs ≡ []
 Tells Ending bs = (tail : List ℕ) × (bs ≡ 0 ∷ tail)
 Tells TooShort bs = (q : ℕ) → Refused bs q (ShortLength q)
@@ -30,7 +30,7 @@ long_found k size rest lo hi =
     let big : nat_lt (suc (suc k)) 2 ≡ false = le-ltb _ _ (omega arith) in
     (λ p. record { kind = omega arith; short = λ h. absurd (omega arith); long = λ _. omega arith }, λ p. rw (big, n, take-append-drop (size - 2) rest) refl, λ p. rw big (omega (arith, n)))
 
-long_tells : (k size : ℕ) (rest : List ℕ) → Tells (front (suc (suc k) ∷ size ∷ rest)) (suc (suc k) ∷ size ∷ rest)
+long_tells : (k size : ℕ) (rest : List ℕ) → Tells (option_front (suc (suc k) ∷ size ∷ rest)) (suc (suc k) ∷ size ∷ rest)
 long_tells k size rest = elim (cases_lt size (least (suc (suc k)))) [
   | inl lt ↦ rw (lt-ltb _ _ lt) (λ q. (refl, omega arith, lt))
   | inr le ↦ elim (cases_lt (length rest + 2) size) [
@@ -39,14 +39,14 @@ long_tells k size rest = elim (cases_lt size (least (suc (suc k)))) [
   ]
 ]
 
-tells : (bs : List ℕ) → Tells (front bs) bs
+tells : (bs : List ℕ) → Tells (option_front bs) bs
 tells [] = refl
 tells (zero ∷ bs) = (bs, refl)
 tells (suc zero ∷ bs) = (λ p. record { kind = omega arith; short = λ _. refl; long = λ h. absurd (omega arith) }, λ p. refl, λ p. refl)
 tells (suc (suc k) ∷ []) = λ q. (refl, omega arith)
 tells (suc (suc k) ∷ size ∷ rest) = long_tells k size rest
 
-again_at : (p kind : ℕ) (body after : List ℕ) → IsOpen (opt p kind body) → front (spell_option (opt p kind body) ++ after) ≡ Leading kind body (length (spell_option (opt p kind body))) after
+again_at : (p kind : ℕ) (body after : List ℕ) → IsOpen (opt p kind body) → option_front (spell_option (opt p kind body) ++ after) ≡ Leading kind body (length (spell_option (opt p kind body))) after
 again_at p zero body after o = absurd (omega (arith, o.kind))
 again_at p (suc zero) body after o = rw (o.short (omega arith)) refl
 again_at p (suc (suc k)) body after o =
@@ -58,12 +58,12 @@ again_at p (suc (suc k)) body after o =
     rw (big, lo, hi, n, take_at body after (length body) refl, drop_at body after (length body) refl) (ap (λ (size : ℕ). Leading (suc (suc k)) body size after) m)
 
 -- an option that is spelled at the front is found
-again : (o : Opt) (after : List ℕ) → IsOpen o → Leading o.kind o.body (length (spell_option o)) after ≡ front (spell_option o ++ after)
+again : (o : Opt) (after : List ℕ) → IsOpen o → Leading o.kind o.body (length (spell_option o)) after ≡ option_front (spell_option o ++ after)
 again o after h = sym (again_at o.place o.kind o.body after h)
 
 -- ---- what is read is of the grammar
 
-area_step : (s : Front) (p : ℕ) (bs : List ℕ) → s ≡ front bs → Tells s bs → AreListed (options_at p bs)
+area_step : (s : OptionFront) (p : ℕ) (bs : List ℕ) → s ≡ option_front bs → Tells s bs → AreListed (options_at p bs)
     → ((q : ℕ) (rest : List ℕ) → length rest < length bs → AreListed (options_at q rest) → (tail : List ℕ) × AreaAt q (listed (options_at q rest)) tail rest)
     → (tail : List ℕ) × AreaAt p (listed (options_at p bs)) tail bs
 area_step NoMore p bs e t l ih = let n : options_at p bs ≡ Listed [] = nothing_at p bs e in ([], rw n (inl (tt, refl, t)))
@@ -94,8 +94,8 @@ area_step (Leading kind body size rest) p bs e t l ih =
     )
 
 area_found : (n p : ℕ) (bs : List ℕ) → length bs ≤ n → AreListed (options_at p bs) → (tail : List ℕ) × AreaAt p (listed (options_at p bs)) tail bs
-area_found zero p bs h l = area_step (front bs) p bs refl (tells bs) l (λ q rest lt m. absurd (omega arith))
-area_found (suc n) p bs h l = area_step (front bs) p bs refl (tells bs) l (λ q rest lt m. area_found n q rest (omega arith) m)
+area_found zero p bs h l = area_step (option_front bs) p bs refl (tells bs) l (λ q rest lt m. absurd (omega arith))
+area_found (suc n) p bs h l = area_step (option_front bs) p bs refl (tells bs) l (λ q rest lt m. area_found n q rest (omega arith) m)
 
 -- an area without a fault is its options and a tail
 pub area_of : (bs : List ℕ) → AreListed (options_of bs) → (tail : List ℕ) × Area (listed (options_of bs)) tail bs
@@ -109,7 +109,7 @@ then_fault o (Faulty g) f e = e
 fault_is : (f g : OptionFault) → Faulty f ≡ Faulty g → f ≡ g
 fault_is f g e = cc
 
-fault_step : (s : Front) (p : ℕ) (bs : List ℕ) (f : OptionFault) → s ≡ front bs → Tells s bs → options_at p bs ≡ Faulty f
+fault_step : (s : OptionFront) (p : ℕ) (bs : List ℕ) (f : OptionFault) → s ≡ option_front bs → Tells s bs → options_at p bs ≡ Faulty f
     → ((q : ℕ) (rest : List ℕ) → length rest < length bs → options_at q rest ≡ Faulty f → FaultFrom q rest f)
     → FaultFrom p bs f
 fault_step NoMore p bs f e t l ih =
@@ -135,8 +135,8 @@ fault_step (Leading kind body size rest) p bs f e t l ih =
     (o ∷ r.0, r.1, (t.0 p, refl, subst (λ (q : ℕ). Open q r.0) at r.2), t.1 p ∙ (ap (λ (x : List ℕ). spell_option o ++ x) r.3 ∙ sym (append_assoc (spell_option o) (spell_options r.0) r.1)), subst (λ (q : ℕ). Refused r.1 q f) far r.4)
 
 fault_found : (n p : ℕ) (bs : List ℕ) (f : OptionFault) → length bs ≤ n → options_at p bs ≡ Faulty f → FaultFrom p bs f
-fault_found zero p bs f h l = fault_step (front bs) p bs f refl (tells bs) l (λ q rest lt m. absurd (omega arith))
-fault_found (suc n) p bs f h l = fault_step (front bs) p bs f refl (tells bs) l (λ q rest lt m. fault_found n q rest f (omega arith) m)
+fault_found zero p bs f h l = fault_step (option_front bs) p bs f refl (tells bs) l (λ q rest lt m. absurd (omega arith))
+fault_found (suc n) p bs f h l = fault_step (option_front bs) p bs f refl (tells bs) l (λ q rest lt m. fault_found n q rest f (omega arith) m)
 
 -- a fault that is read stands in the bytes
 pub fault_stands : (bs : List ℕ) (f : OptionFault) → options_of bs ≡ Faulty f → FaultAt bs f
@@ -182,7 +182,7 @@ refused_at (kind ∷ []) p (ShortLength q) r = absurd r
 refused_at (zero ∷ size ∷ body) p (ShortLength q) r = absurd (omega (arith, r.1))
 refused_at (suc zero ∷ size ∷ body) p (ShortLength q) r = absurd (omega (arith, r.1))
 refused_at (suc (suc k) ∷ size ∷ body) p (ShortLength q) r =
-    let f : TooShort ≡ front (suc (suc k) ∷ size ∷ body) = rw (lt-ltb _ _ r.2) refl in
+    let f : TooShort ≡ option_front (suc (suc k) ∷ size ∷ body) = rw (lt-ltb _ _ r.2) refl in
     short_at p (suc (suc k) ∷ size ∷ body) f ∙ ap (λ (j : ℕ). Faulty (ShortLength j)) (sym r.0)
 refused_at [] p (PastEnd q) r = absurd r
 refused_at (zero ∷ []) p (PastEnd q) r = absurd (omega (arith, r.1))
@@ -191,7 +191,7 @@ refused_at (suc (suc k) ∷ []) p (PastEnd q) r = long_at p (suc (suc k) ∷ [])
 refused_at (zero ∷ size ∷ body) p (PastEnd q) r = absurd (omega (arith, r.1))
 refused_at (suc zero ∷ size ∷ body) p (PastEnd q) r = absurd (omega (arith, r.1))
 refused_at (suc (suc k) ∷ size ∷ body) p (PastEnd q) r =
-    let f : TooLong ≡ front (suc (suc k) ∷ size ∷ body) = rw (le-ltb _ _ r.2, lt-ltb _ _ r.3) refl in
+    let f : TooLong ≡ option_front (suc (suc k) ∷ size ∷ body) = rw (le-ltb _ _ r.2, lt-ltb _ _ r.3) refl in
     long_at p (suc (suc k) ∷ size ∷ body) f ∙ ap (λ (j : ℕ). Faulty (PastEnd j)) (sym r.0)
 
 -- a fault that stands in the bytes is read

@@ -2,7 +2,7 @@
 use Rattle.std.proofs.Common.{◌≡◌, ℕ, zero, suc, ◌+◌, ◌-◌, ◌≤◌, ◌==◌, nat_lt, Bool, true, false, List, [], ◌∷◌, ◌++◌, length, take, drop, replicate, if◌then◌else◌, refl, sym, ap, ◌∙◌, subst, arith, length-append, length-take, length-drop, append_assoc}
 use Rattle.std.proofs.lemmas.Bool.Decides.{nat_tests}
 use Rattle.std.proofs.lemmas.List.{length-replicate}
-use Rattle.segment_model.specs.Options.{Opt, Options, Listed, Faulty, and_then, least, Front, TooShort, TooLong, Leading, front, by_front, options_from, of_kind, listed, AreListed}
+use Rattle.segment_model.specs.Options.{Opt, Options, Listed, Faulty, and_then, least, OptionFront, TooShort, TooLong, Leading, option_front, by_front, options_from, of_kind, listed, AreListed}
 use Rattle.segment_model.proofs.Fields.{eqb_is, lt_not}
 
 -- the list with so many zeros from 4 past a place on
@@ -101,7 +101,7 @@ skipped a o os ns is old ao md5 =
     )
 
 -- by cases on a test
-by_test : (P : Front → Type 0) (b : Bool) (t u : Front) → (b ≡ true → P t) → (b ≡ false → P u) → P (if b then t else u)
+by_test : (P : OptionFront → Type 0) (b : Bool) (t u : OptionFront) → (b ≡ true → P t) → (b ≡ false → P u) → P (if b then t else u)
 by_test P true t u one two = one refl
 by_test P false t u one two = two refl
 
@@ -117,7 +117,7 @@ least_two kind = elim (kind == 29) as (λ b. 2 ≤ (if b then 4 else 2)) [ true 
 
 -- what stands at the front, where neither test refuses it
 pub leading : (n size : ℕ) (rest : List ℕ) → nat_lt size (least (suc (suc n))) ≡ false → nat_lt (length rest + 2) size ≡ false
-    → front (suc (suc n) ∷ size ∷ rest) ≡ Leading (suc (suc n)) (take (size - 2) rest) size (drop (size - 2) rest)
+    → option_front (suc (suc n) ∷ size ∷ rest) ≡ Leading (suc (suc n)) (take (size - 2) rest) size (drop (size - 2) rest)
 leading n size rest low high = rw (low, high) refl
 
 same-eqb : (x y : ℕ) → x ≡ y → (x == y) ≡ true
@@ -159,13 +159,13 @@ own_blanks k p n size rest o low high is e =
     let whole = length-append body left in
     let new_high : nat_lt (length (body ++ left) + 2) size ≡ false = let same : length (body ++ left) ≡ length rest = omega arith in ap (λ i. nat_lt (i + 2) size) same ∙ high in
     let new : Opt = record { kind = kind; body = body; place = p } in
-    let front_is : front (blanked 0 m (kind ∷ size ∷ rest)) ≡ Leading kind body size left =
-    ap front area_same ∙ leading n size (body ++ left) low new_high
+    let front_is : option_front (blanked 0 m (kind ∷ size ∷ rest)) ≡ Leading kind body size left =
+    ap option_front area_same ∙ leading n size (body ++ left) low new_high
     ∙ ap (λ b. Leading kind b size (drop (size - 2) (body ++ left))) (take_exact body left (size - 2) body_size)
     ∙ ap (λ l. Leading kind body size l) (drop_exact body left (size - 2) body_size) in
     let all_is : listed (options_from (suc k) p (blanked 0 m (kind ∷ size ∷ rest))) ≡ new ∷ listed os =
     ap (λ f. listed (by_front f p (options_from k))) front_is ∙ listed_then new os os_listed in
-    let old_front : front (kind ∷ size ∷ rest) ≡ Leading kind (take (size - 2) rest) size left = leading n size rest low high in
+    let old_front : option_front (kind ∷ size ∷ rest) ≡ Leading kind (take (size - 2) rest) size left = leading n size rest low high in
     let old_is : listed (options_from (suc k) p (kind ∷ size ∷ rest)) ≡ a ∷ listed os =
     ap (λ f. listed (by_front f p (options_from k))) old_front ∙ listed_then a os os_listed in
     let place_is : p ≡ o.place = ap (λ (x : Opt). x.place) lead.0 in
@@ -212,7 +212,7 @@ later_blanks k p n size rest o low high is e h =
     let new_long = length-blanked (s + h.offset) m rest (omega arith) in
     let new_high : nat_lt (length new_rest + 2) size ≡ false = ap (λ i. nat_lt (i + 2) size) new_long ∙ high in
     let ns = options_from k (p + size) (blanked h.offset m left) in
-    let front_is : front (blanked at m (kind ∷ size ∷ rest)) ≡ Leading kind (take s rest) size (blanked h.offset m left) =
+    let front_is : option_front (blanked at m (kind ∷ size ∷ rest)) ≡ Leading kind (take s rest) size (blanked h.offset m left) =
     leading n size new_rest low new_high
     ∙ ap (λ b. Leading kind b size (drop s new_rest)) (take-blanked s h.offset (s + h.offset) m rest refl)
     ∙ ap (λ l. Leading kind (take s rest) size l) (drop-blanked s h.offset (s + h.offset) m rest refl (omega arith)) in
@@ -249,7 +249,7 @@ blanks (suc k) p (suc (suc n) ∷ []) o e = absurd (cc)
 blanks (suc k) p (suc (suc n) ∷ size ∷ rest) o e =
     let kind = suc (suc n) in
     let Goal = Blanks (suc k) p (kind ∷ size ∷ rest) o in
-    let P : Front → Type 0 = λ f. of_kind 29 (listed (by_front f p (options_from k))) ≡ o ∷ [] → Goal in
+    let P : OptionFront → Type 0 = λ f. of_kind 29 (listed (by_front f p (options_from k))) ≡ o ∷ [] → Goal in
     let a : Opt = record { kind = kind; body = take (size - 2) rest; place = p } in
     let os = options_from k (p + size) (drop (size - 2) rest) in
     by_test P (nat_lt size (least kind)) TooShort _ (λ t h. absurd (cc)) (λ low.

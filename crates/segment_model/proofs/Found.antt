@@ -1,7 +1,7 @@
 -- A TCP-AO option that is found lies in its area.
 use Rattle.std.proofs.Common.{◌≡◌, ℕ, zero, suc, ◌+◌, ◌-◌, ◌≤◌, ◌==◌, nat_lt, Bool, true, false, List, [], ◌∷◌, length, take, drop, if◌then◌else◌, refl, sym, subst, arith, length-take, length-drop}
 use Rattle.std.specs.List.{AllByRecursion}
-use Rattle.segment_model.specs.Options.{Opt, Options, Listed, Faulty, and_then, least, Front, NoMore, Ending, TooShort, TooLong, Leading, front, by_front, options_from, options_of, of_kind, listed, Ao, One, ao_of, found, find_ao}
+use Rattle.segment_model.specs.Options.{Opt, Options, Listed, Faulty, and_then, least, OptionFront, NoMore, Ending, TooShort, TooLong, Leading, option_front, by_front, options_from, options_of, of_kind, listed, Ao, One, ao_of, found, find_ao}
 use Rattle.segment_model.proofs.Fields.{eqb_is, lt_not}
 
 -- an option of kind 29 has its two ids, and lies before this end
@@ -22,7 +22,7 @@ within-longer one two (o ∷ os) le h =
     ((λ is. let r = h.0 is in let low = r.1 in (r.0, omega arith)), within-longer one two os le h.1)
 
 -- what is known of what stands at the front of an area
-abbrev pub Bounds : Front → List ℕ → Type 0
+abbrev pub Bounds : OptionFront → List ℕ → Type 0
 Bounds (Leading kind body size rest) area = (size + length rest ≡ length area) × (kind ≡ 29 → (2 ≤ length body) × (2 + length body ≤ size))
 Bounds NoMore area = Unit {0}
 Bounds Ending area = Unit {0}
@@ -30,7 +30,7 @@ Bounds TooShort area = Unit {0}
 Bounds TooLong area = Unit {0}
 
 -- by cases on a test
-by_test : (P : Front → Type 0) (b : Bool) (t u : Front) → (b ≡ true → P t) → (b ≡ false → P u) → P (if b then t else u)
+by_test : (P : OptionFront → Type 0) (b : Bool) (t u : OptionFront) → (b ≡ true → P t) → (b ≡ false → P u) → P (if b then t else u)
 by_test P true t u one two = one refl
 by_test P false t u one two = two refl
 
@@ -48,18 +48,18 @@ long_bounds kind size rest low high =
     let t = length-take (size - 2) rest in
     (omega arith, λ e. let four = least_ao kind e in (omega arith, omega arith))
 
-front_bounds : (area : List ℕ) → Bounds (front area) area
+front_bounds : (area : List ℕ) → Bounds (option_front area) area
 front_bounds [] = tt
 front_bounds (zero ∷ rest) = tt
 front_bounds (suc zero ∷ rest) = (omega arith, λ (e : 1 ≡ 29). absurd (cc))
 front_bounds (suc (suc k) ∷ []) = tt
 front_bounds (suc (suc k) ∷ size ∷ rest) =
-    let P : Front → Type 0 = λ f. Bounds f (suc (suc k) ∷ size ∷ rest) in
+    let P : OptionFront → Type 0 = λ f. Bounds f (suc (suc k) ∷ size ∷ rest) in
     by_test P (nat_lt size (least (suc (suc k)))) TooShort _ (λ is. tt) (λ long.
     by_test P (nat_lt (length rest + 2) size) TooLong _ (λ is. tt) (λ fits.
     long_bounds (suc (suc k)) size rest (lt_not size (least (suc (suc k))) long) (lt_not (length rest + 2) size fits)))
 
-within_front : (f : Front) (k p : ℕ) (area : List ℕ) → Bounds f area
+within_front : (f : OptionFront) (k p : ℕ) (area : List ℕ) → Bounds f area
     → ((q : ℕ) (rest : List ℕ) → AllListed (Within (q + length rest)) (options_from k q rest))
     → AllListed (Within (p + length area)) (by_front f p (options_from k))
 within_front NoMore k p area h others = tt
@@ -75,7 +75,7 @@ within_front (Leading kind body size rest) k p area h others =
 
 pub all_within : (k p : ℕ) (area : List ℕ) → AllListed (Within (p + length area)) (options_from k p area)
 all_within zero p area = tt
-all_within (suc k) p area = within_front (front area) k p area (front_bounds area) (λ q rest. all_within k q rest)
+all_within (suc k) p area = within_front (option_front area) k p area (front_bounds area) (λ q rest. all_within k q rest)
 
 -- an option among those of a kind
 kind_if : (P : Opt → Type 0) (o : Opt) (os : List Opt) (b : Bool) → (b ≡ true → P o) → AllByRecursion P os → AllByRecursion P (if b then o ∷ os else os)

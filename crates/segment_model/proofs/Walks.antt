@@ -5,7 +5,7 @@ use Rattle.std.proofs.lemmas.Bool.{ltb-false}
 use Rattle.std.proofs.lemmas.List.{length-drop, length-take}
 use Rattle.segment_model.specs.declared.fault.OptionFault.{OptionFault}
 use Rattle.segment_model.specs.declared.fault.OptionFault.TheVariants.{ShortLength, PastEnd}
-use Rattle.segment_model.specs.Options.{Opt, Options, Listed, Faulty, and_then, least, Front, NoMore, Ending, TooShort, TooLong, Leading, front, by_front, options_from, options_at, options_of, listed, AreListed, Plain, plains}
+use Rattle.segment_model.specs.Options.{Opt, Options, Listed, Faulty, and_then, least, OptionFront, NoMore, Ending, TooShort, TooLong, Leading, option_front, by_front, options_from, options_at, options_of, listed, AreListed, Plain, plains}
 
 -- what is known of an option at the front of n bytes
 pub record Leads (kind : ℕ) (body : List ℕ) (size : ℕ) (rest : List ℕ) (n : ℕ) : Type 0 where
@@ -14,14 +14,14 @@ pub record Leads (kind : ℕ) (body : List ℕ) (size : ℕ) (rest : List ℕ) (
   pub ao : kind ≡ 29 → 2 ≤ length body
   pub positive : 0 < size
 
-abbrev pub IsLess : Front → ℕ → Type 0
+abbrev pub IsLess : OptionFront → ℕ → Type 0
 IsLess (Leading kind body size rest) n = Leads kind body size rest n
 IsLess NoMore n = Unit {0}
 IsLess Ending n = Unit {0}
 IsLess TooShort n = Unit {0}
 IsLess TooLong n = Unit {0}
 
-abbrev long_front : Bool → Bool → ℕ → ℕ → List ℕ → Front
+abbrev long_front : Bool → Bool → ℕ → ℕ → List ℕ → OptionFront
 long_front short long kind size rest = cond short TooShort (cond long TooLong (Leading kind (take (size - 2) rest) size (drop (size - 2) rest)))
 
 least_ao : (kind : ℕ) → kind ≡ 29 → least kind ≡ 4
@@ -41,18 +41,18 @@ long_less false false kind size rest s l =
     let t = length-take (size - 2) rest in
     record { less = omega arith; sizes = omega arith; ao = λ e. let f = least_ao kind e in omega arith; positive = omega arith }
 
-pub less : (bs : List ℕ) → IsLess (front bs) (length bs)
+pub less : (bs : List ℕ) → IsLess (option_front bs) (length bs)
 less [] = tt
 less (zero ∷ bs) = tt
 less (suc zero ∷ bs) = record { less = omega arith; sizes = omega arith; ao = λ e. absurd (omega arith); positive = omega arith }
 less (suc (suc k) ∷ []) = tt
 less (suc (suc k) ∷ size ∷ rest) =
-    subst (λ (n : ℕ). IsLess (front (suc (suc k) ∷ size ∷ rest)) n) (omega arith) (long_less (nat_lt size (least (suc (suc k)))) (nat_lt (length rest + 2) size) (suc (suc k)) size rest refl refl)
+    subst (λ (n : ℕ). IsLess (option_front (suc (suc k) ∷ size ∷ rest)) n) (omega arith) (long_less (nat_lt size (least (suc (suc k)))) (nat_lt (length rest + 2) size) (suc (suc k)) size rest refl refl)
 
-pub leads : (bs : List ℕ) (kind : ℕ) (body : List ℕ) (size : ℕ) (rest : List ℕ) → Leading kind body size rest ≡ front bs → Leads kind body size rest (length bs)
-leads bs kind body size rest e = subst (λ (f : Front). IsLess f (length bs)) (sym e) (less bs)
+pub leads : (bs : List ℕ) (kind : ℕ) (body : List ℕ) (size : ℕ) (rest : List ℕ) → Leading kind body size rest ≡ option_front bs → Leads kind body size rest (length bs)
+leads bs kind body size rest e = subst (λ (f : OptionFront). IsLess f (length bs)) (sym e) (less bs)
 
-same_by : (s : Front) (bs : List ℕ) (p : ℕ) (f g : ℕ → List ℕ → Options) → s ≡ front bs → ((q : ℕ) (rest : List ℕ) → length rest < length bs → f q rest ≡ g q rest) → by_front s p f ≡ by_front s p g
+same_by : (s : OptionFront) (bs : List ℕ) (p : ℕ) (f g : ℕ → List ℕ → Options) → s ≡ option_front bs → ((q : ℕ) (rest : List ℕ) → length rest < length bs → f q rest ≡ g q rest) → by_front s p f ≡ by_front s p g
 same_by NoMore bs p f g e h = refl
 same_by Ending bs p f g e h = refl
 same_by TooShort bs p f g e h = refl
@@ -67,14 +67,14 @@ enough zero (suc n) p [] hm hn = refl
 enough zero (suc n) p (b ∷ bs) hm hn = absurd (omega arith)
 enough (suc m) zero p [] hm hn = refl
 enough (suc m) zero p (b ∷ bs) hm hn = absurd (omega arith)
-enough (suc m) (suc n) p bs hm hn = same_by (front bs) bs p (options_from m) (options_from n) refl (λ q rest lt. enough m n q rest (omega arith) (omega arith))
+enough (suc m) (suc n) p bs hm hn = same_by (option_front bs) bs p (options_from m) (options_from n) refl (λ q rest lt. enough m n q rest (omega arith) (omega arith))
 
-at_all : (p : ℕ) (bs : List ℕ) → options_at p bs ≡ by_front (front bs) p options_at
+at_all : (p : ℕ) (bs : List ℕ) → options_at p bs ≡ by_front (option_front bs) p options_at
 at_all p [] = refl
-at_all p (b ∷ bs) = same_by (front (b ∷ bs)) (b ∷ bs) p (options_from (length bs)) options_at refl (λ q rest lt. enough (length bs) (length rest) q rest (omega arith) (omega arith))
+at_all p (b ∷ bs) = same_by (option_front (b ∷ bs)) (b ∷ bs) p (options_from (length bs)) options_at refl (λ q rest lt. enough (length bs) (length rest) q rest (omega arith) (omega arith))
 
 -- one step
-pub step : (p : ℕ) (bs : List ℕ) (s : Front) → s ≡ front bs → options_at p bs ≡ by_front s p options_at
+pub step : (p : ℕ) (bs : List ℕ) (s : OptionFront) → s ≡ option_front bs → options_at p bs ≡ by_front s p options_at
 step p bs s e = rw e (at_all p bs)
 
 pub of_is : (bs : List ℕ) → options_of bs ≡ options_at 0 bs
@@ -103,7 +103,7 @@ passes_on x y z a b = record {
   faulty = λ f e. a.faulty f (b.faulty f e);
 }
 
-pub passes_step : (x : Options) (p : ℕ) (bs : List ℕ) (kind : ℕ) (body : List ℕ) (size : ℕ) (rest : List ℕ) → Leading kind body size rest ≡ front bs → Passes x (options_at p bs) → Passes x (options_at (p + size) rest)
+pub passes_step : (x : Options) (p : ℕ) (bs : List ℕ) (kind : ℕ) (body : List ℕ) (size : ℕ) (rest : List ℕ) → Leading kind body size rest ≡ option_front bs → Passes x (options_at p bs) → Passes x (options_at (p + size) rest)
 passes_step x p bs kind body size rest e h =
     let o : Opt = record { kind = kind; body = body; place = p } in
     let s : options_at p bs ≡ and_then o (options_at (p + size) rest) = step p bs (Leading kind body size rest) e in
@@ -126,7 +126,7 @@ erased_then o u (Listed a) (Faulty g) k m e = absurd (cc)
 erased_then o u (Faulty f) (Listed b) k m e = absurd (cc)
 erased_then o u (Faulty f) (Faulty g) k m e = refl
 
-erased_by : (s : Front) (p q : ℕ) (f : ℕ → List ℕ → Options) → ((i j : ℕ) (rest : List ℕ) → erased (f i rest) ≡ erased (f j rest)) → erased (by_front s p f) ≡ erased (by_front s q f)
+erased_by : (s : OptionFront) (p q : ℕ) (f : ℕ → List ℕ → Options) → ((i j : ℕ) (rest : List ℕ) → erased (f i rest) ≡ erased (f j rest)) → erased (by_front s p f) ≡ erased (by_front s q f)
 erased_by NoMore p q f h = refl
 erased_by Ending p q f h = refl
 erased_by TooShort p q f h = refl
@@ -136,7 +136,7 @@ erased_by (Leading kind body size rest) p q f h =
 
 erased_from : (n p q : ℕ) (bs : List ℕ) → erased (options_from n p bs) ≡ erased (options_from n q bs)
 erased_from zero p q bs = refl
-erased_from (suc n) p q bs = erased_by (front bs) p q (options_from n) (λ i j rest. erased_from n i j rest)
+erased_from (suc n) p q bs = erased_by (option_front bs) p q (options_from n) (λ i j rest. erased_from n i j rest)
 
 abbrev or_none : Option (List Plain) → List Plain
 or_none (Some list) = list
@@ -171,38 +171,38 @@ pub record Goes (p : ℕ) (bs : List ℕ) (kind : ℕ) (body : List ℕ) (size :
   pub behind : AreListed (options_at (p + size) rest)
   pub list : listed (options_at p bs) ≡ record { kind = kind; body = body; place = p } ∷ listed (options_at (p + size) rest)
 
-pub goes : (p : ℕ) (bs : List ℕ) (kind : ℕ) (body : List ℕ) (size : ℕ) (rest : List ℕ) → Leading kind body size rest ≡ front bs → AreListed (options_at p bs) → Goes p bs kind body size rest
+pub goes : (p : ℕ) (bs : List ℕ) (kind : ℕ) (body : List ℕ) (size : ℕ) (rest : List ℕ) → Leading kind body size rest ≡ option_front bs → AreListed (options_at p bs) → Goes p bs kind body size rest
 goes p bs kind body size rest e h =
     let o : Opt = record { kind = kind; body = body; place = p } in
     let s : options_at p bs ≡ and_then o (options_at (p + size) rest) = step p bs (Leading kind body size rest) e in
     let b : AreListed (options_at (p + size) rest) = (passes_then o (options_at (p + size) rest)).from_listed (subst AreListed s h) in
     record { behind = b; list = ap listed s ∙ listed_then o (options_at (p + size) rest) b }
 
-pub leading_listed : (bs : List ℕ) (kind : ℕ) (body : List ℕ) (size : ℕ) (rest : List ℕ) → Leading kind body size rest ≡ front bs → AreListed (options_of bs) → AreListed (options_of rest)
+pub leading_listed : (bs : List ℕ) (kind : ℕ) (body : List ℕ) (size : ℕ) (rest : List ℕ) → Leading kind body size rest ≡ option_front bs → AreListed (options_of bs) → AreListed (options_of rest)
 unfolding options_of
 leading_listed bs kind body size rest e h = listed_at (0 + size) 0 rest (goes 0 bs kind body size rest e h).behind
 
-pub leading_plains : (bs : List ℕ) (kind : ℕ) (body : List ℕ) (size : ℕ) (rest : List ℕ) → Leading kind body size rest ≡ front bs → AreListed (options_of bs)
+pub leading_plains : (bs : List ℕ) (kind : ℕ) (body : List ℕ) (size : ℕ) (rest : List ℕ) → Leading kind body size rest ≡ option_front bs → AreListed (options_of bs)
     → plains (listed (options_of bs)) ≡ record { kind = kind; body = body } ∷ plains (listed (options_of rest))
 unfolding options_of
 leading_plains bs kind body size rest e h =
     let g = goes 0 bs kind body size rest e h in
     ap plains g.list ∙ ap (λ (l : List Plain). record { kind = kind; body = body } ∷ l) (plains_at (0 + size) 0 rest)
 
-pub ending_at : (p : ℕ) (bs : List ℕ) → Ending ≡ front bs → options_at p bs ≡ Listed (record { kind = 0; body = []; place = p } ∷ [])
+pub ending_at : (p : ℕ) (bs : List ℕ) → Ending ≡ option_front bs → options_at p bs ≡ Listed (record { kind = 0; body = []; place = p } ∷ [])
 ending_at p bs e = step p bs Ending e
 
-pub nothing_at : (p : ℕ) (bs : List ℕ) → NoMore ≡ front bs → options_at p bs ≡ Listed []
+pub nothing_at : (p : ℕ) (bs : List ℕ) → NoMore ≡ option_front bs → options_at p bs ≡ Listed []
 nothing_at p bs e = step p bs NoMore e
 
-pub short_at : (p : ℕ) (bs : List ℕ) → TooShort ≡ front bs → options_at p bs ≡ Faulty (ShortLength p)
+pub short_at : (p : ℕ) (bs : List ℕ) → TooShort ≡ option_front bs → options_at p bs ≡ Faulty (ShortLength p)
 short_at p bs e = step p bs TooShort e
 
-pub long_at : (p : ℕ) (bs : List ℕ) → TooLong ≡ front bs → options_at p bs ≡ Faulty (PastEnd p)
+pub long_at : (p : ℕ) (bs : List ℕ) → TooLong ≡ option_front bs → options_at p bs ≡ Faulty (PastEnd p)
 long_at p bs e = step p bs TooLong e
 
-pub not_short : (p : ℕ) (bs : List ℕ) → AreListed (options_at p bs) → TooShort ≡ front bs → ⊥
+pub not_short : (p : ℕ) (bs : List ℕ) → AreListed (options_at p bs) → TooShort ≡ option_front bs → ⊥
 not_short p bs h e = subst AreListed (short_at p bs e) h
 
-pub not_long : (p : ℕ) (bs : List ℕ) → AreListed (options_at p bs) → TooLong ≡ front bs → ⊥
+pub not_long : (p : ℕ) (bs : List ℕ) → AreListed (options_at p bs) → TooLong ≡ option_front bs → ⊥
 not_long p bs h e = subst AreListed (long_at p bs e) h

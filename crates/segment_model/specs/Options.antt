@@ -28,24 +28,24 @@ least kind = if kind == 29 then 4 else 2
 
 -- what stands at the front of an area: nothing, kind 0, a fault, or an option with its size and the
 -- bytes behind it (RFC 9293, section 3.2)
-pub data Front : Type 0 where
-  NoMore Ending TooShort TooLong : Front
-  Leading : (kind : ℕ) (body : List ℕ) (size : ℕ) (rest : List ℕ) → Front
+pub data OptionFront : Type 0 where
+  NoMore Ending TooShort TooLong : OptionFront
+  Leading : (kind : ℕ) (body : List ℕ) (size : ℕ) (rest : List ℕ) → OptionFront
 
 -- kinds 0 and 1 are one byte; every other option has kind, length and body (RFC 9293, section 3.2)
-abbrev pub front : List ℕ → Front
-front [] = NoMore
-front (zero ∷ rest) = Ending
-front (suc zero ∷ rest) = Leading 1 [] 1 rest
-front (suc (suc k) ∷ []) = TooLong
-front (suc (suc k) ∷ size ∷ rest) =
+abbrev pub option_front : List ℕ → OptionFront
+option_front [] = NoMore
+option_front (zero ∷ rest) = Ending
+option_front (suc zero ∷ rest) = Leading 1 [] 1 rest
+option_front (suc (suc k) ∷ []) = TooLong
+option_front (suc (suc k) ∷ size ∷ rest) =
     if nat_lt size (least (suc (suc k))) then TooShort
     else if nat_lt (length rest + 2) size then TooLong
     else Leading (suc (suc k)) (take (size - 2) rest) size (drop (size - 2) rest)
 
 -- the options from a place on, where this stands there, and those from a later place are handed in
 -- (RFC 9293, section 3.2)
-abbrev pub by_front : Front → ℕ → (ℕ → List ℕ → Options) → Options
+abbrev pub by_front : OptionFront → ℕ → (ℕ → List ℕ → Options) → Options
 by_front NoMore p others = Listed []
 by_front Ending p others = Listed (record { kind = 0; body = []; place = p } ∷ [])
 by_front TooShort p others = Faulty (ShortLength p)
@@ -57,7 +57,7 @@ by_front (Leading kind body size rest) p others =
 -- section 3.2)
 abbrev pub options_from : ℕ → ℕ → List ℕ → Options
 options_from zero p area = Listed []
-options_from (suc k) p area = by_front (front area) p (options_from k)
+options_from (suc k) p area = by_front (option_front area) p (options_from k)
 
 -- the options of an area that begins at a place (RFC 9293, section 3.2)
 abbrev pub options_at : ℕ → List ℕ → Options

@@ -2,7 +2,7 @@
 use Rattle.std.proofs.Common.{◌≡◌, ℕ, ◌+◌, ◌<◌, ◌≤◌, Bool, true, false, cond, List, [], ◌∷◌, Option, Some, None, length, refl, sym, ap, subst, ◌∙◌, arith, eq-eqb}
 use Rattle.std.specs.Prelude.{◌==◌, ◌&&◌, slice_index, ◌*◌, is_some}
 use Rattle.std.proofs.lemmas.Bool.{ne_eqb}
-use Rattle.segment_model.specs.Options.{Opt, Options, Plain, AreListed, Listed, Faulty, Front, NoMore, Ending, TooShort, TooLong, Leading, front, options_at, options_of, listed, of_kind, plains, mss_among, Ao, AoFound, ao_of, found, find_ao}
+use Rattle.segment_model.specs.Options.{Opt, Options, Plain, AreListed, Listed, Faulty, OptionFront, NoMore, Ending, TooShort, TooLong, Leading, option_front, options_at, options_of, listed, of_kind, plains, mss_among, Ao, AoFound, ao_of, found, find_ao}
 use Rattle.segment_model.specs.Options as book
 use Rattle.segment_model.proofs.Walks.{goes, leads, ending_at, nothing_at}
 use Rattle.tcp_options.specs.Views.{mss_or, IsFirst, IsAo, HitIs, hit_option, view_ao}
@@ -49,16 +49,16 @@ kind_here kind o os e = kind_is (o.kind == kind) o (of_kind kind os) (eq-eqb o.k
 pub kind_other : (kind : ℕ) (o : Opt) (os : List Opt) → (o.kind ≡ kind → ⊥) → of_kind kind (o ∷ os) ≡ of_kind kind os
 kind_other kind o os e = kind_not (o.kind == kind) o (of_kind kind os) (ne_eqb o.kind kind e)
 
-pub none_at_end : (kind p : ℕ) (bs : List ℕ) → 1 < kind → Ending ≡ front bs → of_kind kind (listed (options_at p bs)) ≡ []
+pub none_at_end : (kind p : ℕ) (bs : List ℕ) → 1 < kind → Ending ≡ option_front bs → of_kind kind (listed (options_at p bs)) ≡ []
 none_at_end kind p bs k e =
     let o : Opt = record { kind = 0; body = []; place = p } in
     ap (λ (x : Options). of_kind kind (listed x)) (ending_at p bs e) ∙ kind_other kind o [] (λ z. omega arith)
 
-pub none_in_none : (kind p : ℕ) (bs : List ℕ) → NoMore ≡ front bs → of_kind kind (listed (options_at p bs)) ≡ []
+pub none_in_none : (kind p : ℕ) (bs : List ℕ) → NoMore ≡ option_front bs → of_kind kind (listed (options_at p bs)) ≡ []
 none_in_none kind p bs e = ap (λ (x : Options). of_kind kind (listed x)) (nothing_at p bs e)
 
 pub kind_first : (kind place p : ℕ) (area bs : List ℕ) (h : Hit) (size : ℕ) → of_kind kind (listed (options_at p bs)) ≡ of_kind kind (listed (options_at place area)) → AreListed (options_at p bs) → p + length bs ≤ place + length area
-    → Leading h.option.kind h.option.body.now size h.behind.now ≡ front bs → h.option.kind ≡ kind → h.place ≡ p → h.behind_place ≡ p + size → IsFirst kind place area h
+    → Leading h.option.kind h.option.body.now size h.behind.now ≡ option_front bs → h.option.kind ≡ kind → h.place ≡ p → h.behind_place ≡ p + size → IsFirst kind place area h
 kind_first kind place p area bs h size same l room e k hp hb =
     let g = goes p bs h.option.kind h.option.body.now size h.behind.now e l in
     let d = leads bs h.option.kind h.option.body.now size h.behind.now e in
@@ -71,7 +71,7 @@ kind_first kind place p area bs h size same l room e k hp hb =
       ao = λ z. d.ao (k ∙ z);
     }
 
-pub kind_passed : (kind p : ℕ) (bs : List ℕ) (k : ℕ) (body : List ℕ) (size : ℕ) (rest : List ℕ) → Leading k body size rest ≡ front bs → AreListed (options_at p bs) → (k ≡ kind → ⊥)
+pub kind_passed : (kind p : ℕ) (bs : List ℕ) (k : ℕ) (body : List ℕ) (size : ℕ) (rest : List ℕ) → Leading k body size rest ≡ option_front bs → AreListed (options_at p bs) → (k ≡ kind → ⊥)
     → of_kind kind (listed (options_at (p + size) rest)) ≡ of_kind kind (listed (options_at p bs))
 kind_passed kind p bs k body size rest e l n =
     let g = goes p bs k body size rest e l in

@@ -1,6 +1,6 @@
 -- The values of this crate as those of the definitions.
 use Rattle.std.specs.Prelude.{◌≡◌, ℕ, List, [], ◌∷◌, length, Option, Some, None, ◌==◌, ◌&&◌, slice_index, ◌+◌, ◌*◌, ◌≤◌, if◌then◌else◌}
-use Rattle.segment_model.specs.Options.{Plain, Front, NoMore, Ending, TooShort, TooLong, Leading}
+use Rattle.segment_model.specs.Options.{Plain, OptionFront, NoMore, Ending, TooShort, TooLong, Leading}
 use Rattle.segment_model.specs.declared.fault.OptionFault.{OptionFault}
 use Rattle.segment_model.specs.Options as book
 use Rattle.tcp_options.specs.declared.iter.Opt.{Opt}
@@ -16,7 +16,7 @@ abbrev pub view_opt : Opt → Plain
 view_opt o = record { kind = o.kind; body = o.body.now }
 
 -- what was cut off
-abbrev pub view_cut : Cut → Front
+abbrev pub view_cut : Cut → OptionFront
 view_cut cuts.NoMore = NoMore
 view_cut cuts.Ending = Ending
 view_cut cuts.TooShort = TooShort

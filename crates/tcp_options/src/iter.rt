@@ -1,7 +1,7 @@
 //! One option after another.
 ghost use Rattle.std.specs.Prelude.{◌≡◌, ℕ, List};
 ghost use Rattle.std.specs.Iterator.{YieldsFirstBy, item_count};
-ghost use Rattle.segment_model.specs.Options.{front, options_of, listed, AreListed, plains};
+ghost use Rattle.segment_model.specs.Options.{option_front, options_of, listed, AreListed, plains};
 ghost use Rattle.tcp_options.specs.Views.{view_opt, view_cut};
 
 use std::marker::Model;
@@ -30,7 +30,7 @@ pub(crate) enum Cut<'a> {
 
 /// Cuts the option off that stands at the front of an area.
 pub(crate) fn cut_front(area: &[u8]) -> Cut<'_>
-    ensures { view_cut result ≡ front area.now }
+    ensures { view_cut result ≡ option_front area.now }
 {
     match area {
         [] => Cut::NoMore,
