@@ -1,6 +1,6 @@
 //! The traffic key of a vector.
 ghost use Rattle.std.specs.Prelude.{◌≡◌, ◌+◌, ◌≤◌, ◌<◌, ◌⊎◌, ◌++◌, length};
-ghost use Rattle.segment_model.specs.Segments.{four_at, two_at};
+ghost use Rattle.segment_model.specs.Segments.{four_octets_at, two_octets_at};
 ghost use Rattle.segment_model.specs.Sockets.{octets};
 ghost use Rattle.mac_model.specs.Contexts.{bytes_of};
 ghost use Rattle.mac_model.specs.Keys.{key_length, traffic_key};
@@ -33,7 +33,7 @@ fn key_in<L: Ledger>(blank: Blank, alg: Algorithm, master: &[u8], context: &Cont
 /// The big-endian number of two bytes.
 fn two(bytes: &[u8], at: usize) -> u16
     requires { at + 1 < length bytes.now }
-    ensures { result ≡ two_at bytes.now at }
+    ensures { result ≡ two_octets_at bytes.now at }
 {
     u16::from_be_bytes([bytes[at], bytes[at + 1]])
 }
@@ -41,7 +41,7 @@ fn two(bytes: &[u8], at: usize) -> u16
 /// The big-endian number of four bytes.
 fn four(bytes: &[u8], at: usize) -> u32
     requires { at + 3 < length bytes.now }
-    ensures { result ≡ four_at bytes.now at }
+    ensures { result ≡ four_octets_at bytes.now at }
 {
     u32::from_be_bytes([bytes[at], bytes[at + 1], bytes[at + 2], bytes[at + 3]])
 }

@@ -8,7 +8,7 @@ use Rattle.ao_base.specs.Algorithms.{mac_length_of}
 use Rattle.segment_model.specs.Bytes.{ring}
 use Rattle.segment_model.specs.declared.fault.DatagramFault.{DatagramFault}
 use Rattle.segment_model.specs.Options.{find_ao}
-use Rattle.segment_model.specs.Segments.{Segment, Read, SYN, two_at, v4_fault, v6_fault, first_fault, fields, read_unless, reading, spell}
+use Rattle.segment_model.specs.Segments.{Segment, Read, SYN, two_octets_at, v4_fault, v6_fault, first_fault, fields, read_unless, reading, spell}
 use Rattle.segment_model.specs.Spelling.{ip_length}
 use Rattle.segment_model.proofs.Blanked.{take_exact}
 use Rattle.segment_model.proofs.ByteLaws.{length_part}
@@ -118,9 +118,9 @@ plain_four : (b : List ℕ) → (slice_index b 0 / 16 == 4) ≡ true → v4_faul
 plain_four b four none most =
     let r = v4_read b none in
     let size : ℕ = 4 * (slice_index b 0 % 16) in
-    let t = tcp_read (slice_range b size (two_at b 2)) r.tcp in
+    let t = tcp_read (slice_range b size (two_octets_at b 2)) r.tcp in
     let long = t.long in
-    let part = length_part b size (two_at b 2) r.within r.whole in
+    let part = length_part b size (two_octets_at b 2) r.within r.whole in
     let least = r.least in
     let whole = r.whole in
     plain_by b true four (omega (arith, long, part, least, whole)) most
@@ -128,7 +128,7 @@ plain_four b four none most =
 plain_six : (b : List ℕ) → (slice_index b 0 / 16 == 4) ≡ false → v6_fault b ≡ None → length b ≤ 1500 → HasPlainHeader b
 plain_six b six none most =
     let r = v6_read b none in
-    let size : ℕ = two_at b 4 in
+    let size : ℕ = two_octets_at b 4 in
     let t = tcp_read (slice_range b 40 (40 + size)) r.tcp in
     let long = t.long in
     let whole = r.whole in

@@ -10,7 +10,7 @@ use Rattle.segment_model.specs.Sockets.{octets}
 use Rattle.segment_model.specs.Options.{Options, Listed, Faulty, AreListed, options_of}
 use Rattle.segment_model.specs.declared.fault.DatagramFault.{DatagramFault}
 use Rattle.segment_model.specs.declared.fault.DatagramFault.TheVariants.{Truncated, Version, HeaderLength, HeaderChecksum, Fragment, NotTcp, ExtensionHeader, DataOffset}
-use Rattle.segment_model.specs.Segments.{IpHeader, Ipv4, Ipv6, Segment, two_at, four_at, refuse, option_fault, tcp_fault, v4_fault, v6_fault, is_extension, first_fault, tcp_fields, v4_fields, v6_fields, fields, tcp_length, header, tcp_bytes, spell_as, spell, sums, reading, Read, read_unless}
+use Rattle.segment_model.specs.Segments.{IpHeader, Ipv4, Ipv6, Segment, two_octets_at, four_octets_at, refuse, option_fault, tcp_fault, v4_fault, v6_fault, is_extension, first_fault, tcp_fields, v4_fields, v6_fields, fields, tcp_length, header, tcp_bytes, spell_as, spell, sums, reading, Read, read_unless}
 use Rattle.segment_model.specs.Spelling.{IsV4, IsV6, FitsV4, FitsV6, FitsIp, Fits}
 use Rattle.segment_model.proofs.ByteLaws.{two_back, four_back}
 
@@ -93,21 +93,21 @@ second_of a b c n m ha hb = ap (λ (l : List ℕ). take m l) (drop_at a (b ++ c)
 
 record V4Again (b : List ℕ) (d : Segment) (t : List ℕ) (service identification flags ttl checksum : ℕ) (options : List ℕ) : Type 0 where
   pub size : 4 * (slice_index b 0 % 16) ≡ 20 + length options
-  pub total : two_at b 2 ≡ 20 + length options + tcp_length d
+  pub total : two_octets_at b 2 ≡ 20 + length options + tcp_length d
   pub head : take (4 * (slice_index b 0 % 16)) b ≡ spell_as (Ipv4 service identification flags ttl checksum options) d []
   pub source : slice_range b 12 16 ≡ octets d.source.address
   pub destination : slice_range b 16 20 ≡ octets d.destination.address
   pub options_are : slice_range b 20 (4 * (slice_index b 0 % 16)) ≡ options
-  pub tcp : slice_range b (4 * (slice_index b 0 % 16)) (two_at b 2) ≡ t
+  pub tcp : slice_range b (4 * (slice_index b 0 % 16)) (two_octets_at b 2) ≡ t
   pub long : length b ≡ 20 + length options + tcp_length d + (length b - (20 + length options + tcp_length d))
   pub protocol : slice_index b 9 ≡ 6
   pub version : slice_index b 0 / 16 ≡ 4
-  pub fragment : two_at b 6 % 16384 ≡ 0
+  pub fragment : two_octets_at b 6 % 16384 ≡ 0
   pub service_is : slice_index b 1 ≡ service
-  pub identification_is : two_at b 4 ≡ identification
+  pub identification_is : two_octets_at b 4 ≡ identification
   pub flags_are : slice_index b 6 / 64 ≡ flags
   pub ttl_is : slice_index b 8 ≡ ttl
-  pub checksum_is : two_at b 10 ≡ checksum
+  pub checksum_is : two_octets_at b 10 ≡ checksum
 
 v4_parts : (d : Segment) (t rest : List ℕ) (service identification flags ttl checksum : ℕ) (options : List ℕ) → FitsV4 d service identification flags ttl checksum options → length t ≡ tcp_length d
     → V4Again (spell_as (Ipv4 service identification flags ttl checksum options) d t ++ rest) d t service identification flags ttl checksum options
@@ -121,7 +121,7 @@ v4_parts d t rest service identification flags ttl checksum options f lt =
     let lC : length C ≡ 4 = v4_octets d.destination.address f.destination in
     let whole = f.total in
     let size : 4 * (slice_index b 0 % 16) ≡ 20 + length options = omega arith in
-    let total : two_at b 2 ≡ 20 + length options + tcp_length d = two_back (20 + length options + tcp_length d) whole in
+    let total : two_octets_at b 2 ≡ 20 + length options + tcp_length d = two_back (20 + length options + tcp_length d) whole in
     let tail : drop 12 b ≡ A ++ (C ++ (options ++ (t ++ rest))) = simp append_assoc in
     let to16 : drop 16 b ≡ C ++ (options ++ (t ++ rest)) = sym (drop-drop 4 12 b) ∙ ap (λ (l : List ℕ). drop 4 l) tail ∙ drop_at A (C ++ (options ++ (t ++ rest))) 4 lA in
     let to20 : drop 20 b ≡ options ++ (t ++ rest) = sym (drop-drop 4 16 b) ∙ ap (λ (l : List ℕ). drop 4 l) to16 ∙ drop_at C (options ++ (t ++ rest)) 4 lC in
@@ -136,8 +136,8 @@ v4_parts d t rest service identification flags ttl checksum options f lt =
       source = ap (λ (l : List ℕ). take 4 l) tail ∙ take_at A (C ++ (options ++ (t ++ rest))) 4 lA;
       destination = ap (λ (l : List ℕ). take 4 l) to16 ∙ take_at C (options ++ (t ++ rest)) 4 lC;
       options_are = ap (λ (l : List ℕ). take (4 * (slice_index b 0 % 16) - 20) l) to20 ∙ take_at options (t ++ rest) (4 * (slice_index b 0 % 16) - 20) (omega arith);
-      tcp = ap (λ (l : List ℕ). take (two_at b 2 - 4 * (slice_index b 0 % 16)) l) (ap (λ (k : ℕ). drop k b) size ∙ ap (λ (l : List ℕ). drop (20 + length options) l) cut ∙ drop_at head (t ++ rest) (20 + length options) hl)
-          ∙ take_at t rest (two_at b 2 - 4 * (slice_index b 0 % 16)) (omega (arith, size, total, lt));
+      tcp = ap (λ (l : List ℕ). take (two_octets_at b 2 - 4 * (slice_index b 0 % 16)) l) (ap (λ (k : ℕ). drop k b) size ∙ ap (λ (l : List ℕ). drop (20 + length options) l) cut ∙ drop_at head (t ++ rest) (20 + length options) hl)
+          ∙ take_at t rest (two_octets_at b 2 - 4 * (slice_index b 0 % 16)) (omega (arith, size, total, lt));
       long = omega (arith, ap length cut, length-append head (t ++ rest), length-append t rest, hl, lt);
       protocol = refl;
       version = omega arith;
@@ -158,28 +158,28 @@ v4_unfaulted : (b : List ℕ) (d : Segment) (t : List ℕ) (service identificati
     → sums (spell_as (Ipv4 service identification flags ttl checksum options) d []) ≡ true → tcp_fault t ≡ None → v4_fault b ≡ None
 v4_unfaulted b d t service identification flags ttl checksum options k right none =
     let size : ℕ = 4 * (slice_index b 0 % 16) in
-    let total : ℕ = two_at b 2 in
+    let total : ℕ = two_octets_at b 2 in
     let s = k.size in let n = k.total in let l = k.long in
     refuse_false (nat_lt (length b) 20) Truncated _ (le-ltb (length b) 20 (omega arith))
     (refuse_false (nat_lt (length b) total) Truncated _ (le-ltb (length b) total (omega arith))
     (refuse_false (nat_lt size 20) HeaderLength _ (le-ltb size 20 (omega arith))
     (refuse_false (nat_lt total size) HeaderLength _ (le-ltb total size (omega arith))
     (refuse_false (not (sums (take size b))) HeaderChecksum _ (ap not (ap sums k.head ∙ right))
-    (refuse_false (not (two_at b 6 % 16384 == 0)) Fragment _ (not_equal (two_at b 6 % 16384) 0 k.fragment)
+    (refuse_false (not (two_octets_at b 6 % 16384 == 0)) Fragment _ (not_equal (two_octets_at b 6 % 16384) 0 k.fragment)
     (refuse_false (not (slice_index b 9 == 6)) NotTcp _ (not_equal (slice_index b 9) 6 k.protocol)
     (ap tcp_fault k.tcp ∙ none)))))))
 
 -- ---- IPv6
 
 record V6Again (b : List ℕ) (d : Segment) (t : List ℕ) (class_flow hops : ℕ) : Type 0 where
-  pub total : two_at b 4 ≡ tcp_length d
+  pub total : two_octets_at b 4 ≡ tcp_length d
   pub source : slice_range b 8 24 ≡ octets d.source.address
   pub destination : slice_range b 24 40 ≡ octets d.destination.address
-  pub tcp : slice_range b 40 (40 + two_at b 4) ≡ t
+  pub tcp : slice_range b 40 (40 + two_octets_at b 4) ≡ t
   pub long : length b ≡ 40 + tcp_length d + (length b - (40 + tcp_length d))
   pub next : slice_index b 6 ≡ 6
   pub version : slice_index b 0 / 16 ≡ 6
-  pub class_flow_is : four_at b 0 % 268435456 ≡ class_flow
+  pub class_flow_is : four_octets_at b 0 % 268435456 ≡ class_flow
   pub hops_are : slice_index b 7 ≡ hops
 
 v6_parts : (d : Segment) (t rest : List ℕ) (class_flow hops : ℕ) → FitsV6 d class_flow hops → length t ≡ tcp_length d → V6Again (spell_as (Ipv6 class_flow hops) d t ++ rest) d t class_flow hops
@@ -191,19 +191,19 @@ v6_parts d t rest class_flow hops f lt =
     let lA : length A ≡ 16 = v6_octets d.source.address f.source in
     let lC : length C ≡ 16 = v6_octets d.destination.address f.destination in
     let whole = f.total in let cf = f.class_flow_fits in
-    let total : two_at b 4 ≡ tcp_length d = two_back (tcp_length d) whole in
+    let total : two_octets_at b 4 ≡ tcp_length d = two_back (tcp_length d) whole in
     let tail : drop 8 b ≡ A ++ (C ++ (t ++ rest)) = simp append_assoc in
     let to24 : drop 24 b ≡ C ++ (t ++ rest) = sym (drop-drop 16 8 b) ∙ ap (λ (l : List ℕ). drop 16 l) tail ∙ drop_at A (C ++ (t ++ rest)) 16 lA in
     let to40 : drop 40 b ≡ t ++ rest = sym (drop-drop 16 24 b) ∙ ap (λ (l : List ℕ). drop 16 l) to24 ∙ drop_at C (t ++ rest) 16 lC in
     let head : List ℕ = spell_as (Ipv6 class_flow hops) d [] in
     let hl : length head ≡ 40 = omega (arith, length-append A (C ++ []), length-append C [], lA, lC) in
     let cut : b ≡ head ++ (t ++ rest) = simp append_assoc in
-    let word : four_at b 0 ≡ 1610612736 + class_flow = four_back (1610612736 + class_flow) (omega arith) in
+    let word : four_octets_at b 0 ≡ 1610612736 + class_flow = four_back (1610612736 + class_flow) (omega arith) in
     record {
       total = total;
       source = ap (λ (l : List ℕ). take 16 l) tail ∙ take_at A (C ++ (t ++ rest)) 16 lA;
       destination = ap (λ (l : List ℕ). take 16 l) to24 ∙ take_at C (t ++ rest) 16 lC;
-      tcp = ap (λ (l : List ℕ). take (40 + two_at b 4 - 40) l) to40 ∙ take_at t rest (40 + two_at b 4 - 40) (omega (arith, total, lt));
+      tcp = ap (λ (l : List ℕ). take (40 + two_octets_at b 4 - 40) l) to40 ∙ take_at t rest (40 + two_octets_at b 4 - 40) (omega (arith, total, lt));
       long = omega (arith, ap length cut, length-append head (t ++ rest), length-append t rest, hl, lt);
       next = refl;
       version = omega arith;
@@ -220,7 +220,7 @@ v6_unfaulted : (b : List ℕ) (d : Segment) (t : List ℕ) (class_flow hops : �
 v6_unfaulted b d t class_flow hops k none =
     let n = k.total in let l = k.long in
     refuse_false (nat_lt (length b) 40) Truncated _ (le-ltb (length b) 40 (omega arith))
-    (refuse_false (nat_lt (length b) (40 + two_at b 4)) Truncated _ (le-ltb (length b) (40 + two_at b 4) (omega arith))
+    (refuse_false (nat_lt (length b) (40 + two_octets_at b 4)) Truncated _ (le-ltb (length b) (40 + two_octets_at b 4) (omega arith))
     (refuse_false (not ((slice_index b 6 == 6) || is_extension (slice_index b 6))) NotTcp _ (ap (λ (x : ℕ). not ((x == 6) || is_extension x)) k.next)
     (refuse_false (is_extension (slice_index b 6)) ExtensionHeader _ (ap is_extension k.next)
     (ap tcp_fault k.tcp ∙ none))))

@@ -9,7 +9,7 @@ use Rattle.segment_model.specs.Sockets.{octets}
 use Rattle.segment_model.specs.Options.{Options, Listed, Faulty, AreListed, options_of}
 use Rattle.segment_model.specs.declared.fault.DatagramFault.{DatagramFault}
 use Rattle.segment_model.specs.declared.fault.DatagramFault.TheVariants.{Truncated, Version, HeaderLength, HeaderChecksum, Fragment, NotTcp, ExtensionHeader, DataOffset}
-use Rattle.segment_model.specs.Segments.{IpHeader, Ipv4, Ipv6, Segment, two_at, four_at, refuse, option_fault, tcp_fault, v4_fault, v6_fault, is_extension, first_fault, tcp_fields, v4_fields, v6_fields, fields, tcp_length, header, tcp_bytes, spell_as, spell, sums}
+use Rattle.segment_model.specs.Segments.{IpHeader, Ipv4, Ipv6, Segment, two_octets_at, four_octets_at, refuse, option_fault, tcp_fault, v4_fault, v6_fault, is_extension, first_fault, tcp_fields, v4_fields, v6_fields, fields, tcp_length, header, tcp_bytes, spell_as, spell, sums}
 use Rattle.segment_model.specs.Spelling.{AreBytes, IsArea, Fits}
 use Rattle.segment_model.proofs.ByteLaws.{put_two, put_four, front_list, in_front, split_at, length_part, bytes_drop, bytes_part}
 
@@ -102,21 +102,21 @@ tcp_fits ip s a t h e =
 
 pub record V4Read (b : List ℕ) : Type 0 where
   pub long : 20 ≤ length b
-  pub whole : two_at b 2 ≤ length b
+  pub whole : two_octets_at b 2 ≤ length b
   pub least : 20 ≤ 4 * (slice_index b 0 % 16)
-  pub within : 4 * (slice_index b 0 % 16) ≤ two_at b 2
+  pub within : 4 * (slice_index b 0 % 16) ≤ two_octets_at b 2
   pub right : sums (take (4 * (slice_index b 0 % 16)) b) ≡ true
-  pub fragment : two_at b 6 % 16384 ≡ 0
+  pub fragment : two_octets_at b 6 % 16384 ≡ 0
   pub protocol : slice_index b 9 ≡ 6
-  pub tcp : tcp_fault (slice_range b (4 * (slice_index b 0 % 16)) (two_at b 2)) ≡ None
+  pub tcp : tcp_fault (slice_range b (4 * (slice_index b 0 % 16)) (two_octets_at b 2)) ≡ None
 
 pub v4_read : (b : List ℕ) → v4_fault b ≡ None → V4Read b
 v4_read b e =
     let size : ℕ = 4 * (slice_index b 0 % 16) in
-    let total : ℕ = two_at b 2 in
+    let total : ℕ = two_octets_at b 2 in
     let l7 : Option DatagramFault = tcp_fault (slice_range b size total) in
     let l6 : Option DatagramFault = refuse (not (slice_index b 9 == 6)) NotTcp l7 in
-    let l5 : Option DatagramFault = refuse (not (two_at b 6 % 16384 == 0)) Fragment l6 in
+    let l5 : Option DatagramFault = refuse (not (two_octets_at b 6 % 16384 == 0)) Fragment l6 in
     let l4 : Option DatagramFault = refuse (not (sums (take size b))) HeaderChecksum l5 in
     let l3 : Option DatagramFault = refuse (nat_lt total size) HeaderLength l4 in
     let l2 : Option DatagramFault = refuse (nat_lt size 20) HeaderLength l3 in
@@ -126,7 +126,7 @@ v4_read b e =
     let d = refuse_none (nat_lt size 20) HeaderLength l3 c.1 in
     let f = refuse_none (nat_lt total size) HeaderLength l4 d.1 in
     let g = refuse_none (not (sums (take size b))) HeaderChecksum l5 f.1 in
-    let h = refuse_none (not (two_at b 6 % 16384 == 0)) Fragment l6 g.1 in
+    let h = refuse_none (not (two_octets_at b 6 % 16384 == 0)) Fragment l6 g.1 in
     let i = refuse_none (not (slice_index b 9 == 6)) NotTcp l7 h.1 in
     record {
       long = ltb-false _ _ a.0;
@@ -151,8 +151,8 @@ pub record SpelledBy (b : List ℕ) (d : Segment) (head end : ℕ) : Type 0 wher
   pub room : end ≤ length b
 
 -- the fields of the first twelve bytes, and what follows
-v4_bytes : (b : List ℕ) (d : Segment) (o t : List ℕ) → AreBytes b → 69 + length o / 4 ≡ slice_index b 0 → 20 + length o + tcp_length d ≡ two_at b 2 → two_at b 6 % 16384 ≡ 0 → slice_index b 9 ≡ 6
-    → spell_as (Ipv4 (slice_index b 1) (two_at b 4) (slice_index b 6 / 64) (slice_index b 8) (two_at b 10) o) d t
+v4_bytes : (b : List ℕ) (d : Segment) (o t : List ℕ) → AreBytes b → 69 + length o / 4 ≡ slice_index b 0 → 20 + length o + tcp_length d ≡ two_octets_at b 2 → two_octets_at b 6 % 16384 ≡ 0 → slice_index b 9 ≡ 6
+    → spell_as (Ipv4 (slice_index b 1) (two_octets_at b 4) (slice_index b 6 / 64) (slice_index b 8) (two_octets_at b 10) o) d t
     ≡ slice_index b 0 ∷ slice_index b 1 ∷ slice_index b 2 ∷ slice_index b 3 ∷ slice_index b 4 ∷ slice_index b 5 ∷ slice_index b 6 ∷ slice_index b 7 ∷ slice_index b 8 ∷ slice_index b 9 ∷ slice_index b 10 ∷ slice_index b 11
     ∷ (octets d.source.address ++ (octets d.destination.address ++ (o ++ t)))
 v4_bytes b d o t h first total fragment protocol =
@@ -179,17 +179,17 @@ v4_tail b size total h k =
     let E : List ℕ = slice_range b size total in
     a ∙ ap (λ (l : List ℕ). A ++ l) (c ∙ ap (λ (l : List ℕ). C ++ l) (d ∙ ap (λ (l : List ℕ). D ++ l) e)) ∙ simp append_assoc
 
-pub v4_fits : (b : List ℕ) → AreBytes b → slice_index b 0 / 16 ≡ 4 → v4_fault b ≡ None → SpelledBy b (v4_fields b) (4 * (slice_index b 0 % 16)) (two_at b 2)
+pub v4_fits : (b : List ℕ) → AreBytes b → slice_index b 0 / 16 ≡ 4 → v4_fault b ≡ None → SpelledBy b (v4_fields b) (4 * (slice_index b 0 % 16)) (two_octets_at b 2)
 unfolding spell
 v4_fits b h version e =
     let r : V4Read b = v4_read b e in
     let size : ℕ = 4 * (slice_index b 0 % 16) in
-    let total : ℕ = two_at b 2 in
+    let total : ℕ = two_octets_at b 2 in
     let t : List ℕ = slice_range b size total in
     let o : List ℕ = slice_range b 20 size in
     let A : List ℕ = slice_range b 12 16 in
     let C : List ℕ = slice_range b 16 20 in
-    let ip : IpHeader = Ipv4 (slice_index b 1) (two_at b 4) (slice_index b 6 / 64) (slice_index b 8) (two_at b 10) o in
+    let ip : IpHeader = Ipv4 (slice_index b 1) (two_octets_at b 4) (slice_index b 6 / 64) (slice_index b 8) (two_octets_at b 10) o in
     let d : Segment = v4_fields b in
     let near = r.least in let far = r.within in let whole = r.whole in let long = r.long in
     let f : TcpFits d t = tcp_fits ip (V4 A) (V4 C) t (bytes_part b size total h) r.tcp in
@@ -253,9 +253,9 @@ v4_fits b h version e =
 
 pub record V6Read (b : List ℕ) : Type 0 where
   pub long : 40 ≤ length b
-  pub whole : 40 + two_at b 4 ≤ length b
+  pub whole : 40 + two_octets_at b 4 ≤ length b
   pub next : slice_index b 6 ≡ 6
-  pub tcp : tcp_fault (slice_range b 40 (40 + two_at b 4)) ≡ None
+  pub tcp : tcp_fault (slice_range b 40 (40 + two_octets_at b 4)) ≡ None
 
 is_next : (n : ℕ) → not ((n == 6) || is_extension n) ≡ false → is_extension n ≡ false → n ≡ 6
 is_next n a b = elim (or_cases (n == 6) (is_extension n) (not-false _ a)) [
@@ -265,7 +265,7 @@ is_next n a b = elim (or_cases (n == 6) (is_extension n) (not-false _ a)) [
 
 pub v6_read : (b : List ℕ) → v6_fault b ≡ None → V6Read b
 v6_read b e =
-    let size : ℕ = two_at b 4 in
+    let size : ℕ = two_octets_at b 4 in
     let next : ℕ = slice_index b 6 in
     let l4 : Option DatagramFault = tcp_fault (slice_range b 40 (40 + size)) in
     let l3 : Option DatagramFault = refuse (is_extension next) ExtensionHeader l4 in
@@ -280,12 +280,12 @@ v6_read b e =
 abbrev v6_first : List ℕ → List ℕ → List ℕ
 v6_first b l = slice_index b 0 ∷ slice_index b 1 ∷ slice_index b 2 ∷ slice_index b 3 ∷ slice_index b 4 ∷ slice_index b 5 ∷ slice_index b 6 ∷ slice_index b 7 ∷ l
 
-v6_bytes : (b : List ℕ) (d : Segment) (t : List ℕ) → AreBytes b → slice_index b 0 / 16 ≡ 6 → tcp_length d ≡ two_at b 4 → slice_index b 6 ≡ 6
-    → spell_as (Ipv6 (four_at b 0 % 268435456) (slice_index b 7)) d t ≡ v6_first b (octets d.source.address ++ (octets d.destination.address ++ t))
+v6_bytes : (b : List ℕ) (d : Segment) (t : List ℕ) → AreBytes b → slice_index b 0 / 16 ≡ 6 → tcp_length d ≡ two_octets_at b 4 → slice_index b 6 ≡ 6
+    → spell_as (Ipv6 (four_octets_at b 0 % 268435456) (slice_index b 7)) d t ≡ v6_first b (octets d.source.address ++ (octets d.destination.address ++ t))
 v6_bytes b d t h version total next =
     let b0 = h 0 in let b1 = h 1 in let b2 = h 2 in let b3 = h 3 in
     let rest : List ℕ = octets d.source.address ++ (octets d.destination.address ++ t) in
-    let word : 1610612736 + four_at b 0 % 268435456 ≡ four_at b 0 = omega arith in
+    let word : 1610612736 + four_octets_at b 0 % 268435456 ≡ four_octets_at b 0 = omega arith in
     let from6 : List ℕ = 6 ∷ slice_index b 7 ∷ rest in
     let p4 = put_two (slice_index b 4) (slice_index b 5) from6 (h 4) (h 5) in
     let p0 = put_four (slice_index b 0) (slice_index b 1) (slice_index b 2) (slice_index b 3) (slice_index b 4 ∷ slice_index b 5 ∷ from6) b0 b1 b2 b3 in
@@ -301,22 +301,22 @@ v6_tail b total h =
     let E : List ℕ = slice_range b 40 total in
     a ∙ ap (λ (l : List ℕ). A ++ l) (c ∙ ap (λ (l : List ℕ). C ++ l) e) ∙ simp append_assoc
 
-pub v6_fits : (b : List ℕ) → AreBytes b → slice_index b 0 / 16 ≡ 6 → v6_fault b ≡ None → SpelledBy b (v6_fields b) 40 (40 + two_at b 4)
+pub v6_fits : (b : List ℕ) → AreBytes b → slice_index b 0 / 16 ≡ 6 → v6_fault b ≡ None → SpelledBy b (v6_fields b) 40 (40 + two_octets_at b 4)
 unfolding spell
 v6_fits b h version e =
     let r : V6Read b = v6_read b e in
-    let total : ℕ = 40 + two_at b 4 in
+    let total : ℕ = 40 + two_octets_at b 4 in
     let t : List ℕ = slice_range b 40 total in
     let A : List ℕ = slice_range b 8 24 in
     let C : List ℕ = slice_range b 24 40 in
-    let ip : IpHeader = Ipv6 (four_at b 0 % 268435456) (slice_index b 7) in
+    let ip : IpHeader = Ipv6 (four_octets_at b 0 % 268435456) (slice_index b 7) in
     let d : Segment = v6_fields b in
     let whole = r.whole in let long = r.long in
     let f : TcpFits d t = tcp_fits ip (V6 A) (V6 C) t (bytes_part b 40 total h) r.tcp in
     let lt : length t ≡ total - 40 = length_part b 40 total (omega arith) whole in
     let tl = f.long in
     let tr : 20 ≤ length t = (tcp_read t r.tcp).long in
-    let sum : tcp_length d ≡ two_at b 4 = omega arith in
+    let sum : tcp_length d ≡ two_octets_at b 4 = omega arith in
     let front : b ≡ front_list 8 0 b = in_front 8 0 b (omega arith) in
     let tail = v6_tail b total (omega arith) in
     let bytes : (x : List ℕ) → spell_as ip d x ≡ v6_first b (A ++ (C ++ x)) = λ x. v6_bytes b d x h version sum r.next in
@@ -366,10 +366,10 @@ abbrev pub header_end : List ℕ → ℕ
 header_end b = cond (slice_index b 0 / 16 == 4) (4 * (slice_index b 0 % 16)) 40
 
 abbrev pub whole_end : List ℕ → ℕ
-whole_end b = cond (slice_index b 0 / 16 == 4) (two_at b 2) (40 + two_at b 4)
+whole_end b = cond (slice_index b 0 / 16 == 4) (two_octets_at b 2) (40 + two_octets_at b 4)
 
-by_family : (four : Bool) (b : List ℕ) → (four ≡ true → SpelledBy b (v4_fields b) (4 * (slice_index b 0 % 16)) (two_at b 2)) → (four ≡ false → SpelledBy b (v6_fields b) 40 (40 + two_at b 4))
-    → SpelledBy b (cond four (v4_fields b) (v6_fields b)) (cond four (4 * (slice_index b 0 % 16)) 40) (cond four (two_at b 2) (40 + two_at b 4))
+by_family : (four : Bool) (b : List ℕ) → (four ≡ true → SpelledBy b (v4_fields b) (4 * (slice_index b 0 % 16)) (two_octets_at b 2)) → (four ≡ false → SpelledBy b (v6_fields b) 40 (40 + two_octets_at b 4))
+    → SpelledBy b (cond four (v4_fields b) (v6_fields b)) (cond four (4 * (slice_index b 0 % 16)) 40) (cond four (two_octets_at b 2) (40 + two_octets_at b 4))
 by_family true b v4 v6 = v4 refl
 by_family false b v4 v6 = v6 refl
 

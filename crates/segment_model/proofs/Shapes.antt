@@ -6,7 +6,7 @@ use Rattle.ao_base.specs.declared.address.Address.TheVariants.{V4, V6}
 use Rattle.segment_model.specs.Options.{Options, Listed, Faulty, options_of}
 use Rattle.segment_model.specs.declared.fault.DatagramFault.{DatagramFault}
 use Rattle.segment_model.specs.declared.fault.DatagramFault.TheVariants.{Truncated, Version, HeaderLength, HeaderChecksum, Fragment, NotTcp, ExtensionHeader, DataOffset}
-use Rattle.segment_model.specs.Segments.{IpHeader, Ipv4, Ipv6, Segment, Reading, Bad, Read, sums, two_at, four_at, refuse, option_fault, tcp_fault, v4_fault, v6_fault, is_extension, first_fault, tcp_fields, v4_fields, v6_fields, fields, read_unless, reading}
+use Rattle.segment_model.specs.Segments.{IpHeader, Ipv4, Ipv6, Segment, Reading, Bad, Read, sums, two_octets_at, four_octets_at, refuse, option_fault, tcp_fault, v4_fault, v6_fault, is_extension, first_fault, tcp_fields, v4_fields, v6_fields, fields, read_unless, reading}
 
 -- a header and an address of one family
 abbrev pub SameKind : IpHeader → Address → Type 0
@@ -61,26 +61,26 @@ tcp_shaped ip source destination t kind =
 v4_shaped : (b : List ℕ) → ShapedIf (read_unless (v4_fault b) (v4_fields b))
 v4_shaped b =
     let size = 4 * (slice_index b 0 % 16) in
-    let total = two_at b 2 in
+    let total = two_octets_at b 2 in
     unless (nat_lt (length b) 20) Truncated _ _ (λ one.
     unless (nat_lt (length b) total) Truncated _ _ (λ two.
     unless (nat_lt size 20) HeaderLength _ _ (λ three.
     unless (nat_lt total size) HeaderLength _ _ (λ four.
     unless (not (sums (take size b))) HeaderChecksum _ _ (λ five.
-    unless (not (two_at b 6 % 16384 == 0)) Fragment _ _ (λ six.
+    unless (not (two_octets_at b 6 % 16384 == 0)) Fragment _ _ (λ six.
     unless (not (slice_index b 9 == 6)) NotTcp _ _ (λ seven.
-    tcp_shaped (Ipv4 (slice_index b 1) (two_at b 4) (slice_index b 6 / 64) (slice_index b 8) (two_at b 10) (slice_range b 20 size))
+    tcp_shaped (Ipv4 (slice_index b 1) (two_octets_at b 4) (slice_index b 6 / 64) (slice_index b 8) (two_octets_at b 10) (slice_range b 20 size))
     (V4 (slice_range b 12 16)) (V4 (slice_range b 16 20)) (slice_range b size total) tt)))))))
 
 v6_shaped : (b : List ℕ) → ShapedIf (read_unless (v6_fault b) (v6_fields b))
 v6_shaped b =
-    let size = two_at b 4 in
+    let size = two_octets_at b 4 in
     let next = slice_index b 6 in
     unless (nat_lt (length b) 40) Truncated _ _ (λ one.
     unless (nat_lt (length b) (40 + size)) Truncated _ _ (λ two.
     unless (not ((next == 6) || is_extension next)) NotTcp _ _ (λ three.
     unless (is_extension next) ExtensionHeader _ _ (λ four.
-    tcp_shaped (Ipv6 (four_at b 0 % 268435456) (slice_index b 7)) (V6 (slice_range b 8 24)) (V6 (slice_range b 24 40)) (slice_range b 40 (40 + size)) tt))))
+    tcp_shaped (Ipv6 (four_octets_at b 0 % 268435456) (slice_index b 7)) (V6 (slice_range b 8 24)) (V6 (slice_range b 24 40)) (slice_range b 40 (40 + size)) tt))))
 
 version_shaped : (b : List ℕ) (four six : Bool)
     → ShapedIf (read_unless (refuse (not (four || six)) Version (if four then v4_fault b else v6_fault b)) (if four then v4_fields b else v6_fields b))

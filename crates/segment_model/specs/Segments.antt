@@ -144,12 +144,12 @@ pub data Reading : Type 0 where
   Read : (segment : Segment) → Reading
 
 -- the number of two bytes in network order from a place on (RFC 791, appendix B)
-abbrev pub two_at : List ℕ → ℕ → ℕ
-two_at b i = slice_index b i * 0x100 + slice_index b (i + 1)
+abbrev pub two_octets_at : List ℕ → ℕ → ℕ
+two_octets_at b i = slice_index b i * 0x100 + slice_index b (i + 1)
 
 -- the number of four bytes in network order from a place on (RFC 791, appendix B)
-abbrev pub four_at : List ℕ → ℕ → ℕ
-four_at b i = two_at b i * 0x10000 + two_at b (i + 2)
+abbrev pub four_octets_at : List ℕ → ℕ → ℕ
+four_octets_at b i = two_octets_at b i * 0x10000 + two_octets_at b (i + 2)
 
 -- a test with its fault, and in front of the tests behind it (own)
 abbrev pub refuse : Bool → DatagramFault → Option DatagramFault → Option DatagramFault
@@ -173,13 +173,13 @@ tcp_fault t =
 abbrev pub v4_fault : List ℕ → Option DatagramFault
 v4_fault b =
     let size = 4 * (slice_index b 0 % 16) in
-    let total = two_at b 2 in
+    let total = two_octets_at b 2 in
     refuse (nat_lt (length b) 20) Truncated
     (refuse (nat_lt (length b) total) Truncated
     (refuse (nat_lt size 20) HeaderLength
     (refuse (nat_lt total size) HeaderLength
     (refuse (not (sums (take size b))) HeaderChecksum
-    (refuse (not (two_at b 6 % 0x4000 == 0)) Fragment
+    (refuse (not (two_octets_at b 6 % 0x4000 == 0)) Fragment
     (refuse (not (slice_index b 9 == 6)) NotTcp
     (tcp_fault (slice_range b size total))))))))
 
@@ -191,7 +191,7 @@ is_extension next = (next == 0) || (next == 43) || (next == 44) || (next == 60)
 -- the tests of a datagram over IPv6, in order (RFC 8200, section 3)
 abbrev pub v6_fault : List ℕ → Option DatagramFault
 v6_fault b =
-    let size = two_at b 4 in
+    let size = two_octets_at b 4 in
     let next = slice_index b 6 in
     refuse (nat_lt (length b) 40) Truncated
     (refuse (nat_lt (length b) (40 + size)) Truncated
@@ -213,15 +213,15 @@ tcp_fields ip source destination t =
     let size = 4 * (slice_index t 12 / 16) in
     record {
       ip = ip;
-      source = record { address = source; port = two_at t 0 };
-      destination = record { address = destination; port = two_at t 2 };
-      sequence = four_at t 4;
-      acknowledgement = four_at t 8;
+      source = record { address = source; port = two_octets_at t 0 };
+      destination = record { address = destination; port = two_octets_at t 2 };
+      sequence = four_octets_at t 4;
+      acknowledgement = four_octets_at t 8;
       reserved = slice_index t 12 % 16;
       flags = slice_index t 13;
-      window = two_at t 14;
-      checksum = two_at t 16;
-      urgent = two_at t 18;
+      window = two_octets_at t 14;
+      checksum = two_octets_at t 16;
+      urgent = two_octets_at t 18;
       area = slice_range t 20 size;
       payload = drop size t;
     }
@@ -230,15 +230,15 @@ tcp_fields ip source destination t =
 abbrev pub v4_fields : List ℕ → Segment
 v4_fields b =
     let size = 4 * (slice_index b 0 % 16) in
-    tcp_fields (Ipv4 (slice_index b 1) (two_at b 4) (slice_index b 6 / 0x40) (slice_index b 8)
-    (two_at b 10) (slice_range b 20 size))
-    (V4 (slice_range b 12 16)) (V4 (slice_range b 16 20)) (slice_range b size (two_at b 2))
+    tcp_fields (Ipv4 (slice_index b 1) (two_octets_at b 4) (slice_index b 6 / 0x40)
+    (slice_index b 8) (two_octets_at b 10) (slice_range b 20 size))
+    (V4 (slice_range b 12 16)) (V4 (slice_range b 16 20)) (slice_range b size (two_octets_at b 2))
 
 -- the fields of a datagram over IPv6 (RFC 8200, section 3)
 abbrev pub v6_fields : List ℕ → Segment
 v6_fields b =
-    tcp_fields (Ipv6 (four_at b 0 % 0x10000000) (slice_index b 7))
-    (V6 (slice_range b 8 24)) (V6 (slice_range b 24 40)) (slice_range b 40 (40 + two_at b 4))
+    tcp_fields (Ipv6 (four_octets_at b 0 % 0x10000000) (slice_index b 7))
+    (V6 (slice_range b 8 24)) (V6 (slice_range b 24 40)) (slice_range b 40 (40 + two_octets_at b 4))
 
 -- the fields of a datagram, each at its place (RFC 791, section 3.1; RFC 8200, section 3)
 unfoldable pub fields : List ℕ → Segment

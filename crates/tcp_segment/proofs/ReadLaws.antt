@@ -10,7 +10,7 @@ use Rattle.ao_base.specs.declared.address.Socket.{Socket}
 use Rattle.segment_model.specs.Bytes.{put2, put4}
 use Rattle.segment_model.specs.Sockets.{octets}
 use Rattle.segment_model.specs.declared.fault.DatagramFault.{DatagramFault}
-use Rattle.segment_model.specs.Segments.{Segment, two_at, four_at, first_fault, fields, v4_fields, v6_fields, header, tcp_bytes, tcp_length, pseudo, spell, sums, good, words_sum, reading, Read, Bad, read_unless}
+use Rattle.segment_model.specs.Segments.{Segment, two_octets_at, four_octets_at, first_fault, fields, v4_fields, v6_fields, header, tcp_bytes, tcp_length, pseudo, spell, sums, good, words_sum, reading, Read, Bad, read_unless}
 use Rattle.segment_model.specs.Spelling.{AreBytes, Fits, Spells, addresses_in}
 use Rattle.segment_model.proofs.ByteLaws.{two_back, four_back, part_at}
 use Rattle.segment_model.proofs.Folding.{sums_by}
@@ -67,32 +67,32 @@ tcp_at b p i r h =
     let e = r.end in
     sym (part_at b p.header p.end i (omega arith)) ∙ ap (λ (l : List ℕ). slice_index l i) r.tcp
 
-two_in : (b : List ℕ) (p : Places) (k at : ℕ) → IsRead b p → k + 1 < 20 → at ≡ p.header + k → two_at b at ≡ two_at (tcp_bytes (fields b) (fields b).checksum) k
+two_in : (b : List ℕ) (p : Places) (k at : ℕ) → IsRead b p → k + 1 < 20 → at ≡ p.header + k → two_octets_at b at ≡ two_octets_at (tcp_bytes (fields b) (fields b).checksum) k
 two_in b p k at r h e =
     let x = tcp_at b p k r (omega arith) in
     let y = tcp_at b p (k + 1) r h in
     let n : p.header + k + 1 ≡ p.header + (k + 1) = omega arith in
-    ap (two_at b) e ∙ omega (arith, x, ap (slice_index b) n ∙ y)
+    ap (two_octets_at b) e ∙ omega (arith, x, ap (slice_index b) n ∙ y)
 
-four_in : (b : List ℕ) (p : Places) (k at : ℕ) → IsRead b p → k + 3 < 20 → at ≡ p.header + k → four_at b at ≡ four_at (tcp_bytes (fields b) (fields b).checksum) k
+four_in : (b : List ℕ) (p : Places) (k at : ℕ) → IsRead b p → k + 3 < 20 → at ≡ p.header + k → four_octets_at b at ≡ four_octets_at (tcp_bytes (fields b) (fields b).checksum) k
 four_in b p k at r h e =
     let x = two_in b p k (p.header + k) r (omega arith) refl in
     let y = two_in b p (k + 2) (p.header + k + 2) r (omega arith) (omega arith) in
-    ap (four_at b) e ∙ omega (arith, x, y)
+    ap (four_octets_at b) e ∙ omega (arith, x, y)
 
-source_port_of : (d : Segment) (c : ℕ) → Fits d → two_at (tcp_bytes d c) 0 ≡ d.source.port
+source_port_of : (d : Segment) (c : ℕ) → Fits d → two_octets_at (tcp_bytes d c) 0 ≡ d.source.port
 unfolding tcp_bytes header put2 put4
 source_port_of d c f = two_back d.source.port f.source_port
 
-destination_port_of : (d : Segment) (c : ℕ) → Fits d → two_at (tcp_bytes d c) 2 ≡ d.destination.port
+destination_port_of : (d : Segment) (c : ℕ) → Fits d → two_octets_at (tcp_bytes d c) 2 ≡ d.destination.port
 unfolding tcp_bytes header put2 put4
 destination_port_of d c f = two_back d.destination.port f.destination_port
 
-sequence_of : (d : Segment) (c : ℕ) → Fits d → four_at (tcp_bytes d c) 4 ≡ d.sequence
+sequence_of : (d : Segment) (c : ℕ) → Fits d → four_octets_at (tcp_bytes d c) 4 ≡ d.sequence
 unfolding tcp_bytes header put2 put4
 sequence_of d c f = four_back d.sequence f.sequence
 
-acknowledgement_of : (d : Segment) (c : ℕ) → Fits d → four_at (tcp_bytes d c) 8 ≡ d.acknowledgement
+acknowledgement_of : (d : Segment) (c : ℕ) → Fits d → four_octets_at (tcp_bytes d c) 8 ≡ d.acknowledgement
 unfolding tcp_bytes header put2 put4
 acknowledgement_of d c f = four_back d.acknowledgement f.acknowledgement
 
@@ -100,27 +100,27 @@ flags_of : (d : Segment) (c : ℕ) → slice_index (tcp_bytes d c) 13 ≡ d.flag
 unfolding tcp_bytes header put2 put4
 flags_of d c = refl
 
-window_of : (d : Segment) (c : ℕ) → Fits d → two_at (tcp_bytes d c) 14 ≡ d.window
+window_of : (d : Segment) (c : ℕ) → Fits d → two_octets_at (tcp_bytes d c) 14 ≡ d.window
 unfolding tcp_bytes header put2 put4
 window_of d c f = two_back d.window f.window
 
-urgent_of : (d : Segment) (c : ℕ) → Fits d → two_at (tcp_bytes d c) 18 ≡ d.urgent
+urgent_of : (d : Segment) (c : ℕ) → Fits d → two_octets_at (tcp_bytes d c) 18 ≡ d.urgent
 unfolding tcp_bytes header put2 put4
 urgent_of d c f = two_back d.urgent f.urgent
 
-pub sequence_in : (b : List ℕ) (p : Places) → IsRead b p → four_at b (p.header + 4) ≡ (fields b).sequence
+pub sequence_in : (b : List ℕ) (p : Places) → IsRead b p → four_octets_at b (p.header + 4) ≡ (fields b).sequence
 sequence_in b p r = four_in b p 4 (p.header + 4) r (omega arith) refl ∙ sequence_of (fields b) (fields b).checksum r.fits
 
-pub acknowledgement_in : (b : List ℕ) (p : Places) → IsRead b p → four_at b (p.header + 8) ≡ (fields b).acknowledgement
+pub acknowledgement_in : (b : List ℕ) (p : Places) → IsRead b p → four_octets_at b (p.header + 8) ≡ (fields b).acknowledgement
 acknowledgement_in b p r = four_in b p 8 (p.header + 8) r (omega arith) refl ∙ acknowledgement_of (fields b) (fields b).checksum r.fits
 
 pub flags_in : (b : List ℕ) (p : Places) → IsRead b p → slice_index b (p.header + 13) ≡ (fields b).flags
 flags_in b p r = tcp_at b p 13 r (omega arith) ∙ flags_of (fields b) (fields b).checksum
 
-pub window_in : (b : List ℕ) (p : Places) → IsRead b p → two_at b (p.header + 14) ≡ (fields b).window
+pub window_in : (b : List ℕ) (p : Places) → IsRead b p → two_octets_at b (p.header + 14) ≡ (fields b).window
 window_in b p r = two_in b p 14 (p.header + 14) r (omega arith) refl ∙ window_of (fields b) (fields b).checksum r.fits
 
-pub urgent_in : (b : List ℕ) (p : Places) → IsRead b p → two_at b (p.header + 18) ≡ (fields b).urgent
+pub urgent_in : (b : List ℕ) (p : Places) → IsRead b p → two_octets_at b (p.header + 18) ≡ (fields b).urgent
 urgent_in b p r = two_in b p 18 (p.header + 18) r (omega arith) refl ∙ urgent_of (fields b) (fields b).checksum r.fits
 
 -- ---- sockets
@@ -144,22 +144,22 @@ v6_destination : (b : List ℕ) → (slice_index b 0 / 16 ≡ 4 → ⊥) → (fi
 unfolding fields
 v6_destination b e = ap (λ (t : Bool). (if t then v4_fields b else v6_fields b).destination.address) (ne_eqb (slice_index b 0 / 16) 4 e)
 
-source_port_in : (b : List ℕ) (p : Places) → IsRead b p → two_at b p.header ≡ (fields b).source.port
+source_port_in : (b : List ℕ) (p : Places) → IsRead b p → two_octets_at b p.header ≡ (fields b).source.port
 source_port_in b p r = two_in b p 0 p.header r (omega arith) (omega arith) ∙ source_port_of (fields b) (fields b).checksum r.fits
 
-destination_port_in : (b : List ℕ) (p : Places) → IsRead b p → two_at b (p.header + 2) ≡ (fields b).destination.port
+destination_port_in : (b : List ℕ) (p : Places) → IsRead b p → two_octets_at b (p.header + 2) ≡ (fields b).destination.port
 destination_port_in b p r = two_in b p 2 (p.header + 2) r (omega arith) refl ∙ destination_port_of (fields b) (fields b).checksum r.fits
 
-pub source_v4 : (b : List ℕ) (p : Places) (a : Address) (q : ℕ) → IsRead b p → slice_index b 0 / 16 ≡ 4 → a ≡ V4 (slice_range b 12 16) → q ≡ two_at b p.header → ◌≡◌ {A = Socket} (record { address = a; port = q }) (fields b).source
+pub source_v4 : (b : List ℕ) (p : Places) (a : Address) (q : ℕ) → IsRead b p → slice_index b 0 / 16 ≡ 4 → a ≡ V4 (slice_range b 12 16) → q ≡ two_octets_at b p.header → ◌≡◌ {A = Socket} (record { address = a; port = q }) (fields b).source
 source_v4 b p a q r v e f = same_socket a (fields b).source.address q (fields b).source.port (e ∙ sym (v4_source b v)) (f ∙ source_port_in b p r)
 
-pub source_v6 : (b : List ℕ) (p : Places) (a : Address) (q : ℕ) → IsRead b p → (slice_index b 0 / 16 ≡ 4 → ⊥) → a ≡ V6 (slice_range b 8 24) → q ≡ two_at b p.header → ◌≡◌ {A = Socket} (record { address = a; port = q }) (fields b).source
+pub source_v6 : (b : List ℕ) (p : Places) (a : Address) (q : ℕ) → IsRead b p → (slice_index b 0 / 16 ≡ 4 → ⊥) → a ≡ V6 (slice_range b 8 24) → q ≡ two_octets_at b p.header → ◌≡◌ {A = Socket} (record { address = a; port = q }) (fields b).source
 source_v6 b p a q r v e f = same_socket a (fields b).source.address q (fields b).source.port (e ∙ sym (v6_source b v)) (f ∙ source_port_in b p r)
 
-pub destination_v4 : (b : List ℕ) (p : Places) (a : Address) (q : ℕ) → IsRead b p → slice_index b 0 / 16 ≡ 4 → a ≡ V4 (slice_range b 16 20) → q ≡ two_at b (p.header + 2) → ◌≡◌ {A = Socket} (record { address = a; port = q }) (fields b).destination
+pub destination_v4 : (b : List ℕ) (p : Places) (a : Address) (q : ℕ) → IsRead b p → slice_index b 0 / 16 ≡ 4 → a ≡ V4 (slice_range b 16 20) → q ≡ two_octets_at b (p.header + 2) → ◌≡◌ {A = Socket} (record { address = a; port = q }) (fields b).destination
 destination_v4 b p a q r v e f = same_socket a (fields b).destination.address q (fields b).destination.port (e ∙ sym (v4_destination b v)) (f ∙ destination_port_in b p r)
 
-pub destination_v6 : (b : List ℕ) (p : Places) (a : Address) (q : ℕ) → IsRead b p → (slice_index b 0 / 16 ≡ 4 → ⊥) → a ≡ V6 (slice_range b 24 40) → q ≡ two_at b (p.header + 2) → ◌≡◌ {A = Socket} (record { address = a; port = q }) (fields b).destination
+pub destination_v6 : (b : List ℕ) (p : Places) (a : Address) (q : ℕ) → IsRead b p → (slice_index b 0 / 16 ≡ 4 → ⊥) → a ≡ V6 (slice_range b 24 40) → q ≡ two_octets_at b (p.header + 2) → ◌≡◌ {A = Socket} (record { address = a; port = q }) (fields b).destination
 destination_v6 b p a q r v e f = same_socket a (fields b).destination.address q (fields b).destination.port (e ∙ sym (v6_destination b v)) (f ∙ destination_port_in b p r)
 
 -- ---- header, options and payload

@@ -1,6 +1,6 @@
 -- Where the parts of a datagram begin in its bytes.
 use Rattle.std.specs.Prelude.{◌≡◌, ℕ, ◌+◌, ◌*◌, ◌/◌, ◌%◌, ◌==◌, ◌≤◌, List, ◌++◌, length, drop, slice_index, slice_range, if◌then◌else◌}
-use Rattle.segment_model.specs.Segments.{two_at, fields, spell, tcp_bytes, tcp_length}
+use Rattle.segment_model.specs.Segments.{two_octets_at, fields, spell, tcp_bytes, tcp_length}
 use Rattle.segment_model.specs.Spelling.{Fits}
 use Rattle.tcp_segment.specs.declared.reading.Places.{Places}
 
@@ -10,7 +10,7 @@ header_end b = if slice_index b 0 / 16 == 4 then 4 * (slice_index b 0 % 16) else
 
 -- the length of the datagram, as its fields say (RFC 791, section 3.1; RFC 8200, section 3)
 abbrev pub whole_end : List ℕ → ℕ
-whole_end b = if slice_index b 0 / 16 == 4 then two_at b 2 else 40 + two_at b 4
+whole_end b = if slice_index b 0 / 16 == 4 then two_octets_at b 2 else 40 + two_octets_at b 4
 
 -- the places that these header fields say
 pub record PlacedBy (b : List ℕ) (header_length whole_length : ℕ) (p : Places) : Type 0 where

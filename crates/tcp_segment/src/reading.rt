@@ -1,6 +1,6 @@
 //! The nine tests of a datagram.
 ghost use Rattle.std.specs.Prelude.{◌≡◌, ℕ, List, ◌+◌, ◌*◌, ◌/◌, ◌%◌, ◌<◌, ◌≤◌, length, slice_index, Some, None, MatchResult};
-ghost use Rattle.segment_model.specs.Segments.{tcp_fault, v4_fault, v6_fault, first_fault, two_at, is_extension};
+ghost use Rattle.segment_model.specs.Segments.{tcp_fault, v4_fault, v6_fault, first_fault, two_octets_at, is_extension};
 ghost use Rattle.tcp_segment.specs.Places.{PlacedBy, Placed};
 
 use crate::sums::{is_right, two};
@@ -36,7 +36,7 @@ fn tcp_header_length(tcp: &[u8]) -> Result<usize, DatagramFault>
 }
 
 fn read_v4(bytes: &[u8]) -> Result<Places, DatagramFault>
-    ensures { MatchResult result (λ places. PlacedBy bytes.now (4 * (slice_index bytes.now 0 % 16)) (two_at bytes.now 2) places × (v4_fault bytes.now ≡ None)) (λ fault. v4_fault bytes.now ≡ Some fault) }
+    ensures { MatchResult result (λ places. PlacedBy bytes.now (4 * (slice_index bytes.now 0 % 16)) (two_octets_at bytes.now 2) places × (v4_fault bytes.now ≡ None)) (λ fault. v4_fault bytes.now ≡ Some fault) }
 {
     if bytes.len() < 20 {
         return Err(DatagramFault::Truncated);
@@ -78,7 +78,7 @@ fn is_extension_header(next: u8) -> bool
 }
 
 fn read_v6(bytes: &[u8]) -> Result<Places, DatagramFault>
-    ensures { MatchResult result (λ places. PlacedBy bytes.now 40 (40 + two_at bytes.now 4) places × (v6_fault bytes.now ≡ None)) (λ fault. v6_fault bytes.now ≡ Some fault) }
+    ensures { MatchResult result (λ places. PlacedBy bytes.now 40 (40 + two_octets_at bytes.now 4) places × (v6_fault bytes.now ≡ None)) (λ fault. v6_fault bytes.now ≡ Some fault) }
 {
     if bytes.len() < 40 {
         return Err(DatagramFault::Truncated);

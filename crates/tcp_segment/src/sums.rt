@@ -1,6 +1,6 @@
 //! Sums of 16-bit words, and the checksums that they make (RFC 1071).
 ghost use Rattle.std.specs.Prelude.{◌≡◌, ℕ, ◌+◌, ◌-◌, ◌*◌, ◌<◌, ◌≤◌, ◌++◌, List, [], length, take, drop, slice_index};
-ghost use Rattle.segment_model.specs.Segments.{words_sum, sums, two_at, four_at, Segment, spell_as, pseudo, tcp_length, complement_of};
+ghost use Rattle.segment_model.specs.Segments.{words_sum, sums, two_octets_at, four_octets_at, Segment, spell_as, pseudo, tcp_length, complement_of};
 ghost use Rattle.segment_model.specs.Bytes.{put2};
 ghost use Rattle.segment_model.specs.Spelling.{AreBytes, with_right_checksum, addresses_in, ip_length};
 ghost use Rattle.tcp_segment.specs.Parts.{spliced};
@@ -11,7 +11,7 @@ use byteorder::{BigEndian, ByteOrder};
 /// The big-endian number of two bytes.
 pub(crate) fn two(bytes: &[u8], at: usize) -> u16
     requires { at + 1 < length bytes.now }
-    ensures { result ≡ two_at bytes.now at }
+    ensures { result ≡ two_octets_at bytes.now at }
 {
     BigEndian::read_u16(&bytes[at..])
 }
@@ -19,7 +19,7 @@ pub(crate) fn two(bytes: &[u8], at: usize) -> u16
 /// The big-endian number of four bytes.
 pub(crate) fn four(bytes: &[u8], at: usize) -> u32
     requires { at + 3 < length bytes.now }
-    ensures { result ≡ four_at bytes.now at }
+    ensures { result ≡ four_octets_at bytes.now at }
 {
     BigEndian::read_u32(&bytes[at..])
 }
