@@ -4,7 +4,7 @@ use Rattle.std.specs.List.{All}
 use Rattle.ao_base.specs.Outside.{Side, Gave, Rose, IsAtEnd, told}
 use Rattle.wire_model.specs.declared.pcap_head.Head.{Head}
 use Rattle.wire_model.specs.declared.pcap_head.HeadFault.{HeadFault}
-use Rattle.wire_model.specs.Packets.{opened, Kept, Front, Done, Broken, Whole, record_at, datagram_of, Packet, Packets, with_packet, packets_in, packets_of}
+use Rattle.wire_model.specs.Packets.{opened, Kept, RecordFront, Done, Broken, Whole, record_at, datagram_of, Packet, Packets, with_packet, packets_in, packets_of}
 use Rattle.wire_model.specs.Packets.{BadHead as head_refused, BadRecord as record_refused}
 use Rattle.pcap_file.specs.declared.packets.PacketStep.{PacketStep}
 use Rattle.pcap_file.specs.declared.packets.PacketStep.TheVariants as step
@@ -84,7 +84,7 @@ pub record Steps (before now : Reading) (source_before source_now : Side) (given
   pub answers : Answers before now source_before source_now given ((before.kept ++ given) ++ told source_now.bytes) result
 
 -- the answer that the record at the front wants
-abbrev pub step_at : ℕ → Front → PacketStep
+abbrev pub step_at : ℕ → RecordFront → PacketStep
 step_at count Done = step.End
 step_at count Broken = step.BadRecord (count + 1)
 step_at count (Whole packet rest) = step.Packet

@@ -13,7 +13,7 @@ use Rattle.wire_model.specs.declared.pcap_head.LinkType.{LinkType}
 use Rattle.wire_model.specs.declared.pcap_head.LinkType.TheVariants.{Ethernet, Raw}
 use Rattle.wire_model.specs.declared.pcap_head.Head.{Head}
 use Rattle.wire_model.specs.declared.pcap_head.HeadFault.{HeadFault}
-use Rattle.wire_model.specs.Packets.{Kept, Front, Done, Broken, Whole, four_at, record_at, Packets, is_ip, datagram_of, with_packet, packets_by, packets_from, packets_in, packets_behind, packets_of, opened, head_of, and_rest}
+use Rattle.wire_model.specs.Packets.{Kept, RecordFront, Done, Broken, Whole, four_at, record_at, Packets, is_ip, datagram_of, with_packet, packets_by, packets_from, packets_in, packets_behind, packets_of, opened, head_of, and_rest}
 use Rattle.wire_model.proofs.Captures.{record_short, record_over, record_part, record_whole, record_none}
 use Rattle.format_model.specs.Answers.{stored_packet}
 use Rattle.format_model.specs.StoredLines.{StoredInput, stored_from, stored_input}
@@ -101,7 +101,7 @@ one_line n seconds [] text ps low is others =
 one_line n seconds (b ∷ bs) text ps low is others =
     rw (lines_of-line (packet_line seconds (b ∷ bs)) (packet_line_plain seconds (b ∷ bs) low (by_places (b ∷ bs) is.all)) text, packet_line_back n seconds (b ∷ bs) low is.few (by_places (b ∷ bs) is.all), others, ne_eqb (length (b ∷ bs)) 0 (λ e. omega arith)) refl
 
-by_front : (f : Front) (head : Head) (n : ℕ) (text : List ℕ) (lines : List ℕ → List ℕ) (packets : List ℕ → Packets) → All IsByte text → record_at head.order text ≡ f →
+by_front : (f : RecordFront) (head : Head) (n : ℕ) (text : List ℕ) (lines : List ℕ → List ℕ) (packets : List ℕ → Packets) → All IsByte text → record_at head.order text ≡ f →
     ((rest : List ℕ) → All IsByte rest → stored_from (n + 1) (lines_of (lines rest)) ≡ shows (packets rest)) →
     stored_from n (lines_of (lines_by head f lines)) ≡ shows (packets_by head n f packets)
 unfolding lines_of

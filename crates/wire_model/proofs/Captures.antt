@@ -4,7 +4,7 @@ use Rattle.std.proofs.lemmas.Bool.{cases_lt, cases_eq, lt-ltb, le-ltb, eq-eqb, n
 use Rattle.std.proofs.lemmas.List.{length-drop}
 use Rattle.wire_model.specs.declared.pcap_head.ByteOrder.{ByteOrder}
 use Rattle.wire_model.specs.declared.pcap_head.Head.{Head}
-use Rattle.wire_model.specs.Packets.{Kept, Front, Done, Broken, Whole, four_at, record_by, record_at, Packets, datagram_of, with_packet, packets_by, packets_from, packets_in}
+use Rattle.wire_model.specs.Packets.{Kept, RecordFront, Done, Broken, Whole, four_at, record_by, record_at, Packets, datagram_of, with_packet, packets_by, packets_from, packets_in}
 
 -- no record is left
 pub record_none : (order : ByteOrder) → record_at order [] ≡ Done
@@ -60,7 +60,7 @@ record_rest order text kept rest is =
     ]
 
 -- a bound on the number of records that is large enough doesn't matter
-same_by : (f : Front) (head : Head) (n : ℕ) (text : List ℕ) (one two : List ℕ → Packets) → record_at head.order text ≡ f → ((rest : List ℕ) → length rest < length text → one rest ≡ two rest) →
+same_by : (f : RecordFront) (head : Head) (n : ℕ) (text : List ℕ) (one two : List ℕ → Packets) → record_at head.order text ≡ f → ((rest : List ℕ) → length rest < length text → one rest ≡ two rest) →
     packets_by head n f one ≡ packets_by head n f two
 same_by Done head n text one two is same = refl
 same_by Broken head n text one two is same = refl

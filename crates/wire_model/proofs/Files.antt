@@ -12,7 +12,7 @@ use Rattle.wire_model.specs.declared.pcap_head.LinkType.TheVariants.{Ethernet, R
 use Rattle.wire_model.specs.declared.pcap_head.Head.{Head}
 use Rattle.wire_model.specs.declared.pcap_head.HeadFault.{HeadFault}
 use Rattle.wire_model.specs.declared.pcap_head.HeadFault.TheVariants as head_fault
-use Rattle.wire_model.specs.Packets.{two_at, four_at, magic, order_of, link_of, head_in, head_of, and_rest, opened, Kept, Front, Done, Broken, Whole, record_at, Packet, Packets, FileFault, BadRecord, datagram_of, with_packet, packets_by, packets_in, packets_behind, packets_of}
+use Rattle.wire_model.specs.Packets.{two_at, four_at, magic, order_of, link_of, head_in, head_of, and_rest, opened, Kept, RecordFront, Done, Broken, Whole, record_at, Packet, Packets, FileFault, BadRecord, datagram_of, with_packet, packets_by, packets_in, packets_behind, packets_of}
 use Rattle.wire_model.specs.PacketFiles.{link_number, IsHeader, IsRecord, AreRecords, IsBroken, IsFile, and_packet, with_datagrams}
 use Rattle.wire_model.proofs.Captures.{record_none, record_short, record_over, record_part, record_whole, packets_step}
 
@@ -82,16 +82,16 @@ record AtFront (order : ByteOrder) (text : List ℕ) (kept : Kept) (rest : List 
   parts : text ≡ one ++ rest
   shorter : length rest < length text
 
-abbrev Tells : ByteOrder → List ℕ → Front → Type 0
+abbrev Tells : ByteOrder → List ℕ → RecordFront → Type 0
 Tells order text Done = text ≡ []
 Tells order text Broken = 0 < length text
 Tells order text (Whole kept rest) = AtFront order text kept rest
 
-record Told (order : ByteOrder) (text : List ℕ) (f : Front) : Type 0 where
+record Told (order : ByteOrder) (text : List ℕ) (f : RecordFront) : Type 0 where
   tells : Tells order text f
 
-told_as : (order : ByteOrder) (text : List ℕ) (f g : Front) → g ≡ f → Told order text f → Told order text g
-told_as order text f g e t = subst (λ (x : Front). Told order text x) (sym e) t
+told_as : (order : ByteOrder) (text : List ℕ) (f g : RecordFront) → g ≡ f → Told order text f → Told order text g
+told_as order text f g e t = subst (λ (x : RecordFront). Told order text x) (sym e) t
 
 told_whole : (order : ByteOrder) (text : List ℕ) → 16 ≤ length text → four_at order text 8 ≤ 262144 → 16 + four_at order text 8 ≤ length text → Told order text (record_at order text)
 told_whole order text long fits all =
@@ -140,7 +140,7 @@ broken order text e some = record {
   no_record = λ kept one rest is parts. let whole = record_read order kept one rest is in let same = ap (record_at order) parts in absurd (cc);
 }
 
-broken_by : (f : Front) (order : ByteOrder) (text : List ℕ) → Told order text f → IsBroken order text → f ≡ Broken
+broken_by : (f : RecordFront) (order : ByteOrder) (text : List ℕ) → Told order text f → IsBroken order text → f ≡ Broken
 broken_by Done order text t b = let none = ap (λ (xs : List ℕ). length xs) t.tells in let some = b.some in absurd (omega arith)
 broken_by Broken order text t b = refl
 broken_by (Whole kept rest) order text t b = let w = t.tells in absurd (b.no_record kept w.one rest w.is w.parts)
@@ -155,7 +155,7 @@ record Split (order : ByteOrder) (text : List ℕ) : Type 0 where
   parts : text ≡ body ++ tail
   ends : (tail ≡ []) ⊎ IsBroken order tail
 
-split_by : (f : Front) (order : ByteOrder) (text : List ℕ) → record_at order text ≡ f → Told order text f → ((rest : List ℕ) → length rest < length text → Split order rest) → Split order text
+split_by : (f : RecordFront) (order : ByteOrder) (text : List ℕ) → record_at order text ≡ f → Told order text f → ((rest : List ℕ) → length rest < length text → Split order rest) → Split order text
 split_by Done order text e t rests = record { kept = []; body = []; tail = []; are = refl; parts = t.tells; ends = inl refl }
 split_by Broken order text e t rests = record { kept = []; body = []; tail = text; are = refl; parts = refl; ends = inr (broken order text e t.tells) }
 split_by (Whole k rest) order text e t rests =
@@ -199,15 +199,15 @@ through head n (k ∷ ks) body tail fault are e =
     let rest = through head (n + 1) ks are.1 tail fault are.3 (ap (λ (m : ℕ). packets_in head m tail) (sym count) ∙ e) in
     ap (packets_in head n) parts
     ∙ (packets_step head n (are.0 ++ (are.1 ++ tail))
-    ∙ (ap (λ (f : Front). packets_by head n f (packets_in head (n + 1))) (record_read head.order k are.0 (are.1 ++ tail) are.2)
+    ∙ (ap (λ (f : RecordFront). packets_by head n f (packets_in head (n + 1))) (record_read head.order k are.0 (are.1 ++ tail) are.2)
     ∙ (ap (with_packet p) rest ∙ put (length p.datagram == 0) p (with_datagrams head.link (n + 1) ks) fault refl)))
 
 at_end : (head : Head) (n : ℕ) → packets_in head n [] ≡ record { list = []; fault = None }
-at_end head n = packets_step head n [] ∙ ap (λ (f : Front). packets_by head n f (packets_in head (n + 1))) (record_none head.order)
+at_end head n = packets_step head n [] ∙ ap (λ (f : RecordFront). packets_by head n f (packets_in head (n + 1))) (record_none head.order)
 
 at_broken : (head : Head) (n : ℕ) (tail : List ℕ) → IsBroken head.order tail → packets_in head n tail ≡ record { list = []; fault = Some (BadRecord n) }
 at_broken head n tail b =
-    packets_step head n tail ∙ ap (λ (f : Front). packets_by head n f (packets_in head (n + 1))) (broken_by (record_at head.order tail) head.order tail (told head.order tail) b)
+    packets_step head n tail ∙ ap (λ (f : RecordFront). packets_by head n f (packets_in head (n + 1))) (broken_by (record_at head.order tail) head.order tail (told head.order tail) b)
 
 -- ---- the header
 

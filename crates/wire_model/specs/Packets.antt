@@ -76,12 +76,12 @@ most_kept = 262144
 
 -- what stands at the front of records: nothing, a record that isn't whole, or a record and what
 -- follows it (pcap-savefile)
-pub data Front : Type 0 where
-  Done Broken : Front
-  Whole : (kept : Kept) (rest : List ℕ) → Front
+pub data RecordFront : Type 0 where
+  Done Broken : RecordFront
+  Whole : (kept : Kept) (rest : List ℕ) → RecordFront
 
 -- what stands at the front of records, where the first one has this kept length (pcap-savefile)
-abbrev pub record_by : ByteOrder → ℕ → List ℕ → Front
+abbrev pub record_by : ByteOrder → ℕ → List ℕ → RecordFront
 record_by order len text =
     if nat_lt most_kept len then Broken
     else if nat_lt (length text) (16 + len) then Broken
@@ -90,7 +90,7 @@ record_by order len text =
 
 -- what stands at the front of records, each of seconds, microseconds, kept length and original
 -- length of four bytes each, and then the kept bytes (pcap-savefile)
-unfoldable pub record_at : ByteOrder → List ℕ → Front
+unfoldable pub record_at : ByteOrder → List ℕ → RecordFront
 record_at order text =
     if length text == 0 then Done
     else if nat_lt (length text) 16 then Broken
@@ -137,7 +137,7 @@ with_packet p others =
 
 -- the packets of records with this front, the first of number n, where those of what follows are
 -- handed in (pcap-savefile)
-abbrev pub packets_by : Head → ℕ → Front → (List ℕ → Packets) → Packets
+abbrev pub packets_by : Head → ℕ → RecordFront → (List ℕ → Packets) → Packets
 packets_by head n Done others = record { list = []; fault = None }
 packets_by head n Broken others = record { list = []; fault = Some (BadRecord n) }
 packets_by head n (Whole kept rest) others =
