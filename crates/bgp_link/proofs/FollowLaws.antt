@@ -2,7 +2,7 @@
 use Rattle.std.proofs.Common.{◌≡◌, inl, inr, ℕ, suc, ◌+◌, ◌^◌, ◌<◌, ◌≤◌, Bool, true, false, List, [], ◌∷◌, ◌++◌, length, length-append, None, refl, sym, ap, ◌∙◌, subst, arith, append_assoc, append-nil}
 use Rattle.ao_base.specs.declared.end.End.{End}
 use Rattle.ao_base.specs.declared.end.End.TheVariants.{A, B}
-use Rattle.wire_model.specs.Messages.{fault_in, fault_of, front}
+use Rattle.wire_model.specs.Messages.{fault_in, fault_of, message_front}
 use Rattle.wire_model.proofs.Fronts.{front_short}
 use Rattle.wire_model.proofs.Streams.{behind_none, none_before}
 use Rattle.bgp_messages.specs.Readers.{Reading, StandsFor, greatest_place, new_reading}
@@ -64,7 +64,7 @@ faults_at w B = let both = faults_both w in omega (arith, both)
 pub sound_start : fault_in [] ≡ None
 sound_start =
     let here = front_short [] (omega arith) in
-    ap (λ (l : List ℕ). fault_of (front l)) (behind_none [] (none_before [] here)) ∙ ap fault_of here
+    ap (λ (l : List ℕ). fault_of (message_front l)) (behind_none [] (none_before [] here)) ∙ ap fault_of here
 
 -- ---- outcomes that are shown
 

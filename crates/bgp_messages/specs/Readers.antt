@@ -1,7 +1,7 @@
 -- A reader of the messages of a stream.
 use Rattle.std.specs.Prelude.{◌≡◌, ℕ, ◌+◌, ◌-◌, ◌<◌, ◌≤◌, min, nat_le, Bool, true, false, List, [], ◌∷◌, ◌++◌, length, take, drop, slice_index, Option, Some, None, IsSome}
 use Rattle.wire_model.specs.declared.bgp_fault.BgpFault.{BgpFault}
-use Rattle.wire_model.specs.Messages.{Message, Front, Unfinished, Faulty, Leading, front, header_length, message_length, messages, place_of, behind, fault_in}
+use Rattle.wire_model.specs.Messages.{Message, MessageFront, Unfinished, FaultyHeader, LeadingMessage, message_front, header_length, message_length, messages, place_of, behind, fault_in}
 use Rattle.bgp_messages.specs.declared.reader.Fed.{Fed}
 use Rattle.bgp_messages.specs.declared.reader.Found.{Found}
 use Rattle.bgp_messages.specs.declared.reader.Found.TheVariants as found
@@ -24,14 +24,14 @@ abbrev pub greatest_place : ℕ
 greatest_place = 18446744073709551615
 
 -- what a piece makes of a reader without a fault, by the front of its unfinished bytes with the piece
-abbrev pub fed_by : Reading → List ℕ → Front → Fed × Reading
+abbrev pub fed_by : Reading → List ℕ → MessageFront → Fed × Reading
 fed_by r piece Unfinished =
     (record { used = length piece; found = found.More }, record { unfinished = r.unfinished ++ piece; message = None; place = r.place; fault = None })
-fed_by r piece (Faulty fault) = (
+fed_by r piece (FaultyHeader fault) = (
   record { used = header_length - length r.unfinished; found = found.Fault fault },
   record { unfinished = take header_length (r.unfinished ++ piece); message = None; place = r.place; fault = Some fault },
 )
-fed_by r piece (Leading m rest) = (
+fed_by r piece (LeadingMessage m rest) = (
   record { used = length piece - length rest; found = found.Message },
   record { unfinished = []; message = Some m; place = min (r.place + message_length m) greatest_place; fault = None },
 )
@@ -39,7 +39,7 @@ fed_by r piece (Leading m rest) = (
 -- the same for any reader: a fault stays
 abbrev pub fed_after : Option BgpFault → Reading → List ℕ → Fed × Reading
 fed_after (Some fault) r piece = (record { used = 0; found = found.Fault fault }, record r { message = None })
-fed_after None r piece = fed_by r piece (front (r.unfinished ++ piece))
+fed_after None r piece = fed_by r piece (message_front (r.unfinished ++ piece))
 
 -- the answer to a piece, and the reader after it
 abbrev pub fed : Reading → List ℕ → Fed × Reading
@@ -77,24 +77,24 @@ seen state.Whole bytes place = record { unfinished = []; message = Some (message
 seen (state.Faulty fault) bytes place = record { unfinished = bytes; message = None; place = place; fault = Some fault }
 
 -- the front ends no message yet
-abbrev pub is_unfinished : Front → Bool
+abbrev pub is_unfinished : MessageFront → Bool
 is_unfinished Unfinished = true
-is_unfinished (Faulty fault) = false
-is_unfinished (Leading m rest) = false
+is_unfinished (FaultyHeader fault) = false
+is_unfinished (LeadingMessage m rest) = false
 
 -- the gathered bytes are what the state says, as far as later calls need it
 abbrev pub is_kept : State → List ℕ → Bool
-is_kept state.Unfinished bytes = is_unfinished (front bytes)
+is_kept state.Unfinished bytes = is_unfinished (message_front bytes)
 is_kept state.Whole bytes = nat_le header_length (length bytes)
 is_kept (state.Faulty fault) bytes = true
 
 -- what was gathered of a piece, by what was found
 abbrev pub GathersBy : Found → List ℕ → List ℕ → List ℕ → ℕ → Type 0
-GathersBy found.More before piece now used = (front (before ++ piece) ≡ Unfinished) × (used ≡ length piece) × (now ≡ before ++ piece)
+GathersBy found.More before piece now used = (message_front (before ++ piece) ≡ Unfinished) × (used ≡ length piece) × (now ≡ before ++ piece)
 GathersBy found.Message before piece now used =
-    (rest : List ℕ) × (front (before ++ piece) ≡ Leading (message_in now) rest) × (used ≡ length piece - length rest) × (header_length ≤ length now) × (0 < used)
+    (rest : List ℕ) × (message_front (before ++ piece) ≡ LeadingMessage (message_in now) rest) × (used ≡ length piece - length rest) × (header_length ≤ length now) × (0 < used)
 GathersBy (found.Fault fault) before piece now used =
-    (front (before ++ piece) ≡ Faulty fault) × (used ≡ header_length - length before) × (now ≡ take header_length (before ++ piece))
+    (message_front (before ++ piece) ≡ FaultyHeader fault) × (used ≡ header_length - length before) × (now ≡ take header_length (before ++ piece))
 
 -- the same, and the taken bytes are those that were used
 pub record Gathers (before piece now : List ℕ) (fed : Fed) : Type 0 where

@@ -1,6 +1,6 @@
 //! A reader of messages.
 ghost use Rattle.std.specs.Prelude.{◌≡◌, ◌≤◌, ℕ, List, [], length, take, None, IfOk, IfSome, IsSome};
-ghost use Rattle.wire_model.specs.Messages.{Unfinished, front};
+ghost use Rattle.wire_model.specs.Messages.{Unfinished, message_front};
 ghost use Rattle.bgp_messages.specs.Readers.{new_reading, fed, StandsFor, Reads, IsUsed, Gathers};
 
 use crate::gathered::Gathered;
@@ -58,7 +58,7 @@ impl Model for BgpReader {
 
 impl BgpReader {
     /// A reader that got no byte. It takes all its memory here.
-    #[tactic(auto, unfolding(wire_model::specs::Messages::front))]
+    #[tactic(auto, unfolding(wire_model::specs::Messages::message_front))]
     pub fn new(alloc: Global) -> Result<BgpReader, AllocError>
         ensures new { IfOk result (λ r. r ≡ new_reading) }
         ensures stands { IfOk result (λ r. StandsFor r []) }
@@ -77,7 +77,7 @@ impl BgpReader {
     ///
     /// However a stream is cut into pieces, the messages found are those of the stream (RFC 4271,
     /// section 4).
-    #[tactic(auto, unfolding(wire_model::specs::Messages::front))]
+    #[tactic(auto, unfolding(wire_model::specs::Messages::message_front))]
     pub fn feed(&mut self, piece: &[u8]) -> Fed
         ensures exact { (result, self.new) ≡ fed self.old piece.now }
         ensures within { result.used ≤ length piece.now }
@@ -144,7 +144,7 @@ impl BgpReader {
     }
 
     /// Makes the reader new, for another stream.
-    #[tactic(auto, unfolding(wire_model::specs::Messages::front))]
+    #[tactic(auto, unfolding(wire_model::specs::Messages::message_front))]
     pub fn restart(&mut self)
         ensures { self.new ≡ new_reading }
     {
@@ -156,7 +156,7 @@ impl BgpReader {
 
 // Gathers bytes of the piece up to the end of a message or of a faulty header.
 fn gather(gathered: &mut Gathered, piece: &[u8]) -> Fed
-    requires { front gathered.old ≡ Unfinished }
+    requires { message_front gathered.old ≡ Unfinished }
     ensures { Gathers gathered.old piece.now gathered.new result }
 {
     let used = gathered.fill(piece, HEADER);

@@ -3,22 +3,22 @@ use Rattle.std.proofs.Common.{◌≡◌, ℕ, ◌<◌, ◌≤◌, List, length, 
 use Rattle.std.proofs.lemmas.Bool.{cases_lt, lt-ltb, le-ltb}
 use Rattle.std.specs.Prelude.{slice_range}
 use Rattle.wire_model.specs.declared.bgp_fault.BgpFault.{BgpFault}
-use Rattle.wire_model.specs.Messages.{Message, Unfinished, Faulty, Leading, front_by, front_behind, front, header_fault, kind_in, length_in}
+use Rattle.wire_model.specs.Messages.{Message, Unfinished, FaultyHeader, LeadingMessage, front_by, front_behind, message_front, header_fault, kind_in, length_in}
 
 -- too few bytes for a header
-pub front_short : (bytes : List ℕ) → length bytes < 19 → front bytes ≡ Unfinished
-unfolding front
+pub front_short : (bytes : List ℕ) → length bytes < 19 → message_front bytes ≡ Unfinished
+unfolding message_front
 front_short bytes lt = rw (lt-ltb (length bytes) 19 lt) refl
 
-pub front_long : (bytes : List ℕ) → 19 ≤ length bytes → front bytes ≡ front_behind (take 19 bytes) bytes
-unfolding front
+pub front_long : (bytes : List ℕ) → 19 ≤ length bytes → message_front bytes ≡ front_behind (take 19 bytes) bytes
+unfolding message_front
 front_long bytes le = rw (le-ltb (length bytes) 19 le) refl
 
 -- a header that is sound, and fewer bytes than it says
-pub front_part : (bytes : List ℕ) → 19 ≤ length bytes → header_fault (take 19 bytes) ≡ None → length bytes < length_in (take 19 bytes) → front bytes ≡ Unfinished
+pub front_part : (bytes : List ℕ) → 19 ≤ length bytes → header_fault (take 19 bytes) ≡ None → length bytes < length_in (take 19 bytes) → message_front bytes ≡ Unfinished
 front_part bytes le sound lt = rw (front_long bytes le, sound, lt-ltb (length bytes) (length_in (take 19 bytes)) lt) refl
 
-pub front_faulty : (bytes : List ℕ) (fault : BgpFault) → 19 ≤ length bytes → header_fault (take 19 bytes) ≡ Some fault → front bytes ≡ Faulty fault
+pub front_faulty : (bytes : List ℕ) (fault : BgpFault) → 19 ≤ length bytes → header_fault (take 19 bytes) ≡ Some fault → message_front bytes ≡ FaultyHeader fault
 front_faulty bytes fault le bad = rw (front_long bytes le, bad) refl
 
 -- the message of a header, with the bytes that the header asks for
@@ -26,7 +26,7 @@ abbrev pub message_at : List ℕ → List ℕ → Message
 message_at header bytes = record { kind = kind_in header; body = slice_range bytes 19 (length_in header) }
 
 pub front_whole : (bytes : List ℕ) → 19 ≤ length bytes → header_fault (take 19 bytes) ≡ None → length_in (take 19 bytes) ≤ length bytes →
-    front bytes ≡ Leading (message_at (take 19 bytes) bytes) (drop (length_in (take 19 bytes)) bytes)
+    message_front bytes ≡ LeadingMessage (message_at (take 19 bytes) bytes) (drop (length_in (take 19 bytes)) bytes)
 front_whole bytes le sound whole = rw (front_long bytes le, sound, le-ltb (length bytes) (length_in (take 19 bytes)) whole) refl
 
 -- the front is a message
@@ -47,7 +47,7 @@ pub record IsUnfinished (bytes : List ℕ) : Type 0 where
   pub sound : 19 ≤ length bytes → header_fault (take 19 bytes) ≡ None
   pub part : 19 ≤ length bytes → length bytes < length_in (take 19 bytes)
 
-leading_by : (found : Option BgpFault) (kind len : ℕ) (bytes : List ℕ) (m : Message) (rest : List ℕ) → front_by found kind len bytes ≡ Leading m rest →
+leading_by : (found : Option BgpFault) (kind len : ℕ) (bytes : List ℕ) (m : Message) (rest : List ℕ) → front_by found kind len bytes ≡ LeadingMessage m rest →
     (found ≡ None) × (len ≤ length bytes) × (m ≡ record { kind = kind; body = slice_range bytes 19 len }) × (rest ≡ drop len bytes)
 leading_by (Some fault) kind len bytes m rest is = absurd (cc)
 leading_by None kind len bytes m rest is =
@@ -56,7 +56,7 @@ leading_by None kind len bytes m rest is =
       | inr le ↦ let same = rw (le-ltb (length bytes) len le) at is in (refl, le, cc, cc)
     ]
 
-pub leading : (bytes : List ℕ) (m : Message) (rest : List ℕ) → front bytes ≡ Leading m rest → IsLeading bytes m rest
+pub leading : (bytes : List ℕ) (m : Message) (rest : List ℕ) → message_front bytes ≡ LeadingMessage m rest → IsLeading bytes m rest
 leading bytes m rest is =
     elim (cases_lt (length bytes) 19) [
       | inl lt ↦ let none = sym (front_short bytes lt) ∙ is in absurd (cc)
@@ -65,7 +65,7 @@ leading bytes m rest is =
           record { enough = le; sound = parts.0; whole = parts.1; is = parts.2; behind = parts.3 }
     ]
 
-faulty_by : (found : Option BgpFault) (kind len : ℕ) (bytes : List ℕ) (fault : BgpFault) → front_by found kind len bytes ≡ Faulty fault → found ≡ Some fault
+faulty_by : (found : Option BgpFault) (kind len : ℕ) (bytes : List ℕ) (fault : BgpFault) → front_by found kind len bytes ≡ FaultyHeader fault → found ≡ Some fault
 faulty_by (Some one) kind len bytes fault is = cc
 faulty_by None kind len bytes fault is =
     elim (cases_lt (length bytes) len) [
@@ -73,7 +73,7 @@ faulty_by None kind len bytes fault is =
       | inr le ↦ let none = rw (le-ltb (length bytes) len le) at is in absurd (cc)
     ]
 
-pub faulty : (bytes : List ℕ) (fault : BgpFault) → front bytes ≡ Faulty fault → IsFaulty bytes fault
+pub faulty : (bytes : List ℕ) (fault : BgpFault) → message_front bytes ≡ FaultyHeader fault → IsFaulty bytes fault
 faulty bytes fault is =
     elim (cases_lt (length bytes) 19) [
       | inl lt ↦ let none = sym (front_short bytes lt) ∙ is in absurd (cc)
@@ -88,7 +88,7 @@ unfinished_by None kind len bytes is =
       | inr le ↦ let none = rw (le-ltb (length bytes) len le) at is in absurd (cc)
     ]
 
-pub unfinished : (bytes : List ℕ) → front bytes ≡ Unfinished → IsUnfinished bytes
+pub unfinished : (bytes : List ℕ) → message_front bytes ≡ Unfinished → IsUnfinished bytes
 unfinished bytes is =
     let parts = λ (le : 19 ≤ length bytes). unfinished_by (header_fault (take 19 bytes)) (kind_in (take 19 bytes)) (length_in (take 19 bytes)) bytes (sym (front_long bytes le) ∙ is) in
     record { sound = λ le. (parts le).0; part = λ le. (parts le).1 }

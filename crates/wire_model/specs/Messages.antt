@@ -105,44 +105,44 @@ header_fault header =
 
 -- what stands at the front of a stream: bytes that end no message yet, a faulty header, or a
 -- message and what follows it (RFC 4271, section 4)
-pub data Front : Type 0 where
-  Unfinished : Front
-  Faulty : (fault : BgpFault) → Front
-  Leading : (message : Message) (rest : List ℕ) → Front
+pub data MessageFront : Type 0 where
+  Unfinished : MessageFront
+  FaultyHeader : (fault : BgpFault) → MessageFront
+  LeadingMessage : (message : Message) (rest : List ℕ) → MessageFront
 
 -- the front of bytes that begin with a header, by the header's fault, type and length (RFC 4271,
 -- section 4.1)
-abbrev pub front_by : Option BgpFault → ℕ → ℕ → List ℕ → Front
-front_by (Some fault) kind len bytes = Faulty fault
+abbrev pub front_by : Option BgpFault → ℕ → ℕ → List ℕ → MessageFront
+front_by (Some fault) kind len bytes = FaultyHeader fault
 front_by None kind len bytes =
     if nat_lt (length bytes) len then Unfinished
-    else Leading (record { kind = kind; body = slice_range bytes header_length len })
+    else LeadingMessage (record { kind = kind; body = slice_range bytes header_length len })
     (drop len bytes)
 
 -- the front of bytes that begin with this header (RFC 4271, section 4.1)
-abbrev pub front_behind : List ℕ → List ℕ → Front
+abbrev pub front_behind : List ℕ → List ℕ → MessageFront
 front_behind header bytes =
     front_by (header_fault header) (kind_in header) (length_in header) bytes
 
 -- the front of a stream; a header is judged as soon as its 19 bytes are there (RFC 4271, section
 -- 6.1)
-unfoldable pub front : List ℕ → Front
-front bytes =
+unfoldable pub message_front : List ℕ → MessageFront
+message_front bytes =
     if nat_lt (length bytes) header_length then Unfinished
     else front_behind (take header_length bytes) bytes
 
 -- the messages of a stream with this front, where those of what follows are handed in (RFC 4271,
 -- section 4)
-abbrev pub messages_by : Front → (List ℕ → List Message) → List Message
+abbrev pub messages_by : MessageFront → (List ℕ → List Message) → List Message
 messages_by Unfinished others = []
-messages_by (Faulty fault) others = []
-messages_by (Leading m rest) others = m ∷ others rest
+messages_by (FaultyHeader fault) others = []
+messages_by (LeadingMessage m rest) others = m ∷ others rest
 
 -- the messages from the front of a stream on, of which the first argument bounds the number (RFC
 -- 4271, section 4)
 abbrev pub messages_from : ℕ → List ℕ → List Message
 messages_from zero bytes = []
-messages_from (suc n) bytes = messages_by (front bytes) (messages_from n)
+messages_from (suc n) bytes = messages_by (message_front bytes) (messages_from n)
 
 -- the messages that stand one after another from the front of a stream, as many as there are (RFC
 -- 4271, section 4)
@@ -158,11 +158,11 @@ unfoldable pub behind : List ℕ → List ℕ
 behind bytes = drop (place_of bytes) bytes
 
 -- the fault of a front, where it is a faulty header (RFC 4271, section 6.1)
-abbrev pub fault_of : Front → Option BgpFault
+abbrev pub fault_of : MessageFront → Option BgpFault
 fault_of Unfinished = None
-fault_of (Faulty fault) = Some fault
-fault_of (Leading m rest) = None
+fault_of (FaultyHeader fault) = Some fault
+fault_of (LeadingMessage m rest) = None
 
 -- the fault that ends the messages of a stream, where there is one (RFC 4271, section 6.1)
 abbrev pub fault_in : List ℕ → Option BgpFault
-fault_in bytes = fault_of (front (behind bytes))
+fault_in bytes = fault_of (message_front (behind bytes))
