@@ -35,7 +35,7 @@ use Rattle.segment_model.proofs.Fields.{and_tells}
 use Rattle.format_model.specs.declared.timed.TimedEvent.{TimedEvent}
 use Rattle.format_model.specs.declared.timed.TimedEvent.TheVariants.{Plain, Wait}
 use Rattle.std.specs.Option.{option_or}
-use Rattle.format_model.specs.TimedRuns.{Timed, Watch, new_watch, SendFront, front_of, front_at, Progress, watch_of, with_watch, started_anew, stopped, sampled_by, watch_by, is_again, is_done, is_sent, plain, Expanded, before, reading_at, until, due, after_expiry, expiry, waited, timed_event, expand_from, begins_timed, expand}
+use Rattle.format_model.specs.TimedRuns.{Watch, new_watch, SendFront, front_of, front_at, Progress, watch_of, with_watch, started_anew, stopped, sampled_by, watch_by, is_again, is_done, is_sent, plain, Expanded, before, reading_at, until, due, after_expiry, expiry, waited, timed_event, expand_from, begins_timed, expand}
 use Rattle.link_progress.specs.Waits.{WaitsResend}
 use Rattle.link_progress.proofs.Calm.{Calm, AllCalm, AllCalms, is_before, calm_step}
 use Rattle.link_progress.proofs.Finishing.{LeavesIf, closed_arrives, emits_leave, resends_leave}
