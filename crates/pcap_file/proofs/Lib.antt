@@ -6,3 +6,4 @@ mod Fronts
 pub mod Going
 pub mod Shorter
 pub mod Showing
+pub mod Ready

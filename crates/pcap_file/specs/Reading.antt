@@ -1,5 +1,5 @@
 -- What one call of a reader of packets does (own).
-use Rattle.std.specs.Prelude.{◌≡◌, ℕ, ◌+◌, ◌-◌, ◌<◌, ◌≤◌, ◌==◌, if◌then◌else◌, Bool, true, false, List, [], ◌∷◌, ◌++◌, length, drop, Option, Some, None, Result, Ok, Err}
+use Rattle.std.specs.Prelude.{◌≡◌, ℕ, ◌+◌, ◌-◌, ◌<◌, ◌≤◌, ◌==◌, if◌then◌else◌, Bool, true, false, nat_le, List, [], ◌∷◌, ◌++◌, length, drop, Option, Some, None, Result, Ok, Err}
 use Rattle.std.specs.List.{All}
 use Rattle.ao_base.specs.Outside.{Side, Gave, Rose, IsAtEnd, told}
 use Rattle.wire_model.specs.declared.pcap_head.Head.{Head}
@@ -69,6 +69,27 @@ Answers before now source_before source_now given text (step.BadHead fault) =
 Answers before now source_before source_now given text (step.BadRecord n) =
     Stops before now given × (n ≡ before.count + 1) × Opening before now text (λ head body. record_at head.order body ≡ Broken)
     × Opening before now (before.kept ++ given) (λ head body. record_at head.order body ≡ Broken)
+
+-- a whole record stands there
+abbrev pub is_whole : Front → Bool
+is_whole Done = false
+is_whole Broken = false
+is_whole (Whole packet rest) = true
+
+-- a whole record stands there, and ends within the most bytes of a file, of which so many were taken
+abbrev pub ends_within : ℕ → Front → Bool
+ends_within taken Done = false
+ends_within taken Broken = false
+ends_within taken (Whole packet rest) = nat_le (taken - length rest) 268435456
+
+-- the next packet needs no source: the header was read, and the next record is kept whole and ends
+-- within the most bytes of a file
+abbrev pub is_ready : Option Head → List ℕ → ℕ → Bool
+is_ready None kept taken = false
+is_ready (Some head) kept taken = ends_within taken (record_at head.order kept)
+
+abbrev pub has_whole : Reading → Bool
+has_whole reading = is_ready reading.head reading.kept reading.taken
 
 -- a byte
 abbrev pub IsByte : ℕ → Type 0

@@ -1,10 +1,13 @@
 //! The packets of a pcap file, one after another.
 ghost use Rattle.std.specs.Prelude.{◌≡◌, ◌++◌, ℕ, true, false, List, [], IfOk, IsSome, IfSome, Some, None};
 ghost use Rattle.ao_base.specs.Outside.{Side, told};
-ghost use Rattle.pcap_file.specs.Reading.{Reading, Steps, GoesOn, header_length, wanted_step, Exactly, Walks, IsQuiet, IsPacketOrEnd};
+ghost use Rattle.pcap_file.specs.declared.packets.PacketStep.TheVariants.{Packet};
+ghost use Rattle.pcap_file.specs.Reading.{Reading, Steps, GoesOn, has_whole, header_length, wanted_step, Exactly, Walks, IsQuiet, IsPacketOrEnd};
 
 use crate::head::HEAD;
-use crate::records::{Found, MOST_KEPT, Opened, RECORD, find_datagram, find_record, open};
+use crate::records::{
+    Found, MOST_KEPT, Opened, RECORD, find_datagram, find_record, kept_record, open,
+};
 use ao_base::{Buffer, Source};
 use std::alloc::{AllocError, Global};
 use std::marker::Model;
@@ -92,6 +95,49 @@ impl Packets {
         ensures quiet { (left : List ℕ) → IsQuiet self.old (S.side src.old) (S.side src.new) left → IsPacketOrEnd result }
     {
         self.advance(src)
+    }
+
+    /// Goes to the next packet where that needs no source, and answers whether it does: the header was
+    /// read, the next record is kept whole, and it ends within the 268,435,456 bytes. Then the packet is
+    /// shown as by `next`, which would ask no source for it. Else nothing changes. No call before may
+    /// have answered anything but Packet or a truth value.
+    pub fn next_kept(&mut self) -> bool
+        requires { self.old.over ≡ false }
+        ensures whole { result ≡ has_whole self.old }
+        ensures steps { result ≡ true → (side : Side) → Steps self.old self.new side side [] Packet }
+        ensures goes { result ≡ true → GoesOn self.old self.new (self.old.kept ++ []) Packet }
+        ensures same { result ≡ false → self.new ≡ self.old }
+    {
+        self.advance_kept()
+    }
+
+    fn advance_kept(&mut self) -> bool
+        requires { self.old.over ≡ false }
+        ensures whole { result ≡ has_whole self.old }
+        ensures steps { result ≡ true → (side : Side) → Steps self.old self.new side side [] Packet }
+        ensures same { result ≡ false → self.new ≡ self.old }
+    {
+        let head = match self.head {
+            Some(head) => head,
+            None => return false,
+        };
+        let (seconds, len) = match kept_record(self.buffer.kept(), head.order) {
+            Some(found) => found,
+            None => return false,
+        };
+        let past = RECORD + len;
+        if past as u64 > MOST - self.handed {
+            return false;
+        }
+        let number = self.count + 1;
+        let cut = find_datagram(head.link, &self.buffer.kept()[RECORD..past]);
+        self.buffer
+            .pass(RECORD + cut.first, RECORD + cut.after, past);
+        self.handed += past as u64;
+        self.count = number;
+        self.seconds = seconds;
+        self.shown = true;
+        true
     }
 
     fn advance<S: Source>(&mut self, src: &mut S) -> PacketStep

@@ -1,8 +1,9 @@
 //! The header of a file and the record of a packet, as far as they are in a buffer.
-ghost use Rattle.std.specs.Prelude.{◌≡◌, ◌==◌, if◌then◌else◌, ℕ, ◌≤◌, true, List, length, slice_range};
+ghost use Rattle.std.specs.Prelude.{◌≡◌, ◌==◌, ◌++◌, ◌+◌, if◌then◌else◌, ℕ, ◌≤◌, true, false, List, length, take, drop, slice_range, MatchOption};
 ghost use Rattle.ao_base.specs.Outside.{Side};
-ghost use Rattle.wire_model.specs.Packets.{datagram_of, is_ip};
+ghost use Rattle.wire_model.specs.Packets.{Whole, datagram_of, is_ip, record_at};
 ghost use Rattle.pcap_file.specs.Parts.{Opens, Finds};
+ghost use Rattle.pcap_file.specs.Reading.{is_whole};
 
 use crate::filling::{Filled, fill};
 use crate::head::{HEAD, read_head};
@@ -80,6 +81,28 @@ pub(crate) fn find_record<S: Source>(buffer: &mut Buffer, src: &mut S, order: By
         Filled::Ended => Found::Broken,
         Filled::Enough => Found::Whole(seconds, len),
     }
+}
+
+/// The seconds and the kept length of the record at the front, where it is whole.
+pub(crate) fn kept_record(kept: &[u8], order: ByteOrder) -> Option<(u32, usize)>
+    ensures {
+        MatchOption result (is_whole (record_at order kept.now) ≡ false) (λ found.
+            (16 + found.1 ≤ length kept.now) × ((left : List ℕ) → record_at order (kept.now ++ left)
+            ≡ Whole (record { seconds = found.0; bytes = take found.1 (drop 16 kept.now) }) (drop (16 + found.1) kept.now ++ left)))
+    }
+{
+    if kept.len() < RECORD {
+        return None;
+    }
+    let seconds = four(order, kept, 0);
+    let len = four(order, kept, 8) as usize;
+    if len > MOST_KEPT {
+        return None;
+    }
+    if RECORD + len > kept.len() {
+        return None;
+    }
+    Some((seconds, len))
 }
 
 fn none_or_broken(kept: &[u8]) -> Found
