@@ -8,7 +8,7 @@ use Rattle.format_model.specs.Captures.{Connection, Saying, Stored, has_refusal,
 use Rattle.capture_check.specs.declared.answer.CheckLine.{CheckLine}
 use Rattle.capture_check.specs.Answers.{Says}
 use Rattle.capture_check.specs.Checking.{Hears, StandsFor}
-use Rattle.capture_lines.specs.Judging.{HasHeard, Judges, Judging, held_after, line_after}
+use Rattle.capture_lines.specs.Judging.{Gathers, HasHeard, Judges, Judging, held_after, line_after}
 use Rattle.capture_lines.specs.declared.judge.Unwritten.TheVariants.{Write}
 use Rattle.capture_lines.proofs.RunLaws.{held_more, refusal_more, saying_after}
 
@@ -16,7 +16,7 @@ use Rattle.capture_lines.proofs.RunLaws.{held_more, refusal_more, saying_after}
 pub heard_none : (judge : Judging) → StandsFor judge.checking.entries [] → judge.amiss ≡ false → HasHeard judge []
 heard_none judge stands amiss = record { stands = stands; amiss = amiss }
 
-module _ (before now : Judging) (stored : List Stored) (s : Stored) (answer : CheckLine) (line : List ℕ) (a b : Side) (n : ℕ) (heard : HasHeard before stored)
+module _ (before now : Judging) (stored : List Stored) (s : Stored) (answer : CheckLine) (line : List ℕ) (heard : HasHeard before stored)
     (tables : now.checking.tables ≡ before.checking.tables)
     (hears : (held : List Connection) → StandsFor before.checking.entries held → Hears now.checking.entries answer (hear before.checking.tables held s.time s.bytes))
     (texts : (w : Saying) → Says answer w → line ≡ numbered_text s.number (saying_texts w)) where
@@ -26,24 +26,38 @@ module _ (before now : Judging) (stored : List Stored) (s : Stored) (answer : Ch
   line_is : line ≡ line_after before.checking.tables stored s
   line_is = texts (saying_after before.checking.tables [] stored s) next.says
 
-  pub judged : (pass : Bool) (u : Unit {0}) {E : Type 0} → ((w : Saying) → Says answer w → pass ≡ is_pass w) → now.amiss ≡ (before.amiss || not pass) → WritesAll {E = E} a b line n (Ok u) →
-      Judges before now stored s a b (Ok u)
-  judged pass u passes amiss wrote =
-      let whole : take n line ≡ line = rw wrote.whole (take-length line) in
+  heard_then : (pass : Bool) → ((w : Saying) → Says answer w → pass ≡ is_pass w) → now.amiss ≡ (before.amiss || not pass) → HasHeard now (stored ++ s ∷ [])
+  heard_then pass passes amiss =
       let passed : pass ≡ is_pass (saying_after before.checking.tables [] stored s) = passes (saying_after before.checking.tables [] stored s) next.says in
       record {
-        tables = tables;
-        heard = record {
-          stands = rw (tables, held_more before.checking.tables [] stored s) next.stands;
-          amiss = amiss ∙ (ap (λ (x : Bool). x || not pass) heard.amiss ∙ (ap (λ (x : Bool). has_refusal before.checking.tables stored || not x) passed
-              ∙ (sym (refusal_more before.checking.tables stored s) ∙ ap (λ (t : List Table). has_refusal t (stored ++ s ∷ [])) (sym tables))));
-        };
-        wrote = subst (λ (xs : List ℕ). Took xs a b) (whole ∙ line_is) wrote.took;
+        stands = rw (tables, held_more before.checking.tables [] stored s) next.stands;
+        amiss = amiss ∙ (ap (λ (x : Bool). x || not pass) heard.amiss ∙ (ap (λ (x : Bool). has_refusal before.checking.tables stored || not x) passed
+            ∙ (sym (refusal_more before.checking.tables stored s) ∙ ap (λ (t : List Table). has_refusal t (stored ++ s ∷ [])) (sym tables))));
       }
 
-  pub broken : {E : Type 0} (e : E) → WritesAll {E = E} a b line n (Err e) → Judges before now stored s a b (Err Write)
-  broken e wrote = record {
-    tables = tables;
-    heard = tt;
-    wrote = (n, subst (λ (xs : List ℕ). n < length xs) line_is wrote.failed.0, subst (λ (xs : List ℕ). Took (take n xs) a b) line_is wrote.took, wrote.failed.1);
-  }
+  pub gathered : (pass : Bool) (u : Unit {0}) (lines lines_now : List ℕ) {E : Type 0} → ((w : Saying) → Says answer w → pass ≡ is_pass w) → now.amiss ≡ (before.amiss || not pass) → lines_now ≡ lines ++ line →
+      Gathers {E = E} before now stored s lines lines_now (Ok u)
+  gathered pass u lines lines_now passes amiss more =
+      record {
+        tables = tables;
+        heard = heard_then pass passes amiss;
+        lines = more ∙ ap (λ (xs : List ℕ). lines ++ xs) line_is;
+      }
+
+  module _ (a b : Side) (n : ℕ) where
+    pub judged : (pass : Bool) (u : Unit {0}) {E : Type 0} → ((w : Saying) → Says answer w → pass ≡ is_pass w) → now.amiss ≡ (before.amiss || not pass) → WritesAll {E = E} a b line n (Ok u) →
+        Judges before now stored s a b (Ok u)
+    judged pass u passes amiss wrote =
+        let whole : take n line ≡ line = rw wrote.whole (take-length line) in
+        record {
+          tables = tables;
+          heard = heard_then pass passes amiss;
+          wrote = subst (λ (xs : List ℕ). Took xs a b) (whole ∙ line_is) wrote.took;
+        }
+
+    pub broken : {E : Type 0} (e : E) → WritesAll {E = E} a b line n (Err e) → Judges before now stored s a b (Err Write)
+    broken e wrote = record {
+      tables = tables;
+      heard = tt;
+      wrote = (n, subst (λ (xs : List ℕ). n < length xs) line_is wrote.failed.0, subst (λ (xs : List ℕ). Took (take n xs) a b) line_is wrote.took, wrote.failed.1);
+    }

@@ -31,6 +31,17 @@ line_after tables stored s =
     numbered_text s.number
     (saying_texts (hear tables (held_after tables [] stored) s.time s.bytes).saying)
 
+-- the lines that are gathered, with this one behind them, unless memory ran out
+abbrev pub and_line : {E : Type 0} → List ℕ → List ℕ → Result (Unit {0}) E → List ℕ
+and_line lines line (Ok done) = lines ++ line
+and_line lines line (Err error) = lines
+
+-- one more segment is judged by those before it, and its line gathered
+pub record Gathers {E : Type 0} (before now : Judging) (stored : List Stored) (s : Stored) (lines_before lines_now : List ℕ) (result : Result (Unit {0}) E) : Type 0 where
+  pub tables : now.checking.tables ≡ before.checking.tables
+  pub heard : IfOk result (λ _. HasHeard now (stored ++ s ∷ []))
+  pub lines : lines_now ≡ and_line lines_before (line_after before.checking.tables stored s) result
+
 -- what was written of a line (own)
 abbrev pub Wrote : List ℕ → Side → Side → Result (Unit {0}) Unwritten → Type 0
 Wrote line before now (Ok done) = Took line before now

@@ -1,7 +1,7 @@
-//! A judge of stored segments, which writes what it says of each before it hears the next.
+//! A judge of stored segments, which says a line of each.
 ghost use Rattle.std.specs.Prelude.{◌≡◌, [], List, IfOk};
 ghost use Rattle.format_model.specs.Captures.{Stored};
-ghost use Rattle.capture_lines.specs.Judging.{HasHeard, Judges};
+ghost use Rattle.capture_lines.specs.Judging.{Gathers, HasHeard, Judges};
 
 use ao_base::{Failed, Sink, Steps, write_all};
 use capture_check::{Checker, push_check_line};
@@ -48,6 +48,37 @@ impl Judge {
             line: Vec::new(alloc),
             amiss: false,
         })
+    }
+
+    /// Judges the bytes that were stored at a time, in seconds since 1970, by the segments heard
+    /// before, and puts the line of it, which begins with this number, behind `lines`. Where memory
+    /// runs out these stay as they were, and no call may follow.
+    pub fn hear<L: Ledger>(
+        &mut self,
+        alloc: Global,
+        steps: &mut Steps<L>,
+        number: u64,
+        time: u64,
+        bytes: &[u8],
+        lines: &mut Vec<u8>,
+    ) -> Result<(), AllocError>
+        ensures { (stored : List Stored) → HasHeard self.old stored →
+            Gathers self.old self.new stored (record { number = number; time = time; bytes = bytes.now }) lines.old.items lines.new.items result }
+    {
+        let answer = match self.checker.next(alloc, time, bytes, steps) {
+            Ok(answer) => answer,
+            Err(error) => return Err(error),
+        };
+        self.line.clear();
+        match push_check_line(&mut self.line, number, &answer) {
+            Ok(()) => {}
+            Err(error) => return Err(error),
+        }
+        self.amiss |= !answer.is_pass();
+        match lines.extend_from_slice(self.line.as_slice()) {
+            Ok(()) => Ok(()),
+            Err(error) => Err(error),
+        }
     }
 
     /// Judges the bytes that were stored at a time, in seconds since 1970, by the segments heard

@@ -13,10 +13,10 @@ returns g c =
     (elim c.match-write_all.branch [
       | in-Ok-write_all w ↦ λ stored heard. rw w.result-is
           (judged (record { checking = c.self.inside.checker; amiss = c.self.inside.amiss }) (record { checking = c.next.new.self; amiss = c.self.inside.amiss || not c.is_pass.result }) stored
-          (record { number = c.args.number; time = c.args.time; bytes = c.args.bytes.now }) c.in-Ok.answer c.as_slice.result.now _ _ w.in-Ok-write_all.ensures.0 heard c.next.ensures.tables c.in-Ok.ensures.heard texts
+          (record { number = c.args.number; time = c.args.time; bytes = c.args.bytes.now }) c.in-Ok.answer c.as_slice.result.now heard c.next.ensures.tables c.in-Ok.ensures.heard texts _ _ w.in-Ok-write_all.ensures.0
           c.is_pass.result _ c.is_pass.ensures refl w.in-Ok-write_all.ensures.1)
       | in-Err-write_all w ↦ λ stored heard. rw w.result-is
           (broken (record { checking = c.self.inside.checker; amiss = c.self.inside.amiss }) (record { checking = c.next.new.self; amiss = c.self.inside.amiss || not c.is_pass.result }) stored
-          (record { number = c.args.number; time = c.args.time; bytes = c.args.bytes.now }) c.in-Ok.answer c.as_slice.result.now _ _ w.in-Err-write_all.ensures.0 heard c.next.ensures.tables c.in-Ok.ensures.heard texts
+          (record { number = c.args.number; time = c.args.time; bytes = c.args.bytes.now }) c.in-Ok.answer c.as_slice.result.now heard c.next.ensures.tables c.in-Ok.ensures.heard texts _ _ w.in-Err-write_all.ensures.0
           _ w.in-Err-write_all.ensures.1)
     ])
