@@ -1,5 +1,5 @@
 -- From one packet to the next, and to each end.
-use Rattle.std.proofs.Common.{◌≡◌, ℕ, ◌+◌, ◌-◌, ◌<◌, ◌≤◌, ◌==◌, if◌then◌else◌, Bool, true, false, List, [], ◌∷◌, ◌++◌, length, map, take, Option, Some, None, Result, Ok, Err, IsOk, refl, sym, ap, ◌∙◌, append_assoc, arith}
+use Rattle.std.proofs.Common.{◌≡◌, ◌⊎◌, inr, ℕ, ◌+◌, ◌-◌, ◌<◌, ◌≤◌, ◌==◌, if◌then◌else◌, Bool, true, false, List, [], ◌∷◌, ◌++◌, length, map, take, Option, Some, None, Result, Ok, Err, IsOk, refl, sym, ap, ◌∙◌, append_assoc, arith}
 use Rattle.std.proofs.lemmas.List.{append-nil, length-append, length-drop}
 use Rattle.std.proofs.Math.Seq.{take-append-add}
 use Rattle.std.proofs.lemmas.List.Elements.{All-append, All-from_get_or}
@@ -21,10 +21,11 @@ use Rattle.pcap_file.proofs.Showing.{HasShown, none_in_front, shown_all, shown_a
 use Rattle.capture_lines.specs.Judging.{HasHeard, Judging}
 use Rattle.capture_packets.specs.declared.check.PacketHalt.{PacketHalt}
 use Rattle.capture_packets.specs.declared.check.PacketHalt.TheVariants as halt
-use Rattle.capture_packets.specs.Checked.{BreaksPacket, Checks, HasRead, JudgedPacket, JudgesPacket, Refuses, Stops, segments_of, written_of}
+use Rattle.capture_packets.specs.Checked.{BreaksLines, Checks, HasRead, InTime, JudgedPacket, Refuses, RunsOut, Sticks, Stops, Wait, Written, segments_of, written_of}
+use Rattle.capture_packets.proofs.Gathering.{Gathered, Place, gathered_broken, gathered_more, gathered_next, gathered_none, nothing_written, wrote_all}
 
--- between two packets: these bytes were given, these packets shown and judged, and their lines written
-pub record Between (tables : List Table) (reader : Reading) (judging : Judging) (given : List ℕ) (shown : List Packet) (source_before source_now out_before out_now : Side) : Type 0 where
+-- between two packets: these bytes were given, these packets shown and judged, and their lines written but for those that are gathered
+pub record Between (tables : List Table) (reader : Reading) (judging : Judging) (given : List ℕ) (shown : List Packet) (lines : List ℕ) (source_before source_now out_before out_now : Side) : Type 0 where
   pub gave : Gave given source_before source_now
   pub bytes : All IsByte given
   pub shows : HasShown reader given shown
@@ -35,7 +36,16 @@ pub record Between (tables : List Table) (reader : Reading) (judging : Judging) 
   pub going : reader.over ≡ false
   pub tables_same : judging.checking.tables ≡ tables
   pub heard : HasHeard judging (map stored_packet shown)
-  pub wrote : Took (written_of tables shown) out_before out_now
+  pub gathered : Gathered tables given shown lines out_before out_now
+
+-- the lines that are gathered are written before the source is asked
+pub written_in_time : (given lines later : List ℕ) (a b : Side) (next : PacketStep) → Written lines later a b → InTime given lines later a b next
+written_in_time given lines later a b step.Packet written = inr written
+written_in_time given lines later a b step.End written = written
+written_in_time given lines later a b step.Fault written = written
+written_in_time given lines later a b step.TooLong written = written
+written_in_time given lines later a b (step.BadHead fault) written = written
+written_in_time given lines later a b (step.BadRecord n) written = written
 
 -- a file without a fault has a header
 header_of : (r : Result (Head × List ℕ) HeadFault) → (packets_behind r).fault ≡ None → (head : Head) × (body : List ℕ) × (r ≡ Ok (head, body))
@@ -48,15 +58,11 @@ all_none = All-from_get_or IsByte [] 0 (λ i within. absurd (omega arith))
 abbrev new_reader : Reading
 new_reader = record { kept = []; taken = 0; count = 0; head = None; over = false; packet = None }
 
-nothing_written : (tables : List Table) → written_of tables [] ≡ []
-unfolding capture_run
-nothing_written tables = refl
-
 -- before the first packet
-pub between_new : (tables : List Table) (reader : Reading) (judging : Judging) (source out : Side) →
+pub between_new : (tables : List Table) (reader : Reading) (judging : Judging) (lines : List ℕ) (source out : Side) → lines ≡ [] →
     reader ≡ record { kept = []; taken = 0; count = 0; head = None; over = false; packet = None } → judging.checking.tables ≡ tables → HasHeard judging [] →
-    Between tables reader judging [] [] source source out out
-between_new tables reader judging source out is same heard = rw is (record {
+    Between tables reader judging [] [] lines source source out out
+between_new tables reader judging lines source out none is same heard = rw (is, none) (record {
   gave = gave_none source;
   bytes = all_none;
   shows = shown_none;
@@ -67,7 +73,7 @@ between_new tables reader judging source out is same heard = rw is (record {
   going = refl;
   tables_same = same;
   heard = heard;
-  wrote = rw (nothing_written tables) (took_none out);
+  gathered = gathered_none tables [] out;
 })
 
 passed_most : (before now : Option Head) → passed before now ≤ header_length before
@@ -86,14 +92,8 @@ later_by false shown p = (p ∷ [], omega arith, refl)
 and_later : (shown : List Packet) (p : Packet) → (later : List Packet) × (length later ≤ 1) × (and_packet shown p ≡ shown ++ later)
 and_later shown p = later_by (length p.datagram == 0) shown p
 
-wrote_more : (tables other : List Table) (shown later : List Packet) (text : List ℕ) (a b d : Side) → other ≡ tables → written_of other later ≡ written_of other shown ++ text →
-    Took (written_of tables shown) a b → Took text b d → Took (written_of tables later) a d
-wrote_more tables other shown later text a b d same whole one two =
-    let all : written_of tables later ≡ written_of tables shown ++ text = rw same at whole in
-    rw all (took_more (written_of tables shown) text a b d one two)
-
-module _ (tables : List Table) (reader next_reader : Reading) (judging : Judging) (given next : List ℕ) (shown : List Packet) (a b c o q : Side)
-    (between : Between tables reader judging given shown a b o q) where
+module _ (tables : List Table) (reader next_reader : Reading) (judging : Judging) (given next : List ℕ) (shown : List Packet) (lines : List ℕ) (a b c o q : Side)
+    (between : Between tables reader judging given shown lines a b o q) where
   size : length (given ++ next) ≡ length given + length next
   size = length-append given next
 
@@ -102,26 +102,6 @@ module _ (tables : List Table) (reader next_reader : Reading) (judging : Judging
 
   bytes_all : All IsByte next → All IsByte (given ++ next)
   bytes_all bytes = All-append IsByte given next between.bytes bytes
-
-  -- from one packet to the next
-  pub between_more : (p : Packet) (next_judging : Judging) (r : Side) → Steps reader next_reader b c next step.Packet → GoesOn reader next_reader (reader.kept ++ next) step.Packet →
-      next_reader.packet ≡ Some p → JudgedPacket judging next_judging shown p q r → Between tables next_reader next_judging (given ++ next) (and_packet shown p) a c o r
-  between_more p next_judging r steps goes is judged =
-      let shows = steps.answers in
-      let within = shows.within in
-      record {
-        gave = gave_all steps.gave;
-        bytes = bytes_all steps.bytes;
-        shows = (shown_more reader next_reader b c given next shown p between.shows steps goes is).0;
-        begun = λ none. (let known = shows.known in absurd (cc));
-        near = steps.bound;
-        counted = steps.counted;
-        within = rw (shows.known) (omega arith);
-        going = shows.going;
-        tables_same = judged.tables_same ∙ between.tables_same;
-        heard = judged.heard;
-        wrote = wrote_more tables judging.checking.tables shown (and_packet shown p) judged.text o q r between.tables_same judged.whole between.wrote judged.wrote;
-      }
 
   -- each packet's record has at least 16 bytes
   pub between_smaller : Steps reader next_reader b c next step.Packet → GoesOn reader next_reader (reader.kept ++ next) step.Packet →
@@ -162,9 +142,13 @@ module _ (tables : List Table) (reader next_reader : Reading) (judging : Judging
     goes_on = between.shows.packets;
   }
 
+  -- all lines are written before the source is asked
+  wrote_all_of : (later : List ℕ) (r : Side) → Written lines later q r → Took (written_of tables shown) o r
+  wrote_all_of later r written = wrote_all tables given shown lines o q r between.gathered written.wrote
+
   -- the end of the file
-  pub ends_done : Steps reader next_reader b c next step.End → GoesOn reader next_reader (reader.kept ++ next) step.End → Checks tables (given ++ next) a c o q (Ok judging.amiss)
-  ends_done steps goes =
+  pub ends_done : (later : List ℕ) (r : Side) → Written lines later q r → Steps reader next_reader b c next step.End → GoesOn reader next_reader (reader.kept ++ next) step.End → Checks tables (given ++ next) a c o r (Ok judging.amiss)
+  ends_done later r written steps goes =
       let all : packets_of (given ++ next) ≡ record { list = shown; fault = None } = shown_all reader given next shown None between.shows goes in
       let segments : segments_of (given ++ next) ≡ map stored_packet shown = ap (λ ps. map stored_packet ps.list) all in
       let few = few_stopped step.End steps steps.answers.0 in
@@ -181,13 +165,13 @@ module _ (tables : List Table) (reader next_reader : Reading) (judging : Judging
           within = omega arith;
           faultless = ap (λ ps. ps.fault) all;
           amiss_is = rw (segments, ← between.tables_same) between.heard.amiss;
-          wrote = rw segments between.wrote;
+          wrote = rw segments (wrote_all_of later r written);
         };
       }
 
-  refuses : (fault : FileFault) → length (reader.kept ++ next) ≤ 327720 → packets_at reader (reader.kept ++ next) ≡ record { list = []; fault = Some fault } →
-      packets_at reader ((reader.kept ++ next) ++ told c.bytes) ≡ record { list = []; fault = Some fault } → Refuses tables (given ++ next) c o q fault
-  refuses fault few goes tells =
+  refuses : (later : List ℕ) (r : Side) → Written lines later q r → (fault : FileFault) → length (reader.kept ++ next) ≤ 327720 → packets_at reader (reader.kept ++ next) ≡ record { list = []; fault = Some fault } →
+      packets_at reader ((reader.kept ++ next) ++ told c.bytes) ≡ record { list = []; fault = Some fault } → Refuses tables (given ++ next) c o r fault
+  refuses later r written fault few goes tells =
       let left = told c.bytes in
       let all : packets_of (given ++ next) ≡ record { list = shown; fault = Some fault } = shown_all reader given next shown (Some fault) between.shows goes in
       let group : (reader.kept ++ next) ++ left ≡ reader.kept ++ (next ++ left) = append_assoc reader.kept next left in
@@ -197,25 +181,25 @@ module _ (tables : List Table) (reader next_reader : Reading) (judging : Judging
         has_read = rw all (has_read few);
         fault_is = ap (λ ps. ps.fault) all;
         all = ap packets_of (append_assoc given next left) ∙ (more ∙ sym all);
-        wrote = rw segments between.wrote;
+        wrote = rw segments (wrote_all_of later r written);
       }
 
   -- a header that is refused
-  pub ends_head : (fault : HeadFault) → Steps reader next_reader b c next (step.BadHead fault) → GoesOn reader next_reader (reader.kept ++ next) (step.BadHead fault) →
-      Checks tables (given ++ next) a c o q (Err (halt.Head fault))
-  ends_head fault steps goes =
+  pub ends_head : (later : List ℕ) (r : Side) → Written lines later q r → (fault : HeadFault) → Steps reader next_reader b c next (step.BadHead fault) → GoesOn reader next_reader (reader.kept ++ next) (step.BadHead fault) →
+      Checks tables (given ++ next) a c o r (Err (halt.Head fault))
+  ends_head later r written fault steps goes =
       let few = few_stopped (step.BadHead fault) steps steps.answers.0 in
-      record { gave = gave_all steps.gave; bytes = bytes_all steps.bytes; few = few.1; ends = refuses (BadHead fault) few.0 goes (head_told reader next_reader b c next fault steps) }
+      record { gave = gave_all steps.gave; bytes = bytes_all steps.bytes; few = few.1; ends = refuses later r written (BadHead fault) few.0 goes (head_told reader next_reader b c next fault steps) }
 
   -- a record that is refused
-  pub ends_record : (n : ℕ) → Steps reader next_reader b c next (step.BadRecord n) → GoesOn reader next_reader (reader.kept ++ next) (step.BadRecord n) →
-      Checks tables (given ++ next) a c o q (Err (halt.Record n))
-  ends_record n steps goes =
+  pub ends_record : (later : List ℕ) (r : Side) → Written lines later q r → (n : ℕ) → Steps reader next_reader b c next (step.BadRecord n) → GoesOn reader next_reader (reader.kept ++ next) (step.BadRecord n) →
+      Checks tables (given ++ next) a c o r (Err (halt.Record n))
+  ends_record later r written n steps goes =
       let few = few_stopped (step.BadRecord n) steps steps.answers.0 in
-      record { gave = gave_all steps.gave; bytes = bytes_all steps.bytes; few = few.1; ends = refuses (BadRecord n) few.0 goes (record_told reader next_reader b c next n steps) }
+      record { gave = gave_all steps.gave; bytes = bytes_all steps.bytes; few = few.1; ends = refuses later r written (BadRecord n) few.0 goes (record_told reader next_reader b c next n steps) }
 
-  stopped : length (reader.kept ++ next) ≤ 327720 → Stops tables (given ++ next) o q
-  stopped few = record { read = shown; has_read = has_read few; wrote = between.wrote }
+  stopped : (later : List ℕ) (r : Side) → Written lines later q r → length (reader.kept ++ next) ≤ 327720 → Stops tables (given ++ next) o r
+  stopped later r written few = record { read = shown; has_read = has_read few; wrote = wrote_all_of later r written }
 
   -- too many bytes
   header_known : (had : Option Head) → reader.head ≡ had → (length (reader.kept ++ next) ≤ 327720) → 268435456 < length (given ++ next) → IsOk (opened (given ++ next))
@@ -225,9 +209,9 @@ module _ (tables : List Table) (reader next_reader : Reading) (judging : Judging
       let split : given ++ next ≡ between.shows.front ++ (reader.kept ++ next) = ap (λ xs. xs ++ next) between.shows.split ∙ append_assoc between.shows.front reader.kept next in
       rw (split, head_more None between.shows.front (reader.kept ++ next) (parts.0) (parts.1) parts.2) refl
 
-  pub ends_long : Steps reader next_reader b c next step.TooLong → Checks tables (given ++ next) a c o q (Err halt.TooLong)
+  pub ends_long : (later : List ℕ) (r : Side) → Written lines later q r → Steps reader next_reader b c next step.TooLong → Checks tables (given ++ next) a c o r (Err halt.TooLong)
   unfolding has_read stopped
-  ends_long steps =
+  ends_long later r written steps =
       let few = few_stopped step.TooLong steps steps.answers.0 in
       let taken = steps.taken in
       let had = between.shows.taken in
@@ -240,17 +224,17 @@ module _ (tables : List Table) (reader next_reader : Reading) (judging : Judging
         gave = gave_all steps.gave;
         bytes = bytes_all steps.bytes;
         few = few.1;
-        ends = record { more = many; header = header_known reader.head refl few.0 many; stops = stopped few.0; within = omega arith };
+        ends = record { more = many; header = header_known reader.head refl few.0 many; stops = stopped later r written few.0; within = omega arith };
       }
 
   -- a read that failed
-  pub ends_read : Steps reader next_reader b c next step.Fault → Checks tables (given ++ next) a c o q (Err halt.Read)
-  ends_read steps =
+  pub ends_read : (later : List ℕ) (r : Side) → Written lines later q r → Steps reader next_reader b c next step.Fault → Checks tables (given ++ next) a c o r (Err halt.Read)
+  ends_read later r written steps =
       let few = few_stopped step.Fault steps steps.answers.0 in
-      record { gave = gave_all steps.gave; bytes = bytes_all steps.bytes; few = few.1; ends = (rose_after (length given) a b c between.gave.counts steps.answers.1, stopped few.0) }
+      record { gave = gave_all steps.gave; bytes = bytes_all steps.bytes; few = few.1; ends = (rose_after (length given) a b c between.gave.counts steps.answers.1, stopped later r written few.0) }
 
   -- the next packet was shown
-  module _ (p : Packet) (r : Side) (steps : Steps reader next_reader b c next step.Packet) (goes : GoesOn reader next_reader (reader.kept ++ next) step.Packet) (is : next_reader.packet ≡ Some p) where
+  module _ (p : Packet) (steps : Steps reader next_reader b c next step.Packet) (goes : GoesOn reader next_reader (reader.kept ++ next) step.Packet) (is : next_reader.packet ≡ Some p) where
     shown_then : (more : HasShown next_reader (given ++ next) (and_packet shown p)) × ((n : ℕ) → n < length more.front → length (packets_of (take n more.front)).list ≤ length shown)
     shown_then = shown_more reader next_reader b c given next shown p between.shows steps goes is
 
@@ -274,51 +258,85 @@ module _ (tables : List Table) (reader next_reader : Reading) (judging : Judging
       goes_on = λ more. shows_more.packets more ∙ ap (λ ps. in_front ps (packets_at next_reader more)) same;
     }
 
-    -- memory ran out for it
-    ends_memory : Took [] q r → Checks tables (given ++ next) a c o r (Err halt.Memory)
-    ends_memory none =
-        let later = and_later shown p in
-        record {
-          gave = gave_all steps.gave;
-          bytes = bytes_all steps.bytes;
-          few = few_shown;
-          ends = record { read = shown; later = later.0; one = later.1; has_read = read_to (shown ++ later.0) later.2; wrote = took_and_none (written_of tables shown) o q r between.wrote none };
-        }
-
-    -- its line wasn't written whole
-    ends_write : BreaksPacket judging.checking.tables shown p q r → Checks tables (given ++ next) a c o r (Err halt.Write)
+    place_of : (n : ℕ) → and_packet shown p ≡ shown ++ p ∷ [] → length (written_of tables shown) ≤ n → n < length (written_of tables (shown ++ p ∷ [])) →
+        Place tables (given ++ next) (and_packet shown p) n
     unfolding read_to shows_more
-    ends_write breaks =
-        let whole : written_of tables (shown ++ p ∷ []) ≡ written_of tables shown ++ breaks.text = rw between.tables_same at breaks.whole in
-        let long : length (written_of tables (shown ++ p ∷ [])) ≡ length (written_of tables shown) + length breaks.text = ap length whole ∙ length-append (written_of tables shown) breaks.text in
-        let less = breaks.less in
-        record {
-          gave = gave_all steps.gave;
-          bytes = bytes_all steps.bytes;
-          few = few_shown;
-          ends = record {
-            read = shown;
-            last = p;
-            n = length (written_of tables shown) + breaks.n;
-            has_read = read_to (shown ++ p ∷ []) breaks.behind;
-            alone = shown_alone next_reader (given ++ next) (and_packet shown p) steps.answers.head shows_more steps.answers.known ∙ ap (λ ps. record { list = ps; fault = None }) breaks.behind;
-            least = shown_then.1;
-            near = steps.bound;
-            all_before = omega arith;
-            not_all = omega arith;
-            wrote = rw (whole, take-append-add (written_of tables shown) breaks.text breaks.n) (took_more (written_of tables shown) (take breaks.n breaks.text) o q r between.wrote breaks.wrote);
-            rose = rose_after (length (written_of tables shown)) o q r between.wrote.counts breaks.rose;
-          };
-        }
+    place_of n is before within = record {
+      read = shown;
+      last = p;
+      has_read = read_to (shown ++ p ∷ []) is;
+      alone = shown_alone next_reader (given ++ next) (and_packet shown p) steps.answers.head shows_more steps.answers.known ∙ ap (λ ps. record { list = ps; fault = None }) is;
+      least = shown_then.1;
+      near = steps.bound;
+      all_before = before;
+      not_all = within;
+      same = ap (λ ps. take n (written_of tables ps)) (sym is);
+    }
 
-    -- an error of the packet
-    pub ends_error : (after : Judging) (why : PacketHalt) → JudgesPacket judging after shown p q r (Err why) → Checks tables (given ++ next) a c o r (Err why)
-    ends_error after (halt.Head fault) judged = absurd judged
-    ends_error after (halt.Record n) judged = absurd judged
-    ends_error after halt.TooLong judged = absurd judged
-    ends_error after halt.Read judged = absurd judged
-    ends_error after halt.Write judged = ends_write judged
-    ends_error after halt.Memory judged = ends_memory judged
+    module _ (later : List ℕ) (r : Side) (in_time : Wait next lines later q r ⊎ Written lines later q r) where
+      gathered_now : Gathered tables (given ++ next) shown later o r
+      gathered_now = gathered_next tables given shown lines o q r between.gathered next later in_time
+
+      -- from one packet to the next
+      pub between_more : (next_judging : Judging) (more : List ℕ) → JudgedPacket judging next_judging shown p later more → Between tables next_reader next_judging (given ++ next) (and_packet shown p) more a c o r
+      between_more next_judging more judged =
+          let shows = steps.answers in
+          let within = shows.within in
+          let whole : written_of tables (and_packet shown p) ≡ written_of tables shown ++ judged.text = rw between.tables_same at judged.whole in
+          record {
+            gave = gave_all steps.gave;
+            bytes = bytes_all steps.bytes;
+            shows = shows_more;
+            begun = λ none. (let known = shows.known in absurd (cc));
+            near = steps.bound;
+            counted = steps.counted;
+            within = rw (shows.known) (omega arith);
+            going = shows.going;
+            tables_same = judged.tables_same ∙ between.tables_same;
+            heard = judged.heard;
+            gathered = rw judged.gathered (gathered_more tables (given ++ next) shown later o r r gathered_now p judged.text whole judged.one place_of);
+          }
+
+      -- memory ran out for it
+      ends_memory : (t : Side) → Took later r t → Checks tables (given ++ next) a c o t (Err halt.Memory)
+      ends_memory t wrote =
+          let one = and_later shown p in
+          record {
+            gave = gave_all steps.gave;
+            bytes = bytes_all steps.bytes;
+            few = few_shown;
+            ends = record { read = shown; later = one.0; one = one.1; has_read = read_to (shown ++ one.0) one.2; wrote = wrote_all tables (given ++ next) shown later o r t gathered_now wrote };
+          }
+
+      -- and the lines that are gathered weren't written whole
+      ends_broken : (t : Side) → BreaksLines later r t → Checks tables (given ++ next) a c o t (Err halt.Write)
+      ends_broken t breaks =
+          record { gave = gave_all steps.gave; bytes = bytes_all steps.bytes; few = few_shown; ends = gathered_broken tables (given ++ next) shown later o r t gathered_now breaks }
+
+      pub ends_without : (t : Side) (why : PacketHalt) → RunsOut later r t why → Checks tables (given ++ next) a c o t (Err why)
+      ends_without t (halt.Head fault) ran = absurd ran
+      ends_without t (halt.Record n) ran = absurd ran
+      ends_without t halt.TooLong ran = absurd ran
+      ends_without t halt.Read ran = absurd ran
+      ends_without t halt.Write ran = ends_broken t ran
+      ends_without t halt.Memory ran = ends_memory t ran
+
+-- the lines that are gathered weren't written whole before the source was to be asked
+pub ends_stuck : (tables : List Table) (reader : Reading) (judging : Judging) (given next : List ℕ) (shown : List Packet) (lines : List ℕ) (a b c o q r : Side) → Between tables reader judging given shown lines a b o q →
+    Sticks b c next lines q r → Checks tables (given ++ next) a c o r (Err halt.Write)
+ends_stuck tables reader judging given next shown lines a b c o q r between sticks =
+    let same : given ++ next ≡ given = ap (λ xs. given ++ xs) sticks.nothing ∙ append-nil given in
+    let near = between.near in
+    let within = between.within in
+    let counted = between.counted in
+    let taken = between.shows.taken in
+    rw (same, sticks.source)
+    (record {
+      gave = between.gave;
+      bytes = between.bytes;
+      few = omega arith;
+      ends = gathered_broken tables given shown lines o q r between.gathered sticks.breaks;
+    })
 
 -- memory ran out before the first packet
 pub ends_none : (tables : List Table) (source out : Side) → Checks tables [] source source out out (Err halt.Memory)

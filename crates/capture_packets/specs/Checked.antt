@@ -1,5 +1,5 @@
 -- What a check of a pcap file reads and writes, packet by packet (own). Its top is `Checks`.
-use Rattle.std.specs.Prelude.{◌≡◌, ℕ, ◌+◌, ◌<◌, ◌≤◌, Bool, List, [], ◌∷◌, ◌++◌, length, map, take}
+use Rattle.std.specs.Prelude.{◌≡◌, ◌⊎◌, ℕ, ◌+◌, ◌<◌, ◌≤◌, Bool, List, [], ◌∷◌, ◌++◌, length, map, take}
 use Rattle.std.specs.Prelude.{Some, None, Result, Ok, Err, IsOk}
 use Rattle.std.specs.List.{All}
 use Rattle.ao_base.specs.Outside.{Side, Gave, Took, Rose, IsAtEnd, told}
@@ -7,7 +7,9 @@ use Rattle.key_model.specs.Rows.{Table}
 use Rattle.wire_model.specs.Packets.{BadHead, BadRecord, FileFault, Packet, opened, packets_of}
 use Rattle.format_model.specs.Answers.{stored_packet}
 use Rattle.format_model.specs.Captures.{Stored, capture_run, has_refusal}
-use Rattle.pcap_file.specs.Reading.{IsByte, Reading, and_packet, in_front, packets_at}
+use Rattle.pcap_file.specs.declared.packets.PacketStep.{PacketStep}
+use Rattle.pcap_file.specs.declared.packets.PacketStep.TheVariants as step
+use Rattle.pcap_file.specs.Reading.{GoesOn, IsByte, Reading, Steps, and_packet, in_front, packets_at}
 use Rattle.capture_lines.specs.Judging.{HasHeard, Judging}
 use Rattle.capture_packets.specs.declared.check.PacketHalt.{PacketHalt}
 use Rattle.capture_packets.specs.declared.check.PacketHalt.TheVariants.{Head, Record, TooLong, Read}
@@ -131,37 +133,73 @@ pub record Checks (tables : List Table) (given : List ℕ)
   pub few : length given ≤ most_bytes + most_ahead
   pub ends : Ends tables given source_before source_now out_before out_now result
 
--- one more packet is judged, and its line written, unless it has no datagram (own)
+-- one more packet is judged, and its line gathered, unless it has no datagram (own)
 pub record JudgedPacket (before now : Judging) (shown : List Packet) (p : Packet)
-    (out_before out_now : Side) : Type 0 where
+    (lines_before lines_now : List ℕ) : Type 0 where
   pub text : List ℕ
   pub tables_same : now.checking.tables ≡ before.checking.tables
   pub heard : HasHeard now (map stored_packet (and_packet shown p))
   pub whole : written_of before.checking.tables (and_packet shown p) ≡ written_of
       before.checking.tables shown
       ++ text
-  pub wrote : Took text out_before out_now
+  pub one : 0 < length text → and_packet shown p ≡ shown ++ p ∷ []
+  pub gathered : lines_now ≡ lines_before ++ text
 
--- a part of the line of one more packet is written (own)
-pub record BreaksPacket (tables : List Table) (shown : List Packet) (p : Packet)
-    (out_before out_now : Side) : Type 0 where
-  pub text : List ℕ
+-- what became of one more packet behind these
+abbrev pub JudgesPacket : {E : Type 0} → Judging → Judging → List Packet → Packet → (lines_before lines_now : List ℕ) → Result (Unit {0}) E → Type 0
+JudgesPacket before now shown p lines_before lines_now (Ok done) = JudgedPacket before now shown p lines_before lines_now
+JudgesPacket before now shown p lines_before lines_now (Err error) = lines_now ≡ lines_before
+
+-- a part of these lines was written
+pub record BreaksLines (lines : List ℕ) (out_before out_now : Side) : Type 0 where
   pub n : ℕ
-  pub behind : and_packet shown p ≡ shown ++ p ∷ []
-  pub whole : written_of tables (shown ++ p ∷ []) ≡ written_of tables shown ++ text
-  pub less : n < length text
-  pub wrote : Took (take n text) out_before out_now
+  pub less : n < length lines
+  pub wrote : Took (take n lines) out_before out_now
   pub rose : Rose out_before out_now
 
--- what became of one more packet behind these (own)
-abbrev pub JudgesPacket : Judging → Judging → List Packet → Packet → Side → Side →
-    Result (Unit {0}) PacketHalt → Type 0
-JudgesPacket before now shown p out_before out_now (Ok done) =
-    JudgedPacket before now shown p out_before out_now
-JudgesPacket before now shown p out_before out_now (Err Write) =
-    BreaksPacket before.checking.tables shown p out_before out_now
-JudgesPacket before now shown p out_before out_now (Err Memory) = Took [] out_before out_now
-JudgesPacket before now shown p out_before out_now (Err (Head fault)) = ⊥
-JudgesPacket before now shown p out_before out_now (Err (Record n)) = ⊥
-JudgesPacket before now shown p out_before out_now (Err TooLong) = ⊥
-JudgesPacket before now shown p out_before out_now (Err Read) = ⊥
+-- the lines that were gathered are written, and none is left
+pub record Written (lines_before lines_now : List ℕ) (out_before out_now : Side) : Type 0 where
+  pub none : lines_now ≡ []
+  pub wrote : Took lines_before out_before out_now
+
+-- they are written, or a part of them
+abbrev pub WritesLines : {E : Type 0} → (lines_before lines_now : List ℕ) → Side → Side → Result (Unit {0}) E → Type 0
+WritesLines lines_before lines_now out_before out_now (Ok done) = Written lines_before lines_now out_before out_now
+WritesLines lines_before lines_now out_before out_now (Err failed) = BreaksLines lines_before out_before out_now
+
+-- they wait, since nothing was asked of the source
+pub record Wait (given lines_before lines_now : List ℕ) (out_before out_now : Side) : Type 0 where
+  pub nothing : given ≡ []
+  pub lines : lines_now ≡ lines_before
+  pub out : out_now ≡ out_before
+
+-- before the source is asked, the lines that are gathered are written
+abbrev pub InTime : (given lines_before lines_now : List ℕ) → Side → Side → PacketStep → Type 0
+InTime given lines_before lines_now out_before out_now step.Packet = Wait given lines_before lines_now out_before out_now ⊎ Written lines_before lines_now out_before out_now
+InTime given lines_before lines_now out_before out_now _ = Written lines_before lines_now out_before out_now
+
+-- the reader goes to the next packet, or to an end
+pub record Goes (before now : Reading) (source_before source_now : Side) (given lines_before lines_now : List ℕ) (out_before out_now : Side) (next : PacketStep) : Type 0 where
+  pub steps : Steps before now source_before source_now given next
+  pub goes : GoesOn before now (before.kept ++ given) next
+  pub in_time : InTime given lines_before lines_now out_before out_now next
+
+-- the lines that are gathered couldn't be written, and the source wasn't asked
+pub record Sticks (source_before source_now : Side) (given lines : List ℕ) (out_before out_now : Side) : Type 0 where
+  pub nothing : given ≡ []
+  pub source : source_now ≡ source_before
+  pub breaks : BreaksLines lines out_before out_now
+
+-- the reader goes on, or can't since the lines that are gathered couldn't be written
+abbrev pub Moves : {E : Type 0} → Reading → Reading → Side → Side → (given lines_before lines_now : List ℕ) → Side → Side → Result PacketStep E → Type 0
+Moves before now source_before source_now given lines_before lines_now out_before out_now (Ok next) = Goes before now source_before source_now given lines_before lines_now out_before out_now next
+Moves before now source_before source_now given lines_before lines_now out_before out_now (Err failed) = Sticks source_before source_now given lines_before out_before out_now
+
+-- memory ran out, and the lines that are gathered are written, or a part of them
+abbrev pub RunsOut : List ℕ → Side → Side → PacketHalt → Type 0
+RunsOut lines out_before out_now Memory = Took lines out_before out_now
+RunsOut lines out_before out_now Write = BreaksLines lines out_before out_now
+RunsOut lines out_before out_now (Head fault) = ⊥
+RunsOut lines out_before out_now (Record n) = ⊥
+RunsOut lines out_before out_now TooLong = ⊥
+RunsOut lines out_before out_now Read = ⊥

@@ -1,15 +1,15 @@
-//! Packets of a pcap file, each read, judged and answered before the next.
-ghost use Rattle.std.specs.Prelude.{◌≡◌, ◌<◌, ℕ, List, IsSome, Some, map};
+//! Packets of a pcap file, each judged before the next is read, and answered before more is asked for.
+ghost use Rattle.std.specs.Prelude.{◌≡◌, ◌<◌, ℕ, List, IsSome, Some, false, map};
 ghost use Rattle.wire_model.specs.Packets.{Packet};
 ghost use Rattle.format_model.specs.Answers.{stored_packet};
 ghost use Rattle.capture_lines.specs.Judging.{HasHeard};
-ghost use Rattle.capture_packets.specs.Checked.{Checks, JudgesPacket};
+ghost use Rattle.capture_packets.specs.Checked.{Checks, JudgesPacket, Moves, RunsOut, WritesLines};
 
-use ao_base::{Sink, Source, Steps};
-use capture_lines::{Judge, Unwritten};
+use ao_base::{Failed, Sink, Source, Steps, write_all};
+use capture_lines::Judge;
 use key_table::Tables;
 use pcap_file::{HeadFault, PacketStep, Packets};
-use std::alloc::Global;
+use std::alloc::{AllocError, Global};
 use std::marker::Brand;
 use std::sync::ledger::{Blank, Ledger};
 
@@ -30,18 +30,18 @@ pub enum PacketHalt {
     Memory,
 }
 
-/// What becomes of the packet that the reader shows, behind those that were heard before. Nothing is
-/// written of a packet without a datagram.
-fn judge_packet<L: Ledger, O: Sink>(
+/// What becomes of the packet that the reader shows, behind those that were heard before: its line is
+/// gathered. There is none for a packet without a datagram.
+fn judge_packet<L: Ledger>(
     judge: &mut Judge,
     alloc: Global,
     steps: &mut Steps<L>,
     packets: &Packets,
-    out: &mut O,
-) -> Result<(), PacketHalt>
+    lines: &mut Vec<u8>,
+) -> Result<(), AllocError>
     requires { IsSome packets.now.packet }
     ensures { (p : Packet) (shown : List Packet) → packets.now.packet ≡ Some p → HasHeard judge.old (map stored_packet shown) →
-        JudgesPacket judge.old judge.new shown p (O.side out.old) (O.side out.new) result }
+        JudgesPacket judge.old judge.new shown p lines.old.items lines.new.items result }
 {
     let datagram = packets.datagram();
     if datagram.is_empty() {
@@ -49,10 +49,49 @@ fn judge_packet<L: Ledger, O: Sink>(
     }
     let number = u64::from(packets.number());
     let seconds = u64::from(packets.seconds());
-    match judge.judge(alloc, steps, number, seconds, datagram, out) {
-        Ok(()) => Ok(()),
-        Err(Unwritten::Memory) => Err(PacketHalt::Memory),
-        Err(Unwritten::Write) => Err(PacketHalt::Write),
+    judge.hear(alloc, steps, number, seconds, datagram, lines)
+}
+
+/// Writes the lines that are gathered; then there is none.
+fn write_lines<O: Sink>(lines: &mut Vec<u8>, out: &mut O) -> Result<(), Failed>
+    ensures { WritesLines lines.old.items lines.new.items (O.side out.old) (O.side out.new) result }
+{
+    match write_all(out, lines.as_slice()) {
+        Ok(()) => {
+            lines.clear();
+            Ok(())
+        }
+        Err(failed) => Err(failed),
+    }
+}
+
+/// Goes to the next packet. The lines that are gathered are written before the source is asked for
+/// it: so no line waits for a packet that is still to come.
+fn next_packet<I: Source, O: Sink>(
+    packets: &mut Packets,
+    input: &mut I,
+    lines: &mut Vec<u8>,
+    out: &mut O,
+) -> Result<PacketStep, Failed>
+    requires { packets.old.over ≡ false }
+    ensures { (given : List ℕ) × Moves packets.old packets.new (I.side input.old) (I.side input.new) given lines.old.items lines.new.items (O.side out.old) (O.side out.new) result }
+{
+    if packets.next_kept() {
+        return Ok(PacketStep::Packet);
+    }
+    match write_lines(lines, out) {
+        Ok(()) => Ok(packets.next(input)),
+        Err(failed) => Err(failed),
+    }
+}
+
+/// Why a check ends for want of memory: the lines that are gathered are still written.
+fn run_out<O: Sink>(lines: &mut Vec<u8>, out: &mut O) -> PacketHalt
+    ensures { RunsOut lines.old.items (O.side out.old) (O.side out.new) result }
+{
+    match write_lines(lines, out) {
+        Ok(()) => PacketHalt::Memory,
+        Err(_) => PacketHalt::Write,
     }
 }
 
@@ -78,27 +117,29 @@ fn check_counted<L: Ledger, I: Source, O: Sink>(
         Ok(judge) => judge,
         Err(_) => return Err(PacketHalt::Memory),
     };
+    let mut lines = Vec::new(alloc);
     'packets: loop {
-        match packets.next(input) {
-            PacketStep::Packet => {}
-            PacketStep::End => return Ok(judge.is_amiss()),
-            PacketStep::Fault => return Err(PacketHalt::Read),
-            PacketStep::TooLong => return Err(PacketHalt::TooLong),
-            PacketStep::BadHead(fault) => return Err(PacketHalt::Head(fault)),
-            PacketStep::BadRecord(number) => return Err(PacketHalt::Record(number)),
+        match next_packet(&mut packets, input, &mut lines, out) {
+            Ok(PacketStep::Packet) => {}
+            Ok(PacketStep::End) => return Ok(judge.is_amiss()),
+            Ok(PacketStep::Fault) => return Err(PacketHalt::Read),
+            Ok(PacketStep::TooLong) => return Err(PacketHalt::TooLong),
+            Ok(PacketStep::BadHead(fault)) => return Err(PacketHalt::Head(fault)),
+            Ok(PacketStep::BadRecord(number)) => return Err(PacketHalt::Record(number)),
+            Err(_) => return Err(PacketHalt::Write),
         }
-        match judge_packet(&mut judge, alloc, &mut steps, &packets, out) {
+        match judge_packet(&mut judge, alloc, &mut steps, &packets, &mut lines) {
             Ok(()) => {}
-            Err(halt) => return Err(halt),
+            Err(_) => return Err(run_out(&mut lines, out)),
         }
     }
 }
 
 /// Judges the packets of a pcap file by the tables, in their order, and writes the line of each that
-/// has a datagram, which begins with the packet's number, as it reads on. Ok at the file's end, and
-/// whether a segment is no pass.
+/// has a datagram, which begins with the packet's number, as it reads on: lines are gathered, and
+/// written before the source is asked for more. Ok at the file's end, and whether a segment is no pass.
 ///
-/// At most 327,696 bytes are kept. Write comes only where the sink's count of faults rose, with a front
+/// At most 327,696 bytes of the file are kept, and the lines of its packets that were kept at once. Write comes only where the sink's count of faults rose, with a front
 /// part of the line that failed written; no more bytes than are kept were taken past the record of its
 /// packet. Head comes where the header is faulty, and Record where the record behind the packets whose
 /// lines were written is; TooLong only where more than 268,435,456 bytes were given and the header isn't

@@ -85,11 +85,9 @@ pub(crate) fn find_record<S: Source>(buffer: &mut Buffer, src: &mut S, order: By
 
 /// The seconds and the kept length of the record at the front, where it is whole.
 pub(crate) fn kept_record(kept: &[u8], order: ByteOrder) -> Option<(u32, usize)>
-    ensures {
-        MatchOption result (is_whole (record_at order kept.now) ≡ false) (λ found.
-            (16 + found.1 ≤ length kept.now) × ((left : List ℕ) → record_at order (kept.now ++ left)
-            ≡ Whole (record { seconds = found.0; bytes = take found.1 (drop 16 kept.now) }) (drop (16 + found.1) kept.now ++ left)))
-    }
+    ensures { MatchOption result (is_whole (record_at order kept.now) ≡ false) (λ found.
+        (16 + found.1 ≤ length kept.now) × ((left : List ℕ) → record_at order (kept.now ++ left)
+        ≡ Whole (record { seconds = found.0; bytes = take found.1 (drop 16 kept.now) }) (drop (16 + found.1) kept.now ++ left))) }
 {
     if kept.len() < RECORD {
         return None;

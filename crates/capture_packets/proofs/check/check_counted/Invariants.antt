@@ -5,7 +5,7 @@ use Rattle.capture_packets.proofs.check.check_counted.Given as goal
 
 abbrev pub invariant-packets : goal.invariant-packets
 invariant-packets g l =
-    (given : List ℕ) × (shown : List Packet) × Between l.fn.tables l.packets l.judge given shown (g.I.Source.side l.fn.input) (g.I.Source.side l.input) (g.O.Sink.side l.fn.out) (g.O.Sink.side l.out)
+    (given : List ℕ) × (shown : List Packet) × Between l.fn.tables l.packets l.judge given shown l.lines.items (g.I.Source.side l.fn.input) (g.I.Source.side l.input) (g.O.Sink.side l.fn.out) (g.O.Sink.side l.out)
 
 abbrev pub decreases-packets : goal.decreases-packets
 decreases-packets g l = 268435456 - (l.packets.taken - length l.packets.kept)

@@ -1,23 +1,14 @@
-use Rattle.std.proofs.Common.{◌≡◌, ◌<◌, ◌∙◌, length, map, sym, arith}
+use Rattle.std.proofs.Common.{◌≡◌, ◌<◌, ◌∙◌, length, map, sym, arith, Ok, Err, Result}
 use Rattle.std.proofs.lemmas.Bool.{eqb-false}
 use Rattle.format_model.specs.Answers.{stored_packet}
-use Rattle.capture_packets.proofs.Heard.{packet_judged, packet_broken}
+use Rattle.capture_packets.proofs.Heard.{packet_result}
 use Rattle.capture_packets.proofs.check.judge_packet.Goals as goal
 
-pub returns-in-Ok : goal.returns-in-Ok
-returns-in-Ok g c = λ p shown is heard.
+pub returns : goal.returns
+returns g c = λ p shown is heard.
     let datagram = rw is at c.datagram-datagram.ensures in
     let number = c.from-number.ensures ∙ rw is at c.number.ensures in
     let seconds = c.from-seconds.ensures ∙ rw is at c.seconds.ensures in
     let none : length c.datagram-datagram.result.now ≡ 0 → ⊥ = eqb-false _ _ (sym c.is_empty.ensures ∙ c.if-is_empty.false) in
     let some : 0 < length c.datagram-datagram.result.now = omega (arith, none) in
-    packet_judged c.args.judge.now c.judge.new.self shown p c.from-number.result c.from-seconds.result c.datagram-datagram.result.now _ _ number seconds datagram some c.in-Ok.field-0 (c.in-Ok.ensures (map stored_packet shown) heard)
-
-pub returns-in-Err-Write : goal.returns-in-Err-Write
-returns-in-Err-Write g c = λ p shown is heard.
-    let datagram = rw is at c.datagram-datagram.ensures in
-    let number = c.from-number.ensures ∙ rw is at c.number.ensures in
-    let seconds = c.from-seconds.ensures ∙ rw is at c.seconds.ensures in
-    let none : length c.datagram-datagram.result.now ≡ 0 → ⊥ = eqb-false _ _ (sym c.is_empty.ensures ∙ c.if-is_empty.false) in
-    let some : 0 < length c.datagram-datagram.result.now = omega (arith, none) in
-    packet_broken c.args.judge.now c.judge.new.self shown p c.from-number.result c.from-seconds.result c.datagram-datagram.result.now _ _ number seconds datagram some (rw c.in-Err-Write.field-0-is at (c.in-Err-Write.ensures (map stored_packet shown) heard))
+    packet_result c.args.judge.now c.hear.new.self shown p c.from-number.result c.from-seconds.result c.datagram-datagram.result.now _ _ number seconds datagram some c.hear.result (c.hear.ensures (map stored_packet shown) heard)

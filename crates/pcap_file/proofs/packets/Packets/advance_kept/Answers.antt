@@ -29,4 +29,4 @@ returns-clause-steps c = λ yes side.
     let going = ap (λ r. r.over) c.self.view_is ∙ c.requires in
     rw (← c.self.view_is, c.pass.ensures)
     (kept_step c.in-Some.head c.self.inside.buffer.kept _ c.self.inside.handed c.in-Some-kept_record.found.1 found.0 found.1 c.self.inside.head c.self.inside.count c.self.inside.seconds c.in-Some-kept_record.found.0 c.self.inside.shown
-        c.self.inside.over c.self.inside.buffer _ side c.in-Some.is refl refl c.self.invariant.2 fits going (omega arith) piece)
+    c.self.inside.over c.self.inside.buffer _ side c.in-Some.is refl refl c.self.invariant.2 fits going (omega arith) piece)
