@@ -15,13 +15,9 @@ mod lines;
 mod list;
 mod memory;
 mod outside;
-#[cfg(test)]
-mod over_memory;
 mod print;
 mod quiet;
 mod steps;
-#[cfg(test)]
-mod tests;
 mod whole;
 
 pub use adapters::{ReadSource, WriteSink};

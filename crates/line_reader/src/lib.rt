@@ -3,7 +3,5 @@
 
 mod reader;
 mod search;
-#[cfg(test)]
-mod tests;
 
 pub use reader::{LineReader, LineStep};

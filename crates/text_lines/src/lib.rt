@@ -18,6 +18,3 @@ pub use saying::{Saying, SayingLines};
 pub use writing::{
     push_bytes, push_end, push_field, push_newline, push_number, push_socket, push_text,
 };
-
-#[cfg(test)]
-mod tests;

@@ -1,0 +1,9 @@
+use Rattle.std.specs.Prelude.{IfSome}
+use Rattle.slot_list.specs.Pool.{Holds}
+use Rattle.base_tests.proofs.of_slot_list.reads.Given as goal
+
+abbrev pub invariant-loop-item : goal.invariant-loop-item
+invariant-loop-item g l = record {
+  at : IfSome l.at (λ slot. Holds l.list.pairs slot);
+  last : IfSome l.last (λ slot. Holds l.list.pairs slot);
+}

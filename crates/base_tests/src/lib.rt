@@ -1,0 +1,16 @@
+//! Tests of what every crate speaks of, of lines and of buffers, by public calls. A module tests the crate
+//! whose name it has. They stand apart from it, since a crate that has tests is proved twice.
+#![tactic(auto)]
+
+#[cfg(test)]
+mod of_ao_base;
+#[cfg(test)]
+mod of_ao_base_memory;
+#[cfg(test)]
+mod of_line_reader;
+#[cfg(test)]
+mod of_slot_list;
+#[cfg(test)]
+mod of_stream_buffers;
+#[cfg(test)]
+mod of_text_lines;

@@ -1,0 +1,114 @@
+//! A pool of three places, read both ways.
+ghost use Rattle.std.specs.Prelude.{◌≡◌, ◌<◌, IfSome};
+ghost use Rattle.slot_list.specs.Pool.{Holds};
+
+use ao_base::Steps;
+use slot_list::{Slot, Slots};
+use std::alloc::Global;
+use std::marker::Brand;
+use std::process::Abort;
+use std::sync::ledger::{Blank, Ledger};
+use std::test::Fail;
+
+#[test]
+fn three_places_are_used_again_and_read_both_ways(rt: HostRuntime) -> Result<(), Fail> {
+    use_three_places::<Brand>(&rt, rt.alloc(), Blank::new(1))
+}
+
+fn use_three_places<L: Ledger>(rt: &impl Abort, alloc: Global, blank: Blank) -> Result<(), Fail>
+    requires name { blank.name ≡ L.name }
+    requires parts { blank.parts ≡ L.parts }
+    requires part { 0 < blank.parts }
+{
+    let mut steps = Steps::<L>::new(blank);
+    let mut list: Slots<u8> = Slots::new(alloc, 3)?;
+    assert!(rt; reads(&list, &[], &mut steps));
+    assert!(rt; list.insert_after(None, 1).is_ok());
+    assert!(rt; insert_behind(&mut list, 0, 3, &mut steps));
+    assert!(rt; insert_behind(&mut list, 0, 2, &mut steps));
+    assert!(rt; reads(&list, &[1, 2, 3], &mut steps));
+    assert_eq!(rt; list.insert_after(None, 4), Err(4));
+    assert!(rt; reads(&list, &[1, 2, 3], &mut steps));
+    assert_eq!(rt; remove_at(&mut list, 1, &mut steps), Some(2));
+    assert!(rt; reads(&list, &[1, 3], &mut steps));
+    assert!(rt; list.insert_after(None, 0).is_ok());
+    assert!(rt; set_at(&mut list, 2, 5, &mut steps));
+    assert!(rt; reads(&list, &[0, 1, 5], &mut steps));
+    Ok(())
+}
+
+/// The slot of an item by its place, counted from 0.
+fn slot_at<L: Ledger>(list: &Slots<u8>, place: usize, steps: &mut Steps<L>) -> Option<Slot>
+    ensures { IfSome result (λ slot. Holds list.now.pairs slot) }
+{
+    let mut at = list.first();
+    for _ in 0..place {
+        match at {
+            Some(slot) => at = list.next(slot, steps),
+            None => return None,
+        }
+    }
+    at
+}
+
+fn insert_behind<L: Ledger>(
+    list: &mut Slots<u8>,
+    place: usize,
+    item: u8,
+    steps: &mut Steps<L>,
+) -> bool {
+    match slot_at(list, place, steps) {
+        Some(slot) => list.insert_after(Some(slot), item).is_ok(),
+        None => false,
+    }
+}
+
+fn remove_at<L: Ledger>(list: &mut Slots<u8>, place: usize, steps: &mut Steps<L>) -> Option<u8> {
+    match slot_at(list, place, steps) {
+        Some(slot) => Some(list.remove(slot)),
+        None => None,
+    }
+}
+
+fn set_at<L: Ledger>(list: &mut Slots<u8>, place: usize, item: u8, steps: &mut Steps<L>) -> bool {
+    match slot_at(list, place, steps) {
+        Some(slot) => {
+            list.set(slot, item);
+            true
+        }
+        None => false,
+    }
+}
+
+/// Whether the list has these items, read from its front and from its back.
+fn reads<L: Ledger>(list: &Slots<u8>, items: &[u8], steps: &mut Steps<L>) -> bool {
+    let mut last = None;
+    let mut at = list.first();
+    for item in items {
+        let Some(slot) = at else { return false };
+        if list.get(slot) != *item {
+            return false;
+        }
+        last = at;
+        at = list.next(slot, steps);
+    }
+    at.is_none() && reads_back(list, items, last, steps)
+}
+
+fn reads_back<L: Ledger>(
+    list: &Slots<u8>,
+    items: &[u8],
+    mut at: Option<Slot>,
+    steps: &mut Steps<L>,
+) -> bool
+    requires { IfSome at (λ slot. Holds list.now.pairs slot) }
+{
+    for item in items.iter().rev() {
+        let Some(slot) = at else { return false };
+        if list.get(slot) != *item {
+            return false;
+        }
+        at = list.prev(slot, steps);
+    }
+    at.is_none()
+}

@@ -1,4 +1,0 @@
-use Rattle.stream_buffers.proofs.tests.has_runs.Given as goal
-
-abbrev pub ghosts-has_runs_by : goal.ghosts-has_runs_by
-ghosts-has_runs_by a = record { name = a.blank.name; parts = a.blank.parts }
