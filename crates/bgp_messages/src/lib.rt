@@ -5,8 +5,6 @@
 mod gathered;
 mod header;
 mod reader;
-#[cfg(test)]
-mod tests;
 
 pub use reader::{BgpReader, Fed, Found};
 pub use wire_model::BgpFault;

@@ -7,10 +7,6 @@
 
 mod blocks;
 mod contents;
-#[cfg(test)]
-mod file_tests;
-#[cfg(test)]
-mod frame_tests;
 mod frames;
 mod layers;
 mod measures;

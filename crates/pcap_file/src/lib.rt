@@ -9,8 +9,6 @@ mod head;
 mod numbers;
 mod packets;
 mod records;
-#[cfg(test)]
-mod tests;
 
 pub use packets::{PacketStep, Packets};
 pub use wire_model::HeadFault;

@@ -8,8 +8,6 @@
 mod ao;
 mod iter;
 mod options;
-#[cfg(test)]
-mod tests;
 
 pub use ao::{AoFound, AoOption};
 pub use iter::{Opt, OptionIter};

@@ -11,8 +11,6 @@ mod laws;
 mod parts;
 mod reading;
 mod sums;
-#[cfg(test)]
-mod tests;
 mod writing;
 
 pub use datagram::{Datagram, read_datagram};

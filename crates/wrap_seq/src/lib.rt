@@ -10,6 +10,3 @@ mod ring;
 
 pub use counter::Counter;
 pub use ring::{ahead, extend, in_window, next_from};
-
-#[cfg(test)]
-mod tests;

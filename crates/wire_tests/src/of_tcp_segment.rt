@@ -1,10 +1,10 @@
 ghost use Rattle.std.specs.Prelude.{◌≡◌, ◌≤◌, length};
 ghost use Rattle.tcp_segment.specs.Writing.{IsHead};
 
-use crate::{DatagramFault, Head, fix_checksum, read_datagram, write_datagram};
 use ao_base::{Address, Socket};
 use std::test::Fail;
 use tcp_options::OptionFault;
+use tcp_segment::{DatagramFault, Head, fix_checksum, read_datagram, write_datagram};
 
 /// An ACK without options and payload, over IPv4.
 const ACK: [u8; 40] = [

@@ -1,7 +1,7 @@
 ghost use Rattle.std.specs.Prelude.{◌≡◌, false};
 
-use crate::{HeadFault, PacketStep, Packets};
 use ao_base::{Bytes, MemSource, Numbers};
+use pcap_file::{HeadFault, PacketStep, Packets};
 use std::alloc::{AllocError, Global};
 use std::test::Fail;
 

@@ -1,4 +1,4 @@
-use crate::{
+use capture_reader::{
     BlockFault, BodyFault, Interface, PcapHead, PcapHeadFault, Plain, RecordFault, Resolution,
     Stamped, TimeResolution, nanoseconds, read_block, read_enhanced, read_interface, read_old,
     read_pcap_head, read_record, read_simple,

@@ -1,7 +1,7 @@
 //! Messages at the edges of their lengths, and faults in small pieces.
 ghost use Rattle.std.specs.Prelude.{◌<◌};
 
-use crate::{BgpFault, BgpReader, Found};
+use bgp_messages::{BgpFault, BgpReader, Found};
 use std::alloc::{AllocError, Global};
 use std::test::Fail;
 

@@ -1,5 +1,5 @@
-use crate::{AoFound, OptionFault, read_options};
 use std::test::Fail;
+use tcp_options::{AoFound, OptionFault, read_options};
 
 /// The fault of an area, if it has one.
 fn fault_in(area: &[u8; 4]) -> Option<OptionFault> {

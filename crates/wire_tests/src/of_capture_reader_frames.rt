@@ -1,4 +1,4 @@
-use crate::{Extent, FoundDatagram, Header, IpVersion, LinkType, Skipped, find_datagram};
+use capture_reader::{Extent, FoundDatagram, Header, IpVersion, LinkType, Skipped, find_datagram};
 use std::alloc::{AllocError, Global};
 use std::test::Fail;
 
