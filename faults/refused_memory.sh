@@ -1,5 +1,5 @@
 #!/usr/bin/env bash
-# Refuses each allocation of the read of the two-node file of reader_tests in turn, and prints
+# Refuses each allocation of the read of the two-node file of key_tests in turn, and prints
 # what `read_tables` answered to each. Status 0: every refused read answered
 # `Memory`, and the next read had both nodes.
 # Usage: faults/refused_memory.sh [LAST], where LAST is past the last allocation of the read. It needs `rt`.
@@ -15,7 +15,7 @@ copy=$(mktemp -d)
 trap 'rm -rf "$copy"' EXIT
 cp "$top/crates.txt" "$top/HANDLES" "$copy"
 tar -C "$top" --exclude=out -cf - crates | tar -C "$copy" -xf -
-cd "$copy/crates/reader_tests"
+cd "$copy/crates/key_tests"
 {
     cat <<'HELPER'
 
@@ -32,12 +32,12 @@ HELPER
         printf '\n#[test]\nfn refused_%d(rt: HostRuntime) -> Result<(), Fail> {\n' "$n"
         printf '    read_after(&rt, rt.alloc(), %d)\n}\n' $((last - n))
     done
-} >> src/keys.rt
+} >> src/of_key_table.rt
 rt try --test --fail-alloc "$last" > "$copy/said" 2>&1 || true
 awk -v last="$last" '
     / \.\.\. / { n = -1 }
-    match($0, /keys::refused_[0-9]+ /) {
-        n = substr($0, RSTART + 14, RLENGTH - 15) + 0
+    match($0, /of_key_table::refused_[0-9]+ /) {
+        n = substr($0, RSTART + 22, RLENGTH - 23) + 0
         said[n] = / ok$/ ? "Memory, and then both nodes" : ""
     }
     / \.\.\. / { next }

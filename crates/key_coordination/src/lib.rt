@@ -5,6 +5,3 @@
 mod choice;
 
 pub use choice::{Choice, Sending};
-
-#[cfg(test)]
-mod tests;

@@ -11,6 +11,3 @@ mod way;
 pub use judgement::lint;
 pub use key_model::LintAnswer;
 pub use premise::aligned_carries_through;
-
-#[cfg(test)]
-mod tests;

@@ -16,6 +16,3 @@ pub use book_plans::{Differences, Finding, Margin, Role, Turn};
 pub use finding::{findings, wanted_accepting, widened};
 pub use margin::{lag_margin, lead_margin};
 pub use turns::calendar;
-
-#[cfg(test)]
-mod tests;

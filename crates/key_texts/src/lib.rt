@@ -11,6 +11,3 @@ mod linting;
 pub use judged::Judged;
 pub use keys::keys_text;
 pub use linting::lint_lines;
-
-#[cfg(test)]
-mod tests;

@@ -1,5 +1,5 @@
 //! Rows that are added and withdrawn.
-use crate::keys::{PAIR, both_tables};
+use crate::of_key_table::{PAIR, both_tables};
 use ao_base::{Address, Algorithm, Bytes};
 use key_table::{Accept, AddRefusal, Direction, Lifetime, NewRow, NoRow, Table};
 use std::alloc::Global;

@@ -1,6 +1,6 @@
 //! Judgements on two nodes with one row each.
-use crate::{LintAnswer, lint};
 use ao_base::{Address, Algorithm, Bytes, End, Pair, Socket};
+use key_lint::{LintAnswer, lint};
 use key_table::{Direction, Lifetime, NewRow, Table, Tables};
 use std::alloc::Global;
 use std::test::Fail;

@@ -1,8 +1,8 @@
 //! What is written of a key file of two nodes.
-use crate::{keys_text, lint_lines};
 use ao_base::LineKind;
 use format_model::Plan;
 use key_table::{TableFault, Tables, read_tables};
+use key_texts::{keys_text, lint_lines};
 use line_model::TextFault;
 use std::alloc::Global;
 use std::test::Fail;

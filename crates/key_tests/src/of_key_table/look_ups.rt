@@ -1,5 +1,5 @@
 //! Tables that were read, times, and gaps.
-use crate::keys::{PAIR, both_tables, tables_with_row};
+use crate::of_key_table::{PAIR, both_tables, tables_with_row};
 use ao_base::{Address, Algorithm};
 use key_table::{Accept, Direction, Lifetime, Table, Tables, first_gap, read_time};
 use std::test::Fail;

@@ -1,9 +1,9 @@
 //! Margins, findings and calendars of two nodes with one row each.
-use crate::{
+use ao_base::{Address, Algorithm, Bytes, End, Pair, Socket};
+use key_plan::{
     Finding, Margin, Role, calendar, differences, findings, lag_margin, lead_margin,
     wanted_accepting, widened,
 };
-use ao_base::{Address, Algorithm, Bytes, End, Pair, Socket};
 use key_table::{Direction, Lifetime, NewRow, Table, Tables};
 use std::alloc::Global;
 use std::test::Fail;

@@ -1,5 +1,5 @@
 //! Rows with a faulty column, and the last values that are accepted.
-use crate::keys::fault_of;
+use crate::of_key_table::fault_of;
 use key_table::{Column, TableFault};
 use std::test::Fail;
 

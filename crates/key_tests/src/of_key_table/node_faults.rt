@@ -1,5 +1,5 @@
 //! Files and nodes with a fault, and rows that overlap.
-use crate::keys::{fault_of, fault_of_longer, fault_with_row};
+use crate::of_key_table::{fault_of, fault_of_longer, fault_with_row};
 use key_table::{Column, TableFault, read_tables};
 use std::alloc::{AllocError, Global};
 use std::test::Fail;
