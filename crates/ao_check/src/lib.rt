@@ -16,6 +16,3 @@ mod screen;
 pub use association::Association;
 pub use endpoint_model::{Passed, Verdict};
 pub use laws::{fits_once_added, fits_once_withdrawn, signed_passes};
-
-#[cfg(test)]
-mod tests;

@@ -9,8 +9,6 @@ mod cache;
 mod hasher;
 mod input;
 mod key;
-#[cfg(test)]
-mod tests;
 mod way;
 
 pub use cache::KeyCache;

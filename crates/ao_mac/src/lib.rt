@@ -11,8 +11,6 @@ mod inputs;
 mod mac_bytes;
 mod macs;
 mod seals;
-#[cfg(test)]
-mod tests;
 
 pub use inputs::same_input;
 pub use mac_bytes::MacBytes;

@@ -18,6 +18,3 @@ pub use format_model::Verified;
 pub use line_model::TextFault as TextProblem;
 pub use showing::show;
 pub use verifying::vectors;
-
-#[cfg(test)]
-mod tests;

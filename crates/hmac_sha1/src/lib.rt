@@ -6,8 +6,6 @@
 
 mod hash;
 mod hmac;
-#[cfg(test)]
-mod tests;
 
 pub use hash::BlockHash;
 pub use hmac::{Hmac, HmacSha1, HmacSha256};

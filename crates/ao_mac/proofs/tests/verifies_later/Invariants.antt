@@ -1,4 +1,0 @@
-use Rattle.ao_mac.proofs.tests.verifies_later.Given as goal
-
-abbrev pub ghosts-passes : goal.ghosts-passes
-ghosts-passes a = record { name = a.blank.name; parts = a.blank.parts }

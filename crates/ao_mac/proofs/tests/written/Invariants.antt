@@ -1,4 +1,0 @@
-use Rattle.ao_mac.proofs.tests.written.Given as goal
-
-abbrev pub ghosts-sealed : goal.ghosts-sealed
-ghosts-sealed a = record { name = a.blank.name; parts = a.blank.parts }
