@@ -8,6 +8,3 @@ mod node;
 
 pub use answer::{NodeArrival, NodeRefusal};
 pub use node::Node;
-
-#[cfg(test)]
-mod tests;

@@ -3,7 +3,5 @@
 #![tactic(auto)]
 
 mod rto;
-#[cfg(test)]
-mod tests;
 
 pub use rto::Rto;

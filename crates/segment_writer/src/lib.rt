@@ -8,8 +8,6 @@
 mod head;
 mod laws;
 mod outgoing;
-#[cfg(test)]
-mod tests;
 mod write;
 
 pub use head::own_mss;

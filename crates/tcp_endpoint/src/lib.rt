@@ -28,8 +28,6 @@ mod planning;
 mod receiving;
 mod sequence;
 mod taking;
-#[cfg(test)]
-mod tests;
 mod windows;
 
 pub use arrival::Arrived;

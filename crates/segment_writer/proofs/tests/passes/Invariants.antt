@@ -1,4 +1,0 @@
-use Rattle.segment_writer.proofs.tests.passes.Given as goal
-
-abbrev pub ghosts-judged : goal.ghosts-judged
-ghosts-judged a = record { name = a.blank.name; parts = a.blank.parts }
