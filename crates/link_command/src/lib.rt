@@ -7,6 +7,3 @@ mod played;
 
 pub use link::{link_keys_report, link_report, play};
 pub use played::Played;
-
-#[cfg(test)]
-mod tests;

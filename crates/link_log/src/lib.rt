@@ -8,8 +8,6 @@ mod context;
 mod entry;
 mod kept;
 mod log;
-#[cfg(test)]
-mod tests;
 
 pub use entry::{Entrance, Entry};
 pub use log::Log;

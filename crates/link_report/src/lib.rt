@@ -6,8 +6,6 @@ mod arrival;
 mod copying;
 mod outcome;
 mod summary;
-#[cfg(test)]
-mod tests;
 
 pub use arrival::push_answer;
 pub use outcome::{Outcome, flags_word, push_details, push_outcomes, push_took};

@@ -21,8 +21,3 @@ pub use link_model::{Event, Events, RowLine};
 pub use printing::print_script;
 pub use reading::read_script;
 pub use timed::read_timed;
-
-#[cfg(test)]
-mod tests;
-#[cfg(test)]
-mod timed_tests;

@@ -16,6 +16,3 @@ mod table;
 pub use answer::Answer;
 pub use sessions::{Ended, Live};
 pub use side::Side;
-
-#[cfg(test)]
-mod tests;

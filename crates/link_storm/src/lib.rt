@@ -7,6 +7,3 @@ mod event;
 mod running;
 
 pub use running::{Stormed, storm};
-
-#[cfg(test)]
-mod tests;

@@ -20,6 +20,3 @@ pub use front::Front;
 pub use link_report::Outcome;
 pub use setup::Setup;
 pub use world::World;
-
-#[cfg(test)]
-mod tests;

@@ -11,6 +11,3 @@ mod told;
 
 pub use answer::run_over_tables;
 pub use run::run_node;
-
-#[cfg(test)]
-mod tests;

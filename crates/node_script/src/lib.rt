@@ -10,6 +10,3 @@ mod reading;
 pub use format_model::{Act, NodeEvent, NodeEvents, NodeScript};
 pub use line_model::TextFault as NodeFault;
 pub use reading::read_node;
-
-#[cfg(test)]
-mod tests;

@@ -1,7 +1,7 @@
 //! Link files with waits.
-use crate::{Event, TimedEvent, read_timed};
 use ao_base::{End, LineKind};
 use line_model::TextFault;
+use link_script::{Event, TimedEvent, read_timed};
 use std::test::Fail;
 
 const SCRIPT: &[u8] = b"aotcp-link 1

@@ -1,7 +1,7 @@
 //! Runs of nodes over a key file.
-use crate::run_over_tables;
 use ao_base::Bytes;
 use key_table::read_tables;
+use node_run::run_over_tables;
 use std::alloc::Global;
 use std::test::Fail;
 

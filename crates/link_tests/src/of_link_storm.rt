@@ -1,5 +1,5 @@
 //! A storm without a drawn event, against its text written by hand.
-use crate::storm;
+use link_storm::storm;
 use std::test::Fail;
 
 const NONE_DRAWN: &[u8] =

@@ -1,6 +1,6 @@
 //! Nodes' files, and the first fault of a faulty one.
-use crate::{NodeFault, read_node};
 use ao_base::{Address, LineKind};
+use node_script::{NodeFault, read_node};
 use std::alloc::Global;
 use std::test::Fail;
 

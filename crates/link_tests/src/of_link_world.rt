@@ -1,16 +1,16 @@
 //! Links that are stepped event by event, and what is reported of them. The texts are written by hand
 //! from the format, and the image is one that another program made.
-ghost use Rattle.std.specs.Prelude.{◌≡◌, ◌≤◌, IfOk, length, true};
+ghost use Rattle.std.specs.Prelude.{◌≡◌, ◌+◌, ◌≤◌, IfOk, OnOk, length, true};
 ghost use Rattle.std.specs.List.{AllByRecursion};
 ghost use Rattle.format_model.specs.LinkFiles.{are_two_of_a_family};
 ghost use Rattle.link_side.specs.Steps.{IsRowLine};
 ghost use Rattle.link_world.specs.Events.{CanHappen};
 ghost use Rattle.link_world.specs.Standing.{steps_taken};
 
-use crate::{Setup, World};
 use ao_base::{Address, Algorithm, Bytes, End, Socket};
 use key_table::Tables;
 use link_model::{Event, RowLine};
+use link_world::{Setup, World};
 use std::alloc::{AllocError, Global};
 use std::process::Abort;
 use std::test::Fail;
@@ -39,6 +39,22 @@ fn link(alloc: Global) -> Result<World, AllocError>
     World::new(alloc, Setup { tables, a: A, b: B })
 }
 
+/// One event of a link: a caller learns that it is counted.
+fn step(alloc: Global, world: &mut World, event: &Event) -> Result<(), AllocError>
+    requires steps { steps_taken world.old ≤ 100 }
+    requires event { CanHappen event.now }
+    ensures { OnOk result (steps_taken world.new ≡ steps_taken world.old + 1) }
+{
+    match world.step(alloc, event) {
+        Ok(_) => Ok(()),
+        Err(error) => Err(error),
+    }
+}
+
+fn report(alloc: Global, world: &World) -> Result<Bytes, AllocError> {
+    world.report(alloc)
+}
+
 /// The report after these events.
 fn reported(alloc: Global, events: &[Event]) -> Result<Bytes, AllocError>
     requires few { length events.now ≤ 100 }
@@ -46,9 +62,9 @@ fn reported(alloc: Global, events: &[Event]) -> Result<Bytes, AllocError>
 {
     let mut world = link(alloc)?;
     for event in events {
-        world.step(alloc, event)?;
+        step(alloc, &mut world, event)?;
     }
-    world.report(alloc)
+    report(alloc, &world)
 }
 
 /// What is reported of the five bytes after so many events.
@@ -118,10 +134,9 @@ segments 1 forgeries 0
 /// The report is the text expected, and so it is when it is made again.
 fn is_reported(rt: &impl Abort, alloc: Global, world: &World) -> Result<(), Fail> {
     let expected = five_bytes_after(world.outcomes().len());
-    let report = world.report(alloc)?;
-    assert_eq!(rt; report.as_slice(), expected);
-    let again = world.report(alloc)?;
-    assert_eq!(rt; again.as_slice(), expected);
+    let first = report(alloc, world)?;
+    let again = report(alloc, world)?;
+    assert!(rt; first.as_slice() == expected && again.as_slice() == expected);
     Ok(())
 }
 
@@ -129,6 +144,10 @@ const FIVE_BYTES: &[u8] = b"session a 1 isn 100 peer 200 established given 5 del
 session b 1 isn 200 peer 100 established given 0 delivered 5 open
 segments 1 forgeries 0
 ";
+
+fn has_summary(alloc: Global, world: &World, expected: &[u8]) -> Result<bool, AllocError> {
+    Ok(world.summary(alloc)?.as_slice() == expected)
+}
 
 /// Steps through these events; before and after each the report is the text expected, and at last the
 /// summary.
@@ -139,11 +158,10 @@ fn each_is_reported(rt: &impl Abort, alloc: Global, events: &[Event]) -> Result<
     let mut world = link(alloc)?;
     is_reported(rt, alloc, &world)?;
     for event in events {
-        world.step(alloc, event)?;
+        step(alloc, &mut world, event)?;
         is_reported(rt, alloc, &world)?;
     }
-    let summary = world.summary(alloc)?;
-    assert_eq!(rt; summary.as_slice(), FIVE_BYTES);
+    assert!(rt; has_summary(alloc, &world, FIVE_BYTES)?);
     Ok(())
 }
 
@@ -195,7 +213,7 @@ fn handshake_is_reported(rt: HostRuntime) -> Result<(), Fail> {
         Event::Dump(3),
     ];
     let report = reported(rt.alloc(), &events)?;
-    assert_eq!(rt; report.as_slice(), HANDSHAKE);
+    assert!(rt; report.as_slice() == HANDSHAKE);
     Ok(())
 }
 
@@ -243,6 +261,6 @@ fn rows_are_added_and_withdrawn(rt: HostRuntime) -> Result<(), Fail> {
         Event::Close(End::B),
     ];
     let report = reported(rt.alloc(), &events)?;
-    assert_eq!(rt; report.as_slice(), ROWS);
+    assert!(rt; report.as_slice() == ROWS);
     Ok(())
 }

@@ -1,8 +1,8 @@
 //! Each line that a report has.
-use crate::{Outcome, push_outcomes, push_summary};
 use ao_base::{Address, Bytes, Pair, Socket};
 use endpoint_model::{Arrival, Verdict};
 use key_table::Table;
+use link_report::{Outcome, push_outcomes, push_summary};
 use link_side::Side;
 use mac_model::Context;
 use segment_model::{DatagramFault, OptionFault};
@@ -67,55 +67,81 @@ fn answers(alloc: Global) -> Result<Vec<Outcome>, AllocError> {
     Ok(outcomes)
 }
 
-#[test]
-fn outcomes_have_their_lines(rt: HostRuntime) -> Result<(), Fail> {
-    let mut out = Vec::new(rt.alloc());
-    let outcomes = outcomes(rt.alloc())?;
-    push_outcomes(&mut out, outcomes.as_slice())?;
-    assert_eq!(rt;
-        out.as_slice(),
-        b"1 isn-used
+/// Whether these are the lines of the outcomes.
+fn are_lines(alloc: Global, outcomes: &[Outcome], lines: &[u8]) -> Result<bool, AllocError> {
+    let mut out = Vec::new(alloc);
+    push_outcomes(&mut out, outcomes)?;
+    Ok(out.as_slice() == lines)
+}
+
+const OUTCOME_LINES: &[u8] = b"1 isn-used
 2 sent 7 SA seq 4294967296 ack - len 5 key 61 next 84
 3 took 0a4869 end
 4 took -
 5 datagram ff
 6 added row 64
 7 overlap 2
-"
-            .as_slice()
-    );
+";
+
+#[test]
+fn outcomes_have_their_lines(rt: HostRuntime) -> Result<(), Fail> {
+    let outcomes = outcomes(rt.alloc())?;
+    assert!(rt; are_lines(rt.alloc(), outcomes.as_slice(), OUTCOME_LINES)?);
     Ok(())
 }
+
+const ANSWER_LINES: &[u8] = b"1 bad option short-length 4
+2 refused bad-mac
+3 too-many-runs
+";
 
 #[test]
 fn answers_have_their_lines(rt: HostRuntime) -> Result<(), Fail> {
-    let mut out = Vec::new(rt.alloc());
     let answers = answers(rt.alloc())?;
-    push_outcomes(&mut out, answers.as_slice())?;
-    assert_eq!(rt;
-        out.as_slice(),
-        b"1 bad option short-length 4\n2 refused bad-mac\n3 too-many-runs\n".as_slice()
-    );
+    assert!(rt; are_lines(rt.alloc(), answers.as_slice(), ANSWER_LINES)?);
     Ok(())
 }
 
-#[test]
-fn a_summary_tells_of_each_session(rt: HostRuntime) -> Result<(), Fail> {
-    let address = PAIR.local.address;
-    let mut busy = Side::new(rt.alloc(), PAIR, Table::empty(rt.alloc(), address));
-    let idle = Side::new(rt.alloc(), PAIR, Table::empty(rt.alloc(), address));
-    busy.start(rt.alloc(), 100, 200)?;
-    busy.fill(rt.alloc(), 5, 0)?;
-    busy.listen(rt.alloc(), 101)?;
-    let mut out = Vec::new(rt.alloc());
-    push_summary(&mut out, &busy, &idle, 3, 1)?;
-    assert_eq!(rt;
-        out.as_slice(),
-        b"session a 1 isn 100 peer 200 dropped given 5 delivered 0 open
+// Each act stands in a function without clauses, whose caller's proof has none of them before it.
+fn idle(alloc: Global) -> Side {
+    Side::new(alloc, PAIR, Table::empty(alloc, PAIR.local.address))
+}
+
+fn started(alloc: Global) -> Result<Side, AllocError> {
+    let mut side = idle(alloc);
+    side.start(alloc, 100, 200)?;
+    Ok(side)
+}
+
+fn filled(alloc: Global) -> Result<Side, AllocError> {
+    let mut side = started(alloc)?;
+    side.fill(alloc, 5, 0)?;
+    Ok(side)
+}
+
+/// An end whose session was given five bytes and is dropped, since another one listens.
+fn busy(alloc: Global) -> Result<Side, AllocError> {
+    let mut side = filled(alloc)?;
+    side.listen(alloc, 101)?;
+    Ok(side)
+}
+
+/// The summary of the two ends, three segments and a forgery.
+fn summary(alloc: Global, a: &Side, b: &Side) -> Result<Vec<u8>, AllocError> {
+    let mut out = Vec::new(alloc);
+    push_summary(&mut out, a, b, 3, 1)?;
+    Ok(out)
+}
+
+const SUMMARY: &[u8] = b"session a 1 isn 100 peer 200 dropped given 5 delivered 0 open
 session a 2 isn 101 peer - listen given 0 delivered 0 open
 segments 3 forgeries 1
-"
-            .as_slice()
-    );
+";
+
+#[test]
+fn a_summary_tells_of_each_session(rt: HostRuntime) -> Result<(), Fail> {
+    let busy = busy(rt.alloc())?;
+    let text = summary(rt.alloc(), &busy, &idle(rt.alloc()))?;
+    assert!(rt; text.as_slice() == SUMMARY);
     Ok(())
 }
