@@ -7,11 +7,7 @@ mod answering;
 mod laws;
 mod lines;
 mod reading;
-#[cfg(test)]
-mod run_tests;
 mod running;
-#[cfg(test)]
-mod tests;
 
 pub use answering::{Spoken, speak};
 pub use laws::messages_come_in_order;

@@ -13,6 +13,3 @@ mod watch;
 pub use answer::{TimedProblem, TimedReport, timed_report};
 pub use link_script::{TimedEvent, TimedEvents, TimedScript};
 pub use running::{TimedRun, run_timed};
-
-#[cfg(test)]
-mod tests;

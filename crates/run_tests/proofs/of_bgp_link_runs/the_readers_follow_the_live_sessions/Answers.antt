@@ -1,5 +1,5 @@
 use Rattle.link_command.proofs.ScriptLaws.{few_events}
-use Rattle.bgp_link.proofs.run_tests.the_readers_follow_the_live_sessions.Goals as goal
+use Rattle.run_tests.proofs.of_bgp_link_runs.the_readers_follow_the_live_sessions.Goals as goal
 
 pub run_bgp-requires-clause-few : goal.run_bgp-requires-clause-few
 run_bgp-requires-clause-few g c = few_events c.in_ok-script.script c.in_ok-script.ensures.grammar

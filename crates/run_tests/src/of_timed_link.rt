@@ -1,11 +1,12 @@
 //! Links with timers, by their reports and by the timers that they leave.
-use crate::answer::run_text;
-use crate::{TimedProblem, timed_report};
-use ao_base::{Address, Algorithm};
+use ao_base::{Address, Algorithm, Bytes};
 use key_table::Tables;
+use link_script::read_timed;
+use link_world::Setup;
 use rto_timer::Rto;
 use std::alloc::{AllocError, Global};
 use std::test::Fail;
+use timed_link::{TimedProblem, TimedRun, run_timed, timed_report};
 
 const HEAD: &str = "aotcp-link 1
 a 10.0.0.1 1000
@@ -31,14 +32,25 @@ fn text_of(alloc: Global, events: &str) -> Result<Vec<u8>, AllocError> {
     Ok(text)
 }
 
+/// The report of the events, unless their plain run has too many; then `a` and `b` are the timers.
+fn run(alloc: Global, events: &str, a: &mut Rto, b: &mut Rto) -> Result<Option<Bytes>, Fail> {
+    let script = read_timed(alloc, text_of(alloc, events)?.as_slice())?;
+    let setup = Setup {
+        tables: tables(alloc)?,
+        a: script.a,
+        b: script.b,
+    };
+    match run_timed(alloc, setup, &script.events, a, b)? {
+        TimedRun::Report(report, _) => Ok(Some(report)),
+        TimedRun::TooMany => Ok(None),
+    }
+}
+
 /// The values of both timers after the events.
 fn values_after(alloc: Global, events: &str) -> Result<(u32, u32), Fail> {
     let mut a = Rto::new();
     let mut b = Rto::new();
-    let text = text_of(alloc, events)?;
-    if run_text(alloc, tables(alloc)?, text.as_slice(), &mut a, &mut b).is_err() {
-        return Ok((0, 0));
-    }
+    run(alloc, events, &mut a, &mut b)?.ok_or("too many events")?;
     Ok((a.value(), b.value()))
 }
 
@@ -123,18 +135,26 @@ deliver a 4
     Ok(())
 }
 
+const SAMPLED_AND_EXPIRED: &str = "give a 41
+send a
+deliver b 1
+send b
+clock a 2
+deliver a 2
+give a 42
+send a
+wait a 7
+";
+
 #[test]
 fn an_expiry_doubles_what_the_sample_made(rt: HostRuntime) -> Result<(), Fail> {
     let mut a = Rto::new();
     let mut b = Rto::new();
-    let mut text = text_of(rt.alloc(), SAMPLED)?;
-    text.extend_from_slice(b"give a 42\nsend a\nwait a 7\n".as_slice())?;
-    let tables = tables(rt.alloc())?;
-    let report = run_text(rt.alloc(), tables, text.as_slice(), &mut a, &mut b).ok();
+    let report = run(rt.alloc(), SAMPLED_AND_EXPIRED, &mut a, &mut b)?;
     assert!(rt; report.is_some());
     if let Some(report) = report {
         assert_eq!(rt;
-            report.text.as_slice(),
+            report.as_slice(),
             b"1 ok
 2 ok
 3 ok

@@ -1,6 +1,6 @@
 //! Messages of whole runs, over the key that both ends of a link share.
-use crate::{Spoken, run_bgp, speak};
 use ao_base::{Address, Algorithm, LineKind};
+use bgp_link::{Spoken, run_bgp, speak};
 use bgp_messages::BgpReader;
 use key_table::Tables;
 use line_model::TextFault;

@@ -1,8 +1,8 @@
 //! Messages and faults in the pieces of a stream.
 ghost use Rattle.std.specs.Prelude.{◌<◌};
 
-use crate::{Place, read_piece};
 use ao_base::End;
+use bgp_link::{Place, read_piece};
 use bgp_messages::BgpReader;
 use std::alloc::{AllocError, Global};
 use std::test::Fail;
