@@ -20,6 +20,3 @@ pub use answer::CheckLine;
 pub use checker::Checker;
 pub use stored::{LineProblem, Stored, read_line};
 pub use text::push_check_line;
-
-#[cfg(test)]
-mod tests;

@@ -7,6 +7,3 @@ mod judge;
 
 pub use check::{Halt, check_segments};
 pub use judge::{Judge, Unwritten};
-
-#[cfg(test)]
-mod tests;

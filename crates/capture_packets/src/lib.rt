@@ -6,6 +6,3 @@
 mod check;
 
 pub use check::{PacketHalt, check_packets};
-
-#[cfg(test)]
-mod tests;

@@ -1,7 +1,7 @@
 ghost use Rattle.std.specs.Prelude.{◌≤◌};
 
-use crate::{Halt, check_segments};
 use ao_base::{Address, Algorithm, Bytes, LineKind, MemSink, MemSource, Numbers};
+use capture_lines::{Halt, check_segments};
 use key_table::Tables;
 use std::alloc::{AllocError, Global};
 use std::test::Fail;

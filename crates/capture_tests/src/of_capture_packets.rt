@@ -1,8 +1,8 @@
 //! Files of packets behind raw IP and behind Ethernet, checked by two nodes with one key.
 ghost use Rattle.std.specs.Prelude.{◌≤◌};
 
-use crate::{PacketHalt, check_packets};
 use ao_base::{Address, Algorithm, Bytes, MemSink, MemSource, Numbers};
+use capture_packets::{PacketHalt, check_packets};
 use key_table::Tables;
 use pcap_file::HeadFault;
 use std::alloc::{AllocError, Global};
