@@ -1,21 +1,10 @@
-//! Runs of the top call, against texts written by hand from the formats. The datagrams are those of
-//! an independent program. Long texts stand in functions of their own, which a caller's proof doesn't
-//! unfold.
-mod bgp;
+//! Runs of the top call that are disturbed: reads in pieces, reads and writes that fail, an output that
+//! is full. Whole runs, which nothing disturbs, stand in `examples/run-..`. The datagrams are those of an
+//! independent program. Long texts stand in functions of their own, which a caller's proof doesn't unfold.
 mod check;
 mod completeness;
 mod halting;
 mod hostile;
-mod keys;
-mod link;
-mod link_keys;
-mod node;
-mod packets;
-mod rows;
-mod storm;
-mod texts;
-mod timed;
-mod window;
 
 use ao_base::{Bytes, MemSink, MemSource, Numbers, Words};
 use ao_run::run;
@@ -149,14 +138,6 @@ fn sink(alloc: Global, room: usize, fails: u64) -> Result<MemSink, AllocError> {
     MemSink::new(alloc, room, failing(alloc, fails)?)
 }
 
-/// Three pieces, one behind the other.
-fn joined(alloc: Global, front: &[u8], middle: &[u8], back: &[u8]) -> Result<Vec<u8>, AllocError> {
-    let mut whole = Vec::from_slice(alloc, front)?;
-    whole.extend_from_slice(middle)?;
-    whole.extend_from_slice(back)?;
-    Ok(whole)
-}
-
 /// Compares what a run left.
 fn compare(case: Case<'_>, status: u8, out: &[u8], err: &[u8]) -> Result<(), Fail> {
     if status != case.status {
@@ -180,9 +161,4 @@ fn expect_disturbed(alloc: Global, case: Case<'_>, how: Disturbed) -> Result<(),
     let mut err = sink(alloc, 65_536, how.err)?;
     let status = run(alloc, &words, &mut keys, &mut input, &mut out, &mut err);
     compare(case, status, out.bytes(), err.bytes())
-}
-
-/// Runs the case, and compares what it left.
-fn expect(alloc: Global, case: Case<'_>) -> Result<(), Fail> {
-    expect_disturbed(alloc, case, undisturbed())
 }

@@ -5,7 +5,7 @@ use std::alloc::Global;
 use std::test::Fail;
 
 /// Two nodes with one key.
-pub(super) fn keys() -> &'static [u8] {
+fn keys() -> &'static [u8] {
     b"[[node]]
 name = \"client\"
 address = \"10.0.0.1\"
@@ -72,17 +72,6 @@ fn said() -> &'static [u8] {
 "
 }
 
-/// Three segments of a connection, three of another one between the same sockets, and one of the first.
-fn second_connection() -> &'static [u8] {
-    b"0 4500003800004000400626be0a0000010a00000203e807d0000000640000000090020200105a00001d1000007ea73786bb128f7ecf895001\n\
-0 4500003800004000400626be0a0000020a00000107d003e8000000c80000006590120200b11300001d1000001f5d71ab36d7e281e733ed21\n\
-0 4500003900004000400626bd0a0000010a00000203e807d000000065000000c990100200839500001d100000a50224117cc8c10206a726af78\n\
-0 4500003800004000400626be0a0000010a00000203e807d0000013880000000090020200b87e00001d100000f28840d0e951bd1c1a347105\n\
-0 4500003800004000400626be0a0000020a00000107d003e800001b580000138990120200dc7f00001d1000001252f76accd56d0e7ce56510\n\
-0 4500003900004000400626bd0a0000010a00000203e807d00000138900001b5990100200e32b00001d100000df9e024be8b9f4422d73b99079\n\
-0 4500003900004000400626bd0a0000010a00000203e807d000000065000000c990100200839500001d100000a50224117cc8c10206a726af78\n"
-}
-
 /// Checks this input by those keys, disturbed so, and compares what it left.
 pub(super) fn expect_checked(
     alloc: Global,
@@ -109,29 +98,6 @@ fn the_extension_reaches_two_in_pieces_of_any_size(rt: HostRuntime) -> Result<()
         expect_checked(rt.alloc(), thirteen(), in_pieces(piece), 1, said(), b"")?;
     }
     Ok(())
-}
-
-fn said_of_two_connections() -> &'static [u8] {
-    b"1 pass row 1 number 100 checksum good
-2 pass row 1 number 200 checksum good
-3 pass row 1 number 101 checksum good
-4 pass row 1 number 5000 checksum good
-5 pass row 1 number 7000 checksum good
-6 pass row 1 number 5001 checksum good
-7 refused bad-mac checksum good
-"
-}
-
-#[test]
-fn a_second_connection_has_keys_of_its_own(rt: HostRuntime) -> Result<(), Fail> {
-    expect_checked(
-        rt.alloc(),
-        second_connection(),
-        in_pieces(100),
-        1,
-        said_of_two_connections(),
-        b"",
-    )
 }
 
 #[test]
