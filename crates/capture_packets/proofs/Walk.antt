@@ -1,17 +1,15 @@
 -- From one packet to the next, and to each end.
 use Rattle.std.proofs.Common.{◌≡◌, ◌⊎◌, inr, ℕ, ◌+◌, ◌-◌, ◌<◌, ◌≤◌, ◌==◌, if◌then◌else◌, Bool, true, false, List, [], ◌∷◌, ◌++◌, length, map, take, Option, Some, None, Result, Ok, Err, IsOk, refl, sym, ap, ◌∙◌, append_assoc, arith}
 use Rattle.std.proofs.lemmas.List.{append-nil, length-append, length-drop}
-use Rattle.std.proofs.Math.Seq.{take-append-add}
 use Rattle.std.proofs.lemmas.List.Elements.{All-append, All-from_get_or}
 use Rattle.std.specs.List.{All}
 use Rattle.ao_base.specs.Outside.{Side, Gave, Took, told}
-use Rattle.ao_base.proofs.Sides.{gave_more, gave_none, rose_after, took_and_none, took_more, took_none}
+use Rattle.ao_base.proofs.Sides.{gave_more, gave_none, rose_after, took_none}
 use Rattle.key_model.specs.Rows.{Table}
 use Rattle.wire_model.specs.declared.pcap_head.Head.{Head}
 use Rattle.wire_model.specs.declared.pcap_head.HeadFault.{HeadFault}
 use Rattle.wire_model.specs.Packets.{BadHead, BadRecord, FileFault, Packet, opened, packets_behind, packets_of}
 use Rattle.format_model.specs.Answers.{stored_packet}
-use Rattle.format_model.specs.Captures.{capture_run}
 use Rattle.pcap_file.specs.declared.packets.PacketStep.{PacketStep}
 use Rattle.pcap_file.specs.declared.packets.PacketStep.TheVariants as step
 use Rattle.pcap_file.specs.Reading.{IsByte, Reading, Steps, GoesOn, Stops as PcapStops, and_packet, header_length, in_front, packets_at, passed}

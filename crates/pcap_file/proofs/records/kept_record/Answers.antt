@@ -1,4 +1,3 @@
-use Rattle.std.proofs.Common.{arith}
 use Rattle.pcap_file.proofs.Ready.{none_over, none_part, none_short, stays_whole}
 use Rattle.pcap_file.proofs.records.kept_record.Goals as goal
 
