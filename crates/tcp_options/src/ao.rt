@@ -63,8 +63,8 @@ fn first_of(kind: u8, area: &[u8], from: u8) -> Option<Hit<'_>>
             }
             Cut::Ending => return None,
             Cut::NoMore => return None,
-            Cut::TooShort => return None,
-            Cut::TooLong => return None,
+            Cut::TooShort => unreachable!(),
+            Cut::TooLong => unreachable!(),
         }
     }
 }

@@ -95,8 +95,8 @@ impl<'a> Iterator for OptionIter<'a> {
                 Some(Opt { kind: 0, body: &[] })
             }
             Cut::NoMore => None,
-            Cut::TooShort => None,
-            Cut::TooLong => None,
+            Cut::TooShort => unreachable!(),
+            Cut::TooLong => unreachable!(),
         }
     }
 }

@@ -32,10 +32,10 @@ pub returns-in-NoMore-clause-steps : goal.returns-in-NoMore-clause-steps
 unfolding options_of
 returns-in-NoMore-clause-steps c = let e = sym c.self.view_is ∙ ap (λ (o : Options). plains (listed o)) (nothing_at 0 c.self.inside.rest.now c.in-NoMore.ensures) in (e, e)
 
-pub returns-in-TooShort-clause-steps : goal.returns-in-TooShort-clause-steps
+pub unreachable-requires : goal.unreachable-requires
 unfolding options_of
-returns-in-TooShort-clause-steps c = absurd (not_short 0 c.self.inside.rest.now c.self.invariant c.in-TooShort.ensures)
+unreachable-requires c = absurd (not_short 0 c.self.inside.rest.now c.self.invariant c.in-TooShort.ensures)
 
-pub returns-in-TooLong-clause-steps : goal.returns-in-TooLong-clause-steps
+pub unreachable-requires-in-TooLong : goal.unreachable-requires-in-TooLong
 unfolding options_of
-returns-in-TooLong-clause-steps c = absurd (not_long 0 c.self.inside.rest.now c.self.invariant c.in-TooLong.ensures)
+unreachable-requires-in-TooLong c = absurd (not_long 0 c.self.inside.rest.now c.self.invariant c.in-TooLong.ensures)
