@@ -133,7 +133,8 @@ impl Sink for MemSink {
             return Err(Failed);
         }
         let n = buf.len().min(free);
-        let _fits = self.held.extend_from_slice(&buf[..n]);
+        let extended: Result<_, _> = self.held.extend_from_slice(&buf[..n]);
+        extended.unwrap();
         Ok(n)
     }
 }
