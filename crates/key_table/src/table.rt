@@ -1,16 +1,18 @@
 //! The table of a node, and its look-ups.
 ghost use Rattle.std.specs.Prelude.{◌≡◌, ◌≤◌, ◌-◌, [], length, slice_index_or, option_map, is_some};
+ghost use Rattle.std.specs.List.{AllByRecursion};
 ghost use Rattle.key_model.specs.Rows.{Row as Entry, sendable};
 ghost use Rattle.key_model.specs.Lifetimes.{greatest_time};
 ghost use Rattle.key_model.specs.Coordination.{numbered};
 ghost use Rattle.key_model.specs.Lookups.{number_of, accept_of};
 ghost use Rattle.key_model.specs.Tables.{adding, withdrawn, row_of_new, Added, Withdrawn};
 ghost use Rattle.key_model.specs.Choices.{latest, lowest, later, send_row, next_row, named_send, has_id};
+ghost use Rattle.key_table.specs.Fitting.{FitsColumns};
 ghost use Rattle.key_table.specs.Wants.{usable, usable_as, wanted_start};
 ghost use Rattle.key_table.specs.Seen.{seen};
 
 use crate::new_row::{disable, overlapping, row_of_new};
-use crate::row::Row;
+use crate::row::{Row, see_columns};
 use crate::want::Want;
 use ao_base::{Address, Pair};
 use key_model::{Accept, AddRefusal, NewRow, NoRow};
@@ -27,13 +29,15 @@ pub struct Table {
 
 impl Model for Table {
     ghost use Rattle.std.specs.Prelude.{◌≤◌, length};
+    ghost use Rattle.std.specs.List.{AllByRecursion};
     ghost use Rattle.key_model.specs.Rows.{Table as Sheet};
+    ghost use Rattle.key_table.specs.Fitting.{FitsColumns};
 
     ghost Value = { Sheet };
 
     ghost view = { λ t. record { name = t.name.items; address = t.address; rows = t.rows.items } };
 
-    ghost invariant = { λ t. length t.rows.items ≤ 64 };
+    ghost invariant = { λ t. (length t.rows.items ≤ 64) × AllByRecursion FitsColumns t.rows.items };
 }
 
 /// A row with its number.
@@ -134,9 +138,10 @@ impl Table {
         self.rows.len() as u8
     }
 
-    /// The rows in their order, row 1 first.
+    /// The rows in their order, row 1 first; their columns fit their places.
     pub fn entries(&self) -> &[Row]
-        ensures { result.now ≡ self.now.rows }
+        ensures value { result.now ≡ self.now.rows }
+        ensures fit { AllByRecursion FitsColumns self.now.rows }
     {
         self.rows.as_slice()
     }
@@ -177,6 +182,7 @@ impl Table {
             return Err(AddRefusal::TooMany);
         }
         let row = row_of_new(alloc, row)?;
+        see_columns(&row);
         match overlapping(self.rows.as_slice(), &row) {
             Some(n) => Err(AddRefusal::Overlap(n)),
             None => {

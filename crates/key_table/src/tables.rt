@@ -11,7 +11,7 @@ ghost use Rattle.std.specs.Prelude.{slice_get};
 ghost use Rattle.key_table.specs.Lending.{LendsAt, place_of};
 
 use crate::master_key::MasterKey;
-use crate::row::{Row, is_same_address};
+use crate::row::{Row, is_same_address, see_columns};
 use crate::table::Table;
 use ao_base::{Address, Algorithm};
 use key_model::{Direction, LATEST, Lifetime};
@@ -63,6 +63,7 @@ fn table_of(alloc: Global, name: &[u8], address: Address, row: Row) -> Result<Ta
     ensures { IfOk result (λ t. t ≡ record { name = name.now; address = address; rows = row ∷ [] }) }
 {
     let mut rows = Vec::new(alloc);
+    see_columns(&row);
     rows.push(row)?;
     Ok(Table {
         name: Vec::from_slice(alloc, name)?,
