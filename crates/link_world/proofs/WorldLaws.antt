@@ -1,13 +1,19 @@
 -- A world that goes on by one event.
-use Rattle.std.proofs.Common.{◌≡◌, ◌+◌, ◌-◌, ◌≤◌, ◌<◌, ℕ, suc, List, [], ◌∷◌, ◌++◌, length, get_or, Option, Some, None, Result, Ok, Err, OnErr, refl, sym, ap, ◌∙◌, subst, arith}
+use Rattle.std.proofs.Common.{◌≡◌, ◌+◌, ◌-◌, ◌≤◌, ◌<◌, ℕ, suc, true, List, [], ◌∷◌, ◌++◌, length, get_or, Option, Some, None, Result, Ok, Err, OnErr, refl, sym, ap, ◌∙◌, subst, arith}
+use Rattle.std.specs.List.{AllByRecursion}
 use Rattle.std.specs.declared.alloc.AllocError.{AllocError}
+use Rattle.ao_base.specs.declared.address.Address.{Address}
+use Rattle.ao_base.specs.declared.address.Address.TheVariants.{V4, V6}
 use Rattle.ao_base.specs.declared.end.End.{End}
 use Rattle.ao_base.specs.declared.end.End.TheVariants.{A, B}
+use Rattle.key_model.specs.Rows.{Row}
+use Rattle.key_table.specs.Fitting.{FitsColumns}
+use Rattle.format_model.specs.LinkFiles.{are_two_of_a_family}
 use Rattle.link_model.specs.declared.event.Event.{Event}
 use Rattle.link_model.specs.Outcomes as book
 use Rattle.link_model.specs.Runs.{begins, empty, outcomes_from, run}
 use Rattle.link_model.specs.Steps.{Stepped, step}
-use Rattle.link_model.specs.Worlds.{Setup, World as Both, pair_of}
+use Rattle.link_model.specs.Worlds.{Setup, World as Both, pair_of, rows_of}
 use Rattle.link_log.specs.declared.log.Log.{Log}
 use Rattle.link_log.specs.Logs.{StandsLog}
 use Rattle.link_report.specs.declared.outcome.Outcome.{Outcome}
@@ -15,6 +21,8 @@ use Rattle.link_report.specs.Outcomes.{AreShown, Shows}
 use Rattle.link_side.specs.declared.side.Side.{Side}
 use Rattle.link_side.specs.Sides.{StandsSide}
 use Rattle.link_world.specs.declared.world.World.{World}
+use Rattle.link_laws.specs.Laws.{EventFits, OneFamily, RowFits, SetupFits}
+use Rattle.link_world.specs.Fitting.{IsPlace, SocketsFit}
 use Rattle.link_world.specs.Following.{Acts, Happens, Moves, Rests, by_event}
 use Rattle.link_world.specs.Links.{AreOfEnd, AreOfLink, StandsAt, StandsLink}
 use Rattle.link_world.specs.Standing.{StandsFor}
@@ -132,17 +140,44 @@ shown_more [] (y ∷ ys) o x h s = absurd h
 shown_more (p ∷ ps) [] o x h s = absurd h
 shown_more (p ∷ ps) (y ∷ ys) o x h s = (h.0, shown_more ps ys o x h.1 s)
 
+-- one more event fits
+pub one_more : (P : Event → Type 0) (events : List Event) (event : Event) → AllByRecursion P events → P event → AllByRecursion P (events ++ event ∷ [])
+one_more P [] event all fits = (fits, tt)
+one_more P (e ∷ events) event all fits = (all.0, one_more P events event all.1 fits)
+
+-- two places of a family
+pub one_family : (a b : Address) → are_two_of_a_family a b ≡ true → IsPlace a → IsPlace b → OneFamily a b
+one_family (V4 a) (V4 b) h x y = (x, y)
+one_family (V6 a) (V6 b) h x y = (x, y)
+one_family (V4 a) (V6 b) h x y = absurd (cc)
+one_family (V6 a) (V4 b) h x y = absurd (cc)
+
+-- rows of a table fit a link
+pub rows_fit : (rows : List Row) → AllByRecursion FitsColumns rows → AllByRecursion RowFits rows
+rows_fit [] all = tt
+rows_fit (r ∷ rs) all = (record { recv_id = all.0.recv_id; send_id = all.0.send_id; master = all.0.master }, rows_fit rs all.1)
+
+-- sockets and rows that fit are a setup that fits
+pub setup_fits : (setup : Setup) → SocketsFit setup.a setup.b → AllByRecursion RowFits (rows_of setup A) → AllByRecursion RowFits (rows_of setup B) → SetupFits setup
+setup_fits setup sockets a b = record { family = sockets.family; a_port = sockets.a_port; b_port = sockets.b_port; rows = of_end }
+  where
+    of_end : (e : End) → AllByRecursion RowFits (rows_of setup e)
+    of_end A = a
+    of_end B = b
+
 -- a world that goes on stands for one more event
 pub stepped : (old new : World) (setup : Setup) (events : List Event) (event : Event) (o : Outcome) → StandsFor old setup events
     → Moves old.a old.b new.a new.b old.log new.log (by_event event) o → new.outcomes.items ≡ old.outcomes.items ++ o ∷ []
-    → StandsFor new setup (events ++ event ∷ [])
-stepped old new setup events event o h moves items =
+    → EventFits event → StandsFor new setup (events ++ event ∷ [])
+stepped old new setup events event o h moves items fits =
     let w = run setup events in
     record {
       link = subst (λ (x : Both). StandsLink new.a new.b new.log setup x) (sym (run_more setup events event)) (moves.stands setup w h.link);
       shown = subst (λ (os : List Outcome). AreShown os (outcomes_from setup (empty setup) (events ++ event ∷ []))) (sym items)
           (subst (λ (xs : List book.Outcome). AreShown (old.outcomes.items ++ o ∷ []) xs) (sym (outcomes_more setup events event))
           (shown_more old.outcomes.items (outcomes_from setup (empty setup) events) o (step setup w event).outcome h.shown (moves.shows setup w h.link)));
+      setup_fits = h.setup_fits;
+      events_fit = one_more EventFits events event h.events_fit fits;
     }
 
 -- a world that rests stands for the same events
@@ -152,6 +187,8 @@ rested old new setup events h rests items =
     record {
       link = rests.stands setup (run setup events) h.link;
       shown = subst (λ (os : List Outcome). AreShown os (outcomes_from setup (empty setup) events)) (sym items) h.shown;
+      setup_fits = h.setup_fits;
+      events_fit = h.events_fit;
     }
 
 -- the last one is shown

@@ -1,4 +1,5 @@
 pub mod Events
+pub mod Fitting
 pub mod Following
 pub mod Fronts
 pub mod Links

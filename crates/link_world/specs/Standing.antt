@@ -1,5 +1,7 @@
 -- What a world stands for: a setup, and the events so far.
 use Rattle.std.specs.Prelude.{◌≡◌, ℕ, List, length}
+use Rattle.std.specs.List.{AllByRecursion}
+use Rattle.link_laws.specs.Laws.{EventFits, SetupFits}
 use Rattle.link_model.specs.declared.event.Event.{Event}
 use Rattle.link_model.specs.Runs.{empty, outcomes_from, run}
 use Rattle.link_model.specs.Worlds as book
@@ -21,7 +23,10 @@ steps_taken w = length w.outcomes.items
 abbrev pub segments_made : World → ℕ
 segments_made w = made_count w.log
 
--- a world stands for the run of these events: its ends, its history, and its outcomes
+-- a world stands for the run of these events: its ends, its history, and its outcomes; the setup and
+-- each event are what their types and the calls let be
 pub record StandsFor (w : World) (setup : book.Setup) (events : List Event) : Type 0 where
   pub link : StandsLink w.a w.b w.log setup (run setup events)
   pub shown : AreShown w.outcomes.items (outcomes_from setup (empty setup) events)
+  pub setup_fits : SetupFits setup
+  pub events_fit : AllByRecursion EventFits events

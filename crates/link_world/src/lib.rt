@@ -7,6 +7,7 @@
 mod acting;
 mod coming;
 mod copying;
+mod fitting;
 mod front;
 mod happening;
 mod looking;

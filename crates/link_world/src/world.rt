@@ -1,6 +1,5 @@
 //! A link between two ends.
 ghost use Rattle.std.specs.Prelude.{◌≡◌, ◌<◌, ◌≤◌, ◌+◌, ◌^◌, IfOk, List, OnOk, OnErr, true, [], ◌∷◌, ◌++◌, length};
-ghost use Rattle.std.specs.List.{AllByRecursion};
 ghost use Rattle.ao_base.specs.declared.end.End.TheVariants.{A, B};
 ghost use Rattle.format_model.specs.LinkFiles.{are_two_of_a_family};
 ghost use Rattle.link_model.specs.declared.event.Event.{Event as Happening};
@@ -8,7 +7,7 @@ ghost use Rattle.link_model.specs.Steps.{step};
 ghost use Rattle.link_model.specs.Runs.{empty, outcomes_from, run};
 ghost use Rattle.link_model.specs.Worlds.{Setup as Link};
 ghost use Rattle.link_laws.specs.Headline.{few_events};
-ghost use Rattle.link_laws.specs.Laws.{EventFits, SetupFits, TablesFit};
+ghost use Rattle.link_laws.specs.Laws.{TablesFit};
 ghost use Rattle.link_headline.specs.GetsThrough.{GetsThrough};
 ghost use Rattle.link_headline.specs.Lawful.{Lawful};
 ghost use Rattle.link_log.specs.Logs.{forgery_count, made_count};
@@ -16,6 +15,7 @@ ghost use Rattle.link_report.specs.Outcomes.{AreShown, Shows};
 ghost use Rattle.link_world.specs.Events.{CanHappen};
 ghost use Rattle.link_world.specs.Links.{AreOfLink};
 
+use crate::fitting::{see_event, see_rows, see_sockets};
 use crate::happening::happen;
 use crate::room::room_for;
 use crate::setup::{Setup, take_table};
@@ -50,8 +50,11 @@ impl World {
         ensures steps { IfOk result (λ w. steps_taken w ≡ 0) }
     {
         let Setup { mut tables, a, b } = setup;
+        see_sockets(&a, &b);
         let a_table = take_table(alloc, &mut tables, a.address);
         let b_table = take_table(alloc, &mut tables, b.address);
+        see_rows(&a_table);
+        see_rows(&b_table);
         let a_pair = Pair {
             local: a,
             remote: b,
@@ -72,10 +75,9 @@ impl World {
     /// before, a clock is set to LATEST at most, and a row that is added is one of a link file. Out of
     /// memory the world stands for what it stood for.
     ///
-    /// Where the setup and the events are what their types say, the run so far is lawful, this event
-    /// with it: what sessions took begins what their partners were given, and the other laws of every
-    /// run, at each moment and of each event. Where the first tables have no overlap and there were few
-    /// events, what is given gets through.
+    /// The run so far is lawful, this event with it: what sessions took begins what their partners were
+    /// given, and the other laws of every run, at each moment and of each event. Where the first tables
+    /// have no overlap and there were few events, what is given gets through.
     pub fn step(&mut self, alloc: Global, event: &Event) -> Result<Outcome, AllocError>
         requires steps { steps_taken self.old < 4294967295 }
         requires event { CanHappen event.now }
@@ -83,15 +85,16 @@ impl World {
             → StandsFor self.new setup (events ++ event.now ∷ [])) }
         ensures shows { IfOk result (λ told. (setup : Link) (events : List Happening) → StandsFor self.old setup events
             → Shows told (step setup (run setup events) event.now).outcome) }
-        ensures lawful { OnOk result ((setup : Link) (events : List Happening) → StandsFor self.old setup events → SetupFits setup
-            → AllByRecursion EventFits (events ++ event.now ∷ []) → Lawful setup (events ++ event.now ∷ [])) }
-        ensures gets_through { OnOk result ((setup : Link) (events : List Happening) → StandsFor self.old setup events → SetupFits setup
-            → TablesFit setup → AllByRecursion EventFits (events ++ event.now ∷ []) → length (events ++ event.now ∷ []) ≤ few_events
+        ensures lawful { OnOk result ((setup : Link) (events : List Happening) → StandsFor self.old setup events
+            → Lawful setup (events ++ event.now ∷ [])) }
+        ensures gets_through { OnOk result ((setup : Link) (events : List Happening) → StandsFor self.old setup events
+            → TablesFit setup → length (events ++ event.now ∷ []) ≤ few_events
             → GetsThrough setup (events ++ event.now ∷ [])) }
         ensures steps { OnOk result (steps_taken self.new ≡ steps_taken self.old + 1) }
         ensures same { OnErr result ((setup : Link) (events : List Happening) → StandsFor self.old setup events → StandsFor self.new setup events) }
         ensures unstepped { OnErr result (steps_taken self.new ≡ steps_taken self.old) }
     {
+        see_event(event);
         self.outcomes.reserve(1)?;
         let room = room_for(&self.log, alloc, event)?;
         let outcome = happen(&mut self.a, &mut self.b, &mut self.log, alloc, event)?;

@@ -7,7 +7,9 @@ use Rattle.link_report.specs.Outcomes.{AreShown}
 use Rattle.link_side.specs.Sides.{StandsSide}
 use Rattle.link_world.specs.Standing.{setup_of}
 use Rattle.link_world.proofs.SetupLaws.{apart}
-use Rattle.link_world.proofs.WorldLaws.{begun}
+use Rattle.std.specs.List.{AllByRecursion}
+use Rattle.link_laws.specs.Laws.{RowFits}
+use Rattle.link_world.proofs.WorldLaws.{begun, setup_fits}
 use Rattle.link_world.proofs.world.World.new.Goals as goal
 
 pub invariant_of-result : goal.invariant_of-result
@@ -43,4 +45,8 @@ returns-clause-stands c =
     record {
       link = begun setup c.new.result c.new-2.result c.new-3.result c.new.ensures.pair c.new-2.ensures.pair a_is b_is c.new-3.ensures.stands;
       shown = subst (λ (os : List Outcome). AreShown os []) (sym c.new-4.ensures.items) tt;
+      setup_fits = setup_fits setup c.see_sockets.ensures
+          (subst (AllByRecursion RowFits) c.take_table-a_table.ensures.taken c.see_rows.ensures)
+          (subst (AllByRecursion RowFits) b_rows c.see_rows-2.ensures);
+      events_fit = tt;
     }

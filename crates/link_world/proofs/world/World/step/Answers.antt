@@ -5,8 +5,9 @@ use Rattle.link_log.proofs.LogLaws.{only_ok}
 use Rattle.link_headline.proofs.LawfulRuns.{lawful}
 use Rattle.link_headline.proofs.Through.{few_through}
 use Rattle.link_report.specs.declared.outcome.Outcome.{Outcome}
+use Rattle.link_laws.specs.Laws.{EventFits}
 use Rattle.link_world.proofs.RoomLaws.{told_fits}
-use Rattle.link_world.proofs.WorldLaws.{moved_of, on_err, rested, rested_of, stepped}
+use Rattle.link_world.proofs.WorldLaws.{moved_of, on_err, one_more, rested, rested_of, stepped}
 use Rattle.link_world.proofs.world.World.step.Goals as goal
 
 pub invariant_of-self-in-Break-branch-3 : goal.invariant_of-self-in-Break-branch-3
@@ -68,7 +69,7 @@ returns-clause-stands c = λ setup events h.
     let items : c.push-pushed.new.self.items ≡ w.outcomes.items ++ o ∷ [] =
     only_ok c.push-pushed.result _ _ _ (c.push-pushed.ensures.succeeds room) c.push-pushed.ensures.items
     ∙ ap (λ (xs : List Outcome). xs ++ o ∷ []) c.reserve.ensures.items in
-    stepped w _ setup events c.args.event.now o h c.in_ok-outcome.ensures items
+    stepped w _ setup events c.args.event.now o h c.in_ok-outcome.ensures items c.see_event.ensures
 
 pub copied-told-requires : goal.copied-told-requires
 copied-told-requires c =
@@ -79,7 +80,10 @@ copied-told-requires c =
     }
 
 pub returns-clause-lawful : goal.returns-clause-lawful
-returns-clause-lawful c = λ setup events h fits all. lawful setup fits (events ++ c.args.event.now ∷ []) all
+returns-clause-lawful c = λ setup events h.
+    lawful setup h.setup_fits (events ++ c.args.event.now ∷ []) (one_more EventFits events c.args.event.now h.events_fit c.see_event.ensures)
 
 pub returns-clause-gets_through : goal.returns-clause-gets_through
-returns-clause-gets_through c = λ setup events h fits tables all few. few_through setup (events ++ c.args.event.now ∷ []) fits tables all few
+returns-clause-gets_through c = λ setup events h tables few.
+    few_through setup (events ++ c.args.event.now ∷ []) h.setup_fits tables
+    (one_more EventFits events c.args.event.now h.events_fit c.see_event.ensures) few

@@ -1,0 +1,97 @@
+//! What the types of sockets, rows and events say of their numbers, for the proofs. None of it does
+//! anything when it runs.
+ghost use Rattle.std.specs.Prelude.{◌≡◌, ◌<◌, true};
+ghost use Rattle.std.specs.List.{AllByRecursion};
+ghost use Rattle.format_model.specs.LinkFiles.{are_two_of_a_family};
+ghost use Rattle.segment_model.specs.Spelling.{AreBytes};
+ghost use Rattle.link_laws.specs.Laws.{EventFits, RowFits};
+ghost use Rattle.link_model.specs.RowLines.{row_of};
+ghost use Rattle.link_world.specs.Events.{CanHappen};
+ghost use Rattle.link_world.specs.Fitting.{IsPlace, SocketsFit};
+
+use ao_base::{Address, Socket};
+use key_table::Table;
+use link_model::{Event, RowLine};
+
+fn see_byte(byte: u8)
+    ensures { byte < 256 }
+{}
+
+fn see_port(port: u16)
+    ensures { port < 65536 }
+{}
+
+fn see_bytes(bytes: &[u8])
+    ensures { AreBytes bytes.now }
+{
+    let _length = bytes.len();
+}
+
+/// An address is as long as its family's are, and each byte is below 256.
+fn see_address(address: &Address)
+    ensures { IsPlace address.now }
+{
+    match address {
+        Address::V4(bytes) => see_bytes(bytes),
+        Address::V6(bytes) => see_bytes(bytes),
+    }
+}
+
+/// The sockets of two ends, whose addresses differ and are of one family.
+pub(crate) fn see_sockets(a: &Socket, b: &Socket)
+    requires family { are_two_of_a_family a.now.address b.now.address ≡ true }
+    ensures { SocketsFit a.now b.now }
+{
+    see_address(&a.address);
+    see_address(&b.address);
+    see_port(a.port);
+    see_port(b.port);
+}
+
+/// The columns of a table's rows fit their places.
+pub(crate) fn see_rows(table: &Table)
+    ensures { AllByRecursion RowFits table.now.rows }
+{
+    let _rows = table.entries();
+}
+
+/// Ids of a row are below 256, and its key is of bytes.
+fn see_row(row: &RowLine)
+    ensures { RowFits (row_of row.now) }
+{
+    see_byte(row.recv_id);
+    see_byte(row.send_id);
+    see_bytes(row.master.as_slice());
+}
+
+/// Initial sequence numbers are below 2^32, contents are bytes; a clock reads what can happen.
+pub(crate) fn see_event(event: &Event)
+    requires { CanHappen event.now }
+    ensures { EventFits event.now }
+{
+    match event {
+        Event::Clock(_, _) => {}
+        Event::Connect(_, isn) => {
+            let _isn = *isn;
+        }
+        Event::Listen(_, isn) => {
+            let _isn = *isn;
+        }
+        Event::Start(_, isn, peer) => {
+            let _isns = (*isn, *peer);
+        }
+        Event::Give(_, piece) => see_bytes(piece.as_slice()),
+        Event::Fill(_, _, byte) => see_byte(*byte),
+        Event::Send(_) => {}
+        Event::Resend(_) => {}
+        Event::Deliver(_, _) => {}
+        Event::Inject(_, bytes) => see_bytes(bytes.as_slice()),
+        Event::Alter(_, _, _, mask, _) => see_byte(*mask),
+        Event::Take(_, _) => {}
+        Event::Close(_) => {}
+        Event::Abort(_) => {}
+        Event::AddRow(_, row) => see_row(row),
+        Event::Withdraw(_, _) => {}
+        Event::Dump(_) => {}
+    }
+}
