@@ -107,6 +107,7 @@ pub(crate) fn accounts_for(
             &made,
             entry.with_options,
         ),
+        // What was made can be read; of an entry of other bytes the contract says nothing.
         Err(_) => false,
     }
 }

@@ -242,6 +242,7 @@ impl Log {
         match entrance {
             None => false,
             Some(entrance) => match read_datagram(bytes) {
+                // What passed can be read; of other bytes the contract says nothing.
                 Err(_) => false,
                 Ok(datagram) => !self.was_made_as(name, at, &entrance, &datagram),
             },
