@@ -17,6 +17,7 @@ fn rows_at<'a>(tables: &'a Tables, address: &Address) -> &'a [Row]
 {
     match tables.table(address) {
         Some(table) => {
+            // It tells that a table has at most 64 rows.
             let _count = table.rows();
             table.entries()
         }

@@ -90,6 +90,7 @@ impl<'a> Second<'a> {
         requires { self.now.time < 18446744073709551615 }
         ensures { OnOk result (turns.new.items ≡ turns.old.items ++ turns_from self.now.end self.now.table.now.rows self.now.pair self.now.time 1 self.now.table.now.rows) }
     {
+        // It tells that a table has at most 64 rows, so that each number fits.
         let _count = self.table.rows();
         let rows = self.table.entries();
         for (i, row) in rows.iter().enumerate() {
