@@ -13,7 +13,7 @@ use Rattle.endpoint_model.specs.declared.phase.Phase.TheVariants.{Listen, SynSen
 use Rattle.endpoint_model.specs.declared.phase.Phase.TheVariants.{Established, FinWait1, FinWait2}
 use Rattle.endpoint_model.specs.declared.phase.Phase.TheVariants.{CloseWait, TimeWait, Closed}
 
--- No number of a stream is greater than this, 2^63, and no FIN has it (own).
+-- All numbers of a stream are below this, 2^63, and a segment ends at it at the latest (own).
 abbrev pub number_limit : ℕ
 number_limit = 2 ^ 63
 
