@@ -1,5 +1,5 @@
 -- What is known of a segment whose MAC is left to judge.
-use Rattle.std.proofs.Common.{◌≡◌, ◌<◌, ◌≤◌, ℕ, ◌+◌, ◌-◌, Bool, true, false, List, length, Option, Some, None, refl, sym, ap, ◌∙◌, subst, arith, get_or}
+use Rattle.std.proofs.Common.{◌≡◌, ◌<◌, ◌≤◌, ℕ, ◌+◌, ◌-◌, Bool, true, false, List, length, Option, Some, None, refl, sym, ap, ◌∙◌, subst, arith, get_or, Ok, Err}
 use Rattle.std.specs.Prelude.{slice_get}
 use Rattle.ao_base.specs.Algorithms.{mac_length_of}
 use Rattle.segment_model.specs.Bytes.{same_bytes}
@@ -21,7 +21,7 @@ use Rattle.ao_check.specs.declared.screen.Screened.{Screened}
 use Rattle.endpoint_model.specs.declared.verdict.Passed.{Passed}
 use Rattle.endpoint_model.specs.declared.verdict.Verdict.TheVariants.{BadMac}
 use Rattle.ao_check.specs.Bonds.{Bond, key_for, Fits, keys_after, steps_of, Counted}
-use Rattle.ao_check.specs.Verdicts.{Names, Awaits, judging}
+use Rattle.ao_check.specs.Verdicts.{Names, Awaits, by_mac, judging}
 use Rattle.ao_check.proofs.KeyLaws.{AtPlace, accepted_at, same_row, got, inbound_key, outbound_key, kept_right, fits_after, counted_after}
 
 pub record Ready (rows : List Row) (a : Bond) (now : ℕ) (d : Segment) (s : Screened) : Type 0 where
@@ -68,13 +68,13 @@ tested : (ao : Ao) (x r : Row) (n number : ℕ) (d : Segment) (c key field : Lis
 tested ao x r n number d c key field b m e k h = h ∙ rw (m, ← e, k) refl
 
 pub record Judges (rows : List Row) (pair : Pair) (d : Segment) (s : Screened) (v : book.Judgement) (b : Bool) : Type 0 where
-  pub wrong : b ≡ false → v ≡ book.Refuse BadMac
-  pub right : b ≡ true → (entry : book.Finding) × (v ≡ book.Admit entry) × Names rows pair d (record { row = s.row; number = s.number; context = s.context }) entry
+  pub wrong : b ≡ false → v ≡ Err BadMac
+  pub right : b ≡ true → (entry : book.Finding) × (v ≡ Ok entry) × Names rows pair d (record { row = s.row; number = s.number; context = s.context }) entry
 
-mac_wrong : (ao : Ao) (p : book.Finding) → same_bytes ao.mac (book.mac_of p) ≡ false → book.judge_mac ao p ≡ book.Refuse BadMac
+mac_wrong : (ao : Ao) (p : book.Finding) → same_bytes ao.mac (book.mac_of p) ≡ false → by_mac ao p ≡ Err BadMac
 mac_wrong ao p e = rw e refl
 
-mac_right : (ao : Ao) (p : book.Finding) → same_bytes ao.mac (book.mac_of p) ≡ true → book.judge_mac ao p ≡ book.Admit p
+mac_right : (ao : Ao) (p : book.Finding) → same_bytes ao.mac (book.mac_of p) ≡ true → by_mac ao p ≡ Ok p
 mac_right ao p e = rw e refl
 
 pub judges : (rows : List Row) (a : Bond) (now : ℕ) (d : Segment) (s : Screened) (v : book.Judgement) (x : Row) (key : List ℕ) (b : Bool) → Awaits rows a.pair a.own a.peer now d s v

@@ -1,5 +1,5 @@
 -- The verdict, test by test.
-use Rattle.std.proofs.Common.{◌≡◌, ◌<◌, ◌≤◌, ℕ, ◌+◌, ◌-◌, ◌==◌, ◌&&◌, ◌||◌, not, Bool, true, false, List, [], ◌∷◌, length, Option, Some, None, if◌then◌else◌, refl, sym, ap, ◌∙◌, subst, arith, nat_lt, get_or}
+use Rattle.std.proofs.Common.{◌≡◌, ◌<◌, ◌≤◌, ℕ, ◌+◌, ◌-◌, ◌==◌, ◌&&◌, ◌||◌, not, Bool, true, false, List, [], ◌∷◌, length, Option, Some, None, if◌then◌else◌, refl, sym, ap, ◌∙◌, subst, arith, nat_lt, get_or, Ok, Err}
 use Rattle.std.specs.Prelude.{is_some, option_map}
 use Rattle.std.specs.List.{list_any}
 use Rattle.std.proofs.lemmas.Bool.Decides.{nat_tests}
@@ -13,7 +13,8 @@ use Rattle.key_model.specs.Lifetimes.{contains}
 use Rattle.key_model.specs.Choices.{Numbered, qualified, lowest, acceptable_as, accept_row, accepts_as, has_id}
 use Rattle.std.specs.Option.{option_or}
 use Rattle.ao_base.specs.Algorithms.{mac_length_of}
-use Rattle.endpoint_model.specs.Verdicts.{Finding, Refuse, Admit, judge, judge_ao, judge_row, judge_context, number_of, judge_number, judge_mac, found_with, mac_of}
+use Rattle.endpoint_model.specs.Verdicts.{Finding, Judgement, judge, number_of, found_with, mac_of}
+use Rattle.endpoint_model.proofs.JudgeSteps.{judge_by_steps, judge_ao, judge_row, judge_context, judge_number, judge_mac}
 use Rattle.endpoint_model.specs.declared.verdict.Verdict.TheVariants.{NoTuple, Expired, MacLength, NoContext, Range, BadMac}
 use Rattle.ao_check.proofs.KeyLaws.{accepted_at, same_row}
 use Rattle.key_model.specs.Lookups.{accept_answer, accept_of}
@@ -21,9 +22,8 @@ use Rattle.key_model.specs.declared.accept.Accept.{Accept}
 use Rattle.key_model.specs.declared.accept.Accept.TheVariants as found
 
 pub by_found : (rows : List Row) (pair : Pair) (own : ℕ) (peer expected : Option ℕ) (now : ℕ) (d : Segment) (f : AoFound) → f ≡ find_ao d.area
-    → judge rows pair own peer expected now d ≡ judge_ao rows pair now expected d (context_of d peer (Some own)) f
-unfolding judge
-by_found rows pair own peer expected now d f e = rw e refl
+    → judge rows pair (record { own_isn = own; peer_isn = peer; expected = expected }) now d ≡ judge_ao rows pair now expected d (context_of d peer (Some own)) f
+by_found rows pair own peer expected now d f e = rw e (judge_by_steps rows pair (record { own_isn = own; peer_isn = peer; expected = expected }) now d)
 
 -- ---- the row
 
@@ -71,21 +71,21 @@ pub record Accepted (rows : List Row) (pair : Pair) (id now n : ℕ) : Type 0 wh
 pub accepted : (rows : List Row) (pair : Pair) (id now n : ℕ) → found.Row n ≡ accept_of rows pair id now → Accepted rows pair id now n
 accepted rows pair id now n e = let r = row_is (has_id rows pair id) (accept_row rows pair id now) n e in record { row = r.0; is = r.1 }
 
-tuple_of : (b : Bool) → b ≡ false → (if b then Refuse Expired else Refuse NoTuple) ≡ Refuse NoTuple
+tuple_of : (b : Bool) → b ≡ false → ◌≡◌ {A = Judgement} (if b then Err Expired else Err NoTuple) (Err NoTuple)
 tuple_of b e = rw e refl
 
-expired_of : (b : Bool) → b ≡ true → (if b then Refuse Expired else Refuse NoTuple) ≡ Refuse Expired
+expired_of : (b : Bool) → b ≡ true → ◌≡◌ {A = Judgement} (if b then Err Expired else Err NoTuple) (Err Expired)
 expired_of b e = rw e refl
 
 pub no_tuple : (rows : List Row) (pair : Pair) (now : ℕ) (expected : Option ℕ) (d : Segment) (ctx : Option (List ℕ)) (ao : Ao) → found.Absent ≡ accept_of rows pair ao.key_id now
-    → judge_ao rows pair now expected d ctx (One ao) ≡ Refuse NoTuple
+    → judge_ao rows pair now expected d ctx (One ao) ≡ Err NoTuple
 no_tuple rows pair now expected d ctx ao e =
     let none = absent_is (has_id rows pair ao.key_id) (accept_row rows pair ao.key_id now) e in
     let o : accept_row rows pair ao.key_id now ≡ None = no_row pair ao.key_id now 1 rows none in
     ap (judge_row rows pair d ao expected ctx) o ∙ tuple_of (has_id rows pair ao.key_id) none
 
 pub expired : (rows : List Row) (pair : Pair) (now : ℕ) (expected : Option ℕ) (d : Segment) (ctx : Option (List ℕ)) (ao : Ao) → found.Expired ≡ accept_of rows pair ao.key_id now
-    → judge_ao rows pair now expected d ctx (One ao) ≡ Refuse Expired
+    → judge_ao rows pair now expected d ctx (One ao) ≡ Err Expired
 expired rows pair now expected d ctx ao e =
     let x = expired_is (has_id rows pair ao.key_id) (accept_row rows pair ao.key_id now) e in
     ap (judge_row rows pair d ao expected ctx) x.1 ∙ expired_of (has_id rows pair ao.key_id) x.0
@@ -114,28 +114,28 @@ measured rows pair id now n x mac b e at t =
     record { row = a.row; is = a.is; test = u; long = λ h. test_tells (length mac) (mac_length_of a.row.algorithm) (sym u ∙ h) }
 
 pub mac_length : (rows : List Row) (pair : Pair) (expected : Option ℕ) (d : Segment) (ctx : Option (List ℕ)) (ao : Ao) (o : Option Numbered) (r : Numbered) → o ≡ Some r → (length ao.mac == mac_length_of r.row.algorithm) ≡ false
-    → judge_row rows pair d ao expected ctx o ≡ Refuse MacLength
+    → judge_row rows pair d ao expected ctx o ≡ Err MacLength
 mac_length rows pair expected d ctx ao o r e t = rw (e, t) refl
 
 pub at_context : (rows : List Row) (pair : Pair) (expected : Option ℕ) (d : Segment) (ctx : Option (List ℕ)) (ao : Ao) (o : Option Numbered) (r : Numbered) → o ≡ Some r → length ao.mac ≡ mac_length_of r.row.algorithm
     → judge_row rows pair d ao expected ctx o ≡ judge_context r d ao expected ctx
 at_context rows pair expected d ctx ao o r e l = let t : (length ao.mac == mac_length_of r.row.algorithm) ≡ true = test_holds (length ao.mac) (mac_length_of r.row.algorithm) l in rw (e, t) refl
 
-pub no_context : (expected : Option ℕ) (d : Segment) (ctx : Option (List ℕ)) (ao : Ao) (r : Numbered) → ctx ≡ None → judge_context r d ao expected ctx ≡ Refuse NoContext
+pub no_context : (expected : Option ℕ) (d : Segment) (ctx : Option (List ℕ)) (ao : Ao) (r : Numbered) → ctx ≡ None → judge_context r d ao expected ctx ≡ Err NoContext
 no_context expected d ctx ao r e = rw e refl
 
 pub silent : (expected : Option ℕ) (d : Segment) (ctx : Option (List ℕ)) (c : List ℕ) (ao : Ao) (r : Numbered) → ctx ≡ Some c → (not (has SYN d) && not (is_some expected)) ≡ true
-    → judge_context r d ao expected ctx ≡ Refuse NoContext
+    → judge_context r d ao expected ctx ≡ Err NoContext
 silent expected d ctx c ao r e t = rw (e, t) refl
 
 pub at_number : (expected : Option ℕ) (d : Segment) (ctx : Option (List ℕ)) (c : List ℕ) (ao : Ao) (r : Numbered) → ctx ≡ Some c → (not (has SYN d) && not (is_some expected)) ≡ false
     → judge_context r d ao expected ctx ≡ judge_number r d ao c (number_of d expected)
 at_number expected d ctx c ao r e t = rw (e, t) refl
 
-pub no_number : (d : Segment) (c : List ℕ) (ao : Ao) (r : Numbered) (o : Option ℕ) → None ≡ o → judge_number r d ao c o ≡ Refuse Range
+pub no_number : (d : Segment) (c : List ℕ) (ao : Ao) (r : Numbered) (o : Option ℕ) → None ≡ o → judge_number r d ao c o ≡ Err Range
 no_number d c ao r o e = ap (judge_number r d ao c) (sym e)
 
-pub late : (d : Segment) (c : List ℕ) (ao : Ao) (r : Numbered) (o : Option ℕ) (n : ℕ) → Some n ≡ o → nat_lt 9223372036854775808 (n + segment_length d) ≡ true → judge_number r d ao c o ≡ Refuse Range
+pub late : (d : Segment) (c : List ℕ) (ao : Ao) (r : Numbered) (o : Option ℕ) (n : ℕ) → Some n ≡ o → nat_lt 9223372036854775808 (n + segment_length d) ≡ true → judge_number r d ao c o ≡ Err Range
 late d c ao r o n e t = ap (judge_number r d ao c) (sym e) ∙ rw t refl
 
 pub at_mac : (d : Segment) (c : List ℕ) (ao : Ao) (r : Numbered) (o : Option ℕ) (n : ℕ) → Some n ≡ o → nat_lt 9223372036854775808 (n + segment_length d) ≡ false
@@ -146,26 +146,26 @@ at_mac d c ao r o n e t = ap (judge_number r d ao c) (sym e) ∙ rw t refl
 
 -- only context, number and MAC are left to judge
 pub to_context : (rows : List Row) (pair : Pair) (own : ℕ) (peer expected : Option ℕ) (now : ℕ) (d : Segment) (ao : Ao) (r : Numbered) → One ao ≡ find_ao d.area
-    → accept_row rows pair ao.key_id now ≡ Some r → length ao.mac ≡ mac_length_of r.row.algorithm → judge rows pair own peer expected now d ≡ judge_context r d ao expected (context_of d peer (Some own))
+    → accept_row rows pair ao.key_id now ≡ Some r → length ao.mac ≡ mac_length_of r.row.algorithm → judge rows pair (record { own_isn = own; peer_isn = peer; expected = expected }) now d ≡ judge_context r d ao expected (context_of d peer (Some own))
 to_context rows pair own peer expected now d ao r f a l =
     by_found rows pair own peer expected now d (One ao) f ∙ at_context rows pair expected d (context_of d peer (Some own)) ao (accept_row rows pair ao.key_id now) r a l
 
 -- only number and MAC are left to judge
 pub to_number : (rows : List Row) (pair : Pair) (own : ℕ) (peer expected : Option ℕ) (now : ℕ) (d : Segment) (ao : Ao) (r : Numbered) (c : List ℕ) → One ao ≡ find_ao d.area
     → accept_row rows pair ao.key_id now ≡ Some r → length ao.mac ≡ mac_length_of r.row.algorithm → context_of d peer (Some own) ≡ Some c → (not (has SYN d) && not (is_some expected)) ≡ false
-    → judge rows pair own peer expected now d ≡ judge_number r d ao c (number_of d expected)
+    → judge rows pair (record { own_isn = own; peer_isn = peer; expected = expected }) now d ≡ judge_number r d ao c (number_of d expected)
 to_number rows pair own peer expected now d ao r c f a l e t =
     to_context rows pair own peer expected now d ao r f a l ∙ at_number expected d (context_of d peer (Some own)) c ao r e t
 
 -- only the MAC is left to judge
 pub to_mac : (rows : List Row) (pair : Pair) (own : ℕ) (peer expected : Option ℕ) (now : ℕ) (d : Segment) (ao : Ao) (r : Numbered) (c : List ℕ) (n : ℕ) → One ao ≡ find_ao d.area
     → accept_row rows pair ao.key_id now ≡ Some r → length ao.mac ≡ mac_length_of r.row.algorithm → context_of d peer (Some own) ≡ Some c → (not (has SYN d) && not (is_some expected)) ≡ false
-    → Some n ≡ number_of d expected → nat_lt 9223372036854775808 (n + segment_length d) ≡ false → judge rows pair own peer expected now d ≡ judge_mac ao (found_with r d ao c n)
+    → Some n ≡ number_of d expected → nat_lt 9223372036854775808 (n + segment_length d) ≡ false → judge rows pair (record { own_isn = own; peer_isn = peer; expected = expected }) now d ≡ judge_mac ao (found_with r d ao c n)
 to_mac rows pair own peer expected now d ao r c n f a l e t m u =
     to_number rows pair own peer expected now d ao r c f a l e t ∙ at_mac d c ao r (number_of d expected) n m u
 
-pub wrong : (ao : Ao) (p : Finding) → same_bytes ao.mac (mac_of p) ≡ false → judge_mac ao p ≡ Refuse BadMac
+pub wrong : (ao : Ao) (p : Finding) → same_bytes ao.mac (mac_of p) ≡ false → judge_mac ao p ≡ Err BadMac
 wrong ao p e = rw e refl
 
-pub right : (ao : Ao) (p : Finding) → same_bytes ao.mac (mac_of p) ≡ true → judge_mac ao p ≡ Admit p
+pub right : (ao : Ao) (p : Finding) → same_bytes ao.mac (mac_of p) ≡ true → judge_mac ao p ≡ Ok p
 right ao p e = rw e refl

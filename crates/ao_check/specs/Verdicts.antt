@@ -1,7 +1,8 @@
 -- What the check answers, as the verdict of the definitions.
-use Rattle.std.specs.Prelude.{◌≡◌, ◌≤◌, ◌+◌, ◌-◌, ◌^◌, ℕ, Bool, true, false, slice_get, List, length, Option, Some, None, Result, Ok, Err, ⊤}
+use Rattle.std.specs.Prelude.{◌≡◌, ◌≤◌, ◌+◌, ◌-◌, ◌^◌, ℕ, Bool, true, false, slice_get, List, length, Option, Some, None, Result, Ok, Err, ⊤, if◌then◌else◌}
 use Rattle.ao_base.specs.declared.address.Pair.{Pair}
 use Rattle.ao_base.specs.Algorithms.{mac_length_of}
+use Rattle.segment_model.specs.Bytes.{same_bytes}
 use Rattle.segment_model.specs.Options.{Ao, AoFound, Absent, One, Two, WithMd5 as FoundMd5, find_ao}
 use Rattle.segment_model.specs.Segments.{Segment, segment_length}
 use Rattle.mac_model.specs.Contexts.{context_of}
@@ -28,8 +29,8 @@ pub record Names (rows : List Row) (pair : Pair) (d : Segment) (p : Passed) (ent
 
 -- the answer is that judgement: a pass names what was found, and a refusal is that one
 abbrev pub Tells : List Row → Pair → Segment → Verdict → book.Judgement → Type 0
-Tells rows pair d (verdicts.Pass p) j = (entry : book.Finding) × (j ≡ book.Admit entry) × Names rows pair d p entry
-Tells rows pair d why j = j ≡ book.Refuse why
+Tells rows pair d (verdicts.Pass p) j = (entry : book.Finding) × (j ≡ Ok entry) × Names rows pair d p entry
+Tells rows pair d why j = j ≡ Err why
 
 -- the number expected is at most 2^63, and there is none while the peer's initial sequence number is not known
 abbrev pub IsExpected : Option ℕ → Option ℕ → Type 0
@@ -50,6 +51,10 @@ judging rows pair now Two = None
 judging rows pair now FoundMd5 = None
 judging rows pair now (One ao) = number_of (accept_row rows pair ao.key_id now)
 
+-- The judgement of a segment of which only the MAC is left to judge (RFC 5925, section 7.5).
+abbrev pub by_mac : Ao → book.Finding → book.Judgement
+by_mac ao p = if same_bytes ao.mac (book.mac_of p) then Ok p else Err verdicts.BadMac
+
 -- only the MAC is left to judge: this row, number, context and MAC
 pub record Awaits (rows : List Row) (pair : Pair) (own : ℕ) (peer : Option ℕ) (now : ℕ) (d : Segment) (s : Screened) (v : book.Judgement) : Type 0 where
   pub ao : Ao
@@ -62,7 +67,7 @@ pub record Awaits (rows : List Row) (pair : Pair) (own : ℕ) (peer : Option ℕ
   pub source : s.context.source ≡ d.source
   pub destination : s.context.destination ≡ d.destination
   pub end : s.number + segment_length d ≤ 2 ^ 63
-  pub judgement : v ≡ book.judge_mac ao (book.found_with (record { number = s.row; row = row }) d ao (bytes_of s.context) s.number)
+  pub judgement : v ≡ by_mac ao (book.found_with (record { number = s.row; row = row }) d ao (bytes_of s.context) s.number)
 
 -- the first refusal before that of the MAC, or what the MAC is judged by
 abbrev pub Screens : List Row → Pair → ℕ → Option ℕ → ℕ → Segment → Result Screened Verdict → book.Judgement → Type 0

@@ -104,7 +104,7 @@ impl Association {
         requires source { datagram.now.source ≡ self.old.pair.remote }
         requires destination { datagram.now.destination ≡ self.old.pair.local }
         requires expected { IsExpected self.old.peer expected }
-        ensures verdict { Tells table.now.rows self.old.pair datagram.now result (judge table.now.rows self.old.pair self.old.own self.old.peer expected now datagram.now) }
+        ensures verdict { Tells table.now.rows self.old.pair datagram.now result (judge table.now.rows self.old.pair (record { own_isn = self.old.own; peer_isn = self.old.peer; expected = expected }) now datagram.now) }
         ensures same { self.new ≡ record self.old { keys = self.new.keys } }
         ensures fits { Fits table.now.rows self.new }
         ensures counted { Counted self.old.keys self.new.keys (judging table.now.rows self.old.pair now (find_ao datagram.now.area)) (is_judged result) Inbound (has SYN datagram.now) steps.old steps.new }

@@ -57,7 +57,7 @@ pub(crate) fn screen_segment<'a>(
     datagram: &Datagram<'a>,
 ) -> Result<Screened<'a>, Verdict>
     requires { IsBelow expected }
-    ensures { Screens table.now.rows pair.now own_isn peer_isn now datagram.now result (judge table.now.rows pair.now own_isn peer_isn expected now datagram.now) }
+    ensures { Screens table.now.rows pair.now own_isn peer_isn now datagram.now result (judge table.now.rows pair.now (record { own_isn = own_isn; peer_isn = peer_isn; expected = expected }) now datagram.now) }
 {
     let ao = match found(datagram) {
         AoFound::Absent => return Err(Verdict::NoAo),

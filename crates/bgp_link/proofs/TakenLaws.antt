@@ -1,5 +1,5 @@
 -- What an event does to the bytes that sessions delivered.
-use Rattle.std.proofs.Common.{◌≡◌, ◌⊎◌, inl, inr, ℕ, ◌+◌, ◌-◌, ◌%◌, ◌==◌, Bool, true, false, not, ◌&&◌, ◌||◌, List, [], ◌∷◌, ◌++◌, length, replicate, Option, Some, None, if◌then◌else◌, refl, sym, ap, ◌∙◌, nat_lt, nat_le}
+use Rattle.std.proofs.Common.{◌≡◌, ◌⊎◌, inl, inr, ℕ, ◌+◌, ◌-◌, ◌%◌, ◌==◌, Bool, true, false, not, ◌&&◌, ◌||◌, List, [], ◌∷◌, ◌++◌, length, replicate, Option, Some, None, if◌then◌else◌, refl, sym, ap, ◌∙◌, nat_lt, nat_le, Ok, Err}
 use Rattle.std.specs.Prelude.{⊤, is_some}
 use Rattle.ao_base.specs.declared.address.Pair.{Pair}
 use Rattle.ao_base.specs.declared.end.End.{End}
@@ -15,7 +15,7 @@ use Rattle.endpoint_model.specs.declared.phase.Phase.{Phase}
 use Rattle.endpoint_model.specs.declared.phase.Phase.TheVariants.{Listen, SynSent, SynReceived, Established, TimeWait, Closed}
 use Rattle.endpoint_model.specs.declared.arrival.Arrival.TheVariants.{Foreign, Checksum, Closed as AtClosed, Unexpected, Window, Challenge, NoAck, BadAck}
 use Rattle.endpoint_model.specs.States.{EndState, window, room, gives, give, taking, take_out, at_end, is_closed, hears, close_in, close, abort, is_due, tick_in, connected, listening, started}
-use Rattle.endpoint_model.specs.Verdicts.{Judgement, Refuse, Admit}
+use Rattle.endpoint_model.specs.Verdicts.{Judgement}
 use Rattle.endpoint_model.specs.Arrivals.{Moved, Arrived, answered, owing, above, fits_window, rested, finish, pass_fin, fin_of, records_fin, heard_runs, hear_data, acked_fin, windowed, acked, go_on, acknowledged, reset, ordinary, syn_alone, syn_ack_alone, in_listen, in_syn_sent, after_check, unmoved, heard, arrive_judged, judged_by, from_peer, arrive_read, arrive}
 use Rattle.endpoint_model.specs.Emissions.{Draft, Emitted, Quiet, NoKey, Emits, is_silent, is_syn_sent, is_syn_received, unsent, rst_draft, syn_draft, syn_ack_draft, data_draft, fin_draft, fin_again_draft, ack_draft, sends_data, sends_fin, fitting, to_emit, resends, unacknowledged, is_blocked, probe, to_resend, most_bytes, blank, seal_known, keyed, emitted, emit, resend}
 use Rattle.segment_model.specs.Bytes.{ring}
@@ -216,8 +216,8 @@ abbrev ArrivedSame : EndState → Arrived → Type 0
 ArrivedSame s r = r.state.taken ≡ s.taken
 
 judged_same : (rows : List Row) (pair : Pair) (now : ℕ) (s : EndState) (d : Segment) (v : Judgement) → ArrivedSame s (arrive_judged rows pair now s d v)
-judged_same rows pair now s d (Refuse why) = refl
-judged_same rows pair now s d (Admit p) = after_check_same pair s (heard rows pair now s p.rnext_key_id) d p.number now s.phase refl
+judged_same rows pair now s d (Err why) = refl
+judged_same rows pair now s d (Ok p) = after_check_same pair s (heard rows pair now s p.rnext_key_id) d p.number now s.phase refl
 
 read_same : (rows : List Row) (pair : Pair) (now : ℕ) (s : EndState) (r : Reading) → ArrivedSame s (arrive_read rows pair now s r)
 read_same rows pair now s (Unread fault) = refl

@@ -1,5 +1,5 @@
 -- What a checker answers to a segment with SYN, and what it knows afterwards, is what the definitions say.
-use Rattle.std.proofs.Common.{◌≡◌, ◌+◌, ◌<◌, ◌^◌, ℕ, Bool, true, false, not, List, length, Option, Some, None, refl, sym, ap, ◌∙◌, subst, arith}
+use Rattle.std.proofs.Common.{◌≡◌, ◌+◌, ◌<◌, ◌^◌, ℕ, Bool, true, false, not, List, length, Option, Some, None, refl, sym, ap, ◌∙◌, subst, arith, Ok, Err}
 use Rattle.std.proofs.lemmas.Bool.Decides.{nat_tests}
 use Rattle.std.specs.Prelude.{◌==◌, ◌&&◌, nat_le, if◌then◌else◌}
 use Rattle.ao_base.specs.declared.address.Pair.{Pair}
@@ -9,7 +9,7 @@ use Rattle.segment_model.specs.Sockets.{same_socket}
 use Rattle.segment_model.proofs.Fields.{some_is}
 use Rattle.key_model.specs.Rows.{Row, Table}
 use Rattle.endpoint_model.specs.declared.verdict.Verdict.{Verdict}
-use Rattle.endpoint_model.specs.Verdicts.{Judgement, Admit, Refuse, judge}
+use Rattle.endpoint_model.specs.Verdicts.{Judgement, judge}
 use Rattle.format_model.specs.Captures.{Connection, Heard, acknowledged_isn, connection_between, fixed, hear_judged, hear_later, hear_syn_ack, judge_stored, most_connections, pair_at, same_isns, with_connection}
 use Rattle.ao_kdf.specs.declared.way.Way.TheVariants.{Inbound}
 use Rattle.ao_kdf.proofs.CacheLaws.{kept-empty}
@@ -196,40 +196,40 @@ second_of false c after l x y z e f h = absurd (cc)
 
 heard_refused : (after : List (Ends × Flows)) (held : List Connection) (d : Segment) (k : Option Connection) (v : Verdict) (j : Judgement) → StandsFor after held → is_pass v ≡ false → IsJudged v j
     → Hears after (line.Verdict v (good d)) (hear_judged held d k j)
-heard_refused after held d k v (Refuse why) S no_pass is = record { says = (Refuse why, refl, is); stands = S }
-heard_refused after held d k v (Admit p) S no_pass is = absurd (not_admitted v p is no_pass)
+heard_refused after held d k v (Err why) S no_pass is = record { says = (Err why, refl, is); stands = S }
+heard_refused after held d k v (Ok p) S no_pass is = absurd (not_admitted v p is no_pass)
 
 heard_alone : (after : List (Ends × Flows)) (held : List Connection) (d : Segment) (k : Option Connection) (v : Verdict) (j : Judgement) → StandsFor after held → has SYN d ≡ true → has ACK d ≡ false
     → IsJudged v j → Hears after (line.Verdict v (good d)) (hear_judged held d k j)
-heard_alone after held d k v (Refuse why) S syn ack is = record { says = (Refuse why, refl, is); stands = S }
-heard_alone after held d k v (Admit p) S syn ack is =
-    first_of (has SYN d) (has ACK d) after (line.Verdict v (good d)) (hear_later held d p.number (Admit p) k) (hear_syn_ack held d (Admit p) k) _ syn ack
-    (record { says = (Admit p, refl, is); stands = S })
+heard_alone after held d k v (Err why) S syn ack is = record { says = (Err why, refl, is); stands = S }
+heard_alone after held d k v (Ok p) S syn ack is =
+    first_of (has SYN d) (has ACK d) after (line.Verdict v (good d)) (hear_later held d p.number (Ok p) k) (hear_syn_ack held d (Ok p) k) _ syn ack
+    (record { says = (Ok p, refl, is); stands = S })
 
 heard_fixed : (after : List (Ends × Flows)) (held : List Connection) (d : Segment) (k : Option Connection) (v : Verdict) (j : Judgement) (l : CheckLine) → has SYN d ≡ true → has ACK d ≡ true
     → is_pass v ≡ true → IsJudged v j → Hears after l (hear_syn_ack held d j k) → Hears after l (hear_judged held d k j)
-heard_fixed after held d k v (Refuse why) l syn ack pass is h = absurd (not_refused v why is pass)
-heard_fixed after held d k v (Admit p) l syn ack pass is h =
-    second_of (has SYN d) (has ACK d) after l (hear_later held d p.number (Admit p) k) (hear_syn_ack held d (Admit p) k) _ syn ack h
+heard_fixed after held d k v (Err why) l syn ack pass is h = absurd (not_refused v why is pass)
+heard_fixed after held d k v (Ok p) l syn ack pass is h =
+    second_of (has SYN d) (has ACK d) after l (hear_later held d p.number (Ok p) k) (hear_syn_ack held d (Ok p) k) _ syn ack h
 
 -- a segment with SYN is judged by itself
 judged_first : (rows : List Row) (now own : ℕ) (d : Segment) (k : Option Connection) → has SYN d ≡ true → own ≡ acknowledged_isn d
-    → judge rows (pair_at d) own None None now d ≡ judge_stored rows (pair_at d) now d k
+    → judge rows (pair_at d) (record { own_isn = own; peer_isn = None; expected = None }) now d ≡ judge_stored rows (pair_at d) now d k
 judged_first rows now own d k syn e = rw (e, syn) refl
 
 pub first_refused : (rows : List Row) (after : List (Ends × Flows)) (held : List Connection) (now own : ℕ) (d : Segment) (v : Verdict) → StandsFor after held → has SYN d ≡ true → own ≡ acknowledged_isn d
     → Alone rows now own d v → is_pass v ≡ false → Hears after (line.Verdict v (good d)) (hear_judged held d (connection_between d held) (judge_stored rows (pair_at d) now d (connection_between d held)))
 first_refused rows after held now own d v S syn e A no_pass =
-    let is = told_judged rows (pair_at d) d v (judge rows (pair_at d) own None None now d) A.tells in
+    let is = told_judged rows (pair_at d) d v (judge rows (pair_at d) (record { own_isn = own; peer_isn = None; expected = None }) now d) A.tells in
     subst (λ (j : Judgement). Hears after (line.Verdict v (good d)) (hear_judged held d (connection_between d held) j)) (judged_first rows now own d (connection_between d held) syn e)
-    (heard_refused after held d (connection_between d held) v (judge rows (pair_at d) own None None now d) S no_pass is)
+    (heard_refused after held d (connection_between d held) v (judge rows (pair_at d) (record { own_isn = own; peer_isn = None; expected = None }) now d) S no_pass is)
 
 pub first_alone : (rows : List Row) (after : List (Ends × Flows)) (held : List Connection) (now own : ℕ) (d : Segment) (v : Verdict) → StandsFor after held → has SYN d ≡ true → own ≡ acknowledged_isn d
     → Alone rows now own d v → has ACK d ≡ false → Hears after (line.Verdict v (good d)) (hear_judged held d (connection_between d held) (judge_stored rows (pair_at d) now d (connection_between d held)))
 first_alone rows after held now own d v S syn e A ack =
-    let is = told_judged rows (pair_at d) d v (judge rows (pair_at d) own None None now d) A.tells in
+    let is = told_judged rows (pair_at d) d v (judge rows (pair_at d) (record { own_isn = own; peer_isn = None; expected = None }) now d) A.tells in
     subst (λ (j : Judgement). Hears after (line.Verdict v (good d)) (hear_judged held d (connection_between d held) j)) (judged_first rows now own d (connection_between d held) syn e)
-    (heard_alone after held d (connection_between d held) v (judge rows (pair_at d) own None None now d) S syn ack is)
+    (heard_alone after held d (connection_between d held) v (judge rows (pair_at d) (record { own_isn = own; peer_isn = None; expected = None }) now d) S syn ack is)
 
 -- a SYN with ACK passed, and what is to be done with its connection was done
 pub record First (tables : List Table) (rows : List Row) (before after : List (Ends × Flows)) (now : ℕ) (d : Segment) (v : Verdict) (result : Bool) : Type 0 where
@@ -245,7 +245,7 @@ first tables rows before after now own d v result T ne syn ack e A pass small D 
     record {
       heard = λ held S.
           let o = found before (key_at d) in
-          let j = judge rows (pair_at d) own None None now d in
+          let j = judge rows (pair_at d) (record { own_isn = own; peer_isn = None; expected = None }) now d in
           let is = told_judged rows (pair_at d) d v j A.tells in
           let done = hears_fixed tables before after held d v j o result S ne refl is D in
           let known_so = subst (λ (k : Option Connection). Hears after (fixed_line result v (good d)) (hear_syn_ack held d j k)) (sym (met before held d o S ne refl)) done in

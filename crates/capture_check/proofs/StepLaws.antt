@@ -1,5 +1,5 @@
 -- What a checker answers to a segment, and what it knows afterwards, is what the definitions say.
-use Rattle.std.proofs.Common.{◌≡◌, ◌+◌, ℕ, Bool, true, false, not, List, Option, Some, None, refl, sym, ap, ◌∙◌, subst, arith}
+use Rattle.std.proofs.Common.{◌≡◌, ◌+◌, ℕ, Bool, true, false, not, List, Option, Some, None, refl, sym, ap, ◌∙◌, subst, arith, Ok, Err}
 use Rattle.std.specs.Prelude.{max, if◌then◌else◌}
 use Rattle.ao_base.specs.declared.address.Pair.{Pair}
 use Rattle.ao_base.specs.declared.address.Socket.{Socket}
@@ -10,7 +10,7 @@ use Rattle.std.specs.List.{find}
 use Rattle.key_model.specs.Rows.{Row, Table, has_address}
 use Rattle.endpoint_model.specs.declared.verdict.Verdict.{Verdict}
 use Rattle.endpoint_model.specs.declared.verdict.Verdict.TheVariants.{Pass, NoAo, TwoAo, WithMd5, NoTuple, Expired, MacLength, NoContext, Range, BadMac}
-use Rattle.endpoint_model.specs.Verdicts.{Finding, Judgement, Admit, Refuse, judge}
+use Rattle.endpoint_model.specs.Verdicts.{Finding, Judgement, judge}
 use Rattle.format_model.specs.Captures.{Connection, Heard, connection_between, hear_judged, hear_later, judge_stored, pair_at, with_connection}
 use Rattle.ao_kdf.specs.declared.way.Way.TheVariants.{Inbound}
 use Rattle.ao_check.specs.Bonds.{Bond}
@@ -47,7 +47,7 @@ told_judged rows pair d Range j e = e
 told_judged rows pair d BadMac j e = e
 
 -- a verdict that isn't a pass is told of no segment that passes
-pub not_admitted : (v : Verdict) (p : Finding) → IsJudged v (Admit p) → is_pass v ≡ false → ⊥
+pub not_admitted : (v : Verdict) (p : Finding) → IsJudged v (Ok p) → is_pass v ≡ false → ⊥
 not_admitted (Pass x) p e f = absurd (cc)
 not_admitted NoAo p e f = absurd (cc)
 not_admitted TwoAo p e f = absurd (cc)
@@ -59,7 +59,7 @@ not_admitted NoContext p e f = absurd (cc)
 not_admitted Range p e f = absurd (cc)
 not_admitted BadMac p e f = absurd (cc)
 
-pub not_refused : (v why : Verdict) → IsJudged v (Refuse why) → is_pass v ≡ true → ⊥
+pub not_refused : (v why : Verdict) → IsJudged v (Err why) → is_pass v ≡ true → ⊥
 not_refused (Pass x) why e f = let is = e.1 in absurd (cc)
 not_refused NoAo why e f = absurd (cc)
 not_refused TwoAo why e f = absurd (cc)
@@ -79,7 +79,7 @@ pub met : (es : List (Ends × Flows)) (held : List Connection) (d : Segment) (o 
 met es held d o S ne f = sym (S.same d.source d.destination ne) ∙ ap (told d.source d.destination) f
 
 judged_as : (rows : List Row) (now : ℕ) (d : Segment) (f : Flow) (pair : Pair) (own : ℕ) → f.receiver.pair ≡ pair → f.receiver.own ≡ own → f.receiver.peer ≡ Some f.isn
-    → judged_on rows now d f ≡ judge rows pair own (Some f.isn) (Some (number f.expected)) now d
+    → judged_on rows now d f ≡ judge rows pair (record { own_isn = own; peer_isn = Some f.isn; expected = Some (number f.expected) }) now d
 judged_as rows now d f pair own p o e = rw (p, o, e) refl
 
 -- ---- a segment without SYN of a connection that is known
@@ -102,13 +102,13 @@ heard_known : (before after : List (Ends × Flows)) (held : List Connection) (s 
     → StandsFor before held → same_socket s t ≡ false → found before (key_of s t) ≡ Some h → Puts before after (key_of s t) next → has SYN d ≡ false
     → (flow_from s t next).isn ≡ (flow_from s t h).isn → flow_from t s next ≡ flow_from t s h → IsJudged v j → number (flow_from s t next).expected ≡ expected_after (number (flow_from s t h).expected) d j
     → Hears after (line.Verdict v (good d)) (hear_judged held d (Some (shown s t h)) j)
-heard_known before after held s t d h next v (Refuse why) S ne f P syn i o is_told e =
+heard_known before after held s t d h next v (Err why) S ne f P syn i o is_told e =
     let is = shown_later s t h next (number (flow_from s t h).expected) i o e in
-    record { says = (Refuse why, refl, is_told); stands = stands_same before after held s t h next S P ne f is }
-heard_known before after held s t d h next v (Admit p) S ne f P syn i o is_told e =
+    record { says = (Err why, refl, is_told); stands = stands_same before after held s t h next S P ne f is }
+heard_known before after held s t d h next v (Ok p) S ne f P syn i o is_told e =
     let is = shown_later s t h next (max (number (flow_from s t h).expected) (p.number + segment_length d)) i o e in
-    not_first (has SYN d) after (line.Verdict v (good d)) (hear_later held d p.number (Admit p) (Some (shown s t h))) _ syn
-    (record { says = (Admit p, refl, is_told); stands = subst (λ (c : Connection). StandsFor after (with_connection c held)) is (stands_put before after held s t next S P ne) })
+    not_first (has SYN d) after (line.Verdict v (good d)) (hear_later held d p.number (Ok p) (Some (shown s t h))) _ syn
+    (record { says = (Ok p, refl, is_told); stands = subst (λ (c : Connection). StandsFor after (with_connection c held)) is (stands_put before after held s t next S P ne) })
 
 pub hears_known : (tables : List Table) (rows : List Row) (before after : List (Ends × Flows)) (held : List Connection) (now : ℕ) (d : Segment) (h : Flows) (v : Verdict) (old new : ℕ)
     → StandsFor before held → IsSound tables before → same_socket d.source d.destination ≡ false → found before (key_at d) ≡ Some h → OfKnown rows now d before after h v old new → has SYN d ≡ false
@@ -191,9 +191,9 @@ derives_known tables rows before after now d h v old new T ne f K =
 
 heard_unknown : (after : List (Ends × Flows)) (held : List Connection) (d : Segment) (v : Verdict) (j : Judgement) → StandsFor after held → has SYN d ≡ false → IsJudged v j
     → Hears after (line.Verdict v (good d)) (hear_judged held d None j)
-heard_unknown after held d v (Refuse why) S syn is_told = record { says = (Refuse why, refl, is_told); stands = S }
-heard_unknown after held d v (Admit p) S syn is_told =
-    not_first (has SYN d) after (line.Verdict v (good d)) (hear_later held d p.number (Admit p) None) _ syn (record { says = (Admit p, refl, is_told); stands = S })
+heard_unknown after held d v (Err why) S syn is_told = record { says = (Err why, refl, is_told); stands = S }
+heard_unknown after held d v (Ok p) S syn is_told =
+    not_first (has SYN d) after (line.Verdict v (good d)) (hear_later held d p.number (Ok p) None) _ syn (record { says = (Ok p, refl, is_told); stands = S })
 
 pub hears_unknown : (rows : List Row) (before after : List (Ends × Flows)) (held : List Connection) (now : ℕ) (d : Segment) (v : Verdict) (old new : ℕ)
     → StandsFor before held → same_socket d.source d.destination ≡ false → found before (key_at d) ≡ None → OfUnknown rows now d before after v old new → has SYN d ≡ false

@@ -1,9 +1,9 @@
 -- What a checker answers, as what the definitions say of a stored segment.
-use Rattle.std.specs.Prelude.{◌≡◌, ℕ, Bool, true, false, List, [], ◌∷◌, ◌++◌, codes, decimal}
+use Rattle.std.specs.Prelude.{◌≡◌, ℕ, Bool, true, false, List, [], ◌∷◌, ◌++◌, codes, decimal, Ok, Err}
 use Rattle.segment_model.specs.Faults.{fault_text}
 use Rattle.link_model.specs.Reports.{verdict_text}
 use Rattle.mac_model.specs.Contexts.{bytes_of}
-use Rattle.endpoint_model.specs.Verdicts.{Finding, Judgement, Admit, Refuse}
+use Rattle.endpoint_model.specs.Verdicts.{Finding, Judgement}
 use Rattle.endpoint_model.specs.declared.verdict.Passed.{Passed}
 use Rattle.endpoint_model.specs.declared.verdict.Verdict.{Verdict}
 use Rattle.endpoint_model.specs.declared.verdict.Verdict.TheVariants.{Pass}
@@ -21,8 +21,8 @@ pub record IsFound (p : Passed) (entry : Finding) : Type 0 where
 
 -- the verdict is that judgement
 abbrev pub IsJudged : Verdict → Judgement → Type 0
-IsJudged (Pass p) j = (entry : Finding) × (j ≡ Admit entry) × IsFound p entry
-IsJudged why j = j ≡ Refuse why
+IsJudged (Pass p) j = (entry : Finding) × (j ≡ Ok entry) × IsFound p entry
+IsJudged why j = j ≡ Err why
 
 -- the answer is what is said of the segment
 abbrev pub Says : CheckLine → book.Saying → Type 0

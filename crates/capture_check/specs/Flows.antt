@@ -1,5 +1,5 @@
 -- What is known of a connection: both ways of it (own).
-use Rattle.std.specs.Prelude.{◌≡◌, ◌≤◌, ◌+◌, ◌%◌, ◌/◌, ◌^◌, ℕ, max, Bool, true, false, List, [], length, Option, Some, None}
+use Rattle.std.specs.Prelude.{◌≡◌, ◌≤◌, ◌+◌, ◌%◌, ◌/◌, ◌^◌, ℕ, max, Bool, true, false, List, [], length, Option, Some, None, Ok, Err}
 use Rattle.std.specs.List.{find}
 use Rattle.ao_base.specs.declared.address.Socket.{Socket}
 use Rattle.segment_model.specs.Bytes.{ring}
@@ -7,7 +7,7 @@ use Rattle.segment_model.specs.Options.{find_ao}
 use Rattle.segment_model.specs.Segments.{Segment, has, segment_length, SYN}
 use Rattle.key_model.specs.Rows.{Row, Table, has_address}
 use Rattle.endpoint_model.specs.declared.verdict.Verdict.{Verdict}
-use Rattle.endpoint_model.specs.Verdicts.{Judgement, Admit, Refuse, judge}
+use Rattle.endpoint_model.specs.Verdicts.{Judgement, judge}
 use Rattle.format_model.specs.Captures.{Connection, KnownSide}
 use Rattle.wrap_seq.specs.declared.counter.Counter.{Counter}
 use Rattle.wrap_seq.specs.Counter.{number}
@@ -77,12 +77,12 @@ shown a b h = record { one = side_of a (flow_from a b h); two = side_of b (flow_
 
 -- the verdict on a segment that goes this way
 abbrev pub judged_on : List Row → ℕ → Segment → Flow → Judgement
-judged_on rows now d f = judge rows f.receiver.pair f.receiver.own f.receiver.peer (Some (number f.expected)) now d
+judged_on rows now d f = judge rows f.receiver.pair (record { own_isn = f.receiver.own; peer_isn = f.receiver.peer; expected = Some (number f.expected) }) now d
 
 -- what is expected of the sender after a segment with this verdict: where it passed, at least the number behind it
 abbrev pub expected_after : ℕ → Segment → Judgement → ℕ
-expected_after x d (Refuse why) = x
-expected_after x d (Admit p) = max x (p.number + segment_length d)
+expected_after x d (Err why) = x
+expected_after x d (Ok p) = max x (p.number + segment_length d)
 
 -- one segment without SYN is heard: its verdict, what is expected then, and the keys that are kept
 pub record FlowHears (rows : List Row) (now : ℕ) (d : Segment) (before after : Flow) (verdict : Verdict) (old new : ℕ) : Type 0 where

@@ -34,7 +34,7 @@ pub record FlowsHear (rows : List Row) (now : ℕ) (d : Segment) (low : Bool) (b
 
 -- the verdict on a segment of which nothing is known but its destination's initial sequence number; without SYN no step is counted for a row that judges it
 pub record Alone (rows : List Row) (now own : ℕ) (d : Segment) (result : Verdict) : Type 0 where
-  pub tells : Tells rows (pair_at d) d result (judge rows (pair_at d) own None None now d)
+  pub tells : Tells rows (pair_at d) d result (judge rows (pair_at d) (record { own_isn = own; peer_isn = None; expected = None }) now d)
 
 -- the steps that this costs
 pub record AloneCounts (rows : List Row) (now : ℕ) (d : Segment) (old new : ℕ) : Type 0 where

@@ -1,5 +1,5 @@
 -- A segment passes exactly where each condition holds.
-use Rattle.std.proofs.Common.{◌≡◌, ℕ, ◌+◌, ◌-◌, ◌≤◌, Bool, true, false, not, ◌&&◌, nat_lt, List, [], ◌∷◌, length, get_or, Option, Some, None, is_some, refl, sym, ap, ◌∙◌, subst, inl, inr, arith, if◌then◌else◌}
+use Rattle.std.proofs.Common.{◌≡◌, ℕ, ◌+◌, ◌-◌, ◌≤◌, Bool, true, false, not, ◌&&◌, nat_lt, List, [], ◌∷◌, length, get_or, Option, Some, None, is_some, Ok, Err, refl, sym, ap, ◌∙◌, subst, inl, inr, arith, if◌then◌else◌}
 use Rattle.std.specs.Prelude.{◌==◌}
 use Rattle.std.proofs.lemmas.Bool.{eqb-true, eq-eqb, ltb-false, le-ltb, and_parts, cases_order}
 use Rattle.ao_base.specs.declared.address.Pair.{Pair}
@@ -13,7 +13,8 @@ use Rattle.key_model.specs.Rows.{Row}
 use Rattle.key_model.specs.Choices.{Numbered, lowest, accept_row, acceptable_as, has_id, IsLowest}
 use Rattle.key_model.proofs.ChoiceLaws.{lowest-IsLowest, lowest-none}
 use Rattle.endpoint_model.specs.declared.verdict.Verdict.TheVariants.{NoTuple, Expired, MacLength, NoContext, Range, BadMac}
-use Rattle.endpoint_model.specs.Verdicts.{Finding, Refuse, Admit, mac_of, found_with, judge_mac, judge_number, number_of, judge_context, judge_row, judge_ao, judge}
+use Rattle.endpoint_model.specs.Verdicts.{Finding, Judgement, Known, mac_of, found_with, number_of, judge}
+use Rattle.endpoint_model.proofs.JudgeSteps.{judge_mac, judge_number, judge_context, judge_row, judge_ao, judge_by_steps}
 use Rattle.endpoint_model.specs.Passing.{options_in, HasNumber, Passes}
 
 -- ---- equal bytes
@@ -99,14 +100,14 @@ number_known false d x n is h = let near = h.without is in rw near.1 refl
 
 -- ---- a pass meets each condition
 
-mac_met : (same : Bool) (ao : Ao) (q p : Finding) → same_bytes ao.mac (mac_of q) ≡ same → (if same then Admit q else Refuse BadMac) ≡ Admit p → (p ≡ q) × (ao.mac ≡ mac_of p)
+mac_met : (same : Bool) (ao : Ao) (q p : Finding) → same_bytes ao.mac (mac_of q) ≡ same → (if same then Ok q else Err BadMac) ≡ Ok p → (p ≡ q) × (ao.mac ≡ mac_of p)
 mac_met true ao q p is e =
     let one : p ≡ q = cc in
     (one, same_is ao.mac (mac_of q) is ∙ ap mac_of (sym one))
 mac_met false ao q p is e = absurd (cc)
 
 range_met : (over : Bool) (r : Numbered) (d : Segment) (ao : Ao) (context : List ℕ) (n : ℕ) (p : Finding) → nat_lt 9223372036854775808 (n + segment_length d) ≡ over
-    → (if over then Refuse Range else judge_mac ao (found_with r d ao context n)) ≡ Admit p
+    → (if over then Err Range else judge_mac ao (found_with r d ao context n)) ≡ Ok p
     → (n + segment_length d ≤ 9223372036854775808) × (p ≡ found_with r d ao context n) × (ao.mac ≡ mac_of p)
 range_met true r d ao context n p is e = absurd (cc)
 range_met false r d ao context n p is e =
@@ -122,7 +123,7 @@ record Later (row : Numbered) (d : Segment) (ao : Ao) (expected : Option ℕ) (k
   right_mac : ao.mac ≡ mac_of p
 
 number_met : (r : Numbered) (d : Segment) (ao : Ao) (expected : Option ℕ) (context : List ℕ) (m : Option ℕ) (p : Finding) → number_of d expected ≡ m
-    → (not (has SYN d) && not (is_some expected)) ≡ false → judge_number r d ao context m ≡ Admit p → Later r d ao expected (Some context) p
+    → (not (has SYN d) && not (is_some expected)) ≡ false → judge_number r d ao context m ≡ Ok p → Later r d ao expected (Some context) p
 number_met r d ao expected context None p is known e = absurd (cc)
 number_met r d ao expected context (Some n) p is known e =
     let m = range_met (nat_lt 9223372036854775808 (n + segment_length d)) r d ao context n p refl e in
@@ -141,20 +142,20 @@ number_met r d ao expected context (Some n) p is known e =
     }
 
 expected_met : (unknown : Bool) (r : Numbered) (d : Segment) (ao : Ao) (expected : Option ℕ) (context : List ℕ) (p : Finding) → (not (has SYN d) && not (is_some expected)) ≡ unknown
-    → (if unknown then Refuse NoContext else judge_number r d ao context (number_of d expected)) ≡ Admit p → Later r d ao expected (Some context) p
+    → (if unknown then Err NoContext else judge_number r d ao context (number_of d expected)) ≡ Ok p → Later r d ao expected (Some context) p
 expected_met true r d ao expected context p is e = absurd (cc)
 expected_met false r d ao expected context p is e = number_met r d ao expected context (number_of d expected) p refl is e
 
-context_met : (r : Numbered) (d : Segment) (ao : Ao) (expected : Option ℕ) (known : Option (List ℕ)) (p : Finding) → judge_context r d ao expected known ≡ Admit p → Later r d ao expected known p
+context_met : (r : Numbered) (d : Segment) (ao : Ao) (expected : Option ℕ) (known : Option (List ℕ)) (p : Finding) → judge_context r d ao expected known ≡ Ok p → Later r d ao expected known p
 context_met r d ao expected None p e = absurd (cc)
 context_met r d ao expected (Some context) p e = expected_met (not (has SYN d) && not (is_some expected)) r d ao expected context p refl e
 
 length_met : (fits : Bool) (r : Numbered) (d : Segment) (ao : Ao) (expected : Option ℕ) (known : Option (List ℕ)) (p : Finding) → (length ao.mac == mac_length_of r.row.algorithm) ≡ fits
-    → (if not fits then Refuse MacLength else judge_context r d ao expected known) ≡ Admit p → (length ao.mac ≡ mac_length_of r.row.algorithm) × Later r d ao expected known p
+    → (if not fits then Err MacLength else judge_context r d ao expected known) ≡ Ok p → (length ao.mac ≡ mac_length_of r.row.algorithm) × Later r d ao expected known p
 length_met false r d ao expected known p is e = absurd (cc)
 length_met true r d ao expected known p is e = (eqb-true (length ao.mac) (mac_length_of r.row.algorithm) is, context_met r d ao expected known p e)
 
-no_row : (late : Bool) (p : Finding) → (if late then Refuse Expired else Refuse NoTuple) ≡ Admit p → ⊥
+no_row : (late : Bool) (p : Finding) → (if late then Err Expired else Err NoTuple) ≡ Ok p → ⊥
 no_row true p e = cc
 no_row false p e = cc
 
@@ -165,7 +166,7 @@ record Under (rows : List Row) (pair : Pair) (now : ℕ) (d : Segment) (ao : Ao)
   later : Later row d ao expected known p
 
 row_met : (rows : List Row) (pair : Pair) (now : ℕ) (d : Segment) (ao : Ao) (expected : Option ℕ) (known : Option (List ℕ)) (m : Option Numbered) (p : Finding)
-    → judge_row rows pair d ao expected known m ≡ Admit p → Under rows pair now d ao expected known m p
+    → judge_row rows pair d ao expected known m ≡ Ok p → Under rows pair now d ao expected known m p
 row_met rows pair now d ao expected known None p e = absurd (no_row (has_id rows pair ao.key_id) p e)
 row_met rows pair now d ao expected known (Some r) p e =
     let l = length_met (length ao.mac == mac_length_of r.row.algorithm) r d ao expected known p refl e in
@@ -188,13 +189,13 @@ alone_in : (d : Segment) (ao : Ao) → find_ao d.area ≡ One ao → Alone (opti
 unfolding find_ao
 alone_in d ao e = alone (options_in 29 d) (options_in 19 d) ao e
 
-ao_met : (rows : List Row) (pair : Pair) (own : ℕ) (peer expected : Option ℕ) (now : ℕ) (d : Segment) (p : Finding) (f : AoFound) → find_ao d.area ≡ f
-    → judge_ao rows pair now expected d (context_of d peer (Some own)) f ≡ Admit p → Passes rows pair own peer expected now d p
-ao_met rows pair own peer expected now d p Absent is e = absurd (cc)
-ao_met rows pair own peer expected now d p Two is e = absurd (cc)
-ao_met rows pair own peer expected now d p FoundMd5 is e = absurd (cc)
-ao_met rows pair own peer expected now d p (One ao) is e =
-    let u = row_met rows pair now d ao expected (context_of d peer (Some own)) (accept_row rows pair ao.key_id now) p e in
+ao_met : (rows : List Row) (pair : Pair) (known : Known) (now : ℕ) (d : Segment) (p : Finding) (f : AoFound) → find_ao d.area ≡ f
+    → judge_ao rows pair now known.expected d (context_of d known.peer_isn (Some known.own_isn)) f ≡ Ok p → Passes rows pair known now d p
+ao_met rows pair known now d p Absent is e = absurd (cc)
+ao_met rows pair known now d p Two is e = absurd (cc)
+ao_met rows pair known now d p FoundMd5 is e = absurd (cc)
+ao_met rows pair known now d p (One ao) is e =
+    let u = row_met rows pair now d ao known.expected (context_of d known.peer_isn (Some known.own_isn)) (accept_row rows pair ao.key_id now) p e in
     let l = u.later in
     let a = alone_in d ao is in
     record {
@@ -213,10 +214,8 @@ ao_met rows pair own peer expected now d p (One ao) is e =
       right_mac = l.right_mac;
     }
 
-pub meets : (rows : List Row) (pair : Pair) (own : ℕ) (peer expected : Option ℕ) (now : ℕ) (d : Segment) (p : Finding) → judge rows pair own peer expected now d ≡ Admit p
-    → Passes rows pair own peer expected now d p
-unfolding judge
-meets rows pair own peer expected now d p e = ao_met rows pair own peer expected now d p (find_ao d.area) refl e
+pub meets : (rows : List Row) (pair : Pair) (known : Known) (now : ℕ) (d : Segment) (p : Finding) → judge rows pair known now d ≡ Ok p → Passes rows pair known now d p
+meets rows pair known now d p e = ao_met rows pair known now d p (find_ao d.area) refl (sym (judge_by_steps rows pair known now d) ∙ e)
 
 -- ---- where each condition holds it passes
 
@@ -224,37 +223,37 @@ found_alone : (d : Segment) (o : Opt) → options_in 29 d ≡ o ∷ [] → optio
 unfolding find_ao
 found_alone d o one none = rw (one, none) refl
 
-admits_mac : (ao : Ao) (p : Finding) → ao.mac ≡ mac_of p → judge_mac ao p ≡ Admit p
+admits_mac : (ao : Ao) (p : Finding) → ao.mac ≡ mac_of p → judge_mac ao p ≡ Ok p
 admits_mac ao p e =
     let same : same_bytes ao.mac (mac_of p) ≡ true = rw (← e) (same_self ao.mac) in
     rw same refl
 
 admits_number : (r : Numbered) (d : Segment) (ao : Ao) (p : Finding) → p.number + segment_length d ≤ 9223372036854775808 → p ≡ found_with r d ao p.context p.number → ao.mac ≡ mac_of p
-    → judge_number r d ao p.context (Some p.number) ≡ Admit p
+    → judge_number r d ao p.context (Some p.number) ≡ Ok p
 admits_number r d ao p range finding right =
     rw (le-ltb 9223372036854775808 (p.number + segment_length d) range) (ap (judge_mac ao) (sym finding) ∙ admits_mac ao p right)
 
 admits_context : (r : Numbered) (d : Segment) (ao : Ao) (expected : Option ℕ) (p : Finding) → HasNumber d expected p.number
-    → p.number + segment_length d ≤ 9223372036854775808 → p ≡ found_with r d ao p.context p.number → ao.mac ≡ mac_of p → judge_context r d ao expected (Some p.context) ≡ Admit p
+    → p.number + segment_length d ≤ 9223372036854775808 → p ≡ found_with r d ao p.context p.number → ao.mac ≡ mac_of p → judge_context r d ao expected (Some p.context) ≡ Ok p
 admits_context r d ao expected p number range finding right =
     rw (number_known (has SYN d) d expected p.number refl number)
     (ap (judge_number r d ao p.context) (number_is (has SYN d) d expected p.number refl number) ∙ admits_number r d ao p range finding right)
 
 admits_row : (rows : List Row) (pair : Pair) (r : Numbered) (d : Segment) (ao : Ao) (expected : Option ℕ) (known : Option (List ℕ)) (p : Finding)
-    → length ao.mac ≡ mac_length_of r.row.algorithm → judge_context r d ao expected known ≡ Admit p → judge_row rows pair d ao expected known (Some r) ≡ Admit p
+    → length ao.mac ≡ mac_length_of r.row.algorithm → judge_context r d ao expected known ≡ Ok p → judge_row rows pair d ao expected known (Some r) ≡ Ok p
 admits_row rows pair r d ao expected known p fits e = rw (eq-eqb (length ao.mac) (mac_length_of r.row.algorithm) fits) e
 
-pub passes : (rows : List Row) (pair : Pair) (own : ℕ) (peer expected : Option ℕ) (now : ℕ) (d : Segment) (p : Finding) → Passes rows pair own peer expected now d p
-    → judge rows pair own peer expected now d ≡ Admit p
-unfolding judge
-passes rows pair own peer expected now d p s =
+pub passes : (rows : List Row) (pair : Pair) (known : Known) (now : ℕ) (d : Segment) (p : Finding) → Passes rows pair known now d p → judge rows pair known now d ≡ Ok p
+passes rows pair known now d p s =
     let ao = s.ao in
-    let known : Option (List ℕ) = context_of d peer (Some own) in
+    let expected : Option ℕ = known.expected in
+    let context : Option (List ℕ) = context_of d known.peer_isn (Some known.own_isn) in
     let option_is : find_ao d.area ≡ One ao = found_alone d s.option s.one_option s.no_md5 ∙ ap One (sym s.its_fields) in
     let row_is : accept_row rows pair ao.key_id now ≡ Some s.row = lowest_by (acceptable_as pair ao.key_id now) rows s.row (accept_row rows pair ao.key_id now) refl s.acceptable_row in
     let range = s.in_range in
     let in_range : p.number + segment_length d ≤ 9223372036854775808 = range in
-    ap (judge_ao rows pair now expected d known) option_is
-    ∙ (ap (judge_row rows pair d ao expected known) row_is
-    ∙ admits_row rows pair s.row d ao expected known p s.mac_length
-    (ap (judge_context s.row d ao expected) s.known_context ∙ admits_context s.row d ao expected p s.number in_range s.finding s.right_mac))
+    judge_by_steps rows pair known now d
+    ∙ (ap (judge_ao rows pair now expected d context) option_is
+    ∙ (ap (judge_row rows pair d ao expected context) row_is
+    ∙ admits_row rows pair s.row d ao expected context p s.mac_length
+    (ap (judge_context s.row d ao expected) s.known_context ∙ admits_context s.row d ao expected p s.number in_range s.finding s.right_mac)))

@@ -1,17 +1,17 @@
 -- What holds of single steps.
-use Rattle.std.proofs.Common.{◌≡◌, ℕ, Bool, true, false, not, List, refl, if◌then◌else◌}
+use Rattle.std.proofs.Common.{◌≡◌, ℕ, Bool, true, false, not, List, Ok, Err, refl, if◌then◌else◌}
 use Rattle.ao_base.specs.declared.address.Pair.{Pair}
 use Rattle.segment_model.specs.Segments.{Segment, Read, good}
 use Rattle.key_model.specs.Rows.{Row}
 use Rattle.endpoint_model.specs.declared.arrival.Arrival.TheVariants.{Foreign, Checksum, Closed as AtClosed}
 use Rattle.endpoint_model.specs.declared.verdict.Verdict.{Verdict}
-use Rattle.endpoint_model.specs.Verdicts.{Judgement, Refuse}
+use Rattle.endpoint_model.specs.Verdicts.{Judgement}
 use Rattle.endpoint_model.specs.States.{EndState, is_closed}
 use Rattle.endpoint_model.specs.Arrivals.{Arrived, arrive, arrive_judged, judged_by, from_peer, unmoved}
 
-judged_stays : (rows : List Row) (pair : Pair) (now : ℕ) (s : EndState) (d : Segment) (j : Judgement) (why : Verdict) → j ≡ Refuse why
+judged_stays : (rows : List Row) (pair : Pair) (now : ℕ) (s : EndState) (d : Segment) (j : Judgement) (why : Verdict) → j ≡ Err why
     → (arrive_judged rows pair now s d j).state ≡ s
-judged_stays rows pair now s d (Refuse why) other e = refl
+judged_stays rows pair now s d (Err why) other e = refl
 judged_stays rows pair now s d _ other e = absurd (cc)
 
 unless_stays : (foreign wrong closed : Bool) (s : EndState) (last : Arrived) → last.state ≡ s
@@ -21,7 +21,7 @@ unless_stays false true closed s last e = refl
 unless_stays false false true s last e = refl
 unless_stays false false false s last e = e
 
-pub refused_stays : (rows : List Row) (pair : Pair) (now : ℕ) (s : EndState) (d : Segment) (why : Verdict) → judged_by rows pair now s d ≡ Refuse why
+pub refused_stays : (rows : List Row) (pair : Pair) (now : ℕ) (s : EndState) (d : Segment) (why : Verdict) → judged_by rows pair now s d ≡ Err why
     → (arrive rows pair now s (Read d)).state ≡ s
 unfolding arrive
 refused_stays rows pair now s d why e =

@@ -2,7 +2,7 @@
 -- `arrive`.
 use Rattle.std.specs.Prelude.{ℕ, zero, suc, ◌+◌, ◌-◌, ◌%◌, ◌==◌, max, nat_lt, nat_le, Bool, true}
 use Rattle.std.specs.Prelude.{false, not, ◌&&◌, ◌||◌, List, length, Option, Some, None, unwrap_or}
-use Rattle.std.specs.Prelude.{if◌then◌else◌}
+use Rattle.std.specs.Prelude.{Ok, Err, if◌then◌else◌}
 use Rattle.ao_base.specs.declared.address.Pair.{Pair}
 use Rattle.segment_model.specs.Bytes.{ring}
 use Rattle.segment_model.specs.Meant.{meant}
@@ -24,7 +24,7 @@ use Rattle.endpoint_model.specs.declared.phase.Phase.TheVariants.{Listen, SynSen
 use Rattle.endpoint_model.specs.declared.phase.Phase.TheVariants.{Established, FinWait1, FinWait2}
 use Rattle.endpoint_model.specs.declared.phase.Phase.TheVariants.{CloseWait, Closing, LastAck}
 use Rattle.endpoint_model.specs.declared.phase.Phase.TheVariants.{TimeWait, Closed}
-use Rattle.endpoint_model.specs.Verdicts.{Finding, Judgement, Refuse, Admit, judge}
+use Rattle.endpoint_model.specs.Verdicts.{Finding, Judgement, Known, judge}
 use Rattle.endpoint_model.specs.States.{EndState, window, default_mss, is_closed, hears}
 
 -- The state after a segment that passed the check, and the answer (own).
@@ -255,8 +255,8 @@ passes s p moved = record { state = moved.state; answer = moved.answer; passed =
 
 -- A segment with what the check says of it: a refusal changes nothing (RFC 5925, section 7.5).
 abbrev pub arrive_judged : List Row → Pair → ℕ → EndState → Segment → Judgement → Arrived
-arrive_judged rows pair now s d (Refuse why) = unmoved s (Refused why)
-arrive_judged rows pair now s d (Admit p) =
+arrive_judged rows pair now s d (Err why) = unmoved s (Refused why)
+arrive_judged rows pair now s d (Ok p) =
     passes s p (after_check pair s (heard rows pair now s p.rnext_key_id) d p.number now s.phase)
 
 -- The number expected, once the peer's initial sequence number is known (own).
@@ -264,10 +264,17 @@ abbrev pub number_expected : EndState → Option ℕ → Option ℕ
 number_expected s None = None
 number_expected s (Some peer) = Some s.expected
 
+-- What an end knows of the numbers of its connection (RFC 5925, sections 5.2 and 6.2).
+abbrev pub numbers_known : EndState → Known
+numbers_known s = record {
+  own_isn = s.isn;
+  peer_isn = s.peer_isn;
+  expected = number_expected s s.peer_isn;
+}
+
 -- The verdict of an end on a segment at a time (RFC 5925, section 7.5).
 abbrev pub judged_by : List Row → Pair → ℕ → EndState → Segment → Judgement
-judged_by rows pair now s d =
-    judge rows pair s.isn s.peer_isn (number_expected s s.peer_isn) now d
+judged_by rows pair now s d = judge rows pair (numbers_known s) now d
 
 -- The sockets are the pair's, seen from the other end (RFC 9293, section 3.10.7).
 abbrev pub from_peer : Pair → Segment → Bool

@@ -11,7 +11,7 @@ use Rattle.mac_model.specs.Contexts.{context_of}
 use Rattle.key_model.specs.Rows.{Row}
 use Rattle.key_model.specs.Choices.{Numbered, acceptable_as, IsLowest}
 use Rattle.endpoint_model.specs.States.{number_limit}
-use Rattle.endpoint_model.specs.Verdicts.{Finding, mac_of, found_with}
+use Rattle.endpoint_model.specs.Verdicts.{Finding, Known, mac_of, found_with}
 
 -- The options of this kind that a segment has (RFC 9293, section 3.2).
 abbrev pub options_in : ℕ → Segment → List Opt
@@ -23,10 +23,10 @@ pub record HasNumber (d : Segment) (expected : Option ℕ) (n : ℕ) : Type 0 wh
   pub with_syn : has SYN d ≡ true → n ≡ d.sequence
   pub without : has SYN d ≡ false → (e : ℕ) × (expected ≡ Some e) × (meant d.sequence e ≡ Some n)
 
--- A segment passes with this finding, where the own initial sequence number, the peer's and the
--- number expected are known so far (RFC 5925, section 7.5; the range: own).
-pub record Passes (rows : List Row) (pair : Pair) (own : ℕ) (peer expected : Option ℕ) (now : ℕ)
-    (d : Segment) (p : Finding) : Type 0 where
+-- A segment passes with this finding, from what is known of the numbers of the connection, at this
+-- time (RFC 5925, section 7.5; the range: own).
+pub record Passes (rows : List Row) (pair : Pair) (known : Known) (now : ℕ) (d : Segment)
+    (p : Finding) : Type 0 where
   pub option : Opt  -- its one TCP-AO option
   pub ao : Ao  -- the fields of that option
   pub row : Numbered  -- the row under which it passes
@@ -35,8 +35,8 @@ pub record Passes (rows : List Row) (pair : Pair) (own : ℕ) (peer expected : O
   pub its_fields : ao ≡ ao_of option
   pub acceptable_row : IsLowest (acceptable_as pair ao.key_id now) rows row
   pub mac_length : length ao.mac ≡ mac_length_of row.row.algorithm
-  pub known_context : context_of d peer (Some own) ≡ Some p.context
-  pub number : HasNumber d expected p.number
+  pub known_context : context_of d known.peer_isn (Some known.own_isn) ≡ Some p.context
+  pub number : HasNumber d known.expected p.number
   pub in_range : p.number + segment_length d ≤ number_limit
   pub finding : p ≡ found_with row d ao p.context p.number
   pub right_mac : ao.mac ≡ mac_of p

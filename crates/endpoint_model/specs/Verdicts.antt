@@ -1,7 +1,8 @@
 -- The verdict on a segment: it passes under a row's key, or why it is refused (RFC 5925, section
 -- 7.5). Its top: `judge`; `Passing.Passes` says of a pass what holds then.
-use Rattle.std.specs.Prelude.{ℕ, ◌+◌, ◌==◌, nat_lt, Bool, not, ◌&&◌, List, length, Option, Some}
-use Rattle.std.specs.Prelude.{None, is_some, if◌then◌else◌}
+use Rattle.std.specs.Prelude.{ℕ, ◌+◌, ◌==◌, nat_le, Bool, true, false, ◌&&◌, ◌||◌, List, length}
+use Rattle.std.specs.Prelude.{Option, Some, None, is_some, Result, Ok, Err, if◌then◌else◌}
+use Rattle.ao_base.specs.Results.{◌>>=◌, or_fault}
 use Rattle.ao_base.specs.declared.algorithm.Algorithm.{Algorithm}
 use Rattle.ao_base.specs.declared.address.Pair.{Pair}
 use Rattle.ao_base.specs.Algorithms.{mac_length_of}
@@ -43,10 +44,17 @@ pub record Finding : Type 0 where
   pub number : ℕ  -- the number of its first byte
   pub input : List ℕ  -- what its MAC is computed over
 
--- A segment passes with what was found of it, or it is refused (RFC 5925, section 7.5).
-pub data Judgement : Type 0 where
-  Refuse : (why : Verdict) → Judgement
-  Admit : (finding : Finding) → Judgement
+-- The verdict on a segment: it passes with what was found of it, or it is refused for this reason
+-- (RFC 5925, section 7.5).
+abbrev pub Judgement : Type 0
+Judgement = Result Finding Verdict
+
+-- What an end knows of the numbers of its connection, as far as it is known (RFC 5925, sections 5.2
+-- and 6.2).
+pub record Known : Type 0 where
+  pub own_isn : ℕ  -- ISS: the own initial sequence number
+  pub peer_isn : Option ℕ  -- IRS: the peer's initial sequence number
+  pub expected : Option ℕ  -- RCV.NXT: the number expected next
 
 -- The MAC under the traffic key of the context (RFC 5925, section 7.5).
 abbrev pub mac_of : Finding → List ℕ
@@ -63,53 +71,40 @@ found_with r d ao context n = record {
   input = mac_input n d ao r.row.with_options;
 }
 
--- Refused where the MAC is wrong, else passed (RFC 5925, section 7.5).
-abbrev pub judge_mac : Ao → Finding → Judgement
-judge_mac ao p = if same_bytes ao.mac (mac_of p) then Admit p else Refuse BadMac
+-- The one TCP-AO option of a segment, without TCP MD5 beside it (RFC 5925, section 2.2).
+abbrev pub one_ao : AoFound → Result Ao Verdict
+one_ao Absent = Err NoAo
+one_ao Two = Err TwoAo
+one_ao FoundMd5 = Err WithMd5
+one_ao (One ao) = Ok ao
 
--- Refused where the number is below 0 or the segment ends past 2^63 (own).
-abbrev pub judge_number : Numbered → Segment → Ao → List ℕ → Option ℕ → Judgement
-judge_number r d ao context None = Refuse Range
-judge_number r d ao context (Some n) =
-    if nat_lt number_limit (n + segment_length d) then Refuse Range
-    else judge_mac ao (found_with r d ao context n)
+-- The row that takes segments with this KeyID now; where none does now, whether one does at some time
+-- (RFC 5925, section 7.5).
+abbrev pub row_taking : List Row → Pair → ℕ → ℕ → Result Numbered Verdict
+row_taking rows pair key_id now =
+    or_fault (accept_row rows pair key_id now) (if has_id rows pair key_id then Expired else NoTuple)
 
--- The number of a segment: with SYN its sequence, else what that means near the number expected
--- (RFC 5925, section 6.2).
+-- What is required holds, or this is the refusal (own).
+abbrev pub require : Bool → Verdict → Result (Unit {0}) Verdict
+require true why = Ok tt
+require false why = Err why
+
+-- The number of a segment: with SYN its sequence, else what that means near the number expected (RFC
+-- 5925, section 6.2).
 abbrev pub number_of : Segment → Option ℕ → Option ℕ
 number_of d None = Some d.sequence
 number_of d (Some expected) = if has SYN d then Some d.sequence else meant d.sequence expected
 
--- Refused where the context isn't known or, without SYN, no number is expected (RFC 5925, section
--- 5.2).
-abbrev pub judge_context : Numbered → Segment → Ao → Option ℕ → Option (List ℕ) → Judgement
-judge_context r d ao expected None = Refuse NoContext
-judge_context r d ao expected (Some context) =
-    if not (has SYN d) && not (is_some expected) then Refuse NoContext
-    else judge_number r d ao context (number_of d expected)
-
--- Refused where no row takes the KeyID, where none does now, or where the MAC hasn't the length of
--- the row's algorithm (RFC 5925, section 7.5; RFC 5926, section 3.2).
-abbrev pub judge_row : List Row → Pair → Segment → Ao → Option ℕ → Option (List ℕ)
-    → Option Numbered → Judgement
-judge_row rows pair d ao expected context None =
-    if has_id rows pair ao.key_id then Refuse Expired else Refuse NoTuple
-judge_row rows pair d ao expected context (Some r) =
-    if not (length ao.mac == mac_length_of r.row.algorithm) then Refuse MacLength
-    else judge_context r d ao expected context
-
--- Refused without a TCP-AO option, with more than one, or with TCP MD5 beside it (RFC 5925, section
--- 2.2).
-abbrev pub judge_ao : List Row → Pair → ℕ → Option ℕ → Segment → Option (List ℕ) → AoFound
-    → Judgement
-judge_ao rows pair now expected d context Absent = Refuse NoAo
-judge_ao rows pair now expected d context Two = Refuse TwoAo
-judge_ao rows pair now expected d context FoundMd5 = Refuse WithMd5
-judge_ao rows pair now expected d context (One ao) =
-    judge_row rows pair d ao expected context (accept_row rows pair ao.key_id now)
-
--- The first refusal that holds, else a pass; from the own initial sequence number, the peer's and
--- the number expected as far as they are known, and the time (RFC 5925, section 7.5).
-unfoldable pub judge : List Row → Pair → ℕ → Option ℕ → Option ℕ → ℕ → Segment → Judgement
-judge rows pair own peer expected now d =
-    judge_ao rows pair now expected d (context_of d peer (Some own)) (find_ao d.area)
+-- The first of nine refusals that holds, else a pass, at this time (RFC 5925, section 7.5; the MAC's
+-- length: RFC 5926, section 3.2; the context: RFC 5925, section 5.2; the range: own).
+unfoldable pub judge : List Row → Pair → Known → ℕ → Segment → Judgement
+judge rows pair known now d = do
+  ao ← one_ao (find_ao d.area)  -- NoAo, TwoAo, WithMd5
+  row ← row_taking rows pair ao.key_id now  -- NoTuple, Expired
+  fits ← require (length ao.mac == mac_length_of row.row.algorithm) MacLength
+  context ← or_fault (context_of d known.peer_isn (Some known.own_isn)) NoContext
+  numbered ← require (has SYN d || is_some known.expected) NoContext
+  n ← or_fault (number_of d known.expected) Range
+  ends ← require (nat_le (n + segment_length d) number_limit) Range
+  right ← require (same_bytes ao.mac (mac_of (found_with row d ao context n))) BadMac
+  Ok (found_with row d ao context n)

@@ -1,12 +1,12 @@
 //! What the definitions say of single steps, as clauses of functions that do nothing.
-ghost use Rattle.std.specs.Prelude.{◌≡◌, ◌↔◌, ◌⊎◌, ℕ, ◌+◌, ◌-◌, ◌<◌, Bool, true, false, List, length, Option, Some};
+ghost use Rattle.std.specs.Prelude.{◌≡◌, ◌↔◌, ◌⊎◌, ℕ, ◌+◌, ◌-◌, ◌<◌, Bool, true, false, List, length, Option, Some, Ok, Err};
 ghost use Rattle.ao_base.specs.declared.address.Pair.{Pair};
 ghost use Rattle.segment_model.specs.Received.{runs};
 ghost use Rattle.segment_model.specs.Segments.{Segment, Read};
 ghost use Rattle.key_model.specs.Rows.{Row};
 ghost use Rattle.endpoint_model.specs.declared.phase.Phase.TheVariants.{SynReceived, CloseWait, Closed};
 ghost use Rattle.endpoint_model.specs.declared.verdict.Verdict.{Verdict};
-ghost use Rattle.endpoint_model.specs.Verdicts.{Finding, Refuse, Admit, judge};
+ghost use Rattle.endpoint_model.specs.Verdicts.{Finding, Known, judge};
 ghost use Rattle.endpoint_model.specs.Passing.{Passes};
 ghost use Rattle.endpoint_model.specs.States.{EndState, abort, hears, window};
 ghost use Rattle.endpoint_model.specs.Arrivals.{arrive, judged_by, acked, records_fin, reset, windowed};
@@ -15,14 +15,14 @@ ghost use Rattle.endpoint_model.specs.Arrivals.{arrive, judged_by, acked, record
 /// option, an acceptable row under its KeyID, a MAC of that row's length, a known context, a number in
 /// range, and the right MAC (RFC 5925, section 7.5).
 pub fn passes_exactly()
-    ensures { (rows : List Row) (pair : Pair) (own : ℕ) (peer expected : Option ℕ) (now : ℕ) (d : Segment) (p : Finding)
-        → (judge rows pair own peer expected now d ≡ Admit p) ↔ Passes rows pair own peer expected now d p }
+    ensures { (rows : List Row) (pair : Pair) (known : Known) (now : ℕ) (d : Segment) (p : Finding)
+        → (judge rows pair known now d ≡ Ok p) ↔ Passes rows pair known now d p }
 {}
 
 /// A segment that the check refuses changes nothing: its RNextKeyID isn't heard, and no byte,
 /// acknowledgement or window of it is taken (RFC 5925, section 7.5).
 pub fn refused_changes_nothing()
-    ensures { (rows : List Row) (pair : Pair) (now : ℕ) (s : EndState) (d : Segment) (why : Verdict) → judged_by rows pair now s d ≡ Refuse why
+    ensures { (rows : List Row) (pair : Pair) (now : ℕ) (s : EndState) (d : Segment) (why : Verdict) → judged_by rows pair now s d ≡ Err why
         → (arrive rows pair now s (Read d)).state ≡ s }
 {}
 

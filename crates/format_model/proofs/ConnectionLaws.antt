@@ -1,12 +1,12 @@
 -- The connections that are held stay a map.
-use Rattle.std.proofs.Common.{◌≡◌, ◌⊎◌, ℕ, zero, suc, ◌+◌, ◌<◌, ◌≤◌, ◌==◌, ◌&&◌, ◌||◌, Bool, true, false, not, nat_le, List, [], ◌∷◌, ◌++◌, length, get_or, Option, Some, None, refl, sym, ap, ◌∙◌, subst, inl, inr, arith, if◌then◌else◌}
+use Rattle.std.proofs.Common.{◌≡◌, ◌⊎◌, ℕ, zero, suc, ◌+◌, ◌<◌, ◌≤◌, ◌==◌, ◌&&◌, ◌||◌, Bool, true, false, not, nat_le, List, [], ◌∷◌, ◌++◌, length, get_or, Option, Some, None, refl, sym, ap, ◌∙◌, subst, inl, inr, arith, if◌then◌else◌, Ok, Err}
 use Rattle.std.proofs.lemmas.Bool.{eqb-true, eq-eqb, and_parts, and_from, or_cases, or_left, or_right}
 use Rattle.ao_base.specs.declared.address.Socket.{Socket}
 use Rattle.segment_model.specs.Sockets.{same_address, same_socket}
 use Rattle.segment_model.specs.Segments.{Segment, Reading, Read, Bad, reading, has, SYN, ACK}
 use Rattle.key_model.specs.Rows.{Table}
 use Rattle.key_model.proofs.OverlapLaws.{same_address-refl, same_address-true}
-use Rattle.endpoint_model.specs.Verdicts.{Judgement, Refuse, Admit}
+use Rattle.endpoint_model.specs.Verdicts.{Judgement}
 use Rattle.format_model.specs.Captures.{Stored, Connection, Heard, joins, with_connection, fixed, same_isns, most_connections, connection_between, hear_syn_ack, hear_later, hear_judged, judge_stored, pair_at, hear_at, hear_read, hear, sayings_from}
 use Rattle.format_model.specs.Connections.{connections_after, IsMap}
 
@@ -145,10 +145,10 @@ later_map held d n j None m = m
 later_map held d n j (Some c) m = with_map _ held m
 
 judged_map : (held : List Connection) (d : Segment) (known : Option Connection) (j : Judgement) → IsMapOf held → IsMapOf (hear_judged held d known j).connections
-judged_map held d known (Refuse why) m = m
-judged_map held d known (Admit p) m =
-    full_map (not (has SYN d)) held (hear_later held d p.number (Admit p) known) _ (later_map held d p.number (Admit p) known m)
-    (full_map (has ACK d) held (hear_syn_ack held d (Admit p) known) _ (syn_ack_map held d (Admit p) known m) m)
+judged_map held d known (Err why) m = m
+judged_map held d known (Ok p) m =
+    full_map (not (has SYN d)) held (hear_later held d p.number (Ok p) known) _ (later_map held d p.number (Ok p) known m)
+    (full_map (has ACK d) held (hear_syn_ack held d (Ok p) known) _ (syn_ack_map held d (Ok p) known m) m)
 
 at_map : (t : Option Table) (held : List Connection) (now : ℕ) (d : Segment) → IsMapOf held → IsMapOf (hear_at t held now d).connections
 at_map None held now d m = m

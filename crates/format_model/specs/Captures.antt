@@ -2,7 +2,7 @@
 -- and 7.5, and own). Its top is `capture_run`.
 use Rattle.std.specs.Prelude.{ℕ, ◌+◌, ◌-◌, ◌%◌, ◌==◌, max, nat_lt, nat_le, Bool, true, false, not}
 use Rattle.std.specs.Prelude.{◌&&◌, ◌||◌, List, [], ◌∷◌, ◌++◌, length, codes, decimal, Option, Some}
-use Rattle.std.specs.Prelude.{None, option_map, if◌then◌else◌}
+use Rattle.std.specs.Prelude.{None, option_map, if◌then◌else◌, Ok, Err}
 use Rattle.std.specs.List.{find, list_any, flat_map}
 use Rattle.ao_base.specs.declared.address.Pair.{Pair}
 use Rattle.ao_base.specs.declared.address.Socket.{Socket}
@@ -13,7 +13,7 @@ use Rattle.segment_model.specs.declared.fault.DatagramFault.{DatagramFault}
 use Rattle.segment_model.specs.Segments.{Segment, Reading, Read, Bad, reading, good, has, SYN, ACK}
 use Rattle.segment_model.specs.Segments.{segment_length}
 use Rattle.key_model.specs.Rows.{Row, Table, has_address}
-use Rattle.endpoint_model.specs.Verdicts.{Finding, Judgement, Refuse, Admit, judge}
+use Rattle.endpoint_model.specs.Verdicts.{Finding, Judgement, Known, judge}
 use Rattle.link_model.specs.Reports.{verdict_text}
 use Rattle.line_model.specs.Texts.{numbered_text}
 use Rattle.format_model.specs.DatagramTexts.{checksum_text}
@@ -78,16 +78,22 @@ acknowledged_isn d = (d.acknowledgement + (ring - 1)) % ring
 -- the verdict on a segment without SYN, by what is known of its connection (RFC 5925, section
 -- 7.5, and own)
 abbrev pub judge_later : List Row → Pair → ℕ → Segment → Option Connection → Judgement
-judge_later rows pair now d None = judge rows pair 0 None None now d
+judge_later rows pair now d None =
+    judge rows pair (record { own_isn = 0; peer_isn = None; expected = None }) now d
 judge_later rows pair now d (Some c) =
-    judge rows pair c.two.isn (Some c.one.isn) (Some c.one.expected) now d
+    let known : Known = record {
+      own_isn = c.two.isn;
+      peer_isn = Some c.one.isn;
+      expected = Some c.one.expected;
+    } in
+    judge rows pair known now d
 
 -- the verdict on a segment; a SYN tells its own initial sequence number, and with ACK the other
 -- one (RFC 5925, section 5.2)
 abbrev pub judge_stored : List Row → Pair → ℕ → Segment → Option Connection → Judgement
-judge_stored rows pair now d known =
-    if has SYN d then judge rows pair (acknowledged_isn d) None None now d
-    else judge_later rows pair now d known
+judge_stored rows pair now d held =
+    let opening : Known = record { own_isn = acknowledged_isn d; peer_isn = None; expected = None } in
+    if has SYN d then judge rows pair opening now d else judge_later rows pair now d held
 
 -- the connection that a SYN with ACK fixes (RFC 9293, section 3.5)
 abbrev pub fixed : Segment → Connection
@@ -134,12 +140,12 @@ hear_later held d n j (Some c) =
 -- what is said of a segment with its verdict, and the connections after it; a SYN alone fixes
 -- nothing (own)
 abbrev pub hear_judged : List Connection → Segment → Option Connection → Judgement → Heard
-hear_judged held d known (Refuse why) =
-    record { connections = held; saying = Judged (Refuse why) (good d) }
-hear_judged held d known (Admit p) =
-    if not (has SYN d) then hear_later held d p.number (Admit p) known
-    else if has ACK d then hear_syn_ack held d (Admit p) known
-    else record { connections = held; saying = Judged (Admit p) (good d) }
+hear_judged held d known (Err why) =
+    record { connections = held; saying = Judged (Err why) (good d) }
+hear_judged held d known (Ok p) =
+    if not (has SYN d) then hear_later held d p.number (Ok p) known
+    else if has ACK d then hear_syn_ack held d (Ok p) known
+    else record { connections = held; saying = Judged (Ok p) (good d) }
 
 -- the pair of a segment as its destination sees it (own)
 abbrev pub pair_at : Segment → Pair
@@ -174,16 +180,16 @@ sayings_from tables held (s ∷ rest) =
 abbrev pub saying_texts : Saying → List (List ℕ)
 saying_texts (Unreadable fault) = codes "bad" ∷ fault_text fault ∷ []
 saying_texts UnknownNode = codes "unknown-node" ∷ []
-saying_texts (Judged (Admit p) right) =
+saying_texts (Judged (Ok p) right) =
     codes "pass" ∷ codes "row" ∷ decimal p.row ∷ codes "number" ∷ decimal p.number
     ∷ codes "checksum" ∷ checksum_text right ∷ []
-saying_texts (Judged (Refuse why) right) =
+saying_texts (Judged (Err why) right) =
     codes "refused" ∷ verdict_text why ∷ codes "checksum" ∷ checksum_text right ∷ []
 saying_texts (TooManyConnections right) = codes "full" ∷ codes "checksum" ∷ checksum_text right ∷ []
 
 -- what is said is a pass, whatever the checksum (own)
 abbrev pub is_pass : Saying → Bool
-is_pass (Judged (Admit p) right) = true
+is_pass (Judged (Ok p) right) = true
 is_pass _ = false
 
 -- the lines of stored datagrams with what is said of them (own)

@@ -1,5 +1,5 @@
 -- What makes the check pass.
-use Rattle.std.proofs.Common.{◌≡◌, ℕ, ◌+◌, ◌-◌, ◌%◌, ◌≤◌, ◌<◌, ◌==◌, Bool, true, false, not, ◌&&◌, List, [], ◌∷◌, length, Option, Some, None, ◌⊎◌, ⊎_elim, if◌then◌else◌, refl, sym, ap, ◌∙◌, arith, nat_lt, nat_le}
+use Rattle.std.proofs.Common.{◌≡◌, ℕ, ◌+◌, ◌-◌, ◌%◌, ◌≤◌, ◌<◌, ◌==◌, Bool, true, false, not, ◌&&◌, List, [], ◌∷◌, length, Option, Some, None, ◌⊎◌, ⊎_elim, if◌then◌else◌, refl, sym, ap, ◌∙◌, arith, nat_lt, nat_le, Ok}
 use Rattle.std.specs.Prelude.{is_some}
 use Rattle.std.proofs.lemmas.Bool.Decides.{nat_tests}
 use Rattle.ao_base.specs.declared.address.Socket.{Socket}
@@ -16,8 +16,9 @@ use Rattle.key_model.specs.Rows.{Row}
 use Rattle.key_model.specs.Choices.{Numbered, accept_row}
 use Rattle.key_model.proofs.OverlapLaws.{same_address-refl}
 use Rattle.endpoint_model.specs.States.{EndState}
-use Rattle.endpoint_model.specs.Verdicts.{Admit, mac_of, found_with, judge_mac, judge_number, number_of, judge_context, judge_row, judge_ao, judge}
-use Rattle.endpoint_model.specs.Arrivals.{number_expected, judged_by}
+use Rattle.endpoint_model.specs.Verdicts.{Judgement, mac_of, found_with, number_of}
+use Rattle.endpoint_model.proofs.JudgeSteps.{judge_mac, judge_number, judge_context, judge_row, judge_ao, judge_by_steps}
+use Rattle.endpoint_model.specs.Arrivals.{number_expected, numbers_known, judged_by}
 use Rattle.link_laws.proofs.Tests.{choose}
 use Rattle.link_model.specs.Worlds.{is_known}
 use Rattle.link_laws.proofs.Sessions.{known_is}
@@ -92,10 +93,10 @@ context_met d isn peer_isn later_peer receiver_isn receiver_peer c e keeps to = 
 -- ---- the verdict
 
 pass_number : (r : Numbered) (d : Segment) (ao : Ao) (c : List ℕ) (n : ℕ) → nat_lt 9223372036854775808 (n + segment_length d) ≡ false → same_bytes ao.mac (mac_of (found_with r d ao c n)) ≡ true
-    → judge_number r d ao c (Some n) ≡ Admit (found_with r d ao c n)
+    → judge_number r d ao c (Some n) ≡ Ok (found_with r d ao c n)
 pass_number r d ao c n range right =
-    choose (λ v. v ≡ Admit (found_with r d ao c n)) (nat_lt 9223372036854775808 (n + segment_length d)) _ (judge_mac ao (found_with r d ao c n)) (λ t. absurd (cc)) (λ t.
-    choose (λ v. v ≡ Admit (found_with r d ao c n)) (same_bytes ao.mac (mac_of (found_with r d ao c n))) (Admit (found_with r d ao c n)) _ (λ t. refl) (λ t. absurd (cc)))
+    choose (λ (v : Judgement). v ≡ Ok (found_with r d ao c n)) (nat_lt 9223372036854775808 (n + segment_length d)) _ (judge_mac ao (found_with r d ao c n)) (λ t. absurd (cc)) (λ t.
+    choose (λ (v : Judgement). v ≡ Ok (found_with r d ao c n)) (same_bytes ao.mac (mac_of (found_with r d ao c n))) (Ok (found_with r d ao c n)) _ (λ t. refl) (λ t. absurd (cc)))
 
 -- all that a pass needs
 pub record Passes (rows : List Row) (pair : Pair) (now : ℕ) (s : EndState) (d : Segment) (ao : Ao) (r : Numbered) (c : List ℕ) (n : ℕ) : Type 0 where
@@ -109,24 +110,23 @@ pub record Passes (rows : List Row) (pair : Pair) (now : ℕ) (s : EndState) (d 
   pub right : same_bytes ao.mac (mac_of (found_with r d ao c n)) ≡ true
 
 pass_context : (rows : List Row) (pair : Pair) (now : ℕ) (s : EndState) (d : Segment) (ao : Ao) (r : Numbered) (c : List ℕ) (n : ℕ) → Passes rows pair now s d ao r c n
-    → judge_context r d ao (number_expected s s.peer_isn) (Some c) ≡ Admit (found_with r d ao c n)
+    → judge_context r d ao (number_expected s s.peer_isn) (Some c) ≡ Ok (found_with r d ao c n)
 pass_context rows pair now s d ao r c n h =
-    let goal = Admit (found_with r d ao c n) in
+    let goal : Judgement = Ok (found_with r d ao c n) in
     let expects = h.expects in
-    choose (λ v. v ≡ goal) (not (has SYN d) && not (is_some (number_expected s s.peer_isn))) _ (judge_number r d ao c (number_of d (number_expected s s.peer_isn))) (λ t. absurd (cc)) (λ t.
+    choose (λ (v : Judgement). v ≡ goal) (not (has SYN d) && not (is_some (number_expected s s.peer_isn))) _ (judge_number r d ao c (number_of d (number_expected s s.peer_isn))) (λ t. absurd (cc)) (λ t.
     ap (judge_number r d ao c) h.number ∙ pass_number r d ao c n h.range h.right)
 
 pass_row : (rows : List Row) (pair : Pair) (now : ℕ) (s : EndState) (d : Segment) (ao : Ao) (r : Numbered) (c : List ℕ) (n : ℕ) → Passes rows pair now s d ao r c n
-    → judge_row rows pair d ao (number_expected s s.peer_isn) (Some c) (Some r) ≡ Admit (found_with r d ao c n)
+    → judge_row rows pair d ao (number_expected s s.peer_isn) (Some c) (Some r) ≡ Ok (found_with r d ao c n)
 pass_row rows pair now s d ao r c n h =
-    let goal = Admit (found_with r d ao c n) in
+    let goal : Judgement = Ok (found_with r d ao c n) in
     let long = h.long in
-    choose (λ v. v ≡ goal) (not (length ao.mac == mac_length_of r.row.algorithm)) _ (judge_context r d ao (number_expected s s.peer_isn) (Some c)) (λ t. absurd (grind (arith, nat_tests))) (λ t. pass_context rows pair now s d ao r c n h)
+    choose (λ (v : Judgement). v ≡ goal) (not (length ao.mac == mac_length_of r.row.algorithm)) _ (judge_context r d ao (number_expected s s.peer_isn) (Some c)) (λ t. absurd (grind (arith, nat_tests))) (λ t. pass_context rows pair now s d ao r c n h)
 
 pub judged_pass : (rows : List Row) (pair : Pair) (now : ℕ) (s : EndState) (d : Segment) (ao : Ao) (r : Numbered) (c : List ℕ) (n : ℕ) → Passes rows pair now s d ao r c n
-    → judged_by rows pair now s d ≡ Admit (found_with r d ao c n)
-unfolding judge
+    → judged_by rows pair now s d ≡ Ok (found_with r d ao c n)
 judged_pass rows pair now s d ao r c n h =
     let x = number_expected s s.peer_isn in
-    ap (λ o. judge_ao rows pair now x d o (find_ao d.area)) h.known ∙ ap (judge_ao rows pair now x d (Some c)) h.option
+    judge_by_steps rows pair (numbers_known s) now d ∙ ap (λ o. judge_ao rows pair now x d o (find_ao d.area)) h.known ∙ ap (judge_ao rows pair now x d (Some c)) h.option
     ∙ ap (judge_row rows pair d ao x (Some c)) h.accepts ∙ pass_row rows pair now s d ao r c n h

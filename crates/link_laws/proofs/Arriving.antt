@@ -1,5 +1,5 @@
 -- What an arrival may do, and what is known of one that passes.
-use Rattle.std.proofs.Common.{◌≡◌, ℕ, ◌+◌, ◌%◌, ◌^◌, ◌<◌, ◌==◌, Bool, true, false, not, ◌&&◌, List, length, Option, Some, None, ◌⊎◌, inl, inr, if◌then◌else◌, refl, sym, ap, ◌∙◌, subst, arith, nat_lt}
+use Rattle.std.proofs.Common.{◌≡◌, ℕ, ◌+◌, ◌%◌, ◌^◌, ◌<◌, ◌==◌, Bool, true, false, not, ◌&&◌, List, length, Option, Some, None, ◌⊎◌, inl, inr, if◌then◌else◌, refl, sym, ap, ◌∙◌, subst, arith, nat_lt, Ok, Err}
 use Rattle.std.specs.Prelude.{⊤, is_some}
 use Rattle.ao_base.specs.declared.address.Address.{Address}
 use Rattle.ao_base.specs.declared.address.Address.TheVariants.{V4, V6}
@@ -23,10 +23,11 @@ use Rattle.endpoint_model.specs.declared.phase.Phase.{Phase}
 use Rattle.endpoint_model.specs.declared.phase.Phase.TheVariants.{Listen, SynSent}
 use Rattle.endpoint_model.specs.States.{EndState, is_closed}
 use Rattle.endpoint_model.specs.declared.verdict.Verdict.TheVariants.{NoTuple, Expired, MacLength, NoContext, Range, BadMac}
-use Rattle.endpoint_model.specs.Verdicts.{Finding, Judgement, Refuse, Admit, mac_of, found_with, judge_number, number_of, judge_context, judge_row, judge_ao, judge}
+use Rattle.endpoint_model.specs.Verdicts.{Finding, Judgement, mac_of, found_with, number_of}
+use Rattle.endpoint_model.proofs.JudgeSteps.{judge_number, judge_context, judge_row, judge_ao, judge_by_steps}
 use Rattle.endpoint_model.specs.declared.arrival.Arrival.{Arrival}
 use Rattle.endpoint_model.specs.declared.arrival.Arrival.TheVariants.{Bad, Foreign, Checksum, Closed as AtClosed, Refused, Reset}
-use Rattle.endpoint_model.specs.Arrivals.{Arrived, unmoved, heard, after_check, arrive_judged, number_expected, judged_by, from_peer, arrive_read, arrive}
+use Rattle.endpoint_model.specs.Arrivals.{Arrived, unmoved, heard, after_check, arrive_judged, number_expected, numbers_known, judged_by, from_peer, arrive_read, arrive}
 use Rattle.link_laws.proofs.Tests.{choose, not_false}
 use Rattle.link_laws.proofs.Phases.{waits}
 use Rattle.link_laws.proofs.Sound.{Sound, Later, later_refl, steady_later, steady_sound}
@@ -65,30 +66,30 @@ pub record Judged (s : EndState) (d : Segment) (p : Finding) : Type 0 where
   pub number : IsNumber d p.number
 
 abbrev JudgedIf : EndState → Segment → Judgement → Type 0
-JudgedIf s d (Refuse why) = ⊤
-JudgedIf s d (Admit p) = Judged s d p
+JudgedIf s d (Err why) = ⊤
+JudgedIf s d (Ok p) = Judged s d p
 
 module _ (rows : List Row) (pair : Pair) (now : ℕ) (s : EndState) (d : Segment) (fits : d.sequence < ring) (x : Option ℕ) where
   number_judged : (r : Numbered) (ao : Ao) (c : List ℕ) (n : Option ℕ) → number_of d x ≡ n → find_ao d.area ≡ One ao → length ao.mac ≡ mac_length_of r.row.algorithm → context_of d s.peer_isn (Some s.isn) ≡ Some c
       → JudgedIf s d (judge_number r d ao c n)
   number_judged r ao c None is option long known = tt
   number_judged r ao c (Some n) is option long known =
-      choose (JudgedIf s d) (nat_lt 9223372036854775808 (n + segment_length d)) (Refuse Range) _ (λ t. tt) (λ t.
+      choose (JudgedIf s d) (nat_lt 9223372036854775808 (n + segment_length d)) (Err Range) _ (λ t. tt) (λ t.
       let low = lt_not 9223372036854775808 (n + segment_length d) t in
       let p = found_with r d ao c n in
-      choose (JudgedIf s d) (same_bytes ao.mac (mac_of p)) (Admit p) (Refuse BadMac)
+      choose (JudgedIf s d) (same_bytes ao.mac (mac_of p)) (Ok p) (Err BadMac)
       (λ right. record { ao = ao; option = option; mac_long = long; context = known; flag = r.row.with_options; input = refl; small = omega arith; number = number_told d x n fits is })
       (λ wrong. tt))
 
   context_judged : (r : Numbered) (ao : Ao) (o : Option (List ℕ)) → find_ao d.area ≡ One ao → length ao.mac ≡ mac_length_of r.row.algorithm → context_of d s.peer_isn (Some s.isn) ≡ o → JudgedIf s d (judge_context r d ao x o)
   context_judged r ao None option long known = tt
   context_judged r ao (Some c) option long known =
-      choose (JudgedIf s d) (not (has SYN d) && not (is_some x)) (Refuse NoContext) _ (λ t. tt) (λ t. number_judged r ao c (number_of d x) refl option long known)
+      choose (JudgedIf s d) (not (has SYN d) && not (is_some x)) (Err NoContext) _ (λ t. tt) (λ t. number_judged r ao c (number_of d x) refl option long known)
 
   row_judged : (ao : Ao) (o : Option (List ℕ)) (r : Option Numbered) → find_ao d.area ≡ One ao → context_of d s.peer_isn (Some s.isn) ≡ o → JudgedIf s d (judge_row rows pair d ao x o r)
-  row_judged ao o None option known = choose (JudgedIf s d) (has_id rows pair ao.key_id) (Refuse Expired) (Refuse NoTuple) (λ t. tt) (λ t. tt)
+  row_judged ao o None option known = choose (JudgedIf s d) (has_id rows pair ao.key_id) (Err Expired) (Err NoTuple) (λ t. tt) (λ t. tt)
   row_judged ao o (Some r) option known =
-      choose (JudgedIf s d) (not (length ao.mac == mac_length_of r.row.algorithm)) (Refuse MacLength) _ (λ t. tt)
+      choose (JudgedIf s d) (not (length ao.mac == mac_length_of r.row.algorithm)) (Err MacLength) _ (λ t. tt)
       (λ t. context_judged r ao o option (eqb_is (length ao.mac) (mac_length_of r.row.algorithm) (not_false (length ao.mac == mac_length_of r.row.algorithm) t)) known)
 
   ao_judged : (o : Option (List ℕ)) (f : AoFound) → context_of d s.peer_isn (Some s.isn) ≡ o → find_ao d.area ≡ f → JudgedIf s d (judge_ao rows pair now x d o f)
@@ -98,8 +99,9 @@ module _ (rows : List Row) (pair : Pair) (now : ℕ) (s : EndState) (d : Segment
   ao_judged o (One ao) known option = row_judged ao o (accept_row rows pair ao.key_id now) option known
 
 judged : (rows : List Row) (pair : Pair) (now : ℕ) (s : EndState) (d : Segment) → d.sequence < ring → JudgedIf s d (judged_by rows pair now s d)
-unfolding judge
-judged rows pair now s d fits = ao_judged rows pair now s d fits (number_expected s s.peer_isn) (context_of d s.peer_isn (Some s.isn)) (find_ao d.area) refl refl
+judged rows pair now s d fits =
+    subst (JudgedIf s d) (sym (judge_by_steps rows pair (numbers_known s) now d))
+    (ao_judged rows pair now s d fits (number_expected s s.peer_isn) (context_of d s.peer_isn (Some s.isn)) (find_ao d.area) refl refl)
 
 -- ---- the arrival
 
@@ -151,8 +153,8 @@ unheard s _ is h w = tt
 
 verdict_ok : (rows : List Row) (pair : Pair) (now : ℕ) (s : EndState) (bytes : List ℕ) (d : Segment) (v : Judgement) → reading bytes ≡ Read d → Fits d → d.source ≡ pair.remote → d.destination ≡ pair.local
     → JudgedIf s d v → Sound s → Whole s → ArrivedOk pair s bytes (arrive_judged rows pair now s d v)
-verdict_ok rows pair now s bytes d (Refuse why) reads fits source destination j h whole = still_ok pair s bytes (Refused why) (λ e. absurd (cc)) h whole
-verdict_ok rows pair now s bytes d (Admit p) reads fits source destination j h whole =
+verdict_ok rows pair now s bytes d (Err why) reads fits source destination j h whole = still_ok pair s bytes (Refused why) (λ e. absurd (cc)) h whole
+verdict_ok rows pair now s bytes d (Ok p) reads fits source destination j h whole =
     let sequence = fits.sequence in
     let moved = after_check pair s (heard rows pair now s p.rnext_key_id) d p.number now s.phase in
     let m : MovedOk s d moved =

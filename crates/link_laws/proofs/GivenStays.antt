@@ -1,5 +1,5 @@
 -- What was given stays as it is, whatever comes and whatever is made.
-use Rattle.std.proofs.Common.{◌≡◌, ℕ, ◌+◌, ◌-◌, ◌%◌, ◌==◌, min, nat_lt, nat_le, Bool, true, false, not, ◌&&◌, ◌||◌, List, length, Option, Some, None, refl}
+use Rattle.std.proofs.Common.{◌≡◌, ℕ, ◌+◌, ◌-◌, ◌%◌, ◌==◌, min, nat_lt, nat_le, Bool, true, false, not, ◌&&◌, ◌||◌, List, length, Option, Some, None, refl, Ok, Err}
 use Rattle.std.specs.Prelude.{⊤, is_some}
 use Rattle.ao_base.specs.declared.address.Pair.{Pair}
 use Rattle.segment_model.specs.Bytes.{ring}
@@ -13,7 +13,7 @@ use Rattle.endpoint_model.specs.declared.arrival.Arrival.TheVariants.{Foreign, C
 use Rattle.endpoint_model.specs.declared.phase.Phase.{Phase}
 use Rattle.endpoint_model.specs.declared.phase.Phase.TheVariants.{Listen, SynSent, SynReceived, Established, TimeWait}
 use Rattle.endpoint_model.specs.States.{EndState, window, hears, is_closed, given_end}
-use Rattle.endpoint_model.specs.Verdicts.{Judgement, Refuse, Admit}
+use Rattle.endpoint_model.specs.Verdicts.{Judgement}
 use Rattle.endpoint_model.specs.Arrivals.{Moved, Arrived, answered, owing, above, fits_window, rested, finish, past_fin, pass_fin, fin_of, records_fin, heard_runs, hear_data, after_own_fin, acked_fin, windowed, acked, go_on, acknowledged, reset, ordinary, syn_alone, syn_ack_alone, after_check, unmoved, heard, arrive_judged, judged_by, from_peer, arrive_read, arrive}
 use Rattle.endpoint_model.specs.Emissions.{Draft, Emitted, Quiet, NoKey, Emits, is_silent, is_syn_sent, is_syn_received, unsent, rst_draft, syn_draft, syn_ack_draft, data_draft, again_draft, fin_draft, fin_again_draft, ack_draft, sends_data, sends_fin, fitting, to_emit, resends, unacknowledged, is_blocked, probe, to_resend, most_bytes, blank, seal_known, keyed, emitted, emit, resend}
 use Rattle.link_laws.proofs.Tests.{choose}
@@ -95,8 +95,8 @@ module _ (g : List ℕ) where
 
 -- an arrival leaves what was given
 judged_given : (rows : List Row) (pair : Pair) (now : ℕ) (s : EndState) (d : Segment) (v : Judgement) → (arrive_judged rows pair now s d v).state.given ≡ s.given
-judged_given rows pair now s d (Refuse why) = refl
-judged_given rows pair now s d (Admit p) = after_check_leaves s.given pair s (heard rows pair now s p.rnext_key_id) d p.number now s.phase refl refl
+judged_given rows pair now s d (Err why) = refl
+judged_given rows pair now s d (Ok p) = after_check_leaves s.given pair s (heard rows pair now s p.rnext_key_id) d p.number now s.phase refl refl
 
 read_given : (rows : List Row) (pair : Pair) (now : ℕ) (s : EndState) (r : Reading) → (arrive_read rows pair now s r).state.given ≡ s.given
 read_given rows pair now s (Unread fault) = refl

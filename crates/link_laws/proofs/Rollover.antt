@@ -1,5 +1,5 @@
 -- Between aligned tables a segment that is delivered as made passes the check.
-use Rattle.std.proofs.Common.{◌≡◌, ℕ, ◌%◌, ◌^◌, ◌<◌, Bool, true, false, not, ◌&&◌, List, [], ◌∷◌, length, Option, Some, None, ◌⊎◌, inl, inr, if◌then◌else◌, refl, sym, ap, ◌∙◌, subst, arith}
+use Rattle.std.proofs.Common.{◌≡◌, ℕ, ◌%◌, ◌^◌, ◌<◌, Bool, true, false, not, ◌&&◌, List, [], ◌∷◌, length, Option, Some, None, ◌⊎◌, inl, inr, if◌then◌else◌, refl, sym, ap, ◌∙◌, subst, arith, Ok}
 use Rattle.std.specs.Prelude.{is_some}
 use Rattle.std.specs.List.{AllByRecursion}
 use Rattle.std.proofs.lemmas.Bool.Decides.{nat_tests}
@@ -22,7 +22,7 @@ use Rattle.key_model.specs.Plans.{mirrored, IsMet, AlignedFrom}
 use Rattle.key_model.proofs.SendingLaws.{chosen}
 use Rattle.key_model.proofs.PlanLaws.{Meets, meets, same_key_tells}
 use Rattle.endpoint_model.specs.States.{EndState, is_closed}
-use Rattle.endpoint_model.specs.Verdicts.{Key, key_of, Finding, Admit, mac_of, found_with, number_of}
+use Rattle.endpoint_model.specs.Verdicts.{Key, key_of, Finding, mac_of, found_with, number_of}
 use Rattle.endpoint_model.specs.declared.arrival.Arrival.{Arrival}
 use Rattle.endpoint_model.specs.declared.arrival.Arrival.TheVariants.{Foreign, Checksum, Closed as AtClosed, Unexpected, Window, Challenge, NoAck, BadAck, TooManyRuns, Reset, Taken}
 use Rattle.endpoint_model.specs.Arrivals.{Arrived, unmoved, heard, after_check, arrive_judged, number_expected, judged_by, from_peer, arrive_read, arrive}
@@ -54,7 +54,7 @@ heard_by a (inr (inr (inr (inr (inr (inl e)))))) = subst IsHeard (sym e) tt
 heard_by a (inr (inr (inr (inr (inr (inr (inl e))))))) = subst IsHeard (sym e) tt
 heard_by a (inr (inr (inr (inr (inr (inr (inr e))))))) = subst IsHeard (sym e) tt
 
-pass_heard : (rows : List Row) (pair : Pair) (now : ℕ) (s : EndState) (d : Segment) (p : Finding) → (has SYN d ≡ true → p.number < 2 ^ 32) → Sound s → IsHeard (arrive_judged rows pair now s d (Admit p)).answer
+pass_heard : (rows : List Row) (pair : Pair) (now : ℕ) (s : EndState) (d : Segment) (p : Finding) → (has SYN d ≡ true → p.number < 2 ^ 32) → Sound s → IsHeard (arrive_judged rows pair now s d (Ok p)).answer
 pass_heard rows pair now s d p fits h =
     let moved = after_check pair s (heard rows pair now s p.rnext_key_id) d p.number now s.phase in
     let m : MovedOk s d moved = after_check_ok pair s (follow s.current rows pair p.rnext_key_id now) d p.number now s.phase refl fits h in
@@ -165,7 +165,7 @@ pub record Judges (rows : List Row) (pair : Pair) (now : ℕ) (s : EndState) (d 
   pub number : found.number ≡ n
   pub message : found.input ≡ input
   pub syn : has SYN d ≡ true → n < 2 ^ 32
-  pub verdict : judged_by rows pair now s d ≡ Admit found
+  pub verdict : judged_by rows pair now s d ≡ Ok found
   pub ours : from_peer pair d ≡ true
 
 key_met : (a b : Row) → a.algorithm ≡ b.algorithm → a.master ≡ b.master → key_of a ≡ key_of b

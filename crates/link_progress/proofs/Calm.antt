@@ -1,5 +1,5 @@
 -- What holds of an end before and in SYN-RECEIVED: nothing but the SYN was sent, and nothing was heard but the peer's.
-use Rattle.std.proofs.Common.{◌≡◌, ℕ, ◌+◌, ◌%◌, ◌≤◌, ◌==◌, min, Bool, true, false, not, ◌&&◌, nat_lt, List, [], ◌∷◌, length, replicate, Option, Some, None, ◌⊎◌, inl, inr, ◌-◌, if◌then◌else◌, refl, ap, subst, arith}
+use Rattle.std.proofs.Common.{◌≡◌, ℕ, ◌+◌, ◌%◌, ◌≤◌, ◌==◌, min, Bool, true, false, not, ◌&&◌, nat_lt, List, [], ◌∷◌, length, replicate, Option, Some, None, ◌⊎◌, inl, inr, ◌-◌, if◌then◌else◌, refl, ap, subst, arith, Ok, Err}
 use Rattle.std.specs.Prelude.{⊤, is_some}
 use Rattle.std.specs.List.{AllByRecursion}
 use Rattle.ao_base.specs.declared.address.Pair.{Pair}
@@ -18,7 +18,7 @@ use Rattle.endpoint_model.specs.declared.phase.Phase.{Phase}
 use Rattle.endpoint_model.specs.declared.phase.Phase.TheVariants.{Listen, SynSent, SynReceived, Established, FinWait1, FinWait2, CloseWait, Closing, LastAck, TimeWait, Closed}
 use Rattle.endpoint_model.specs.declared.arrival.Arrival.TheVariants.{Foreign, Checksum, Closed as AtClosed, BadAck}
 use Rattle.endpoint_model.specs.States.{EndState, first, window, is_closed, given_end, room, gives, give, close_in, abort, is_due, tick_in, connected, listening, started}
-use Rattle.endpoint_model.specs.Verdicts.{Judgement, Refuse, Admit}
+use Rattle.endpoint_model.specs.Verdicts.{Judgement}
 use Rattle.endpoint_model.specs.Arrivals.{Moved, Arrived, answered, owing, above, fits_window, rested, past_fin, pass_fin, fin_of, records_fin, heard_runs, hear_data, after_own_fin, acked_fin, windowed, acked, go_on, acknowledged, ordinary, syn_alone, syn_ack_alone, after_check, unmoved, arrive_judged, judged_by, from_peer, arrive_read, arrive}
 use Rattle.endpoint_model.specs.Emissions.{Draft, Emitted, Quiet, NoKey, is_sending, is_silent, is_syn_sent, is_syn_received, fin_sent, unsent, rst_draft, syn_draft, syn_ack_draft, data_draft, again_draft, fin_draft, fin_again_draft, ack_draft, sends_data, sends_fin, fitting, to_emit, resends, unacknowledged, is_blocked, probe, to_resend, most_bytes, blank, seal_known, keyed, emitted, emit, resend}
 use Rattle.link_model.specs.Alterations.{has_place, altered}
@@ -273,8 +273,8 @@ check_calm pair s c d n now _ is h =
     pick_moved (fits_window n (segment_length d) s.expected (window s)) _ _ (ordinary_calm s c d n now (inl (ap is_before is)) h) (choose Calm (has RST d) s (owing s) (λ e. h) (λ e. h))
 
 judged_calm : (rows : List Row) (pair : Pair) (now : ℕ) (s : EndState) (d : Segment) (j : Judgement) → Calm s → Calm (arrive_judged rows pair now s d j).state
-judged_calm rows pair now s d (Refuse why) h = h
-judged_calm rows pair now s d (Admit p) h = check_calm pair s (follow s.current rows pair p.rnext_key_id now) d p.number now s.phase refl h
+judged_calm rows pair now s d (Err why) h = h
+judged_calm rows pair now s d (Ok p) h = check_calm pair s (follow s.current rows pair p.rnext_key_id now) d p.number now s.phase refl h
 
 read_calm : (rows : List Row) (pair : Pair) (now : ℕ) (s : EndState) (r : Reading) → Calm s → Calm (arrive_read rows pair now s r).state
 read_calm rows pair now s (Unread fault) h = h

@@ -1,5 +1,5 @@
 -- The timer of an end runs while something that it sent isn't acknowledged.
-use Rattle.std.proofs.Common.{◌≡◌, ℕ, zero, suc, ◌+◌, ◌-◌, ◌<◌, ◌≤◌, ◌==◌, min, max, Bool, true, false, not, ◌&&◌, nat_lt, List, [], ◌∷◌, ◌++◌, length, replicate, Option, Some, None, if◌then◌else◌, refl, sym, ap, ◌∙◌, subst, arith}
+use Rattle.std.proofs.Common.{◌≡◌, ℕ, zero, suc, ◌+◌, ◌-◌, ◌<◌, ◌≤◌, ◌==◌, min, max, Bool, true, false, not, ◌&&◌, nat_lt, List, [], ◌∷◌, ◌++◌, length, replicate, Option, Some, None, if◌then◌else◌, refl, sym, ap, ◌∙◌, subst, arith, Ok, Err}
 use Rattle.std.specs.Prelude.{⊤, is_some}
 use Rattle.ao_base.specs.declared.address.Pair.{Pair}
 use Rattle.ao_base.specs.declared.end.End.{End}
@@ -14,7 +14,7 @@ use Rattle.endpoint_model.specs.declared.phase.Phase.{Phase}
 use Rattle.endpoint_model.specs.declared.phase.Phase.TheVariants.{Listen, SynSent, Closed, TimeWait}
 use Rattle.endpoint_model.specs.declared.arrival.Arrival.TheVariants.{Foreign, Checksum, Closed as AtClosed}
 use Rattle.endpoint_model.specs.States.{EndState, is_closed, room, gives, close_in, is_due, tick_in, connected, listening, started}
-use Rattle.endpoint_model.specs.Verdicts.{Judgement, Refuse, Admit}
+use Rattle.endpoint_model.specs.Verdicts.{Judgement}
 use Rattle.endpoint_model.specs.Arrivals.{Arrived, unmoved, from_peer, arrive_judged, judged_by, arrive_read, arrive}
 use Rattle.endpoint_model.specs.Emissions.{Draft, Emitted, Quiet, NoKey, Emits, is_sending, is_silent, is_syn_sent, is_syn_received, rst_draft, syn_draft, syn_ack_draft, data_draft, again_draft, fin_draft, fin_again_draft, ack_draft, sends_data, sends_fin, fitting, to_emit, resends, unacknowledged, is_blocked, probe, to_resend, most_bytes, seal_known, keyed, emitted, emit, resend, blank}
 use Rattle.endpoint_model.specs.States.{given_end}
@@ -139,8 +139,8 @@ waits_before SynSent e = refl
 waits_before _ e = absurd (cc)
 
 judged_una : (rows : List Row) (pair : Pair) (now : ℕ) (s : EndState) (d : Segment) (j : Judgement) → Calm s → s.una ≤ (arrive_judged rows pair now s d j).state.una
-judged_una rows pair now s d (Refuse why) h = omega arith
-judged_una rows pair now s d (Admit p) h = (check_on pair s (follow s.current rows pair p.rnext_key_id now) d p.number now s.phase refl (λ e. let at = h.oldest (waits_before s.phase e) in omega arith)).una
+judged_una rows pair now s d (Err why) h = omega arith
+judged_una rows pair now s d (Ok p) h = (check_on pair s (follow s.current rows pair p.rnext_key_id now) d p.number now s.phase refl (λ e. let at = h.oldest (waits_before s.phase e) in omega arith)).una
 
 read_una : (rows : List Row) (pair : Pair) (now : ℕ) (s : EndState) (r : Reading) → Calm s → s.una ≤ (arrive_read rows pair now s r).state.una
 read_una rows pair now s (Unread fault) h = omega arith

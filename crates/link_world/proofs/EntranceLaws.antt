@@ -1,5 +1,5 @@
 -- A segment that passed at an end is what a log is told of it.
-use Rattle.std.proofs.Common.{◌≡◌, ℕ, zero, suc, ◌+◌, ◌-◌, ◌==◌, ◌≤◌, ◌<◌, Bool, true, false, not, ◌&&◌, List, [], ◌∷◌, length, Option, Some, None, if◌then◌else◌, refl, sym, ap, ◌∙◌, subst, arith, nat_lt}
+use Rattle.std.proofs.Common.{◌≡◌, ℕ, zero, suc, ◌+◌, ◌-◌, ◌==◌, ◌≤◌, ◌<◌, Bool, true, false, not, ◌&&◌, List, [], ◌∷◌, length, Option, Some, None, if◌then◌else◌, refl, sym, ap, ◌∙◌, subst, arith, nat_lt, Ok, Err}
 use Rattle.std.specs.Prelude.{⊤, is_some, slice_get}
 use Rattle.ao_base.specs.declared.address.Pair.{Pair}
 use Rattle.ao_base.specs.declared.end.End.{End}
@@ -17,9 +17,10 @@ use Rattle.key_model.proofs.ChoiceLaws.{lowest-IsLowest}
 use Rattle.endpoint_model.specs.States.{EndState, is_closed}
 use Rattle.endpoint_model.specs.declared.verdict.Passed.{Passed}
 use Rattle.endpoint_model.specs.declared.verdict.Verdict.TheVariants.{NoTuple, Expired, MacLength, NoContext, Range, BadMac}
-use Rattle.endpoint_model.specs.Verdicts.{Finding, Judgement, Refuse, Admit, key_of, mac_of, found_with, judge_number, number_of, judge_context, judge_row, judge_ao, judge}
+use Rattle.endpoint_model.specs.Verdicts.{Finding, Judgement, key_of, mac_of, found_with, number_of}
+use Rattle.endpoint_model.proofs.JudgeSteps.{judge_number, judge_context, judge_row, judge_ao, judge_by_steps}
 use Rattle.endpoint_model.specs.declared.arrival.Arrival.TheVariants.{Foreign, Checksum, Closed as AtClosed}
-use Rattle.endpoint_model.specs.Arrivals.{Arrived, unmoved, arrive_judged, number_expected, judged_by, from_peer, arrive_read, arrive}
+use Rattle.endpoint_model.specs.Arrivals.{Arrived, unmoved, arrive_judged, number_expected, numbers_known, judged_by, from_peer, arrive_read, arrive}
 use Rattle.ao_check.specs.Verdicts.{Names}
 use Rattle.tcp_endpoint.specs.Arriving.{TellsPassed}
 use Rattle.tcp_endpoint.specs.declared.arrival.Arrived.{Arrived as Told}
@@ -80,25 +81,25 @@ IsNumbered None = ⊤
 IsNumbered (Some f) = 1 ≤ f.row
 
 abbrev AdmitsNumbered : Judgement → Type 0
-AdmitsNumbered (Refuse why) = ⊤
-AdmitsNumbered (Admit f) = 1 ≤ f.row
+AdmitsNumbered (Err why) = ⊤
+AdmitsNumbered (Ok f) = 1 ≤ f.row
 
 module _ (rows : List Row) (pair : Pair) (now : ℕ) (d : Segment) (x : Option ℕ) where
   number_numbered : (r : Numbered) (ao : Ao) (c : List ℕ) (n : Option ℕ) → 1 ≤ r.number → AdmitsNumbered (judge_number r d ao c n)
   number_numbered r ao c None low = tt
   number_numbered r ao c (Some n) low =
-      choose AdmitsNumbered (nat_lt 9223372036854775808 (n + segment_length d)) (Refuse Range) _ (λ t. tt)
-      (λ t. choose AdmitsNumbered (same_bytes ao.mac (mac_of (found_with r d ao c n))) (Admit (found_with r d ao c n)) (Refuse BadMac) (λ right. low) (λ wrong. tt))
+      choose AdmitsNumbered (nat_lt 9223372036854775808 (n + segment_length d)) (Err Range) _ (λ t. tt)
+      (λ t. choose AdmitsNumbered (same_bytes ao.mac (mac_of (found_with r d ao c n))) (Ok (found_with r d ao c n)) (Err BadMac) (λ right. low) (λ wrong. tt))
 
   context_numbered : (r : Numbered) (ao : Ao) (o : Option (List ℕ)) → 1 ≤ r.number → AdmitsNumbered (judge_context r d ao x o)
   context_numbered r ao None low = tt
   context_numbered r ao (Some c) low =
-      choose AdmitsNumbered (not (has SYN d) && not (is_some x)) (Refuse NoContext) _ (λ t. tt) (λ t. number_numbered r ao c (number_of d x) low)
+      choose AdmitsNumbered (not (has SYN d) && not (is_some x)) (Err NoContext) _ (λ t. tt) (λ t. number_numbered r ao c (number_of d x) low)
 
   row_numbered : (ao : Ao) (o : Option (List ℕ)) (r : Option Numbered) → ((n : Numbered) → r ≡ Some n → 1 ≤ n.number) → AdmitsNumbered (judge_row rows pair d ao x o r)
-  row_numbered ao o None low = choose AdmitsNumbered (has_id rows pair ao.key_id) (Refuse Expired) (Refuse NoTuple) (λ t. tt) (λ t. tt)
+  row_numbered ao o None low = choose AdmitsNumbered (has_id rows pair ao.key_id) (Err Expired) (Err NoTuple) (λ t. tt) (λ t. tt)
   row_numbered ao o (Some r) low =
-      choose AdmitsNumbered (not (length ao.mac == mac_length_of r.row.algorithm)) (Refuse MacLength) _ (λ t. tt) (λ t. context_numbered r ao o (low r refl))
+      choose AdmitsNumbered (not (length ao.mac == mac_length_of r.row.algorithm)) (Err MacLength) _ (λ t. tt) (λ t. context_numbered r ao o (low r refl))
 
   ao_numbered : (o : Option (List ℕ)) (f : AoFound) → AdmitsNumbered (judge_ao rows pair now x d o f)
   ao_numbered o Absent = tt
@@ -108,13 +109,14 @@ module _ (rows : List Row) (pair : Pair) (now : ℕ) (d : Segment) (x : Option �
       row_numbered ao o (accept_row rows pair ao.key_id now) (λ n e. (lowest-IsLowest (acceptable_as pair ao.key_id now) rows n e).low)
 
 judged_numbered : (rows : List Row) (pair : Pair) (now : ℕ) (s : EndState) (d : Segment) → AdmitsNumbered (judged_by rows pair now s d)
-unfolding judge
-judged_numbered rows pair now s d = ao_numbered rows pair now d (number_expected s s.peer_isn) (context_of d s.peer_isn (Some s.isn)) (find_ao d.area)
+judged_numbered rows pair now s d =
+    subst AdmitsNumbered (sym (judge_by_steps rows pair (numbers_known s) now d))
+    (ao_numbered rows pair now d (number_expected s s.peer_isn) (context_of d s.peer_isn (Some s.isn)) (find_ao d.area))
 
 verdict_numbered : (rows : List Row) (pair : Pair) (now : ℕ) (s : EndState) (d : Segment) (v : Judgement) → AdmitsNumbered v
     → IsNumbered (arrive_judged rows pair now s d v).passed
-verdict_numbered rows pair now s d (Refuse why) low = tt
-verdict_numbered rows pair now s d (Admit f) low = low
+verdict_numbered rows pair now s d (Err why) low = tt
+verdict_numbered rows pair now s d (Ok f) low = low
 
 read_numbered : (rows : List Row) (pair : Pair) (now : ℕ) (s : EndState) (r : Reading) → IsNumbered (arrive_read rows pair now s r).passed
 read_numbered rows pair now s (Unread fault) = tt

@@ -1,5 +1,5 @@
 -- An arrival that the check judged.
-use Rattle.std.proofs.Common.{◌≡◌, ℕ, Bool, true, false, not, List, Option, Some, None, refl, sym, ap, ◌∙◌, subst}
+use Rattle.std.proofs.Common.{◌≡◌, ℕ, Bool, true, false, not, List, Option, Some, None, refl, sym, ap, ◌∙◌, subst, Ok, Err}
 use Rattle.std.specs.Prelude.{if◌then◌else◌, is_some}
 use Rattle.ao_base.specs.declared.address.Pair.{Pair}
 use Rattle.segment_model.specs.Segments.{Segment, Read, reading, good}
@@ -36,31 +36,31 @@ check_move pair rows s d now id key n number p q =
     ap (λ z. book.after_check pair s (book.heard rows pair now s z) d n now s.phase) p ∙ ap (λ z. book.after_check pair s (book.heard rows pair now s key) d z now s.phase) q
 
 pub arrives_pass : (rows : List Row) (pair : Pair) (now : ℕ) (s : states.EndState) (bytes : List ℕ) (d : Segment) (entry : v.Finding) (e : Endpoint) (a : Arrival) (p : Passed) (id n : ℕ)
-    → reading bytes ≡ Read d → book.from_peer pair d ≡ true → good d ≡ true → states.is_closed s.phase ≡ false → book.judged_by rows pair now s d ≡ v.Admit entry → id ≡ entry.rnext_key_id → n ≡ entry.number
+    → reading bytes ≡ Read d → book.from_peer pair d ≡ true → good d ≡ true → states.is_closed s.phase ≡ false → book.judged_by rows pair now s d ≡ Ok entry → id ≡ entry.rnext_key_id → n ≡ entry.number
     → Reaches e a (book.after_check pair s (book.heard rows pair now s id) d n now s.phase) → Names rows pair d p entry
     → Arrives rows pair (reading bytes) e (record { arrival = a; passed = Some p }) (book.arrive rows pair now s (reading bytes))
 arrives_pass rows pair now s bytes d entry e a p id n r peer right alive j i m reach names =
     let there = subst (λ z. Reaches e a z) (check_move pair rows s d now id entry.rnext_key_id n entry.number i m) reach in
-    let at : Arrives rows pair (Read d) e (record { arrival = a; passed = Some p }) (book.arrive_judged rows pair now s d (v.Admit entry)) = record { stands = there.stands; answer = there.answer_is; passed = names } in
+    let at : Arrives rows pair (Read d) e (record { arrival = a; passed = Some p }) (book.arrive_judged rows pair now s d (Ok entry)) = record { stands = there.stands; answer = there.answer_is; passed = names } in
     subst (λ z. Arrives rows pair z e (record { arrival = a; passed = Some p }) (book.arrive rows pair now s z)) (sym r)
-    (subst (λ z. Arrives rows pair (Read d) e (record { arrival = a; passed = Some p }) z) (sym (judged rows pair now s d (v.Admit entry) peer right alive j)) at)
+    (subst (λ z. Arrives rows pair (Read d) e (record { arrival = a; passed = Some p }) z) (sym (judged rows pair now s d (Ok entry) peer right alive j)) at)
 
 refused_at : (rows : List Row) (pair : Pair) (now : ℕ) (s : states.EndState) (bytes : List ℕ) (d : Segment) (e : Endpoint) (w : Verdict)
-    → reading bytes ≡ Read d → book.from_peer pair d ≡ true → good d ≡ true → states.is_closed s.phase ≡ false → book.judged_by rows pair now s d ≡ v.Refuse w
+    → reading bytes ≡ Read d → book.from_peer pair d ≡ true → good d ≡ true → states.is_closed s.phase ≡ false → book.judged_by rows pair now s d ≡ Err w
     → Stands e s
     → Arrives rows pair (reading bytes) e (record { arrival = answers.Refused w; passed = None }) (book.arrive rows pair now s (reading bytes))
 refused_at rows pair now s bytes d e w r peer right alive j st =
-    let at : Arrives rows pair (Read d) e (record { arrival = answers.Refused w; passed = None }) (book.arrive_judged rows pair now s d (v.Refuse w)) = record { stands = st; answer = refl; passed = tt } in
+    let at : Arrives rows pair (Read d) e (record { arrival = answers.Refused w; passed = None }) (book.arrive_judged rows pair now s d (Err w)) = record { stands = st; answer = refl; passed = tt } in
     subst (λ z. Arrives rows pair z e (record { arrival = answers.Refused w; passed = None }) (book.arrive rows pair now s z)) (sym r)
-    (subst (λ z. Arrives rows pair (Read d) e (record { arrival = answers.Refused w; passed = None }) z) (sym (judged rows pair now s d (v.Refuse w) peer right alive j)) at)
+    (subst (λ z. Arrives rows pair (Read d) e (record { arrival = answers.Refused w; passed = None }) z) (sym (judged rows pair now s d (Err w) peer right alive j)) at)
 
 pub arrives_refused : {e : Endpoint} (rows : List Row) (pair : Pair) (now : ℕ) (s : states.EndState) (bytes : List ℕ) (d : Segment) (w : Verdict) (told : Arrived) → told ≡ record { arrival = answers.Refused w; passed = None }
-    → reading bytes ≡ Read d → book.from_peer pair d ≡ true → good d ≡ true → states.is_closed s.phase ≡ false → book.judged_by rows pair now s d ≡ v.Refuse w
+    → reading bytes ≡ Read d → book.from_peer pair d ≡ true → good d ≡ true → states.is_closed s.phase ≡ false → book.judged_by rows pair now s d ≡ Err w
     → Stands e s → Arrives rows pair (reading bytes) e told (book.arrive rows pair now s (reading bytes))
 arrives_refused {e} rows pair now s bytes d w told q r peer right alive j st =
     subst (λ z. Arrives rows pair (reading bytes) e z (book.arrive rows pair now s (reading bytes))) (sym q) (refused_at rows pair now s bytes d e w r peer right alive j st)
 
-pub refused_by : (rows : List Row) (pair : Pair) (d : Segment) (c : Verdict) (w : v.Judgement) → ((x : Passed) → c ≡ checked.Pass x → ⊥) → Tells rows pair d c w → w ≡ v.Refuse c
+pub refused_by : (rows : List Row) (pair : Pair) (d : Segment) (c : Verdict) (w : v.Judgement) → ((x : Passed) → c ≡ checked.Pass x → ⊥) → Tells rows pair d c w → w ≡ Err c
 refused_by rows pair d (checked.Pass x) w n t = absurd (n x refl)
 refused_by rows pair d checked.NoAo w n t = t
 refused_by rows pair d checked.TwoAo w n t = t
@@ -76,14 +76,14 @@ expected_case : (peer_isn : Option ℕ) (s : states.EndState) (o : Option ℕ) �
 expected_case None s o some none = none refl
 expected_case (Some q) s o some none = some refl
 
-judge_move : (rows : List Row) (p q : Pair) (own isn : ℕ) (peer peer_isn o x : Option ℕ) (now : ℕ) (d : Segment) → p ≡ q → own ≡ isn → peer ≡ peer_isn → o ≡ x → v.judge rows p own peer o now d ≡ v.judge rows q isn peer_isn x now d
+judge_move : (rows : List Row) (p q : Pair) (own isn : ℕ) (peer peer_isn o x : Option ℕ) (now : ℕ) (d : Segment) → p ≡ q → own ≡ isn → peer ≡ peer_isn → o ≡ x → v.judge rows p (record { own_isn = own; peer_isn = peer; expected = o }) now d ≡ v.judge rows q (record { own_isn = isn; peer_isn = peer_isn; expected = x }) now d
 judge_move rows p q own isn peer peer_isn o x now d a b c e =
-    ap (λ z. v.judge rows z own peer o now d) a ∙ ap (λ z. v.judge rows q z peer o now d) b ∙ ap (λ z. v.judge rows q isn z o now d) c ∙ ap (λ z. v.judge rows q isn peer_isn z now d) e
+    ap (λ z. v.judge rows z (record { own_isn = own; peer_isn = peer; expected = o }) now d) a ∙ ap (λ z. v.judge rows q (record { own_isn = z; peer_isn = peer; expected = o }) now d) b ∙ ap (λ z. v.judge rows q (record { own_isn = isn; peer_isn = z; expected = o }) now d) c ∙ ap (λ z. v.judge rows q (record { own_isn = isn; peer_isn = peer_isn; expected = z }) now d) e
 
 -- the check's verdict is the end's
 pub judged_is : (rows : List Row) (e : Endpoint) (s : states.EndState) (now : ℕ) (d : Segment) (o : Option ℕ) → Stands e s
     → (is_some e.sequence.received ≡ true → o ≡ Some (expected_in e.sequence.received)) → (is_some e.sequence.received ≡ false → o ≡ None)
-    → v.judge rows e.association.pair e.association.own e.association.peer o now d ≡ book.judged_by rows e.pair now s d
+    → v.judge rows e.association.pair (record { own_isn = e.association.own; peer_isn = e.association.peer; expected = o }) now d ≡ book.judged_by rows e.pair now s d
 judged_is rows e s now d o h some none =
     let same : is_some e.sequence.received ≡ is_some s.peer_isn = e.receives.same ∙ ap is_some h.peer_isn in
     judge_move rows e.association.pair e.pair e.association.own s.isn e.association.peer s.peer_isn o (book.number_expected s s.peer_isn) now d e.bound.pair (e.bound.own ∙ h.isn) (e.bound.peer ∙ h.peer_isn)

@@ -1,4 +1,4 @@
-use Rattle.std.proofs.Common.{◌≡◌, Some, refl, sym, ap, ◌∙◌, subst, arith}
+use Rattle.std.proofs.Common.{◌≡◌, Some, refl, sym, ap, ◌∙◌, subst, arith, Ok}
 use Rattle.endpoint_model.specs.Verdicts as v
 use Rattle.ao_check.specs.Verdicts.{Names}
 use Rattle.tcp_endpoint.specs.Numbers.{expected_in}
@@ -72,7 +72,7 @@ hear-arrival-requires-clause-number g c = λ w.
     let d = c.in-Ok.datagram in
     let told = c.in-Pass.ensures.verdict in
     let none = c.expected_of-expected.ensures.none (nothing_known e w) in
-    let pass = subst (λ x. v.judge c.args.table.now.rows e.association.pair e.association.own e.association.peer x c.args.now d ≡ v.Admit told.0) none told.1 in
+    let pass = subst (λ x. v.judge c.args.table.now.rows e.association.pair (record { own_isn = e.association.own; peer_isn = e.association.peer; expected = x }) c.args.now d ≡ Ok told.0) none told.1 in
     number_is c.args.table.now.rows e.association.pair d c.in-Pass.passed told.0 told.2 ∙ number_first c.args.table.now.rows e.association.pair e.association.own e.association.peer c.args.now d told.0 pass
 
 pub hear-arrival-requires-clause-near : goal.hear-arrival-requires-clause-near
@@ -82,7 +82,7 @@ hear-arrival-requires-clause-near g c = λ begun syn.
     let rows = c.args.table.now.rows in
     let told = c.in-Pass.ensures.verdict in
     let some = c.expected_of-expected.ensures.some (something_known e begun (sym c.if-is_closed.ensures)) in
-    let pass = subst (λ x. v.judge rows e.association.pair e.association.own e.association.peer x c.args.now d ≡ v.Admit told.0) some told.1 in
+    let pass = subst (λ x. v.judge rows e.association.pair (record { own_isn = e.association.own; peer_isn = e.association.peer; expected = x }) c.args.now d ≡ Ok told.0) some told.1 in
     number_near rows e.association.pair e.association.own e.association.peer (expected_in e.sequence.received) c.args.now d told.0 pass syn ∙ ap Some (sym (number_is rows e.association.pair d c.in-Pass.passed told.0 told.2))
 
 pub returns-then-not-is_from_peer-clause-costs : goal.returns-then-not-is_from_peer-clause-costs
