@@ -82,7 +82,8 @@ one_ao (One ao) = Ok ao
 -- (RFC 5925, section 7.5).
 abbrev pub row_taking : List Row → Pair → ℕ → ℕ → Result Numbered Verdict
 row_taking rows pair key_id now =
-    or_fault (accept_row rows pair key_id now) (if has_id rows pair key_id then Expired else NoTuple)
+    or_fault (accept_row rows pair key_id now)
+        (if has_id rows pair key_id then Expired else NoTuple)
 
 -- What is required holds, or this is the refusal (own).
 abbrev pub require : Bool → Verdict → Result (Unit {0}) Verdict

@@ -92,7 +92,8 @@ judge_later rows pair now d (Some c) =
 -- one (RFC 5925, section 5.2)
 abbrev pub judge_stored : List Row → Pair → ℕ → Segment → Option Connection → Judgement
 judge_stored rows pair now d held =
-    let opening : Known = record { own_isn = acknowledged_isn d; peer_isn = None; expected = None } in
+    let opening : Known =
+        record { own_isn = acknowledged_isn d; peer_isn = None; expected = None } in
     if has SYN d then judge rows pair opening now d else judge_later rows pair now d held
 
 -- the connection that a SYN with ACK fixes (RFC 9293, section 3.5)
