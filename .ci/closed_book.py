@@ -9,19 +9,19 @@ import re
 import sys
 
 TOP = os.path.dirname(os.path.dirname(os.path.abspath(__file__)))
-BOOK = ["ao_base", "segment_model", "mac_model", "key_model", "endpoint_model", "line_model", "link_model", "wire_model", "format_model"]
+BOOK = ["ao_base", "book_segments", "book_macs", "book_keys", "book_endpoint", "book_lines", "book_link", "wire_model", "format_model"]
 # What may stand outside the book, a file of a crate: the relations by which the top call speaks of what was read and written and
 # of a check that writes as it reads, the statements of the laws of each run of a link and of a node, what a run tells of
 # messages, and the line form of a pcap file.
 OUTSIDE = ["ao_run/specs/Runs.antt", "ao_run/specs/Obeys.antt", "ao_run/specs/Delivers.antt", "ao_run/specs/Completes.antt",
-           "link_headline/specs/GetsThrough.antt", "link_headline/specs/Lawful.antt", "link_laws/specs/Entries.antt",
-           "link_laws/specs/Headline.antt", "link_laws/specs/Laws.antt", "link_laws/specs/Sessions.antt",
-           "link_progress/specs/Progress.antt", "node_laws/specs/Alone.antt",
-           "bgp_link/specs/Tellings.antt", "pcap_laws/specs/LineForms.antt", "capture_lines/specs/Checked.antt",
+           "law_headline/specs/GetsThrough.antt", "law_headline/specs/Lawful.antt", "law_link/specs/Entries.antt",
+           "law_link/specs/Headline.antt", "law_link/specs/Laws.antt", "law_link/specs/Sessions.antt",
+           "law_progress/specs/Progress.antt", "law_node/specs/Alone.antt",
+           "cmd_bgp/specs/Tellings.antt", "law_pcap/specs/LineForms.antt", "capture_lines/specs/Checked.antt",
            "capture_lines/src/check.rt", "capture_packets/specs/Checked.antt", "capture_packets/src/check.rt",
            "pcap_file/specs/Reading.antt"]
 ENTRY = ("ao_run", "src/top.rt", "run")
-ANSWER = ("format_model/specs/Answers.antt", "answer")
+ANSWER = ("book_answer/specs/Answers.antt", "answer")
 MOST_LINES = 3400
 COLUMNS = 100
 

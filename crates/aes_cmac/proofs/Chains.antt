@@ -2,8 +2,8 @@ use Rattle.std.proofs.Common.{◌≡◌, ◌-◌, ◌/◌, ◌<◌, ◌≤◌, �
 use Rattle.std.proofs.lemmas.List.{take-append-le, drop-append-le, take_all, drop_all, append-nil, take-append-drop, length-take-le}
 use Rattle.std.proofs.lemmas.Bool.{eq-eqb, ne_eqb}
 use Rattle.std.specs.Prelude.{replicate}
-use Rattle.segment_model.specs.Bytes.{put4}
-use Rattle.mac_model.specs.Ciphers.{aes, cmac, cmac_from, xor, last_block, doubled}
+use Rattle.book_segments.specs.Bytes.{put4}
+use Rattle.book_macs.specs.Ciphers.{aes, cmac, cmac_from, xor, last_block, doubled}
 use Rattle.aes_cmac.specs.Chain.{goes_on}
 
 pub chain_start : (key m : List ℕ) → cmac key m ≡ goes_on key (replicate 16 0) m

@@ -4,8 +4,8 @@ use Rattle.std.proofs.lemmas.List.{take-append-drop, drop-drop, take_all, length
 use Rattle.std.specs.Int.Bits.{xor_assoc}
 use Rattle.std.specs.Int.{w32, from_be_bytes}
 use Rattle.std.specs.Prelude.{bit_xor}
-use Rattle.segment_model.specs.Bytes.{put4}
-use Rattle.mac_model.specs.Ciphers.{xor, xtime, mixed}
+use Rattle.book_segments.specs.Bytes.{put4}
+use Rattle.book_macs.specs.Ciphers.{xor, xtime, mixed}
 use Rattle.aes_cmac.specs.Block.{products_of, second_products_of, third_products_of, fourth_products_of}
 
 four : (a b c d p q r s : ℕ) → a ≡ p → b ≡ q → c ≡ r → d ≡ s → ◌≡◌ {A = List ℕ} (a ∷ b ∷ c ∷ d ∷ []) (p ∷ q ∷ r ∷ s ∷ [])

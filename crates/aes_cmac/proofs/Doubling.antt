@@ -1,7 +1,7 @@
 use Rattle.std.proofs.Common.{◌≡◌, ◌+◌, ◌*◌, ◌/◌, ◌%◌, ◌<◌, ◌≤◌, ◌^◌, ℕ, true, false, nat_lt, List, [], ◌∷◌, refl, arith}
 use Rattle.std.proofs.lemmas.Bool.{lt-ltb, le-ltb}
-use Rattle.segment_model.specs.Bytes.{put4}
-use Rattle.mac_model.specs.Ciphers.{xor, shift_left, doubled}
+use Rattle.book_segments.specs.Bytes.{put4}
+use Rattle.book_macs.specs.Ciphers.{xor, shift_left, doubled}
 use Rattle.aes_cmac.proofs.Columns.{blocks}
 
 four : (a b c d p q r s : ℕ) → a ≡ p → b ≡ q → c ≡ r → d ≡ s → ◌≡◌ {A = List ℕ} (a ∷ b ∷ c ∷ d ∷ []) (p ∷ q ∷ r ∷ s ∷ [])

@@ -5,7 +5,7 @@ use Rattle.aes_cmac.specs.declared.block.Block.{Block}
 use Rattle.aes_cmac.specs.Block.{bytes_of}
 use Rattle.aes_cmac.specs.Cipher.{IsKeyed, key_at, empty}
 use Rattle.aes_cmac.specs.declared.cipher.Aes128.{Aes128}
-use Rattle.mac_model.specs.Ciphers.{aes, aes_rounds, round_constants, next_key, xor, mix, sub_shift}
+use Rattle.book_macs.specs.Ciphers.{aes, aes_rounds, round_constants, next_key, xor, mix, sub_shift}
 
 -- before the first round
 pub aes_start : (key first block : List ℕ) → first ≡ key → aes key block ≡ aes_rounds round_constants first (xor first block)

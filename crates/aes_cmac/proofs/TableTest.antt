@@ -1,7 +1,7 @@
 use Rattle.std.proofs.Common.{◌≡◌, ◌<◌, ◌==◌, ◌&&◌, ℕ, zero, suc, Bool, true, List, [], ◌∷◌, get_or, refl, ap, ap₂, ◌∙◌, arith, eqb-true, inl, inr}
 use Rattle.std.proofs.lemmas.Bool.{cases_eq, and_parts}
-use Rattle.segment_model.specs.Bytes.{put4, same_bytes}
-use Rattle.mac_model.specs.Ciphers.{sbox, inverse, times}
+use Rattle.book_segments.specs.Bytes.{put4, same_bytes}
+use Rattle.book_macs.specs.Ciphers.{sbox, inverse, times}
 use Rattle.aes_cmac.specs.Block.{products_of, second_products_of, third_products_of, fourth_products_of}
 use Rattle.aes_cmac.specs.declared.table.TheConstants.{PRODUCTS}
 

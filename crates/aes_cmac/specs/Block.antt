@@ -1,7 +1,7 @@
 -- A block as bytes, and what the table has for a byte.
 use Rattle.std.specs.Prelude.{ℕ, ◌/◌, ◌%◌, List, [], ◌∷◌, bit_xor}
-use Rattle.segment_model.specs.Bytes.{put4}
-use Rattle.mac_model.specs.Ciphers.{xtime}
+use Rattle.book_segments.specs.Bytes.{put4}
+use Rattle.book_macs.specs.Ciphers.{xtime}
 use Rattle.aes_cmac.specs.declared.block.Block.{Block}
 use Rattle.aes_cmac.specs.declared.block.Halves.{Halves}
 

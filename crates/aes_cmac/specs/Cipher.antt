@@ -1,6 +1,6 @@
 -- What a cipher stands for.
 use Rattle.std.specs.Prelude.{◌≡◌, ℕ, ◌+◌, ◌<◌, List, slice_index, slice_index_or}
-use Rattle.mac_model.specs.Ciphers.{next_key, round_constants}
+use Rattle.book_macs.specs.Ciphers.{next_key, round_constants}
 use Rattle.aes_cmac.specs.Block.{bytes_of}
 use Rattle.aes_cmac.specs.declared.block.Block.{Block}
 use Rattle.aes_cmac.specs.declared.cipher.Aes128.{Aes128}

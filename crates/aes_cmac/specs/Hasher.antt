@@ -1,6 +1,6 @@
 -- What a hasher stands for.
 use Rattle.std.specs.Prelude.{◌≡◌, ℕ, List, ◌++◌, take}
-use Rattle.mac_model.specs.Ciphers.{cmac}
+use Rattle.book_macs.specs.Ciphers.{cmac}
 use Rattle.aes_cmac.specs.Block.{halves_bytes}
 use Rattle.aes_cmac.specs.Cipher.{IsKeyed}
 use Rattle.aes_cmac.specs.Chain.{goes_on}

@@ -1,6 +1,6 @@
 -- What the two subkeys are.
 use Rattle.std.specs.Prelude.{◌≡◌, ℕ, List, replicate}
-use Rattle.mac_model.specs.Ciphers.{aes, doubled}
+use Rattle.book_macs.specs.Ciphers.{aes, doubled}
 use Rattle.aes_cmac.specs.Block.{halves_bytes}
 use Rattle.aes_cmac.specs.declared.subkeys.Subkeys.{Subkeys}
 

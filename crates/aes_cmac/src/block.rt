@@ -1,7 +1,7 @@
 //! A block of 16 bytes as four columns, and the rounds over it.
 ghost use Rattle.std.specs.Prelude.{◌≡◌, ◌+◌, ◌≤◌, ◌∷◌, ℕ, List, [], length, take, drop, bit_xor};
-ghost use Rattle.segment_model.specs.Bytes.{put4};
-ghost use Rattle.mac_model.specs.Ciphers.{xor, mix, mixed, sub_shift, sbox, next_key, doubled};
+ghost use Rattle.book_segments.specs.Bytes.{put4};
+ghost use Rattle.book_macs.specs.Ciphers.{xor, mix, mixed, sub_shift, sbox, next_key, doubled};
 ghost use Rattle.aes_cmac.specs.Block.{bytes_of, halves_bytes};
 
 use crate::table::{fourth_products, products, second_products, substitute, third_products};

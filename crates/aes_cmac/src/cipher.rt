@@ -1,6 +1,6 @@
 //! AES-128 under one key.
 ghost use Rattle.std.specs.Prelude.{◌≡◌, ℕ, List};
-ghost use Rattle.mac_model.specs.Ciphers.{aes};
+ghost use Rattle.book_macs.specs.Ciphers.{aes};
 ghost use Rattle.aes_cmac.specs.Block.{bytes_of, halves_bytes};
 ghost use Rattle.aes_cmac.specs.Cipher.{IsKeyed};
 

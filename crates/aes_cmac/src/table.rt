@@ -1,7 +1,7 @@
 //! The tables of SubBytes and MixColumns.
 ghost use Rattle.std.specs.Prelude.{◌≡◌, []};
-ghost use Rattle.segment_model.specs.Bytes.{put4};
-ghost use Rattle.mac_model.specs.Ciphers.{sbox};
+ghost use Rattle.book_segments.specs.Bytes.{put4};
+ghost use Rattle.book_macs.specs.Ciphers.{sbox};
 ghost use Rattle.aes_cmac.specs.Block.{products_of, second_products_of, third_products_of, fourth_products_of};
 
 /// For each byte, what its substitute in the S-box gives to the four rows of a column that

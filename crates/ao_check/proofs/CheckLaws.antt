@@ -2,24 +2,24 @@
 use Rattle.std.proofs.Common.{◌≡◌, ◌<◌, ◌≤◌, ℕ, ◌+◌, ◌-◌, Bool, true, false, List, length, Option, Some, None, refl, sym, ap, ◌∙◌, subst, arith, get_or, Ok, Err}
 use Rattle.std.specs.Prelude.{slice_get}
 use Rattle.ao_base.specs.Algorithms.{mac_length_of}
-use Rattle.segment_model.specs.Bytes.{same_bytes}
-use Rattle.segment_model.specs.Options.{Ao, AoFound, One, find_ao}
-use Rattle.segment_model.specs.Segments.{Segment, has, SYN}
-use Rattle.mac_model.specs.Keys.{mac, traffic_key}
-use Rattle.mac_model.specs.MacInput.{mac_input}
-use Rattle.key_model.specs.Rows.{Row}
-use Rattle.key_model.specs.Choices.{Numbered, accept_row}
-use Rattle.endpoint_model.specs.Verdicts as book
-use Rattle.mac_model.specs.Contexts.{bytes_of}
-use Rattle.mac_model.specs.Contexts.{context_of}
+use Rattle.book_segments.specs.Bytes.{same_bytes}
+use Rattle.book_segments.specs.Options.{Ao, AoFound, One, find_ao}
+use Rattle.book_segments.specs.Segments.{Segment, has, SYN}
+use Rattle.book_macs.specs.Keys.{mac, traffic_key}
+use Rattle.book_macs.specs.MacInput.{mac_input}
+use Rattle.book_keys.specs.Rows.{Row}
+use Rattle.book_keys.specs.Choices.{Numbered, accept_row}
+use Rattle.book_endpoint.specs.Verdicts as book
+use Rattle.book_macs.specs.Contexts.{bytes_of}
+use Rattle.book_macs.specs.Contexts.{context_of}
 use Rattle.ao_kdf.specs.Cache.{Cache, kept, IsRight}
 use Rattle.ao_kdf.specs.declared.way.Way.{Way}
 use Rattle.ao_kdf.specs.declared.way.Way.TheVariants.{Inbound, Outbound}
-use Rattle.key_model.specs.Lookups.{number_of}
+use Rattle.book_keys.specs.Lookups.{number_of}
 use Rattle.ao_base.specs.declared.address.Pair.{Pair}
 use Rattle.ao_check.specs.declared.screen.Screened.{Screened}
-use Rattle.endpoint_model.specs.declared.verdict.Passed.{Passed}
-use Rattle.endpoint_model.specs.declared.verdict.Verdict.TheVariants.{BadMac}
+use Rattle.book_endpoint.specs.declared.verdict.Passed.{Passed}
+use Rattle.book_endpoint.specs.declared.verdict.Verdict.TheVariants.{BadMac}
 use Rattle.ao_check.specs.Bonds.{Bond, key_for, Fits, keys_after, steps_of, Counted}
 use Rattle.ao_check.specs.Verdicts.{Names, Awaits, by_mac, judging}
 use Rattle.ao_check.proofs.KeyLaws.{AtPlace, accepted_at, same_row, got, inbound_key, outbound_key, kept_right, fits_after, counted_after}

@@ -3,12 +3,12 @@ use Rattle.std.proofs.Common.{◌≡◌, ◌<◌, ◌≤◌, ℕ, zero, suc, ◌
 use Rattle.std.specs.Prelude.{slice_get}
 use Rattle.ao_base.specs.declared.address.Pair.{Pair}
 use Rattle.ao_base.specs.declared.algorithm.Algorithm.{Algorithm}
-use Rattle.segment_model.specs.Segments.{Segment, has, SYN}
-use Rattle.mac_model.specs.Contexts.{context, context_of}
-use Rattle.mac_model.specs.Keys.{traffic_key}
-use Rattle.key_model.specs.Rows.{Row}
-use Rattle.key_model.specs.Choices.{Numbered, acceptable_as, accept_row}
-use Rattle.key_model.proofs.ChoiceLaws.{lowest-IsLowest}
+use Rattle.book_segments.specs.Segments.{Segment, has, SYN}
+use Rattle.book_macs.specs.Contexts.{context, context_of}
+use Rattle.book_macs.specs.Keys.{traffic_key}
+use Rattle.book_keys.specs.Rows.{Row}
+use Rattle.book_keys.specs.Choices.{Numbered, acceptable_as, accept_row}
+use Rattle.book_keys.proofs.ChoiceLaws.{lowest-IsLowest}
 use Rattle.ao_kdf.specs.declared.way.Way.{Way}
 use Rattle.ao_kdf.specs.declared.way.Way.TheVariants.{Inbound, Outbound}
 use Rattle.ao_kdf.specs.Cache.{Cache, kept, keeping, IsRight, steps_for}

@@ -1,10 +1,10 @@
 -- The number of a segment.
 use Rattle.std.proofs.Common.{◌≡◌, ◌<◌, ◌≤◌, ℕ, ◌+◌, ◌-◌, ◌%◌, ◌^◌, Bool, true, false, Option, Some, None, if◌then◌else◌, refl, sym, arith, nat_lt, nat_le}
 use Rattle.std.specs.Prelude.{IfSome, IfNone}
-use Rattle.segment_model.specs.Meant.{meant}
-use Rattle.segment_model.specs.Segments.{Segment, has, SYN}
-use Rattle.segment_model.proofs.Fields.{lt_is}
-use Rattle.endpoint_model.specs.Verdicts.{number_of}
+use Rattle.book_segments.specs.Meant.{meant}
+use Rattle.book_segments.specs.Segments.{Segment, has, SYN}
+use Rattle.book_segments.proofs.Fields.{lt_is}
+use Rattle.book_endpoint.specs.Verdicts.{number_of}
 
 some_is : (a b : ℕ) → Some a ≡ Some b → a ≡ b
 some_is a b e = cc

@@ -4,22 +4,22 @@ use Rattle.std.specs.Prelude.{is_some, option_map}
 use Rattle.std.specs.List.{list_any}
 use Rattle.std.proofs.lemmas.Bool.Decides.{nat_tests}
 use Rattle.ao_base.specs.declared.address.Pair.{Pair}
-use Rattle.segment_model.specs.Bytes.{same_bytes}
-use Rattle.segment_model.specs.Options.{Ao, AoFound, One, find_ao}
-use Rattle.segment_model.specs.Segments.{Segment, has, segment_length, SYN}
-use Rattle.mac_model.specs.Contexts.{context_of}
-use Rattle.key_model.specs.Rows.{Row, matches, receives, acceptable}
-use Rattle.key_model.specs.Lifetimes.{contains}
-use Rattle.key_model.specs.Choices.{Numbered, qualified, lowest, acceptable_as, accept_row, accepts_as, has_id}
+use Rattle.book_segments.specs.Bytes.{same_bytes}
+use Rattle.book_segments.specs.Options.{Ao, AoFound, One, find_ao}
+use Rattle.book_segments.specs.Segments.{Segment, has, segment_length, SYN}
+use Rattle.book_macs.specs.Contexts.{context_of}
+use Rattle.book_keys.specs.Rows.{Row, matches, receives, acceptable}
+use Rattle.book_keys.specs.Lifetimes.{contains}
+use Rattle.book_keys.specs.Choices.{Numbered, qualified, lowest, acceptable_as, accept_row, accepts_as, has_id}
 use Rattle.std.specs.Option.{option_or}
 use Rattle.ao_base.specs.Algorithms.{mac_length_of}
-use Rattle.endpoint_model.specs.Verdicts.{Finding, Judgement, judge, number_of, found_with, mac_of}
-use Rattle.endpoint_model.proofs.JudgeSteps.{judge_by_steps, judge_ao, judge_row, judge_context, judge_number, judge_mac}
-use Rattle.endpoint_model.specs.declared.verdict.Verdict.TheVariants.{NoTuple, Expired, MacLength, NoContext, Range, BadMac}
+use Rattle.book_endpoint.specs.Verdicts.{Finding, Judgement, judge, number_of, found_with, mac_of}
+use Rattle.book_endpoint.proofs.JudgeSteps.{judge_by_steps, judge_ao, judge_row, judge_context, judge_number, judge_mac}
+use Rattle.book_endpoint.specs.declared.verdict.Verdict.TheVariants.{NoTuple, Expired, MacLength, NoContext, Range, BadMac}
 use Rattle.ao_check.proofs.KeyLaws.{accepted_at, same_row}
-use Rattle.key_model.specs.Lookups.{accept_answer, accept_of}
-use Rattle.key_model.specs.declared.accept.Accept.{Accept}
-use Rattle.key_model.specs.declared.accept.Accept.TheVariants as found
+use Rattle.book_keys.specs.Lookups.{accept_answer, accept_of}
+use Rattle.book_keys.specs.declared.accept.Accept.{Accept}
+use Rattle.book_keys.specs.declared.accept.Accept.TheVariants as found
 
 pub by_found : (rows : List Row) (pair : Pair) (own : ℕ) (peer expected : Option ℕ) (now : ℕ) (d : Segment) (f : AoFound) → f ≡ find_ao d.area
     → judge rows pair (record { own_isn = own; peer_isn = peer; expected = expected }) now d ≡ judge_ao rows pair now expected d (context_of d peer (Some own)) f

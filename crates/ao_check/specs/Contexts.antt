@@ -1,8 +1,8 @@
 -- Contexts and numbers of segments.
 use Rattle.std.specs.Prelude.{◌≡◌, ◌≤◌, ◌^◌, ℕ, true, false, Option, Some, None, ⊤}
 use Rattle.std.specs.Option.{ForSome}
-use Rattle.segment_model.specs.Segments.{Segment, has, ACK, SYN}
-use Rattle.mac_model.specs.declared.context.Context.{Context}
+use Rattle.book_segments.specs.Segments.{Segment, has, ACK, SYN}
+use Rattle.book_macs.specs.declared.context.Context.{Context}
 
 -- the sockets of the segment
 pub record HasSockets (d : Segment) (c : Context) : Type 0 where

@@ -1,14 +1,14 @@
 -- A segment that is to be signed.
 use Rattle.std.specs.Prelude.{◌≡◌, ◌+◌, ◌≤◌, ◌^◌, ◌&&◌, not, false, is_some, ℕ, List, Option, Some}
 use Rattle.ao_base.specs.declared.address.Pair.{Pair}
-use Rattle.segment_model.specs.Segments.{Segment, has, segment_length, SYN}
-use Rattle.mac_model.specs.Contexts.{context_of}
-use Rattle.key_model.specs.Choices.{Numbered, accept_row}
-use Rattle.endpoint_model.specs.Verdicts.{number_of}
+use Rattle.book_segments.specs.Segments.{Segment, has, segment_length, SYN}
+use Rattle.book_macs.specs.Contexts.{context_of}
+use Rattle.book_keys.specs.Choices.{Numbered, accept_row}
+use Rattle.book_endpoint.specs.Verdicts.{number_of}
 use Rattle.ao_base.specs.Algorithms.{mac_length_of}
-use Rattle.key_model.specs.Rows.{Row}
+use Rattle.book_keys.specs.Rows.{Row}
 use Rattle.tcp_segment.specs.declared.writing.Head.{Head}
-use Rattle.segment_model.specs.Options.{Ao}
+use Rattle.book_segments.specs.Options.{Ao}
 use Rattle.tcp_segment.specs.Writing.{drafted, mss_length}
 use Rattle.tcp_segment.specs.Drafts.{DatagramMut, Drafted}
 use Rattle.ao_check.specs.Bonds.{Bond}

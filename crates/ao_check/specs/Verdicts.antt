@@ -2,18 +2,18 @@
 use Rattle.std.specs.Prelude.{◌≡◌, ◌≤◌, ◌+◌, ◌-◌, ◌^◌, ℕ, Bool, true, false, slice_get, List, length, Option, Some, None, Result, Ok, Err, ⊤, if◌then◌else◌}
 use Rattle.ao_base.specs.declared.address.Pair.{Pair}
 use Rattle.ao_base.specs.Algorithms.{mac_length_of}
-use Rattle.segment_model.specs.Bytes.{same_bytes}
-use Rattle.segment_model.specs.Options.{Ao, AoFound, Absent, One, Two, WithMd5 as FoundMd5, find_ao}
-use Rattle.segment_model.specs.Segments.{Segment, segment_length}
-use Rattle.mac_model.specs.Contexts.{context_of}
-use Rattle.key_model.specs.Rows.{Row}
-use Rattle.key_model.specs.Choices.{Numbered, accept_row}
-use Rattle.endpoint_model.specs.Verdicts as book
-use Rattle.mac_model.specs.Contexts.{bytes_of}
-use Rattle.key_model.specs.Lookups.{number_of}
-use Rattle.endpoint_model.specs.declared.verdict.Passed.{Passed}
-use Rattle.endpoint_model.specs.declared.verdict.Verdict.{Verdict}
-use Rattle.endpoint_model.specs.declared.verdict.Verdict.TheVariants as verdicts
+use Rattle.book_segments.specs.Bytes.{same_bytes}
+use Rattle.book_segments.specs.Options.{Ao, AoFound, Absent, One, Two, WithMd5 as FoundMd5, find_ao}
+use Rattle.book_segments.specs.Segments.{Segment, segment_length}
+use Rattle.book_macs.specs.Contexts.{context_of}
+use Rattle.book_keys.specs.Rows.{Row}
+use Rattle.book_keys.specs.Choices.{Numbered, accept_row}
+use Rattle.book_endpoint.specs.Verdicts as book
+use Rattle.book_macs.specs.Contexts.{bytes_of}
+use Rattle.book_keys.specs.Lookups.{number_of}
+use Rattle.book_endpoint.specs.declared.verdict.Passed.{Passed}
+use Rattle.book_endpoint.specs.declared.verdict.Verdict.{Verdict}
+use Rattle.book_endpoint.specs.declared.verdict.Verdict.TheVariants as verdicts
 use Rattle.ao_check.specs.declared.screen.Screened.{Screened}
 
 -- what is told of a segment that passed: the number of the row, the number of the segment, the context; all else is read from the table and the segment

@@ -1,9 +1,9 @@
 //! The context of a segment's traffic key, and its number.
 ghost use Rattle.std.specs.Prelude.{◌≡◌, ◌<◌, ◌≤◌, ◌+◌, ◌^◌, Option, Some, None, true, false, IfSome, option_map, is_some, nat_lt, not, ◌&&◌};
-ghost use Rattle.segment_model.specs.Segments.{has, segment_length, SYN};
-ghost use Rattle.mac_model.specs.Contexts.{context_of};
-ghost use Rattle.endpoint_model.specs.Verdicts.{number_of};
-ghost use Rattle.mac_model.specs.Contexts.{bytes_of};
+ghost use Rattle.book_segments.specs.Segments.{has, segment_length, SYN};
+ghost use Rattle.book_macs.specs.Contexts.{context_of};
+ghost use Rattle.book_endpoint.specs.Verdicts.{number_of};
+ghost use Rattle.book_macs.specs.Contexts.{bytes_of};
 ghost use Rattle.ao_check.specs.Contexts.{HasSockets, IsBelow, IsPlanned};
 
 use ao_kdf::Context;
@@ -46,7 +46,7 @@ fn between(datagram: &Datagram<'_>, source_isn: u32, dest_isn: u32) -> Context
 
 /// The context of a segment, from the initial sequence numbers of its source and its destination as
 /// far as they are known (RFC 5925, section 5.2).
-#[tactic(auto, unfolding(mac_model::specs::Contexts::context_of))]
+#[tactic(auto, unfolding(book_macs::specs::Contexts::context_of))]
 pub(crate) fn context_of(
     datagram: &Datagram<'_>,
     source_isn: Option<u32>,
@@ -129,7 +129,7 @@ pub(crate) struct Plan {
 
 /// The context of a segment that is being sent; it has SYN without ACK, or the peer's initial
 /// sequence number is known.
-#[tactic(auto, unfolding(mac_model::specs::Contexts::context_of))]
+#[tactic(auto, unfolding(book_macs::specs::Contexts::context_of))]
 pub(crate) fn outgoing(datagram: &Datagram<'_>, own_isn: u32, peer_isn: Option<u32>) -> Plan
     requires { IsPlanned datagram.now peer_isn }
     ensures syn { result.syn ≡ has SYN datagram.now }

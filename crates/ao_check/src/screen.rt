@@ -1,11 +1,11 @@
 //! What is judged of a segment before its MAC.
 ghost use Rattle.std.specs.Prelude.{◌≡◌, ◌==◌, ◌≤◌, ◌<◌, ◌-◌, ◌^◌, ◌/◌, length, IfErr, IfOk, Ok, Err, Result};
 ghost use Rattle.ao_base.specs.Algorithms.{mac_length_of};
-ghost use Rattle.segment_model.specs.Bytes.{same_bytes};
-ghost use Rattle.segment_model.specs.Options.{Ao, One, find_ao};
-ghost use Rattle.mac_model.specs.Keys.{key_length, mac};
-ghost use Rattle.mac_model.specs.MacInput.{mac_input};
-ghost use Rattle.endpoint_model.specs.Verdicts.{judge};
+ghost use Rattle.book_segments.specs.Bytes.{same_bytes};
+ghost use Rattle.book_segments.specs.Options.{Ao, One, find_ao};
+ghost use Rattle.book_macs.specs.Keys.{key_length, mac};
+ghost use Rattle.book_macs.specs.MacInput.{mac_input};
+ghost use Rattle.book_endpoint.specs.Verdicts.{judge};
 ghost use Rattle.tcp_options.specs.Views.{view_found};
 ghost use Rattle.ao_mac.specs.Macs.{HasAo};
 ghost use Rattle.ao_check.specs.Contexts.{IsBelow};
@@ -16,7 +16,7 @@ use crate::context::{context_of, ends_late, is_silent, number_of};
 use ao_base::Pair;
 use ao_kdf::{Context, TrafficKey};
 use ao_mac::mac;
-use endpoint_model::Verdict;
+use book_endpoint::Verdict;
 use key_table::{Accept, Row, Table};
 use tcp_options::AoFound;
 use tcp_segment::Datagram;

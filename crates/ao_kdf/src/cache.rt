@@ -1,13 +1,13 @@
 //! Traffic keys that are kept once they were derived.
 ghost use Rattle.std.specs.Prelude.{◌≡◌, ◌+◌, ◌-◌, ◌<◌, ◌≤◌, ℕ, List, Option, Some, None, length, replicate, slice_set, IfOk};
-ghost use Rattle.mac_model.specs.Contexts.{bytes_of};
-ghost use Rattle.mac_model.specs.Keys.{key_length, traffic_key};
+ghost use Rattle.book_macs.specs.Contexts.{bytes_of};
+ghost use Rattle.book_macs.specs.Keys.{key_length, traffic_key};
 ghost use Rattle.ao_kdf.specs.Cache.{empty, key_at, kept, keeping, IsRight, steps_for};
 
 use crate::key::{TrafficKey, traffic_key};
 use crate::way::Way;
 use ao_base::{Algorithm, Steps};
-use mac_model::Context;
+use book_macs::Context;
 use std::alloc::{AllocError, Global};
 use std::marker::Model;
 use std::sync::ledger::Ledger;

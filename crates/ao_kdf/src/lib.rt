@@ -11,8 +11,8 @@ mod input;
 mod key;
 mod way;
 
+pub use book_macs::Context;
 pub use cache::KeyCache;
 pub use hasher::Hasher;
 pub use key::{TrafficKey, traffic_key};
-pub use mac_model::Context;
 pub use way::Way;

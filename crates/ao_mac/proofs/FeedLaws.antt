@@ -6,7 +6,7 @@ use Rattle.ao_base.specs.declared.algorithm.Algorithm.TheVariants.{HmacSha1, Aes
 use Rattle.hmac_sha1.specs.Hasher as hmac_hasher
 use Rattle.aes_cmac.specs.declared.hasher.Cmac as cmac_hasher
 use Rattle.aes_cmac.specs.Hasher as cmac_fed
-use Rattle.mac_model.specs.Keys.{untruncated, mac}
+use Rattle.book_macs.specs.Keys.{untruncated, mac}
 use Rattle.ao_kdf.specs.declared.hasher.Hasher.{Hasher}
 use Rattle.ao_kdf.specs.declared.hasher.Hasher.TheVariants.{Sha1, Cmac, Sha256}
 use Rattle.ao_kdf.specs.Hashers.{StandsFor}

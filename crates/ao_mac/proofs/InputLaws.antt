@@ -4,13 +4,13 @@ use Rattle.std.specs.Prelude.{◌↔◌, IsTrue, slice_index, slice_index_or}
 use Rattle.std.proofs.lemmas.List.{length-append, drop_at, drop-drop, take_rest, same_lists, get_or_default}
 use Rattle.ao_base.specs.declared.address.Address.{Address}
 use Rattle.ao_base.specs.declared.address.Address.TheVariants.{V4, V6}
-use Rattle.segment_model.specs.Bytes.{put2, put4}
-use Rattle.segment_model.specs.Sockets.{octets}
-use Rattle.segment_model.specs.Options.{Ao, One, find_ao, options_of}
-use Rattle.segment_model.specs.Segments.{IpHeader, Ipv4, Ipv6, Segment, pseudo_of, pseudo, header, tcp_length}
-use Rattle.segment_model.specs.Spelling.{FitsIp, Fits, IsV4, IsV6}
-use Rattle.segment_model.proofs.Fields.{put2_law, put4_law, append_split, two_law, header_law}
-use Rattle.mac_model.specs.MacInput.{covered, mac_input}
+use Rattle.book_segments.specs.Bytes.{put2, put4}
+use Rattle.book_segments.specs.Sockets.{octets}
+use Rattle.book_segments.specs.Options.{Ao, One, find_ao, options_of}
+use Rattle.book_segments.specs.Segments.{IpHeader, Ipv4, Ipv6, Segment, pseudo_of, pseudo, header, tcp_length}
+use Rattle.book_segments.specs.Spelling.{FitsIp, Fits, IsV4, IsV6}
+use Rattle.book_segments.proofs.Fields.{put2_law, put4_law, append_split, two_law, header_law}
+use Rattle.book_macs.specs.MacInput.{covered, mac_input}
 use Rattle.ao_mac.proofs.Parts.{pseudo-append, header-append, header-zero}
 
 -- ---- answers

@@ -2,13 +2,13 @@
 use Rattle.std.proofs.Common.{◌≡◌, ℕ, ◌+◌, ◌-◌, ◌/◌, ◌%◌, ◌≤◌, ◌<◌, Bool, List, [], ◌∷◌, ◌++◌, length, take, drop, refl, sym, ap, subst, true, ◌∙◌, append_assoc, arith, replicate}
 use Rattle.std.proofs.lemmas.List.{length-drop, take_all, take-replicate}
 use Rattle.ao_base.specs.declared.address.Address.TheVariants.{V4, V6}
-use Rattle.segment_model.specs.Bytes.{put2, put4}
-use Rattle.segment_model.specs.Options.{Ao}
-use Rattle.segment_model.specs.Segments.{IpHeader, Ipv4, Ipv6, Segment, pseudo_of, pseudo, header, tcp_length}
-use Rattle.segment_model.specs.Spelling.{FitsIp, IsV4, IsV6}
+use Rattle.book_segments.specs.Bytes.{put2, put4}
+use Rattle.book_segments.specs.Options.{Ao}
+use Rattle.book_segments.specs.Segments.{IpHeader, Ipv4, Ipv6, Segment, pseudo_of, pseudo, header, tcp_length}
+use Rattle.book_segments.specs.Spelling.{FitsIp, IsV4, IsV6}
 use Rattle.ao_base.specs.declared.algorithm.Algorithm.{Algorithm}
-use Rattle.mac_model.specs.Keys.{mac}
-use Rattle.mac_model.specs.MacInput.{covered, mac_input}
+use Rattle.book_macs.specs.Keys.{mac}
+use Rattle.book_macs.specs.MacInput.{covered, mac_input}
 
 put4-append : (n : ℕ) (rest : List ℕ) → put4 n rest ≡ put4 n [] ++ rest
 unfolding put4

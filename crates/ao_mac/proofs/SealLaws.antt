@@ -4,11 +4,11 @@ use Rattle.std.proofs.lemmas.List.{take_at, drop_all}
 use Rattle.ao_base.specs.declared.address.Address.{Address}
 use Rattle.ao_base.specs.declared.address.Address.TheVariants.{V4, V6}
 use Rattle.ao_base.specs.declared.algorithm.Algorithm.{Algorithm}
-use Rattle.segment_model.specs.Bytes.{put4}
-use Rattle.segment_model.specs.Options.{Ao, AoFound, One, find_ao}
-use Rattle.segment_model.specs.Segments.{Segment, pseudo_of, pseudo, header}
-use Rattle.mac_model.specs.Keys.{mac}
-use Rattle.mac_model.specs.MacInput.{covered, mac_input}
+use Rattle.book_segments.specs.Bytes.{put4}
+use Rattle.book_segments.specs.Options.{Ao, AoFound, One, find_ao}
+use Rattle.book_segments.specs.Segments.{Segment, pseudo_of, pseudo, header}
+use Rattle.book_macs.specs.Keys.{mac}
+use Rattle.book_macs.specs.MacInput.{covered, mac_input}
 use Rattle.tcp_segment.specs.declared.writing.Head.{Head}
 use Rattle.tcp_segment.specs.Drafts.{DatagramMut, Drafted}
 use Rattle.tcp_segment.specs.Writing.{written_ip, mss_length, option_heads, drafted}

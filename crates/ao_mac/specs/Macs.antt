@@ -1,11 +1,11 @@
 -- The MAC of a segment that has a TCP-AO option.
 use Rattle.std.specs.Prelude.{◌≡◌, ◌↔◌, ℕ, ◌/◌, Bool, IsTrue, List}
 use Rattle.ao_base.specs.declared.algorithm.Algorithm.{Algorithm}
-use Rattle.segment_model.specs.Bytes.{ring}
-use Rattle.segment_model.specs.Options.{Ao, One, find_ao}
-use Rattle.segment_model.specs.Segments.{Segment}
-use Rattle.mac_model.specs.Keys.{mac}
-use Rattle.mac_model.specs.MacInput.{mac_input}
+use Rattle.book_segments.specs.Bytes.{ring}
+use Rattle.book_segments.specs.Options.{Ao, One, find_ao}
+use Rattle.book_segments.specs.Segments.{Segment}
+use Rattle.book_macs.specs.Keys.{mac}
+use Rattle.book_macs.specs.MacInput.{mac_input}
 
 -- the segment has one TCP-AO option and none of TCP MD5 (RFC 5925, section 2.2)
 abbrev pub HasAo : Segment → Type 0

@@ -1,11 +1,11 @@
 //! What a MAC is computed over, but for the payload.
 ghost use Rattle.std.specs.Prelude.{◌≡◌, ◌≤◌, ◌+◌, ℕ, List, [], ◌∷◌, ◌++◌, length, take, replicate};
-ghost use Rattle.segment_model.specs.Bytes.{put2, put4};
-ghost use Rattle.segment_model.specs.Options.{Ao, One, find_ao};
-ghost use Rattle.segment_model.specs.Segments.{pseudo, header, tcp_length};
-ghost use Rattle.segment_model.specs.Spelling.{Fits};
+ghost use Rattle.book_segments.specs.Bytes.{put2, put4};
+ghost use Rattle.book_segments.specs.Options.{Ao, One, find_ao};
+ghost use Rattle.book_segments.specs.Segments.{pseudo, header, tcp_length};
+ghost use Rattle.book_segments.specs.Spelling.{Fits};
 ghost use Rattle.tcp_options.specs.Views.{view_ao};
-ghost use Rattle.mac_model.specs.MacInput.{covered};
+ghost use Rattle.book_macs.specs.MacInput.{covered};
 ghost use Rattle.ao_mac.specs.Macs.{HasAo};
 
 use ao_base::Address;

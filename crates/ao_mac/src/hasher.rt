@@ -2,7 +2,7 @@
 ghost use Rattle.std.specs.Prelude.{◌≡◌, ℕ, List, length};
 ghost use Rattle.ao_base.specs.Algorithms.{mac_length_of};
 ghost use Rattle.ao_base.specs.declared.algorithm.Algorithm.{Algorithm};
-ghost use Rattle.mac_model.specs.Keys.{mac};
+ghost use Rattle.book_macs.specs.Keys.{mac};
 ghost use Rattle.ao_kdf.specs.Hashers.{StandsFor};
 
 use crate::mac_bytes::MacBytes;

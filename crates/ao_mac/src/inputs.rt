@@ -1,8 +1,8 @@
 //! Whether the MACs of two segments are computed over the same bytes.
 ghost use Rattle.std.specs.Prelude.{◌≡◌, ◌↔◌, ◌+◌, ◌/◌, ◌≤◌, ◌<◌, ℕ, List, [], length, slice_index, IsTrue};
-ghost use Rattle.segment_model.specs.Options.{Ao, One, find_ao};
-ghost use Rattle.segment_model.specs.Segments.{pseudo, header};
-ghost use Rattle.mac_model.specs.MacInput.{covered, mac_input};
+ghost use Rattle.book_segments.specs.Options.{Ao, One, find_ao};
+ghost use Rattle.book_segments.specs.Segments.{pseudo, header};
+ghost use Rattle.book_macs.specs.MacInput.{covered, mac_input};
 ghost use Rattle.ao_mac.specs.Macs.{HasAo, IsSameInput};
 
 use crate::front::{AO_KIND, tcp_length_of};
@@ -21,7 +21,7 @@ struct Covered<'a> {
 
 impl<'a> Model for Covered<'a> {
     ghost use Rattle.std.specs.Prelude.{◌+◌, ◌≤◌, ℕ, List, length};
-    ghost use Rattle.mac_model.specs.MacInput.{covered};
+    ghost use Rattle.book_macs.specs.MacInput.{covered};
     ghost use Rattle.tcp_options.specs.Views.{view_ao};
 
     ghost Value = { List ℕ };

@@ -14,8 +14,8 @@ use Rattle.ao_base.specs.declared.address.Address.{Address}
 use Rattle.ao_base.specs.declared.address.Address.TheVariants as address
 use Rattle.ao_base.specs.declared.address.Pair.{Pair}
 use Rattle.ao_base.specs.declared.address.Socket.{Socket}
-use Rattle.format_model.specs.NodeRuns.{same_pair}
-use Rattle.node_laws.proofs.Pairs.{same_pair_is, same_pair-refl}
+use Rattle.book_cmd_node.specs.NodeRuns.{same_pair}
+use Rattle.law_node.proofs.Pairs.{same_pair_is, same_pair-refl}
 use Rattle.tcp_endpoint.specs.declared.endpoint.Endpoint.{Endpoint}
 use Rattle.ao_node.specs.declared.key.Key.{Key}
 use Rattle.ao_node.specs.declared.key.Place.{Place}

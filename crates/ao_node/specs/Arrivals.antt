@@ -1,11 +1,11 @@
 -- A datagram comes to a node. Our own format.
 use Rattle.std.specs.Prelude.{◌≡◌, ℕ, List, Option, Some, None, if◌then◌else◌}
 use Rattle.ao_base.specs.declared.address.Pair.{Pair}
-use Rattle.segment_model.specs.Segments.{Segment, Reading, Read, Bad as Unread}
-use Rattle.key_model.specs.Rows.{Row}
-use Rattle.endpoint_model.specs.States.{EndState}
-use Rattle.endpoint_model.specs.Arrivals.{arrive}
-use Rattle.format_model.specs.NodeRuns.{pair_reached, same_pair}
+use Rattle.book_segments.specs.Segments.{Segment, Reading, Read, Bad as Unread}
+use Rattle.book_keys.specs.Rows.{Row}
+use Rattle.book_endpoint.specs.States.{EndState}
+use Rattle.book_endpoint.specs.Arrivals.{arrive}
+use Rattle.book_cmd_node.specs.NodeRuns.{pair_reached, same_pair}
 use Rattle.tcp_endpoint.specs.declared.arrival.Arrived.{Arrived}
 use Rattle.tcp_endpoint.specs.declared.endpoint.Endpoint.{Endpoint}
 use Rattle.tcp_endpoint.specs.Arriving.{Arrives, IsBeforeCheck, LeavesAll}

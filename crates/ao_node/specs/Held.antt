@@ -3,9 +3,9 @@ use Rattle.std.specs.Prelude.{◌≡◌, ℕ, ◌+◌, nat_le, Bool, true, List,
 use Rattle.std.specs.Map.{lookup}
 use Rattle.std.specs.BTreeMap.{is_at}
 use Rattle.ao_base.specs.declared.address.Pair.{Pair}
-use Rattle.key_model.specs.Rows.{Row}
-use Rattle.endpoint_model.specs.States.{EndState, tick}
-use Rattle.format_model.specs.NodeRuns.{same_pair}
+use Rattle.book_keys.specs.Rows.{Row}
+use Rattle.book_endpoint.specs.States.{EndState, tick}
+use Rattle.book_cmd_node.specs.NodeRuns.{same_pair}
 use Rattle.tcp_endpoint.specs.declared.endpoint.Endpoint.{Endpoint}
 use Rattle.tcp_endpoint.specs.Ends.{Stands, FitsEnd}
 use Rattle.ao_node.specs.declared.answer.NodeRefusal.{NodeRefusal}

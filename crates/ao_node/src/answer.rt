@@ -3,7 +3,7 @@ ghost use Rattle.std.specs.Prelude.{◌≡◌};
 ghost use Rattle.ao_node.specs.declared.answer.NodeRefusal.TheVariants.{Memory};
 
 use ao_base::Pair;
-use segment_model::DatagramFault;
+use book_segments::DatagramFault;
 use std::alloc::AllocError;
 use tcp_endpoint::Arrived;
 

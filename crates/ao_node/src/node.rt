@@ -2,10 +2,10 @@
 ghost use Rattle.std.specs.Prelude.{◌≡◌, ◌≤◌, ◌+◌, [], false, true, is_some, option_map, IfOk, OnOk, OnErr, Some, None};
 ghost use Rattle.std.specs.Borrow.{sem};
 ghost use Rattle.std.specs.Option.{option_copied_mut};
-ghost use Rattle.segment_model.specs.Segments.{reading};
-ghost use Rattle.key_model.specs.Lifetimes.{greatest_time};
-ghost use Rattle.endpoint_model.specs.States.{connected, listening, started};
-ghost use Rattle.format_model.specs.NodeRuns.{most_ends};
+ghost use Rattle.book_segments.specs.Segments.{reading};
+ghost use Rattle.book_keys.specs.Lifetimes.{greatest_time};
+ghost use Rattle.book_endpoint.specs.States.{connected, listening, started};
+ghost use Rattle.book_cmd_node.specs.NodeRuns.{most_ends};
 ghost use Rattle.tcp_segment.specs.Writing.{IsOneFamily};
 ghost use Rattle.tcp_endpoint.specs.declared.endpoint.Endpoint.{Endpoint as OneEnd};
 ghost use Rattle.ao_node.specs.Arrivals.{Comes};

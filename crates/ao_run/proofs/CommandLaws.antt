@@ -5,12 +5,12 @@ use Rattle.std.proofs.lemmas.List.{get_or_past}
 use Rattle.std.proofs.lemmas.Str.{IsUtf8-from_ascii}
 use Rattle.std.specs.Str.{IsAscii, IsUtf8, bytes_eq}
 use Rattle.ao_base.specs.Decimals.{decimal_of}
-use Rattle.key_model.specs.Times.{◌>>=◌, two_digits_at, time_of, time_of_digits}
-use Rattle.format_model.specs.declared.command.Command.{Command}
-use Rattle.format_model.specs.declared.command.Command.TheVariants as command
-use Rattle.key_model.specs.Lifetimes.{greatest_time}
-use Rattle.format_model.specs.declared.command.Plan.{Plan}
-use Rattle.format_model.specs.Commands.{command_of, keys_of, lint_command, storm_of, decimal_up_to}
+use Rattle.book_keys.specs.Times.{◌>>=◌, two_digits_at, time_of, time_of_digits}
+use Rattle.book_answer.specs.declared.command.Command.{Command}
+use Rattle.book_answer.specs.declared.command.Command.TheVariants as command
+use Rattle.book_keys.specs.Lifetimes.{greatest_time}
+use Rattle.book_cmd_keys.specs.declared.plan.Plan.{Plan}
+use Rattle.book_answer.specs.Commands.{command_of, keys_of, lint_command, storm_of, decimal_up_to}
 use Rattle.ao_run.specs.Gathered.{is_ready}
 
 -- a value in front of a reading that goes on

@@ -2,12 +2,12 @@
 use Rattle.std.proofs.Common.{◌≡◌, ◌≢◌, ◌⊎◌, inl, inr, ℕ, zero, suc, ◌<◌, ◌≤◌, List, [], length, take, Option, Some, None, Ok, Bool, true, false, refl, sym, ap, subst, ◌∙◌, arith}
 use Rattle.std.proofs.lemmas.List.{length-take}
 use Rattle.ao_base.specs.Outside.{Gave, Took, Rose, IsAtEnd, Side}
-use Rattle.key_model.specs.Nodes.{tables_of}
-use Rattle.key_model.specs.Rows.{Table}
-use Rattle.format_model.specs.declared.command.Command.{Command}
-use Rattle.format_model.specs.declared.command.Command.TheVariants as commands
-use Rattle.format_model.specs.Answers.{Answer, answer_of, keys_too_long, most_input, most_keys, refusal}
-use Rattle.format_model.specs.Commands.{command_of, reads_input, reads_keys}
+use Rattle.book_keys.specs.Nodes.{tables_of}
+use Rattle.book_keys.specs.Rows.{Table}
+use Rattle.book_answer.specs.declared.command.Command.{Command}
+use Rattle.book_answer.specs.declared.command.Command.TheVariants as commands
+use Rattle.book_answer.specs.Answers.{Answer, answer_of, keys_too_long, most_input, most_keys, refusal}
+use Rattle.book_answer.specs.Commands.{command_of, reads_input, reads_keys}
 use Rattle.ao_run.specs.Completes.{Completes, IsCalm, Tells}
 use Rattle.ao_run.specs.Gathered.{answer_in}
 use Rattle.ao_run.specs.Obeys.{Along, IsWritten, NotBegun, Obeys, Sides, Unread, asks_input, asks_keys, most_of, text_of, writes_along}

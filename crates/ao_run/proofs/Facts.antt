@@ -2,10 +2,10 @@
 use Rattle.std.proofs.Common.{◌≡◌, ◌≢◌, ℕ, ◌<◌, ◌≤◌, Bool, true, false, List, length, Option, Some, None, if◌then◌else◌, refl, sym, ap, ◌∙◌, arith}
 use Rattle.std.specs.Io.KnownBytes.{Consumes}
 use Rattle.ao_base.specs.Outside.{Counts, IsAtEnd, Rose, Side, Took}
-use Rattle.key_model.specs.Rows.{Table}
-use Rattle.format_model.specs.declared.command.Command.{Command}
-use Rattle.format_model.specs.Answers.{Answer, done, judged, refusal}
-use Rattle.format_model.specs.Captures.{Stored, capture_run, has_refusal}
+use Rattle.book_keys.specs.Rows.{Table}
+use Rattle.book_answer.specs.declared.command.Command.{Command}
+use Rattle.book_answer.specs.Answers.{Answer, done, judged, refusal}
+use Rattle.book_cmd_check.specs.Captures.{Stored, capture_run, has_refusal}
 use Rattle.ao_run.specs.Gathered.{answer_in}
 
 -- fewer bytes were written than these

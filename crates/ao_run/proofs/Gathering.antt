@@ -5,19 +5,19 @@ use Rattle.ao_base.specs.declared.whole.ReadProblem.{ReadProblem}
 use Rattle.ao_base.specs.declared.whole.ReadProblem.TheVariants as problem
 use Rattle.ao_base.specs.ReadAll.{ReadsAll}
 use Rattle.ao_base.proofs.Sides.{gave_none}
-use Rattle.key_model.specs.declared.fault.TableFault.{TableFault}
-use Rattle.key_model.specs.declared.fault.TableFault.TheVariants as fault
-use Rattle.key_model.specs.Nodes.{tables_of}
-use Rattle.key_model.specs.Reading.{ReadingGives}
-use Rattle.key_model.specs.Rows.{Table}
-use Rattle.line_model.specs.declared.text_fault.TextFault.{TextFault}
-use Rattle.line_model.specs.declared.text_fault.TextFault.TheVariants as text_fault
-use Rattle.line_model.specs.Faults.{fault_text}
+use Rattle.book_keys.specs.declared.fault.TableFault.{TableFault}
+use Rattle.book_keys.specs.declared.fault.TableFault.TheVariants as fault
+use Rattle.book_keys.specs.Nodes.{tables_of}
+use Rattle.book_keys.specs.Reading.{ReadingGives}
+use Rattle.book_keys.specs.Rows.{Table}
+use Rattle.book_lines.specs.declared.text_fault.TextFault.{TextFault}
+use Rattle.book_lines.specs.declared.text_fault.TextFault.TheVariants as text_fault
+use Rattle.book_lines.specs.Faults.{fault_text}
 use Rattle.text_lines.specs.Readings.{Answers, Fails}
-use Rattle.format_model.specs.declared.command.Command.{Command}
-use Rattle.format_model.specs.Answers.{Answer, answer_of, answer_over, if_read, most_input, refusal, too_many_events}
-use Rattle.format_model.specs.Commands.{reads_keys, reads_input}
-use Rattle.format_model.specs.KeyTexts.{table_fault_line}
+use Rattle.book_answer.specs.declared.command.Command.{Command}
+use Rattle.book_answer.specs.Answers.{Answer, answer_of, answer_over, if_read, most_input, refusal, too_many_events}
+use Rattle.book_answer.specs.Commands.{reads_keys, reads_input}
+use Rattle.book_cmd_keys.specs.KeyTexts.{table_fault_line}
 use Rattle.ao_run.specs.declared.stop.Output.{Output}
 use Rattle.ao_run.specs.declared.stop.Stop.{Stop}
 use Rattle.ao_run.specs.declared.stop.Stop.TheVariants.{Usage, KeysTooLong, Keys, TooLong, Input, TooManyEvents, Read, Write, Memory}

@@ -3,49 +3,51 @@ use Rattle.std.proofs.Common.{◌≡◌, ◌↔◌, inl, ℕ, ◌==◌, ◌<◌,
 use Rattle.std.proofs.lemmas.Bool.Decides.{nat_tests}
 use Rattle.std.proofs.lemmas.List.Elements.{All-from_get_or}
 use Rattle.ao_base.specs.Outside.{Side, Took, IsAtEnd}
-use Rattle.key_model.specs.declared.fault.TableFault.{TableFault}
-use Rattle.key_model.specs.Nodes.{tables_of}
-use Rattle.key_model.specs.Plans.{rows_at}
-use Rattle.key_model.specs.Rows.{Table}
-use Rattle.line_model.specs.declared.text_fault.TextFault.{TextFault}
-use Rattle.wire_model.specs.Packets.{FileFault, packets_of}
-use Rattle.link_model.specs.declared.event.Event.{Event}
-use Rattle.link_model.specs.Runs.{run}
-use Rattle.link_model.specs.Storm.{storm_events, storm_setup}
-use Rattle.link_model.specs.Worlds.{Setup, forgeries, setup_of}
-use Rattle.format_model.specs.declared.command.Command.{Command}
-use Rattle.format_model.specs.declared.command.Command.TheVariants as command
-use Rattle.format_model.specs.declared.node.NodeScript.{NodeScript}
-use Rattle.format_model.specs.declared.script.Script.{Script}
-use Rattle.format_model.specs.declared.timed.TimedScript.{TimedScript}
-use Rattle.format_model.specs.Answers.{Answer, answer_by, answer_of, answer_over, answer_with_keys, answer_within, bgp_over, if_read, judged, keys_too_long, linked, linked_by_shared, most_events, most_input, most_keys, node_over, packets_checked, pcap_fault_line, refusal, reported, spoken, stored_packet, stormed, timed_over, too_long, too_many_events, long_text}
-use Rattle.format_model.specs.BgpRuns.{bgp_faults}
-use Rattle.format_model.specs.Captures.{Stored}
-use Rattle.format_model.specs.Commands.{command_of, reads_input, reads_keys}
-use Rattle.format_model.specs.LinkFiles.{script_of}
-use Rattle.format_model.specs.NodeRuns.{node_script_of}
-use Rattle.format_model.specs.TimedRuns.{expand, timed_script_of}
-use Rattle.bgp_link.proofs.TellLaws.{speaks_in_order, tells_messages}
-use Rattle.link_headline.specs.GetsThrough.{GetsThrough}
-use Rattle.link_headline.specs.Lawful.{Lawful}
-use Rattle.link_headline.proofs.FilesThrough.{keyed_through, shared_through, timed_through}
-use Rattle.link_headline.proofs.InputLaws.{events_fit, keyed_fits, keyed_tables, shared_fits, shared_tables_fit}
-use Rattle.link_headline.proofs.LawfulRuns.{lawful}
-use Rattle.link_headline.proofs.ReportEnds.{last_line}
-use Rattle.link_headline.proofs.StormFits.{storm_fits, storm_tables, events_fit as events_fit_storm}
-use Rattle.link_headline.proofs.Through.{storm_through}
-use Rattle.link_laws.specs.Laws.{TablesFit}
-use Rattle.node_laws.proofs.Runs.{each_alone}
+use Rattle.book_keys.specs.declared.fault.TableFault.{TableFault}
+use Rattle.book_keys.specs.Nodes.{tables_of}
+use Rattle.book_keys.specs.Plans.{rows_at}
+use Rattle.book_keys.specs.Rows.{Table}
+use Rattle.book_lines.specs.declared.text_fault.TextFault.{TextFault}
+use Rattle.book_pcap.specs.Packets.{FileFault, packets_of}
+use Rattle.book_link.specs.declared.event.Event.{Event}
+use Rattle.book_link.specs.Runs.{run}
+use Rattle.book_link.specs.Storm.{storm_events, storm_setup}
+use Rattle.book_link.specs.Worlds.{Setup, forgeries, setup_of}
+use Rattle.book_answer.specs.declared.command.Command.{Command}
+use Rattle.book_answer.specs.declared.command.Command.TheVariants as command
+use Rattle.book_cmd_node.specs.declared.node.NodeScript.{NodeScript}
+use Rattle.book_cmd_link.specs.declared.script.Script.{Script}
+use Rattle.book_cmd_timed.specs.declared.timed.TimedScript.{TimedScript}
+use Rattle.book_answer.specs.Answers.{Answer, answer_by, answer_of, answer_over, answer_with_keys, answer_within, bgp_over, if_read, judged, keys_too_long, linked, linked_by_shared, most_input, most_keys, node_over, packets_checked, pcap_fault_line, refusal, reported, spoken, stormed, timed_over, too_long, too_many_events, long_text}
+use Rattle.book_cmd_timed.specs.TimedRuns.{most_events}
+use Rattle.book_cmd_check.specs.StoredPackets.{stored_packet}
+use Rattle.book_cmd_bgp.specs.BgpRuns.{bgp_faults}
+use Rattle.book_cmd_check.specs.Captures.{Stored}
+use Rattle.book_answer.specs.Commands.{command_of, reads_input, reads_keys}
+use Rattle.book_cmd_link.specs.LinkFiles.{script_of}
+use Rattle.book_cmd_node.specs.NodeRuns.{node_script_of}
+use Rattle.book_cmd_timed.specs.TimedRuns.{expand, timed_script_of}
+use Rattle.cmd_bgp.proofs.TellLaws.{speaks_in_order, tells_messages}
+use Rattle.law_headline.specs.GetsThrough.{GetsThrough}
+use Rattle.law_headline.specs.Lawful.{Lawful}
+use Rattle.law_headline.proofs.FilesThrough.{keyed_through, shared_through, timed_through}
+use Rattle.law_headline.proofs.InputLaws.{events_fit, keyed_fits, keyed_tables, shared_fits, shared_tables_fit}
+use Rattle.law_headline.proofs.LawfulRuns.{lawful}
+use Rattle.law_headline.proofs.ReportEnds.{last_line}
+use Rattle.law_headline.proofs.StormFits.{storm_fits, storm_tables, events_fit as events_fit_storm}
+use Rattle.law_headline.proofs.Through.{storm_through}
+use Rattle.law_link.specs.Laws.{TablesFit}
+use Rattle.law_node.proofs.Runs.{each_alone}
 use Rattle.pcap_file.specs.Reading.{IsByte}
-use Rattle.pcap_laws.specs.LineForms.{line_form}
-use Rattle.pcap_laws.proofs.Judged.{answers_alike}
-use Rattle.pcap_laws.proofs.Records.{line_form_shows}
+use Rattle.law_pcap.specs.LineForms.{line_form}
+use Rattle.law_pcap.proofs.Judged.{answers_alike}
+use Rattle.law_pcap.proofs.Records.{line_form_shows}
 use Rattle.ao_run.specs.Delivers.{CommandsDeliver, Delivers, DeliversPackets, DeliversStorm, Keyed, LinkFile, MessageFile, NodeFile, Says, TimedFile, named_tables}
 use Rattle.ao_run.specs.Obeys.{Obeys, Sides, asks_input, asks_keys, Along, text_of}
 use Rattle.ao_run.specs.Gathered.{is_ready}
 use Rattle.ao_run.proofs.AnswerLaws.{keyed}
 use Rattle.ao_run.proofs.CommandLaws.{named_ready}
-use Rattle.link_headline.proofs.TimedFits.{expanded_fit, timed_fits}
+use Rattle.law_headline.proofs.TimedFits.{expanded_fit, timed_fits}
 
 -- the answer to words, by what they name
 abbrev answer : List (List ℕ) → List ℕ → List ℕ → Answer

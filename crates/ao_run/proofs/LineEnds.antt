@@ -6,15 +6,15 @@ use Rattle.ao_base.specs.declared.line_kind.LineKind.{LineKind}
 use Rattle.ao_base.specs.Lines.{lines_of}
 use Rattle.ao_base.specs.Outside.{Side, told}
 use Rattle.ao_base.proofs.Sides.{told_given}
-use Rattle.key_model.specs.Rows.{Table}
+use Rattle.book_keys.specs.Rows.{Table}
 use Rattle.capture_lines.specs.Checked.{Breaks, Ends, Finishes, HasRead, Refuses, segments_of, written_of}
 use Rattle.capture_lines.specs.declared.check.Halt.{Halt}
 use Rattle.capture_lines.specs.declared.check.Halt.TheVariants as halt
 use Rattle.capture_lines.proofs.RunLaws.{input_is, run_longer, stored_append}
-use Rattle.format_model.specs.declared.command.Command.TheVariants.{Check}
-use Rattle.format_model.specs.Answers.{Answer, done, line_fault_line, lines_checked, long_text}
-use Rattle.format_model.specs.Captures.{Stored, capture_run}
-use Rattle.format_model.specs.StoredLines.{LineFault, StoredInput, stored_from, stored_input}
+use Rattle.book_answer.specs.declared.command.Command.TheVariants.{Check}
+use Rattle.book_answer.specs.Answers.{Answer, done, line_fault_line, lines_checked, long_text}
+use Rattle.book_cmd_check.specs.Captures.{Stored, capture_run}
+use Rattle.book_cmd_check.specs.StoredLines.{LineFault, StoredInput, stored_from, stored_input}
 use Rattle.ao_run.specs.Gathered.{answer_in}
 use Rattle.ao_run.specs.Obeys.{ChecksLines, EndsSo, Sides, lines_end}
 use Rattle.ao_run.proofs.AnswerLaws.{long_input, short_input}

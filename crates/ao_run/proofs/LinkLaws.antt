@@ -1,18 +1,19 @@
 -- The run of a link file as the answer of `link`.
 use Rattle.std.proofs.Common.{◌≡◌, ◌<◌, ◌==◌, ℕ, not, Bool, true, false, List, [], Result, Ok, Err, refl, ap, arith, ◌∙◌}
 use Rattle.std.proofs.lemmas.Bool.Decides.{nat_tests}
-use Rattle.key_model.specs.Rows.{Table}
-use Rattle.line_model.specs.declared.text_fault.TextFault.{TextFault}
-use Rattle.line_model.specs.declared.text_fault.TextFault.TheVariants as text_fault
-use Rattle.line_model.specs.Faults.{fault_text}
+use Rattle.book_keys.specs.Rows.{Table}
+use Rattle.book_lines.specs.declared.text_fault.TextFault.{TextFault}
+use Rattle.book_lines.specs.declared.text_fault.TextFault.TheVariants as text_fault
+use Rattle.book_lines.specs.Faults.{fault_text}
 use Rattle.ao_base.specs.Results.{◌>>=◌}
 use Rattle.text_lines.specs.Readings.{Fails}
-use Rattle.link_model.specs.Worlds.{Setup, setup_of}
-use Rattle.format_model.specs.declared.script.Script.{Script}
-use Rattle.format_model.specs.Answers.{Answer, done, if_read, linked, linked_by_shared, refusal, reported, shared_by}
-use Rattle.format_model.specs.LinkFiles.{script_of}
-use Rattle.link_command.specs.declared.played.Played.{Played}
-use Rattle.link_command.specs.Playing.{linked as playing, linked_by_shared as playing_by_shared, played}
+use Rattle.book_link.specs.Worlds.{Setup, setup_of}
+use Rattle.book_cmd_link.specs.declared.script.Script.{Script}
+use Rattle.book_answer.specs.Answers.{Answer, done, if_read, linked, linked_by_shared, refusal, reported}
+use Rattle.book_cmd_link.specs.LinkFiles.{shared_by}
+use Rattle.book_cmd_link.specs.LinkFiles.{script_of}
+use Rattle.cmd_link.specs.declared.played.Played.{Played}
+use Rattle.cmd_link.specs.Playing.{linked as playing, linked_by_shared as playing_by_shared, played}
 use Rattle.ao_run.specs.declared.stop.Stop.{Stop}
 use Rattle.ao_run.specs.declared.stop.Stop.TheVariants.{Memory}
 use Rattle.ao_run.specs.Stops.{Makes, Stopped}

@@ -1,18 +1,18 @@
 -- The judgement on connections as the answer of `lint`.
 use Rattle.std.proofs.Common.{◌≡◌, ℕ, ◌<◌, Bool, true, false, List, [], Result, Ok, Err, refl, ap, arith, ◌∙◌}
 use Rattle.ao_base.specs.declared.address.Pair.{Pair}
-use Rattle.key_model.specs.Rows.{Table}
-use Rattle.line_model.specs.declared.text_fault.TextFault.{TextFault}
-use Rattle.line_model.specs.declared.text_fault.TextFault.TheVariants as text_fault
-use Rattle.line_model.specs.Faults.{fault_text}
-use Rattle.line_model.specs.Said.{Said, said_in}
+use Rattle.book_keys.specs.Rows.{Table}
+use Rattle.book_lines.specs.declared.text_fault.TextFault.{TextFault}
+use Rattle.book_lines.specs.declared.text_fault.TextFault.TheVariants as text_fault
+use Rattle.book_lines.specs.Faults.{fault_text}
+use Rattle.book_lines.specs.Said.{Said, said_in}
 use Rattle.ao_base.specs.Results.{◌>>=◌}
 use Rattle.text_lines.specs.Readings.{Fails}
-use Rattle.format_model.specs.declared.command.Plan.{Plan}
-use Rattle.format_model.specs.Answers.{Answer, done, if_read, linted, refusal}
-use Rattle.format_model.specs.LintTexts.{lint_pair_of, has_misfit, lint_text}
-use Rattle.key_texts.specs.declared.judged.Judged.{Judged}
-use Rattle.key_texts.specs.Judgements.{judgements}
+use Rattle.book_cmd_keys.specs.declared.plan.Plan.{Plan}
+use Rattle.book_answer.specs.Answers.{Answer, done, if_read, linted, refusal}
+use Rattle.book_cmd_keys.specs.LintTexts.{lint_pair_of, has_misfit, lint_text}
+use Rattle.cmd_keys.specs.declared.judged.Judged.{Judged}
+use Rattle.cmd_keys.specs.Judgements.{judgements}
 use Rattle.ao_run.specs.declared.stop.Stop.{Stop}
 use Rattle.ao_run.specs.declared.stop.Stop.TheVariants.{Memory}
 use Rattle.ao_run.specs.Stops.{Makes, Stopped}

@@ -4,16 +4,17 @@ use Rattle.std.proofs.lemmas.List.{length-take, map-append}
 use Rattle.std.specs.Io.KnownBytes.{Consumes}
 use Rattle.ao_base.specs.Outside.{Side, told}
 use Rattle.ao_base.proofs.Sides.{told_given}
-use Rattle.key_model.specs.Rows.{Table}
-use Rattle.wire_model.specs.Packets.{BadHead, BadRecord, FileFault, Packet, Packets, packets_of}
+use Rattle.book_keys.specs.Rows.{Table}
+use Rattle.book_pcap.specs.Packets.{BadHead, BadRecord, FileFault, Packet, Packets, packets_of}
 use Rattle.capture_lines.proofs.RunLaws.{run_longer}
 use Rattle.capture_packets.specs.Checked.{Breaks, Ends, Finishes, Refuses, segments_of, written_of}
 use Rattle.pcap_file.specs.Reading.{packets_at}
 use Rattle.capture_packets.specs.declared.check.PacketHalt.{PacketHalt}
 use Rattle.capture_packets.specs.declared.check.PacketHalt.TheVariants as halt
-use Rattle.format_model.specs.declared.command.Command.TheVariants.{CheckPcap}
-use Rattle.format_model.specs.Answers.{Answer, done, long_text, packets_checked, pcap_fault_line, stored_packet}
-use Rattle.format_model.specs.Captures.{Stored, capture_run}
+use Rattle.book_answer.specs.declared.command.Command.TheVariants.{CheckPcap}
+use Rattle.book_answer.specs.Answers.{Answer, done, long_text, packets_checked, pcap_fault_line}
+use Rattle.book_cmd_check.specs.StoredPackets.{stored_packet}
+use Rattle.book_cmd_check.specs.Captures.{Stored, capture_run}
 use Rattle.ao_run.specs.Gathered.{answer_in}
 use Rattle.ao_run.specs.Obeys.{ChecksPackets, EndsSo, Sides, packets_end}
 use Rattle.ao_run.proofs.AnswerLaws.{long_input, short_input}

@@ -1,19 +1,19 @@
 -- The runs over a key file as the answers of `timed`, `bgp` and `node`.
 use Rattle.std.proofs.Common.{◌≡◌, ◌<◌, ℕ, true, false, List, [], Result, Ok, Err, refl, ap, arith}
-use Rattle.key_model.specs.Rows.{Table}
-use Rattle.line_model.specs.declared.text_fault.TextFault.{TextFault}
-use Rattle.line_model.specs.declared.text_fault.TextFault.TheVariants as text_fault
-use Rattle.line_model.specs.Faults.{fault_text}
+use Rattle.book_keys.specs.Rows.{Table}
+use Rattle.book_lines.specs.declared.text_fault.TextFault.{TextFault}
+use Rattle.book_lines.specs.declared.text_fault.TextFault.TheVariants as text_fault
+use Rattle.book_lines.specs.Faults.{fault_text}
 use Rattle.ao_base.specs.Results.{◌>>=◌}
 use Rattle.text_lines.specs.Readings.{Fails}
-use Rattle.format_model.specs.declared.node.NodeScript.{NodeScript}
-use Rattle.format_model.specs.Answers.{bgp_over, done, if_read, node_over, refusal, timed_over}
-use Rattle.format_model.specs.LinkFiles.{script_of}
-use Rattle.format_model.specs.NodeRuns.{node_script_of}
-use Rattle.format_model.specs.TimedRuns.{timed_script_of}
+use Rattle.book_cmd_node.specs.declared.node.NodeScript.{NodeScript}
+use Rattle.book_answer.specs.Answers.{bgp_over, done, if_read, node_over, refusal, timed_over}
+use Rattle.book_cmd_link.specs.LinkFiles.{script_of}
+use Rattle.book_cmd_node.specs.NodeRuns.{node_script_of}
+use Rattle.book_cmd_timed.specs.TimedRuns.{timed_script_of}
 use Rattle.node_run.specs.Answers.{node_answer, text_over}
-use Rattle.timed_link.specs.declared.answer.TimedProblem.TheVariants.{Fault}
-use Rattle.timed_link.specs.Answers.{AnswersTimed}
+use Rattle.cmd_timed.specs.declared.answer.TimedProblem.TheVariants.{Fault}
+use Rattle.cmd_timed.specs.Answers.{AnswersTimed}
 use Rattle.ao_run.specs.declared.stop.Stop.{Stop}
 use Rattle.ao_run.specs.declared.stop.Stop.TheVariants.{Memory}
 use Rattle.ao_run.specs.Stops.{Makes, Stopped}

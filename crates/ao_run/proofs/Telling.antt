@@ -3,9 +3,9 @@ use Rattle.std.proofs.Common.{◌≡◌, ◌≢◌, ◌⊎◌, inl, inr, ℕ, ze
 use Rattle.std.proofs.Math.Seq.{take-length}
 use Rattle.ao_base.specs.Outside.{Side, Took, WritesAll, IsAtEnd}
 use Rattle.ao_base.proofs.Sides.{took_none}
-use Rattle.format_model.specs.declared.command.Command.{Command}
-use Rattle.format_model.specs.declared.command.Command.TheVariants as commands
-use Rattle.format_model.specs.Answers.{Answer, answer_of as answer, refusal}
+use Rattle.book_answer.specs.declared.command.Command.{Command}
+use Rattle.book_answer.specs.declared.command.Command.TheVariants as commands
+use Rattle.book_answer.specs.Answers.{Answer, answer_of as answer, refusal}
 use Rattle.ao_run.specs.declared.stop.Output.{Output}
 use Rattle.ao_run.specs.declared.stop.Stop.{Stop}
 use Rattle.ao_run.specs.declared.stop.Stop.TheVariants.{Usage, KeysTooLong, Keys, TooLong, Input, TooManyEvents, Read, Write, Memory}

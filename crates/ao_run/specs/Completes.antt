@@ -1,8 +1,8 @@
 -- That the program does what it is for. Its top is `Completes` (own).
 use Rattle.std.specs.Prelude.{◌≡◌, ◌⊎◌, ℕ, ◌<◌, Bool, true, List, [], length, Some}
 use Rattle.ao_base.specs.Outside.{Side, Took, Rose}
-use Rattle.format_model.specs.Answers.{answer_of}
-use Rattle.format_model.specs.Commands.{command_of}
+use Rattle.book_answer.specs.Answers.{answer_of}
+use Rattle.book_answer.specs.Commands.{command_of}
 use Rattle.ao_run.specs.Obeys.{Sides, asks_keys, asks_input}
 
 -- no fault comes in the call, or the side told before it that none comes while these bytes go by

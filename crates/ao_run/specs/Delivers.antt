@@ -4,34 +4,36 @@ use Rattle.std.specs.Prelude.{◌≡◌, ◌↔◌, ℕ, ◌<◌, ◌≤◌, Lis
 use Rattle.std.specs.Prelude.{codes, Some, Result, Ok, None}
 use Rattle.ao_base.specs.declared.address.Pair.{Pair}
 use Rattle.ao_base.specs.Outside.{Side, Took, IsAtEnd}
-use Rattle.key_model.specs.Nodes.{tables_of}
-use Rattle.key_model.specs.Plans.{rows_at}
-use Rattle.key_model.specs.Rows.{Row, Table}
-use Rattle.line_model.specs.declared.text_fault.TextFault.{TextFault}
-use Rattle.link_model.specs.declared.event.Event.{Event}
-use Rattle.link_model.specs.Reports.{report, counts_line, summary}
-use Rattle.link_model.specs.Runs.{run}
-use Rattle.link_model.specs.Storm.{storm_events, storm_setup}
-use Rattle.link_model.specs.Worlds.{Setup, forgeries, setup_of}
-use Rattle.format_model.specs.declared.command.Command.TheVariants.{Storm}
-use Rattle.format_model.specs.declared.node.NodeEvent.{NodeEvent}
-use Rattle.format_model.specs.declared.node.NodeScript.{NodeScript}
-use Rattle.format_model.specs.declared.script.Script.{Script}
-use Rattle.format_model.specs.declared.timed.TimedEvent.{TimedEvent}
-use Rattle.format_model.specs.declared.timed.TimedScript.{TimedScript}
-use Rattle.format_model.specs.Answers.{Answer, answer, most_events, shared_by}
-use Rattle.format_model.specs.BgpRuns.{bgp_faults, bgp_text}
-use Rattle.format_model.specs.Commands.{command_of}
-use Rattle.format_model.specs.LinkFiles.{script_of}
-use Rattle.format_model.specs.NodeRuns.{node_script_of, node_text}
-use Rattle.node_laws.specs.Alone.{Alone}
-use Rattle.format_model.specs.TimedRuns.{expand, timed_script_of}
-use Rattle.wire_model.specs.Packets.{packets_of}
-use Rattle.bgp_link.specs.Tellings.{SpeaksInOrder, TellsMessages}
-use Rattle.link_headline.specs.GetsThrough.{GetsThrough}
-use Rattle.link_headline.specs.Lawful.{Lawful}
-use Rattle.link_laws.specs.Laws.{TablesFit}
-use Rattle.pcap_laws.specs.LineForms.{line_form}
+use Rattle.book_keys.specs.Nodes.{tables_of}
+use Rattle.book_keys.specs.Plans.{rows_at}
+use Rattle.book_keys.specs.Rows.{Row, Table}
+use Rattle.book_lines.specs.declared.text_fault.TextFault.{TextFault}
+use Rattle.book_link.specs.declared.event.Event.{Event}
+use Rattle.book_link.specs.Reports.{report, counts_line, summary}
+use Rattle.book_link.specs.Runs.{run}
+use Rattle.book_link.specs.Storm.{storm_events, storm_setup}
+use Rattle.book_link.specs.Worlds.{Setup, forgeries, setup_of}
+use Rattle.book_answer.specs.declared.command.Command.TheVariants.{Storm}
+use Rattle.book_cmd_node.specs.declared.node.NodeEvent.{NodeEvent}
+use Rattle.book_cmd_node.specs.declared.node.NodeScript.{NodeScript}
+use Rattle.book_cmd_link.specs.declared.script.Script.{Script}
+use Rattle.book_cmd_timed.specs.declared.timed.TimedEvent.{TimedEvent}
+use Rattle.book_cmd_timed.specs.declared.timed.TimedScript.{TimedScript}
+use Rattle.book_answer.specs.Answers.{Answer, answer}
+use Rattle.book_cmd_timed.specs.TimedRuns.{most_events}
+use Rattle.book_cmd_link.specs.LinkFiles.{shared_by}
+use Rattle.book_cmd_bgp.specs.BgpRuns.{bgp_faults, bgp_text}
+use Rattle.book_answer.specs.Commands.{command_of}
+use Rattle.book_cmd_link.specs.LinkFiles.{script_of}
+use Rattle.book_cmd_node.specs.NodeRuns.{node_script_of, node_text}
+use Rattle.law_node.specs.Alone.{Alone}
+use Rattle.book_cmd_timed.specs.TimedRuns.{expand, timed_script_of}
+use Rattle.book_pcap.specs.Packets.{packets_of}
+use Rattle.cmd_bgp.specs.Tellings.{SpeaksInOrder, TellsMessages}
+use Rattle.law_headline.specs.GetsThrough.{GetsThrough}
+use Rattle.law_headline.specs.Lawful.{Lawful}
+use Rattle.law_link.specs.Laws.{TablesFit}
+use Rattle.law_pcap.specs.LineForms.{line_form}
 use Rattle.ao_run.specs.Obeys.{Sides}
 
 -- the key file is one of valid tables, it was read to its end, and what is said of tables holds

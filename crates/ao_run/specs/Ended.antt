@@ -1,7 +1,7 @@
 -- What a call for a command has read and written before its text is told (own).
 use Rattle.std.specs.Prelude.{ℕ, List, Option, Result, Ok, Err}
 use Rattle.ao_base.specs.Outside.{Side}
-use Rattle.format_model.specs.declared.command.Command.{Command}
+use Rattle.book_answer.specs.declared.command.Command.{Command}
 use Rattle.ao_run.specs.declared.stop.Stop.{Stop}
 use Rattle.ao_run.specs.Gathered.{Sources}
 use Rattle.ao_run.specs.Obeys.{ObeysAs, Offers, Sides}

@@ -1,8 +1,8 @@
 -- Which word names the key file (own).
 use Rattle.std.specs.Prelude.{ℕ, List, ◌∷◌, Option, Some, None, if◌then◌else◌}
-use Rattle.format_model.specs.declared.command.Command.{Command}
-use Rattle.format_model.specs.declared.command.Command.TheVariants as command
-use Rattle.format_model.specs.Commands.{command_of, reads_keys}
+use Rattle.book_answer.specs.declared.command.Command.{Command}
+use Rattle.book_answer.specs.declared.command.Command.TheVariants as command
+use Rattle.book_answer.specs.Commands.{command_of, reads_keys}
 
 -- the word behind the name (own)
 abbrev pub second : List (List ℕ) → Option (List ℕ)

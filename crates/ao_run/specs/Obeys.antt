@@ -9,16 +9,16 @@ use Rattle.capture_packets.specs.Checked.{Checks as JudgesPackets}
 use Rattle.capture_packets.specs.Checked.{most_ahead as most_ahead_of_packets}
 use Rattle.capture_packets.specs.declared.check.PacketHalt.{PacketHalt}
 use Rattle.capture_packets.specs.declared.check.PacketHalt.TheVariants as packet_halt
-use Rattle.key_model.specs.Nodes.{tables_of}
-use Rattle.key_model.specs.Rows.{Table}
-use Rattle.line_model.specs.declared.text_fault.TextFault.TheVariants.{Line}
-use Rattle.line_model.specs.Faults.{fault_text}
-use Rattle.format_model.specs.declared.command.Command.{Command}
-use Rattle.format_model.specs.declared.command.Command.TheVariants as commands
-use Rattle.format_model.specs.Answers.{Answer, answer_of as answer, most_keys, most_input}
-use Rattle.format_model.specs.Answers.{pcap_fault_line, too_long, read_fault, write_fault, memory}
-use Rattle.format_model.specs.Commands.{command_of, reads_keys, reads_input}
-use Rattle.wire_model.specs.Packets.{BadHead, BadRecord}
+use Rattle.book_keys.specs.Nodes.{tables_of}
+use Rattle.book_keys.specs.Rows.{Table}
+use Rattle.book_lines.specs.declared.text_fault.TextFault.TheVariants.{Line}
+use Rattle.book_lines.specs.Faults.{fault_text}
+use Rattle.book_answer.specs.declared.command.Command.{Command}
+use Rattle.book_answer.specs.declared.command.Command.TheVariants as commands
+use Rattle.book_answer.specs.Answers.{Answer, answer_of as answer, most_keys, most_input}
+use Rattle.book_answer.specs.Answers.{pcap_fault_line, too_long, read_fault, write_fault, memory}
+use Rattle.book_answer.specs.Commands.{command_of, reads_keys, reads_input}
+use Rattle.book_pcap.specs.Packets.{BadHead, BadRecord}
 
 -- the key file, standard input, standard output and standard error (own)
 pub record Sides : Type 0 where

@@ -4,16 +4,16 @@ use Rattle.ao_run.specs.declared.stop.Stop.{Stop}
 use Rattle.ao_run.specs.declared.stop.Stop.TheVariants.{Usage, KeysTooLong, Keys, TooLong, Input}
 use Rattle.ao_run.specs.declared.stop.Stop.TheVariants.{TooManyEvents, Read, Write, Memory}
 use Rattle.ao_run.specs.declared.stop.Output.{Output}
-use Rattle.line_model.specs.declared.text_fault.TextFault.TheVariants.{Line}
-use Rattle.line_model.specs.Faults.{fault_text}
-use Rattle.wire_model.specs.Packets.{BadHead, BadRecord}
+use Rattle.book_lines.specs.declared.text_fault.TextFault.TheVariants.{Line}
+use Rattle.book_lines.specs.Faults.{fault_text}
+use Rattle.book_pcap.specs.Packets.{BadHead, BadRecord}
 use Rattle.capture_lines.specs.declared.check.Halt.{Halt}
 use Rattle.capture_lines.specs.declared.check.Halt.TheVariants as halt
 use Rattle.capture_packets.specs.declared.check.PacketHalt.{PacketHalt}
 use Rattle.capture_packets.specs.declared.check.PacketHalt.TheVariants as packet_halt
-use Rattle.format_model.specs.Answers.{Answer, refusal, keys_too_long, too_long, too_many_events}
-use Rattle.format_model.specs.Answers.{pcap_fault_line, read_fault, write_fault, memory}
-use Rattle.format_model.specs.Commands.{usage}
+use Rattle.book_answer.specs.Answers.{Answer, refusal, keys_too_long, too_long, too_many_events}
+use Rattle.book_answer.specs.Answers.{pcap_fault_line, read_fault, write_fault, memory}
+use Rattle.book_answer.specs.Commands.{usage}
 
 -- the exit status of each way to end without output (own)
 abbrev pub status_of : Stop → ℕ

@@ -1,13 +1,14 @@
 //! The command that the words name, and what it reads.
 ghost use Rattle.std.specs.Prelude.{◌≡◌, option_map, true};
-ghost use Rattle.key_model.specs.Times.{time_of};
-ghost use Rattle.format_model.specs.Commands.{alone_of, command_of, keys_of, lint_command, pcap_of, reads_input, reads_keys, storm_of, three_of, decimal_up_to, with_keys_of};
-ghost use Rattle.format_model.specs.Answers.{most_input};
+ghost use Rattle.book_keys.specs.Times.{time_of};
+ghost use Rattle.book_answer.specs.Commands.{alone_of, command_of, keys_of, lint_command, pcap_of, reads_input, reads_keys, storm_of, three_of, decimal_up_to, with_keys_of};
+ghost use Rattle.book_answer.specs.Answers.{most_input};
 ghost use Rattle.ao_run.specs.Gathered.{is_ready};
 ghost use Rattle.ao_run.specs.KeyFiles.{key_word, second, third};
 
 use ao_base::{Words, read_decimal};
-use format_model::{Command, Plan};
+use book_answer::Command;
+use book_cmd_keys::Plan;
 use key_table::{LATEST, read_time};
 
 /// The most bytes of stored segments.
@@ -130,7 +131,7 @@ fn lint(lead: &[u8], lag: &[u8], from: &[u8], to: &[u8]) -> Option<Command>
 }
 
 /// The command that the words name.
-#[tactic(auto, unfolding(format_model::specs::Commands::command_of))]
+#[tactic(auto, unfolding(book_answer::specs::Commands::command_of))]
 fn command_of(words: &Words) -> Option<Command>
     ensures { result ≡ command_of words.now }
 {

@@ -1,7 +1,7 @@
 //! Reading what a command reads, and making its output.
 ghost use Rattle.std.specs.Prelude.{◌≡◌, ℕ, List, true, false, Some, is_some};
-ghost use Rattle.format_model.specs.Answers.{answer_over};
-ghost use Rattle.format_model.specs.Commands.{reads_keys};
+ghost use Rattle.book_answer.specs.Answers.{answer_over};
+ghost use Rattle.book_answer.specs.Commands.{reads_keys};
 ghost use Rattle.ao_run.specs.Gathered.{Gathered, InputGathered, KeysGathered, is_ready, tables_in};
 ghost use Rattle.ao_run.specs.Obeys.{writes_along};
 ghost use Rattle.ao_run.specs.Stops.{Makes};
@@ -14,7 +14,7 @@ use crate::runs::{bgp, node, timed};
 use crate::stop::{Output, Stop};
 use crate::texts::{show_all, verify_all};
 use ao_base::{Bytes, ReadProblem, Source, read_all};
-use format_model::Command;
+use book_answer::Command;
 use key_table::{Tables, read_tables};
 use std::alloc::Global;
 

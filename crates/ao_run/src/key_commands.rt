@@ -1,15 +1,15 @@
 //! The commands `keys` and `lint`.
 ghost use Rattle.std.specs.Prelude.{false};
-ghost use Rattle.format_model.specs.Answers.{done, if_read, linted};
-ghost use Rattle.format_model.specs.KeyTexts.{keys_text};
-ghost use Rattle.format_model.specs.LintTexts.{lint_pair_of};
-ghost use Rattle.line_model.specs.Said.{said_in};
+ghost use Rattle.book_answer.specs.Answers.{done, if_read, linted};
+ghost use Rattle.book_cmd_keys.specs.KeyTexts.{keys_text};
+ghost use Rattle.book_cmd_keys.specs.LintTexts.{lint_pair_of};
+ghost use Rattle.book_lines.specs.Said.{said_in};
 ghost use Rattle.ao_run.specs.Stops.{Makes};
 
 use crate::stop::{Output, Stop};
-use format_model::Plan;
+use book_cmd_keys::Plan;
+use cmd_keys::{keys_text, lint_lines};
 use key_table::Tables;
-use key_texts::{keys_text, lint_lines};
 use std::alloc::Global;
 
 /// The rows of all nodes with their state at a time.

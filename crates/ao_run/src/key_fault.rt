@@ -1,8 +1,8 @@
 //! The text of a key file's fault.
 ghost use Rattle.std.specs.Prelude.{◌≡◌, ◌++◌, OnOk, IfOk};
-ghost use Rattle.format_model.specs.KeyTexts.{column_text, table_fault_line, table_fault_texts};
-ghost use Rattle.format_model.specs.Answers.{refusal};
-ghost use Rattle.line_model.specs.Texts.{spaced};
+ghost use Rattle.book_cmd_keys.specs.KeyTexts.{column_text, table_fault_line, table_fault_texts};
+ghost use Rattle.book_answer.specs.Answers.{refusal};
+ghost use Rattle.book_lines.specs.Texts.{spaced};
 ghost use Rattle.ao_run.specs.Stops.{Stopped};
 
 use crate::stop::Stop;

@@ -1,14 +1,13 @@
 //! The commands `link`, `link KEYS` and `storm`.
 ghost use Rattle.std.specs.Prelude.{◌≡◌, ◌≤◌, true, false};
-ghost use Rattle.link_model.specs.Storm.{storm_events};
-ghost use Rattle.format_model.specs.Answers.{if_read, linked, linked_by_shared, stormed};
-ghost use Rattle.format_model.specs.LinkFiles.{script_of};
+ghost use Rattle.book_link.specs.Storm.{storm_events};
+ghost use Rattle.book_answer.specs.Answers.{if_read, linked, linked_by_shared, stormed};
+ghost use Rattle.book_cmd_link.specs.LinkFiles.{script_of};
 ghost use Rattle.ao_run.specs.Stops.{Makes};
 
 use crate::stop::{Output, Stop};
+use cmd_link::{link_keys_report, link_report, storm};
 use key_table::Tables;
-use link_command::{link_keys_report, link_report};
-use link_storm::storm;
 use std::alloc::Global;
 
 /// The report of a link file that names its shared key; status 1 where the run counts a forgery.

@@ -1,7 +1,7 @@
 //! The text of a pcap file's fault.
 ghost use Rattle.std.specs.Prelude.{◌≡◌, IfOk};
-ghost use Rattle.wire_model.specs.Packets.{BadHead, BadRecord};
-ghost use Rattle.format_model.specs.Answers.{head_fault_text, pcap_fault_line, refusal};
+ghost use Rattle.book_pcap.specs.Packets.{BadHead, BadRecord};
+ghost use Rattle.book_answer.specs.Answers.{head_fault_text, pcap_fault_line, refusal};
 ghost use Rattle.ao_run.specs.Stops.{Stopped};
 
 use crate::stop::Stop;

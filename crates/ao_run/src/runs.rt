@@ -1,17 +1,17 @@
 //! The commands `timed`, `bgp` and `node`.
 ghost use Rattle.std.specs.Prelude.{true};
-ghost use Rattle.format_model.specs.Answers.{bgp_over, if_read, node_over, timed_over};
-ghost use Rattle.format_model.specs.LinkFiles.{script_of};
-ghost use Rattle.format_model.specs.NodeRuns.{node_script_of};
-ghost use Rattle.format_model.specs.TimedRuns.{timed_script_of};
+ghost use Rattle.book_answer.specs.Answers.{bgp_over, if_read, node_over, timed_over};
+ghost use Rattle.book_cmd_link.specs.LinkFiles.{script_of};
+ghost use Rattle.book_cmd_node.specs.NodeRuns.{node_script_of};
+ghost use Rattle.book_cmd_timed.specs.TimedRuns.{timed_script_of};
 ghost use Rattle.ao_run.specs.Stops.{Makes};
 
 use crate::stop::{Output, Stop};
-use bgp_link::speak;
+use cmd_bgp::speak;
+use cmd_timed::{TimedProblem, timed_report};
 use key_table::Tables;
 use node_run::run_over_tables;
 use std::alloc::Global;
-use timed_link::{TimedProblem, timed_report};
 
 /// The report of a link whose ends have timers (RFC 6298), over the tables of a key file; status 1
 /// where its plain run counts a forgery.

@@ -1,15 +1,15 @@
 //! How a command ends: with output, or without.
 ghost use Rattle.std.specs.Prelude.{◌≡◌};
-ghost use Rattle.line_model.specs.Faults.{fault_text};
-ghost use Rattle.format_model.specs.Answers.{refusal};
+ghost use Rattle.book_lines.specs.Faults.{fault_text};
+ghost use Rattle.book_answer.specs.Answers.{refusal};
 ghost use Rattle.ao_run.specs.Stops.{IsHalted, IsPacketHalted, Stopped, status_of, text_of};
 ghost use Rattle.ao_run.specs.declared.stop.Stop.TheVariants.{Memory};
 
 use crate::pcap_fault::{of_head, of_record};
 use ao_base::Bytes;
+use book_lines::TextFault;
 use capture_lines::Halt;
 use capture_packets::PacketHalt;
-use line_model::TextFault;
 use std::alloc::{AllocError, Global};
 use text_lines::print_fault;
 

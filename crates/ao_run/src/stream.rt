@@ -1,14 +1,14 @@
 //! The commands that write as they read: `check KEYS` and `check --pcap KEYS`.
 ghost use Rattle.std.specs.Prelude.{◌≡◌, ℕ, List, Some, if◌then◌else◌};
-ghost use Rattle.format_model.specs.declared.command.Command.TheVariants.{Check, CheckPcap};
+ghost use Rattle.book_answer.specs.declared.command.Command.TheVariants.{Check, CheckPcap};
 ghost use Rattle.ao_run.specs.Ended.{Ended};
 
 use crate::gather::tables_for;
 use crate::stop::Stop;
 use ao_base::{Sink, Source};
+use book_answer::Command;
 use capture_lines::check_segments;
 use capture_packets::check_packets;
-use format_model::Command;
 use std::alloc::Global;
 
 /// The status of a check that came to the input's end: 1 where a segment is no pass.

@@ -1,12 +1,12 @@
 //! The commands `show` and `vectors`.
 ghost use Rattle.std.specs.Prelude.{false};
-ghost use Rattle.format_model.specs.Answers.{done, if_read, verified};
-ghost use Rattle.format_model.specs.Show.{show_of};
-ghost use Rattle.format_model.specs.Verified.{vectors_of};
+ghost use Rattle.book_answer.specs.Answers.{done, if_read, verified};
+ghost use Rattle.book_cmd_show.specs.Show.{show_of};
+ghost use Rattle.book_cmd_show.specs.Verified.{vectors_of};
 ghost use Rattle.ao_run.specs.Stops.{Makes};
 
 use crate::stop::{Output, Stop};
-use ao_show::{show, vectors};
+use cmd_show::{show, vectors};
 use std::alloc::Global;
 
 /// A line for each datagram of the text.

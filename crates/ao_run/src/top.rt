@@ -10,7 +10,7 @@ use crate::gather::gather;
 use crate::stop::Stop;
 use crate::stream::{check_file, check_lines};
 use ao_base::{Failed, Sink, Source, Words, write_all};
-use format_model::Command;
+use book_answer::Command;
 use std::alloc::Global;
 
 /// Reads all that the command reads, and then writes its whole output.

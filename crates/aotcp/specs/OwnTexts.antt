@@ -1,7 +1,7 @@
 -- The two texts that the program tells of itself. Our own formats.
 use Rattle.std.specs.Prelude.{ℕ, if◌then◌else◌, List, [], ◌∷◌, ◌++◌, codes, Option, Some, None}
 use Rattle.std.specs.Str.{bytes_eq}
-use Rattle.format_model.specs.Commands.{usage}
+use Rattle.book_answer.specs.Commands.{usage}
 use Rattle.aotcp.specs.declared.own_text.OwnText.{OwnText}
 use Rattle.aotcp.specs.declared.own_text.OwnText.TheVariants.{Help, Version}
 

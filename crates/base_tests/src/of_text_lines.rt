@@ -1,6 +1,6 @@
 //! What is read from lines and words, and what is put into an output.
 use ao_base::{Address, Algorithm, End, LineKind, Socket};
-use line_model::TextFault;
+use book_lines::TextFault;
 use std::test::Fail;
 use text_lines::{
     LineWords, Refusal, SayingLines, count_lines, print_fault, push_bytes, push_end, push_field,

@@ -4,10 +4,10 @@ use Rattle.std.proofs.Math.Seq.{take-add}
 use Rattle.std.proofs.lemmas.Bool.{cases_lt}
 use Rattle.std.proofs.lemmas.List.{length-append, length-drop, length-take-le, take-append-drop, take-append-le, drop-append-le, drop-drop, take_all, take_at, drop_at, get_or-take}
 use Rattle.std.specs.Prelude.{slice_range, slice_index}
-use Rattle.wire_model.specs.declared.bgp_fault.BgpFault.{BgpFault}
-use Rattle.wire_model.specs.Messages.{Unfinished, message_front, header_fault, length_in, kind_in}
-use Rattle.wire_model.proofs.Headers.{sound}
-use Rattle.wire_model.proofs.Fronts.{front_short, front_part, front_faulty, front_whole, unfinished}
+use Rattle.book_bgp.specs.declared.bgp_fault.BgpFault.{BgpFault}
+use Rattle.book_bgp.specs.Messages.{Unfinished, message_front, header_fault, length_in, kind_in}
+use Rattle.book_bgp.proofs.Headers.{sound}
+use Rattle.book_bgp.proofs.Fronts.{front_short, front_part, front_faulty, front_whole, unfinished}
 use Rattle.bgp_messages.specs.declared.reader.Found.TheVariants as found
 use Rattle.bgp_messages.specs.Readers.{Gathers}
 

@@ -1,10 +1,10 @@
 -- A reader stands for the bytes that it got.
 use Rattle.std.proofs.Common.{◌≡◌, ℕ, ◌+◌, min, true, List, [], ◌∷◌, ◌++◌, length, take, drop, Option, Some, None, refl, sym, ap, ◌∙◌, append_assoc, arith}
 use Rattle.std.proofs.lemmas.List.{length-drop, length-take, take-take, take-append-drop}
-use Rattle.wire_model.specs.declared.bgp_fault.BgpFault.{BgpFault}
-use Rattle.wire_model.specs.Messages.{MessageFront, Unfinished, FaultyHeader, LeadingMessage, message_front, message_length, messages, place_of, behind, fault_of, fault_in}
-use Rattle.wire_model.proofs.Fronts.{front_short, front_faulty, faulty}
-use Rattle.wire_model.proofs.Streams.{none_before, none_after, one_before, place_none, behind_none, place_before, behind_before, messages_append, place_append, behind_append, leading_alone}
+use Rattle.book_bgp.specs.declared.bgp_fault.BgpFault.{BgpFault}
+use Rattle.book_bgp.specs.Messages.{MessageFront, Unfinished, FaultyHeader, LeadingMessage, message_front, message_length, messages, place_of, behind, fault_of, fault_in}
+use Rattle.book_bgp.proofs.Fronts.{front_short, front_faulty, faulty}
+use Rattle.book_bgp.proofs.Streams.{none_before, none_after, one_before, place_none, behind_none, place_before, behind_before, messages_append, place_append, behind_append, leading_alone}
 use Rattle.bgp_messages.specs.declared.reader.Found.TheVariants as found
 use Rattle.bgp_messages.specs.declared.reader.Fed.{Fed}
 use Rattle.bgp_messages.specs.declared.reader.State.{State}

@@ -1,7 +1,7 @@
 -- A reader of the messages of a stream.
 use Rattle.std.specs.Prelude.{◌≡◌, ℕ, ◌+◌, ◌-◌, ◌<◌, ◌≤◌, min, nat_le, Bool, true, false, List, [], ◌∷◌, ◌++◌, length, take, drop, slice_index, Option, Some, None, IsSome}
-use Rattle.wire_model.specs.declared.bgp_fault.BgpFault.{BgpFault}
-use Rattle.wire_model.specs.Messages.{Message, MessageFront, Unfinished, FaultyHeader, LeadingMessage, message_front, header_length, message_length, messages, place_of, behind, fault_in}
+use Rattle.book_bgp.specs.declared.bgp_fault.BgpFault.{BgpFault}
+use Rattle.book_bgp.specs.Messages.{Message, MessageFront, Unfinished, FaultyHeader, LeadingMessage, message_front, header_length, message_length, messages, place_of, behind, fault_in}
 use Rattle.bgp_messages.specs.declared.reader.Fed.{Fed}
 use Rattle.bgp_messages.specs.declared.reader.Found.{Found}
 use Rattle.bgp_messages.specs.declared.reader.Found.TheVariants as found

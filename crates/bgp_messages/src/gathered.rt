@@ -1,6 +1,6 @@
 //! The bytes of one message, as far as they have come.
 ghost use Rattle.std.specs.Prelude.{◌≡◌, ◌+◌, ◌-◌, ◌≤◌, min, [], ◌++◌, length, take, IfOk};
-ghost use Rattle.wire_model.specs.Messages.{greatest_length};
+ghost use Rattle.book_bgp.specs.Messages.{greatest_length};
 
 use std::alloc::{AllocError, Global};
 use std::marker::Model;

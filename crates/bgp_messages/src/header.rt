@@ -1,9 +1,9 @@
 //! The header of a message.
 ghost use Rattle.std.specs.Prelude.{◌≡◌, length, None, Some, MatchResult};
-ghost use Rattle.wire_model.specs.Messages.{header_length, header_fault, length_in, is_kind, fits_kind};
+ghost use Rattle.book_bgp.specs.Messages.{header_length, header_fault, length_in, is_kind, fits_kind};
 
 use crate::gathered::GREATEST;
-use wire_model::BgpFault;
+use book_bgp::BgpFault;
 
 /// How many bytes a header has (RFC 4271, section 4.1).
 pub(crate) const HEADER: usize = 19;
@@ -23,7 +23,7 @@ const KEEPALIVE: u8 = 4;
 const ROUTE_REFRESH: u8 = 5;
 
 /// The length of the message that a header begins, or what is wrong with the header.
-#[tactic(auto, unfolding(wire_model::specs::Messages::header_fault))]
+#[tactic(auto, unfolding(book_bgp::specs::Messages::header_fault))]
 pub(crate) fn read_header(header: &[u8]) -> Result<usize, BgpFault>
     requires { length header.now ≡ header_length }
     ensures { MatchResult result (λ len. (header_fault header.now ≡ None) × (len ≡ length_in header.now)) (λ fault. header_fault header.now ≡ Some fault) }

@@ -6,5 +6,5 @@ mod gathered;
 mod header;
 mod reader;
 
+pub use book_bgp::BgpFault;
 pub use reader::{BgpReader, Fed, Found};
-pub use wire_model::BgpFault;

@@ -1,13 +1,13 @@
 //! A reader of messages.
 ghost use Rattle.std.specs.Prelude.{◌≡◌, ◌≤◌, ℕ, List, [], length, take, None, IfOk, IfSome, IsSome};
-ghost use Rattle.wire_model.specs.Messages.{Unfinished, message_front};
+ghost use Rattle.book_bgp.specs.Messages.{Unfinished, message_front};
 ghost use Rattle.bgp_messages.specs.Readers.{new_reading, fed, StandsFor, Reads, IsUsed, Gathers};
 
 use crate::gathered::Gathered;
 use crate::header::{HEADER, read_header};
+use book_bgp::BgpFault;
 use std::alloc::{AllocError, Global};
 use std::marker::Model;
-use wire_model::BgpFault;
 
 /// What a call of `feed` used of its piece, and what it found there.
 #[derive(Clone, Copy, Debug, PartialEq, Eq)]
@@ -58,7 +58,7 @@ impl Model for BgpReader {
 
 impl BgpReader {
     /// A reader that got no byte. It takes all its memory here.
-    #[tactic(auto, unfolding(wire_model::specs::Messages::message_front))]
+    #[tactic(auto, unfolding(book_bgp::specs::Messages::message_front))]
     pub fn new(alloc: Global) -> Result<BgpReader, AllocError>
         ensures new { IfOk result (λ r. r ≡ new_reading) }
         ensures stands { IfOk result (λ r. StandsFor r []) }
@@ -77,7 +77,7 @@ impl BgpReader {
     ///
     /// However a stream is cut into pieces, the messages found are those of the stream (RFC 4271,
     /// section 4).
-    #[tactic(auto, unfolding(wire_model::specs::Messages::message_front))]
+    #[tactic(auto, unfolding(book_bgp::specs::Messages::message_front))]
     pub fn feed(&mut self, piece: &[u8]) -> Fed
         ensures exact { (result, self.new) ≡ fed self.old piece.now }
         ensures within { result.used ≤ length piece.now }
@@ -144,7 +144,7 @@ impl BgpReader {
     }
 
     /// Makes the reader new, for another stream.
-    #[tactic(auto, unfolding(wire_model::specs::Messages::message_front))]
+    #[tactic(auto, unfolding(book_bgp::specs::Messages::message_front))]
     pub fn restart(&mut self)
         ensures { self.new ≡ new_reading }
     {

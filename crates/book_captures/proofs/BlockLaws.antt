@@ -3,9 +3,9 @@ use Rattle.std.proofs.Common.{◌≡◌, ℕ, ◌+◌, ◌-◌, ◌%◌, ◌==�
 use Rattle.std.proofs.lemmas.Bool.{le-ltb, ltb-false, eq-eqb, eqb-true}
 use Rattle.std.proofs.lemmas.List.{length-append, length-drop, length-take-le, take-append-drop, take-append-le, take-take, drop_at, drop-append-le}
 use Rattle.ao_base.specs.Results.{◌>>=◌, or_fault}
-use Rattle.wire_model.specs.declared.pcap_head.ByteOrder.{ByteOrder}
-use Rattle.wire_model.specs.declared.pcap_head.ByteOrder.TheVariants.{Big, Little}
-use Rattle.wire_model.specs.Packets.{four_at}
+use Rattle.book_pcap.specs.declared.pcap_head.ByteOrder.{ByteOrder}
+use Rattle.book_pcap.specs.declared.pcap_head.ByteOrder.TheVariants.{Big, Little}
+use Rattle.book_pcap.specs.Packets.{four_at}
 use Rattle.book_captures.specs.declared.block_parts.BlockFault.{BlockFault}
 use Rattle.book_captures.specs.declared.block_parts.BlockFault.TheVariants as fault
 use Rattle.book_captures.specs.Blocks.{Block, section_header, byte_order_magic, order_at, length_fault, block_of_length, block_at, IsBlock}

@@ -2,7 +2,7 @@
 use Rattle.std.proofs.Common.{◌≡◌, ℕ, ◌+◌, ◌-◌, ◌*◌, ◌<◌, ◌≤◌, Bool, true, false, List, ◌++◌, length, take, drop, nat_lt, Result, Ok, Err, if◌then◌else◌, refl, sym, ap, ◌∙◌, subst, arith}
 use Rattle.std.proofs.lemmas.Bool.{le-ltb, ltb-false}
 use Rattle.std.proofs.lemmas.List.{length-append, length-drop, length-take-le, take-append-drop, take_at, drop_at, drop-append-le}
-use Rattle.wire_model.specs.Packets.{four_at}
+use Rattle.book_pcap.specs.Packets.{four_at}
 use Rattle.book_captures.specs.declared.pcap_head.PcapHead.{PcapHead}
 use Rattle.book_captures.specs.declared.pcap_head.RecordFault.{RecordFault}
 use Rattle.book_captures.specs.declared.pcap_head.RecordFault.TheVariants as record_fault

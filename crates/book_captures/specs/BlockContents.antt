@@ -1,7 +1,7 @@
 -- What the blocks of a pcapng file say (draft-ietf-opsawg-pcapng).
 use Rattle.std.specs.Prelude.{ℕ, zero, suc, ◌+◌, ◌-◌, ◌*◌, ◌/◌, ◌^◌, ◌==◌, ◌&&◌, nat_lt, min, List, take, drop, length, slice_index, Result, Ok, Err, if◌then◌else◌}
-use Rattle.wire_model.specs.declared.pcap_head.ByteOrder.{ByteOrder}
-use Rattle.wire_model.specs.Packets.{two_at, four_at}
+use Rattle.book_pcap.specs.declared.pcap_head.ByteOrder.{ByteOrder}
+use Rattle.book_pcap.specs.Packets.{two_at, four_at}
 use Rattle.book_captures.specs.declared.block_parts.BodyFault.{BodyFault}
 use Rattle.book_captures.specs.declared.block_parts.BodyFault.TheVariants as fault
 use Rattle.book_captures.specs.declared.block_parts.TimeResolution.{TimeResolution}

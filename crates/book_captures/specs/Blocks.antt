@@ -1,9 +1,9 @@
 -- The blocks of a pcapng file (draft-ietf-opsawg-pcapng).
 use Rattle.std.specs.Prelude.{◌≡◌, ℕ, ◌-◌, ◌%◌, ◌==◌, ◌≤◌, nat_lt, List, drop, length, slice_range, Option, Some, None, Result, Ok, Err, if◌then◌else◌}
 use Rattle.ao_base.specs.Results.{◌>>=◌, or_fault}
-use Rattle.wire_model.specs.declared.pcap_head.ByteOrder.{ByteOrder}
-use Rattle.wire_model.specs.declared.pcap_head.ByteOrder.TheVariants.{Big, Little}
-use Rattle.wire_model.specs.Packets.{two_at, four_at}
+use Rattle.book_pcap.specs.declared.pcap_head.ByteOrder.{ByteOrder}
+use Rattle.book_pcap.specs.declared.pcap_head.ByteOrder.TheVariants.{Big, Little}
+use Rattle.book_pcap.specs.Packets.{two_at, four_at}
 use Rattle.book_captures.specs.declared.block_parts.BlockFault.{BlockFault}
 use Rattle.book_captures.specs.declared.block_parts.BlockFault.TheVariants as fault
 

@@ -2,8 +2,8 @@
 -- labels.
 use Rattle.std.specs.Prelude.{ℕ, zero, suc, ◌+◌, ◌-◌, ◌*◌, ◌/◌, ◌%◌, ◌==◌, nat_lt, Bool, true, false, List, [], ◌∷◌, length, take, drop, slice_index, Option, Some, None, Result, Ok, Err, if◌then◌else◌}
 use Rattle.ao_base.specs.Results.{◌>>=◌}
-use Rattle.wire_model.specs.declared.pcap_head.ByteOrder.TheVariants.{Big, Little}
-use Rattle.wire_model.specs.Packets.{two_at, four_at}
+use Rattle.book_pcap.specs.declared.pcap_head.ByteOrder.TheVariants.{Big, Little}
+use Rattle.book_pcap.specs.Packets.{two_at, four_at}
 use Rattle.book_captures.specs.declared.link_type.LinkType.{LinkType}
 use Rattle.book_captures.specs.declared.link_type.LinkType.TheVariants.{Ethernet, RawIp, RawIpv4, RawIpv6, LinuxCooked, LinuxCookedV2, BsdLoopback}
 use Rattle.book_captures.specs.declared.link_type.Protocol.{Protocol}

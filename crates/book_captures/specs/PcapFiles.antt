@@ -1,8 +1,8 @@
 -- Classic pcap files of either resolution: a header, and then records (libpcap, pcap-savefile).
 use Rattle.std.specs.Prelude.{◌≡◌, ℕ, ◌+◌, ◌*◌, ◌%◌, ◌==◌, ◌&&◌, ◌≤◌, nat_lt, List, [], ◌∷◌, ◌++◌, drop, length, slice_range, Option, Some, None, Result, Ok, Err, if◌then◌else◌}
-use Rattle.wire_model.specs.declared.pcap_head.ByteOrder.{ByteOrder}
-use Rattle.wire_model.specs.declared.pcap_head.ByteOrder.TheVariants.{Big, Little}
-use Rattle.wire_model.specs.Packets.{two_at, four_at}
+use Rattle.book_pcap.specs.declared.pcap_head.ByteOrder.{ByteOrder}
+use Rattle.book_pcap.specs.declared.pcap_head.ByteOrder.TheVariants.{Big, Little}
+use Rattle.book_pcap.specs.Packets.{two_at, four_at}
 use Rattle.book_captures.specs.declared.pcap_head.Resolution.{Resolution}
 use Rattle.book_captures.specs.declared.pcap_head.Resolution.TheVariants.{Microseconds, Nanoseconds}
 use Rattle.book_captures.specs.declared.pcap_head.PcapHead.{PcapHead}

@@ -1,5 +1,5 @@
 //! What the blocks of a pcapng file say, and why one is refused.
-use wire_model::ByteOrder;
+use book_pcap::ByteOrder;
 
 /// Why a block isn't read.
 #[derive(Clone, Copy, Debug, PartialEq, Eq)]

@@ -1,6 +1,6 @@
 //! The laws above the frames of a link, and above the records and blocks of a file.
 ghost use Rattle.std.specs.Prelude.{◌≡◌, ℕ, List, ◌++◌, Option, Some, None, Ok};
-ghost use Rattle.wire_model.specs.declared.pcap_head.ByteOrder.{ByteOrder};
+ghost use Rattle.book_pcap.specs.declared.pcap_head.ByteOrder.{ByteOrder};
 ghost use Rattle.book_captures.specs.declared.pcap_head.PcapHead.{PcapHead};
 ghost use Rattle.book_captures.specs.PcapFiles.{Kept, record_at, IsRecord};
 ghost use Rattle.book_captures.specs.Blocks.{Block, block_at, IsBlock};

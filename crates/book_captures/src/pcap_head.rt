@@ -1,5 +1,5 @@
 //! What the header of a classic pcap file says, and why a record of it isn't read.
-use wire_model::ByteOrder;
+use book_pcap::ByteOrder;
 
 /// The unit of the second number of a record's time.
 #[derive(Clone, Copy, Debug, PartialEq, Eq)]

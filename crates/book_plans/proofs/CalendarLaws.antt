@@ -10,12 +10,12 @@ use Rattle.book_plans.specs.declared.turn.Role.{Role}
 use Rattle.book_plans.specs.declared.turn.Role.TheVariants.{Acceptable, AskedFor, Sendable, SentWith}
 use Rattle.book_plans.specs.declared.turn.Turn.{Turn}
 use Rattle.book_plans.specs.Calendar.{is_number, has_role, turn_by, role_turn, row_turns, turns_from, turns_after, turns_in, Keeps}
-use Rattle.key_model.specs.declared.lifetime.Lifetime.{Lifetime}
-use Rattle.key_model.specs.Choices.{Numbered, later, qualified, latest, send_start, accept_start, send_row, next_row}
-use Rattle.key_model.specs.Lifetimes.{contains}
-use Rattle.key_model.specs.Lookups.{number_of}
-use Rattle.key_model.specs.Plans.{mirrored}
-use Rattle.key_model.specs.Rows.{Row, matches, receives, sends, sendable, acceptable}
+use Rattle.book_keys.specs.declared.lifetime.Lifetime.{Lifetime}
+use Rattle.book_keys.specs.Choices.{Numbered, later, qualified, latest, send_start, accept_start, send_row, next_row}
+use Rattle.book_keys.specs.Lifetimes.{contains}
+use Rattle.book_keys.specs.Lookups.{number_of}
+use Rattle.book_keys.specs.Plans.{mirrored}
+use Rattle.book_keys.specs.Rows.{Row, matches, receives, sends, sendable, acceptable}
 
 abbrev Steady : ℕ → List Row → Type 0
 Steady time rows = AllByRecursion (Keeps time) rows

@@ -11,14 +11,14 @@ use Rattle.book_plans.specs.declared.finding.Finding.{Finding}
 use Rattle.book_plans.specs.declared.finding.Finding.TheVariants as finding
 use Rattle.book_plans.specs.Findings.{IsFirstSpan, AreLongest, finding_by, with_finding, unmet_findings, Span, lengthened, failing_spans, gap_finding, gap_findings, findings, first_answer, wanted_accepting, widened, accepting_in}
 use Rattle.book_plans.specs.Margins.{IsOrdered}
-use Rattle.segment_model.proofs.Fields.{eqb_is}
-use Rattle.key_model.specs.declared.lifetime.Lifetime.{Lifetime}
-use Rattle.key_model.specs.declared.lint.LintAnswer.{LintAnswer}
-use Rattle.key_model.specs.declared.lint.LintAnswer.TheVariants as answer
-use Rattle.key_model.proofs.GapLaws.{covered_is_sendable}
-use Rattle.key_model.specs.Lifetimes.{greatest_time, contains, is_covered}
-use Rattle.key_model.specs.Rows.{Row}
-use Rattle.key_model.specs.Plans.{mirrored, outlasts, Reason, NoPeerRow, ShortAccept, Misaligned, misaligned_by, misaligned_answer, unmet_reason, first_unmet, first_misaligned, has_sendable, send_lifetimes, first_failing, gap, lint_answer, lint_rows}
+use Rattle.book_segments.proofs.Fields.{eqb_is}
+use Rattle.book_keys.specs.declared.lifetime.Lifetime.{Lifetime}
+use Rattle.book_keys.specs.declared.lint.LintAnswer.{LintAnswer}
+use Rattle.book_keys.specs.declared.lint.LintAnswer.TheVariants as answer
+use Rattle.book_keys.proofs.GapLaws.{covered_is_sendable}
+use Rattle.book_keys.specs.Lifetimes.{greatest_time, contains, is_covered}
+use Rattle.book_keys.specs.Rows.{Row}
+use Rattle.book_keys.specs.Plans.{mirrored, outlasts, Reason, NoPeerRow, ShortAccept, Misaligned, misaligned_by, misaligned_answer, unmet_reason, first_unmet, first_misaligned, has_sendable, send_lifetimes, first_failing, gap, lint_answer, lint_rows}
 
 -- ---- the first finding
 

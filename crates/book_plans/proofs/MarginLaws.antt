@@ -4,13 +4,13 @@ use Rattle.std.proofs.lemmas.Bool.Decides.{nat_tests}
 use Rattle.std.specs.List.{list_any, AllByRecursion}
 use Rattle.ao_base.specs.declared.address.Pair.{Pair}
 use Rattle.std.proofs.lemmas.Bool.{eqb-false, leb-false}
-use Rattle.segment_model.proofs.Fields.{and_tells, eqb_is, le_is}
-use Rattle.key_model.specs.declared.lifetime.Lifetime.{Lifetime}
-use Rattle.key_model.specs.declared.lint.LintAnswer.TheVariants as answer
-use Rattle.key_model.specs.Lifetimes.{greatest_time, contains}
-use Rattle.key_model.specs.Rows.{Row, Table, sends_for}
-use Rattle.key_model.specs.Plans.{mirrored, accepts_from, outlasts, accepts_throughout, IsMet, AlignedFrom, Aligned, gap, rows_at, lint_rows, lint_of}
-use Rattle.key_model.proofs.GapLaws.{lint_aligned}
+use Rattle.book_segments.proofs.Fields.{and_tells, eqb_is, le_is}
+use Rattle.book_keys.specs.declared.lifetime.Lifetime.{Lifetime}
+use Rattle.book_keys.specs.declared.lint.LintAnswer.TheVariants as answer
+use Rattle.book_keys.specs.Lifetimes.{greatest_time, contains}
+use Rattle.book_keys.specs.Rows.{Row, Table, sends_for}
+use Rattle.book_keys.specs.Plans.{mirrored, accepts_from, outlasts, accepts_throughout, IsMet, AlignedFrom, Aligned, gap, rows_at, lint_rows, lint_of}
+use Rattle.book_keys.proofs.GapLaws.{lint_aligned}
 use Rattle.book_plans.specs.declared.margin.Margin.{Margin}
 use Rattle.book_plans.specs.declared.margin.Margin.TheVariants.{UpTo, Any}
 use Rattle.book_plans.specs.Margins.{is_within, IsMargin, wider, narrower, widest, narrowest, time_before, time_after, margin_where, lead_by, lag_by, lead_of_row, lag_of_row, lead_from, lag_from, lead_margin, lag_margin, lead_margin_of, lag_margin_of, IsOrdered, AreOrdered, AlignedAtLead, AlignedAtLag, SaysAlignedAtLead, SaysAlignedAtLag}

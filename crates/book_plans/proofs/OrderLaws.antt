@@ -5,20 +5,20 @@ use Rattle.std.proofs.lemmas.Bool.{ltb-false}
 use Rattle.toml.specs.Data.{Data, string, integer, float, boolean, datetime, array, table, Items, no_items, item, Members, get_member, as_str}
 use Rattle.ao_base.specs.declared.address.Address.{Address}
 use Rattle.ao_base.specs.Results.{◌>>=◌, or_fault}
-use Rattle.key_model.specs.declared.fault.TableFault.{TableFault}
-use Rattle.key_model.specs.declared.fault.TableFault.TheVariants as fault
-use Rattle.key_model.specs.declared.fault.Column.{Column}
-use Rattle.key_model.specs.declared.fault.Column.TheVariants as column
-use Rattle.key_model.specs.declared.groups.Terms.{Terms}
-use Rattle.key_model.specs.declared.lifetime.Lifetime.{Lifetime}
-use Rattle.key_model.specs.Lifetimes.{greatest_time}
-use Rattle.key_model.specs.Overlaps.{TwoRows}
-use Rattle.key_model.specs.Plans.{rows_at, rows_of_table}
-use Rattle.key_model.specs.Reading.{each}
-use Rattle.key_model.specs.Rows.{Row, Table, node_limit, row_limit, has_address}
-use Rattle.key_model.specs.Columns.{count, only, text_of, time_or, lifetime_of, direction_of, ids_of, peers_of, protocol_of, algorithm_at, master_of, terms_of, ports_of, columns_of, row_of, row_keys}
-use Rattle.key_model.specs.Nodes.{node_name_of, node_address_of, rows_of, fields_of, node_of, nodes_from, overlap_in, unless, nodes_of, tables_of_document, document_of, tables_of}
-use Rattle.key_model.specs.Times.{time_of}
+use Rattle.book_keys.specs.declared.fault.TableFault.{TableFault}
+use Rattle.book_keys.specs.declared.fault.TableFault.TheVariants as fault
+use Rattle.book_keys.specs.declared.fault.Column.{Column}
+use Rattle.book_keys.specs.declared.fault.Column.TheVariants as column
+use Rattle.book_keys.specs.declared.groups.Terms.{Terms}
+use Rattle.book_keys.specs.declared.lifetime.Lifetime.{Lifetime}
+use Rattle.book_keys.specs.Lifetimes.{greatest_time}
+use Rattle.book_keys.specs.Overlaps.{TwoRows}
+use Rattle.book_keys.specs.Plans.{rows_at, rows_of_table}
+use Rattle.book_keys.specs.Reading.{each}
+use Rattle.book_keys.specs.Rows.{Row, Table, node_limit, row_limit, has_address}
+use Rattle.book_keys.specs.Columns.{count, only, text_of, time_or, lifetime_of, direction_of, ids_of, peers_of, protocol_of, algorithm_at, master_of, terms_of, ports_of, columns_of, row_of, row_keys}
+use Rattle.book_keys.specs.Nodes.{node_name_of, node_address_of, rows_of, fields_of, node_of, nodes_from, overlap_in, unless, nodes_of, tables_of_document, document_of, tables_of}
+use Rattle.book_keys.specs.Times.{time_of}
 use Rattle.book_plans.proofs.TimeLaws.{some_is, time_bound}
 use Rattle.book_plans.specs.Margins.{IsOrdered, AreOrdered}
 

@@ -6,9 +6,9 @@ use Rattle.std.proofs.lemmas.Int.{by_lt_z}
 use Rattle.jiff_core.specs.Calendar.{day_count, days_from_civil, days_in_month, IsCivilDate}
 use Rattle.jiff_core.proofs.SignedLemmas.{signed_arith}
 use Rattle.jiff_core.proofs.CalendarLemmas.{day_count-epoch, days_from_civil-day_count, day_count-later_year, day_count-day_of_year, day_count_bounds}
-use Rattle.segment_model.proofs.Fields.{and_tells, le_is}
-use Rattle.key_model.specs.Lifetimes.{greatest_time}
-use Rattle.key_model.specs.Times.{◌>>=◌, two_digits_at, day_of, second_of, time_of_digits, time_of}
+use Rattle.book_segments.proofs.Fields.{and_tells, le_is}
+use Rattle.book_keys.specs.Lifetimes.{greatest_time}
+use Rattle.book_keys.specs.Times.{◌>>=◌, two_digits_at, day_of, second_of, time_of_digits, time_of}
 use borrow.Author.Differences.{up, down}
 
 some_if : (b : Bool) (x y : ℕ) → ◌≡◌ {A = Option ℕ} (if b then Some x else None) (Some y) → (b ≡ true) × (x ≡ y)

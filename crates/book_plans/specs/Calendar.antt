@@ -9,11 +9,11 @@ use Rattle.book_plans.specs.declared.turn.Role.{Role}
 use Rattle.book_plans.specs.declared.turn.Role.TheVariants.{Acceptable, AskedFor, Sendable}
 use Rattle.book_plans.specs.declared.turn.Role.TheVariants.{SentWith}
 use Rattle.book_plans.specs.declared.turn.Turn.{Turn}
-use Rattle.key_model.specs.Choices.{send_row, next_row}
-use Rattle.key_model.specs.Lifetimes.{contains}
-use Rattle.key_model.specs.Lookups.{number_of}
-use Rattle.key_model.specs.Plans.{mirrored, rows_at}
-use Rattle.key_model.specs.Rows.{Row, Table, sendable, acceptable}
+use Rattle.book_keys.specs.Choices.{send_row, next_row}
+use Rattle.book_keys.specs.Lifetimes.{contains}
+use Rattle.book_keys.specs.Lookups.{number_of}
+use Rattle.book_keys.specs.Plans.{mirrored, rows_at}
+use Rattle.book_keys.specs.Rows.{Row, Table, sendable, acceptable}
 
 -- the row that was found has this number (own)
 abbrev pub is_number : ℕ → Option ℕ → Bool

@@ -2,10 +2,10 @@
 -- is `differences`.
 use Rattle.std.specs.Prelude.{◌==◌, ◌&&◌, not, Bool}
 use Rattle.ao_base.specs.declared.address.Pair.{Pair}
-use Rattle.segment_model.specs.Bytes.{same_bytes}
+use Rattle.book_segments.specs.Bytes.{same_bytes}
 use Rattle.book_plans.specs.declared.differences.Differences.{Differences}
-use Rattle.key_model.specs.Plans.{mirrored, same_algorithm, same_flag}
-use Rattle.key_model.specs.Rows.{Row, matches, receives}
+use Rattle.book_keys.specs.Plans.{mirrored, same_algorithm, same_flag}
+use Rattle.book_keys.specs.Rows.{Row, matches, receives}
 
 -- the columns in which the other end's row isn't as the row that sends asks (RFC 5925, section 3.1)
 abbrev pub differences : Pair → Row → Row → Differences

@@ -8,13 +8,13 @@ use Rattle.ao_base.specs.declared.end.End.{End}
 use Rattle.ao_base.specs.declared.end.End.TheVariants.{A, B}
 use Rattle.book_plans.specs.declared.finding.Finding.{Finding}
 use Rattle.book_plans.specs.declared.finding.Finding.TheVariants as finding
-use Rattle.key_model.specs.declared.lifetime.Lifetime.{Lifetime}
-use Rattle.key_model.specs.declared.lint.LintAnswer.{LintAnswer}
-use Rattle.key_model.specs.declared.lint.LintAnswer.TheVariants as answer
-use Rattle.key_model.specs.Lifetimes.{greatest_time}
-use Rattle.key_model.specs.Plans.{mirrored, Reason, NoPeerRow, ShortAccept, unmet_reason}
-use Rattle.key_model.specs.Plans.{has_sendable, rows_at}
-use Rattle.key_model.specs.Rows.{Row, Table}
+use Rattle.book_keys.specs.declared.lifetime.Lifetime.{Lifetime}
+use Rattle.book_keys.specs.declared.lint.LintAnswer.{LintAnswer}
+use Rattle.book_keys.specs.declared.lint.LintAnswer.TheVariants as answer
+use Rattle.book_keys.specs.Lifetimes.{greatest_time}
+use Rattle.book_keys.specs.Plans.{mirrored, Reason, NoPeerRow, ShortAccept, unmet_reason}
+use Rattle.book_keys.specs.Plans.{has_sendable, rows_at}
+use Rattle.book_keys.specs.Rows.{Row, Table}
 
 -- the finding on the row of this end and number (own)
 abbrev pub finding_by : End → ℕ → Reason → Finding

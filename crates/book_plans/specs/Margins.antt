@@ -6,10 +6,10 @@ use Rattle.std.specs.List.{AllByRecursion}
 use Rattle.ao_base.specs.declared.address.Pair.{Pair}
 use Rattle.book_plans.specs.declared.margin.Margin.{Margin}
 use Rattle.book_plans.specs.declared.margin.Margin.TheVariants.{UpTo, Any}
-use Rattle.key_model.specs.Lifetimes.{greatest_time}
-use Rattle.key_model.specs.declared.lint.LintAnswer.TheVariants as answer
-use Rattle.key_model.specs.Plans.{mirrored, accepts_throughout, Aligned, rows_at, lint_of}
-use Rattle.key_model.specs.Rows.{Row, Table, sends_for}
+use Rattle.book_keys.specs.Lifetimes.{greatest_time}
+use Rattle.book_keys.specs.declared.lint.LintAnswer.TheVariants as answer
+use Rattle.book_keys.specs.Plans.{mirrored, accepts_throughout, Aligned, rows_at, lint_of}
+use Rattle.book_keys.specs.Rows.{Row, Table, sends_for}
 
 -- the number is within the margin; none is within no margin (own)
 abbrev pub is_within : Option Margin → ℕ → Bool

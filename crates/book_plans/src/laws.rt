@@ -2,10 +2,10 @@
 ghost use Rattle.std.specs.Prelude.{◌≡◌, ◌↔◌, ◌+◌, ℕ, Bool, List, [], true, Ok};
 ghost use Rattle.ao_base.specs.declared.address.Address.{Address};
 ghost use Rattle.ao_base.specs.declared.address.Pair.{Pair};
-ghost use Rattle.key_model.specs.declared.lint.LintAnswer.TheVariants as answer;
-ghost use Rattle.key_model.specs.Plans.{accepts_from, outlasts, lint_of, lint_rows, rows_at};
-ghost use Rattle.key_model.specs.Nodes.{tables_of};
-ghost use Rattle.key_model.specs.Rows.{Row, Table};
+ghost use Rattle.book_keys.specs.declared.lint.LintAnswer.TheVariants as answer;
+ghost use Rattle.book_keys.specs.Plans.{accepts_from, outlasts, lint_of, lint_rows, rows_at};
+ghost use Rattle.book_keys.specs.Nodes.{tables_of};
+ghost use Rattle.book_keys.specs.Rows.{Row, Table};
 ghost use Rattle.std.specs.List.{All};
 ghost use Rattle.book_plans.specs.Calendar.{Keeps, turns_after};
 ghost use Rattle.book_plans.specs.Differences.{differences, is_alike};

@@ -2,11 +2,11 @@
 use Rattle.std.proofs.Common.{◌≡◌, ◌<◌, ◌≤◌, ℕ, ◌-◌, Bool, true, false, List, Option, Some, None, ◌⊎◌, inl, inr, refl, arith}
 use Rattle.std.specs.Prelude.{nat_lt, slice_get}
 use Rattle.ao_base.specs.declared.address.Pair.{Pair}
-use Rattle.segment_model.specs.Options.{find_ao}
-use Rattle.segment_model.specs.Segments.{Segment, has, SYN}
-use Rattle.segment_model.proofs.Fields.{lt_is, lt_not}
-use Rattle.key_model.specs.Rows.{Row}
-use Rattle.format_model.specs.Captures.{pair_at}
+use Rattle.book_segments.specs.Options.{find_ao}
+use Rattle.book_segments.specs.Segments.{Segment, has, SYN}
+use Rattle.book_segments.proofs.Fields.{lt_is, lt_not}
+use Rattle.book_keys.specs.Rows.{Row}
+use Rattle.book_cmd_check.specs.Captures.{pair_at}
 use Rattle.ao_kdf.specs.declared.way.Way.{Way}
 use Rattle.ao_kdf.specs.declared.way.Way.TheVariants.{Inbound}
 use Rattle.ao_check.specs.Bonds.{Bond, Fits, Counted, key_for}

@@ -11,9 +11,9 @@ use Rattle.std.proofs.lemmas.Map.Lookups.{exact_unsigned, exact_bytes}
 use Rattle.ao_base.specs.declared.address.Address.{Address}
 use Rattle.ao_base.specs.declared.address.Address.TheVariants as address
 use Rattle.ao_base.specs.declared.address.Socket.{Socket}
-use Rattle.segment_model.specs.Bytes.{same_bytes}
-use Rattle.segment_model.specs.Sockets.{same_address, same_socket}
-use Rattle.segment_model.proofs.Fields.{and_tells, eqb_is, same_bytes_tells}
+use Rattle.book_segments.specs.Bytes.{same_bytes}
+use Rattle.book_segments.specs.Sockets.{same_address, same_socket}
+use Rattle.book_segments.proofs.Fields.{and_tells, eqb_is, same_bytes_tells}
 use Rattle.capture_check.specs.declared.ends.Place.{Place}
 use Rattle.capture_check.specs.declared.ends.Place.TheVariants.{V4, V6}
 use Rattle.capture_check.specs.declared.ends.Ends.{Ends}

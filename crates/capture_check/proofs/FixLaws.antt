@@ -4,13 +4,13 @@ use Rattle.std.proofs.lemmas.Bool.Decides.{nat_tests}
 use Rattle.std.specs.Prelude.{◌==◌, ◌&&◌, nat_le, if◌then◌else◌}
 use Rattle.ao_base.specs.declared.address.Pair.{Pair}
 use Rattle.ao_base.specs.declared.address.Socket.{Socket}
-use Rattle.segment_model.specs.Segments.{Segment, has, good, SYN, ACK}
-use Rattle.segment_model.specs.Sockets.{same_socket}
-use Rattle.segment_model.proofs.Fields.{some_is}
-use Rattle.key_model.specs.Rows.{Row, Table}
-use Rattle.endpoint_model.specs.declared.verdict.Verdict.{Verdict}
-use Rattle.endpoint_model.specs.Verdicts.{Judgement, judge}
-use Rattle.format_model.specs.Captures.{Connection, Heard, acknowledged_isn, connection_between, fixed, hear_judged, hear_later, hear_syn_ack, judge_stored, most_connections, pair_at, same_isns, with_connection}
+use Rattle.book_segments.specs.Segments.{Segment, has, good, SYN, ACK}
+use Rattle.book_segments.specs.Sockets.{same_socket}
+use Rattle.book_segments.proofs.Fields.{some_is}
+use Rattle.book_keys.specs.Rows.{Row, Table}
+use Rattle.book_endpoint.specs.declared.verdict.Verdict.{Verdict}
+use Rattle.book_endpoint.specs.Verdicts.{Judgement, judge}
+use Rattle.book_cmd_check.specs.Captures.{Connection, Heard, acknowledged_isn, connection_between, fixed, hear_judged, hear_later, hear_syn_ack, judge_stored, most_connections, pair_at, same_isns, with_connection}
 use Rattle.ao_kdf.specs.declared.way.Way.TheVariants.{Inbound}
 use Rattle.ao_kdf.proofs.CacheLaws.{kept-empty}
 use Rattle.ao_check.specs.Bonds.{Fits, fresh}

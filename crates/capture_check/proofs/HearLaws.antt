@@ -1,11 +1,11 @@
 -- What is said of stored bytes, by what they are.
 use Rattle.std.proofs.Common.{◌≡◌, ℕ, true, List, Some, None, refl}
 use Rattle.std.specs.List.{find}
-use Rattle.segment_model.specs.Segments.{Segment, Read, Bad, reading}
-use Rattle.segment_model.specs.Sockets.{same_socket}
-use Rattle.segment_model.specs.declared.fault.DatagramFault.{DatagramFault}
-use Rattle.key_model.specs.Rows.{Table, has_address}
-use Rattle.format_model.specs.Captures.{Connection, hear, hear_at}
+use Rattle.book_segments.specs.Segments.{Segment, Read, Bad, reading}
+use Rattle.book_segments.specs.Sockets.{same_socket}
+use Rattle.book_segments.specs.declared.fault.DatagramFault.{DatagramFault}
+use Rattle.book_keys.specs.Rows.{Table, has_address}
+use Rattle.book_cmd_check.specs.Captures.{Connection, hear, hear_at}
 use Rattle.capture_check.specs.declared.answer.CheckLine.TheVariants as line
 use Rattle.capture_check.specs.declared.ends.Ends.{Ends}
 use Rattle.capture_check.specs.declared.flows.Flows.{Flows}

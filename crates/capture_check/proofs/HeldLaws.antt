@@ -3,9 +3,9 @@ use Rattle.std.proofs.Common.{◌≡◌, ◌+◌, Bool, true, false, List, [], �
 use Rattle.std.specs.Prelude.{◌&&◌, ◌||◌, is_some, if◌then◌else◌}
 use Rattle.std.specs.List.{find}
 use Rattle.ao_base.specs.declared.address.Socket.{Socket}
-use Rattle.segment_model.specs.Sockets.{same_socket}
-use Rattle.segment_model.proofs.Fields.{and_tells}
-use Rattle.format_model.specs.Captures.{Connection, joins, with_connection}
+use Rattle.book_segments.specs.Sockets.{same_socket}
+use Rattle.book_segments.proofs.Fields.{and_tells}
+use Rattle.book_cmd_check.specs.Captures.{Connection, joins, with_connection}
 use Rattle.capture_check.proofs.EndsLaws.{same_socket_is, same_socket-refl}
 
 -- two sockets are these two, in either order

@@ -4,9 +4,9 @@ use Rattle.std.specs.Prelude.{cond, is_some, option_map}
 use Rattle.std.specs.BTreeMap.{is_at}
 use Rattle.std.specs.List.{find}
 use Rattle.ao_base.specs.declared.address.Socket.{Socket}
-use Rattle.segment_model.specs.Sockets.{same_socket}
-use Rattle.key_model.specs.Rows.{Table}
-use Rattle.format_model.specs.Captures.{Connection, joins, seen_from, with_connection}
+use Rattle.book_segments.specs.Sockets.{same_socket}
+use Rattle.book_keys.specs.Rows.{Table}
+use Rattle.book_cmd_check.specs.Captures.{Connection, joins, seen_from, with_connection}
 use Rattle.capture_check.specs.declared.ends.Ends.{Ends}
 use Rattle.capture_check.specs.declared.flows.Flows.{Flows}
 use Rattle.capture_check.specs.Ends.{by_ends, key_of}

@@ -1,14 +1,14 @@
 -- What a checker answers, as what the definitions say of a stored segment.
 use Rattle.std.specs.Prelude.{◌≡◌, ℕ, Bool, true, false, List, [], ◌∷◌, ◌++◌, codes, decimal, Ok, Err}
-use Rattle.segment_model.specs.Faults.{fault_text}
-use Rattle.link_model.specs.Reports.{verdict_text}
-use Rattle.mac_model.specs.Contexts.{bytes_of}
-use Rattle.endpoint_model.specs.Verdicts.{Finding, Judgement}
-use Rattle.endpoint_model.specs.declared.verdict.Passed.{Passed}
-use Rattle.endpoint_model.specs.declared.verdict.Verdict.{Verdict}
-use Rattle.endpoint_model.specs.declared.verdict.Verdict.TheVariants.{Pass}
-use Rattle.format_model.specs.Captures as book
-use Rattle.format_model.specs.DatagramTexts.{checksum_text}
+use Rattle.book_segments.specs.Faults.{fault_text}
+use Rattle.book_link.specs.Reports.{verdict_text}
+use Rattle.book_macs.specs.Contexts.{bytes_of}
+use Rattle.book_endpoint.specs.Verdicts.{Finding, Judgement}
+use Rattle.book_endpoint.specs.declared.verdict.Passed.{Passed}
+use Rattle.book_endpoint.specs.declared.verdict.Verdict.{Verdict}
+use Rattle.book_endpoint.specs.declared.verdict.Verdict.TheVariants.{Pass}
+use Rattle.book_cmd_check.specs.Captures as book
+use Rattle.book_cmd_show.specs.DatagramTexts.{checksum_text}
 use Rattle.ao_check.specs.Verdicts.{is_judged}
 use Rattle.capture_check.specs.declared.answer.CheckLine.{CheckLine}
 use Rattle.capture_check.specs.declared.answer.CheckLine.TheVariants as line

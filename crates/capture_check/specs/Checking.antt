@@ -4,11 +4,11 @@ use Rattle.std.specs.List.{find}
 use Rattle.std.specs.Map.{lookup}
 use Rattle.std.specs.BTreeMap.{is_at}
 use Rattle.ao_base.specs.declared.address.Socket.{Socket}
-use Rattle.segment_model.specs.Options.{find_ao}
-use Rattle.segment_model.specs.Segments.{Segment, has, SYN}
-use Rattle.segment_model.specs.Sockets.{same_socket}
-use Rattle.key_model.specs.Rows.{Row, Table}
-use Rattle.format_model.specs.Captures.{Connection, Heard, joins, seen_from, pair_at}
+use Rattle.book_segments.specs.Options.{find_ao}
+use Rattle.book_segments.specs.Segments.{Segment, has, SYN}
+use Rattle.book_segments.specs.Sockets.{same_socket}
+use Rattle.book_keys.specs.Rows.{Row, Table}
+use Rattle.book_cmd_check.specs.Captures.{Connection, Heard, joins, seen_from, pair_at}
 use Rattle.ao_kdf.specs.declared.way.Way.TheVariants.{Inbound}
 use Rattle.ao_kdf.specs.Cache.{kept}
 use Rattle.ao_check.specs.Verdicts.{judging}

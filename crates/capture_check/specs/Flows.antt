@@ -2,13 +2,13 @@
 use Rattle.std.specs.Prelude.{◌≡◌, ◌≤◌, ◌+◌, ◌%◌, ◌/◌, ◌^◌, ℕ, max, Bool, true, false, List, [], length, Option, Some, None, Ok, Err}
 use Rattle.std.specs.List.{find}
 use Rattle.ao_base.specs.declared.address.Socket.{Socket}
-use Rattle.segment_model.specs.Bytes.{ring}
-use Rattle.segment_model.specs.Options.{find_ao}
-use Rattle.segment_model.specs.Segments.{Segment, has, segment_length, SYN}
-use Rattle.key_model.specs.Rows.{Row, Table, has_address}
-use Rattle.endpoint_model.specs.declared.verdict.Verdict.{Verdict}
-use Rattle.endpoint_model.specs.Verdicts.{Judgement, judge}
-use Rattle.format_model.specs.Captures.{Connection, KnownSide}
+use Rattle.book_segments.specs.Bytes.{ring}
+use Rattle.book_segments.specs.Options.{find_ao}
+use Rattle.book_segments.specs.Segments.{Segment, has, segment_length, SYN}
+use Rattle.book_keys.specs.Rows.{Row, Table, has_address}
+use Rattle.book_endpoint.specs.declared.verdict.Verdict.{Verdict}
+use Rattle.book_endpoint.specs.Verdicts.{Judgement, judge}
+use Rattle.book_cmd_check.specs.Captures.{Connection, KnownSide}
 use Rattle.wrap_seq.specs.declared.counter.Counter.{Counter}
 use Rattle.wrap_seq.specs.Counter.{number}
 use Rattle.ao_kdf.specs.declared.way.Way.TheVariants.{Inbound}

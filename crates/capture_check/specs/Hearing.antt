@@ -1,12 +1,12 @@
 -- What a checker does with a segment (own).
 use Rattle.std.specs.Prelude.{◌≡◌, ◌≤◌, ◌+◌, ◌==◌, ◌&&◌, nat_le, ℕ, Bool, true, false, not, is_some, List, length, Option, Some, None, cond, if◌then◌else◌}
 use Rattle.std.specs.BTreeMap.{is_at}
-use Rattle.segment_model.specs.Options.{find_ao}
-use Rattle.segment_model.specs.Segments.{Segment, has, SYN}
-use Rattle.key_model.specs.Rows.{Row, Table}
-use Rattle.endpoint_model.specs.declared.verdict.Verdict.{Verdict}
-use Rattle.endpoint_model.specs.Verdicts.{judge}
-use Rattle.format_model.specs.Captures.{acknowledged_isn, most_connections, pair_at}
+use Rattle.book_segments.specs.Options.{find_ao}
+use Rattle.book_segments.specs.Segments.{Segment, has, SYN}
+use Rattle.book_keys.specs.Rows.{Row, Table}
+use Rattle.book_endpoint.specs.declared.verdict.Verdict.{Verdict}
+use Rattle.book_endpoint.specs.Verdicts.{judge}
+use Rattle.book_cmd_check.specs.Captures.{acknowledged_isn, most_connections, pair_at}
 use Rattle.ao_check.specs.Verdicts.{Tells, judging}
 use Rattle.capture_check.specs.declared.ends.Ends.{Ends}
 use Rattle.capture_check.specs.declared.flows.Flows.{Flows}

@@ -1,7 +1,7 @@
 //! What is said of a stored segment.
 
-use endpoint_model::Verdict;
-use segment_model::DatagramFault;
+use book_endpoint::Verdict;
+use book_segments::DatagramFault;
 
 /// What a checker says of a stored segment. The truth value says whether its TCP checksum is right,
 /// which the verdict doesn't look at.

@@ -1,10 +1,10 @@
 //! A checker of stored segments.
 ghost use Rattle.std.specs.Prelude.{◌≡◌, ◌≤◌, ◌+◌, ℕ, [], false, true, List, IfOk, OnErr, Some};
 ghost use Rattle.std.specs.List.{find};
-ghost use Rattle.segment_model.specs.Segments.{Segment, Read, reading, has, SYN};
-ghost use Rattle.segment_model.specs.Sockets.{same_socket};
-ghost use Rattle.key_model.specs.Rows.{has_address};
-ghost use Rattle.format_model.specs.Captures.{Connection, hear, hear_at};
+ghost use Rattle.book_segments.specs.Segments.{Segment, Read, reading, has, SYN};
+ghost use Rattle.book_segments.specs.Sockets.{same_socket};
+ghost use Rattle.book_keys.specs.Rows.{has_address};
+ghost use Rattle.book_cmd_check.specs.Captures.{Connection, hear, hear_at};
 ghost use Rattle.capture_check.specs.Checking.{IsSound, StandsFor, Hears, KeepsKeys, Derives};
 ghost use Rattle.capture_check.specs.Answers.{is_computed, is_pass};
 ghost use Rattle.capture_check.specs.Flows.{rows_of};

@@ -1,6 +1,6 @@
 //! The two sockets of a connection in their order, which is the same seen from either.
 ghost use Rattle.std.specs.Prelude.{◌≡◌, not};
-ghost use Rattle.segment_model.specs.Sockets.{same_socket};
+ghost use Rattle.book_segments.specs.Sockets.{same_socket};
 ghost use Rattle.capture_check.specs.Ends.{place_of, is_low, key_of};
 
 use ao_base::{Address, Socket};

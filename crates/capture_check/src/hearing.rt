@@ -1,8 +1,8 @@
 //! What a checker does with a segment.
 ghost use Rattle.std.specs.Prelude.{◌≡◌, length, Some, IfOk, OnErr, ◌<◌, ◌^◌};
 ghost use Rattle.std.specs.List.{find};
-ghost use Rattle.key_model.specs.Rows.{has_address};
-ghost use Rattle.segment_model.specs.Sockets.{same_socket};
+ghost use Rattle.book_keys.specs.Rows.{has_address};
+ghost use Rattle.book_segments.specs.Sockets.{same_socket};
 ghost use Rattle.std.specs.Prelude.{false};
 ghost use Rattle.ao_check.specs.Verdicts.{is_judged};
 ghost use Rattle.capture_check.specs.Checking.{found, IsSound};

@@ -1,7 +1,7 @@
 //! What a checker reads of a segment.
 ghost use Rattle.std.specs.Prelude.{◌≡◌, ◌≤◌, ◌<◌, false};
-ghost use Rattle.segment_model.specs.Segments.{has, segment_length, ACK, SYN};
-ghost use Rattle.format_model.specs.Captures.{acknowledged_isn, pair_at};
+ghost use Rattle.book_segments.specs.Segments.{has, segment_length, ACK, SYN};
+ghost use Rattle.book_cmd_check.specs.Captures.{acknowledged_isn, pair_at};
 
 use ao_base::Pair;
 use tcp_segment::Datagram;

@@ -1,12 +1,12 @@
 //! A line of stored segments: a time and a datagram.
 ghost use Rattle.std.specs.Prelude.{◌≡◌, ℕ};
 ghost use Rattle.ao_base.specs.Lines.{words_of};
-ghost use Rattle.line_model.specs.Lines.{is_comment, says_something};
-ghost use Rattle.format_model.specs.StoredLines.{stored_line, stored_of};
+ghost use Rattle.book_lines.specs.Lines.{is_comment, says_something};
+ghost use Rattle.book_cmd_check.specs.StoredLines.{stored_line, stored_of};
 ghost use Rattle.capture_check.specs.Lines.{IsRead, IsStoredAs};
 
 use ao_base::{Bytes, LineKind};
-use key_model::LATEST;
+use book_keys::LATEST;
 use std::alloc::Global;
 use text_lines::{LineWords, Refusal};
 
@@ -45,7 +45,7 @@ fn begins_comment(word: &[u8]) -> bool
 }
 
 /// Whether a line says something.
-#[tactic(auto, unfolding(line_model::specs::Words::word_in, line_model::specs::Lines::says_something))]
+#[tactic(auto, unfolding(book_lines::specs::Words::word_in, book_lines::specs::Lines::says_something))]
 fn says(line: &[u8]) -> bool
     ensures { result ≡ says_something (words_of line.now) }
 {
@@ -67,7 +67,7 @@ fn read_words(alloc: Global, words: &mut LineWords<'_>) -> Result<Stored, Refusa
 }
 
 /// What a line has, without its newline, as the definition says: `SECONDS HEX`, or nothing.
-#[tactic(auto, unfolding(format_model::specs::StoredLines::stored_line))]
+#[tactic(auto, unfolding(book_cmd_check::specs::StoredLines::stored_line))]
 pub fn read_line(alloc: Global, line: &[u8]) -> Result<Stored, LineProblem>
     ensures { (n : ℕ) → IsRead n result (stored_line n line.now) }
 {

@@ -1,17 +1,17 @@
 //! The line that an answer is printed as.
 ghost use Rattle.std.specs.Prelude.{◌≡◌, ◌++◌, ◌∷◌, [], OnOk, codes, decimal};
-ghost use Rattle.segment_model.specs.Faults.{fault_text};
-ghost use Rattle.link_model.specs.Reports.{verdict_text};
-ghost use Rattle.line_model.specs.Texts.{numbered_text, spaced};
-ghost use Rattle.format_model.specs.Captures.{Saying, saying_texts};
-ghost use Rattle.format_model.specs.DatagramTexts.{checksum_text};
-ghost use Rattle.format_model.specs.Captures as book;
+ghost use Rattle.book_segments.specs.Faults.{fault_text};
+ghost use Rattle.book_link.specs.Reports.{verdict_text};
+ghost use Rattle.book_lines.specs.Texts.{numbered_text, spaced};
+ghost use Rattle.book_cmd_check.specs.Captures.{Saying, saying_texts};
+ghost use Rattle.book_cmd_show.specs.DatagramTexts.{checksum_text};
+ghost use Rattle.book_cmd_check.specs.Captures as book;
 ghost use Rattle.capture_check.specs.Answers.{Says, answer_texts, verdict_texts};
 
 use crate::answer::CheckLine;
 use ao_base::push_decimal;
-use endpoint_model::{Passed, Verdict};
-use segment_model::{DatagramFault, OptionFault};
+use book_endpoint::{Passed, Verdict};
+use book_segments::{DatagramFault, OptionFault};
 use std::alloc::AllocError;
 use text_lines::{push_field, push_newline, push_text};
 

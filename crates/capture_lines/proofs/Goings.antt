@@ -6,13 +6,13 @@ use Rattle.ao_base.specs.declared.line_kind.LineKind.TheVariants.{Range}
 use Rattle.ao_base.specs.Lines.{lines_of}
 use Rattle.ao_base.specs.Outside.{Side, Gave, Took, IsAtEnd}
 use Rattle.ao_base.proofs.Sides.{gave_more, gave_none, rose_after, took_none}
-use Rattle.key_model.specs.Rows.{Table}
+use Rattle.book_keys.specs.Rows.{Table}
 use Rattle.line_reader.specs.declared.reader.LineStep.{LineStep}
 use Rattle.line_reader.specs.declared.reader.LineStep.TheVariants as step
 use Rattle.line_reader.specs.Reading.{Advances, IsLong, Reading, Stops as StopsReading}
 use Rattle.line_reader.proofs.Newlines.{longer}
 use Rattle.line_reader.proofs.Showing.{HasShown, shown_none, shown_still}
-use Rattle.format_model.specs.StoredLines.{StoredInput, stored_from, stored_input, stored_line}
+use Rattle.book_cmd_check.specs.StoredLines.{StoredInput, stored_from, stored_input, stored_line}
 use Rattle.capture_lines.specs.Checked.{Checks, HasRead, Stops, segments_of, written_of}
 use Rattle.capture_lines.specs.Judging.{HasHeard, Judging}
 use Rattle.capture_lines.specs.declared.check.Halt.TheVariants as halt

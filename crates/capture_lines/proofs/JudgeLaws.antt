@@ -2,9 +2,9 @@
 use Rattle.std.proofs.Common.{◌≡◌, ℕ, ◌<◌, Bool, false, not, ◌||◌, List, [], ◌∷◌, ◌++◌, length, take, Ok, Err, sym, ap, subst, ◌∙◌}
 use Rattle.std.proofs.Math.Seq.{take-length}
 use Rattle.ao_base.specs.Outside.{Side, Took, WritesAll}
-use Rattle.key_model.specs.Rows.{Table}
-use Rattle.line_model.specs.Texts.{numbered_text}
-use Rattle.format_model.specs.Captures.{Connection, Saying, Stored, has_refusal, hear, is_pass, saying_texts}
+use Rattle.book_keys.specs.Rows.{Table}
+use Rattle.book_lines.specs.Texts.{numbered_text}
+use Rattle.book_cmd_check.specs.Captures.{Connection, Saying, Stored, has_refusal, hear, is_pass, saying_texts}
 use Rattle.capture_check.specs.declared.answer.CheckLine.{CheckLine}
 use Rattle.capture_check.specs.Answers.{Says}
 use Rattle.capture_check.specs.Checking.{Hears, StandsFor}

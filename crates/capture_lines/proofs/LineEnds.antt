@@ -5,11 +5,11 @@ use Rattle.ao_base.specs.declared.line_kind.LineKind.{LineKind}
 use Rattle.ao_base.specs.Lines.{lines_of}
 use Rattle.ao_base.specs.Outside.{Side, Gave, Took, IsAtEnd}
 use Rattle.ao_base.proofs.Sides.{gave_more, rose_after, took_more}
-use Rattle.key_model.specs.Rows.{Table}
+use Rattle.book_keys.specs.Rows.{Table}
 use Rattle.line_reader.specs.declared.reader.LineStep.TheVariants as step
 use Rattle.line_reader.specs.Reading.{Advances, IsCut, Reading, Shows}
 use Rattle.line_reader.proofs.Showing.{HasShown, shown_more}
-use Rattle.format_model.specs.StoredLines.{StoredInput, stored_from, stored_input, stored_line}
+use Rattle.book_cmd_check.specs.StoredLines.{StoredInput, stored_from, stored_input, stored_line}
 use Rattle.capture_lines.specs.Checked.{BreaksLine, Checks, HasRead, JudgedLine, JudgesLine, segments_of, written_of}
 use Rattle.capture_lines.specs.declared.check.Halt.{Halt}
 use Rattle.capture_lines.specs.Judging.{Judging}

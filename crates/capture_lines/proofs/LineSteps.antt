@@ -3,8 +3,8 @@ use Rattle.std.proofs.Common.{◌≡◌, ℕ, ◌+◌, List, [], ◌∷◌, ◌+
 use Rattle.std.proofs.lemmas.List.{append-nil}
 use Rattle.ao_base.specs.Outside.{Side}
 use Rattle.ao_base.proofs.Sides.{took_none}
-use Rattle.format_model.specs.Captures.{Stored, capture_run}
-use Rattle.format_model.specs.StoredLines.{stored_from, stored_line}
+use Rattle.book_cmd_check.specs.Captures.{Stored, capture_run}
+use Rattle.book_cmd_check.specs.StoredLines.{stored_from, stored_line}
 use Rattle.capture_lines.specs.Checked.{BreaksLine, JudgedLine, segments_of}
 use Rattle.capture_lines.specs.Judging.{HasHeard, Judges, Judging, line_after}
 use Rattle.capture_lines.specs.declared.judge.Unwritten.TheVariants.{Write}

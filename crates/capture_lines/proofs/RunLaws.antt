@@ -5,10 +5,10 @@ use Rattle.std.proofs.lemmas.List.Folds.{list_any-append}
 use Rattle.std.specs.List.{list_any}
 use Rattle.ao_base.specs.declared.line_kind.LineKind.{LineKind}
 use Rattle.ao_base.specs.Lines.{lines_of}
-use Rattle.key_model.specs.Rows.{Table}
-use Rattle.line_model.specs.Texts.{numbered_text}
-use Rattle.format_model.specs.Captures.{Connection, Saying, Stored, capture_run, has_refusal, hear, is_pass, lines_of_sayings, saying_texts, sayings_from}
-use Rattle.format_model.specs.StoredLines.{StoredInput, with_stored, by_line, stored_from, stored_input, stored_line}
+use Rattle.book_keys.specs.Rows.{Table}
+use Rattle.book_lines.specs.Texts.{numbered_text}
+use Rattle.book_cmd_check.specs.Captures.{Connection, Saying, Stored, capture_run, has_refusal, hear, is_pass, lines_of_sayings, saying_texts, sayings_from}
+use Rattle.book_cmd_check.specs.StoredLines.{StoredInput, with_stored, by_line, stored_from, stored_input, stored_line}
 use Rattle.capture_lines.specs.Checked.{segments_of}
 use Rattle.capture_lines.specs.Judging.{held_after, line_after}
 

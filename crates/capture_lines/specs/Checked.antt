@@ -4,9 +4,9 @@ use Rattle.std.specs.Prelude.{Some, None, Result, Ok, Err}
 use Rattle.ao_base.specs.declared.line_kind.LineKind.{LineKind}
 use Rattle.ao_base.specs.Lines.{lines_of}
 use Rattle.ao_base.specs.Outside.{Side, Gave, Took, Rose, IsAtEnd}
-use Rattle.key_model.specs.Rows.{Table}
-use Rattle.format_model.specs.Captures.{Stored, capture_run, has_refusal}
-use Rattle.format_model.specs.StoredLines.{stored_from, stored_input, stored_line}
+use Rattle.book_keys.specs.Rows.{Table}
+use Rattle.book_cmd_check.specs.Captures.{Stored, capture_run, has_refusal}
+use Rattle.book_cmd_check.specs.StoredLines.{stored_from, stored_input, stored_line}
 use Rattle.capture_lines.specs.Judging.{HasHeard, Judging}
 use Rattle.capture_lines.specs.declared.check.Halt.{Halt}
 use Rattle.capture_lines.specs.declared.check.Halt.TheVariants.{Line, TooLong, Read, Write, Memory}

@@ -2,9 +2,9 @@
 use Rattle.std.specs.Prelude.{◌≡◌, ℕ, ◌<◌, Bool, List, [], ◌∷◌, ◌++◌, length, take, Result, Ok, Err}
 use Rattle.std.specs.Prelude.{IfOk}
 use Rattle.ao_base.specs.Outside.{Side, Took, Rose}
-use Rattle.key_model.specs.Rows.{Table}
-use Rattle.line_model.specs.Texts.{numbered_text}
-use Rattle.format_model.specs.Captures.{Connection, Stored, has_refusal, hear, saying_texts}
+use Rattle.book_keys.specs.Rows.{Table}
+use Rattle.book_lines.specs.Texts.{numbered_text}
+use Rattle.book_cmd_check.specs.Captures.{Connection, Stored, has_refusal, hear, saying_texts}
 use Rattle.capture_check.specs.Checking.{Checking, StandsFor}
 use Rattle.capture_lines.specs.declared.judge.Unwritten.{Unwritten}
 use Rattle.capture_lines.specs.declared.judge.Unwritten.TheVariants.{Memory, Write}

@@ -1,6 +1,6 @@
 //! Lines of stored segments, each read, judged and answered before the next.
 ghost use Rattle.std.specs.Prelude.{◌≡◌, ◌+◌, ◌<◌, ℕ, List, None, length};
-ghost use Rattle.format_model.specs.StoredLines.{stored_from};
+ghost use Rattle.book_cmd_check.specs.StoredLines.{stored_from};
 ghost use Rattle.capture_lines.specs.Checked.{Checks, JudgesLine, segments_of};
 ghost use Rattle.capture_lines.specs.Judging.{HasHeard};
 

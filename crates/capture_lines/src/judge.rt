@@ -1,6 +1,6 @@
 //! A judge of stored segments, which says a line of each.
 ghost use Rattle.std.specs.Prelude.{◌≡◌, [], List, IfOk};
-ghost use Rattle.format_model.specs.Captures.{Stored};
+ghost use Rattle.book_cmd_check.specs.Captures.{Stored};
 ghost use Rattle.capture_lines.specs.Judging.{Gathers, HasHeard, Judges};
 
 use ao_base::{Failed, Sink, Steps, write_all};

@@ -5,9 +5,9 @@ use Rattle.std.proofs.lemmas.List.{append-nil, length-append, take-append-le}
 use Rattle.std.proofs.Math.Seq.{take-append-add}
 use Rattle.ao_base.specs.Outside.{Side, Took}
 use Rattle.ao_base.proofs.Sides.{rose_after, took_more, took_none}
-use Rattle.key_model.specs.Rows.{Table}
-use Rattle.wire_model.specs.Packets.{Packet, packets_of}
-use Rattle.format_model.specs.Captures.{capture_run}
+use Rattle.book_keys.specs.Rows.{Table}
+use Rattle.book_pcap.specs.Packets.{Packet, packets_of}
+use Rattle.book_cmd_check.specs.Captures.{capture_run}
 use Rattle.pcap_file.specs.Reading.{and_packet}
 use Rattle.capture_packets.specs.Checked.{Breaks, BreaksLines, HasRead, Wait, Written, written_of}
 

@@ -2,10 +2,10 @@
 use Rattle.std.proofs.Common.{◌≡◌, ℕ, ◌<◌, List, [], ◌∷◌, ◌++◌, length, map, Result, Ok, Err, refl, sym, ap, ◌∙◌, arith}
 use Rattle.std.proofs.lemmas.Bool.{eq-eqb, ne_eqb}
 use Rattle.std.proofs.lemmas.List.{append-nil}
-use Rattle.key_model.specs.Rows.{Table}
-use Rattle.wire_model.specs.Packets.{Packet}
-use Rattle.format_model.specs.Answers.{stored_packet}
-use Rattle.format_model.specs.Captures.{Stored, capture_run}
+use Rattle.book_keys.specs.Rows.{Table}
+use Rattle.book_pcap.specs.Packets.{Packet}
+use Rattle.book_cmd_check.specs.StoredPackets.{stored_packet}
+use Rattle.book_cmd_check.specs.Captures.{Stored, capture_run}
 use Rattle.pcap_file.specs.Reading.{and_packet}
 use Rattle.capture_lines.specs.Judging.{Gathers, HasHeard, Judging, line_after}
 use Rattle.capture_lines.proofs.RunLaws.{run_more}

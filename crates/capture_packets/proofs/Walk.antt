@@ -5,11 +5,11 @@ use Rattle.std.proofs.lemmas.List.Elements.{All-append, All-from_get_or}
 use Rattle.std.specs.List.{All}
 use Rattle.ao_base.specs.Outside.{Side, Gave, Took, told}
 use Rattle.ao_base.proofs.Sides.{gave_more, gave_none, rose_after, took_none}
-use Rattle.key_model.specs.Rows.{Table}
-use Rattle.wire_model.specs.declared.pcap_head.Head.{Head}
-use Rattle.wire_model.specs.declared.pcap_head.HeadFault.{HeadFault}
-use Rattle.wire_model.specs.Packets.{BadHead, BadRecord, FileFault, Packet, opened, packets_behind, packets_of}
-use Rattle.format_model.specs.Answers.{stored_packet}
+use Rattle.book_keys.specs.Rows.{Table}
+use Rattle.book_pcap.specs.declared.pcap_head.Head.{Head}
+use Rattle.book_pcap.specs.declared.pcap_head.HeadFault.{HeadFault}
+use Rattle.book_pcap.specs.Packets.{BadHead, BadRecord, FileFault, Packet, opened, packets_behind, packets_of}
+use Rattle.book_cmd_check.specs.StoredPackets.{stored_packet}
 use Rattle.pcap_file.specs.declared.packets.PacketStep.{PacketStep}
 use Rattle.pcap_file.specs.declared.packets.PacketStep.TheVariants as step
 use Rattle.pcap_file.specs.Reading.{IsByte, Reading, Steps, GoesOn, Stops as PcapStops, and_packet, header_length, in_front, packets_at, passed}

@@ -3,10 +3,10 @@ use Rattle.std.specs.Prelude.{◌≡◌, ◌⊎◌, ℕ, ◌+◌, ◌<◌, ◌�
 use Rattle.std.specs.Prelude.{Some, None, Result, Ok, Err, IsOk}
 use Rattle.std.specs.List.{All}
 use Rattle.ao_base.specs.Outside.{Side, Gave, Took, Rose, IsAtEnd, told}
-use Rattle.key_model.specs.Rows.{Table}
-use Rattle.wire_model.specs.Packets.{BadHead, BadRecord, FileFault, Packet, opened, packets_of}
-use Rattle.format_model.specs.Answers.{stored_packet}
-use Rattle.format_model.specs.Captures.{Stored, capture_run, has_refusal}
+use Rattle.book_keys.specs.Rows.{Table}
+use Rattle.book_pcap.specs.Packets.{BadHead, BadRecord, FileFault, Packet, opened, packets_of}
+use Rattle.book_cmd_check.specs.StoredPackets.{stored_packet}
+use Rattle.book_cmd_check.specs.Captures.{Stored, capture_run, has_refusal}
 use Rattle.pcap_file.specs.declared.packets.PacketStep.{PacketStep}
 use Rattle.pcap_file.specs.declared.packets.PacketStep.TheVariants as step
 use Rattle.pcap_file.specs.Reading.{GoesOn, IsByte, Reading, Steps, and_packet, in_front, packets_at}

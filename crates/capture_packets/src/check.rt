@@ -1,7 +1,7 @@
 //! Packets of a pcap file, each judged before the next is read, and answered before more is asked for.
 ghost use Rattle.std.specs.Prelude.{◌≡◌, ◌<◌, ℕ, List, IsSome, Some, false, map};
-ghost use Rattle.wire_model.specs.Packets.{Packet};
-ghost use Rattle.format_model.specs.Answers.{stored_packet};
+ghost use Rattle.book_pcap.specs.Packets.{Packet};
+ghost use Rattle.book_cmd_check.specs.StoredPackets.{stored_packet};
 ghost use Rattle.capture_lines.specs.Judging.{HasHeard};
 ghost use Rattle.capture_packets.specs.Checked.{Checks, JudgesPacket, Moves, RunsOut, WritesLines};
 

@@ -2,8 +2,8 @@
 use Rattle.std.proofs.Common.{◌≡◌, ℕ, ◌+◌, ◌-◌, ◌*◌, ◌%◌, ◌≤◌, ◌==◌, Bool, true, false, List, [], ◌∷◌, ◌++◌, length, take, drop, nat_lt, Result, Ok, Err, if◌then◌else◌, refl, sym, ap, ◌∙◌, subst, arith, append_assoc}
 use Rattle.std.proofs.lemmas.List.{length-append, take-append-drop, drop_at}
 use Rattle.ao_base.specs.Results.{◌>>=◌}
-use Rattle.wire_model.specs.declared.pcap_head.ByteOrder.TheVariants.{Big}
-use Rattle.wire_model.specs.Packets.{two_at}
+use Rattle.book_pcap.specs.declared.pcap_head.ByteOrder.TheVariants.{Big}
+use Rattle.book_pcap.specs.Packets.{two_at}
 use Rattle.book_captures.specs.declared.link_type.LinkType.{LinkType}
 use Rattle.book_captures.specs.declared.link_type.Protocol.{Protocol}
 use Rattle.book_captures.specs.declared.link_type.Protocol.TheVariants.{Ip, Tag, Session, Labels}

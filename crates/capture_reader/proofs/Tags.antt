@@ -1,7 +1,7 @@
 -- One tag, where there are bytes enough for it.
 use Rattle.std.proofs.Common.{◌≡◌, ℕ, ◌<◌, ◌≤◌, List, ◌∷◌, length, drop, Err, refl, arith}
-use Rattle.wire_model.specs.declared.pcap_head.ByteOrder.TheVariants.{Big}
-use Rattle.wire_model.specs.Packets.{two_at}
+use Rattle.book_pcap.specs.declared.pcap_head.ByteOrder.TheVariants.{Big}
+use Rattle.book_pcap.specs.Packets.{two_at}
 use Rattle.book_captures.specs.declared.link_type.Protocol.TheVariants.{Tag}
 use Rattle.book_captures.specs.declared.reasons.Header.TheVariants as header
 use Rattle.book_captures.specs.declared.reasons.Skipped.TheVariants.{Short}

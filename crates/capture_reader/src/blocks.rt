@@ -6,7 +6,7 @@ ghost use Rattle.capture_reader.specs.Places.{placed};
 
 use crate::numbers::four;
 use book_captures::BlockFault;
-use wire_model::ByteOrder;
+use book_pcap::ByteOrder;
 
 /// The type of the header of a section, in either order (section 4.1 of the format).
 const SECTION_HEADER: u32 = 0x0a0d_0d0a;

@@ -5,7 +5,7 @@ ghost use Rattle.capture_reader.specs.Found.{Gives, as_it_is, seen_stamped, seen
 
 use crate::numbers::{four, two};
 use book_captures::{BodyFault, Interface, TimeResolution};
-use wire_model::ByteOrder;
+use book_pcap::ByteOrder;
 
 /// A packet with its time, as a block keeps it.
 #[derive(Clone, Copy, Debug)]

@@ -1,13 +1,13 @@
 //! The headers in front of a datagram, one after another.
 ghost use Rattle.std.specs.Prelude.{◌≡◌, ◌≤◌, length};
 ghost use Rattle.book_captures.specs.Frames.{or_else, header_length as length_of_header, protocol_in as protocol_told, family, behind_link, behind_tags, behind_session, behind_labels, innermost as innermost_layer};
-ghost use Rattle.wire_model.specs.Packets.{four_at};
+ghost use Rattle.book_pcap.specs.Packets.{four_at};
 ghost use Rattle.capture_reader.specs.Found.{Gives, layer};
 
 use crate::numbered::{ethertype, family, ppp};
 use crate::numbers::{four, two};
 use book_captures::{Header, LinkType, Protocol, Skipped};
-use wire_model::ByteOrder;
+use book_pcap::ByteOrder;
 
 /// What follows the headers so far.
 #[derive(Clone, Copy, Debug)]

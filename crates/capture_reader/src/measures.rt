@@ -4,7 +4,7 @@ ghost use Rattle.book_captures.specs.Frames.{is_zero as zero_at, told_length as 
 
 use crate::numbers::two;
 use book_captures::{Extent, IpVersion};
-use wire_model::ByteOrder;
+use book_pcap::ByteOrder;
 
 /// Whether the field of IPv4 at this place is 0.
 pub(crate) fn is_zero(version: IpVersion, at: usize, bytes: &[u8]) -> bool

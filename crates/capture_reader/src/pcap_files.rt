@@ -5,7 +5,7 @@ ghost use Rattle.capture_reader.specs.Found.{Gives, seen_record};
 
 use crate::numbers::{four, two};
 use book_captures::{PcapHead, PcapHeadFault, RecordFault, Resolution};
-use wire_model::ByteOrder;
+use book_pcap::ByteOrder;
 
 /// How many bytes the header has (libpcap, pcap-savefile).
 pub const PCAP_HEAD: usize = 24;

@@ -3,7 +3,7 @@ use Rattle.std.proofs.Common.{◌≡◌, ◌∙◌, ap, ◌++◌, ◌∷◌, ◌
 use Rattle.std.proofs.lemmas.List.{drop-replicate, take_more, map-append, length-take, length-map}
 use Rattle.std.proofs.Math.Seq.{get_or-append_seam, set-append_seam}
 use Rattle.std.specs.Prelude.{replicate, bit_xor}
-use Rattle.mac_model.specs.Hmac.{ipad, opad, block_key, xored_key, hmac}
+use Rattle.book_macs.specs.Hmac.{ipad, opad, block_key, xored_key, hmac}
 
 -- a key that isn't longer than a block, over a block of zeros
 pub filled : (hash : List ℕ → List ℕ) (key : List ℕ) → length key ≤ 64 → key ++ drop (length key) (replicate 64 0) ≡ block_key hash key

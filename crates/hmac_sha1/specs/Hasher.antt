@@ -5,7 +5,7 @@ use Rattle.sha1.specs.declared.Sha1.{Sha1}
 use Rattle.sha2.specs.Hashers.{Holds256}
 use Rattle.sha2.specs.Sha256.{sha256}
 use Rattle.sha2.specs.declared.Sha256.{Sha256}
-use Rattle.mac_model.specs.Hmac.{ipad, opad, xored_key}
+use Rattle.book_macs.specs.Hmac.{ipad, opad, xored_key}
 use Rattle.hmac_sha1.specs.declared.hmac.Hmac.{Hmac}
 
 -- the bytes that were fed to a hasher under a key, in whatever pieces (RFC 2104, section 2)

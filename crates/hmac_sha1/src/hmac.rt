@@ -1,6 +1,6 @@
 //! HMAC over a hash.
 ghost use Rattle.std.specs.Prelude.{◌≡◌, ◌++◌, List, [], ℕ, map, bit_xor};
-ghost use Rattle.mac_model.specs.Hmac.{hmac, block_key};
+ghost use Rattle.book_macs.specs.Hmac.{hmac, block_key};
 ghost use Rattle.hmac_sha1.specs.Hasher.{StandsFor};
 
 use crate::hash::BlockHash;

@@ -1,8 +1,8 @@
 -- What a check of a capture by a key file does (own).
 use Rattle.std.specs.Prelude.{◌≡◌, ℕ, Bool, List, Result, Ok, Err}
 use Rattle.ao_base.specs.Outside.{Side}
-use Rattle.key_model.specs.Nodes.{tables_of}
-use Rattle.key_model.specs.Rows.{Table}
+use Rattle.book_keys.specs.Nodes.{tables_of}
+use Rattle.book_keys.specs.Rows.{Table}
 use Rattle.capture_packets.specs.declared.check.PacketHalt.{PacketHalt}
 use Rattle.capture_packets.specs.Checked.{Checks}
 use Rattle.kernel_captures.specs.declared.captured.Unchecked.{Unchecked}

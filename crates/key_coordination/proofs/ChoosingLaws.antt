@@ -3,12 +3,12 @@ use Rattle.std.proofs.Common.{◌≡◌, ◌<◌, ◌≤◌, ℕ, suc, ◌+◌, 
 use Rattle.std.specs.Prelude.{is_some, option_map, IfSome}
 use Rattle.std.proofs.lemmas.Bool.Decides.{nat_tests}
 use Rattle.ao_base.specs.declared.address.Pair.{Pair}
-use Rattle.key_model.specs.Rows.{Row, sendable, acceptable}
+use Rattle.book_keys.specs.Rows.{Row, sendable, acceptable}
 use Rattle.std.specs.Option.{option_or}
-use Rattle.key_model.specs.Choices.{Numbered, qualified, send_start, accept_start, send_row, next_row, sendable_as, named_send}
-use Rattle.key_model.specs.Coordination.{Sending, numbered, still_current, rnext_key_id_of, sending_by, row_to_send, choose, current_after, IsRowOf, follow}
-use Rattle.key_model.proofs.ChoiceLaws.{latest-IsLatest, lowest-IsLowest}
-use Rattle.key_model.specs.Lookups.{number_of}
+use Rattle.book_keys.specs.Choices.{Numbered, qualified, send_start, accept_start, send_row, next_row, sendable_as, named_send}
+use Rattle.book_keys.specs.Coordination.{Sending, numbered, still_current, rnext_key_id_of, sending_by, row_to_send, choose, current_after, IsRowOf, follow}
+use Rattle.book_keys.proofs.ChoiceLaws.{latest-IsLatest, lowest-IsLowest}
+use Rattle.book_keys.specs.Lookups.{number_of}
 use Rattle.key_coordination.specs.declared.choice.Sending.{Sending as Answer}
 use Rattle.key_coordination.specs.Sendings.{told}
 

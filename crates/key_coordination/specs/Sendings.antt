@@ -1,5 +1,5 @@
 -- The row to send with, in the numbers of this crate.
-use Rattle.key_model.specs.Coordination as book
+use Rattle.book_keys.specs.Coordination as book
 use Rattle.key_coordination.specs.declared.choice.Sending.{Sending}
 
 -- the number of the row and the two ids

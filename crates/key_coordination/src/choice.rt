@@ -1,8 +1,8 @@
 //! The choice of the row to send with.
 ghost use Rattle.std.specs.Prelude.{◌≡◌, ◌≤◌, None, length, option_map, IfSome};
-ghost use Rattle.key_model.specs.Choices.{next_row};
-ghost use Rattle.key_model.specs.Coordination.{row_to_send, rnext_key_id_of, choose, current_after, follow};
-ghost use Rattle.key_model.specs.Lookups.{number_of};
+ghost use Rattle.book_keys.specs.Choices.{next_row};
+ghost use Rattle.book_keys.specs.Coordination.{row_to_send, rnext_key_id_of, choose, current_after, follow};
+ghost use Rattle.book_keys.specs.Lookups.{number_of};
 ghost use Rattle.key_coordination.specs.Sendings.{told};
 
 use ao_base::Pair;
@@ -103,7 +103,7 @@ impl Choice {
 
     /// An RNextKeyID was heard: the sendable row with this SendID becomes current; where there is
     /// none, nothing changes (RFC 5925, sections 6.1 and 7.5).
-    #[tactic(auto, unfolding(key_model::specs::Coordination::follow))]
+    #[tactic(auto, unfolding(book_keys::specs::Coordination::follow))]
     pub fn heard(&mut self, table: &Table, pair: &Pair, rnext: u8, now: u64)
         ensures { self.new ≡ follow self.old table.now.rows pair.now rnext now }
     {

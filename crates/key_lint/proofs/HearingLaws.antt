@@ -3,8 +3,8 @@ use Rattle.std.proofs.Common.{◌≡◌, ℕ, suc, ◌+◌, ◌<◌, ◌==◌, B
 use Rattle.std.proofs.lemmas.List.{get_or-take, get_or-map}
 use Rattle.std.specs.List.{list_any}
 use Rattle.ao_base.specs.declared.address.Pair.{Pair}
-use Rattle.key_model.specs.Plans.{mirrored, same_key, accepts_from, outlasts, accepts_throughout}
-use Rattle.key_model.specs.Rows.{Row, matches, receives}
+use Rattle.book_keys.specs.Plans.{mirrored, same_key, accepts_from, outlasts, accepts_throughout}
+use Rattle.book_keys.specs.Rows.{Row, matches, receives}
 use Rattle.key_lint.specs.Unmet.{hears}
 
 -- a mark tells whether the row at its place hears

@@ -5,14 +5,14 @@ use Rattle.std.proofs.lemmas.List.Folds.{list_any_at}
 use Rattle.std.specs.List.{list_any}
 use Rattle.std.specs.Prelude.{IfSome, IfNone}
 use Rattle.ao_base.specs.declared.address.Pair.{Pair}
-use Rattle.key_model.specs.declared.lifetime.Lifetime.{Lifetime}
-use Rattle.key_model.specs.declared.lint.LintAnswer.TheVariants as answer
-use Rattle.key_model.specs.Lifetimes.{is_covered, IsFirstGap}
-use Rattle.segment_model.proofs.Fields.{and_tells}
-use Rattle.key_model.proofs.PlanLaws.{found_at}
-use Rattle.key_model.specs.Plans.{accepts_from, accepts_throughout, outlasts, mirrored, send_lifetimes, has_sendable, gap, IsGap, lint_rows}
-use Rattle.key_model.specs.Rows.{Row}
-use Rattle.key_model.proofs.GapLaws.{covered_is_sendable, gap_exactly, is_gap, lint_aligned}
+use Rattle.book_keys.specs.declared.lifetime.Lifetime.{Lifetime}
+use Rattle.book_keys.specs.declared.lint.LintAnswer.TheVariants as answer
+use Rattle.book_keys.specs.Lifetimes.{is_covered, IsFirstGap}
+use Rattle.book_segments.proofs.Fields.{and_tells}
+use Rattle.book_keys.proofs.PlanLaws.{found_at}
+use Rattle.book_keys.specs.Plans.{accepts_from, accepts_throughout, outlasts, mirrored, send_lifetimes, has_sendable, gap, IsGap, lint_rows}
+use Rattle.book_keys.specs.Rows.{Row}
+use Rattle.book_keys.proofs.GapLaws.{covered_is_sendable, gap_exactly, is_gap, lint_aligned}
 use Rattle.key_lint.specs.CarriesThrough.{CarriesThrough}
 
 -- a row that accepts throughout accepts

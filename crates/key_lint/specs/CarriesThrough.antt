@@ -1,8 +1,8 @@
 -- What the tables of two ends are to be, so that a rollover breaks no session.
 use Rattle.std.specs.Prelude.{ℕ, List, None}
 use Rattle.ao_base.specs.declared.address.Pair.{Pair}
-use Rattle.key_model.specs.Plans.{mirrored, AlignedFrom, IsGap}
-use Rattle.key_model.specs.Rows.{Row}
+use Rattle.book_keys.specs.Plans.{mirrored, AlignedFrom, IsGap}
+use Rattle.book_keys.specs.Rows.{Row}
 
 -- each end's rows are aligned with the other end's, and from low to high each has a row to send with (own)
 pub record CarriesThrough (a b : List Row) (pair : Pair) (lead lag low high : ℕ) : Type 0 where

@@ -2,9 +2,9 @@
 use Rattle.std.specs.Prelude.{ℕ, ◌&&◌, Bool, List, Option, option_map}
 use Rattle.ao_base.specs.declared.address.Pair.{Pair}
 use Rattle.ao_base.specs.declared.end.End.{End}
-use Rattle.key_model.specs.declared.lint.LintAnswer.{LintAnswer}
-use Rattle.key_model.specs.Plans.{mirrored, misaligned_answer, misaligned_by, unmet_reason}
-use Rattle.key_model.specs.Rows.{Row, matches, receives}
+use Rattle.book_keys.specs.declared.lint.LintAnswer.{LintAnswer}
+use Rattle.book_keys.specs.Plans.{mirrored, misaligned_answer, misaligned_by, unmet_reason}
+use Rattle.book_keys.specs.Rows.{Row, matches, receives}
 
 -- the other end's row is for what comes in there over the pair, at whatever time (RFC 7210, section 3)
 abbrev pub hears : Pair → Row → Bool

@@ -1,6 +1,6 @@
 //! The first time at which an end has no row to send with.
 ghost use Rattle.std.specs.Prelude.{◌≡◌, ◌≤◌, length};
-ghost use Rattle.key_model.specs.Plans.{gap};
+ghost use Rattle.book_keys.specs.Plans.{gap};
 
 use crate::way::{MOST_ROWS, is_sending_for};
 use ao_base::Pair;

@@ -1,13 +1,13 @@
 //! The judgement on the tables of the two ends of a connection.
 ghost use Rattle.std.specs.Prelude.{◌≡◌, ◌≤◌, ◌↔◌, length};
-ghost use Rattle.key_model.specs.declared.lint.LintAnswer.TheVariants as answer;
-ghost use Rattle.key_model.specs.Plans.{lint_of, rows_at};
+ghost use Rattle.book_keys.specs.declared.lint.LintAnswer.TheVariants as answer;
+ghost use Rattle.book_keys.specs.Plans.{lint_of, rows_at};
 ghost use Rattle.key_lint.specs.CarriesThrough.{CarriesThrough};
 
 use crate::gap::gap;
 use crate::way::Way;
 use ao_base::{Address, End, Pair};
-use key_model::LintAnswer;
+use book_keys::LintAnswer;
 use key_table::{Row, Tables};
 
 /// The rows of the node with this address; none where no node has it.
@@ -26,7 +26,7 @@ fn rows_at<'a>(tables: &'a Tables, address: &Address) -> &'a [Row]
 }
 
 /// The judgement: the first row that isn't met, of A and then of B, before a gap of A and then of B.
-#[tactic(auto, unfolding(key_model::specs::Plans::lint_rows, key_model::specs::Plans::first_misaligned))]
+#[tactic(auto, unfolding(book_keys::specs::Plans::lint_rows, book_keys::specs::Plans::first_misaligned))]
 fn judge(tables: &Tables, pair: &Pair, lead: u64, lag: u64, from: u64, to: u64) -> LintAnswer
     ensures { result ≡ lint_of tables.now pair.now lead lag from to }
 {

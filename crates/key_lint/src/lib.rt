@@ -8,6 +8,6 @@ mod judgement;
 mod premise;
 mod way;
 
+pub use book_keys::LintAnswer;
 pub use judgement::lint;
-pub use key_model::LintAnswer;
 pub use premise::aligned_carries_through;

@@ -1,9 +1,9 @@
 //! What the judgement promises of a rollover.
 ghost use Rattle.std.specs.Prelude.{◌≡◌, ◌↔◌, ℕ, List};
 ghost use Rattle.ao_base.specs.declared.address.Pair.{Pair};
-ghost use Rattle.key_model.specs.declared.lint.LintAnswer.TheVariants as answer;
-ghost use Rattle.key_model.specs.Plans.{lint_of, rows_at};
-ghost use Rattle.key_model.specs.Rows.{Table};
+ghost use Rattle.book_keys.specs.declared.lint.LintAnswer.TheVariants as answer;
+ghost use Rattle.book_keys.specs.Plans.{lint_of, rows_at};
+ghost use Rattle.book_keys.specs.Rows.{Table};
 ghost use Rattle.key_lint.specs.CarriesThrough.{CarriesThrough};
 
 /// The judgement is `Aligned` exactly where each end's rows are aligned with the other end's, with

@@ -1,14 +1,14 @@
 //! The rows that send from one end of a connection, and their peers at the other end.
 ghost use Rattle.std.specs.Prelude.{◌≡◌, ◌==◌, ◌&&◌, ◌≤◌, length, map, option_map, take};
 ghost use Rattle.std.specs.List.{list_any};
-ghost use Rattle.segment_model.specs.Bytes.{same_bytes};
-ghost use Rattle.key_model.specs.Plans.{mirrored, same_algorithm, same_flag, same_key, accepts_from, outlasts, accepts_throughout};
-ghost use Rattle.key_model.specs.Plans.{first_unmet, misaligned_answer};
+ghost use Rattle.book_segments.specs.Bytes.{same_bytes};
+ghost use Rattle.book_keys.specs.Plans.{mirrored, same_algorithm, same_flag, same_key, accepts_from, outlasts, accepts_throughout};
+ghost use Rattle.book_keys.specs.Plans.{first_unmet, misaligned_answer};
 ghost use Rattle.key_lint.specs.Unmet.{hears, unmet_answer};
-ghost use Rattle.key_model.specs.Rows.{matches, receives, sends_for};
+ghost use Rattle.book_keys.specs.Rows.{matches, receives, sends_for};
 
 use ao_base::{Algorithm, End, Pair};
-use key_model::{Direction, LATEST, LintAnswer};
+use book_keys::{Direction, LATEST, LintAnswer};
 use key_table::Row;
 
 /// The most rows of a table.

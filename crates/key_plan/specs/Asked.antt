@@ -4,8 +4,8 @@ use Rattle.ao_base.specs.declared.address.Pair.{Pair}
 use Rattle.book_plans.specs.declared.margin.Margin.{Margin}
 use Rattle.book_plans.specs.declared.margin.Margin.TheVariants.{Any}
 use Rattle.book_plans.specs.Margins.{lead_by, lag_by, narrower, widest, narrowest}
-use Rattle.key_model.specs.Plans.{mirrored}
-use Rattle.key_model.specs.Rows.{Row, sends_for}
+use Rattle.book_keys.specs.Plans.{mirrored}
+use Rattle.book_keys.specs.Rows.{Row, sends_for}
 use Rattle.key_plan.specs.declared.way.Given.{Given}
 use Rattle.key_plan.specs.declared.way.Given.TheVariants.{Lead, Lag}
 

@@ -1,8 +1,8 @@
 //! All that doesn't hold of a planned rollover.
 ghost use Rattle.std.specs.Prelude.{◌≡◌, ◌↔◌, ◌≤◌, ◌++◌, [], length, option_map, IfOk, OnOk};
 ghost use Rattle.std.specs.List.{list_any};
-ghost use Rattle.key_model.specs.declared.lint.LintAnswer.TheVariants as answer;
-ghost use Rattle.key_model.specs.Plans.{mirrored, accepts_from, accepts_throughout, unmet_reason, lint_of};
+ghost use Rattle.book_keys.specs.declared.lint.LintAnswer.TheVariants as answer;
+ghost use Rattle.book_keys.specs.Plans.{mirrored, accepts_from, accepts_throughout, unmet_reason, lint_of};
 ghost use Rattle.book_plans.specs.Findings.{finding_by, unmet_findings, findings, findings_of, first_answer, wanted_accepting, widened};
 
 use crate::alike::{is_accepting_from, is_sending_for, mirrored};

@@ -1,7 +1,7 @@
 //! The gaps of an end.
 ghost use Rattle.std.specs.Prelude.{◌≡◌, ℕ, ◌+◌, ◌-◌, ◌≤◌, ◌<◌, ◌&&◌, ◌++◌, nat_lt, nat_le, map, true, false, IfOk, OnOk};
-ghost use Rattle.key_model.specs.Lifetimes.{is_covered};
-ghost use Rattle.key_model.specs.Plans.{send_lifetimes};
+ghost use Rattle.book_keys.specs.Lifetimes.{is_covered};
+ghost use Rattle.book_keys.specs.Plans.{send_lifetimes};
 ghost use Rattle.book_plans.specs.Findings.{failing_spans, gap_finding, gap_findings};
 
 use crate::alike::is_sending_for;

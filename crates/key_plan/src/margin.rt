@@ -1,6 +1,6 @@
 //! The margins of a planned rollover.
 ghost use Rattle.std.specs.Prelude.{◌≡◌, Some};
-ghost use Rattle.key_model.specs.Plans.{mirrored, rows_at};
+ghost use Rattle.book_keys.specs.Plans.{mirrored, rows_at};
 ghost use Rattle.book_plans.specs.declared.margin.Margin.TheVariants as margin;
 ghost use Rattle.book_plans.specs.Margins.{AreOrdered, AlignedAtLead, AlignedAtLag, IsMargin, narrower, narrowest, lead_margin_of, lag_margin_of};
 ghost use Rattle.key_plan.specs.Asked.{margin_of_row, margin_of_plan};

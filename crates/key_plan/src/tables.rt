@@ -1,6 +1,6 @@
 //! The rows of a node.
 ghost use Rattle.std.specs.Prelude.{◌≡◌, ◌≤◌, length};
-ghost use Rattle.key_model.specs.Plans.{rows_at};
+ghost use Rattle.book_keys.specs.Plans.{rows_at};
 
 use ao_base::Address;
 use key_table::{Row, Tables};

@@ -1,9 +1,9 @@
 //! The calendar of a planned rollover.
 ghost use Rattle.std.specs.Prelude.{◌≡◌, ◌≤◌, ◌<◌, ◌+◌, ◌-◌, ◌++◌, ℕ, nat_le, IfOk, OnOk};
 ghost use Rattle.std.specs.List.{All};
-ghost use Rattle.key_model.specs.Lifetimes.{contains};
-ghost use Rattle.key_model.specs.Plans.{mirrored, rows_at};
-ghost use Rattle.key_model.specs.Rows.{sendable, acceptable};
+ghost use Rattle.book_keys.specs.Lifetimes.{contains};
+ghost use Rattle.book_keys.specs.Plans.{mirrored, rows_at};
+ghost use Rattle.book_keys.specs.Rows.{sendable, acceptable};
 ghost use Rattle.book_plans.specs.Calendar.{is_number, has_role, turn_by, role_turn, row_turns, turns_from, turns_after, turns_in, calendar_of, Keeps};
 
 use crate::alike::{is_receiving, is_sending, mirrored};

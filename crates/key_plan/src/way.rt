@@ -1,6 +1,6 @@
 //! What one row, or each row of an end, leaves of lead or lag at the other end.
 ghost use Rattle.std.specs.Prelude.{◌≡◌, None, Some};
-ghost use Rattle.key_model.specs.Plans.{outlasts, accepts_throughout};
+ghost use Rattle.book_keys.specs.Plans.{outlasts, accepts_throughout};
 ghost use Rattle.book_plans.specs.declared.margin.Margin.TheVariants as margin;
 ghost use Rattle.book_plans.specs.Margins.{wider, narrower, widest, narrowest, time_before, time_after};
 ghost use Rattle.key_plan.specs.Asked.{margin_by, margin_of_row};

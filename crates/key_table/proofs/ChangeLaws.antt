@@ -5,10 +5,10 @@ use Rattle.key_table.specs.Lending.{place_of}
 use Rattle.std.specs.List.{find}
 use Rattle.ao_base.specs.declared.address.Address.{Address}
 use Rattle.std.proofs.lemmas.Bool.Decides.{nat_tests}
-use Rattle.key_model.specs.Rows.{Row, Table, has_address}
-use Rattle.key_model.specs.Choices.{Numbered, qualified}
-use Rattle.key_model.specs.Coordination.{numbered}
-use Rattle.key_model.specs.Tables.{disabled, without_row, withdrawn}
+use Rattle.book_keys.specs.Rows.{Row, Table, has_address}
+use Rattle.book_keys.specs.Choices.{Numbered, qualified}
+use Rattle.book_keys.specs.Coordination.{numbered}
+use Rattle.book_keys.specs.Tables.{disabled, without_row, withdrawn}
 
 -- past the rows there is none of this number
 pub numbered_past : (good : Row → Bool) (n number : ℕ) (rows : List Row) → n + length rows ≤ number → numbered good n number rows ≡ None

@@ -1,7 +1,7 @@
 -- What the types of a row's columns say.
 use Rattle.std.specs.Prelude.{◌<◌}
-use Rattle.segment_model.specs.Spelling.{AreBytes}
-use Rattle.key_model.specs.Rows.{Row}
+use Rattle.book_segments.specs.Spelling.{AreBytes}
+use Rattle.book_keys.specs.Rows.{Row}
 
 -- the columns of a row fit their places: ids of one byte, a key of bytes
 -- (RFC 5925, section 2.2; RFC 7210, section 2)

@@ -2,7 +2,7 @@
 use Rattle.std.specs.Prelude.{ℕ, ◌+◌, Option, List, [], ◌∷◌, slice_set, if◌then◌else◌}
 use Rattle.std.specs.Borrow.{LendsIf, MutBor, Fml}
 use Rattle.ao_base.specs.declared.address.Address.{Address}
-use Rattle.key_model.specs.Rows.{Table, has_address}
+use Rattle.book_keys.specs.Rows.{Table, has_address}
 use Rattle.key_table.specs.contracts.tables.Tables.{the_row}
 use Rattle.key_table.specs.contracts.table.Table.{the_row as table_row}
 

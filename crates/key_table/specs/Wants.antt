@@ -1,10 +1,10 @@
 -- What a row is wanted for: to send, or to accept what comes in.
 use Rattle.std.specs.Prelude.{ℕ, Bool}
 use Rattle.ao_base.specs.declared.address.Pair.{Pair}
-use Rattle.key_model.specs.declared.direction.Direction.{Direction}
-use Rattle.key_model.specs.declared.lifetime.Lifetime.{Lifetime}
-use Rattle.key_model.specs.Rows.{Row, receives, sends, sendable, acceptable}
-use Rattle.key_model.specs.Choices.{sendable_as, acceptable_as}
+use Rattle.book_keys.specs.declared.direction.Direction.{Direction}
+use Rattle.book_keys.specs.declared.lifetime.Lifetime.{Lifetime}
+use Rattle.book_keys.specs.Rows.{Row, receives, sends, sendable, acceptable}
+use Rattle.book_keys.specs.Choices.{sendable_as, acceptable_as}
 use Rattle.key_table.specs.declared.want.Want.{Want}
 use Rattle.key_table.specs.declared.want.Want.TheVariants.{Send, Accept}
 

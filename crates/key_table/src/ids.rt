@@ -1,11 +1,11 @@
 //! The names of a row: AdminKeyName and the two ids.
 ghost use Rattle.std.specs.Prelude.{◌≡◌, codes, option_and_then};
 ghost use Rattle.toml.specs.View.{table_view};
-ghost use Rattle.key_model.specs.Columns.{text_of, is_admin, id_of_text, ids_of};
+ghost use Rattle.book_keys.specs.Columns.{text_of, is_admin, id_of_text, ids_of};
 
 use crate::columns::{must, text_at};
 use ao_base::read_decimal;
-use key_model::{Column, Ids, TableFault};
+use book_keys::{Column, Ids, TableFault};
 use toml::Table;
 
 fn is_admin(table: &Table) -> bool
@@ -41,7 +41,7 @@ fn id_at(table: &Table, key: &str) -> Option<u8>
     }
 }
 
-#[tactic(auto, unfolding(key_model::specs::Columns::ids_of))]
+#[tactic(auto, unfolding(book_keys::specs::Columns::ids_of))]
 pub(crate) fn ids_at(node: u8, row: u8, table: &Table) -> Result<Ids, TableFault>
     ensures { result ≡ ids_of node row (table_view table.now) }
 {

@@ -23,10 +23,10 @@ mod terms;
 mod time;
 mod want;
 
-pub use gap::first_gap;
-pub use key_model::{
+pub use book_keys::{
     Accept, AddRefusal, Column, Direction, LATEST, Lifetime, NewRow, NoRow, TableFault,
 };
+pub use gap::first_gap;
 pub use read::read_tables;
 pub use row::Row;
 pub use table::Table;

@@ -1,5 +1,5 @@
 //! Master keys.
-ghost use Rattle.key_model.specs.MasterKeys.{IsMasterKey};
+ghost use Rattle.book_keys.specs.MasterKeys.{IsMasterKey};
 
 /// A master key that a row keeps. It is printed nowhere.
 #[derive(Drop)]

@@ -1,13 +1,13 @@
 //! Rows that an operator adds while the table is in use, and rows that are withdrawn.
 ghost use Rattle.std.specs.Prelude.{◌≡◌, ◌≤◌, length, IfOk};
 ghost use Rattle.std.specs.List.{position_from};
-ghost use Rattle.key_model.specs.Overlaps.{overlaps};
-ghost use Rattle.key_model.specs.Tables.{disabled, row_of_new};
+ghost use Rattle.book_keys.specs.Overlaps.{overlaps};
+ghost use Rattle.book_keys.specs.Tables.{disabled, row_of_new};
 
 use crate::master_key::MasterKey;
 use crate::overlap::overlaps;
 use crate::row::Row;
-use key_model::{Direction, NewRow};
+use book_keys::{Direction, NewRow};
 use std::alloc::{AllocError, Global};
 
 /// The row that is added.

@@ -1,15 +1,15 @@
 //! Rows of a table that overlap.
 ghost use Rattle.std.specs.Prelude.{◌≡◌, ◌≤◌, ◌+◌, drop, length, option_map, IfSome, Some};
 ghost use Rattle.std.specs.List.{list_any, position_from};
-ghost use Rattle.segment_model.specs.Sockets.{same_address};
-ghost use Rattle.key_model.specs.Overlaps.{peer_meets, peers_meet, ports_meet, lifetimes_meet, pairs_meet, accepts_meet, sends_meet, overlaps, first_overlap};
-ghost use Rattle.key_model.specs.Nodes.{overlap_in};
+ghost use Rattle.book_segments.specs.Sockets.{same_address};
+ghost use Rattle.book_keys.specs.Overlaps.{peer_meets, peers_meet, ports_meet, lifetimes_meet, pairs_meet, accepts_meet, sends_meet, overlaps, first_overlap};
+ghost use Rattle.book_keys.specs.Nodes.{overlap_in};
 ghost use Rattle.key_table.specs.Pairs.{two_of};
 
 use crate::row::{Row, is_receiving, is_same_address, is_sending};
 use crate::table::Table;
 use ao_base::Address;
-use key_model::{Lifetime, TableFault};
+use book_keys::{Lifetime, TableFault};
 
 fn is_peer_meeting(one: &Option<Address>, other: &Option<Address>) -> bool
     ensures { result ≡ peer_meets one.now other.now }
@@ -74,7 +74,7 @@ fn is_sends_meeting(one: &Row, other: &Row) -> bool
 }
 
 /// Whether for some pair at some time both rows may accept, or both may send, under one id.
-#[tactic(auto, unfolding(key_model::specs::Overlaps::overlaps))]
+#[tactic(auto, unfolding(book_keys::specs::Overlaps::overlaps))]
 pub(crate) fn overlaps(one: &Row, other: &Row) -> bool
     ensures { result ≡ overlaps one.now other.now }
 {
@@ -96,7 +96,7 @@ fn partner(row: &Row, rows: &[Row], from: usize) -> Option<u8>
 }
 
 /// The numbers of the least two rows that overlap.
-#[tactic(auto, unfolding(key_model::specs::Overlaps::first_overlap))]
+#[tactic(auto, unfolding(book_keys::specs::Overlaps::first_overlap))]
 fn first_overlap(rows: &[Row]) -> Option<(u8, u8)>
     requires { length rows.now ≤ 64 }
     ensures { option_map two_of result ≡ first_overlap 1 rows.now }
@@ -110,7 +110,7 @@ fn first_overlap(rows: &[Row]) -> Option<(u8, u8)>
 }
 
 /// The first overlap of the tables, those of the nodes from 1 on.
-#[tactic(auto, unfolding(key_model::specs::Nodes::overlap_in))]
+#[tactic(auto, unfolding(book_keys::specs::Nodes::overlap_in))]
 pub(crate) fn overlap_in(tables: &[Table]) -> Option<TableFault>
     requires { length tables.now ≤ 16 }
     ensures { result ≡ overlap_in 1 tables.now }

@@ -1,12 +1,12 @@
 //! The peers of a row.
 ghost use Rattle.std.specs.Prelude.{◌≡◌, ◌≤◌, ℕ, length, option_map, Some, None};
 ghost use Rattle.toml.specs.View.{view, items_view};
-ghost use Rattle.key_model.specs.Columns.{peer_of_text, peer_of, peer_at, peers_of};
-ghost use Rattle.key_model.specs.Reading.{ReadingGives, each};
+ghost use Rattle.book_keys.specs.Columns.{peer_of_text, peer_of, peer_at, peers_of};
+ghost use Rattle.book_keys.specs.Reading.{ReadingGives, each};
 
 use crate::columns::is_text;
 use ao_base::{Address, read_address};
-use key_model::{Column, TableFault};
+use book_keys::{Column, TableFault};
 use std::alloc::Global;
 use toml::Value;
 
@@ -53,7 +53,7 @@ fn each_peer(
     Ok(peers)
 }
 
-#[tactic(auto, unfolding(key_model::specs::Columns::peers_of), using(crate::proofs::ItemLaws::count_view))]
+#[tactic(auto, unfolding(book_keys::specs::Columns::peers_of), using(crate::proofs::ItemLaws::count_view))]
 pub(crate) fn peers_at(
     alloc: Global,
     node: u8,

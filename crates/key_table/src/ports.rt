@@ -3,11 +3,11 @@ ghost use Rattle.std.specs.Prelude.{◌≡◌, codes, option_and_then, Some};
 ghost use Rattle.toml.specs.Data.{get_member};
 ghost use Rattle.toml.specs.View.{view, table_view};
 ghost use Rattle.ao_base.specs.Decimals.{decimal_of};
-ghost use Rattle.key_model.specs.Columns.{up_to, port_of, ports_of};
+ghost use Rattle.book_keys.specs.Columns.{up_to, port_of, ports_of};
 
 use crate::columns::member_at;
 use ao_base::read_decimal;
-use key_model::{Column, Ports, TableFault};
+use book_keys::{Column, Ports, TableFault};
 use toml::{Table, Value};
 
 fn read_port(text: &str) -> Option<u16>
@@ -46,7 +46,7 @@ fn port_at(table: &Table, key: &str) -> Option<Option<u16>>
     }
 }
 
-#[tactic(auto, unfolding(key_model::specs::Columns::ports_of))]
+#[tactic(auto, unfolding(book_keys::specs::Columns::ports_of))]
 pub(crate) fn ports_at(node: u8, row: u8, table: &Table) -> Result<Ports, TableFault>
     ensures { result ≡ ports_of node row (table_view table.now) }
 {

@@ -2,13 +2,13 @@
 ghost use Rattle.std.specs.Prelude.{◌≡◌, ◌≤◌, codes, length, option_map, option_and_then, IfOk, Some, None};
 ghost use Rattle.toml.specs.Data.{get_member};
 ghost use Rattle.toml.specs.View.{table_view};
-ghost use Rattle.key_model.specs.Columns.{text_of, is_absent_or, options_flag_of, protocol_of, kdf_of, algorithm_at, master_of};
-ghost use Rattle.key_model.specs.Reading.{ReadingGives};
+ghost use Rattle.book_keys.specs.Columns.{text_of, is_absent_or, options_flag_of, protocol_of, kdf_of, algorithm_at, master_of};
+ghost use Rattle.book_keys.specs.Reading.{ReadingGives};
 
 use crate::columns::{is_text, is_word_at, member_at, must, text_at};
 use crate::master_key::MasterKey;
 use ao_base::{Algorithm, HexProblem, read_hex};
-use key_model::{Column, TableFault};
+use book_keys::{Column, TableFault};
 use std::alloc::Global;
 use toml::Table;
 
@@ -45,7 +45,7 @@ fn options_at(table: &Table) -> Option<bool>
     }
 }
 
-#[tactic(auto, unfolding(key_model::specs::Columns::protocol_of))]
+#[tactic(auto, unfolding(book_keys::specs::Columns::protocol_of))]
 pub(crate) fn protocol_at(node: u8, row: u8, table: &Table) -> Result<bool, TableFault>
     ensures { result ≡ protocol_of node row (table_view table.now) }
 {
@@ -83,7 +83,7 @@ fn kdf_at(table: &Table) -> Option<Algorithm>
     }
 }
 
-#[tactic(auto, unfolding(key_model::specs::Columns::algorithm_at))]
+#[tactic(auto, unfolding(book_keys::specs::Columns::algorithm_at))]
 pub(crate) fn algorithm_at(node: u8, row: u8, table: &Table) -> Result<Algorithm, TableFault>
     ensures { result ≡ algorithm_at node row (table_view table.now) }
 {
@@ -95,7 +95,7 @@ pub(crate) fn algorithm_at(node: u8, row: u8, table: &Table) -> Result<Algorithm
     Ok(kdf)
 }
 
-#[tactic(auto, unfolding(key_model::specs::Columns::master_of))]
+#[tactic(auto, unfolding(book_keys::specs::Columns::master_of))]
 pub(crate) fn master_at(
     alloc: Global,
     node: u8,

@@ -1,12 +1,12 @@
 //! The table of a node, and its look-ups.
 ghost use Rattle.std.specs.Prelude.{◌≡◌, ◌≤◌, ◌-◌, [], length, slice_index_or, option_map, is_some};
 ghost use Rattle.std.specs.List.{AllByRecursion};
-ghost use Rattle.key_model.specs.Rows.{Row as Entry, sendable};
-ghost use Rattle.key_model.specs.Lifetimes.{greatest_time};
-ghost use Rattle.key_model.specs.Coordination.{numbered};
-ghost use Rattle.key_model.specs.Lookups.{number_of, accept_of};
-ghost use Rattle.key_model.specs.Tables.{adding, withdrawn, row_of_new, Added, Withdrawn};
-ghost use Rattle.key_model.specs.Choices.{latest, lowest, later, send_row, next_row, named_send, has_id};
+ghost use Rattle.book_keys.specs.Rows.{Row as Entry, sendable};
+ghost use Rattle.book_keys.specs.Lifetimes.{greatest_time};
+ghost use Rattle.book_keys.specs.Coordination.{numbered};
+ghost use Rattle.book_keys.specs.Lookups.{number_of, accept_of};
+ghost use Rattle.book_keys.specs.Tables.{adding, withdrawn, row_of_new, Added, Withdrawn};
+ghost use Rattle.book_keys.specs.Choices.{latest, lowest, later, send_row, next_row, named_send, has_id};
 ghost use Rattle.key_table.specs.Fitting.{FitsColumns};
 ghost use Rattle.key_table.specs.Wants.{usable, usable_as, wanted_start};
 ghost use Rattle.key_table.specs.Seen.{seen};
@@ -15,7 +15,7 @@ use crate::new_row::{disable, overlapping, row_of_new};
 use crate::row::{Row, see_columns};
 use crate::want::Want;
 use ao_base::{Address, Pair};
-use key_model::{Accept, AddRefusal, NewRow, NoRow};
+use book_keys::{Accept, AddRefusal, NewRow, NoRow};
 use std::alloc::Global;
 use std::marker::Model;
 
@@ -30,7 +30,7 @@ pub struct Table {
 impl Model for Table {
     ghost use Rattle.std.specs.Prelude.{◌≤◌, length};
     ghost use Rattle.std.specs.List.{AllByRecursion};
-    ghost use Rattle.key_model.specs.Rows.{Table as Sheet};
+    ghost use Rattle.book_keys.specs.Rows.{Table as Sheet};
     ghost use Rattle.key_table.specs.Fitting.{FitsColumns};
 
     ghost Value = { Sheet };
@@ -170,7 +170,7 @@ impl Table {
     /// exactly where there are 64 rows; else `Overlap` exactly where a row overlaps the new one, with
     /// the least such. After a refusal the table is as it was; other rows stay. No lifetime ends before
     /// it begins or after `LATEST`.
-    #[tactic(auto, unfolding(key_model::specs::Tables::adding))]
+    #[tactic(auto, unfolding(book_keys::specs::Tables::adding))]
     pub fn add(&mut self, alloc: Global, row: NewRow) -> Result<u8, AddRefusal>
         requires sending { row.sending.first ≤ row.sending.last }
         requires sent { row.sending.last ≤ greatest_time }

@@ -1,10 +1,10 @@
 //! The tables of all nodes.
 ghost use Rattle.std.specs.Prelude.{◌≡◌, ◌≤◌, ◌-◌, ◌∷◌, [], length, slice_index_or, option_map, IfOk, false};
 ghost use Rattle.std.specs.List.{find};
-ghost use Rattle.segment_model.specs.Sockets.{same_address};
-ghost use Rattle.key_model.specs.Rows.{Table as Sheet, has_address};
-ghost use Rattle.key_model.specs.MasterKeys.{IsMasterKey};
-ghost use Rattle.key_model.specs.Shared.{shared_row, shared_tables};
+ghost use Rattle.book_segments.specs.Sockets.{same_address};
+ghost use Rattle.book_keys.specs.Rows.{Table as Sheet, has_address};
+ghost use Rattle.book_keys.specs.MasterKeys.{IsMasterKey};
+ghost use Rattle.book_keys.specs.Shared.{shared_row, shared_tables};
 ghost use Rattle.std.specs.Borrow.{sem};
 ghost use Rattle.std.specs.Option.{option_copied_mut};
 ghost use Rattle.std.specs.Prelude.{slice_get};
@@ -14,7 +14,7 @@ use crate::master_key::MasterKey;
 use crate::row::{Row, is_same_address, see_columns};
 use crate::table::Table;
 use ao_base::{Address, Algorithm};
-use key_model::{Direction, LATEST, Lifetime};
+use book_keys::{Direction, LATEST, Lifetime};
 use std::alloc::{AllocError, Global};
 use std::marker::Model;
 
@@ -26,7 +26,7 @@ pub struct Tables {
 
 impl Model for Tables {
     ghost use Rattle.std.specs.Prelude.{◌≤◌, length, List};
-    ghost use Rattle.key_model.specs.Rows.{Table as Sheet};
+    ghost use Rattle.book_keys.specs.Rows.{Table as Sheet};
 
     ghost Value = { List Sheet };
 

@@ -2,14 +2,14 @@
 ghost use Rattle.std.specs.Prelude.{◌≡◌, codes, option_and_then, Some};
 ghost use Rattle.toml.specs.Data.{get_member};
 ghost use Rattle.toml.specs.View.{view, table_view};
-ghost use Rattle.key_model.specs.Columns.{text_of, direction_of, time_or, lifetime_of, terms_of};
+ghost use Rattle.book_keys.specs.Columns.{text_of, direction_of, time_or, lifetime_of, terms_of};
 
 use crate::columns::{is_text, member_at, text_at};
 use crate::time::read_time;
-use key_model::{Column, Direction, LATEST, Lifetime, TableFault, Terms};
+use book_keys::{Column, Direction, LATEST, Lifetime, TableFault, Terms};
 use toml::{Table, Value};
 
-#[tactic(auto, unfolding(key_model::specs::Columns::direction_of))]
+#[tactic(auto, unfolding(book_keys::specs::Columns::direction_of))]
 fn read_direction(text: &str) -> Option<Direction>
     ensures { result ≡ direction_of text.now }
 {
@@ -53,7 +53,7 @@ fn time_at(table: &Table, key: &str, absent: u64) -> Option<u64>
     }
 }
 
-#[tactic(auto, unfolding(key_model::specs::Columns::lifetime_of))]
+#[tactic(auto, unfolding(book_keys::specs::Columns::lifetime_of))]
 fn lifetime_at(
     node: u8,
     row: u8,
@@ -73,7 +73,7 @@ fn lifetime_at(
     Ok(Lifetime { first, last })
 }
 
-#[tactic(auto, unfolding(key_model::specs::Columns::terms_of))]
+#[tactic(auto, unfolding(book_keys::specs::Columns::terms_of))]
 pub(crate) fn terms_at(node: u8, row: u8, table: &Table) -> Result<Terms, TableFault>
     ensures { result ≡ terms_of node row (table_view table.now) }
 {

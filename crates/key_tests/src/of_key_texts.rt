@@ -1,9 +1,9 @@
 //! What is written of a key file of two nodes.
 use ao_base::LineKind;
-use format_model::Plan;
+use book_cmd_keys::Plan;
+use book_lines::TextFault;
+use cmd_keys::{keys_text, lint_lines};
 use key_table::{TableFault, Tables, read_tables};
-use key_texts::{keys_text, lint_lines};
-use line_model::TextFault;
 use std::alloc::Global;
 use std::test::Fail;
 

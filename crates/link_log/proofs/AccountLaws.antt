@@ -5,16 +5,16 @@ use Rattle.ao_base.specs.declared.algorithm.Algorithm.{Algorithm}
 use Rattle.ao_base.specs.declared.algorithm.Algorithm.TheVariants.{HmacSha1, AesCmac, HmacSha256}
 use Rattle.ao_base.specs.declared.end.End.{End}
 use Rattle.ao_base.specs.declared.end.End.TheVariants.{A, B}
-use Rattle.segment_model.specs.Bytes.{same_bytes}
-use Rattle.segment_model.specs.Segments.{Segment, Read, reading}
-use Rattle.segment_model.specs.Spelling.{Fits}
-use Rattle.segment_model.proofs.Fields.{header_law, same_bytes_tells}
-use Rattle.mac_model.specs.declared.context.Context.{Context}
-use Rattle.mac_model.specs.Contexts.{bytes_of}
-use Rattle.mac_model.specs.Keys.{same_algorithm}
-use Rattle.key_model.specs.Rows.{Row}
-use Rattle.endpoint_model.specs.Verdicts.{Key, Finding, key_of, same_key}
-use Rattle.link_model.specs.Worlds.{Made, accounts_for, other, same_end}
+use Rattle.book_segments.specs.Bytes.{same_bytes}
+use Rattle.book_segments.specs.Segments.{Segment, Read, reading}
+use Rattle.book_segments.specs.Spelling.{Fits}
+use Rattle.book_segments.proofs.Fields.{header_law, same_bytes_tells}
+use Rattle.book_macs.specs.declared.context.Context.{Context}
+use Rattle.book_macs.specs.Contexts.{bytes_of}
+use Rattle.book_macs.specs.Keys.{same_algorithm}
+use Rattle.book_keys.specs.Rows.{Row}
+use Rattle.book_endpoint.specs.Verdicts.{Key, Finding, key_of, same_key}
+use Rattle.book_link.specs.Worlds.{Made, accounts_for, other, same_end}
 use Rattle.ao_mac.specs.Macs.{IsSameInput}
 use Rattle.ao_mac.proofs.InputLaws.{never, to_parts}
 use Rattle.link_log.specs.declared.entry.Entry.{Entry}

@@ -2,11 +2,11 @@
 use Rattle.std.proofs.Common.{◌≡◌, ◌↔◌, ℕ, ◌^◌, ◌<◌, ◌≤◌, ◌==◌, IsTrue, true, ◌&&◌, List, [], ◌++◌, length, take, drop, refl, sym, ap, ◌∙◌, arith, append_assoc, length-append, length-take}
 use Rattle.std.proofs.lemmas.Bool.Decides.{nat_tests}
 use Rattle.std.proofs.lemmas.List.{take-append-drop}
-use Rattle.segment_model.specs.Bytes.{put2, put4}
-use Rattle.segment_model.specs.Sockets.{octets}
-use Rattle.segment_model.proofs.Fields.{and_tells, append_split, eqb_is, put2_law, put4_law}
-use Rattle.mac_model.specs.declared.context.Context.{Context}
-use Rattle.mac_model.specs.Contexts.{bytes_of, context}
+use Rattle.book_segments.specs.Bytes.{put2, put4}
+use Rattle.book_segments.specs.Sockets.{octets}
+use Rattle.book_segments.proofs.Fields.{and_tells, append_split, eqb_is, put2_law, put4_law}
+use Rattle.book_macs.specs.declared.context.Context.{Context}
+use Rattle.book_macs.specs.Contexts.{bytes_of, context}
 use Rattle.link_log.specs.Contexts.{numbers_of}
 
 -- ---- pieces

@@ -5,13 +5,13 @@ use Rattle.std.specs.Slice.{IsItemAt}
 use Rattle.std.proofs.lemmas.Option.{slice_get_read}
 use Rattle.ao_base.specs.declared.end.End.{End}
 use Rattle.ao_base.specs.declared.algorithm.Algorithm.{Algorithm}
-use Rattle.segment_model.specs.Segments.{Segment, Read, reading}
-use Rattle.segment_model.specs.Spelling.{AreBytes, Fits}
-use Rattle.segment_model.proofs.SpellLaws.{read_stands}
-use Rattle.mac_model.specs.declared.context.Context.{Context}
-use Rattle.key_model.specs.Rows.{Row}
-use Rattle.endpoint_model.specs.Verdicts.{Finding}
-use Rattle.link_model.specs.Worlds.{Made, Happening, Making, Coming, accounts_for, was_made, segments, segment_named}
+use Rattle.book_segments.specs.Segments.{Segment, Read, reading}
+use Rattle.book_segments.specs.Spelling.{AreBytes, Fits}
+use Rattle.book_segments.proofs.SpellLaws.{read_stands}
+use Rattle.book_macs.specs.declared.context.Context.{Context}
+use Rattle.book_keys.specs.Rows.{Row}
+use Rattle.book_endpoint.specs.Verdicts.{Finding}
+use Rattle.book_link.specs.Worlds.{Made, Happening, Making, Coming, accounts_for, was_made, segments, segment_named}
 use Rattle.link_log.specs.declared.kept.Kept.{Kept}
 use Rattle.link_log.specs.Entries.{IsEntry, IsMade, PassesUnder}
 use Rattle.link_log.specs.Logs.{Keeps, MadeBy}

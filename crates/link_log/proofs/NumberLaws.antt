@@ -3,7 +3,7 @@ use Rattle.std.proofs.Common.{◌≡◌, ◌≢◌, ◌⊎◌, inl, inr, ℕ, ze
 use Rattle.std.proofs.lemmas.Bool.{cases_lt}
 use Rattle.std.proofs.lemmas.Bool.Decides.{nat_tests}
 use Rattle.std.specs.HashMap.{get, HashMap, Updates}
-use Rattle.segment_model.proofs.Fields.{eqb_is, some_is}
+use Rattle.book_segments.proofs.Fields.{eqb_is, some_is}
 use Rattle.link_log.specs.declared.kept.Kept.{Kept}
 use Rattle.link_log.specs.Numbers.{past, IsLast, AreLinked}
 

@@ -1,7 +1,7 @@
 -- The numbers of contexts.
 use Rattle.std.specs.Prelude.{ℕ, List, []}
-use Rattle.segment_model.specs.Bytes.{put2, put4}
-use Rattle.mac_model.specs.declared.context.Context.{Context}
+use Rattle.book_segments.specs.Bytes.{put2, put4}
+use Rattle.book_macs.specs.declared.context.Context.{Context}
 
 -- the bytes of a context behind its addresses: both ports and both initial sequence numbers (RFC 5925, section 5.2)
 abbrev pub numbers_of : Context → List ℕ

@@ -1,17 +1,17 @@
 -- What an entry keeps of a segment that was made, and what is told of one that passed.
 use Rattle.std.specs.Prelude.{◌≡◌, ℕ, ◌%◌, ◌^◌, ◌<◌, List, Option, Some, None}
 use Rattle.ao_base.specs.declared.end.End.{End}
-use Rattle.segment_model.specs.Bytes.{ring}
-use Rattle.segment_model.specs.Options.{Ao, One, find_ao}
-use Rattle.segment_model.specs.Segments.{Segment, Read, reading}
-use Rattle.segment_model.specs.Spelling.{Fits}
+use Rattle.book_segments.specs.Bytes.{ring}
+use Rattle.book_segments.specs.Options.{Ao, One, find_ao}
+use Rattle.book_segments.specs.Segments.{Segment, Read, reading}
+use Rattle.book_segments.specs.Spelling.{Fits}
 use Rattle.tcp_segment.specs.Sums.{HasPlainHeader}
-use Rattle.mac_model.specs.declared.context.Context.{Context}
-use Rattle.mac_model.specs.Contexts.{bytes_of}
-use Rattle.mac_model.specs.MacInput.{mac_input}
-use Rattle.key_model.specs.Rows.{Row}
-use Rattle.endpoint_model.specs.Verdicts.{Key, Finding, key_of}
-use Rattle.link_model.specs.Worlds.{Made}
+use Rattle.book_macs.specs.declared.context.Context.{Context}
+use Rattle.book_macs.specs.Contexts.{bytes_of}
+use Rattle.book_macs.specs.MacInput.{mac_input}
+use Rattle.book_keys.specs.Rows.{Row}
+use Rattle.book_endpoint.specs.Verdicts.{Key, Finding, key_of}
+use Rattle.book_link.specs.Worlds.{Made}
 use Rattle.link_log.specs.declared.entry.Entry.{Entry}
 use Rattle.link_log.specs.declared.entry.Entrance.{Entrance}
 

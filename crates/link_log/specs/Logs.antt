@@ -3,7 +3,7 @@ use Rattle.std.specs.Prelude.{◌≡◌, ℕ, suc, ◌<◌, ◌≤◌, List, [],
 use Rattle.std.specs.HashMap.{spare}
 use Rattle.std.specs.Option.{IsSomeAnd}
 use Rattle.ao_base.specs.declared.end.End.{End}
-use Rattle.link_model.specs.Worlds.{Made, Happening, Making, Coming, forgeries}
+use Rattle.book_link.specs.Worlds.{Made, Happening, Making, Coming, forgeries}
 use Rattle.link_log.specs.declared.kept.Kept.{Kept}
 use Rattle.link_log.specs.declared.log.Log.{Log}
 use Rattle.link_log.specs.Entries.{IsEntry}

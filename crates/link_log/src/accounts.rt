@@ -1,13 +1,13 @@
 //! Whether an entry accounts for a segment that passed.
 ghost use Rattle.std.specs.Prelude.{◌≡◌, ◌↔◌, ◌+◌, ◌*◌, ◌/◌, ◌^◌, ◌<◌, IsTrue};
-ghost use Rattle.segment_model.specs.Spelling.{Fits};
-ghost use Rattle.segment_model.specs.Segments.{Read, reading};
-ghost use Rattle.endpoint_model.specs.Verdicts.{Finding};
-ghost use Rattle.key_model.specs.Rows.{Row};
-ghost use Rattle.link_model.specs.Worlds.{Made, accounts_for};
+ghost use Rattle.book_segments.specs.Spelling.{Fits};
+ghost use Rattle.book_segments.specs.Segments.{Read, reading};
+ghost use Rattle.book_endpoint.specs.Verdicts.{Finding};
+ghost use Rattle.book_keys.specs.Rows.{Row};
+ghost use Rattle.book_link.specs.Worlds.{Made, accounts_for};
 ghost use Rattle.ao_mac.specs.Macs.{HasAo, IsSameInput};
 ghost use Rattle.link_log.specs.Entries.{IsEntry, PassesUnder, entry_key};
-ghost use Rattle.endpoint_model.specs.Verdicts.{key_of};
+ghost use Rattle.book_endpoint.specs.Verdicts.{key_of};
 
 use crate::context::is_same_context;
 use crate::entry::{Entrance, Entry};

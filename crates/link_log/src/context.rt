@@ -1,11 +1,11 @@
 //! Whether two contexts are the same bytes.
 ghost use Rattle.std.specs.Prelude.{◌≡◌, ◌↔◌, ◌++◌, ◌≤◌, IsTrue, length};
-ghost use Rattle.segment_model.specs.Sockets.{octets};
-ghost use Rattle.mac_model.specs.Contexts.{bytes_of};
+ghost use Rattle.book_segments.specs.Sockets.{octets};
+ghost use Rattle.book_macs.specs.Contexts.{bytes_of};
 ghost use Rattle.link_log.specs.Contexts.{numbers_of};
 
 use ao_base::Address;
-use mac_model::Context;
+use book_macs::Context;
 
 /// The bytes of an address in the order in which they are sent.
 fn octets_of(address: &Address) -> &[u8]

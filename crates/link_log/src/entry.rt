@@ -1,7 +1,7 @@
 //! What a log keeps of a segment, and what it is told of one that passed.
 use ao_base::{Algorithm, Bytes, End};
+use book_macs::Context;
 use key_table::Row;
-use mac_model::Context;
 
 /// A segment that was made.
 #[derive(Drop)]

@@ -1,9 +1,9 @@
 //! Everything that was made, and how many forgeries were counted.
 ghost use Rattle.std.specs.Prelude.{◌≡◌, ◌↔◌, ◌+◌, ◌<◌, ◌≤◌, ℕ, suc, List, [], ◌∷◌, length, Option, Some, None, IsTrue, true, MatchOption, OnOk};
-ghost use Rattle.endpoint_model.specs.Verdicts.{Finding};
-ghost use Rattle.segment_model.specs.Segments.{bit_of};
-ghost use Rattle.segment_model.specs.Spelling.{AreBytes, Fits};
-ghost use Rattle.link_model.specs.Worlds.{Made, Came, Happening, Making, Coming, segment_named, segments, forged as forged_by, forgeries, was_made};
+ghost use Rattle.book_endpoint.specs.Verdicts.{Finding};
+ghost use Rattle.book_segments.specs.Segments.{bit_of};
+ghost use Rattle.book_segments.specs.Spelling.{AreBytes, Fits};
+ghost use Rattle.book_link.specs.Worlds.{Made, Came, Happening, Making, Coming, segment_named, segments, forged as forged_by, forgeries, was_made};
 ghost use Rattle.link_log.specs.Entries.{ComesAs, IsEntry, IsMade, PassesUnder};
 ghost use Rattle.link_log.specs.Numbers.{AreLinked};
 
@@ -11,8 +11,8 @@ use crate::accounts::{accounts_for, sought};
 use crate::entry::{Entrance, Entry};
 use crate::kept::Kept;
 use ao_base::{Bytes, End};
+use book_macs::Context;
 use key_table::Row;
-use mac_model::Context;
 use std::alloc::{AllocError, Global};
 use std::collections::HashMap;
 use tcp_segment::{Datagram, read_datagram};

@@ -1,8 +1,8 @@
 -- Outcomes written one after another, as a loop writes them.
 use Rattle.std.proofs.Common.{◌≡◌, ℕ, zero, suc, ◌+◌, ◌<◌, List, [], ◌∷◌, ◌++◌, length, drop, get_or, refl, sym, ap, ◌∙◌, subst, append_assoc, arith, add-one}
 use Rattle.std.proofs.lemmas.List.{append-nil}
-use Rattle.link_model.specs.Outcomes as book
-use Rattle.link_model.specs.Reports.{lines_from, outcome_line}
+use Rattle.book_link.specs.Outcomes as book
+use Rattle.book_link.specs.Reports.{lines_from, outcome_line}
 use Rattle.link_report.specs.declared.outcome.Outcome.{Outcome}
 use Rattle.link_report.specs.Outcomes.{AreShown, Shows}
 

@@ -3,10 +3,10 @@ use Rattle.std.proofs.Common.{◌≡◌, ℕ, suc, ◌+◌, List, [], ◌∷◌,
 use Rattle.std.specs.Prelude.{reverse}
 use Rattle.std.proofs.lemmas.List.{length-map, length-reverse}
 use Rattle.ao_base.specs.declared.end.End.{End}
-use Rattle.endpoint_model.specs.declared.phase.Phase.{Phase}
-use Rattle.endpoint_model.specs.States.{EndState}
-use Rattle.link_model.specs.Reports.{dropped_lines, phase_text, session_lines}
-use Rattle.link_model.specs.Worlds.{Session, Side as EndSide}
+use Rattle.book_endpoint.specs.declared.phase.Phase.{Phase}
+use Rattle.book_endpoint.specs.States.{EndState}
+use Rattle.book_link.specs.Reports.{dropped_lines, phase_text, session_lines}
+use Rattle.book_link.specs.Worlds.{Session, Side as EndSide}
 use Rattle.link_side.specs.declared.sessions.Ended.{Ended}
 use Rattle.link_side.specs.declared.sessions.Live.{Live}
 use Rattle.link_side.specs.declared.side.Side.{Side}

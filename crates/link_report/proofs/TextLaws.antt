@@ -1,6 +1,6 @@
 -- Texts put behind one another.
 use Rattle.std.proofs.Common.{◌≡◌, ℕ, List, [], ◌∷◌, ◌++◌, Result, Ok, Err, OnOk, refl, ap, ◌∙◌, append_assoc}
-use Rattle.line_model.specs.Texts.{spaced}
+use Rattle.book_lines.specs.Texts.{spaced}
 
 spaced_more : (xs ys : List (List ℕ)) → spaced xs ++ spaced ys ≡ spaced (xs ++ ys)
 spaced_more [] ys = refl

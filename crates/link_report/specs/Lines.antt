@@ -1,8 +1,8 @@
 -- The lines of sessions, by what is told of them.
 use Rattle.std.specs.Prelude.{ℕ, suc, List, [], ◌∷◌, ◌++◌, length, codes, decimal}
 use Rattle.ao_base.specs.declared.end.End.{End}
-use Rattle.line_model.specs.Texts.{end_text, line_text}
-use Rattle.link_model.specs.Reports.{number_text, shown_text}
+use Rattle.book_lines.specs.Texts.{end_text, line_text}
+use Rattle.book_link.specs.Reports.{number_text, shown_text}
 use Rattle.link_side.specs.Sides.{Facts}
 
 -- the line of a session with these facts, at this place of its end's sessions

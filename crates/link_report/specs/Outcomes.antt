@@ -1,9 +1,9 @@
 -- Which outcome of the definitions a told one shows.
 use Rattle.std.specs.Prelude.{◌≡◌, ℕ, List, [], ◌∷◌, length, ⊤}
 use Rattle.key_coordination.specs.Sendings.{told}
-use Rattle.link_model.specs.Outcomes as book
-use Rattle.link_model.specs.Worlds.{Made as BookMade}
-use Rattle.mac_model.specs.Contexts.{bytes_of}
+use Rattle.book_link.specs.Outcomes as book
+use Rattle.book_link.specs.Worlds.{Made as BookMade}
+use Rattle.book_macs.specs.Contexts.{bytes_of}
 use Rattle.tcp_endpoint.specs.declared.emission.Made.{Made}
 use Rattle.link_report.specs.declared.outcome.Outcome.{Outcome}
 use Rattle.link_report.specs.declared.outcome.Outcome.TheVariants as outcome

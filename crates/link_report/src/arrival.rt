@@ -1,11 +1,11 @@
 //! The texts of an answer to an arrival.
 ghost use Rattle.std.specs.Prelude.{◌≡◌, ◌++◌, ◌∷◌, OnOk};
-ghost use Rattle.line_model.specs.Texts.{spaced};
-ghost use Rattle.link_model.specs.Reports.{answer_texts, verdict_text};
-ghost use Rattle.segment_model.specs.Faults.{fault_text};
+ghost use Rattle.book_lines.specs.Texts.{spaced};
+ghost use Rattle.book_link.specs.Reports.{answer_texts, verdict_text};
+ghost use Rattle.book_segments.specs.Faults.{fault_text};
 
-use endpoint_model::{Arrival, Verdict};
-use segment_model::{DatagramFault, OptionFault};
+use book_endpoint::{Arrival, Verdict};
+use book_segments::{DatagramFault, OptionFault};
 use std::alloc::AllocError;
 use text_lines::{push_field, push_text};
 

@@ -1,14 +1,14 @@
 //! What an event of a link answers, and the line of it.
 ghost use Rattle.std.specs.Prelude.{◌≡◌, ◌++◌, ◌∷◌, [], ℕ, List, OnOk, codes, decimal};
 ghost use Rattle.ao_base.specs.Hexadecimal.{hex_of};
-ghost use Rattle.line_model.specs.Texts.{spaced};
-ghost use Rattle.link_model.specs.Outcomes as book;
-ghost use Rattle.link_model.specs.Reports.{end_mark, flags_text, hex_or_none, lines_from, number_text, outcome_line, outcome_texts};
+ghost use Rattle.book_lines.specs.Texts.{spaced};
+ghost use Rattle.book_link.specs.Outcomes as book;
+ghost use Rattle.book_link.specs.Reports.{end_mark, flags_text, hex_or_none, lines_from, number_text, outcome_line, outcome_texts};
 ghost use Rattle.link_report.specs.Outcomes.{AreShown, Shows};
 
 use crate::arrival::push_answer;
 use ao_base::{Bytes, push_decimal};
-use endpoint_model::Arrival;
+use book_endpoint::Arrival;
 use std::alloc::AllocError;
 use tcp_endpoint::Made;
 use text_lines::{push_bytes, push_field, push_newline, push_number, push_text};

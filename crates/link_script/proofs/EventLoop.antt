@@ -2,12 +2,12 @@
 use Rattle.std.proofs.Common.{◌≡◌, ℕ, List, [], ◌∷◌, ◌++◌, Result, Ok, Err, refl, sym, ap, ◌∙◌, append_assoc}
 use Rattle.std.proofs.lemmas.List.{append-nil}
 use Rattle.ao_base.specs.declared.line_kind.LineKind.{LineKind}
-use Rattle.line_model.specs.declared.text_fault.TextFault.{TextFault}
-use Rattle.line_model.specs.declared.text_fault.TextFault.TheVariants as fault
+use Rattle.book_lines.specs.declared.text_fault.TextFault.{TextFault}
+use Rattle.book_lines.specs.declared.text_fault.TextFault.TheVariants as fault
 use Rattle.ao_base.specs.Results.{◌>>=◌}
-use Rattle.line_model.specs.Lines.{Line}
+use Rattle.book_lines.specs.Lines.{Line}
 use Rattle.text_lines.specs.Readings.{Fails}
-use Rattle.format_model.specs.LinkFiles.{event_at, events_of}
+use Rattle.book_cmd_link.specs.LinkFiles.{event_at, events_of}
 
 -- what is read already, and then what is said
 abbrev pub after : {A : Type 0} → List A → Result (List A) TextFault → Result (List A) TextFault

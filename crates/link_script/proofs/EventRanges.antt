@@ -4,13 +4,13 @@ use Rattle.std.specs.Str.{bytes_eq}
 use Rattle.ao_base.specs.declared.end.End.{End}
 use Rattle.ao_base.specs.declared.line_kind.LineKind.{LineKind}
 use Rattle.ao_base.specs.declared.line_kind.LineKind.TheVariants.{Word}
-use Rattle.key_model.specs.Lifetimes.{greatest_time}
-use Rattle.line_model.specs.Words.{word_as, word_in, nothing_in, choice_in, end_in, algorithm_in, number_in, sized_hex_in, some_hex_in, byte_in}
+use Rattle.book_keys.specs.Lifetimes.{greatest_time}
+use Rattle.book_lines.specs.Words.{word_as, word_in, nothing_in, choice_in, end_in, algorithm_in, number_in, sized_hex_in, some_hex_in, byte_in}
 use Rattle.ao_base.specs.Results.{◌>>=◌}
-use Rattle.link_model.specs.declared.event.Event.{Event}
-use Rattle.link_model.specs.declared.event.Event.TheVariants as event
-use Rattle.format_model.specs.LinkEvents.{greatest_isn, most_segments, event_of_end, event_of_number, start_of, give_of, fill_of, inject_of, alter_of, ways_of}
-use Rattle.format_model.specs.LinkEvents.{add_of, dump_of, event_named, link_event_of}
+use Rattle.book_link.specs.declared.event.Event.{Event}
+use Rattle.book_link.specs.declared.event.Event.TheVariants as event
+use Rattle.book_cmd_link.specs.LinkEvents.{greatest_isn, most_segments, event_of_end, event_of_number, start_of, give_of, fill_of, inject_of, alter_of, ways_of}
+use Rattle.book_cmd_link.specs.LinkEvents.{add_of, dump_of, event_named, link_event_of}
 use Rattle.link_script.specs.Scripts.{IsEvent, IsWithin}
 use Rattle.link_script.proofs.WordRanges.{bind_ok, number_ok, hex_ok, some_hex_ok, byte_ok}
 

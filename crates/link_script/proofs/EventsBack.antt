@@ -3,14 +3,14 @@ use Rattle.std.proofs.Common.{◌≡◌, ℕ, ◌≤◌, ◌^◌, ◌<◌, Bool,
 use Rattle.ao_base.specs.declared.end.End.{End}
 use Rattle.ao_base.specs.Algorithms.{name_of}
 use Rattle.ao_base.specs.Hexadecimal.{hex_of}
-use Rattle.key_model.specs.Lifetimes.{greatest_time}
-use Rattle.line_model.specs.Texts.{end_text}
-use Rattle.line_model.specs.Words.{word_in, nothing_in}
-use Rattle.link_model.specs.declared.event.RowLine.{RowLine}
-use Rattle.link_model.specs.declared.event.Event.{Event}
-use Rattle.link_model.specs.declared.event.Event.TheVariants as event
-use Rattle.format_model.specs.LinkEvents.{greatest_isn, most_segments, event_of_end, event_of_number, link_event_of, event_named, start_of, give_of, fill_of, inject_of}
-use Rattle.format_model.specs.LinkEvents.{alter_of, add_of, dump_of}
+use Rattle.book_keys.specs.Lifetimes.{greatest_time}
+use Rattle.book_lines.specs.Texts.{end_text}
+use Rattle.book_lines.specs.Words.{word_in, nothing_in}
+use Rattle.book_link.specs.declared.event.RowLine.{RowLine}
+use Rattle.book_link.specs.declared.event.Event.{Event}
+use Rattle.book_link.specs.declared.event.Event.TheVariants as event
+use Rattle.book_cmd_link.specs.LinkEvents.{greatest_isn, most_segments, event_of_end, event_of_number, link_event_of, event_named, start_of, give_of, fill_of, inject_of}
+use Rattle.book_cmd_link.specs.LinkEvents.{alter_of, add_of, dump_of}
 use Rattle.link_script.specs.Printed.{direction_text, event_words, fixing_text, flag_text, row_texts, use_texts}
 use Rattle.link_script.specs.Scripts.{IsEvent, IsRow, IsWithin}
 use Rattle.link_script.proofs.WordsBack.{end_back, algorithm_back, number_back, within_back, hex_back, some_hex_back, byte_back, fixing_back, flag_back}

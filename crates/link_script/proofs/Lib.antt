@@ -12,3 +12,4 @@ pub mod EventRanges
 pub mod ScriptRanges
 pub mod TimedWords
 pub mod TimedRanges
+pub mod Counts

@@ -3,9 +3,9 @@ use Rattle.std.proofs.Common.{◌≡◌, ℕ, ◌+◌, true, List, [], ◌∷◌
 use Rattle.std.proofs.lemmas.List.{append-nil, length-map}
 use Rattle.ao_base.specs.Lines.{lines_of}
 use Rattle.ao_base.proofs.LineLaws.{spaced, lines_of-line, words_of-spaced}
-use Rattle.line_model.specs.Lines.{Line, says_something, saying_from}
-use Rattle.line_model.specs.Texts.{line_text}
-use Rattle.line_model.specs.Texts as texts
+use Rattle.book_lines.specs.Lines.{Line, says_something, saying_from}
+use Rattle.book_lines.specs.Texts.{line_text}
+use Rattle.book_lines.specs.Texts as texts
 use Rattle.link_script.specs.Printed.{lines_text}
 use Rattle.link_script.proofs.PlainWords.{AreWords, all_words, no_newline}
 

@@ -7,16 +7,16 @@ use Rattle.ao_base.specs.declared.address.Socket.{Socket}
 use Rattle.ao_base.specs.Lines.{lines_of}
 use Rattle.ao_base.specs.Algorithms.{name_of}
 use Rattle.ao_base.specs.Hexadecimal.{hex_of}
-use Rattle.line_model.specs.declared.text_fault.TextFault.{TextFault}
-use Rattle.line_model.specs.Words.{word_in, nothing_in, literal_in, socket_in}
+use Rattle.book_lines.specs.declared.text_fault.TextFault.{TextFault}
+use Rattle.book_lines.specs.Words.{word_in, nothing_in, literal_in, socket_in}
 use Rattle.ao_base.specs.Results.{◌>>=◌}
-use Rattle.link_model.specs.declared.event.Event.{Event}
-use Rattle.link_model.specs.declared.event.Event.TheVariants as event
-use Rattle.format_model.specs.declared.script.SharedKey.{SharedKey}
-use Rattle.format_model.specs.declared.script.Script.{Script}
-use Rattle.format_model.specs.LinkEvents.{link_event_of}
-use Rattle.format_model.specs.LinkFiles.{Left, are_two_of_a_family, event_at, events_of, link_head_in, is_shared, key_in, line_in, peer_socket_of, script_in, script_of}
-use Rattle.format_model.specs.LinkFiles.{shared_key_of, socket_of, title_of}
+use Rattle.book_link.specs.declared.event.Event.{Event}
+use Rattle.book_link.specs.declared.event.Event.TheVariants as event
+use Rattle.book_cmd_link.specs.declared.script.SharedKey.{SharedKey}
+use Rattle.book_cmd_link.specs.declared.script.Script.{Script}
+use Rattle.book_cmd_link.specs.LinkEvents.{link_event_of}
+use Rattle.book_cmd_link.specs.LinkFiles.{Left, are_two_of_a_family, event_at, events_of, link_head_in, is_shared, key_in, line_in, peer_socket_of, script_in, script_of}
+use Rattle.book_cmd_link.specs.LinkFiles.{shared_key_of, socket_of, title_of}
 use Rattle.link_script.specs.Printed.{event_words, title_words, socket_words, key_lines, script_lines, lines_text, text_of}
 use Rattle.link_script.specs.Scripts.{IsEvent, IsKey, IsScript, IsSocket}
 use Rattle.link_script.proofs.LinesBack.{numbered_from, lines_of-printed, saying_from-printed, length-lines_of-printed}

@@ -8,17 +8,17 @@ use Rattle.ao_base.specs.declared.address.Socket.{Socket}
 use Rattle.ao_base.specs.declared.line_kind.LineKind.{LineKind}
 use Rattle.ao_base.specs.declared.line_kind.LineKind.TheVariants as kind
 use Rattle.ao_base.specs.Lines.{lines_of}
-use Rattle.line_model.specs.declared.text_fault.TextFault.{TextFault}
-use Rattle.line_model.specs.declared.text_fault.TextFault.TheVariants as fault
-use Rattle.line_model.specs.Lines.{Line, saying_from}
-use Rattle.line_model.specs.Said.{numbered}
-use Rattle.line_model.specs.Words.{Taken, address_in, algorithm_in, sized_hex_in, literal_in, nothing_in, number_in, socket_in}
-use Rattle.link_model.specs.declared.event.Event.{Event}
-use Rattle.format_model.specs.declared.script.SharedKey.{SharedKey}
-use Rattle.format_model.specs.declared.script.Script.{Script}
-use Rattle.format_model.specs.LinkEvents.{link_event_of}
-use Rattle.format_model.specs.LinkFiles.{Head, Left, are_two_of_a_family, at_line, event_at, events_of, link_head_in, is_shared, key_in, line_in, peer_socket_of}
-use Rattle.format_model.specs.LinkFiles.{script_in, script_of, shared_key_of, socket_of, title_of}
+use Rattle.book_lines.specs.declared.text_fault.TextFault.{TextFault}
+use Rattle.book_lines.specs.declared.text_fault.TextFault.TheVariants as fault
+use Rattle.book_lines.specs.Lines.{Line, saying_from}
+use Rattle.book_lines.specs.Said.{numbered}
+use Rattle.book_lines.specs.Words.{Taken, address_in, algorithm_in, sized_hex_in, literal_in, nothing_in, number_in, socket_in}
+use Rattle.book_link.specs.declared.event.Event.{Event}
+use Rattle.book_cmd_link.specs.declared.script.SharedKey.{SharedKey}
+use Rattle.book_cmd_link.specs.declared.script.Script.{Script}
+use Rattle.book_cmd_link.specs.LinkEvents.{link_event_of}
+use Rattle.book_cmd_link.specs.LinkFiles.{Head, Left, are_two_of_a_family, at_line, event_at, events_of, link_head_in, is_shared, key_in, line_in, peer_socket_of}
+use Rattle.book_cmd_link.specs.LinkFiles.{script_in, script_of, shared_key_of, socket_of, title_of}
 use Rattle.text_lines.proofs.SaidLaws.{saying_length}
 use Rattle.link_script.specs.Printed.{event_words, key_lines, script_lines}
 use Rattle.link_script.specs.Scripts.{IsEvent, IsKey, IsScript, IsSocket}

@@ -1,9 +1,9 @@
 -- Lines printed one after another.
 use Rattle.std.proofs.Common.{◌≡◌, ℕ, ◌+◌, ◌<◌, List, [], ◌∷◌, ◌++◌, length, map, take, get_or, refl, sym, ap, ◌∙◌, append_assoc}
 use Rattle.std.proofs.lemmas.List.{take_more, map_push, append-nil}
-use Rattle.link_model.specs.declared.event.Event.{Event}
-use Rattle.format_model.specs.declared.script.Script.{Script}
-use Rattle.line_model.specs.Texts.{line_text}
+use Rattle.book_link.specs.declared.event.Event.{Event}
+use Rattle.book_cmd_link.specs.declared.script.Script.{Script}
+use Rattle.book_lines.specs.Texts.{line_text}
 use Rattle.link_script.specs.Printed.{event_words, lines_text, script_lines, title_words, socket_words, key_lines, text_of}
 use Rattle.std.specs.Prelude.{codes}
 

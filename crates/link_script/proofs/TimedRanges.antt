@@ -6,18 +6,18 @@ use Rattle.std.proofs.lemmas.Bool.{ltb-false}
 use Rattle.ao_base.specs.declared.line_kind.LineKind.{LineKind}
 use Rattle.ao_base.specs.declared.line_kind.LineKind.TheVariants as kind
 use Rattle.ao_base.specs.Lines.{lines_of}
-use Rattle.line_model.specs.declared.text_fault.TextFault.{TextFault}
-use Rattle.line_model.specs.declared.text_fault.TextFault.TheVariants as fault
-use Rattle.line_model.specs.Lines.{Line, saying_from}
-use Rattle.line_model.specs.Said.{numbered}
-use Rattle.line_model.specs.Words.{end_in, nothing_in, number_in, word_in}
+use Rattle.book_lines.specs.declared.text_fault.TextFault.{TextFault}
+use Rattle.book_lines.specs.declared.text_fault.TextFault.TheVariants as fault
+use Rattle.book_lines.specs.Lines.{Line, saying_from}
+use Rattle.book_lines.specs.Said.{numbered}
+use Rattle.book_lines.specs.Words.{end_in, nothing_in, number_in, word_in}
 use Rattle.ao_base.specs.Results.{◌>>=◌}
-use Rattle.format_model.specs.declared.timed.TimedEvent.{TimedEvent}
-use Rattle.format_model.specs.declared.timed.TimedEvent.TheVariants.{Plain, Wait}
-use Rattle.format_model.specs.declared.timed.TimedScript.{TimedScript}
-use Rattle.format_model.specs.LinkEvents.{event_named, link_event_of}
-use Rattle.format_model.specs.LinkFiles.{event_at, events_of, link_head_in, is_shared}
-use Rattle.format_model.specs.TimedRuns.{plain_named, timed_event_of, timed_script_in, timed_script_of, wait_of}
+use Rattle.book_cmd_timed.specs.declared.timed.TimedEvent.{TimedEvent}
+use Rattle.book_cmd_timed.specs.declared.timed.TimedEvent.TheVariants.{Plain, Wait}
+use Rattle.book_cmd_timed.specs.declared.timed.TimedScript.{TimedScript}
+use Rattle.book_cmd_link.specs.LinkEvents.{event_named, link_event_of}
+use Rattle.book_cmd_link.specs.LinkFiles.{event_at, events_of, link_head_in, is_shared}
+use Rattle.book_cmd_timed.specs.TimedRuns.{plain_named, timed_event_of, timed_script_in, timed_script_of, wait_of}
 use Rattle.text_lines.proofs.SaidLaws.{saying_length}
 use Rattle.link_script.specs.Timed.{IsTimedEvent, IsTimedScript}
 use Rattle.link_script.proofs.WordRanges.{bind_ok, number_ok}

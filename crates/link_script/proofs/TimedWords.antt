@@ -3,16 +3,16 @@ use Rattle.std.proofs.Common.{◌≡◌, ℕ, cond, Bool, true, false, List, [],
 use Rattle.std.specs.Str.{bytes_eq}
 use Rattle.ao_base.specs.declared.line_kind.LineKind.{LineKind}
 use Rattle.ao_base.specs.declared.line_kind.LineKind.TheVariants.{Word}
-use Rattle.line_model.specs.Words.{Taken, literal_in, word_in}
+use Rattle.book_lines.specs.Words.{Taken, literal_in, word_in}
 use Rattle.ao_base.specs.Results.{◌>>=◌, or_fault}
 use Rattle.text_lines.specs.Readings.{Tells}
 use Rattle.text_lines.specs.declared.refusal.Refusal.{Refusal}
 use Rattle.text_lines.specs.declared.refusal.Refusal.TheVariants as refusal
-use Rattle.link_model.specs.declared.event.Event.{Event}
-use Rattle.format_model.specs.declared.timed.TimedEvent.{TimedEvent}
-use Rattle.format_model.specs.declared.timed.TimedEvent.TheVariants.{Plain}
-use Rattle.format_model.specs.LinkEvents.{link_event_of}
-use Rattle.format_model.specs.TimedRuns.{plain_named, timed_event_of, wait_of}
+use Rattle.book_link.specs.declared.event.Event.{Event}
+use Rattle.book_cmd_timed.specs.declared.timed.TimedEvent.{TimedEvent}
+use Rattle.book_cmd_timed.specs.declared.timed.TimedEvent.TheVariants.{Plain}
+use Rattle.book_cmd_link.specs.LinkEvents.{link_event_of}
+use Rattle.book_cmd_timed.specs.TimedRuns.{plain_named, timed_event_of, wait_of}
 use Rattle.link_script.specs.Timed.{plain_of}
 
 -- what a literal says by whether the word is it

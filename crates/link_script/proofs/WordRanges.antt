@@ -13,9 +13,9 @@ use Rattle.ao_base.specs.declared.line_kind.LineKind.TheVariants.{Range}
 use Rattle.ao_base.specs.Addresses.{address_of, between_dots, below_256, dotted_of, four, has_leading_zero, octet_of}
 use Rattle.ao_base.specs.Decimals.{decimal_of}
 use Rattle.ao_base.specs.Hexadecimal.{bytes_of_hex}
-use Rattle.line_model.specs.Words.{Taken, address_in, byte_in, first_of, hex_in, sized_hex_in, number_in, some_hex_in, within, word_as}
+use Rattle.book_lines.specs.Words.{Taken, address_in, byte_in, first_of, hex_in, sized_hex_in, number_in, some_hex_in, within, word_as}
 use Rattle.ao_base.specs.Results.{◌>>=◌, or_fault}
-use Rattle.line_model.specs.Words.{word_in}
+use Rattle.book_lines.specs.Words.{word_in}
 use Rattle.link_script.specs.Scripts.{AreBytes, IsAddress, IsWithin}
 
 -- the first of two readings was good, and so was the second

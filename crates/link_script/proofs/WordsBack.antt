@@ -15,10 +15,10 @@ use Rattle.ao_base.specs.Hexadecimal.{hex_of}
 use Rattle.ao_base.proofs.AddressLaws.{address_of-address_text}
 use Rattle.ao_base.proofs.DecimalLaws.{decimal_of-decimal}
 use Rattle.ao_base.proofs.HexadecimalLaws.{bytes_of_hex-hex_of}
-use Rattle.line_model.specs.Words.{word_in, word_as, choice_of, choice_in, end_of, end_in, address_in, algorithm_in, number_in, hex_in, sized_hex_in}
-use Rattle.line_model.specs.Words.{some_hex_in, byte_in}
-use Rattle.line_model.specs.Texts.{end_text}
-use Rattle.format_model.specs.LinkEvents.{ways_of}
+use Rattle.book_lines.specs.Words.{word_in, word_as, choice_of, choice_in, end_of, end_in, address_in, algorithm_in, number_in, hex_in, sized_hex_in}
+use Rattle.book_lines.specs.Words.{some_hex_in, byte_in}
+use Rattle.book_lines.specs.Texts.{end_text}
+use Rattle.book_cmd_link.specs.LinkEvents.{ways_of}
 use Rattle.link_script.specs.Printed.{choice_text, direction_text, fixing_text, flag_text}
 use Rattle.link_script.specs.Scripts.{AreBytes, IsAddress, IsWithin}
 

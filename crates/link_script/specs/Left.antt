@@ -1,9 +1,9 @@
 -- What a call that reads lines answered, beside what is said.
 use Rattle.std.specs.Prelude.{List, Result, Ok, Err}
-use Rattle.line_model.specs.declared.text_fault.TextFault.{TextFault}
-use Rattle.line_model.specs.Lines.{Line}
-use Rattle.format_model.specs.LinkFiles.{Left}
-use Rattle.format_model.specs.LinkFiles as book
+use Rattle.book_lines.specs.declared.text_fault.TextFault.{TextFault}
+use Rattle.book_lines.specs.Lines.{Line}
+use Rattle.book_cmd_link.specs.LinkFiles.{Left}
+use Rattle.book_cmd_link.specs.LinkFiles as book
 use Rattle.link_script.specs.declared.head.Head.{Head}
 
 -- what a reading answered, with the lines that are left

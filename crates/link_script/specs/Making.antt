@@ -2,8 +2,8 @@
 use Rattle.std.specs.Prelude.{◌≡◌, ℕ, Option, Some, None, Result, Ok, Err}
 use Rattle.ao_base.specs.declared.end.End.{End}
 use Rattle.ao_base.specs.declared.line_kind.LineKind.{LineKind}
-use Rattle.link_model.specs.declared.event.Event.{Event}
-use Rattle.format_model.specs.LinkEvents as book
+use Rattle.book_link.specs.declared.event.Event.{Event}
+use Rattle.book_cmd_link.specs.LinkEvents as book
 use Rattle.link_script.specs.declared.row_lines.Ways.{Ways}
 
 -- each event that calls with these results make of an end is the one that is meant

@@ -4,12 +4,12 @@ use Rattle.ao_base.specs.declared.address.Socket.{Socket}
 use Rattle.ao_base.specs.declared.end.End.{End}
 use Rattle.ao_base.specs.Algorithms.{name_of}
 use Rattle.ao_base.specs.Hexadecimal.{hex_of}
-use Rattle.line_model.specs.Texts.{end_text, line_text, socket_texts}
-use Rattle.link_model.specs.declared.event.RowLine.{RowLine}
-use Rattle.link_model.specs.declared.event.Event.{Event}
-use Rattle.link_model.specs.declared.event.Event.TheVariants as event
-use Rattle.format_model.specs.declared.script.SharedKey.{SharedKey}
-use Rattle.format_model.specs.declared.script.Script.{Script}
+use Rattle.book_lines.specs.Texts.{end_text, line_text, socket_texts}
+use Rattle.book_link.specs.declared.event.RowLine.{RowLine}
+use Rattle.book_link.specs.declared.event.Event.{Event}
+use Rattle.book_link.specs.declared.event.Event.TheVariants as event
+use Rattle.book_cmd_link.specs.declared.script.SharedKey.{SharedKey}
+use Rattle.book_cmd_link.specs.declared.script.Script.{Script}
 use Rattle.link_script.specs.declared.name.Name.{Name}
 use Rattle.link_script.specs.declared.name.Name.TheVariants as name
 use Rattle.link_script.specs.Names.{name_text}

@@ -4,15 +4,15 @@ use Rattle.hex.specs.Hex.{IsBytes}
 use Rattle.ao_base.specs.declared.address.Address.{Address}
 use Rattle.ao_base.specs.declared.address.Address.TheVariants.{V4, V6}
 use Rattle.ao_base.specs.declared.address.Socket.{Socket}
-use Rattle.key_model.specs.Lifetimes.{greatest_time}
-use Rattle.line_model.specs.Lines.{most_lines}
-use Rattle.link_model.specs.declared.event.RowLine.{RowLine}
-use Rattle.link_model.specs.declared.event.Event.{Event}
-use Rattle.link_model.specs.declared.event.Event.TheVariants as event
-use Rattle.format_model.specs.declared.script.SharedKey.{SharedKey}
-use Rattle.format_model.specs.declared.script.Script.{Script}
-use Rattle.format_model.specs.LinkEvents.{greatest_isn, most_segments}
-use Rattle.format_model.specs.LinkFiles.{are_two_of_a_family}
+use Rattle.book_keys.specs.Lifetimes.{greatest_time}
+use Rattle.book_lines.specs.Lines.{most_lines}
+use Rattle.book_link.specs.declared.event.RowLine.{RowLine}
+use Rattle.book_link.specs.declared.event.Event.{Event}
+use Rattle.book_link.specs.declared.event.Event.TheVariants as event
+use Rattle.book_cmd_link.specs.declared.script.SharedKey.{SharedKey}
+use Rattle.book_cmd_link.specs.declared.script.Script.{Script}
+use Rattle.book_cmd_link.specs.LinkEvents.{greatest_isn, most_segments}
+use Rattle.book_cmd_link.specs.LinkFiles.{are_two_of_a_family}
 use Rattle.link_script.specs.Printed.{script_lines}
 
 -- from low to high bytes

@@ -1,13 +1,13 @@
 -- The scripts that a link file with waits can say. Our own format.
 use Rattle.std.specs.Prelude.{◌≡◌, ◌+◌, ℕ, ◌≤◌, true, List, length, Result, Ok, All}
 use Rattle.ao_base.specs.declared.line_kind.LineKind.{LineKind}
-use Rattle.line_model.specs.Lines.{most_lines}
+use Rattle.book_lines.specs.Lines.{most_lines}
 use Rattle.ao_base.specs.Results.{◌>>=◌}
-use Rattle.format_model.specs.declared.timed.TimedEvent.{TimedEvent}
-use Rattle.format_model.specs.declared.timed.TimedEvent.TheVariants.{Plain, Wait}
-use Rattle.format_model.specs.declared.timed.TimedScript.{TimedScript}
-use Rattle.format_model.specs.LinkEvents.{link_event_of}
-use Rattle.format_model.specs.LinkFiles.{are_two_of_a_family}
+use Rattle.book_cmd_timed.specs.declared.timed.TimedEvent.{TimedEvent}
+use Rattle.book_cmd_timed.specs.declared.timed.TimedEvent.TheVariants.{Plain, Wait}
+use Rattle.book_cmd_timed.specs.declared.timed.TimedScript.{TimedScript}
+use Rattle.book_cmd_link.specs.LinkEvents.{link_event_of}
+use Rattle.book_cmd_link.specs.LinkFiles.{are_two_of_a_family}
 use Rattle.link_script.specs.Scripts.{IsEvent, IsSocket, IsWithin}
 
 -- the plain event of a line, as one of a link with waits

@@ -1,12 +1,12 @@
 //! The lines in front of a link file: its title and the sockets of its two ends.
 ghost use Rattle.std.specs.Prelude.{◌≡◌, [], ◌∷◌, codes, IfOk, IfErr};
 ghost use Rattle.ao_base.specs.declared.line_kind.LineKind.TheVariants as line_kind;
-ghost use Rattle.line_model.specs.declared.text_fault.TextFault.TheVariants as fault;
-ghost use Rattle.format_model.specs.LinkFiles.{title_of, socket_of, are_two_of_a_family, peer_socket_of, line_in, link_head_in};
+ghost use Rattle.book_lines.specs.declared.text_fault.TextFault.TheVariants as fault;
+ghost use Rattle.book_cmd_link.specs.LinkFiles.{title_of, socket_of, are_two_of_a_family, peer_socket_of, line_in, link_head_in};
 ghost use Rattle.link_script.specs.Left.{leaves, said_head};
 
 use ao_base::{Address, LineKind, Socket};
-use line_model::TextFault;
+use book_lines::TextFault;
 use text_lines::{LineWords, Saying, SayingLines};
 
 /// The sockets of a link's two ends, whose addresses differ and are of one family.
@@ -32,7 +32,7 @@ pub(crate) fn next_line<'a>(
     }
 }
 
-#[tactic(auto, unfolding(format_model::specs::LinkFiles::title_of))]
+#[tactic(auto, unfolding(book_cmd_link::specs::LinkFiles::title_of))]
 fn title(words: &mut LineWords) -> Result<(), LineKind>
     ensures { result ≡ title_of (codes "aotcp-link") words.old }
 {
@@ -41,7 +41,7 @@ fn title(words: &mut LineWords) -> Result<(), LineKind>
     words.nothing()
 }
 
-#[tactic(auto, unfolding(format_model::specs::LinkFiles::socket_of))]
+#[tactic(auto, unfolding(book_cmd_link::specs::LinkFiles::socket_of))]
 fn socket(name: &[u8], words: &mut LineWords) -> Result<Socket, LineKind>
     ensures { result ≡ socket_of name.now words.old }
 {
@@ -62,7 +62,7 @@ fn are_two(a: &Address, b: &Address) -> bool
     }
 }
 
-#[tactic(auto, unfolding(format_model::specs::LinkFiles::peer_socket_of))]
+#[tactic(auto, unfolding(book_cmd_link::specs::LinkFiles::peer_socket_of))]
 fn peer(a: &Socket, words: &mut LineWords) -> Result<Socket, LineKind>
     ensures { result ≡ peer_socket_of a.now words.old }
 {
@@ -75,7 +75,7 @@ fn peer(a: &Socket, words: &mut LineWords) -> Result<Socket, LineKind>
 }
 
 /// The first line that says something.
-#[tactic(auto, unfolding(format_model::specs::LinkFiles::line_in))]
+#[tactic(auto, unfolding(book_cmd_link::specs::LinkFiles::line_in))]
 fn title_line(lines: &mut SayingLines, missing: u32) -> Result<(), TextFault>
     ensures { leaves result lines.new ≡ line_in missing line_kind.Header (title_of (codes "aotcp-link")) lines.old }
 {
@@ -87,7 +87,7 @@ fn title_line(lines: &mut SayingLines, missing: u32) -> Result<(), TextFault>
 }
 
 /// The line of a's socket.
-#[tactic(auto, unfolding(format_model::specs::LinkFiles::line_in))]
+#[tactic(auto, unfolding(book_cmd_link::specs::LinkFiles::line_in))]
 fn socket_line(lines: &mut SayingLines, missing: u32) -> Result<Socket, TextFault>
     ensures { leaves result lines.new ≡ line_in missing line_kind.Header (socket_of (codes "a")) lines.old }
 {
@@ -99,7 +99,7 @@ fn socket_line(lines: &mut SayingLines, missing: u32) -> Result<Socket, TextFaul
 }
 
 /// The line of b's socket, beside a's.
-#[tactic(auto, unfolding(format_model::specs::LinkFiles::line_in))]
+#[tactic(auto, unfolding(book_cmd_link::specs::LinkFiles::line_in))]
 fn peer_line(lines: &mut SayingLines, missing: u32, a: &Socket) -> Result<Socket, TextFault>
     ensures { leaves result lines.new ≡ line_in missing line_kind.Header (peer_socket_of a.now) lines.old }
 {
@@ -114,7 +114,7 @@ fn peer_line(lines: &mut SayingLines, missing: u32, a: &Socket) -> Result<Socket
 ///
 /// `Line` is the first faulty one of them, with the kind `Header`; one that is missing has the
 /// number `missing`, that after all lines. No more is said of the lines that are left after a fault.
-#[tactic(auto, unfolding(format_model::specs::LinkFiles::link_head_in))]
+#[tactic(auto, unfolding(book_cmd_link::specs::LinkFiles::link_head_in))]
 pub fn read_head(lines: &mut SayingLines, missing: u32) -> Result<Head, TextFault>
     ensures { leaves (said_head result) lines.new ≡ link_head_in missing lines.old }
 {

@@ -13,11 +13,12 @@ mod row_texts;
 mod timed;
 
 pub use ao_base::End;
-pub use format_model::{Script, SharedKey, TimedEvent, TimedEvents, TimedScript};
+pub use book_cmd_link::{Script, SharedKey};
+pub use book_cmd_timed::{TimedEvent, TimedEvents, TimedScript};
+pub use book_lines::TextFault as ScriptFault;
+pub use book_link::{Event, Events, RowLine};
 pub use head::{Head, read_head};
 pub use line_events::read_event;
-pub use line_model::TextFault as ScriptFault;
-pub use link_model::{Event, Events, RowLine};
 pub use printing::print_script;
 pub use reading::read_script;
 pub use timed::read_timed;

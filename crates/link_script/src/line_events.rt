@@ -1,17 +1,17 @@
 //! The events of a link, each read from the words of its line.
 ghost use Rattle.std.specs.Prelude.{◌≡◌, ◌≤◌, ℕ};
 ghost use Rattle.ao_base.specs.declared.end.End.{End as OneEnd};
-ghost use Rattle.link_model.specs.declared.event.Event.{Event as OneEvent};
+ghost use Rattle.book_link.specs.declared.event.Event.{Event as OneEvent};
 ghost use Rattle.text_lines.specs.Readings.{Tells};
-ghost use Rattle.format_model.specs.LinkEvents.{event_of_end, event_of_number, start_of, give_of, fill_of, inject_of, alter_of, dump_of, event_named, link_event_of};
+ghost use Rattle.book_cmd_link.specs.LinkEvents.{event_of_end, event_of_number, start_of, give_of, fill_of, inject_of, alter_of, dump_of, event_named, link_event_of};
 ghost use Rattle.link_script.specs.Making.{MakesOfEnd, MakesOfNumber};
 ghost use Rattle.link_script.specs.Names.{name_text};
 
 use super::name::Name;
 use super::row_lines::add;
 use ao_base::{End, LineKind};
-use key_model::LATEST;
-use link_model::Event;
+use book_keys::LATEST;
+use book_link::Event;
 use std::alloc::Global;
 use text_lines::{LineWords, Refusal};
 
@@ -53,7 +53,7 @@ fn numbered<F: FnOnce(End, u64) -> Event>(
     Ok(made(end, number))
 }
 
-#[tactic(auto, unfolding(format_model::specs::LinkEvents::start_of))]
+#[tactic(auto, unfolding(book_cmd_link::specs::LinkEvents::start_of))]
 fn start(words: &mut LineWords) -> Result<Event, LineKind>
     ensures { result ≡ start_of words.old }
 {
@@ -64,7 +64,7 @@ fn start(words: &mut LineWords) -> Result<Event, LineKind>
     Ok(Event::Start(end, own, peer))
 }
 
-#[tactic(auto, unfolding(format_model::specs::LinkEvents::give_of))]
+#[tactic(auto, unfolding(book_cmd_link::specs::LinkEvents::give_of))]
 fn give(alloc: Global, words: &mut LineWords) -> Result<Event, Refusal>
     ensures { Tells result (give_of words.old) }
 {
@@ -74,7 +74,7 @@ fn give(alloc: Global, words: &mut LineWords) -> Result<Event, Refusal>
     Ok(Event::Give(end, bytes))
 }
 
-#[tactic(auto, unfolding(format_model::specs::LinkEvents::fill_of))]
+#[tactic(auto, unfolding(book_cmd_link::specs::LinkEvents::fill_of))]
 fn fill(alloc: Global, words: &mut LineWords) -> Result<Event, Refusal>
     ensures { Tells result (fill_of words.old) }
 {
@@ -85,7 +85,7 @@ fn fill(alloc: Global, words: &mut LineWords) -> Result<Event, Refusal>
     Ok(Event::Fill(end, count, byte))
 }
 
-#[tactic(auto, unfolding(format_model::specs::LinkEvents::inject_of))]
+#[tactic(auto, unfolding(book_cmd_link::specs::LinkEvents::inject_of))]
 fn inject(alloc: Global, words: &mut LineWords) -> Result<Event, Refusal>
     ensures { Tells result (inject_of words.old) }
 {
@@ -95,7 +95,7 @@ fn inject(alloc: Global, words: &mut LineWords) -> Result<Event, Refusal>
     Ok(Event::Inject(end, datagram))
 }
 
-#[tactic(auto, unfolding(format_model::specs::LinkEvents::alter_of))]
+#[tactic(auto, unfolding(book_cmd_link::specs::LinkEvents::alter_of))]
 fn alter(alloc: Global, words: &mut LineWords) -> Result<Event, Refusal>
     ensures { Tells result (alter_of words.old) }
 {
@@ -108,7 +108,7 @@ fn alter(alloc: Global, words: &mut LineWords) -> Result<Event, Refusal>
     Ok(Event::Alter(end, segment, place, mask, fixing))
 }
 
-#[tactic(auto, unfolding(format_model::specs::LinkEvents::dump_of))]
+#[tactic(auto, unfolding(book_cmd_link::specs::LinkEvents::dump_of))]
 fn dump(words: &mut LineWords) -> Result<Event, LineKind>
     ensures { result ≡ dump_of words.old }
 {
@@ -118,7 +118,7 @@ fn dump(words: &mut LineWords) -> Result<Event, LineKind>
 }
 
 /// The event that the name and the words after it make.
-#[tactic(auto, unfolding(format_model::specs::LinkEvents::event_named))]
+#[tactic(auto, unfolding(book_cmd_link::specs::LinkEvents::event_named))]
 fn named(alloc: Global, name: Name, words: &mut LineWords) -> Result<Event, Refusal>
     ensures { Tells result (event_named (name_text name) words.old) }
 {
@@ -149,7 +149,7 @@ fn named(alloc: Global, name: Name, words: &mut LineWords) -> Result<Event, Refu
 /// is missing or surplus, `Number` where it isn't a decimal below 2^64, `Hex` where it isn't
 /// hexadecimal, and `Range` where a number or a length is out of its range. `Memory` only for want
 /// of memory. No more is said of the words that are left.
-#[tactic(auto, unfolding(format_model::specs::LinkEvents::link_event_of), using(crate::proofs::NameLaws::named_or_not))]
+#[tactic(auto, unfolding(book_cmd_link::specs::LinkEvents::link_event_of), using(crate::proofs::NameLaws::named_or_not))]
 pub fn read_event(alloc: Global, words: &mut LineWords) -> Result<Event, Refusal>
     ensures { Tells result (link_event_of words.old) }
 {

@@ -2,8 +2,8 @@
 ghost use Rattle.std.specs.Prelude.{◌≡◌, ◌++◌, ◌∷◌, [], OnOk, IfOk, codes, decimal, map, option_map, Ok};
 ghost use Rattle.std.specs.Option.{is_none};
 ghost use Rattle.ao_base.specs.Hexadecimal.{hex_of};
-ghost use Rattle.line_model.specs.Texts.{end_text, line_text};
-ghost use Rattle.format_model.specs.LinkFiles.{script_of};
+ghost use Rattle.book_lines.specs.Texts.{end_text, line_text};
+ghost use Rattle.book_cmd_link.specs.LinkFiles.{script_of};
 ghost use Rattle.link_script.specs.Names.{name_text};
 ghost use Rattle.link_script.specs.Scripts.{IsScript};
 ghost use Rattle.link_script.specs.Printed.{event_words, key_lines, lines_text, socket_words, text_of, title_words};
@@ -11,8 +11,8 @@ ghost use Rattle.link_script.specs.Printed.{event_words, key_lines, lines_text, 
 use super::name::Name;
 use super::row_texts::{chosen, push_row};
 use ao_base::{Bytes, End, Socket};
-use format_model::{Script, SharedKey};
-use link_model::Event;
+use book_cmd_link::{Script, SharedKey};
+use book_link::Event;
 use std::alloc::{AllocError, Global};
 use text_lines::{push_bytes, push_end, push_newline, push_number, push_socket, push_text};
 

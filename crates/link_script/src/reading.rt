@@ -3,21 +3,21 @@ ghost use Rattle.std.specs.Prelude.{◌≡◌, IfOk};
 ghost use Rattle.std.specs.Option.{is_none};
 ghost use Rattle.ao_base.specs.declared.line_kind.LineKind.TheVariants as line_kind;
 ghost use Rattle.text_lines.specs.Readings.{Answers, Tells};
-ghost use Rattle.format_model.specs.LinkEvents.{link_event_of};
-ghost use Rattle.format_model.specs.LinkFiles.{event_at, events_of, is_shared, key_in, line_in, script_of, shared_key_of};
+ghost use Rattle.book_cmd_link.specs.LinkEvents.{link_event_of};
+ghost use Rattle.book_cmd_link.specs.LinkFiles.{event_at, events_of, is_shared, key_in, line_in, script_of, shared_key_of};
 ghost use Rattle.link_script.specs.Left.{leaves};
 ghost use Rattle.link_script.specs.Scripts.{IsScript};
 
 use super::head::{next_line, read_head};
 use super::line_events::read_event;
 use ao_base::LineKind;
-use format_model::{Script, SharedKey};
-use line_model::TextFault;
-use link_model::{Event, Events};
+use book_cmd_link::{Script, SharedKey};
+use book_lines::TextFault;
+use book_link::{Event, Events};
 use std::alloc::Global;
 use text_lines::{LineWords, Refusal, Saying, SayingLines, count_lines};
 
-#[tactic(auto, unfolding(format_model::specs::LinkFiles::shared_key_of))]
+#[tactic(auto, unfolding(book_cmd_link::specs::LinkFiles::shared_key_of))]
 fn shared_key(alloc: Global, words: &mut LineWords) -> Result<SharedKey, Refusal>
     ensures { Tells result (shared_key_of words.old) }
 {
@@ -29,7 +29,7 @@ fn shared_key(alloc: Global, words: &mut LineWords) -> Result<SharedKey, Refusal
 }
 
 /// The line of the shared key.
-#[tactic(auto, unfolding(format_model::specs::LinkFiles::line_in))]
+#[tactic(auto, unfolding(book_cmd_link::specs::LinkFiles::line_in))]
 fn key_line(alloc: Global, lines: &mut SayingLines, missing: u32) -> Result<SharedKey, TextFault>
     ensures { Answers (leaves result lines.new) (line_in missing line_kind.Shared shared_key_of lines.old) }
 {
@@ -42,7 +42,7 @@ fn key_line(alloc: Global, lines: &mut SayingLines, missing: u32) -> Result<Shar
 }
 
 /// The shared key, where there is no key file.
-#[tactic(auto, unfolding(format_model::specs::LinkFiles::key_in))]
+#[tactic(auto, unfolding(book_cmd_link::specs::LinkFiles::key_in))]
 fn key(
     alloc: Global,
     with_keys: bool,
@@ -58,7 +58,7 @@ fn key(
 }
 
 /// Whether the line's first word is `shared`.
-#[tactic(auto, unfolding(format_model::specs::LinkFiles::is_shared, line_model::specs::Words::word_in))]
+#[tactic(auto, unfolding(book_cmd_link::specs::LinkFiles::is_shared, book_lines::specs::Words::word_in))]
 pub(crate) fn is_shared(words: &LineWords) -> bool
     ensures { result ≡ is_shared words.now }
 {
@@ -93,7 +93,7 @@ fn events(alloc: Global, lines: &mut SayingLines) -> Result<Events, TextFault>
     Ok(Events::from_vec(events))
 }
 
-#[tactic(auto, unfolding(format_model::specs::LinkFiles::script_of, format_model::specs::LinkFiles::script_in))]
+#[tactic(auto, unfolding(book_cmd_link::specs::LinkFiles::script_of, book_cmd_link::specs::LinkFiles::script_in))]
 fn read(alloc: Global, with_keys: bool, text: &[u8]) -> Result<Script, TextFault>
     ensures { Answers result (script_of with_keys text.now) }
 {

@@ -1,14 +1,14 @@
 //! The line that adds a row to a table.
 ghost use Rattle.std.specs.Prelude.{◌≡◌};
 ghost use Rattle.ao_base.specs.declared.line_kind.LineKind.TheVariants as line_kind;
-ghost use Rattle.line_model.specs.Words.{number_in, word_as};
+ghost use Rattle.book_lines.specs.Words.{number_in, word_as};
 ghost use Rattle.text_lines.specs.Readings.{gives, Tells};
-ghost use Rattle.format_model.specs.LinkEvents.{add_of, ways_of};
+ghost use Rattle.book_cmd_link.specs.LinkEvents.{add_of, ways_of};
 ghost use Rattle.link_script.specs.Making.{named_ways, said_ways};
 
 use ao_base::LineKind;
-use key_model::LATEST;
-use link_model::{Event, RowLine};
+use book_keys::LATEST;
+use book_link::{Event, RowLine};
 use std::alloc::Global;
 use text_lines::{LineWords, Refusal};
 
@@ -54,7 +54,7 @@ fn key_id(words: &mut LineWords) -> Result<u8, LineKind>
 }
 
 /// The row that `add` adds, of the words after the name.
-#[tactic(auto, unfolding(format_model::specs::LinkEvents::add_of))]
+#[tactic(auto, unfolding(book_cmd_link::specs::LinkEvents::add_of))]
 pub(crate) fn add(alloc: Global, words: &mut LineWords) -> Result<Event, Refusal>
     ensures { Tells result (add_of words.old) }
 {

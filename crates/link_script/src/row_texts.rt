@@ -1,9 +1,9 @@
 //! The words of a row, put behind one another.
 ghost use Rattle.std.specs.Prelude.{◌≡◌, ◌++◌, ◌∷◌, [], OnOk, decimal};
-ghost use Rattle.line_model.specs.Texts.{spaced};
+ghost use Rattle.book_lines.specs.Texts.{spaced};
 ghost use Rattle.link_script.specs.Printed.{choice_text, direction_text, row_texts, use_texts};
 
-use link_model::RowLine;
+use book_link::RowLine;
 use std::alloc::AllocError;
 use text_lines::{push_bytes, push_number, push_text};
 

@@ -1,16 +1,16 @@
 //! A link file in which time passes as well: one with waits.
 ghost use Rattle.std.specs.Prelude.{◌≡◌, IfOk};
 ghost use Rattle.text_lines.specs.Readings.{Answers, Tells};
-ghost use Rattle.format_model.specs.LinkFiles.{event_at, events_of};
-ghost use Rattle.format_model.specs.TimedRuns.{timed_event_of, timed_script_of, wait_of};
+ghost use Rattle.book_cmd_link.specs.LinkFiles.{event_at, events_of};
+ghost use Rattle.book_cmd_timed.specs.TimedRuns.{timed_event_of, timed_script_of, wait_of};
 ghost use Rattle.link_script.specs.Timed.{IsTimedScript, plain_of};
 
 use super::head::read_head;
 use super::line_events::read_event;
 use super::reading::is_shared;
 use ao_base::LineKind;
-use format_model::{TimedEvent, TimedEvents, TimedScript};
-use line_model::TextFault;
+use book_cmd_timed::{TimedEvent, TimedEvents, TimedScript};
+use book_lines::TextFault;
 use std::alloc::Global;
 use text_lines::{LineWords, Refusal, Saying, SayingLines, count_lines};
 
@@ -18,7 +18,7 @@ use text_lines::{LineWords, Refusal, Saying, SayingLines, count_lines};
 const LONGEST_WAIT: u64 = 3600;
 
 /// The wait that the words behind `wait` make.
-#[tactic(auto, unfolding(format_model::specs::TimedRuns::wait_of))]
+#[tactic(auto, unfolding(book_cmd_timed::specs::TimedRuns::wait_of))]
 fn wait(words: &mut LineWords) -> Result<TimedEvent, LineKind>
     ensures { result ≡ wait_of words.old }
 {
@@ -71,7 +71,7 @@ fn timed_events(alloc: Global, lines: &mut SayingLines) -> Result<TimedEvents, T
     Ok(TimedEvents::from_vec(events))
 }
 
-#[tactic(auto, unfolding(format_model::specs::TimedRuns::timed_script_of, format_model::specs::TimedRuns::timed_script_in))]
+#[tactic(auto, unfolding(book_cmd_timed::specs::TimedRuns::timed_script_of, book_cmd_timed::specs::TimedRuns::timed_script_in))]
 fn timed(alloc: Global, text: &[u8]) -> Result<TimedScript, TextFault>
     ensures { Answers result (timed_script_of text.now) }
 {

@@ -2,11 +2,11 @@
 use Rattle.std.proofs.Common.{◌≡◌, ℕ, Bool, true, false, ◌||◌, List, [], ◌∷◌, map, reverse, Option, Some, None, refl, sym, ap, ◌∙◌, subst}
 use Rattle.ao_base.specs.declared.end.End.{End}
 use Rattle.ao_base.specs.declared.end.End.TheVariants.{A, B}
-use Rattle.key_model.specs.Rows.{Row}
-use Rattle.endpoint_model.specs.States.{EndState}
-use Rattle.link_model.specs.Outcomes.{Outcome, NoSession}
-use Rattle.link_model.specs.Steps.{Act, act_on, on_live, add, put}
-use Rattle.link_model.specs.Worlds.{Session, Happening, World, Side as EndSide, other, side as side_of}
+use Rattle.book_keys.specs.Rows.{Row}
+use Rattle.book_endpoint.specs.States.{EndState}
+use Rattle.book_link.specs.Outcomes.{Outcome, NoSession}
+use Rattle.book_link.specs.Steps.{Act, act_on, on_live, add, put}
+use Rattle.book_link.specs.Worlds.{Session, Happening, World, Side as EndSide, other, side as side_of}
 use Rattle.link_side.specs.declared.sessions.Ended.{Ended}
 use Rattle.link_side.specs.declared.sessions.Live.{Live}
 use Rattle.link_side.specs.declared.side.Side.{Side}

@@ -3,10 +3,10 @@ use Rattle.std.proofs.Common.{◌≡◌, ℕ, Bool, true, false, List, [], ◌�
 use Rattle.std.specs.Prelude.{is_some}
 use Rattle.std.proofs.lemmas.List.{map-append, reverse-append}
 use Rattle.ao_base.specs.declared.end.End.{End}
-use Rattle.endpoint_model.specs.States.{EndState}
-use Rattle.link_model.specs.Outcomes.{Done, IsnUsed}
-use Rattle.link_model.specs.Steps.{Stepped, begin, begin_new, put, with_sessions}
-use Rattle.link_model.specs.Worlds.{Session, World, Side as EndSide, find, side as side_of}
+use Rattle.book_endpoint.specs.States.{EndState}
+use Rattle.book_link.specs.Outcomes.{Done, IsnUsed}
+use Rattle.book_link.specs.Steps.{Stepped, begin, begin_new, put, with_sessions}
+use Rattle.book_link.specs.Worlds.{Session, World, Side as EndSide, find, side as side_of}
 use Rattle.link_side.specs.declared.sessions.Ended.{Ended}
 use Rattle.link_side.specs.declared.sessions.Live.{Live}
 use Rattle.link_side.specs.declared.side.Side.{Side}

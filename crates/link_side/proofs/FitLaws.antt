@@ -1,11 +1,11 @@
 -- A table that changed goes on fitting the live end.
 use Rattle.std.proofs.Common.{◌≡◌, ℕ, List, Result, Ok, Err, sym, subst}
 use Rattle.std.specs.Prelude.{Option}
-use Rattle.key_model.specs.declared.new_row.NoRow.{NoRow}
-use Rattle.key_model.specs.declared.new_row.AddRefusal.{AddRefusal}
-use Rattle.key_model.specs.declared.new_row.AddRefusal.TheVariants as refusal
-use Rattle.key_model.specs.Rows.{Row, Table}
-use Rattle.key_model.specs.Tables.{Added, adding, withdrawn, Withdrawn}
+use Rattle.book_keys.specs.declared.new_row.NoRow.{NoRow}
+use Rattle.book_keys.specs.declared.new_row.AddRefusal.{AddRefusal}
+use Rattle.book_keys.specs.declared.new_row.AddRefusal.TheVariants as refusal
+use Rattle.book_keys.specs.Rows.{Row, Table}
+use Rattle.book_keys.specs.Tables.{Added, adding, withdrawn, Withdrawn}
 use Rattle.tcp_endpoint.specs.declared.endpoint.Endpoint.{Endpoint}
 use Rattle.tcp_endpoint.specs.Ends.{FitsEnd}
 use Rattle.tcp_endpoint.proofs.FitLaws.{end_fits_added, end_fits_withdrawn}

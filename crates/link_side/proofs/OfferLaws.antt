@@ -2,9 +2,9 @@
 use Rattle.std.proofs.Common.{◌≡◌, ℕ, Bool, true, false, ◌||◌, List, Option, None, if◌then◌else◌, refl, sym, ap, ◌∙◌}
 use Rattle.std.specs.Prelude.{◌++◌, drop, length, nat_lt, not, take}
 use Rattle.std.proofs.Math.Seq.{take-append_seam}
-use Rattle.endpoint_model.specs.States.{EndState, at_end, give, gives, room, take_out, taking}
-use Rattle.link_model.specs.Outcomes as book
-use Rattle.link_model.specs.Steps.{Act, given, quietly, took}
+use Rattle.book_endpoint.specs.States.{EndState, at_end, give, gives, room, take_out, taking}
+use Rattle.book_link.specs.Outcomes as book
+use Rattle.book_link.specs.Steps.{Act, given, quietly, took}
 use Rattle.link_side.specs.declared.sessions.Live.{Live}
 use Rattle.link_side.specs.Outcomes.{answer_given, outcome_of}
 use Rattle.link_side.proofs.ActLaws.{Acts}

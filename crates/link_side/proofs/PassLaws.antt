@@ -2,14 +2,14 @@
 use Rattle.std.proofs.Common.{◌≡◌, ℕ, Bool, true, false, ◌||◌, List, [], ◌∷◌, Option, Some, None, refl, sym, ap, ◌∙◌, subst}
 use Rattle.ao_base.specs.declared.address.Pair.{Pair}
 use Rattle.ao_base.specs.declared.end.End.{End}
-use Rattle.segment_model.specs.Segments.{Reading, reading}
-use Rattle.key_model.specs.Rows.{Row}
-use Rattle.endpoint_model.specs.Arrivals as arrivals
-use Rattle.endpoint_model.specs.Emissions.{Emitted, Quiet, NoKey, Emits}
-use Rattle.endpoint_model.specs.States.{EndState}
-use Rattle.link_model.specs.Outcomes.{NoSession}
-use Rattle.link_model.specs.Steps.{Act, Stepped, act_on, acted, came, come, made_of, on_live, put, sent, step, with_sessions}
-use Rattle.link_model.specs.Worlds.{Setup, pair_of, Session, World, Side as EndSide, other, side as side_of}
+use Rattle.book_segments.specs.Segments.{Reading, reading}
+use Rattle.book_keys.specs.Rows.{Row}
+use Rattle.book_endpoint.specs.Arrivals as arrivals
+use Rattle.book_endpoint.specs.Emissions.{Emitted, Quiet, NoKey, Emits}
+use Rattle.book_endpoint.specs.States.{EndState}
+use Rattle.book_link.specs.Outcomes.{NoSession}
+use Rattle.book_link.specs.Steps.{Act, Stepped, act_on, acted, came, come, made_of, on_live, put, sent, step, with_sessions}
+use Rattle.book_link.specs.Worlds.{Setup, pair_of, Session, World, Side as EndSide, other, side as side_of}
 use Rattle.link_side.specs.declared.sessions.Ended.{Ended}
 use Rattle.link_side.specs.declared.sessions.Live.{Live}
 use Rattle.link_side.specs.declared.side.Side.{Side}

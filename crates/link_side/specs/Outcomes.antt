@@ -1,6 +1,6 @@
 -- What the answers of an end stand for.
 use Rattle.std.specs.Prelude.{◌≡◌}
-use Rattle.link_model.specs.Outcomes as book
+use Rattle.book_link.specs.Outcomes as book
 use Rattle.tcp_endpoint.specs.declared.giving.GiveAnswer.{GiveAnswer}
 use Rattle.tcp_endpoint.specs.declared.giving.GiveAnswer.TheVariants as given
 use Rattle.link_side.specs.declared.answer.Answer.{Answer}

@@ -2,15 +2,15 @@
 use Rattle.std.specs.Prelude.{◌≡◌, ℕ, suc, Bool, true, false, List, ◌∷◌, Option, Some, None}
 use Rattle.ao_base.specs.declared.address.Pair.{Pair}
 use Rattle.ao_base.specs.declared.end.End.{End}
-use Rattle.segment_model.specs.Segments.{reading, spell}
-use Rattle.key_model.specs.Rows.{Row}
-use Rattle.endpoint_model.specs.Emissions.{Emission as BookEmission, Emitted, Emits, emit, resend}
-use Rattle.endpoint_model.specs.States.{EndState}
-use Rattle.link_model.specs.declared.event.Event.{Event}
-use Rattle.link_model.specs.declared.event.Event.TheVariants.{Send, Resend}
-use Rattle.link_model.specs.Outcomes.{Outcome, Sent, Answered, NoSession, Idle, Nothing, WithoutKey}
-use Rattle.link_model.specs.Steps.{Stepped}
-use Rattle.link_model.specs.Worlds.{Made as BookMade, Came, Happening, Making, Coming, World, segments, other, side as side_of}
+use Rattle.book_segments.specs.Segments.{reading, spell}
+use Rattle.book_keys.specs.Rows.{Row}
+use Rattle.book_endpoint.specs.Emissions.{Emission as BookEmission, Emitted, Emits, emit, resend}
+use Rattle.book_endpoint.specs.States.{EndState}
+use Rattle.book_link.specs.declared.event.Event.{Event}
+use Rattle.book_link.specs.declared.event.Event.TheVariants.{Send, Resend}
+use Rattle.book_link.specs.Outcomes.{Outcome, Sent, Answered, NoSession, Idle, Nothing, WithoutKey}
+use Rattle.book_link.specs.Steps.{Stepped}
+use Rattle.book_link.specs.Worlds.{Made as BookMade, Came, Happening, Making, Coming, World, segments, other, side as side_of}
 use Rattle.link_side.specs.declared.side.Side.{Side}
 use Rattle.link_side.specs.Sides.{StandsSide}
 use Rattle.tcp_endpoint.specs.Arriving.{TellsPassed}

@@ -1,13 +1,13 @@
 -- A side after an event at its end by which no segment is made and nothing comes.
 use Rattle.std.specs.Prelude.{◌≡◌, ℕ, ◌≤◌, length}
 use Rattle.ao_base.specs.declared.end.End.{End}
-use Rattle.key_model.specs.Lifetimes.{greatest_time}
-use Rattle.endpoint_model.specs.States.{EndState}
-use Rattle.link_model.specs.declared.event.Event.{Event}
-use Rattle.link_model.specs.declared.event.RowLine.{RowLine}
-use Rattle.link_model.specs.Outcomes.{Outcome}
-use Rattle.link_model.specs.Steps.{Act, Stepped, on_live, step}
-use Rattle.link_model.specs.Worlds.{Setup, pair_of, World, other, side as side_of}
+use Rattle.book_keys.specs.Lifetimes.{greatest_time}
+use Rattle.book_endpoint.specs.States.{EndState}
+use Rattle.book_link.specs.declared.event.Event.{Event}
+use Rattle.book_link.specs.declared.event.RowLine.{RowLine}
+use Rattle.book_link.specs.Outcomes.{Outcome}
+use Rattle.book_link.specs.Steps.{Act, Stepped, on_live, step}
+use Rattle.book_link.specs.Worlds.{Setup, pair_of, World, other, side as side_of}
 use Rattle.link_side.specs.declared.answer.Answer.{Answer}
 use Rattle.link_side.specs.declared.side.Side.{Side}
 use Rattle.link_side.specs.Outcomes.{outcome_of}

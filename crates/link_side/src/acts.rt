@@ -1,9 +1,9 @@
 //! The events at a live session by which no segment is made and nothing comes, and the clock.
 ghost use Rattle.std.specs.Prelude.{◌≡◌, ◌≤◌, length, OnErr, IfOk};
-ghost use Rattle.key_model.specs.Lifetimes.{greatest_time};
-ghost use Rattle.link_model.specs.declared.event.Event.TheVariants.{Clock, Give, Fill, Take, Close, Abort};
+ghost use Rattle.book_keys.specs.Lifetimes.{greatest_time};
+ghost use Rattle.book_link.specs.declared.event.Event.TheVariants.{Clock, Give, Fill, Take, Close, Abort};
 ghost use Rattle.link_side.specs.Outcomes.{answer_given};
-ghost use Rattle.link_model.specs.Steps.{given, took};
+ghost use Rattle.book_link.specs.Steps.{given, took};
 ghost use Rattle.link_side.specs.Steps.{Steps, StepsBy};
 
 use crate::answer::Answer;

@@ -1,11 +1,11 @@
 //! The events by which a segment may be made at an end, or by which bytes come.
 ghost use Rattle.std.specs.Prelude.{◌≡◌, ℕ, ◌+◌, ◌≤◌, Bool, true, false, List, length, Some};
 ghost use Rattle.ao_base.specs.declared.end.End.{End};
-ghost use Rattle.endpoint_model.specs.States.{EndState};
-ghost use Rattle.key_model.specs.Lifetimes.{greatest_time};
-ghost use Rattle.key_model.specs.Rows.{Row};
-ghost use Rattle.link_model.specs.Steps.{come, on_live, step};
-ghost use Rattle.link_model.specs.Worlds.{Setup, World, pair_of, side as side_of};
+ghost use Rattle.book_endpoint.specs.States.{EndState};
+ghost use Rattle.book_keys.specs.Lifetimes.{greatest_time};
+ghost use Rattle.book_keys.specs.Rows.{Row};
+ghost use Rattle.book_link.specs.Steps.{come, on_live, step};
+ghost use Rattle.book_link.specs.Worlds.{Setup, World, pair_of, side as side_of};
 ghost use Rattle.link_side.specs.Passing.{emission_of, HasCome, HasSent, length_sent, made_by, sending};
 ghost use Rattle.link_side.specs.Sides.{StandsSide};
 ghost use Rattle.tcp_endpoint.specs.Emitting.{Emits};

@@ -27,7 +27,7 @@ pub struct Ended {
 }
 
 impl Live {
-    ghost use Rattle.link_model.specs.Worlds.{Session};
+    ghost use Rattle.book_link.specs.Worlds.{Session};
     ghost use Rattle.link_side.specs.Sides.{facts_of, kept_facts};
     ghost use Rattle.tcp_endpoint.specs.Ends.{Stands};
 

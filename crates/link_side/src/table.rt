@@ -1,16 +1,16 @@
 //! The events at an end's table.
 ghost use Rattle.std.specs.Prelude.{◌≡◌, OnErr, IfOk};
-ghost use Rattle.link_model.specs.declared.event.Event.TheVariants.{AddRow, Withdraw};
-ghost use Rattle.link_model.specs.RowLines.{direction_of};
-ghost use Rattle.link_model.specs.Worlds.{Side as EndSide};
+ghost use Rattle.book_link.specs.declared.event.Event.TheVariants.{AddRow, Withdraw};
+ghost use Rattle.book_link.specs.RowLines.{direction_of};
+ghost use Rattle.book_link.specs.Worlds.{Side as EndSide};
 ghost use Rattle.link_side.specs.Sides.{StandsSide};
 ghost use Rattle.link_side.specs.Steps.{Steps, IsRowLine};
 
 use crate::answer::Answer;
 use crate::side::Side;
 use ao_base::Bytes;
+use book_link::RowLine;
 use key_table::{AddRefusal, Direction, Lifetime, NewRow};
-use link_model::RowLine;
 use std::alloc::{AllocError, Global};
 
 /// The Direction of a row that receives, sends, does both or neither (RFC 7210, section 2).

@@ -1,6 +1,6 @@
 //! A link of five bytes, over the key that it names and over one of a key file.
+use cmd_link::{link_keys_report, link_report};
 use key_table::read_tables;
-use link_command::{link_keys_report, link_report};
 use std::test::Fail;
 
 const LINK: &[u8] = b"aotcp-link 1

@@ -3,9 +3,9 @@ ghost use Rattle.std.specs.Prelude.{◌≡◌, ◌+◌, ◌<◌, ◌≤◌, leng
 ghost use Rattle.link_log.specs.Logs.{forgery_count, made_count};
 
 use ao_base::{Address, Algorithm, Bytes, End, Socket};
+use book_macs::Context;
 use key_table::{AddRefusal, Direction, Lifetime, NewRow, Row, Table};
 use link_log::{Entrance, Log};
-use mac_model::Context;
 use std::alloc::{AllocError, Global};
 use std::test::Fail;
 

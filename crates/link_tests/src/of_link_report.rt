@@ -1,11 +1,11 @@
 //! Each line that a report has.
 use ao_base::{Address, Bytes, Pair, Socket};
-use endpoint_model::{Arrival, Verdict};
+use book_endpoint::{Arrival, Verdict};
+use book_macs::Context;
+use book_segments::{DatagramFault, OptionFault};
 use key_table::Table;
 use link_report::{Outcome, push_outcomes, push_summary};
 use link_side::Side;
-use mac_model::Context;
-use segment_model::{DatagramFault, OptionFault};
 use std::alloc::{AllocError, Global};
 use std::test::Fail;
 use tcp_endpoint::{Made, Sending};

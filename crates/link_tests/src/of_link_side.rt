@@ -3,8 +3,8 @@ ghost use Rattle.std.specs.Prelude.{IfOk};
 ghost use Rattle.link_side.specs.Steps.{IsRowLine};
 
 use ao_base::{Address, Algorithm, Bytes, Pair, Socket};
+use book_link::RowLine;
 use key_table::Table;
-use link_model::RowLine;
 use link_side::{Answer, Side};
 use std::alloc::{AllocError, Global};
 use std::test::Fail;

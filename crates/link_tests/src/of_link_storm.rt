@@ -1,5 +1,5 @@
 //! A storm without a drawn event, against its text written by hand.
-use link_storm::storm;
+use cmd_link::storm;
 use std::test::Fail;
 
 const NONE_DRAWN: &[u8] =

@@ -2,14 +2,14 @@
 //! from the format, and the image is one that another program made.
 ghost use Rattle.std.specs.Prelude.{◌≡◌, ◌+◌, ◌≤◌, IfOk, OnOk, length, true};
 ghost use Rattle.std.specs.List.{AllByRecursion};
-ghost use Rattle.format_model.specs.LinkFiles.{are_two_of_a_family};
+ghost use Rattle.book_cmd_link.specs.LinkFiles.{are_two_of_a_family};
 ghost use Rattle.link_side.specs.Steps.{IsRowLine};
 ghost use Rattle.link_world.specs.Events.{CanHappen};
 ghost use Rattle.link_world.specs.Standing.{steps_taken};
 
 use ao_base::{Address, Algorithm, Bytes, End, Socket};
+use book_link::{Event, RowLine};
 use key_table::Tables;
-use link_model::{Event, RowLine};
 use link_world::{Setup, World};
 use std::alloc::{AllocError, Global};
 use std::process::Abort;

@@ -2,9 +2,9 @@
 use Rattle.std.proofs.Common.{◌≡◌, ℕ, ◌+◌, ◌/◌, ◌<◌, ◌≤◌, Bool, true, false, List, length, sym, ap, ◌∙◌, subst, arith}
 use Rattle.std.specs.Prelude.{slice_index, bit_xor, ◌==◌, if◌then◌else◌}
 use Rattle.std.proofs.lemmas.List.{length-set, get_or-set_other}
-use Rattle.segment_model.specs.Spelling.{ip_length, with_right_checksum}
+use Rattle.book_segments.specs.Spelling.{ip_length, with_right_checksum}
 use Rattle.tcp_segment.specs.Sums.{HasPlainHeader}
-use Rattle.link_model.specs.Alterations.{altered, masked, place_in}
+use Rattle.book_link.specs.Alterations.{altered, masked, place_in}
 
 some_length : (four : Bool) → 20 ≤ (if four then 20 else 40)
 some_length true = omega arith

@@ -2,18 +2,18 @@
 use Rattle.std.proofs.Common.{◌≡◌, ◌+◌, ◌-◌, ◌≤◌, ◌<◌, ℕ, Bool, true, false, List, [], ◌∷◌, length, Option, Some, None, if◌then◌else◌, slice_get, refl, sym, ap, ◌∙◌, subst, arith}
 use Rattle.ao_base.specs.declared.address.Pair.{Pair}
 use Rattle.ao_base.specs.declared.end.End.{End}
-use Rattle.segment_model.specs.Segments.{bit_of, reading}
+use Rattle.book_segments.specs.Segments.{bit_of, reading}
 use Rattle.tcp_segment.specs.Sums.{HasPlainHeader}
-use Rattle.key_model.specs.Rows.{Row}
-use Rattle.endpoint_model.specs.declared.verdict.Passed.{Passed}
-use Rattle.endpoint_model.specs.Verdicts.{Finding}
+use Rattle.book_keys.specs.Rows.{Row}
+use Rattle.book_endpoint.specs.declared.verdict.Passed.{Passed}
+use Rattle.book_endpoint.specs.Verdicts.{Finding}
 use Rattle.tcp_endpoint.specs.Arriving.{TellsPassed}
 use Rattle.tcp_endpoint.specs.declared.arrival.Arrived.{Arrived}
-use Rattle.link_model.specs.Alterations.{altered, has_place}
-use Rattle.link_model.specs.declared.event.Event.TheVariants.{Alter, Deliver}
-use Rattle.link_model.specs.Outcomes as book
-use Rattle.link_model.specs.Steps.{Stepped, alter, deliver}
-use Rattle.link_model.specs.Worlds.{Setup, World, Made, Came, Happening, Coming, forged, segment_named, side as side_of}
+use Rattle.book_link.specs.Alterations.{altered, has_place}
+use Rattle.book_link.specs.declared.event.Event.TheVariants.{Alter, Deliver}
+use Rattle.book_link.specs.Outcomes as book
+use Rattle.book_link.specs.Steps.{Stepped, alter, deliver}
+use Rattle.book_link.specs.Worlds.{Setup, World, Made, Came, Happening, Coming, forged, segment_named, side as side_of}
 use Rattle.link_log.specs.declared.entry.Entrance.{Entrance}
 use Rattle.link_log.specs.declared.entry.Entry.{Entry}
 use Rattle.link_log.specs.declared.log.Log.{Log}

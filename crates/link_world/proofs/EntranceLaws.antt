@@ -5,28 +5,28 @@ use Rattle.ao_base.specs.declared.address.Pair.{Pair}
 use Rattle.ao_base.specs.declared.end.End.{End}
 use Rattle.ao_base.specs.declared.end.End.TheVariants.{A, B}
 use Rattle.ao_base.specs.Algorithms.{mac_length_of}
-use Rattle.segment_model.specs.Bytes.{same_bytes}
-use Rattle.segment_model.specs.Options.{Ao, AoFound, Absent, One, Two, WithMd5 as FoundMd5, find_ao}
-use Rattle.segment_model.specs.Segments.{Segment, Reading, Read, Bad as Unread, reading, good, has, segment_length, SYN}
-use Rattle.segment_model.proofs.Fields.{some_is}
-use Rattle.mac_model.specs.Contexts.{bytes_of, context_of}
-use Rattle.mac_model.specs.MacInput.{mac_input}
-use Rattle.key_model.specs.Rows.{Row}
-use Rattle.key_model.specs.Choices.{Numbered, accept_row, acceptable_as, has_id}
-use Rattle.key_model.proofs.ChoiceLaws.{lowest-IsLowest}
-use Rattle.endpoint_model.specs.States.{EndState, is_closed}
-use Rattle.endpoint_model.specs.declared.verdict.Passed.{Passed}
-use Rattle.endpoint_model.specs.declared.verdict.Verdict.TheVariants.{NoTuple, Expired, MacLength, NoContext, Range, BadMac}
-use Rattle.endpoint_model.specs.Verdicts.{Finding, Judgement, key_of, mac_of, found_with, number_of}
-use Rattle.endpoint_model.proofs.JudgeSteps.{judge_number, judge_context, judge_row, judge_ao, judge_by_steps}
-use Rattle.endpoint_model.specs.declared.arrival.Arrival.TheVariants.{Foreign, Checksum, Closed as AtClosed}
-use Rattle.endpoint_model.specs.Arrivals.{Arrived, unmoved, arrive_judged, number_expected, numbers_known, judged_by, from_peer, arrive_read, arrive}
+use Rattle.book_segments.specs.Bytes.{same_bytes}
+use Rattle.book_segments.specs.Options.{Ao, AoFound, Absent, One, Two, WithMd5 as FoundMd5, find_ao}
+use Rattle.book_segments.specs.Segments.{Segment, Reading, Read, Bad as Unread, reading, good, has, segment_length, SYN}
+use Rattle.book_segments.proofs.Fields.{some_is}
+use Rattle.book_macs.specs.Contexts.{bytes_of, context_of}
+use Rattle.book_macs.specs.MacInput.{mac_input}
+use Rattle.book_keys.specs.Rows.{Row}
+use Rattle.book_keys.specs.Choices.{Numbered, accept_row, acceptable_as, has_id}
+use Rattle.book_keys.proofs.ChoiceLaws.{lowest-IsLowest}
+use Rattle.book_endpoint.specs.States.{EndState, is_closed}
+use Rattle.book_endpoint.specs.declared.verdict.Passed.{Passed}
+use Rattle.book_endpoint.specs.declared.verdict.Verdict.TheVariants.{NoTuple, Expired, MacLength, NoContext, Range, BadMac}
+use Rattle.book_endpoint.specs.Verdicts.{Finding, Judgement, key_of, mac_of, found_with, number_of}
+use Rattle.book_endpoint.proofs.JudgeSteps.{judge_number, judge_context, judge_row, judge_ao, judge_by_steps}
+use Rattle.book_endpoint.specs.declared.arrival.Arrival.TheVariants.{Foreign, Checksum, Closed as AtClosed}
+use Rattle.book_endpoint.specs.Arrivals.{Arrived, unmoved, arrive_judged, number_expected, numbers_known, judged_by, from_peer, arrive_read, arrive}
 use Rattle.ao_check.specs.Verdicts.{Names}
 use Rattle.tcp_endpoint.specs.Arriving.{TellsPassed}
 use Rattle.tcp_endpoint.specs.declared.arrival.Arrived.{Arrived as Told}
-use Rattle.link_model.specs.Steps.{Act, act_on, add, come, on_live, put}
-use Rattle.link_model.specs.Worlds.{Setup, pair_of, Session, Side as EndSide, Came, Happening, Making, Coming, World, side}
-use Rattle.link_laws.proofs.Tests.{choose}
+use Rattle.book_link.specs.Steps.{Act, act_on, add, come, on_live, put}
+use Rattle.book_link.specs.Worlds.{Setup, pair_of, Session, Side as EndSide, Came, Happening, Making, Coming, World, side}
+use Rattle.law_link.proofs.Tests.{choose}
 use Rattle.link_side.specs.declared.side.Side.{Side}
 use Rattle.link_side.specs.Passing.{IsCome}
 use Rattle.link_log.specs.declared.entry.Entrance.{Entrance}

@@ -3,17 +3,17 @@ use Rattle.std.proofs.Common.{◌≡◌, ℕ, ◌≤◌, Bool, true, false, not,
 use Rattle.std.proofs.lemmas.List.{length-take}
 use Rattle.std.specs.Prelude.{nat_lt, replicate}
 use Rattle.ao_base.specs.declared.end.End.{End}
-use Rattle.key_model.specs.Tables.{Adding, AddedAs, TooMany, OverlapsRow, adding, withdrawn}
-use Rattle.key_model.specs.Rows.{Row}
-use Rattle.endpoint_model.specs.States.{EndState, connected, listening, started, taking, gives, room, ready, give, close, abort}
-use Rattle.endpoint_model.specs.Emissions.{Emitted, Quiet, NoKey, Emits, emit, resend}
-use Rattle.link_model.specs.Alterations.{altered, has_place}
-use Rattle.link_model.specs.declared.event.Event.{Event}
-use Rattle.link_model.specs.declared.event.Event.TheVariants.{Clock, Connect, Listen, Start, Give, Fill, Send, Resend, Deliver, Inject, Alter, Take, Close, Abort, AddRow, Withdraw, Dump}
-use Rattle.link_model.specs.Outcomes as book
-use Rattle.link_model.specs.RowLines.{row_of}
-use Rattle.link_model.specs.Steps.{Act, act_on, add_row, begin, come, deliver, alter, given, image_of, on_live, quietly, send, send_again, sent, step, took, withdraw}
-use Rattle.link_model.specs.Worlds.{Setup, World, Session, Made, pair_of, side, find, segment_named}
+use Rattle.book_keys.specs.Tables.{Adding, AddedAs, TooMany, OverlapsRow, adding, withdrawn}
+use Rattle.book_keys.specs.Rows.{Row}
+use Rattle.book_endpoint.specs.States.{EndState, connected, listening, started, taking, gives, room, ready, give, close, abort}
+use Rattle.book_endpoint.specs.Emissions.{Emitted, Quiet, NoKey, Emits, emit, resend}
+use Rattle.book_link.specs.Alterations.{altered, has_place}
+use Rattle.book_link.specs.declared.event.Event.{Event}
+use Rattle.book_link.specs.declared.event.Event.TheVariants.{Clock, Connect, Listen, Start, Give, Fill, Send, Resend, Deliver, Inject, Alter, Take, Close, Abort, AddRow, Withdraw, Dump}
+use Rattle.book_link.specs.Outcomes as book
+use Rattle.book_link.specs.RowLines.{row_of}
+use Rattle.book_link.specs.Steps.{Act, act_on, add_row, begin, come, deliver, alter, given, image_of, on_live, quietly, send, send_again, sent, step, took, withdraw}
+use Rattle.book_link.specs.Worlds.{Setup, World, Session, Made, pair_of, side, find, segment_named}
 use Rattle.link_report.specs.declared.outcome.Outcome.{Outcome}
 use Rattle.link_report.specs.declared.outcome.Outcome.TheVariants as outcome
 use Rattle.link_report.specs.Outcomes.{Shows, content_of}

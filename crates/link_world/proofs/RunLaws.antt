@@ -1,10 +1,10 @@
 -- One more event.
 use Rattle.std.proofs.Common.{◌≡◌, List, [], ◌∷◌, ◌++◌, refl, ap}
-use Rattle.link_model.specs.declared.event.Event.{Event}
-use Rattle.link_model.specs.Outcomes.{Outcome}
-use Rattle.link_model.specs.Runs.{empty, outcomes_from, run, run_from}
-use Rattle.link_model.specs.Steps.{step}
-use Rattle.link_model.specs.Worlds.{Setup, World}
+use Rattle.book_link.specs.declared.event.Event.{Event}
+use Rattle.book_link.specs.Outcomes.{Outcome}
+use Rattle.book_link.specs.Runs.{empty, outcomes_from, run, run_from}
+use Rattle.book_link.specs.Steps.{step}
+use Rattle.book_link.specs.Worlds.{Setup, World}
 
 run_from_more : (setup : Setup) (w : World) (events : List Event) (e : Event)
     → run_from setup w (events ++ e ∷ []) ≡ (step setup (run_from setup w events) e).world

@@ -3,10 +3,10 @@ use Rattle.std.proofs.Common.{◌≡◌, ◌+◌, ◌-◌, ◌≤◌, ℕ, suc, 
 use Rattle.std.proofs.lemmas.List.{take-append-le, take-take}
 use Rattle.ao_base.specs.declared.end.End.{End}
 use Rattle.ao_check.proofs.KeyLaws.{same_row}
-use Rattle.key_model.specs.Rows.{Row}
-use Rattle.link_model.specs.Outcomes as book
-use Rattle.link_model.specs.Steps.{Stepped, step}
-use Rattle.link_model.specs.Worlds.{Setup, World, Made, Happening, Making, pair_of, segments, side as side_of}
+use Rattle.book_keys.specs.Rows.{Row}
+use Rattle.book_link.specs.Outcomes as book
+use Rattle.book_link.specs.Steps.{Stepped, step}
+use Rattle.book_link.specs.Worlds.{Setup, World, Made, Happening, Making, pair_of, segments, side as side_of}
 use Rattle.link_log.specs.declared.log.Log.{Log}
 use Rattle.link_log.specs.Entries.{IsMade}
 use Rattle.link_log.specs.Logs.{StandsLog, forgery_count, made_count}

@@ -6,13 +6,13 @@ use Rattle.std.specs.Str.{bytes_eq}
 use Rattle.std.proofs.lemmas.Slice.Eq.{bytes_eq-Decides}
 use Rattle.ao_base.specs.declared.address.Address.{Address}
 use Rattle.ao_base.specs.declared.address.Address.TheVariants.{V4, V6}
-use Rattle.segment_model.specs.Bytes.{same_bytes}
-use Rattle.segment_model.specs.Sockets.{same_address}
-use Rattle.segment_model.proofs.Fields.{same_bytes_tells}
-use Rattle.key_model.specs.Plans.{rows_at, rows_of_table}
-use Rattle.key_model.specs.Rows.{Table, has_address}
+use Rattle.book_segments.specs.Bytes.{same_bytes}
+use Rattle.book_segments.specs.Sockets.{same_address}
+use Rattle.book_segments.proofs.Fields.{same_bytes_tells}
+use Rattle.book_keys.specs.Plans.{rows_at, rows_of_table}
+use Rattle.book_keys.specs.Rows.{Table, has_address}
 use Rattle.key_table.specs.Lending.{place_of}
-use Rattle.format_model.specs.LinkFiles.{are_two_of_a_family}
+use Rattle.book_cmd_link.specs.LinkFiles.{are_two_of_a_family}
 use Rattle.tcp_endpoint.specs.Halves.{same_family}
 
 -- ---- the addresses

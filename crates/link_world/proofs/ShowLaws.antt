@@ -1,9 +1,9 @@
 -- The report of a world.
 use Rattle.std.proofs.Common.{◌≡◌, List, ◌++◌, refl}
-use Rattle.link_model.specs.declared.event.Event.{Event}
-use Rattle.link_model.specs.Reports.{lines_from, report, summary}
-use Rattle.link_model.specs.Runs.{empty, outcomes_from, run}
-use Rattle.link_model.specs.Worlds.{Setup}
+use Rattle.book_link.specs.declared.event.Event.{Event}
+use Rattle.book_link.specs.Reports.{lines_from, report, summary}
+use Rattle.book_link.specs.Runs.{empty, outcomes_from, run}
+use Rattle.book_link.specs.Worlds.{Setup}
 
 -- the report is the lines of the outcomes, and the summary
 pub report_is : (setup : Setup) (events : List Event)

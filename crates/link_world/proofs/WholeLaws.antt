@@ -5,31 +5,31 @@ use Rattle.std.proofs.lemmas.Bool.{eqb-true}
 use Rattle.ao_base.specs.declared.address.Pair.{Pair}
 use Rattle.ao_base.specs.declared.end.End.{End}
 use Rattle.ao_base.specs.Algorithms.{mac_length_of}
-use Rattle.segment_model.specs.Bytes.{ring}
-use Rattle.segment_model.specs.declared.fault.DatagramFault.{DatagramFault}
-use Rattle.segment_model.specs.Options.{find_ao}
-use Rattle.segment_model.specs.Segments.{Segment, Read, SYN, two_octets_at, v4_fault, v6_fault, first_fault, fields, read_unless, reading, spell}
-use Rattle.segment_model.specs.Spelling.{ip_length}
-use Rattle.segment_model.proofs.Blanked.{take_exact}
-use Rattle.segment_model.proofs.ByteLaws.{length_part}
-use Rattle.segment_model.proofs.Read.{tcp_read, v4_read, v6_read, tests}
-use Rattle.mac_model.specs.declared.context.Context.{Context}
-use Rattle.mac_model.specs.Contexts.{bytes_of, context_of}
-use Rattle.mac_model.specs.Keys.{traffic_key}
-use Rattle.mac_model.specs.MacInput.{mac_input}
-use Rattle.mac_model.proofs.LengthLaws.{length-mac, length-traffic_key}
+use Rattle.book_segments.specs.Bytes.{ring}
+use Rattle.book_segments.specs.declared.fault.DatagramFault.{DatagramFault}
+use Rattle.book_segments.specs.Options.{find_ao}
+use Rattle.book_segments.specs.Segments.{Segment, Read, SYN, two_octets_at, v4_fault, v6_fault, first_fault, fields, read_unless, reading, spell}
+use Rattle.book_segments.specs.Spelling.{ip_length}
+use Rattle.book_segments.proofs.Blanked.{take_exact}
+use Rattle.book_segments.proofs.ByteLaws.{length_part}
+use Rattle.book_segments.proofs.Read.{tcp_read, v4_read, v6_read, tests}
+use Rattle.book_macs.specs.declared.context.Context.{Context}
+use Rattle.book_macs.specs.Contexts.{bytes_of, context_of}
+use Rattle.book_macs.specs.Keys.{traffic_key}
+use Rattle.book_macs.specs.MacInput.{mac_input}
+use Rattle.book_macs.proofs.LengthLaws.{length-mac, length-traffic_key}
 use Rattle.tcp_segment.specs.Sums.{HasPlainHeader}
-use Rattle.key_model.specs.Rows.{Row}
-use Rattle.key_model.specs.Coordination.{Sending, choose as choose_row}
+use Rattle.book_keys.specs.Rows.{Row}
+use Rattle.book_keys.specs.Coordination.{Sending, choose as choose_row}
 use Rattle.key_coordination.proofs.ChoosingLaws.{choose_in}
 use Rattle.ao_check.proofs.KeyLaws.{got}
-use Rattle.endpoint_model.specs.States.{EndState}
-use Rattle.endpoint_model.specs.Emissions.{Draft, Emission, Emitted, Quiet, NoKey, Emits, sets, most_bytes, blank, own_ao, input_of, seal_of, sealed, seal_known, keyed, emitted, to_emit, to_resend, emit, resend}
+use Rattle.book_endpoint.specs.States.{EndState}
+use Rattle.book_endpoint.specs.Emissions.{Draft, Emission, Emitted, Quiet, NoKey, Emits, sets, most_bytes, blank, own_ao, input_of, seal_of, sealed, seal_known, keyed, emitted, to_emit, to_resend, emit, resend}
 use Rattle.segment_writer.specs.Drafts.{IsWritten}
 use Rattle.tcp_endpoint.specs.declared.emission.Made.{Made as Told}
-use Rattle.link_model.specs.Worlds.{Made, World}
-use Rattle.link_laws.proofs.Tests.{by_bool, choose}
-use Rattle.link_laws.proofs.Written.{area_ao, same_input}
+use Rattle.book_link.specs.Worlds.{Made, World}
+use Rattle.law_link.proofs.Tests.{by_bool, choose}
+use Rattle.law_link.proofs.Written.{area_ao, same_input}
 use Rattle.link_side.specs.declared.side.Side.{Side}
 use Rattle.link_side.specs.Passing.{made_by, IsSent}
 use Rattle.link_log.specs.Entries.{IsMade, IsWhole}

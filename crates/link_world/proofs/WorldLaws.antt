@@ -6,14 +6,14 @@ use Rattle.ao_base.specs.declared.address.Address.{Address}
 use Rattle.ao_base.specs.declared.address.Address.TheVariants.{V4, V6}
 use Rattle.ao_base.specs.declared.end.End.{End}
 use Rattle.ao_base.specs.declared.end.End.TheVariants.{A, B}
-use Rattle.key_model.specs.Rows.{Row}
+use Rattle.book_keys.specs.Rows.{Row}
 use Rattle.key_table.specs.Fitting.{FitsColumns}
-use Rattle.format_model.specs.LinkFiles.{are_two_of_a_family}
-use Rattle.link_model.specs.declared.event.Event.{Event}
-use Rattle.link_model.specs.Outcomes as book
-use Rattle.link_model.specs.Runs.{begins, empty, outcomes_from, run}
-use Rattle.link_model.specs.Steps.{Stepped, step}
-use Rattle.link_model.specs.Worlds.{Setup, World as Both, pair_of, rows_of}
+use Rattle.book_cmd_link.specs.LinkFiles.{are_two_of_a_family}
+use Rattle.book_link.specs.declared.event.Event.{Event}
+use Rattle.book_link.specs.Outcomes as book
+use Rattle.book_link.specs.Runs.{begins, empty, outcomes_from, run}
+use Rattle.book_link.specs.Steps.{Stepped, step}
+use Rattle.book_link.specs.Worlds.{Setup, World as Both, pair_of, rows_of}
 use Rattle.link_log.specs.declared.log.Log.{Log}
 use Rattle.link_log.specs.Logs.{StandsLog}
 use Rattle.link_report.specs.declared.outcome.Outcome.{Outcome}
@@ -21,7 +21,7 @@ use Rattle.link_report.specs.Outcomes.{AreShown, Shows}
 use Rattle.link_side.specs.declared.side.Side.{Side}
 use Rattle.link_side.specs.Sides.{StandsSide}
 use Rattle.link_world.specs.declared.world.World.{World}
-use Rattle.link_laws.specs.Laws.{EventFits, OneFamily, RowFits, SetupFits}
+use Rattle.law_link.specs.Laws.{EventFits, OneFamily, RowFits, SetupFits}
 use Rattle.link_world.specs.Fitting.{IsPlace, SocketsFit}
 use Rattle.link_world.specs.Following.{Acts, Happens, Moves, Rests, by_event}
 use Rattle.link_world.specs.Links.{AreOfEnd, AreOfLink, StandsAt, StandsLink}

@@ -2,10 +2,10 @@
 use Rattle.std.specs.Prelude.{ℕ, ◌≤◌, List, [], length, Option, Some, None, ⊤}
 use Rattle.ao_base.specs.declared.end.End.{End}
 use Rattle.ao_base.specs.declared.end.End.TheVariants.{A}
-use Rattle.key_model.specs.Lifetimes.{greatest_time}
-use Rattle.link_model.specs.declared.event.Event.{Event}
-use Rattle.link_model.specs.declared.event.Event.TheVariants.{Clock, Connect, Listen, Start, Give, Fill, Send, Resend, Deliver, Inject, Alter, Take, Close, Abort, AddRow, Withdraw, Dump}
-use Rattle.link_model.specs.Worlds.{Happening, Made, segment_named}
+use Rattle.book_keys.specs.Lifetimes.{greatest_time}
+use Rattle.book_link.specs.declared.event.Event.{Event}
+use Rattle.book_link.specs.declared.event.Event.TheVariants.{Clock, Connect, Listen, Start, Give, Fill, Send, Resend, Deliver, Inject, Alter, Take, Close, Abort, AddRow, Withdraw, Dump}
+use Rattle.book_link.specs.Worlds.{Happening, Made, segment_named}
 use Rattle.link_side.specs.Steps.{IsRowLine}
 
 -- a clock reads at most the greatest time, and a row that is added is one of a link file

@@ -3,8 +3,8 @@ use Rattle.std.specs.Prelude.{◌<◌}
 use Rattle.ao_base.specs.declared.address.Address.{Address}
 use Rattle.ao_base.specs.declared.address.Address.TheVariants.{V4, V6}
 use Rattle.ao_base.specs.declared.address.Socket.{Socket}
-use Rattle.segment_model.specs.Spelling.{IsV4, IsV6}
-use Rattle.link_laws.specs.Laws.{OneFamily}
+use Rattle.book_segments.specs.Spelling.{IsV4, IsV6}
+use Rattle.law_link.specs.Laws.{OneFamily}
 
 -- an address as long as its family's are, of bytes
 -- (RFC 791, section 3.1; RFC 8200, section 3)

@@ -2,9 +2,9 @@
 use Rattle.std.specs.Prelude.{◌≡◌, ℕ, ◌≤◌, ◌+◌, List, Result, Ok, Err}
 use Rattle.std.specs.declared.alloc.AllocError.{AllocError}
 use Rattle.ao_base.specs.declared.end.End.{End}
-use Rattle.link_model.specs.declared.event.Event.{Event}
-use Rattle.link_model.specs.Steps.{Stepped, come, on_live, step}
-use Rattle.link_model.specs.Worlds.{Setup, World, Side as EndSide, Happening, other, side as side_of}
+use Rattle.book_link.specs.declared.event.Event.{Event}
+use Rattle.book_link.specs.Steps.{Stepped, come, on_live, step}
+use Rattle.book_link.specs.Worlds.{Setup, World, Side as EndSide, Happening, other, side as side_of}
 use Rattle.link_log.specs.declared.log.Log.{Log}
 use Rattle.link_log.specs.Logs.{StandsLog, forgery_count, made_count}
 use Rattle.link_report.specs.declared.outcome.Outcome.{Outcome}

@@ -1,6 +1,6 @@
 -- How far an end has sent.
 use Rattle.std.specs.Prelude.{Option}
-use Rattle.format_model.specs.TimedRuns as book
+use Rattle.book_cmd_timed.specs.TimedRuns as book
 use Rattle.link_world.specs.declared.front.Front.{Front}
 
 -- the front of the definitions

@@ -2,7 +2,7 @@
 use Rattle.std.specs.Prelude.{◌≡◌}
 use Rattle.ao_base.specs.declared.end.End.{End}
 use Rattle.ao_base.specs.declared.end.End.TheVariants.{A, B}
-use Rattle.link_model.specs.Worlds.{Setup, World, pair_of, side as side_of}
+use Rattle.book_link.specs.Worlds.{Setup, World, pair_of, side as side_of}
 use Rattle.link_log.specs.declared.log.Log.{Log}
 use Rattle.link_log.specs.Logs.{StandsLog}
 use Rattle.link_side.specs.declared.side.Side.{Side}

@@ -1,11 +1,11 @@
 -- A datagram that came to an end.
 use Rattle.std.specs.Prelude.{◌≡◌, ◌-◌, List, ◌∷◌, Option, Some, None, slice_get, ⊤}
 use Rattle.ao_base.specs.declared.end.End.{End}
-use Rattle.segment_model.specs.Segments.{bit_of}
-use Rattle.key_model.specs.Rows.{Row}
-use Rattle.endpoint_model.specs.declared.verdict.Passed.{Passed}
-use Rattle.link_model.specs.Steps.{Stepped}
-use Rattle.link_model.specs.Worlds.{World, Came, Happening, Coming, forged, other, side as side_of}
+use Rattle.book_segments.specs.Segments.{bit_of}
+use Rattle.book_keys.specs.Rows.{Row}
+use Rattle.book_endpoint.specs.declared.verdict.Passed.{Passed}
+use Rattle.book_link.specs.Steps.{Stepped}
+use Rattle.book_link.specs.Worlds.{World, Came, Happening, Coming, forged, other, side as side_of}
 use Rattle.link_log.specs.declared.entry.Entrance.{Entrance}
 use Rattle.link_report.specs.declared.outcome.Outcome.{Outcome}
 use Rattle.link_report.specs.declared.outcome.Outcome.TheVariants as outcome

@@ -1,10 +1,10 @@
 -- What a world stands for: a setup, and the events so far.
 use Rattle.std.specs.Prelude.{◌≡◌, ℕ, List, length}
 use Rattle.std.specs.List.{AllByRecursion}
-use Rattle.link_laws.specs.Laws.{EventFits, SetupFits}
-use Rattle.link_model.specs.declared.event.Event.{Event}
-use Rattle.link_model.specs.Runs.{empty, outcomes_from, run}
-use Rattle.link_model.specs.Worlds as book
+use Rattle.law_link.specs.Laws.{EventFits, SetupFits}
+use Rattle.book_link.specs.declared.event.Event.{Event}
+use Rattle.book_link.specs.Runs.{empty, outcomes_from, run}
+use Rattle.book_link.specs.Worlds as book
 use Rattle.link_log.specs.Logs.{made_count}
 use Rattle.link_report.specs.Outcomes.{AreShown}
 use Rattle.link_world.specs.declared.setup.Setup.{Setup}

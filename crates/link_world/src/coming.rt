@@ -1,8 +1,8 @@
 //! The events by which a datagram comes to an end.
 ghost use Rattle.std.specs.Prelude.{◌≡◌, ◌<◌, ◌≤◌, ◌+◌, List, length, Ok};
 ghost use Rattle.std.specs.Option.{ForSome};
-ghost use Rattle.link_model.specs.declared.event.Event.TheVariants.{Alter, Deliver};
-ghost use Rattle.link_model.specs.Worlds.{Happening, Setup, World};
+ghost use Rattle.book_link.specs.declared.event.Event.TheVariants.{Alter, Deliver};
+ghost use Rattle.book_link.specs.Worlds.{Happening, Setup, World};
 ghost use Rattle.link_log.specs.Logs.{StandsLog, forgery_count, made_count};
 ghost use Rattle.link_world.specs.Following.{Acts, by_bytes, by_event};
 ghost use Rattle.link_world.specs.Links.{AreOfEnd, StandsAt};
@@ -10,7 +10,7 @@ ghost use Rattle.link_world.specs.Passing.{Counts, EntersAs, HasReceived, outcom
 
 use crate::copying::altered;
 use ao_base::{End, Steps};
-use endpoint_model::{Arrival, Passed};
+use book_endpoint::{Arrival, Passed};
 use key_table::Table;
 use link_log::{Entrance, Log};
 use link_report::Outcome;

@@ -1,7 +1,7 @@
 //! A copy of a segment with one byte altered.
 ghost use Rattle.std.specs.Prelude.{◌≡◌, ◌<◌, length, is_some, IfOk, IfSome};
-ghost use Rattle.link_model.specs.Alterations.{has_place, masked as masked_at, altered as altered_so};
-ghost use Rattle.segment_model.specs.Spelling.{ip_length};
+ghost use Rattle.book_link.specs.Alterations.{has_place, masked as masked_at, altered as altered_so};
+ghost use Rattle.book_segments.specs.Spelling.{ip_length};
 ghost use Rattle.tcp_segment.specs.Sums.{HasPlainHeader};
 
 use std::alloc::{AllocError, Global};

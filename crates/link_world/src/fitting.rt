@@ -2,16 +2,16 @@
 //! anything when it runs.
 ghost use Rattle.std.specs.Prelude.{◌≡◌, ◌<◌, true};
 ghost use Rattle.std.specs.List.{AllByRecursion};
-ghost use Rattle.format_model.specs.LinkFiles.{are_two_of_a_family};
-ghost use Rattle.segment_model.specs.Spelling.{AreBytes};
-ghost use Rattle.link_laws.specs.Laws.{EventFits, RowFits};
-ghost use Rattle.link_model.specs.RowLines.{row_of};
+ghost use Rattle.book_cmd_link.specs.LinkFiles.{are_two_of_a_family};
+ghost use Rattle.book_segments.specs.Spelling.{AreBytes};
+ghost use Rattle.law_link.specs.Laws.{EventFits, RowFits};
+ghost use Rattle.book_link.specs.RowLines.{row_of};
 ghost use Rattle.link_world.specs.Events.{CanHappen};
 ghost use Rattle.link_world.specs.Fitting.{IsPlace, SocketsFit};
 
 use ao_base::{Address, Socket};
+use book_link::{Event, RowLine};
 use key_table::Table;
-use link_model::{Event, RowLine};
 
 fn see_byte(byte: u8)
     ensures { byte < 256 }

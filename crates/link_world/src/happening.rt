@@ -1,6 +1,6 @@
 //! An event at the end where it happens.
 ghost use Rattle.std.specs.Prelude.{◌≡◌, ◌<◌, IsTrue, Ok, Err};
-ghost use Rattle.link_model.specs.Steps.{step};
+ghost use Rattle.book_link.specs.Steps.{step};
 ghost use Rattle.link_log.specs.Logs.{forgery_count, made_count};
 ghost use Rattle.link_world.specs.Events.{CanHappen, end_of};
 ghost use Rattle.link_world.specs.Following.{Acts, Happens, by_event};
@@ -11,8 +11,8 @@ use crate::coming::{Change, alter, deliver, inject};
 use crate::sending::send;
 use crate::showing::dump;
 use ao_base::End;
+use book_link::Event;
 use link_log::Log;
-use link_model::Event;
 use link_report::Outcome;
 use link_side::Side;
 use std::alloc::{AllocError, Global};

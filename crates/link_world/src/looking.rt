@@ -1,10 +1,10 @@
 //! Looking at a link.
 ghost use Rattle.std.specs.Prelude.{◌≡◌, ◌≤◌, List, length, None, Some, MatchOption, option_map};
-ghost use Rattle.key_model.specs.Lifetimes.{greatest_time};
-ghost use Rattle.format_model.specs.TimedRuns.{front_at};
-ghost use Rattle.link_model.specs.declared.event.Event.{Event as Happening};
-ghost use Rattle.link_model.specs.Runs.{run};
-ghost use Rattle.link_model.specs.Worlds.{Session, Setup as Link, forgeries, live, segment_named, segments, side};
+ghost use Rattle.book_keys.specs.Lifetimes.{greatest_time};
+ghost use Rattle.book_cmd_timed.specs.TimedRuns.{front_at};
+ghost use Rattle.book_link.specs.declared.event.Event.{Event as Happening};
+ghost use Rattle.book_link.specs.Runs.{run};
+ghost use Rattle.book_link.specs.Worlds.{Session, Setup as Link, forgeries, live, segment_named, segments, side};
 ghost use Rattle.link_log.specs.Logs.{MadeBy};
 ghost use Rattle.link_side.specs.Sides.{StandsSide};
 ghost use Rattle.tcp_endpoint.specs.Ends.{Stands};

@@ -2,8 +2,8 @@
 ghost use Rattle.std.specs.Prelude.{◌≡◌, ◌<◌, ◌≤◌, length};
 ghost use Rattle.ao_base.specs.declared.end.End.{End};
 ghost use Rattle.link_log.specs.Logs.{made_count};
-ghost use Rattle.link_model.specs.Steps.{step};
-ghost use Rattle.link_model.specs.Worlds.{Setup, World, pair_of, side as side_of};
+ghost use Rattle.book_link.specs.Steps.{step};
+ghost use Rattle.book_link.specs.Worlds.{Setup, World, pair_of, side as side_of};
 ghost use Rattle.link_report.specs.Outcomes.{Shows};
 ghost use Rattle.link_side.specs.Passing.{HasSent, length_sent, quiet, sending};
 ghost use Rattle.link_side.specs.Sides.{StandsSide};

@@ -1,8 +1,8 @@
 //! What a link begins with.
 ghost use Rattle.std.specs.Prelude.{◌≡◌, false};
 ghost use Rattle.ao_base.specs.declared.address.Address.{Address as Place};
-ghost use Rattle.key_model.specs.Plans.{rows_at};
-ghost use Rattle.segment_model.specs.Sockets.{same_address};
+ghost use Rattle.book_keys.specs.Plans.{rows_at};
+ghost use Rattle.book_segments.specs.Sockets.{same_address};
 
 use ao_base::{Address, Socket};
 use key_table::{Table, Tables};

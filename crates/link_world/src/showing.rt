@@ -1,10 +1,10 @@
 //! The report of a run, and its summary.
 ghost use Rattle.std.specs.Prelude.{◌≡◌, List, IfOk};
-ghost use Rattle.link_model.specs.declared.event.Event.{Event as Happening};
-ghost use Rattle.link_model.specs.Steps.{image_of};
-ghost use Rattle.link_model.specs.Reports.{report, summary};
-ghost use Rattle.link_model.specs.Runs.{run};
-ghost use Rattle.link_model.specs.Worlds.{Happening as Entry, Setup as Link, segment_named};
+ghost use Rattle.book_link.specs.declared.event.Event.{Event as Happening};
+ghost use Rattle.book_link.specs.Steps.{image_of};
+ghost use Rattle.book_link.specs.Reports.{report, summary};
+ghost use Rattle.book_link.specs.Runs.{run};
+ghost use Rattle.book_link.specs.Worlds.{Happening as Entry, Setup as Link, segment_named};
 ghost use Rattle.link_log.specs.Logs.{StandsLog};
 ghost use Rattle.link_report.specs.Outcomes.{Shows};
 

@@ -1,6 +1,6 @@
 //! Refusals in their order, lifetimes, laps, rows added and withdrawn, and what is signed.
 ghost use Rattle.std.specs.Prelude.{◌≡◌, ◌≤◌, ◌<◌, ◌+◌, length, IfSome};
-ghost use Rattle.key_model.specs.Lifetimes.{greatest_time};
+ghost use Rattle.book_keys.specs.Lifetimes.{greatest_time};
 ghost use Rattle.ao_check.specs.Bonds.{Bond, Fits};
 
 mod changes;

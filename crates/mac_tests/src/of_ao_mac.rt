@@ -1,7 +1,7 @@
 //! Segments of RFC 9235 have their MACs, one that is sealed has its MAC, and what two inputs share.
 ghost use Rattle.std.specs.Prelude.{◌≡◌, ◌<◌, ◌≤◌, length, IfSome};
 ghost use Rattle.ao_base.specs.Algorithms.{mac_length_of};
-ghost use Rattle.mac_model.specs.Keys.{key_length};
+ghost use Rattle.book_macs.specs.Keys.{key_length};
 ghost use Rattle.tcp_segment.specs.Writing.{IsHead};
 ghost use Rattle.ao_mac.specs.Macs.{HasAo};
 

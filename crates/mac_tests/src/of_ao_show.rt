@@ -1,6 +1,6 @@
 //! Datagrams of an independent program, shown, and faulty lines.
 use ao_base::LineKind;
-use ao_show::{TextProblem, show, vectors};
+use cmd_show::{TextProblem, show, vectors};
 use std::test::Fail;
 
 /// An ACK without options.

@@ -1,6 +1,6 @@
 //! Vectors of the RFCs and of an independent program, and faulty lines.
 use ao_base::LineKind;
-use ao_show::{TextProblem, Verified, vectors};
+use cmd_show::{TextProblem, Verified, vectors};
 use std::alloc::Global;
 use std::test::Fail;
 

@@ -2,11 +2,11 @@
 use Rattle.std.proofs.Common.{◌≡◌, ℕ, Bool, true, false, List, refl, sym, ap, ◌∙◌}
 use Rattle.std.specs.Prelude.{◌++◌, drop, length, nat_lt, not, take, if◌then◌else◌}
 use Rattle.std.proofs.Math.Seq.{take-append_seam}
-use Rattle.segment_model.specs.Segments.{spell}
-use Rattle.endpoint_model.specs.States.{EndState, at_end, give, gives, room, take_out, taking}
-use Rattle.endpoint_model.specs.States as states
-use Rattle.endpoint_model.specs.Emissions.{Emitted, Quiet, NoKey, Emits, Emission as BookEmission}
-use Rattle.format_model.specs.NodeRuns as book
+use Rattle.book_segments.specs.Segments.{spell}
+use Rattle.book_endpoint.specs.States.{EndState, at_end, give, gives, room, take_out, taking}
+use Rattle.book_endpoint.specs.States as states
+use Rattle.book_endpoint.specs.Emissions.{Emitted, Quiet, NoKey, Emits, Emission as BookEmission}
+use Rattle.book_cmd_node.specs.NodeRuns as book
 use Rattle.tcp_endpoint.specs.declared.emission.Emission.{Emission}
 use Rattle.tcp_endpoint.specs.declared.emission.Emission.TheVariants as emissions
 use Rattle.tcp_endpoint.specs.declared.emission.Made.{Made}

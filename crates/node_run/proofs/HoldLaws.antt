@@ -3,11 +3,11 @@ use Rattle.std.proofs.Common.{◌≡◌, ℕ, ◌+◌, Bool, true, false, List, 
 use Rattle.std.proofs.lemmas.List.{length-append}
 use Rattle.std.specs.Prelude.{is_some, option_map, if◌then◌else◌}
 use Rattle.ao_base.specs.declared.address.Pair.{Pair}
-use Rattle.key_model.specs.Rows.{Row}
-use Rattle.endpoint_model.specs.States.{EndState, tick}
-use Rattle.format_model.specs.NodeRuns.{Held, same_pair, held_end, with_end, without_end, ends_ticked}
-use Rattle.node_laws.proofs.Pairs.{same_pair_is}
-use Rattle.node_laws.proofs.Held.{held, IsOnce, end_with_same, end_with_other, end_without_other, end_ticked, end_pushed_other, end_pushed_same}
+use Rattle.book_keys.specs.Rows.{Row}
+use Rattle.book_endpoint.specs.States.{EndState, tick}
+use Rattle.book_cmd_node.specs.NodeRuns.{Held, same_pair, held_end, with_end, without_end, ends_ticked}
+use Rattle.law_node.proofs.Pairs.{same_pair_is}
+use Rattle.law_node.proofs.Held.{held, IsOnce, end_with_same, end_with_other, end_without_other, end_ticked, end_pushed_other, end_pushed_same}
 use Rattle.tcp_endpoint.specs.declared.endpoint.Endpoint.{Endpoint}
 use Rattle.ao_node.specs.Held.{Holding, end_at, ends, holds, Adds, Removes, Ticks, TicksAt}
 use Rattle.node_run.specs.Nodes.{StandsFor, StandsAt, HoldsAs}

@@ -1,10 +1,10 @@
 -- A run, event by event, as a loop makes it.
 use Rattle.std.proofs.Common.{◌≡◌, ℕ, ◌+◌, ◌<◌, suc, List, [], ◌∷◌, ◌++◌, length, drop, get_or, refl, sym, ap, ◌∙◌, append_assoc, arith}
 use Rattle.std.proofs.lemmas.List.{append-nil, drop_more}
-use Rattle.key_model.specs.Rows.{Row}
-use Rattle.line_model.specs.Texts.{numbered_text}
-use Rattle.format_model.specs.declared.node.NodeEvent.{NodeEvent}
-use Rattle.format_model.specs.NodeRuns.{NodeState, NodeOutcome, most_ends, no_ends, node_step, node_from, outcomes, node_outcomes_from, outcome_lines, node_text, node_texts}
+use Rattle.book_keys.specs.Rows.{Row}
+use Rattle.book_lines.specs.Texts.{numbered_text}
+use Rattle.book_cmd_node.specs.declared.node.NodeEvent.{NodeEvent}
+use Rattle.book_cmd_node.specs.NodeRuns.{NodeState, NodeOutcome, most_ends, no_ends, node_step, node_from, outcomes, node_outcomes_from, outcome_lines, node_text, node_texts}
 use Rattle.ao_node.specs.Held.{Holding}
 use Rattle.node_run.specs.Nodes.{HoldsAs, StandsNode, Reaches}
 use Rattle.node_run.specs.Telling.{Tells}

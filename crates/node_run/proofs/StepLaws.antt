@@ -2,18 +2,18 @@
 use Rattle.std.proofs.Common.{◌≡◌, ℕ, ◌≤◌, Bool, true, false, List, [], ◌∷◌, ◌++◌, length, Option, Some, None, Result, Ok, Err, OnOk, OnErr, refl, sym, ap, subst, ◌∙◌}
 use Rattle.std.specs.Prelude.{IfOk, is_some, nat_le, if◌then◌else◌, ⊤}
 use Rattle.ao_base.specs.declared.address.Pair.{Pair}
-use Rattle.segment_model.specs.Segments.{Reading, Read, Bad as Unread, reading}
-use Rattle.key_model.specs.Lifetimes.{greatest_time}
-use Rattle.key_model.specs.Rows.{Row}
-use Rattle.endpoint_model.specs.States.{EndState}
-use Rattle.endpoint_model.specs.Arrivals.{arrive}
-use Rattle.format_model.specs.declared.node.Act.{Act}
-use Rattle.format_model.specs.declared.node.Act.TheVariants as act
-use Rattle.format_model.specs.declared.node.NodeEvent.TheVariants as event
-use Rattle.format_model.specs.NodeRuns as book
-use Rattle.format_model.specs.NodeRuns.{NodeState, NodeStep, most_ends, same_pair, held_end, with_end, arrived_at, called, stays, after_call, new_end, injected, node_step, pair_reached}
-use Rattle.node_laws.proofs.Pairs.{same_pair_is}
-use Rattle.node_laws.proofs.Held.{held, once_with, once_without, once_ticked, once_pushed}
+use Rattle.book_segments.specs.Segments.{Reading, Read, Bad as Unread, reading}
+use Rattle.book_keys.specs.Lifetimes.{greatest_time}
+use Rattle.book_keys.specs.Rows.{Row}
+use Rattle.book_endpoint.specs.States.{EndState}
+use Rattle.book_endpoint.specs.Arrivals.{arrive}
+use Rattle.book_cmd_node.specs.declared.node.Act.{Act}
+use Rattle.book_cmd_node.specs.declared.node.Act.TheVariants as act
+use Rattle.book_cmd_node.specs.declared.node.NodeEvent.TheVariants as event
+use Rattle.book_cmd_node.specs.NodeRuns as book
+use Rattle.book_cmd_node.specs.NodeRuns.{NodeState, NodeStep, most_ends, same_pair, held_end, with_end, arrived_at, called, stays, after_call, new_end, injected, node_step, pair_reached}
+use Rattle.law_node.proofs.Pairs.{same_pair_is}
+use Rattle.law_node.proofs.Held.{held, once_with, once_without, once_ticked, once_pushed}
 use Rattle.tcp_endpoint.specs.declared.endpoint.Endpoint.{Endpoint}
 use Rattle.tcp_endpoint.specs.Arriving.{Arrives}
 use Rattle.tcp_endpoint.specs.Ends.{FitsEnd, Stands}

@@ -1,12 +1,12 @@
 -- A call of an end that is held.
 use Rattle.std.specs.Prelude.{ℕ, List}
 use Rattle.ao_base.specs.declared.address.Pair.{Pair}
-use Rattle.key_model.specs.Rows.{Row}
-use Rattle.endpoint_model.specs.States.{EndState, offered, close, abort}
-use Rattle.endpoint_model.specs.Emissions.{emit, resend}
-use Rattle.format_model.specs.declared.node.Act.{Act}
-use Rattle.format_model.specs.declared.node.Act.TheVariants as act
-use Rattle.format_model.specs.NodeRuns as book
+use Rattle.book_keys.specs.Rows.{Row}
+use Rattle.book_endpoint.specs.States.{EndState, offered, close, abort}
+use Rattle.book_endpoint.specs.Emissions.{emit, resend}
+use Rattle.book_cmd_node.specs.declared.node.Act.{Act}
+use Rattle.book_cmd_node.specs.declared.node.Act.TheVariants as act
+use Rattle.book_cmd_node.specs.NodeRuns as book
 use Rattle.tcp_endpoint.specs.declared.endpoint.Endpoint.{Endpoint}
 use Rattle.tcp_endpoint.specs.declared.emission.Emission.{Emission}
 use Rattle.tcp_endpoint.specs.declared.emission.Emission.TheVariants as emissions

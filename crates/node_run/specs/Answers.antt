@@ -1,11 +1,11 @@
 -- The answer of the command for a node's script over the tables of a key file. Our own format.
 use Rattle.std.specs.Prelude.{ℕ, List, Result, Ok}
-use Rattle.key_model.specs.Plans.{rows_at}
-use Rattle.key_model.specs.Rows.{Table}
-use Rattle.line_model.specs.declared.text_fault.TextFault.{TextFault}
+use Rattle.book_keys.specs.Plans.{rows_at}
+use Rattle.book_keys.specs.Rows.{Table}
+use Rattle.book_lines.specs.declared.text_fault.TextFault.{TextFault}
 use Rattle.ao_base.specs.Results.{◌>>=◌}
-use Rattle.format_model.specs.declared.node.NodeScript.{NodeScript}
-use Rattle.format_model.specs.NodeRuns.{node_script_of, node_text}
+use Rattle.book_cmd_node.specs.declared.node.NodeScript.{NodeScript}
+use Rattle.book_cmd_node.specs.NodeRuns.{node_script_of, node_text}
 
 -- the text of a script's run over the table of its node
 abbrev pub text_over : List Table → NodeScript → List ℕ

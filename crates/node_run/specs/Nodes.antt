@@ -1,12 +1,12 @@
 -- A node of the machine stands for a node of the definitions.
 use Rattle.std.specs.Prelude.{◌≡◌, ℕ, ◌≤◌, List, length, Option, Some, None, Result, Ok, Err, ⊤}
 use Rattle.ao_base.specs.declared.address.Pair.{Pair}
-use Rattle.key_model.specs.Lifetimes.{greatest_time}
-use Rattle.key_model.specs.Rows.{Row}
-use Rattle.endpoint_model.specs.States.{EndState}
-use Rattle.endpoint_model.specs.declared.arrival.Arrival.TheVariants as answers
-use Rattle.format_model.specs.declared.node.Act.{Act}
-use Rattle.format_model.specs.NodeRuns.{Held, NodeState, NodeStep, NoConnection, most_ends, held_end, without_end, stays, after_call}
+use Rattle.book_keys.specs.Lifetimes.{greatest_time}
+use Rattle.book_keys.specs.Rows.{Row}
+use Rattle.book_endpoint.specs.States.{EndState}
+use Rattle.book_endpoint.specs.declared.arrival.Arrival.TheVariants as answers
+use Rattle.book_cmd_node.specs.declared.node.Act.{Act}
+use Rattle.book_cmd_node.specs.NodeRuns.{Held, NodeState, NodeStep, NoConnection, most_ends, held_end, without_end, stays, after_call}
 use Rattle.tcp_endpoint.specs.declared.endpoint.Endpoint.{Endpoint}
 use Rattle.tcp_endpoint.specs.Ends.{Stands, FitsEnd}
 use Rattle.ao_node.specs.declared.answer.NodeArrival.{NodeArrival}

@@ -1,9 +1,9 @@
 -- What the answers of a run stand for.
 use Rattle.std.specs.Prelude.{◌≡◌, ℕ, List, length, take}
-use Rattle.segment_model.specs.Segments.{spell}
+use Rattle.book_segments.specs.Segments.{spell}
 use Rattle.key_coordination.specs.Sendings.{told}
-use Rattle.endpoint_model.specs.Emissions.{Emission}
-use Rattle.format_model.specs.NodeRuns as book
+use Rattle.book_endpoint.specs.Emissions.{Emission}
+use Rattle.book_cmd_node.specs.NodeRuns as book
 use Rattle.tcp_endpoint.specs.declared.emission.Made.{Made}
 use Rattle.node_run.specs.declared.told.Told.{Told}
 use Rattle.node_run.specs.declared.told.Told.TheVariants as tells

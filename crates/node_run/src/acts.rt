@@ -1,15 +1,15 @@
 //! What happens at an end that is held.
 ghost use Rattle.std.specs.Prelude.{◌≡◌, ◌≤◌, ℕ, List, length, IfOk};
-ghost use Rattle.key_model.specs.Rows.{Row};
-ghost use Rattle.endpoint_model.specs.States.{EndState};
+ghost use Rattle.book_keys.specs.Rows.{Row};
+ghost use Rattle.book_endpoint.specs.States.{EndState};
 ghost use Rattle.tcp_endpoint.specs.Ends.{Stands, FitsEnd};
-ghost use Rattle.format_model.specs.NodeRuns.{take_called};
+ghost use Rattle.book_cmd_node.specs.NodeRuns.{take_called};
 ghost use Rattle.node_run.specs.Acting.{Follows, HasActed, told_given, told_made, told_again};
 ghost use Rattle.node_run.specs.Telling.{length_told};
 
 use crate::told::Told;
 use ao_base::{Bytes, Steps};
-use format_model::Act;
+use book_cmd_node::Act;
 use key_table::Table;
 use std::alloc::{AllocError, Global};
 use std::sync::ledger::Ledger;

@@ -1,10 +1,10 @@
 //! The whole answer to a node's file.
 ghost use Rattle.std.specs.Prelude.{◌≡◌, [], IfOk};
 ghost use Rattle.ao_base.specs.declared.address.Pair.{Pair as OnePair};
-ghost use Rattle.key_model.specs.Plans.{rows_at};
-ghost use Rattle.format_model.specs.declared.node.NodeScript.{NodeScript as OneScript};
-ghost use Rattle.format_model.specs.NodeRuns.{node_script_of, node_text};
-ghost use Rattle.node_laws.specs.Alone.{Alone};
+ghost use Rattle.book_keys.specs.Plans.{rows_at};
+ghost use Rattle.book_cmd_node.specs.declared.node.NodeScript.{NodeScript as OneScript};
+ghost use Rattle.book_cmd_node.specs.NodeRuns.{node_script_of, node_text};
+ghost use Rattle.law_node.specs.Alone.{Alone};
 ghost use Rattle.text_lines.specs.Readings.{Answers};
 ghost use Rattle.node_script.specs.Scripts.{IsScript};
 ghost use Rattle.node_run.specs.Answers.{node_answer};
@@ -12,9 +12,9 @@ ghost use Rattle.node_run.specs.Answers.{node_answer};
 use crate::run::run_node;
 use ao_base::Bytes;
 use ao_node::Node;
-use format_model::NodeScript;
+use book_cmd_node::NodeScript;
+use book_lines::TextFault;
 use key_table::{Table, Tables};
-use line_model::TextFault;
 use node_script::read_node;
 use std::alloc::{AllocError, Global};
 

@@ -1,8 +1,8 @@
 //! The events of a node.
 ghost use Rattle.std.specs.Prelude.{◌≡◌, ◌≤◌, length, IfOk};
-ghost use Rattle.key_model.specs.Lifetimes.{greatest_time};
+ghost use Rattle.book_keys.specs.Lifetimes.{greatest_time};
 ghost use Rattle.tcp_segment.specs.Writing.{IsOneFamily};
-ghost use Rattle.format_model.specs.NodeRuns.{NodeState, most_ends, node_step, on_pair, held_end};
+ghost use Rattle.book_cmd_node.specs.NodeRuns.{NodeState, most_ends, node_step, on_pair, held_end};
 ghost use Rattle.node_script.specs.Scripts.{IsEvent};
 ghost use Rattle.ao_base.specs.declared.address.Address.{Address as OneAddress};
 ghost use Rattle.ao_node.specs.Held.{FitsAll};
@@ -14,7 +14,7 @@ use crate::acts::act_on;
 use crate::told::Told;
 use ao_base::{Pair, Steps};
 use ao_node::{Node, NodeArrival, NodeRefusal};
-use format_model::{Act, NodeEvent};
+use book_cmd_node::{Act, NodeEvent};
 use key_table::Table;
 use std::alloc::{AllocError, Global};
 use std::sync::ledger::Ledger;

@@ -1,10 +1,10 @@
 //! The line of an answer.
 ghost use Rattle.std.specs.Prelude.{◌≡◌, ◌≤◌, ◌++◌, ◌∷◌, [], OnOk, codes, decimal, length};
 ghost use Rattle.ao_base.specs.Hexadecimal.{hex_of};
-ghost use Rattle.endpoint_model.specs.Emissions.{Emission};
-ghost use Rattle.line_model.specs.Texts.{numbered_text, spaced};
-ghost use Rattle.link_model.specs.Reports.{flags_text};
-ghost use Rattle.format_model.specs.NodeRuns.{NodeOutcome, node_texts, node_sent_texts};
+ghost use Rattle.book_endpoint.specs.Emissions.{Emission};
+ghost use Rattle.book_lines.specs.Texts.{numbered_text, spaced};
+ghost use Rattle.book_link.specs.Reports.{flags_text};
+ghost use Rattle.book_cmd_node.specs.NodeRuns.{NodeOutcome, node_texts, node_sent_texts};
 ghost use Rattle.node_run.specs.Telling.{Tells, TellsMade, length_told};
 
 use crate::told::Told;

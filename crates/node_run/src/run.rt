@@ -1,8 +1,8 @@
 //! The run of a node's script.
 ghost use Rattle.std.specs.Prelude.{◌≡◌, ◌<◌, ◌≤◌, [], length, IfOk, OnOk};
 ghost use Rattle.ao_base.specs.declared.address.Pair.{Pair as OnePair};
-ghost use Rattle.format_model.specs.NodeRuns.{most_ends, no_ends, node_from, node_text};
-ghost use Rattle.node_laws.specs.Alone.{Alone};
+ghost use Rattle.book_cmd_node.specs.NodeRuns.{most_ends, no_ends, node_from, node_text};
+ghost use Rattle.law_node.specs.Alone.{Alone};
 ghost use Rattle.node_script.specs.Scripts.{IsScript};
 ghost use Rattle.node_run.specs.Nodes.{HoldsAs};
 
@@ -10,9 +10,9 @@ use crate::events::step;
 use crate::lines::push_told;
 use ao_base::{Bytes, Steps};
 use ao_node::Node;
-use format_model::NodeScript;
+use book_cmd_node::NodeScript;
 use key_table::Table;
-use node_laws::each_is_alone;
+use law_node::each_is_alone;
 use std::alloc::{AllocError, Global};
 use std::marker::Brand;
 use std::sync::ledger::{Blank, Ledger};

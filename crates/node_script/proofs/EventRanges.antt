@@ -5,16 +5,16 @@ use Rattle.ao_base.specs.declared.address.Address.{Address}
 use Rattle.ao_base.specs.declared.address.Pair.{Pair}
 use Rattle.ao_base.specs.declared.line_kind.LineKind.{LineKind}
 use Rattle.ao_base.specs.declared.line_kind.LineKind.TheVariants.{Range}
-use Rattle.key_model.specs.Lifetimes.{greatest_time}
-use Rattle.line_model.specs.Words.{Taken, word_in, nothing_in, address_in, number_in, sized_hex_in, some_hex_in}
+use Rattle.book_keys.specs.Lifetimes.{greatest_time}
+use Rattle.book_lines.specs.Words.{Taken, word_in, nothing_in, address_in, number_in, sized_hex_in, some_hex_in}
 use Rattle.ao_base.specs.Results.{◌>>=◌}
-use Rattle.format_model.specs.declared.node.Act.{Act}
-use Rattle.format_model.specs.declared.node.Act.TheVariants as act
-use Rattle.format_model.specs.declared.node.NodeEvent.{NodeEvent}
-use Rattle.format_model.specs.declared.node.NodeEvent.TheVariants as event
-use Rattle.format_model.specs.LinkEvents.{greatest_isn}
-use Rattle.format_model.specs.LinkFiles.{are_two_of_a_family}
-use Rattle.format_model.specs.NodeRuns.{pair_in, act_alone, act_number, act_start, act_give, clock_of, node_inject_of, node_event_named, node_event_of}
+use Rattle.book_cmd_node.specs.declared.node.Act.{Act}
+use Rattle.book_cmd_node.specs.declared.node.Act.TheVariants as act
+use Rattle.book_cmd_node.specs.declared.node.NodeEvent.{NodeEvent}
+use Rattle.book_cmd_node.specs.declared.node.NodeEvent.TheVariants as event
+use Rattle.book_cmd_link.specs.LinkEvents.{greatest_isn}
+use Rattle.book_cmd_link.specs.LinkFiles.{are_two_of_a_family}
+use Rattle.book_cmd_node.specs.NodeRuns.{pair_in, act_alone, act_number, act_start, act_give, clock_of, node_inject_of, node_event_named, node_event_of}
 use Rattle.link_script.proofs.WordRanges.{bind_ok, address_ok, number_ok, hex_ok, some_hex_ok}
 use Rattle.node_script.specs.Scripts.{IsAct, IsEvent, IsPair}
 

@@ -4,7 +4,7 @@ use Rattle.std.specs.Str.{bytes_eq}
 use Rattle.std.proofs.lemmas.Slice.Eq.{bytes_eq-Decides}
 use Rattle.ao_base.specs.declared.address.Address.{Address}
 use Rattle.ao_base.specs.declared.line_kind.LineKind.TheVariants.{Word}
-use Rattle.format_model.specs.NodeRuns.{node_event_named}
+use Rattle.book_cmd_node.specs.NodeRuns.{node_event_named}
 use Rattle.node_script.specs.declared.name.Name.{Name}
 use Rattle.node_script.specs.declared.name.Name.TheVariants as name
 use Rattle.node_script.specs.Names.{name_text}

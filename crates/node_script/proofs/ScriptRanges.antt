@@ -6,15 +6,15 @@ use Rattle.ao_base.specs.declared.address.Address.{Address}
 use Rattle.ao_base.specs.declared.line_kind.LineKind.{LineKind}
 use Rattle.ao_base.specs.declared.line_kind.LineKind.TheVariants as kind
 use Rattle.ao_base.specs.Lines.{lines_of}
-use Rattle.line_model.specs.declared.text_fault.TextFault.{TextFault}
-use Rattle.line_model.specs.declared.text_fault.TextFault.TheVariants as fault
-use Rattle.line_model.specs.Lines.{Line, saying_from}
-use Rattle.line_model.specs.Said.{numbered}
-use Rattle.line_model.specs.Words.{address_in, literal_in, nothing_in}
-use Rattle.format_model.specs.declared.node.NodeEvent.{NodeEvent}
-use Rattle.format_model.specs.declared.node.NodeScript.{NodeScript}
-use Rattle.format_model.specs.LinkFiles.{Left, at_line, line_in, title_of}
-use Rattle.format_model.specs.NodeRuns.{own_address_of, node_event_of, node_events_of, node_script_in, node_script_of}
+use Rattle.book_lines.specs.declared.text_fault.TextFault.{TextFault}
+use Rattle.book_lines.specs.declared.text_fault.TextFault.TheVariants as fault
+use Rattle.book_lines.specs.Lines.{Line, saying_from}
+use Rattle.book_lines.specs.Said.{numbered}
+use Rattle.book_lines.specs.Words.{address_in, literal_in, nothing_in}
+use Rattle.book_cmd_node.specs.declared.node.NodeEvent.{NodeEvent}
+use Rattle.book_cmd_node.specs.declared.node.NodeScript.{NodeScript}
+use Rattle.book_cmd_link.specs.LinkFiles.{Left, at_line, line_in, title_of}
+use Rattle.book_cmd_node.specs.NodeRuns.{own_address_of, node_event_of, node_events_of, node_script_in, node_script_of}
 use Rattle.text_lines.proofs.SaidLaws.{saying_length}
 use Rattle.link_script.specs.Scripts.{IsAddress}
 use Rattle.link_script.proofs.WordRanges.{bind_ok, address_ok}

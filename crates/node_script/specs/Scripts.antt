@@ -3,15 +3,15 @@ use Rattle.std.specs.Prelude.{◌≡◌, ℕ, ◌+◌, ◌<◌, ◌≤◌, true,
 use Rattle.hex.specs.Hex.{IsBytes}
 use Rattle.ao_base.specs.declared.address.Address.{Address}
 use Rattle.ao_base.specs.declared.address.Pair.{Pair}
-use Rattle.key_model.specs.Lifetimes.{greatest_time}
-use Rattle.line_model.specs.Lines.{most_lines}
-use Rattle.format_model.specs.declared.node.Act.{Act}
-use Rattle.format_model.specs.declared.node.Act.TheVariants as act
-use Rattle.format_model.specs.declared.node.NodeEvent.{NodeEvent}
-use Rattle.format_model.specs.declared.node.NodeEvent.TheVariants as event
-use Rattle.format_model.specs.declared.node.NodeScript.{NodeScript}
-use Rattle.format_model.specs.LinkEvents.{greatest_isn}
-use Rattle.format_model.specs.LinkFiles.{are_two_of_a_family}
+use Rattle.book_keys.specs.Lifetimes.{greatest_time}
+use Rattle.book_lines.specs.Lines.{most_lines}
+use Rattle.book_cmd_node.specs.declared.node.Act.{Act}
+use Rattle.book_cmd_node.specs.declared.node.Act.TheVariants as act
+use Rattle.book_cmd_node.specs.declared.node.NodeEvent.{NodeEvent}
+use Rattle.book_cmd_node.specs.declared.node.NodeEvent.TheVariants as event
+use Rattle.book_cmd_node.specs.declared.node.NodeScript.{NodeScript}
+use Rattle.book_cmd_link.specs.LinkEvents.{greatest_isn}
+use Rattle.book_cmd_link.specs.LinkFiles.{are_two_of_a_family}
 use Rattle.link_script.specs.Scripts.{AreBytes, IsAddress, IsSocket}
 
 -- a connection of the node: the node's address here, another one of its family there

@@ -1,13 +1,13 @@
 //! The lines in front of a node's file: its title and the node's address.
 ghost use Rattle.std.specs.Prelude.{◌≡◌, [], ◌∷◌, codes, IfOk, IfErr};
 ghost use Rattle.ao_base.specs.declared.line_kind.LineKind.TheVariants as line_kind;
-ghost use Rattle.line_model.specs.declared.text_fault.TextFault.TheVariants as fault;
-ghost use Rattle.format_model.specs.LinkFiles.{line_in, title_of};
-ghost use Rattle.format_model.specs.NodeRuns.{own_address_of};
+ghost use Rattle.book_lines.specs.declared.text_fault.TextFault.TheVariants as fault;
+ghost use Rattle.book_cmd_link.specs.LinkFiles.{line_in, title_of};
+ghost use Rattle.book_cmd_node.specs.NodeRuns.{own_address_of};
 ghost use Rattle.link_script.specs.Left.{leaves};
 
 use ao_base::{Address, LineKind};
-use line_model::TextFault;
+use book_lines::TextFault;
 use text_lines::{LineWords, Saying, SayingLines};
 
 /// The next line that says something; where it is missing, a fault of the head at the number after
@@ -22,7 +22,7 @@ fn next_line<'a>(lines: &mut SayingLines<'a>, missing: u32) -> Result<Saying<'a>
     }
 }
 
-#[tactic(auto, unfolding(format_model::specs::LinkFiles::title_of))]
+#[tactic(auto, unfolding(book_cmd_link::specs::LinkFiles::title_of))]
 fn title(words: &mut LineWords) -> Result<(), LineKind>
     ensures { result ≡ title_of (codes "aotcp-node") words.old }
 {
@@ -41,7 +41,7 @@ fn address(words: &mut LineWords) -> Result<Address, LineKind>
 }
 
 /// The first line that says something.
-#[tactic(auto, unfolding(format_model::specs::LinkFiles::line_in))]
+#[tactic(auto, unfolding(book_cmd_link::specs::LinkFiles::line_in))]
 pub(crate) fn title_line(lines: &mut SayingLines, missing: u32) -> Result<(), TextFault>
     ensures { leaves result lines.new ≡ line_in missing line_kind.Header (title_of (codes "aotcp-node")) lines.old }
 {
@@ -53,7 +53,7 @@ pub(crate) fn title_line(lines: &mut SayingLines, missing: u32) -> Result<(), Te
 }
 
 /// The line of the node's address.
-#[tactic(auto, unfolding(format_model::specs::LinkFiles::line_in))]
+#[tactic(auto, unfolding(book_cmd_link::specs::LinkFiles::line_in))]
 pub(crate) fn address_line(lines: &mut SayingLines, missing: u32) -> Result<Address, TextFault>
     ensures { leaves result lines.new ≡ line_in missing line_kind.Header own_address_of lines.old }
 {

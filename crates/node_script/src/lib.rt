@@ -7,6 +7,6 @@ mod line_events;
 mod name;
 mod reading;
 
-pub use format_model::{Act, NodeEvent, NodeEvents, NodeScript};
-pub use line_model::TextFault as NodeFault;
+pub use book_cmd_node::{Act, NodeEvent, NodeEvents, NodeScript};
+pub use book_lines::TextFault as NodeFault;
 pub use reading::read_node;

@@ -1,16 +1,16 @@
 //! The events of a node, each read from the words of its line.
 ghost use Rattle.std.specs.Prelude.{◌≡◌};
 ghost use Rattle.text_lines.specs.Readings.{Tells, gives};
-ghost use Rattle.format_model.specs.declared.node.Act.TheVariants as acts;
-ghost use Rattle.format_model.specs.LinkEvents.{greatest_isn};
-ghost use Rattle.format_model.specs.LinkFiles.{are_two_of_a_family};
-ghost use Rattle.format_model.specs.NodeRuns.{act_alone, act_give, act_number, act_start, clock_of, node_inject_of, node_event_named, node_event_of, pair_in};
+ghost use Rattle.book_cmd_node.specs.declared.node.Act.TheVariants as acts;
+ghost use Rattle.book_cmd_link.specs.LinkEvents.{greatest_isn};
+ghost use Rattle.book_cmd_link.specs.LinkFiles.{are_two_of_a_family};
+ghost use Rattle.book_cmd_node.specs.NodeRuns.{act_alone, act_give, act_number, act_start, clock_of, node_inject_of, node_event_named, node_event_of, pair_in};
 ghost use Rattle.node_script.specs.Names.{name_text};
 
 use crate::name::Name;
 use ao_base::{Address, LineKind, Pair, Socket};
-use format_model::{Act, NodeEvent};
-use key_model::LATEST;
+use book_cmd_node::{Act, NodeEvent};
+use book_keys::LATEST;
 use std::alloc::Global;
 use text_lines::{LineWords, Refusal};
 
@@ -119,7 +119,7 @@ fn inject(alloc: Global, words: &mut LineWords) -> Result<NodeEvent, Refusal>
 }
 
 /// The event that the name and the words after it make.
-#[tactic(auto, unfolding(format_model::specs::NodeRuns::node_event_named))]
+#[tactic(auto, unfolding(book_cmd_node::specs::NodeRuns::node_event_named))]
 fn named(
     alloc: Global,
     own: &Address,
@@ -145,7 +145,7 @@ fn named(
 }
 
 /// The event of a node with this address that the words of a line make.
-#[tactic(auto, unfolding(format_model::specs::NodeRuns::node_event_of), using(crate::proofs::NameLaws::named_or_not))]
+#[tactic(auto, unfolding(book_cmd_node::specs::NodeRuns::node_event_of), using(crate::proofs::NameLaws::named_or_not))]
 pub(crate) fn read_event(
     alloc: Global,
     own: &Address,

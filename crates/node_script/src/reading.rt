@@ -1,17 +1,17 @@
 //! A node's file, read from its first line to its last.
 ghost use Rattle.std.specs.Prelude.{◌≡◌, ◌<◌, ◌↔◌, length, IfOk, IsErrOf};
 ghost use Rattle.ao_base.specs.Lines.{lines_of};
-ghost use Rattle.line_model.specs.Lines.{most_lines};
-ghost use Rattle.line_model.specs.Said.{numbered};
+ghost use Rattle.book_lines.specs.Lines.{most_lines};
+ghost use Rattle.book_lines.specs.Said.{numbered};
 ghost use Rattle.text_lines.specs.Readings.{Answers};
-ghost use Rattle.format_model.specs.NodeRuns.{node_event_of, node_events_of, node_script_of};
+ghost use Rattle.book_cmd_node.specs.NodeRuns.{node_event_of, node_events_of, node_script_of};
 ghost use Rattle.node_script.specs.Scripts.{IsScript};
 
 use crate::head::{address_line, title_line};
 use crate::line_events::read_event;
 use ao_base::Address;
-use format_model::{NodeEvent, NodeEvents, NodeScript};
-use line_model::TextFault;
+use book_cmd_node::{NodeEvent, NodeEvents, NodeScript};
+use book_lines::TextFault;
 use std::alloc::Global;
 use text_lines::{Saying, SayingLines, count_lines};
 
@@ -37,7 +37,7 @@ fn events(alloc: Global, own: &Address, lines: &mut SayingLines) -> Result<NodeE
     Ok(NodeEvents::from_vec(events))
 }
 
-#[tactic(auto, unfolding(format_model::specs::NodeRuns::node_script_of, format_model::specs::NodeRuns::node_script_in))]
+#[tactic(auto, unfolding(book_cmd_node::specs::NodeRuns::node_script_of, book_cmd_node::specs::NodeRuns::node_script_in))]
 fn read(alloc: Global, text: &[u8]) -> Result<NodeScript, TextFault>
     ensures { Answers result (node_script_of text.now) }
 {

@@ -6,8 +6,8 @@ use Rattle.std.proofs.lemmas.List.Elements.{All-append}
 use Rattle.ao_base.specs.Buffered.{Buffered}
 use Rattle.ao_base.specs.Outside.{Side, Gave, Rose, IsAtEnd, told}
 use Rattle.ao_base.proofs.Sides.{gave_more, nothing_told}
-use Rattle.wire_model.specs.declared.pcap_head.Head.{Head}
-use Rattle.wire_model.specs.Packets.{Broken, Whole, record_at, datagram_of}
+use Rattle.book_pcap.specs.declared.pcap_head.Head.{Head}
+use Rattle.book_pcap.specs.Packets.{Broken, Whole, record_at, datagram_of}
 use Rattle.pcap_file.specs.declared.records.Found.{Found}
 use Rattle.pcap_file.specs.declared.records.Opened.TheVariants as opening
 use Rattle.pcap_file.specs.declared.packets.PacketStep.TheVariants as step

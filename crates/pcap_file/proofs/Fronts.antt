@@ -3,11 +3,11 @@ use Rattle.std.proofs.Common.{◌≡◌, ℕ, ◌+◌, ◌-◌, ◌<◌, ◌≤�
 use Rattle.std.proofs.lemmas.Bool.{cases_eq, cases_lt, lt-ltb, le-ltb}
 use Rattle.std.proofs.lemmas.List.{length-append, length-take-le, length-drop, nil_from_length, take-append-drop, drop-append-le}
 use Rattle.std.proofs.Math.Seq.{take-append_seam, drop-append_seam}
-use Rattle.wire_model.specs.declared.pcap_head.ByteOrder.{ByteOrder}
-use Rattle.wire_model.specs.declared.pcap_head.Head.{Head}
-use Rattle.wire_model.specs.declared.pcap_head.HeadFault.{HeadFault}
-use Rattle.wire_model.specs.Packets.{Kept, Done, Whole, four_at, record_at, head_of, and_rest, opened}
-use Rattle.wire_model.proofs.Captures.{record_none, record_short, record_over, record_part, record_whole}
+use Rattle.book_pcap.specs.declared.pcap_head.ByteOrder.{ByteOrder}
+use Rattle.book_pcap.specs.declared.pcap_head.Head.{Head}
+use Rattle.book_pcap.specs.declared.pcap_head.HeadFault.{HeadFault}
+use Rattle.book_pcap.specs.Packets.{Kept, Done, Whole, four_at, record_at, head_of, and_rest, opened}
+use Rattle.book_pcap.proofs.Captures.{record_none, record_short, record_over, record_part, record_whole}
 use Rattle.pcap_file.specs.Reading.{opened_from}
 use Rattle.pcap_file.proofs.Parts.{four_in_front}
 

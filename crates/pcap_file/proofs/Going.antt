@@ -3,9 +3,9 @@ use Rattle.std.proofs.Common.{◌≡◌, ℕ, ◌+◌, ◌≤◌, List, [], ◌+
 use Rattle.std.proofs.lemmas.List.{append-nil, append_cancel_right, length-append}
 use Rattle.ao_base.specs.Outside.{Side, told}
 use Rattle.ao_base.proofs.Sides.{nothing_told}
-use Rattle.wire_model.specs.declared.pcap_head.HeadFault.{HeadFault}
-use Rattle.wire_model.specs.Packets.{BadHead as head_refused, BadRecord as record_refused, datagram_of}
-use Rattle.wire_model.proofs.Captures.{record_none, packets_step}
+use Rattle.book_pcap.specs.declared.pcap_head.HeadFault.{HeadFault}
+use Rattle.book_pcap.specs.Packets.{BadHead as head_refused, BadRecord as record_refused, datagram_of}
+use Rattle.book_pcap.proofs.Captures.{record_none, packets_step}
 use Rattle.pcap_file.specs.declared.packets.PacketStep.{PacketStep}
 use Rattle.pcap_file.specs.declared.packets.PacketStep.TheVariants.{Packet, End, Fault, TooLong, BadHead, BadRecord}
 use Rattle.pcap_file.specs.Reading.{Reading, Steps, Shows, GoesOn, packets_at, opened_from}

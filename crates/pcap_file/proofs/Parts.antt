@@ -8,13 +8,13 @@ use Rattle.ao_base.specs.Buffered.{Buffered}
 use Rattle.ao_base.specs.Outside.{Side, told}
 use Rattle.ao_base.proofs.Sides.{gave_more, nothing_told, rose_after}
 use Rattle.ao_base.proofs.Slices.{part_within}
-use Rattle.wire_model.specs.declared.pcap_head.ByteOrder.{ByteOrder}
-use Rattle.wire_model.specs.declared.pcap_head.ByteOrder.TheVariants.{Big, Little}
-use Rattle.wire_model.specs.declared.pcap_head.LinkType.{LinkType}
-use Rattle.wire_model.specs.declared.pcap_head.Head.{Head}
-use Rattle.wire_model.specs.declared.pcap_head.HeadFault.{HeadFault}
-use Rattle.wire_model.specs.Packets.{head_of, four_at, datagram_of}
-use Rattle.wire_model.proofs.Captures.{record_short, record_over, record_part, record_whole}
+use Rattle.book_pcap.specs.declared.pcap_head.ByteOrder.{ByteOrder}
+use Rattle.book_pcap.specs.declared.pcap_head.ByteOrder.TheVariants.{Big, Little}
+use Rattle.book_pcap.specs.declared.pcap_head.LinkType.{LinkType}
+use Rattle.book_pcap.specs.declared.pcap_head.Head.{Head}
+use Rattle.book_pcap.specs.declared.pcap_head.HeadFault.{HeadFault}
+use Rattle.book_pcap.specs.Packets.{head_of, four_at, datagram_of}
+use Rattle.book_pcap.proofs.Captures.{record_short, record_over, record_part, record_whole}
 use Rattle.pcap_file.specs.declared.filling.Filled.TheVariants as filled
 use Rattle.pcap_file.specs.declared.records.Found.TheVariants as found
 use Rattle.pcap_file.specs.declared.records.Opened.TheVariants as opening

@@ -7,10 +7,10 @@ use Rattle.std.specs.List.{All}
 use Rattle.ao_base.specs.Buffered.{Buffered}
 use Rattle.ao_base.specs.Outside.{Side, told}
 use Rattle.ao_base.proofs.Sides.{gave_none}
-use Rattle.wire_model.specs.declared.pcap_head.ByteOrder.{ByteOrder}
-use Rattle.wire_model.specs.declared.pcap_head.Head.{Head}
-use Rattle.wire_model.specs.Packets.{Broken, Done, Front, Kept, Whole, datagram_of, four_at, record_at}
-use Rattle.wire_model.proofs.Captures.{record_none, record_over, record_part, record_short, record_whole}
+use Rattle.book_pcap.specs.declared.pcap_head.ByteOrder.{ByteOrder}
+use Rattle.book_pcap.specs.declared.pcap_head.Head.{Head}
+use Rattle.book_pcap.specs.Packets.{Broken, Done, Front, Kept, Whole, datagram_of, four_at, record_at}
+use Rattle.book_pcap.proofs.Captures.{record_none, record_over, record_part, record_short, record_whole}
 use Rattle.pcap_file.specs.declared.packets.PacketStep.TheVariants as step
 use Rattle.pcap_file.specs.Reading.{IsByte, Steps, ends_within, is_ready, is_whole}
 use Rattle.pcap_file.proofs.Calls.{Reached, packet_step, reading}

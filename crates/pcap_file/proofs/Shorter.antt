@@ -2,11 +2,11 @@
 use Rattle.std.proofs.Common.{◌≡◌, ℕ, ◌+◌, ◌<◌, List, [], ◌++◌, length, take, drop, Option, Some, Result, Ok, Err, refl, sym, ap, ◌∙◌, append_assoc, arith}
 use Rattle.std.proofs.lemmas.List.{length-append, length-drop, take-append-drop}
 use Rattle.ao_base.specs.Outside.{Side, told}
-use Rattle.wire_model.specs.declared.pcap_head.ByteOrder.{ByteOrder}
-use Rattle.wire_model.specs.declared.pcap_head.Head.{Head}
-use Rattle.wire_model.specs.declared.pcap_head.HeadFault.{HeadFault}
-use Rattle.wire_model.specs.Packets.{RecordFront, Done, Broken, Whole, Kept, packets_in, record_at}
-use Rattle.wire_model.proofs.Captures.{packets_step}
+use Rattle.book_pcap.specs.declared.pcap_head.ByteOrder.{ByteOrder}
+use Rattle.book_pcap.specs.declared.pcap_head.Head.{Head}
+use Rattle.book_pcap.specs.declared.pcap_head.HeadFault.{HeadFault}
+use Rattle.book_pcap.specs.Packets.{RecordFront, Done, Broken, Whole, Kept, packets_in, record_at}
+use Rattle.book_pcap.proofs.Captures.{packets_step}
 use Rattle.pcap_file.specs.declared.packets.PacketStep.TheVariants.{Packet}
 use Rattle.pcap_file.specs.Reading.{Reading, Steps, opened_from, packets_after, packets_at}
 use Rattle.pcap_file.proofs.Fronts.{head_front, record_front}

@@ -4,10 +4,10 @@ use Rattle.std.proofs.lemmas.Bool.{cases_lt}
 use Rattle.std.proofs.lemmas.List.{append-nil, length-append, take-append-le, take_all}
 use Rattle.std.proofs.Math.Seq.{take-append-add}
 use Rattle.ao_base.specs.Outside.{Side}
-use Rattle.wire_model.specs.declared.pcap_head.Head.{Head}
-use Rattle.wire_model.specs.declared.pcap_head.HeadFault.{HeadFault}
-use Rattle.wire_model.specs.Packets.{FileFault, Packet, Packets, opened, with_packet, packets_behind, packets_of}
-use Rattle.wire_model.proofs.Captures.{record_none, packets_step}
+use Rattle.book_pcap.specs.declared.pcap_head.Head.{Head}
+use Rattle.book_pcap.specs.declared.pcap_head.HeadFault.{HeadFault}
+use Rattle.book_pcap.specs.Packets.{FileFault, Packet, Packets, opened, with_packet, packets_behind, packets_of}
+use Rattle.book_pcap.proofs.Captures.{record_none, packets_step}
 use Rattle.pcap_file.specs.declared.packets.PacketStep.TheVariants as step
 use Rattle.pcap_file.specs.Reading.{Reading, GoesOn, Steps, and_packet, in_front, packets_after, packets_at}
 use Rattle.pcap_file.proofs.Shorter.{none_shorter}

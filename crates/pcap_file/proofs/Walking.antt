@@ -3,8 +3,8 @@ use Rattle.std.proofs.Common.{◌≡◌, ℕ, ◌+◌, List, [], ◌++◌, lengt
 use Rattle.std.proofs.lemmas.List.{length-append}
 use Rattle.ao_base.specs.Outside.{Side, told}
 use Rattle.ao_base.proofs.Sides.{told_given}
-use Rattle.wire_model.specs.Packets.{RecordFront, Done, Broken, Whole, record_at, datagram_of}
-use Rattle.wire_model.proofs.Captures.{record_none, packets_step}
+use Rattle.book_pcap.specs.Packets.{RecordFront, Done, Broken, Whole, record_at, datagram_of}
+use Rattle.book_pcap.proofs.Captures.{record_none, packets_step}
 use Rattle.pcap_file.specs.declared.packets.PacketStep.{PacketStep}
 use Rattle.pcap_file.specs.declared.packets.PacketStep.TheVariants.{Packet, End, Fault, TooLong, BadHead, BadRecord}
 use Rattle.pcap_file.specs.Reading.{Reading, Steps, step_at, wanted_step, IsOpen, Exactly, Walks, IsQuiet, IsPacketOrEnd}

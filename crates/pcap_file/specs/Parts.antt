@@ -3,9 +3,9 @@ use Rattle.std.specs.Prelude.{◌≡◌, ℕ, ◌+◌, ◌<◌, ◌≤◌, List,
 use Rattle.std.specs.List.{All}
 use Rattle.ao_base.specs.Buffered.{Buffered}
 use Rattle.ao_base.specs.Outside.{Side, Gave, Rose, IsAtEnd, told}
-use Rattle.wire_model.specs.declared.pcap_head.ByteOrder.{ByteOrder}
-use Rattle.wire_model.specs.declared.pcap_head.Head.{Head}
-use Rattle.wire_model.specs.Packets.{Broken, Whole, record_at}
+use Rattle.book_pcap.specs.declared.pcap_head.ByteOrder.{ByteOrder}
+use Rattle.book_pcap.specs.declared.pcap_head.Head.{Head}
+use Rattle.book_pcap.specs.Packets.{Broken, Whole, record_at}
 use Rattle.pcap_file.specs.declared.filling.Filled.{Filled}
 use Rattle.pcap_file.specs.declared.filling.Filled.TheVariants as filled
 use Rattle.pcap_file.specs.declared.records.Opened.{Opened}

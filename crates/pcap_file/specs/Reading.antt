@@ -2,10 +2,10 @@
 use Rattle.std.specs.Prelude.{◌≡◌, ℕ, ◌+◌, ◌-◌, ◌<◌, ◌≤◌, ◌==◌, if◌then◌else◌, Bool, true, false, nat_le, List, [], ◌∷◌, ◌++◌, length, drop, Option, Some, None, Result, Ok, Err}
 use Rattle.std.specs.List.{All}
 use Rattle.ao_base.specs.Outside.{Side, Gave, Rose, IsAtEnd, told}
-use Rattle.wire_model.specs.declared.pcap_head.Head.{Head}
-use Rattle.wire_model.specs.declared.pcap_head.HeadFault.{HeadFault}
-use Rattle.wire_model.specs.Packets.{opened, Kept, RecordFront, Done, Broken, Whole, record_at, datagram_of, Packet, Packets, with_packet, packets_in, packets_of}
-use Rattle.wire_model.specs.Packets.{BadHead as head_refused, BadRecord as record_refused}
+use Rattle.book_pcap.specs.declared.pcap_head.Head.{Head}
+use Rattle.book_pcap.specs.declared.pcap_head.HeadFault.{HeadFault}
+use Rattle.book_pcap.specs.Packets.{opened, Kept, RecordFront, Done, Broken, Whole, record_at, datagram_of, Packet, Packets, with_packet, packets_in, packets_of}
+use Rattle.book_pcap.specs.Packets.{BadHead as head_refused, BadRecord as record_refused}
 use Rattle.pcap_file.specs.declared.packets.PacketStep.{PacketStep}
 use Rattle.pcap_file.specs.declared.packets.PacketStep.TheVariants as step
 

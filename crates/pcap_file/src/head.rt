@@ -1,9 +1,9 @@
 //! The header of a pcap file.
 ghost use Rattle.std.specs.Prelude.{◌≡◌, length};
-ghost use Rattle.wire_model.specs.Packets.{order_of, head_of, link_of};
+ghost use Rattle.book_pcap.specs.Packets.{order_of, head_of, link_of};
 
 use crate::numbers::{four, two};
-use wire_model::{ByteOrder, Head, HeadFault, LinkType};
+use book_pcap::{ByteOrder, Head, HeadFault, LinkType};
 
 /// How many bytes the header has (pcap-savefile).
 pub(crate) const HEAD: usize = 24;
@@ -12,7 +12,7 @@ pub(crate) const HEAD: usize = 24;
 const MAGIC: u32 = 0xa1b2_c3d4;
 
 /// What the 24 bytes of a header say, or the first fault.
-#[tactic(auto, unfolding(wire_model::specs::Packets::head_of))]
+#[tactic(auto, unfolding(book_pcap::specs::Packets::head_of))]
 pub(crate) fn read_head(head: &[u8]) -> Result<Head, HeadFault>
     requires { length head.now ≡ 24 }
     ensures { result ≡ head_of head.now }

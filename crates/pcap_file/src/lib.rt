@@ -10,5 +10,5 @@ mod numbers;
 mod packets;
 mod records;
 
+pub use book_pcap::HeadFault;
 pub use packets::{PacketStep, Packets};
-pub use wire_model::HeadFault;

@@ -1,9 +1,9 @@
 //! Numbers in either order of bytes.
 ghost use Rattle.std.specs.Prelude.{◌≡◌, ◌+◌, ◌<◌, length};
-ghost use Rattle.wire_model.specs.Packets.{two_at, four_at};
+ghost use Rattle.book_pcap.specs.Packets.{two_at, four_at};
 
+use book_pcap::ByteOrder;
 use byteorder::{BigEndian, ByteOrder as ReadsNumbers, LittleEndian};
-use wire_model::ByteOrder;
 
 /// The number of two bytes.
 pub(crate) fn two(order: ByteOrder, bytes: &[u8], at: usize) -> u16

@@ -9,9 +9,9 @@ use crate::records::{
     Found, MOST_KEPT, Opened, RECORD, find_datagram, find_record, kept_record, open,
 };
 use ao_base::{Buffer, Source};
+use book_pcap::{Head, HeadFault};
 use std::alloc::{AllocError, Global};
 use std::marker::Model;
-use wire_model::{Head, HeadFault};
 
 /// What a call of `Packets::next` answers.
 #[derive(Clone, Copy, Debug, PartialEq, Eq)]

@@ -1,7 +1,7 @@
 //! The header of a file and the record of a packet, as far as they are in a buffer.
 ghost use Rattle.std.specs.Prelude.{◌≡◌, ◌==◌, ◌++◌, ◌+◌, if◌then◌else◌, ℕ, ◌≤◌, true, false, List, length, take, drop, slice_range, MatchOption};
 ghost use Rattle.ao_base.specs.Outside.{Side};
-ghost use Rattle.wire_model.specs.Packets.{Whole, datagram_of, is_ip, record_at};
+ghost use Rattle.book_pcap.specs.Packets.{Whole, datagram_of, is_ip, record_at};
 ghost use Rattle.pcap_file.specs.Parts.{Opens, Finds};
 ghost use Rattle.pcap_file.specs.Reading.{is_whole};
 
@@ -9,7 +9,7 @@ use crate::filling::{Filled, fill};
 use crate::head::{HEAD, read_head};
 use crate::numbers::four;
 use ao_base::{Buffer, Cut, Source};
-use wire_model::{ByteOrder, Head, HeadFault, LinkType};
+use book_pcap::{ByteOrder, Head, HeadFault, LinkType};
 
 /// How many bytes of a record stand before its kept bytes (pcap-savefile).
 pub(crate) const RECORD: usize = 16;

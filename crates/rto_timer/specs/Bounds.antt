@@ -1,8 +1,8 @@
 -- What holds of every timer, so that no sum of its arithmetic leaves 32 bits.
 use Rattle.std.specs.Prelude.{◌≤◌, Option}
 use Rattle.std.specs.Option.{ForSome}
-use Rattle.wire_model.specs.declared.timer.Timer.{Timer}
-use Rattle.wire_model.specs.declared.timer.Smoothed.{Smoothed}
+use Rattle.book_timers.specs.declared.timer.Timer.{Timer}
+use Rattle.book_timers.specs.declared.timer.Smoothed.{Smoothed}
 
 -- neither smoothed time is over a day, in milliseconds
 abbrev pub IsWithinADay : Smoothed → Type 0

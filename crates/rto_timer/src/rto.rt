@@ -1,10 +1,10 @@
 //! The retransmission timer.
 ghost use Rattle.std.specs.Prelude.{◌≡◌, ◌≤◌};
-ghost use Rattle.wire_model.specs.Timers.{new_timer, sampled, expired, smoothed_with, value_of, least_value, greatest_value};
+ghost use Rattle.book_timers.specs.Timers.{new_timer, sampled, expired, smoothed_with, value_of, least_value, greatest_value};
 ghost use Rattle.rto_timer.specs.Bounds.{IsWithinADay, AreWithinADay};
 
+use book_timers::{Smoothed, Timer};
 use std::marker::Model;
-use wire_model::{Smoothed, Timer};
 
 /// The least value, one second (RFC 6298, section 2.4).
 const LEAST: u32 = 1000;
@@ -23,7 +23,7 @@ pub struct Rto {
 }
 
 impl Model for Rto {
-    ghost use Rattle.wire_model.specs.declared.timer.Timer.{Timer};
+    ghost use Rattle.book_timers.specs.declared.timer.Timer.{Timer};
     ghost use Rattle.rto_timer.specs.Bounds.{IsTimer};
 
     ghost Value = { Timer };

@@ -2,8 +2,8 @@
 ghost use Rattle.std.specs.Prelude.{◌<◌};
 
 use ao_base::End;
-use bgp_link::{Place, read_piece};
 use bgp_messages::BgpReader;
+use cmd_bgp::{Place, read_piece};
 use std::alloc::{AllocError, Global};
 use std::test::Fail;
 

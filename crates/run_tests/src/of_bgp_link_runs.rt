@@ -1,9 +1,9 @@
 //! Messages of whole runs, over the key that both ends of a link share.
 use ao_base::{Address, Algorithm, LineKind};
-use bgp_link::{Spoken, run_bgp, speak};
 use bgp_messages::BgpReader;
+use book_lines::TextFault;
+use cmd_bgp::{Spoken, run_bgp, speak};
 use key_table::Tables;
-use line_model::TextFault;
 use link_script::read_script;
 use link_world::Setup;
 use std::alloc::{AllocError, Global};

@@ -1,12 +1,12 @@
 //! Links with timers, by their reports and by the timers that they leave.
 use ao_base::{Address, Algorithm, Bytes};
+use cmd_timed::{TimedProblem, TimedRun, run_timed, timed_report};
 use key_table::Tables;
 use link_script::read_timed;
 use link_world::Setup;
 use rto_timer::Rto;
 use std::alloc::{AllocError, Global};
 use std::test::Fail;
-use timed_link::{TimedProblem, TimedRun, run_timed, timed_report};
 
 const HEAD: &str = "aotcp-link 1
 a 10.0.0.1 1000

@@ -4,11 +4,11 @@ use Rattle.ao_base.specs.declared.address.Address.{Address}
 use Rattle.ao_base.specs.declared.address.Address.TheVariants.{V4, V6}
 use Rattle.ao_base.specs.declared.address.Pair.{Pair}
 use Rattle.ao_base.specs.Algorithms.{mac_length_of}
-use Rattle.segment_model.specs.Bytes.{put2}
-use Rattle.segment_model.specs.Segments.{IpHeader, Segment, SYN}
-use Rattle.key_model.specs.Coordination.{Sending}
-use Rattle.endpoint_model.specs.States.{EndState, own_mss}
-use Rattle.endpoint_model.specs.Emissions.{Draft, sets, ao_place, written, written_ip as book_ip, written_area as book_area}
+use Rattle.book_segments.specs.Bytes.{put2}
+use Rattle.book_segments.specs.Segments.{IpHeader, Segment, SYN}
+use Rattle.book_keys.specs.Coordination.{Sending}
+use Rattle.book_endpoint.specs.States.{EndState, own_mss}
+use Rattle.book_endpoint.specs.Emissions.{Draft, sets, ao_place, written, written_ip as book_ip, written_area as book_area}
 use Rattle.tcp_segment.specs.declared.writing.Head.{Head}
 use Rattle.tcp_segment.specs.Writing.{drafted, mss_length, option_heads, written_ip}
 use Rattle.segment_writer.specs.Heads.{head_for}

@@ -3,12 +3,12 @@ use Rattle.std.proofs.Common.{◌≡◌, ℕ, ◌+◌, ◌-◌, ◌≤◌, true,
 use Rattle.std.specs.Prelude.{slice_get}
 use Rattle.ao_base.specs.declared.address.Pair.{Pair}
 use Rattle.ao_base.specs.Algorithms.{mac_length_of}
-use Rattle.segment_model.specs.Segments.{Segment, SYN, spell}
-use Rattle.segment_model.specs.Spelling.{finished}
-use Rattle.key_model.specs.Rows.{Row}
-use Rattle.key_model.specs.Coordination.{Sending}
-use Rattle.endpoint_model.specs.States.{EndState}
-use Rattle.endpoint_model.specs.Emissions.{Draft, Emits, sets, sealed, keyed}
+use Rattle.book_segments.specs.Segments.{Segment, SYN, spell}
+use Rattle.book_segments.specs.Spelling.{finished}
+use Rattle.book_keys.specs.Rows.{Row}
+use Rattle.book_keys.specs.Coordination.{Sending}
+use Rattle.book_endpoint.specs.States.{EndState}
+use Rattle.book_endpoint.specs.Emissions.{Draft, Emits, sets, sealed, keyed}
 use Rattle.key_coordination.specs.declared.choice.Sending.{Sending as Told}
 use Rattle.tcp_segment.specs.declared.writing.Head.{Head}
 use Rattle.tcp_segment.specs.Drafts.{DatagramMut, Drafted}

@@ -3,17 +3,17 @@ use Rattle.std.proofs.Common.{◌≡◌, ℕ, ◌/◌, List, length, drop, repli
 use Rattle.std.proofs.lemmas.List.{length-replicate}
 use Rattle.ao_base.specs.declared.address.Pair.{Pair}
 use Rattle.ao_base.specs.Algorithms.{mac_length_of}
-use Rattle.segment_model.specs.Bytes.{ring}
-use Rattle.segment_model.specs.Options.{Ao, One, find_ao}
-use Rattle.segment_model.specs.Segments.{Segment, spell}
-use Rattle.segment_model.specs.Spelling.{finished}
-use Rattle.mac_model.specs.Contexts.{context_of}
-use Rattle.mac_model.specs.Keys.{mac, traffic_key}
-use Rattle.mac_model.specs.MacInput.{mac_input}
-use Rattle.key_model.specs.Rows.{Row}
-use Rattle.key_model.specs.Coordination.{Sending}
-use Rattle.endpoint_model.specs.States.{EndState}
-use Rattle.endpoint_model.specs.Emissions.{Draft, Emits, written, no_mac, blank, own_ao, seal_of, sealed, seal_known, keyed}
+use Rattle.book_segments.specs.Bytes.{ring}
+use Rattle.book_segments.specs.Options.{Ao, One, find_ao}
+use Rattle.book_segments.specs.Segments.{Segment, spell}
+use Rattle.book_segments.specs.Spelling.{finished}
+use Rattle.book_macs.specs.Contexts.{context_of}
+use Rattle.book_macs.specs.Keys.{mac, traffic_key}
+use Rattle.book_macs.specs.MacInput.{mac_input}
+use Rattle.book_keys.specs.Rows.{Row}
+use Rattle.book_keys.specs.Coordination.{Sending}
+use Rattle.book_endpoint.specs.States.{EndState}
+use Rattle.book_endpoint.specs.Emissions.{Draft, Emits, written, no_mac, blank, own_ao, seal_of, sealed, seal_known, keyed}
 use Rattle.tcp_segment.specs.declared.writing.Head.{Head}
 use Rattle.tcp_segment.specs.Writing.{drafted, IsFinished}
 use Rattle.tcp_segment.proofs.DraftLaws.{drafted_ao}

@@ -5,12 +5,12 @@ use Rattle.ao_base.specs.declared.address.Address.{Address}
 use Rattle.ao_base.specs.declared.address.Address.TheVariants.{V4, V6}
 use Rattle.ao_base.specs.declared.address.Pair.{Pair}
 use Rattle.ao_base.specs.Algorithms.{mac_length_of}
-use Rattle.segment_model.specs.Bytes.{put2, put4}
-use Rattle.segment_model.specs.Segments.{IpHeader, Ipv4, Ipv6, Segment, spell, spell_as, tcp_bytes, header, checksum_of}
-use Rattle.segment_model.specs.Spelling.{finished}
-use Rattle.segment_model.proofs.SumLaws.{same_ip}
-use Rattle.mac_model.proofs.LengthLaws.{twelve_or_sixteen}
-use Rattle.key_model.specs.Rows.{Row}
+use Rattle.book_segments.specs.Bytes.{put2, put4}
+use Rattle.book_segments.specs.Segments.{IpHeader, Ipv4, Ipv6, Segment, spell, spell_as, tcp_bytes, header, checksum_of}
+use Rattle.book_segments.specs.Spelling.{finished}
+use Rattle.book_segments.proofs.SumLaws.{same_ip}
+use Rattle.book_macs.proofs.LengthLaws.{twelve_or_sixteen}
+use Rattle.book_keys.specs.Rows.{Row}
 use Rattle.key_coordination.specs.declared.choice.Sending.{Sending as Told}
 use Rattle.tcp_segment.specs.declared.writing.Head.{Head}
 use Rattle.tcp_segment.specs.Drafts.{DatagramMut, Drafted}

@@ -1,12 +1,12 @@
 -- A segment that is about to be written as a draft of an end, and what is then in the buffer.
 use Rattle.std.specs.Prelude.{◌≡◌, ◌-◌, ◌%◌, ℕ, List, ◌++◌, length, take, drop, slice_get, true, false, Option, Some, None, ⊤}
-use Rattle.segment_model.specs.Bytes.{ring}
-use Rattle.segment_model.specs.Segments.{Segment, Read, reading, spell, SYN, ACK}
-use Rattle.segment_model.specs.Spelling.{Good}
-use Rattle.key_model.specs.Rows.{Row}
-use Rattle.key_model.specs.Coordination as book
-use Rattle.endpoint_model.specs.States.{EndState, window}
-use Rattle.endpoint_model.specs.Emissions.{Draft, sets}
+use Rattle.book_segments.specs.Bytes.{ring}
+use Rattle.book_segments.specs.Segments.{Segment, Read, reading, spell, SYN, ACK}
+use Rattle.book_segments.specs.Spelling.{Good}
+use Rattle.book_keys.specs.Rows.{Row}
+use Rattle.book_keys.specs.Coordination as book
+use Rattle.book_endpoint.specs.States.{EndState, window}
+use Rattle.book_endpoint.specs.Emissions.{Draft, sets}
 use Rattle.key_coordination.specs.declared.choice.Sending.{Sending}
 use Rattle.key_coordination.specs.Sendings.{told}
 use Rattle.wrap_seq.specs.Counter.{number as value_of}

@@ -3,13 +3,13 @@ use Rattle.std.specs.Prelude.{ℕ, ◌+◌, ◌%◌, Option, Some, None, if◌th
 use Rattle.ao_base.specs.declared.address.Address.{Address}
 use Rattle.ao_base.specs.declared.address.Pair.{Pair}
 use Rattle.ao_base.specs.Algorithms.{mac_length_of}
-use Rattle.segment_model.specs.Bytes.{ring}
+use Rattle.book_segments.specs.Bytes.{ring}
 use Rattle.wrap_seq.specs.Counter.{number as value_of}
-use Rattle.segment_model.specs.Segments.{SYN, RST, ACK}
-use Rattle.key_model.specs.Rows.{Row}
-use Rattle.key_model.specs.Coordination as book
-use Rattle.endpoint_model.specs.States.{EndState, own_mss}
-use Rattle.endpoint_model.specs.Emissions.{Draft, sets, told_window, ao_place}
+use Rattle.book_segments.specs.Segments.{SYN, RST, ACK}
+use Rattle.book_keys.specs.Rows.{Row}
+use Rattle.book_keys.specs.Coordination as book
+use Rattle.book_endpoint.specs.States.{EndState, own_mss}
+use Rattle.book_endpoint.specs.Emissions.{Draft, sets, told_window, ao_place}
 use Rattle.key_coordination.specs.declared.choice.Sending.{Sending}
 use Rattle.tcp_segment.specs.declared.writing.Head.{Head}
 use Rattle.tcp_segment.specs.Writing.{ip_size}

@@ -1,8 +1,8 @@
 //! The head of a segment that an end makes.
 ghost use Rattle.std.specs.Prelude.{◌≡◌, ◌<◌, ◌%◌};
-ghost use Rattle.segment_model.specs.Bytes.{ring};
-ghost use Rattle.endpoint_model.specs.Emissions.{sets};
-ghost use Rattle.endpoint_model.specs.States.{own_mss};
+ghost use Rattle.book_segments.specs.Bytes.{ring};
+ghost use Rattle.book_endpoint.specs.Emissions.{sets};
+ghost use Rattle.book_endpoint.specs.States.{own_mss};
 ghost use Rattle.wrap_seq.specs.Counter.{number as value_of};
 ghost use Rattle.segment_writer.specs.Heads.{head_of, mss_with, window_with, expected_with};
 

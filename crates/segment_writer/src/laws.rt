@@ -2,9 +2,9 @@
 ghost use Rattle.std.specs.Prelude.{◌≡◌, ℕ, List, length};
 ghost use Rattle.ao_base.specs.declared.address.Pair.{Pair};
 ghost use Rattle.ao_base.specs.Algorithms.{mac_length_of};
-ghost use Rattle.key_model.specs.Coordination.{Sending};
-ghost use Rattle.endpoint_model.specs.Emissions.{Draft, written};
-ghost use Rattle.endpoint_model.specs.States.{EndState};
+ghost use Rattle.book_keys.specs.Coordination.{Sending};
+ghost use Rattle.book_endpoint.specs.Emissions.{Draft, written};
+ghost use Rattle.book_endpoint.specs.States.{EndState};
 ghost use Rattle.tcp_segment.specs.Writing.{drafted};
 ghost use Rattle.segment_writer.specs.Heads.{head_for};
 

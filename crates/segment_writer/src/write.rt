@@ -1,12 +1,12 @@
 //! A segment, written and sealed.
 ghost use Rattle.std.specs.Prelude.{◌≡◌, true, ◌≤◌, ◌+◌, ◌-◌, ◌^◌, ℕ, length, Some, slice_index_or};
 ghost use Rattle.ao_base.specs.declared.address.Pair.{Pair as Sockets};
-ghost use Rattle.key_model.specs.Coordination.{Sending as Chosen};
-ghost use Rattle.key_model.specs.Rows.{Row};
-ghost use Rattle.endpoint_model.specs.Emissions.{Draft, Emits, keyed, sealed, sets};
-ghost use Rattle.endpoint_model.specs.States.{EndState};
-ghost use Rattle.segment_model.specs.Segments.{SYN};
-ghost use Rattle.mac_model.specs.Contexts.{bytes_of};
+ghost use Rattle.book_keys.specs.Coordination.{Sending as Chosen};
+ghost use Rattle.book_keys.specs.Rows.{Row};
+ghost use Rattle.book_endpoint.specs.Emissions.{Draft, Emits, keyed, sealed, sets};
+ghost use Rattle.book_endpoint.specs.States.{EndState};
+ghost use Rattle.book_segments.specs.Segments.{SYN};
+ghost use Rattle.book_macs.specs.Contexts.{bytes_of};
 ghost use Rattle.tcp_segment.specs.Writing.{IsOneFamily};
 ghost use Rattle.ao_kdf.specs.declared.way.Way.TheVariants.{Outbound};
 ghost use Rattle.ao_check.specs.Bonds.{Counted, Fits};

@@ -6,10 +6,10 @@ use Rattle.std.proofs.lemmas.Bool.Decides.{nat_tests}
 use Rattle.std.proofs.lemmas.List.{set_at, drop_more}
 use Rattle.slot_list.specs.declared.slot.Slot.{Slot}
 use Rattle.slot_list.specs.Pool.{Pool}
-use Rattle.segment_model.specs.Bytes.{ring}
+use Rattle.book_segments.specs.Bytes.{ring}
 use Rattle.stream_buffers.specs.declared.run.Run.{Run}
 use Rattle.stream_buffers.specs.declared.run.Span.{Span}
-use Rattle.segment_model.specs.Received.{bytes_from}
+use Rattle.book_segments.specs.Received.{bytes_from}
 use Rattle.stream_buffers.specs.Kept.{Kept, byte_at, Shows, RunsFrom, forgotten_below}
 use Rattle.stream_buffers.specs.Spans.{span, span_of, spans_of, all_spans, in_span, in_spans, Apart, AreNumbered, IsSound, seen}
 use Rattle.stream_buffers.proofs.SpanLaws.{is_within, below, above, or_skip, or_none, none_below}

@@ -3,7 +3,7 @@ use Rattle.std.proofs.Common.{◌≡◌, ℕ, zero, suc, ◌+◌, ◌<◌, ◌�
 use Rattle.std.specs.Prelude.{nat_lt, ◌&&◌, ◌||◌, is_some}
 use Rattle.std.proofs.lemmas.Bool.{le-leb, lt-ltb, le-ltb, cases_lt, cond-true, cond-false}
 use Rattle.stream_buffers.specs.declared.run.Span.{Span}
-use Rattle.segment_model.specs.Received.{first_missing, runs}
+use Rattle.book_segments.specs.Received.{first_missing, runs}
 use Rattle.stream_buffers.specs.Spans.{in_spans, Apart}
 use Rattle.stream_buffers.proofs.SpanLaws.{none_below, Apart-order, below, is_within, or_none}
 

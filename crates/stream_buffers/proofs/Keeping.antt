@@ -8,7 +8,7 @@ use Rattle.std.proofs.lemmas.Option.{slice_get-get_or, slice_get_past}
 use Rattle.slot_list.specs.Pool.{Pool}
 use Rattle.stream_buffers.specs.declared.run.Run.{Run}
 use Rattle.stream_buffers.specs.declared.run.Span.{Span}
-use Rattle.segment_model.specs.Received.{keep, first_known, runs}
+use Rattle.book_segments.specs.Received.{keep, first_known, runs}
 use Rattle.stream_buffers.specs.Kept.{Kept, byte_at, window, missing_then, runs_then, IsKept}
 use Rattle.stream_buffers.specs.Spans.{span, spans_of, all_spans, in_span, in_spans, Apart, Grown, IsSound, held, seen, tabulate}
 use Rattle.stream_buffers.proofs.SpanLaws.{within, is_within, below, above, or_skip, or_none, none_below, none_above, Apart-order, in_spans-append, get_or-tabulate, length-tabulate}

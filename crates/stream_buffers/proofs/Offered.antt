@@ -4,10 +4,10 @@ use Rattle.std.specs.Prelude.{nat_le, nat_lt, ◌&&◌, ◌||◌, is_some, if◌
 use Rattle.std.proofs.lemmas.Bool.{cases_lt, false≢true}
 use Rattle.slot_list.specs.declared.slot.Slot.{Slot}
 use Rattle.slot_list.specs.Pool.{Pool}
-use Rattle.segment_model.specs.Bytes.{ring}
+use Rattle.book_segments.specs.Bytes.{ring}
 use Rattle.stream_buffers.specs.declared.run.Run.{Run}
 use Rattle.stream_buffers.specs.declared.run.Span.{Span}
-use Rattle.segment_model.specs.Received.{keep, first_known, below_limit}
+use Rattle.book_segments.specs.Received.{keep, first_known, below_limit}
 use Rattle.stream_buffers.specs.Kept.{Kept, byte_at, window, grown, missing_then, runs_then, Shows}
 use Rattle.stream_buffers.specs.Spans.{span, span_of, run_of, spans_of, all_spans, in_span, in_spans, Apart, EndBelow, AreNumbered, Grown, IsSound, held, seen}
 use Rattle.stream_buffers.proofs.SpanLaws.{above, or_assoc, or_none, none_above, Apart-order, in_spans-append, spans_of-append, length-spans_of, end_of, Apart-parts, position-same, numbered_front, numbered_back}

@@ -7,7 +7,7 @@ use Rattle.slot_list.specs.declared.slot.Slot.{Slot}
 use Rattle.slot_list.specs.Pool.{Pool, pool}
 use Rattle.stream_buffers.specs.declared.run.Run.{Run}
 use Rattle.stream_buffers.specs.declared.run.Span.{Span}
-use Rattle.segment_model.specs.Received.{first_known}
+use Rattle.book_segments.specs.Received.{first_known}
 use Rattle.stream_buffers.specs.Kept.{Kept, grown, missing_then, runs_then, Shows}
 use Rattle.stream_buffers.specs.Spans.{span, span_of, run_of, spans_of, all_spans, in_span, in_spans, Apart, EndBelow, AreNumbered, Grown, Writes, IsSound}
 use Rattle.stream_buffers.specs.Walks.{touching_of, IsReached, IsAbsorbed}

@@ -3,7 +3,7 @@ use Rattle.std.proofs.Common.{◌≡◌, ℕ, ◌+◌, ◌-◌, ◌^◌, ◌<◌
 use Rattle.std.proofs.lemmas.Bool.{cases_lt}
 use Rattle.slot_list.specs.declared.slot.Slot.{Slot}
 use Rattle.slot_list.specs.Pool.{Pool, pool, At, IsPool, last_slot}
-use Rattle.segment_model.specs.Received.{below_limit}
+use Rattle.book_segments.specs.Received.{below_limit}
 use Rattle.stream_buffers.specs.declared.run.Run.{Run}
 use Rattle.stream_buffers.specs.declared.run.Span.{Span}
 use Rattle.stream_buffers.specs.declared.walk.Placed.{Placed}

@@ -2,8 +2,8 @@
 use Rattle.std.specs.Prelude.{◌≡◌, ℕ, ◌+◌, ◌-◌, ◌^◌, ◌<◌, ◌≤◌, ◌%◌, nat_le, false, List, [], ◌∷◌, Option, None, slice_index_or, IsSome, refl, if◌then◌else◌}
 use Rattle.std.specs.Coded.{Coded, code_by, coded×, coded_ℕ, coded_list, coded_option}
 use Rattle.slot_list.specs.declared.slot.Slot.{Slot}
-use Rattle.segment_model.specs.Bytes.{ring}
-use Rattle.segment_model.specs.Received.{keep, first_missing, runs, below_limit}
+use Rattle.book_segments.specs.Bytes.{ring}
+use Rattle.book_segments.specs.Received.{keep, first_missing, runs, below_limit}
 use Rattle.stream_buffers.specs.declared.run.Run.{Run}
 
 -- the first position that isn't taken, the first missing position, and for each position from the first one on the byte that is kept there (own)

@@ -2,16 +2,16 @@
 use Rattle.std.proofs.Common.{◌≡◌, ℕ, Bool, true, false, not, Option, refl, sym, ap, ◌∙◌, subst}
 use Rattle.std.specs.Prelude.{◌==◌, ◌&&◌, if◌then◌else◌, List}
 use Rattle.ao_base.specs.declared.address.Pair.{Pair}
-use Rattle.segment_model.specs.Meant.{meant}
-use Rattle.segment_model.specs.Segments.{Segment, has, SYN, RST, ACK}
-use Rattle.key_model.specs.Rows.{Row}
-use Rattle.key_model.specs.Coordination.{follow}
+use Rattle.book_segments.specs.Meant.{meant}
+use Rattle.book_segments.specs.Segments.{Segment, has, SYN, RST, ACK}
+use Rattle.book_keys.specs.Rows.{Row}
+use Rattle.book_keys.specs.Coordination.{follow}
 use Rattle.ao_check.specs.Bonds.{Bond}
-use Rattle.endpoint_model.specs.declared.phase.Phase.{Phase}
-use Rattle.endpoint_model.specs.declared.phase.Phase.TheVariants.{SynReceived, Established}
-use Rattle.endpoint_model.specs.States.{EndState}
-use Rattle.endpoint_model.specs.declared.arrival.Arrival.TheVariants as answers
-use Rattle.endpoint_model.specs.Arrivals as book
+use Rattle.book_endpoint.specs.declared.phase.Phase.{Phase}
+use Rattle.book_endpoint.specs.declared.phase.Phase.TheVariants.{SynReceived, Established}
+use Rattle.book_endpoint.specs.States.{EndState}
+use Rattle.book_endpoint.specs.declared.arrival.Arrival.TheVariants as answers
+use Rattle.book_endpoint.specs.Arrivals as book
 
 both : (a b : Bool) → a ≡ true → b ≡ false → (a && not b) ≡ true
 both a b p q = rw (p, q) refl
@@ -39,7 +39,7 @@ last_of a b c w x y z p q r = rw (p, q, r) refl
 -- a segment with ACK, without RST and SYN
 pub ordinary_ack : (s f : EndState) (d : Segment) (n now : ℕ) → has RST d ≡ false → has SYN d ≡ false → has ACK d ≡ true → book.ordinary s f d n now ≡ book.acknowledged f d n now (meant d.acknowledgement f.una) f.phase
 ordinary_ack s f d n now p q r =
-    last_of (has RST d) (has SYN d) (has ACK d) (if n == s.expected then book.answered (record s { phase = Rattle.endpoint_model.specs.declared.phase.Phase.TheVariants.Closed }) answers.Reset else book.answered (book.owing s) answers.Challenge) (book.answered (book.owing f) answers.Challenge) (book.answered f answers.NoAck) (book.acknowledged f d n now (meant d.acknowledgement f.una) f.phase) p q r
+    last_of (has RST d) (has SYN d) (has ACK d) (if n == s.expected then book.answered (record s { phase = Rattle.book_endpoint.specs.declared.phase.Phase.TheVariants.Closed }) answers.Reset else book.answered (book.owing s) answers.Challenge) (book.answered (book.owing f) answers.Challenge) (book.answered f answers.NoAck) (book.acknowledged f d n now (meant d.acknowledgement f.una) f.phase) p q r
 
 -- the current row, once an RNextKeyID is heard
 pub current_heard : (a b : Bond) (rows : List Row) (pair : Pair) (id now : ℕ) (current : Option ℕ) → b ≡ record a { current = follow a.current rows a.pair id now } → a.pair ≡ pair → a.current ≡ current → b.current ≡ follow current rows pair id now

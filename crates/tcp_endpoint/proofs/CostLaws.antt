@@ -1,13 +1,13 @@
 -- The work of an arrival.
 use Rattle.std.proofs.Common.{◌≡◌, ◌≤◌, ◌<◌, ◌+◌, ℕ, Bool, true, false, length, List, Option, Some, None, refl, sym, subst, arith}
 use Rattle.ao_base.specs.declared.address.Pair.{Pair}
-use Rattle.segment_model.specs.Options.{find_ao}
-use Rattle.segment_model.specs.Segments.{Segment, Reading, Read, has, SYN}
-use Rattle.key_model.specs.Rows.{Row}
-use Rattle.endpoint_model.specs.declared.verdict.Passed.{Passed}
-use Rattle.endpoint_model.specs.declared.verdict.Verdict.{Verdict}
-use Rattle.endpoint_model.specs.declared.arrival.Arrival.{Arrival}
-use Rattle.endpoint_model.specs.declared.arrival.Arrival.TheVariants as answers
+use Rattle.book_segments.specs.Options.{find_ao}
+use Rattle.book_segments.specs.Segments.{Segment, Reading, Read, has, SYN}
+use Rattle.book_keys.specs.Rows.{Row}
+use Rattle.book_endpoint.specs.declared.verdict.Passed.{Passed}
+use Rattle.book_endpoint.specs.declared.verdict.Verdict.{Verdict}
+use Rattle.book_endpoint.specs.declared.arrival.Arrival.{Arrival}
+use Rattle.book_endpoint.specs.declared.arrival.Arrival.TheVariants as answers
 use Rattle.ao_kdf.specs.Cache.{Cache}
 use Rattle.ao_kdf.specs.declared.way.Way.TheVariants.{Inbound}
 use Rattle.ao_check.specs.Bonds.{Counted}

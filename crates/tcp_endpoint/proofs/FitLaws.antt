@@ -2,9 +2,9 @@
 use Rattle.std.proofs.Common.{◌≡◌, ◌<◌, ℕ, false, List, length, Some, arith}
 use Rattle.std.specs.Prelude.{nat_le}
 use Rattle.std.proofs.lemmas.Bool.Decides.{nat_tests}
-use Rattle.key_model.specs.Rows.{Row}
-use Rattle.key_model.specs.Tables.{adding, AddedAs, withdrawn}
-use Rattle.key_model.proofs.TableLaws.{added_rows}
+use Rattle.book_keys.specs.Rows.{Row}
+use Rattle.book_keys.specs.Tables.{adding, AddedAs, withdrawn}
+use Rattle.book_keys.proofs.TableLaws.{added_rows}
 use Rattle.ao_check.proofs.FitLaws.{fits_added, fits_withdrawn}
 use Rattle.tcp_endpoint.specs.declared.endpoint.Endpoint.{Endpoint}
 use Rattle.tcp_endpoint.specs.Ends.{FitsEnd}

@@ -2,15 +2,15 @@
 use Rattle.std.proofs.Common.{◌≡◌, ℕ, ◌+◌, ◌-◌, ◌^◌, ◌<◌, ◌≤◌, ◌↔◌, min, Bool, true, false, not, length, Option, Some, None, refl, sym, ap, ◌∙◌, arith, subst}
 use Rattle.std.specs.Prelude.{nat_lt, nat_le, ◌==◌, ◌&&◌, if◌then◌else◌, is_some, IsSome, IsTrue}
 use Rattle.std.proofs.lemmas.Bool.Decides.{nat_tests}
-use Rattle.segment_model.specs.Segments.{Segment, has, FIN}
-use Rattle.endpoint_model.specs.declared.phase.Phase.{Phase}
-use Rattle.endpoint_model.specs.declared.phase.Phase.TheVariants.{Listen, SynSent, SynReceived, Established, FinWait1, FinWait2, CloseWait, Closing, LastAck, TimeWait, Closed}
-use Rattle.endpoint_model.specs.States as states
-use Rattle.endpoint_model.specs.Arrivals as book
-use Rattle.segment_model.specs.Received.{keep, first_missing, runs, below_limit}
+use Rattle.book_segments.specs.Segments.{Segment, has, FIN}
+use Rattle.book_endpoint.specs.declared.phase.Phase.{Phase}
+use Rattle.book_endpoint.specs.declared.phase.Phase.TheVariants.{Listen, SynSent, SynReceived, Established, FinWait1, FinWait2, CloseWait, Closing, LastAck, TimeWait, Closed}
+use Rattle.book_endpoint.specs.States as states
+use Rattle.book_endpoint.specs.Arrivals as book
+use Rattle.book_segments.specs.Received.{keep, first_missing, runs, below_limit}
 use Rattle.stream_buffers.specs.Kept.{Kept, IsKept, Shows, byte_at, grown, window, missing_then, runs_then}
-use Rattle.endpoint_model.specs.declared.arrival.Arrival.{Arrival}
-use Rattle.endpoint_model.specs.declared.arrival.Arrival.TheVariants as answers
+use Rattle.book_endpoint.specs.declared.arrival.Arrival.{Arrival}
+use Rattle.book_endpoint.specs.declared.arrival.Arrival.TheVariants as answers
 use Rattle.tcp_endpoint.specs.declared.endpoint.Endpoint.{Endpoint}
 use Rattle.tcp_endpoint.specs.Halves.{Sends, Receives, fin_gone, fin_made, is_open, before_fin, waits, knows}
 use Rattle.tcp_endpoint.specs.Numbers.{expected_in, fin_in}

@@ -6,18 +6,18 @@ use Rattle.ao_base.specs.declared.address.Address.{Address}
 use Rattle.ao_base.specs.declared.address.Address.TheVariants.{V4, V6}
 use Rattle.ao_base.specs.declared.address.Socket.{Socket}
 use Rattle.ao_base.specs.declared.address.Pair.{Pair}
-use Rattle.segment_model.specs.Bytes.{same_bytes}
-use Rattle.segment_model.specs.Meant.{meant}
-use Rattle.segment_model.specs.Sockets.{same_address, same_socket}
-use Rattle.segment_model.specs.Options.{Ao, AoFound, Absent, One, Two, WithMd5 as FoundMd5, find_ao}
-use Rattle.segment_model.specs.Segments.{Segment, has, SYN, segment_length}
-use Rattle.segment_model.proofs.Fields.{same_bytes_tells}
-use Rattle.mac_model.specs.Contexts.{context_of}
-use Rattle.key_model.specs.Rows.{Row}
-use Rattle.key_model.specs.Choices.{Numbered, accept_row, has_id}
-use Rattle.endpoint_model.specs.Verdicts as v
-use Rattle.endpoint_model.proofs.JudgeSteps as steps
-use Rattle.endpoint_model.specs.declared.verdict.Verdict.TheVariants as refusals
+use Rattle.book_segments.specs.Bytes.{same_bytes}
+use Rattle.book_segments.specs.Meant.{meant}
+use Rattle.book_segments.specs.Sockets.{same_address, same_socket}
+use Rattle.book_segments.specs.Options.{Ao, AoFound, Absent, One, Two, WithMd5 as FoundMd5, find_ao}
+use Rattle.book_segments.specs.Segments.{Segment, has, SYN, segment_length}
+use Rattle.book_segments.proofs.Fields.{same_bytes_tells}
+use Rattle.book_macs.specs.Contexts.{context_of}
+use Rattle.book_keys.specs.Rows.{Row}
+use Rattle.book_keys.specs.Choices.{Numbered, accept_row, has_id}
+use Rattle.book_endpoint.specs.Verdicts as v
+use Rattle.book_endpoint.proofs.JudgeSteps as steps
+use Rattle.book_endpoint.specs.declared.verdict.Verdict.TheVariants as refusals
 use Rattle.ao_base.specs.Algorithms.{mac_length_of}
 
 -- either way of a test

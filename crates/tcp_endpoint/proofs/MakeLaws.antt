@@ -7,17 +7,17 @@ use Rattle.ao_base.specs.declared.address.Address.TheVariants.{V4, V6}
 use Rattle.ao_base.specs.declared.algorithm.Algorithm.{Algorithm}
 use Rattle.ao_base.specs.declared.algorithm.Algorithm.TheVariants.{HmacSha1, AesCmac, HmacSha256}
 use Rattle.ao_base.specs.Algorithms.{mac_length_of}
-use Rattle.segment_model.specs.Segments.{SYN, ACK}
-use Rattle.key_model.specs.Rows.{Row}
-use Rattle.key_model.specs.Coordination as keys
+use Rattle.book_segments.specs.Segments.{SYN, ACK}
+use Rattle.book_keys.specs.Rows.{Row}
+use Rattle.book_keys.specs.Coordination as keys
 use Rattle.key_coordination.specs.declared.choice.Sending.{Sending}
 use Rattle.key_coordination.specs.Sendings.{told}
 use Rattle.key_coordination.proofs.ChoosingLaws.{choose_in}
 use Rattle.ao_check.specs.Bonds.{Bond}
 use Rattle.ao_check.proofs.KeyLaws.{got}
 use Rattle.tcp_segment.specs.Writing.{ip_size}
-use Rattle.endpoint_model.specs.States.{EndState, own_mss}
-use Rattle.endpoint_model.specs.Emissions as book
+use Rattle.book_endpoint.specs.States.{EndState, own_mss}
+use Rattle.book_endpoint.specs.Emissions as book
 use Rattle.tcp_endpoint.specs.declared.endpoint.Endpoint.{Endpoint}
 use Rattle.tcp_endpoint.specs.declared.planning.Plan.{Plan}
 use Rattle.tcp_endpoint.specs.declared.planning.Plan.TheVariants as plans

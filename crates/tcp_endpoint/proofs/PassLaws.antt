@@ -2,18 +2,18 @@
 use Rattle.std.proofs.Common.{◌≡◌, ℕ, Bool, true, false, not, List, Option, Some, None, refl, sym, ap, ◌∙◌, subst, Ok, Err}
 use Rattle.std.specs.Prelude.{if◌then◌else◌, is_some}
 use Rattle.ao_base.specs.declared.address.Pair.{Pair}
-use Rattle.segment_model.specs.Segments.{Segment, Read, reading, good}
-use Rattle.key_model.specs.Rows.{Row}
-use Rattle.endpoint_model.specs.States as states
-use Rattle.endpoint_model.specs.Verdicts as v
-use Rattle.endpoint_model.specs.Arrivals as book
+use Rattle.book_segments.specs.Segments.{Segment, Read, reading, good}
+use Rattle.book_keys.specs.Rows.{Row}
+use Rattle.book_endpoint.specs.States as states
+use Rattle.book_endpoint.specs.Verdicts as v
+use Rattle.book_endpoint.specs.Arrivals as book
 use Rattle.ao_check.specs.Bonds.{Bond}
 use Rattle.ao_check.specs.Verdicts.{Names, Tells}
-use Rattle.endpoint_model.specs.declared.verdict.Passed.{Passed}
-use Rattle.endpoint_model.specs.declared.verdict.Verdict.{Verdict}
-use Rattle.endpoint_model.specs.declared.verdict.Verdict.TheVariants as checked
-use Rattle.endpoint_model.specs.declared.arrival.Arrival.{Arrival}
-use Rattle.endpoint_model.specs.declared.arrival.Arrival.TheVariants as answers
+use Rattle.book_endpoint.specs.declared.verdict.Passed.{Passed}
+use Rattle.book_endpoint.specs.declared.verdict.Verdict.{Verdict}
+use Rattle.book_endpoint.specs.declared.verdict.Verdict.TheVariants as checked
+use Rattle.book_endpoint.specs.declared.arrival.Arrival.{Arrival}
+use Rattle.book_endpoint.specs.declared.arrival.Arrival.TheVariants as answers
 use Rattle.tcp_endpoint.specs.declared.arrival.Arrived.{Arrived}
 use Rattle.tcp_endpoint.specs.declared.endpoint.Endpoint.{Endpoint}
 use Rattle.tcp_endpoint.specs.Numbers.{expected_in}

@@ -2,10 +2,10 @@
 use Rattle.std.proofs.Common.{◌≡◌, ℕ, zero, suc, ◌+◌, ◌-◌, ◌≤◌, min, Bool, true, false, ◌||◌, List, [], ◌∷◌, ◌++◌, length, take, drop, Option, Some, None, unwrap_or, refl, sym, ap, ◌∙◌, arith, length-append}
 use Rattle.std.proofs.lemmas.Bool.Decides.{nat_tests}
 use Rattle.std.specs.Prelude.{nat_lt, nat_le, is_some, ◌==◌, ◌&&◌, if◌then◌else◌}
-use Rattle.endpoint_model.specs.declared.phase.Phase.{Phase}
-use Rattle.endpoint_model.specs.declared.phase.Phase.TheVariants.{Listen, SynSent, SynReceived, Established, FinWait1, FinWait2, CloseWait, Closing, LastAck, TimeWait, Closed}
-use Rattle.endpoint_model.specs.States as book
-use Rattle.segment_model.specs.Received.{below_limit, bytes_from}
+use Rattle.book_endpoint.specs.declared.phase.Phase.{Phase}
+use Rattle.book_endpoint.specs.declared.phase.Phase.TheVariants.{Listen, SynSent, SynReceived, Established, FinWait1, FinWait2, CloseWait, Closing, LastAck, TimeWait, Closed}
+use Rattle.book_endpoint.specs.States as book
+use Rattle.book_segments.specs.Received.{below_limit, bytes_from}
 use Rattle.stream_buffers.specs.Kept.{Kept, Shows, byte_at, forgotten_below, ready_count, window}
 use Rattle.tcp_endpoint.specs.declared.endpoint.Endpoint.{Endpoint}
 use Rattle.tcp_endpoint.specs.Halves.{fin_gone, fin_made, knows, waits}

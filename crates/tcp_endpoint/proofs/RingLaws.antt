@@ -5,9 +5,9 @@ use Rattle.std.proofs.lemmas.Bool.{lt-ltb, le-leb, ltb-true, leb-true}
 use Rattle.std.proofs.lemmas.Bool.Decides.{nat_tests}
 use Rattle.std.specs.Int.{w64, FitsUnsigned}
 use Rattle.std.specs.Prelude.{nat_lt, nat_le, ◌==◌, ◌&&◌, ◌||◌, ◌↔◌, IsTrue, SomeIff, unsigned_abs, if◌then◌else◌, ℤ, pos, ◌+ℤ◌, ◌-ℤ◌, ◌<ℤ◌}
-use Rattle.segment_model.specs.Meant.{meant, IsNearest, Tells, IsAhead, IsInWindow}
-use Rattle.segment_model.proofs.Nearest.{nearest_some, nearest_told}
-use Rattle.endpoint_model.specs.Arrivals as book
+use Rattle.book_segments.specs.Meant.{meant, IsNearest, Tells, IsAhead, IsInWindow}
+use Rattle.book_segments.proofs.Nearest.{nearest_some, nearest_told}
+use Rattle.book_endpoint.specs.Arrivals as book
 
 told_some : (m : Option ℕ) (n : ℕ) (z : ℤ) → m ≡ Some n → Tells m z → z ≡ pos n
 told_some m n z e t = subst (λ k. Tells k z) e t

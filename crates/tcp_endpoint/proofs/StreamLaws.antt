@@ -2,8 +2,8 @@
 use Rattle.std.proofs.Common.{◌≡◌, ℕ, zero, suc, ◌+◌, ◌-◌, ◌<◌, ◌≤◌, min, Bool, true, false, not, List, Option, Some, None, refl, sym, ap, ◌∙◌, arith, subst}
 use Rattle.std.specs.Prelude.{nat_lt, nat_le, ◌==◌, ◌&&◌, if◌then◌else◌, slice_get, is_some, IsSome, IsTrue}
 use Rattle.std.proofs.lemmas.Bool.Decides.{nat_tests}
-use Rattle.endpoint_model.specs.Arrivals as book
-use Rattle.segment_model.specs.Received.{keep, first_missing, runs, below_limit, first_known}
+use Rattle.book_endpoint.specs.Arrivals as book
+use Rattle.book_segments.specs.Received.{keep, first_missing, runs, below_limit, first_known}
 use Rattle.stream_buffers.specs.Kept.{Kept, byte_at, grown, window, missing_then, runs_then}
 
 -- from a position on, the maps have the same bytes

@@ -1,6 +1,6 @@
 -- What the calls answer that make no segment.
 use Rattle.std.specs.Prelude.{ℕ, List, ⊤}
-use Rattle.endpoint_model.specs.States as book
+use Rattle.book_endpoint.specs.States as book
 use Rattle.tcp_endpoint.specs.declared.giving.GiveAnswer.{GiveAnswer}
 use Rattle.tcp_endpoint.specs.declared.giving.GiveAnswer.TheVariants as answers
 

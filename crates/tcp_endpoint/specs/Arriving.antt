@@ -1,14 +1,14 @@
 -- What an end answers to an arrival, as the definitions answer.
 use Rattle.std.specs.Prelude.{◌≡◌, ◌+◌, ◌≤◌, ◌<◌, ◌^◌, Bool, true, false, length, ℕ, List, Option, Some, None, ⊤}
 use Rattle.ao_base.specs.declared.address.Pair.{Pair}
-use Rattle.segment_model.specs.Options as options
-use Rattle.segment_model.specs.Segments.{Reading, Read, Segment, has, FIN, SYN, segment_length}
-use Rattle.key_model.specs.Rows.{Row}
-use Rattle.endpoint_model.specs.declared.verdict.Passed.{Passed}
-use Rattle.endpoint_model.specs.declared.arrival.Arrival.{Arrival}
-use Rattle.endpoint_model.specs.declared.arrival.Arrival.TheVariants as answers
-use Rattle.endpoint_model.specs.Verdicts.{Finding}
-use Rattle.endpoint_model.specs.Arrivals as book
+use Rattle.book_segments.specs.Options as options
+use Rattle.book_segments.specs.Segments.{Reading, Read, Segment, has, FIN, SYN, segment_length}
+use Rattle.book_keys.specs.Rows.{Row}
+use Rattle.book_endpoint.specs.declared.verdict.Passed.{Passed}
+use Rattle.book_endpoint.specs.declared.arrival.Arrival.{Arrival}
+use Rattle.book_endpoint.specs.declared.arrival.Arrival.TheVariants as answers
+use Rattle.book_endpoint.specs.Verdicts.{Finding}
+use Rattle.book_endpoint.specs.Arrivals as book
 use Rattle.ao_kdf.specs.declared.way.Way.TheVariants.{Inbound}
 use Rattle.ao_check.specs.Bonds.{Counted}
 use Rattle.ao_check.specs.Verdicts.{Names, is_judged, judging}

@@ -1,10 +1,10 @@
 -- What an end answers where it may make a segment, as the definitions answer.
 use Rattle.std.specs.Prelude.{◌≡◌, ℕ, true, List, length, Some, ⊤}
-use Rattle.segment_model.specs.Segments.{SYN}
-use Rattle.mac_model.specs.Contexts.{bytes_of}
+use Rattle.book_segments.specs.Segments.{SYN}
+use Rattle.book_macs.specs.Contexts.{bytes_of}
 use Rattle.key_coordination.specs.Sendings.{told}
-use Rattle.endpoint_model.specs.States.{EndState}
-use Rattle.endpoint_model.specs.Emissions as book
+use Rattle.book_endpoint.specs.States.{EndState}
+use Rattle.book_endpoint.specs.Emissions as book
 use Rattle.ao_kdf.specs.declared.way.Way.TheVariants.{Outbound}
 use Rattle.ao_kdf.specs.Cache.{Cache}
 use Rattle.ao_check.specs.Bonds.{Counted}

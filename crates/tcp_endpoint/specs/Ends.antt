@@ -1,8 +1,8 @@
 -- Which state an end stands for, and which tables fit it.
 use Rattle.std.specs.Prelude.{◌≡◌, ℕ, ◌+◌, ◌-◌, ◌≤◌, drop, length, List}
 use Rattle.wrap_seq.specs.Counter.{number}
-use Rattle.key_model.specs.Rows.{Row}
-use Rattle.endpoint_model.specs.States.{EndState, ready_at}
+use Rattle.book_keys.specs.Rows.{Row}
+use Rattle.book_endpoint.specs.States.{EndState, ready_at}
 use Rattle.ao_check.specs.Bonds.{Bond, Fits}
 use Rattle.stream_buffers.specs.Kept.{byte_at}
 use Rattle.tcp_endpoint.specs.declared.endpoint.Endpoint.{Endpoint}

@@ -3,10 +3,10 @@ use Rattle.std.specs.Prelude.{◌≡◌, ℕ, ◌+◌, ◌^◌, ◌<◌, ◌≤�
 use Rattle.ao_base.specs.declared.address.Address.{Address}
 use Rattle.ao_base.specs.declared.address.Address.TheVariants.{V4, V6}
 use Rattle.ao_base.specs.declared.address.Pair.{Pair}
-use Rattle.segment_model.specs.Received.{below_limit}
-use Rattle.endpoint_model.specs.declared.phase.Phase.{Phase}
-use Rattle.endpoint_model.specs.declared.phase.Phase.TheVariants.{Listen, SynSent, Established, FinWait1, FinWait2, CloseWait, Closing, LastAck, TimeWait, Closed}
-use Rattle.endpoint_model.specs.States.{first}
+use Rattle.book_segments.specs.Received.{below_limit}
+use Rattle.book_endpoint.specs.declared.phase.Phase.{Phase}
+use Rattle.book_endpoint.specs.declared.phase.Phase.TheVariants.{Listen, SynSent, Established, FinWait1, FinWait2, CloseWait, Closing, LastAck, TimeWait, Closed}
+use Rattle.book_endpoint.specs.States.{first}
 use Rattle.ao_check.specs.Bonds.{Bond}
 use Rattle.stream_buffers.specs.Kept.{Kept, byte_at}
 

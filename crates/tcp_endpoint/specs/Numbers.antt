@@ -2,7 +2,7 @@
 use Rattle.std.specs.Prelude.{◌≡◌, ℕ, Option, Some, None, is_some}
 use Rattle.wrap_seq.specs.declared.counter.Counter.{Counter}
 use Rattle.wrap_seq.specs.Counter.{number}
-use Rattle.endpoint_model.specs.States.{EndState}
+use Rattle.book_endpoint.specs.States.{EndState}
 use Rattle.tcp_endpoint.specs.declared.sequence.SequenceState.{SequenceState}
 use Rattle.tcp_endpoint.specs.declared.sequence.Received.{Received}
 

@@ -1,9 +1,9 @@
 -- A plan as the draft of a segment.
 use Rattle.std.specs.Prelude.{◌≡◌, ℕ, ◌+◌, ◌-◌, ◌<◌, ◌≤◌, min, true, List, take, drop, Option, Some, None, is_some, ⊤}
 use Rattle.wrap_seq.specs.Counter.{number}
-use Rattle.segment_model.specs.Segments.{FIN, SYN, RST, PSH, ACK}
-use Rattle.endpoint_model.specs.States.{EndState}
-use Rattle.endpoint_model.specs.Emissions as book
+use Rattle.book_segments.specs.Segments.{FIN, SYN, RST, PSH, ACK}
+use Rattle.book_endpoint.specs.States.{EndState}
+use Rattle.book_endpoint.specs.Emissions as book
 use Rattle.tcp_endpoint.specs.declared.endpoint.Endpoint.{Endpoint}
 use Rattle.tcp_endpoint.specs.declared.outlining.Outline.{Outline}
 use Rattle.tcp_endpoint.specs.declared.planning.Plan.{Plan}

@@ -1,14 +1,14 @@
 //! What an acknowledgement does to an end.
 ghost use Rattle.std.specs.Prelude.{◌≡◌, ◌<◌, ◌==◌, ◌&&◌, ◌||◌, nat_le, nat_lt, true, false, is_some};
 ghost use Rattle.wrap_seq.specs.Counter.{number};
-ghost use Rattle.endpoint_model.specs.States.{EndState};
-ghost use Rattle.endpoint_model.specs.Arrivals.{above, acked, acked_fin, windowed};
+ghost use Rattle.book_endpoint.specs.States.{EndState};
+ghost use Rattle.book_endpoint.specs.Arrivals.{above, acked, acked_fin, windowed};
 ghost use Rattle.tcp_endpoint.specs.Halves.{waits};
 ghost use Rattle.tcp_endpoint.specs.Ends.{Stands};
 
 use crate::endpoint::Endpoint;
 use crate::sequence::Received;
-use endpoint_model::Phase;
+use book_endpoint::Phase;
 use tcp_segment::Datagram;
 use wrap_seq::Counter;
 

@@ -1,7 +1,7 @@
 //! What an end answers to an arrival.
 ghost use Rattle.std.specs.Prelude.{◌≡◌, None};
 
-use endpoint_model::{Arrival, Passed};
+use book_endpoint::{Arrival, Passed};
 
 /// The answer to an arrival, and what the check found.
 #[derive(Clone, Copy, Debug, PartialEq, Eq)]

@@ -1,12 +1,12 @@
 //! An arrival.
 ghost use Rattle.std.specs.Prelude.{◌≡◌, ◌+◌, ◌≤◌, ℕ, Option, Some, None, true, false, is_some};
 ghost use Rattle.ao_base.specs.declared.address.Socket.{Socket};
-ghost use Rattle.segment_model.specs.Options.{One, find_ao};
-ghost use Rattle.segment_model.specs.Sockets.{same_socket};
-ghost use Rattle.segment_model.specs.Segments.{Read, Segment, reading};
-ghost use Rattle.endpoint_model.specs.States.{EndState};
-ghost use Rattle.endpoint_model.specs.Arrivals as book;
-ghost use Rattle.key_model.specs.Lifetimes.{greatest_time};
+ghost use Rattle.book_segments.specs.Options.{One, find_ao};
+ghost use Rattle.book_segments.specs.Sockets.{same_socket};
+ghost use Rattle.book_segments.specs.Segments.{Read, Segment, reading};
+ghost use Rattle.book_endpoint.specs.States.{EndState};
+ghost use Rattle.book_endpoint.specs.Arrivals as book;
+ghost use Rattle.book_keys.specs.Lifetimes.{greatest_time};
 ghost use Rattle.ao_check.specs.Verdicts.{IsExpected};
 ghost use Rattle.tcp_endpoint.specs.Numbers.{expected_in};
 ghost use Rattle.tcp_endpoint.specs.Ends.{Stands, FitsEnd, IsUnmoved};
@@ -17,7 +17,7 @@ use crate::endpoint::Endpoint;
 use crate::phases::is_closed;
 use crate::sequence::Received;
 use ao_base::{Pair, Socket, Steps};
-use endpoint_model::{Arrival, Verdict};
+use book_endpoint::{Arrival, Verdict};
 use key_table::Table;
 use std::sync::ledger::Ledger;
 use tcp_options::AoFound;
@@ -72,7 +72,7 @@ impl Endpoint {
     ///
     /// At most 66 steps are counted: one derivation, as for the check, and the links that a piece walks
     /// among the received runs. No kept key is dropped.
-    #[tactic(auto, unfolding(endpoint_model::specs::Arrivals::arrive))]
+    #[tactic(auto, unfolding(book_endpoint::specs::Arrivals::arrive))]
     pub fn arrive<L: Ledger>(
         &mut self,
         table: &Table,

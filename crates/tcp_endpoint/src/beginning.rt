@@ -1,6 +1,6 @@
 //! How an end begins.
 ghost use Rattle.std.specs.Prelude.{◌≡◌, true, IfOk};
-ghost use Rattle.endpoint_model.specs.States.{beginning, connected, listening, started, default_mss};
+ghost use Rattle.book_endpoint.specs.States.{beginning, connected, listening, started, default_mss};
 ghost use Rattle.tcp_segment.specs.Writing.{IsOneFamily};
 ghost use Rattle.tcp_endpoint.specs.Halves.{waits};
 ghost use Rattle.tcp_endpoint.specs.Ends.{Stands, FitsEnd};
@@ -9,7 +9,7 @@ use crate::endpoint::Endpoint;
 use crate::sequence::{Received, SequenceState};
 use ao_base::{Address, Pair};
 use ao_check::Association;
-use endpoint_model::Phase;
+use book_endpoint::Phase;
 use key_table::Table;
 use segment_writer::own_mss;
 use std::alloc::{AllocError, Global};

@@ -1,12 +1,12 @@
 //! The end once a planned segment is made.
 ghost use Rattle.std.specs.Prelude.{◌≡◌, ℕ};
-ghost use Rattle.endpoint_model.specs.States.{EndState};
+ghost use Rattle.book_endpoint.specs.States.{EndState};
 ghost use Rattle.tcp_endpoint.specs.Ends.{Stands};
 ghost use Rattle.tcp_endpoint.specs.Planning.{draft_of, IsCarried, IsCounted, IsWithin};
 
 use crate::endpoint::Endpoint;
 use crate::planning::Plan;
-use endpoint_model::Phase;
+use book_endpoint::Phase;
 use wrap_seq::Counter;
 
 impl Endpoint {

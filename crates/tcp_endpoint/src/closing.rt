@@ -1,12 +1,12 @@
 //! Closing an end, and its clock.
 ghost use Rattle.std.specs.Prelude.{◌≡◌, List};
-ghost use Rattle.key_model.specs.Rows.{Row};
-ghost use Rattle.endpoint_model.specs.States.{EndState, close, abort, tick};
+ghost use Rattle.book_keys.specs.Rows.{Row};
+ghost use Rattle.book_endpoint.specs.States.{EndState, close, abort, tick};
 ghost use Rattle.tcp_endpoint.specs.Ends.{Stands, FitsEnd};
 
 use crate::endpoint::Endpoint;
 use crate::phases::abort_resets;
-use endpoint_model::Phase;
+use book_endpoint::Phase;
 
 impl Endpoint {
     /// No more bytes are given, and a FIN is sent behind those that were; in Listen and SynSent the

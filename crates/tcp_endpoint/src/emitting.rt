@@ -1,7 +1,7 @@
 //! The segments that an end makes.
 ghost use Rattle.std.specs.Prelude.{◌≡◌, ◌+◌, ◌≤◌, length};
-ghost use Rattle.endpoint_model.specs.States.{EndState};
-ghost use Rattle.endpoint_model.specs.Emissions as book;
+ghost use Rattle.book_endpoint.specs.States.{EndState};
+ghost use Rattle.book_endpoint.specs.Emissions as book;
 ghost use Rattle.tcp_endpoint.specs.Ends.{Stands, FitsEnd, IsUnchanged};
 ghost use Rattle.tcp_endpoint.specs.Emitting.{Emits, EmitCosts, Resends, ResendCosts, MakesNone, ResendsNone, length_made, length_made_again};
 

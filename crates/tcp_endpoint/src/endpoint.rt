@@ -7,7 +7,7 @@ ghost use Rattle.tcp_endpoint.specs.Numbers.{expected_in, fin_in};
 use crate::sequence::SequenceState;
 use ao_base::Pair;
 use ao_check::Association;
-use endpoint_model::Phase;
+use book_endpoint::Phase;
 use stream_buffers::{Reassembly, SendQueue};
 
 /// One end of a connection (RFC 9293, section 3.3). It keeps the bytes that are given until they

@@ -1,6 +1,6 @@
 //! The flags of TCP (RFC 9293, section 3.1).
 ghost use Rattle.std.specs.Prelude.{◌≡◌, ◌<◌};
-ghost use Rattle.segment_model.specs.Segments.{has};
+ghost use Rattle.book_segments.specs.Segments.{has};
 
 use tcp_segment::Datagram;
 

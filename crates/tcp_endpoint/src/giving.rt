@@ -1,7 +1,7 @@
 //! Giving bytes to an end.
 ghost use Rattle.std.specs.Prelude.{◌≡◌, ◌+◌, ◌-◌, ◌≤◌, min, List, length};
-ghost use Rattle.key_model.specs.Rows.{Row};
-ghost use Rattle.endpoint_model.specs.States.{EndState, room};
+ghost use Rattle.book_keys.specs.Rows.{Row};
+ghost use Rattle.book_endpoint.specs.States.{EndState, room};
 ghost use Rattle.tcp_endpoint.specs.declared.giving.GiveAnswer.TheVariants as answers;
 ghost use Rattle.tcp_endpoint.specs.Ends.{Stands, FitsEnd};
 ghost use Rattle.tcp_endpoint.specs.Answers.{give_answer, offered, IsRefused};

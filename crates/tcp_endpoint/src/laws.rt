@@ -1,7 +1,7 @@
 //! Tables that fit an end go on fitting, as clauses of functions that do nothing.
 ghost use Rattle.std.specs.Prelude.{◌≡◌, ℕ, List, Some};
-ghost use Rattle.key_model.specs.Rows.{Row};
-ghost use Rattle.key_model.specs.Tables.{adding, AddedAs, withdrawn};
+ghost use Rattle.book_keys.specs.Rows.{Row};
+ghost use Rattle.book_keys.specs.Tables.{adding, AddedAs, withdrawn};
 ghost use Rattle.tcp_endpoint.specs.declared.endpoint.Endpoint.{Endpoint as End};
 ghost use Rattle.tcp_endpoint.specs.Ends.{FitsEnd};
 

@@ -1,13 +1,13 @@
 //! Looking at an end.
 ghost use Rattle.std.specs.Prelude.{◌≡◌, length};
-ghost use Rattle.endpoint_model.specs.States.{EndState};
+ghost use Rattle.book_endpoint.specs.States.{EndState};
 ghost use Rattle.tcp_endpoint.specs.Ends.{Stands};
 ghost use Rattle.tcp_endpoint.specs.Numbers.{HasNumbersOf};
 
 use crate::endpoint::Endpoint;
 use crate::sequence::SequenceState;
 use ao_base::Pair;
-use endpoint_model::Phase;
+use book_endpoint::Phase;
 
 impl Endpoint {
     /// The sockets of the connection.

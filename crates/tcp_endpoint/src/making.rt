@@ -1,10 +1,10 @@
 //! One planned segment, made.
 ghost use Rattle.std.specs.Prelude.{◌≡◌, ◌-◌, ◌+◌, ◌≤◌, ◌%◌, length, Some, None, slice_get, if◌then◌else◌};
-ghost use Rattle.segment_model.specs.Bytes.{ring};
-ghost use Rattle.key_model.specs.Coordination.{Sending as Chosen};
+ghost use Rattle.book_segments.specs.Bytes.{ring};
+ghost use Rattle.book_keys.specs.Coordination.{Sending as Chosen};
 ghost use Rattle.key_coordination.specs.Sendings.{told};
-ghost use Rattle.endpoint_model.specs.States.{EndState};
-ghost use Rattle.endpoint_model.specs.Emissions as book;
+ghost use Rattle.book_endpoint.specs.States.{EndState};
+ghost use Rattle.book_endpoint.specs.Emissions as book;
 ghost use Rattle.tcp_endpoint.specs.Numbers.{expected_in};
 ghost use Rattle.tcp_endpoint.specs.Ends.{Stands, FitsEnd};
 ghost use Rattle.tcp_endpoint.specs.Planning.{draft_of, flags_of, IsCarried};

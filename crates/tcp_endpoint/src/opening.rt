@@ -1,9 +1,9 @@
 //! The segments that open a connection.
 ghost use Rattle.std.specs.Prelude.{◌≡◌, true, ◌+◌, ◌<◌, ◌%◌, ◌^◌, ◌==◌, ◌&&◌, not, nat_lt, ℕ, List};
-ghost use Rattle.segment_model.specs.Bytes.{ring};
-ghost use Rattle.endpoint_model.specs.declared.phase.Phase.TheVariants.{Listen, SynSent};
-ghost use Rattle.endpoint_model.specs.States.{EndState};
-ghost use Rattle.endpoint_model.specs.Arrivals as book;
+ghost use Rattle.book_segments.specs.Bytes.{ring};
+ghost use Rattle.book_endpoint.specs.declared.phase.Phase.TheVariants.{Listen, SynSent};
+ghost use Rattle.book_endpoint.specs.States.{EndState};
+ghost use Rattle.book_endpoint.specs.Arrivals as book;
 ghost use Rattle.ao_check.specs.Bonds.{Fits};
 ghost use Rattle.tcp_endpoint.specs.Ends.{Stands};
 ghost use Rattle.tcp_endpoint.specs.Arriving.{Reaches, LeavesAll, is_computed};
@@ -13,7 +13,7 @@ use crate::endpoint::Endpoint;
 use crate::flags::{ACK, FIN, RST, SYN, has};
 use crate::sequence::Received;
 use ao_base::Pair;
-use endpoint_model::{Arrival, Phase};
+use book_endpoint::{Arrival, Phase};
 use key_table::Table;
 use tcp_segment::Datagram;
 use wrap_seq::Counter;

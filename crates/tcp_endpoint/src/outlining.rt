@@ -1,9 +1,9 @@
 //! What a planned segment is made of.
 ghost use Rattle.std.specs.Prelude.{◌≡◌, ◌+◌, ◌-◌, ◌≤◌, ◌^◌, true, min, max, length};
 ghost use Rattle.ao_base.specs.Algorithms.{mac_length_of};
-ghost use Rattle.segment_model.specs.Segments.{SYN as Syn};
-ghost use Rattle.endpoint_model.specs.States.{EndState, own_mss};
-ghost use Rattle.endpoint_model.specs.Emissions.{sets};
+ghost use Rattle.book_segments.specs.Segments.{SYN as Syn};
+ghost use Rattle.book_endpoint.specs.States.{EndState, own_mss};
+ghost use Rattle.book_endpoint.specs.Emissions.{sets};
 ghost use Rattle.wrap_seq.specs.Counter.{number};
 ghost use Rattle.tcp_endpoint.specs.Ends.{Stands};
 ghost use Rattle.tcp_endpoint.specs.Planning.{draft_of, flags_of, IsCarried, IsCounted, IsOutlineOf, IsWithin};

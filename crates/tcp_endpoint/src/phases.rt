@@ -1,9 +1,9 @@
 //! What a phase lets an end do.
 ghost use Rattle.std.specs.Prelude.{◌≡◌};
-ghost use Rattle.endpoint_model.specs.States.{is_closed, hears, abort_resets};
-ghost use Rattle.endpoint_model.specs.Emissions.{is_sending, is_silent, is_syn_sent, is_syn_received, resends};
+ghost use Rattle.book_endpoint.specs.States.{is_closed, hears, abort_resets};
+ghost use Rattle.book_endpoint.specs.Emissions.{is_sending, is_silent, is_syn_sent, is_syn_received, resends};
 
-use endpoint_model::Phase;
+use book_endpoint::Phase;
 
 /// The end is closed.
 pub(crate) fn is_closed(phase: Phase) -> bool

@@ -1,14 +1,14 @@
 //! Which segment an end makes next, before the row to send with is chosen.
 ghost use Rattle.std.specs.Prelude.{◌≡◌, ◌+◌, ◌-◌, ◌==◌, ◌&&◌, ◌||◌, nat_lt, ℕ, IfSome};
 ghost use Rattle.wrap_seq.specs.Counter.{number};
-ghost use Rattle.endpoint_model.specs.States.{EndState};
-ghost use Rattle.endpoint_model.specs.Emissions as book;
+ghost use Rattle.book_endpoint.specs.States.{EndState};
+ghost use Rattle.book_endpoint.specs.Emissions as book;
 ghost use Rattle.tcp_endpoint.specs.Ends.{Stands};
 ghost use Rattle.tcp_endpoint.specs.Planning.{PlansAs, IsCarried};
 
 use crate::endpoint::Endpoint;
 use crate::phases::{is_sending, is_silent, is_syn_received, is_syn_sent, resends};
-use endpoint_model::Phase;
+use book_endpoint::Phase;
 
 /// A segment that is about to be made. How many bytes it carries is known once the row to send with
 /// is chosen.
@@ -57,7 +57,7 @@ impl Endpoint {
 
     /// What is sent next: RST, SYN, SYN with ACK, data within the peer's window, FIN, ACK (RFC 9293,
     /// section 3.10).
-    #[tactic(auto, unfolding(endpoint_model::specs::Emissions::to_emit))]
+    #[tactic(auto, unfolding(book_endpoint::specs::Emissions::to_emit))]
     pub(crate) fn plan(&self) -> Option<Plan>
         ensures planned { (s : EndState) (most : ℕ) → Stands self.now s → PlansAs s most result (book.to_emit s most) }
         ensures carried { IfSome result (λ p. IsCarried self.now p) }
@@ -88,7 +88,7 @@ impl Endpoint {
 
     /// What is sent again: the SYN, what isn't acknowledged, or a probe of a window of zero (RFC
     /// 9293, sections 3.10.8 and 3.8.6.1).
-    #[tactic(auto, unfolding(endpoint_model::specs::Emissions::to_resend))]
+    #[tactic(auto, unfolding(book_endpoint::specs::Emissions::to_resend))]
     pub(crate) fn plan_again(&self) -> Option<Plan>
         ensures planned { (s : EndState) (most : ℕ) → Stands self.now s → PlansAs s most result (book.to_resend s most) }
         ensures carried { IfSome result (λ p. IsCarried self.now p) }

@@ -1,12 +1,12 @@
 //! Taking the bytes that came.
 ghost use Rattle.std.specs.Prelude.{◌≡◌, ◌==◌, ◌&&◌, nat_lt, ◌++◌, List, length, drop};
-ghost use Rattle.key_model.specs.Rows.{Row};
-ghost use Rattle.endpoint_model.specs.States.{EndState, taking, take_out, at_end, hears};
+ghost use Rattle.book_keys.specs.Rows.{Row};
+ghost use Rattle.book_endpoint.specs.States.{EndState, taking, take_out, at_end, hears};
 ghost use Rattle.tcp_endpoint.specs.Ends.{Stands, FitsEnd};
 
 use crate::endpoint::Endpoint;
 use crate::phases::hears;
-use endpoint_model::Phase;
+use book_endpoint::Phase;
 
 /// Whether a window that was none is there again, in a phase in which data is heard.
 fn opens(phase: Phase, before: u16, after: u16) -> bool

@@ -1,9 +1,9 @@
 //! Whether a segment is in the window.
 ghost use Rattle.std.specs.Prelude.{◌≡◌, ◌+◌, ◌-◌, ◌≤◌, ◌<◌, ◌^◌, ◌==◌, ◌&&◌, ◌||◌, ℕ, Some, true, false};
 ghost use Rattle.wrap_seq.specs.Counter.{number as value_of};
-ghost use Rattle.segment_model.specs.Meant.{meant};
-ghost use Rattle.segment_model.specs.Segments.{has, SYN, segment_length};
-ghost use Rattle.endpoint_model.specs.Arrivals as book;
+ghost use Rattle.book_segments.specs.Meant.{meant};
+ghost use Rattle.book_segments.specs.Segments.{has, SYN, segment_length};
+ghost use Rattle.book_endpoint.specs.Arrivals as book;
 
 use crate::flags::{FIN, SYN, has};
 use tcp_segment::Datagram;

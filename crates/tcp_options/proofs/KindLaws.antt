@@ -2,11 +2,11 @@
 use Rattle.std.proofs.Common.{◌≡◌, ℕ, ◌+◌, ◌<◌, ◌≤◌, Bool, true, false, cond, List, [], ◌∷◌, Option, Some, None, length, refl, sym, ap, subst, ◌∙◌, arith, eq-eqb}
 use Rattle.std.specs.Prelude.{◌==◌, ◌&&◌, slice_index, ◌*◌, is_some}
 use Rattle.std.proofs.lemmas.Bool.{ne_eqb}
-use Rattle.segment_model.specs.Options.{Opt, Options, Plain, AreListed, Listed, Faulty, OptionFront, NoMore, Ending, TooShort, TooLong, Leading, option_front, options_at, options_of, listed, of_kind, plains, mss_among, Ao, AoFound, ao_of, found, find_ao}
-use Rattle.segment_model.specs.Options as book
-use Rattle.segment_model.proofs.Walks.{goes, leads, ending_at, nothing_at}
+use Rattle.book_segments.specs.Options.{Opt, Options, Plain, AreListed, Listed, Faulty, OptionFront, NoMore, Ending, TooShort, TooLong, Leading, option_front, options_at, options_of, listed, of_kind, plains, mss_among, Ao, AoFound, ao_of, found, find_ao}
+use Rattle.book_segments.specs.Options as book
+use Rattle.book_segments.proofs.Walks.{goes, leads, ending_at, nothing_at}
 use Rattle.tcp_options.specs.Views.{mss_or, IsFirst, IsAo, HitIs, hit_option, view_ao}
-use Rattle.segment_model.specs.declared.fault.OptionFault.{OptionFault}
+use Rattle.book_segments.specs.declared.fault.OptionFault.{OptionFault}
 use Rattle.tcp_options.specs.declared.ao.Hit.{Hit}
 use Rattle.tcp_options.specs.declared.ao.AoOption.{AoOption}
 

@@ -1,8 +1,8 @@
 -- The values of this crate as those of the definitions.
 use Rattle.std.specs.Prelude.{◌≡◌, ℕ, List, [], ◌∷◌, length, Option, Some, None, ◌==◌, ◌&&◌, slice_index, ◌+◌, ◌*◌, ◌≤◌, if◌then◌else◌}
-use Rattle.segment_model.specs.Options.{Plain, OptionFront, NoMore, Ending, TooShort, TooLong, Leading}
-use Rattle.segment_model.specs.declared.fault.OptionFault.{OptionFault}
-use Rattle.segment_model.specs.Options as book
+use Rattle.book_segments.specs.Options.{Plain, OptionFront, NoMore, Ending, TooShort, TooLong, Leading}
+use Rattle.book_segments.specs.declared.fault.OptionFault.{OptionFault}
+use Rattle.book_segments.specs.Options as book
 use Rattle.tcp_options.specs.declared.iter.Opt.{Opt}
 use Rattle.tcp_options.specs.declared.iter.Cut.{Cut}
 use Rattle.tcp_options.specs.declared.iter.Cut.TheVariants as cuts

@@ -1,6 +1,6 @@
 //! The TCP-AO option among the others (RFC 5925, section 2.2).
 ghost use Rattle.std.specs.Prelude.{◌≡◌, ℕ, List, Option, Some, None, ◌+◌, ◌<◌, ◌≤◌, length};
-ghost use Rattle.segment_model.specs.Options.{AreListed, options_at, find_ao};
+ghost use Rattle.book_segments.specs.Options.{AreListed, options_at, find_ao};
 ghost use Rattle.tcp_options.specs.Views.{HitIs, IsAo, view_found};
 
 use crate::iter::{Cut, Opt, cut_front};

@@ -1,7 +1,7 @@
 //! One option after another.
 ghost use Rattle.std.specs.Prelude.{◌≡◌, ℕ, List};
 ghost use Rattle.std.specs.Iterator.{YieldsFirstBy, item_count};
-ghost use Rattle.segment_model.specs.Options.{option_front, options_of, listed, AreListed, plains};
+ghost use Rattle.book_segments.specs.Options.{option_front, options_of, listed, AreListed, plains};
 ghost use Rattle.tcp_options.specs.Views.{view_opt, view_cut};
 
 use std::marker::Model;
@@ -60,7 +60,7 @@ pub struct OptionIter<'a> {
 
 impl<'a> Model for OptionIter<'a> {
     ghost use Rattle.std.specs.Prelude.{List};
-    ghost use Rattle.segment_model.specs.Options.{AreListed, Plain, plains, listed, options_of};
+    ghost use Rattle.book_segments.specs.Options.{AreListed, Plain, plains, listed, options_of};
 
     ghost Value = { List Plain };
 

@@ -10,6 +10,6 @@ mod iter;
 mod options;
 
 pub use ao::{AoFound, AoOption};
+pub use book_segments::OptionFault;
 pub use iter::{Opt, OptionIter};
 pub use options::{Options, options_over, read_options};
-pub use segment_model::OptionFault;

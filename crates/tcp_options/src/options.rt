@@ -1,13 +1,13 @@
 //! An option area without a fault.
 ghost use Rattle.std.specs.Prelude.{◌≡◌, ℕ, List, ◌≤◌, length, Option, Some, None, IfOk, IfErr, IsOk, MatchResult};
-ghost use Rattle.segment_model.specs.Options.{AreListed, Faulty, options_of, listed, mss_among, plains};
-ghost use Rattle.segment_model.specs.Options as book;
-ghost use Rattle.segment_model.specs.Areas.{Area, FaultAt};
+ghost use Rattle.book_segments.specs.Options.{AreListed, Faulty, options_of, listed, mss_among, plains};
+ghost use Rattle.book_segments.specs.Options as book;
+ghost use Rattle.book_segments.specs.Areas.{Area, FaultAt};
 ghost use Rattle.tcp_options.specs.Views.{FaultIs, mss_or, view_opt};
 
 use crate::iter::{Cut, Opt, OptionIter, cut_front, iter_over};
+use book_segments::OptionFault;
 use byteorder::{BigEndian, ByteOrder};
-use segment_model::OptionFault;
 use std::marker::Model;
 
 /// The options of a header, borrowed from the caller's bytes; seen as the bytes of the area.
@@ -18,7 +18,7 @@ pub struct Options<'a> {
 
 impl<'a> Model for Options<'a> {
     ghost use Rattle.std.specs.Prelude.{ℕ, List, ◌≤◌, length};
-    ghost use Rattle.segment_model.specs.Options.{AreListed, options_of};
+    ghost use Rattle.book_segments.specs.Options.{AreListed, options_of};
 
     ghost Value = { List ℕ };
 

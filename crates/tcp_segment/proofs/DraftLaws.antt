@@ -4,18 +4,18 @@ use Rattle.std.specs.Prelude.{slice_range, ◌⊎◌}
 use Rattle.std.proofs.lemmas.List.{length-append, take_at, drop_at, append-nil}
 use Rattle.ao_base.specs.declared.address.Address.{Address}
 use Rattle.ao_base.specs.declared.address.Address.TheVariants.{V4, V6}
-use Rattle.segment_model.specs.Bytes.{put2, put4}
-use Rattle.segment_model.specs.Sockets.{octets}
-use Rattle.segment_model.specs.Options.{Opt, Listed, AreListed, Ao, One, options_of, find_ao}
-use Rattle.segment_model.proofs.AreaLaws.{area_is}
-use Rattle.segment_model.specs.Segments.{IpHeader, Segment, words_sum, sums, complement_of, checksum_of, tcp_length, pseudo, header, tcp_bytes, spell_as, spell, first_fault, fields}
-use Rattle.segment_model.specs.Spelling.{AreBytes, IsV4, IsV6, FitsIp, Fits, with_sum, with_checksum, addresses_in}
+use Rattle.book_segments.specs.Bytes.{put2, put4}
+use Rattle.book_segments.specs.Sockets.{octets}
+use Rattle.book_segments.specs.Options.{Opt, Listed, AreListed, Ao, One, options_of, find_ao}
+use Rattle.book_segments.proofs.AreaLaws.{area_is}
+use Rattle.book_segments.specs.Segments.{IpHeader, Segment, words_sum, sums, complement_of, checksum_of, tcp_length, pseudo, header, tcp_bytes, spell_as, spell, first_fault, fields}
+use Rattle.book_segments.specs.Spelling.{AreBytes, IsV4, IsV6, FitsIp, Fits, with_sum, with_checksum, addresses_in}
 use Rattle.tcp_segment.specs.Written.{mss_option, ip_words}
-use Rattle.segment_model.proofs.ByteLaws.{two_back, bytes_take, bytes_drop}
-use Rattle.segment_model.proofs.Folding.{complement_by}
-use Rattle.segment_model.proofs.SumLaws.{words_pseudo, complement_completes, complement_fits, is_right, spell_with, fits_with, finished_fits, finished_good}
-use Rattle.segment_model.proofs.SpellLaws.{finished_again}
-use Rattle.segment_model.proofs.Again.{IsAgain, again}
+use Rattle.book_segments.proofs.ByteLaws.{two_back, bytes_take, bytes_drop}
+use Rattle.book_segments.proofs.Folding.{complement_by}
+use Rattle.book_segments.proofs.SumLaws.{words_pseudo, complement_completes, complement_fits, is_right, spell_with, fits_with, finished_fits, finished_good}
+use Rattle.book_segments.proofs.SpellLaws.{finished_again}
+use Rattle.book_segments.proofs.Again.{IsAgain, again}
 use Rattle.tcp_segment.specs.declared.writing.Head.{Head}
 use Rattle.tcp_segment.specs.Places.{IsRead}
 use Rattle.tcp_segment.specs.Sums.{complement_at, checksum_over, IsSet}

@@ -7,11 +7,11 @@ use Rattle.std.proofs.lemmas.List.{take_at, append-nil, take-append-drop, drop-d
 use denote.Struct.Props.{≡_prop}
 use mathlib.Core.HLevel.{⊥_prop}
 use mathlib.Core.Logic.{∥∥₁_elim, ∥∥₁_map}
-use Rattle.segment_model.specs.declared.fault.DatagramFault.{DatagramFault}
-use Rattle.segment_model.specs.Options.{Ao, AoFound, Absent, One, Two, WithMd5, find_ao}
-use Rattle.segment_model.specs.Segments.{first_fault, fields, spell}
-use Rattle.segment_model.specs.Spelling.{AreBytes, with_sum}
-use Rattle.segment_model.proofs.Read.{spelled_by}
+use Rattle.book_segments.specs.declared.fault.DatagramFault.{DatagramFault}
+use Rattle.book_segments.specs.Options.{Ao, AoFound, Absent, One, Two, WithMd5, find_ao}
+use Rattle.book_segments.specs.Segments.{first_fault, fields, spell}
+use Rattle.book_segments.specs.Spelling.{AreBytes, with_sum}
+use Rattle.book_segments.proofs.Read.{spelled_by}
 use Rattle.tcp_segment.specs.declared.writing.Head.{Head}
 use Rattle.tcp_segment.specs.Places.{IsRead}
 use Rattle.tcp_segment.specs.Sums.{IsSet}

@@ -7,15 +7,15 @@ use Rattle.std.proofs.Math.Seq.{take-add}
 use Rattle.ao_base.specs.declared.address.Address.{Address}
 use Rattle.ao_base.specs.declared.address.Address.TheVariants.{V4, V6}
 use Rattle.ao_base.specs.declared.address.Socket.{Socket}
-use Rattle.segment_model.specs.Bytes.{put2, put4}
-use Rattle.segment_model.specs.Sockets.{octets}
-use Rattle.segment_model.specs.declared.fault.DatagramFault.{DatagramFault}
-use Rattle.segment_model.specs.Segments.{Segment, two_octets_at, four_octets_at, first_fault, fields, v4_fields, v6_fields, header, tcp_bytes, tcp_length, pseudo, spell, sums, good, words_sum, reading, Read, Bad, read_unless}
-use Rattle.segment_model.specs.Spelling.{AreBytes, Fits, Spells, addresses_in}
-use Rattle.segment_model.proofs.ByteLaws.{two_back, four_back, part_at}
-use Rattle.segment_model.proofs.Folding.{sums_by}
-use Rattle.segment_model.proofs.SumLaws.{words_pseudo}
-use Rattle.segment_model.proofs.Read.{spelled_by}
+use Rattle.book_segments.specs.Bytes.{put2, put4}
+use Rattle.book_segments.specs.Sockets.{octets}
+use Rattle.book_segments.specs.declared.fault.DatagramFault.{DatagramFault}
+use Rattle.book_segments.specs.Segments.{Segment, two_octets_at, four_octets_at, first_fault, fields, v4_fields, v6_fields, header, tcp_bytes, tcp_length, pseudo, spell, sums, good, words_sum, reading, Read, Bad, read_unless}
+use Rattle.book_segments.specs.Spelling.{AreBytes, Fits, Spells, addresses_in}
+use Rattle.book_segments.proofs.ByteLaws.{two_back, four_back, part_at}
+use Rattle.book_segments.proofs.Folding.{sums_by}
+use Rattle.book_segments.proofs.SumLaws.{words_pseudo}
+use Rattle.book_segments.proofs.Read.{spelled_by}
 use Rattle.tcp_segment.specs.declared.reading.Places.{Places}
 use Rattle.tcp_segment.specs.Places.{header_end, Placed, IsRead}
 

@@ -2,12 +2,12 @@
 use Rattle.std.proofs.Common.{◌≡◌, ℕ, ◌+◌, ◌-◌, ◌/◌, ◌%◌, ◌<◌, ◌≤◌, Bool, true, false, List, [], ◌∷◌, ◌++◌, length, take, drop, refl, sym, ap, ◌∙◌, arith, append_assoc}
 use Rattle.std.specs.Prelude.{slice_index, ◌==◌, if◌then◌else◌}
 use Rattle.std.proofs.lemmas.List.{length-append, length-take, length-drop, take-append-drop, take_at, drop_at, append-nil}
-use Rattle.segment_model.specs.Bytes.{put2, put4}
-use Rattle.segment_model.specs.Segments.{words_sum, complement_of}
-use Rattle.segment_model.specs.Spelling.{with_checksum, with_right_checksum, ip_length, addresses_in, pseudo_in}
-use Rattle.segment_model.proofs.ByteLaws.{two_back}
-use Rattle.segment_model.proofs.Folding.{complement_by}
-use Rattle.segment_model.proofs.SumLaws.{words_append}
+use Rattle.book_segments.specs.Bytes.{put2, put4}
+use Rattle.book_segments.specs.Segments.{words_sum, complement_of}
+use Rattle.book_segments.specs.Spelling.{with_checksum, with_right_checksum, ip_length, addresses_in, pseudo_in}
+use Rattle.book_segments.proofs.ByteLaws.{two_back}
+use Rattle.book_segments.proofs.Folding.{complement_by}
+use Rattle.book_segments.proofs.SumLaws.{words_append}
 use Rattle.tcp_segment.specs.Parts.{spliced}
 use Rattle.tcp_segment.specs.Sums.{complement_at, checksum_over, HasPlainHeader, IsSet}
 use Rattle.tcp_segment.proofs.PartLaws.{spliced_middle}

@@ -6,13 +6,13 @@ use Rattle.ao_base.specs.declared.address.Address.{Address}
 use Rattle.ao_base.specs.declared.address.Address.TheVariants.{V4, V6}
 use Rattle.lent_bytes.specs.Part.{with_part}
 use Rattle.lent_bytes.proofs.PartLaws.{with_part_is}
-use Rattle.segment_model.specs.Bytes.{put2, put4}
-use Rattle.segment_model.specs.Sockets.{octets}
-use Rattle.segment_model.specs.Segments.{Segment, words_sum, complement_of, tcp_length, header, tcp_bytes, spell_as, spell}
-use Rattle.segment_model.specs.Spelling.{with_sum}
+use Rattle.book_segments.specs.Bytes.{put2, put4}
+use Rattle.book_segments.specs.Sockets.{octets}
+use Rattle.book_segments.specs.Segments.{Segment, words_sum, complement_of, tcp_length, header, tcp_bytes, spell_as, spell}
+use Rattle.book_segments.specs.Spelling.{with_sum}
 use Rattle.tcp_segment.specs.Written.{mss_option, ip_words}
-use Rattle.segment_model.proofs.Folding.{complement_by}
-use Rattle.segment_model.proofs.SumLaws.{words_append, spell_with}
+use Rattle.book_segments.proofs.Folding.{complement_by}
+use Rattle.book_segments.proofs.SumLaws.{words_append, spell_with}
 use Rattle.tcp_segment.specs.declared.writing.Head.{Head}
 use Rattle.tcp_segment.specs.Sums.{complement_at}
 use Rattle.tcp_segment.specs.Writing.{written_ip, ip_start, tcp_start, ip_size, mss_length, option_heads, mac_place, drafted, OneFamily, IsOneFamily, IsSized, HoldsDraft, IsFinished}

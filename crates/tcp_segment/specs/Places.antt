@@ -1,7 +1,7 @@
 -- Where the parts of a datagram begin in its bytes.
 use Rattle.std.specs.Prelude.{◌≡◌, ℕ, ◌+◌, ◌*◌, ◌/◌, ◌%◌, ◌==◌, ◌≤◌, List, ◌++◌, length, drop, slice_index, slice_range, if◌then◌else◌}
-use Rattle.segment_model.specs.Segments.{two_octets_at, fields, spell, tcp_bytes, tcp_length}
-use Rattle.segment_model.specs.Spelling.{Fits}
+use Rattle.book_segments.specs.Segments.{two_octets_at, fields, spell, tcp_bytes, tcp_length}
+use Rattle.book_segments.specs.Spelling.{Fits}
 use Rattle.tcp_segment.specs.declared.reading.Places.{Places}
 
 -- the length of the IP header, as its fields say (RFC 791, section 3.1; RFC 8200, section 3)

@@ -1,7 +1,7 @@
 -- Checksums over plain sums of words.
 use Rattle.std.specs.Prelude.{◌≡◌, ℕ, ◌+◌, ◌-◌, ◌%◌, ◌==◌, ◌<◌, ◌≤◌, List, ◌++◌, length, if◌then◌else◌}
-use Rattle.segment_model.specs.Segments.{words_sum}
-use Rattle.segment_model.specs.Spelling.{with_checksum, ip_length, addresses_in}
+use Rattle.book_segments.specs.Segments.{words_sum}
+use Rattle.book_segments.specs.Spelling.{with_checksum, ip_length, addresses_in}
 
 -- the complement of the one's complement sum, for a plain sum (RFC 1071)
 abbrev pub complement_at : ℕ → ℕ

@@ -2,9 +2,9 @@
 use Rattle.std.specs.Prelude.{◌≡◌, ℕ, ◌+◌, ◌*◌, ◌<◌, ◌≤◌, ◌⊎◌, List, [], ◌∷◌, ◌++◌, length, Option, Some, None}
 use Rattle.ao_base.specs.declared.address.Address.{Address}
 use Rattle.ao_base.specs.declared.address.Address.TheVariants.{V4, V6}
-use Rattle.segment_model.specs.Bytes.{put2, put4, ring}
-use Rattle.segment_model.specs.Segments.{IpHeader, Segment, complement_of, spell, reading, Read}
-use Rattle.segment_model.specs.Spelling.{Fits, Good, with_sum, finished}
+use Rattle.book_segments.specs.Bytes.{put2, put4, ring}
+use Rattle.book_segments.specs.Segments.{IpHeader, Segment, complement_of, spell, reading, Read}
+use Rattle.book_segments.specs.Spelling.{Fits, Good, with_sum, finished}
 use Rattle.tcp_segment.specs.Written.{area_heads, written_area, ip_words, ip_as, written}
 use Rattle.tcp_segment.specs.declared.writing.Head.{Head}
 

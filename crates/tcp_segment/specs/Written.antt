@@ -3,9 +3,9 @@ use Rattle.std.specs.Prelude.{ℕ, ◌+◌, List, [], ◌∷◌, ◌++◌, lengt
 use Rattle.ao_base.specs.declared.address.Address.{Address}
 use Rattle.ao_base.specs.declared.address.Address.TheVariants.{V4, V6}
 use Rattle.ao_base.specs.declared.address.Socket.{Socket}
-use Rattle.segment_model.specs.Bytes.{put2}
-use Rattle.segment_model.specs.Sockets.{octets}
-use Rattle.segment_model.specs.Segments.{IpHeader, Ipv4, Ipv6, Segment, complement_of}
+use Rattle.book_segments.specs.Bytes.{put2}
+use Rattle.book_segments.specs.Sockets.{octets}
+use Rattle.book_segments.specs.Segments.{IpHeader, Ipv4, Ipv6, Segment, complement_of}
 
 -- the option of the maximum segment size, where there is one (RFC 9293, section 3.7.1)
 abbrev pub mss_option : Option ℕ → List ℕ

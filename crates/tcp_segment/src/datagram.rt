@@ -1,14 +1,14 @@
 //! A datagram in the caller's bytes.
 ghost use Rattle.std.specs.Prelude.{◌≡◌, ℕ, List, [], ◌+◌, ◌*◌, ◌/◌, ◌%◌, ◌≤◌, ◌<◌, ◌++◌, length, take, drop, slice_index, slice_range, IfOk, IfErr, IsOkAnd};
 ghost use Rattle.ao_base.specs.declared.address.Address.TheVariants.{V4, V6};
-ghost use Rattle.segment_model.specs.Segments.{Segment, reading, Read, Bad, first_fault, fields, spell, header, good};
-ghost use Rattle.segment_model.specs.Spelling.{AreBytes, Fits, Spells};
+ghost use Rattle.book_segments.specs.Segments.{Segment, reading, Read, Bad, first_fault, fields, spell, header, good};
+ghost use Rattle.book_segments.specs.Spelling.{AreBytes, Fits, Spells};
 ghost use Rattle.tcp_segment.specs.Places.{IsRead};
 
 use crate::reading::{Places, places_in};
 use crate::sums::{address_sum, four, two, words};
 use ao_base::{Address, Socket};
-use segment_model::DatagramFault;
+use book_segments::DatagramFault;
 use std::marker::Model;
 use tcp_options::{Options, options_over};
 
@@ -20,7 +20,7 @@ pub struct Datagram<'a> {
 }
 
 impl<'a> Model for Datagram<'a> {
-    ghost use Rattle.segment_model.specs.Segments.{Segment, fields};
+    ghost use Rattle.book_segments.specs.Segments.{Segment, fields};
     ghost use Rattle.tcp_segment.specs.Places.{IsRead};
 
     ghost Value = { Segment };

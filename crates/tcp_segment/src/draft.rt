@@ -27,8 +27,8 @@ pub struct Draft<B: Room> {
 pub type DatagramMut<'a> = Draft<&'a mut [u8]>;
 
 impl<'a> Draft<&'a mut [u8]> {
-    ghost use Rattle.segment_model.specs.Options.{Ao, One, find_ao};
-    ghost use Rattle.segment_model.specs.Spelling.{Fits};
+    ghost use Rattle.book_segments.specs.Options.{Ao, One, find_ao};
+    ghost use Rattle.book_segments.specs.Spelling.{Fits};
     ghost use Rattle.tcp_segment.specs.declared.writing.Head.{Head};
     ghost use Rattle.tcp_segment.specs.Writing.{drafted, IsFinished};
     ghost use Rattle.tcp_segment.specs.Drafts.{Drafted};

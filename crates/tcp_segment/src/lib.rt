@@ -13,9 +13,9 @@ mod reading;
 mod sums;
 mod writing;
 
+pub use book_segments::DatagramFault;
 pub use datagram::{Datagram, read_datagram};
 pub use draft::{DatagramMut, Draft};
 pub use laws::parts_put_in_are_kept;
-pub use segment_model::DatagramFault;
 pub use sums::fix_checksum;
 pub use writing::{Head, write_datagram};

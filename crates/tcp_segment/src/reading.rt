@@ -1,10 +1,10 @@
 //! The nine tests of a datagram.
 ghost use Rattle.std.specs.Prelude.{◌≡◌, ℕ, List, ◌+◌, ◌*◌, ◌/◌, ◌%◌, ◌<◌, ◌≤◌, length, slice_index, Some, None, MatchResult};
-ghost use Rattle.segment_model.specs.Segments.{tcp_fault, v4_fault, v6_fault, first_fault, two_octets_at, is_extension};
+ghost use Rattle.book_segments.specs.Segments.{tcp_fault, v4_fault, v6_fault, first_fault, two_octets_at, is_extension};
 ghost use Rattle.tcp_segment.specs.Places.{PlacedBy, Placed};
 
 use crate::sums::{is_right, two};
-use segment_model::DatagramFault;
+use book_segments::DatagramFault;
 use tcp_options::read_options;
 
 /// Where the TCP header and the payload begin, and the datagram ends.
@@ -106,7 +106,7 @@ fn read_v6(bytes: &[u8]) -> Result<Places, DatagramFault>
 }
 
 /// The places of the datagram that a prefix of the bytes is, by the nine tests in their order.
-#[tactic(auto, unfolding(segment_model::specs::Segments::first_fault))]
+#[tactic(auto, unfolding(book_segments::specs::Segments::first_fault))]
 pub(crate) fn places_in(bytes: &[u8]) -> Result<Places, DatagramFault>
     ensures { MatchResult result (λ places. Placed bytes.now places × (first_fault bytes.now ≡ None)) (λ fault. first_fault bytes.now ≡ Some fault) }
 {

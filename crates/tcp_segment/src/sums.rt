@@ -1,8 +1,8 @@
 //! Sums of 16-bit words, and the checksums that they make (RFC 1071).
 ghost use Rattle.std.specs.Prelude.{◌≡◌, ℕ, ◌+◌, ◌-◌, ◌*◌, ◌<◌, ◌≤◌, ◌++◌, List, [], length, take, drop, slice_index};
-ghost use Rattle.segment_model.specs.Segments.{words_sum, sums, two_octets_at, four_octets_at, Segment, spell_as, pseudo, tcp_length, complement_of};
-ghost use Rattle.segment_model.specs.Bytes.{put2};
-ghost use Rattle.segment_model.specs.Spelling.{AreBytes, with_right_checksum, addresses_in, ip_length};
+ghost use Rattle.book_segments.specs.Segments.{words_sum, sums, two_octets_at, four_octets_at, Segment, spell_as, pseudo, tcp_length, complement_of};
+ghost use Rattle.book_segments.specs.Bytes.{put2};
+ghost use Rattle.book_segments.specs.Spelling.{AreBytes, with_right_checksum, addresses_in, ip_length};
 ghost use Rattle.tcp_segment.specs.Parts.{spliced};
 ghost use Rattle.tcp_segment.specs.Sums.{complement_at, HasPlainHeader, IsSet};
 
@@ -43,7 +43,7 @@ pub(crate) fn words(bytes: &[u8]) -> u64
 }
 
 /// Whether the one's complement sum is ffff.
-#[tactic(auto, using(segment_model::proofs::Folding::sums_by))]
+#[tactic(auto, using(book_segments::proofs::Folding::sums_by))]
 pub(crate) fn is_right(bytes: &[u8]) -> bool
     requires { length bytes.now ≤ 131200 }
     ensures { result ≡ sums bytes.now }

@@ -1,8 +1,8 @@
 //! The written form of a datagram.
 ghost use Rattle.std.specs.Prelude.{◌≡◌, ◌+◌, ◌-◌, ◌*◌, ◌/◌, ◌%◌, ◌≤◌, ◌<◌, ◌++◌, ◌∷◌, List, [], ℕ, length, take, drop, replicate, ◌⊎◌, Option, Some, None};
-ghost use Rattle.segment_model.specs.Bytes.{put2};
-ghost use Rattle.segment_model.specs.Sockets.{octets};
-ghost use Rattle.segment_model.specs.Segments.{complement_of};
+ghost use Rattle.book_segments.specs.Bytes.{put2};
+ghost use Rattle.book_segments.specs.Sockets.{octets};
+ghost use Rattle.book_segments.specs.Segments.{complement_of};
 ghost use Rattle.tcp_segment.specs.Written.{ip_words};
 ghost use Rattle.tcp_segment.specs.Writing.{ip_start, ip_size, tcp_start, mss_length, option_heads, header_length, IsSized, HasNumbers, IsHead, HoldsDraft};
 ghost use Rattle.tcp_segment.specs.Drafts.{Drafted};

@@ -2,10 +2,10 @@
 use Rattle.std.proofs.Common.{arith, ◌≡◌, ℕ, suc, ◌+◌, ◌≤◌, if◌then◌else◌, Bool, true, false, List, [], ◌∷◌, length, Result, Ok, Err, ap}
 use Rattle.ao_base.specs.declared.line_kind.LineKind.{LineKind}
 use Rattle.ao_base.specs.Lines.{words_of}
-use Rattle.line_model.specs.declared.text_fault.TextFault.{TextFault}
-use Rattle.line_model.specs.declared.text_fault.TextFault.TheVariants as fault
-use Rattle.line_model.specs.Lines.{Line, saying_from, says_something}
-use Rattle.line_model.specs.Said.{Said, numbered, said_by}
+use Rattle.book_lines.specs.declared.text_fault.TextFault.{TextFault}
+use Rattle.book_lines.specs.declared.text_fault.TextFault.TheVariants as fault
+use Rattle.book_lines.specs.Lines.{Line, saying_from, says_something}
+use Rattle.book_lines.specs.Said.{Said, numbered, said_by}
 use Rattle.ao_base.specs.Results.{◌>>=◌}
 use Rattle.text_lines.specs.declared.refusal.Refusal.{Refusal}
 use Rattle.text_lines.specs.declared.refusal.Refusal.TheVariants as refusal

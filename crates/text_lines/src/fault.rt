@@ -1,11 +1,11 @@
 //! The text of a fault.
 ghost use Rattle.std.specs.Prelude.{◌≡◌, ◌++◌, ◌∷◌, [], OnOk, IfOk, codes, decimal};
-ghost use Rattle.line_model.specs.Faults.{fault_text, kind_text};
-ghost use Rattle.line_model.specs.Texts.{line_text, spaced};
+ghost use Rattle.book_lines.specs.Faults.{fault_text, kind_text};
+ghost use Rattle.book_lines.specs.Texts.{line_text, spaced};
 
 use crate::writing::{push_newline, push_number, push_text};
 use ao_base::{Bytes, LineKind};
-use line_model::TextFault;
+use book_lines::TextFault;
 use std::alloc::{AllocError, Global};
 
 fn kind_name(kind: LineKind) -> &'static [u8]

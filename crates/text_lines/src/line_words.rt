@@ -1,7 +1,7 @@
 //! The words of a line, read one by one.
 ghost use Rattle.std.specs.Prelude.{◌≡◌, ℕ, ◌≤◌, ◌<◌, List, drop, length, IfOk, MatchResult, Ok, Err};
 ghost use Rattle.ao_base.specs.Lines.{words_of};
-ghost use Rattle.line_model.specs.Words.{word_in, nothing_in, literal_in, choice_of, choice_in, end_of, end_in, address_in, socket_in, algorithm_in, number_in, hex_in, sized_hex_in, some_hex_in, byte_in};
+ghost use Rattle.book_lines.specs.Words.{word_in, nothing_in, literal_in, choice_of, choice_in, end_of, end_in, address_in, socket_in, algorithm_in, number_in, hex_in, sized_hex_in, some_hex_in, byte_in};
 ghost use Rattle.text_lines.specs.Readings.{gives, Tells};
 
 use crate::refusal::Refusal;
@@ -49,7 +49,7 @@ impl<'a> LineWords<'a> {
     }
 
     /// The next word; `Word` where it is missing.
-    #[tactic(auto, unfolding(line_model::specs::Words::word_in))]
+    #[tactic(auto, unfolding(book_lines::specs::Words::word_in))]
     pub fn word(&mut self) -> Result<&'a [u8], LineKind>
         ensures { MatchResult result (λ w. word_in self.old ≡ Ok (record { value = w.now; rest = self.new })) (λ kind. word_in self.old ≡ Err kind) }
     {
@@ -63,7 +63,7 @@ impl<'a> LineWords<'a> {
     }
 
     /// The end of the line; `Word` for a surplus word.
-    #[tactic(auto, unfolding(line_model::specs::Words::nothing_in))]
+    #[tactic(auto, unfolding(book_lines::specs::Words::nothing_in))]
     pub fn nothing(&mut self) -> Result<(), LineKind>
         ensures { result ≡ nothing_in self.old }
     {
@@ -74,7 +74,7 @@ impl<'a> LineWords<'a> {
     }
 
     /// The text itself; `Word` for another word.
-    #[tactic(auto, unfolding(line_model::specs::Words::literal_in))]
+    #[tactic(auto, unfolding(book_lines::specs::Words::literal_in))]
     pub fn literal(&mut self, text: &[u8]) -> Result<(), LineKind>
         ensures { gives result self.new ≡ literal_in text.now self.old }
     {
@@ -86,7 +86,7 @@ impl<'a> LineWords<'a> {
     }
 
     /// One of two texts: whether it is the other one; `Word` for a third word.
-    #[tactic(auto, unfolding(line_model::specs::Words::choice_in))]
+    #[tactic(auto, unfolding(book_lines::specs::Words::choice_in))]
     pub fn choice(&mut self, one: &[u8], other: &[u8]) -> Result<bool, LineKind>
         ensures { gives result self.new ≡ choice_in one.now other.now self.old }
     {
@@ -94,7 +94,7 @@ impl<'a> LineWords<'a> {
     }
 
     /// An end, `a` or `b`; `Word` for another word.
-    #[tactic(auto, unfolding(line_model::specs::Words::end_in))]
+    #[tactic(auto, unfolding(book_lines::specs::Words::end_in))]
     pub fn end(&mut self) -> Result<End, LineKind>
         ensures { gives result self.new ≡ end_in self.old }
     {
@@ -102,7 +102,7 @@ impl<'a> LineWords<'a> {
     }
 
     /// An address; `Word` for another word.
-    #[tactic(auto, unfolding(line_model::specs::Words::address_in))]
+    #[tactic(auto, unfolding(book_lines::specs::Words::address_in))]
     pub fn address(&mut self) -> Result<Address, LineKind>
         ensures { gives result self.new ≡ address_in self.old }
     {
@@ -110,7 +110,7 @@ impl<'a> LineWords<'a> {
     }
 
     /// An algorithm by its name; `Word` for another word.
-    #[tactic(auto, unfolding(line_model::specs::Words::algorithm_in))]
+    #[tactic(auto, unfolding(book_lines::specs::Words::algorithm_in))]
     pub fn algorithm(&mut self) -> Result<Algorithm, LineKind>
         ensures { gives result self.new ≡ algorithm_in self.old }
     {
@@ -119,7 +119,7 @@ impl<'a> LineWords<'a> {
 
     /// A decimal from `low` to `high`; `Number` for a word that is no decimal below 2^64, `Range` for
     /// another decimal.
-    #[tactic(auto, unfolding(line_model::specs::Words::number_in))]
+    #[tactic(auto, unfolding(book_lines::specs::Words::number_in))]
     pub fn number(&mut self, low: u64, high: u64) -> Result<u64, LineKind>
         ensures read { gives result self.new ≡ number_in low high self.old }
         ensures small { IfOk result (λ n. n ≤ high) }
@@ -147,7 +147,7 @@ impl<'a> LineWords<'a> {
     }
 
     /// An address and a port.
-    #[tactic(auto, unfolding(line_model::specs::Words::socket_in))]
+    #[tactic(auto, unfolding(book_lines::specs::Words::socket_in))]
     pub fn socket(&mut self) -> Result<Socket, LineKind>
         ensures { gives result self.new ≡ socket_in self.old }
     {
@@ -157,7 +157,7 @@ impl<'a> LineWords<'a> {
     }
 
     /// Bytes in hexadecimal; `Hex` for another word.
-    #[tactic(auto, unfolding(line_model::specs::Words::hex_in))]
+    #[tactic(auto, unfolding(book_lines::specs::Words::hex_in))]
     pub fn hex(&mut self, alloc: Global) -> Result<Bytes, Refusal>
         ensures { Tells (gives result self.new) (hex_in self.old) }
     {
@@ -170,7 +170,7 @@ impl<'a> LineWords<'a> {
     }
 
     /// Bytes in hexadecimal, from `low` to `high` of them; `Range` for another number of them.
-    #[tactic(auto, unfolding(line_model::specs::Words::sized_hex_in))]
+    #[tactic(auto, unfolding(book_lines::specs::Words::sized_hex_in))]
     pub fn sized_hex(&mut self, alloc: Global, low: usize, high: usize) -> Result<Bytes, Refusal>
         ensures read { Tells (gives result self.new) (sized_hex_in low high self.old) }
         ensures least { IfOk result (λ bytes. low ≤ length bytes) }
@@ -186,7 +186,7 @@ impl<'a> LineWords<'a> {
     }
 
     /// Bytes in hexadecimal, at least one; `Range` for none.
-    #[tactic(auto, unfolding(line_model::specs::Words::some_hex_in))]
+    #[tactic(auto, unfolding(book_lines::specs::Words::some_hex_in))]
     pub fn some_hex(&mut self, alloc: Global) -> Result<Bytes, Refusal>
         ensures { Tells (gives result self.new) (some_hex_in self.old) }
     {
@@ -199,7 +199,7 @@ impl<'a> LineWords<'a> {
     }
 
     /// A byte as two digits in hexadecimal.
-    #[tactic(auto, unfolding(line_model::specs::Words::byte_in))]
+    #[tactic(auto, unfolding(book_lines::specs::Words::byte_in))]
     pub fn byte(&mut self, alloc: Global) -> Result<u8, Refusal>
         ensures { Tells (gives result self.new) (byte_in self.old) }
     {
@@ -220,7 +220,7 @@ fn read_choice(word: &[u8], one: &[u8], other: &[u8]) -> Option<bool>
     }
 }
 
-#[tactic(auto, unfolding(line_model::specs::Words::end_of))]
+#[tactic(auto, unfolding(book_lines::specs::Words::end_of))]
 fn read_end(word: &[u8]) -> Option<End>
     ensures { result ≡ end_of word.now }
 {

@@ -1,11 +1,11 @@
 //! The lines of a text, one after another.
 ghost use Rattle.std.specs.Prelude.{◌≡◌, ◌+◌, ◌≤◌, ◌<◌, [], ◌∷◌, MatchOption, MatchResult, drop, length};
 ghost use Rattle.ao_base.specs.Lines.{lines_of};
-ghost use Rattle.line_model.specs.Lines.{most_lines};
-ghost use Rattle.line_model.specs.declared.text_fault.TextFault.TheVariants as fault;
+ghost use Rattle.book_lines.specs.Lines.{most_lines};
+ghost use Rattle.book_lines.specs.declared.text_fault.TextFault.TheVariants as fault;
 
 use ao_base::{next_line, past_line};
-use line_model::TextFault;
+use book_lines::TextFault;
 use std::marker::Model;
 
 /// The most lines that an input may have.

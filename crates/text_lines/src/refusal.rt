@@ -4,7 +4,7 @@ ghost use Rattle.text_lines.specs.declared.refusal.Refusal.TheVariants as refusa
 ghost use Rattle.text_lines.specs.Readings.{fault_at};
 
 use ao_base::LineKind;
-use line_model::TextFault;
+use book_lines::TextFault;
 use std::alloc::AllocError;
 use thiserror::Error;
 

@@ -1,7 +1,7 @@
 //! The lines of a text that say something, one after another.
 ghost use Rattle.std.specs.Prelude.{◌≡◌, ◌+◌, ◌<◌, ◌^◌, [], ◌∷◌, MatchOption, length};
 ghost use Rattle.ao_base.specs.Lines.{lines_of, words_of};
-ghost use Rattle.line_model.specs.Lines.{is_comment, saying_from, saying_lines, says_something};
+ghost use Rattle.book_lines.specs.Lines.{is_comment, saying_from, saying_lines, says_something};
 
 use crate::line_words::LineWords;
 use crate::lines::Lines;
@@ -25,7 +25,7 @@ pub struct SayingLines<'a> {
 
 impl<'a> Model for SayingLines<'a> {
     ghost use Rattle.std.specs.Prelude.{List, ◌+◌, ◌<◌, ◌^◌, length};
-    ghost use Rattle.line_model.specs.Lines.{Line, saying_from};
+    ghost use Rattle.book_lines.specs.Lines.{Line, saying_from};
 
     ghost Value = { List Line };
 
@@ -47,7 +47,7 @@ impl<'a> SayingLines<'a> {
     }
 
     /// The next line that says something, or None after the last.
-    #[tactic(auto, unfolding(line_model::specs::Lines::saying_from))]
+    #[tactic(auto, unfolding(book_lines::specs::Lines::saying_from))]
     pub fn next(&mut self) -> Option<Saying<'a>>
         ensures { MatchOption result (self.old ≡ []) (λ s. self.old ≡ record { number = s.number; words = s.words } ∷ self.new) }
     {
@@ -74,7 +74,7 @@ fn begins_comment(word: &[u8]) -> bool
 }
 
 /// Whether a line says something.
-#[tactic(auto, unfolding(line_model::specs::Words::word_in, line_model::specs::Lines::says_something))]
+#[tactic(auto, unfolding(book_lines::specs::Words::word_in, book_lines::specs::Lines::says_something))]
 fn says(line: &[u8]) -> bool
     ensures { result ≡ says_something (words_of line.now) }
 {

@@ -2,7 +2,7 @@
 //! them may stand there.
 ghost use Rattle.std.specs.Prelude.{◌≡◌, ◌++◌, ◌∷◌, [], OnOk, decimal};
 ghost use Rattle.ao_base.specs.Hexadecimal.{hex_of};
-ghost use Rattle.line_model.specs.Texts.{end_text, socket_texts, spaced};
+ghost use Rattle.book_lines.specs.Texts.{end_text, socket_texts, spaced};
 
 use ao_base::{End, Socket, print_address, push_decimal, push_hex};
 use std::alloc::{AllocError, Global};

@@ -1,3 +1,4 @@
+use book_pcap::ByteOrder;
 use capture_reader::{
     BlockFault, BodyFault, Interface, PcapHead, PcapHeadFault, Plain, RecordFault, Resolution,
     Stamped, TimeResolution, nanoseconds, read_block, read_enhanced, read_interface, read_old,
@@ -5,7 +6,6 @@ use capture_reader::{
 };
 use std::alloc::{AllocError, Global};
 use std::test::Fail;
-use wire_model::ByteOrder;
 
 // What the header of a file says, of its order, its resolution and its link.
 fn says(head: &[u8]) -> Result<(ByteOrder, Resolution, u32), PcapHeadFault> {

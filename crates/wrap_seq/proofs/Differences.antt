@@ -3,7 +3,7 @@ use Rattle.std.proofs.lemmas.Int.{ints}
 use Rattle.std.proofs.lemmas.Bool.{cases_lt, lt-ltb, le-ltb, lt-leb, le-leb}
 use Rattle.std.specs.Int.{w32, cast_signed}
 use Rattle.std.specs.Prelude.{ℤ, pos, negsuc, ◌+ℤ◌, ◌-ℤ◌, ◌*ℤ◌, ◌<ℤ◌, ◌≤ℤ◌, Option, Some, None, if◌then◌else◌, SomeIff, IfSome, IfNone}
-use Rattle.segment_model.specs.Meant.{meant, IsAhead, IsInWindow}
+use Rattle.book_segments.specs.Meant.{meant, IsAhead, IsInWindow}
 
 ahead_in : (a b : ℕ) (d k : ℤ) → (pos a -ℤ pos b) ≡ (d +ℤ (k *ℤ pos 4294967296)) → negsuc 2147483647 ≤ℤ d → d <ℤ pos 2147483648 → IsAhead a b d
 ahead_in a b d k e low high = ((k, e), (low, high))

@@ -1,6 +1,6 @@
 -- The integer that a counter stands for.
 use Rattle.std.specs.Prelude.{ℕ, ◌+◌, ◌*◌}
-use Rattle.segment_model.specs.Bytes.{ring}
+use Rattle.book_segments.specs.Bytes.{ring}
 use Rattle.wrap_seq.specs.declared.counter.Counter.{Counter}
 
 -- the extension counts laps of 2^32 (RFC 5925, section 6.2)

@@ -1,7 +1,7 @@
 //! Numbers around the ring of 2^32.
 ghost use Rattle.std.specs.Prelude.{◌≡◌, ◌+◌, ◌≤◌, ◌^◌, ◌↔◌, IsTrue, IfSome, IfNone, Some};
-ghost use Rattle.segment_model.specs.Bytes.{ring};
-ghost use Rattle.segment_model.specs.Meant.{meant, IsAhead, IsInWindow};
+ghost use Rattle.book_segments.specs.Bytes.{ring};
+ghost use Rattle.book_segments.specs.Meant.{meant, IsAhead, IsInWindow};
 ghost use Rattle.wrap_seq.specs.Ring.{next_from};
 
 /// The length of the ring: how many sequence numbers there are.

@@ -1,8 +1,8 @@
 //! What completeness says over memory of which no call is told to fail: a proved caller of the top
 //! call.
 ghost use Rattle.std.specs.Prelude.{◌≡◌, ◌⊎◌, ◌<◌, [], IfOk, length};
-ghost use Rattle.format_model.specs.Answers.{answer_of};
-ghost use Rattle.format_model.specs.Commands.{command_of};
+ghost use Rattle.book_answer.specs.Answers.{answer_of};
+ghost use Rattle.book_answer.specs.Commands.{command_of};
 
 use ao_base::{Bytes, MemSink, MemSource, Numbers, QuietSink, Words};
 use ao_run::run;

@@ -1,6 +1,6 @@
 //! Link files with waits.
 use ao_base::{End, LineKind};
-use line_model::TextFault;
+use book_lines::TextFault;
 use link_script::{Event, TimedEvent, read_timed};
 use std::test::Fail;
 

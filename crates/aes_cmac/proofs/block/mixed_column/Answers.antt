@@ -1,4 +1,4 @@
-use Rattle.mac_model.specs.Ciphers.{sbox}
+use Rattle.book_macs.specs.Ciphers.{sbox}
 use Rattle.aes_cmac.proofs.Columns.{mixed_word}
 use Rattle.aes_cmac.proofs.block.mixed_column.Goals as goal
 

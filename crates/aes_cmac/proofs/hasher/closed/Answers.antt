@@ -1,5 +1,5 @@
 use Rattle.std.proofs.Common.{◌≡◌, ◌<◌, length, take, replicate, rules, arith}
-use Rattle.mac_model.specs.Ciphers.{aes}
+use Rattle.book_macs.specs.Ciphers.{aes}
 use Rattle.std.proofs.lemmas.List.{take_all, length-take-le}
 use Rattle.aes_cmac.proofs.Chains.{closed_whole, closed_padded}
 use Rattle.aes_cmac.proofs.hasher.closed.Goals as goal

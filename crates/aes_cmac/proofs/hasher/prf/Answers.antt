@@ -1,4 +1,4 @@
-use Rattle.mac_model.specs.Ciphers.{prf}
+use Rattle.book_macs.specs.Ciphers.{prf}
 use Rattle.aes_cmac.proofs.hasher.prf.Goals as goal
 
 pub returns : goal.returns

@@ -1,6 +1,6 @@
 use Rattle.std.proofs.Common.{length, sym, ap, ◌∙◌, arith}
 use Rattle.tcp_options.specs.Views.{view_ao}
-use Rattle.segment_model.proofs.Found.{found_within}
+use Rattle.book_segments.proofs.Found.{found_within}
 use Rattle.ao_mac.proofs.inputs.same_options.Goals as goal
 
 pub invariant_of-one : goal.invariant_of-one

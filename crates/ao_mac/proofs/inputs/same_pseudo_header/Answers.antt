@@ -1,5 +1,5 @@
 use Rattle.std.proofs.Common.{◌≡◌, sym, ap, ◌∙◌, arith}
-use Rattle.segment_model.specs.Segments.{tcp_length}
+use Rattle.book_segments.specs.Segments.{tcp_length}
 use Rattle.ao_mac.proofs.InputLaws.{never, refused, holds, decides, said, says}
 use Rattle.ao_mac.proofs.inputs.same_pseudo_header.Goals as goal
 

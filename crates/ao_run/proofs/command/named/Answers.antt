@@ -1,5 +1,5 @@
 use Rattle.std.proofs.Common.{◌≡◌, true, Option, sym, subst}
-use Rattle.format_model.specs.declared.command.Command.{Command}
+use Rattle.book_answer.specs.declared.command.Command.{Command}
 use Rattle.ao_run.specs.Gathered.{is_ready}
 use Rattle.ao_run.proofs.CommandLaws.{named_ready}
 use Rattle.ao_run.proofs.command.named.Goals as goal

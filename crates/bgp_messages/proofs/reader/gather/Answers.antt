@@ -1,5 +1,5 @@
 use Rattle.std.proofs.lemmas.List.{take_rest}
-use Rattle.wire_model.proofs.Headers.{sound}
+use Rattle.book_bgp.proofs.Headers.{sound}
 use Rattle.bgp_messages.proofs.Gathering.{Sound, gathers_short, gathers_fault, gathers_part, gathers_whole}
 use Rattle.bgp_messages.proofs.reader.gather.Goals as goal
 use Rattle.bgp_messages.proofs.reader.gather.Goals.{After-fill}

@@ -1,5 +1,5 @@
 use Rattle.std.proofs.Common.{◌≡◌, ◌+◌, List, [], ◌∷◌, ◌++◌, length, Err, subst, sym, ◌∙◌, arith}
-use Rattle.key_model.specs.Rows.{Table}
+use Rattle.book_keys.specs.Rows.{Table}
 use Rattle.capture_lines.specs.Checked.{JudgesLine}
 use Rattle.capture_lines.proofs.Goings.{end_ends, fault_ends, going_none, long_ends, long_line_ends, nothing_ends}
 use Rattle.capture_lines.proofs.LineEnds.{err_ends, goes, last_ends, shows_of, smaller}

@@ -1,5 +1,5 @@
 use Rattle.std.proofs.Common.{ℕ, ◌-◌, List, length}
-use Rattle.wire_model.specs.Packets.{Packet}
+use Rattle.book_pcap.specs.Packets.{Packet}
 use Rattle.capture_packets.proofs.Walk.{Between}
 use Rattle.capture_packets.proofs.check.check_counted.Given as goal
 

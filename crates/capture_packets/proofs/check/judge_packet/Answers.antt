@@ -1,6 +1,6 @@
 use Rattle.std.proofs.Common.{◌≡◌, ◌<◌, ◌∙◌, length, map, sym, arith}
 use Rattle.std.proofs.lemmas.Bool.{eqb-false}
-use Rattle.format_model.specs.Answers.{stored_packet}
+use Rattle.book_cmd_check.specs.StoredPackets.{stored_packet}
 use Rattle.capture_packets.proofs.Heard.{packet_result}
 use Rattle.capture_packets.proofs.check.judge_packet.Goals as goal
 

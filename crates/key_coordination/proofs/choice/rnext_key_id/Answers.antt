@@ -1,4 +1,4 @@
-use Rattle.key_model.specs.Choices.{next_row}
+use Rattle.book_keys.specs.Choices.{next_row}
 use Rattle.key_coordination.proofs.ChoosingLaws.{next_in, found, asks}
 use Rattle.key_coordination.proofs.choice.rnext_key_id.Goals as goal
 

@@ -1,5 +1,5 @@
 use Rattle.std.proofs.Common.{◌≡◌, ◌≤◌, ◌++◌, length, take, drop}
-use Rattle.key_model.specs.Plans.{send_lifetimes}
+use Rattle.book_keys.specs.Plans.{send_lifetimes}
 use Rattle.key_lint.proofs.gap.gap.Given as goal
 
 abbrev pub invariant-loop-row : goal.invariant-loop-row

@@ -1,7 +1,7 @@
 use Rattle.std.proofs.Common.{◌≡◌, ◌↔◌, subst, sym}
-use Rattle.key_model.specs.declared.lint.LintAnswer.{LintAnswer}
-use Rattle.key_model.specs.declared.lint.LintAnswer.TheVariants as answer
-use Rattle.key_model.specs.Plans.{rows_at}
+use Rattle.book_keys.specs.declared.lint.LintAnswer.{LintAnswer}
+use Rattle.book_keys.specs.declared.lint.LintAnswer.TheVariants as answer
+use Rattle.book_keys.specs.Plans.{rows_at}
 use Rattle.key_lint.specs.CarriesThrough.{CarriesThrough}
 use Rattle.key_lint.proofs.JudgedLaws.{aligned_exactly}
 use Rattle.key_lint.proofs.judgement.lint.Goals as goal

@@ -1,4 +1,4 @@
-use Rattle.key_model.specs.Plans.{rows_at}
+use Rattle.book_keys.specs.Plans.{rows_at}
 use Rattle.key_lint.proofs.JudgedLaws.{aligned_exactly}
 use Rattle.key_lint.proofs.premise.aligned_carries_through.Goals as goal
 

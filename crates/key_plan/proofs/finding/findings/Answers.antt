@@ -1,7 +1,7 @@
 use Rattle.std.proofs.Common.{◌≡◌, ◌↔◌, [], refl, sym, ap, ◌∙◌}
 use Rattle.std.proofs.lemmas.Result.{IfOk-weaker}
-use Rattle.key_model.specs.declared.lint.LintAnswer.TheVariants as answer
-use Rattle.key_model.specs.Plans.{lint_of, lint_rows}
+use Rattle.book_keys.specs.declared.lint.LintAnswer.TheVariants as answer
+use Rattle.book_keys.specs.Plans.{lint_of, lint_rows}
 use Rattle.book_plans.proofs.FindingLaws.{first_is_lint, none_exactly}
 use Rattle.book_plans.specs.Findings.{findings, first_answer}
 use Rattle.key_plan.proofs.finding.findings.Goals as goal

@@ -2,7 +2,7 @@ use Rattle.std.proofs.Common.{◌≡◌, ◌+◌, ◌-◌, List, [], ◌∷◌, 
 use Rattle.book_plans.specs.declared.finding.Finding.{Finding}
 use Rattle.book_plans.specs.Findings.{Span, failing_spans, gap_finding}
 use Rattle.book_plans.proofs.FindingLaws.{no_span, one_span}
-use Rattle.key_model.specs.Lifetimes.{is_covered}
+use Rattle.book_keys.specs.Lifetimes.{is_covered}
 use Rattle.key_plan.proofs.AddedLaws.{all_added, one_added}
 use Rattle.key_plan.proofs.gaps.add_uncovered.Goals as goal
 

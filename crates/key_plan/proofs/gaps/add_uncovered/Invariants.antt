@@ -1,5 +1,5 @@
 use Rattle.std.proofs.Common.{◌≡◌, ◌++◌, ◌+◌, ◌-◌, map}
-use Rattle.key_model.specs.Lifetimes.{is_covered}
+use Rattle.book_keys.specs.Lifetimes.{is_covered}
 use Rattle.book_plans.specs.Findings.{failing_spans, gap_finding}
 use Rattle.key_plan.proofs.gaps.add_uncovered.Given as goal
 

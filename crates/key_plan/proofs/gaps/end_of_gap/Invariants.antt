@@ -1,5 +1,5 @@
 use Rattle.std.proofs.Common.{◌≡◌, ℕ, ◌+◌, ◌≤◌, ◌<◌, true, false, take}
-use Rattle.key_model.specs.Lifetimes.{is_covered}
+use Rattle.book_keys.specs.Lifetimes.{is_covered}
 use Rattle.key_plan.proofs.gaps.end_of_gap.Given as goal
 
 abbrev pub invariant-loop-lifetime : goal.invariant-loop-lifetime

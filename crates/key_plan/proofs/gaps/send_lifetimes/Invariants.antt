@@ -1,5 +1,5 @@
 use Rattle.std.proofs.Common.{◌≡◌, ◌++◌, drop}
-use Rattle.key_model.specs.Plans.{send_lifetimes}
+use Rattle.book_keys.specs.Plans.{send_lifetimes}
 use Rattle.key_plan.proofs.gaps.send_lifetimes.Given as goal
 
 abbrev pub invariant-loop-row : goal.invariant-loop-row

@@ -2,7 +2,7 @@ use Rattle.std.proofs.Common.{Option, subst, sym}
 use Rattle.book_plans.proofs.MarginLaws.{lag_greatest}
 use Rattle.book_plans.specs.declared.margin.Margin.{Margin}
 use Rattle.book_plans.specs.Margins.{AlignedAtLag, IsMargin}
-use Rattle.key_model.specs.Plans.{rows_at}
+use Rattle.book_keys.specs.Plans.{rows_at}
 use Rattle.key_plan.proofs.margin.lag_margin.Goals as goal
 
 pub returns-clause-greatest : goal.returns-clause-greatest

@@ -2,8 +2,8 @@ use Rattle.std.proofs.Common.{ℕ, ◌-◌, List, subst, arith}
 use Rattle.std.specs.List.{All}
 use Rattle.book_plans.proofs.CalendarLaws.{nothing_turns, all_told, more_told}
 use Rattle.book_plans.specs.Calendar.{Keeps, turns_in}
-use Rattle.key_model.specs.Plans.{rows_at}
-use Rattle.key_model.specs.Rows.{Row}
+use Rattle.book_keys.specs.Plans.{rows_at}
+use Rattle.book_keys.specs.Rows.{Row}
 use Rattle.key_plan.proofs.turns.calendar.Goals as goal
 
 pub returns-then-quiet-to : goal.returns-then-quiet-to

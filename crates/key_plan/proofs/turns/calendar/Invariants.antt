@@ -1,6 +1,6 @@
 use Rattle.std.proofs.Common.{◌≡◌, ◌++◌, ◌-◌}
 use Rattle.book_plans.specs.Calendar.{turns_in}
-use Rattle.key_model.specs.Plans.{rows_at}
+use Rattle.book_keys.specs.Plans.{rows_at}
 use Rattle.key_plan.proofs.turns.calendar.Given as goal
 
 abbrev pub decreases-loop-time : goal.decreases-loop-time

@@ -1,7 +1,7 @@
 use Rattle.std.proofs.Common.{ℕ, inl, inr, subst, arith, get_or, ◌≡◌, ◌<◌}
 use Rattle.std.proofs.lemmas.Bool.{cases_lt}
 use Rattle.std.proofs.lemmas.List.{get_or_read}
-use Rattle.key_model.specs.Rows.{Row}
+use Rattle.book_keys.specs.Rows.{Row}
 use Rattle.book_plans.specs.Calendar.{Keeps}
 use Rattle.key_plan.proofs.turns.steady_rows.Goals as goal
 

@@ -1,5 +1,5 @@
 use Rattle.std.proofs.Common.{ℕ, ◌≤◌, ◌<◌, get_or}
-use Rattle.key_model.specs.Rows.{Row}
+use Rattle.book_keys.specs.Rows.{Row}
 use Rattle.book_plans.specs.Calendar.{Keeps}
 use Rattle.key_plan.proofs.turns.steady_rows.Given as goal
 

@@ -1,7 +1,7 @@
 use Rattle.std.proofs.Common.{sym, ap, ◌∙◌}
 use denote.Enum.Bare.{same_false}
 use Rattle.ao_base.specs.contracts.end.End.{the_type}
-use Rattle.segment_model.specs.Segments.{reading}
+use Rattle.book_segments.specs.Segments.{reading}
 use Rattle.link_log.proofs.AccountLaws.{by_key, by_context, by_input}
 use Rattle.ao_mac.proofs.InputLaws.{holds}
 use Rattle.link_log.proofs.accounts.accounts_for.Goals as goal

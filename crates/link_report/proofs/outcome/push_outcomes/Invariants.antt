@@ -1,6 +1,6 @@
 use Rattle.std.proofs.Common.{◌≡◌, ◌+◌, List, ◌++◌, drop}
-use Rattle.link_model.specs.Outcomes as book
-use Rattle.link_model.specs.Reports.{lines_from}
+use Rattle.book_link.specs.Outcomes as book
+use Rattle.book_link.specs.Reports.{lines_from}
 use Rattle.link_report.specs.Outcomes.{AreShown}
 use Rattle.link_report.proofs.outcome.push_outcomes.Given as goal
 

@@ -1,5 +1,5 @@
 use Rattle.std.proofs.Common.{codes, decimal, ◌∷◌, []}
-use Rattle.link_model.specs.Reports.{shown_text}
+use Rattle.book_link.specs.Reports.{shown_text}
 use Rattle.link_report.proofs.TextLaws.{in_turn}
 use Rattle.link_report.proofs.summary.push_flow.Goals as goal
 

@@ -1,4 +1,4 @@
-use Rattle.link_model.specs.Reports.{summary}
+use Rattle.book_link.specs.Reports.{summary}
 use Rattle.link_report.proofs.TextLaws.{in_three}
 use Rattle.link_report.proofs.summary.push_summary.Goals as goal
 

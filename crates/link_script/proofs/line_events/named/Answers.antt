@@ -1,6 +1,6 @@
 use Rattle.std.proofs.Common.{rules, sym}
-use Rattle.link_model.specs.declared.event.Event.TheVariants as event
-use Rattle.format_model.specs.LinkEvents.{event_named}
+use Rattle.book_link.specs.declared.event.Event.TheVariants as event
+use Rattle.book_cmd_link.specs.LinkEvents.{event_named}
 use Rattle.link_script.proofs.line_events.named.Goals as goal
 
 pub returns-in_ok-end_alone-in-Resend : goal.returns-in_ok-end_alone-in-Resend

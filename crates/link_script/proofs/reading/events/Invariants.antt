@@ -1,6 +1,6 @@
 use Rattle.std.proofs.Common.{◌≡◌, length}
-use Rattle.format_model.specs.LinkEvents.{link_event_of}
-use Rattle.format_model.specs.LinkFiles.{events_of}
+use Rattle.book_cmd_link.specs.LinkEvents.{link_event_of}
+use Rattle.book_cmd_link.specs.LinkFiles.{events_of}
 use Rattle.link_script.proofs.EventLoop.{after}
 use Rattle.link_script.proofs.reading.events.Given as goal
 

@@ -1,9 +1,9 @@
 use Rattle.std.proofs.Common.{◌≡◌, ℕ, Bool, List, Result, Ok, Err, IfOk}
 use Rattle.std.specs.Option.{is_none}
-use Rattle.line_model.specs.declared.text_fault.TextFault.{TextFault}
-use Rattle.format_model.specs.declared.script.Script.{Script}
+use Rattle.book_lines.specs.declared.text_fault.TextFault.{TextFault}
+use Rattle.book_cmd_link.specs.declared.script.Script.{Script}
 use Rattle.text_lines.specs.Readings.{Answers}
-use Rattle.format_model.specs.LinkFiles.{script_of}
+use Rattle.book_cmd_link.specs.LinkFiles.{script_of}
 use Rattle.link_script.specs.Scripts.{IsScript}
 use Rattle.link_script.proofs.ScriptRanges.{script_of_ok}
 use Rattle.link_script.proofs.reading.read_script.Goals as goal

@@ -1,6 +1,6 @@
 use Rattle.std.proofs.Common.{◌≡◌, length}
-use Rattle.format_model.specs.TimedRuns.{timed_event_of}
-use Rattle.format_model.specs.LinkFiles.{events_of}
+use Rattle.book_cmd_timed.specs.TimedRuns.{timed_event_of}
+use Rattle.book_cmd_link.specs.LinkFiles.{events_of}
 use Rattle.link_script.proofs.EventLoop.{after}
 use Rattle.link_script.proofs.timed.timed_events.Given as goal
 

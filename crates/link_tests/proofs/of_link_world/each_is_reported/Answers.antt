@@ -1,7 +1,7 @@
 use Rattle.std.proofs.Common.{◌≡◌, ◌<◌, ℕ, List, length, get_or, sym, subst}
 use Rattle.std.specs.List.{AllByRecursion}
 use Rattle.std.proofs.lemmas.List.Elements.{All-from_recursion, All-get_or}
-use Rattle.link_model.specs.declared.event.Event.{Event}
+use Rattle.book_link.specs.declared.event.Event.{Event}
 use Rattle.link_world.specs.Events.{CanHappen}
 use Rattle.link_tests.proofs.of_link_world.each_is_reported.Goals as goal
 

@@ -1,7 +1,7 @@
 use Rattle.std.proofs.Common.{◌≤◌, length, sym, subst}
 use Rattle.std.specs.Coded.{le_prop}
 use mathlib.Core.Logic.{∥∥₁_elim}
-use Rattle.key_model.specs.Rows.{Table}
+use Rattle.book_keys.specs.Rows.{Table}
 use Rattle.link_world.specs.Passing.{EntersAs}
 use Rattle.link_world.proofs.ComeLaws.{received_some, row_there}
 use Rattle.link_world.proofs.coming.come.Goals as goal

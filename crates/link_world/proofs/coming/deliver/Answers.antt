@@ -1,6 +1,6 @@
 use Rattle.std.proofs.Common.{refl, sym, ◌∙◌}
-use Rattle.link_model.specs.declared.event.Event.TheVariants.{Deliver}
-use Rattle.link_model.specs.Outcomes as book
+use Rattle.book_link.specs.declared.event.Event.TheVariants.{Deliver}
+use Rattle.book_link.specs.Outcomes as book
 use Rattle.link_report.specs.declared.outcome.Outcome.TheVariants as outcome
 use Rattle.link_world.specs.Following.{by_bytes, by_event}
 use Rattle.link_world.proofs.ActLaws.{restated, still}

@@ -1,6 +1,6 @@
 use Rattle.std.proofs.Common.{ap, ◌∙◌}
 use Rattle.std.proofs.lemmas.List.{with_items_is}
-use Rattle.segment_model.specs.Spelling.{with_right_checksum}
+use Rattle.book_segments.specs.Spelling.{with_right_checksum}
 use Rattle.link_world.proofs.AlterLaws.{copy_plain, copy_fixed, copy_left}
 use Rattle.link_world.proofs.copying.altered.Goals.{then-fix, else-fix}
 use Rattle.link_world.proofs.copying.altered.Goals as goal

@@ -1,5 +1,5 @@
 use Rattle.std.proofs.Common.{subst}
-use Rattle.segment_model.specs.Spelling.{AreBytes}
+use Rattle.book_segments.specs.Spelling.{AreBytes}
 use Rattle.link_world.proofs.fitting.see_row.Goals as goal
 
 pub returns : goal.returns

@@ -1,4 +1,4 @@
-use Rattle.link_model.specs.declared.event.Event.TheVariants as event
+use Rattle.book_link.specs.declared.event.Event.TheVariants as event
 use Rattle.link_world.proofs.ActLaws.{quietly}
 use Rattle.link_world.proofs.happening.act.Goals as goal
 

@@ -1,8 +1,8 @@
 use Rattle.std.proofs.Common.{◌≡◌, ◌-◌, ◌≤◌, length, take, get_or, Some, refl, sym, ◌∙◌, subst, arith}
 use Rattle.std.specs.Coded.{le_prop}
 use mathlib.Core.Logic.{∥∥₁_elim}
-use Rattle.key_model.specs.Rows.{Row, Table}
-use Rattle.link_model.specs.Outcomes as book
+use Rattle.book_keys.specs.Rows.{Row, Table}
+use Rattle.book_link.specs.Outcomes as book
 use Rattle.link_report.specs.declared.outcome.Outcome.TheVariants as outcome
 use Rattle.link_side.specs.Passing.{length_sent, quiet}
 use Rattle.tcp_endpoint.specs.declared.emission.Emission.{Emission}

@@ -1,5 +1,5 @@
 use Rattle.std.proofs.Common.{◌≡◌, ap, ◌∙◌}
-use Rattle.key_model.specs.Rows.{Table}
+use Rattle.book_keys.specs.Rows.{Table}
 use Rattle.link_world.proofs.SetupLaws.{others_kept}
 use Rattle.link_world.proofs.setup.take_table.Goals as goal
 

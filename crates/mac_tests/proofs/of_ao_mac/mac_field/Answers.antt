@@ -1,5 +1,5 @@
 use Rattle.std.proofs.Common.{sym, ap, ◌∙◌}
-use Rattle.segment_model.specs.Options.{find_ao}
+use Rattle.book_segments.specs.Options.{find_ao}
 use Rattle.tcp_options.specs.Views.{view_ao}
 use Rattle.mac_tests.proofs.of_ao_mac.mac_field.Goals as goal
 

@@ -1,7 +1,7 @@
 use Rattle.std.proofs.Common.{◌≡◌, ℕ, subst, sym, arith}
 use Rattle.std.specs.Prelude.{◌⊎◌}
-use Rattle.segment_model.specs.Bytes.{put2}
-use Rattle.mac_model.proofs.LengthLaws.{twelve_or_sixteen}
+use Rattle.book_segments.specs.Bytes.{put2}
+use Rattle.book_macs.proofs.LengthLaws.{twelve_or_sixteen}
 use Rattle.mac_tests.proofs.of_ao_mac.sealed.Goals as goal
 
 pub send-requires-clause-head : goal.send-requires-clause-head

@@ -1,5 +1,5 @@
 use Rattle.std.proofs.Common.{◌≡◌, ℕ, ◌++◌, drop, length, subst, arith}
-use Rattle.endpoint_model.specs.States.{take_out, taking}
+use Rattle.book_endpoint.specs.States.{take_out, taking}
 use Rattle.tcp_endpoint.specs.Ends.{Stands}
 use Rattle.node_run.proofs.ActLaws.{taken_bytes, took_follows}
 use Rattle.node_run.proofs.acts.take.Goals as goal

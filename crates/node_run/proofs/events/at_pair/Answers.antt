@@ -1,8 +1,8 @@
 use Rattle.std.proofs.Common.{sym, refl, ◌∙◌}
 use Rattle.std.proofs.lemmas.Result.{IfOk-weaker}
-use Rattle.endpoint_model.specs.States.{connected, listening, started}
-use Rattle.format_model.specs.declared.node.Act.TheVariants as act
-use Rattle.format_model.specs.NodeRuns.{most_ends, on_pair}
+use Rattle.book_endpoint.specs.States.{connected, listening, started}
+use Rattle.book_cmd_node.specs.declared.node.Act.TheVariants as act
+use Rattle.book_cmd_node.specs.NodeRuns.{most_ends, on_pair}
 use Rattle.node_run.proofs.StepLaws.{begun_reaches, call_reaches, removed_reaches}
 use Rattle.node_run.proofs.events.at_pair.Goals as goal
 

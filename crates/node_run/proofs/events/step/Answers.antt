@@ -1,5 +1,5 @@
 use Rattle.std.proofs.Common.{List, ℕ, subst}
-use Rattle.segment_model.specs.Segments.{reading}
+use Rattle.book_segments.specs.Segments.{reading}
 use Rattle.ao_node.specs.Arrivals.{Comes}
 use Rattle.node_run.proofs.StepLaws.{came_reaches, ticked_reaches}
 use Rattle.node_run.proofs.events.step.Goals as goal

@@ -1,7 +1,7 @@
 use Rattle.std.proofs.Common.{◌≡◌, List, length, All, ap, subst, sym, ◌∙◌, arith}
 use Rattle.std.proofs.lemmas.List.Elements.{All-get_or}
-use Rattle.format_model.specs.declared.node.NodeEvent.{NodeEvent}
-use Rattle.format_model.specs.NodeRuns.{most_ends, no_ends, node_from, node_text}
+use Rattle.book_cmd_node.specs.declared.node.NodeEvent.{NodeEvent}
+use Rattle.book_cmd_node.specs.NodeRuns.{most_ends, no_ends, node_from, node_text}
 use Rattle.node_script.specs.Scripts.{IsEvent}
 use Rattle.node_run.specs.Nodes.{HoldsAs}
 use Rattle.node_run.proofs.RunLaws.{running_first, running_more, all_run}

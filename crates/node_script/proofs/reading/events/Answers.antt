@@ -1,5 +1,5 @@
 use Rattle.std.proofs.lemmas.Result.{err_from_is_err_and}
-use Rattle.format_model.specs.NodeRuns.{node_events_of}
+use Rattle.book_cmd_node.specs.NodeRuns.{node_events_of}
 use Rattle.node_script.proofs.EventLoop.{event_read, event_refused, events_read, none_read}
 use Rattle.node_script.proofs.reading.events.Goals as goal
 

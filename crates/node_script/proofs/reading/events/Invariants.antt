@@ -1,5 +1,5 @@
 use Rattle.std.proofs.Common.{◌≡◌, length}
-use Rattle.format_model.specs.NodeRuns.{node_events_of}
+use Rattle.book_cmd_node.specs.NodeRuns.{node_events_of}
 use Rattle.node_script.proofs.EventLoop.{after}
 use Rattle.node_script.proofs.reading.events.Given as goal
 

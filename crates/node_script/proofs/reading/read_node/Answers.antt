@@ -1,7 +1,7 @@
 use Rattle.std.proofs.Common.{◌≡◌, ℕ, List, Result, Ok, Err, IfOk}
-use Rattle.line_model.specs.declared.text_fault.TextFault.{TextFault}
-use Rattle.format_model.specs.declared.node.NodeScript.{NodeScript}
-use Rattle.format_model.specs.NodeRuns.{node_script_of}
+use Rattle.book_lines.specs.declared.text_fault.TextFault.{TextFault}
+use Rattle.book_cmd_node.specs.declared.node.NodeScript.{NodeScript}
+use Rattle.book_cmd_node.specs.NodeRuns.{node_script_of}
 use Rattle.text_lines.specs.Readings.{Answers}
 use Rattle.node_script.specs.Scripts.{IsScript}
 use Rattle.node_script.proofs.ScriptRanges.{script_of_ok}

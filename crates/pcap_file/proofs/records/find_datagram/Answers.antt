@@ -1,5 +1,5 @@
 use Rattle.std.proofs.Common.{◌≡◌, true, sym, ◌∙◌}
-use Rattle.wire_model.specs.Packets.{is_ip}
+use Rattle.book_pcap.specs.Packets.{is_ip}
 use Rattle.pcap_file.proofs.Parts.{raw_part, ip_part}
 use Rattle.pcap_file.proofs.records.find_datagram.Goals as goal
 

@@ -1,7 +1,7 @@
 use Rattle.std.proofs.Common.{rules, ◌≡◌, ◌≤◌, ℕ, List, length, sym, ap, subst, ◌∙◌}
 use Rattle.ao_base.specs.Algorithms.{mac_length_of}
-use Rattle.mac_model.specs.Contexts.{bytes_of}
-use Rattle.key_model.specs.Rows.{Row}
+use Rattle.book_macs.specs.Contexts.{bytes_of}
+use Rattle.book_keys.specs.Rows.{Row}
 use Rattle.tcp_segment.specs.Lending.{with_payload}
 use Rattle.tcp_segment.proofs.WriteLaws.{payload_set}
 use Rattle.segment_writer.specs.Heads.{head_of, size_of}

@@ -1,7 +1,7 @@
 use Rattle.std.proofs.Common.{ap, ◌∙◌, arith, rules}
 use Rattle.std.proofs.lemmas.Int.{to_z-of_z}
 use Rattle.std.specs.Int.{w64}
-use Rattle.segment_model.specs.Meant.{meant}
+use Rattle.book_segments.specs.Meant.{meant}
 use Rattle.tcp_endpoint.proofs.RingLaws.{ahead_is}
 use Rattle.tcp_endpoint.proofs.arriving.acknowledged_by.Goals as goal
 

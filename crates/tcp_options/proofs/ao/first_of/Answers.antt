@@ -1,5 +1,5 @@
 use Rattle.std.proofs.Common.{refl, ◌∙◌, arith}
-use Rattle.segment_model.proofs.Walks.{goes, leads}
+use Rattle.book_segments.proofs.Walks.{goes, leads}
 use Rattle.tcp_options.proofs.KindLaws.{kind_first, kind_passed}
 use Rattle.tcp_options.proofs.ao.first_of.Goals as goal
 

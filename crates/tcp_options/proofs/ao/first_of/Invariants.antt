@@ -1,5 +1,5 @@
 use Rattle.std.proofs.Common.{◌≡◌, ◌≤◌, ◌+◌, length}
-use Rattle.segment_model.specs.Options.{options_at, listed, of_kind, AreListed}
+use Rattle.book_segments.specs.Options.{options_at, listed, of_kind, AreListed}
 use Rattle.tcp_options.proofs.ao.first_of.Given as goal
 
 abbrev pub invariant-loop-option : goal.invariant-loop-option

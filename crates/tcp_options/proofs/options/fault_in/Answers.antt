@@ -1,6 +1,6 @@
 use Rattle.std.proofs.Common.{sym, subst, arith}
-use Rattle.segment_model.specs.Options.{options_of, AreListed}
-use Rattle.segment_model.proofs.Walks.{passes_same, passes_step, leads, ending_at, nothing_at, short_at, long_at}
+use Rattle.book_segments.specs.Options.{options_of, AreListed}
+use Rattle.book_segments.proofs.Walks.{passes_same, passes_step, leads, ending_at, nothing_at, short_at, long_at}
 use Rattle.tcp_options.proofs.options.fault_in.Goals as goal
 
 pub loop-size-init : goal.loop-size-init

@@ -1,6 +1,6 @@
 use Rattle.std.proofs.Common.{◌≤◌, ◌+◌, length}
-use Rattle.segment_model.specs.Options.{options_of, options_at}
-use Rattle.segment_model.proofs.Walks.{Passes}
+use Rattle.book_segments.specs.Options.{options_of, options_at}
+use Rattle.book_segments.proofs.Walks.{Passes}
 use Rattle.tcp_options.proofs.options.fault_in.Given as goal
 
 abbrev pub invariant-loop-size : goal.invariant-loop-size

@@ -1,6 +1,6 @@
 use Rattle.std.proofs.Common.{refl, ap}
-use Rattle.segment_model.specs.Options.{listed}
-use Rattle.segment_model.proofs.AreaLaws.{area_of, area_is, fault_stands}
+use Rattle.book_segments.specs.Options.{listed}
+use Rattle.book_segments.proofs.AreaLaws.{area_of, area_is, fault_stands}
 use Rattle.tcp_options.proofs.KindLaws.{not_both}
 use Rattle.tcp_options.proofs.options.read_options.Goals as goal
 

@@ -1,6 +1,6 @@
 use Rattle.std.proofs.Common.{ap, ◌∙◌, arith}
-use Rattle.segment_model.specs.Segments.{first_fault, fields}
-use Rattle.segment_model.proofs.Again.{again}
+use Rattle.book_segments.specs.Segments.{first_fault, fields}
+use Rattle.book_segments.proofs.Again.{again}
 use Rattle.tcp_segment.proofs.ReadLaws.{is_read, no_fault, reads, refuses, spells}
 use Rattle.tcp_segment.proofs.datagram.read_datagram.Goals as goal
 

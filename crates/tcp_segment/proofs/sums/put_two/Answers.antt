@@ -1,6 +1,6 @@
 use Rattle.std.proofs.Common.{◌≡◌, ℕ, ◌+◌, ◌-◌, ◌/◌, ◌%◌, List, [], ◌∷◌, ◌++◌, length, take, drop, refl, sym, ap, ◌∙◌, arith, append_assoc}
 use Rattle.std.proofs.lemmas.List.{length-drop, drop-drop, drop_all, take_all, append-nil}
-use Rattle.segment_model.specs.Bytes.{put2}
+use Rattle.book_segments.specs.Bytes.{put2}
 use Rattle.tcp_segment.proofs.sums.put_two.Goals as goal
 
 -- two bytes written to the front of what is behind a place

@@ -1,5 +1,5 @@
 use Rattle.std.proofs.Common.{◌≡◌, ◌+◌, ◌*◌, ◌≤◌, length}
-use Rattle.segment_model.specs.Segments.{words_sum}
+use Rattle.book_segments.specs.Segments.{words_sum}
 use Rattle.tcp_segment.proofs.sums.words.Given as goal
 
 abbrev pub invariant-loop-rest : goal.invariant-loop-rest

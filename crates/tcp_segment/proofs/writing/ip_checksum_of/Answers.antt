@@ -1,5 +1,5 @@
 use Rattle.std.proofs.Common.{ap, ◌∙◌}
-use Rattle.segment_model.specs.Segments.{words_sum}
+use Rattle.book_segments.specs.Segments.{words_sum}
 use Rattle.tcp_segment.proofs.WriteLaws.{ip_checksum_is}
 use Rattle.tcp_segment.proofs.writing.ip_checksum_of.Goals as goal
 

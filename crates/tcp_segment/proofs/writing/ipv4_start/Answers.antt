@@ -1,5 +1,5 @@
 use Rattle.std.proofs.Common.{refl}
-use Rattle.segment_model.specs.Bytes.{put2}
+use Rattle.book_segments.specs.Bytes.{put2}
 use Rattle.tcp_segment.proofs.writing.ipv4_start.Goals as goal
 
 pub returns : goal.returns

@@ -1,7 +1,7 @@
 use Rattle.std.proofs.Common.{◌≡◌, ℕ, List, ◌+◌, ◌-◌, ◌++◌, length, replicate, take, drop, ap, sym, ◌∙◌, arith, inl, inr}
 use Rattle.std.proofs.lemmas.List.{length-replicate}
-use Rattle.segment_model.specs.Sockets.{octets}
-use Rattle.segment_model.specs.Segments.{spell}
+use Rattle.book_segments.specs.Sockets.{octets}
+use Rattle.book_segments.specs.Segments.{spell}
 use Rattle.tcp_segment.specs.Writing.{drafted, header_length, option_heads, mss_length, ip_start, tcp_start, ip_size}
 use Rattle.tcp_segment.proofs.WriteLaws.{one_family, mss_cases, heads_long, before, six_writes, laid_out, start_long, tcp_start_long}
 use Rattle.tcp_segment.proofs.writing.lay_out.Goals as goal

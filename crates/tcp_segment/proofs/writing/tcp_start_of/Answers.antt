@@ -1,5 +1,5 @@
 use Rattle.std.proofs.Common.{refl}
-use Rattle.segment_model.specs.Bytes.{put2, put4}
+use Rattle.book_segments.specs.Bytes.{put2, put4}
 use Rattle.tcp_segment.proofs.writing.tcp_start_of.Goals as goal
 
 pub returns-clause-bytes : goal.returns-clause-bytes

@@ -1,6 +1,6 @@
 use Rattle.std.proofs.Common.{refl}
-use Rattle.segment_model.specs.Bytes.{put4}
-use Rattle.mac_model.specs.Ciphers.{sub_shift}
+use Rattle.book_segments.specs.Bytes.{put4}
+use Rattle.book_macs.specs.Ciphers.{sub_shift}
 use Rattle.aes_cmac.proofs.Columns.{blocks, xored_with}
 use Rattle.aes_cmac.proofs.block.Block.last_round.Goals as goal
 

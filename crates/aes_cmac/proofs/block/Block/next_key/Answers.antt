@@ -1,7 +1,7 @@
 use Rattle.std.proofs.Common.{◌≡◌, [], ◌∷◌, refl, arith}
 use Rattle.std.specs.Prelude.{bit_xor}
-use Rattle.segment_model.specs.Bytes.{put4}
-use Rattle.mac_model.specs.Ciphers.{next_key}
+use Rattle.book_segments.specs.Bytes.{put4}
+use Rattle.book_macs.specs.Ciphers.{next_key}
 use Rattle.aes_cmac.proofs.Columns.{blocks, xored_with, spelt, xor_bytes}
 use Rattle.aes_cmac.proofs.block.Block.next_key.Goals as goal
 

@@ -1,5 +1,5 @@
-use Rattle.segment_model.specs.Bytes.{put4}
-use Rattle.mac_model.specs.Ciphers.{sub_shift}
+use Rattle.book_segments.specs.Bytes.{put4}
+use Rattle.book_macs.specs.Ciphers.{sub_shift}
 use Rattle.aes_cmac.proofs.Columns.{blocks}
 use Rattle.aes_cmac.proofs.block.Block.round.Goals as goal
 

@@ -1,4 +1,4 @@
-use Rattle.segment_model.specs.Bytes.{put4}
+use Rattle.book_segments.specs.Bytes.{put4}
 use Rattle.aes_cmac.proofs.block.Block.to_bytes.Goals as goal
 
 pub returns : goal.returns

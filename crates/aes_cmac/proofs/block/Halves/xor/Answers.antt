@@ -1,6 +1,6 @@
 use Rattle.std.proofs.Common.{◌/◌, ◌%◌, ◌^◌}
 use Rattle.std.proofs.lemmas.Nat.{xor_shr, xor_mod}
-use Rattle.segment_model.specs.Bytes.{put4}
+use Rattle.book_segments.specs.Bytes.{put4}
 use Rattle.aes_cmac.proofs.Columns.{blocks, put4_xor}
 use Rattle.aes_cmac.proofs.block.Halves.xor.Goals as goal
 

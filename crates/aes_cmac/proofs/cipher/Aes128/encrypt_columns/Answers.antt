@@ -1,5 +1,5 @@
 use Rattle.std.proofs.Common.{sym, ap, ◌∙◌, lit<}
-use Rattle.mac_model.specs.Ciphers.{aes_rounds, round_constants}
+use Rattle.book_macs.specs.Ciphers.{aes_rounds, round_constants}
 use Rattle.aes_cmac.specs.Block.{bytes_of}
 use Rattle.aes_cmac.specs.Cipher.{key_at}
 use Rattle.aes_cmac.proofs.Rounds.{aes_start, aes_round, aes_last}

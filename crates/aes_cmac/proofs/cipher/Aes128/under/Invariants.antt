@@ -1,6 +1,6 @@
 use Rattle.std.proofs.Common.{◌≡◌, ℕ, ◌+◌, ◌<◌, length}
 use Rattle.std.specs.Prelude.{slice_index}
-use Rattle.mac_model.specs.Ciphers.{next_key, round_constants}
+use Rattle.book_macs.specs.Ciphers.{next_key, round_constants}
 use Rattle.aes_cmac.specs.Block.{bytes_of}
 use Rattle.aes_cmac.specs.Cipher.{key_at}
 use Rattle.aes_cmac.proofs.cipher.Aes128.under.Given as goal

@@ -1,7 +1,7 @@
 use Rattle.std.proofs.Common.{◌≡◌, ◌+◌, ◌<◌, ◌-◌, ◌≤◌, ◌∙◌, ◌++◌, length, take, rules, arith, sym, refl}
 use Rattle.std.proofs.lemmas.List.{take_all, take-append-drop}
 use Rattle.aes_cmac.specs.Block.{halves_bytes}
-use Rattle.mac_model.specs.Ciphers.{aes, xor}
+use Rattle.book_macs.specs.Ciphers.{aes, xor}
 use Rattle.aes_cmac.proofs.Chains.{fed_over, fed_within}
 use Rattle.aes_cmac.proofs.hasher.Cmac.update.Goals as goal
 

@@ -1,5 +1,5 @@
 use Rattle.std.proofs.Common.{◌≡◌, replicate}
-use Rattle.mac_model.specs.Ciphers.{aes}
+use Rattle.book_macs.specs.Ciphers.{aes}
 use Rattle.aes_cmac.specs.Block.{bytes_of}
 use Rattle.aes_cmac.proofs.Chains.{zeros}
 use Rattle.aes_cmac.proofs.subkeys.Subkeys.of.Goals as goal

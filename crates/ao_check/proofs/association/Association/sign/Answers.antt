@@ -1,8 +1,8 @@
 use Rattle.std.proofs.Common.{◌≡◌, true, false, sym, ap, ◌∙◌, refl, Some, arith, subst}
-use Rattle.segment_model.specs.Segments.{Segment, has, SYN}
-use Rattle.mac_model.specs.Keys.{traffic_key}
-use Rattle.key_model.specs.Rows.{Row}
-use Rattle.mac_model.specs.Contexts.{bytes_of}
+use Rattle.book_segments.specs.Segments.{Segment, has, SYN}
+use Rattle.book_macs.specs.Keys.{traffic_key}
+use Rattle.book_keys.specs.Rows.{Row}
+use Rattle.book_macs.specs.Contexts.{bytes_of}
 use Rattle.tcp_segment.specs.Writing.{drafted}
 use Rattle.ao_check.specs.Bonds.{Bond, Counted}
 use Rattle.ao_check.specs.Signings.{has_field}

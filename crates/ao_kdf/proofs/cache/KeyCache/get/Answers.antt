@@ -1,5 +1,5 @@
 use Rattle.std.proofs.Common.{ap, length, ◌∙◌}
-use Rattle.mac_model.proofs.LengthLaws.{length-traffic_key}
+use Rattle.book_macs.proofs.LengthLaws.{length-traffic_key}
 use Rattle.ao_kdf.proofs.cache.KeyCache.get.Goals as goal
 
 pub returns-in-Inbound-clause-length : goal.returns-in-Inbound-clause-length

@@ -1,6 +1,6 @@
 use Rattle.std.proofs.Common.{sym}
 use Rattle.tcp_options.specs.Views.{view_ao}
-use Rattle.segment_model.proofs.Found.{found_within}
+use Rattle.book_segments.proofs.Found.{found_within}
 use Rattle.ao_mac.proofs.front.Front.push_covered.Goals as goal
 
 pub push_options-requires-clause-within : goal.push_options-requires-clause-within

@@ -1,5 +1,5 @@
 use Rattle.std.proofs.Common.{sym, ◌∙◌, subst, IfOk}
-use Rattle.format_model.specs.Captures.{Heard}
+use Rattle.book_cmd_check.specs.Captures.{Heard}
 use Rattle.capture_check.specs.Checking.{Hears}
 use Rattle.capture_check.proofs.HearLaws.{unreadable, no_node, one_socket, readable}
 use Rattle.capture_check.proofs.checker.Checker.next.Goals as goal

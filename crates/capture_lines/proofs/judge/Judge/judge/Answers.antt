@@ -1,6 +1,6 @@
 use Rattle.std.proofs.Common.{◌≡◌, refl, not, ◌||◌, ◌∙◌}
-use Rattle.line_model.specs.Texts.{numbered_text}
-use Rattle.format_model.specs.Captures.{Saying, saying_texts}
+use Rattle.book_lines.specs.Texts.{numbered_text}
+use Rattle.book_cmd_check.specs.Captures.{Saying, saying_texts}
 use Rattle.capture_check.specs.Answers.{Says}
 use Rattle.capture_lines.proofs.JudgeLaws.{judged, broken}
 use Rattle.capture_lines.proofs.judge.Judge.judge.Goals as goal

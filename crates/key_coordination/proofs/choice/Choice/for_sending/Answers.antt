@@ -1,4 +1,4 @@
-use Rattle.key_model.specs.Coordination.{row_to_send}
+use Rattle.book_keys.specs.Coordination.{row_to_send}
 use Rattle.key_coordination.proofs.ChoosingLaws.{chosen_in, found, chooses, refrains}
 use Rattle.key_coordination.proofs.choice.Choice.for_sending.Goals as goal
 

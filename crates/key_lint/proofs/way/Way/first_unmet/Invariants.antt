@@ -1,5 +1,5 @@
 use Rattle.std.proofs.Common.{◌≡◌, ◌+◌, drop}
-use Rattle.key_model.specs.Plans.{first_unmet}
+use Rattle.book_keys.specs.Plans.{first_unmet}
 use Rattle.key_lint.proofs.way.Way.first_unmet.Given as goal
 
 abbrev pub invariant-loop-i : goal.invariant-loop-i

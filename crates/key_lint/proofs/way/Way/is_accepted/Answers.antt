@@ -1,5 +1,5 @@
 use Rattle.std.proofs.Common.{sym, ◌∙◌}
-use Rattle.key_model.specs.Plans.{accepts_from}
+use Rattle.book_keys.specs.Plans.{accepts_from}
 use Rattle.key_lint.proofs.HearingLaws.{passed, unheard, unkeyed}
 use Rattle.key_lint.proofs.way.Way.is_accepted.Goals as goal
 use Rattle.key_lint.proofs.way.Way.is_accepted.Goals.{else-hearing-i-via-then-hearing-i+else-is_keyed_for, else-hearing-i-via-else-hearing-i}

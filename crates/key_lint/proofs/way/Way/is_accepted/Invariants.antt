@@ -1,6 +1,6 @@
 use Rattle.std.proofs.Common.{◌≡◌, drop}
 use Rattle.std.specs.List.{list_any}
-use Rattle.key_model.specs.Plans.{accepts_from}
+use Rattle.book_keys.specs.Plans.{accepts_from}
 use Rattle.key_lint.proofs.way.Way.is_accepted.Given as goal
 
 abbrev pub invariant-loop-i : goal.invariant-loop-i

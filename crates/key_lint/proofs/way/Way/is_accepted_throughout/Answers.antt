@@ -1,5 +1,5 @@
 use Rattle.std.proofs.Common.{sym, ◌∙◌}
-use Rattle.key_model.specs.Plans.{accepts_throughout}
+use Rattle.book_keys.specs.Plans.{accepts_throughout}
 use Rattle.key_lint.proofs.HearingLaws.{passed, unheard, unkeyed, unheard_throughout, too_short}
 use Rattle.key_lint.proofs.way.Way.is_accepted_throughout.Goals as goal
 use Rattle.key_lint.proofs.way.Way.is_accepted_throughout.Goals.{

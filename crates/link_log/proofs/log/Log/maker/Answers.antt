@@ -1,6 +1,6 @@
 use Rattle.std.proofs.Common.{◌≡◌, ◌<◌, ◌-◌, ℕ, length, get_or, refl, ◌∙◌, ap, subst, arith}
 use Rattle.std.proofs.lemmas.Option.{slice_get_read}
-use Rattle.link_model.specs.Worlds.{segment_named}
+use Rattle.book_link.specs.Worlds.{segment_named}
 use Rattle.link_log.specs.declared.kept.Kept.{Kept}
 use Rattle.link_log.specs.Logs.{MadeBy}
 use Rattle.link_log.proofs.LogLaws.{made_by_at}

@@ -1,6 +1,6 @@
 use Rattle.std.proofs.Common.{◌≡◌, ◌++◌, ◌∷◌, [], nat_eq, length, suc, Some, sym, ap, ◌∙◌, subst, arith}
 use Rattle.std.specs.HashMap.{Updates}
-use Rattle.segment_model.specs.Spelling.{AreBytes}
+use Rattle.book_segments.specs.Spelling.{AreBytes}
 use Rattle.link_log.specs.declared.kept.Kept.{Kept}
 use Rattle.link_log.specs.Numbers.{AreLinked}
 use Rattle.link_log.proofs.LogLaws.{entry_of, only_ok, segments_kept}

@@ -1,6 +1,6 @@
 use Rattle.std.proofs.Common.{refl, sym, ◌∙◌}
-use Rattle.endpoint_model.specs.States.{connected}
-use Rattle.link_model.specs.Worlds.{pair_of, side as side_of}
+use Rattle.book_endpoint.specs.States.{connected}
+use Rattle.book_link.specs.Worlds.{pair_of, side as side_of}
 use Rattle.link_side.proofs.BeginLaws.{moved_begun}
 use Rattle.link_side.proofs.side.Side.connect.Goals as goal
 

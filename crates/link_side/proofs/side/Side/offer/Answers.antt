@@ -1,5 +1,5 @@
 use Rattle.std.proofs.Common.{refl}
-use Rattle.link_model.specs.Steps.{given}
+use Rattle.book_link.specs.Steps.{given}
 use Rattle.link_side.specs.declared.sessions.Live.{Live}
 use Rattle.link_side.proofs.ActLaws.{moved_live}
 use Rattle.link_side.proofs.OfferLaws.{given_acts}

@@ -1,7 +1,7 @@
 use Rattle.std.proofs.Common.{◌≡◌, ◌||◌, length, refl, ap, ◌∙◌}
-use Rattle.endpoint_model.specs.States.{take_out}
-use Rattle.link_model.specs.Outcomes as book
-use Rattle.link_model.specs.Steps.{took}
+use Rattle.book_endpoint.specs.States.{take_out}
+use Rattle.book_link.specs.Outcomes as book
+use Rattle.book_link.specs.Steps.{took}
 use Rattle.link_side.specs.declared.sessions.Live.{Live}
 use Rattle.link_side.proofs.ActLaws.{moved_live}
 use Rattle.link_side.proofs.OfferLaws.{taken_bytes, took_acts}

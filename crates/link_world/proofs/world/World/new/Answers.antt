@@ -1,14 +1,14 @@
 use Rattle.std.proofs.Common.{◌≡◌, List, [], length, sym, ap, ◌∙◌, subst, arith}
-use Rattle.key_model.specs.Plans.{rows_at}
-use Rattle.key_model.specs.Rows.{Row}
-use Rattle.link_model.specs.Runs.{empty}
+use Rattle.book_keys.specs.Plans.{rows_at}
+use Rattle.book_keys.specs.Rows.{Row}
+use Rattle.book_link.specs.Runs.{empty}
 use Rattle.link_report.specs.declared.outcome.Outcome.{Outcome}
 use Rattle.link_report.specs.Outcomes.{AreShown}
 use Rattle.link_side.specs.Sides.{StandsSide}
 use Rattle.link_world.specs.Standing.{setup_of}
 use Rattle.link_world.proofs.SetupLaws.{apart}
 use Rattle.std.specs.List.{AllByRecursion}
-use Rattle.link_laws.specs.Laws.{RowFits}
+use Rattle.law_link.specs.Laws.{RowFits}
 use Rattle.link_world.proofs.WorldLaws.{begun, setup_fits}
 use Rattle.link_world.proofs.world.World.new.Goals as goal
 

@@ -1,7 +1,7 @@
 use Rattle.link_report.specs.declared.outcome.Outcome.{Outcome}
 use Rattle.link_report.specs.Outcomes.{Shows}
-use Rattle.link_model.specs.Runs.{run}
-use Rattle.link_model.specs.Steps.{step}
+use Rattle.book_link.specs.Runs.{run}
+use Rattle.book_link.specs.Steps.{step}
 use Rattle.std.proofs.Common.{◌≡◌, ◌-◌, ℕ, length, get_or, sym, ap, ◌∙◌, subst, arith}
 use Rattle.link_world.proofs.WorldLaws.{last_is}
 use Rattle.link_world.proofs.world.World.outcome.Goals as goal

@@ -1,6 +1,6 @@
 use Rattle.std.proofs.Common.{◌≡◌, ℕ, List, ◌++◌, sym, ap, ◌∙◌, subst}
-use Rattle.link_model.specs.Reports.{lines_from, summary}
-use Rattle.link_model.specs.Runs.{empty, outcomes_from, run}
+use Rattle.book_link.specs.Reports.{lines_from, summary}
+use Rattle.book_link.specs.Runs.{empty, outcomes_from, run}
 use Rattle.link_report.specs.declared.outcome.Outcome.{Outcome}
 use Rattle.link_report.specs.Outcomes.{AreShown}
 use Rattle.link_world.proofs.ShowLaws.{report_is}

@@ -2,10 +2,10 @@ use Rattle.std.proofs.Common.{◌≡◌, ◌+◌, ◌<◌, ℕ, List, [], ◌∷
 use Rattle.std.specs.Coded.{le_prop}
 use mathlib.Core.Logic.{∥∥₁_elim, ∥∥₁_map}
 use Rattle.link_log.proofs.LogLaws.{only_ok}
-use Rattle.link_headline.proofs.LawfulRuns.{lawful}
-use Rattle.link_headline.proofs.Through.{few_through}
+use Rattle.law_headline.proofs.LawfulRuns.{lawful}
+use Rattle.law_headline.proofs.Through.{few_through}
 use Rattle.link_report.specs.declared.outcome.Outcome.{Outcome}
-use Rattle.link_laws.specs.Laws.{EventFits}
+use Rattle.law_link.specs.Laws.{EventFits}
 use Rattle.link_world.proofs.RoomLaws.{told_fits}
 use Rattle.link_world.proofs.WorldLaws.{moved_of, on_err, one_more, rested, rested_of, stepped}
 use Rattle.link_world.proofs.world.World.step.Goals as goal

@@ -1,5 +1,5 @@
 use Rattle.std.proofs.Common.{◌∙◌, ap, length, arith}
-use Rattle.key_model.specs.Rows.{Table}
+use Rattle.book_keys.specs.Rows.{Table}
 use Rattle.ao_check.specs.Bonds.{Bond}
 use Rattle.mac_tests.proofs.of_ao_check.changes.changes.Goals as goal
 

@@ -1,6 +1,6 @@
 use Rattle.std.proofs.Common.{arith, refl, sym, ap, ◌∙◌, ◌≡◌, ◌+◌, ◌≤◌, ◌<◌, ◌%◌, ℕ, ◌++◌, Some, length, drop, subst}
 use Rattle.std.proofs.lemmas.List.{get_or_read}
-use Rattle.segment_model.specs.Received.{bytes_from}
+use Rattle.book_segments.specs.Received.{bytes_from}
 use Rattle.stream_buffers.specs.Kept.{Kept, byte_at, forgotten_below}
 use Rattle.stream_buffers.specs.Spans.{IsSound}
 use Rattle.stream_buffers.proofs.Calls.{take_more, ready_byte, taken_out}

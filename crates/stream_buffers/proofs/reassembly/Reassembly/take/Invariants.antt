@@ -1,5 +1,5 @@
 use Rattle.std.proofs.Common.{◌≡◌, ◌++◌, drop}
-use Rattle.segment_model.specs.Received.{bytes_from}
+use Rattle.book_segments.specs.Received.{bytes_from}
 use Rattle.stream_buffers.specs.Kept.{byte_at}
 use Rattle.stream_buffers.proofs.reassembly.Reassembly.take.Given as goal
 

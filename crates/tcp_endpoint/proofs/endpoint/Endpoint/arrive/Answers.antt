@@ -1,9 +1,9 @@
 use Rattle.std.proofs.Common.{◌≡◌, Some, refl, sym, ap, ◌∙◌, subst, arith, Ok}
-use Rattle.endpoint_model.specs.Verdicts as v
+use Rattle.book_endpoint.specs.Verdicts as v
 use Rattle.ao_check.specs.Verdicts.{Names}
 use Rattle.tcp_endpoint.specs.Numbers.{expected_in}
 use Rattle.tcp_endpoint.proofs.ReadyLaws.{nothing_known, something_known}
-use Rattle.endpoint_model.specs.declared.arrival.Arrival.TheVariants.{Foreign, Closed}
+use Rattle.book_endpoint.specs.declared.arrival.Arrival.TheVariants.{Foreign, Closed}
 use Rattle.tcp_endpoint.proofs.CostLaws.{early_costs, refused_costs, untold, none_before, passed_costs}
 use Rattle.tcp_endpoint.proofs.JudgeLaws.{number_first, number_near}
 use Rattle.tcp_endpoint.proofs.PassLaws.{arrives_pass, arrives_refused, refused_by, judged_is, rnext_is, number_is}
@@ -18,7 +18,7 @@ returns-in_default g c =
       arrives = λ s h.
           let told = refused_by rows e.association.pair d c.check.result _ c.in_default.not-Pass c.check.ensures.verdict in
           let judged = sym (judged_is rows e s c.args.now d c.expected_of-expected.result h c.expected_of-expected.ensures.some c.expected_of-expected.ensures.none) ∙ told in
-          arrives_refused rows e.pair c.args.now s c.args.bytes.now d c.check.result c.without-in_default.result c.without-in_default.ensures c.in-Ok.ensures.read (sym c.if-not-is_from_peer.ensures.told) (sym c.if-not-checksum_ok.ensures) (ap Rattle.endpoint_model.specs.States.is_closed (sym h.phase) ∙ sym c.if-is_closed.ensures) judged
+          arrives_refused rows e.pair c.args.now s c.args.bytes.now d c.check.result c.without-in_default.result c.without-in_default.ensures c.in-Ok.ensures.read (sym c.if-not-is_from_peer.ensures.told) (sym c.if-not-checksum_ok.ensures) (ap Rattle.book_endpoint.specs.States.is_closed (sym h.phase) ∙ sym c.if-is_closed.ensures) judged
           (record {
             phase = h.phase;
             isn = h.isn;
@@ -132,7 +132,7 @@ returns-clause-arrives g c = λ s h.
       current = ap (λ b. b.current) c.check.ensures.same ∙ h.current;
     }) in
     arrives_pass rows e.pair c.args.now s c.args.bytes.now d told.0 c.hear-arrival.new.self c.hear-arrival.result c.in-Pass.passed c.rnext_of-rnext.result c.in-Pass.passed.number
-    c.in-Ok.ensures.read (sym c.if-not-is_from_peer.ensures.told) (sym c.if-not-checksum_ok.ensures) (ap Rattle.endpoint_model.specs.States.is_closed (sym h.phase) ∙ sym c.if-is_closed.ensures) judged
+    c.in-Ok.ensures.read (sym c.if-not-is_from_peer.ensures.told) (sym c.if-not-checksum_ok.ensures) (ap Rattle.book_endpoint.specs.States.is_closed (sym h.phase) ∙ sym c.if-is_closed.ensures) judged
     (c.rnext_of-rnext.ensures ∙ rnext_is rows e.association.pair d c.in-Pass.passed told.0 told.2)
     (number_is rows e.association.pair d c.in-Pass.passed told.0 told.2)
     reach

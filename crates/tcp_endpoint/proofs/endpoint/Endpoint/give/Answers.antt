@@ -1,6 +1,6 @@
 use Rattle.std.proofs.Common.{◌≡◌, ◌+◌, ◌-◌, ◌≤◌, ◌++◌, false, length, sym, ap, ◌∙◌, arith, rules, length-append}
 use Rattle.std.proofs.lemmas.List.{drop-append-le}
-use Rattle.endpoint_model.specs.States.{room}
+use Rattle.book_endpoint.specs.States.{room}
 use Rattle.tcp_endpoint.proofs.ReadyLaws.{room_is, una_given, gives_true, offered_is}
 use Rattle.tcp_endpoint.proofs.endpoint.Endpoint.give.Goals as goal
 
@@ -10,7 +10,7 @@ unreachable-requires c = let h = c.in-Err.ensures.variant.1 (omega (arith, c.fre
 pub returns-clause-stands : goal.returns-clause-stands
 returns-clause-stands c = λ s h.
     let open_too : c.args.self.now.closing ≡ false = search rules in
-    let still : Rattle.endpoint_model.specs.States.is_closed c.args.self.now.phase ≡ false = search rules in
+    let still : Rattle.book_endpoint.specs.States.is_closed c.args.self.now.phase ≡ false = search rules in
     let fits : length c.args.piece.now ≤ room s = rw (← room_is c.args.self.now s h, ← c.free.ensures.value) c.if-free-piece.false in
     let few = una_given c.args.self.now s h open_too still in
     rw (offered_is s c.args.piece.now (gives_true s (sym h.closing ∙ open_too) (rw (← h.phase) still)) fits)

@@ -1,6 +1,6 @@
 use Rattle.std.proofs.Common.{◌≡◌, true, sym, ap, ◌∙◌, subst}
-use Rattle.endpoint_model.specs.States.{hears}
-use Rattle.endpoint_model.specs.Arrivals as book
+use Rattle.book_endpoint.specs.States.{hears}
+use Rattle.book_endpoint.specs.Arrivals as book
 use Rattle.tcp_endpoint.specs.Arriving.{Reaches}
 use Rattle.tcp_endpoint.proofs.AckLaws.{both_true}
 use Rattle.tcp_endpoint.proofs.endpoint.Endpoint.go_on.Goals as goal

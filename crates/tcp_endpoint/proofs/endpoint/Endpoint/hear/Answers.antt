@@ -1,11 +1,11 @@
 use Rattle.std.proofs.Common.{false, refl, sym, ap, ◌∙◌, subst, arith}
 use Rattle.std.specs.Prelude.{if◌then◌else◌}
-use Rattle.segment_model.specs.Meant.{meant}
-use Rattle.segment_model.specs.Segments.{has, RST, segment_length}
+use Rattle.book_segments.specs.Meant.{meant}
+use Rattle.book_segments.specs.Segments.{has, RST, segment_length}
 use Rattle.wrap_seq.specs.Counter.{number}
 use Rattle.ao_check.specs.Bonds.{Fits}
-use Rattle.endpoint_model.specs.declared.arrival.Arrival.TheVariants as answers
-use Rattle.endpoint_model.specs.Arrivals as book
+use Rattle.book_endpoint.specs.declared.arrival.Arrival.TheVariants as answers
+use Rattle.book_endpoint.specs.Arrivals as book
 use Rattle.tcp_endpoint.specs.Ends.{Stands}
 use Rattle.tcp_endpoint.proofs.ReadyLaws.{window_is}
 use Rattle.tcp_endpoint.proofs.CostLaws.{moved_on}

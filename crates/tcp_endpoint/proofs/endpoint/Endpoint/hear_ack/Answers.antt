@@ -1,8 +1,8 @@
 use Rattle.std.proofs.Common.{◌≡◌, refl, sym, ap, ◌∙◌, subst}
-use Rattle.segment_model.specs.Meant.{meant}
+use Rattle.book_segments.specs.Meant.{meant}
 use Rattle.wrap_seq.specs.Counter.{number}
-use Rattle.endpoint_model.specs.declared.phase.Phase.TheVariants.{Established}
-use Rattle.endpoint_model.specs.Arrivals as book
+use Rattle.book_endpoint.specs.declared.phase.Phase.TheVariants.{Established}
+use Rattle.book_endpoint.specs.Arrivals as book
 use Rattle.tcp_endpoint.specs.Arriving.{Reaches}
 use Rattle.tcp_endpoint.proofs.AckLaws.{syn_acked}
 use Rattle.tcp_endpoint.proofs.endpoint.Endpoint.hear_ack.Goals as goal

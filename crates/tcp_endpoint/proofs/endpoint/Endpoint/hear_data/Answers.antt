@@ -1,8 +1,8 @@
 use Rattle.std.proofs.Common.{◌≡◌, ℕ, ◌+◌, ◌≤◌, true, length, refl, sym, ap, ◌∙◌, subst}
 use Rattle.std.specs.Prelude.{is_some}
-use Rattle.endpoint_model.specs.States as states
-use Rattle.endpoint_model.specs.declared.arrival.Arrival.TheVariants as answers
-use Rattle.endpoint_model.specs.Arrivals as book
+use Rattle.book_endpoint.specs.States as states
+use Rattle.book_endpoint.specs.declared.arrival.Arrival.TheVariants as answers
+use Rattle.book_endpoint.specs.Arrivals as book
 use Rattle.stream_buffers.specs.Kept.{byte_at, missing_then, grown}
 use Rattle.wrap_seq.specs.Counter.{number}
 use Rattle.tcp_endpoint.specs.Fins.{is_at, past_or}

@@ -1,12 +1,12 @@
 use Rattle.std.proofs.Common.{◌≡◌, ◌+◌, ◌-◌, ◌≤◌, ◌%◌, min, refl, sym, ap, ◌∙◌, arith, subst}
 use Rattle.std.specs.Prelude.{slice_index_or}
 use Rattle.ao_base.specs.Algorithms.{mac_length_of}
-use Rattle.segment_model.specs.Bytes.{ring}
-use Rattle.mac_model.specs.Contexts.{bytes_of}
-use Rattle.key_model.specs.Rows.{Row}
+use Rattle.book_segments.specs.Bytes.{ring}
+use Rattle.book_macs.specs.Contexts.{bytes_of}
+use Rattle.book_keys.specs.Rows.{Row}
 use Rattle.tcp_segment.specs.Writing.{ip_size}
-use Rattle.endpoint_model.specs.States.{own_mss}
-use Rattle.endpoint_model.specs.Emissions as book
+use Rattle.book_endpoint.specs.States.{own_mss}
+use Rattle.book_endpoint.specs.Emissions as book
 use Rattle.ao_check.proofs.KeyLaws.{same_row}
 use Rattle.segment_writer.specs.Drafts.{IsOf}
 use Rattle.tcp_endpoint.specs.Planning.{draft_of, IsCounted, IsOutlineOf}

@@ -1,7 +1,7 @@
 use Rattle.std.proofs.Common.{◌+◌, ◌++◌, drop, length, sym, ap, ◌∙◌, arith, length-append}
-use Rattle.segment_model.specs.Received.{bytes_from}
+use Rattle.book_segments.specs.Received.{bytes_from}
 use Rattle.stream_buffers.specs.Kept.{byte_at}
-use Rattle.endpoint_model.specs.States.{taking}
+use Rattle.book_endpoint.specs.States.{taking}
 use Rattle.tcp_endpoint.proofs.ReadyLaws.{taking_is, taking_count, bytes_taken, owed_taken, forgotten_none, untaken_still}
 use Rattle.tcp_endpoint.proofs.endpoint.Endpoint.take.Goals as goal
 

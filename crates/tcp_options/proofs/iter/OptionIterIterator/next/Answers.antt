@@ -1,6 +1,6 @@
 use Rattle.std.proofs.Common.{length, sym, ap, arith, ◌∙◌}
-use Rattle.segment_model.specs.Options.{Options, options_of, plains, listed}
-use Rattle.segment_model.proofs.Walks.{leading_listed, leading_plains, ending_at, nothing_at, not_short, not_long}
+use Rattle.book_segments.specs.Options.{Options, options_of, plains, listed}
+use Rattle.book_segments.proofs.Walks.{leading_listed, leading_plains, ending_at, nothing_at, not_short, not_long}
 use Rattle.tcp_options.proofs.iter.OptionIterIterator.next.Goals as goal
 
 pub invariant_of-self : goal.invariant_of-self

@@ -1,5 +1,5 @@
 use Rattle.std.proofs.Common.{ap, sym, ◌∙◌}
-use Rattle.segment_model.specs.Options.{find_ao}
+use Rattle.book_segments.specs.Options.{find_ao}
 use Rattle.tcp_options.proofs.KindLaws.{listed_of, absent_is, two_is, md5_is, one_is}
 use Rattle.tcp_options.proofs.options.Options.find_ao.Goals as goal
 

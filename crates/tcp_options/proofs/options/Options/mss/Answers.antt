@@ -1,5 +1,5 @@
 use Rattle.std.proofs.Common.{sym, ap, ◌∙◌}
-use Rattle.segment_model.specs.Options.{options_of, listed}
+use Rattle.book_segments.specs.Options.{options_of, listed}
 use Rattle.tcp_options.proofs.KindLaws.{mss_plain, mss_same, mss_at, mss_past}
 use Rattle.tcp_options.proofs.options.Options.mss.Goals as goal
 

@@ -1,5 +1,5 @@
 use Rattle.std.proofs.Common.{◌≡◌}
-use Rattle.segment_model.specs.Options.{options_of, listed, plains}
+use Rattle.book_segments.specs.Options.{options_of, listed, plains}
 use Rattle.tcp_options.proofs.KindLaws.{mss_plain}
 use Rattle.tcp_options.proofs.options.Options.mss.Given as goal
 

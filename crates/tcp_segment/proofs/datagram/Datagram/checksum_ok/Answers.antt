@@ -1,5 +1,5 @@
 use Rattle.std.proofs.Common.{ap, ◌∙◌}
-use Rattle.segment_model.specs.Segments.{good}
+use Rattle.book_segments.specs.Segments.{good}
 use Rattle.tcp_segment.proofs.ReadLaws.{good_at}
 use Rattle.tcp_segment.proofs.datagram.Datagram.checksum_ok.Goals as goal
 

@@ -1,5 +1,5 @@
 use Rattle.std.proofs.Common.{ap, ◌∙◌}
-use Rattle.segment_model.specs.Segments.{Segment}
+use Rattle.book_segments.specs.Segments.{Segment}
 use Rattle.tcp_segment.proofs.ReadLaws.{destination_v4, destination_v6}
 use Rattle.tcp_segment.proofs.datagram.Datagram.destination.Goals as goal
 

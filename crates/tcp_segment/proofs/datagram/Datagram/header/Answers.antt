@@ -1,5 +1,5 @@
 use Rattle.std.proofs.Common.{[], ap, ◌∙◌}
-use Rattle.segment_model.specs.Segments.{Segment, header}
+use Rattle.book_segments.specs.Segments.{Segment, header}
 use Rattle.tcp_segment.proofs.ReadLaws.{header_in}
 use Rattle.tcp_segment.proofs.datagram.Datagram.header.Goals as goal
 

@@ -1,6 +1,6 @@
 use Rattle.std.proofs.Common.{List, ℕ, ap, subst, sym, ◌∙◌}
-use Rattle.segment_model.specs.Options.{AreListed, options_of}
-use Rattle.segment_model.specs.Segments.{Segment}
+use Rattle.book_segments.specs.Options.{AreListed, options_of}
+use Rattle.book_segments.specs.Segments.{Segment}
 use Rattle.tcp_segment.proofs.ReadLaws.{area_in}
 use Rattle.tcp_segment.proofs.datagram.Datagram.options.Goals as goal
 

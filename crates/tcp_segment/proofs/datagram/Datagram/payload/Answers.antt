@@ -1,5 +1,5 @@
 use Rattle.std.proofs.Common.{ap, ◌∙◌}
-use Rattle.segment_model.specs.Segments.{Segment}
+use Rattle.book_segments.specs.Segments.{Segment}
 use Rattle.tcp_segment.proofs.ReadLaws.{payload_in}
 use Rattle.tcp_segment.proofs.datagram.Datagram.payload.Goals as goal
 

@@ -1,5 +1,5 @@
 use Rattle.std.proofs.Common.{ap, ◌∙◌}
-use Rattle.segment_model.specs.Segments.{Segment}
+use Rattle.book_segments.specs.Segments.{Segment}
 use Rattle.tcp_segment.proofs.ReadLaws.{source_v4, source_v6}
 use Rattle.tcp_segment.proofs.datagram.Datagram.source.Goals as goal
 

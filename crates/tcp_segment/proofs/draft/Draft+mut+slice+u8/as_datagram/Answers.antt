@@ -1,6 +1,6 @@
 use Rattle.std.proofs.Common.{◌≡◌, subst, sym, ◌∙◌}
-use Rattle.segment_model.specs.Options.{Ao, One, find_ao}
-use Rattle.segment_model.specs.Segments.{Segment}
+use Rattle.book_segments.specs.Options.{Ao, One, find_ao}
+use Rattle.book_segments.specs.Segments.{Segment}
 use Rattle.tcp_segment.proofs.DraftLaws.{draft_value}
 use Rattle.tcp_segment.proofs.HoldLaws.{holds_by, holds_read, holds_ao}
 use Rattle.tcp_segment.proofs.draft.Draft+mut+slice+u8.as_datagram.Goals as goal

@@ -1,5 +1,5 @@
 use Rattle.std.proofs.Common.{◌≡◌, ◌+◌, ◌<◌, ◌^◌, length}
-use Rattle.line_model.specs.Lines.{saying_from}
+use Rattle.book_lines.specs.Lines.{saying_from}
 use Rattle.text_lines.proofs.saying.SayingLines.next.Given as goal
 
 abbrev pub invariant-loop-line : goal.invariant-loop-line

@@ -1,0 +1,4 @@
+pub mod Captures
+pub mod Connections
+pub mod StoredLines
+pub mod StoredPackets

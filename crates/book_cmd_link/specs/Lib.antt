@@ -1,0 +1,2 @@
+pub mod LinkEvents
+pub mod LinkFiles

@@ -1,0 +1,161 @@
+-- What a line of a link file says of one event. Our own format. Its top is `link_event_of`.
+use Rattle.std.specs.Prelude.{ℕ, nat_le, nat_lt, Bool, true, false, List, codes, Option, Some, None}
+use Rattle.std.specs.Prelude.{Result, Ok, Err, if◌then◌else◌}
+use Rattle.std.specs.Str.{bytes_eq}
+use Rattle.ao_base.specs.declared.end.End.{End}
+use Rattle.ao_base.specs.declared.line_kind.LineKind.{LineKind}
+use Rattle.ao_base.specs.declared.line_kind.LineKind.TheVariants.{Word, Range}
+use Rattle.book_keys.specs.Lifetimes.{greatest_time}
+use Rattle.book_lines.specs.Words.{Taken, word_in, word_as, nothing_in, choice_in, end_in}
+use Rattle.book_lines.specs.Words.{algorithm_in, number_in, sized_hex_in, some_hex_in, byte_in}
+use Rattle.ao_base.specs.Results.{◌>>=◌}
+use Rattle.book_link.specs.declared.event.Event.{Event}
+use Rattle.book_link.specs.declared.event.Event.TheVariants as event
+
+-- the greatest initial sequence number (RFC 9293, section 3.4.1)
+abbrev pub greatest_isn : ℕ
+greatest_isn = 4294967295
+
+-- the most segments that a link makes (own)
+abbrev pub most_segments : ℕ
+most_segments = 20000
+
+-- an event of an end alone: `send END`, `resend END`, `close END`, `abort END` (own)
+abbrev pub event_of_end : (End → Event) → List (List ℕ) → Result Event LineKind
+event_of_end made ws = do
+  e ← end_in ws
+  none ← nothing_in e.rest
+  Ok (made e.value)
+
+-- an event of an end and a number from low to high: `clock END SECONDS`, `open END ISN`, `listen
+-- END ISN`, `deliver END N`, `take END COUNT`, `withdraw END ROW` (own)
+abbrev pub event_of_number : (End → ℕ → Event) → ℕ → ℕ → List (List ℕ) → Result Event LineKind
+event_of_number made low high ws = do
+  e ← end_in ws
+  n ← number_in low high e.rest
+  none ← nothing_in n.rest
+  Ok (made e.value n.value)
+
+-- the event `start END ISN PEERISN` (own)
+unfoldable pub start_of : List (List ℕ) → Result Event LineKind
+start_of ws = do
+  e ← end_in ws
+  own ← number_in 0 greatest_isn e.rest
+  peer ← number_in 0 greatest_isn own.rest
+  none ← nothing_in peer.rest
+  Ok (event.Start e.value own.value peer.value)
+
+-- the event `give END HEX`, of at least one byte (own)
+unfoldable pub give_of : List (List ℕ) → Result Event LineKind
+give_of ws = do
+  e ← end_in ws
+  bytes ← some_hex_in e.rest
+  none ← nothing_in bytes.rest
+  Ok (event.Give e.value bytes.value)
+
+-- the event `fill END COUNT BYTE` (own)
+unfoldable pub fill_of : List (List ℕ) → Result Event LineKind
+fill_of ws = do
+  e ← end_in ws
+  count ← number_in 0 65535 e.rest
+  byte ← byte_in count.rest
+  none ← nothing_in byte.rest
+  Ok (event.Fill e.value count.value byte.value)
+
+-- the event `inject END HEX`, of 1 to 65,575 bytes (own)
+unfoldable pub inject_of : List (List ℕ) → Result Event LineKind
+inject_of ws = do
+  e ← end_in ws
+  bytes ← sized_hex_in 1 65575 e.rest
+  none ← nothing_in bytes.rest
+  Ok (event.Inject e.value bytes.value)
+
+-- the event `alter END N PLACE MASK keep` or `fix` (own)
+unfoldable pub alter_of : List (List ℕ) → Result Event LineKind
+alter_of ws = do
+  e ← end_in ws
+  segment ← number_in 1 most_segments e.rest
+  place ← number_in 0 65535 segment.rest
+  mask ← byte_in place.rest
+  fixing ← choice_in (codes "keep") (codes "fix") mask.rest
+  none ← nothing_in fixing.rest
+  Ok (event.Alter e.value segment.value place.value mask.value fixing.value)
+
+-- whether a row receives, and whether it sends (RFC 7210, section 2)
+pub record Ways : Type 0 where
+  pub receive : Bool
+  pub send : Bool
+
+-- the ways that a word of a Direction names (RFC 7210, section 2)
+abbrev pub ways_of : List ℕ → Option Ways
+ways_of w =
+    if bytes_eq w (codes "in") then Some (record { receive = true; send = false })
+    else if bytes_eq w (codes "out") then Some (record { receive = false; send = true })
+    else if bytes_eq w (codes "both") then Some (record { receive = true; send = true })
+    else if bytes_eq w (codes "disabled") then Some (record { receive = false; send = false })
+    else None
+
+-- the event `add END RECVID SENDID ALGORITHM HEX FLAG DIRECTION SENDFIRST SENDLAST ACCEPTFIRST
+-- ACCEPTLAST`; no lifetime's last second is before its first (RFC 7210, section 2, and own)
+unfoldable pub add_of : List (List ℕ) → Result Event LineKind
+add_of ws = do
+  e ← end_in ws
+  recv_id ← number_in 0 255 e.rest
+  send_id ← number_in 0 255 recv_id.rest
+  algorithm ← algorithm_in send_id.rest
+  master ← sized_hex_in 1 255 algorithm.rest
+  apart ← choice_in (codes "no-options") (codes "options") master.rest
+  ways ← word_as ways_of Word apart.rest
+  send_first ← number_in 0 greatest_time ways.rest
+  send_last ← number_in send_first.value greatest_time send_first.rest
+  accept_first ← number_in 0 greatest_time send_last.rest
+  accept_last ← number_in accept_first.value greatest_time accept_first.rest
+  none ← nothing_in accept_last.rest
+  Ok (event.AddRow e.value (record {
+    recv_id = recv_id.value;
+    send_id = send_id.value;
+    algorithm = algorithm.value;
+    master = master.value;
+    with_options = apart.value;
+    receive = ways.value.receive;
+    send = ways.value.send;
+    send_first = send_first.value;
+    send_last = send_last.value;
+    accept_first = accept_first.value;
+    accept_last = accept_last.value;
+  }))
+
+-- the event `dump N` (own)
+unfoldable pub dump_of : List (List ℕ) → Result Event LineKind
+dump_of ws = do
+  segment ← number_in 1 most_segments ws
+  none ← nothing_in segment.rest
+  Ok (event.Dump segment.value)
+
+-- the event that the first word of a line names, of the words after it (own)
+unfoldable pub event_named : List ℕ → List (List ℕ) → Result Event LineKind
+event_named name ws =
+    if bytes_eq name (codes "clock") then event_of_number event.Clock 0 greatest_time ws
+    else if bytes_eq name (codes "open") then event_of_number event.Connect 0 greatest_isn ws
+    else if bytes_eq name (codes "listen") then event_of_number event.Listen 0 greatest_isn ws
+    else if bytes_eq name (codes "start") then start_of ws
+    else if bytes_eq name (codes "give") then give_of ws
+    else if bytes_eq name (codes "fill") then fill_of ws
+    else if bytes_eq name (codes "send") then event_of_end event.Send ws
+    else if bytes_eq name (codes "resend") then event_of_end event.Resend ws
+    else if bytes_eq name (codes "deliver") then event_of_number event.Deliver 1 most_segments ws
+    else if bytes_eq name (codes "inject") then inject_of ws
+    else if bytes_eq name (codes "alter") then alter_of ws
+    else if bytes_eq name (codes "take") then event_of_number event.Take 0 65535 ws
+    else if bytes_eq name (codes "close") then event_of_end event.Close ws
+    else if bytes_eq name (codes "abort") then event_of_end event.Abort ws
+    else if bytes_eq name (codes "add") then add_of ws
+    else if bytes_eq name (codes "withdraw") then event_of_number event.Withdraw 1 64 ws
+    else if bytes_eq name (codes "dump") then dump_of ws
+    else Err Word
+
+-- the event that the words of a line say (own)
+unfoldable pub link_event_of : List (List ℕ) → Result Event LineKind
+link_event_of ws = do
+  name ← word_in ws
+  event_named name.value name.rest

@@ -1,0 +1,5 @@
+pub mod DatagramTexts
+pub mod Show
+pub mod VectorWords
+pub mod Vectors
+pub mod Verified

@@ -1,0 +1,280 @@
+-- A link whose ends have retransmission timers, as a plain run (RFC 6298, section 5, and own).
+-- Its tops are `timed_script_of` and `expand`.
+use Rattle.std.specs.Prelude.{ℕ, zero, suc, ◌+◌, ◌-◌, ◌/◌, ◌==◌, min, max, nat_lt, nat_le, Bool}
+use Rattle.std.specs.Prelude.{true, false, not, ◌&&◌, List, [], ◌∷◌, ◌++◌, length, codes, Option}
+use Rattle.std.specs.Prelude.{Some, None, Result, Ok, Err, if◌then◌else◌}
+use Rattle.std.specs.Option.{option_or}
+use Rattle.std.specs.Str.{bytes_eq}
+use Rattle.ao_base.specs.declared.end.End.{End}
+use Rattle.ao_base.specs.declared.end.End.TheVariants.{A, B}
+use Rattle.ao_base.specs.declared.line_kind.LineKind.{LineKind}
+use Rattle.book_keys.specs.Lifetimes.{greatest_time}
+use Rattle.book_lines.specs.declared.text_fault.TextFault.{TextFault}
+use Rattle.book_lines.specs.Lines.{Line, saying_lines}
+use Rattle.book_lines.specs.Said.{if_few_lines}
+use Rattle.book_lines.specs.Words.{word_in, end_in, number_in, nothing_in}
+use Rattle.ao_base.specs.Results.{◌>>=◌}
+use Rattle.book_timers.specs.declared.timer.Timer.{Timer}
+use Rattle.book_timers.specs.Timers.{new_timer, sampled, expired}
+use Rattle.book_endpoint.specs.States.{EndState, is_closed}
+use Rattle.book_link.specs.declared.event.Event.{Event}
+use Rattle.book_link.specs.declared.event.Event.TheVariants as event
+use Rattle.book_link.specs.Outcomes.{Outcome, Done, Sent}
+use Rattle.book_link.specs.Worlds.{Setup, Session, World, side, live}
+use Rattle.book_link.specs.Steps.{Stepped, step}
+use Rattle.book_link.specs.Runs.{empty}
+use Rattle.book_cmd_timed.specs.declared.timed.TimedEvent.{TimedEvent}
+use Rattle.book_cmd_timed.specs.declared.timed.TimedEvent.TheVariants.{Plain, Wait}
+use Rattle.book_cmd_timed.specs.declared.timed.TimedScript.{TimedScript}
+use Rattle.book_cmd_link.specs.LinkEvents.{event_named}
+use Rattle.book_cmd_link.specs.LinkFiles.{link_head_in, events_of, missing_in}
+
+-- a number whose acknowledgement is timed, and the reading at which it was sent (RFC 6298,
+-- section 3)
+pub record Timed : Type 0 where
+  pub number : ℕ
+  pub reading : ℕ
+
+-- the timer of an end, when it expires if it runs, and what is timed (RFC 6298, section 5)
+pub record Watch : Type 0 where
+  pub timer : Timer
+  pub deadline : Option ℕ
+  pub timed : Option Timed
+
+-- the timer of a new session (RFC 6298, section 2.1)
+abbrev pub new_watch : Watch
+new_watch = record { timer = new_timer; deadline = None; timed = None }
+
+-- how far an end has sent: the oldest number that isn't acknowledged, and the one to send next
+-- (RFC 9293, section 3.3.1: SND.UNA and SND.NXT)
+pub record SendFront : Type 0 where
+  pub una : ℕ
+  pub next : ℕ
+
+-- the front of a session that isn't closed (own)
+abbrev pub front_of : Option Session → Option SendFront
+front_of None = None
+front_of (Some s) =
+    if is_closed s.state.phase then None
+    else Some (record { una = s.state.una; next = s.state.next })
+
+-- the front of an end's live session (own)
+abbrev pub front_at : World → End → Option SendFront
+front_at w e = front_of (live (side w e).sessions)
+
+-- a link and the timers of its two ends (own)
+pub record Progress : Type 0 where
+  pub world : World
+  pub a : Watch
+  pub b : Watch
+
+-- the timer of an end of a link (own)
+abbrev pub watch_of : Progress → End → Watch
+watch_of p A = p.a
+watch_of p B = p.b
+
+-- a link and its timers, where the timer of an end becomes another (own)
+abbrev pub with_watch : Progress → End → Watch → Progress
+with_watch p A w = record p { a = w }
+with_watch p B w = record p { b = w }
+
+-- the timer runs anew: its value in seconds, rounded up, after the reading (RFC 6298, section 5)
+abbrev pub started_anew : ℕ → Watch → Watch
+started_anew reading w = record w { deadline = Some (reading + (w.timer.value + 999) / 1000) }
+
+-- the timer doesn't run, and nothing is timed (RFC 6298, section 5.2)
+abbrev pub stopped : Watch → Watch
+stopped w = record w { deadline = None; timed = None }
+
+-- what is timed was acknowledged: a sample is taken (RFC 6298, section 3)
+abbrev pub sampled_by : ℕ → ℕ → Watch → Option Timed → Watch
+sampled_by una reading w None = w
+sampled_by una reading w (Some t) =
+    if nat_le t.number una
+    then record w { timer = sampled w.timer (reading - t.reading); timed = None }
+    else w
+
+-- the timer of an end at this reading, by its front before an event and after it: with no front it
+-- doesn't run; else it stops, runs anew or starts, a sample is taken or a number timed, by the
+-- rules whose sections stand beside the cases (RFC 6298, sections 3 and 5)
+abbrev pub watch_by : ℕ → (again : Bool) → (old new : Option SendFront) → Watch → Watch
+watch_by reading again old None w = stopped w
+watch_by reading again None (Some new) w = w
+watch_by reading again (Some old) (Some new) w =
+    let sample = sampled_by new.una reading w w.timed in  -- 3
+    let sending = if again then None else Some (record { number = new.next; reading = reading }) in
+    if nat_lt old.una new.una  -- new data was acknowledged
+    then (if nat_lt new.una new.next then started_anew reading sample  -- 5.3
+    else stopped sample)  -- 5.2
+    else if nat_lt old.next new.next  -- new numbers were sent
+    then record w {
+      deadline = option_or w.deadline (started_anew reading w).deadline;  -- 5.1
+      timed = option_or w.timed sending;  -- 3, Karn's algorithm
+    }
+    else w
+
+-- an event begins a session (own)
+abbrev pub is_begin : Event → Bool
+is_begin (event.Connect e isn) = true
+is_begin (event.Listen e isn) = true
+is_begin (event.Start e isn peer) = true
+is_begin _ = false
+
+-- an event sends again (own)
+abbrev pub is_again : Event → Bool
+is_again (event.Resend e) = true
+is_again _ = false
+
+-- an outcome is of an event that did something (own)
+abbrev pub is_done : Outcome → Bool
+is_done Done = true
+is_done _ = false
+
+-- an outcome is that a segment was made (own)
+abbrev pub is_sent : Outcome → Bool
+is_sent (Sent made) = true
+is_sent _ = false
+
+-- the timer of the end of an event, after it: a new session has a new timer, and what was sent
+-- again isn't timed (RFC 6298, sections 2 and 3)
+abbrev pub watch_after : World → Event → End → Stepped → Watch → Watch
+watch_after before event e after w =
+    let fronts = watch_by (side after.world e).clock (is_again event) in
+    let now = fronts (front_at before e) (front_at after.world e) w in
+    if is_begin event && is_done after.outcome then new_watch  -- 2.1
+    else if is_again event && is_sent after.outcome then record now { timed = None }  -- 3
+    else now
+
+-- the end of an event; `dump` has none (own)
+abbrev pub end_of_event : Event → Option End
+end_of_event (event.Clock e seconds) = Some e
+end_of_event (event.Connect e isn) = Some e
+end_of_event (event.Listen e isn) = Some e
+end_of_event (event.Start e isn peer) = Some e
+end_of_event (event.Give e bytes) = Some e
+end_of_event (event.Fill e count byte) = Some e
+end_of_event (event.Send e) = Some e
+end_of_event (event.Resend e) = Some e
+end_of_event (event.Deliver e n) = Some e
+end_of_event (event.Inject e bytes) = Some e
+end_of_event (event.Alter e n place mask fix) = Some e
+end_of_event (event.Take e count) = Some e
+end_of_event (event.Close e) = Some e
+end_of_event (event.Abort e) = Some e
+end_of_event (event.AddRow e row) = Some e
+end_of_event (event.Withdraw e n) = Some e
+end_of_event (event.Dump n) = None
+
+-- a step of the link, and what it does to the timer of the event's end (own)
+abbrev pub stepped_at : Progress → Event → Stepped → Option End → Progress
+stepped_at p event s None = record p { world = s.world }
+stepped_at p event s (Some e) =
+    with_watch (record p { world = s.world }) e (watch_after p.world event e s (watch_of p e))
+
+-- a link and its timers after a plain event (own)
+abbrev pub plain : Setup → Progress → Event → Progress
+plain setup p event = stepped_at p event (step setup p.world event) (end_of_event event)
+
+-- plain events, and what they lead to (own)
+pub record Expanded : Type 0 where
+  pub events : List Event
+  pub progress : Progress
+
+-- events in front of those that they lead to (own)
+abbrev pub before : List Event → Expanded → Expanded
+before events x = record { events = events ++ x.events; progress = x.progress }
+
+-- the reading of an end's clock (own)
+abbrev pub reading_at : Progress → End → ℕ
+reading_at p e = (side p.world e).clock
+
+-- the event that sets the end's clock to this reading, unless it has it (own)
+abbrev pub until : Setup → End → ℕ → Progress → Expanded
+until setup e to p =
+    if reading_at p e == to then record { events = []; progress = p }
+    else record { events = event.Clock e to ∷ []; progress = plain setup p (event.Clock e to) }
+
+-- when the timer of an end expires next, at least one second after the reading (RFC 6298, section
+-- 5, and own)
+abbrev pub due : ℕ → Option ℕ → Option ℕ
+due reading None = None
+due reading (Some d) = Some (max d (reading + 1))
+
+-- the timer expired: its value is doubled, and it runs anew (RFC 6298, sections 5.5 and 5.6)
+abbrev pub after_expiry : End → Progress → Progress
+after_expiry e p =
+    let w = watch_of p e in
+    with_watch p e (started_anew (reading_at p e) (record w { timer = expired w.timer }))
+
+-- the two events of an expiry: the clock goes to it, and the end sends again (RFC 6298, section
+-- 5.4)
+abbrev pub expiry : End → ℕ → List Event
+expiry e d = event.Clock e d ∷ event.Resend e ∷ []
+
+-- a wait up to this reading: the timer's expiries, while they come before it; the first argument
+-- bounds their number (RFC 6298, section 5, and own)
+abbrev pub waited : ℕ → Setup → End → ℕ → Progress → Option ℕ → Expanded
+waited zero setup e to p next = until setup e to p
+waited (suc n) setup e to p None = until setup e to p
+waited (suc n) setup e to p (Some d) =
+    if nat_lt to d then until setup e to p
+    else let sent_again = plain setup (plain setup p (event.Clock e d)) (event.Resend e) in
+    let q = after_expiry e sent_again in
+    before (expiry e d) (waited n setup e to q (due (reading_at q e) (watch_of q e).deadline))
+
+-- an event of a timed link; a wait of so many seconds ends at the greatest time at last (own)
+abbrev pub timed_event : Setup → Progress → TimedEvent → Expanded
+timed_event setup p (Plain event) = record { events = event ∷ []; progress = plain setup p event }
+timed_event setup p (Wait e count) =
+    waited (count + 1) setup e (min (reading_at p e + count) greatest_time) p
+    (due (reading_at p e) (watch_of p e).deadline)
+
+-- the events of a timed link as plain events (own)
+abbrev pub expand_from : Setup → Progress → List TimedEvent → Expanded
+expand_from setup p [] = record { events = []; progress = p }
+expand_from setup p (e ∷ es) =
+    let x = timed_event setup p e in
+    before x.events (expand_from setup x.progress es)
+
+-- a link as it begins, with new timers (own)
+abbrev pub begins_timed : Setup → Progress
+begins_timed setup = record { world = empty setup; a = new_watch; b = new_watch }
+
+-- the plain run that a timed link is, and the timers that it leaves (RFC 6298, section 5)
+unfoldable pub expand : Setup → List TimedEvent → Expanded
+expand setup events = expand_from setup (begins_timed setup) events
+
+-- the event `wait END COUNT` (own)
+unfoldable pub wait_of : List (List ℕ) → Result TimedEvent LineKind
+wait_of ws = do
+  e ← end_in ws
+  count ← number_in 1 3600 e.rest
+  none ← nothing_in count.rest
+  Ok (Wait e.value count.value)
+
+-- a plain event of a link, by its first word (own)
+abbrev pub plain_named : List ℕ → List (List ℕ) → Result TimedEvent LineKind
+plain_named name ws = do
+  e ← event_named name ws
+  Ok (Plain e)
+
+-- the event of a line of a link file with waits (own)
+unfoldable pub timed_event_of : List (List ℕ) → Result TimedEvent LineKind
+timed_event_of ws = do
+  name ← word_in ws
+  if bytes_eq name.value (codes "wait") then wait_of name.rest else plain_named name.value name.rest
+
+-- the script that the lines of a link file with waits make (own)
+unfoldable pub timed_script_in : ℕ → List Line → Result TimedScript TextFault
+timed_script_in missing ls = do
+  head ← link_head_in missing ls
+  events ← events_of timed_event_of head.rest
+  Ok (record { a = head.value.a; b = head.value.b; events = events })
+
+-- the script of a link file with waits, or its first fault (own)
+unfoldable pub timed_script_of : List ℕ → Result TimedScript TextFault
+timed_script_of text = if_few_lines text (timed_script_in (missing_in text) (saying_lines text))
+
+-- the most events of the plain run of a link with timers (own)
+abbrev pub most_events : ℕ
+most_events = 20000

@@ -1,0 +1,344 @@
+-- The segments that an end makes (RFC 9293, section 3.10; RFC 5925, section 7.4). Its top: `emit`
+-- and `resend`.
+use Rattle.std.specs.Prelude.{ℕ, ◌+◌, ◌-◌, ◌/◌, ◌%◌, ◌==◌, min, nat_lt, Bool, true, false, not}
+use Rattle.std.specs.Prelude.{◌&&◌, List, [], ◌∷◌, ◌++◌, length, take, drop, replicate, Option}
+use Rattle.std.specs.Prelude.{Some, None, is_some, if◌then◌else◌}
+use Rattle.ao_base.specs.declared.address.Address.{Address}
+use Rattle.ao_base.specs.declared.address.Address.TheVariants.{V4, V6}
+use Rattle.ao_base.specs.declared.address.Pair.{Pair}
+use Rattle.ao_base.specs.Algorithms.{mac_length_of}
+use Rattle.book_segments.specs.Bytes.{put2, ring}
+use Rattle.book_segments.specs.Sockets.{octets}
+use Rattle.book_segments.specs.Options.{Ao}
+use Rattle.book_segments.specs.Segments.{IpHeader, Ipv4, Ipv6, Segment, complement_of, FIN, SYN}
+use Rattle.book_segments.specs.Segments.{RST, PSH, ACK}
+use Rattle.book_segments.specs.Spelling.{finished}
+use Rattle.book_macs.specs.Contexts.{context_of}
+use Rattle.book_macs.specs.MacInput.{mac_input}
+use Rattle.book_macs.specs.Keys.{traffic_key, mac}
+use Rattle.book_keys.specs.Rows.{Row}
+use Rattle.book_keys.specs.Coordination.{Sending, choose}
+use Rattle.book_endpoint.specs.declared.phase.Phase.{Phase}
+use Rattle.book_endpoint.specs.declared.phase.Phase.TheVariants.{Listen, SynSent, SynReceived}
+use Rattle.book_endpoint.specs.declared.phase.Phase.TheVariants.{Established, FinWait1, CloseWait}
+use Rattle.book_endpoint.specs.declared.phase.Phase.TheVariants.{Closing, LastAck, Closed}
+use Rattle.book_endpoint.specs.States.{EndState, window, own_mss, given_end}
+
+-- A segment that an end is about to make, and the state after it (own).
+pub record Draft : Type 0 where
+  pub flags : ℕ
+  pub number : ℕ
+  pub payload : List ℕ
+  pub state : EndState
+
+-- A segment that an end made, with what it was made by and the state after it (own).
+pub record Emission : Type 0 where
+  pub state : EndState
+  pub flags : ℕ
+  pub number : ℕ  -- the number of its first byte, of which it carries the sequence
+  pub acknowledged : Option ℕ  -- the number that it acknowledges, with ACK
+  pub sending : Sending  -- the row under whose key it is, and its two key identifiers
+  pub context : List ℕ  -- the context of its traffic key
+  pub input : List ℕ  -- what its MAC is computed over
+  pub segment : Segment
+
+-- Nothing is to be sent, no row is there to send it with, or a segment (own).
+pub data Emitted : Type 0 where
+  Quiet : Emitted
+  NoKey : Emitted
+  Emits : (emission : Emission) → Emitted
+
+-- The phases in which data is sent (RFC 9293, section 3.10.2).
+abbrev pub is_sending : Phase → Bool
+is_sending Established = true
+is_sending CloseWait = true
+is_sending _ = false
+
+-- The phases in which no ACK is sent (RFC 9293, section 3.3.2).
+abbrev pub is_silent : Phase → Bool
+is_silent Listen = true
+is_silent SynSent = true
+is_silent Closed = true
+is_silent _ = false
+
+-- The phase is SYN-SENT (RFC 9293, section 3.3.2).
+abbrev pub is_syn_sent : Phase → Bool
+is_syn_sent SynSent = true
+is_syn_sent _ = false
+
+-- The phase is SYN-RECEIVED (RFC 9293, section 3.3.2).
+abbrev pub is_syn_received : Phase → Bool
+is_syn_received SynReceived = true
+is_syn_received _ = false
+
+-- How many given bytes are not sent: those from SND.NXT on (own).
+abbrev pub unsent : EndState → ℕ
+unsent s = given_end s - s.next
+
+-- So many of the given bytes from a number on (own).
+abbrev pub slice_at : EndState → ℕ → ℕ → List ℕ
+slice_at s n count = take count (drop (n - (s.isn + 1)) s.given)
+
+-- The phase once the own FIN is sent (RFC 9293, section 3.10.4).
+abbrev pub fin_sent : Phase → Phase
+fin_sent Established = FinWait1
+fin_sent CloseWait = LastAck
+fin_sent phase = phase
+
+-- The draft of a segment (own).
+abbrev pub drafted : ℕ → ℕ → List ℕ → EndState → Draft
+drafted flags number payload state = record {
+  flags = flags;
+  number = number;
+  payload = payload;
+  state = state;
+}
+
+-- A RST at SND.NXT (RFC 9293, section 3.10.5).
+abbrev pub rst_draft : EndState → Draft
+rst_draft s = drafted RST s.next [] (record s { rst_owed = false })
+
+-- The SYN at ISS, with the state after it (RFC 9293, section 3.10.1).
+abbrev pub syn_draft : EndState → EndState → Draft
+syn_draft s after = drafted SYN s.isn [] after
+
+-- The SYN with ACK at ISS, with the state after it (RFC 9293, section 3.10.7.2).
+abbrev pub syn_ack_draft : EndState → EndState → Draft
+syn_ack_draft s after = drafted (SYN + ACK) s.isn [] (record after { ack_owed = false })
+
+-- ACK and PSH with so many of the unsent bytes, which SND.NXT then is past (RFC 9293, section
+-- 3.10.2).
+abbrev pub data_draft : EndState → ℕ → Draft
+data_draft s count =
+    drafted (PSH + ACK) s.next (slice_at s s.next count)
+    (record s { next = s.next + count; ack_owed = false })
+
+-- ACK and PSH with so many of the bytes from SND.UNA on, again (RFC 9293, section 3.10.8).
+abbrev pub again_draft : EndState → ℕ → Draft
+again_draft s count =
+    drafted (PSH + ACK) s.una (slice_at s s.una count) (record s { ack_owed = false })
+
+-- The FIN at SND.NXT, which then is past it (RFC 9293, section 3.10.4).
+abbrev pub fin_draft : EndState → Draft
+fin_draft s =
+    drafted (FIN + ACK) s.next []
+    (record s { next = s.next + 1; ack_owed = false; phase = fin_sent s.phase })
+
+-- The FIN at SND.UNA, again (RFC 9293, section 3.10.8).
+abbrev pub fin_again_draft : EndState → Draft
+fin_again_draft s = drafted (FIN + ACK) s.una [] (record s { ack_owed = false })
+
+-- An ACK at SND.NXT (RFC 9293, section 3.10.7.4).
+abbrev pub ack_draft : EndState → Draft
+ack_draft s = drafted ACK s.next [] (record s { ack_owed = false })
+
+-- The first number that the peer's window doesn't hold: SND.UNA + SND.WND (RFC 9293, section
+-- 3.8.6).
+abbrev pub window_end : EndState → ℕ
+window_end s = s.una + s.send_window
+
+-- Data is to be sent where bytes are unsent and the peer's window holds the next of them (RFC 9293,
+-- section 3.10.2).
+abbrev pub sends_data : EndState → Bool
+sends_data s = is_sending s.phase && nat_lt 0 (unsent s) && nat_lt s.next (window_end s)
+
+-- The FIN is to be sent where close was called, all bytes are sent, and the peer's window holds it
+-- (RFC 9293, section 3.10.4).
+abbrev pub sends_fin : EndState → Bool
+sends_fin s =
+    is_sending s.phase && s.closing && (unsent s == 0) && nat_lt s.next (window_end s)
+
+-- As many of the unsent bytes as the peer's window holds, at most so many (RFC 9293, section
+-- 3.8.6).
+abbrev pub fitting : EndState → ℕ → ℕ
+fitting s most = min (unsent s) (min (window_end s - s.next) most)
+
+-- What is sent next, with at most so many bytes: RST, SYN, SYN with ACK, data, FIN, or ACK, the
+-- first of these that is to be sent (RFC 9293, section 3.10; the order: own).
+unfoldable pub to_emit : EndState → ℕ → Option Draft
+to_emit s most =
+    if s.rst_owed then Some (rst_draft s)
+    else (if is_syn_sent s.phase && (s.next == s.isn)
+    then Some (syn_draft s (record s { next = s.isn + 1 }))
+    else (if is_syn_received s.phase && (s.next == s.isn)
+    then Some (syn_ack_draft s (record s { next = s.isn + 1 }))
+    else (if sends_data s then Some (data_draft s (fitting s most))
+    else (if sends_fin s then Some (fin_draft s)
+    else (if s.ack_owed && not (is_silent s.phase) then Some (ack_draft s)
+    else None)))))
+
+-- The phases in which data and FIN may be sent again (RFC 9293, section 3.10.8).
+abbrev pub resends : Phase → Bool
+resends Established = true
+resends CloseWait = true
+resends FinWait1 = true
+resends Closing = true
+resends LastAck = true
+resends _ = false
+
+-- What isn't acknowledged: bytes, at most so many, or the FIN (RFC 9293, section 3.10.8).
+abbrev pub unacknowledged : EndState → ℕ → Draft
+unacknowledged s most =
+    if nat_lt s.una (given_end s) then again_draft s (min (s.next - s.una) most)
+    else fin_again_draft s
+
+-- All that was sent is acknowledged, and the peer's window is zero (RFC 9293, section 3.8.6.1).
+abbrev pub is_blocked : EndState → Bool
+is_blocked s = is_sending s.phase && (s.una == s.next) && (s.send_window == 0)
+
+-- A probe of a window of zero: one byte, or the FIN (RFC 9293, section 3.8.6.1).
+abbrev pub probe : EndState → Option Draft
+probe s =
+    if nat_lt 0 (unsent s) then Some (data_draft s 1)
+    else (if s.closing then Some (fin_draft s) else None)
+
+-- What is sent again, with at most so many bytes: the SYN, what isn't acknowledged, or a probe (RFC
+-- 9293, sections 3.10.8 and 3.8.6.1).
+unfoldable pub to_resend : EndState → ℕ → Option Draft
+to_resend s most =
+    if is_syn_sent s.phase && nat_lt s.isn s.next then Some (syn_draft s s)
+    else (if is_syn_received s.phase && nat_lt s.isn s.next then Some (syn_ack_draft s s)
+    else (if resends s.phase && nat_lt s.una s.next then Some (unacknowledged s most)
+    else (if is_blocked s then probe s
+    else None)))
+
+-- The flag is among these (RFC 9293, section 3.1).
+abbrev pub sets : ℕ → ℕ → Bool
+sets flags flag = (flags / flag) % 2 == 1
+
+-- The length of the TCP-AO option with a MAC of the row's algorithm (RFC 5925, section 2.2).
+abbrev pub ao_length : Sending → ℕ
+ao_length sending = 4 + mac_length_of sending.row.algorithm
+
+-- The most bytes of a segment: the lesser of both maximum segment sizes less the TCP-AO option (RFC
+-- 9293, section 3.7.1).
+abbrev pub most_bytes : Pair → EndState → Sending → ℕ
+most_bytes pair s sending = min (own_mss pair.local.address) s.mss - ao_length sending
+
+-- The IPv4 header of the written form with its checksum zero: service 0, identification 0, don't
+-- fragment, TTL 64, TCP (RFC 791, section 3.1; the values: own).
+abbrev pub ip_words : Pair → ℕ → List ℕ
+ip_words pair total =
+    0x45 ∷ 0 ∷ put2 total (0 ∷ 0 ∷ 0x40 ∷ 0 ∷ 64 ∷ 6 ∷ 0 ∷ 0
+    ∷ octets pair.local.address ++ octets pair.remote.address)
+
+-- The IP header of the written form over so many TCP bytes (RFC 791, section 3.1; RFC 8200, section
+-- 3; the values: own).
+abbrev pub written_ip : Pair → ℕ → Address → IpHeader
+written_ip pair size (V4 bytes) =
+    Ipv4 0 0 1 64 (complement_of (ip_words pair (20 + size))) []
+written_ip pair size (V6 bytes) = Ipv6 0 64
+
+-- The TCP-AO option, kind 29, with this MAC (RFC 5925, section 2.2).
+abbrev pub written_ao : Sending → List ℕ → List ℕ
+written_ao sending m = 29 ∷ (4 + length m) ∷ sending.key_id ∷ sending.rnext_key_id ∷ m
+
+-- The option area of the written form: with SYN the maximum segment size, kind 2 of length 4, and
+-- then TCP-AO (RFC 9293, section 3.2; RFC 5925, section 2.2; the order: own).
+abbrev pub written_area : Pair → Bool → Sending → List ℕ → List ℕ
+written_area pair true sending m =
+    2 ∷ 4 ∷ put2 (own_mss pair.local.address) (written_ao sending m)
+written_area pair false sending m = written_ao sending m
+
+-- How many bytes of the written option area stand before TCP-AO: with SYN those of the maximum
+-- segment size (own).
+abbrev pub ao_place : Bool → ℕ
+ao_place true = 4
+ao_place false = 0
+
+-- The window that is told: RCV.WND with ACK, none with RST, and all before the peer is heard (RFC
+-- 9293, section 3.8.6; without ACK: own).
+abbrev pub told_window : EndState → ℕ → ℕ
+told_window s flags =
+    if sets flags RST then 0
+    else (if sets flags ACK then window s else 65535)
+
+-- The segment of a draft with this MAC, its checksum still 0 (RFC 9293, section 3.1).
+abbrev pub written : Pair → EndState → Draft → Sending → List ℕ → Segment
+written pair s out sending m = record {
+  ip = written_ip pair (24 + length m + ao_place (sets out.flags SYN) + length out.payload)
+      pair.local.address;
+  source = pair.local;
+  destination = pair.remote;
+  sequence = out.number % ring;
+  acknowledgement = if sets out.flags ACK then s.expected % ring else 0;
+  reserved = 0;
+  flags = out.flags;
+  window = told_window s out.flags;
+  checksum = 0;
+  urgent = 0;
+  area = written_area pair (sets out.flags SYN) sending m;
+  payload = out.payload;
+}
+
+-- A MAC of the row's length that is still zero (RFC 5925, section 5.1).
+abbrev pub no_mac : Sending → List ℕ
+no_mac sending = replicate (mac_length_of sending.row.algorithm) 0
+
+-- The segment of a draft with the MAC zero (RFC 5925, section 5.1).
+abbrev pub blank : Pair → EndState → Draft → Sending → Segment
+blank pair s out sending = written pair s out sending (no_mac sending)
+
+-- The fields of the TCP-AO option of a draft with this MAC (RFC 5925, section 2.2).
+abbrev pub own_ao : Draft → Sending → List ℕ → Ao
+own_ao out sending m = record {
+  key_id = sending.key_id;
+  rnext_key_id = sending.rnext_key_id;
+  mac = m;
+  place = ao_place (sets out.flags SYN);
+}
+
+-- What the MAC of a draft is computed over, with the options or without as the row says (RFC 5925,
+-- section 5.1).
+abbrev pub input_of : Pair → EndState → Draft → Sending → List ℕ
+input_of pair s out sending =
+    mac_input out.number (blank pair s out sending) (own_ao out sending (no_mac sending))
+    sending.row.with_options
+
+-- The MAC of a draft under the traffic key of this context (RFC 5925, section 7.4).
+abbrev pub seal_of : Pair → EndState → Draft → Sending → List ℕ → List ℕ
+seal_of pair s out sending context =
+    mac sending.row.algorithm
+    (traffic_key sending.row.algorithm sending.row.master context)
+    (input_of pair s out sending)
+
+-- The segment of a draft under this context; its row is the one of the current key from now on (RFC
+-- 5925, section 7.4).
+abbrev pub sealed : Pair → EndState → Draft → Sending → List ℕ → Emission
+sealed pair s out sending context = record {
+  state = record (out.state) { current = Some sending.number };
+  flags = out.flags;
+  number = out.number;
+  acknowledged = if sets out.flags ACK then Some s.expected else None;
+  sending = sending;
+  context = context;
+  input = input_of pair s out sending;
+  segment = finished (written pair s out sending (seal_of pair s out sending context));
+}
+
+-- The segment of a draft where its context is known, as it always is in a run (RFC 5925, section
+-- 5.2).
+abbrev pub seal_known : Pair → EndState → Draft → Sending → Option (List ℕ) → Emitted
+seal_known pair s out sending None = Quiet
+seal_known pair s out sending (Some context) = Emits (sealed pair s out sending context)
+
+-- The segment of a draft, if there is one, under the key of a row (RFC 5925, section 7.4).
+abbrev pub keyed : Pair → EndState → Sending → Option Draft → Emitted
+keyed pair s sending None = Quiet
+keyed pair s sending (Some out) =
+    seal_known pair s out sending (context_of (blank pair s out sending) (Some s.isn) s.peer_isn)
+
+-- What is made of a draft with the row to send with, if there is one. The draft is chosen by the
+-- most bytes that a segment under that row has; whether there is one doesn't depend on their number
+-- (own).
+abbrev pub emitted : Pair → EndState → (ℕ → Option Draft) → Option Sending → Emitted
+emitted pair s draft None = if is_some (draft 0) then NoKey else Quiet
+emitted pair s draft (Some sending) = keyed pair s sending (draft (most_bytes pair s sending))
+
+-- The next segment of an end, or none (RFC 9293, section 3.10; RFC 5925, section 7.4).
+unfoldable pub emit : List Row → Pair → ℕ → EndState → Emitted
+emit rows pair now s = emitted pair s (to_emit s) (choose s.current rows pair now)
+
+-- What an end sends again, or none (RFC 9293, section 3.10.8).
+unfoldable pub resend : List Row → Pair → ℕ → EndState → Emitted
+resend rows pair now s = emitted pair s (to_resend s) (choose s.current rows pair now)

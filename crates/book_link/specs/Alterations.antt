@@ -1,0 +1,23 @@
+-- A copy of a datagram with one byte altered. Its top is `altered`.
+use Rattle.std.specs.Prelude.{ℕ, ◌+◌, nat_lt, Bool, List, length, slice_index, slice_set, bit_xor}
+use Rattle.std.specs.Prelude.{if◌then◌else◌}
+use Rattle.book_segments.specs.Spelling.{ip_length, with_right_checksum}
+
+-- the place in the datagram's bytes of a place that is counted from the TCP header (own)
+abbrev pub place_in : List ℕ → ℕ → ℕ
+place_in bytes place = ip_length bytes + place
+
+-- the place, counted from the TCP header, is in the datagram (own)
+abbrev pub has_place : List ℕ → ℕ → Bool
+has_place bytes place = nat_lt (place_in bytes place) (length bytes)
+
+-- the bytes with the one at a place xored with a mask (own)
+abbrev pub masked : List ℕ → ℕ → ℕ → List ℕ
+masked bytes i mask = slice_set bytes i (bit_xor (slice_index bytes i) mask)
+
+-- a copy whose byte at a place, counted from the TCP header, is xored with a mask; with fix the
+-- TCP checksum is then set right (own)
+unfoldable pub altered : List ℕ → ℕ → ℕ → Bool → List ℕ
+altered bytes place mask fix =
+    let copy = masked bytes (place_in bytes place) mask in
+    if fix then with_right_checksum copy else copy

@@ -1,0 +1,227 @@
+-- What each event does to a link. Its top is `step`.
+use Rattle.std.specs.Prelude.{ℕ, suc, nat_lt, Bool, false, not, ◌||◌, List, [], ◌∷◌, length}
+use Rattle.std.specs.Prelude.{replicate, Option, Some, None, if◌then◌else◌}
+use Rattle.ao_base.specs.declared.end.End.{End}
+use Rattle.ao_base.specs.declared.end.End.TheVariants.{A, B}
+use Rattle.book_segments.specs.Segments.{reading, spell}
+use Rattle.book_keys.specs.Rows.{Row}
+use Rattle.book_keys.specs.Tables.{Adding, AddedAs, TooMany, OverlapsRow, adding, withdrawn}
+use Rattle.book_endpoint.specs.States.{EndState, connected, listening, started, offered, taking}
+use Rattle.book_endpoint.specs.States.{take_out, at_end, close, abort, tick}
+use Rattle.book_endpoint.specs.Arrivals.{Arrived, arrive}
+use Rattle.book_endpoint.specs.Emissions.{Emission, Emitted, Quiet, NoKey, Emits, emit, resend}
+use Rattle.book_link.specs.Alterations.{has_place, altered}
+use Rattle.book_link.specs.declared.event.Event.{Event}
+use Rattle.book_link.specs.declared.event.Event.TheVariants.{Clock, Connect, Listen, Start, Give}
+use Rattle.book_link.specs.declared.event.Event.TheVariants.{Fill, Send, Resend, Deliver, Inject}
+use Rattle.book_link.specs.declared.event.Event.TheVariants.{Alter, Take, Close, Abort, AddRow}
+use Rattle.book_link.specs.declared.event.Event.TheVariants.{Withdraw, Dump}
+use Rattle.book_link.specs.Outcomes.{Outcome, Done, Sent, Answered, Took, Image, Added, IsnUsed}
+use Rattle.book_link.specs.Outcomes.{NoSession, NoSegment, NoPlace, Full, HasClosed, WithoutKey}
+use Rattle.book_link.specs.Outcomes.{Idle, Nothing, TooManyRows, OverlapWith, NoRow}
+use Rattle.book_link.specs.RowLines.{row_of}
+use Rattle.book_link.specs.Worlds.{Setup, pair_of, Session, Side, Made, Happening, Making, Coming}
+use Rattle.book_link.specs.Worlds.{World, side, find, segments, segment_named}
+
+-- the world after an event, and the event's outcome (own)
+pub record Stepped : Type 0 where
+  pub world : World
+  pub outcome : Outcome
+
+-- what a call does to the live session of an end: its new state, whether a take showed the end of
+-- its stream, what was made or came, and the outcome (own)
+pub record Act : Type 0 where
+  pub state : EndState
+  pub shown : Bool
+  pub happened : Option Happening
+  pub outcome : Outcome
+
+-- the history with one more happening, if there is one (own)
+abbrev pub add : Option Happening → List Happening → List Happening
+add None history = history
+add (Some h) history = h ∷ history
+
+-- the world with this end, and with one more happening (own)
+abbrev pub put : World → End → Side → Option Happening → World
+put w A now happened = record w { a = now; history = add happened w.history }
+put w B now happened = record w { b = now; history = add happened w.history }
+
+-- an end with these sessions in place of its own (own)
+abbrev pub with_sessions : Side → List Session → Side
+with_sessions s sessions = record { clock = s.clock; rows = s.rows; sessions = sessions }
+
+-- an end with these rows in place of its table (own)
+abbrev pub with_rows : Side → List Row → Side
+with_rows s rows = record { clock = s.clock; rows = rows; sessions = s.sessions }
+
+-- a session after what a call did to it (own)
+abbrev pub acted : Session → Act → Session
+acted s act = record { state = act.state; end_shown = s.end_shown || act.shown }
+
+-- a call on the newest of an end's sessions (own)
+abbrev pub act_on : World → End → List Session → (EndState → Act) → Stepped
+act_on w e [] call = record { world = w; outcome = NoSession }
+act_on w e (s ∷ rest) call =
+    let act = call s.state in
+    record {
+      world = put w e (with_sessions (side w e) (acted s act ∷ rest)) act.happened;
+      outcome = act.outcome;
+    }
+
+-- a call on the live session of an end (own)
+abbrev pub on_live : World → End → (EndState → Act) → Stepped
+on_live w e call = act_on w e (side w e).sessions call
+
+-- a call by which nothing is made and nothing comes (own)
+abbrev pub quietly : EndState → Outcome → Act
+quietly s outcome = record { state = s; shown = false; happened = None; outcome = outcome }
+
+-- an end's sessions when its clock is set: only the live one ticks (own)
+abbrev pub ticked : ℕ → List Session → List Session
+ticked now [] = []
+ticked now (s ∷ rest) = record { state = tick now s.state; end_shown = s.end_shown } ∷ rest
+
+-- an end whose clock is set, which ticks its live session (own)
+abbrev pub with_clock : Side → ℕ → Side
+with_clock s seconds = record {
+  clock = seconds;
+  rows = s.rows;
+  sessions = ticked seconds s.sessions;
+}
+
+-- a session begins, unless the end used its initial sequence number before (own)
+abbrev pub begin : World → End → EndState → Option Session → Stepped
+begin w e s (Some used) = record { world = w; outcome = IsnUsed }
+begin w e s None =
+    let now = side w e in
+    let sessions = record { state = s; end_shown = false } ∷ now.sessions in
+    record { world = put w e (with_sessions now sessions) None; outcome = Done }
+
+-- an end's new session, by which the one before is dropped (own)
+abbrev pub begin_new : World → End → EndState → Stepped
+begin_new w e s = begin w e s (find (side w e).sessions s.isn)
+
+-- a piece is given, unless the end is closed or there is no room for it (own)
+abbrev pub given : List ℕ → EndState → Act
+given piece s = offered quietly HasClosed Full Done piece s
+
+-- the entry of a segment in the history: each gets the next number from 1 (own)
+abbrev pub made_of : End → World → EndState → Emission → Made
+made_of e w s out = record {
+  name = suc (segments w.history);
+  maker = e;
+  isn = s.isn;
+  clock = (side w e).clock;
+  rows = (side w e).rows;
+  emission = out;
+  bytes = spell out.segment;
+}
+
+-- what comes of a call that makes a segment, or none: then the outcome is the word for nothing to
+-- send, or that no key may be used (own)
+abbrev pub sent : End → World → EndState → Outcome → Emitted → Act
+sent e w s without Quiet = quietly s without
+sent e w s without NoKey = quietly s WithoutKey
+sent e w s without (Emits out) =
+    let made = made_of e w s out in
+    record { state = out.state; shown = false; happened = Some (Making made); outcome = Sent made }
+
+-- the live session sends what is due (RFC 9293, section 3.8, and own)
+abbrev pub send : Setup → End → World → EndState → Act
+send setup e w s = sent e w s Idle (emit (side w e).rows (pair_of setup e) (side w e).clock s)
+
+-- the live session sends again the oldest of what isn't acknowledged (RFC 9293, section 3.8.1,
+-- and own)
+abbrev pub send_again : Setup → End → World → EndState → Act
+send_again setup e w s =
+    sent e w s Nothing (resend (side w e).rows (pair_of setup e) (side w e).clock s)
+
+-- what comes of an arrival, with its entry in the history (own)
+abbrev pub came : End → World → List ℕ → EndState → Arrived → Act
+came e w bytes s r = record {
+  state = r.state;
+  shown = false;
+  happened = Some (Coming (record {
+    at = e;
+    isn = s.isn;
+    clock = (side w e).clock;
+    bytes = bytes;
+    answer = r.answer;
+    passed = r.passed;
+  }));
+  outcome = Answered r.answer;
+}
+
+-- a datagram comes to the live session (RFC 9293, section 3.10.7, and own)
+abbrev pub come : Setup → End → World → List ℕ → EndState → Act
+come setup e w bytes s =
+    came e w bytes s (arrive (side w e).rows (pair_of setup e) (side w e).clock s (reading bytes))
+
+-- at most so many bytes are taken of the live session's stream (own)
+abbrev pub took : ℕ → EndState → Act
+took count s =
+    let t = take_out count s in
+    record {
+      state = t;
+      shown = at_end t;
+      happened = None;
+      outcome = Took (taking count s) (at_end t);
+    }
+
+-- a segment is delivered as it was made (own)
+abbrev pub deliver : Setup → End → World → Option Made → Stepped
+deliver setup e w None = record { world = w; outcome = NoSegment }
+deliver setup e w (Some m) = on_live w e (come setup e w m.bytes)
+
+-- a copy of a segment is delivered with one byte altered (own)
+abbrev pub alter : Setup → End → World → ℕ → ℕ → Bool → Option Made → Stepped
+alter setup e w place mask fix None = record { world = w; outcome = NoSegment }
+alter setup e w place mask fix (Some m) =
+    if has_place m.bytes place then on_live w e (come setup e w (altered m.bytes place mask fix))
+    else record { world = w; outcome = NoPlace }
+
+-- the bytes of a segment, as an outcome (own)
+abbrev pub image_of : Option Made → Outcome
+image_of None = NoSegment
+image_of (Some m) = Image m.bytes
+
+-- a row is added to an end's table, or refused (own)
+abbrev pub add_row : World → End → Adding → Stepped
+add_row w e (AddedAs number rows) = record {
+  world = put w e (with_rows (side w e) rows) None;
+  outcome = Added number;
+}
+add_row w e TooMany = record { world = w; outcome = TooManyRows }
+add_row w e (OverlapsRow number) = record { world = w; outcome = OverlapWith number }
+
+-- a row of an end's table is withdrawn, where there is such a row (own)
+abbrev pub withdraw : World → End → Option (List Row) → Stepped
+withdraw w e None = record { world = w; outcome = NoRow }
+withdraw w e (Some rows) = record {
+  world = put w e (with_rows (side w e) rows) None;
+  outcome = Done;
+}
+
+-- the world after an event, and the event's outcome: an action for each kind of event (own)
+abbrev pub step : Setup → World → Event → Stepped
+step setup w (Clock e seconds) = record {
+  world = put w e (with_clock (side w e) seconds) None;
+  outcome = Done;
+}
+step setup w (Connect e isn) = begin_new w e (connected (pair_of setup e) isn)
+step setup w (Listen e isn) = begin_new w e (listening (pair_of setup e) isn)
+step setup w (Start e isn peer) = begin_new w e (started (pair_of setup e) isn peer)
+step setup w (Give e piece) = on_live w e (given piece)
+step setup w (Fill e count byte) = on_live w e (given (replicate count byte))
+step setup w (Send e) = on_live w e (send setup e w)
+step setup w (Resend e) = on_live w e (send_again setup e w)
+step setup w (Deliver e name) = deliver setup e w (segment_named name w.history)
+step setup w (Inject e bytes) = on_live w e (come setup e w bytes)
+step setup w (Alter e name place mask fix) =
+    alter setup e w place mask fix (segment_named name w.history)
+step setup w (Take e count) = on_live w e (took count)
+step setup w (Close e) = on_live w e (λ s. quietly (close s) Done)
+step setup w (Abort e) = on_live w e (λ s. quietly (abort s) Done)
+step setup w (AddRow e row) = add_row w e (adding (side w e).rows (row_of row))
+step setup w (Withdraw e number) = withdraw w e (withdrawn (side w e).rows number)
+step setup w (Dump name) = record { world = w; outcome = image_of (segment_named name w.history) }

@@ -1,0 +1,106 @@
+//! The events of a link.
+ghost use Rattle.std.specs.Prelude.{◌≡◌};
+
+use ao_base::{Algorithm, Bytes, End};
+use std::marker::Model;
+
+/// A row as a link file writes it; it matches every pair. Neither `receive` nor `send` is a row that
+/// is Disabled (RFC 7210, section 2).
+#[derive(Drop)]
+pub struct RowLine {
+    /// The KeyID that it takes.
+    pub recv_id: u8,
+    /// The KeyID that it sends.
+    pub send_id: u8,
+    pub algorithm: Algorithm,
+    /// The master key, 1 to 255 bytes.
+    pub master: Bytes,
+    /// Whether all TCP options are under the MAC (RFC 5925, section 3.1).
+    pub with_options: bool,
+    pub receive: bool,
+    pub send: bool,
+    /// The first and the last second of its send lifetime, and of its accept lifetime.
+    pub send_first: u64,
+    pub send_last: u64,
+    pub accept_first: u64,
+    pub accept_last: u64,
+}
+
+/// What happens at a link. Segments are numbered from 1 in the order in which they are made.
+#[derive(Drop)]
+pub enum Event {
+    /// The clock of the end reads so many seconds since 1970-01-01, at most 253402300799.
+    Clock(End, u64),
+    /// A new session of the end opens actively, with this initial sequence number.
+    Connect(End, u32),
+    /// A new session of the end waits for its peer, with this initial sequence number.
+    Listen(End, u32),
+    /// A new session of the end is established, with its own initial sequence number and its peer's.
+    Start(End, u32, u32),
+    /// The end's user gives it bytes to send, at least one.
+    Give(End, Bytes),
+    /// The end's user gives it so many times the byte.
+    Fill(End, u16, u8),
+    /// The end makes a segment, if it has one to send.
+    Send(End),
+    /// The end makes a segment again that isn't acknowledged, or a probe.
+    Resend(End),
+    /// The segment of this number, from 1 to 20000, arrives at the end.
+    Deliver(End, u32),
+    /// A datagram of 1 to 65575 bytes arrives at the end.
+    Inject(End, Bytes),
+    /// A copy of the segment of this number arrives at the end, with the byte at the place, counted
+    /// from its TCP header, xored with the mask; whether its TCP checksum is set for the copy.
+    Alter(End, u32, u16, u8, bool),
+    /// The end's user takes at most so many bytes.
+    Take(End, u16),
+    /// The end's user has no more bytes to give.
+    Close(End),
+    /// The end's user gives the connection up.
+    Abort(End),
+    /// A row is added behind the last one of the end's table.
+    AddRow(End, RowLine),
+    /// The row of this number, from 1 to 64, of the end's table becomes Disabled.
+    Withdraw(End, u8),
+    /// The segment of this number is shown.
+    Dump(u32),
+}
+
+/// A list of events.
+#[derive(Drop)]
+pub struct Events {
+    items: Vec<Event>,
+}
+
+impl Model for Events {
+    ghost use Rattle.std.specs.Prelude.{List};
+    ghost use Rattle.book_link.specs.declared.event.Event.{Event as One};
+
+    ghost Value = { List One };
+
+    ghost view = { λ e. e.items.items };
+}
+
+impl Events {
+    /// The events of the vector, in its order.
+    pub fn from_vec(items: Vec<Event>) -> Self
+        ensures { result ≡ items.items }
+    {
+        Events { items }
+    }
+
+    /// The events in order.
+    pub fn as_slice(&self) -> &[Event]
+        ensures { result.now ≡ self.now }
+    {
+        self.items.as_slice()
+    }
+
+    /// The vector of the events, in their order.
+    pub fn into_vec(self) -> Vec<Event>
+        ensures { result.items ≡ self }
+    {
+        let Events { items } = self;
+        items
+    }
+}

@@ -1,0 +1,2 @@
+pub mod PacketFiles
+pub mod Packets

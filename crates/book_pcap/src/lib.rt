@@ -1,0 +1,9 @@
+//! The packets of pcap files (libpcap, pcap-savefile). Definitions, with the plain types that code shares
+//! with them; the empty function carries a theorem about the definitions.
+#![tactic(auto)]
+
+mod laws;
+mod pcap_head;
+
+pub use laws::packets_are_the_grammar;
+pub use pcap_head::{ByteOrder, Head, HeadFault, LinkType};

@@ -1,0 +1,140 @@
+-- TCP options (RFC 9293, section 3.2), and the TCP-AO option among them (RFC 5925, section 2.2):
+-- `options_of` and `find_ao` are the file's tops.
+use Rattle.std.specs.Prelude.{ℕ, zero, suc, ◌+◌, ◌-◌, ◌*◌, ◌==◌, nat_lt, ◌&&◌, if◌then◌else◌}
+use Rattle.std.specs.Prelude.{List, [], ◌∷◌, length, take, drop, slice_index, Option, Some, None}
+use Rattle.book_segments.specs.declared.fault.OptionFault.{OptionFault}
+use Rattle.book_segments.specs.declared.fault.OptionFault.TheVariants.{ShortLength, PastEnd}
+
+-- an option, with the place of its kind byte in the area (RFC 9293, section 3.2)
+pub record Opt : Type 0 where
+  pub kind : ℕ
+  pub body : List ℕ
+  pub place : ℕ
+
+-- the options of an area, or the fault of the first option that has one (RFC 9293, section 3.2)
+pub data Options : Type 0 where
+  Listed : (list : List Opt) → Options
+  Faulty : (fault : OptionFault) → Options
+
+-- an option in front of those that follow it, which may have a fault (RFC 9293, section 3.2)
+abbrev pub and_then : Opt → Options → Options
+and_then o (Listed list) = Listed (o ∷ list)
+and_then o (Faulty fault) = Faulty fault
+
+-- the least length that an option of this kind may give (RFC 9293, section 3.2; RFC 5925, section
+-- 2.2)
+abbrev pub least : ℕ → ℕ
+least kind = if kind == 29 then 4 else 2
+
+-- what stands at the front of an area: nothing, kind 0, a fault, or an option with its size and the
+-- bytes behind it (RFC 9293, section 3.2)
+pub data OptionFront : Type 0 where
+  NoMore Ending TooShort TooLong : OptionFront
+  Leading : (kind : ℕ) (body : List ℕ) (size : ℕ) (rest : List ℕ) → OptionFront
+
+-- kinds 0 and 1 are one byte; every other option has kind, length and body (RFC 9293, section 3.2)
+abbrev pub option_front : List ℕ → OptionFront
+option_front [] = NoMore
+option_front (zero ∷ rest) = Ending
+option_front (suc zero ∷ rest) = Leading 1 [] 1 rest
+option_front (suc (suc k) ∷ []) = TooLong
+option_front (suc (suc k) ∷ size ∷ rest) =
+    if nat_lt size (least (suc (suc k))) then TooShort
+    else if nat_lt (length rest + 2) size then TooLong
+    else Leading (suc (suc k)) (take (size - 2) rest) size (drop (size - 2) rest)
+
+-- the options from a place on, where this stands there, and those from a later place are handed in
+-- (RFC 9293, section 3.2)
+abbrev pub by_front : OptionFront → ℕ → (ℕ → List ℕ → Options) → Options
+by_front NoMore p others = Listed []
+by_front Ending p others = Listed (record { kind = 0; body = []; place = p } ∷ [])
+by_front TooShort p others = Faulty (ShortLength p)
+by_front TooLong p others = Faulty (PastEnd p)
+by_front (Leading kind body size rest) p others =
+    and_then (record { kind = kind; body = body; place = p }) (others (p + size) rest)
+
+-- the options of an area from a place on, of which the first argument bounds the number (RFC 9293,
+-- section 3.2)
+abbrev pub options_from : ℕ → ℕ → List ℕ → Options
+options_from zero p area = Listed []
+options_from (suc k) p area = by_front (option_front area) p (options_from k)
+
+-- the options of an area that begins at a place (RFC 9293, section 3.2)
+abbrev pub options_at : ℕ → List ℕ → Options
+options_at p area = options_from (length area) p area
+
+-- the options of an area up to and with kind 0 (RFC 9293, section 3.2)
+unfoldable pub options_of : List ℕ → Options
+options_of area = options_at 0 area
+
+-- the options of this kind (own)
+abbrev pub of_kind : ℕ → List Opt → List Opt
+of_kind kind [] = []
+of_kind kind (o ∷ os) = if o.kind == kind then o ∷ of_kind kind os else of_kind kind os
+
+-- the options of an area where there is no fault, and none where there is one (own)
+abbrev pub listed : Options → List Opt
+listed (Listed list) = list
+listed (Faulty fault) = []
+
+-- an option without its place (RFC 9293, section 3.2)
+pub record Plain : Type 0 where
+  pub kind : ℕ
+  pub body : List ℕ
+
+-- options without their places (RFC 9293, section 3.2)
+abbrev pub plains : List Opt → List Plain
+plains [] = []
+plains (o ∷ os) = record { kind = o.kind; body = o.body } ∷ plains os
+
+-- an area has no option with a fault (RFC 9293, section 3.2)
+abbrev pub AreListed : Options → Type 0
+AreListed (Listed list) = Unit {0}
+AreListed (Faulty fault) = ⊥
+
+-- the maximum segment size, which the first option of kind 2 with a body of two bytes gives (RFC
+-- 9293, section 3.2)
+abbrev pub mss_among : List Opt → Option ℕ
+mss_among [] = None
+mss_among (o ∷ os) =
+    if (o.kind == 2) && (length o.body == 2)
+    then Some (slice_index o.body 0 * 256 + slice_index o.body 1)
+    else mss_among os
+
+-- the TCP-AO option of a segment, with the place of its kind byte in the area (RFC 5925, section
+-- 2.2)
+pub record Ao : Type 0 where
+  pub key_id : ℕ
+  pub rnext_key_id : ℕ
+  pub mac : List ℕ
+  pub place : ℕ
+
+-- what was found of TCP-AO: no option, one, two or more, or one beside TCP MD5 (RFC 5925, section
+-- 2.2)
+pub data AoFound : Type 0 where
+  Absent : AoFound
+  One : (ao : Ao) → AoFound
+  Two WithMd5 : AoFound
+
+-- the fields of an option of kind 29 (RFC 5925, section 2.2)
+abbrev pub ao_of : Opt → Ao
+ao_of o = record {
+  key_id = slice_index o.body 0;
+  rnext_key_id = slice_index o.body 1;
+  mac = drop 2 o.body;
+  place = o.place;
+}
+
+-- what the options of kind 29 and those of kind 19 say together (RFC 5925, section 2.2)
+abbrev pub found : List Opt → List Opt → AoFound
+found [] md5 = Absent
+found (o ∷ p ∷ os) md5 = Two
+found (o ∷ []) [] = One (ao_of o)
+found (o ∷ []) (m ∷ ms) = WithMd5
+
+-- what an option area holds of TCP-AO: none, one option without TCP MD5 beside it, or a fault (RFC
+-- 5925, section 2.2)
+unfoldable pub find_ao : List ℕ → AoFound
+find_ao area =
+    let list = listed (options_of area) in
+    found (of_kind 29 list) (of_kind 19 list)

@@ -1,0 +1,58 @@
+-- What two readers and an output are of a run so far.
+use Rattle.std.specs.Prelude.{◌≡◌, ℕ, ◌+◌, Bool, true, false, List, [], ◌++◌}
+use Rattle.ao_base.specs.declared.end.End.{End}
+use Rattle.ao_base.specs.declared.end.End.TheVariants.{A, B}
+use Rattle.book_bgp.specs.Messages.{fault_in}
+use Rattle.book_link.specs.declared.event.Event.{Event}
+use Rattle.book_link.specs.declared.event.Event.TheVariants as event
+use Rattle.book_link.specs.Runs.{empty, run}
+use Rattle.book_link.specs.Worlds.{Setup}
+use Rattle.book_cmd_bgp.specs.BgpRuns.{bgp_faults, bgp_lines_from, is_faulty, taken_lines}
+use Rattle.bgp_messages.specs.Readers.{Reading, StandsFor, new_reading}
+use Rattle.link_report.specs.declared.outcome.Outcome.{Outcome}
+use Rattle.link_report.specs.declared.outcome.Outcome.TheVariants as outcome
+use Rattle.cmd_bgp.specs.declared.running.Turn.{Turn}
+use Rattle.cmd_bgp.specs.declared.running.Turn.TheVariants as turn
+use Rattle.cmd_bgp.specs.declared.lines.Place.{Place}
+use Rattle.cmd_bgp.specs.Places.{place_of}
+use Rattle.cmd_bgp.specs.Streams.{streams, newest}
+
+-- the bytes that a take gave
+abbrev pub taken_in : Outcome → List ℕ
+taken_in (outcome.Took piece shown) = piece
+taken_in _ = []
+
+-- an event was done
+abbrev pub is_done : Outcome → Bool
+is_done outcome.Done = true
+is_done _ = false
+
+-- what an event may bring the reader of an end
+abbrev pub turn_of : Event → Turn
+turn_of (event.Connect e isn) = turn.Begins e
+turn_of (event.Listen e isn) = turn.Begins e
+turn_of (event.Start e isn peer) = turn.Begins e
+turn_of (event.Take e count) = turn.Takes e
+turn_of _ = turn.Neither
+
+-- a reader, made new where a session began
+abbrev pub renewed : Bool → Reading → Reading
+renewed true r = new_reading
+renewed false r = r
+
+-- the reader of an end
+abbrev pub reader_at : End → Reading → Reading → Reading
+reader_at A a b = a
+reader_at B a b = b
+
+-- the reader got a piece after these bytes, and the lines and faults are written and counted
+pub record IsHeard (p : Place) (bytes piece before after : List ℕ) (reader : Reading) (old new : ℕ) : Type 0 where
+  pub stands : StandsFor reader (bytes ++ piece)
+  pub text : after ≡ before ++ taken_lines (place_of p) bytes (bytes ++ piece)
+  pub faults : new + is_faulty (fault_in bytes) ≡ old + is_faulty (fault_in (bytes ++ piece))
+
+-- the readers stand for what the live sessions delivered, the text is that of the messages, and the faults are counted
+pub record Follows (setup : Setup) (events : List Event) (a b : Reading) (text : List ℕ) (faults : ℕ) : Type 0 where
+  pub stands : (e : End) → StandsFor (reader_at e a b) (newest (streams (run setup events) e))
+  pub text_is : text ≡ bgp_lines_from setup 1 (empty setup) events
+  pub faults_are : faults ≡ bgp_faults (run setup events)

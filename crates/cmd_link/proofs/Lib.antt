@@ -1,0 +1,4 @@
+pub mod Drawing
+pub mod Lasts
+pub mod PlayLaws
+pub mod ScriptLaws

@@ -1,0 +1,55 @@
+-- What is so of each script of the grammar, as a run needs it.
+use Rattle.std.proofs.Common.{◌≡◌, suc, ◌+◌, ◌≤◌, Bool, false, List, [], ◌∷◌, ◌++◌, length, map, Option, Some, None, subst, refl, arith, length-append}
+use Rattle.std.proofs.lemmas.List.{length-map}
+use Rattle.std.specs.List.{All}
+use Rattle.std.specs.Option.{is_none}
+use Rattle.book_link.specs.declared.event.Event.{Event}
+use Rattle.book_link.specs.declared.event.Event.TheVariants.{Clock, Connect, Listen, Start, Give, Fill, Send, Resend, Deliver, Inject, Alter, Take, Close, Abort, AddRow, Withdraw, Dump}
+use Rattle.book_cmd_link.specs.declared.script.Script.{Script}
+use Rattle.book_cmd_link.specs.declared.script.SharedKey.{SharedKey}
+use Rattle.link_script.specs.Printed.{event_words, key_lines, script_lines}
+use Rattle.link_script.specs.Scripts.{IsEvent, IsKey, IsScript}
+use Rattle.link_world.specs.Events.{CanHappen}
+
+-- a file that is read without a key file names its key
+pub names_key : (shared : Option SharedKey) → is_none shared ≡ false → shared ≡ None → ⊥
+names_key None h e = cc
+names_key (Some k) h e = cc
+
+-- the length of the key that the script names
+pub key_lengths : (shared : Option SharedKey) (k : SharedKey) → IsKey shared → shared ≡ Some k → (1 ≤ length k.master) × (length k.master ≤ 255)
+key_lengths None k x h = absurd (cc)
+key_lengths (Some j) k x h =
+    let same : j ≡ k = cc in
+    let P : SharedKey → Type 0 = λ (y : SharedKey). (1 ≤ length y.master) × (length y.master ≤ 255) in
+    subst P same (x.least, x.most)
+
+can_happen : (e : Event) → IsEvent e → CanHappen e
+can_happen (Clock e seconds) r = r
+can_happen (AddRow e row) r = record {
+  least = r.master.least;
+  most = r.master.most;
+  sending = r.send_last.least;
+  sent = r.send_last.most;
+  accepting = r.accept_last.least;
+  accepted = r.accept_last.most;
+}
+can_happen (Connect e isn) r = tt
+can_happen (Listen e isn) r = tt
+can_happen (Start e isn peer) r = tt
+can_happen (Give e bytes) r = tt
+can_happen (Fill e count byte) r = tt
+can_happen (Send e) r = tt
+can_happen (Resend e) r = tt
+can_happen (Deliver e name) r = tt
+can_happen (Inject e bytes) r = tt
+can_happen (Alter e name place mask fix) r = tt
+can_happen (Take e count) r = tt
+can_happen (Close e) r = tt
+can_happen (Abort e) r = tt
+can_happen (Withdraw e number) r = tt
+can_happen (Dump name) r = tt
+
+-- each event of a script can happen
+pub all_can_happen : (es : List Event) → All IsEvent es → All CanHappen es
+all_can_happen es all k d h = can_happen _ (all k d h)

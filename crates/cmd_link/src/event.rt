@@ -1,0 +1,76 @@
+//! The event that a draw makes of a link.
+ghost use Rattle.std.specs.Prelude.{◌≡◌, ◌<◌, ◌+◌, ◌/◌, ◌%◌, List};
+ghost use Rattle.book_link.specs.declared.event.Event.{Event as Happening};
+ghost use Rattle.book_link.specs.Runs.{run};
+ghost use Rattle.book_link.specs.Storm.{end_of, event_by, event_of, last_delivered, one_delivered};
+ghost use Rattle.book_link.specs.Worlds.{Setup as Link, other, segment_named, segments};
+ghost use Rattle.link_world.specs.Standing.{StandsFor};
+
+use ao_base::End;
+use book_link::Event;
+use link_world::World;
+
+fn other(end: End) -> End
+    ensures { result ≡ other end }
+{
+    match end {
+        End::A => End::B,
+        End::B => End::A,
+    }
+}
+
+fn end_of(number: u64) -> End
+    ensures { result ≡ end_of number }
+{
+    if number % 2 == 0 { End::A } else { End::B }
+}
+
+/// The last segment is delivered to the end that didn't make it; where there is none, the end sends.
+fn last_delivered(world: &World, end: End) -> Event
+    ensures { (setup : Link) (events : List Happening) → StandsFor world.now setup events
+        → let past = (run setup events).history in result ≡ last_delivered end (segment_named (segments past) past) }
+{
+    let made = world.made();
+    if made == 0 {
+        return Event::Send(end);
+    }
+    let maker = world.maker(made);
+    Event::Deliver(other(maker), made)
+}
+
+/// One of so many segments is delivered; where there is none, the end sends.
+fn one_delivered(end: End, made: u32, number: u64) -> Event
+    ensures { result ≡ one_delivered end made number }
+{
+    if made == 0 {
+        return Event::Send(end);
+    }
+    let place = number % u64::from(made);
+    Event::Deliver(end, 1 + place as u32)
+}
+
+/// The event of this kind, below 8, at this end, with this number.
+fn event_by(world: &World, end: End, kind: u64, number: u64) -> Event
+    requires { kind < 8 }
+    ensures { (setup : Link) (events : List Happening) → StandsFor world.now setup events
+        → result ≡ event_by (run setup events) end kind number }
+{
+    match kind {
+        0 => Event::Fill(end, (number % 1_000) as u16, (number / 1_000 % 256) as u8),
+        1 => Event::Send(end),
+        2 => Event::Send(end),
+        3 => last_delivered(world, end),
+        4 => last_delivered(world, end),
+        5 => one_delivered(end, world.made(), number),
+        6 => Event::Resend(end),
+        _ => Event::Take(end, (number % 2_000) as u16),
+    }
+}
+
+/// The event that a drawn number makes of a link.
+pub(crate) fn event_of(world: &World, number: u64) -> Event
+    ensures { (setup : Link) (events : List Happening) → StandsFor world.now setup events
+        → result ≡ event_of (run setup events) number }
+{
+    event_by(world, end_of(number), number / 2 % 8, number / 256)
+}

@@ -1,0 +1,20 @@
+//! Datagrams shown as text, and test vectors of the algorithms verified.
+//!
+//! Both calls read a text of lines, and name the first faulty line with its kind. `show` writes the
+//! fields of each datagram, or why the bytes are none; `vectors` writes for each vector whether what
+//! is computed is what its line says.
+#![tactic(auto)]
+
+mod array;
+mod datagram_text;
+mod keys;
+mod showing;
+mod signed;
+mod vector;
+mod vector_words;
+mod verifying;
+
+pub use book_cmd_show::Verified;
+pub use book_lines::TextFault as TextProblem;
+pub use showing::show;
+pub use verifying::vectors;

@@ -1,0 +1,72 @@
+//! Datagrams shown as text.
+ghost use Rattle.std.specs.Prelude.{◌≡◌, ◌<◌, ◌↔◌, ◌++◌, IsErrOf, OnOk, length};
+ghost use Rattle.ao_base.specs.Lines.{lines_of};
+ghost use Rattle.book_lines.specs.Lines.{most_lines};
+ghost use Rattle.book_lines.specs.Said.{numbered, said_by};
+ghost use Rattle.text_lines.specs.Readings.{Answers, Tells};
+ghost use Rattle.cmd_show.specs.Loops.{shown_after, shown_from};
+ghost use Rattle.book_cmd_show.specs.Show.{bytes_of_line, show_of, shown_line};
+
+use crate::datagram_text::push_reading;
+use ao_base::{Bytes, push_decimal};
+use book_lines::TextFault;
+use std::alloc::{AllocError, Global};
+use text_lines::{LineWords, Refusal, Saying, SayingLines, count_lines, push_newline};
+
+#[tactic(auto, unfolding(book_cmd_show::specs::Show::bytes_of_line))]
+fn line_bytes(alloc: Global, words: &mut LineWords) -> Result<Bytes, Refusal>
+    ensures { Tells result (bytes_of_line words.old) }
+{
+    let bytes = words.hex(alloc)?;
+    words.nothing()?;
+    Ok(bytes)
+}
+
+fn bytes_in(alloc: Global, mut line: Saying) -> Result<Bytes, TextFault>
+    ensures { Answers result (numbered line.entry.number (bytes_of_line line.entry.words)) }
+{
+    match line_bytes(alloc, &mut line.words) {
+        Ok(bytes) => Ok(bytes),
+        Err(refusal) => Err(refusal.at(line.number)),
+    }
+}
+
+#[tactic(auto, unfolding(book_cmd_show::specs::Show::shown_line))]
+fn push_shown(alloc: Global, out: &mut Vec<u8>, number: u32, bytes: &[u8]) -> Result<(), AllocError>
+    ensures { OnOk result (out.new.items ≡ out.old.items ++ shown_line (record { number = number; value = bytes.now })) }
+{
+    push_decimal(out, u64::from(number))?;
+    push_reading(alloc, out, bytes)?;
+    push_newline(out)
+}
+
+fn push_lines(alloc: Global, out: &mut Vec<u8>, lines: &mut SayingLines) -> Result<(), TextFault>
+    ensures { Answers (shown_after result out.new.items) (shown_from out.old.items (said_by bytes_of_line lines.old)) }
+{
+    while let Some(line) = lines.next() {
+        let number = line.number;
+        let bytes = bytes_in(alloc, line)?;
+        push_shown(alloc, out, number, bytes.as_slice())?;
+    }
+    Ok(())
+}
+
+/// Shows each datagram of a text of lines, which hold one each in hexadecimal, of any length.
+///
+/// A line of the answer has the number of its line and `bad` with the first of the nine faults, or
+/// the fields of the datagram that a prefix of the bytes is: family, sender, receiver, numbers, flags
+/// in hexadecimal, whether the TCP checksum is right, and the options in order.
+///
+/// `Ok` exactly where each line that says something is hexadecimal. `TooManyLines` exactly where the
+/// text has more than 20,000 lines; else `Line` is the first faulty line, counted from 1 among all
+/// lines, with the kind of its first faulty word. `Memory` only for want of memory.
+#[tactic(auto, unfolding(book_cmd_show::specs::Show::show_of, book_lines::specs::Said::said_in))]
+pub fn show(alloc: Global, text: &[u8]) -> Result<Bytes, TextFault>
+    ensures text { Answers result (show_of text.now) }
+    ensures too_many { IsErrOf result TextFault.TooManyLines ↔ (most_lines < length (lines_of text.now)) }
+{
+    let _count = count_lines(text)?;
+    let mut out = Vec::new(alloc);
+    push_lines(alloc, &mut out, &mut SayingLines::new(text))?;
+    Ok(Bytes::from_vec(out))
+}

@@ -1,0 +1,78 @@
+-- The whole answer to a link file with waits.
+use Rattle.std.proofs.Common.{◌≡◌, ℕ, ◌<◌, ◌==◌, not, nat_lt, true, false, List, length, Ok, Err, refl, ap, ◌∙◌, All}
+use Rattle.std.proofs.lemmas.Bool.{lt-ltb, le-ltb}
+use Rattle.book_keys.specs.Rows.{Table}
+use Rattle.book_timers.specs.declared.timer.Timer.{Timer}
+use Rattle.book_lines.specs.declared.text_fault.TextFault.{TextFault}
+use Rattle.book_lines.specs.declared.text_fault.TextFault.TheVariants as fault
+use Rattle.book_link.specs.declared.event.Event.{Event}
+use Rattle.book_link.specs.declared.event.Event.TheVariants as event
+use Rattle.book_link.specs.declared.event.RowLine.{RowLine}
+use Rattle.book_link.specs.Worlds.{setup_of}
+use Rattle.book_cmd_timed.specs.declared.timed.TimedEvent.{TimedEvent}
+use Rattle.book_cmd_timed.specs.declared.timed.TimedEvent.TheVariants.{Plain, Wait}
+use Rattle.book_cmd_timed.specs.declared.timed.TimedScript.{TimedScript}
+use Rattle.book_answer.specs.Answers.{done, if_read, refusal, timed_over, too_many_events}
+use Rattle.book_cmd_timed.specs.TimedRuns.{most_events}
+use Rattle.book_cmd_timed.specs.TimedRuns.{expand, timed_script_of}
+use Rattle.text_lines.specs.Readings.{Fails}
+use Rattle.link_script.specs.Scripts.{IsEvent, IsRow}
+use Rattle.link_script.specs.Timed.{IsTimedEvent}
+use Rattle.link_side.specs.Steps.{IsRowLine}
+use Rattle.link_world.specs.Events.{CanHappen}
+use Rattle.cmd_timed.specs.declared.answer.TimedProblem.TheVariants as problem
+use Rattle.cmd_timed.specs.Answers.{AnswersTimed, timed_answer}
+use Rattle.cmd_timed.specs.Events.{CanPass}
+use Rattle.cmd_timed.specs.Reports.{IsReport}
+
+row_line : (r : RowLine) → IsRow r → IsRowLine r
+row_line r h =
+    record { least = h.master.least; most = h.master.most; sending = h.send_last.least; sent = h.send_last.most; accepting = h.accept_last.least; accepted = h.accept_last.most }
+
+can_happen : (e : Event) → IsEvent e → CanHappen e
+can_happen (event.Clock e seconds) h = h
+can_happen (event.Connect e isn) h = tt
+can_happen (event.Listen e isn) h = tt
+can_happen (event.Start e own peer) h = tt
+can_happen (event.Give e bytes) h = tt
+can_happen (event.Fill e count byte) h = tt
+can_happen (event.Send e) h = tt
+can_happen (event.Resend e) h = tt
+can_happen (event.Deliver e name) h = tt
+can_happen (event.Inject e bytes) h = tt
+can_happen (event.Alter e name place mask fixing) h = tt
+can_happen (event.Take e count) h = tt
+can_happen (event.Close e) h = tt
+can_happen (event.Abort e) h = tt
+can_happen (event.AddRow e row) h = row_line row h
+can_happen (event.Withdraw e row) h = tt
+can_happen (event.Dump name) h = tt
+
+can_pass : (e : TimedEvent) → IsTimedEvent e → CanPass e
+can_pass (Plain e) h = can_happen e h
+can_pass (Wait e count) h = tt
+
+-- the events of a script of the grammar can come about
+pub all_can_pass : (events : List TimedEvent) → All IsTimedEvent events → All CanPass events
+all_can_pass events h = λ k d below. can_pass _ (h k d below)
+
+-- a text that isn't read
+pub answered_fault : (tables : List Table) (text : List ℕ) (f : TextFault) → Fails f (timed_script_of text) → AnswersTimed tables text (Err (problem.Fault f))
+answered_fault tables text fault.Memory h = tt
+answered_fault tables text fault.TooManyLines h = ap (if_read (timed_over tables)) h
+answered_fault tables text (fault.Line n kind) h = ap (if_read (timed_over tables)) h
+
+-- a script that has a report
+pub answered_report : (tables : List Table) (text : List ℕ) (s : TimedScript) (a b : Timer) (report : List ℕ) (count : ℕ) → timed_script_of text ≡ Ok s
+    → IsReport (setup_of tables s.a s.b) (expand (setup_of tables s.a s.b) s.events) a b report count
+    → timed_answer tables text ≡ done (not (count == 0)) report
+answered_report tables text s a b report count h r =
+    let few : nat_lt most_events (length (expand (setup_of tables s.a s.b) s.events).events) ≡ false = le-ltb _ _ r.few in
+    ap (if_read (timed_over tables)) h ∙ rw (few, r.text_is, r.count_is) refl
+
+-- a script whose plain run has too many events
+pub answered_too_many : (tables : List Table) (text : List ℕ) (s : TimedScript) → timed_script_of text ≡ Ok s
+    → most_events < length (expand (setup_of tables s.a s.b) s.events).events → timed_answer tables text ≡ refusal 4 too_many_events
+answered_too_many tables text s h many =
+    let long : nat_lt most_events (length (expand (setup_of tables s.a s.b) s.events).events) ≡ true = lt-ltb _ _ many in
+    ap (if_read (timed_over tables)) h ∙ rw long refl

@@ -1,0 +1,115 @@
+//! What an event changes at its end.
+ghost use Rattle.std.specs.Prelude.{◌≡◌, ◌≤◌};
+ghost use Rattle.book_cmd_timed.specs.TimedRuns.{end_of_event, is_again, is_begin, is_done, is_sent};
+ghost use Rattle.book_keys.specs.Lifetimes.{greatest_time};
+ghost use Rattle.book_link.specs.Outcomes.{Outcome as OneOutcome};
+ghost use Rattle.link_report.specs.Outcomes.{Shows};
+ghost use Rattle.cmd_timed.specs.Changes.{changed};
+ghost use Rattle.cmd_timed.specs.Watches.{seen};
+
+use crate::watch::Watch;
+use ao_base::End;
+use book_link::Event;
+use link_report::Outcome;
+use link_world::Front;
+
+/// What an event changed at its end.
+#[derive(Clone, Copy)]
+pub(crate) struct Change {
+    /// The event begins a session, and that was done.
+    pub(crate) begins: bool,
+    pub(crate) done: bool,
+    /// The event sends again, and a segment was made.
+    pub(crate) again: bool,
+    pub(crate) sent: bool,
+    /// The end's clock after it, in seconds since 1970.
+    pub(crate) reading: u64,
+    /// How far the end had sent before it, and after it.
+    pub(crate) old: Option<Front>,
+    pub(crate) new: Option<Front>,
+}
+
+/// The end of an event; none for one that only shows a segment.
+pub(crate) fn end_of(event: &Event) -> Option<End>
+    ensures { result ≡ end_of_event event.now }
+{
+    match event {
+        Event::Clock(end, _) => Some(*end),
+        Event::Connect(end, _) => Some(*end),
+        Event::Listen(end, _) => Some(*end),
+        Event::Start(end, _, _) => Some(*end),
+        Event::Give(end, _) => Some(*end),
+        Event::Fill(end, _, _) => Some(*end),
+        Event::Send(end) => Some(*end),
+        Event::Resend(end) => Some(*end),
+        Event::Deliver(end, _) => Some(*end),
+        Event::Inject(end, _) => Some(*end),
+        Event::Alter(end, _, _, _, _) => Some(*end),
+        Event::Take(end, _) => Some(*end),
+        Event::Close(end) => Some(*end),
+        Event::Abort(end) => Some(*end),
+        Event::AddRow(end, _) => Some(*end),
+        Event::Withdraw(end, _) => Some(*end),
+        Event::Dump(_) => None,
+    }
+}
+
+/// Whether the event begins a session.
+pub(crate) fn is_begin(event: &Event) -> bool
+    ensures { result ≡ is_begin event.now }
+{
+    match event {
+        Event::Connect(..) => true,
+        Event::Listen(..) => true,
+        Event::Start(..) => true,
+        _ => false,
+    }
+}
+
+/// Whether the event sends again.
+pub(crate) fn is_again(event: &Event) -> bool
+    ensures { result ≡ is_again event.now }
+{
+    match event {
+        Event::Resend(_) => true,
+        _ => false,
+    }
+}
+
+/// Whether the event did something.
+pub(crate) fn is_done(outcome: &Outcome) -> bool
+    ensures { (is : OneOutcome) → Shows outcome.now is → result ≡ is_done is }
+{
+    match outcome {
+        Outcome::Done => true,
+        _ => false,
+    }
+}
+
+/// Whether a segment was made.
+pub(crate) fn is_sent(outcome: &Outcome) -> bool
+    ensures { (is : OneOutcome) → Shows outcome.now is → result ≡ is_sent is }
+{
+    match outcome {
+        Outcome::Sent(..) => true,
+        _ => false,
+    }
+}
+
+impl Watch {
+    /// What an event's change makes of the timer of its end: a new session has a new one, and what is
+    /// sent again isn't timed (RFC 6298, section 3).
+    pub(crate) fn apply(&mut self, change: &Change)
+        requires { change.now.reading ≤ greatest_time }
+        ensures { seen self.new ≡ changed change.now (seen self.old) }
+    {
+        if change.begins && change.done {
+            *self = Watch::new();
+            return;
+        }
+        self.follow(change.reading, change.again, change.old, change.new);
+        if change.again && change.sent {
+            self.sending = None;
+        }
+    }
+}

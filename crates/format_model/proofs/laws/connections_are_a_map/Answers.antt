@@ -1,8 +1,0 @@
-use Rattle.format_model.proofs.ConnectionLaws.{stays_map, judged_on}
-use Rattle.format_model.proofs.laws.connections_are_a_map.Goals as goal
-
-pub returns-clause-map : goal.returns-clause-map
-returns-clause-map c = stays_map
-
-pub returns-clause-judged : goal.returns-clause-judged
-returns-clause-judged c = judged_on

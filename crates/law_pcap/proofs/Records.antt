@@ -1,0 +1,145 @@
+-- The lines of records have the packets' segments.
+use Rattle.std.proofs.Common.{◌≡◌, ℕ, zero, suc, ◌+◌, ◌<◌, ◌≤◌, if◌then◌else◌, Bool, true, false, List, [], ◌∷◌, ◌++◌, length, take, drop, map, None, Result, Ok, Err, refl, sym, ap, ◌∙◌, inl, inr, arith}
+use Rattle.std.specs.List.{All}
+use Rattle.std.proofs.lemmas.Bool.{cases_lt, cases_eq, lt-ltb, le-ltb, ne_eqb}
+use Rattle.std.proofs.lemmas.List.{length-take, get_or_past}
+use Rattle.std.proofs.lemmas.List.Elements.{All-take, All-drop, All-get_or, All-nil}
+use Rattle.hex.specs.Hex.{IsBytes}
+use Rattle.ao_base.specs.Lines.{lines_of}
+use Rattle.ao_base.proofs.LineLaws.{lines_of-line}
+use Rattle.book_pcap.specs.declared.pcap_head.ByteOrder.{ByteOrder}
+use Rattle.book_pcap.specs.declared.pcap_head.ByteOrder.TheVariants.{Big, Little}
+use Rattle.book_pcap.specs.declared.pcap_head.LinkType.{LinkType}
+use Rattle.book_pcap.specs.declared.pcap_head.LinkType.TheVariants.{Ethernet, Raw}
+use Rattle.book_pcap.specs.declared.pcap_head.Head.{Head}
+use Rattle.book_pcap.specs.declared.pcap_head.HeadFault.{HeadFault}
+use Rattle.book_pcap.specs.Packets.{Kept, RecordFront, Done, Broken, Whole, four_at, record_at, Packets, is_ip, datagram_of, with_packet, packets_by, packets_from, packets_in, packets_behind, packets_of, opened, head_of, and_rest}
+use Rattle.book_pcap.proofs.Captures.{record_short, record_over, record_part, record_whole, record_none}
+use Rattle.book_cmd_check.specs.StoredPackets.{stored_packet}
+use Rattle.book_cmd_check.specs.StoredLines.{StoredInput, stored_from, stored_input}
+use Rattle.law_pcap.specs.LineForms.{packet_line, lines_by, lines_from, lines_behind, line_form}
+use Rattle.law_pcap.proofs.Lines.{packet_line_plain, packet_line_back}
+
+abbrev pub IsByte : ℕ → Type 0
+IsByte b = b < 256
+
+-- bytes by their places
+by_places : (xs : List ℕ) → All IsByte xs → IsBytes xs
+by_places xs all = λ i. elim (cases_lt i (length xs)) [
+  | inl within ↦ All-get_or IsByte xs i 0 within all
+  | inr past ↦ rw (get_or_past xs i 0 past) (omega arith)
+]
+
+-- a number of four bytes is below 2^32
+four_low : (order : ByteOrder) (text : List ℕ) → IsBytes text → four_at order text 0 < 4294967296
+four_low Big text small = let a = small 0 in let b = small 1 in let d = small 2 in let e = small 3 in omega arith
+four_low Little text small = let a = small 0 in let b = small 1 in let d = small 2 in let e = small 3 in omega arith
+
+-- what a whole record is made of
+pub record IsWhole (kept : Kept) (behind : List ℕ) : Type 0 where
+  pub low : kept.seconds < 4294967296
+  pub bytes : All IsByte kept.bytes
+  pub rest : All IsByte behind
+
+whole_parts : (order : ByteOrder) (text : List ℕ) (kept : Kept) (rest : List ℕ) → All IsByte text →
+    Whole (record { seconds = four_at order text 0; bytes = take (four_at order text 8) (drop 16 text) }) (drop (16 + four_at order text 8) text) ≡ Whole kept rest → IsWhole kept rest
+whole_parts order text kept rest all same =
+    let kept_is : record { seconds = four_at order text 0; bytes = take (four_at order text 8) (drop 16 text) } ≡ kept = cc in
+    let rest_is : drop (16 + four_at order text 8) text ≡ rest = cc in
+    record {
+      low = rw (← kept_is) (four_low order text (by_places text all));
+      bytes = rw (← kept_is) (All-take IsByte (four_at order text 8) (drop 16 text) (All-drop IsByte 16 text all));
+      rest = rw (← rest_is) (All-drop IsByte (16 + four_at order text 8) text all);
+    }
+
+none_at : (order : ByteOrder) (text : List ℕ) → length text ≡ 0 → record_at order text ≡ Done
+none_at order [] none = record_none order
+none_at order (b ∷ bs) none = absurd (omega arith)
+
+whole_is : (order : ByteOrder) (text : List ℕ) (kept : Kept) (rest : List ℕ) → All IsByte text → record_at order text ≡ Whole kept rest → IsWhole kept rest
+whole_is order text kept rest all is =
+    elim (cases_eq (length text) 0) [
+      | inl none ↦ let no : record_at order text ≡ Done = none_at order text none in let bad = sym no ∙ is in absurd (cc)
+      | inr some ↦ elim (cases_lt (length text) 16) [
+        | inl short ↦ let bad = sym (record_short order text (omega arith) short) ∙ is in absurd (cc)
+        | inr long ↦ elim (cases_lt 262144 (four_at order text 8)) [
+          | inl over ↦ let bad = sym (record_over order text long over) ∙ is in absurd (cc)
+          | inr fits ↦ elim (cases_lt (length text) (16 + four_at order text 8)) [
+            | inl part ↦ let bad = sym (record_part order text long fits part) ∙ is in absurd (cc)
+            | inr all_there ↦ whole_parts order text kept rest all (sym (record_whole order text long fits all_there) ∙ is)
+          ]
+        ]
+      ]
+    ]
+
+short_take : (n : ℕ) (xs : List ℕ) → length (take n xs) ≤ n
+short_take n xs = omega (arith, length-take n xs)
+
+-- a datagram is made of bytes, and no longer than one may be
+pub record IsDatagram (bytes : List ℕ) : Type 0 where
+  pub few : length bytes ≤ 65575
+  pub all : All IsByte bytes
+
+datagram_by : (ip : Bool) (bytes : List ℕ) → All IsByte bytes → IsDatagram (if ip then take 65575 (drop 14 bytes) else [])
+datagram_by true bytes all = record { few = short_take 65575 (drop 14 bytes); all = All-take IsByte 65575 (drop 14 bytes) (All-drop IsByte 14 bytes all) }
+datagram_by false bytes all = record { few = omega arith; all = All-nil IsByte }
+
+datagram_is : (link : LinkType) (bytes : List ℕ) → All IsByte bytes → IsDatagram (datagram_of link bytes)
+datagram_is Raw bytes all = record { few = short_take 65575 bytes; all = All-take IsByte 65575 bytes all }
+datagram_is Ethernet bytes all = datagram_by (is_ip bytes) bytes all
+
+-- what lines are read as that have the segments of these packets and no fault
+abbrev pub shows : Packets → StoredInput
+shows ps = record { stored = map stored_packet ps.list; fault = None }
+
+-- the line of a packet in front of others
+one_line : (n seconds : ℕ) (bytes text : List ℕ) (ps : Packets) → seconds < 4294967296 → IsDatagram bytes →
+    stored_from (n + 1) (lines_of text) ≡ shows ps →
+    stored_from n (lines_of (packet_line seconds bytes ++ 10 ∷ text)) ≡ shows (with_packet (record { number = n; seconds = seconds; datagram = bytes }) ps)
+one_line n seconds [] text ps low is others =
+    rw (lines_of-line (packet_line seconds []) (packet_line_plain seconds [] low (by_places [] is.all)) text, packet_line_back n seconds [] low is.few (by_places [] is.all), others) refl
+one_line n seconds (b ∷ bs) text ps low is others =
+    rw (lines_of-line (packet_line seconds (b ∷ bs)) (packet_line_plain seconds (b ∷ bs) low (by_places (b ∷ bs) is.all)) text, packet_line_back n seconds (b ∷ bs) low is.few (by_places (b ∷ bs) is.all), others, ne_eqb (length (b ∷ bs)) 0 (λ e. omega arith)) refl
+
+by_front : (f : RecordFront) (head : Head) (n : ℕ) (text : List ℕ) (lines : List ℕ → List ℕ) (packets : List ℕ → Packets) → All IsByte text → record_at head.order text ≡ f →
+    ((rest : List ℕ) → All IsByte rest → stored_from (n + 1) (lines_of (lines rest)) ≡ shows (packets rest)) →
+    stored_from n (lines_of (lines_by head f lines)) ≡ shows (packets_by head n f packets)
+unfolding lines_of
+by_front Done head n text lines packets all is others = refl
+by_front Broken head n text lines packets all is others = refl
+by_front (Whole kept rest) head n text lines packets all is others =
+    let whole = whole_is head.order text kept rest all is in
+    one_line n kept.seconds (datagram_of head.link kept.bytes) (lines rest) (packets rest) whole.low (datagram_is head.link kept.bytes whole.bytes) (others rest whole.rest)
+
+by_count : (k : ℕ) (head : Head) (n : ℕ) (text : List ℕ) → All IsByte text → stored_from n (lines_of (lines_from k head text)) ≡ shows (packets_from k head n text)
+unfolding lines_of
+by_count zero head n text all = refl
+by_count (suc k) head n text all = by_front (record_at head.order text) head n text (lines_from k head) (packets_from k head (n + 1)) all refl (λ rest rest_all. by_count k head (n + 1) rest rest_all)
+
+behind : (r : Result (Head × List ℕ) HeadFault) → ((head : Head) (body : List ℕ) → r ≡ Ok (head, body) → All IsByte body) → stored_input (lines_behind r) ≡ shows (packets_behind r)
+unfolding stored_input packets_in lines_of
+behind (Err fault) all = refl
+behind (Ok body) all = by_count (length body.1) body.0 1 body.1 (all body.0 body.1 refl)
+
+rest_all : (r : Result Head HeadFault) (rest : List ℕ) (head : Head) (body : List ℕ) → All IsByte rest → and_rest r rest ≡ Ok (head, body) → All IsByte body
+rest_all (Ok found) rest head body all is =
+    let pair : ◌≡◌ {A = Head × List ℕ} (found, rest) (head, body) = cc in
+    let same : rest ≡ body = ap (λ p. p.1) pair in
+    rw (← same) all
+rest_all (Err fault) rest head body all is = absurd (cc)
+
+opened_short : (file : List ℕ) → length file < 24 → opened file ≡ Err HeadFault.Short
+opened_short file short = rw (lt-ltb (length file) 24 short) refl
+
+opened_long : (file : List ℕ) (head : Head) (body : List ℕ) → 24 ≤ length file → opened file ≡ Ok (head, body) → and_rest (head_of (take 24 file)) (drop 24 file) ≡ Ok (head, body)
+opened_long file head body long is = sym (rw (le-ltb (length file) 24 long) refl) ∙ is
+
+opened_all : (file : List ℕ) (head : Head) (body : List ℕ) → All IsByte file → opened file ≡ Ok (head, body) → All IsByte body
+opened_all file head body all is = elim (cases_lt (length file) 24) [
+  | inl short ↦ let bad = sym (opened_short file short) ∙ is in absurd (cc)
+  | inr long ↦ rest_all (head_of (take 24 file)) (drop 24 file) head body (All-drop IsByte 24 file all) (opened_long file head body long is)
+]
+
+-- the line form has the segments of the packets, and no fault
+pub line_form_shows : (file : List ℕ) → All IsByte file → stored_input (line_form file) ≡ shows (packets_of file)
+line_form_shows file all = behind (opened file) (λ head body is. opened_all file head body all is)

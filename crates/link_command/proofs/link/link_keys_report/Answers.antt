@@ -1,5 +1,0 @@
-use Rattle.link_command.proofs.ScriptLaws.{all_can_happen, few_events}
-use Rattle.link_command.proofs.link.link_keys_report.Goals as goal
-
-pub report_of-requires-clause-few : goal.report_of-requires-clause-few
-report_of-requires-clause-few c = rw c.as_slice.ensures (few_events c.in_ok-script.script c.in_ok-script.ensures.grammar)

@@ -1,9 +1,0 @@
-use Rattle.std.proofs.Common.{refl}
-use Rattle.link_world.specs.Standing.{setup_of}
-use Rattle.link_command.proofs.link.report_of.Goals as goal
-
-pub returns : goal.returns
-returns c =
-    let text = c.in_ok-report.ensures (setup_of c.args.setup) c.args.events.now c.in_ok-world.ensures in
-    let counted = c.forgeries.ensures (setup_of c.args.setup) c.args.events.now c.in_ok-world.ensures in
-    rw (text, counted) refl

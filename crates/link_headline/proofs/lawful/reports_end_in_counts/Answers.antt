@@ -1,5 +1,0 @@
-use Rattle.link_headline.proofs.ReportEnds.{last_line}
-use Rattle.link_headline.proofs.lawful.reports_end_in_counts.Goals as goal
-
-pub returns : goal.returns
-returns c = last_line

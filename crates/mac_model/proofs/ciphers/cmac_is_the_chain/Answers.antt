@@ -1,8 +1,0 @@
-use Rattle.mac_model.proofs.Chains.{padded_whole, cmac_folds}
-use Rattle.mac_model.proofs.ciphers.cmac_is_the_chain.Goals as goal
-
-pub returns-clause-whole : goal.returns-clause-whole
-returns-clause-whole c = padded_whole
-
-pub returns-clause-chain : goal.returns-clause-chain
-returns-clause-chain c = cmac_folds

@@ -1,8 +1,0 @@
-use Rattle.mac_model.proofs.Inverses.{inverted, none_inverted}
-use Rattle.mac_model.proofs.ciphers.inverses_multiply_to_one.Goals as goal
-
-pub returns-clause-one : goal.returns-clause-one
-returns-clause-one c = inverted
-
-pub returns-clause-zero : goal.returns-clause-zero
-returns-clause-zero c = none_inverted

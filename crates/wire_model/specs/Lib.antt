@@ -1,4 +1,0 @@
-pub mod Messages
-pub mod PacketFiles
-pub mod Packets
-pub mod Timers
