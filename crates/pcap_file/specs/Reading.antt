@@ -71,13 +71,13 @@ Answers before now source_before source_now given text (step.BadRecord n) =
     × Opening before now (before.kept ++ given) (λ head body. record_at head.order body ≡ Broken)
 
 -- a whole record stands there
-abbrev pub is_whole : Front → Bool
+abbrev pub is_whole : RecordFront → Bool
 is_whole Done = false
 is_whole Broken = false
 is_whole (Whole packet rest) = true
 
 -- a whole record stands there, and ends within the most bytes of a file, of which so many were taken
-abbrev pub ends_within : ℕ → Front → Bool
+abbrev pub ends_within : ℕ → RecordFront → Bool
 ends_within taken Done = false
 ends_within taken Broken = false
 ends_within taken (Whole packet rest) = nat_le (taken - length rest) 268435456
