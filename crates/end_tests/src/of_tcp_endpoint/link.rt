@@ -96,14 +96,14 @@ fn made<L: Ledger>(
 fn taken_in<L: Ledger>(
     end: &mut Endpoint,
     table: &Table,
-    now: u64,
+    now: u8,
     held: &Held,
     steps: &mut Steps<L>,
 ) -> Arrival
     requires { FitsEnd table.now.rows end.old }
     ensures { FitsEnd table.now.rows end.new }
 {
-    end.arrive(table, now, &held.bytes[..held.length], steps)
+    end.arrive(table, u64::from(now), &held.bytes[..held.length], steps)
         .arrival
 }
 
@@ -112,7 +112,7 @@ fn pass<L: Ledger>(
     from: &mut Endpoint,
     to: &mut Endpoint,
     table: &Table,
-    now: u64,
+    now: u8,
     steps: &mut Steps<L>,
 ) -> Option<Arrival>
     requires from { FitsEnd table.now.rows from.old }
@@ -120,7 +120,7 @@ fn pass<L: Ledger>(
     ensures from { FitsEnd table.now.rows from.new }
     ensures to { FitsEnd table.now.rows to.new }
 {
-    match made(from, table, now, steps) {
+    match made(from, table, u64::from(now), steps) {
         Some(held) => Some(taken_in(to, table, now, &held, steps)),
         None => None,
     }
@@ -245,7 +245,6 @@ impl<L: Ledger> Link<L> {
 
     /// The next segment of an end goes to the other: its answer.
     pub(super) fn carry(&mut self, from: Side, now: u8) -> Option<Arrival> {
-        let now = u64::from(now);
         match from {
             Side::A => pass(&mut self.a, &mut self.b, &self.table, now, &mut self.steps),
             Side::B => pass(&mut self.b, &mut self.a, &self.table, now, &mut self.steps),
