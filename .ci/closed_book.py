@@ -1,7 +1,7 @@
 #!/usr/bin/env python3
 """Whether the book is closed, and short: every definition that a clause of `ao_run::run` cites, directly or through others, stands
 in a crate of the book, with the plain types that it cites, or in the list of what may stand outside; and the definitions that
-`answer` reaches are at most 3,400 lines, without comments, blank lines and imports, of which none has more than 100 columns. Names
+`answer` reaches are at most 3,700 lines, without comments, blank lines and imports, of which none has more than 100 columns. Names
 each definition that stands elsewhere and each line that is too wide, and fails; prints how many definitions and lines there are, and
 with --list the reading list: each file of the book that the clauses reach, with its lines."""
 import os
@@ -9,7 +9,8 @@ import re
 import sys
 
 TOP = os.path.dirname(os.path.dirname(os.path.abspath(__file__)))
-BOOK = ["ao_base", "book_segments", "book_macs", "book_keys", "book_endpoint", "book_lines", "book_link", "wire_model", "format_model"]
+BOOK = ["ao_base", "book_segments", "book_macs", "book_keys", "book_endpoint", "book_lines", "book_link", "book_pcap", "book_bgp", "book_timers",
+        "book_cmd_link", "book_cmd_timed", "book_cmd_node", "book_cmd_bgp", "book_cmd_show", "book_cmd_check", "book_cmd_keys", "book_answer"]
 # What may stand outside the book, a file of a crate: the relations by which the top call speaks of what was read and written and
 # of a check that writes as it reads, the statements of the laws of each run of a link and of a node, what a run tells of
 # messages, and the line form of a pcap file.
@@ -22,7 +23,7 @@ OUTSIDE = ["ao_run/specs/Runs.antt", "ao_run/specs/Obeys.antt", "ao_run/specs/De
            "pcap_file/specs/Reading.antt"]
 ENTRY = ("ao_run", "src/top.rt", "run")
 ANSWER = ("book_answer/specs/Answers.antt", "answer")
-MOST_LINES = 3400
+MOST_LINES = 3700
 COLUMNS = 100
 
 WORD = re.compile(r"[^\s(){}\[\],;:]+")
