@@ -1,6 +1,6 @@
 #!/usr/bin/env python3
 """The names and the sources of the book: which names have more than one definition in it, and which definitions' comments name no
-source. The book here is all crates of definitions: each crate whose name ends in `_model` or begins with `book_`, with `ao_base`.
+source. The book here is all crates of definitions: each crate whose name begins with `book_`, with `ao_base`.
 A definition is what a file of specs/ defines by a name of its own: functions, types and the constructors of its types; the fields
 of a record belong to it, and are none. A source is an RFC or another standard with the section, or *own* in brackets.
 Prints both lists and how long they are; fails on nothing, but with --strict where one isn't empty."""
@@ -18,7 +18,7 @@ SOURCE = re.compile(rf"{STANDARD}|\((?:[^()]*\W)?(?:own|{NAMED})\b[^()]*\)")
 
 def files():
     for crate in sorted(CRATES.iterdir()):
-        if crate.name == "ao_base" or crate.name.endswith("_model") or crate.name.startswith("book_"):
+        if crate.name == "ao_base" or crate.name.startswith("book_"):
             yield from sorted(crate.glob("specs/*.antt"))
 
 
