@@ -1,7 +1,8 @@
 //! The retransmission timer.
-ghost use Rattle.std.specs.Prelude.{◌≡◌, ◌≤◌};
+ghost use Rattle.std.specs.Prelude.{◌≡◌, ◌≤◌, max, min};
 ghost use Rattle.book_timers.specs.Timers.{new_timer, sampled, expired, smoothed_with, value_of, least_value, greatest_value};
 ghost use Rattle.rto_timer.specs.Bounds.{IsWithinADay, AreWithinADay};
+ghost use Rattle.rto_timer.specs.Millis.{finer_value, with_sample};
 
 use book_timers::{Smoothed, Timer};
 use std::marker::Model;
@@ -14,6 +15,12 @@ const GREATEST: u32 = 60_000;
 const GRANULARITY: u32 = 1000;
 /// The most seconds that a sample counts for, a day.
 const LONGEST: u32 = 86_400;
+/// The same in milliseconds.
+const LONGEST_MILLIS: u32 = 86_400_000;
+/// The granularity of a clock that shows milliseconds.
+const MILLISECOND: u32 = 1;
+/// The least value once data flows after a SYN that was sent again, three seconds.
+const SLOW: u32 = 3000;
 
 /// A retransmission timer; seen as its value and, after a first sample, the smoothed round-trip time
 /// and its variation, all in milliseconds (RFC 6298, section 2).
@@ -68,6 +75,27 @@ impl Rto {
         };
     }
 
+    /// Takes a round-trip time of so many milliseconds into account, as a clock shows it whose
+    /// granularity is one millisecond; more than 86,400,000 count as 86,400,000 (RFC 6298, sections
+    /// 2.2 and 2.3).
+    pub fn sample_millis(&mut self, millis: u32)
+        ensures { self.new ≡ with_sample (smoothed_with self.old.smoothed (min millis 86400000)) }
+    {
+        let smoothed = smoothed_with(self.timer.smoothed, millis.min(LONGEST_MILLIS));
+        self.timer = Timer {
+            value: finer_value(smoothed),
+            smoothed: Some(smoothed),
+        };
+    }
+
+    /// The value becomes three seconds, unless it is more: data begins to flow after a SYN that was
+    /// sent again (RFC 6298, section 5.7).
+    pub fn slow(&mut self)
+        ensures { self.new ≡ record self.old { value = max self.old.value 3000 } }
+    {
+        self.timer.value = self.timer.value.max(SLOW);
+    }
+
     /// Doubles the value, up to 60,000, after it went by without an acknowledgement (RFC 6298, section
     /// 5.5).
     pub fn expired(&mut self)
@@ -104,5 +132,16 @@ fn value_of(smoothed: Smoothed) -> u32
     ensures greatest { result ≤ 60000 }
 {
     let value = smoothed.mean + GRANULARITY.max(4 * smoothed.variation);
+    value.clamp(LEAST, GREATEST)
+}
+
+// The value that the smoothed times give on a clock of milliseconds.
+fn finer_value(smoothed: Smoothed) -> u32
+    requires { IsWithinADay smoothed }
+    ensures value { result ≡ finer_value smoothed }
+    ensures least { 1000 ≤ result }
+    ensures greatest { result ≤ 60000 }
+{
+    let value = smoothed.mean + MILLISECOND.max(4 * smoothed.variation);
     value.clamp(LEAST, GREATEST)
 }
