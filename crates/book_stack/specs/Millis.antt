@@ -1,0 +1,24 @@
+-- The retransmission timer on a clock of milliseconds (RFC 6298, section 2).
+use Rattle.std.specs.Prelude.{ℕ, ◌+◌, ◌*◌, min, max, Some}
+use Rattle.book_timers.specs.declared.timer.Timer.{Timer}
+use Rattle.book_timers.specs.declared.timer.Smoothed.{Smoothed}
+use Rattle.book_timers.specs.Timers.{bounded, smoothed_with}
+
+-- the value that smoothed times give: SRTT plus the greater of G, which is 1 here, and four times
+-- RTTVAR, within its bounds (RFC 6298, sections 2.2 to 2.5)
+abbrev pub value_in_millis : Smoothed → ℕ
+value_in_millis s = bounded (s.mean + max 1 (4 * s.variation))
+
+-- a sample that counts: more than a day counts as a day (own)
+abbrev pub counted_millis : ℕ → ℕ
+counted_millis millis = min millis 86400000
+
+-- the timer after a sample of so many milliseconds (RFC 6298, sections 2.2 and 2.3)
+abbrev pub sampled_millis : Timer → ℕ → Timer
+sampled_millis t millis = let s = smoothed_with t.smoothed (counted_millis millis) in
+    record { value = value_in_millis s; smoothed = Some s }
+
+-- the timer once data begins to flow after a SYN that was sent again: three seconds at least (RFC
+-- 6298, section 5.7)
+abbrev pub slowed : Timer → Timer
+slowed t = record t { value = max t.value 3000 }

@@ -1,0 +1,11 @@
+//! A node that runs by itself, as a function on states: the retransmission timers of its connections
+//! (RFC 6298), which end sends next, and what each call answers, leaves and makes of plain events.
+//! Definitions, and the plain types that they and the code share; what holds of every run stands in
+//! `law_stack`.
+#![tactic(auto)]
+
+mod alarm;
+mod front;
+
+pub use alarm::Alarm;
+pub use front::{Change, Front, Timed};

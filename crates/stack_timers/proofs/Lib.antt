@@ -1,0 +1,3 @@
+mod ListLaws
+mod MapLaws
+mod TimingLaws
