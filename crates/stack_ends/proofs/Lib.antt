@@ -1,0 +1,3 @@
+mod EndLaws
+mod FitLaws
+mod SpeakLaws

@@ -1,0 +1,11 @@
+use Rattle.std.proofs.Common.{refl}
+use Rattle.tcp_endpoint.specs.Emitting.{state_after}
+use Rattle.stack_ends.proofs.SpeakLaws.{repeats_of}
+use Rattle.stack_ends.proofs.speaking.repeat.Goals as goal
+
+pub returns-clause-speaks : goal.returns-clause-speaks
+returns-clause-speaks g c = λ s S.
+    let h = c.resend-resent.ensures.resends s S in
+    let S' = h.stands in
+    repeats_of s c.resend-resent.new.self c.waits-waits.new.end c.args.room.now c.resend-resent.new.out _ _ c.resend-resent.result h (λ T. c.waits-waits.ensures.stands _ T)
+    (rw (c.said_again.ensures, c.front_of-before.ensures s S, c.front_of-after.ensures _ S', c.waits-waits.ensures.waits _ S') refl)

@@ -1,0 +1,11 @@
+use Rattle.std.proofs.Common.{refl}
+use Rattle.tcp_endpoint.specs.Emitting.{state_after}
+use Rattle.stack_ends.proofs.SpeakLaws.{speaks_of}
+use Rattle.stack_ends.proofs.speaking.speak.Goals as goal
+
+pub returns-clause-speaks : goal.returns-clause-speaks
+returns-clause-speaks g c = λ s S.
+    let h = c.emit-emission.ensures.emits s S in
+    let S' = h.stands in
+    speaks_of s c.emit-emission.new.self c.waits-waits.new.end c.args.room.now c.emit-emission.new.out _ _ c.emit-emission.result h (λ T. c.waits-waits.ensures.stands _ T)
+    (rw (c.said.ensures, c.front_of-before.ensures s S, c.front_of-after.ensures _ S', c.waits-waits.ensures.waits _ S') refl)

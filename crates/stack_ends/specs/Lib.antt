@@ -1,0 +1,4 @@
+pub mod Calling
+pub mod Meeting
+pub mod Saying
+pub mod Standing

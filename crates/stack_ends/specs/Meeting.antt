@@ -1,0 +1,29 @@
+-- A datagram comes to the ends of a stack (own).
+use Rattle.std.specs.Prelude.{◌≡◌, List, Option, Some, None}
+use Rattle.ao_base.specs.declared.address.Pair.{Pair}
+use Rattle.book_segments.specs.Segments.{Segment, Reading, Read, Bad as Unread}
+use Rattle.book_keys.specs.Rows.{Row}
+use Rattle.book_endpoint.specs.States.{EndState}
+use Rattle.book_endpoint.specs.Arrivals.{arrive}
+use Rattle.book_cmd_node.specs.NodeRuns.{NodeState, Answered, after_call, called, held_end, pair_reached}
+use Rattle.ao_node.specs.declared.answer.NodeArrival.{NodeArrival}
+use Rattle.ao_node.specs.declared.answer.NodeArrival.TheVariants as answers
+use Rattle.tcp_endpoint.specs.declared.arrival.Arrived.{Arrived}
+use Rattle.stack_ends.specs.declared.ends.Ends.{Ends}
+use Rattle.stack_ends.specs.Standing.{Stands}
+
+-- a segment comes to the end of a pair, where it is held (RFC 9293, section 3.10.7)
+abbrev pub MeetsPair : Ends → List Row → NodeState → Segment → Pair → NodeArrival → Option EndState → Type 0
+MeetsPair k rows n d pair told None = (told ≡ answers.NoConnection) × Stands k rows n
+MeetsPair k rows n d pair told (Some s) = let a = arrive rows pair n.clock s (Read d) in
+    (arrived : Arrived) × (told ≡ answers.At pair arrived) × (arrived.arrival ≡ a.answer)
+    × Stands k rows (after_call n pair (called a.state (Answered a.answer))).node
+
+-- a segment comes to the end of its pair (own)
+abbrev pub MeetsRead : Ends → List Row → NodeState → Segment → NodeArrival → Option EndState → Type 0
+MeetsRead k rows n d told held = MeetsPair k rows n d (pair_reached d) told held
+
+-- bytes come (own)
+abbrev pub Meets : Ends → List Row → NodeState → NodeArrival → Reading → Type 0
+Meets k rows n told (Unread fault) = (told ≡ answers.Bad fault) × Stands k rows n
+Meets k rows n told (Read d) = MeetsRead k rows n d told (held_end (pair_reached d) n.ends)
