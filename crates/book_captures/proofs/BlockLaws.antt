@@ -1,5 +1,5 @@
 -- A block at the front is read by its grammar.
-use Rattle.std.proofs.Common.{◌≡◌, ℕ, ◌+◌, ◌-◌, ◌%◌, ◌==◌, ◌<◌, ◌≤◌, Bool, true, false, List, ◌++◌, length, take, drop, nat_lt, Option, Some, None, Result, Ok, Err, if◌then◌else◌, refl, sym, ap, ◌∙◌, subst, arith}
+use Rattle.std.proofs.Common.{◌≡◌, ℕ, ◌-◌, ◌%◌, ◌==◌, ◌≤◌, Bool, true, false, List, ◌++◌, length, take, drop, nat_lt, Option, Some, None, Result, Ok, Err, if◌then◌else◌, refl, sym, ap, ◌∙◌, subst, arith}
 use Rattle.std.proofs.lemmas.Bool.{le-ltb, ltb-false, eq-eqb, eqb-true}
 use Rattle.std.proofs.lemmas.List.{length-append, length-drop, length-take-le, take-append-drop, take-append-le, take-take, drop_at, drop-append-le}
 use Rattle.ao_base.specs.Results.{◌>>=◌, or_fault}
@@ -17,7 +17,7 @@ order_by section kind big little = if kind == section_header
     then or_fault (if big == byte_order_magic then Some Big else if little == byte_order_magic then Some Little else None) fault.Order
     else or_fault section fault.NoSection
 
-order_front : (section : Option ByteOrder) (xs ys : List ℕ) → 12 ≤ length xs → order_at section (xs ++ ys) ≡ order_at section xs
+pub order_front : (section : Option ByteOrder) (xs ys : List ℕ) → 12 ≤ length xs → order_at section (xs ++ ys) ≡ order_at section xs
 order_front section xs ys le =
     ap (λ (n : ℕ). order_by section n (four_at Big (xs ++ ys) 8) (four_at Little (xs ++ ys) 8)) (four_front Big xs ys 0 (omega arith))
     ∙ (ap (λ (n : ℕ). order_by section (four_at Big xs 0) n (four_at Little (xs ++ ys) 8)) (four_front Big xs ys 8 (omega arith))

@@ -1,15 +1,15 @@
 -- A pcapng file is read by its grammar.
-use Rattle.std.proofs.Common.{◌≡◌, ◌⊎◌, ℕ, zero, suc, ◌+◌, ◌-◌, ◌<◌, ◌≤◌, ◌==◌, List, [], ◌∷◌, ◌++◌, length, take, drop, Option, Some, None, Result, Ok, Err, refl, sym, ap, ◌∙◌, subst, inl, inr, arith, append_assoc}
+use Rattle.std.proofs.Common.{◌≡◌, ◌⊎◌, ℕ, zero, suc, ◌+◌, ◌-◌, ◌<◌, ◌≤◌, List, [], ◌∷◌, ◌++◌, length, drop, Option, Some, None, Result, Ok, Err, refl, sym, ap, ◌∙◌, subst, inl, inr, arith, append_assoc}
 use Rattle.std.proofs.lemmas.Bool.{cases_eq, eq-eqb, ne_eqb}
 use Rattle.std.proofs.lemmas.List.{length-append, append-nil, nil_from_length, length-drop, length-take-le}
 use Rattle.book_pcap.specs.declared.pcap_head.ByteOrder.{ByteOrder}
 use Rattle.book_captures.specs.declared.block_parts.BlockFault.{BlockFault}
 use Rattle.book_captures.specs.Blocks.{Block, block_at, IsBlock}
-use Rattle.book_captures.specs.Captures.{AreBlocks, section_behind, Broken, Blocks, with_block, block_length, blocks_by, blocks_from, blocks_of, EndsBroken}
+use Rattle.book_captures.specs.PcapngFiles.{AreBlocks, section_behind, BrokenBlock, Blocks, with_block, block_length, blocks_by, blocks_from, blocks_of, EndsBroken}
 use Rattle.book_captures.proofs.BlockLaws.{block_read, block_found}
 
 -- a block has as many bytes as it says
-block_size : (section : Option ByteOrder) (b : Block) (one : List ℕ) → IsBlock section b one → length one ≡ block_length b
+pub block_size : (section : Option ByteOrder) (b : Block) (one : List ℕ) → IsBlock section b one → length one ≡ block_length b
 block_size section b one is =
     let least = is.least in
     let inner = ap (λ (xs : List ℕ). length xs) is.body in
@@ -139,11 +139,11 @@ whole_is_read list file are =
     ∙ (ap (in_front list) (none_left t.left (section_behind None list) (1 + length list) (0 + length file) [] refl)
     ∙ ap (λ (bs : List Block). record { list = bs; broken = None }) (append-nil list)))
 
-same_broken : (x : Broken) (number byte : ℕ) → number ≡ x.number → byte ≡ x.byte → record { fault = x.fault; number = number; byte = byte } ≡ x
+same_broken : (x : BrokenBlock) (number byte : ℕ) → number ≡ x.number → byte ≡ x.byte → record { fault = x.fault; number = number; byte = byte } ≡ x
 same_broken x number byte e f =
     ap (λ (n : ℕ). record { fault = x.fault; number = n; byte = byte }) e ∙ ap (λ (n : ℕ). record { fault = x.fault; number = x.number; byte = n }) f
 
-pub broken_is_read : (list : List Block) (broken : Broken) (file : List ℕ) → EndsBroken list broken file → blocks_of file ≡ record { list = list; broken = Some broken }
+pub broken_is_read : (list : List Block) (broken : BrokenBlock) (file : List ℕ) → EndsBroken list broken file → blocks_of file ≡ record { list = list; broken = Some broken }
 unfolding blocks_of
 broken_is_read list broken file ends =
     let size = ap (λ (xs : List ℕ). length xs) ends.parts in
@@ -153,14 +153,14 @@ broken_is_read list broken file ends =
     ∙ (t.is
     ∙ (ap (in_front list) (at_stuck t.left (section_behind None list) (1 + length list) (0 + length ends.body) ends.tail broken.fault ends.some t.enough ends.fault)
     ∙ (ap (λ (bs : List Block). record { list = bs; broken = Some (record { fault = broken.fault; number = 1 + length list; byte = 0 + length ends.body }) }) (append-nil list)
-    ∙ ap (λ (x : Broken). record { list = list; broken = Some x }) (same_broken broken (1 + length list) (0 + length ends.body) (sym ends.number) place))))
+    ∙ ap (λ (x : BrokenBlock). record { list = list; broken = Some x }) (same_broken broken (1 + length list) (0 + length ends.body) (sym ends.number) place))))
 
 -- a file that is split so
 blocks_alone : (file : List ℕ) (s : Split None file) → s.tail ≡ [] → AreBlocks None s.list file
 blocks_alone file s none =
     subst (λ (xs : List ℕ). AreBlocks None s.list xs) (sym (s.parts ∙ (ap (λ (xs : List ℕ). s.body ++ xs) none ∙ append-nil s.body))) s.are
 
-abbrev reason : (file : List ℕ) (s : Split None file) → Stuck (section_behind None s.list) s.tail → Broken
+abbrev reason : (file : List ℕ) (s : Split None file) → Stuck (section_behind None s.list) s.tail → BrokenBlock
 reason file s stuck = record { fault = stuck.fault; number = 1 + length s.list; byte = length s.body }
 
 blocks_broken : (file : List ℕ) (s : Split None file) (stuck : Stuck (section_behind None s.list) s.tail) → EndsBroken s.list (reason file s stuck) file
@@ -188,10 +188,10 @@ whole_read list file e =
           let no = ap (λ (x : Blocks). x.broken) same in absurd (cc)
     ]
 
-some_broken : (x y : Broken) → Some x ≡ Some y → x ≡ y
+some_broken : (x y : BrokenBlock) → Some x ≡ Some y → x ≡ y
 some_broken x y e = cc
 
-pub broken_read : (list : List Block) (broken : Broken) (file : List ℕ) → blocks_of file ≡ record { list = list; broken = Some broken } → EndsBroken list broken file
+pub broken_read : (list : List Block) (broken : BrokenBlock) (file : List ℕ) → blocks_of file ≡ record { list = list; broken = Some broken } → EndsBroken list broken file
 broken_read list broken file e =
     let s = split (length file) None file (omega arith) in
     elim s.ends [
@@ -202,6 +202,6 @@ broken_read list broken file e =
           let ends = blocks_broken file s stuck in
           let same = sym (broken_is_read s.list (reason file s stuck) file ends) ∙ e in
           let fault = some_broken (reason file s stuck) broken (ap (λ (x : Blocks). x.broken) same) in
-          subst (λ (x : Broken). EndsBroken list x file) fault
+          subst (λ (x : BrokenBlock). EndsBroken list x file) fault
           (subst (λ (bs : List Block). EndsBroken bs (reason file s stuck) file) (ap (λ (x : Blocks). x.list) same) ends)
     ]

@@ -1,12 +1,12 @@
 -- A record at the front is read by its grammar.
-use Rattle.std.proofs.Common.{◌≡◌, ℕ, ◌+◌, ◌-◌, ◌*◌, ◌<◌, ◌≤◌, Bool, true, false, List, ◌++◌, length, take, drop, nat_lt, Result, Ok, Err, if◌then◌else◌, refl, sym, ap, ◌∙◌, subst, arith}
+use Rattle.std.proofs.Common.{◌≡◌, ℕ, ◌+◌, ◌-◌, ◌*◌, ◌≤◌, Bool, true, false, List, ◌++◌, length, take, drop, nat_lt, Result, Ok, Err, if◌then◌else◌, refl, sym, ap, ◌∙◌, subst, arith}
 use Rattle.std.proofs.lemmas.Bool.{le-ltb, ltb-false}
 use Rattle.std.proofs.lemmas.List.{length-append, length-drop, length-take-le, take-append-drop, take_at, drop_at, drop-append-le}
 use Rattle.book_pcap.specs.Packets.{four_at}
 use Rattle.book_captures.specs.declared.pcap_head.PcapHead.{PcapHead}
 use Rattle.book_captures.specs.declared.pcap_head.RecordFault.{RecordFault}
 use Rattle.book_captures.specs.declared.pcap_head.RecordFault.TheVariants as record_fault
-use Rattle.book_captures.specs.PcapFiles.{nanoseconds, Kept, record_time, record_at, IsRecord}
+use Rattle.book_captures.specs.PcapFiles.{nanoseconds, KeptPacket, record_time, pcap_record_at, IsPcapRecord}
 use Rattle.book_captures.proofs.Fronts.{four_front, take_drop}
 
 time_front : (head : PcapHead) (xs ys : List ℕ) → 16 ≤ length xs → record_time head (xs ++ ys) ≡ record_time head xs
@@ -19,23 +19,23 @@ same_length : (n : ℕ) → 16 + n - 16 ≡ n
 same_length n = omega arith
 
 -- the packet of a record of this length
-abbrev whole : PcapHead → ℕ → List ℕ → Kept
+abbrev whole : PcapHead → ℕ → List ℕ → KeptPacket
 whole head len text = record { time = record_time head text; original = four_at head.order text 12; bytes = take (16 + len - 16) (drop 16 text) }
 
 record_whole : (head : PcapHead) (text : List ℕ) → 16 ≤ length text → four_at head.order text 8 ≤ 262144 → 16 + four_at head.order text 8 ≤ length text
-    → record_at head text ≡ Ok (whole head (four_at head.order text 8) text, drop (16 + four_at head.order text 8) text)
-unfolding record_at
+    → pcap_record_at head text ≡ Ok (whole head (four_at head.order text 8) text, drop (16 + four_at head.order text 8) text)
+unfolding pcap_record_at
 record_whole head text le fits all =
     rw (le-ltb (length text) 16 le, le-ltb 262144 (four_at head.order text 8) fits, le-ltb (length text) (16 + four_at head.order text 8) all) refl
 
-same_kept : (k : Kept) (time original : ℕ) (bytes : List ℕ) → time ≡ k.time → original ≡ k.original → bytes ≡ k.bytes
+same_kept : (k : KeptPacket) (time original : ℕ) (bytes : List ℕ) → time ≡ k.time → original ≡ k.original → bytes ≡ k.bytes
     → record { time = time; original = original; bytes = bytes } ≡ k
 same_kept k time original bytes e f g =
     ap (λ (n : ℕ). record { time = n; original = original; bytes = bytes }) e
     ∙ (ap (λ (n : ℕ). record { time = k.time; original = n; bytes = bytes }) f
     ∙ ap (λ (b : List ℕ). record { time = k.time; original = k.original; bytes = b }) g)
 
-pub record_read : (head : PcapHead) (k : Kept) (one rest : List ℕ) → IsRecord head k one → record_at head (one ++ rest) ≡ Ok (k, rest)
+pub record_read : (head : PcapHead) (k : KeptPacket) (one rest : List ℕ) → IsPcapRecord head k one → pcap_record_at head (one ++ rest) ≡ Ok (k, rest)
 record_read head k one rest r =
     let long = r.whole in
     let most = r.most in
@@ -50,14 +50,14 @@ record_read head k one rest r =
     ∙ (ap (take (length k.bytes)) split ∙ take_at k.bytes rest (length k.bytes) refl) in
     let others : drop (16 + four_at head.order (one ++ rest) 8) (one ++ rest) ≡ rest = drop_at one rest (16 + four_at head.order (one ++ rest) 8) (omega arith) in
     record_whole head (one ++ rest) (omega arith) (omega arith) (omega arith)
-    ∙ (ap (λ (x : Kept). Ok (x, drop (16 + four_at head.order (one ++ rest) 8) (one ++ rest)))
+    ∙ (ap (λ (x : KeptPacket). Ok (x, drop (16 + four_at head.order (one ++ rest) 8) (one ++ rest)))
     (same_kept k (record_time head (one ++ rest)) (four_at head.order (one ++ rest) 12) (take (16 + four_at head.order (one ++ rest) 8 - 16) (drop 16 (one ++ rest))) time original kept)
     ∙ ap (λ (xs : List ℕ). Ok (k, xs)) others)
 
 -- a record at the front, as the grammar has it
-pub record AtFront (head : PcapHead) (text : List ℕ) (k : Kept) (rest : List ℕ) : Type 0 where
+pub record AtFront (head : PcapHead) (text : List ℕ) (k : KeptPacket) (rest : List ℕ) : Type 0 where
   pub one : List ℕ
-  pub is : IsRecord head k one
+  pub is : IsPcapRecord head k one
   pub parts : text ≡ one ++ rest
 
 front_whole : (head : PcapHead) (text : List ℕ) → 16 ≤ length text → four_at head.order text 8 ≤ 262144 → 16 + four_at head.order text 8 ≤ length text
@@ -80,15 +80,15 @@ front_whole head text long fits all =
       parts = sym parts;
     }
 
-pair_parts : (k l : Kept) (a b : List ℕ) → ◌≡◌ {A = Result (Kept × List ℕ) RecordFault} (Ok (k, a)) (Ok (l, b)) → (k ≡ l) × (a ≡ b)
+pair_parts : (k l : KeptPacket) (a b : List ℕ) → ◌≡◌ {A = Result (KeptPacket × List ℕ) RecordFault} (Ok (k, a)) (Ok (l, b)) → (k ≡ l) × (a ≡ b)
 pair_parts k l a b e =
-    let same : (k, a) ≡ (l, b) = cc in (ap (λ (p : Kept × List ℕ). p.0) same, ap (λ (p : Kept × List ℕ). p.1) same)
+    let same : (k, a) ≡ (l, b) = cc in (ap (λ (p : KeptPacket × List ℕ). p.0) same, ap (λ (p : KeptPacket × List ℕ). p.1) same)
 
 -- what is read of it
-abbrev read_as : PcapHead → List ℕ → Result (Kept × List ℕ) RecordFault
+abbrev read_as : PcapHead → List ℕ → Result (KeptPacket × List ℕ) RecordFault
 read_as head text = Ok (whole head (four_at head.order text 8) text, drop (16 + four_at head.order text 8) text)
 
-found_by : (short over part : Bool) (head : PcapHead) (text : List ℕ) (k : Kept) (rest : List ℕ) → nat_lt (length text) 16 ≡ short
+found_by : (short over part : Bool) (head : PcapHead) (text : List ℕ) (k : KeptPacket) (rest : List ℕ) → nat_lt (length text) 16 ≡ short
     → nat_lt 262144 (four_at head.order text 8) ≡ over → nat_lt (length text) (16 + four_at head.order text 8) ≡ part
     → (if short then Err record_fault.Short else if over then Err record_fault.TooLong else if part then Err record_fault.Short
     else read_as head text) ≡ Ok (k, rest)
@@ -99,10 +99,10 @@ found_by false false true head text k rest s o p e = absurd (cc)
 found_by false false false head text k rest s o p e =
     let same = pair_parts (whole head (four_at head.order text 8) text) k (drop (16 + four_at head.order text 8) text) rest e in
     let there = front_whole head text (ltb-false (length text) 16 s) (ltb-false 262144 (four_at head.order text 8) o) (ltb-false (length text) (16 + four_at head.order text 8) p) in
-    subst (λ (x : Kept). AtFront head text x rest) same.0
+    subst (λ (x : KeptPacket). AtFront head text x rest) same.0
     (subst (λ (xs : List ℕ). AtFront head text (whole head (four_at head.order text 8) text) xs) same.1 there)
 
-pub record_found : (head : PcapHead) (text : List ℕ) (k : Kept) (rest : List ℕ) → record_at head text ≡ Ok (k, rest) → AtFront head text k rest
-unfolding record_at
+pub record_found : (head : PcapHead) (text : List ℕ) (k : KeptPacket) (rest : List ℕ) → pcap_record_at head text ≡ Ok (k, rest) → AtFront head text k rest
+unfolding pcap_record_at
 record_found head text k rest e =
     found_by (nat_lt (length text) 16) (nat_lt 262144 (four_at head.order text 8)) (nat_lt (length text) (16 + four_at head.order text 8)) head text k rest refl refl refl e

@@ -3,30 +3,31 @@ use Rattle.std.specs.Prelude.{◌≡◌, ℕ, ◌-◌, ◌%◌, ◌==◌, ◌≤
 use Rattle.ao_base.specs.Results.{◌>>=◌, or_fault}
 use Rattle.book_pcap.specs.declared.pcap_head.ByteOrder.{ByteOrder}
 use Rattle.book_pcap.specs.declared.pcap_head.ByteOrder.TheVariants.{Big, Little}
-use Rattle.book_pcap.specs.Packets.{two_at, four_at}
+use Rattle.book_pcap.specs.Packets.{four_at}
 use Rattle.book_captures.specs.declared.block_parts.BlockFault.{BlockFault}
 use Rattle.book_captures.specs.declared.block_parts.BlockFault.TheVariants as fault
 
--- a block: the order of its numbers' bytes, its type, and what stands between its lengths
+-- a block: the order of its numbers' bytes, its type, and what stands between its lengths (pcapng,
+-- section 3.1)
 pub record Block : Type 0 where
   pub order : ByteOrder
   pub kind : ℕ
   pub body : List ℕ
 
--- the type of the header of a section, in either order (section 4.1)
+-- the type of the header of a section, in either order (pcapng, section 4.1)
 abbrev pub section_header : ℕ
 section_header = 0x0a0d0d0a
 
--- the number by which a section's header tells its order (section 4.1)
+-- the number by which a section's header tells its order (pcapng, section 4.1)
 abbrev pub byte_order_magic : ℕ
 byte_order_magic = 0x1a2b3c4d
 
--- the order that the header of a section tells
+-- the order that the header of a section tells (pcapng, section 4.1)
 abbrev pub told_order : List ℕ → Option ByteOrder
 told_order text = if four_at Big text 8 == byte_order_magic then Some Big
     else if four_at Little text 8 == byte_order_magic then Some Little else None
 
--- the order of the block at the front, in a section of this order, if in one (section 4.1)
+-- the order of the block at the front, in a section of this order, if in one (pcapng, section 4.1)
 abbrev pub order_at : Option ByteOrder → List ℕ → Result ByteOrder BlockFault
 order_at section text = if four_at Big text 0 == section_header
     then or_fault (told_order text) fault.Order else or_fault section fault.NoSection
@@ -35,13 +36,13 @@ order_at section text = if four_at Big text 0 == section_header
 abbrev pub most_in_block : ℕ
 most_in_block = 16777216
 
--- why a block has no such total length (section 3.1)
+-- why a block has no such total length (pcapng, section 3.1)
 abbrev pub length_fault : ℕ → Option BlockFault
 length_fault len = if nat_lt len 12 then Some fault.Length
     else if nat_lt most_in_block len then Some fault.TooLong
     else if len % 4 == 0 then None else Some fault.Length
 
--- the block at the front with this total length, and the bytes behind it
+-- the block at the front with this total length, and the bytes behind it (pcapng, section 3.1)
 abbrev pub block_of_length : ByteOrder → ℕ → Option BlockFault → List ℕ
     → Result (Block × List ℕ) BlockFault
 block_of_length order len (Some why) text = Err why
@@ -58,13 +59,14 @@ block_of_length order len None text = if nat_lt (length text) len then Err fault
     else Err fault.Trailer
 
 -- the block at the front, in a section of this order, if in one, and the bytes behind it: its type
--- and its total length of four bytes each, its body, and the total length again (section 3.1)
+-- and its total length of four bytes each, its body, and the total length again (pcapng, section
+-- 3.1)
 unfoldable pub block_at : Option ByteOrder → List ℕ → Result (Block × List ℕ) BlockFault
 block_at section text = if nat_lt (length text) 12 then Err fault.Short else (do
   order ← order_at section text
   let len = four_at order text 4 in block_of_length order len (length_fault len) text)
 
--- the bytes are this block, in a section of this order, if in one (section 3.1)
+-- the bytes are this block, in a section of this order, if in one (pcapng, section 3.1)
 pub record IsBlock (section : Option ByteOrder) (block : Block) (bytes : List ℕ) : Type 0 where
   pub order : order_at section bytes ≡ Ok block.order
   pub kind : four_at block.order bytes 0 ≡ block.kind

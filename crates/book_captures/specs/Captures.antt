@@ -1,69 +1,103 @@
--- A pcapng file as its blocks, one after another (draft-ietf-opsawg-pcapng).
-use Rattle.std.specs.Prelude.{◌≡◌, ℕ, zero, suc, ◌+◌, ◌<◌, ◌==◌, List, [], ◌∷◌, ◌++◌, length, Option, Some, None, Result, Ok, Err, if◌then◌else◌}
-use Rattle.book_pcap.specs.declared.pcap_head.ByteOrder.{ByteOrder}
-use Rattle.book_captures.specs.declared.block_parts.BlockFault.{BlockFault}
-use Rattle.book_captures.specs.Blocks.{Block, block_at, IsBlock}
+-- A capture, of either format: its packets, and how it ends.
+use Rattle.std.specs.Prelude.{ℕ, zero, suc, ◌+◌, ◌==◌, List, [], ◌∷◌, length, drop, Option, Some, None, Result, Ok, Err, if◌then◌else◌}
+use Rattle.book_captures.specs.declared.capture_parts.CaptureFault.{CaptureFault}
+use Rattle.book_captures.specs.declared.capture_parts.Cause.{Cause}
+use Rattle.book_captures.specs.declared.link_type.LinkType.{LinkType}
+use Rattle.book_captures.specs.declared.reasons.Skipped.{Skipped}
+use Rattle.book_captures.specs.declared.reasons.Skipped.TheVariants.{UnknownLink}
+use Rattle.book_captures.specs.Frames.{link_type, Datagram, datagram_in}
+use Rattle.book_captures.specs.Parts.{Frame, PartSaid, Shows, Describes, Neither, FilePlace, Part, part_at, behind_part, OpenedFile, capture_opened}
 
--- the bytes are these blocks, in a section of this order, if in one: behind a block stands one of
--- the same order, or the header of another section (section 3.1)
-abbrev pub AreBlocks : Option ByteOrder → List Block → List ℕ → Type 0
-AreBlocks section [] bytes = bytes ≡ []
-AreBlocks section (b ∷ bs) bytes = (one : List ℕ) × (others : List ℕ)
-    × IsBlock section b one × AreBlocks (Some b.order) bs others × (bytes ≡ one ++ others)
+-- the datagram of a packet with this link type, or why the packet is passed over (own)
+abbrev pub datagram_by : Option LinkType → Frame → Result Datagram Skipped
+datagram_by None f = Err (UnknownLink f.link)
+datagram_by (Some link) f = datagram_in link f.bytes f.original
 
--- the order of the section behind blocks, if in one
-abbrev pub section_behind : Option ByteOrder → List Block → Option ByteOrder
-section_behind section [] = section
-section_behind section (b ∷ bs) = section_behind (Some b.order) bs
+-- the datagram of a packet, or why the packet is passed over (own)
+unfoldable pub frame_datagram : Frame → Result Datagram Skipped
+frame_datagram f = datagram_by (link_type f.link) f
 
--- why blocks end: a fault, with the number of the block that has it, from 1 on, and of its first
--- byte in the file, from 0 on
-pub record Broken : Type 0 where
-  pub fault : BlockFault
+-- a packet of a capture: its number, from 1 on, and what the capture keeps of it (own)
+pub record CapturePacket : Type 0 where
   pub number : ℕ
-  pub byte : ℕ
+  pub frame : Frame
 
--- the blocks up to the first fault, and that fault
-pub record Blocks : Type 0 where
-  pub list : List Block
-  pub broken : Option Broken
+-- a capture: its packets up to the first fault, how many blocks were passed over, since they
+-- neither show a packet nor say how others are read, and that fault (own)
+pub record Capture : Type 0 where
+  pub packets : List CapturePacket
+  pub passed : ℕ
+  pub fault : Option CaptureFault
 
--- a block in front of others
-abbrev pub with_block : Block → Blocks → Blocks
-with_block b others = record { list = b ∷ others.list; broken = others.broken }
+-- how far a reading is: behind so many packets, parts and bytes (own)
+pub record PartCounts : Type 0 where
+  pub packets : ℕ
+  pub parts : ℕ
+  pub bytes : ℕ
 
--- how many bytes a block has
-abbrev pub block_length : Block → ℕ
-block_length b = 12 + length b.body
+-- how many packets a part shows (own)
+abbrev pub shown_by : PartSaid → ℕ
+shown_by (Shows frame) = 1
+shown_by said = 0
 
--- the blocks of bytes of which this is read at the front, the first of this number and at this
--- byte, where those of what follows are known
-abbrev pub blocks_by : (number byte : ℕ) → Result (Block × List ℕ) BlockFault
-    → (Option ByteOrder → (number byte : ℕ) → List ℕ → Blocks) → Blocks
-blocks_by number byte (Err why) others =
-    record { list = []; broken = Some (record { fault = why; number = number; byte = byte }) }
-blocks_by number byte (Ok front) others = with_block front.0
-    (others (Some front.0.order) (number + 1) (byte + block_length front.0) front.1)
+-- behind one more part (own)
+abbrev pub further : PartCounts → Part → PartCounts
+further counts part = record {
+  packets = counts.packets + shown_by part.said;
+  parts = counts.parts + 1;
+  bytes = counts.bytes + part.size;
+}
 
--- the blocks of these bytes, in a section of this order, if in one, the first of this number and at
--- this byte; the first argument bounds how many there are
-unfoldable pub blocks_from : ℕ → Option ByteOrder → (number byte : ℕ) → List ℕ → Blocks
-blocks_from zero section number byte text = record { list = []; broken = None }
-blocks_from (suc k) section number byte text = if length text == 0
-    then record { list = []; broken = None }
-    else blocks_by number byte (block_at section text) (blocks_from k)
+-- what a part says behind so many packets, in front of others (own)
+abbrev pub with_said : PartSaid → ℕ → Capture → Capture
+with_said (Shows frame) count others = record {
+  packets = record { number = count + 1; frame = frame } ∷ others.packets;
+  passed = others.passed;
+  fault = others.fault;
+}
+with_said (Describes interfaces) count others = others
+with_said Neither count others =
+    record { packets = others.packets; passed = others.passed + 1; fault = others.fault }
 
--- the blocks of a file up to the first fault, and that fault
-unfoldable pub blocks_of : List ℕ → Blocks
-blocks_of file = blocks_from (length file) None 1 0 file
+-- nothing more (own)
+abbrev pub ended : Capture
+ended = record { packets = []; passed = 0; fault = None }
 
--- the file is these blocks, and then bytes that don't begin with one, for this reason (own)
-pub record EndsBroken (list : List Block) (broken : Broken) (file : List ℕ) : Type 0 where
-  pub body : List ℕ
-  pub tail : List ℕ
-  pub parts : file ≡ body ++ tail
-  pub blocks : AreBlocks None list body
-  pub some : 0 < length tail
-  pub fault : block_at (section_behind None list) tail ≡ Err broken.fault
-  pub number : broken.number ≡ 1 + length list
-  pub byte : broken.byte ≡ length body
+-- nothing more, for this reason, in the part behind so many (own)
+abbrev pub broken : PartCounts → Cause → Capture
+broken counts why = record {
+  packets = [];
+  passed = 0;
+  fault = Some (record { cause = why; number = counts.parts + 1; byte = counts.bytes });
+}
+
+-- what is read of the part behind so many, where what follows it is known (own)
+abbrev pub capture_by : PartCounts → Result Part Cause → (Part → Capture) → Capture
+capture_by counts (Err why) others = broken counts why
+capture_by counts (Ok part) others = with_said part.said counts.packets (others part)
+
+-- the parts of these bytes; the first argument bounds how many there are (own)
+unfoldable pub capture_from : ℕ → FilePlace → PartCounts → List ℕ → Capture
+capture_from zero place counts text = ended
+capture_from (suc k) place counts text = if length text == 0 then ended
+    else capture_by counts (part_at place text) (λ part.
+    capture_from k (behind_part place part) (further counts part) (drop part.size text))
+
+-- the parts of these bytes (own)
+abbrev pub capture_at : FilePlace → PartCounts → List ℕ → Capture
+capture_at place counts text = capture_from (length text) place counts text
+
+-- the parts behind a header; a header that is refused is part 0 (own)
+abbrev pub capture_behind : Result OpenedFile Cause → List ℕ → Capture
+capture_behind (Err why) file = record {
+  packets = [];
+  passed = 0;
+  fault = Some (record { cause = why; number = 0; byte = 0 });
+}
+capture_behind (Ok front) file = capture_at front.place
+    (record { packets = 0; parts = 0; bytes = front.size })
+    (drop front.size file)
+
+-- the capture in a file (own)
+unfoldable pub capture_of : List ℕ → Capture
+capture_of file = capture_behind (capture_opened file) file

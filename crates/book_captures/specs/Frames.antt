@@ -1,6 +1,6 @@
 -- The datagram in a frame: behind the link's header, tags, a session's header and a stack of
 -- labels.
-use Rattle.std.specs.Prelude.{ℕ, zero, suc, ◌+◌, ◌-◌, ◌*◌, ◌/◌, ◌%◌, ◌==◌, nat_lt, Bool, true, false, List, [], ◌∷◌, length, take, drop, slice_index, Option, Some, None, Result, Ok, Err, if◌then◌else◌}
+use Rattle.std.specs.Prelude.{ℕ, ◌+◌, ◌-◌, ◌*◌, ◌/◌, ◌%◌, ◌==◌, nat_lt, Bool, true, false, List, ◌∷◌, length, take, drop, slice_index, Option, Some, None, Result, Ok, Err, if◌then◌else◌}
 use Rattle.ao_base.specs.Results.{◌>>=◌}
 use Rattle.book_pcap.specs.declared.pcap_head.ByteOrder.TheVariants.{Big, Little}
 use Rattle.book_pcap.specs.Packets.{two_at, four_at}
@@ -8,7 +8,6 @@ use Rattle.book_captures.specs.declared.link_type.LinkType.{LinkType}
 use Rattle.book_captures.specs.declared.link_type.LinkType.TheVariants.{Ethernet, RawIp, RawIpv4, RawIpv6, LinuxCooked, LinuxCookedV2, BsdLoopback}
 use Rattle.book_captures.specs.declared.link_type.Protocol.{Protocol}
 use Rattle.book_captures.specs.declared.link_type.Protocol.TheVariants.{Ip, Ipv4, Ipv6, Tag, Session, Labels, Other}
-use Rattle.book_captures.specs.declared.reasons.Header.{Header}
 use Rattle.book_captures.specs.declared.reasons.Header.TheVariants as header
 use Rattle.book_captures.specs.declared.reasons.Skipped.{Skipped}
 use Rattle.book_captures.specs.declared.reasons.Skipped.TheVariants.{NotIp, Version, NotSession, Short, Cut}
@@ -30,7 +29,7 @@ link_type n = if n == 0 then Some BsdLoopback
     else if n == 276 then Some LinuxCookedV2
     else None
 
--- what follows a header: which protocol, and its bytes
+-- what follows a header: which protocol, and its bytes (own)
 pub record Layer : Type 0 where
   pub protocol : Protocol
   pub body : List ℕ
@@ -65,19 +64,19 @@ family n = if n == 2 then Ipv4
     else if n == 30 then Ipv6
     else Other
 
--- a protocol, or a second one where the first is none of those that are read
+-- a protocol, or a second one where the first is none of those that are read (own)
 abbrev pub or_else : Protocol → Protocol → Protocol
 or_else Other second = second
 or_else first second = first
 
 -- how long the header of a link is (RFC 894; libpcap, LINKTYPE_LINUX_SLL, LINKTYPE_LINUX_SLL2,
 -- LINKTYPE_NULL)
-abbrev pub header_length : LinkType → ℕ
-header_length Ethernet = 14
-header_length LinuxCooked = 16
-header_length LinuxCookedV2 = 20
-header_length BsdLoopback = 4
-header_length _ = 0
+abbrev pub link_header_length : LinkType → ℕ
+link_header_length Ethernet = 14
+link_header_length LinuxCooked = 16
+link_header_length LinuxCookedV2 = 20
+link_header_length BsdLoopback = 4
+link_header_length _ = 0
 
 -- what the header of a link says that follows it (as above; a family is read in either order, own)
 abbrev pub protocol_in : LinkType → List ℕ → Protocol
@@ -90,10 +89,10 @@ protocol_in RawIp frame = Ip
 protocol_in RawIpv4 frame = Ipv4
 protocol_in RawIpv6 frame = Ipv6
 
--- what follows the header of the link
+-- what follows the header of the link (own)
 unfoldable pub behind_link : LinkType → List ℕ → Result Layer Skipped
-behind_link link frame = if nat_lt (length frame) (header_length link) then Err (Short header.Link)
-    else Ok (record { protocol = protocol_in link frame; body = drop (header_length link) frame })
+behind_link link frame = if nat_lt (length frame) (link_header_length link) then Err (Short header.Link)
+    else Ok (record { protocol = protocol_in link frame; body = drop (link_header_length link) frame })
 
 -- what follows any number of tags: each has two bytes of control information, and then the
 -- EtherType of what follows it (IEEE 802.1Q, 9.6)
@@ -136,21 +135,21 @@ version_by Ipv4 n = if n == 4 then Ok V4 else Err Version
 version_by Ipv6 n = if n == 6 then Ok V6 else Err Version
 version_by protocol n = Err NotIp
 
--- whether a protocol is IP
-abbrev pub is_ip : Protocol → Bool
-is_ip Ip = true
-is_ip Ipv4 = true
-is_ip Ipv6 = true
-is_ip protocol = false
+-- whether a protocol is IP (own)
+abbrev pub is_ip_protocol : Protocol → Bool
+is_ip_protocol Ip = true
+is_ip_protocol Ipv4 = true
+is_ip_protocol Ipv6 = true
+is_ip_protocol protocol = false
 
--- the version of the datagram that stands here
+-- the version of the datagram that stands here (RFC 791, section 3.1, and RFC 8200, section 3)
 unfoldable pub version_in : Layer → Result IpVersion Skipped
-version_in layer = if is_ip layer.protocol
+version_in layer = if is_ip_protocol layer.protocol
     then (if length layer.body == 0 then Err (Short header.Datagram)
     else version_by layer.protocol (slice_index layer.body 0 / 16))
     else Err NotIp
 
--- a field of two bytes in the header of IPv4 is 0
+-- a field of two bytes in the header of IPv4 is 0 (RFC 791, section 3.1)
 abbrev pub is_zero : IpVersion → ℕ → List ℕ → Bool
 is_zero V6 at bytes = false
 is_zero V4 at bytes = if nat_lt (length bytes) 20 then false else two_at Big bytes at == 0
@@ -168,46 +167,49 @@ abbrev pub full_length : IpVersion → List ℕ → ℕ → ℕ
 full_length version bytes missing = if is_zero version 2 bytes then length bytes + missing
     else told_length version bytes
 
--- how much there is of so many bytes
+-- how much there is of so many bytes (own)
 abbrev pub extent_of : (full here missing : ℕ) → Extent
 extent_of full here missing = if nat_lt (here + missing) full then extent.Short
     else if nat_lt here full then extent.Cut else extent.Whole
 
 -- a datagram as far as it was captured; whether its total length and its header's checksum are 0,
--- as where a network card was to fill them in
+-- as where a network card was to fill them in (own)
 pub record Datagram : Type 0 where
   pub version : IpVersion
   pub bytes : List ℕ
+  pub behind : List ℕ
   pub extent : Extent
   pub no_length : Bool
   pub no_checksum : Bool
 
 -- the datagram of this version that begins these bytes, of a packet of which so many bytes are
--- missing
+-- missing (own)
 unfoldable pub datagram_at : IpVersion → List ℕ → ℕ → Datagram
 datagram_at version bytes missing = record {
   version = version;
   bytes = take (full_length version bytes missing) bytes;
+  behind = drop (full_length version bytes missing) bytes;
   extent = extent_of (full_length version bytes missing) (length bytes) missing;
   no_length = is_zero version 2 bytes;
   no_checksum = is_zero version 10 bytes;
 }
 
--- a header that isn't all there was cut where bytes are missing
+-- a header that isn't all there was cut where bytes are missing (own)
 abbrev pub as_cut : ℕ → Skipped → Skipped
 as_cut missing (Short part) = if nat_lt 0 missing then Cut part else Short part
 as_cut missing why = why
 
--- a reading with its reason seen so
+-- a reading with its reason seen so (own)
 abbrev pub with_cuts : {A : Type 0} → ℕ → Result A Skipped → Result A Skipped
 with_cuts missing (Ok found) = Ok found
 with_cuts missing (Err why) = Err (as_cut missing why)
 
--- how many bytes of a packet of this length the snapshot left out
+-- how many bytes of a packet of this length the snapshot left out (own)
 abbrev pub missing_from : List ℕ → ℕ → ℕ
 missing_from frame original = original - length frame
 
 -- the datagram of a packet of this length, of which the snapshot left a frame, or why it has none
+-- (own)
 unfoldable pub datagram_in : LinkType → List ℕ → ℕ → Result Datagram Skipped
 datagram_in link frame original = with_cuts (missing_from frame original) (do
   layer ← innermost link frame

@@ -2,5 +2,8 @@ pub mod BlockContents
 pub mod Blocks
 pub mod Captures
 pub mod Frames
+pub mod Parts
 pub mod PcapFiles
+pub mod PcapngFiles
 pub mod Spelled
+pub mod WholeFiles

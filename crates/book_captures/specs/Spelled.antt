@@ -1,5 +1,5 @@
 -- Tags and labels as they stand in a frame.
-use Rattle.std.specs.Prelude.{◌≡◌, ℕ, ◌+◌, ◌*◌, ◌/◌, ◌%◌, ◌<◌, List, [], ◌∷◌, ◌++◌}
+use Rattle.std.specs.Prelude.{◌≡◌, ℕ, ◌+◌, ◌*◌, ◌/◌, ◌%◌, List, [], ◌∷◌, ◌++◌}
 use Rattle.book_captures.specs.declared.link_type.Protocol.TheVariants.{Tag as tag}
 use Rattle.book_captures.specs.Frames.{ethertype}
 
@@ -9,11 +9,11 @@ pub record TagEntry : Type 0 where
   pub high : ℕ
   pub low : ℕ
 
--- the EtherType is one of a tag
+-- the EtherType is one of a tag (own)
 abbrev pub IsTag : TagEntry → Type 0
 IsTag t = ethertype t.kind ≡ tag
 
--- the EtherType that stands first, where these tags stand in front of what has this one
+-- the EtherType that stands first, where these tags stand in front of what has this one (own)
 abbrev pub first_kind : List TagEntry → ℕ → ℕ
 first_kind [] kind = kind
 first_kind (t ∷ ts) kind = t.kind
@@ -35,7 +35,7 @@ abbrev pub spell_label : LabelEntry → ℕ → List ℕ
 spell_label e bottom = e.label / 4096 ∷ e.label / 16 % 256
     ∷ (e.label % 16 * 16 + e.class * 2 + bottom) ∷ e.time ∷ []
 
--- labels above others
+-- labels above others (own)
 abbrev pub spell_labels : List LabelEntry → List ℕ → List ℕ
 spell_labels [] rest = rest
 spell_labels (e ∷ es) rest = spell_label e 0 ++ spell_labels es rest

@@ -27,6 +27,8 @@ pub enum BodyFault {
     Version,
     /// A packet is of an interface that its section doesn't describe before.
     NoInterface,
+    /// A section describes more than 4,096 interfaces.
+    TooManyInterfaces,
 }
 
 /// The unit of the times of an interface.
@@ -38,6 +40,15 @@ pub enum TimeResolution {
     Binary(u8),
 }
 
+/// How many seconds are added to the times of an interface.
+#[derive(Clone, Copy, Debug, PartialEq, Eq)]
+pub enum TimeOffset {
+    /// They are added.
+    Later(u64),
+    /// They are taken away.
+    Earlier(u64),
+}
+
 /// What a block says of an interface.
 #[derive(Clone, Copy, Debug, PartialEq, Eq)]
 pub struct Interface {
@@ -47,4 +58,6 @@ pub struct Interface {
     pub snapshot: u32,
     /// The unit of its times.
     pub resolution: TimeResolution,
+    /// What is added to its times.
+    pub offset: TimeOffset,
 }

@@ -1,10 +1,15 @@
 //! The laws above the frames of a link, and above the records and blocks of a file.
-ghost use Rattle.std.specs.Prelude.{◌≡◌, ℕ, List, ◌++◌, Option, Some, None, Ok};
+ghost use Rattle.std.specs.Prelude.{◌≡◌, ℕ, ◌<◌, true, false, List, [], ◌++◌, length, Option, Some, None, Ok, Err};
 ghost use Rattle.book_pcap.specs.declared.pcap_head.ByteOrder.{ByteOrder};
 ghost use Rattle.book_captures.specs.declared.pcap_head.PcapHead.{PcapHead};
-ghost use Rattle.book_captures.specs.PcapFiles.{Kept, record_at, IsRecord};
+ghost use Rattle.book_captures.specs.PcapFiles.{KeptPacket, pcap_record_at, IsPcapRecord, IsPcapFile};
+ghost use Rattle.book_captures.specs.declared.capture_parts.Cause.TheVariants.{Record};
+ghost use Rattle.book_captures.specs.declared.pcap_head.RecordFault.{RecordFault};
+ghost use Rattle.book_captures.specs.Parts.{is_pcapng};
+ghost use Rattle.book_captures.specs.Captures.{CapturePacket, capture_of};
+ghost use Rattle.book_captures.specs.WholeFiles.{packets_kept, capture_kept, capture_broken, capture_in_blocks};
 ghost use Rattle.book_captures.specs.Blocks.{Block, block_at, IsBlock};
-ghost use Rattle.book_captures.specs.Captures.{AreBlocks, Broken, blocks_of, EndsBroken};
+ghost use Rattle.book_captures.specs.PcapngFiles.{AreBlocks, BrokenBlock, blocks_of, EndsBroken};
 ghost use Rattle.std.specs.List.{All};
 ghost use Rattle.book_captures.specs.declared.link_type.Protocol.TheVariants.{Ip, Labels};
 ghost use Rattle.book_captures.specs.Frames.{ethertype, behind_tags, behind_labels};
@@ -22,10 +27,10 @@ pub fn tags_and_labels_are_passed_over()
 /// A record of a classic pcap file is read exactly where the bytes are one, with what follows it (libpcap,
 /// pcap-savefile).
 pub fn records_are_their_grammar()
-    ensures read { (head : PcapHead) (text : List ℕ) (kept : Kept) (rest : List ℕ) → record_at head text ≡ Ok (kept, rest)
-        → (one : List ℕ) × IsRecord head kept one × (text ≡ one ++ rest) }
-    ensures only { (head : PcapHead) (kept : Kept) (one rest : List ℕ) → IsRecord head kept one
-        → record_at head (one ++ rest) ≡ Ok (kept, rest) }
+    ensures read { (head : PcapHead) (text : List ℕ) (kept : KeptPacket) (rest : List ℕ) → pcap_record_at head text ≡ Ok (kept, rest)
+        → (one : List ℕ) × IsPcapRecord head kept one × (text ≡ one ++ rest) }
+    ensures only { (head : PcapHead) (kept : KeptPacket) (one rest : List ℕ) → IsPcapRecord head kept one
+        → pcap_record_at head (one ++ rest) ≡ Ok (kept, rest) }
 {}
 
 /// A block of a pcapng file is read exactly where the bytes are one, with what follows it
@@ -43,6 +48,28 @@ pub fn blocks_are_their_grammar()
 pub fn captures_are_their_grammar()
     ensures read { (list : List Block) (file : List ℕ) → blocks_of file ≡ record { list = list; broken = None } → AreBlocks None list file }
     ensures only { (list : List Block) (file : List ℕ) → AreBlocks None list file → blocks_of file ≡ record { list = list; broken = None } }
-    ensures broken { (list : List Block) (why : Broken) (file : List ℕ) → blocks_of file ≡ record { list = list; broken = Some why } → EndsBroken list why file }
-    ensures only_broken { (list : List Block) (why : Broken) (file : List ℕ) → EndsBroken list why file → blocks_of file ≡ record { list = list; broken = Some why } }
+    ensures broken { (list : List Block) (why : BrokenBlock) (file : List ℕ) → blocks_of file ≡ record { list = list; broken = Some why } → EndsBroken list why file }
+    ensures only_broken { (list : List Block) (why : BrokenBlock) (file : List ℕ) → EndsBroken list why file → blocks_of file ≡ record { list = list; broken = Some why } }
+{}
+
+/// The capture in a classic pcap file has these packets and no fault exactly where the file is a header and
+/// records that keep them; and these and a faulty record exactly where behind them stand bytes that don't
+/// begin with a record, for that reason (libpcap, pcap-savefile).
+pub fn captures_of_pcap_files_are_their_grammar()
+    ensures read { (file : List ℕ) (packets : List CapturePacket) → is_pcapng file ≡ false → capture_of file ≡ record { packets = packets; passed = 0; fault = None }
+        → (head : PcapHead) × (kept : List KeptPacket) × IsPcapFile head kept [] file × (packets ≡ packets_kept head 1 kept) }
+    ensures only { (head : PcapHead) (kept : List KeptPacket) (file : List ℕ) → All (λ b. b < 256) file → IsPcapFile head kept [] file
+        → capture_of file ≡ capture_kept head kept }
+    ensures broken { (file : List ℕ) (packets : List CapturePacket) (why : RecordFault) (number byte : ℕ) → is_pcapng file ≡ false
+        → capture_of file ≡ record { packets = packets; passed = 0; fault = Some (record { cause = Record why; number = number; byte = byte }) }
+        → (head : PcapHead) × (kept : List KeptPacket) × (tail : List ℕ) × IsPcapFile head kept tail file × (0 < length tail)
+        × (pcap_record_at head tail ≡ Err why) × (capture_of file ≡ capture_broken head kept why) }
+    ensures only_broken { (head : PcapHead) (kept : List KeptPacket) (tail file : List ℕ) (why : RecordFault) → All (λ b. b < 256) file
+        → IsPcapFile head kept tail file → 0 < length tail → pcap_record_at head tail ≡ Err why → capture_of file ≡ capture_broken head kept why }
+{}
+
+/// The capture in a pcapng file is the one in its blocks, up to the first whose fields are refused
+/// (draft-ietf-opsawg-pcapng).
+pub fn captures_of_pcapng_files_are_in_their_blocks()
+    ensures { (file : List ℕ) → is_pcapng file ≡ true → capture_of file ≡ capture_in_blocks (blocks_of file) }
 {}

@@ -18,6 +18,8 @@ pub enum Header {
 /// Why a packet is passed over: it has no datagram, or its headers end too early.
 #[derive(Clone, Copy, Debug, PartialEq, Eq)]
 pub enum Skipped {
+    /// The link type of its interface, which is this number, is none of those that are read.
+    UnknownLink(u32),
     /// It carries something else than IP.
     NotIp,
     /// The first four bits of what should be IP are another version's.

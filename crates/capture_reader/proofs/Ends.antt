@@ -10,7 +10,7 @@ use Rattle.book_captures.specs.declared.link_type.Protocol.TheVariants.{Ip, Tag,
 use Rattle.book_captures.specs.declared.reasons.Header.TheVariants as header
 use Rattle.book_captures.specs.declared.reasons.Skipped.{Skipped}
 use Rattle.book_captures.specs.declared.reasons.Skipped.TheVariants.{Short, NotSession}
-use Rattle.book_captures.specs.Frames.{Layer, ethertype, ppp, header_length, protocol_in, behind_link, behind_tags, behind_session, behind_labels, innermost}
+use Rattle.book_captures.specs.Frames.{Layer, ethertype, ppp, link_header_length, protocol_in, behind_link, behind_tags, behind_session, behind_labels, innermost}
 
 -- the second list ends the first
 pub record Ends (text body : List ℕ) : Type 0 where
@@ -51,8 +51,8 @@ middle false false why other one l e = absurd (cc)
 link_ends : (link : LinkType) (frame : List ℕ) (l : Layer) → behind_link link frame ≡ Ok l → Ends frame l.body
 unfolding behind_link
 link_ends link frame l e =
-    let one : Layer = record { protocol = protocol_in link frame; body = drop (header_length link) frame } in
-    found frame one l (second (nat_lt (length frame) (header_length link)) (Short header.Link) one l e) (behind (header_length link) frame)
+    let one : Layer = record { protocol = protocol_in link frame; body = drop (link_header_length link) frame } in
+    found frame one l (second (nat_lt (length frame) (link_header_length link)) (Short header.Link) one l e) (behind (link_header_length link) frame)
 
 tags_end : (p : Protocol) (body : List ℕ) (l : Layer) → behind_tags p body ≡ Ok l → Ends body l.body
 unfolding behind_tags

@@ -1,7 +1,7 @@
 -- What a reading found, seen as the book says it (own).
-use Rattle.std.specs.Prelude.{◌≡◌, ℕ, List, slice_range, Result, Ok, Err}
+use Rattle.std.specs.Prelude.{◌≡◌, ℕ, List, drop, slice_range, Result, Ok, Err}
 use Rattle.book_captures.specs.Frames.{Layer, Datagram}
-use Rattle.book_captures.specs.PcapFiles.{Kept}
+use Rattle.book_captures.specs.PcapFiles.{KeptPacket}
 use Rattle.book_captures.specs.Blocks as blocks
 use Rattle.capture_reader.specs.declared.blocks.Block.{Block}
 use Rattle.capture_reader.specs.declared.pcap_files.Record.{Record}
@@ -29,13 +29,14 @@ abbrev pub seen : List ℕ → FoundDatagram → Datagram
 seen frame d = record {
   version = d.version;
   bytes = slice_range frame d.first d.after;
+  behind = drop d.after frame;
   extent = d.extent;
   no_length = d.no_length;
   no_checksum = d.no_checksum;
 }
 
 -- a packet of a record, without where it lies in memory
-abbrev pub seen_record : Record → Kept
+abbrev pub seen_record : Record → KeptPacket
 seen_record r = record { time = r.time; original = r.original; bytes = r.bytes.now }
 
 -- a block, without where it lies in memory
@@ -52,5 +53,5 @@ seen_stamped p = record {
 }
 
 -- a packet of a simple block, without where it lies in memory
-abbrev pub seen_plain : Plain → contents.Plain
+abbrev pub seen_plain : Plain → contents.Unstamped
 seen_plain p = record { original = p.original; bytes = p.bytes.now }

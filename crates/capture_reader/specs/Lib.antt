@@ -1,2 +1,4 @@
 pub mod Found
+pub mod FoundParts
 pub mod Places
+pub mod Sizes

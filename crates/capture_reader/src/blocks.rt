@@ -9,7 +9,7 @@ use book_captures::BlockFault;
 use book_pcap::ByteOrder;
 
 /// The type of the header of a section, in either order (section 4.1 of the format).
-const SECTION_HEADER: u32 = 0x0a0d_0d0a;
+pub(crate) const SECTION_HEADER: u32 = 0x0a0d_0d0a;
 
 /// The number by which a section's header tells its order.
 const BYTE_ORDER_MAGIC: u32 = 0x1a2b_3c4d;
@@ -78,7 +78,7 @@ pub(crate) fn place_block(section: Option<ByteOrder>, text: &[u8]) -> Result<Blo
 }
 
 // The order of the block at the front, in a section of this order, if in one.
-fn order_at(section: Option<ByteOrder>, text: &[u8]) -> Result<ByteOrder, BlockFault>
+pub(crate) fn order_at(section: Option<ByteOrder>, text: &[u8]) -> Result<ByteOrder, BlockFault>
     requires { 12 ≤ length text.now }
     ensures { Gives as_it_is result (order_in section text.now) }
 {
@@ -98,7 +98,7 @@ fn order_at(section: Option<ByteOrder>, text: &[u8]) -> Result<ByteOrder, BlockF
 }
 
 // Why a block has no such total length.
-fn length_fault(len: u32) -> Option<BlockFault>
+pub(crate) fn length_fault(len: u32) -> Option<BlockFault>
     ensures { result ≡ fault_of_length len }
 {
     if (len as usize) < LEAST_IN_BLOCK {

@@ -1,10 +1,10 @@
 //! What the blocks of a pcapng file say.
-ghost use Rattle.std.specs.Prelude.{◌≡◌, ◌==◌, ◌&&◌, drop};
-ghost use Rattle.book_captures.specs.BlockContents.{resolution_of as resolution_told, resolution_in as resolution_of_options, interface_in, stamped_in, enhanced_in, old_in, simple_length as length_of_simple, simple_in, padded as padded_length};
+ghost use Rattle.std.specs.Prelude.{◌≡◌, ◌<◌, ◌==◌, ◌&&◌, length, drop, MatchOption, Some, None};
+ghost use Rattle.book_captures.specs.BlockContents.{resolution_of as resolution_of_byte, resolution_told as resolution_told_by, option_in as value_of_option, eight_at, offset_of as offset_told, offset_by as offset_told_by, interface_in, stamped_in, enhanced_in, old_in, simple_length as length_of_simple, simple_in, padded_length};
 ghost use Rattle.capture_reader.specs.Found.{Gives, as_it_is, seen_stamped, seen_plain};
 
 use crate::numbers::{four, two};
-use book_captures::{BodyFault, Interface, TimeResolution};
+use book_captures::{BodyFault, Interface, TimeOffset, TimeResolution};
 use book_pcap::ByteOrder;
 
 /// A packet with its time, as a block keeps it.
@@ -42,47 +42,93 @@ pub fn read_interface(order: ByteOrder, body: &[u8]) -> Result<Interface, BodyFa
         link: two(order, body, 0) as u32,
         snapshot: four(order, body, 4),
         resolution: resolution_in(order, options, body.len()),
+        offset: offset_in(order, options, body.len()),
     })
 }
 
-// The resolution that options tell, of which there are at most so many.
+// The value of the first option of this code and length among at most so many options.
 #[tactic(auto, using(crate::proofs::Options::ends_short, crate::proofs::Options::ends_here, crate::proofs::Options::tells_here, crate::proofs::Options::goes_on))]
-fn resolution_in(order: ByteOrder, options: &[u8], most: usize) -> TimeResolution
-    ensures { result ≡ resolution_of_options most order options.now }
+fn option_in(order: ByteOrder, code: u16, size: usize, options: &[u8], most: usize) -> Option<&[u8]>
+    requires { size < 65536 }
+    ensures { MatchOption result (value_of_option most order code size options.now ≡ None) (λ value. (value_of_option most order code size options.now ≡ Some value.now) × (length value.now ≡ size)) }
 {
     let mut options = options;
     'options: for _ in 0..most {
-        if options.len() < 5 {
-            return TimeResolution::Decimal(6);
+        if options.len() < 4 + size {
+            return None;
         }
-        let code = two(order, options, 0);
-        if code == 0 {
-            return TimeResolution::Decimal(6);
+        let kind = two(order, options, 0);
+        if kind == 0 {
+            return None;
         }
         let len = two(order, options, 2);
-        if is_resolution(code, len) {
-            return resolution_of(options[4]);
+        if is_option(kind, len, code, size) {
+            return Some(&options[4..4 + size]);
         }
         options = behind(options, 4 + padded(len));
     }
-    TimeResolution::Decimal(6)
+    None
 }
 
-// An option of this code and length tells the resolution.
-fn is_resolution(code: u16, len: u16) -> bool
-    ensures { result ≡ ((code == 9) && (len == 1)) }
+// An option of this code and length is the one that is looked for.
+fn is_option(kind: u16, len: u16, code: u16, size: usize) -> bool
+    ensures { result ≡ ((kind == code) && (len == size)) }
 {
-    code == 9 && len == 1
+    kind == code && len as usize == size
+}
+
+// The resolution that options tell, of which there are at most so many.
+fn resolution_in(order: ByteOrder, options: &[u8], most: usize) -> TimeResolution
+    ensures { result ≡ resolution_told_by (value_of_option most order 9 1 options.now) }
+{
+    match option_in(order, 9, 1, options, most) {
+        Some(value) => resolution_of(value[0]),
+        None => TimeResolution::Decimal(6),
+    }
 }
 
 // The resolution that a byte tells.
 fn resolution_of(byte: u8) -> TimeResolution
-    ensures { result ≡ resolution_told byte }
+    ensures { result ≡ resolution_of_byte byte }
 {
     if byte < 128 {
         TimeResolution::Decimal(byte)
     } else {
         TimeResolution::Binary(byte - 128)
+    }
+}
+
+// The offset that options tell, of which there are at most so many.
+fn offset_in(order: ByteOrder, options: &[u8], most: usize) -> TimeOffset
+    ensures { result ≡ offset_told_by order (value_of_option most order 14 8 options.now) }
+{
+    match option_in(order, 14, 8, options, most) {
+        Some(value) => offset_of(eight(order, value)),
+        None => TimeOffset::Later(0),
+    }
+}
+
+// The number of eight bytes.
+fn eight(order: ByteOrder, bytes: &[u8]) -> u64
+    requires { length bytes.now ≡ 8 }
+    ensures { result ≡ eight_at order bytes.now }
+{
+    let first = four(order, bytes, 0) as u64;
+    let second = four(order, bytes, 4) as u64;
+    match order {
+        ByteOrder::Big => first * 0x1_0000_0000 + second,
+        ByteOrder::Little => first + second * 0x1_0000_0000,
+    }
+}
+
+// The offset that a number in two's complement tells.
+fn offset_of(number: u64) -> TimeOffset
+    ensures { result ≡ offset_told number }
+{
+    if number < 0x8000_0000_0000_0000 {
+        TimeOffset::Later(number)
+    } else {
+        TimeOffset::Earlier(u64::MAX - number + 1)
     }
 }
 

@@ -1,6 +1,6 @@
 //! The headers in front of a datagram, one after another.
 ghost use Rattle.std.specs.Prelude.{◌≡◌, ◌≤◌, length};
-ghost use Rattle.book_captures.specs.Frames.{or_else, header_length as length_of_header, protocol_in as protocol_told, family, behind_link, behind_tags, behind_session, behind_labels, innermost as innermost_layer};
+ghost use Rattle.book_captures.specs.Frames.{or_else, link_header_length as length_of_header, protocol_in as protocol_told, family, behind_link, behind_tags, behind_session, behind_labels, innermost as innermost_layer};
 ghost use Rattle.book_pcap.specs.Packets.{four_at};
 ghost use Rattle.capture_reader.specs.Found.{Gives, layer};
 

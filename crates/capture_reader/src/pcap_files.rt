@@ -1,6 +1,6 @@
 //! The header and the records of a classic pcap file.
-ghost use Rattle.std.specs.Prelude.{◌≡◌, ◌≤◌, length};
-ghost use Rattle.book_captures.specs.PcapFiles.{resolution_by as resolution_told, head_by as head_in, pcap_head, record_time as time_of_record, record_at};
+ghost use Rattle.std.specs.Prelude.{◌≡◌, ◌≤◌, length, IfOk};
+ghost use Rattle.book_captures.specs.PcapFiles.{resolution_by as resolution_told, head_by as head_in, pcap_head, record_time as time_of_record, pcap_record_at};
 ghost use Rattle.capture_reader.specs.Found.{Gives, seen_record};
 
 use crate::numbers::{four, two};
@@ -30,7 +30,8 @@ pub struct Record<'a> {
 /// What the header at the front of a file says, in its first 24 bytes, or its first fault.
 #[tactic(auto, unfolding(book_captures::specs::PcapFiles::pcap_head))]
 pub fn read_pcap_head(file: &[u8]) -> Result<PcapHead, PcapHeadFault>
-    ensures { result ≡ pcap_head file.now }
+    ensures exact { result ≡ pcap_head file.now }
+    ensures long { IfOk result (λ _. 24 ≤ length file.now) }
 {
     if file.len() < PCAP_HEAD {
         return Err(PcapHeadFault::Short);
@@ -73,12 +74,12 @@ fn head_by(order: ByteOrder, resolution: Resolution, file: &[u8]) -> Result<Pcap
 }
 
 /// The record at the front, and the bytes behind it; or why there is none.
-#[tactic(auto, unfolding(book_captures::specs::PcapFiles::record_at))]
+#[tactic(auto, unfolding(book_captures::specs::PcapFiles::pcap_record_at))]
 pub fn read_record<'a>(
     head: PcapHead,
     text: &'a [u8],
 ) -> Result<(Record<'a>, &'a [u8]), RecordFault>
-    ensures { Gives (λ x. (seen_record x.0, x.1.now)) result (record_at head text.now) }
+    ensures { Gives (λ x. (seen_record x.0, x.1.now)) result (pcap_record_at head text.now) }
 {
     if text.len() < RECORD_HEAD {
         return Err(RecordFault::Short);

@@ -9,6 +9,8 @@ mod of_capture_reader_files;
 #[cfg(test)]
 mod of_capture_reader_frames;
 #[cfg(test)]
+mod of_capture_reader_parts;
+#[cfg(test)]
 mod of_pcap_file;
 #[cfg(test)]
 mod of_tcp_options;

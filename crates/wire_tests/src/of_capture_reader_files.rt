@@ -1,8 +1,8 @@
 use book_pcap::ByteOrder;
 use capture_reader::{
     BlockFault, BodyFault, Interface, PcapHead, PcapHeadFault, Plain, RecordFault, Resolution,
-    Stamped, TimeResolution, nanoseconds, read_block, read_enhanced, read_interface, read_old,
-    read_pcap_head, read_record, read_simple,
+    Stamped, TimeOffset, TimeResolution, nanoseconds, read_block, read_enhanced, read_interface,
+    read_old, read_pcap_head, read_record, read_simple,
 };
 use std::alloc::{AllocError, Global};
 use std::test::Fail;
@@ -104,12 +104,14 @@ fn interfaces_tell_their_resolution(rt: HostRuntime) -> Result<(), Fail> {
         link: 276,
         snapshot: 96,
         resolution: TimeResolution::Decimal(9),
+        offset: TimeOffset::Later(0),
     };
     assert!(rt; read_interface(ByteOrder::Little, INTERFACE) == Ok(right));
     let right = Interface {
         link: 276,
         snapshot: 96,
         resolution: TimeResolution::Decimal(6),
+        offset: TimeOffset::Later(0),
     };
     assert!(rt; read_interface(ByteOrder::Little, &INTERFACE[..20]) == Ok(right));
     assert!(rt; read_interface(ByteOrder::Little, &INTERFACE[..7]) == Err(BodyFault::Short));
@@ -118,22 +120,56 @@ fn interfaces_tell_their_resolution(rt: HostRuntime) -> Result<(), Fail> {
     Ok(())
 }
 
+// The offset of an interface whose only option is an if_tsoffset whose low bytes are 3600 and whose others are this one.
+fn offset(high: u8) -> Option<TimeOffset> {
+    let body = [
+        1, 0, 0, 0, 0, 0, 0, 0, 14, 0, 8, 0, 0x10, 0x0e, high, high, high, high, high, high,
+    ];
+    let found = read_interface(ByteOrder::Little, body.as_slice());
+    found.ok().map(|i| i.offset)
+}
+
+#[test]
+fn interfaces_tell_their_offset(rt: HostRuntime) -> Result<(), Fail> {
+    assert!(rt; offset(0) == Some(TimeOffset::Later(3600)));
+    assert!(rt; offset(255) == Some(TimeOffset::Earlier(61_936)));
+    Ok(())
+}
+
 #[test]
 fn times_are_in_nanoseconds(rt: HostRuntime) -> Result<(), Fail> {
     assert!(rt;
-        nanoseconds(TimeResolution::Decimal(6), 1_700_000_000_123_456) == 1_700_000_000_123_456_000
+        nanoseconds(
+            TimeResolution::Decimal(6),
+            TimeOffset::Later(0),
+            1_700_000_000_123_456
+        ) == 1_700_000_000_123_456_000
     );
     assert!(rt;
-        nanoseconds(TimeResolution::Decimal(9), 1_700_000_000_123_456_789)
-            == 1_700_000_000_123_456_789
+        nanoseconds(
+            TimeResolution::Decimal(9),
+            TimeOffset::Later(0),
+            1_700_000_000_123_456_789
+        ) == 1_700_000_000_123_456_789
     );
     assert!(rt;
-        nanoseconds(TimeResolution::Decimal(0), 1_700_000_000) == 1_700_000_000_000_000_000
+        nanoseconds(
+            TimeResolution::Decimal(0),
+            TimeOffset::Later(0),
+            1_700_000_000
+        ) == 1_700_000_000_000_000_000
     );
-    assert!(rt; nanoseconds(TimeResolution::Decimal(12), 1_999) == 1);
-    assert!(rt; nanoseconds(TimeResolution::Binary(1), 3) == 1_500_000_000);
-    assert!(rt; nanoseconds(TimeResolution::Decimal(200), 3) == 0);
-    assert!(rt; nanoseconds(TimeResolution::Decimal(0), u64::MAX) == u64::MAX);
+    assert!(rt; nanoseconds(TimeResolution::Decimal(12), TimeOffset::Later(0), 1_999) == 1);
+    assert!(rt; nanoseconds(TimeResolution::Binary(1), TimeOffset::Later(0), 3) == 1_500_000_000);
+    assert!(rt; nanoseconds(TimeResolution::Decimal(200), TimeOffset::Later(0), 3) == 0);
+    assert!(rt;
+        nanoseconds(TimeResolution::Decimal(0), TimeOffset::Later(0), u64::MAX) == u64::MAX
+    );
+    assert!(rt; nanoseconds(TimeResolution::Decimal(3), TimeOffset::Later(2), 5) == 2_005_000_000);
+    assert!(rt;
+        nanoseconds(TimeResolution::Decimal(0), TimeOffset::Earlier(2), 5) == 3_000_000_000
+    );
+    assert!(rt; nanoseconds(TimeResolution::Decimal(0), TimeOffset::Earlier(6), 5) == 0);
     Ok(())
 }
 

@@ -1,6 +1,0 @@
-use Rattle.std.proofs.Common.{sym, ◌∙◌}
-use Rattle.capture_reader.proofs.Options.{ends_all}
-use Rattle.capture_reader.proofs.contents.resolution_in.Goals as goal
-
-pub returns : goal.returns
-returns c = sym (ends_all c.args.most c.options.counter c.args.order c.options.options.now c.options-test.false) ∙ c.options.invariant
