@@ -1,0 +1,121 @@
+-- How each call of a reader of captures ends.
+use Rattle.std.proofs.Common.{◌≡◌, ℕ, ◌+◌, ◌-◌, ◌<◌, ◌≤◌, true, false, List, [], ◌++◌, length, drop, Option, None, Some, Result, Ok, Err, refl, sym, ap, ◌∙◌, arith}
+use Rattle.std.proofs.lemmas.List.{append-nil, length-append, length-drop}
+use Rattle.ao_base.specs.Buffered.{Buffered}
+use Rattle.ao_base.specs.Outside.{Side, Gave, Rose, IsAtEnd, told}
+use Rattle.ao_base.proofs.Sides.{rose_after}
+use Rattle.book_captures.specs.declared.block_parts.Interface.{Interface}
+use Rattle.book_captures.specs.declared.capture_parts.Cause.{Cause}
+use Rattle.book_captures.specs.declared.capture_parts.Format.{Format}
+use Rattle.book_captures.specs.Parts.{Part, part_by}
+use Rattle.capture_reader.specs.declared.parts.FoundPart.{FoundPart}
+use Rattle.capture_reader.specs.declared.sizes.FileFront.{FileFront}
+use Rattle.capture_reader.specs.FoundParts.{seen_part, IsPartWithin}
+use Rattle.capture_reader.proofs.FrontParts.{part_fronts}
+use Rattle.capture_stream.specs.declared.finding.Opened.TheVariants as opening
+use Rattle.capture_stream.specs.declared.finding.Found.{Found}
+use Rattle.capture_stream.specs.declared.finding.Found.TheVariants as found
+use Rattle.capture_stream.specs.declared.reader.CaptureHalt.TheVariants as halt
+use Rattle.capture_stream.specs.declared.reader.CaptureStep.TheVariants as step
+use Rattle.capture_stream.specs.Finding.{place_of, Opens, Finds}
+use Rattle.capture_stream.specs.Reading.{Reading, to_come, only_fault, Stops, Steps}
+use Rattle.capture_stream.specs.Taking.{step_by, taken}
+use Rattle.capture_stream.proofs.Calls.{Reached, reach, middle_reading, least_head, whole_passes, none_ends, faulty_ends, answers_part}
+
+-- the reader behind a call that stopped it
+abbrev pub stopped : Reading → Reading
+stopped r = record { kept = r.kept; place = r.place; counts = r.counts; passed = r.passed; over = true; packet = None }
+
+-- only the front was read
+module _ (before : Reading) (had : Option Format) (interfaces : List Interface) (b0 now : Buffered) (a b : Side) (given : List ℕ) (kept : before.kept ≡ b0.kept) (size : b0.size ≡ 16842752) where
+  pub read_first : Opens had interfaces b0 now a b given opening.Fault → (later : Reading) → Stops before later → later.kept ≡ now.kept → Steps before later a b given (Err halt.Read)
+  read_first opens later stops same =
+      let fits = opens.fits in
+      let small = opens.size in
+      let few = ap (λ (xs : List ℕ). length xs) same in
+      record { gave = opens.gave; bytes = opens.bytes; bound = omega arith; answers = (stops, opens.is) }
+
+  pub long_first : (front : FileFront) → Opens had interfaces b0 now a b given (opening.At front) → 9223372036854775808 - before.counts.bytes < front.size
+      → (later : Reading) → Stops before later → later.kept ≡ now.kept → Steps before later a b given (Err halt.TooLong)
+  long_first front opens over later stops same =
+      let fits = opens.fits in
+      let small = opens.size in
+      let few = ap (λ (xs : List ℕ). length xs) same in
+      let text = ap (λ (xs : List ℕ). length (xs ++ given)) kept in
+      let within = opens.is.3 in
+      record { gave = opens.gave; bytes = opens.bytes; bound = omega arith; answers = (stops, omega arith) }
+
+-- a part was read
+module _ (before : Reading) (had : Option Format) (interfaces : List Interface) (front : FileFront) (result : Found) (b0 middle now : Buffered) (a s b : Side) (first second : List ℕ)
+    (place : before.place ≡ place_of had interfaces) (kept : before.kept ≡ b0.kept) (size : b0.size ≡ 16842752)
+    (opens : Opens had interfaces b0 middle a s first (opening.At front)) (finds : Finds front.format interfaces middle now s b second result) where
+  abbrev given : List ℕ
+  given = first ++ second
+
+  reached : Reached had interfaces front b0 now a b (first ++ second)
+  reached = reach had interfaces front result b0 middle now a s b first second opens finds
+
+  bounded : length now.kept ≤ 16842752
+  bounded = let r = reached in let fits = r.fits in let same = r.size in omega arith
+
+  pub whole_step : (part : FoundPart) → part_by front.format interfaces now.kept ≡ Ok (seen_part interfaces now.kept part) → before.counts.bytes + front.size + part.size ≤ 9223372036854775808
+      → Steps before (taken (middle_reading before interfaces front now.kept) (seen_part interfaces now.kept part)) a b (first ++ second) (Ok (step_by part.says))
+  whole_step part is room =
+      let r = reached in
+      let few = bounded in
+      let less = length-drop part.size now.kept in
+      let passes = whole_passes before had interfaces front b0 now a b (first ++ second) place kept r (seen_part interfaces now.kept part) is room in
+      record {
+        gave = r.gave;
+        bytes = r.bytes;
+        bound = omega arith;
+        answers = answers_part before (taken (middle_reading before interfaces front now.kept) (seen_part interfaces now.kept part)) a b (before.kept ++ (first ++ second)) interfaces now.kept part.says passes;
+      }
+
+  -- a call that shows nothing
+  halted : (later : Reading) → later.kept ≡ now.kept → length later.kept ≤ 16842752
+  halted later same = let few = ap (λ (xs : List ℕ). length xs) same in let most = bounded in omega arith
+
+  pub end_step : now.kept ≡ [] → IsAtEnd b → (later : Reading) → Stops before later → later.kept ≡ now.kept → Steps before later a b (first ++ second) (Ok step.End)
+  end_step none end later stops same =
+      let r = reached in
+      record { gave = r.gave; bytes = r.bytes; bound = halted later same; answers = (stops, end, none_ends before had interfaces front b0 now a b (first ++ second) place kept r none) }
+
+  pub read_step : Rose s b → (later : Reading) → Stops before later → later.kept ≡ now.kept → Steps before later a b (first ++ second) (Err halt.Read)
+  read_step rose later stops same =
+      let r = reached in
+      record { gave = r.gave; bytes = r.bytes; bound = halted later same; answers = (stops, rose_after (length first) a s b opens.gave.counts rose) }
+
+  pub long_step : (part : FoundPart) → part.size ≤ length now.kept → 9223372036854775808 - (before.counts.bytes + front.size) < part.size
+      → (later : Reading) → Stops before later → later.kept ≡ now.kept → Steps before later a b (first ++ second) (Err halt.TooLong)
+  long_step part within over later stops same =
+      let r = reached in
+      let left = ap (λ (xs : List ℕ). length xs) r.behind ∙ length-drop front.size (b0.kept ++ (first ++ second)) in
+      let text = ap (λ (xs : List ℕ). length (xs ++ (first ++ second))) kept in
+      let all = r.within in
+      record { gave = r.gave; bytes = r.bytes; bound = halted later same; answers = (stops, omega arith) }
+
+  pub broken_step : (why : Cause) → 0 < length now.kept → part_by front.format interfaces now.kept ≡ Err why → part_by front.format interfaces (now.kept ++ told b.bytes) ≡ Err why
+      → (later : Reading) → Stops before later → later.kept ≡ now.kept
+      → Steps before later a b (first ++ second) (Err (halt.Broken (record { cause = why; number = before.counts.parts + 1; byte = before.counts.bytes + front.size })))
+  broken_step why some here there later stops same =
+      let r = reached in
+      let ends : (more : List ℕ) → part_by front.format interfaces (now.kept ++ more) ≡ Err why
+      → to_come before ((before.kept ++ (first ++ second)) ++ more) ≡ only_fault (record { cause = why; number = before.counts.parts + 1; byte = before.counts.bytes + front.size }) =
+      λ more e. faulty_ends before had interfaces front b0 now a b (first ++ second) place kept r why more some e in
+      record {
+        gave = r.gave;
+        bytes = r.bytes;
+        bound = halted later same;
+        answers = (
+          stops,
+          ap (to_come before) (sym (append-nil (before.kept ++ (first ++ second)))) ∙ ends [] (ap (part_by front.format interfaces) (append-nil now.kept) ∙ here),
+          ends (told b.bytes) there,
+        );
+      }
+
+-- a part that is read has a byte
+pub some_size : (format : Format) (interfaces : List Interface) (kept : List ℕ) (part : FoundPart) → part_by format interfaces kept ≡ Ok (seen_part interfaces kept part) → 0 < part.size
+some_size format interfaces kept part e =
+    let f = part_fronts format interfaces kept (seen_part interfaces kept part) e in
+    let least = f.least in let four = least_head format in omega arith

@@ -1,0 +1,6 @@
+pub mod Calls
+pub mod Exits
+pub mod Fillings
+pub mod FrontFinds
+pub mod PartFinds
+pub mod Walking

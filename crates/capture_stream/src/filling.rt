@@ -1,0 +1,46 @@
+//! As many bytes in a buffer as are wanted.
+ghost use Rattle.std.specs.Prelude.{◌≡◌, ℕ, ◌≤◌, List, length};
+ghost use Rattle.std.specs.List.{All};
+ghost use Rattle.ao_base.specs.Outside.{Side};
+ghost use Rattle.capture_stream.specs.Finding.{IsByte, Fills};
+
+use ao_base::{Buffer, Source};
+
+/// What came of it.
+#[derive(Clone, Copy, Debug)]
+pub(crate) enum Filled {
+    /// As many are kept as are wanted.
+    Enough,
+    /// The source is at its end before.
+    Ended,
+    /// A read failed.
+    Fault,
+}
+
+// How many bytes there are.
+fn count(bytes: &[u8]) -> usize
+    ensures count { result ≡ length bytes.now }
+    ensures bytes { All IsByte bytes.now }
+{
+    bytes.len()
+}
+
+/// Takes bytes until as many are kept as are wanted.
+pub(crate) fn fill<S: Source>(buffer: &mut Buffer, src: &mut S, wanted: usize) -> Filled
+    requires { wanted ≤ buffer.old.size }
+    ensures { (given : List ℕ) × Fills wanted buffer.old buffer.new (S.side src.old) (S.side src.new) given result }
+{
+    'takes: loop {
+        if count(buffer.kept()) >= wanted {
+            return Filled::Enough;
+        }
+        match buffer.more(src) {
+            Err(_failed) => return Filled::Fault,
+            Ok(n) => {
+                if n == 0 {
+                    return Filled::Ended;
+                }
+            }
+        }
+    }
+}
