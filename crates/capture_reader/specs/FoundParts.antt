@@ -38,7 +38,7 @@ seen_part interfaces text p = record {
 abbrev pub IsWithin : PartSays → (known bytes : ℕ) → Type 0
 IsWithin (says.Packet f) known bytes = (f.first ≤ f.after) × (f.after ≤ bytes)
 IsWithin (says.Interface i) known bytes = known < most_interfaces
-IsWithin other known bytes = Unit {0}
+IsWithin _ known bytes = Unit {0}
 
 -- a part lies within so many bytes, and what it says in it
 abbrev pub IsPartWithin : FoundPart → (known bytes : ℕ) → Type 0
@@ -53,7 +53,7 @@ moved_by n (says.Packet f) = says.Packet (record {
   first = n + f.first;
   after = n + f.after;
 })
-moved_by n other = other
+moved_by n what = what
 
 -- what the block at this place says
 abbrev pub block_says : List Interface → List ℕ → BlockPlace → Result Part Cause

@@ -17,7 +17,7 @@ interfaces_at (Some place) = place.interfaces
 -- the answer where a part says this
 abbrev pub step_by : PartSays → CaptureStep
 step_by (says.Packet frame) = step.Packet
-step_by other = step.Block
+step_by _ = step.Block
 
 -- a reader behind the part at the front of what it kept
 abbrev pub taken : Reading → Part → Reading
