@@ -1,0 +1,4 @@
+//! What `aoscope` says of a capture.
+//!
+//! Definitions; the empty functions carry theorems about them.
+#![tactic(auto)]
