@@ -2,7 +2,7 @@
 -- and `resend`.
 use Rattle.std.specs.Prelude.{ℕ, ◌+◌, ◌-◌, ◌/◌, ◌%◌, ◌==◌, min, nat_lt, Bool, true, false, not}
 use Rattle.std.specs.Prelude.{◌&&◌, List, [], ◌∷◌, ◌++◌, length, take, drop, replicate, Option}
-use Rattle.std.specs.Prelude.{Some, None, is_some, if◌then◌else◌}
+use Rattle.std.specs.Prelude.{Some, None, if◌then◌else◌}
 use Rattle.ao_base.specs.declared.address.Address.{Address}
 use Rattle.ao_base.specs.declared.address.Address.TheVariants.{V4, V6}
 use Rattle.ao_base.specs.declared.address.Pair.{Pair}
@@ -47,6 +47,15 @@ pub data Emitted : Type 0 where
   Quiet : Emitted
   NoKey : Emitted
   Emits : (emission : Emission) → Emitted
+
+-- What may be due to be sent (RFC 9293, section 3.10).
+pub data Due : Type 0 where
+  Rst : Due
+  Syn : Due
+  SynAck : Due
+  Data : Due
+  Fin : Due
+  Ack : Due
 
 -- The phases in which data is sent (RFC 9293, section 3.10.2).
 abbrev pub is_sending : Phase → Bool
@@ -153,19 +162,26 @@ sends_fin s =
 abbrev pub fitting : EndState → ℕ → ℕ
 fitting s most = min (unsent s) (min (window_end s - s.next) most)
 
--- What is sent next, with at most so many bytes: RST, SYN, SYN with ACK, data, FIN, or ACK, the
--- first of these that is to be sent (RFC 9293, section 3.10; the order: own).
-unfoldable pub to_emit : EndState → ℕ → Option Draft
-to_emit s most =
-    if s.rst_owed then Some (rst_draft s)
-    else (if is_syn_sent s.phase && (s.next == s.isn)
-    then Some (syn_draft s (record s { next = s.isn + 1 }))
-    else (if is_syn_received s.phase && (s.next == s.isn)
-    then Some (syn_ack_draft s (record s { next = s.isn + 1 }))
-    else (if sends_data s then Some (data_draft s (fitting s most))
-    else (if sends_fin s then Some (fin_draft s)
-    else (if s.ack_owed && not (is_silent s.phase) then Some (ack_draft s)
+-- What is due to be sent next, the first of these: RST, SYN, SYN with ACK, data, FIN, ACK (RFC 9293,
+-- section 3.10; the order: own).
+unfoldable pub due_next : EndState → Option Due
+due_next s =
+    if s.rst_owed then Some Rst
+    else (if is_syn_sent s.phase && (s.next == s.isn) then Some Syn
+    else (if is_syn_received s.phase && (s.next == s.isn) then Some SynAck
+    else (if sends_data s then Some Data
+    else (if sends_fin s then Some Fin
+    else (if s.ack_owed && not (is_silent s.phase) then Some Ack
     else None)))))
+
+-- The draft of what is due next, its data of at most so many bytes (RFC 9293, section 3.10).
+abbrev pub draft_next : EndState → Due → ℕ → Draft
+draft_next s Rst most = rst_draft s
+draft_next s Syn most = syn_draft s (record s { next = s.isn + 1 })
+draft_next s SynAck most = syn_ack_draft s (record s { next = s.isn + 1 })
+draft_next s Data most = data_draft s (fitting s most)
+draft_next s Fin most = fin_draft s
+draft_next s Ack most = ack_draft s
 
 -- The phases in which data and FIN may be sent again (RFC 9293, section 3.10.8).
 abbrev pub resends : Phase → Bool
@@ -176,31 +192,38 @@ resends Closing = true
 resends LastAck = true
 resends _ = false
 
--- What isn't acknowledged: bytes, at most so many, or the FIN (RFC 9293, section 3.10.8).
-abbrev pub unacknowledged : EndState → ℕ → Draft
-unacknowledged s most =
-    if nat_lt s.una (given_end s) then again_draft s (min (s.next - s.una) most)
-    else fin_again_draft s
-
 -- All that was sent is acknowledged, and the peer's window is zero (RFC 9293, section 3.8.6.1).
 abbrev pub is_blocked : EndState → Bool
 is_blocked s = is_sending s.phase && (s.una == s.next) && (s.send_window == 0)
 
--- A probe of a window of zero: one byte, or the FIN (RFC 9293, section 3.8.6.1).
-abbrev pub probe : EndState → Option Draft
-probe s =
-    if nat_lt 0 (unsent s) then Some (data_draft s 1)
-    else (if s.closing then Some (fin_draft s) else None)
+-- What a window of zero is probed with: data, or the FIN (RFC 9293, section 3.8.6.1).
+abbrev pub due_probe : EndState → Option Due
+due_probe s =
+    if nat_lt 0 (unsent s) then Some Data
+    else (if s.closing then Some Fin else None)
 
--- What is sent again, with at most so many bytes: the SYN, what isn't acknowledged, or a probe (RFC
--- 9293, sections 3.10.8 and 3.8.6.1).
-unfoldable pub to_resend : EndState → ℕ → Option Draft
-to_resend s most =
-    if is_syn_sent s.phase && nat_lt s.isn s.next then Some (syn_draft s s)
-    else (if is_syn_received s.phase && nat_lt s.isn s.next then Some (syn_ack_draft s s)
-    else (if resends s.phase && nat_lt s.una s.next then Some (unacknowledged s most)
-    else (if is_blocked s then probe s
+-- What is due to be sent again, the first of these: the SYN, the SYN with ACK, what isn't
+-- acknowledged, a probe of a window of zero (RFC 9293, sections 3.10.8 and 3.8.6.1).
+unfoldable pub due_again : EndState → Option Due
+due_again s =
+    if is_syn_sent s.phase && nat_lt s.isn s.next then Some Syn
+    else (if is_syn_received s.phase && nat_lt s.isn s.next then Some SynAck
+    else (if resends s.phase && nat_lt s.una s.next
+    then Some (if nat_lt s.una (given_end s) then Data else Fin)
+    else (if is_blocked s then due_probe s
     else None)))
+
+-- The draft of what is due again: what isn't acknowledged from SND.UNA on, its data of at most so
+-- many bytes, or else a probe, its data of one byte; neither RST nor ACK is ever due again (RFC
+-- 9293, sections 3.10.8 and 3.8.6.1).
+abbrev pub draft_again : EndState → Due → ℕ → Draft
+draft_again s Syn most = syn_draft s s
+draft_again s SynAck most = syn_ack_draft s s
+draft_again s Data most =
+    if nat_lt s.una s.next then again_draft s (min (s.next - s.una) most) else data_draft s 1
+draft_again s Fin most = if nat_lt s.una s.next then fin_again_draft s else fin_draft s
+draft_again s Rst most = draft_next s Rst most
+draft_again s Ack most = draft_next s Ack most
 
 -- The flag is among these (RFC 9293, section 3.1).
 abbrev pub sets : ℕ → ℕ → Bool
@@ -322,23 +345,26 @@ abbrev pub seal_known : Pair → EndState → Draft → Sending → Option (List
 seal_known pair s out sending None = Quiet
 seal_known pair s out sending (Some context) = Emits (sealed pair s out sending context)
 
--- The segment of a draft, if there is one, under the key of a row (RFC 5925, section 7.4).
-abbrev pub keyed : Pair → EndState → Sending → Option Draft → Emitted
-keyed pair s sending None = Quiet
-keyed pair s sending (Some out) =
+-- The segment of a draft under the key of a row (RFC 5925, section 7.4).
+abbrev pub made_under : Pair → EndState → Sending → Draft → Emitted
+made_under pair s sending out =
     seal_known pair s out sending (context_of (blank pair s out sending) (Some s.isn) s.peer_isn)
 
--- What is made of a draft with the row to send with, if there is one. The draft is chosen by the
--- most bytes that a segment under that row has; whether there is one doesn't depend on their number
--- (own).
-abbrev pub emitted : Pair → EndState → (ℕ → Option Draft) → Option Sending → Emitted
-emitted pair s draft None = if is_some (draft 0) then NoKey else Quiet
-emitted pair s draft (Some sending) = keyed pair s sending (draft (most_bytes pair s sending))
+-- What an end makes of what is due, by its drafts, with the row to send with: nothing where nothing
+-- is due, else nothing for want of a key where there is no row, else the segment, of at most as
+-- many bytes as one under that row has (RFC 5925, section 7.4).
+abbrev pub made_if_due : Pair → EndState → (Due → ℕ → Draft) → Option Due → Option Sending → Emitted
+made_if_due pair s draft None row = Quiet
+made_if_due pair s draft (Some due) None = NoKey
+made_if_due pair s draft (Some due) (Some sending) =
+    made_under pair s sending (draft due (most_bytes pair s sending))
 
 -- The next segment of an end, or none (RFC 9293, section 3.10; RFC 5925, section 7.4).
 unfoldable pub emit : List Row → Pair → ℕ → EndState → Emitted
-emit rows pair now s = emitted pair s (to_emit s) (choose s.current rows pair now)
+emit rows pair now s =
+    made_if_due pair s (draft_next s) (due_next s) (choose s.current rows pair now)
 
 -- What an end sends again, or none (RFC 9293, section 3.10.8).
 unfoldable pub resend : List Row → Pair → ℕ → EndState → Emitted
-resend rows pair now s = emitted pair s (to_resend s) (choose s.current rows pair now)
+resend rows pair now s =
+    made_if_due pair s (draft_again s) (due_again s) (choose s.current rows pair now)

@@ -18,7 +18,7 @@ use Rattle.book_keys.specs.Coordination.{choose, follow}
 use Rattle.book_endpoint.specs.Verdicts.{judge}
 use Rattle.book_endpoint.specs.States.{ready}
 use Rattle.book_endpoint.specs.Arrivals.{arrive}
-use Rattle.book_endpoint.specs.Emissions.{to_emit, to_resend, emit, resend}
+use Rattle.book_endpoint.specs.Emissions.{due_next, due_again, emit, resend}
 use Rattle.book_link.specs.declared.event.Event.TheVariants.{Clock, Connect, Listen, Start, Give, Fill, Send, Resend, Deliver, Inject, Alter, Take, Close, Abort, Dump}
 use Rattle.book_link.specs.Alterations.{altered}
 use Rattle.book_link.specs.Reports.{summary, report}
@@ -34,7 +34,7 @@ pub server_isn_zero : report shared_link
     codes "9 ok" ∷ codes "10 sent 4 AP seq 1001 ack 1 len 1 key 0 next 0" ∷ codes "11 taken" ∷ codes "12 took 41" ∷ codes "13 window" ∷
     codes "session a 1 isn 1000 peer 0 established given 1 delivered 0 open" ∷ codes "session b 1 isn 0 peer 1000 established given 0 delivered 1 open" ∷
     codes "segments 4 forgeries 0" ∷ [])
-unfolding digits encode_with sha1 digest_bytes hash_after compress rounds schedule first_words put2 put4 meant options_of find_ao keep sums complement_of pseudo header tcp_bytes checksum_of good spell first_fault fields reading with_right_checksum block_key hmac context context_of mac_input traffic_key mac choose follow judge ready arrive to_emit to_resend emit resend altered summary report
+unfolding digits encode_with sha1 digest_bytes hash_after compress rounds schedule first_words put2 put4 meant options_of find_ao keep sums complement_of pseudo header tcp_bytes checksum_of good spell first_fault fields reading with_right_checksum block_key hmac context context_of mac_input traffic_key mac choose follow judge ready arrive due_next due_again emit resend altered summary report
 server_isn_zero = refl
 
 -- a segment of an older session is refused
@@ -45,7 +45,7 @@ pub older_sessions_segment : report shared_link
     codes "7 refused bad-mac" ∷ codes "session a 1 isn 100 peer 200 dropped given 1 delivered 0 open" ∷
     codes "session a 2 isn 101 peer 201 established given 0 delivered 0 open" ∷ codes "session b 1 isn 200 peer 100 dropped given 0 delivered 0 open" ∷
     codes "session b 2 isn 201 peer 101 established given 0 delivered 0 open" ∷ codes "segments 1 forgeries 0" ∷ [])
-unfolding digits encode_with sha1 digest_bytes hash_after compress rounds schedule first_words put2 put4 meant options_of find_ao keep sums complement_of pseudo header tcp_bytes checksum_of good spell first_fault fields reading with_right_checksum block_key hmac context context_of mac_input traffic_key mac choose follow judge ready arrive to_emit to_resend emit resend altered summary report
+unfolding digits encode_with sha1 digest_bytes hash_after compress rounds schedule first_words put2 put4 meant options_of find_ao keep sums complement_of pseudo header tcp_bytes checksum_of good spell first_fault fields reading with_right_checksum block_key hmac context context_of mac_input traffic_key mac choose follow judge ready arrive due_next due_again emit resend altered summary report
 older_sessions_segment = refl
 
 -- an initial sequence number is used once
@@ -54,7 +54,7 @@ pub isn_used_twice : report shared_link
     ≡ lines (
     codes "1 ok" ∷ codes "2 ok" ∷ codes "3 isn-used" ∷ codes "session a 1 isn 100 peer 200 established given 0 delivered 0 open" ∷
     codes "session b 1 isn 200 peer 100 established given 0 delivered 0 open" ∷ codes "segments 0 forgeries 0" ∷ [])
-unfolding digits encode_with sha1 digest_bytes hash_after compress rounds schedule first_words put2 put4 meant options_of find_ao keep sums complement_of pseudo header tcp_bytes checksum_of good spell first_fault fields reading with_right_checksum block_key hmac context context_of mac_input traffic_key mac choose follow judge ready arrive to_emit to_resend emit resend altered summary report
+unfolding digits encode_with sha1 digest_bytes hash_after compress rounds schedule first_words put2 put4 meant options_of find_ao keep sums complement_of pseudo header tcp_bytes checksum_of good spell first_fault fields reading with_right_checksum block_key hmac context context_of mac_input traffic_key mac choose follow judge ready arrive due_next due_again emit resend altered summary report
 isn_used_twice = refl
 
 -- an abort, its reset, and what is sent again before
@@ -67,7 +67,7 @@ pub abort_and_reset : report shared_link
     codes "10 taken" ∷ codes "11 nothing" ∷ codes "12 ok" ∷ codes "13 sent 4 R seq 201 ack - len 0 key 0 next 0" ∷ codes "14 reset" ∷ codes "15 closed" ∷
     codes "16 ok" ∷ codes "session a 1 isn 100 peer 200 closed given 1 delivered 0 open" ∷
     codes "session b 1 isn 200 peer 100 closed given 0 delivered 0 open" ∷ codes "segments 4 forgeries 0" ∷ [])
-unfolding digits encode_with sha1 digest_bytes hash_after compress rounds schedule first_words put2 put4 meant options_of find_ao keep sums complement_of pseudo header tcp_bytes checksum_of good spell first_fault fields reading with_right_checksum block_key hmac context context_of mac_input traffic_key mac choose follow judge ready arrive to_emit to_resend emit resend altered summary report
+unfolding digits encode_with sha1 digest_bytes hash_after compress rounds schedule first_words put2 put4 meant options_of find_ao keep sums complement_of pseudo header tcp_bytes checksum_of good spell first_fault fields reading with_right_checksum block_key hmac context context_of mac_input traffic_key mac choose follow judge ready arrive due_next due_again emit resend altered summary report
 abort_and_reset = refl
 
 -- both FINs, and TIME-WAIT at its deadline
@@ -80,5 +80,5 @@ pub both_fins_and_time_wait : report shared_link
     codes "10 taken" ∷ codes "11 sent 4 A seq 202 ack 102 len 0 key 0 next 0" ∷ codes "12 taken" ∷ codes "13 ok" ∷ codes "14 took - end" ∷
     codes "session a 1 isn 100 peer 200 closed given 0 delivered 0 end" ∷ codes "session b 1 isn 200 peer 100 closed given 0 delivered 0 open" ∷
     codes "segments 4 forgeries 0" ∷ [])
-unfolding digits encode_with sha1 digest_bytes hash_after compress rounds schedule first_words put2 put4 meant options_of find_ao keep sums complement_of pseudo header tcp_bytes checksum_of good spell first_fault fields reading with_right_checksum block_key hmac context context_of mac_input traffic_key mac choose follow judge ready arrive to_emit to_resend emit resend altered summary report
+unfolding digits encode_with sha1 digest_bytes hash_after compress rounds schedule first_words put2 put4 meant options_of find_ao keep sums complement_of pseudo header tcp_bytes checksum_of good spell first_fault fields reading with_right_checksum block_key hmac context context_of mac_input traffic_key mac choose follow judge ready arrive due_next due_again emit resend altered summary report
 both_fins_and_time_wait = refl

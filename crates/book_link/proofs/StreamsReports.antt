@@ -18,7 +18,7 @@ use Rattle.book_keys.specs.Coordination.{choose, follow}
 use Rattle.book_endpoint.specs.Verdicts.{judge}
 use Rattle.book_endpoint.specs.States.{ready}
 use Rattle.book_endpoint.specs.Arrivals.{arrive}
-use Rattle.book_endpoint.specs.Emissions.{to_emit, to_resend, emit, resend}
+use Rattle.book_endpoint.specs.Emissions.{due_next, due_again, emit, resend}
 use Rattle.book_link.specs.declared.event.Event.TheVariants.{Clock, Connect, Listen, Start, Give, Fill, Send, Resend, Deliver, Inject, Alter, Take, Close, Abort, Dump}
 use Rattle.book_link.specs.Alterations.{altered}
 use Rattle.book_link.specs.Reports.{summary, report}
@@ -31,7 +31,7 @@ pub five_bytes_arrive : report shared_link
     codes "1 ok" ∷ codes "2 ok" ∷ codes "3 ok" ∷ codes "4 sent 1 AP seq 101 ack 201 len 5 key 0 next 0" ∷ codes "5 taken" ∷ codes "6 took 68656c6c6f" ∷
     codes "session a 1 isn 100 peer 200 established given 5 delivered 0 open" ∷
     codes "session b 1 isn 200 peer 100 established given 0 delivered 5 open" ∷ codes "segments 1 forgeries 0" ∷ [])
-unfolding digits encode_with sha1 digest_bytes hash_after compress rounds schedule first_words put2 put4 meant options_of find_ao keep sums complement_of pseudo header tcp_bytes checksum_of good spell first_fault fields reading with_right_checksum block_key hmac context context_of mac_input traffic_key mac choose follow judge ready arrive to_emit to_resend emit resend altered summary report
+unfolding digits encode_with sha1 digest_bytes hash_after compress rounds schedule first_words put2 put4 meant options_of find_ao keep sums complement_of pseudo header tcp_bytes checksum_of good spell first_fault fields reading with_right_checksum block_key hmac context context_of mac_input traffic_key mac choose follow judge ready arrive due_next due_again emit resend altered summary report
 five_bytes_arrive = refl
 
 -- a later segment comes first, and an earlier one twice
@@ -43,7 +43,7 @@ pub reordered_and_repeated : report shared_link
     codes "6 sent 2 AP seq 103 ack 201 len 2 key 0 next 0" ∷ codes "7 taken" ∷ codes "8 taken" ∷ codes "9 window" ∷ codes "10 took 41424344" ∷
     codes "session a 1 isn 100 peer 200 established given 4 delivered 0 open" ∷
     codes "session b 1 isn 200 peer 100 established given 0 delivered 4 open" ∷ codes "segments 2 forgeries 0" ∷ [])
-unfolding digits encode_with sha1 digest_bytes hash_after compress rounds schedule first_words put2 put4 meant options_of find_ao keep sums complement_of pseudo header tcp_bytes checksum_of good spell first_fault fields reading with_right_checksum block_key hmac context context_of mac_input traffic_key mac choose follow judge ready arrive to_emit to_resend emit resend altered summary report
+unfolding digits encode_with sha1 digest_bytes hash_after compress rounds schedule first_words put2 put4 meant options_of find_ao keep sums complement_of pseudo header tcp_bytes checksum_of good spell first_fault fields reading with_right_checksum block_key hmac context context_of mac_input traffic_key mac choose follow judge ready arrive due_next due_again emit resend altered summary report
 reordered_and_repeated = refl
 
 -- the sequence field goes round its ring, and the extension rises
@@ -53,7 +53,7 @@ pub sequence_wraps : report shared_link
     codes "1 ok" ∷ codes "2 ok" ∷ codes "3 ok" ∷ codes "4 sent 1 AP seq 4294967296 ack 201 len 10 key 0 next 0" ∷ codes "5 taken" ∷
     codes "6 took 00010203040506070809" ∷ codes "session a 1 isn 4294967295 peer 200 established given 10 delivered 0 open" ∷
     codes "session b 1 isn 200 peer 4294967295 established given 0 delivered 10 open" ∷ codes "segments 1 forgeries 0" ∷ [])
-unfolding digits encode_with sha1 digest_bytes hash_after compress rounds schedule first_words put2 put4 meant options_of find_ao keep sums complement_of pseudo header tcp_bytes checksum_of good spell first_fault fields reading with_right_checksum block_key hmac context context_of mac_input traffic_key mac choose follow judge ready arrive to_emit to_resend emit resend altered summary report
+unfolding digits encode_with sha1 digest_bytes hash_after compress rounds schedule first_words put2 put4 meant options_of find_ao keep sums complement_of pseudo header tcp_bytes checksum_of good spell first_fault fields reading with_right_checksum block_key hmac context context_of mac_input traffic_key mac choose follow judge ready arrive due_next due_again emit resend altered summary report
 sequence_wraps = refl
 
 -- an older number has the older extension
@@ -64,7 +64,7 @@ pub older_number_after_the_wrap : report shared_link
     codes "6 sent 2 AP seq 4294967296 ack 201 len 1 key 0 next 0" ∷ codes "7 taken" ∷ codes "8 taken" ∷ codes "9 window" ∷
     codes "session a 1 isn 4294967294 peer 200 established given 2 delivered 0 open" ∷
     codes "session b 1 isn 200 peer 4294967294 established given 0 delivered 0 open" ∷ codes "segments 2 forgeries 0" ∷ [])
-unfolding digits encode_with sha1 digest_bytes hash_after compress rounds schedule first_words put2 put4 meant options_of find_ao keep sums complement_of pseudo header tcp_bytes checksum_of good spell first_fault fields reading with_right_checksum block_key hmac context context_of mac_input traffic_key mac choose follow judge ready arrive to_emit to_resend emit resend altered summary report
+unfolding digits encode_with sha1 digest_bytes hash_after compress rounds schedule first_words put2 put4 meant options_of find_ao keep sums complement_of pseudo header tcp_bytes checksum_of good spell first_fault fields reading with_right_checksum block_key hmac context context_of mac_input traffic_key mac choose follow judge ready arrive due_next due_again emit resend altered summary report
 older_number_after_the_wrap = refl
 
 -- the FIN comes before the data, and the end of the stream after them
@@ -76,5 +76,5 @@ pub fin_before_the_data : report shared_link
     codes "6 sent 2 AF seq 102 ack 201 len 0 key 0 next 0" ∷ codes "7 taken" ∷ codes "8 took -" ∷ codes "9 taken" ∷ codes "10 took 41 end" ∷
     codes "11 closed" ∷ codes "session a 1 isn 100 peer 200 fin-wait-1 given 1 delivered 0 open" ∷
     codes "session b 1 isn 200 peer 100 close-wait given 0 delivered 1 end" ∷ codes "segments 2 forgeries 0" ∷ [])
-unfolding digits encode_with sha1 digest_bytes hash_after compress rounds schedule first_words put2 put4 meant options_of find_ao keep sums complement_of pseudo header tcp_bytes checksum_of good spell first_fault fields reading with_right_checksum block_key hmac context context_of mac_input traffic_key mac choose follow judge ready arrive to_emit to_resend emit resend altered summary report
+unfolding digits encode_with sha1 digest_bytes hash_after compress rounds schedule first_words put2 put4 meant options_of find_ao keep sums complement_of pseudo header tcp_bytes checksum_of good spell first_fault fields reading with_right_checksum block_key hmac context context_of mac_input traffic_key mac choose follow judge ready arrive due_next due_again emit resend altered summary report
 fin_before_the_data = refl

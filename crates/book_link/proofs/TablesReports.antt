@@ -20,7 +20,7 @@ use Rattle.book_keys.specs.Tables.{adding, withdrawn}
 use Rattle.book_endpoint.specs.Verdicts.{judge}
 use Rattle.book_endpoint.specs.States.{ready}
 use Rattle.book_endpoint.specs.Arrivals.{arrive}
-use Rattle.book_endpoint.specs.Emissions.{to_emit, to_resend, emit, resend}
+use Rattle.book_endpoint.specs.Emissions.{due_next, due_again, emit, resend}
 use Rattle.book_link.specs.declared.event.Event.TheVariants.{Clock, Connect, Listen, Start, Give, Fill, Send, Resend, Deliver, Inject, Alter, Take, Close, Abort, AddRow, Withdraw, Dump}
 use Rattle.book_link.specs.Alterations.{altered}
 use Rattle.book_link.specs.Reports.{summary, report}
@@ -33,7 +33,7 @@ pub altered_copies : report shared_link
     codes "1 ok" ∷ codes "2 ok" ∷ codes "3 ok" ∷ codes "4 sent 1 AP seq 101 ack 201 len 1 key 0 next 0" ∷ codes "5 refused bad-mac" ∷ codes "6 checksum" ∷
     codes "7 no-place" ∷ codes "8 no-segment" ∷ codes "session a 1 isn 100 peer 200 established given 1 delivered 0 open" ∷
     codes "session b 1 isn 200 peer 100 established given 0 delivered 0 open" ∷ codes "segments 1 forgeries 0" ∷ [])
-unfolding digits encode_with sha1 digest_bytes hash_after compress rounds schedule first_words put2 put4 meant options_of find_ao keep sums complement_of pseudo header tcp_bytes checksum_of good spell first_fault fields reading with_right_checksum block_key hmac context context_of mac_input traffic_key mac choose follow judge ready arrive to_emit to_resend emit resend altered summary report
+unfolding digits encode_with sha1 digest_bytes hash_after compress rounds schedule first_words put2 put4 meant options_of find_ao keep sums complement_of pseudo header tcp_bytes checksum_of good spell first_fault fields reading with_right_checksum block_key hmac context context_of mac_input traffic_key mac choose follow judge ready arrive due_next due_again emit resend altered summary report
 altered_copies = refl
 
 -- a key is accepted in the last second of its lifetime, and not after
@@ -45,7 +45,7 @@ pub last_second_of_a_lifetime : report one_key
     codes "6 sent 2 AP seq 102 ack 201 len 1 key 1 next 1" ∷ codes "7 ok" ∷ codes "8 taken" ∷ codes "9 ok" ∷ codes "10 refused expired" ∷
     codes "session a 1 isn 100 peer 200 established given 2 delivered 0 open" ∷
     codes "session b 1 isn 200 peer 100 established given 0 delivered 0 open" ∷ codes "segments 2 forgeries 0" ∷ [])
-unfolding digits encode_with sha1 digest_bytes hash_after compress rounds schedule first_words put2 put4 meant options_of find_ao keep sums complement_of pseudo header tcp_bytes checksum_of good spell first_fault fields reading with_right_checksum block_key hmac context context_of mac_input traffic_key mac choose follow judge ready arrive to_emit to_resend emit resend altered summary report
+unfolding digits encode_with sha1 digest_bytes hash_after compress rounds schedule first_words put2 put4 meant options_of find_ao keep sums complement_of pseudo header tcp_bytes checksum_of good spell first_fault fields reading with_right_checksum block_key hmac context context_of mac_input traffic_key mac choose follow judge ready arrive due_next due_again emit resend altered summary report
 last_second_of_a_lifetime = refl
 
 -- no row sends at this time
@@ -55,7 +55,7 @@ pub no_key_to_send : report one_key
     codes "1 ok" ∷ codes "2 ok" ∷ codes "3 ok" ∷ codes "4 ok" ∷ codes "5 no-key" ∷ codes "6 ok" ∷ codes "7 sent 1 AP seq 101 ack 201 len 1 key 1 next 1" ∷
     codes "session a 1 isn 100 peer 200 established given 1 delivered 0 open" ∷
     codes "session b 1 isn 200 peer 100 established given 0 delivered 0 open" ∷ codes "segments 1 forgeries 0" ∷ [])
-unfolding digits encode_with sha1 digest_bytes hash_after compress rounds schedule first_words put2 put4 meant options_of find_ao keep sums complement_of pseudo header tcp_bytes checksum_of good spell first_fault fields reading with_right_checksum block_key hmac context context_of mac_input traffic_key mac choose follow judge ready arrive to_emit to_resend emit resend altered summary report
+unfolding digits encode_with sha1 digest_bytes hash_after compress rounds schedule first_words put2 put4 meant options_of find_ao keep sums complement_of pseudo header tcp_bytes checksum_of good spell first_fault fields reading with_right_checksum block_key hmac context context_of mac_input traffic_key mac choose follow judge ready arrive due_next due_again emit resend altered summary report
 no_key_to_send = refl
 
 -- the next key is asked for and followed
@@ -67,7 +67,7 @@ pub rollover_follows : report two_keys
     codes "8 sent 2 AP seq 102 ack 201 len 1 key 1 next 2" ∷ codes "9 taken" ∷ codes "10 sent 3 A seq 201 ack 101 len 0 key 2 next 2" ∷ codes "11 taken" ∷
     codes "12 ok" ∷ codes "13 sent 4 AP seq 103 ack 201 len 1 key 2 next 2" ∷ codes "session a 1 isn 100 peer 200 established given 3 delivered 0 open" ∷
     codes "session b 1 isn 200 peer 100 established given 0 delivered 0 open" ∷ codes "segments 4 forgeries 0" ∷ [])
-unfolding digits encode_with sha1 digest_bytes hash_after compress rounds schedule first_words put2 put4 meant options_of find_ao keep sums complement_of pseudo header tcp_bytes checksum_of good spell first_fault fields reading with_right_checksum block_key hmac context context_of mac_input traffic_key mac choose follow judge ready arrive to_emit to_resend emit resend altered summary report
+unfolding digits encode_with sha1 digest_bytes hash_after compress rounds schedule first_words put2 put4 meant options_of find_ao keep sums complement_of pseudo header tcp_bytes checksum_of good spell first_fault fields reading with_right_checksum block_key hmac context context_of mac_input traffic_key mac choose follow judge ready arrive due_next due_again emit resend altered summary report
 rollover_follows = refl
 
 -- a row that is added takes and sends at once; one that is withdrawn does neither, and keeps its number
@@ -80,5 +80,5 @@ pub rows_added_and_withdrawn : report one_key
     codes "13 sent 2 AP seq 102 ack 201 len 1 key 2 next 2" ∷ codes "14 refused no-tuple" ∷ codes "15 no-key" ∷ codes "16 no-row" ∷
     codes "session a 1 isn 100 peer 200 established given 2 delivered 0 open" ∷
     codes "session b 1 isn 200 peer 100 established given 0 delivered 0 open" ∷ codes "segments 2 forgeries 0" ∷ [])
-unfolding digits encode_with sha1 digest_bytes hash_after compress rounds schedule first_words put2 put4 meant options_of find_ao keep sums complement_of pseudo header tcp_bytes checksum_of good spell first_fault fields reading with_right_checksum block_key hmac context context_of mac_input traffic_key mac choose follow judge ready arrive to_emit to_resend emit resend altered summary report adding withdrawn overlaps
+unfolding digits encode_with sha1 digest_bytes hash_after compress rounds schedule first_words put2 put4 meant options_of find_ao keep sums complement_of pseudo header tcp_bytes checksum_of good spell first_fault fields reading with_right_checksum block_key hmac context context_of mac_input traffic_key mac choose follow judge ready arrive due_next due_again emit resend altered summary report adding withdrawn overlaps
 rows_added_and_withdrawn = refl

@@ -1,5 +1,5 @@
 -- What an event does to the bytes that sessions delivered.
-use Rattle.std.proofs.Common.{◌≡◌, ◌⊎◌, inl, inr, ℕ, ◌+◌, ◌-◌, ◌%◌, ◌==◌, Bool, true, false, not, ◌&&◌, ◌||◌, List, [], ◌∷◌, ◌++◌, length, replicate, Option, Some, None, if◌then◌else◌, refl, sym, ap, ◌∙◌, nat_lt, nat_le, Ok, Err}
+use Rattle.std.proofs.Common.{◌≡◌, ◌⊎◌, inl, inr, ℕ, ◌+◌, ◌-◌, ◌%◌, ◌==◌, Bool, true, false, not, ◌&&◌, ◌||◌, List, [], ◌∷◌, ◌++◌, length, replicate, Option, Some, None, if◌then◌else◌, refl, sym, ap, ◌∙◌, nat_lt, nat_le, Ok, Err, subst}
 use Rattle.std.specs.Prelude.{⊤, is_some}
 use Rattle.ao_base.specs.declared.address.Pair.{Pair}
 use Rattle.ao_base.specs.declared.end.End.{End}
@@ -17,7 +17,9 @@ use Rattle.book_endpoint.specs.declared.arrival.Arrival.TheVariants.{Foreign, Ch
 use Rattle.book_endpoint.specs.States.{EndState, window, room, gives, give, taking, take_out, at_end, is_closed, hears, close_in, close, abort, is_due, tick_in, connected, listening, started}
 use Rattle.book_endpoint.specs.Verdicts.{Judgement}
 use Rattle.book_endpoint.specs.Arrivals.{Moved, Arrived, answered, owing, above, fits_window, rested, finish, pass_fin, fin_of, records_fin, heard_runs, hear_data, acked_fin, windowed, acked, go_on, acknowledged, reset, ordinary, syn_alone, syn_ack_alone, in_listen, in_syn_sent, after_check, unmoved, heard, arrive_judged, judged_by, from_peer, arrive_read, arrive}
-use Rattle.book_endpoint.specs.Emissions.{Draft, Emitted, Quiet, NoKey, Emits, is_silent, is_syn_sent, is_syn_received, unsent, rst_draft, syn_draft, syn_ack_draft, data_draft, fin_draft, fin_again_draft, ack_draft, sends_data, sends_fin, fitting, to_emit, resends, unacknowledged, is_blocked, probe, to_resend, most_bytes, blank, seal_known, keyed, emitted, emit, resend}
+use Rattle.book_endpoint.specs.Emissions.{Draft, Emitted, Quiet, NoKey, Emits, is_silent, is_syn_sent, is_syn_received, unsent, rst_draft, syn_draft, syn_ack_draft, data_draft, fin_draft, fin_again_draft, ack_draft, sends_data, sends_fin, fitting, resends, is_blocked, most_bytes, blank, seal_known}
+use Rattle.endpoint_steps.specs.Drafting.{to_emit, unacknowledged, probe, to_resend, keyed, emitted}
+use Rattle.endpoint_steps.proofs.Drafting.{emit_by_drafts, resend_by_drafts}
 use Rattle.book_segments.specs.Bytes.{ring}
 use Rattle.book_endpoint.specs.States.{given_end}
 use Rattle.book_link.specs.Alterations.{has_place, altered}
@@ -110,18 +112,18 @@ sent_same e w s without NoKey h = refl
 sent_same e w s without (Emits x) h = h
 
 send_same : (setup : Setup) (e : End) (w : World) (s : EndState) → Same s (send setup e w s)
-unfolding emit
 send_same setup e w s =
     let pair = pair_of setup e in
     let o = choose_row s.current (side w e).rows pair (side w e).clock in
-    sent_same e w s Idle (emitted pair s (to_emit s) o) (emitted_same pair s (to_emit s) o (λ most. to_emit_same s most))
+    subst (λ (x : Emitted). Same s (sent e w s Idle x)) (sym (emit_by_drafts (side w e).rows (pair_of setup e) (side w e).clock s))
+    (sent_same e w s Idle (emitted pair s (to_emit s) o) (emitted_same pair s (to_emit s) o (λ most. to_emit_same s most)))
 
 send_again_same : (setup : Setup) (e : End) (w : World) (s : EndState) → Same s (send_again setup e w s)
-unfolding resend
 send_again_same setup e w s =
     let pair = pair_of setup e in
     let o = choose_row s.current (side w e).rows pair (side w e).clock in
-    sent_same e w s Nothing (emitted pair s (to_resend s) o) (emitted_same pair s (to_resend s) o (λ most. to_resend_same s most))
+    subst (λ (x : Emitted). Same s (sent e w s Nothing x)) (sym (resend_by_drafts (side w e).rows (pair_of setup e) (side w e).clock s))
+    (sent_same e w s Nothing (emitted pair s (to_resend s) o) (emitted_same pair s (to_resend s) o (λ most. to_resend_same s most)))
 
 -- ---- arrivals
 

@@ -1,5 +1,5 @@
 -- Where a table has no gap, an end is never without a key.
-use Rattle.std.proofs.Common.{◌≡◌, ℕ, true, List, [], ◌∷◌, Option, Some, None, refl}
+use Rattle.std.proofs.Common.{◌≡◌, ℕ, true, List, [], ◌∷◌, Option, Some, None, refl, sym, ◌∙◌}
 use Rattle.std.specs.Prelude.{◌≢◌}
 use Rattle.ao_base.specs.declared.end.End.{End}
 use Rattle.ao_base.specs.declared.address.Pair.{Pair}
@@ -9,7 +9,9 @@ use Rattle.book_keys.specs.Coordination.{Sending, choose}
 use Rattle.book_keys.specs.Plans.{has_sendable}
 use Rattle.book_keys.proofs.SendingLaws.{choose_none}
 use Rattle.book_endpoint.specs.States.{EndState}
-use Rattle.book_endpoint.specs.Emissions.{Draft, Emitted, Quiet, NoKey, Emits, most_bytes, blank, to_emit, to_resend, seal_known, keyed, emitted, emit, resend}
+use Rattle.book_endpoint.specs.Emissions.{Draft, Emitted, Quiet, NoKey, Emits, most_bytes, blank, seal_known, emit, resend}
+use Rattle.endpoint_steps.specs.Drafting.{to_emit, to_resend, keyed, emitted}
+use Rattle.endpoint_steps.proofs.Drafting.{emit_by_drafts, resend_by_drafts}
 use Rattle.book_link.specs.Outcomes.{Outcome, WithoutKey, Idle, Nothing}
 use Rattle.book_link.specs.declared.event.Event.TheVariants.{Send, Resend}
 use Rattle.book_link.specs.Worlds.{Setup, pair_of, Session, World, side}
@@ -34,12 +36,10 @@ emitted_keyless pair s draft None is = refl
 emitted_keyless pair s draft (Some sending) is = absurd (keyed_keyless pair s sending (draft (most_bytes pair s sending)) is)
 
 emit_keyless : (rows : List Row) (pair : Pair) (now : ℕ) (s : EndState) → emit rows pair now s ≡ NoKey → choose s.current rows pair now ≡ None
-unfolding emit
-emit_keyless rows pair now s is = emitted_keyless pair s (to_emit s) (choose s.current rows pair now) is
+emit_keyless rows pair now s is = emitted_keyless pair s (to_emit s) (choose s.current rows pair now) (sym (emit_by_drafts rows pair now s) ∙ is)
 
 resend_keyless : (rows : List Row) (pair : Pair) (now : ℕ) (s : EndState) → resend rows pair now s ≡ NoKey → choose s.current rows pair now ≡ None
-unfolding resend
-resend_keyless rows pair now s is = emitted_keyless pair s (to_resend s) (choose s.current rows pair now) is
+resend_keyless rows pair now s is = emitted_keyless pair s (to_resend s) (choose s.current rows pair now) (sym (resend_by_drafts rows pair now s) ∙ is)
 
 live_keyless : (w : World) (e : End) (sessions : List Session) (call : EndState → Act) → ((s : EndState) → (call s).outcome ≢ WithoutKey) → (act_on w e sessions call).outcome ≢ WithoutKey
 live_keyless w e [] call never is = absurd (cc)

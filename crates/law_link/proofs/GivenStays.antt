@@ -1,5 +1,5 @@
 -- What was given stays as it is, whatever comes and whatever is made.
-use Rattle.std.proofs.Common.{◌≡◌, ℕ, ◌+◌, ◌-◌, ◌%◌, ◌==◌, min, nat_lt, nat_le, Bool, true, false, not, ◌&&◌, ◌||◌, List, length, Option, Some, None, refl, Ok, Err}
+use Rattle.std.proofs.Common.{◌≡◌, ℕ, ◌+◌, ◌-◌, ◌%◌, ◌==◌, min, nat_lt, nat_le, Bool, true, false, not, ◌&&◌, ◌||◌, List, length, Option, Some, None, refl, Ok, Err, subst, sym}
 use Rattle.std.specs.Prelude.{⊤, is_some}
 use Rattle.ao_base.specs.declared.address.Pair.{Pair}
 use Rattle.book_segments.specs.Bytes.{ring}
@@ -15,7 +15,9 @@ use Rattle.book_endpoint.specs.declared.phase.Phase.TheVariants.{Listen, SynSent
 use Rattle.book_endpoint.specs.States.{EndState, window, hears, is_closed, given_end}
 use Rattle.book_endpoint.specs.Verdicts.{Judgement}
 use Rattle.book_endpoint.specs.Arrivals.{Moved, Arrived, answered, owing, above, fits_window, rested, finish, past_fin, pass_fin, fin_of, records_fin, heard_runs, hear_data, after_own_fin, acked_fin, windowed, acked, go_on, acknowledged, reset, ordinary, syn_alone, syn_ack_alone, after_check, unmoved, heard, arrive_judged, judged_by, from_peer, arrive_read, arrive}
-use Rattle.book_endpoint.specs.Emissions.{Draft, Emitted, Quiet, NoKey, Emits, is_silent, is_syn_sent, is_syn_received, unsent, rst_draft, syn_draft, syn_ack_draft, data_draft, again_draft, fin_draft, fin_again_draft, ack_draft, sends_data, sends_fin, fitting, to_emit, resends, unacknowledged, is_blocked, probe, to_resend, most_bytes, blank, seal_known, keyed, emitted, emit, resend}
+use Rattle.book_endpoint.specs.Emissions.{Draft, Emitted, Quiet, NoKey, Emits, is_silent, is_syn_sent, is_syn_received, unsent, rst_draft, syn_draft, syn_ack_draft, data_draft, again_draft, fin_draft, fin_again_draft, ack_draft, sends_data, sends_fin, fitting, resends, is_blocked, most_bytes, blank, seal_known, emit, resend}
+use Rattle.endpoint_steps.specs.Drafting.{to_emit, unacknowledged, probe, to_resend, keyed, emitted}
+use Rattle.endpoint_steps.proofs.Drafting.{emit_by_drafts, resend_by_drafts}
 use Rattle.law_link.proofs.Tests.{choose}
 
 -- these bytes were given
@@ -157,9 +159,9 @@ emitted_emitting pair s draft None all = choose (Emitting s) (is_some (draft 0))
 emitted_emitting pair s draft (Some sending) all = keyed_emitting pair s sending (draft (most_bytes pair s sending)) (all (most_bytes pair s sending))
 
 pub emit_emitting : (rows : List Row) (pair : Pair) (now : ℕ) (s : EndState) → Emitting s (emit rows pair now s)
-unfolding emit
-emit_emitting rows pair now s = emitted_emitting pair s (to_emit s) (choose_row s.current rows pair now) (λ most. emit_drafts s most)
+emit_emitting rows pair now s =
+    subst (Emitting s) (sym (emit_by_drafts rows pair now s)) (emitted_emitting pair s (to_emit s) (choose_row s.current rows pair now) (λ most. emit_drafts s most))
 
 pub resend_emitting : (rows : List Row) (pair : Pair) (now : ℕ) (s : EndState) → Emitting s (resend rows pair now s)
-unfolding resend
-resend_emitting rows pair now s = emitted_emitting pair s (to_resend s) (choose_row s.current rows pair now) (λ most. resend_drafts s most)
+resend_emitting rows pair now s =
+    subst (Emitting s) (sym (resend_by_drafts rows pair now s)) (emitted_emitting pair s (to_resend s) (choose_row s.current rows pair now) (λ most. resend_drafts s most))

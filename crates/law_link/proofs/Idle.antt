@@ -1,5 +1,5 @@
 -- An end makes nothing exactly where it has nothing to send: its context is known wherever it has.
-use Rattle.std.proofs.Common.{◌≡◌, ℕ, Bool, true, false, List, Option, Some, None, inl, inr, if◌then◌else◌, refl, sym, ap}
+use Rattle.std.proofs.Common.{◌≡◌, ℕ, Bool, true, false, List, Option, Some, None, inl, inr, if◌then◌else◌, refl, sym, ap, ◌∙◌}
 use Rattle.std.specs.Prelude.{◌↔◌, is_some}
 use Rattle.std.specs.List.{AllByRecursion}
 use Rattle.ao_base.specs.declared.address.Pair.{Pair}
@@ -9,7 +9,9 @@ use Rattle.book_macs.specs.Contexts.{context, context_known, context_of_syn, con
 use Rattle.book_keys.specs.Rows.{Row}
 use Rattle.book_keys.specs.Coordination.{Sending, choose}
 use Rattle.book_endpoint.specs.States.{EndState}
-use Rattle.book_endpoint.specs.Emissions.{Draft, Quiet, NoKey, to_emit, to_resend, most_bytes, blank, seal_known, keyed, emitted, emit, resend}
+use Rattle.book_endpoint.specs.Emissions.{Draft, Quiet, NoKey, most_bytes, blank, seal_known, due_next, due_again, emit, resend}
+use Rattle.endpoint_steps.specs.Drafting.{to_emit, to_resend, keyed, emitted}
+use Rattle.endpoint_steps.proofs.Drafting.{emit_by_drafts, resend_by_drafts, none_next, none_again}
 use Rattle.book_link.specs.declared.event.Event.{Event}
 use Rattle.law_link.specs.Laws.{SetupFits, EventFits}
 use Rattle.book_link.specs.Runs.{run}
@@ -79,13 +81,19 @@ emitted_idle pair s draft (Some sending) same carry =
       λ none. ap (keyed pair s sending) (same_none (draft 0) (draft most) (sym (same most)) none),
     )
 
-emit_idle : (rows : List Row) (pair : Pair) (now : ℕ) (s : EndState) → Whole s → (emit rows pair now s ≡ Quiet) ↔ (to_emit s 0 ≡ None)
-unfolding emit
-emit_idle rows pair now s h = emitted_idle pair s (to_emit s) (choose s.current rows pair now) (emit_same s) (λ most. emit_carries s most h)
+emit_idle : (rows : List Row) (pair : Pair) (now : ℕ) (s : EndState) → Whole s → (emit rows pair now s ≡ Quiet) ↔ (due_next s ≡ None)
+emit_idle rows pair now s h =
+    let o = emitted_idle pair s (to_emit s) (choose s.current rows pair now) (emit_same s) (λ most. emit_carries s most h) in
+    let same = emit_by_drafts rows pair now s in
+    let none = none_next s in
+    (λ is. none.0 (o.0 (sym same ∙ is)), λ is. same ∙ o.1 (none.1 is))
 
-resend_idle : (rows : List Row) (pair : Pair) (now : ℕ) (s : EndState) → Whole s → (resend rows pair now s ≡ Quiet) ↔ (to_resend s 0 ≡ None)
-unfolding resend
-resend_idle rows pair now s h = emitted_idle pair s (to_resend s) (choose s.current rows pair now) (resend_same s) (λ most. resend_carries s most h)
+resend_idle : (rows : List Row) (pair : Pair) (now : ℕ) (s : EndState) → Whole s → (resend rows pair now s ≡ Quiet) ↔ (due_again s ≡ None)
+resend_idle rows pair now s h =
+    let o = emitted_idle pair s (to_resend s) (choose s.current rows pair now) (resend_same s) (λ most. resend_carries s most h) in
+    let same = resend_by_drafts rows pair now s in
+    let none = none_again s in
+    (λ is. none.0 (o.0 (sym same ∙ is)), λ is. same ∙ o.1 (none.1 is))
 
 -- ---- the live session of an end
 
@@ -93,8 +101,8 @@ module _ (setup : Setup) (fits : SetupFits setup) (events : List Event) (f : All
   whole : Whole s.state
   whole = live_whole (side (run setup events) e).sessions s lives ((run_inv setup fits events f).whole e)
 
-  pub send_idle : (emit (side (run setup events) e).rows (pair_of setup e) (side (run setup events) e).clock s.state ≡ Quiet) ↔ (to_emit s.state 0 ≡ None)
+  pub send_idle : (emit (side (run setup events) e).rows (pair_of setup e) (side (run setup events) e).clock s.state ≡ Quiet) ↔ (due_next s.state ≡ None)
   send_idle = emit_idle (side (run setup events) e).rows (pair_of setup e) (side (run setup events) e).clock s.state whole
 
-  pub send_again_idle : (resend (side (run setup events) e).rows (pair_of setup e) (side (run setup events) e).clock s.state ≡ Quiet) ↔ (to_resend s.state 0 ≡ None)
+  pub send_again_idle : (resend (side (run setup events) e).rows (pair_of setup e) (side (run setup events) e).clock s.state ≡ Quiet) ↔ (due_again s.state ≡ None)
   send_again_idle = resend_idle (side (run setup events) e).rows (pair_of setup e) (side (run setup events) e).clock s.state whole

@@ -1,12 +1,14 @@
 -- A segment that is made keeps the facts.
-use Rattle.std.proofs.Common.{◌≡◌, ℕ, ◌≤◌, List, Option, Some, None, refl}
+use Rattle.std.proofs.Common.{◌≡◌, ℕ, ◌≤◌, List, Option, Some, None, refl, subst, sym}
 use Rattle.std.specs.Prelude.{is_some}
 use Rattle.std.specs.List.{AllByRecursion}
 use Rattle.ao_base.specs.declared.end.End.{End}
 use Rattle.book_macs.specs.Contexts.{context_of}
 use Rattle.book_keys.specs.Coordination.{Sending, choose as choose_row}
 use Rattle.book_endpoint.specs.States.{EndState}
-use Rattle.book_endpoint.specs.Emissions.{Draft, Emitted, Quiet, NoKey, most_bytes, blank, seal_known, keyed, emitted, to_emit, to_resend, emit, resend}
+use Rattle.book_endpoint.specs.Emissions.{Draft, Emitted, Quiet, NoKey, most_bytes, blank, seal_known}
+use Rattle.endpoint_steps.specs.Drafting.{keyed, emitted, to_emit, to_resend}
+use Rattle.endpoint_steps.proofs.Drafting.{emit_by_drafts, resend_by_drafts}
 use Rattle.law_link.proofs.Tests.{choose}
 use Rattle.law_link.proofs.Sound.{Sound}
 use Rattle.law_link.proofs.Whole.{Whole}
@@ -71,13 +73,13 @@ module _ (setup : Setup) (e : End) (w : World) (rows_fit : AllByRecursion RowFit
       keyed_ok without sending (draft most) (ok most (most_low (pair_of setup e) s sending)) (carry most) picked
 
   pub send_ok : ActOk setup e s (send setup e w s)
-  unfolding emit
   send_ok =
-      emitted_ok Idle (to_emit s) (choose_row s.current (side w e).rows (pair_of setup e) (side w e).clock)
-      (λ most low. emit_ok s most low sound) (λ most. emit_carries s most whole) refl
+      subst (λ (x : Emitted). ActOk setup e s (sent e w s Idle x)) (sym (emit_by_drafts (side w e).rows (pair_of setup e) (side w e).clock s))
+      (emitted_ok Idle (to_emit s) (choose_row s.current (side w e).rows (pair_of setup e) (side w e).clock)
+      (λ most low. emit_ok s most low sound) (λ most. emit_carries s most whole) refl)
 
   pub resend_act_ok : ActOk setup e s (send_again setup e w s)
-  unfolding resend
   resend_act_ok =
-      emitted_ok Nothing (to_resend s) (choose_row s.current (side w e).rows (pair_of setup e) (side w e).clock)
-      (λ most low. resend_ok s most low sound) (λ most. resend_carries s most whole) refl
+      subst (λ (x : Emitted). ActOk setup e s (sent e w s Nothing x)) (sym (resend_by_drafts (side w e).rows (pair_of setup e) (side w e).clock s))
+      (emitted_ok Nothing (to_resend s) (choose_row s.current (side w e).rows (pair_of setup e) (side w e).clock)
+      (λ most low. resend_ok s most low sound) (λ most. resend_carries s most whole) refl)

@@ -2,7 +2,7 @@
 ghost use Rattle.std.specs.Prelude.{◌≡◌, ◌↔◌, ℕ, suc, List, [], ◌∷◌, ◌++◌, length, Some, None};
 ghost use Rattle.std.specs.List.{AllByRecursion};
 ghost use Rattle.ao_base.specs.declared.end.End.{End};
-ghost use Rattle.book_endpoint.specs.Emissions.{Quiet, emit, resend, to_emit, to_resend};
+ghost use Rattle.book_endpoint.specs.Emissions.{Quiet, due_next, due_again, emit, resend};
 ghost use Rattle.book_link.specs.declared.event.Event.{Event};
 ghost use Rattle.law_link.specs.Entries.{AsMade, AllMade, Carried};
 ghost use Rattle.law_link.specs.Laws.{SetupFits, EventFits};
@@ -52,10 +52,10 @@ pub fn runs_go_on()
 {}
 
 /// The live session of an end makes nothing for want of anything to send, and not for want of a
-/// context: exactly where nothing is to be sent, or sent again, whatever the row.
+/// context: exactly where nothing is due to be sent, or to be sent again, whatever the row.
 pub fn idle_exactly()
     ensures send { (setup : Setup) (events : List Event) (e : End) (s : Session) → SetupFits setup → AllByRecursion EventFits events → live (side (run setup events) e).sessions ≡ Some s
-        → (emit (side (run setup events) e).rows (pair_of setup e) (side (run setup events) e).clock s.state ≡ Quiet) ↔ (to_emit s.state 0 ≡ None) }
+        → (emit (side (run setup events) e).rows (pair_of setup e) (side (run setup events) e).clock s.state ≡ Quiet) ↔ (due_next s.state ≡ None) }
     ensures resend { (setup : Setup) (events : List Event) (e : End) (s : Session) → SetupFits setup → AllByRecursion EventFits events → live (side (run setup events) e).sessions ≡ Some s
-        → (resend (side (run setup events) e).rows (pair_of setup e) (side (run setup events) e).clock s.state ≡ Quiet) ↔ (to_resend s.state 0 ≡ None) }
+        → (resend (side (run setup events) e).rows (pair_of setup e) (side (run setup events) e).clock s.state ≡ Quiet) ↔ (due_again s.state ≡ None) }
 {}

@@ -1,5 +1,5 @@
 -- What holds of an end before and in SYN-RECEIVED: nothing but the SYN was sent, and nothing was heard but the peer's.
-use Rattle.std.proofs.Common.{◌≡◌, ℕ, ◌+◌, ◌%◌, ◌≤◌, ◌==◌, min, Bool, true, false, not, ◌&&◌, nat_lt, List, [], ◌∷◌, length, replicate, Option, Some, None, ◌⊎◌, inl, inr, ◌-◌, if◌then◌else◌, refl, ap, subst, arith, Ok, Err}
+use Rattle.std.proofs.Common.{◌≡◌, ℕ, ◌+◌, ◌%◌, ◌≤◌, ◌==◌, min, Bool, true, false, not, ◌&&◌, nat_lt, List, [], ◌∷◌, length, replicate, Option, Some, None, ◌⊎◌, inl, inr, ◌-◌, if◌then◌else◌, refl, ap, subst, arith, Ok, Err, sym}
 use Rattle.std.specs.Prelude.{⊤, is_some}
 use Rattle.std.specs.List.{AllByRecursion}
 use Rattle.ao_base.specs.declared.address.Pair.{Pair}
@@ -20,7 +20,9 @@ use Rattle.book_endpoint.specs.declared.arrival.Arrival.TheVariants.{Foreign, Ch
 use Rattle.book_endpoint.specs.States.{EndState, first, window, is_closed, given_end, room, gives, give, close_in, abort, is_due, tick_in, connected, listening, started}
 use Rattle.book_endpoint.specs.Verdicts.{Judgement}
 use Rattle.book_endpoint.specs.Arrivals.{Moved, Arrived, answered, owing, above, fits_window, rested, past_fin, pass_fin, fin_of, records_fin, heard_runs, hear_data, after_own_fin, acked_fin, windowed, acked, go_on, acknowledged, ordinary, syn_alone, syn_ack_alone, after_check, unmoved, arrive_judged, judged_by, from_peer, arrive_read, arrive}
-use Rattle.book_endpoint.specs.Emissions.{Draft, Emitted, Quiet, NoKey, is_sending, is_silent, is_syn_sent, is_syn_received, fin_sent, unsent, rst_draft, syn_draft, syn_ack_draft, data_draft, again_draft, fin_draft, fin_again_draft, ack_draft, sends_data, sends_fin, fitting, to_emit, resends, unacknowledged, is_blocked, probe, to_resend, most_bytes, blank, seal_known, keyed, emitted, emit, resend}
+use Rattle.book_endpoint.specs.Emissions.{Draft, Emitted, Quiet, NoKey, is_sending, is_silent, is_syn_sent, is_syn_received, fin_sent, unsent, rst_draft, syn_draft, syn_ack_draft, data_draft, again_draft, fin_draft, fin_again_draft, ack_draft, sends_data, sends_fin, fitting, resends, is_blocked, most_bytes, blank, seal_known}
+use Rattle.endpoint_steps.specs.Drafting.{to_emit, unacknowledged, probe, to_resend, keyed, emitted}
+use Rattle.endpoint_steps.proofs.Drafting.{emit_by_drafts, resend_by_drafts}
 use Rattle.book_link.specs.Alterations.{has_place, altered}
 use Rattle.book_link.specs.declared.event.Event.{Event}
 use Rattle.book_link.specs.declared.event.Event.TheVariants.{Clock, Connect, Listen as Await, Start, Give, Fill, Send, Resend, Deliver, Inject, Alter, Take, Close, Abort, AddRow, Withdraw, Dump}
@@ -173,12 +175,14 @@ module _ (e : End) (w : World) (pair : Pair) (s : EndState) (without : Outcome) 
   emitted_calm draft (Some sending) f = keyed_calm sending (draft (most_bytes pair s sending)) (f (most_bytes pair s sending))
 
 send_calm : (setup : Setup) (e : End) (w : World) (s : EndState) → Calm s → Calm (send setup e w s).state
-unfolding emit
-send_calm setup e w s h = emitted_calm e w (pair_of setup e) s Idle h (to_emit s) (choose_row s.current (side w e).rows (pair_of setup e) (side w e).clock) (λ most. emit_calm s most h)
+send_calm setup e w s h =
+    subst (λ (x : Emitted). Calm (sent e w s Idle x).state) (sym (emit_by_drafts (side w e).rows (pair_of setup e) (side w e).clock s))
+    (emitted_calm e w (pair_of setup e) s Idle h (to_emit s) (choose_row s.current (side w e).rows (pair_of setup e) (side w e).clock) (λ most. emit_calm s most h))
 
 again_calm : (setup : Setup) (e : End) (w : World) (s : EndState) → Calm s → Calm (send_again setup e w s).state
-unfolding resend
-again_calm setup e w s h = emitted_calm e w (pair_of setup e) s Nothing h (to_resend s) (choose_row s.current (side w e).rows (pair_of setup e) (side w e).clock) (λ most. resend_calm s most h)
+again_calm setup e w s h =
+    subst (λ (x : Emitted). Calm (sent e w s Nothing x).state) (sym (resend_by_drafts (side w e).rows (pair_of setup e) (side w e).clock s))
+    (emitted_calm e w (pair_of setup e) s Nothing h (to_resend s) (choose_row s.current (side w e).rows (pair_of setup e) (side w e).clock) (λ most. resend_calm s most h))
 
 -- ---- the calls
 

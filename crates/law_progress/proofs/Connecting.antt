@@ -15,7 +15,9 @@ use Rattle.book_endpoint.specs.declared.phase.Phase.{Phase}
 use Rattle.book_endpoint.specs.declared.phase.Phase.TheVariants.{Listen, SynSent, SynReceived, Established}
 use Rattle.book_endpoint.specs.States.{EndState, first, window, take_out, is_closed}
 use Rattle.book_endpoint.specs.Arrivals.{fits_window}
-use Rattle.book_endpoint.specs.Emissions.{Draft, is_silent, is_sending, is_syn_sent, is_syn_received, sets, unsent, window_end, syn_draft, syn_ack_draft, data_draft, ack_draft, sends_data, fitting, to_emit, most_bytes, emitted, emit}
+use Rattle.book_endpoint.specs.Emissions.{Draft, is_silent, is_sending, is_syn_sent, is_syn_received, sets, unsent, window_end, syn_draft, syn_ack_draft, data_draft, ack_draft, sends_data, fitting, most_bytes, emit}
+use Rattle.endpoint_steps.specs.Drafting.{to_emit, emitted}
+use Rattle.endpoint_steps.proofs.Drafting.{emit_by_drafts}
 use Rattle.book_link.specs.declared.event.Event.{Event}
 use Rattle.book_link.specs.Worlds.{other, Setup, pair_of, Session, World, side, live}
 use Rattle.book_link.specs.Runs.{run_from, run}
@@ -327,9 +329,8 @@ fin_off false true c d e = absurd (cc)
 fin_off true false c d e = refl
 fin_off false false c d e = refl
 
-sends_plain : (rows : List Row) (pair : Pair) (now : ℕ) (s : EndState) (q : ℕ) → has_sendable rows pair now ≡ true → IsOpen s → s.peer_isn ≡ Some q → s.closing ≡ false → s.ack_owed ≡ true → SealsAs pair s (Plainly s) (emit rows pair now s)
-unfolding emit
-sends_plain rows pair now s q has up knows unclosed owed =
+drafts_plain : (rows : List Row) (pair : Pair) (now : ℕ) (s : EndState) (q : ℕ) → has_sendable rows pair now ≡ true → IsOpen s → s.peer_isn ≡ Some q → s.closing ≡ false → s.ack_owed ≡ true → SealsAs pair s (Plainly s) (emitted pair s (to_emit s) (choose_row s.current rows pair now))
+drafts_plain rows pair now s q has up knows unclosed owed =
     let o = choose_row s.current rows pair now in
     let some = has_row s.current rows pair now has in
     by_bool (SealsAs pair s (Plainly s) (emitted pair s (to_emit s) o)) (sends_data s)
@@ -342,6 +343,9 @@ sends_plain rows pair now s q has up knows unclosed owed =
     let out = λ (m : ℕ). ack_draft s in
     let r = emitted_seals pair s (to_emit s) out q o (λ m. emit_ack s up m t (fin_off (is_sending s.phase) s.closing (unsent s == 0) (nat_lt s.next (window_end s)) unclosed) owed) (λ m. refl) knows some in
     record { out = ack_draft s; sending = r.sending; context = r.context; is = r.is; holds = record { flags = plain_ack; unfinished = refl; number = refl; next = s.next; state = refl } })
+
+sends_plain : (rows : List Row) (pair : Pair) (now : ℕ) (s : EndState) (q : ℕ) → has_sendable rows pair now ≡ true → IsOpen s → s.peer_isn ≡ Some q → s.closing ≡ false → s.ack_owed ≡ true → SealsAs pair s (Plainly s) (emit rows pair now s)
+sends_plain rows pair now s q has up knows unclosed owed = subst (SealsAs pair s (Plainly s)) (sym (emit_by_drafts rows pair now s)) (drafts_plain rows pair now s q has up knows unclosed owed)
 
 -- both ends are established
 record Final (setup : Setup) (v : World) (lead lag : ℕ) (y : End) (a b : EndState) : Type 0 where

@@ -13,7 +13,9 @@ use Rattle.book_endpoint.specs.declared.arrival.Arrival.{Arrival}
 use Rattle.book_endpoint.specs.declared.arrival.Arrival.TheVariants.{Bad, Foreign, Checksum, Closed as AtClosed}
 use Rattle.book_endpoint.specs.States.{EndState, given_end, is_closed}
 use Rattle.book_endpoint.specs.Arrivals.{Arrived, unmoved, from_peer, arrive}
-use Rattle.book_endpoint.specs.Emissions.{Draft, Emitted, Quiet, NoKey, Emits, is_sending, is_silent, is_syn_sent, is_syn_received, unsent, rst_draft, syn_draft, syn_ack_draft, data_draft, again_draft, fin_draft, fin_again_draft, ack_draft, window_end, sends_data, sends_fin, fitting, to_emit, resends, unacknowledged, is_blocked, probe, to_resend, most_bytes, blank, seal_known, keyed, emitted, emit, resend}
+use Rattle.book_endpoint.specs.Emissions.{Draft, Emitted, Quiet, NoKey, Emits, is_sending, is_silent, is_syn_sent, is_syn_received, unsent, rst_draft, syn_draft, syn_ack_draft, data_draft, again_draft, fin_draft, fin_again_draft, ack_draft, window_end, sends_data, sends_fin, fitting, resends, is_blocked, most_bytes, blank, seal_known, emit, resend}
+use Rattle.endpoint_steps.specs.Drafting.{to_emit, unacknowledged, probe, to_resend, keyed, emitted}
+use Rattle.endpoint_steps.proofs.Drafting.{emit_by_drafts, resend_by_drafts}
 use Rattle.book_link.specs.declared.event.Event.{Event}
 use Rattle.book_link.specs.declared.event.Event.TheVariants.{Send, Resend, Deliver, Take}
 use Rattle.book_link.specs.Outcomes.{Outcome, Sent, Idle, Nothing, WithoutKey}
@@ -153,12 +155,10 @@ module _ (s : EndState) (phase : s.phase ≡ Closed) (unowed : s.rst_owed ≡ fa
       choose P (is_blocked s) (probe s) None (λ e. absurd (not_on3 (is_sending s.phase) (s.una == s.next) (s.send_window == 0) (ap is_sending phase) e)) (λ e. refl))))
 
 closed_emits : (rows : List Row) (pair : Pair) (now : ℕ) (s : EndState) → s.phase ≡ Closed → s.rst_owed ≡ false → emit rows pair now s ≡ Quiet
-unfolding emit
-closed_emits rows pair now s phase unowed = emitted_quiet pair s (to_emit s) (choose_row s.current rows pair now) (λ m. closed_emit s phase unowed m)
+closed_emits rows pair now s phase unowed = emit_by_drafts rows pair now s ∙ emitted_quiet pair s (to_emit s) (choose_row s.current rows pair now) (λ m. closed_emit s phase unowed m)
 
 closed_resends : (rows : List Row) (pair : Pair) (now : ℕ) (s : EndState) → s.phase ≡ Closed → s.rst_owed ≡ false → resend rows pair now s ≡ Quiet
-unfolding resend
-closed_resends rows pair now s phase unowed = emitted_quiet pair s (to_resend s) (choose_row s.current rows pair now) (λ m. closed_resend s phase unowed m)
+closed_resends rows pair now s phase unowed = resend_by_drafts rows pair now s ∙ emitted_quiet pair s (to_resend s) (choose_row s.current rows pair now) (λ m. closed_resend s phase unowed m)
 
 -- nothing moves a closed end
 pub closed_arrives : (rows : List Row) (pair : Pair) (now : ℕ) (s : EndState) (r : Reading) → is_closed s.phase ≡ true → (answer : Arrival) × (arrive rows pair now s r ≡ unmoved s answer)
@@ -225,12 +225,10 @@ module _ (pair : Pair) (s : EndState) where
   emitted_leaves draft (Some sending) h = keyed_leaves sending (draft (most_bytes pair s sending)) (h (most_bytes pair s sending))
 
 pub emits_leave : (rows : List Row) (pair : Pair) (now : ℕ) (s : EndState) → LeavesIf s (emit rows pair now s)
-unfolding emit
-emits_leave rows pair now s = emitted_leaves pair s (to_emit s) (choose_row s.current rows pair now) (emit_leaves s)
+emits_leave rows pair now s = subst (LeavesIf s) (sym (emit_by_drafts rows pair now s)) (emitted_leaves pair s (to_emit s) (choose_row s.current rows pair now) (emit_leaves s))
 
 pub resends_leave : (rows : List Row) (pair : Pair) (now : ℕ) (s : EndState) → LeavesIf s (resend rows pair now s)
-unfolding resend
-resends_leave rows pair now s = emitted_leaves pair s (to_resend s) (choose_row s.current rows pair now) (resend_leaves s)
+resends_leave rows pair now s = subst (LeavesIf s) (sym (resend_by_drafts rows pair now s)) (emitted_leaves pair s (to_resend s) (choose_row s.current rows pair now) (resend_leaves s))
 
 -- ---- a turn
 

@@ -1,5 +1,5 @@
 -- Each step keeps what holds of one state.
-use Rattle.std.proofs.Common.{◌≡◌, ℕ, ◌+◌, ◌-◌, ◌%◌, ◌<◌, ◌≤◌, ◌==◌, min, Bool, true, false, not, ◌&&◌, ◌||◌, nat_lt, List, [], ◌∷◌, length, Option, Some, None, ◌⊎◌, inl, inr, if◌then◌else◌, refl, ap, subst, arith, length-append, Ok, Err}
+use Rattle.std.proofs.Common.{◌≡◌, ℕ, ◌+◌, ◌-◌, ◌%◌, ◌<◌, ◌≤◌, ◌==◌, min, Bool, true, false, not, ◌&&◌, ◌||◌, nat_lt, List, [], ◌∷◌, length, Option, Some, None, ◌⊎◌, inl, inr, if◌then◌else◌, refl, ap, subst, arith, length-append, Ok, Err, sym}
 use Rattle.std.specs.Prelude.{⊤, is_some}
 use Rattle.std.proofs.lemmas.Bool.Decides.{nat_tests}
 use Rattle.ao_base.specs.declared.address.Address.{Address}
@@ -21,7 +21,9 @@ use Rattle.book_endpoint.specs.declared.arrival.Arrival.TheVariants.{Foreign, Ch
 use Rattle.book_endpoint.specs.States.{EndState, window, hears, passed_fin, is_closed, given_end, room, gives, give, close_in, abort, is_due, tick_in, beginning, started, own_mss, default_mss}
 use Rattle.book_endpoint.specs.Verdicts.{Judgement}
 use Rattle.book_endpoint.specs.Arrivals.{Moved, Arrived, owing, above, within, fits_window, rested, finish, past_fin, pass_fin, fin_of, heard_runs, hear_data, after_own_fin, acked_fin, windowed, acked, go_on, acknowledged, ordinary, peer_mss, syn_alone, syn_ack_alone, after_check, unmoved, arrive_judged, judged_by, from_peer, arrive_read, arrive}
-use Rattle.book_endpoint.specs.Emissions.{Draft, Emitted, Quiet, NoKey, is_sending, is_silent, is_syn_sent, is_syn_received, unsent, fin_sent, rst_draft, syn_draft, syn_ack_draft, data_draft, again_draft, fin_draft, fin_again_draft, ack_draft, sends_data, sends_fin, fitting, to_emit, resends, unacknowledged, is_blocked, probe, to_resend, most_bytes, blank, seal_known, keyed, emitted, emit, resend}
+use Rattle.book_endpoint.specs.Emissions.{Draft, Emitted, Quiet, NoKey, is_sending, is_silent, is_syn_sent, is_syn_received, unsent, fin_sent, rst_draft, syn_draft, syn_ack_draft, data_draft, again_draft, fin_draft, fin_again_draft, ack_draft, sends_data, sends_fin, fitting, resends, is_blocked, most_bytes, blank, seal_known}
+use Rattle.endpoint_steps.specs.Drafting.{to_emit, unacknowledged, probe, to_resend, keyed, emitted}
+use Rattle.endpoint_steps.proofs.Drafting.{emit_by_drafts, resend_by_drafts}
 use Rattle.book_link.specs.Outcomes.{Outcome, Idle, Nothing}
 use Rattle.book_link.specs.Worlds.{Setup, pair_of, Session, Side, Happening, World, side}
 use Rattle.book_link.specs.Steps.{Act, put, sent, send, send_again, come, given, acted, act_on}
@@ -290,12 +292,14 @@ module _ (e : End) (w : World) (pair : Pair) (s : EndState) (without : Outcome) 
   emitted_fit draft (Some sending) f = keyed_fit sending (draft (most_bytes pair s sending)) (f (most_bytes pair s sending))
 
 pub send_fit : (setup : Setup) (e : End) (w : World) (s : EndState) → Fit s → Fit (send setup e w s).state
-unfolding emit
-send_fit setup e w s h = emitted_fit e w (pair_of setup e) s Idle h (to_emit s) (choose_row s.current (side w e).rows (pair_of setup e) (side w e).clock) (λ most. emit_fit s most h)
+send_fit setup e w s h =
+    subst (λ (x : Emitted). Fit (sent e w s Idle x).state) (sym (emit_by_drafts (side w e).rows (pair_of setup e) (side w e).clock s))
+    (emitted_fit e w (pair_of setup e) s Idle h (to_emit s) (choose_row s.current (side w e).rows (pair_of setup e) (side w e).clock) (λ most. emit_fit s most h))
 
 pub again_fit : (setup : Setup) (e : End) (w : World) (s : EndState) → Fit s → Fit (send_again setup e w s).state
-unfolding resend
-again_fit setup e w s h = emitted_fit e w (pair_of setup e) s Nothing h (to_resend s) (choose_row s.current (side w e).rows (pair_of setup e) (side w e).clock) (λ most. resend_fit s most h)
+again_fit setup e w s h =
+    subst (λ (x : Emitted). Fit (sent e w s Nothing x).state) (sym (resend_by_drafts (side w e).rows (pair_of setup e) (side w e).clock s))
+    (emitted_fit e w (pair_of setup e) s Nothing h (to_resend s) (choose_row s.current (side w e).rows (pair_of setup e) (side w e).clock) (λ most. resend_fit s most h))
 
 -- ---- the calls
 

@@ -15,7 +15,9 @@ use Rattle.book_endpoint.specs.declared.phase.Phase.TheVariants.{Listen, SynSent
 use Rattle.book_endpoint.specs.declared.arrival.Arrival.TheVariants.{Taken, Unexpected, Window, Challenge, NoAck, BadAck}
 use Rattle.book_endpoint.specs.States.{EndState, window, hears}
 use Rattle.book_endpoint.specs.Arrivals.{Moved, answered, owing, above, fits_window, reset, rested, pass_fin, fin_of, records_fin, heard_runs, hear_data, after_own_fin, acked_fin, windowed, acked, go_on, acknowledged, ordinary, opened, syn_alone, syn_ack_alone, after_check}
-use Rattle.book_endpoint.specs.Emissions.{Draft, Quiet, is_sending, is_silent, is_syn_sent, is_syn_received, unsent, rst_draft, syn_draft, syn_ack_draft, data_draft, fin_draft, ack_draft, window_end, sends_data, sends_fin, fitting, to_emit, resends, unacknowledged, is_blocked, probe, to_resend, sets, most_bytes, blank, seal_known, keyed, emitted, emit, resend}
+use Rattle.book_endpoint.specs.Emissions.{Draft, Quiet, is_sending, is_silent, is_syn_sent, is_syn_received, unsent, rst_draft, syn_draft, syn_ack_draft, data_draft, fin_draft, ack_draft, window_end, sends_data, sends_fin, fitting, resends, is_blocked, sets, most_bytes, blank, seal_known, emit, resend}
+use Rattle.endpoint_steps.specs.Drafting.{to_emit, unacknowledged, probe, to_resend, keyed, emitted}
+use Rattle.endpoint_steps.proofs.Drafting.{emit_by_drafts, resend_by_drafts}
 use Rattle.law_link.proofs.Moves.{following}
 use Rattle.law_link.proofs.Sessions.{known_is}
 use Rattle.law_link.proofs.Tests.{choose}
@@ -139,38 +141,41 @@ seals_by pair s draft out rows now has is knows = seals_with pair s draft out (c
 
 module _ (pair : Pair) (s : EndState) (rows : List Row) (now : ℕ) (has : has_sendable rows pair now ≡ true) where
   pub sends_syn : s.phase ≡ SynSent → s.rst_owed ≡ false → s.next ≡ s.isn → SealsAs pair s (λ k. k ≡ syn_draft s (record s { next = s.isn + 1 })) (emit rows pair now s)
-  unfolding emit
-  sends_syn is unowed at = let t : EndState = record s { next = s.isn + 1 } in seals_by pair s (to_emit s) (syn_draft s t) rows now has (λ m. syn_first s m is unowed at) (knows_syn pair s t)
+  sends_syn is unowed at =
+      let t : EndState = record s { next = s.isn + 1 } in
+      subst (SealsAs pair s (λ k. k ≡ syn_draft s t)) (sym (emit_by_drafts rows pair now s))
+      (seals_by pair s (to_emit s) (syn_draft s t) rows now has (λ m. syn_first s m is unowed at) (knows_syn pair s t))
 
   pub resends_syn : s.phase ≡ SynSent → s.isn < s.next → SealsAs pair s (λ k. k ≡ syn_draft s s) (resend rows pair now s)
-  unfolding resend
-  resends_syn is sent = seals_by pair s (to_resend s) (syn_draft s s) rows now has (λ m. syn_again s m is sent) (knows_syn pair s s)
+  resends_syn is sent =
+      subst (SealsAs pair s (λ k. k ≡ syn_draft s s)) (sym (resend_by_drafts rows pair now s))
+      (seals_by pair s (to_resend s) (syn_draft s s) rows now has (λ m. syn_again s m is sent) (knows_syn pair s s))
 
   pub sends_syn_ack : (q : ℕ) → s.peer_isn ≡ Some q → s.phase ≡ SynReceived → s.rst_owed ≡ false → s.next ≡ s.isn → SealsAs pair s (λ k. k ≡ syn_ack_draft s (record s { next = s.isn + 1 })) (emit rows pair now s)
-  unfolding emit
-  sends_syn_ack q e is unowed at = let t : EndState = record s { next = s.isn + 1 } in seals_by pair s (to_emit s) (syn_ack_draft s t) rows now has (λ m. syn_ack_first s m is unowed at) (knows_syn_ack pair s t q e)
+  sends_syn_ack q e is unowed at =
+      let t : EndState = record s { next = s.isn + 1 } in
+      subst (SealsAs pair s (λ k. k ≡ syn_ack_draft s t)) (sym (emit_by_drafts rows pair now s))
+      (seals_by pair s (to_emit s) (syn_ack_draft s t) rows now has (λ m. syn_ack_first s m is unowed at) (knows_syn_ack pair s t q e))
 
   pub resends_syn_ack : (q : ℕ) → s.peer_isn ≡ Some q → s.phase ≡ SynReceived → s.isn < s.next → SealsAs pair s (λ k. k ≡ syn_ack_draft s s) (resend rows pair now s)
-  unfolding resend
-  resends_syn_ack q e is sent = seals_by pair s (to_resend s) (syn_ack_draft s s) rows now has (λ m. syn_ack_again s m is sent) (knows_syn_ack pair s s q e)
+  resends_syn_ack q e is sent =
+      subst (SealsAs pair s (λ k. k ≡ syn_ack_draft s s)) (sym (resend_by_drafts rows pair now s))
+      (seals_by pair s (to_resend s) (syn_ack_draft s s) rows now has (λ m. syn_ack_again s m is sent) (knows_syn_ack pair s s q e))
 
   -- an ACK before the own SYN is acknowledged
   pub sends_ack : (q : ℕ) → s.peer_isn ≡ Some q → is_asking s.phase ≡ true → s.rst_owed ≡ false → s.isn < s.next → (s.ack_owed && not (is_silent s.phase)) ≡ true → SealsAs pair s (λ k. k ≡ ack_draft s) (emit rows pair now s)
-  unfolding emit
   sends_ack q e asking unowed sent on =
-      seals_by pair s (to_emit s) (ack_draft s) rows now has (λ m. acks_only s asking m unowed sent ∙ if_on (s.ack_owed && not (is_silent s.phase)) (Some (ack_draft s)) None on)
-      (λ sending. let d = blank pair s (ack_draft s) sending in (context d.source d.destination s.isn q, plain_context d s.isn q s.peer_isn refl e))
+      subst (SealsAs pair s (λ k. k ≡ ack_draft s)) (sym (emit_by_drafts rows pair now s)) (seals_by pair s (to_emit s) (ack_draft s) rows now has (λ m. acks_only s asking m unowed sent ∙ if_on (s.ack_owed && not (is_silent s.phase)) (Some (ack_draft s)) None on)
+      (λ sending. let d = blank pair s (ack_draft s) sending in (context d.source d.destination s.isn q, plain_context d s.isn q s.peer_isn refl e)))
 
 module _ (pair : Pair) (s : EndState) (rows : List Row) (now : ℕ) where
   -- the SYN was sent, and no ACK may be
   pub sends_nothing : is_asking s.phase ≡ true → s.rst_owed ≡ false → s.isn < s.next → (s.ack_owed && not (is_silent s.phase)) ≡ false → emit rows pair now s ≡ Quiet
-  unfolding emit
   sends_nothing asking unowed sent off =
-      emitted_quiet pair s (to_emit s) (choose_row s.current rows pair now) (λ m. acks_only s asking m unowed sent ∙ if_off (s.ack_owed && not (is_silent s.phase)) (Some (ack_draft s)) None off)
+      emit_by_drafts rows pair now s ∙ emitted_quiet pair s (to_emit s) (choose_row s.current rows pair now) (λ m. acks_only s asking m unowed sent ∙ if_off (s.ack_owed && not (is_silent s.phase)) (Some (ack_draft s)) None off)
 
   pub resends_nothing : is_asking s.phase ≡ true → s.next ≤ s.isn → resend rows pair now s ≡ Quiet
-  unfolding resend
-  resends_nothing asking unsent_yet = emitted_quiet pair s (to_resend s) (choose_row s.current rows pair now) (λ m. nothing_again s asking m unsent_yet)
+  resends_nothing asking unsent_yet = resend_by_drafts rows pair now s ∙ emitted_quiet pair s (to_resend s) (choose_row s.current rows pair now) (λ m. nothing_again s asking m unsent_yet)
 
 -- ---- what is heard
 

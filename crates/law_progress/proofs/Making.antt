@@ -1,5 +1,5 @@
 -- What an established end makes that isn't closed: data at the next number or an ACK there, again from the oldest unacknowledged one, or a probe.
-use Rattle.std.proofs.Common.{◌≡◌, ℕ, ◌+◌, ◌-◌, ◌<◌, ◌≤◌, ◌==◌, min, Bool, true, false, not, ◌&&◌, nat_lt, List, length, drop, Option, Some, None, ◌⊎◌, inl, inr, ⊎_elim, if◌then◌else◌, refl, ap, ◌∙◌, arith, length-take}
+use Rattle.std.proofs.Common.{◌≡◌, ℕ, ◌+◌, ◌-◌, ◌<◌, ◌≤◌, ◌==◌, min, Bool, true, false, not, ◌&&◌, nat_lt, List, length, drop, Option, Some, None, ◌⊎◌, inl, inr, ⊎_elim, if◌then◌else◌, refl, ap, ◌∙◌, arith, length-take, subst, sym}
 use Rattle.std.specs.Prelude.{is_some}
 use Rattle.std.proofs.lemmas.List.{length-drop}
 use Rattle.std.proofs.lemmas.Bool.Decides.{nat_tests}
@@ -16,7 +16,9 @@ use Rattle.book_keys.proofs.SendingLaws.{choose_none}
 use Rattle.book_endpoint.specs.declared.phase.Phase.{Phase}
 use Rattle.book_endpoint.specs.declared.phase.Phase.TheVariants.{Listen, SynSent, SynReceived, Established, FinWait1, FinWait2, CloseWait, Closing, LastAck, TimeWait, Closed}
 use Rattle.book_endpoint.specs.States.{EndState, own_mss, given_end}
-use Rattle.book_endpoint.specs.Emissions.{Draft, Emitted, Quiet, NoKey, Emits, is_sending, is_silent, is_syn_sent, is_syn_received, fin_sent, unsent, slice_at, rst_draft, syn_draft, syn_ack_draft, data_draft, again_draft, fin_draft, fin_again_draft, ack_draft, window_end, sends_data, sends_fin, fitting, to_emit, resends, unacknowledged, is_blocked, probe, to_resend, sets, most_bytes, blank, sealed, seal_known, keyed, emitted, emit, resend}
+use Rattle.book_endpoint.specs.Emissions.{Draft, Emitted, Quiet, NoKey, Emits, is_sending, is_silent, is_syn_sent, is_syn_received, fin_sent, unsent, slice_at, rst_draft, syn_draft, syn_ack_draft, data_draft, again_draft, fin_draft, fin_again_draft, ack_draft, window_end, sends_data, sends_fin, fitting, resends, is_blocked, sets, most_bytes, blank, sealed, seal_known, emit, resend}
+use Rattle.endpoint_steps.specs.Drafting.{to_emit, unacknowledged, probe, to_resend, keyed, emitted}
+use Rattle.endpoint_steps.proofs.Drafting.{emit_by_drafts, resend_by_drafts}
 use Rattle.law_link.proofs.Tests.{choose, by_bool}
 use Rattle.law_link.proofs.Phases.{fin_gone, fin_made}
 use Rattle.law_link.proofs.Written.{mac_words}
@@ -327,9 +329,8 @@ all_blocked : (a b c : Bool) → a ≡ true → b ≡ true → c ≡ true → (a
 all_blocked a b c e f g = grind arith
 
 module _ (rows : List Row) (pair : Pair) (now : ℕ) (s : EndState) (up : IsOpen s) (h : Numbers s) (room : given_end s ≤ s.una + 65535) (keyed_now : has_sendable rows pair now ≡ true) where
-  pub send_case : SendCase pair s (emit rows pair now s)
-  unfolding emit
-  send_case =
+  draft_case : SendCase pair s (emitted pair s (to_emit s) (choose_row s.current rows pair now))
+  draft_case =
       let o = choose_row s.current rows pair now in
       let low = h.low in
       let una = h.una in
@@ -452,9 +453,8 @@ module _ (rows : List Row) (pair : Pair) (now : ℕ) (s : EndState) (up : IsOpen
           made_all (fin_left a made b2) off = let g = h.gone made in let one : bit_of s.closing ≡ 1 = ap bit_of g.1 in let top = g.0 in absurd (omega (arith, sent, waits))
           made_all (all_settled a made b2) off = let g = h.gone made in let one : bit_of s.closing ≡ 1 = ap bit_of g.1 in let top = g.0 in absurd (omega (arith, sent, waits))
 
-  pub resend_case : ResendCase pair s (resend rows pair now s)
-  unfolding resend
-  resend_case =
+  draft_again_case : ResendCase pair s (emitted pair s (to_resend s) (choose_row s.current rows pair now))
+  draft_again_case =
       by_bool (ResendCase pair s (emitted pair s (to_resend s) (choose_row s.current rows pair now))) (nat_lt s.una s.next)
       (λ t. let sent = lt_is s.una s.next t in by_case (phase_case s.phase up.phase) sent)
       (λ t. probe_case (lt_not s.una s.next t))
@@ -463,3 +463,9 @@ module _ (rows : List Row) (pair : Pair) (now : ℕ) (s : EndState) (up : IsOpen
       by_case (may_send on a may c) sent = again_case may sent
       by_case (fin_left a made may) sent = again_case may sent
       by_case (all_settled a made done) sent = let low = h.settled done in absurd (omega arith)
+
+  pub send_case : SendCase pair s (emit rows pair now s)
+  send_case = subst (SendCase pair s) (sym (emit_by_drafts rows pair now s)) draft_case
+
+  pub resend_case : ResendCase pair s (resend rows pair now s)
+  resend_case = subst (ResendCase pair s) (sym (resend_by_drafts rows pair now s)) draft_again_case

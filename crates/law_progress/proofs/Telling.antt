@@ -19,7 +19,9 @@ use Rattle.book_endpoint.specs.declared.arrival.Arrival.TheVariants.{Foreign, Ch
 use Rattle.book_endpoint.specs.States.{EndState, first, given_end, is_closed, close_in, abort, give, gives, room, is_due, tick_in, tick}
 use Rattle.book_endpoint.specs.Verdicts.{Finding, Judgement}
 use Rattle.book_endpoint.specs.Arrivals.{Arrived, unmoved, after_check, arrive_judged, judged_by, from_peer, arrive_read, arrive}
-use Rattle.book_endpoint.specs.Emissions.{Draft, Emitted, Quiet, NoKey, is_sending, is_silent, is_syn_sent, is_syn_received, unsent, fin_sent, rst_draft, syn_draft, syn_ack_draft, data_draft, again_draft, fin_draft, fin_again_draft, ack_draft, sends_data, sends_fin, fitting, to_emit, resends, unacknowledged, is_blocked, probe, to_resend, sets, most_bytes, blank, sealed, seal_known, keyed, emitted, emit, resend}
+use Rattle.book_endpoint.specs.Emissions.{Draft, Emitted, Quiet, NoKey, is_sending, is_silent, is_syn_sent, is_syn_received, unsent, fin_sent, rst_draft, syn_draft, syn_ack_draft, data_draft, again_draft, fin_draft, fin_again_draft, ack_draft, sends_data, sends_fin, fitting, resends, is_blocked, sets, most_bytes, blank, sealed, seal_known}
+use Rattle.endpoint_steps.specs.Drafting.{to_emit, unacknowledged, probe, to_resend, keyed, emitted}
+use Rattle.endpoint_steps.proofs.Drafting.{emit_by_drafts, resend_by_drafts}
 use Rattle.book_link.specs.Outcomes.{Outcome, Idle, Nothing, Done, Full, HasClosed}
 use Rattle.book_link.specs.Worlds.{other, Setup, pair_of, Session, Side, Made, Came, Happening, Making, Coming, World, side, find, forgeries}
 use Rattle.book_link.specs.Steps.{Act, add, put, quietly, made_of, sent, send, send_again, came, come, took, given, acted, act_on, begin, ticked, with_clock, with_sessions}
@@ -278,12 +280,14 @@ module _ (setup : Setup) (e : End) (w : World) (s : EndState) (without : Outcome
   emitted_told pair draft (Some sending) h = keyed_told pair sending (draft (most_bytes pair s sending)) (h (most_bytes pair s sending))
 
 pub send_told : (setup : Setup) (e : End) (w : World) (s : EndState) → ActTold setup e s (send setup e w s)
-unfolding emit
-send_told setup e w s = emitted_told setup e w s Idle (pair_of setup e) (to_emit s) (choose_row s.current (side w e).rows (pair_of setup e) (side w e).clock) (λ m. emit_told s m)
+send_told setup e w s =
+    subst (λ (x : Emitted). ActTold setup e s (sent e w s Idle x)) (sym (emit_by_drafts (side w e).rows (pair_of setup e) (side w e).clock s))
+    (emitted_told setup e w s Idle (pair_of setup e) (to_emit s) (choose_row s.current (side w e).rows (pair_of setup e) (side w e).clock) (λ m. emit_told s m))
 
 pub again_told : (setup : Setup) (e : End) (w : World) (s : EndState) → Sound s → ActTold setup e s (send_again setup e w s)
-unfolding resend
-again_told setup e w s sound = emitted_told setup e w s Nothing (pair_of setup e) (to_resend s) (choose_row s.current (side w e).rows (pair_of setup e) (side w e).clock) (λ m. resend_told s m sound)
+again_told setup e w s sound =
+    subst (λ (x : Emitted). ActTold setup e s (sent e w s Nothing x)) (sym (resend_by_drafts (side w e).rows (pair_of setup e) (side w e).clock s))
+    (emitted_told setup e w s Nothing (pair_of setup e) (to_resend s) (choose_row s.current (side w e).rows (pair_of setup e) (side w e).clock) (λ m. resend_told s m sound))
 
 -- ---- an arrival
 

@@ -16,7 +16,9 @@ use Rattle.book_endpoint.specs.declared.arrival.Arrival.TheVariants.{Foreign, Ch
 use Rattle.book_endpoint.specs.States.{EndState, is_closed, room, gives, close_in, is_due, tick_in, connected, listening, started}
 use Rattle.book_endpoint.specs.Verdicts.{Judgement}
 use Rattle.book_endpoint.specs.Arrivals.{Arrived, unmoved, from_peer, arrive_judged, judged_by, arrive_read, arrive}
-use Rattle.book_endpoint.specs.Emissions.{Draft, Emitted, Quiet, NoKey, Emits, is_sending, is_silent, is_syn_sent, is_syn_received, rst_draft, syn_draft, syn_ack_draft, data_draft, again_draft, fin_draft, fin_again_draft, ack_draft, sends_data, sends_fin, fitting, to_emit, resends, unacknowledged, is_blocked, probe, to_resend, most_bytes, seal_known, keyed, emitted, emit, resend, blank}
+use Rattle.book_endpoint.specs.Emissions.{Draft, Emitted, Quiet, NoKey, Emits, is_sending, is_silent, is_syn_sent, is_syn_received, rst_draft, syn_draft, syn_ack_draft, data_draft, again_draft, fin_draft, fin_again_draft, ack_draft, sends_data, sends_fin, fitting, resends, is_blocked, most_bytes, seal_known, emit, resend, blank}
+use Rattle.endpoint_steps.specs.Drafting.{to_emit, unacknowledged, probe, to_resend, keyed, emitted}
+use Rattle.endpoint_steps.proofs.Drafting.{emit_by_drafts, resend_by_drafts}
 use Rattle.book_endpoint.specs.States.{given_end}
 use Rattle.book_macs.specs.Contexts.{context_of}
 use Rattle.book_link.specs.Alterations.{has_place, altered}
@@ -104,17 +106,17 @@ sent_una e w s without NoKey h = omega arith
 sent_una e w s without (Emits out) h = let una = h.una in omega arith
 
 send_holds : (setup : Setup) (e : End) (w : World) (s : EndState) → Holds s (send setup e w s).state
-unfolding emit
 send_holds setup e w s = record {
   una = sent_una e w s Idle (emit (side w e).rows (pair_of setup e) (side w e).clock s) (emits_leave (side w e).rows (pair_of setup e) (side w e).clock s);
-  shut = λ shut. emitted_shut e w (pair_of setup e) s Idle shut (to_emit s) (choose_row s.current (side w e).rows (pair_of setup e) (side w e).clock) (λ most. emit_shut s most shut);
+  shut = λ shut. subst (λ (x : Emitted). is_closed (sent e w s Idle x).state.phase ≡ true) (sym (emit_by_drafts (side w e).rows (pair_of setup e) (side w e).clock s))
+      (emitted_shut e w (pair_of setup e) s Idle shut (to_emit s) (choose_row s.current (side w e).rows (pair_of setup e) (side w e).clock) (λ most. emit_shut s most shut));
 }
 
 again_holds : (setup : Setup) (e : End) (w : World) (s : EndState) → Holds s (send_again setup e w s).state
-unfolding resend
 again_holds setup e w s = record {
   una = sent_una e w s Nothing (resend (side w e).rows (pair_of setup e) (side w e).clock s) (resends_leave (side w e).rows (pair_of setup e) (side w e).clock s);
-  shut = λ shut. emitted_shut e w (pair_of setup e) s Nothing shut (to_resend s) (choose_row s.current (side w e).rows (pair_of setup e) (side w e).clock) (λ most. resend_shut s most shut);
+  shut = λ shut. subst (λ (x : Emitted). is_closed (sent e w s Nothing x).state.phase ≡ true) (sym (resend_by_drafts (side w e).rows (pair_of setup e) (side w e).clock s))
+      (emitted_shut e w (pair_of setup e) s Nothing shut (to_resend s) (choose_row s.current (side w e).rows (pair_of setup e) (side w e).clock) (λ most. resend_shut s most shut));
 }
 
 given_holds : (piece : List ℕ) (s : EndState) → Holds s (given piece s).state

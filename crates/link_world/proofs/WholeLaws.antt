@@ -24,7 +24,9 @@ use Rattle.book_keys.specs.Coordination.{Sending, choose as choose_row}
 use Rattle.key_coordination.proofs.ChoosingLaws.{choose_in}
 use Rattle.ao_check.proofs.KeyLaws.{got}
 use Rattle.book_endpoint.specs.States.{EndState}
-use Rattle.book_endpoint.specs.Emissions.{Draft, Emission, Emitted, Quiet, NoKey, Emits, sets, most_bytes, blank, own_ao, input_of, seal_of, sealed, seal_known, keyed, emitted, to_emit, to_resend, emit, resend}
+use Rattle.book_endpoint.specs.Emissions.{Draft, Emission, Emitted, Quiet, NoKey, Emits, sets, most_bytes, blank, own_ao, input_of, seal_of, sealed, seal_known}
+use Rattle.endpoint_steps.specs.Drafting.{keyed, emitted, to_emit, to_resend}
+use Rattle.endpoint_steps.proofs.Drafting.{emit_by_drafts, resend_by_drafts}
 use Rattle.segment_writer.specs.Drafts.{IsWritten}
 use Rattle.tcp_endpoint.specs.declared.emission.Made.{Made as Told}
 use Rattle.book_link.specs.Worlds.{Made, World}
@@ -72,9 +74,8 @@ module _ (rows : List Row) (pair : Pair) (now : ℕ) (s : EndState) (x : Emissio
 
   -- what an end makes, or makes again
   pub made_sealed : (again : Bool) → made_by again rows pair now s ≡ Emits x → IsSealed rows pair now s x
-  unfolding emit resend
-  made_sealed true e = emitted_sealed (to_resend s) (choose_row s.current rows pair now) refl e
-  made_sealed false e = emitted_sealed (to_emit s) (choose_row s.current rows pair now) refl e
+  made_sealed true e = emitted_sealed (to_resend s) (choose_row s.current rows pair now) refl (sym (resend_by_drafts rows pair now s) ∙ e)
+  made_sealed false e = emitted_sealed (to_emit s) (choose_row s.current rows pair now) refl (sym (emit_by_drafts rows pair now s) ∙ e)
 
 -- ---- its row
 

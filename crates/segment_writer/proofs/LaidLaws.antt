@@ -8,7 +8,7 @@ use Rattle.book_segments.specs.Spelling.{finished}
 use Rattle.book_keys.specs.Rows.{Row}
 use Rattle.book_keys.specs.Coordination.{Sending}
 use Rattle.book_endpoint.specs.States.{EndState}
-use Rattle.book_endpoint.specs.Emissions.{Draft, Emits, sets, sealed, keyed}
+use Rattle.book_endpoint.specs.Emissions.{Draft, Emits, sets, sealed, made_under}
 use Rattle.key_coordination.specs.declared.choice.Sending.{Sending as Told}
 use Rattle.tcp_segment.specs.declared.writing.Head.{Head}
 use Rattle.tcp_segment.specs.Drafts.{DatagramMut, Drafted}
@@ -52,7 +52,7 @@ pub emits_so : (o : Outgoing) (a : Bond) (rows : List Row) (sending : Told) (pai
     (s : EndState) (draft : Draft) (chosen : Sending) (p context : List ℕ)
     → IsLaid o rows sending pair h r → IsOf o a rows sending s draft chosen → p ≡ bytes_in o.payload
     → HasContext h p a.own a.peer context
-    → keyed pair s chosen (Some draft) ≡ Emits (sealed pair s draft chosen context)
+    → made_under pair s chosen draft ≡ Emits (sealed pair s draft chosen context)
 emits_so o a rows sending pair h r s draft chosen p context l i copied e =
     let k : Head = head_for pair s draft chosen in
     let head : h ≡ k = head_is o a rows sending pair h r s draft chosen l i in

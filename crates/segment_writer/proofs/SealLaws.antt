@@ -13,7 +13,7 @@ use Rattle.book_macs.specs.MacInput.{mac_input}
 use Rattle.book_keys.specs.Rows.{Row}
 use Rattle.book_keys.specs.Coordination.{Sending}
 use Rattle.book_endpoint.specs.States.{EndState}
-use Rattle.book_endpoint.specs.Emissions.{Draft, Emits, written, no_mac, blank, own_ao, seal_of, sealed, seal_known, keyed}
+use Rattle.book_endpoint.specs.Emissions.{Draft, Emits, written, no_mac, blank, own_ao, seal_of, sealed, seal_known, made_under}
 use Rattle.tcp_segment.specs.declared.writing.Head.{Head}
 use Rattle.tcp_segment.specs.Writing.{drafted, IsFinished}
 use Rattle.tcp_segment.proofs.DraftLaws.{drafted_ao}
@@ -52,7 +52,7 @@ ao_is pair s draft chosen m payload =
 -- where its context is known, it is made
 pub emits_is : (pair : Pair) (s : EndState) (draft : Draft) (chosen : Sending) (context : List ℕ)
     → HasContext (head_for pair s draft chosen) draft.payload s.isn s.peer_isn context
-    → keyed pair s chosen (Some draft) ≡ Emits (sealed pair s draft chosen context)
+    → made_under pair s chosen draft ≡ Emits (sealed pair s draft chosen context)
 emits_is pair s draft chosen context e =
     ap (λ (d : Segment). seal_known pair s draft chosen (context_of d (Some s.isn) s.peer_isn)) (sym (blank_is pair s draft chosen))
     ∙ ap (seal_known pair s draft chosen) e

@@ -3,7 +3,7 @@ ghost use Rattle.std.specs.Prelude.{◌≡◌, true, ◌≤◌, ◌+◌, ◌-◌
 ghost use Rattle.ao_base.specs.declared.address.Pair.{Pair as Sockets};
 ghost use Rattle.book_keys.specs.Coordination.{Sending as Chosen};
 ghost use Rattle.book_keys.specs.Rows.{Row};
-ghost use Rattle.book_endpoint.specs.Emissions.{Draft, Emits, keyed, sealed, sets};
+ghost use Rattle.book_endpoint.specs.Emissions.{Draft, Emits, made_under, sealed, sets};
 ghost use Rattle.book_endpoint.specs.States.{EndState};
 ghost use Rattle.book_segments.specs.Segments.{SYN};
 ghost use Rattle.book_macs.specs.Contexts.{bytes_of};
@@ -54,7 +54,7 @@ pub fn write_segment<L: Ledger>(
     requires size { (d : Row) → size_of pair.now outgoing.now (slice_index_or table.now.rows (sending.now.row - 1) d) ≤ 1500 }
     ensures length { (d : Row) → result.length ≡ size_of pair.now outgoing.now (slice_index_or table.now.rows (sending.now.row - 1) d) }
     ensures emits { (s : EndState) (draft : Draft) (chosen : Chosen) → IsOf outgoing.now association.old table.now.rows sending.now s draft chosen
-        → keyed pair.now s chosen (Some draft) ≡ Emits (sealed pair.now s draft chosen (bytes_of result.context)) }
+        → made_under pair.now s chosen draft ≡ Emits (sealed pair.now s draft chosen (bytes_of result.context)) }
     ensures written { (s : EndState) (draft : Draft) (chosen : Chosen) → IsOf outgoing.now association.old table.now.rows sending.now s draft chosen
         → IsWritten (sealed pair.now s draft chosen (bytes_of result.context)).segment result.length out.old out.new }
     ensures same { association.new ≡ record association.old { keys = association.new.keys } }

@@ -18,6 +18,8 @@ use Rattle.ao_check.proofs.KeyLaws.{got}
 use Rattle.tcp_segment.specs.Writing.{ip_size}
 use Rattle.book_endpoint.specs.States.{EndState, own_mss}
 use Rattle.book_endpoint.specs.Emissions as book
+use Rattle.endpoint_steps.specs.Drafting as steps
+use Rattle.endpoint_steps.proofs.Drafting.{emit_by_drafts, resend_by_drafts}
 use Rattle.tcp_endpoint.specs.declared.endpoint.Endpoint.{Endpoint}
 use Rattle.tcp_endpoint.specs.declared.planning.Plan.{Plan}
 use Rattle.tcp_endpoint.specs.declared.planning.Plan.TheVariants as plans
@@ -49,19 +51,19 @@ none_chosen (Some c) e = absurd (cc)
 
 -- ---- what the book makes
 
-pub emitted_none : (pair : Pair) (s : EndState) (draft : ℕ → Option book.Draft) (o : Option keys.Sending) → ((most : ℕ) → draft most ≡ None) → book.emitted pair s draft o ≡ book.Quiet
+pub emitted_none : (pair : Pair) (s : EndState) (draft : ℕ → Option book.Draft) (o : Option keys.Sending) → ((most : ℕ) → draft most ≡ None) → steps.emitted pair s draft o ≡ book.Quiet
 emitted_none pair s draft None h = ap (λ z. if is_some z then book.NoKey else book.Quiet) (h 0)
-emitted_none pair s draft (Some c) h = ap (λ z. book.keyed pair s c z) (h (book.most_bytes pair s c))
+emitted_none pair s draft (Some c) h = ap (λ z. steps.keyed pair s c z) (h (book.most_bytes pair s c))
 
-pub emitted_keyless : (pair : Pair) (s : EndState) (draft : ℕ → Option book.Draft) (o : Option keys.Sending) (d : book.Draft) → draft 0 ≡ Some d → o ≡ None → book.emitted pair s draft o ≡ book.NoKey
+pub emitted_keyless : (pair : Pair) (s : EndState) (draft : ℕ → Option book.Draft) (o : Option keys.Sending) (d : book.Draft) → draft 0 ≡ Some d → o ≡ None → steps.emitted pair s draft o ≡ book.NoKey
 emitted_keyless pair s draft None d h e = ap (λ z. if is_some z then book.NoKey else book.Quiet) h
 emitted_keyless pair s draft (Some c) d h e = absurd (cc)
 
-pub emitted_some : (pair : Pair) (s : EndState) (draft : ℕ → Option book.Draft) (o : Option keys.Sending) (c : keys.Sending) (d : book.Draft) → draft (book.most_bytes pair s c) ≡ Some d → o ≡ Some c → book.emitted pair s draft o ≡ book.keyed pair s c (Some d)
+pub emitted_some : (pair : Pair) (s : EndState) (draft : ℕ → Option book.Draft) (o : Option keys.Sending) (c : keys.Sending) (d : book.Draft) → draft (book.most_bytes pair s c) ≡ Some d → o ≡ Some c → steps.emitted pair s draft o ≡ book.made_under pair s c d
 emitted_some pair s draft None c d h e = absurd (cc)
 emitted_some pair s draft (Some b) c d h e =
     let q : b ≡ c = cc in
-    subst (λ z. book.keyed pair s z (draft (book.most_bytes pair s z)) ≡ book.keyed pair s c (Some d)) (sym q) (ap (λ z. book.keyed pair s c z) h)
+    subst (λ z. steps.keyed pair s z (draft (book.most_bytes pair s z)) ≡ book.made_under pair s c d) (sym q) (ap (λ z. steps.keyed pair s c z) h)
 
 -- ---- another current row
 
@@ -69,7 +71,7 @@ emitted_some pair s draft (Some b) c d h e =
 abbrev pub with_row : EndState → ℕ → EndState
 with_row s n = record s { current = Some n }
 
-pub keyed_same : (pair : Pair) (s : EndState) (c : keys.Sending) (n most : ℕ) (p : Plan) → book.keyed pair (with_row s n) c (Some (draft_of (with_row s n) most p)) ≡ book.keyed pair s c (Some (draft_of s most p))
+pub keyed_same : (pair : Pair) (s : EndState) (c : keys.Sending) (n most : ℕ) (p : Plan) → book.made_under pair (with_row s n) c (draft_of (with_row s n) most p) ≡ book.made_under pair s c (draft_of s most p)
 keyed_same pair s c n most plans.Reset = refl
 keyed_same pair s c n most plans.Syn = refl
 keyed_same pair s c n most plans.SynAck = refl
@@ -192,29 +194,23 @@ current_told a b rows now o e = ap (λ z. z.current) e
 
 -- ---- the answers
 
-pub emit_none : (rows : List Row) (pair : Pair) (now : ℕ) (s : EndState) → ((most : ℕ) → book.to_emit s most ≡ None) → book.emit rows pair now s ≡ book.Quiet
-unfolding book.emit
-emit_none rows pair now s h = emitted_none pair s (book.to_emit s) (keys.choose s.current rows pair now) h
+pub emit_none : (rows : List Row) (pair : Pair) (now : ℕ) (s : EndState) → ((most : ℕ) → steps.to_emit s most ≡ None) → book.emit rows pair now s ≡ book.Quiet
+emit_none rows pair now s h = emit_by_drafts rows pair now s ∙ emitted_none pair s (steps.to_emit s) (keys.choose s.current rows pair now) h
 
-pub resend_none : (rows : List Row) (pair : Pair) (now : ℕ) (s : EndState) → ((most : ℕ) → book.to_resend s most ≡ None) → book.resend rows pair now s ≡ book.Quiet
-unfolding book.resend
-resend_none rows pair now s h = emitted_none pair s (book.to_resend s) (keys.choose s.current rows pair now) h
+pub resend_none : (rows : List Row) (pair : Pair) (now : ℕ) (s : EndState) → ((most : ℕ) → steps.to_resend s most ≡ None) → book.resend rows pair now s ≡ book.Quiet
+resend_none rows pair now s h = resend_by_drafts rows pair now s ∙ emitted_none pair s (steps.to_resend s) (keys.choose s.current rows pair now) h
 
-pub emit_keyless : (rows : List Row) (pair : Pair) (now : ℕ) (s : EndState) (d : book.Draft) → book.to_emit s 0 ≡ Some d → keys.choose s.current rows pair now ≡ None → book.emit rows pair now s ≡ book.NoKey
-unfolding book.emit
-emit_keyless rows pair now s d h e = emitted_keyless pair s (book.to_emit s) (keys.choose s.current rows pair now) d h e
+pub emit_keyless : (rows : List Row) (pair : Pair) (now : ℕ) (s : EndState) (d : book.Draft) → steps.to_emit s 0 ≡ Some d → keys.choose s.current rows pair now ≡ None → book.emit rows pair now s ≡ book.NoKey
+emit_keyless rows pair now s d h e = emit_by_drafts rows pair now s ∙ emitted_keyless pair s (steps.to_emit s) (keys.choose s.current rows pair now) d h e
 
-pub resend_keyless : (rows : List Row) (pair : Pair) (now : ℕ) (s : EndState) (d : book.Draft) → book.to_resend s 0 ≡ Some d → keys.choose s.current rows pair now ≡ None → book.resend rows pair now s ≡ book.NoKey
-unfolding book.resend
-resend_keyless rows pair now s d h e = emitted_keyless pair s (book.to_resend s) (keys.choose s.current rows pair now) d h e
+pub resend_keyless : (rows : List Row) (pair : Pair) (now : ℕ) (s : EndState) (d : book.Draft) → steps.to_resend s 0 ≡ Some d → keys.choose s.current rows pair now ≡ None → book.resend rows pair now s ≡ book.NoKey
+resend_keyless rows pair now s d h e = resend_by_drafts rows pair now s ∙ emitted_keyless pair s (steps.to_resend s) (keys.choose s.current rows pair now) d h e
 
-pub emit_some : (rows : List Row) (pair : Pair) (now : ℕ) (s : EndState) (c : keys.Sending) (d : book.Draft) → book.to_emit s (book.most_bytes pair s c) ≡ Some d → keys.choose s.current rows pair now ≡ Some c → book.emit rows pair now s ≡ book.keyed pair s c (Some d)
-unfolding book.emit
-emit_some rows pair now s c d h e = emitted_some pair s (book.to_emit s) (keys.choose s.current rows pair now) c d h e
+pub emit_some : (rows : List Row) (pair : Pair) (now : ℕ) (s : EndState) (c : keys.Sending) (d : book.Draft) → steps.to_emit s (book.most_bytes pair s c) ≡ Some d → keys.choose s.current rows pair now ≡ Some c → book.emit rows pair now s ≡ book.made_under pair s c d
+emit_some rows pair now s c d h e = emit_by_drafts rows pair now s ∙ emitted_some pair s (steps.to_emit s) (keys.choose s.current rows pair now) c d h e
 
-pub resend_some : (rows : List Row) (pair : Pair) (now : ℕ) (s : EndState) (c : keys.Sending) (d : book.Draft) → book.to_resend s (book.most_bytes pair s c) ≡ Some d → keys.choose s.current rows pair now ≡ Some c → book.resend rows pair now s ≡ book.keyed pair s c (Some d)
-unfolding book.resend
-resend_some rows pair now s c d h e = emitted_some pair s (book.to_resend s) (keys.choose s.current rows pair now) c d h e
+pub resend_some : (rows : List Row) (pair : Pair) (now : ℕ) (s : EndState) (c : keys.Sending) (d : book.Draft) → steps.to_resend s (book.most_bytes pair s c) ≡ Some d → keys.choose s.current rows pair now ≡ Some c → book.resend rows pair now s ≡ book.made_under pair s c d
+resend_some rows pair now s c d h e = resend_by_drafts rows pair now s ∙ emitted_some pair s (steps.to_resend s) (keys.choose s.current rows pair now) c d h e
 
 pub emits_made : {e : Endpoint} {before after : List ℕ} {m : Made} (s : EndState) (b o : book.Emitted) → Makes e before after m b → o ≡ b → Emits s e before after (emissions.Segment m) o
 emits_made {e} {before} {after} {m} s b o k q =

@@ -3,6 +3,7 @@ ghost use Rattle.std.specs.Prelude.{◌≡◌, ◌+◌, ◌-◌, ◌==◌, ◌&&
 ghost use Rattle.wrap_seq.specs.Counter.{number};
 ghost use Rattle.book_endpoint.specs.States.{EndState};
 ghost use Rattle.book_endpoint.specs.Emissions as book;
+ghost use Rattle.endpoint_steps.specs.Drafting as steps;
 ghost use Rattle.tcp_endpoint.specs.Ends.{Stands};
 ghost use Rattle.tcp_endpoint.specs.Planning.{PlansAs, IsCarried};
 
@@ -57,9 +58,9 @@ impl Endpoint {
 
     /// What is sent next: RST, SYN, SYN with ACK, data within the peer's window, FIN, ACK (RFC 9293,
     /// section 3.10).
-    #[tactic(auto, unfolding(book_endpoint::specs::Emissions::to_emit))]
+    #[tactic(auto, unfolding(endpoint_steps::specs::Drafting::to_emit))]
     pub(crate) fn plan(&self) -> Option<Plan>
-        ensures planned { (s : EndState) (most : ℕ) → Stands self.now s → PlansAs s most result (book.to_emit s most) }
+        ensures planned { (s : EndState) (most : ℕ) → Stands self.now s → PlansAs s most result (steps.to_emit s most) }
         ensures carried { IfSome result (λ p. IsCarried self.now p) }
     {
         let next = self.sequence.next.value();
@@ -88,9 +89,9 @@ impl Endpoint {
 
     /// What is sent again: the SYN, what isn't acknowledged, or a probe of a window of zero (RFC
     /// 9293, sections 3.10.8 and 3.8.6.1).
-    #[tactic(auto, unfolding(book_endpoint::specs::Emissions::to_resend))]
+    #[tactic(auto, unfolding(endpoint_steps::specs::Drafting::to_resend))]
     pub(crate) fn plan_again(&self) -> Option<Plan>
-        ensures planned { (s : EndState) (most : ℕ) → Stands self.now s → PlansAs s most result (book.to_resend s most) }
+        ensures planned { (s : EndState) (most : ℕ) → Stands self.now s → PlansAs s most result (steps.to_resend s most) }
         ensures carried { IfSome result (λ p. IsCarried self.now p) }
     {
         let isn = u64::from(self.isn);

@@ -44,7 +44,7 @@ returns-in-Some-choose-clause-resends g c = λ s h.
       current = ap (λ b. b.current) c.in-Some-choose.ensures.current ∙ ap (λ o. current_after e.association.current o) (chosen_same e s rows now h ∙ k.is);
     })
     refl k.told_is k.here in
-    resends_made s (book.keyed e.pair row chosen (Some (draft_of row most p))) _ made
+    resends_made s (book.made_under e.pair row chosen (draft_of row most p)) _ made
     (resend_some rows e.pair now s chosen (draft_of s most p) (c.in-Some.ensures.planned s most h) k.is ∙ sym (keyed_same e.pair s chosen chosen.number most p))
 
 pub returns-in-None-choose-clause-resends : goal.returns-in-None-choose-clause-resends

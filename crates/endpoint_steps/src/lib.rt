@@ -1,0 +1,7 @@
+//! What an end does as single steps: the form over which the proofs of ends and of runs go, and that
+//! it is what the book says.
+#![tactic(auto)]
+
+mod laws;
+
+pub use laws::emit_by_drafts;
