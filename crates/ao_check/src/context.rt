@@ -135,21 +135,20 @@ pub(crate) fn outgoing(datagram: &Datagram<'_>, own_isn: u32, peer_isn: Option<u
     ensures syn { result.syn ≡ has SYN datagram.now }
     ensures context { context_of datagram.now (Some own_isn) peer_isn ≡ Some (bytes_of result.context) }
 {
-    let peer_isn = peer_isn.unwrap_or(0);
-    if !has(datagram, SYN) {
+    let syn = has(datagram, SYN);
+    if syn && !has(datagram, ACK) {
         return Plan {
-            syn: false,
-            context: between(datagram, own_isn, peer_isn),
-        };
-    }
-    if !has(datagram, ACK) {
-        return Plan {
-            syn: true,
+            syn,
             context: between(datagram, datagram.sequence(), 0),
         };
     }
+    let peer_isn = match peer_isn {
+        Some(peer_isn) => peer_isn,
+        None => unreachable!(),
+    };
+    let own_isn = if syn { datagram.sequence() } else { own_isn };
     Plan {
-        syn: true,
-        context: between(datagram, datagram.sequence(), peer_isn),
+        syn,
+        context: between(datagram, own_isn, peer_isn),
     }
 }
