@@ -14,7 +14,8 @@ use std::alloc::{AllocError, Global};
 use text_lines::print_fault;
 
 const USAGE: &[u8] =
-    b"usage: aotcp link [KEYS] | check KEYS | show | vectors | keys KEYS TIME | lint KEYS LEAD LAG FROM TO | storm SEED COUNT | check --pcap KEYS | bgp KEYS | timed KEYS | node KEYS\n";
+    b"usage: aotcp link [KEYS] | check KEYS | show | vectors | keys KEYS TIME | lint KEYS LEAD LAG FROM TO | \
+storm SEED COUNT | check --pcap KEYS | bgp KEYS | timed KEYS | node KEYS\n";
 
 /// The whole output of a command.
 #[derive(Debug, Drop)]

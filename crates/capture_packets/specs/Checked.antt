@@ -145,58 +145,78 @@ pub record JudgedPacket (before now : Judging) (shown : List Packet) (p : Packet
   pub one : 0 < length text → and_packet shown p ≡ shown ++ p ∷ []
   pub gathered : lines_now ≡ lines_before ++ text
 
--- what became of one more packet behind these
-abbrev pub JudgesPacket : {E : Type 0} → Judging → Judging → List Packet → Packet → (lines_before lines_now : List ℕ) → Result (Unit {0}) E → Type 0
-JudgesPacket before now shown p lines_before lines_now (Ok done) = JudgedPacket before now shown p lines_before lines_now
+-- what became of one more packet behind these: judged, its line gathered; or for want of memory none
+-- gathered (own)
+abbrev pub JudgesPacket : {E : Type 0} → Judging → Judging → List Packet → Packet →
+    (lines_before lines_now : List ℕ) → Result (Unit {0}) E → Type 0
+JudgesPacket before now shown p lines_before lines_now (Ok done) =
+    JudgedPacket before now shown p lines_before lines_now
 JudgesPacket before now shown p lines_before lines_now (Err error) = lines_now ≡ lines_before
 
--- a part of these lines was written
+-- a write failed: of the lines that were gathered a front part was written (own)
 pub record BreaksLines (lines : List ℕ) (out_before out_now : Side) : Type 0 where
   pub n : ℕ
   pub less : n < length lines
   pub wrote : Took (take n lines) out_before out_now
   pub rose : Rose out_before out_now
 
--- the lines that were gathered are written, and none is left
+-- the lines that were gathered are written, and none is left (own)
 pub record Written (lines_before lines_now : List ℕ) (out_before out_now : Side) : Type 0 where
   pub none : lines_now ≡ []
   pub wrote : Took lines_before out_before out_now
 
--- they are written, or a part of them
-abbrev pub WritesLines : {E : Type 0} → (lines_before lines_now : List ℕ) → Side → Side → Result (Unit {0}) E → Type 0
-WritesLines lines_before lines_now out_before out_now (Ok done) = Written lines_before lines_now out_before out_now
-WritesLines lines_before lines_now out_before out_now (Err failed) = BreaksLines lines_before out_before out_now
+-- the lines that were gathered are written, or of a write that failed a front part (own)
+abbrev pub WritesLines : {E : Type 0} → (lines_before lines_now : List ℕ) → Side → Side →
+    Result (Unit {0}) E → Type 0
+WritesLines lines_before lines_now out_before out_now (Ok done) =
+    Written lines_before lines_now out_before out_now
+WritesLines lines_before lines_now out_before out_now (Err failed) =
+    BreaksLines lines_before out_before out_now
 
--- they wait, since nothing was asked of the source
-pub record Wait (given lines_before lines_now : List ℕ) (out_before out_now : Side) : Type 0 where
+-- the lines that were gathered wait, since nothing was asked of the source (own)
+pub record Wait (given lines_before lines_now : List ℕ) (out_before out_now : Side)
+    : Type 0 where
   pub nothing : given ≡ []
   pub lines : lines_now ≡ lines_before
   pub out : out_now ≡ out_before
 
--- before the source is asked, the lines that are gathered are written
+-- before the source is asked the lines that were gathered are written; they may wait only for a
+-- packet that it wasn't asked for (own)
 abbrev pub InTime : (given lines_before lines_now : List ℕ) → Side → Side → PacketStep → Type 0
-InTime given lines_before lines_now out_before out_now step.Packet = Wait given lines_before lines_now out_before out_now ⊎ Written lines_before lines_now out_before out_now
-InTime given lines_before lines_now out_before out_now _ = Written lines_before lines_now out_before out_now
+InTime given lines_before lines_now out_before out_now step.Packet =
+    Wait given lines_before lines_now out_before out_now
+    ⊎ Written lines_before lines_now out_before out_now
+InTime given lines_before lines_now out_before out_now _ =
+    Written lines_before lines_now out_before out_now
 
--- the reader goes to the next packet, or to an end
-pub record Goes (before now : Reading) (source_before source_now : Side) (given lines_before lines_now : List ℕ) (out_before out_now : Side) (next : PacketStep) : Type 0 where
+-- the reader goes to the next packet or to an end, and the lines that were gathered are written in
+-- time (own)
+pub record Goes (before now : Reading) (source_before source_now : Side)
+    (given lines_before lines_now : List ℕ) (out_before out_now : Side) (next : PacketStep)
+    : Type 0 where
   pub steps : Steps before now source_before source_now given next
   pub goes : GoesOn before now (before.kept ++ given) next
   pub in_time : InTime given lines_before lines_now out_before out_now next
 
--- the lines that are gathered couldn't be written, and the source wasn't asked
-pub record Sticks (source_before source_now : Side) (given lines : List ℕ) (out_before out_now : Side) : Type 0 where
+-- the lines that were gathered couldn't be written, and the source wasn't asked (own)
+pub record Sticks (source_before source_now : Side) (given lines : List ℕ)
+    (out_before out_now : Side) : Type 0 where
   pub nothing : given ≡ []
   pub source : source_now ≡ source_before
   pub breaks : BreaksLines lines out_before out_now
 
--- the reader goes on, or can't since the lines that are gathered couldn't be written
-abbrev pub Moves : {E : Type 0} → Reading → Reading → Side → Side → (given lines_before lines_now : List ℕ) → Side → Side → Result PacketStep E → Type 0
-Moves before now source_before source_now given lines_before lines_now out_before out_now (Ok next) = Goes before now source_before source_now given lines_before lines_now out_before out_now next
-Moves before now source_before source_now given lines_before lines_now out_before out_now (Err failed) = Sticks source_before source_now given lines_before out_before out_now
+-- the reader goes on, or can't since the lines that were gathered couldn't be written (own)
+abbrev pub Moves : {E : Type 0} → Reading → Reading → (source_before source_now : Side) →
+    (given lines_before lines_now : List ℕ) → (out_before out_now : Side) →
+    Result PacketStep E → Type 0
+Moves before now source_before source_now given lines_before lines_now out_before out_now (Ok next) =
+    Goes before now source_before source_now given lines_before lines_now out_before out_now next
+Moves before now source_before source_now given lines_before lines_now out_before out_now (Err _) =
+    Sticks source_before source_now given lines_before out_before out_now
 
--- memory ran out, and the lines that are gathered are written, or a part of them
-abbrev pub RunsOut : List ℕ → Side → Side → PacketHalt → Type 0
+-- memory ran out, and the lines that were gathered are written, or of a write that failed a front
+-- part (own)
+abbrev pub RunsOut : List ℕ → (out_before out_now : Side) → PacketHalt → Type 0
 RunsOut lines out_before out_now Memory = Took lines out_before out_now
 RunsOut lines out_before out_now Write = BreaksLines lines out_before out_now
 RunsOut lines out_before out_now (Head fault) = ⊥

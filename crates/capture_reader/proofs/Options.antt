@@ -43,3 +43,6 @@ pub goes_on : (most i : ℕ) (order : ByteOrder) (code size : ℕ) (options : Li
     → option_in (most - i) order code size options ≡ option_in (most - (i + 1)) order code size (drop (4 + padded_length (two_at order options 2)) options)
 goes_on most i order code size options lt le some other =
     let k : most - i ≡ suc (most - (i + 1)) = omega arith in rw k (goes (most - (i + 1)) order code size options le some other)
+
+-- the steps of the search of an option
+pub ruleset option_steps = (ends_short, ends_here, tells_here, goes_on)

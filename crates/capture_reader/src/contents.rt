@@ -47,7 +47,7 @@ pub fn read_interface(order: ByteOrder, body: &[u8]) -> Result<Interface, BodyFa
 }
 
 // The value of the first option of this code and length among at most so many options.
-#[tactic(auto, using(crate::proofs::Options::ends_short, crate::proofs::Options::ends_here, crate::proofs::Options::tells_here, crate::proofs::Options::goes_on))]
+#[tactic(auto, using(crate::proofs::Options::option_steps))]
 fn option_in(order: ByteOrder, code: u16, size: usize, options: &[u8], most: usize) -> Option<&[u8]>
     requires { size < 65536 }
     ensures { MatchOption result (value_of_option most order code size options.now ≡ None) (λ value. (value_of_option most order code size options.now ≡ Some value.now) × (length value.now ≡ size)) }

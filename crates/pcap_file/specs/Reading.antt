@@ -88,6 +88,7 @@ abbrev pub is_ready : Option Head → List ℕ → ℕ → Bool
 is_ready None kept taken = false
 is_ready (Some head) kept taken = ends_within taken (record_at head.order kept)
 
+-- the next packet of this reader needs no source (own)
 abbrev pub has_whole : Reading → Bool
 has_whole reading = is_ready reading.head reading.kept reading.taken
 

@@ -1,7 +1,7 @@
 //! The packets of a classic pcap file, read with one packet in memory.
 //!
 //! `Packets::next` goes from one packet to the next; its answers are those of the packets of a file as
-//! `wire_model` defines them.
+//! `book_pcap` defines them.
 #![tactic(auto)]
 
 mod filling;
