@@ -64,8 +64,8 @@ impl<'a> LineWords<'a> {
 
     /// The end of the line; `Word` for a surplus word.
     #[tactic(auto, unfolding(book_lines::specs::Words::nothing_in))]
-    pub fn nothing(&mut self) -> Result<(), LineKind>
-        ensures { result ≡ nothing_in self.old }
+    pub fn nothing(&self) -> Result<(), LineKind>
+        ensures { result ≡ nothing_in self.now }
     {
         match next_word(self.line, self.from) {
             None => Ok(()),
