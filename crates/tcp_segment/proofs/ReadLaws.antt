@@ -221,7 +221,10 @@ addresses_are b = addresses_by (slice_index b 0 / 16 == 4) b
 sums_at : (b : List ℕ) (s : ℕ) → words_sum b ≡ s → 0 < s → (s % 65535 == 0) ≡ sums b
 sums_at b s e p = sym (sums_by b ∙ rw (e, lt-ltb 0 s p) refl)
 
-pub good_at : (b : List ℕ) (p : Places) (sum tcp_sum : ℕ) → IsRead b p → sum ≡ words_sum (addresses_in b) → tcp_sum ≡ words_sum (take (p.end - p.header) (drop p.header b))
+sums_modulo : (b : List ℕ) (s : ℕ) → words_sum b % 65535 ≡ s % 65535 → 0 < words_sum b → (s % 65535 == 0) ≡ sums b
+sums_modulo b s e p = ap (λ (n : ℕ). n == 0) (sym e) ∙ sums_at b (words_sum b) refl p
+
+pub good_at : (b : List ℕ) (p : Places) (sum tcp_sum : ℕ) → IsRead b p → sum ≡ words_sum (addresses_in b) → tcp_sum % 65535 ≡ words_sum (take (p.end - p.header) (drop p.header b)) % 65535
     → ((sum + 6 + length (take (p.end - p.header) (drop p.header b)) + tcp_sum) % 65535 == 0) ≡ good (fields b)
 unfolding good
 good_at b p sum tcp_sum r e f =
@@ -231,5 +234,7 @@ good_at b p sum tcp_sum r e f =
     let a = ap words_sum (addresses_are b) in
     let s = ap words_sum r.tcp in
     let len : length (take (p.end - p.header) (drop p.header b)) ≡ tcp_length d = omega (arith, length-take (p.end - p.header) (drop p.header b), length-drop p.header b, r.end, r.room) in
-    let total : words_sum (pseudo d t) ≡ sum + 6 + length (take (p.end - p.header) (drop p.header b)) + tcp_sum = omega (arith, w, a, s, len, e, f) in
-    sums_at (pseudo d t) (sum + 6 + length (take (p.end - p.header) (drop p.header b)) + tcp_sum) total (omega arith)
+    let k : ℕ = sum + 6 + length (take (p.end - p.header) (drop p.header b)) in
+    let total : words_sum (pseudo d t) ≡ k + words_sum (take (p.end - p.header) (drop p.header b)) = omega (arith, w, a, s, len, e) in
+    let same : words_sum (pseudo d t) % 65535 ≡ (k + tcp_sum) % 65535 = omega (arith, total, f) in
+    sums_modulo (pseudo d t) (k + tcp_sum) same (omega (arith, total))

@@ -6,7 +6,7 @@ ghost use Rattle.book_segments.specs.Spelling.{AreBytes, Fits, Spells};
 ghost use Rattle.tcp_segment.specs.Places.{IsRead};
 
 use crate::reading::{Places, places_in};
-use crate::sums::{address_sum, four, two, words};
+use crate::sums::{address_sum, four, two, words_modulo};
 use ao_base::{Address, Socket};
 use book_segments::DatagramFault;
 use std::marker::Model;
@@ -178,7 +178,7 @@ impl<'a> Datagram<'a> {
         ensures { result ≡ good self.now }
     {
         let tcp = &self.bytes[self.places.header..self.places.end];
-        let sum = address_sum(self.bytes) + 6 + tcp.len() as u64 + words(tcp);
+        let sum = address_sum(self.bytes) + 6 + tcp.len() as u64 + words_modulo(tcp);
         sum > 0 && sum % 65535 == 0
     }
 }

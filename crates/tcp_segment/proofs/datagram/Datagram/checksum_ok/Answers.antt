@@ -5,4 +5,4 @@ use Rattle.tcp_segment.proofs.datagram.Datagram.checksum_ok.Goals as goal
 
 pub returns-then-sum-gt0 : goal.returns-then-sum-gt0
 returns-then-sum-gt0 c =
-    good_at c.self.inside.bytes.now c.self.inside.places c.address_sum.result c.words.result c.self.invariant c.address_sum.ensures.sum c.words.ensures.sum ∙ ap good c.self.view_is
+    good_at c.self.inside.bytes.now c.self.inside.places c.address_sum.result c.words_modulo.result c.self.invariant c.address_sum.ensures.sum c.words_modulo.ensures.sum ∙ ap good c.self.view_is
