@@ -1,13 +1,14 @@
 -- The key of a row, and what is kept after it was used.
-use Rattle.std.proofs.Common.{◌≡◌, ◌<◌, ◌≤◌, ℕ, zero, suc, ◌+◌, ◌-◌, Bool, true, false, List, [], ◌∷◌, length, Option, Some, None, ◌⊎◌, inl, inr, refl, sym, ap, ◌∙◌, subst, arith, get_or}
+use Rattle.std.proofs.Common.{◌≡◌, ◌<◌, ◌≤◌, ℕ, zero, suc, ◌+◌, ◌-◌, Bool, true, false, List, [], ◌∷◌, length, Option, Some, None, inl, inr, refl, sym, ap, ◌∙◌, subst, arith, get_or}
 use Rattle.std.specs.Prelude.{slice_get}
 use Rattle.ao_base.specs.declared.address.Pair.{Pair}
 use Rattle.ao_base.specs.declared.algorithm.Algorithm.{Algorithm}
 use Rattle.book_segments.specs.Segments.{Segment, has, SYN}
 use Rattle.book_macs.specs.Contexts.{context, context_of}
-use Rattle.book_macs.specs.Keys.{traffic_key}
+use Rattle.book_macs.specs.Keys.{key_length, traffic_key}
+use Rattle.book_macs.proofs.LengthLaws.{length-traffic_key}
 use Rattle.book_keys.specs.Rows.{Row}
-use Rattle.book_keys.specs.Choices.{Numbered, acceptable_as, accept_row}
+use Rattle.book_keys.specs.Choices.{acceptable_as, accept_row}
 use Rattle.book_keys.proofs.ChoiceLaws.{lowest-IsLowest}
 use Rattle.ao_kdf.specs.declared.way.Way.{Way}
 use Rattle.ao_kdf.specs.declared.way.Way.TheVariants.{Inbound, Outbound}
@@ -16,7 +17,7 @@ use Rattle.ao_kdf.proofs.CacheLaws.{kept-keeping, kept-stays}
 use Rattle.tcp_segment.specs.declared.writing.Head.{Head}
 use Rattle.tcp_segment.specs.Drafts.{DatagramMut}
 use Rattle.ao_mac.specs.Sealed.{IsSealed}
-use Rattle.ao_check.specs.Bonds.{Bond, context_for, key_for, Fits, keys_after, steps_of, Counted}
+use Rattle.ao_check.specs.Bonds.{Bond, key_for, Fits, keys_after, steps_of, Counted}
 
 -- ---- rows at their places
 
@@ -148,6 +149,12 @@ counted_after syn c n way key keys old new row flag e g at right is count =
           (key, rw same (is (g ∙ s)));
       stays = λ m w k h. subst (λ (x : Cache). kept x m w ≡ Some k) (sym e) (stay_after syn c n way key right m w k h);
     }
+
+-- ---- a key that is lent
+
+-- it is the one that was kept, and has its algorithm's length
+pub lent_long : (o : Option (List ℕ)) (key : List ℕ) (a : Algorithm) (master c : List ℕ) → Some key ≡ o → o ≡ Some (traffic_key a master c) → length key ≡ key_length a
+lent_long o key a master c e f = let same : key ≡ traffic_key a master c = cc in ap length same ∙ length-traffic_key a master c
 
 -- ---- a seal by equal parts
 

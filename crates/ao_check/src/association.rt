@@ -19,12 +19,11 @@ ghost use Rattle.ao_check.specs.Bonds.{fresh, Fits, Counted};
 ghost use Rattle.ao_check.specs.Verdicts.{Tells, IsExpected, is_judged, judging};
 ghost use Rattle.ao_check.specs.Signings.{IsToSign, has_field};
 
-use crate::context::{has_syn, outgoing};
-use crate::key::key_of;
-use crate::screen::{is_right, screen_segment};
+use crate::context::outgoing;
+use crate::key::{has_right_mac, seal_by};
+use crate::screen::screen_segment;
 use ao_base::{Pair, Steps};
-use ao_kdf::{Context, KeyCache, Way};
-use ao_mac::seal;
+use ao_kdf::{Context, KeyCache};
 use book_endpoint::{Passed, Verdict};
 use key_coordination::{Choice, Sending};
 use key_table::Table;
@@ -122,16 +121,7 @@ impl Association {
             Ok(seen) => seen,
         };
         let row = table.row(seen.row);
-        let key = key_of(
-            &mut self.keys,
-            seen.row,
-            row,
-            Way::Inbound,
-            has_syn(datagram),
-            &seen.context,
-            steps,
-        );
-        if !is_right(&key, row, seen.number, datagram, seen.mac) {
+        if !has_right_mac(&mut self.keys, row, &seen, datagram, steps) {
             return Verdict::BadMac;
         }
         Verdict::Pass(Passed {
@@ -195,21 +185,14 @@ impl Association {
     {
         let row = table.row(sending.row);
         let plan = outgoing(&datagram.as_datagram(), self.own_isn, self.peer_isn);
-        let key = key_of(
+        seal_by(
             &mut self.keys,
             sending.row,
             row,
-            Way::Outbound,
-            plan.syn,
-            &plan.context,
-            steps,
-        );
-        seal(
-            &key,
-            row.algorithm(),
+            &plan,
             Counter::of(number).extension,
             datagram,
-            row.with_options(),
+            steps,
         );
         plan.context
     }

@@ -1,7 +1,7 @@
 //! Traffic keys that are kept once they were derived.
-ghost use Rattle.std.specs.Prelude.{◌≡◌, ◌+◌, ◌-◌, ◌<◌, ◌≤◌, ℕ, List, Option, Some, None, length, replicate, slice_set, IfOk};
+ghost use Rattle.std.specs.Prelude.{◌≡◌, ◌+◌, ◌-◌, ◌<◌, ◌≤◌, ℕ, List, Option, Some, None, length, option_map, replicate, slice_set, IfOk};
 ghost use Rattle.book_macs.specs.Contexts.{bytes_of};
-ghost use Rattle.book_macs.specs.Keys.{key_length, traffic_key};
+ghost use Rattle.book_macs.specs.Keys.{traffic_key};
 ghost use Rattle.ao_kdf.specs.Cache.{empty, key_at, kept, keeping, IsRight, steps_for};
 
 use crate::key::{TrafficKey, traffic_key};
@@ -43,27 +43,24 @@ fn no_keys(alloc: Global, rows: u8) -> Result<Vec<Option<TrafficKey>>, AllocErro
     Ok(keys)
 }
 
-/// The key that is kept at a place, or else derived and kept there.
-fn look<L: Ledger>(
+/// Derives the key of a place and keeps it there, unless one is kept.
+fn fill<L: Ledger>(
     keys: &mut Vec<Option<TrafficKey>>,
     at: usize,
     algorithm: Algorithm,
     master: &[u8],
     context: &Context,
     steps: &mut Steps<L>,
-) -> TrafficKey
+)
     requires at { at < length keys.old.items }
     requires right { IsRight (key_at keys.old.items at) (traffic_key algorithm master.now (bytes_of context.now)) }
-    ensures key { result ≡ traffic_key algorithm master.now (bytes_of context.now) }
     ensures keys { keys.new.items ≡ slice_set keys.old.items at (Some (traffic_key algorithm master.now (bytes_of context.now))) }
     ensures counted { steps.new ≡ steps.old + steps_for (key_at keys.old.items at) }
 {
-    if let Some(key) = &keys[at] {
-        return key.copied();
+    if let Some(_key) = &keys[at] {
+        return;
     }
-    let key = traffic_key(algorithm, master, context, steps);
-    keys[at] = Some(key.copied());
-    key
+    keys[at] = Some(traffic_key(algorithm, master, context, steps));
 }
 
 impl KeyCache {
@@ -80,11 +77,10 @@ impl KeyCache {
         })
     }
 
-    /// The traffic key of a row, from 1 to `rows`, for a way: of this master key and this context
-    /// (RFC 5925, section 5.2). Where a key is kept for the row and the way, it is that of these
-    /// arguments; it is given, and no step is counted. Else the key is derived and kept, and one
-    /// step is counted. All other keys stay.
-    pub fn get<L: Ledger>(
+    /// Derives the traffic key of a row, from 1 to `rows`, for a way, and keeps it, unless one is kept
+    /// for them: that of this master key and this context (RFC 5925, section 5.2). A key that is kept
+    /// is that of these arguments; then no step is counted, else one. All other keys stay.
+    pub fn keep<L: Ledger>(
         &mut self,
         row: u8,
         way: Way,
@@ -92,20 +88,31 @@ impl KeyCache {
         master: &[u8],
         context: &Context,
         steps: &mut Steps<L>,
-    ) -> TrafficKey
+    )
         requires low { 1 ≤ row }
         requires high { row ≤ self.old.rows }
         requires right { IsRight (kept self.old row way) (traffic_key alg master.now (bytes_of context.now)) }
-        ensures key { result ≡ traffic_key alg master.now (bytes_of context.now) }
-        ensures length { length result ≡ key_length alg }
-        ensures keys { self.new ≡ keeping self.old row way result }
-        ensures kept { kept self.new row way ≡ Some result }
+        ensures keys { self.new ≡ keeping self.old row way (traffic_key alg master.now (bytes_of context.now)) }
+        ensures kept { kept self.new row way ≡ Some (traffic_key alg master.now (bytes_of context.now)) }
         ensures counted { steps.new ≡ steps.old + steps_for (kept self.old row way) }
     {
         let at = row as usize - 1;
         match way {
-            Way::Inbound => look(&mut self.inbound, at, alg, master, context, steps),
-            Way::Outbound => look(&mut self.outbound, at, alg, master, context, steps),
+            Way::Inbound => fill(&mut self.inbound, at, alg, master, context, steps),
+            Way::Outbound => fill(&mut self.outbound, at, alg, master, context, steps),
+        }
+    }
+
+    /// Lends the key that is kept for a row, from 1 to `rows`, and a way. `None` exactly where none is.
+    pub fn kept(&self, row: u8, way: Way) -> Option<&TrafficKey>
+        requires low { 1 ≤ row }
+        requires high { row ≤ self.now.rows }
+        ensures { option_map (λ k. k.now) result ≡ kept self.now row way }
+    {
+        let at = row as usize - 1;
+        match way {
+            Way::Inbound => self.inbound[at].as_ref(),
+            Way::Outbound => self.outbound[at].as_ref(),
         }
     }
 }

@@ -68,6 +68,16 @@ fn keeps<L: Ledger>(
     asked_twice(alloc, alg, master, context, expected, &mut steps)
 }
 
+/// Whether this key is kept for the second row.
+fn lends(cache: &KeyCache, expected: &[u8]) -> bool
+    requires { 2 ≤ cache.now.rows }
+{
+    match cache.kept(2, Way::Inbound) {
+        Some(key) => key.as_slice() == expected,
+        None => false,
+    }
+}
+
 /// Asks a new cache for a key twice: one step in all.
 fn asked_twice<L: Ledger>(
     alloc: Global,
@@ -80,9 +90,10 @@ fn asked_twice<L: Ledger>(
     ensures counted { IfOk result (λ same. steps.new ≡ steps.old + 1) }
 {
     let mut cache = KeyCache::new(alloc, 2)?;
-    let key = cache.get(2, Way::Inbound, alg, master, context, steps);
-    let again = cache.get(2, Way::Inbound, alg, master, context, steps);
-    Ok(key.as_slice() == expected && again.as_slice() == expected)
+    cache.keep(2, Way::Inbound, alg, master, context, steps);
+    let made = lends(&cache, expected);
+    cache.keep(2, Way::Inbound, alg, master, context, steps);
+    Ok(made && lends(&cache, expected))
 }
 
 fn over_ipv4(port: u16, source_isn: u32) -> Context {
