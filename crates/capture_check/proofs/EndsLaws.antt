@@ -56,14 +56,14 @@ then_equal Equal b e = (refl, e)
 then_equal Greater b e = absurd (cc)
 
 exact_place : (x y : Place) → by_place x y ≡ Equal → x ≡ y
-exact_place (V4 a p) (V4 b q) e =
-    let t = then_equal (slice_cmp nat_cmp a b) (nat_cmp p q) e in
-    ap (λ (z : List ℕ). V4 z p) (exact_bytes a b t.0) ∙ ap (λ (z : ℕ). V4 b z) (exact_unsigned p q t.1)
-exact_place (V6 a p) (V6 b q) e =
-    let t = then_equal (slice_cmp nat_cmp a b) (nat_cmp p q) e in
-    ap (λ (z : List ℕ). V6 z p) (exact_bytes a b t.0) ∙ ap (λ (z : ℕ). V6 b z) (exact_unsigned p q t.1)
-exact_place (V4 a p) (V6 b q) e = absurd (cc)
-exact_place (V6 a p) (V4 b q) e = absurd (cc)
+exact_place (V4 p a) (V4 q b) e =
+    let t = then_equal (nat_cmp p q) (slice_cmp nat_cmp a b) e in
+    ap (λ (z : ℕ). V4 z a) (exact_unsigned p q t.0) ∙ ap (λ (z : List ℕ). V4 q z) (exact_bytes a b t.1)
+exact_place (V6 p a) (V6 q b) e =
+    let t = then_equal (nat_cmp p q) (slice_cmp nat_cmp a b) e in
+    ap (λ (z : ℕ). V6 z a) (exact_unsigned p q t.0) ∙ ap (λ (z : List ℕ). V6 q z) (exact_bytes a b t.1)
+exact_place (V4 p a) (V6 q b) e = absurd (cc)
+exact_place (V6 p a) (V4 q b) e = absurd (cc)
 
 exact_ends : (x y : Ends) → by_ends x y ≡ Equal → x ≡ y
 exact_ends x y e =

@@ -13,14 +13,14 @@ use Rattle.capture_check.specs.contracts.ends.EndsOrd.TheImpl as ends_ord
 
 -- an address with a port, as the order has it
 abbrev pub placed : Address → ℕ → Place
-placed (address.V4 bytes) port = V4 bytes port
-placed (address.V6 bytes) port = V6 bytes port
+placed (address.V4 bytes) port = V4 port bytes
+placed (address.V6 bytes) port = V6 port bytes
 
 -- a socket, as the order has it
 abbrev pub place_of : Socket → Place
 place_of s = placed s.address s.port
 
--- the order of sockets: IPv4 first, then by the bytes of the address, then by the port
+-- the order of sockets: IPv4 first, then by the port, then by the bytes of the address
 abbrev pub by_place : Place → Place → Ordering
 by_place = (place_ord.ghosts).cmp
 

@@ -6,11 +6,12 @@ ghost use Rattle.capture_check.specs.Ends.{place_of, is_low, key_of};
 use ao_base::{Address, Socket};
 use std::cmp::Ordering;
 
-/// A socket, in an order: IPv4 first, then by the bytes of the address, then by the port.
+/// A socket, in an order: IPv4 first, then by the port, in which sockets differ soonest, then by the
+/// bytes of the address.
 #[derive(Clone, Copy, Debug, PartialEq, Eq, PartialOrd, Ord)]
 pub(crate) enum Place {
-    V4([u8; 4], u16),
-    V6([u8; 16], u16),
+    V4(u16, [u8; 4]),
+    V6(u16, [u8; 16]),
 }
 
 /// The two sockets of a connection, the lower one first.
@@ -24,8 +25,8 @@ fn place_of(socket: Socket) -> Place
     ensures { result ≡ place_of socket }
 {
     match socket.address {
-        Address::V4(bytes) => Place::V4(bytes, socket.port),
-        Address::V6(bytes) => Place::V6(bytes, socket.port),
+        Address::V4(bytes) => Place::V4(socket.port, bytes),
+        Address::V6(bytes) => Place::V6(socket.port, bytes),
     }
 }
 
