@@ -12,7 +12,7 @@ use Rattle.tcp_endpoint.specs.Ends.{FitsEnd}
 use Rattle.ao_node.specs.declared.answer.NodeArrival.{NodeArrival}
 use Rattle.ao_node.specs.declared.answer.NodeRefusal.{NodeRefusal}
 use Rattle.ao_node.specs.Arrivals.{Comes, ComesTo}
-use Rattle.ao_node.specs.Held.{Holding, end_at, holds, Adds, Begins, FitsAll, Removes, Ticks, TicksAt}
+use Rattle.ao_node.specs.Held.{Holding, end_at, Adds, Begins, FitsAll, Removes, Ticks, TicksAt}
 use Rattle.ao_node.specs.Lending.{written}
 use Rattle.ao_node.proofs.MapLaws.{written_finds}
 

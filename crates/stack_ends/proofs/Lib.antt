@@ -1,3 +1,4 @@
 mod EndLaws
 mod FitLaws
+mod RowLaws
 mod SpeakLaws

@@ -1,6 +1,5 @@
 -- What is told of an end that was asked for a segment.
-use Rattle.std.proofs.Common.{◌≡◌, ℕ, ◌+◌, ◌<◌, ◌-◌, Bool, true, false, List, refl, sym, ap, ◌∙◌, arith}
-use Rattle.std.proofs.lemmas.Bool.Decides.{nat_tests}
+use Rattle.std.proofs.Common.{◌≡◌, ℕ, Bool, true, false, List, refl, ap, ◌∙◌}
 use Rattle.std.specs.Prelude.{◌++◌, drop, length, nat_lt, not, take, if◌then◌else◌}
 use Rattle.std.proofs.Math.Seq.{take-append_seam}
 use Rattle.book_segments.specs.Segments.{spell}
@@ -19,7 +18,6 @@ use Rattle.tcp_endpoint.specs.declared.giving.GiveAnswer.TheVariants as given
 use Rattle.tcp_endpoint.specs.Answers.{give_answer, offered}
 use Rattle.tcp_endpoint.specs.Emitting.{IsMade, Emits as EmitsAs, Resends as ResendsAs, state_after}
 use Rattle.tcp_endpoint.specs.Ends.{Stands}
-use Rattle.book_stack.specs.declared.front.Front.{Front}
 use Rattle.book_stack.specs.Watches.{awaits, front_of}
 use Rattle.stack_ends.specs.declared.speaking.Spoken.{Spoken}
 use Rattle.stack_ends.specs.Calling.{given_as}

@@ -1,4 +1,5 @@
 pub mod Calling
 pub mod Meeting
+pub mod Rows
 pub mod Saying
 pub mod Standing

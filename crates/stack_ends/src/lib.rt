@@ -7,7 +7,9 @@ mod beginning;
 mod calling;
 mod ends;
 mod looking;
+mod rows;
 mod speaking;
+mod starting;
 
 pub use calling::Taken;
 pub use ends::Ends;

@@ -1,3 +1,3 @@
 mod ListLaws
-mod MapLaws
+pub mod MapLaws
 mod TimingLaws

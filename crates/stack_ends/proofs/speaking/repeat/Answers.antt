@@ -1,5 +1,4 @@
 use Rattle.std.proofs.Common.{refl}
-use Rattle.tcp_endpoint.specs.Emitting.{state_after}
 use Rattle.stack_ends.proofs.SpeakLaws.{repeats_of}
 use Rattle.stack_ends.proofs.speaking.repeat.Goals as goal
 

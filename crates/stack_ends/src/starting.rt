@@ -1,0 +1,31 @@
+//! An end begins without a handshake.
+ghost use Rattle.std.specs.Prelude.{◌≡◌, List};
+ghost use Rattle.book_keys.specs.Rows.{Row};
+ghost use Rattle.book_endpoint.specs.States.{started};
+ghost use Rattle.book_cmd_node.specs.NodeRuns.{NodeState};
+ghost use Rattle.tcp_segment.specs.Writing.{IsOneFamily};
+ghost use Rattle.stack_ends.specs.Standing.{Stands, Begun, most_of};
+
+use crate::ends::Ends;
+use ao_base::Pair;
+use ao_node::NodeRefusal;
+use std::alloc::Global;
+
+impl Ends {
+    /// An end for the pair begins with both initial sequence numbers known, without a handshake (own).
+    /// All else is as for `open`.
+    pub fn start(
+        &mut self,
+        alloc: Global,
+        pair: Pair,
+        isn: u32,
+        peer_isn: u32,
+    ) -> Result<(), NodeRefusal>
+        requires family { IsOneFamily pair.local.address pair.remote.address }
+        ensures begun { (rows : List Row) (n : NodeState) → Stands self.old rows n
+            → Begun self.new rows n (record { pair = pair; state = started pair isn peer_isn }) result }
+        ensures most { most_of self.new ≡ most_of self.old }
+    {
+        self.node.start(alloc, &self.table, pair, isn, peer_isn)
+    }
+}
