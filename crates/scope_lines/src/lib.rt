@@ -1,0 +1,10 @@
+//! The lines of a capture, one for each packet, written as the capture is read and in constant memory.
+#![tactic(auto)]
+
+mod fault;
+mod line;
+mod write;
+
+pub use capture_stream::{BlockFault, BodyFault, CaptureFault, Cause, PcapHeadFault, RecordFault};
+pub use fault::push_fault;
+pub use write::{LinesHalt, write_lines};
