@@ -1,0 +1,77 @@
+//! `aoscope`: hands the standard streams to what the words ask for, and ends with its status.
+#![tactic(auto)]
+
+mod command;
+mod told;
+
+use ao_base::{ReadSource, WriteSink};
+use clap::error::ErrorKind;
+use clap::{ArgMatches, Error};
+use command::command;
+use scope_lines::write_lines;
+use std::process::ExitCode;
+use std::{env, io};
+use told::{Told, tell};
+
+/// The words of the command line, the program's name first; an error where one isn't UTF-8.
+fn words(rt: &HostRuntime) -> io::Result<Vec<String>> {
+    let mut words = Vec::new(rt.alloc());
+    for word in env::args(rt)? {
+        words.push(word)?;
+    }
+    Ok(words)
+}
+
+/// Writes the lines of the capture on standard input.
+fn lines(rt: &HostRuntime) -> u8 {
+    let mut input = ReadSource::new(rt.stdin());
+    let mut out = WriteSink::new(rt.stdout());
+    match write_lines(rt.alloc(), &mut input, &mut out) {
+        Ok(()) => 0,
+        Err(halt) => tell(rt, Told::Lines(halt)),
+    }
+}
+
+/// What the words ask for.
+fn run(rt: &HostRuntime, matches: &ArgMatches<'_>) -> u8 {
+    match matches.subcommand_name() {
+        Some("lines") => lines(rt),
+        _ => tell(rt, Told::Memory),
+    }
+}
+
+/// Help, or why the words are refused.
+fn explain(rt: &HostRuntime, error: &Error) -> u8 {
+    if let ErrorKind::OutOfMemory = error.kind() {
+        return tell(rt, Told::Memory);
+    }
+    match error.print(rt) {
+        Ok(()) => error.exit_code() as u8,
+        Err(_) => tell(rt, Told::Write),
+    }
+}
+
+fn answer<'w>(rt: &HostRuntime, words: &'w [String]) -> u8 {
+    let command = match command(rt.alloc()) {
+        Ok(command) => command,
+        Err(_) => return tell(rt, Told::Memory),
+    };
+    match command.try_get_matches_from(words) {
+        Ok(matches) => run(rt, &matches),
+        Err(error) => explain(rt, &error),
+    }
+}
+
+fn main(rt: HostRuntime) -> ExitCode {
+    let status = match words(&rt) {
+        Ok(words) => answer(&rt, words.as_slice()),
+        Err(error) => {
+            if error.kind() == io::ErrorKind::OutOfMemory {
+                tell(&rt, Told::Memory)
+            } else {
+                tell(&rt, Told::Words)
+            }
+        }
+    };
+    ExitCode::from(status)
+}
