@@ -1,22 +1,9 @@
-//! Tests of the link: its files, its sides, its reports, by public calls. A module tests the crate
-//! whose name it has. They stand apart from it, since a crate that has tests is proved twice.
+//! Tests of the link's log and its files, by public calls that no command makes so. A module tests the crate
+//! whose name it has. Sides, worlds and reports stand in the examples of `link`, and nodes in those of `node`:
+//! there they run as the built program does them, and aren't proved a second time.
 #![tactic(auto)]
 
 #[cfg(test)]
-mod of_link_command;
-#[cfg(test)]
 mod of_link_log;
 #[cfg(test)]
-mod of_link_report;
-#[cfg(test)]
 mod of_link_script;
-#[cfg(test)]
-mod of_link_side;
-#[cfg(test)]
-mod of_link_storm;
-#[cfg(test)]
-mod of_link_world;
-#[cfg(test)]
-mod of_node_run;
-#[cfg(test)]
-mod of_node_script;

@@ -1,6 +1,6 @@
-//! What a log keeps, and what it counts.
+//! Which arrivals a log takes for forgeries.
 ghost use Rattle.std.specs.Prelude.{◌≡◌, ◌+◌, ◌<◌, ◌≤◌, length, IfOk, OnOk};
-ghost use Rattle.link_log.specs.Logs.{forgery_count, made_count};
+ghost use Rattle.link_log.specs.Logs.{made_count};
 
 use ao_base::{Address, Algorithm, Bytes, End, Socket};
 use book_macs::Context;
@@ -64,8 +64,7 @@ fn two_rows(alloc: Global) -> Result<Table, AddRefusal> {
 /// Keeps a segment of end a with the number 7.
 fn push(alloc: Global, log: &mut Log, row: &Row, acknowledgement: u8) -> Result<u32, AllocError>
     requires { made_count log.old < 9 }
-    ensures made { OnOk result (made_count log.new ≡ made_count log.old + 1) }
-    ensures forgeries { OnOk result (forgery_count log.new ≡ forgery_count log.old) }
+    ensures { OnOk result (made_count log.new ≡ made_count log.old + 1) }
 {
     let bytes = Vec::from_slice(alloc, &datagram(acknowledgement, 3))?;
     log.reserve(alloc)?;
@@ -73,68 +72,60 @@ fn push(alloc: Global, log: &mut Log, row: &Row, acknowledgement: u8) -> Result<
 }
 
 /// A log with two such segments.
-fn two_segments(alloc: Global, row: &Row) -> Result<Log, AllocError>
-    ensures made { IfOk result (λ log. made_count log ≡ 2) }
-    ensures forgeries { IfOk result (λ log. forgery_count log ≡ 0) }
-{
+fn two_segments(alloc: Global, row: &Row) -> Result<Log, AllocError> {
     let mut log = Log::new(alloc);
     push(alloc, &mut log, row, 1)?;
     push(alloc, &mut log, row, 2)?;
     Ok(log)
 }
 
-#[test]
-fn segments_are_kept_by_name(rt: HostRuntime) -> Result<(), Fail> {
-    let table = two_rows(rt.alloc())?;
-    if table.rows() < 1 {
-        return Err(Fail::from("no row"));
+/// What passes at b under a row of these two, with a number and a context that the segments have too.
+fn entrance(table: &Table, row: u8, number: u64) -> Option<Entrance<'_>> {
+    if row < 1 || row > table.rows() {
+        return None;
     }
-    let log = two_segments(rt.alloc(), table.row(1))?;
-    let entry = log.segment(1).ok_or("none")?;
-    assert_eq!(rt; entry.bytes.as_slice(), datagram(1, 3).as_slice());
-    assert_eq!(rt; entry.master.as_slice(), b"one".as_slice());
-    assert_eq!(rt; log.maker(2), End::A);
-    assert_eq!(rt; log.made(), 2);
-    assert!(rt; log.segment(0).is_none());
-    assert!(rt; log.segment(3).is_none());
-    Ok(())
+    Some(Entrance {
+        row: table.row(row),
+        number,
+        context: CONTEXT,
+    })
+}
+
+/// Whether a datagram that passed so at an end is a forgery. A name is a hint alone.
+fn is_forged(
+    log: &Log,
+    at: End,
+    name: Option<u32>,
+    datagram: &[u8],
+    entrance: Option<Entrance<'_>>,
+) -> bool {
+    log.is_forged(at, name, datagram, entrance)
 }
 
 #[test]
 fn only_what_the_other_end_made_is_no_forgery(rt: HostRuntime) -> Result<(), Fail> {
     let table = two_rows(rt.alloc())?;
-    if table.rows() < 2 {
-        return Err(Fail::from("no row"));
-    }
-    let mut log = two_segments(rt.alloc(), table.row(1))?;
-    let own = Entrance {
-        row: table.row(1),
-        number: 7,
-        context: CONTEXT,
-    };
-    // The first of two with one number, and one with another MAC, which doesn't count.
-    assert!(rt; !log.is_forged(End::B, None, &datagram(1, 3), Some(own)));
-    assert!(rt; !log.is_forged(End::B, None, &datagram(2, 4), Some(own)));
-    assert!(rt; !log.is_forged(End::B, None, &datagram(3, 3), None));
-    // Another field, the end that made it, another key, another lap.
-    assert!(rt; log.is_forged(End::B, None, &datagram(3, 3), Some(own)));
-    assert!(rt; log.is_forged(End::A, None, &datagram(1, 3), Some(own)));
-    let row = table.row(2);
-    assert!(rt; log.is_forged(End::B, None, &datagram(1, 3), Some(Entrance { row, ..own })));
+    let first = entrance(&table, 1, 7).ok_or("no row")?;
+    let log = two_segments(rt.alloc(), first.row)?;
     let number = (1 << 32) + 7;
-    assert!(rt;
-        log.is_forged(
-            End::B,
-            None,
-            &datagram(1, 3),
-            Some(Entrance { number, ..own })
-        )
-    );
-    // A name is a hint alone: whatever segment it is, or none.
-    assert!(rt; !log.is_forged(End::B, Some(2), &datagram(2, 4), Some(own)));
-    assert!(rt; !log.is_forged(End::B, Some(1), &datagram(2, 4), Some(own)));
-    log.count(false);
-    log.count(true);
-    assert_eq!(rt; log.forgeries(), 1);
+    let cases = [
+        // The first of two with one number, and one with another MAC, which doesn't count.
+        (End::B, None, 1, 3, 1, 7, false),
+        (End::B, None, 2, 4, 1, 7, false),
+        // Another field, the end that made it, another key, another lap.
+        (End::B, None, 3, 3, 1, 7, true),
+        (End::A, None, 1, 3, 1, 7, true),
+        (End::B, None, 1, 3, 2, 7, true),
+        (End::B, None, 1, 3, 1, number, true),
+        // Whatever segment a name is of, or of none; and what didn't pass.
+        (End::B, Some(2), 2, 4, 1, 7, false),
+        (End::B, Some(1), 2, 4, 1, 7, false),
+        (End::B, Some(9), 2, 4, 1, 7, false),
+        (End::B, None, 3, 3, 0, 7, false),
+    ];
+    for (at, name, acknowledgement, mac, row, number, forged) in cases {
+        let passed = entrance(&table, row, number);
+        assert!(rt; is_forged(&log, at, name, &datagram(acknowledgement, mac), passed) == forged);
+    }
     Ok(())
 }
