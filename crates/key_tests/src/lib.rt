@@ -1,14 +1,12 @@
-//! Tests of keys: tables, judgements, plans and texts, by public calls. A module tests the crate
-//! whose name it has. They stand apart from it, since a crate that has tests is proved twice.
+//! Tests of keys: a read that memory is refused to, choices and plans, by public calls that no command makes so.
+//! A module tests the crate whose name it has. Faults of key files, rows, look-ups and judgements stand in the
+//! examples of `keys`, `lint` and `link`: there they run as the built program does them, and aren't proved a
+//! second time.
 #![tactic(auto)]
 
 #[cfg(test)]
 mod of_key_coordination;
 #[cfg(test)]
-mod of_key_lint;
-#[cfg(test)]
 mod of_key_plan;
 #[cfg(test)]
 mod of_key_table;
-#[cfg(test)]
-mod of_key_texts;

@@ -1,11 +1,11 @@
 //! Margins, findings and calendars of two nodes with one row each.
 use ao_base::{Address, Algorithm, Bytes, End, Pair, Socket};
 use key_plan::{
-    Finding, Margin, Role, calendar, differences, findings, lag_margin, lead_margin,
+    Finding, Margin, Role, Turn, calendar, differences, findings, lag_margin, lead_margin,
     wanted_accepting, widened,
 };
-use key_table::{Direction, Lifetime, NewRow, Table, Tables};
-use std::alloc::Global;
+use key_table::{Direction, Lifetime, NewRow, Row, Table, Tables};
+use std::alloc::{AllocError, Global};
 use std::test::Fail;
 
 const A: Address = Address::V4([10, 0, 0, 1]);
@@ -99,6 +99,15 @@ const ALWAYS: Terms = Terms {
     ..BOTH
 };
 
+// Each call with long clauses stands in a function without any, so that the proof of a test has none of
+// them before it.
+
+/// With which lags the tables are aligned where the lead is 0, and with which leads where the lag is.
+fn margins(tables: &Tables) -> (Option<Margin>, Option<Margin>) {
+    let pair = pair(A, B);
+    (lag_margin(tables, &pair, 0), lead_margin(tables, &pair, 0))
+}
+
 /// The rows of the two ends, and with which lags they are aligned where the lead is 0.
 const CASES: [(Terms, Terms, Option<Margin>); 7] = [
     (BOTH, BOTH, Some(Margin::UpTo(60))),
@@ -112,56 +121,83 @@ const CASES: [(Terms, Terms, Option<Margin>); 7] = [
 
 #[test]
 fn each_margin_is_that_of_the_shortest_row(rt: HostRuntime) -> Result<(), Fail> {
-    for (i, (a, b, margin)) in CASES.into_iter().enumerate() {
+    for (a, b, margin) in CASES {
         let tables = two_nodes(rt.alloc(), a, b)?;
-        assert_eq!(rt; lag_margin(&tables, &pair(A, B), 0), margin, "case {i}");
         let leads = match margin {
             None => None,
             Some(_) => Some(Margin::Any),
         };
-        assert_eq!(rt; lead_margin(&tables, &pair(A, B), 0), leads, "case {i}");
+        assert!(rt; margins(&tables) == (margin, leads));
     }
     Ok(())
+}
+
+/// What is found in these seconds with this lag.
+fn found(
+    alloc: Global,
+    tables: &Tables,
+    lag: u64,
+    from: u64,
+    to: u64,
+) -> Result<Vec<Finding>, AllocError> {
+    findings(alloc, tables, &pair(A, B), 0, lag, from, to)
 }
 
 #[test]
 fn all_findings_are_told(rt: HostRuntime) -> Result<(), Fail> {
     let tables = two_nodes(rt.alloc(), BOTH, OTHER_KEY)?;
-    let found = findings(rt.alloc(), &tables, &pair(A, B), 0, 0, 3500, 3700)?;
+    let found = found(rt.alloc(), &tables, 0, 3500, 3700)?;
     let expected = [
         Finding::NoPeerRow(End::A, 2),
         Finding::NoPeerRow(End::B, 2),
         Finding::Gap(End::A, 3601, 3700),
         Finding::Gap(End::B, 3601, 3700),
     ];
-    assert_eq!(rt; found.len(), expected.len());
-    for (finding, wanted) in found.iter().zip(expected.iter()) {
-        assert_eq!(rt; *finding, *wanted);
-    }
+    assert!(rt; found.as_slice() == expected.as_slice());
     Ok(())
+}
+
+/// Whether nothing but a lifetime keeps two rows apart.
+fn has_no_difference(row: &Row, other: &Row) -> bool {
+    differences(&pair(A, B), row, other).is_none()
+}
+
+/// The accept lifetime that a row wants of the other where the lag is a minute.
+fn wanted(row: &Row, other: &Row) -> Lifetime {
+    widened(other.accepting(), wanted_accepting(row, 0, 60))
+}
+
+/// Both of row 2 of the two ends.
+fn lacking(here: &Table, there: &Table) -> Option<(bool, Lifetime)> {
+    if here.rows() != 2 || there.rows() != 2 {
+        return None;
+    }
+    let row = here.row(2);
+    let other = there.row(2);
+    Some((has_no_difference(row, other), wanted(row, other)))
 }
 
 #[test]
 fn a_short_row_is_told_what_it_lacks(rt: HostRuntime) -> Result<(), Fail> {
     let tables = two_nodes(rt.alloc(), BOTH, SHORT)?;
-    let found = findings(rt.alloc(), &tables, &pair(A, B), 0, 60, 0, 3600)?;
-    assert_eq!(rt; found.len(), 1);
-    assert_eq!(rt; found[0], Finding::ShortAccept(End::A, 2));
+    let found = found(rt.alloc(), &tables, 60, 0, 3600)?;
+    assert!(rt; found.as_slice() == [Finding::ShortAccept(End::A, 2)].as_slice());
     let here = tables.table(&A).ok_or("no node")?;
     let there = tables.table(&B).ok_or("no node")?;
-    assert_eq!(rt; (here.rows(), there.rows()), (2, 2));
-    let row = here.row(2);
-    let other = there.row(2);
-    assert_eq!(rt; differences(&pair(A, B), row, other).is_none(), true);
-    let set = widened(other.accepting(), wanted_accepting(row, 0, 60));
-    assert_eq!(rt; (set.first, set.last), (0, 3660));
+    let (alike, set) = lacking(here, there).ok_or("no row")?;
+    assert!(rt; alike && set.first == 0 && set.last == 3660);
     Ok(())
+}
+
+/// The turns of the row up to the second 4000.
+fn turns(alloc: Global, tables: &Tables) -> Result<Vec<Turn>, AllocError> {
+    calendar(alloc, tables, &pair(A, B), 0, 4000)
 }
 
 #[test]
 fn the_calendar_names_each_turn(rt: HostRuntime) -> Result<(), Fail> {
     let tables = two_nodes(rt.alloc(), BOTH, BOTH)?;
-    let turns = calendar(rt.alloc(), &tables, &pair(A, B), 0, 4000)?;
+    let turns = turns(rt.alloc(), &tables)?;
     let expected = [
         (3601, End::A, Role::Sendable),
         (3601, End::A, Role::SentWith),
@@ -172,13 +208,10 @@ fn the_calendar_names_each_turn(rt: HostRuntime) -> Result<(), Fail> {
         (3661, End::B, Role::Acceptable),
         (3661, End::B, Role::AskedFor),
     ];
-    assert_eq!(rt; turns.len(), expected.len());
+    assert!(rt; turns.len() == expected.len());
     for (turn, (time, end, role)) in turns.iter().zip(expected) {
-        assert_eq!(rt;
-            (turn.time, turn.end, turn.row, turn.role),
-            (time, end, 2, role)
-        );
-        assert_eq!(rt; turn.begins, false);
+        assert!(rt; turn.time == time && turn.end == end && turn.role == role);
+        assert!(rt; turn.row == 2 && !turn.begins);
     }
     Ok(())
 }
