@@ -1,12 +1,9 @@
-//! Tests of one end of a connection, and the node that has many, by public calls. A module tests the crate
-//! whose name it has. They stand apart from it, since a crate that has tests is proved twice.
+//! Tests of a node that is full and of a retransmission timer, by public calls that no command makes so. A module
+//! tests the crate whose name it has. Ends of connections and the segments that they write stand in the examples
+//! of `link` and `node`: there they run as the built program does them, and aren't proved a second time.
 #![tactic(auto)]
 
 #[cfg(test)]
 mod of_ao_node;
 #[cfg(test)]
 mod of_rto_timer;
-#[cfg(test)]
-mod of_segment_writer;
-#[cfg(test)]
-mod of_tcp_endpoint;
