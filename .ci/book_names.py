@@ -1,9 +1,12 @@
 #!/usr/bin/env python3
-"""The names and the sources of the book: which names have more than one definition in it, and which definitions' comments name no
-source. The book here is all crates of definitions: each crate whose name begins with `book_`, with `ao_base`.
+"""The names, the sources and the arguments of the book: which names have more than one definition in it, which definitions' comments name
+no source, and, with --arguments, which functions have more than five arguments or neighbouring arguments of one plain type. The book
+here is all crates of definitions: each crate whose name begins with `book_`, with `ao_base`.
 A definition is what a file of specs/ defines by a name of its own: functions, types and the constructors of its types; the fields
-of a record belong to it, and are none. A source is an RFC or another standard with the section, or *own* in brackets.
-Prints both lists and how long they are; fails on nothing, but with --strict where one isn't empty."""
+of a record belong to it, and are none. An operator that `do` blocks are written over, `◌>>=◌`, has one for each type of what is read. A
+source is an RFC or another standard with the section, or *own* in brackets. Plain types are numbers, truth values, and lists and
+options of those; arguments that the signature names (`(low high : ℕ)`) count as told apart.
+Prints the lists and how long they are; fails on nothing, but with --strict where one of the first two isn't empty."""
 import pathlib
 import re
 import sys
@@ -14,6 +17,9 @@ CONSTRUCTORS = re.compile(r"  (?:pub )?([A-Z]\w*(?: [A-Z]\w*)*) :")
 STANDARD = r"(?:RFC|FIPS|NIST|IEEE|ISO|ITU-T|pcapng|draft-\S+)[\w ./-]*, (?:(?:sections?|appendix|figure|table|clause|algorithm) |\d)"
 NAMED = r"libpcap|pcap-savefile|SplitMix64|IANA"
 SOURCE = re.compile(rf"{STANDARD}|\((?:[^()]*\W)?(?:own|{NAMED})\b[^()]*\)")
+FOR_DO = {"◌>>=◌"}
+PLAIN = re.compile(r"(?:(?:List|Option) \(?)*(?:ℕ|Bool)\)*")
+MOST_ARGUMENTS = 5
 
 
 def files():
@@ -23,7 +29,7 @@ def files():
 
 
 def definitions(path):
-    """Each definition of a file, as its name and its comment; a blank line ends one."""
+    """Each definition of a file, as its name, its comment and its text; a constructor has neither. A blank line ends one."""
     for part in re.split(r"\n\s*\n", path.read_text(encoding="utf-8")):
         lines = part.split("\n")
         comment = " ".join(line[2:].strip() for line in lines if line.startswith("--"))
@@ -34,22 +40,69 @@ def definitions(path):
         if re.match(r"(pub )?data ", body[0]):
             for found in map(CONSTRUCTORS.match, body[1:]):
                 names += found[1].split() if found else []
-        yield from ((name, comment if first == 0 else None) for first, name in enumerate(names))
+        yield from ((name, comment if first == 0 else None, "\n".join(body)) for first, name in enumerate(names))
+
+
+def split_at(text, mark):
+    """The parts of a text between marks that stand in no bracket."""
+    parts, depth = [""], 0
+    for word in re.split(r"([(){}\[\]]|" + mark + ")", text):
+        depth += {"(": 1, "{": 1, "[": 1, ")": -1, "}": -1, "]": -1}.get(word, 0)
+        if depth == 0 and re.fullmatch(mark, word):
+            parts.append("")
+        else:
+            parts[-1] += word
+    return [" ".join(it.split()) for it in parts]
+
+
+def arguments(body):
+    """The arguments of a function, without those in braces: of each its type, and its name where the signature has one."""
+    head = re.match(r"(?:(?:pub|abbrev|unfoldable|opaque|ghost) )+\S+ :\s(.*?)(?=\n\S|\Z)", body, re.S)
+    for part in split_at(re.sub(r"  -- .*", "", head[1]), " → | →\n")[:-1] if head else []:
+        bound = [re.fullmatch(r"\(([\w' -]+) : (.*)\)", it) for it in split_at(part, r"(?<=\)) (?=\()")]
+        if all(bound):
+            yield from ((it[2], name) for it in bound for name in it[1].split())
+        elif not part.startswith("{"):
+            yield part, None
+
+
+def unlike(found):
+    """The runs of neighbouring arguments that have one plain type and no names."""
+    runs, run = [], []
+    for kind, name in [*found, (None, None)]:
+        if run and (kind != run[0] or name):
+            runs += [run] if len(run) > 1 and PLAIN.fullmatch(run[0]) else []
+            run = []
+        run = run + [kind] if kind and not name else []
+    return runs
+
+
+def tell_arguments(found):
+    many = sorted(((len(args), place, name) for place, name, args in found if len(args) > MOST_ARGUMENTS), reverse=True)
+    alike = sorted(((max(map(len, unlike(args))), place, name, unlike(args)) for place, name, args in found if unlike(args)), key=lambda it: (-it[0], *it[1:3]))
+    for count, place, name in many:
+        print(f"{count} arguments: {place}: {name}")
+    for _, place, name, runs in alike:
+        print(f"arguments of one type: {place}: {name}: {'; '.join(', '.join(run) for run in runs)}")
+    print(f"functions with more than {MOST_ARGUMENTS} arguments: {len(many)}; with neighbouring arguments of one plain type and no names: {len(alike)}")
 
 
 def main(words):
-    homes, without = {}, []
+    homes, without, found = {}, [], []
     for path in files():
         place = f"{path.parts[-3]}/{path.stem}"
-        for name, comment in definitions(path):
+        for name, comment, body in definitions(path):
             homes.setdefault(name, []).append(place)
-            if comment is not None and not SOURCE.search(comment):
-                without.append(f"{place}: {name}")
-    several = {name: places for name, places in homes.items() if len(places) > 1}
+            if comment is not None:
+                found.append((place, name, list(arguments(body))))
+                without += [] if SOURCE.search(comment) else [f"{place}: {name}"]
+    several = {name: places for name, places in homes.items() if len(places) > 1 and name not in FOR_DO}
     for name, places in sorted(several.items()):
         print(f"defined {len(places)} times: {name}: {', '.join(places)}")
     for one in without:
         print(f"names no source: {one}")
+    if "--arguments" in words:
+        tell_arguments(found)
     print(f"names of the book with more than one definition: {len(several)}; definitions that name no source: {len(without)}")
     return 1 if "--strict" in words and (several or without) else 0
 

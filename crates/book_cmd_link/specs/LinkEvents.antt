@@ -6,6 +6,8 @@ use Rattle.ao_base.specs.declared.end.End.{End}
 use Rattle.ao_base.specs.declared.line_kind.LineKind.{LineKind}
 use Rattle.ao_base.specs.declared.line_kind.LineKind.TheVariants.{Word, Range}
 use Rattle.book_keys.specs.Lifetimes.{greatest_time}
+use Rattle.book_keys.specs.MasterKeys.{longest_master_key}
+use Rattle.book_keys.specs.Rows.{row_limit}
 use Rattle.book_lines.specs.Words.{Taken, word_in, word_as, nothing_in, choice_in, end_in}
 use Rattle.book_lines.specs.Words.{algorithm_in, number_in, sized_hex_in, some_hex_in, byte_in}
 use Rattle.ao_base.specs.Results.{◌>>=◌}
@@ -103,7 +105,7 @@ add_of ws = do
   recv_id ← number_in 0 255 e.rest
   send_id ← number_in 0 255 recv_id.rest
   algorithm ← algorithm_in send_id.rest
-  master ← sized_hex_in 1 255 algorithm.rest
+  master ← sized_hex_in 1 longest_master_key algorithm.rest
   apart ← choice_in (codes "no-options") (codes "options") master.rest
   ways ← word_as ways_of Word apart.rest
   send_first ← number_in 0 greatest_time ways.rest
@@ -150,7 +152,7 @@ event_named name ws =
     else if bytes_eq name (codes "close") then event_of_end event.Close ws
     else if bytes_eq name (codes "abort") then event_of_end event.Abort ws
     else if bytes_eq name (codes "add") then add_of ws
-    else if bytes_eq name (codes "withdraw") then event_of_number event.Withdraw 1 64 ws
+    else if bytes_eq name (codes "withdraw") then event_of_number event.Withdraw 1 row_limit ws
     else if bytes_eq name (codes "dump") then dump_of ws
     else Err Word
 

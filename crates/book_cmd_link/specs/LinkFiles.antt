@@ -8,6 +8,7 @@ use Rattle.ao_base.specs.declared.address.Socket.{Socket}
 use Rattle.ao_base.specs.declared.line_kind.LineKind.{LineKind}
 use Rattle.ao_base.specs.declared.line_kind.LineKind.TheVariants as kind
 use Rattle.ao_base.specs.Lines.{lines_of}
+use Rattle.book_keys.specs.MasterKeys.{longest_master_key}
 use Rattle.book_keys.specs.Rows.{Table}
 use Rattle.book_keys.specs.Shared.{shared_tables}
 use Rattle.book_lines.specs.declared.text_fault.TextFault.{TextFault}
@@ -58,7 +59,7 @@ unfoldable pub shared_key_of : List (List ℕ) → Result SharedKey LineKind
 shared_key_of ws = do
   name ← literal_in (codes "shared") ws
   algorithm ← algorithm_in name.rest
-  master ← sized_hex_in 1 255 algorithm.rest
+  master ← sized_hex_in 1 longest_master_key algorithm.rest
   none ← nothing_in master.rest
   Ok (record { alg = algorithm.value; master = master.value })
 

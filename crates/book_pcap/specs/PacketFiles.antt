@@ -8,7 +8,7 @@ use Rattle.book_pcap.specs.declared.pcap_head.LinkType.TheVariants.{Ethernet, Ra
 use Rattle.book_pcap.specs.declared.pcap_head.Head.{Head}
 use Rattle.book_pcap.specs.Packets.{two_at, four_at, magic, Kept, most_kept, datagram_of, Packet}
 
--- the number of a link type (pcap-linktype)
+-- the number of a link type (libpcap, pcap-linktype)
 abbrev pub link_number : LinkType → ℕ
 link_number Ethernet = 1
 link_number Raw = 101

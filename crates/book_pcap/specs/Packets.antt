@@ -33,7 +33,7 @@ order_of head =
     else None
 
 -- what a header says by its order and its link type, of which 1 is Ethernet and 101 is IP alone
--- (pcap-linktype)
+-- (libpcap, pcap-linktype)
 abbrev pub link_of : ByteOrder → ℕ → Result Head HeadFault
 link_of order link =
     if link == 1 then Ok (record { order = order; link = Ethernet })
