@@ -2,7 +2,7 @@
 use Rattle.std.proofs.Common.{◌≡◌, ℕ, ◌+◌, ◌-◌, ◌<◌, List, [], length, Some, refl, ap, arith}
 use Rattle.std.proofs.lemmas.List.{length-append}
 use Rattle.ao_base.specs.InMemory.{GivingState, TakingState, giving_side, taking_side, unless_told}
-use Rattle.ao_base.specs.Outside.{Side, Gave, Took, Rose, told}
+use Rattle.ao_base.specs.Outside.{Side, Gave, WasWritten, Rose, told}
 use Rattle.ao_base.proofs.Sides.{no_rise, told_given}
 
 pub quiet_source : (s : GivingState) → s.failing ≡ [] → (giving_side s).quiet ≡ Some (length s.left + 1)
@@ -22,6 +22,6 @@ source_stays s now given none few gave rose =
 
 -- a sink with more room than was written to it
 pub sink_stays : (s : TakingState) (now : Side) (taken : List ℕ) → s.failing ≡ [] → s.faults < 18446744073709551615 → length s.held + length taken < s.room →
-    Took taken (taking_side s) now → Rose (taking_side s) now → ⊥
+    WasWritten taken (taking_side s) now → Rose (taking_side s) now → ⊥
 sink_stays s now taken none few less took rose =
     no_rise (length taken) (s.room - length s.held) (taking_side s) now took.counts (quiet_sink s none) (omega arith) few rose

@@ -5,7 +5,7 @@ use Rattle.std.proofs.Math.Nat.{sub-zero}
 use Rattle.std.proofs.Math.Seq.{take-add}
 use Rattle.std.specs.Io.KnownBytes.{Appends, Consumes, Keeps}
 use Rattle.std.specs.Io.KnownBytes.{IsAtEnd as is_at_end}
-use Rattle.ao_base.specs.Outside.{Side, Gave, Took, Counts, Rose, IsAtEnd, told}
+use Rattle.ao_base.specs.Outside.{Side, Gave, WasWritten, Counts, Rose, IsAtEnd, told}
 
 none_told : (bytes : Option (List ℕ)) → is_at_end bytes → told bytes ≡ []
 none_told None end = refl
@@ -64,7 +64,7 @@ keeps_appends (Some r) (Some s) k = k ∙ sym (append-nil r)
 pub gave_none : (a : Side) → Gave [] a a
 gave_none a = record { bytes = consumes_none a.bytes; counts = counts_none a }
 
-pub took_none : (a : Side) → Took [] a a
+pub took_none : (a : Side) → WasWritten [] a a
 took_none a = record { bytes = appends_none a.bytes; counts = counts_none a }
 
 pub gave_more : (xs ys : List ℕ) (a b c : Side) → Gave xs a b → Gave ys b c → Gave (xs ++ ys) a c
@@ -75,7 +75,7 @@ gave_more xs ys a b c x y =
       counts = rw size at (counts_more (length xs) (length ys) a b c x.counts y.counts);
     }
 
-pub took_more : (xs ys : List ℕ) (a b c : Side) → Took xs a b → Took ys b c → Took (xs ++ ys) a c
+pub took_more : (xs ys : List ℕ) (a b c : Side) → WasWritten xs a b → WasWritten ys b c → WasWritten (xs ++ ys) a c
 took_more xs ys a b c x y =
     let size : length xs + length ys ≡ length (xs ++ ys) = sym (length-append xs ys) in
     record {
@@ -86,10 +86,10 @@ took_more xs ys a b c x y =
 pub gave_and_none : (xs : List ℕ) (a b c : Side) → Gave xs a b → Gave [] b c → Gave xs a c
 gave_and_none xs a b c x y = let e : xs ++ [] ≡ xs = append-nil xs in rw e at (gave_more xs [] a b c x y)
 
-pub took_and_none : (xs : List ℕ) (a b c : Side) → Took xs a b → Took [] b c → Took xs a c
+pub took_and_none : (xs : List ℕ) (a b c : Side) → WasWritten xs a b → WasWritten [] b c → WasWritten xs a c
 took_and_none xs a b c x y = let e : xs ++ [] ≡ xs = append-nil xs in rw e at (took_more xs [] a b c x y)
 
-pub took_piece : (bytes : List ℕ) (at n : ℕ) (a b c : Side) → Took (take at bytes) a b → Took (take n (drop at bytes)) b c → Took (take (at + n) bytes) a c
+pub took_piece : (bytes : List ℕ) (at n : ℕ) (a b c : Side) → WasWritten (take at bytes) a b → WasWritten (take n (drop at bytes)) b c → WasWritten (take (at + n) bytes) a c
 took_piece bytes at n a b c x y =
     let e : take (at + n) bytes ≡ take at bytes ++ take n (drop at bytes) = take-add at n bytes in
     rw e (took_more (take at bytes) (take n (drop at bytes)) a b c x y)

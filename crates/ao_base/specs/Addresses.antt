@@ -32,7 +32,7 @@ unfoldable pub octet_of : List ℕ → Option ℕ
 octet_of word = cond (has_leading_zero word) None (below_256 (decimal_of word))
 
 -- the address of four numbers, where all four are there (own)
-abbrev pub four : Option ℕ → Option ℕ → Option ℕ → Option ℕ → Option Address
+abbrev pub four : (first second third fourth : Option ℕ) → Option Address
 four (Some a) (Some b) (Some c) (Some d) = Some (V4 (a ∷ b ∷ c ∷ d ∷ []))
 four _ _ _ _ = None
 

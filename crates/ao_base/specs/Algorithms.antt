@@ -2,6 +2,7 @@
 use Rattle.std.specs.Prelude.{ℕ, List, Option, Some, None, codes, bytes_eq, if◌then◌else◌}
 use Rattle.ao_base.specs.declared.algorithm.Algorithm.{Algorithm}
 use Rattle.ao_base.specs.declared.algorithm.Algorithm.TheVariants.{HmacSha1, AesCmac, HmacSha256}
+use Rattle.std.specs.Prelude.{Bool, true, false}
 
 -- the name of an algorithm (RFC 5926, section 3.2, and own)
 abbrev pub name_of : Algorithm → List ℕ
@@ -21,3 +22,10 @@ abbrev pub mac_length_of : Algorithm → ℕ
 mac_length_of HmacSha1 = 12
 mac_length_of AesCmac = 12
 mac_length_of HmacSha256 = 16
+
+-- both are the same algorithm (own)
+abbrev pub same_algorithm : (one other : Algorithm) → Bool
+same_algorithm HmacSha1 HmacSha1 = true
+same_algorithm AesCmac AesCmac = true
+same_algorithm HmacSha256 HmacSha256 = true
+same_algorithm _ _ = false

@@ -25,7 +25,7 @@ abbrev pub one_later : ℕ → ℕ
 one_later n = min (n + 1) 18446744073709551615
 
 -- the count rose, or stands at 2^64 - 1 (own)
-abbrev pub Rose : Side → Side → Type 0
+abbrev pub Rose : (before now : Side) → Type 0
 Rose before now = one_later before.faults ≤ now.faults
 
 -- no byte is left, where the source tells them (own)
@@ -40,7 +40,7 @@ pub record Counts (passed : ℕ) (before now : Side) : Type 0 where
   pub quiet : (most : ℕ) → before.quiet ≡ Some most → passed < most → (now.faults ≡ before.faults) × (now.quiet ≡ Some (most - passed))
 
 -- one call counts one fault where it fails, and else none (own)
-abbrev pub CountsOnce : {E : Type 0} → ℕ → ℕ → Result ℕ E → Type 0
+abbrev pub CountsOnce : {E : Type 0} → (before now : ℕ) → Result ℕ E → Type 0
 CountsOnce before now result = MatchResult result (λ _. now ≡ before) (λ _. now ≡ one_later before)
 
 -- the source gave these bytes, the next ones, and no others (own)
@@ -49,7 +49,7 @@ pub record Gave (given : List ℕ) (before now : Side) : Type 0 where
   pub counts : Counts (length given) before now
 
 -- the sink took these bytes after what it held, and no others (own)
-pub record Took (taken : List ℕ) (before now : Side) : Type 0 where
+pub record WasWritten (taken : List ℕ) (before now : Side) : Type 0 where
   pub bytes : Appends before.bytes now.bytes taken
   pub counts : Counts (length taken) before now
 
@@ -64,12 +64,12 @@ pub record Reads {E : Type 0} (before now : Side) (buf : List ℕ) (result : Res
 pub record Writes {E : Type 0} (before now : Side) (buf : List ℕ) (result : Result ℕ E) : Type 0 where
   pub room : IfOk result (λ k. k ≤ length buf)
   pub some : IfOk result (λ k. 0 < length buf → 0 < k)
-  pub took : IfOk result (λ k. Took (take k buf) before now)
-  pub failed : IfErr result (λ _. Took [] before now × Rose before now)
+  pub took : IfOk result (λ k. WasWritten (take k buf) before now)
+  pub failed : IfErr result (λ _. WasWritten [] before now × Rose before now)
 
 -- the first n bytes were written: all of them at Ok, and at a fault fewer (own)
 pub record WritesAll {E : Type 0} (before now : Side) (bytes : List ℕ) (n : ℕ) (result : Result (Unit {0}) E) : Type 0 where
   pub within : n ≤ length bytes
-  pub took : Took (take n bytes) before now
+  pub took : WasWritten (take n bytes) before now
   pub whole : IfOk result (λ _. n ≡ length bytes)
   pub failed : IfErr result (λ _. (n < length bytes) × Rose before now)

@@ -4,7 +4,7 @@ use Rattle.std.specs.Prelude.{IfSome, IfNone}
 use Rattle.book_segments.specs.Meant.{meant}
 use Rattle.book_segments.specs.Segments.{Segment, has, SYN}
 use Rattle.book_segments.proofs.Fields.{lt_is}
-use Rattle.book_endpoint.specs.Verdicts.{number_of}
+use Rattle.book_endpoint.specs.Verdicts.{segment_number}
 
 some_is : (a b : ℕ) → Some a ≡ Some b → a ≡ b
 some_is a b e = cc
@@ -36,5 +36,5 @@ small None m x low near some = some
 pub extended_small : (o : Option ℕ) (seq x : ℕ) → x ≤ 2 ^ 63 → IfSome o (λ n. meant seq x ≡ Some n) → IfSome o (λ n. n ≤ 2 ^ 63 + 2 ^ 32)
 extended_small o seq x low some = small o (meant seq x) x low (λ n e. meant_near seq x n e) some
 
-pub number_later : (d : Segment) (expected : Option ℕ) (x : ℕ) → expected ≡ Some x → has SYN d ≡ false → number_of d expected ≡ meant d.sequence x
+pub number_later : (d : Segment) (expected : Option ℕ) (x : ℕ) → expected ≡ Some x → has SYN d ≡ false → segment_number d expected ≡ meant d.sequence x
 number_later d expected x e syn = rw (e, syn) refl

@@ -13,7 +13,7 @@ use Rattle.book_keys.specs.Lifetimes.{contains}
 use Rattle.book_keys.specs.Choices.{Numbered, qualified, lowest, acceptable_as, accept_row, accepts_as, has_id}
 use Rattle.std.specs.Option.{option_or}
 use Rattle.ao_base.specs.Algorithms.{mac_length_of}
-use Rattle.book_endpoint.specs.Verdicts.{Finding, Judgement, judge, number_of, found_with, mac_of}
+use Rattle.book_endpoint.specs.Verdicts.{Finding, Judgement, judge, segment_number, found_with, mac_of}
 use Rattle.book_endpoint.proofs.JudgeSteps.{judge_by_steps, judge_ao, judge_row, judge_context, judge_number, judge_mac}
 use Rattle.book_endpoint.specs.declared.verdict.Verdict.TheVariants.{NoTuple, Expired, MacLength, NoContext, Range, BadMac}
 use Rattle.ao_check.proofs.KeyLaws.{accepted_at, same_row}
@@ -129,7 +129,7 @@ pub silent : (expected : Option ℕ) (d : Segment) (ctx : Option (List ℕ)) (c 
 silent expected d ctx c ao r e t = rw (e, t) refl
 
 pub at_number : (expected : Option ℕ) (d : Segment) (ctx : Option (List ℕ)) (c : List ℕ) (ao : Ao) (r : Numbered) → ctx ≡ Some c → (not (has SYN d) && not (is_some expected)) ≡ false
-    → judge_context r d ao expected ctx ≡ judge_number r d ao c (number_of d expected)
+    → judge_context r d ao expected ctx ≡ judge_number r d ao c (segment_number d expected)
 at_number expected d ctx c ao r e t = rw (e, t) refl
 
 pub no_number : (d : Segment) (c : List ℕ) (ao : Ao) (r : Numbered) (o : Option ℕ) → None ≡ o → judge_number r d ao c o ≡ Err Range
@@ -153,16 +153,16 @@ to_context rows pair own peer expected now d ao r f a l =
 -- only number and MAC are left to judge
 pub to_number : (rows : List Row) (pair : Pair) (own : ℕ) (peer expected : Option ℕ) (now : ℕ) (d : Segment) (ao : Ao) (r : Numbered) (c : List ℕ) → One ao ≡ find_ao d.area
     → accept_row rows pair ao.key_id now ≡ Some r → length ao.mac ≡ mac_length_of r.row.algorithm → context_of d peer (Some own) ≡ Some c → (not (has SYN d) && not (is_some expected)) ≡ false
-    → judge rows pair (record { own_isn = own; peer_isn = peer; expected = expected }) now d ≡ judge_number r d ao c (number_of d expected)
+    → judge rows pair (record { own_isn = own; peer_isn = peer; expected = expected }) now d ≡ judge_number r d ao c (segment_number d expected)
 to_number rows pair own peer expected now d ao r c f a l e t =
     to_context rows pair own peer expected now d ao r f a l ∙ at_number expected d (context_of d peer (Some own)) c ao r e t
 
 -- only the MAC is left to judge
 pub to_mac : (rows : List Row) (pair : Pair) (own : ℕ) (peer expected : Option ℕ) (now : ℕ) (d : Segment) (ao : Ao) (r : Numbered) (c : List ℕ) (n : ℕ) → One ao ≡ find_ao d.area
     → accept_row rows pair ao.key_id now ≡ Some r → length ao.mac ≡ mac_length_of r.row.algorithm → context_of d peer (Some own) ≡ Some c → (not (has SYN d) && not (is_some expected)) ≡ false
-    → Some n ≡ number_of d expected → nat_lt 9223372036854775808 (n + segment_length d) ≡ false → judge rows pair (record { own_isn = own; peer_isn = peer; expected = expected }) now d ≡ judge_mac ao (found_with r d ao c n)
+    → Some n ≡ segment_number d expected → nat_lt 9223372036854775808 (n + segment_length d) ≡ false → judge rows pair (record { own_isn = own; peer_isn = peer; expected = expected }) now d ≡ judge_mac ao (found_with r d ao c n)
 to_mac rows pair own peer expected now d ao r c n f a l e t m u =
-    to_number rows pair own peer expected now d ao r c f a l e t ∙ at_mac d c ao r (number_of d expected) n m u
+    to_number rows pair own peer expected now d ao r c f a l e t ∙ at_mac d c ao r (segment_number d expected) n m u
 
 pub wrong : (ao : Ao) (p : Finding) → same_bytes ao.mac (mac_of p) ≡ false → judge_mac ao p ≡ Err BadMac
 wrong ao p e = rw e refl

@@ -4,7 +4,7 @@ use Rattle.ao_base.specs.declared.address.Pair.{Pair}
 use Rattle.book_segments.specs.Segments.{Segment, has, segment_length, SYN}
 use Rattle.book_macs.specs.Contexts.{context_of}
 use Rattle.book_keys.specs.Choices.{Numbered, accept_row}
-use Rattle.book_endpoint.specs.Verdicts.{number_of}
+use Rattle.book_endpoint.specs.Verdicts.{segment_number}
 use Rattle.ao_base.specs.Algorithms.{mac_length_of}
 use Rattle.book_keys.specs.Rows.{Row}
 use Rattle.tcp_segment.specs.declared.writing.Head.{Head}
@@ -41,7 +41,7 @@ pub record Mirrors (rows : List Row) (pair : Pair) (own : ℕ) (peer expected : 
   pub tuple : SameTuple r n.row
   pub context_is : context_of d peer (Some own) ≡ Some context
   pub heard : (not (has SYN d) && not (is_some expected)) ≡ false
-  pub number_is : Some number ≡ number_of d expected
+  pub number_is : Some number ≡ segment_number d expected
   pub end : number + segment_length d ≤ 2 ^ 63
 
 -- the TCP-AO option of a draft

@@ -2,7 +2,7 @@
 ghost use Rattle.std.specs.Prelude.{◌≡◌, ◌<◌, ◌≤◌, ◌+◌, ◌^◌, Option, Some, None, true, false, IfSome, option_map, is_some, nat_lt, not, ◌&&◌};
 ghost use Rattle.book_segments.specs.Segments.{has, segment_length, SYN};
 ghost use Rattle.book_macs.specs.Contexts.{context_of};
-ghost use Rattle.book_endpoint.specs.Verdicts.{number_of};
+ghost use Rattle.book_endpoint.specs.Verdicts.{segment_number};
 ghost use Rattle.book_macs.specs.Contexts.{bytes_of};
 ghost use Rattle.ao_check.specs.Contexts.{HasSockets, IsBelow, IsPlanned};
 
@@ -77,7 +77,7 @@ pub(crate) fn context_of(
 /// (RFC 5925, section 6.2).
 pub(crate) fn number_of(datagram: &Datagram<'_>, expected: Option<u64>) -> Option<u64>
     requires { IsBelow expected }
-    ensures number { result ≡ number_of datagram.now expected }
+    ensures number { result ≡ segment_number datagram.now expected }
     ensures most { IfSome result (λ n. n ≤ 2 ^ 63 + 2 ^ 32) }
 {
     match expected {

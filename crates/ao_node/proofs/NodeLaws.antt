@@ -7,7 +7,7 @@ use Rattle.std.specs.Map.Calls.{RetainsPairs}
 use Rattle.ao_base.specs.declared.address.Pair.{Pair}
 use Rattle.book_segments.specs.Segments.{Segment, Reading, Read}
 use Rattle.book_keys.specs.Rows.{Row}
-use Rattle.book_cmd_node.specs.NodeRuns.{pair_reached}
+use Rattle.book_segments.specs.Segments.{pair_reached}
 use Rattle.tcp_endpoint.specs.declared.arrival.Arrived.{Arrived}
 use Rattle.tcp_endpoint.specs.declared.endpoint.Endpoint.{Endpoint}
 use Rattle.ao_node.specs.declared.answer.NodeArrival.{NodeArrival}

@@ -5,7 +5,8 @@ use Rattle.book_segments.specs.Segments.{Segment, Reading, Read, Bad as Unread}
 use Rattle.book_keys.specs.Rows.{Row}
 use Rattle.book_endpoint.specs.States.{EndState}
 use Rattle.book_endpoint.specs.Arrivals.{arrive}
-use Rattle.book_cmd_node.specs.NodeRuns.{pair_reached, same_pair}
+use Rattle.book_cmd_node.specs.NodeRuns.{same_pair}
+use Rattle.book_segments.specs.Segments.{pair_reached}
 use Rattle.tcp_endpoint.specs.declared.arrival.Arrived.{Arrived}
 use Rattle.tcp_endpoint.specs.declared.endpoint.Endpoint.{Endpoint}
 use Rattle.tcp_endpoint.specs.Arriving.{Arrives, IsBeforeCheck, LeavesAll}

@@ -1,7 +1,7 @@
 -- Completeness, from the contract for every command.
 use Rattle.std.proofs.Common.{◌≡◌, ◌≢◌, ◌⊎◌, inl, inr, ℕ, zero, suc, ◌<◌, ◌≤◌, List, [], length, take, Option, Some, None, Ok, Bool, true, false, refl, sym, ap, subst, ◌∙◌, arith}
 use Rattle.std.proofs.lemmas.List.{length-take}
-use Rattle.ao_base.specs.Outside.{Gave, Took, Rose, IsAtEnd, Side}
+use Rattle.ao_base.specs.Outside.{Gave, WasWritten, Rose, IsAtEnd, Side}
 use Rattle.book_keys.specs.Nodes.{tables_of}
 use Rattle.book_keys.specs.Rows.{Table}
 use Rattle.book_answer.specs.declared.command.Command.{Command}
@@ -60,7 +60,7 @@ module _ (words : List (List ℕ)) (k i keys input : List ℕ) (b n : Sides) (sm
     (tells_keys : Tells (asks_keys (command_of words)) keys b.keys n.keys) (tells_input : Tells (asks_input (command_of words)) input b.input n.input)
     (calm_out : IsCalm (answer words keys input).output b.out n.out) where
   abbrev Done : ℕ → Type 0
-  Done s = ((s ≡ (answer words keys input).status) × Took (answer words keys input).output b.out n.out) ⊎ (s ≡ 7)
+  Done s = ((s ≡ (answer words keys input).status) × WasWritten (answer words keys input).output b.out n.out) ⊎ (s ≡ 7)
 
   all_keys : (s : ℕ) → Obeys words k i b n s → asks_keys (command_of words) ≡ true → IsAtEnd n.keys → k ≡ keys
   all_keys s x asks end = all_given b.keys.bytes n.keys.bytes k keys x.gave_keys.bytes (tells_keys.told asks) end
@@ -76,13 +76,13 @@ module _ (words : List (List ℕ)) (k i keys input : List ℕ) (b n : Sides) (sm
   written : (s : ℕ) → Obeys words k i b n s → s < 2 → Done s
   written s x less =
       let e : answer words k i ≡ answer words keys input = whole s x (x.keys_end (inl (inl less))) (x.input_end (inl less)) in
-      let P : Answer → Type 0 = λ (a : Answer). (s ≡ a.status) × Took a.output b.out n.out in
+      let P : Answer → Type 0 = λ (a : Answer). (s ≡ a.status) × WasWritten a.output b.out n.out in
       inl (subst P e (x.known (omega (arith, less)), x.whole less))
 
   unwritten : (s : ℕ) → Obeys words k i b n s → s ≡ 6 → writes_along (command_of words) ≡ false → Done s
   unwritten s x six last =
       let e : answer words k i ≡ answer words keys input = whole s x (x.keys_end (inl (inr six))) (x.input_end (inr (six, last))) in
-      let P : Answer → Type 0 = λ (a : Answer). (m : ℕ) × (m < length a.output) × Took (take m a.output) b.out n.out in
+      let P : Answer → Type 0 = λ (a : Answer). (m : ℕ) × (m < length a.output) × WasWritten (take m a.output) b.out n.out in
       let p : P (answer words keys input) = subst P e (x.part six last).1 in
       let few : length (take p.0 (answer words keys input).output) ≤ length (answer words keys input).output = grind (arith, length-take) in
       absurd (calm (length (take p.0 (answer words keys input).output)) (answer words keys input).output b.out n.out p.2.counts few calm_out (x.write six))

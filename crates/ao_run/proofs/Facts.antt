@@ -1,7 +1,7 @@
 -- What an end of a command that writes as it reads tells of the command's answer.
 use Rattle.std.proofs.Common.{◌≡◌, ◌≢◌, ℕ, ◌<◌, ◌≤◌, Bool, true, false, List, length, Option, Some, None, if◌then◌else◌, refl, sym, ap, ◌∙◌, arith}
 use Rattle.std.specs.Io.KnownBytes.{Consumes}
-use Rattle.ao_base.specs.Outside.{Counts, IsAtEnd, Rose, Side, Took}
+use Rattle.ao_base.specs.Outside.{Counts, IsAtEnd, Rose, Side, WasWritten}
 use Rattle.book_keys.specs.Rows.{Table}
 use Rattle.book_answer.specs.declared.command.Command.{Command}
 use Rattle.book_answer.specs.Answers.{Answer, done, judged, refusal}
@@ -20,7 +20,7 @@ pub record Facts (c : Command) (tables : List Table) (i : List ℕ) (i0 i1 o0 o1
   pub plain : (status ≢ 2) × (status ≢ 3)
   pub known : status < 5 → status ≡ (answer_in c tables i).status
   pub at_end : status < 2 → IsAtEnd i1
-  pub whole : status < 2 → Took (answer_in c tables i).output o0 o1
+  pub whole : status < 2 → WasWritten (answer_in c tables i).output o0 o1
   pub read : status ≡ 5 → Rose i0 i1
   pub write : status ≡ 6 → Rose o0 o1
   pub refused : status ≡ 4 → (input : List ℕ) → i0.bytes ≡ Some input → Consumes i0.bytes i1.bytes i → (answer_in c tables input).status ≡ 4
@@ -29,7 +29,7 @@ pub record Facts (c : Command) (tables : List Table) (i : List ℕ) (i0 i1 o0 o1
 
 module _ (c : Command) (tables : List Table) (i : List ℕ) (i0 i1 o0 o1 : Side) where
   finished : (status : ℕ) (output : List ℕ) → status < 2 → status ≡ (answer_in c tables i).status → output ≡ (answer_in c tables i).output →
-      IsAtEnd i1 → Took output o0 o1 → Facts c tables i i0 i1 o0 o1 status
+      IsAtEnd i1 → WasWritten output o0 o1 → Facts c tables i i0 i1 o0 o1 status
   finished status output small known same end took = record {
     high = omega (arith, small);
     plain = (λ h. omega (arith, small, h), λ h. omega (arith, small, h));
@@ -42,12 +42,12 @@ module _ (c : Command) (tables : List Table) (i : List ℕ) (i0 i1 o0 o1 : Side)
     broken = λ h. absurd (omega (arith, small, h));
   }
 
-  by_amiss : (amiss : Bool) (output : List ℕ) → answer_in c tables i ≡ done amiss output → IsAtEnd i1 → Took output o0 o1 → Facts c tables i i0 i1 o0 o1 (if amiss then 1 else 0)
+  by_amiss : (amiss : Bool) (output : List ℕ) → answer_in c tables i ≡ done amiss output → IsAtEnd i1 → WasWritten output o0 o1 → Facts c tables i i0 i1 o0 o1 (if amiss then 1 else 0)
   by_amiss true output is end took = finished 1 output (omega arith) (ap (λ (a : Answer). a.status) (sym is)) (ap (λ (a : Answer). a.output) (sym is)) end took
   by_amiss false output is end took = finished 0 output (omega arith) (ap (λ (a : Answer). a.status) (sym is)) (ap (λ (a : Answer). a.output) (sym is)) end took
 
   -- all was read and written
-  pub done_facts : (amiss : Bool) (output : List ℕ) → answer_in c tables i ≡ done amiss output → IsAtEnd i1 → Took output o0 o1 → Facts c tables i i0 i1 o0 o1 (if amiss then 1 else 0)
+  pub done_facts : (amiss : Bool) (output : List ℕ) → answer_in c tables i ≡ done amiss output → IsAtEnd i1 → WasWritten output o0 o1 → Facts c tables i i0 i1 o0 o1 (if amiss then 1 else 0)
   done_facts amiss output is end took = by_amiss amiss output is end took
 
   -- the input is refused, and would be with all that is told behind it

@@ -12,7 +12,7 @@ use Rattle.book_keys.specs.Reading.{ReadingGives}
 use Rattle.book_keys.specs.Rows.{Table}
 use Rattle.book_lines.specs.declared.text_fault.TextFault.{TextFault}
 use Rattle.book_lines.specs.declared.text_fault.TextFault.TheVariants as text_fault
-use Rattle.book_lines.specs.Faults.{fault_text}
+use Rattle.book_lines.specs.Faults.{input_fault_text}
 use Rattle.text_lines.specs.Readings.{Answers, Fails}
 use Rattle.book_answer.specs.declared.command.Command.{Command}
 use Rattle.book_answer.specs.Answers.{Answer, answer_of, answer_over, if_read, most_input, refusal, too_many_events}
@@ -28,7 +28,7 @@ use Rattle.ao_run.proofs.AnswerLaws.{either, faulty_tables, long_input, long_key
 
 -- an input with a fault has no output
 pub refused_makes : {A : Type 0} (said : Result A TextFault) (value : A → Answer) (e : TextFault) (stop : Stop) →
-    Fails e said → Stopped stop (refusal 4 (fault_text e)) → (e ≡ text_fault.Memory → stop ≡ Memory) → Makes (Err stop) (if_read value said)
+    Fails e said → Stopped stop (refusal 4 (input_fault_text e)) → (e ≡ text_fault.Memory → stop ≡ Memory) → Makes (Err stop) (if_read value said)
 refused_makes said value text_fault.Memory stop fails stopped none = rw (none refl) tt
 refused_makes said value text_fault.TooManyLines stop fails stopped none = rw fails stopped
 refused_makes said value (text_fault.Line n kind) stop fails stopped none = rw fails stopped

@@ -4,7 +4,7 @@ use Rattle.std.proofs.lemmas.Bool.Decides.{nat_tests}
 use Rattle.book_keys.specs.Rows.{Table}
 use Rattle.book_lines.specs.declared.text_fault.TextFault.{TextFault}
 use Rattle.book_lines.specs.declared.text_fault.TextFault.TheVariants as text_fault
-use Rattle.book_lines.specs.Faults.{fault_text}
+use Rattle.book_lines.specs.Faults.{input_fault_text}
 use Rattle.ao_base.specs.Results.{◌>>=◌}
 use Rattle.text_lines.specs.Readings.{Fails}
 use Rattle.book_link.specs.Worlds.{Setup, setup_of}
@@ -50,13 +50,13 @@ shared_makes text p is = made_of (λ s. setup_of (shared_by s s.shared) s.a s.b)
 
 -- a text that is no link file has no output
 pub keyed_refused : (tables : List Table) (text : List ℕ) (e : TextFault) (stop : Stop) → Fails e (playing tables text) →
-    Stopped stop (refusal 4 (fault_text e)) → (e ≡ text_fault.Memory → stop ≡ Memory) → Makes (Err stop) (if_read (linked tables) (script_of true text))
+    Stopped stop (refusal 4 (input_fault_text e)) → (e ≡ text_fault.Memory → stop ≡ Memory) → Makes (Err stop) (if_read (linked tables) (script_of true text))
 unfolding playing
 keyed_refused tables text e stop f stopped none =
     refused (script_of true text) (linked tables) e stop (fails (λ s. setup_of tables s.a s.b) (script_of true text) e f) stopped none
 
 pub shared_refused : (text : List ℕ) (e : TextFault) (stop : Stop) → Fails e (playing_by_shared text) →
-    Stopped stop (refusal 4 (fault_text e)) → (e ≡ text_fault.Memory → stop ≡ Memory) → Makes (Err stop) (if_read linked_by_shared (script_of false text))
+    Stopped stop (refusal 4 (input_fault_text e)) → (e ≡ text_fault.Memory → stop ≡ Memory) → Makes (Err stop) (if_read linked_by_shared (script_of false text))
 unfolding playing_by_shared
 shared_refused text e stop f stopped none =
     refused (script_of false text) linked_by_shared e stop (fails (λ s. setup_of (shared_by s s.shared) s.a s.b) (script_of false text) e f) stopped none

@@ -4,7 +4,7 @@ use Rattle.ao_base.specs.declared.address.Pair.{Pair}
 use Rattle.book_keys.specs.Rows.{Table}
 use Rattle.book_lines.specs.declared.text_fault.TextFault.{TextFault}
 use Rattle.book_lines.specs.declared.text_fault.TextFault.TheVariants as text_fault
-use Rattle.book_lines.specs.Faults.{fault_text}
+use Rattle.book_lines.specs.Faults.{input_fault_text}
 use Rattle.book_lines.specs.Said.{Said, said_in}
 use Rattle.ao_base.specs.Results.{◌>>=◌}
 use Rattle.text_lines.specs.Readings.{Fails}
@@ -45,7 +45,7 @@ fails tables plan r (text_fault.Line n kind) f = fault_of tables plan r (text_fa
 
 -- a text without judgements has no output
 pub refused_makes : (tables : List Table) (plan : Plan) (text : List ℕ) (e : TextFault) (stop : Stop) → Fails e (judgements tables plan text) →
-    Stopped stop (refusal 4 (fault_text e)) → (e ≡ text_fault.Memory → stop ≡ Memory) → Makes (Err stop) (if_read (linted tables plan) (said_in lint_pair_of text))
+    Stopped stop (refusal 4 (input_fault_text e)) → (e ≡ text_fault.Memory → stop ≡ Memory) → Makes (Err stop) (if_read (linted tables plan) (said_in lint_pair_of text))
 unfolding judgements
 refused_makes tables plan text e stop f stopped none =
     refused (said_in lint_pair_of text) (linted tables plan) e stop (fails tables plan (said_in lint_pair_of text) e f) stopped none

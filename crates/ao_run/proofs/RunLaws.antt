@@ -3,7 +3,7 @@ use Rattle.std.proofs.Common.{◌≡◌, ◌<◌, ℕ, true, false, List, [], Re
 use Rattle.book_keys.specs.Rows.{Table}
 use Rattle.book_lines.specs.declared.text_fault.TextFault.{TextFault}
 use Rattle.book_lines.specs.declared.text_fault.TextFault.TheVariants as text_fault
-use Rattle.book_lines.specs.Faults.{fault_text}
+use Rattle.book_lines.specs.Faults.{input_fault_text}
 use Rattle.ao_base.specs.Results.{◌>>=◌}
 use Rattle.text_lines.specs.Readings.{Fails}
 use Rattle.book_cmd_node.specs.declared.node.NodeScript.{NodeScript}
@@ -21,14 +21,14 @@ use Rattle.ao_run.proofs.Gathering.{refused_makes as refused}
 
 -- a link file with waits that has a fault has no output
 pub timed_refused : (tables : List Table) (text : List ℕ) (e : TextFault) (stop : Stop) → AnswersTimed tables text (Err (Fault e)) →
-    Stopped stop (refusal 4 (fault_text e)) → (e ≡ text_fault.Memory → stop ≡ Memory) → Makes (Err stop) (if_read (timed_over tables) (timed_script_of text))
+    Stopped stop (refusal 4 (input_fault_text e)) → (e ≡ text_fault.Memory → stop ≡ Memory) → Makes (Err stop) (if_read (timed_over tables) (timed_script_of text))
 timed_refused tables text text_fault.Memory stop is stopped none = rw (none refl) tt
 timed_refused tables text text_fault.TooManyLines stop is stopped none = rw is stopped
 timed_refused tables text (text_fault.Line n kind) stop is stopped none = rw is stopped
 
 -- a link file with a fault has no messages
 pub bgp_refused : (tables : List Table) (text : List ℕ) (e : TextFault) (stop : Stop) → Fails e (script_of true text) →
-    Stopped stop (refusal 4 (fault_text e)) → (e ≡ text_fault.Memory → stop ≡ Memory) → Makes (Err stop) (if_read (bgp_over tables) (script_of true text))
+    Stopped stop (refusal 4 (input_fault_text e)) → (e ≡ text_fault.Memory → stop ≡ Memory) → Makes (Err stop) (if_read (bgp_over tables) (script_of true text))
 bgp_refused tables text e stop fails stopped none = refused (script_of true text) (bgp_over tables) e stop fails stopped none
 
 module _ (tables : List Table) where
@@ -53,6 +53,6 @@ node_makes tables text bytes is = (made_of tables (node_script_of text) bytes is
 
 -- a node's file with a fault has no output
 pub node_refused : (tables : List Table) (text : List ℕ) (e : TextFault) (stop : Stop) → Fails e (node_answer tables text) →
-    Stopped stop (refusal 4 (fault_text e)) → (e ≡ text_fault.Memory → stop ≡ Memory) → Makes (Err stop) (if_read (node_over tables) (node_script_of text))
+    Stopped stop (refusal 4 (input_fault_text e)) → (e ≡ text_fault.Memory → stop ≡ Memory) → Makes (Err stop) (if_read (node_over tables) (node_script_of text))
 unfolding node_answer
 node_refused tables text e stop fails stopped none = refused (node_script_of text) (node_over tables) e stop (fails_of tables (node_script_of text) e fails) stopped none

@@ -1,7 +1,7 @@
 -- The ways in which a command ends that writes when all was read.
 use Rattle.std.proofs.Common.{◌≡◌, ◌≢◌, ◌⊎◌, inl, inr, ℕ, zero, suc, ◌<◌, ◌≤◌, ◌+◌, List, [], length, take, true, false, Option, Some, None, Result, Ok, Err, refl, sym, ap, ◌∙◌, arith}
 use Rattle.std.proofs.Math.Seq.{take-length}
-use Rattle.ao_base.specs.Outside.{Side, Took, WritesAll, IsAtEnd}
+use Rattle.ao_base.specs.Outside.{Side, WasWritten, WritesAll, IsAtEnd}
 use Rattle.ao_base.proofs.Sides.{took_none}
 use Rattle.book_answer.specs.declared.command.Command.{Command}
 use Rattle.book_answer.specs.declared.command.Command.TheVariants as commands
@@ -122,7 +122,7 @@ module _ (command : Option Command) (k i : List ℕ) (k0 k1 i0 i1 : Side) (last 
       let is : answer command k i ≡ made output = x.done.0 in
       let small : output.status < 2 = x.done.1 in
       let all : take n output.bytes ≡ output.bytes = rw v.whole (take-length output.bytes) in
-      let wrote : Took output.bytes o0 o1 = rw all at v.took in
+      let wrote : WasWritten output.bytes o0 o1 = rw all at v.took in
       record {
         gave_keys = x.gave_keys;
         gave_input = x.gave_input;

@@ -1,6 +1,6 @@
 -- That the program does what it is for. Its top is `Completes` (own).
 use Rattle.std.specs.Prelude.{◌≡◌, ◌⊎◌, ℕ, ◌<◌, Bool, true, List, [], length, Some}
-use Rattle.ao_base.specs.Outside.{Side, Took, Rose}
+use Rattle.ao_base.specs.Outside.{Side, WasWritten, Rose}
 use Rattle.book_answer.specs.Answers.{answer_of}
 use Rattle.book_answer.specs.Commands.{command_of}
 use Rattle.ao_run.specs.Obeys.{Sides, asks_keys, asks_input}
@@ -26,4 +26,4 @@ pub record Completes (words : List (List ℕ)) (before now : Sides) (status : �
       Tells (asks_keys (command_of words)) keys before.keys now.keys →
       Tells (asks_input (command_of words)) input before.input now.input →
       IsCalm a.output before.out now.out →
-      ((status ≡ a.status) × Took a.output before.out now.out) ⊎ (status ≡ 7)
+      ((status ≡ a.status) × WasWritten a.output before.out now.out) ⊎ (status ≡ 7)

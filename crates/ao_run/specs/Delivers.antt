@@ -3,7 +3,7 @@
 use Rattle.std.specs.Prelude.{◌≡◌, ◌↔◌, ℕ, ◌<◌, ◌≤◌, List, [], ◌∷◌, ◌++◌, length, All, true, false}
 use Rattle.std.specs.Prelude.{codes, Some, Result, Ok, None}
 use Rattle.ao_base.specs.declared.address.Pair.{Pair}
-use Rattle.ao_base.specs.Outside.{Side, Took, IsAtEnd}
+use Rattle.ao_base.specs.Outside.{Side, WasWritten, IsAtEnd}
 use Rattle.book_keys.specs.Nodes.{tables_of}
 use Rattle.book_keys.specs.Plans.{rows_at}
 use Rattle.book_keys.specs.Rows.{Row, Table}
@@ -57,7 +57,7 @@ pub record Says {S : Type 0} (script_in : List ℕ → Result S TextFault) (inpu
 pub record Delivers (setup : Setup) (events : List Event) (out_before out_now : Side) (status : ℕ)
     : Type 0 where
   -- its report was written
-  pub written : Took (report setup events) out_before out_now
+  pub written : WasWritten (report setup events) out_before out_now
   -- the status is 0 exactly where no forgery is counted
   pub counted : (status ≡ 0) ↔ (forgeries (run setup events).history ≡ 0)
   -- the last line of the report says how many are
@@ -80,7 +80,7 @@ pub record DeliversTimed (setup : Setup) (events : List TimedEvent) (out_before 
 pub record DeliversMessages (setup : Setup) (events : List Event) (out_before out_now : Side)
     (status : ℕ) : Type 0 where
   -- the messages and the summary were written
-  pub written : Took (bgp_text setup events) out_before out_now
+  pub written : WasWritten (bgp_text setup events) out_before out_now
   -- the status is 0 exactly where no forgery is counted and no session reached a faulty message
   pub counted : (status ≡ 0) ↔ ((forgeries (run setup events).history ≡ 0)
       × (bgp_faults (run setup events) ≡ 0))
@@ -102,7 +102,7 @@ pub record DeliversMessages (setup : Setup) (events : List Event) (out_before ou
 pub record DeliversStorm (events : List Event) (out_before out_now : Side) (status : ℕ)
     : Type 0 where
   -- the summary was written
-  pub written : Took (summary (run storm_setup events)) out_before out_now
+  pub written : WasWritten (summary (run storm_setup events)) out_before out_now
   -- the status is 0 exactly where no forgery is counted
   pub counted : (status ≡ 0) ↔ (forgeries (run storm_setup events).history ≡ 0)
   -- as of a link's run
@@ -114,7 +114,7 @@ pub record DeliversStorm (events : List Event) (out_before out_now : Side) (stat
 pub record DeliversNode (rows : List Row) (events : List NodeEvent) (out_before out_now : Side)
     (status : ℕ) : Type 0 where
   -- the answers were written
-  pub written : Took (node_text rows events) out_before out_now
+  pub written : WasWritten (node_text rows events) out_before out_now
   pub done : status ≡ 0
   -- each connection gives the answers that it would give alone
   pub alone : (pair : Pair) → Alone pair rows events

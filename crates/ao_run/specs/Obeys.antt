@@ -1,7 +1,7 @@
 -- What the top call reads, answers and writes, for every command. Its top is `Obeys` (own).
 use Rattle.std.specs.Prelude.{◌≡◌, ◌≢◌, ◌⊎◌, ℕ, ◌+◌, ◌<◌, ◌≤◌, ◌==◌, if◌then◌else◌, Bool, true}
 use Rattle.std.specs.Prelude.{false, List, [], length, take, Option, Some, None, Result, Ok, Err}
-use Rattle.ao_base.specs.Outside.{Side, Gave, Took, Rose, IsAtEnd}
+use Rattle.ao_base.specs.Outside.{Side, Gave, WasWritten, Rose, IsAtEnd}
 use Rattle.capture_lines.specs.Checked.{Checks as JudgesLines, most_ahead as most_ahead_of_lines}
 use Rattle.capture_lines.specs.declared.check.Halt.{Halt}
 use Rattle.capture_lines.specs.declared.check.Halt.TheVariants as halt
@@ -12,7 +12,7 @@ use Rattle.capture_packets.specs.declared.check.PacketHalt.TheVariants as packet
 use Rattle.book_keys.specs.Nodes.{tables_of}
 use Rattle.book_keys.specs.Rows.{Table}
 use Rattle.book_lines.specs.declared.text_fault.TextFault.TheVariants.{Line}
-use Rattle.book_lines.specs.Faults.{fault_text}
+use Rattle.book_lines.specs.Faults.{input_fault_text}
 use Rattle.book_answer.specs.declared.command.Command.{Command}
 use Rattle.book_answer.specs.declared.command.Command.TheVariants as commands
 use Rattle.book_answer.specs.Answers.{Answer, answer_of as answer, most_keys, most_input}
@@ -65,7 +65,7 @@ text_of status a =
 -- the text was offered: taken whole, or in front where the count of faults rose (own)
 abbrev pub Offers : List ℕ → Side → Side → Type 0
 Offers text before now =
-    (n : ℕ) × Took (take n text) before now × ((length text ≤ n) ⊎ Rose before now)
+    (n : ℕ) × WasWritten (take n text) before now × ((length text ≤ n) ⊎ Rose before now)
 
 -- nothing was read of a side, which stays as it was (own)
 abbrev pub Unread : List ℕ → Side → Side → Type 0
@@ -91,7 +91,7 @@ WritesNothing c status =
 -- error (own)
 abbrev pub lines_end : Result Bool Halt → ℕ × List ℕ
 lines_end (Ok amiss) = (if amiss then 1 else 0, [])
-lines_end (Err (halt.Line n kind)) = (4, fault_text (Line n kind))
+lines_end (Err (halt.Line n kind)) = (4, input_fault_text (Line n kind))
 lines_end (Err halt.TooLong) = (4, too_long)
 lines_end (Err halt.Read) = (5, read_fault)
 lines_end (Err halt.Write) = (6, write_fault)
@@ -133,7 +133,7 @@ pub record ChecksPackets (tables : List Table) (input : List ℕ) (before now : 
 pub record NotBegun (text input : List ℕ) (before now : Sides) (status : ℕ) : Type 0 where
   pub stops : (status ≡ 3) ⊎ ((status ≡ 5) ⊎ (status ≡ 7))
   pub unread : Unread input before.input now.input
-  pub nothing : Took [] before.out now.out
+  pub nothing : WasWritten [] before.out now.out
   pub told : Offers text before.err now.err
 
 -- the key file is one of valid tables, and what is said of a check by tables holds of these (own)
@@ -188,12 +188,12 @@ pub record ObeysAs (command : Option Command) (keys input : List ℕ) (before no
   pub write : status ≡ 6 → Rose before.out now.out
   pub no_other : status < 8
   -- what was written: the whole output, a part where writing failed, else nothing
-  pub whole : status < 2 → Took (answer command keys input).output before.out now.out
+  pub whole : status < 2 → WasWritten (answer command keys input).output before.out now.out
   pub part : status ≡ 6 → writes_along command ≡ false →
       ((answer command keys input).status < 2)
       × ((n : ℕ) × (n < length (answer command keys input).output)
-      × Took (take n (answer command keys input).output) before.out now.out)
-  pub nothing : WritesNothing command status → Took [] before.out now.out
+      × WasWritten (take n (answer command keys input).output) before.out now.out)
+  pub nothing : WritesNothing command status → WasWritten [] before.out now.out
   -- what standard error was offered
   pub told : writes_along command ≡ false →
       Offers (text_of status (answer command keys input)) before.err now.err

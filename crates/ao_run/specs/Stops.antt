@@ -5,7 +5,7 @@ use Rattle.ao_run.specs.declared.stop.Stop.TheVariants.{Usage, KeysTooLong, Keys
 use Rattle.ao_run.specs.declared.stop.Stop.TheVariants.{TooManyEvents, Read, Write, Memory}
 use Rattle.ao_run.specs.declared.stop.Output.{Output}
 use Rattle.book_lines.specs.declared.text_fault.TextFault.TheVariants.{Line}
-use Rattle.book_lines.specs.Faults.{fault_text}
+use Rattle.book_lines.specs.Faults.{input_fault_text}
 use Rattle.book_pcap.specs.Packets.{BadHead, BadRecord}
 use Rattle.capture_lines.specs.declared.check.Halt.{Halt}
 use Rattle.capture_lines.specs.declared.check.Halt.TheVariants as halt
@@ -60,7 +60,7 @@ Makes (Err stop) a = Stopped stop a
 -- a check of lines that stopped so has this stop; there may be no memory for the text of a line's
 -- fault (own)
 abbrev pub IsHalted : Halt → Stop → Type 0
-IsHalted (halt.Line n kind) stop = Stopped stop (refusal 4 (fault_text (Line n kind)))
+IsHalted (halt.Line n kind) stop = Stopped stop (refusal 4 (input_fault_text (Line n kind)))
 IsHalted halt.TooLong stop = stop ≡ TooLong
 IsHalted halt.Read stop = stop ≡ Read
 IsHalted halt.Write stop = stop ≡ Write

@@ -1,6 +1,6 @@
 //! How a command ends: with output, or without.
 ghost use Rattle.std.specs.Prelude.{◌≡◌};
-ghost use Rattle.book_lines.specs.Faults.{fault_text};
+ghost use Rattle.book_lines.specs.Faults.{input_fault_text};
 ghost use Rattle.book_answer.specs.Answers.{refusal};
 ghost use Rattle.ao_run.specs.Stops.{IsHalted, IsPacketHalted, Stopped, status_of, text_of};
 ghost use Rattle.ao_run.specs.declared.stop.Stop.TheVariants.{Memory};
@@ -59,7 +59,7 @@ impl From<AllocError> for Stop {
 impl Stop {
     /// Why an input with this fault has no output.
     pub(crate) fn of_input(alloc: Global, fault: &TextFault) -> Stop
-        ensures text { Stopped result (refusal 4 (fault_text fault.now)) }
+        ensures text { Stopped result (refusal 4 (input_fault_text fault.now)) }
         ensures memory { fault.now ≡ TextFault.Memory → result ≡ Memory }
     {
         match fault {

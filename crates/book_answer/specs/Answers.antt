@@ -10,7 +10,7 @@ use Rattle.book_keys.specs.Plans.{rows_at}
 use Rattle.book_keys.specs.Rows.{Table}
 use Rattle.book_lines.specs.declared.text_fault.TextFault.{TextFault}
 use Rattle.book_lines.specs.declared.text_fault.TextFault.TheVariants.{Line}
-use Rattle.book_lines.specs.Faults.{fault_text}
+use Rattle.book_lines.specs.Faults.{input_fault_text}
 use Rattle.book_lines.specs.Said.{Said, said_in}
 use Rattle.book_lines.specs.Texts.{line_text}
 use Rattle.book_pcap.specs.declared.pcap_head.Head.{Head}
@@ -99,7 +99,7 @@ done amiss output = record { status = if amiss then 1 else 0; output = output; t
 -- what is made of an input that is read; one that isn't is refused (own)
 abbrev pub if_read : {A : Type 0} → (A → Answer) → Result A TextFault → Answer
 if_read made (Ok x) = made x
-if_read made (Err fault) = refusal 4 (fault_text fault)
+if_read made (Err fault) = refusal 4 (input_fault_text fault)
 
 -- a forgery is counted in a world (own)
 abbrev pub has_forgery : World → Bool
@@ -158,7 +158,7 @@ judged tables stored (Some text) = record {
 
 -- the line of a faulty line of stored segments (own)
 abbrev pub line_fault_line : LineFault → List ℕ
-line_fault_line fault = fault_text (Line fault.number fault.kind)
+line_fault_line fault = input_fault_text (Line fault.number fault.kind)
 
 -- `check KEYS`: the segments of lines (own)
 abbrev pub lines_checked : List Table → StoredInput → Answer
@@ -227,18 +227,18 @@ answer_by c input (Ok tables) = answer_within c tables input
 answer_by c input (Err fault) = refusal 3 (table_fault_line fault)
 
 -- the answer of a command that reads a key file; one past its limit is refused (own)
-abbrev pub answer_with_keys : Command → List ℕ → List ℕ → Answer
+abbrev pub answer_with_keys : Command → (keys input : List ℕ) → Answer
 answer_with_keys c keys input =
     if nat_lt most_keys (length keys) then refusal 3 keys_too_long
     else answer_by c input (tables_of keys)
 
 -- the answer of a command, or of words that name none (own)
-abbrev pub answer_of : Option Command → List ℕ → List ℕ → Answer
+abbrev pub answer_of : Option Command → (keys input : List ℕ) → Answer
 answer_of None keys input = refusal 2 usage
 answer_of (Some c) keys input =
     if reads_keys c then answer_with_keys c keys input else answer_within c [] input
 
 -- the answer to the words, to the bytes of the key file and to those of standard input: status,
 -- output, and text for standard error (own)
-unfoldable pub answer : List (List ℕ) → List ℕ → List ℕ → Answer
+unfoldable pub answer : List (List ℕ) → (keys input : List ℕ) → Answer
 answer words keys input = answer_of (command_of words) keys input

@@ -44,14 +44,14 @@ keys_of time = do
   Some (command.Keys t)
 
 -- the command `storm SEED COUNT` (own)
-abbrev pub storm_of : List ℕ → List ℕ → Option Command
+abbrev pub storm_of : (seed count : List ℕ) → Option Command
 storm_of seed count = do
   s ← decimal_of seed
   n ← decimal_up_to 10000 count
   Some (command.Storm s n)
 
 -- the command of three words (own)
-abbrev pub three_of : List ℕ → List ℕ → List ℕ → Option Command
+abbrev pub three_of : (first second third : List ℕ) → Option Command
 three_of name second third =
     if bytes_eq name (codes "keys") then keys_of third
     else if bytes_eq name (codes "storm") then storm_of second third

@@ -59,7 +59,7 @@ least_length kind =
 
 -- a message of this type may have this length; a KEEPALIVE message is a header alone (RFC 4271,
 -- section 4.4)
-abbrev pub fits_kind : ℕ → ℕ → Bool
+abbrev pub fits_kind : (kind size : ℕ) → Bool
 fits_kind kind len =
     if kind == KEEPALIVE then len == header_length else nat_le (least_length kind) len
 
@@ -112,7 +112,7 @@ pub data MessageFront : Type 0 where
 
 -- the front of bytes that begin with a header, by the header's fault, type and length (RFC 4271,
 -- section 4.1)
-abbrev pub front_by : Option BgpFault → ℕ → ℕ → List ℕ → MessageFront
+abbrev pub front_by : Option BgpFault → (kind size : ℕ) → List ℕ → MessageFront
 front_by (Some fault) kind len bytes = FaultyHeader fault
 front_by None kind len bytes =
     if nat_lt (length bytes) len then Unfinished
@@ -120,7 +120,7 @@ front_by None kind len bytes =
     (drop len bytes)
 
 -- the front of bytes that begin with this header (RFC 4271, section 4.1)
-abbrev pub front_behind : List ℕ → List ℕ → MessageFront
+abbrev pub front_behind : (header bytes : List ℕ) → MessageFront
 front_behind header bytes =
     front_by (header_fault header) (kind_in header) (length_in header) bytes
 

@@ -65,7 +65,7 @@ family n = if n == 2 then Ipv4
     else Other
 
 -- a protocol, or a second one where the first is none of those that are read (own)
-abbrev pub or_else : Protocol → Protocol → Protocol
+abbrev pub or_else : (first second : Protocol) → Protocol
 or_else Other second = second
 or_else first second = first
 

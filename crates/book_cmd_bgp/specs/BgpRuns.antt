@@ -40,7 +40,7 @@ message_lines p (m ∷ ms) = message_line p m ++ message_lines p ms
 
 -- the line of a fault that the messages of a session have now and had not before (RFC 4271,
 -- section 6.1, and own)
-abbrev pub fault_line : Place → List ℕ → Option BgpFault → Option BgpFault → List ℕ
+abbrev pub fault_line : Place → List ℕ → (old new : Option BgpFault) → List ℕ
 fault_line p bytes None (Some f) =
     numbered_text p.number (codes "bgp-fault" ∷ end_text p.end ∷ decimal p.session
     ∷ bgp_fault_text f ∷ codes "at" ∷ decimal (place_of bytes) ∷ [])
@@ -48,7 +48,7 @@ fault_line p bytes old new = []
 
 -- what a take adds to the messages of a session: the messages that it completes, and the fault
 -- that it reaches (own)
-abbrev pub taken_lines : Place → List ℕ → List ℕ → List ℕ
+abbrev pub taken_lines : Place → (old new : List ℕ) → List ℕ
 taken_lines p old new =
     message_lines p (drop (length (messages old)) (messages new))
     ++ fault_line p new (fault_in old) (fault_in new)
@@ -63,7 +63,7 @@ abbrev pub place_at : World → End → ℕ → Place
 place_at w e n = record { number = n; end = e; session = length (side w e).sessions }
 
 -- the lines of an event, between the worlds before and after it; only a take has any (own)
-abbrev pub event_lines : ℕ → Event → World → World → List ℕ
+abbrev pub event_lines : ℕ → Event → (before after : World) → List ℕ
 event_lines n (event.Take e count) before after =
     taken_lines (place_at before e n) (taken_by (live (side before e).sessions))
     (taken_by (live (side after e).sessions))

@@ -7,7 +7,8 @@ use Rattle.book_segments.specs.Segments.{Segment, Reading, Read, Bad, reading, h
 use Rattle.book_keys.specs.Rows.{Table}
 use Rattle.book_keys.proofs.OverlapLaws.{same_address-refl, same_address-true}
 use Rattle.book_endpoint.specs.Verdicts.{Judgement}
-use Rattle.book_cmd_check.specs.Captures.{Stored, Connection, Heard, joins, with_connection, fixed, same_isns, most_connections, connection_between, hear_syn_ack, hear_later, hear_judged, judge_stored, pair_at, hear_at, hear_read, hear, sayings_from}
+use Rattle.book_cmd_check.specs.Captures.{Stored, Connection, Heard, joins, with_connection, fixed, same_isns, most_connections, connection_between, hear_syn_ack, hear_later, hear_judged, judge_stored, hear_at, hear_read, hear, sayings_from}
+use Rattle.book_segments.specs.Segments.{pair_reached}
 use Rattle.book_cmd_check.specs.Connections.{connections_after, IsMap}
 
 -- ---- which sockets a connection joins
@@ -154,7 +155,7 @@ at_map : (t : Option Table) (held : List Connection) (now : ℕ) (d : Segment) �
 at_map None held now d m = m
 at_map (Some t) held now d m =
     full_map (same_socket d.source d.destination) held _ _ m
-    (judged_map held d (connection_between d held) (judge_stored t.rows (pair_at d) now d (connection_between d held)) m)
+    (judged_map held d (connection_between d held) (judge_stored t.rows (pair_reached d) now d (connection_between d held)) m)
 
 read_map : (tables : List Table) (held : List Connection) (now : ℕ) (r : Reading) → IsMapOf held → IsMapOf (hear_read tables held now r).connections
 read_map tables held now (Bad fault) m = m

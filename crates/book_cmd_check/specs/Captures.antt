@@ -17,6 +17,7 @@ use Rattle.book_endpoint.specs.Verdicts.{Finding, Judgement, Known, judge}
 use Rattle.book_link.specs.Reports.{verdict_text}
 use Rattle.book_lines.specs.Texts.{numbered_text}
 use Rattle.book_cmd_show.specs.DatagramTexts.{checksum_text}
+use Rattle.book_segments.specs.Segments.{pair_reached}
 
 -- a datagram that was stored: its number in the input, its time, its bytes (own)
 pub record Stored : Type 0 where
@@ -49,7 +50,7 @@ pub record Heard : Type 0 where
   pub saying : Saying
 
 -- the connection is between these two sockets, in either order (own)
-abbrev pub joins : Socket → Socket → Connection → Bool
+abbrev pub joins : (one other : Socket) → Connection → Bool
 joins a b c =
     (same_socket c.one.socket a && same_socket c.two.socket b)
     || (same_socket c.one.socket b && same_socket c.two.socket a)
@@ -108,7 +109,7 @@ fixed d = record {
 }
 
 -- a connection has these initial sequence numbers already (own)
-abbrev pub same_isns : Connection → Connection → Bool
+abbrev pub same_isns : (one other : Connection) → Bool
 same_isns c k = (c.one.isn == k.one.isn) && (c.two.isn == k.two.isn)
 
 -- the most connections that are held (own)
@@ -148,17 +149,13 @@ hear_judged held d known (Ok p) =
     else if has ACK d then hear_syn_ack held d (Ok p) known
     else record { connections = held; saying = Judged (Ok p) (good d) }
 
--- the pair of a segment as its destination sees it (own)
-abbrev pub pair_at : Segment → Pair
-pair_at d = record { local = d.destination; remote = d.source }
-
 -- a segment, judged by the table of its destination; no node has it, or both sockets are one (own)
 abbrev pub hear_at : Option Table → List Connection → ℕ → Segment → Heard
 hear_at None held now d = record { connections = held; saying = UnknownNode }
 hear_at (Some t) held now d =
     if same_socket d.source d.destination then record { connections = held; saying = UnknownNode }
     else let known = connection_between d held in
-    hear_judged held d known (judge_stored t.rows (pair_at d) now d known)
+    hear_judged held d known (judge_stored t.rows (pair_reached d) now d known)
 
 -- what is said of a stored datagram, and the connections after it (own)
 abbrev pub hear_read : List Table → List Connection → ℕ → Reading → Heard

@@ -65,7 +65,7 @@ yes_or_no holds = if holds then codes "yes" else codes "no"
 
 -- the line of a row: its ids, algorithm and direction, and whether it sends and accepts at a
 -- time, whatever the pair (RFC 7210, section 3)
-abbrev pub row_line : ℕ → ℕ → Row → List ℕ
+abbrev pub row_line : (time number : ℕ) → Row → List ℕ
 row_line time n r =
     line_text (codes "row" ∷ decimal n
     ∷ codes "send-id" ∷ decimal r.send_id ∷ codes "recv-id" ∷ decimal r.recv_id
@@ -74,18 +74,18 @@ row_line time n r =
     ∷ codes "accepting" ∷ yes_or_no (receives r.direction && contains r.accepting time) ∷ [])
 
 -- the lines of rows, the first one having number n (own)
-abbrev pub row_lines : ℕ → ℕ → List Row → List ℕ
+abbrev pub row_lines : (time first : ℕ) → List Row → List ℕ
 row_lines time n [] = []
 row_lines time n (r ∷ rs) = row_line time n r ++ row_lines time (suc n) rs
 
 -- the lines of a node (own)
-abbrev pub node_lines : ℕ → ℕ → Table → List ℕ
+abbrev pub node_lines : (time number : ℕ) → Table → List ℕ
 node_lines time n t =
     line_text (codes "node" ∷ decimal n ∷ t.name ∷ address_text t.address ∷ [])
     ++ row_lines time 1 t.rows
 
 -- the lines of nodes, the first one having number n (own)
-abbrev pub nodes_lines : ℕ → ℕ → List Table → List ℕ
+abbrev pub nodes_lines : (time first : ℕ) → List Table → List ℕ
 nodes_lines time n [] = []
 nodes_lines time n (t ∷ ts) = node_lines time n t ++ nodes_lines time (suc n) ts
 

@@ -31,7 +31,8 @@ event_of_end made ws = do
 
 -- an event of an end and a number from low to high: `clock END SECONDS`, `open END ISN`, `listen
 -- END ISN`, `deliver END N`, `take END COUNT`, `withdraw END ROW` (own)
-abbrev pub event_of_number : (End → ℕ → Event) → ℕ → ℕ → List (List ℕ) → Result Event LineKind
+abbrev pub event_of_number :
+    (End → ℕ → Event) → (low high : ℕ) → List (List ℕ) → Result Event LineKind
 event_of_number made low high ws = do
   e ← end_in ws
   n ← number_in low high e.rest

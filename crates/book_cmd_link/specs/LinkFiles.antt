@@ -14,7 +14,7 @@ use Rattle.book_keys.specs.Shared.{shared_tables}
 use Rattle.book_lines.specs.declared.text_fault.TextFault.{TextFault}
 use Rattle.book_lines.specs.declared.text_fault.TextFault.TheVariants as fault
 use Rattle.book_lines.specs.Lines.{Line, saying_lines}
-use Rattle.book_lines.specs.Said.{numbered, if_few_lines}
+use Rattle.book_lines.specs.Said.{at_number, if_few_lines}
 use Rattle.book_lines.specs.Words.{nothing_in, literal_in, socket_in, algorithm_in, sized_hex_in}
 use Rattle.ao_base.specs.Results.{◌>>=◌}
 use Rattle.book_link.specs.declared.event.Event.{Event}
@@ -43,7 +43,7 @@ socket_of end ws = do
   Ok socket.value
 
 -- two addresses are of one family and differ (own)
-abbrev pub are_two_of_a_family : Address → Address → Bool
+abbrev pub are_two_of_a_family : (one other : Address) → Bool
 are_two_of_a_family (V4 x) (V4 y) = not (bytes_eq x y)
 are_two_of_a_family (V6 x) (V6 y) = not (bytes_eq x y)
 are_two_of_a_family _ _ = false
@@ -91,7 +91,7 @@ is_shared (w ∷ ws) = bytes_eq w (codes "shared")
 abbrev pub event_at : {A : Type 0} → (List (List ℕ) → Result A LineKind) → Line → Result A TextFault
 event_at meaning l =
     if is_shared l.words then Err (fault.Line l.number kind.Shared)
-    else numbered l.number (meaning l.words)
+    else at_number l.number (meaning l.words)
 
 -- what the lines of events say (own)
 unfoldable pub events_of : {A : Type 0} → (List (List ℕ) → Result A LineKind) → List Line →

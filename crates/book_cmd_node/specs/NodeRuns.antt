@@ -10,12 +10,12 @@ use Rattle.ao_base.specs.declared.line_kind.LineKind.{LineKind}
 use Rattle.ao_base.specs.declared.line_kind.LineKind.TheVariants as kind
 use Rattle.ao_base.specs.Hexadecimal.{hex_of}
 use Rattle.book_segments.specs.Sockets.{same_socket}
-use Rattle.book_segments.specs.Segments.{Segment, Reading, Read, Bad as Unread, reading, spell}
+use Rattle.book_segments.specs.Segments.{Reading, Read, Bad as Unread, reading, spell}
 use Rattle.book_keys.specs.Lifetimes.{greatest_time}
 use Rattle.book_keys.specs.Rows.{Row}
 use Rattle.book_lines.specs.declared.text_fault.TextFault.{TextFault}
 use Rattle.book_lines.specs.Lines.{Line, saying_lines}
-use Rattle.book_lines.specs.Said.{numbered, if_few_lines}
+use Rattle.book_lines.specs.Said.{at_number, if_few_lines}
 use Rattle.book_lines.specs.Texts.{numbered_text}
 use Rattle.book_lines.specs.Words.{Taken, word_in, literal_in, address_in, number_in, sized_hex_in}
 use Rattle.book_lines.specs.Words.{some_hex_in, nothing_in}
@@ -34,6 +34,7 @@ use Rattle.book_cmd_node.specs.declared.node.NodeEvent.TheVariants as event
 use Rattle.book_cmd_node.specs.declared.node.NodeScript.{NodeScript}
 use Rattle.book_cmd_link.specs.LinkEvents.{greatest_isn}
 use Rattle.book_cmd_link.specs.LinkFiles.{line_in, title_of, are_two_of_a_family, missing_in}
+use Rattle.book_segments.specs.Segments.{pair_reached}
 
 -- an end that a node holds, under the pair of its connection (own)
 pub record Held : Type 0 where
@@ -47,18 +48,18 @@ pub record NodeState : Type 0 where
 
 -- what an event of a node answers (own)
 pub data NodeOutcome : Type 0 where
-  Done InUse NodeFull NoConnection Full HasClosed : NodeOutcome
-  Sent : (emission : Emission) → NodeOutcome
-  WithoutKey Idle Nothing : NodeOutcome
-  Answered : (answer : Arrival) → NodeOutcome
-  Took : (bytes : List ℕ) (end_shown : Bool) → NodeOutcome
+  Performed InUse NodeFull NoConnection NoRoom ConnectionClosing : NodeOutcome
+  Transmitted : (emission : Emission) → NodeOutcome
+  NoUsableKey NothingToSend NothingToResend : NodeOutcome
+  DatagramAnswered : (answer : Arrival) → NodeOutcome
+  Delivered : (bytes : List ℕ) (end_shown : Bool) → NodeOutcome
 
 -- the most ends that a node holds (own)
 abbrev pub most_ends : ℕ
 most_ends = 1024
 
 -- two pairs have the same sockets (own)
-abbrev pub same_pair : Pair → Pair → Bool
+abbrev pub same_pair : (one other : Pair) → Bool
 same_pair one two = same_socket one.local two.local && same_socket one.remote two.remote
 
 -- the end that a node holds for a pair (own)
@@ -95,8 +96,8 @@ called s outcome = record { state = s; outcome = outcome }
 -- send, or that no key may be used (own)
 abbrev pub made_called : EndState → NodeOutcome → Emitted → Called
 made_called s no_segment Quiet = called s no_segment
-made_called s no_segment NoKey = called s WithoutKey
-made_called s no_segment (Emits out) = called out.state (Sent out)
+made_called s no_segment NoKey = called s NoUsableKey
+made_called s no_segment (Emits out) = called out.state (Transmitted out)
 
 -- the node after an event, and the event's answer (own)
 pub record NodeStep : Type 0 where
@@ -118,7 +119,7 @@ after_call n pair c = record {
 abbrev pub take_called : ℕ → EndState → Called
 take_called count s =
     let t = take_out count s in
-    called t (Took (taking count s) (at_end t))
+    called t (Delivered (taking count s) (at_end t))
 
 -- what each act on a pair does whose end is held, and what it answers (RFC 9293, section 3.10, and
 -- own)
@@ -127,16 +128,17 @@ on_held rows n pair s (act.Open isn) = after_call n pair (called s InUse)
 on_held rows n pair s (act.Listen isn) = after_call n pair (called s InUse)
 on_held rows n pair s (act.Start isn peer) = after_call n pair (called s InUse)
 on_held rows n pair s (act.Give piece) =
-    after_call n pair (offered called HasClosed Full Done piece s)
+    after_call n pair (offered called ConnectionClosing NoRoom Performed piece s)
 on_held rows n pair s (act.Take count) = after_call n pair (take_called count s)
-on_held rows n pair s act.Send = after_call n pair (made_called s Idle (emit rows pair n.clock s))
+on_held rows n pair s act.Send =
+    after_call n pair (made_called s NothingToSend (emit rows pair n.clock s))
 on_held rows n pair s act.Resend =
-    after_call n pair (made_called s Nothing (resend rows pair n.clock s))
-on_held rows n pair s act.Close = after_call n pair (called (close s) Done)
-on_held rows n pair s act.Abort = after_call n pair (called (abort s) Done)
+    after_call n pair (made_called s NothingToResend (resend rows pair n.clock s))
+on_held rows n pair s act.Close = after_call n pair (called (close s) Performed)
+on_held rows n pair s act.Abort = after_call n pair (called (abort s) Performed)
 on_held rows n pair s act.Remove = record {
   node = record n { ends = without_end pair n.ends };
-  outcome = Done;
+  outcome = Performed;
 }
 
 -- a new end of a node, where there is room for it (own)
@@ -145,7 +147,7 @@ new_end most n pair s =
     if nat_le most (length n.ends) then stays n NodeFull
     else record {
       node = record n { ends = n.ends ++ record { pair = pair; state = s } ∷ [] };
-      outcome = Done;
+      outcome = Performed;
     }
 
 -- what each act on a pair does whose end isn't held, and what it answers (own)
@@ -171,15 +173,11 @@ abbrev pub arrived_at : List Row → NodeState → Pair → Reading → Option E
 arrived_at rows n pair r None = stays n NoConnection
 arrived_at rows n pair r (Some s) =
     let a = arrive rows pair n.clock s r in
-    after_call n pair (called a.state (Answered a.answer))
-
--- the pair of a datagram as the node sees it (own)
-abbrev pub pair_reached : Segment → Pair
-pair_reached d = record { local = d.destination; remote = d.source }
+    after_call n pair (called a.state (DatagramAnswered a.answer))
 
 -- a datagram arrives at a node: at the end of its pair (own)
 abbrev pub injected : List Row → NodeState → Reading → NodeStep
-injected rows n (Unread fault) = stays n (Answered (Bad fault))
+injected rows n (Unread fault) = stays n (DatagramAnswered (Bad fault))
 injected rows n (Read d) =
     arrived_at rows n (pair_reached d) (Read d) (held_end (pair_reached d) n.ends)
 
@@ -187,7 +185,7 @@ injected rows n (Read d) =
 abbrev pub node_step : ℕ → List Row → NodeState → NodeEvent → NodeStep
 node_step most rows n (event.Clock seconds) = record {
   node = record { clock = seconds; ends = ends_ticked seconds n.ends };
-  outcome = Done;
+  outcome = Performed;
 }
 node_step most rows n (event.Inject bytes) = injected rows n (reading bytes)
 node_step most rows n (event.On pair a) = on_pair most rows n pair a (held_end pair n.ends)
@@ -223,18 +221,18 @@ node_sent_texts e =
 
 -- the words for an answer of a node (own)
 abbrev pub node_texts : NodeOutcome → List (List ℕ)
-node_texts Done = codes "ok" ∷ []
+node_texts Performed = codes "ok" ∷ []
 node_texts InUse = codes "in-use" ∷ []
 node_texts NodeFull = codes "node-full" ∷ []
 node_texts NoConnection = codes "no-connection" ∷ []
-node_texts Full = codes "full" ∷ []
-node_texts HasClosed = codes "closed" ∷ []
-node_texts (Sent e) = node_sent_texts e
-node_texts WithoutKey = codes "no-key" ∷ []
-node_texts Idle = codes "idle" ∷ []
-node_texts Nothing = codes "nothing" ∷ []
-node_texts (Answered answer) = answer_texts answer
-node_texts (Took bytes shown) = codes "took" ∷ hex_or_none bytes ∷ end_mark shown
+node_texts NoRoom = codes "full" ∷ []
+node_texts ConnectionClosing = codes "closed" ∷ []
+node_texts (Transmitted e) = node_sent_texts e
+node_texts NoUsableKey = codes "no-key" ∷ []
+node_texts NothingToSend = codes "idle" ∷ []
+node_texts NothingToResend = codes "nothing" ∷ []
+node_texts (DatagramAnswered answer) = answer_texts answer
+node_texts (Delivered bytes shown) = codes "took" ∷ hex_or_none bytes ∷ end_mark shown
 
 -- a line for each answer of a node, the first one having this number (own)
 abbrev pub outcome_lines : ℕ → List NodeOutcome → List ℕ
@@ -334,7 +332,7 @@ node_event_of own ws = do
 unfoldable pub node_events_of : Address → List Line → Result (List NodeEvent) TextFault
 node_events_of own [] = Ok []
 node_events_of own (l ∷ ls) = do
-  e ← numbered l.number (node_event_of own l.words)
+  e ← at_number l.number (node_event_of own l.words)
   others ← node_events_of own ls
   Ok (e ∷ others)
 

@@ -28,7 +28,7 @@ abbrev pub differs : Said Vector → Bool
 differs said = not (agrees said.value)
 
 -- the last line: how many vectors there are, and how many differ (own)
-abbrev pub totals_line : ℕ → ℕ → List ℕ
+abbrev pub totals_line : (count differing : ℕ) → List ℕ
 totals_line count differing =
     line_text (codes "vectors" ∷ decimal count ∷ codes "differing" ∷ decimal differing ∷ [])
 

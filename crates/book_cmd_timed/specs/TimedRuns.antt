@@ -87,7 +87,7 @@ abbrev pub stopped : Watch → Watch
 stopped w = record w { deadline = None; timed = None }
 
 -- what is timed was acknowledged: a sample is taken (RFC 6298, section 3)
-abbrev pub sampled_by : ℕ → ℕ → Watch → Option Timed → Watch
+abbrev pub sampled_by : (una now : ℕ) → Watch → Option Timed → Watch
 sampled_by una reading w None = w
 sampled_by una reading w (Some t) =
     if nat_le t.number una

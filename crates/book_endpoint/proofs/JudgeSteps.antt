@@ -13,7 +13,7 @@ use Rattle.book_keys.specs.Rows.{Row}
 use Rattle.book_keys.specs.Choices.{Numbered, accept_row, has_id}
 use Rattle.book_endpoint.specs.declared.verdict.Verdict.TheVariants.{NoAo, TwoAo, WithMd5, NoTuple, Expired, MacLength, NoContext, Range, BadMac}
 use Rattle.book_endpoint.specs.States.{number_limit}
-use Rattle.book_endpoint.specs.Verdicts.{Finding, Judgement, Known, mac_of, found_with, number_of, one_ao, row_taking, require, judge}
+use Rattle.book_endpoint.specs.Verdicts.{Finding, Judgement, Known, mac_of, found_with, segment_number, one_ao, row_taking, require, judge}
 
 -- refused where the MAC is wrong, else passed
 abbrev pub judge_mac : Ao → Finding → Judgement
@@ -28,7 +28,7 @@ judge_number r d ao context (Some n) = if nat_lt 9223372036854775808 (n + segmen
 abbrev pub judge_context : Numbered → Segment → Ao → Option ℕ → Option (List ℕ) → Judgement
 judge_context r d ao expected None = Err NoContext
 judge_context r d ao expected (Some context) =
-    if not (has SYN d) && not (is_some expected) then Err NoContext else judge_number r d ao context (number_of d expected)
+    if not (has SYN d) && not (is_some expected) then Err NoContext else judge_number r d ao context (segment_number d expected)
 
 -- refused where no row takes the KeyID, where none does now, or where the MAC hasn't the length of the row's algorithm
 abbrev pub judge_row : List Row → Pair → Segment → Ao → Option ℕ → Option (List ℕ) → Option Numbered → Judgement
@@ -54,7 +54,7 @@ from_number r d ao context n =
 
 abbrev from_context : Numbered → Segment → Ao → Option ℕ → Option (List ℕ) → Judgement
 from_context r d ao expected context =
-    or_fault context NoContext >>= λ context. require (has SYN d || is_some expected) NoContext >>= λ numbered. from_number r d ao context (number_of d expected)
+    or_fault context NoContext >>= λ context. require (has SYN d || is_some expected) NoContext >>= λ numbered. from_number r d ao context (segment_number d expected)
 
 abbrev from_row : List Row → Pair → Segment → Ao → Option ℕ → Option (List ℕ) → Option Numbered → Judgement
 from_row rows pair d ao expected context found =
@@ -93,8 +93,8 @@ context_tested false false one two e = refl
 context_same : (r : Numbered) (d : Segment) (ao : Ao) (expected : Option ℕ) (context : Option (List ℕ)) → from_context r d ao expected context ≡ judge_context r d ao expected context
 context_same r d ao expected None = refl
 context_same r d ao expected (Some context) =
-    context_tested (has SYN d) (is_some expected) (from_number r d ao context (number_of d expected)) (judge_number r d ao context (number_of d expected))
-    (number_same r d ao context (number_of d expected))
+    context_tested (has SYN d) (is_some expected) (from_number r d ao context (segment_number d expected)) (judge_number r d ao context (segment_number d expected))
+    (number_same r d ao context (segment_number d expected))
 
 length_same : (fits : Bool) (one two : Judgement) → one ≡ two → (require fits MacLength >>= λ fits. one) ≡ (if not fits then Err MacLength else two)
 length_same true one two e = e

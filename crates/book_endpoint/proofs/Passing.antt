@@ -13,7 +13,7 @@ use Rattle.book_keys.specs.Rows.{Row}
 use Rattle.book_keys.specs.Choices.{Numbered, lowest, accept_row, acceptable_as, has_id, IsLowest}
 use Rattle.book_keys.proofs.ChoiceLaws.{lowest-IsLowest, lowest-none}
 use Rattle.book_endpoint.specs.declared.verdict.Verdict.TheVariants.{NoTuple, Expired, MacLength, NoContext, Range, BadMac}
-use Rattle.book_endpoint.specs.Verdicts.{Finding, Judgement, Known, mac_of, found_with, number_of, judge}
+use Rattle.book_endpoint.specs.Verdicts.{Finding, Judgement, Known, mac_of, found_with, segment_number, judge}
 use Rattle.book_endpoint.proofs.JudgeSteps.{judge_mac, judge_number, judge_context, judge_row, judge_ao, judge_by_steps}
 use Rattle.book_endpoint.specs.Passing.{options_in, HasNumber, Passes}
 
@@ -72,14 +72,14 @@ lowest_by good rows x (Some y) e is = ap Some (one_lowest good rows y x (lowest-
 
 -- ---- the number
 
-of_syn : (d : Segment) (x : Option ℕ) → has SYN d ≡ true → number_of d x ≡ Some d.sequence
+of_syn : (d : Segment) (x : Option ℕ) → has SYN d ≡ true → segment_number d x ≡ Some d.sequence
 of_syn d None syn = refl
 of_syn d (Some e) syn = rw syn refl
 
-of_later : (d : Segment) (e : ℕ) → has SYN d ≡ false → number_of d (Some e) ≡ meant d.sequence e
+of_later : (d : Segment) (e : ℕ) → has SYN d ≡ false → segment_number d (Some e) ≡ meant d.sequence e
 of_later d e later = rw later refl
 
-numbered : (syn : Bool) (d : Segment) (x : Option ℕ) (n : ℕ) → has SYN d ≡ syn → (not syn && not (is_some x)) ≡ false → number_of d x ≡ Some n → HasNumber d x n
+numbered : (syn : Bool) (d : Segment) (x : Option ℕ) (n : ℕ) → has SYN d ≡ syn → (not syn && not (is_some x)) ≡ false → segment_number d x ≡ Some n → HasNumber d x n
 numbered true d x n is known e =
     let first = of_syn d x is in
     record { with_syn = λ yes. cc; without = λ no. absurd (cc) }
@@ -88,11 +88,11 @@ numbered false d (Some m) n is known e =
     let near = of_later d m is in
     record { with_syn = λ yes. absurd (cc); without = λ no. (m, refl, sym near ∙ e) }
 
-number_is : (syn : Bool) (d : Segment) (x : Option ℕ) (n : ℕ) → has SYN d ≡ syn → HasNumber d x n → number_of d x ≡ Some n
+number_is : (syn : Bool) (d : Segment) (x : Option ℕ) (n : ℕ) → has SYN d ≡ syn → HasNumber d x n → segment_number d x ≡ Some n
 number_is true d x n is h = of_syn d x is ∙ ap Some (sym (h.with_syn is))
 number_is false d x n is h =
     let near = h.without is in
-    ap (number_of d) near.1 ∙ (of_later d near.0 is ∙ near.2)
+    ap (segment_number d) near.1 ∙ (of_later d near.0 is ∙ near.2)
 
 number_known : (syn : Bool) (d : Segment) (x : Option ℕ) (n : ℕ) → has SYN d ≡ syn → HasNumber d x n → (not syn && not (is_some x)) ≡ false
 number_known true d x n is h = refl
@@ -122,7 +122,7 @@ record Later (row : Numbered) (d : Segment) (ao : Ao) (expected : Option ℕ) (k
   finding : p ≡ found_with row d ao p.context p.number
   right_mac : ao.mac ≡ mac_of p
 
-number_met : (r : Numbered) (d : Segment) (ao : Ao) (expected : Option ℕ) (context : List ℕ) (m : Option ℕ) (p : Finding) → number_of d expected ≡ m
+number_met : (r : Numbered) (d : Segment) (ao : Ao) (expected : Option ℕ) (context : List ℕ) (m : Option ℕ) (p : Finding) → segment_number d expected ≡ m
     → (not (has SYN d) && not (is_some expected)) ≡ false → judge_number r d ao context m ≡ Ok p → Later r d ao expected (Some context) p
 number_met r d ao expected context None p is known e = absurd (cc)
 number_met r d ao expected context (Some n) p is known e =
@@ -142,9 +142,9 @@ number_met r d ao expected context (Some n) p is known e =
     }
 
 expected_met : (unknown : Bool) (r : Numbered) (d : Segment) (ao : Ao) (expected : Option ℕ) (context : List ℕ) (p : Finding) → (not (has SYN d) && not (is_some expected)) ≡ unknown
-    → (if unknown then Err NoContext else judge_number r d ao context (number_of d expected)) ≡ Ok p → Later r d ao expected (Some context) p
+    → (if unknown then Err NoContext else judge_number r d ao context (segment_number d expected)) ≡ Ok p → Later r d ao expected (Some context) p
 expected_met true r d ao expected context p is e = absurd (cc)
-expected_met false r d ao expected context p is e = number_met r d ao expected context (number_of d expected) p refl is e
+expected_met false r d ao expected context p is e = number_met r d ao expected context (segment_number d expected) p refl is e
 
 context_met : (r : Numbered) (d : Segment) (ao : Ao) (expected : Option ℕ) (known : Option (List ℕ)) (p : Finding) → judge_context r d ao expected known ≡ Ok p → Later r d ao expected known p
 context_met r d ao expected None p e = absurd (cc)

@@ -52,16 +52,16 @@ above None n = false
 above (Some a) n = nat_lt n a
 
 -- The number is from low to below high (own).
-abbrev pub within : ℕ → ℕ → ℕ → Bool
-within n low high = nat_le low n && nat_lt n high
+abbrev pub in_range : (number low high : ℕ) → Bool
+in_range n low high = nat_le low n && nat_lt n high
 
 -- The segment at number n, of this length, is acceptable where RCV.NXT is x and RCV.WND is w (RFC
 -- 9293, section 3.4).
-abbrev pub fits_window : ℕ → ℕ → ℕ → ℕ → Bool
-fits_window n zero x w = if w == 0 then n == x else within n x (x + w)
+abbrev pub fits_window : (number size expected window : ℕ) → Bool
+fits_window n zero x w = if w == 0 then n == x else in_range n x (x + w)
 fits_window n (suc l) x w =
     if w == 0 then false
-    else (within n x (x + w) || within (n + l) x (x + w))
+    else (in_range n x (x + w) || in_range (n + l) x (x + w))
 
 -- Entering TIME-WAIT sets its deadline, twice 120 seconds on (RFC 9293, section 3.4.2); it isn't
 -- set again (own).
@@ -99,11 +99,11 @@ fin_of None false new = None
 abbrev pub records_fin : EndState → (ℕ → Option ℕ) → Segment → ℕ → Bool
 records_fin s kept d f =
     let high = s.expected + window s in
-    has FIN d && within f s.expected high && (runs kept false f (high - f) == 0)
+    has FIN d && in_range f s.expected high && (runs kept false f (high - f) == 0)
 
 -- The bytes are kept and a FIN is recorded, unless too many separate runs would arise; RCV.NXT
 -- moves to the first missing number (RFC 9293, section 3.10.7.4; the limit of runs: own).
-abbrev pub heard_runs : EndState → (ℕ → Option ℕ) → Segment → ℕ → ℕ → Bool → Moved
+abbrev pub heard_runs : EndState → (ℕ → Option ℕ) → Segment → (number now : ℕ) → Bool → Moved
 heard_runs s kept d n now true = answered (owing s) TooManyRuns
 heard_runs s kept d n now false =
     let f = n + length d.payload in
@@ -117,7 +117,7 @@ heard_runs s kept d n now false =
 
 -- Payload and FIN, where they are heard: bytes in the window and before a recorded FIN that aren't
 -- kept yet are kept (RFC 9293, section 3.10.7.4).
-abbrev pub hear_data : EndState → Segment → ℕ → ℕ → Bool → Moved
+abbrev pub hear_data : EndState → Segment → (number now : ℕ) → Bool → Moved
 hear_data s d n now false = finish s now
 hear_data s d n now true =
     let high = s.expected + window s in
@@ -154,13 +154,13 @@ acked s (Some a) = if nat_lt s.una a then record s { una = a } else s
 
 -- Window, own FIN, and then payload and FIN where the phase hears them (RFC 9293, section
 -- 3.10.7.4).
-abbrev pub go_on : EndState → ℕ → Segment → ℕ → ℕ → Option ℕ → Moved
+abbrev pub go_on : EndState → ℕ → Segment → (number now : ℕ) → Option ℕ → Moved
 go_on s old_una d n now ack =
     let t = acked_fin (windowed s old_una d n ack) ack in
     hear_data t d n now (hears t.phase && (nat_lt 0 (length d.payload) || has FIN d))
 
 -- The acknowledgement, by the phase (RFC 9293, section 3.10.7.4, "check the ACK field").
-abbrev pub acknowledged : EndState → Segment → ℕ → ℕ → Option ℕ → Phase → Moved
+abbrev pub acknowledged : EndState → Segment → (number now : ℕ) → Option ℕ → Phase → Moved
 acknowledged s d n now ack SynReceived =
     if above ack s.una && not (above ack s.next)
     then go_on (record (acked s ack) { phase = Established }) s.una d n now ack
@@ -179,7 +179,7 @@ reset s n =
 -- An acceptable segment: its RST, its SYN, its ACK, in this order (RFC 9293, section 3.10.7.4; RFC
 -- 5961, sections 3.2 and 4.2). `heard` is the state once the RNextKeyID is heard; a RST leaves
 -- `before`.
-abbrev pub ordinary : EndState → EndState → Segment → ℕ → ℕ → Moved
+abbrev pub ordinary : (before heard : EndState) → Segment → (number now : ℕ) → Moved
 ordinary before heard d n now =
     if has RST d then reset before n
     else (if has SYN d then answered (owing heard) Challenge
@@ -192,8 +192,8 @@ peer_mss pair d =
     max 88 (unwrap_or (mss_among (listed (options_of d.area))) (default_mss pair.local.address))
 
 -- What a SYN tells (RFC 9293, section 3.10.7.2); its payload is ignored (own).
-abbrev pub opened : Pair → EndState → Segment → ℕ → EndState
-opened pair s d n = record s {
+abbrev pub told_by_syn : Pair → EndState → Segment → ℕ → EndState
+told_by_syn pair s d n = record s {
   peer_isn = Some n;
   expected = n + 1;
   mss = peer_mss pair d;
@@ -211,18 +211,18 @@ abbrev pub syn_ack_alone : Segment → Bool
 syn_ack_alone d = has SYN d && has ACK d && not (has RST d) && not (has FIN d)
 
 -- In LISTEN a SYN alone is heard (RFC 9293, section 3.10.7.2); all else leaves `before`.
-abbrev pub in_listen : Pair → EndState → EndState → Segment → ℕ → Moved
+abbrev pub in_listen : Pair → (before heard : EndState) → Segment → ℕ → Moved
 in_listen pair before heard d n =
-    if syn_alone d then answered (record (opened pair heard d n) { phase = SynReceived }) Taken
+    if syn_alone d then answered (record (told_by_syn pair heard d n) { phase = SynReceived }) Taken
     else answered before Unexpected
 
 -- In SYN-SENT a SYN with the ACK of the own SYN is heard (RFC 9293, section 3.10.7.3); all else
 -- leaves `before`.
-abbrev pub in_syn_sent : Pair → EndState → EndState → Segment → ℕ → Moved
+abbrev pub in_syn_sent : Pair → (before heard : EndState) → Segment → ℕ → Moved
 in_syn_sent pair before heard d n =
     if not (syn_ack_alone d) then answered before Unexpected
     else (if nat_lt before.isn before.next && (d.acknowledgement == (before.isn + 1) % ring)
-    then answered (record (opened pair heard d n) {
+    then answered (record (told_by_syn pair heard d n) {
       phase = Established;
       una = before.isn + 1;
       wl2 = before.isn + 1;
@@ -233,7 +233,8 @@ in_syn_sent pair before heard d n =
 -- A segment that passed, by the phase (RFC 9293, sections 3.10.7.2 to 3.10.7.4): `before` is the
 -- state at its arrival, `heard` that state once the RNextKeyID is heard. What isn't acceptable
 -- leaves `before`, and an ACK is owed unless it is a RST.
-abbrev pub after_check : Pair → EndState → EndState → Segment → ℕ → ℕ → Phase → Moved
+abbrev pub after_check :
+    Pair → (before heard : EndState) → Segment → (number now : ℕ) → Phase → Moved
 after_check pair before heard d n now Listen = in_listen pair before heard d n
 after_check pair before heard d n now SynSent = in_syn_sent pair before heard d n
 after_check pair before heard d n now _ =

@@ -85,7 +85,7 @@ abbrev pub unsent : EndState → ℕ
 unsent s = given_end s - s.next
 
 -- So many of the given bytes from a number on (own).
-abbrev pub slice_at : EndState → ℕ → ℕ → List ℕ
+abbrev pub slice_at : EndState → (number count : ℕ) → List ℕ
 slice_at s n count = take count (drop (n - (s.isn + 1)) s.given)
 
 -- The phase once the own FIN is sent (RFC 9293, section 3.10.4).
@@ -95,7 +95,7 @@ fin_sent CloseWait = LastAck
 fin_sent phase = phase
 
 -- The draft of a segment (own).
-abbrev pub drafted : ℕ → ℕ → List ℕ → EndState → Draft
+abbrev pub drafted : (flags number : ℕ) → List ℕ → EndState → Draft
 drafted flags number payload state = record {
   flags = flags;
   number = number;
@@ -108,11 +108,11 @@ abbrev pub rst_draft : EndState → Draft
 rst_draft s = drafted RST s.next [] (record s { rst_owed = false })
 
 -- The SYN at ISS, with the state after it (RFC 9293, section 3.10.1).
-abbrev pub syn_draft : EndState → EndState → Draft
+abbrev pub syn_draft : (before after : EndState) → Draft
 syn_draft s after = drafted SYN s.isn [] after
 
 -- The SYN with ACK at ISS, with the state after it (RFC 9293, section 3.10.7.2).
-abbrev pub syn_ack_draft : EndState → EndState → Draft
+abbrev pub syn_ack_draft : (before after : EndState) → Draft
 syn_ack_draft s after = drafted (SYN + ACK) s.isn [] (record after { ack_owed = false })
 
 -- ACK and PSH with so many of the unsent bytes, which SND.NXT then is past (RFC 9293, section
@@ -226,7 +226,7 @@ draft_again s Rst most = draft_next s Rst most
 draft_again s Ack most = draft_next s Ack most
 
 -- The flag is among these (RFC 9293, section 3.1).
-abbrev pub sets : ℕ → ℕ → Bool
+abbrev pub sets : (flags flag : ℕ) → Bool
 sets flags flag = (flags / flag) % 2 == 1
 
 -- The length of the TCP-AO option with a MAC of the row's algorithm (RFC 5925, section 2.2).

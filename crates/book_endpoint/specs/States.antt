@@ -107,7 +107,7 @@ abbrev pub listening : Pair → ℕ → EndState
 listening pair isn = beginning pair Listen isn
 
 -- A session that begins established, with both initial sequence numbers known (own).
-abbrev pub started : Pair → ℕ → ℕ → EndState
+abbrev pub started : Pair → (isn peer_isn : ℕ) → EndState
 started pair isn peer = record (beginning pair Established isn) {
   peer_isn = Some peer;
   una = isn + 1;
@@ -144,7 +144,8 @@ give piece s = record s { given = s.given ++ piece }
 
 -- A piece is offered, and told with the state after it: `closed` where the end takes none, else
 -- `full` where it has no room for it, else `done` (RFC 9293, section 3.10.2).
-abbrev pub offered : {A B : Type 0} → (EndState → B → A) → B → B → B → List ℕ → EndState → A
+abbrev pub offered :
+    {A B : Type 0} → (EndState → B → A) → (closed full done : B) → List ℕ → EndState → A
 offered tell closed full done piece s =
     if not (gives s) then tell s closed
     else (if nat_lt (room s) (length piece) then tell s full
@@ -158,7 +159,7 @@ hears FinWait2 = true
 hears _ = false
 
 -- The window opens between two states of an end that hears data (RFC 9293, section 3.8.6.2.2).
-abbrev pub opens : EndState → EndState → Bool
+abbrev pub opens : (before after : EndState) → Bool
 opens before after = hears before.phase && (window before == 0) && nat_lt 0 (window after)
 
 -- A take of so many bytes gives the first of those that are ready (RFC 9293, section 3.10.3).

@@ -12,7 +12,8 @@ use Rattle.book_segments.specs.Options.{Ao, AoFound, Absent, One, Two, WithMd5 a
 use Rattle.book_segments.specs.Segments.{Segment, has, SYN, segment_length}
 use Rattle.book_macs.specs.Contexts.{context_of}
 use Rattle.book_macs.specs.MacInput.{mac_input}
-use Rattle.book_macs.specs.Keys.{same_algorithm, traffic_key, mac}
+use Rattle.book_macs.specs.Keys.{traffic_key, mac}
+use Rattle.ao_base.specs.Algorithms.{same_algorithm}
 use Rattle.book_keys.specs.Rows.{Row}
 use Rattle.book_keys.specs.Choices.{Numbered, accept_row, has_id}
 use Rattle.book_endpoint.specs.States.{number_limit}
@@ -31,8 +32,8 @@ abbrev pub key_of : Row → Key
 key_of r = record { algorithm = r.algorithm; master = r.master }
 
 -- Two keys have the same algorithm and master key (own).
-abbrev pub same_key : Key → Key → Bool
-same_key one two =
+abbrev pub same_master_key : (one other : Key) → Bool
+same_master_key one two =
     same_algorithm one.algorithm two.algorithm && same_bytes one.master two.master
 
 -- What the check found of a segment that passed (own).
@@ -80,7 +81,7 @@ one_ao (One ao) = Ok ao
 
 -- The row that takes segments with this KeyID now; where none does now, whether one does at some time
 -- (RFC 5925, section 7.5).
-abbrev pub row_taking : List Row → Pair → ℕ → ℕ → Result Numbered Verdict
+abbrev pub row_taking : List Row → Pair → (key_id now : ℕ) → Result Numbered Verdict
 row_taking rows pair key_id now =
     or_fault (accept_row rows pair key_id now)
     (if has_id rows pair key_id then Expired else NoTuple)
@@ -92,9 +93,9 @@ require false why = Err why
 
 -- The number of a segment: with SYN its sequence, else what that means near the number expected (RFC
 -- 5925, section 6.2).
-abbrev pub number_of : Segment → Option ℕ → Option ℕ
-number_of d None = Some d.sequence
-number_of d (Some expected) = if has SYN d then Some d.sequence else meant d.sequence expected
+abbrev pub segment_number : Segment → Option ℕ → Option ℕ
+segment_number d None = Some d.sequence
+segment_number d (Some expected) = if has SYN d then Some d.sequence else meant d.sequence expected
 
 -- The first of nine refusals that holds, else a pass, at this time (RFC 5925, section 7.5; the MAC's
 -- length: RFC 5926, section 3.2; the context: RFC 5925, section 5.2; the range: own).
@@ -105,7 +106,7 @@ judge rows pair known now d = do
   fits ← require (length ao.mac == mac_length_of row.row.algorithm) MacLength
   context ← or_fault (context_of d known.peer_isn (Some known.own_isn)) NoContext
   numbered ← require (has SYN d || is_some known.expected) NoContext
-  n ← or_fault (number_of d known.expected) Range
+  n ← or_fault (segment_number d known.expected) Range
   ends ← require (nat_le (n + segment_length d) number_limit) Range
   right ← require (same_bytes ao.mac (mac_of (found_with row d ao context n))) BadMac
   Ok (found_with row d ao context n)

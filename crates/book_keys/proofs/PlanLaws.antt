@@ -14,7 +14,8 @@ use Rattle.book_keys.specs.declared.lifetime.Lifetime.{Lifetime}
 use Rattle.book_keys.specs.Rows.{Row, matches, receives, sends, sendable, acceptable}
 use Rattle.book_keys.specs.Overlaps.{IsValid}
 use Rattle.book_keys.specs.Choices.{Numbered, IsLowest, qualified, lowest, acceptable_as, accept_row}
-use Rattle.book_keys.specs.Plans.{mirrored, same_algorithm, same_flag, same_key, accepts_from, outlasts, accepts_throughout, IsMet, AlignedFrom, IsFoundAt}
+use Rattle.book_keys.specs.Plans.{mirrored, same_flag, same_key, accepts_from, outlasts, accepts_throughout, IsMet, AlignedFrom, IsFoundAt}
+use Rattle.ao_base.specs.Algorithms.{same_algorithm}
 use Rattle.book_keys.proofs.OverlapLaws.{one_accepts}
 use Rattle.book_keys.proofs.ChoiceLaws.{lowest-IsLowest}
 

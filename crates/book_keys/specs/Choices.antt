@@ -15,7 +15,7 @@ pub record Numbered : Type 0 where
 
 -- of two rows in order, the one with the later start; the earlier row where the starts are equal
 -- (own)
-abbrev pub later : (Row → ℕ) → Option Numbered → Option Numbered → Option Numbered
+abbrev pub later : (Row → ℕ) → (first second : Option Numbered) → Option Numbered
 later start None two = two
 later start (Some one) None = Some one
 later start (Some one) (Some two) =
@@ -53,19 +53,19 @@ abbrev pub next_row : List Row → Pair → ℕ → Option Numbered
 next_row rows pair now = latest (acceptable pair now) accept_start 1 rows
 
 -- the row is sendable, and has this SendID (RFC 5925, section 6.1)
-abbrev pub sendable_as : Pair → ℕ → ℕ → Row → Bool
+abbrev pub sendable_as : Pair → (id now : ℕ) → Row → Bool
 sendable_as pair id now r = sendable pair now r && (r.send_id == id)
 
 -- the row is acceptable, and has this RecvID (RFC 5925, section 7.5)
-abbrev pub acceptable_as : Pair → ℕ → ℕ → Row → Bool
+abbrev pub acceptable_as : Pair → (id now : ℕ) → Row → Bool
 acceptable_as pair id now r = acceptable pair now r && (r.recv_id == id)
 
 -- the sendable row with this SendID (RFC 5925, section 6.1)
-abbrev pub named_send : List Row → Pair → ℕ → ℕ → Option Numbered
+abbrev pub named_send : List Row → Pair → (id now : ℕ) → Option Numbered
 named_send rows pair id now = lowest (sendable_as pair id now) 1 rows
 
 -- the acceptable row with this RecvID (RFC 5925, section 7.5)
-abbrev pub accept_row : List Row → Pair → ℕ → ℕ → Option Numbered
+abbrev pub accept_row : List Row → Pair → (id now : ℕ) → Option Numbered
 accept_row rows pair id now = lowest (acceptable_as pair id now) 1 rows
 
 -- the row accepts for the pair under this RecvID, at whatever time (RFC 5925, section 7.5)

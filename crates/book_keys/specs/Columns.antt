@@ -70,7 +70,7 @@ id_of_text text = up_to 255 (decimal_of text)
 
 -- the ids of row r of node n: AdminKeyName, LocalKeyName (RecvID), PeerKeyName (SendID) (RFC 7210,
 -- section 2)
-unfoldable pub ids_of : ℕ → ℕ → Members → Result Ids TableFault
+unfoldable pub ids_of : (node row : ℕ) → Members → Result Ids TableFault
 ids_of n r ms = do
   named ← must (is_admin (text_of (codes "AdminKeyName") ms)) (fault.Field n r column.AdminKeyName)
   recv ← or_fault (option_and_then id_of_text (text_of (codes "LocalKeyName") ms))
@@ -89,7 +89,7 @@ abbrev pub peer_of : Data → Option (Option Address)
 peer_of d = option_and_then peer_of_text (as_str d)
 
 -- the peer at some place of row r of node n (RFC 7210, section 2)
-abbrev pub peer_at : ℕ → ℕ → ℕ → Data → Result (Option Address) TableFault
+abbrev pub peer_at : (node row place : ℕ) → Data → Result (Option Address) TableFault
 peer_at n r place d = or_fault (peer_of d) (fault.Field n r column.Peers)
 
 -- how many items an array has (own)
@@ -98,7 +98,7 @@ count no_items = 0
 count (item d ds) = suc (count ds)
 
 -- the peers of row r of node n: an array of 1 to 16 texts (RFC 7210, section 2; the limit is own)
-unfoldable pub peers_of : ℕ → ℕ → Option Data → Result (List (Option Address)) TableFault
+unfoldable pub peers_of : (node row : ℕ) → Option Data → Result (List (Option Address)) TableFault
 peers_of n r (Some (array ds)) =
     if nat_le 1 (count ds) && nat_le (count ds) peer_limit then each (peer_at n r) 1 ds
     else Err (fault.Field n r column.Peers)
@@ -118,7 +118,7 @@ options_flag_of text =
 
 -- whether the MAC covers the options, in row r of node n: Interfaces, Protocol, and then
 -- ProtocolSpecificInfo, which says it (RFC 7210, section 2)
-unfoldable pub protocol_of : ℕ → ℕ → Members → Result Bool TableFault
+unfoldable pub protocol_of : (node row : ℕ) → Members → Result Bool TableFault
 protocol_of n r ms = do
   everywhere ← must (is_absent_or (codes "all") (get_member (codes "Interfaces") ms))
       (fault.Field n r column.Interfaces)
@@ -144,7 +144,7 @@ kdf_of text =
 
 -- the algorithm of row r of node n: KDF, and AlgID, which is the name of the algorithm to which
 -- that belongs (RFC 7210, section 2)
-unfoldable pub algorithm_at : ℕ → ℕ → Members → Result Algorithm TableFault
+unfoldable pub algorithm_at : (node row : ℕ) → Members → Result Algorithm TableFault
 algorithm_at n r ms = do
   kdf ← or_fault (option_and_then kdf_of (text_of (codes "KDF") ms)) (fault.Field n r column.Kdf)
   named ← must (is_word (name_of kdf) (text_of (codes "AlgID") ms)) (fault.Field n r column.AlgId)
@@ -156,7 +156,7 @@ sized None = None
 sized (Some bytes) = if is_master_key bytes then Some bytes else None
 
 -- the master key of row r of node n, which a text writes (RFC 7210, section 2)
-unfoldable pub master_of : ℕ → ℕ → Option (List ℕ) → Result (List ℕ) TableFault
+unfoldable pub master_of : (node row : ℕ) → Option (List ℕ) → Result (List ℕ) TableFault
 master_of n r None = Err (fault.Field n r column.Key)
 master_of n r (Some text) = or_fault (sized (bytes_of_hex text)) (fault.Field n r column.Key)
 
@@ -176,8 +176,8 @@ time_or absent (Some d) = option_and_then time_of (as_str d)
 
 -- a lifetime of row r of node n, by the keys of its start and end; an end before its start is a
 -- fault of the end (RFC 7210, section 2)
-unfoldable pub lifetime_of :
-    ℕ → ℕ → List ℕ → List ℕ → Column → Column → Members → Result Lifetime TableFault
+unfoldable pub lifetime_of : (node row : ℕ) → (start_key end_key : List ℕ) →
+    (start_column end_column : Column) → Members → Result Lifetime TableFault
 lifetime_of n r start end start_column end_column ms = do
   first ← or_fault (time_or 0 (get_member start ms)) (fault.Field n r start_column)
   last ← or_fault (time_or greatest_time (get_member end ms)) (fault.Field n r end_column)
@@ -190,7 +190,7 @@ port_of None = Some None
 port_of (Some d) = option_map Some (up_to 65535 (option_and_then decimal_of (as_str d)))
 
 -- the terms of row r of node n: Direction and the two lifetimes (RFC 7210, section 2)
-unfoldable pub terms_of : ℕ → ℕ → Members → Result Terms TableFault
+unfoldable pub terms_of : (node row : ℕ) → Members → Result Terms TableFault
 terms_of n r ms = do
   direction ← or_fault (option_and_then direction_of (text_of (codes "Direction") ms))
       (fault.Field n r column.Direction)
@@ -201,7 +201,7 @@ terms_of n r ms = do
   Ok (record { direction = direction; sending = sending; accepting = accepting })
 
 -- the ports of row r of node n: LocalPort and PeerPort (own)
-unfoldable pub ports_of : ℕ → ℕ → Members → Result Ports TableFault
+unfoldable pub ports_of : (node row : ℕ) → Members → Result Ports TableFault
 ports_of n r ms = do
   local ← or_fault (port_of (get_member (codes "LocalPort") ms)) (fault.Field n r column.LocalPort)
   peer ← or_fault (port_of (get_member (codes "PeerPort") ms)) (fault.Field n r column.PeerPort)
@@ -209,7 +209,7 @@ ports_of n r ms = do
 
 -- row r of node n by its columns in their order, each with its own fault (RFC 7210, section 2, in
 -- this profile)
-unfoldable pub columns_of : ℕ → ℕ → Members → Result Row TableFault
+unfoldable pub columns_of : (node row : ℕ) → Members → Result Row TableFault
 columns_of n r ms = do
   ids ← ids_of n r ms
   peers ← peers_of n r (get_member (codes "Peers") ms)
@@ -233,7 +233,7 @@ columns_of n r ms = do
   })
 
 -- row r of node n: a table without another key (own)
-unfoldable pub row_of : ℕ → ℕ → Data → Result Row TableFault
+unfoldable pub row_of : (node row : ℕ) → Data → Result Row TableFault
 row_of n r (table ms) =
     if only row_keys ms then columns_of n r ms else Err (fault.Field n r column.Other)
 row_of n r _ = Err (fault.Field n r column.Other)

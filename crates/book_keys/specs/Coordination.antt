@@ -16,7 +16,7 @@ pub record Sending : Type 0 where
   pub rnext_key_id : ℕ
 
 -- the row with this number, where it qualifies; the first row has number n (own)
-abbrev pub numbered : (Row → Bool) → ℕ → ℕ → List Row → Option Numbered
+abbrev pub numbered : (Row → Bool) → (first number : ℕ) → List Row → Option Numbered
 numbered good n number [] = None
 numbered good n number (r ∷ rs) =
     if n == number then qualified good n r else numbered good (n + 1) number rs
@@ -64,5 +64,5 @@ IsRowOf rows current = (n : ℕ) → current ≡ Some n → (1 ≤ n) × (n ≤ 
 
 -- the current row after an RNextKeyID was heard: the sendable row with this SendID, else the one
 -- before (RFC 5925, sections 6.1 and 7.5)
-unfoldable pub follow : Option ℕ → List Row → Pair → ℕ → ℕ → Option ℕ
+unfoldable pub follow : Option ℕ → List Row → Pair → (id now : ℕ) → Option ℕ
 follow current rows pair id now = option_or (number_of (named_send rows pair id now)) current

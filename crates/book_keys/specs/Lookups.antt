@@ -20,5 +20,5 @@ accept_answer true (Some n) = found.Row n.number
 
 -- what a look-up by RecvID answers: no row accepts under it; or some does, and it is the one that
 -- is acceptable now, or none is (RFC 5925, section 7.5)
-abbrev pub accept_of : List Row → Pair → ℕ → ℕ → Accept
+abbrev pub accept_of : List Row → Pair → (id now : ℕ) → Accept
 accept_of rows pair id now = accept_answer (has_id rows pair id) (accept_row rows pair id now)

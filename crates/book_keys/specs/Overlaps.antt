@@ -24,49 +24,49 @@ pub record BothSend (a b : Row) (pair : Pair) (time : ℕ) : Type 0 where
   pub right : sendable pair time b ≡ true
 
 -- for some pair at some time both rows may accept, or both may send, under one id (own)
-abbrev pub Overlap : Row → Row → Type 0
+abbrev pub Overlap : (one other : Row) → Type 0
 Overlap a b = (pair : Pair) × (time : ℕ) × (BothAccept a b pair time ⊎ BothSend a b pair time)
 
 -- two peers of rows name a common address (own)
-abbrev pub peer_meets : Option Address → Option Address → Bool
+abbrev pub peer_meets : (one other : Option Address) → Bool
 peer_meets None q = true
 peer_meets (Some a) None = true
 peer_meets (Some a) (Some b) = same_address a b
 
 -- some address is named by both lists of peers (own)
-abbrev pub peers_meet : List (Option Address) → List (Option Address) → Bool
+abbrev pub peers_meet : (one other : List (Option Address)) → Bool
 peers_meet ps qs = list_any (λ p. list_any (peer_meets p) qs) ps
 
 -- two ports of rows fit a common port (own)
-abbrev pub ports_meet : Option ℕ → Option ℕ → Bool
+abbrev pub ports_meet : (one other : Option ℕ) → Bool
 ports_meet None q = true
 ports_meet (Some a) None = true
 ports_meet (Some a) (Some b) = a == b
 
 -- two lifetimes have a common second (own)
-abbrev pub lifetimes_meet : Lifetime → Lifetime → Bool
+abbrev pub lifetimes_meet : (one other : Lifetime) → Bool
 lifetimes_meet a b = nat_le (max a.first b.first) (min a.last b.last)
 
 -- some pair matches both rows (own)
-abbrev pub pairs_meet : Row → Row → Bool
+abbrev pub pairs_meet : (one other : Row) → Bool
 pairs_meet a b =
     (ports_meet a.local_port b.local_port && ports_meet a.peer_port b.peer_port)
     && peers_meet a.peers b.peers
 
 -- both rows are for what comes in, under one RecvID, in a common second (own)
-abbrev pub accepts_meet : Row → Row → Bool
+abbrev pub accepts_meet : (one other : Row) → Bool
 accepts_meet a b =
     (receives a.direction && receives b.direction)
     && ((a.recv_id == b.recv_id) && lifetimes_meet a.accepting b.accepting)
 
 -- both rows are for what goes out, under one SendID, in a common second (own)
-abbrev pub sends_meet : Row → Row → Bool
+abbrev pub sends_meet : (one other : Row) → Bool
 sends_meet a b =
     (sends a.direction && sends b.direction)
     && ((a.send_id == b.send_id) && lifetimes_meet a.sending b.sending)
 
 -- the test whether two rows overlap, by their columns (own)
-unfoldable pub overlaps : Row → Row → Bool
+unfoldable pub overlaps : (one other : Row) → Bool
 overlaps a b = (accepts_meet a b || sends_meet a b) && pairs_meet a b
 
 -- no two of these rows overlap (own)
@@ -84,7 +84,7 @@ pub record TwoRows : Type 0 where
   pub second : ℕ
 
 -- the numbers of two rows, from the one and the other (own)
-abbrev pub two_rows : ℕ → ℕ → TwoRows
+abbrev pub two_rows : (one other : ℕ) → TwoRows
 two_rows r s = record { first = r; second = s }
 
 -- the least two numbers of rows that overlap, where the first row has number r (own)
@@ -95,7 +95,7 @@ first_overlap r (a ∷ rest) =
     (first_overlap (r + 1) rest)
 
 -- rows j and k, counted from 0, overlap (own)
-abbrev pub overlap_at : List Row → Row → ℕ → ℕ → Bool
+abbrev pub overlap_at : List Row → Row → (one other : ℕ) → Bool
 overlap_at rows d j k = overlaps (slice_index_or rows j d) (slice_index_or rows k d)
 
 -- the rows of these numbers overlap, and no two rows before them in order do (own)

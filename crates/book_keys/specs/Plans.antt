@@ -8,8 +8,6 @@ use Rattle.std.specs.List.{list_any, find, AllByRecursion}
 use Rattle.std.specs.Option.{option_or}
 use Rattle.ao_base.specs.declared.address.Address.{Address}
 use Rattle.ao_base.specs.declared.address.Pair.{Pair}
-use Rattle.ao_base.specs.declared.algorithm.Algorithm.{Algorithm}
-use Rattle.ao_base.specs.declared.algorithm.Algorithm.TheVariants.{HmacSha1, AesCmac, HmacSha256}
 use Rattle.ao_base.specs.declared.end.End.{End}
 use Rattle.ao_base.specs.declared.end.End.TheVariants.{A, B}
 use Rattle.book_segments.specs.Bytes.{same_bytes}
@@ -19,59 +17,53 @@ use Rattle.book_keys.specs.declared.lint.LintAnswer.TheVariants as answer
 use Rattle.book_keys.specs.Choices.{accept_row}
 use Rattle.book_keys.specs.Lifetimes.{greatest_time, contains}
 use Rattle.book_keys.specs.Rows.{Row, Table, has_address, matches, receives, sends_for, sendable}
+use Rattle.ao_base.specs.Algorithms.{same_algorithm}
 
 -- the pair of sockets as the other end sees it (own)
 abbrev pub mirrored : Pair → Pair
 mirrored pair = record { local = pair.remote; remote = pair.local }
 
--- both are the same algorithm (own)
-abbrev pub same_algorithm : Algorithm → Algorithm → Bool
-same_algorithm HmacSha1 HmacSha1 = true
-same_algorithm AesCmac AesCmac = true
-same_algorithm HmacSha256 HmacSha256 = true
-same_algorithm one two = false
-
 -- both flags say alike whether the options are covered (own)
-abbrev pub same_flag : Bool → Bool → Bool
+abbrev pub same_flag : (one other : Bool) → Bool
 same_flag true flag = flag
 same_flag false flag = not flag
 
 -- both rows have the same key, algorithm and option flag (RFC 5925, section 3.1)
-abbrev pub same_key : Row → Row → Bool
+abbrev pub same_key : (one other : Row) → Bool
 same_key one two =
     same_bytes one.master two.master && (same_algorithm one.algorithm two.algorithm
     && same_flag one.with_options two.with_options)
 
 -- the other end's row accepts what this row sends: its RecvID is this SendID, and the key is the
 -- same (RFC 5925, section 3.1)
-abbrev pub accepts_from : Pair → Row → Row → Bool
+abbrev pub accepts_from : Pair → (sending other : Row) → Bool
 accepts_from pair r other =
     matches other (mirrored pair) && (receives other.direction
     && ((other.recv_id == r.send_id) && same_key other r))
 
 -- the other end's row accepts from so long before this row's first second of sending until so long
 -- after its last (own)
-abbrev pub outlasts : ℕ → ℕ → Row → Row → Bool
+abbrev pub outlasts : (lead lag : ℕ) → (sending other : Row) → Bool
 outlasts lead lag r other =
     contains other.accepting (r.sending.first - lead)
     && contains other.accepting (min greatest_time (r.sending.last + lag))
 
 -- the other end's row accepts what this row sends, and for long enough (own)
-abbrev pub accepts_throughout : Pair → ℕ → ℕ → Row → Row → Bool
+abbrev pub accepts_throughout : Pair → (lead lag : ℕ) → (sending other : Row) → Bool
 accepts_throughout pair lead lag r other =
     accepts_from pair r other && outlasts lead lag r other
 
 -- a row that sends for the pair has a row at the other end that accepts throughout (own)
-abbrev pub IsMet : List Row → Pair → ℕ → ℕ → Row → Type 0
+abbrev pub IsMet : List Row → Pair → (lead lag : ℕ) → Row → Type 0
 IsMet others pair lead lag r =
     sends_for pair r ≡ true → list_any (accepts_throughout pair lead lag r) others ≡ true
 
 -- each row of a sender's table is met in the receiver's (own)
-abbrev pub AlignedFrom : List Row → List Row → Pair → ℕ → ℕ → Type 0
+abbrev pub AlignedFrom : (rows others : List Row) → Pair → (lead lag : ℕ) → Type 0
 AlignedFrom rows others pair lead lag = AllByRecursion (IsMet others pair lead lag) rows
 
 -- both ends' rows are met at the other end (own)
-abbrev pub Aligned : List Row → List Row → Pair → ℕ → ℕ → Type 0
+abbrev pub Aligned : (a_rows b_rows : List Row) → Pair → (lead lag : ℕ) → Type 0
 Aligned a b pair lead lag =
     AlignedFrom a b pair lead lag × AlignedFrom b a (mirrored pair) lead lag
 
@@ -93,7 +85,7 @@ pub record Misaligned : Type 0 where
   pub reason : Reason
 
 -- why this row isn't met at the other end, where it sends for the pair and isn't (own)
-abbrev pub unmet_reason : List Row → Pair → ℕ → ℕ → Row → Option Reason
+abbrev pub unmet_reason : List Row → Pair → (lead lag : ℕ) → Row → Option Reason
 unmet_reason others pair lead lag r =
     if not (sends_for pair r) then None
     else if not (list_any (accepts_from pair r) others) then Some NoPeerRow
@@ -105,14 +97,16 @@ abbrev pub misaligned_by : End → ℕ → Reason → Misaligned
 misaligned_by end n reason = record { end = end; row = n; reason = reason }
 
 -- the first row of an end that isn't met at the other end, the first row having number n (own)
-abbrev pub first_unmet : End → ℕ → List Row → List Row → Pair → ℕ → ℕ → Option Misaligned
+abbrev pub first_unmet :
+    End → ℕ → (rows others : List Row) → Pair → (lead lag : ℕ) → Option Misaligned
 first_unmet end n [] others pair lead lag = None
 first_unmet end n (r ∷ rs) others pair lead lag =
     option_or (option_map (misaligned_by end n) (unmet_reason others pair lead lag r))
     (first_unmet end (n + 1) rs others pair lead lag)
 
 -- the first row that isn't met at the other end, the rows of end a first (own)
-unfoldable pub first_misaligned : List Row → List Row → Pair → ℕ → ℕ → Option Misaligned
+unfoldable pub first_misaligned :
+    (a_rows b_rows : List Row) → Pair → (lead lag : ℕ) → Option Misaligned
 first_misaligned a b pair lead lag =
     option_or (first_unmet A 1 a b pair lead lag) (first_unmet B 1 b a (mirrored pair) lead lag)
 
@@ -127,18 +121,18 @@ abbrev pub has_sendable : List Row → Pair → ℕ → Bool
 has_sendable rows pair time = list_any (sendable pair time) rows
 
 -- the first time from this one on that fails the test, among so many times (own)
-abbrev pub first_failing : (ℕ → Bool) → ℕ → ℕ → Option ℕ
+abbrev pub first_failing : (ℕ → Bool) → (time count : ℕ) → Option ℕ
 first_failing good time zero = None
 first_failing good time (suc n) =
     if good time then first_failing good (time + 1) n else Some time
 
 -- the least time from low to high at which no row is sendable (RFC 7210, section 3, and own)
-unfoldable pub gap : List Row → Pair → ℕ → ℕ → Option ℕ
+unfoldable pub gap : List Row → Pair → (low high : ℕ) → Option ℕ
 gap rows pair low high = first_failing (has_sendable rows pair) low (high + 1 - low)
 
 -- at each time from low to high some row is sendable, or this is the least of these times at which
 -- none is (RFC 7210, section 3, and own)
-abbrev pub IsGap : List Row → Pair → ℕ → ℕ → Option ℕ → Type 0
+abbrev pub IsGap : List Row → Pair → (low high : ℕ) → Option ℕ → Type 0
 IsGap rows pair low high None =
     (t : ℕ) → low ≤ t → t ≤ high → has_sendable rows pair t ≡ true
 IsGap rows pair low high (Some time) =
@@ -155,14 +149,14 @@ misaligned_answer m = by_reason m.reason m.end m.row
 
 -- the judgement by what was found: a row that isn't met comes before a gap of end a, and that
 -- before a gap of end b (own)
-abbrev pub lint_answer : Option Misaligned → Option ℕ → Option ℕ → LintAnswer
+abbrev pub lint_answer : Option Misaligned → (gap_a gap_b : Option ℕ) → LintAnswer
 lint_answer (Some m) gap_a gap_b = misaligned_answer m
 lint_answer None (Some time) gap_b = answer.Gap A time
 lint_answer None None (Some time) = answer.Gap B time
 lint_answer None None None = answer.Aligned
 
 -- the judgement on the tables of the two ends of a pair, end a being the local one (own)
-unfoldable pub lint_rows : List Row → List Row → Pair → ℕ → ℕ → ℕ → ℕ → LintAnswer
+unfoldable pub lint_rows : (a_rows b_rows : List Row) → Pair → (lead lag low high : ℕ) → LintAnswer
 lint_rows a b pair lead lag low high =
     lint_answer (first_misaligned a b pair lead lag) (gap a pair low high)
     (gap b (mirrored pair) low high)
@@ -177,7 +171,7 @@ abbrev pub rows_at : List Table → Address → List Row
 rows_at tables address = rows_of_table (find (has_address address) tables)
 
 -- the judgement on a connection by the tables of a key file (own)
-abbrev pub lint_of : List Table → Pair → ℕ → ℕ → ℕ → ℕ → LintAnswer
+abbrev pub lint_of : List Table → Pair → (lead lag low high : ℕ) → LintAnswer
 lint_of tables pair lead lag low high =
     lint_rows (rows_at tables pair.local.address) (rows_at tables pair.remote.address)
     pair lead lag low high

@@ -29,7 +29,7 @@ shared_row algorithm master = record {
 }
 
 -- the tables of the nodes `a` and `b`, each with the row of one shared key (own)
-abbrev pub shared_tables : Address → Address → Algorithm → List ℕ → List Table
+abbrev pub shared_tables : (a b : Address) → Algorithm → List ℕ → List Table
 shared_tables a b algorithm master =
     record { name = codes "a"; address = a; rows = shared_row algorithm master ∷ [] }
     ∷ record { name = codes "b"; address = b; rows = shared_row algorithm master ∷ [] }

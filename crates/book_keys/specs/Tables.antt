@@ -67,16 +67,16 @@ with_rows t rows = record { name = t.name; address = t.address; rows = rows }
 
 -- what an addition left and answered: the new number with the rows after it, or a refusal and the
 -- table as it was (own)
-abbrev pub Added : Table → Table → Result ℕ AddRefusal → Adding → Type 0
-Added old new (Ok n) answer =
+abbrev pub Addition : (old new : Table) → Result ℕ AddRefusal → Adding → Type 0
+Addition old new (Ok n) answer =
     (rows : List Row) × (answer ≡ AddedAs n rows) × (new ≡ with_rows old rows)
-Added old new (Err refusal.Memory) answer = new ≡ old
-Added old new (Err refusal.TooMany) answer = (answer ≡ TooMany) × (new ≡ old)
-Added old new (Err (refusal.Overlap n)) answer = (answer ≡ OverlapsRow n) × (new ≡ old)
+Addition old new (Err refusal.Memory) answer = new ≡ old
+Addition old new (Err refusal.TooMany) answer = (answer ≡ TooMany) × (new ≡ old)
+Addition old new (Err (refusal.Overlap n)) answer = (answer ≡ OverlapsRow n) × (new ≡ old)
 
 -- what a withdrawal left and answered: the rows where it is withdrawn, or that there is no such row
 -- and the table as it was (own)
-abbrev pub Withdrawn : Table → Table → Result (Unit {0}) NoRow → Option (List Row) → Type 0
+abbrev pub Withdrawn : (old new : Table) → Result (Unit {0}) NoRow → Option (List Row) → Type 0
 Withdrawn old new (Ok u) answer =
     (rows : List Row) × (answer ≡ Some rows) × (new ≡ with_rows old rows)
 Withdrawn old new (Err e) answer = (answer ≡ None) × (new ≡ old)

@@ -1,4 +1,4 @@
--- What is written of an input that isn't read. Our own format. Its top is `fault_text`.
+-- What is written of an input that isn't read. Our own format. Its top is `input_fault_text`.
 use Rattle.std.specs.Prelude.{ℕ, List, [], ◌∷◌, codes, decimal}
 use Rattle.ao_base.specs.declared.line_kind.LineKind.{LineKind}
 use Rattle.ao_base.specs.declared.line_kind.LineKind.TheVariants.{Word, Number, Hex, Range, Header}
@@ -18,7 +18,8 @@ kind_text Shared = codes "shared"
 
 -- the text of an input's fault: the faulty line with its kind, or too many lines; want of memory
 -- has a text of its own (own)
-abbrev pub fault_text : TextFault → List ℕ
-fault_text fault.Memory = codes "memory\n"
-fault_text fault.TooManyLines = codes "input: too many lines\n"
-fault_text (fault.Line n kind) = line_text (codes "input: line" ∷ decimal n ∷ kind_text kind ∷ [])
+abbrev pub input_fault_text : TextFault → List ℕ
+input_fault_text fault.Memory = codes "memory\n"
+input_fault_text fault.TooManyLines = codes "input: too many lines\n"
+input_fault_text (fault.Line n kind) =
+    line_text (codes "input: line" ∷ decimal n ∷ kind_text kind ∷ [])

@@ -13,16 +13,16 @@ pub record Said (A : Type 0) : Type 0 where
   pub value : A
 
 -- a line's fault, whose kind is known, with the line's number (own)
-abbrev pub numbered : {A : Type 0} → ℕ → Result A LineKind → Result A TextFault
-numbered n (Ok x) = Ok x
-numbered n (Err kind) = Err (fault.Line n kind)
+abbrev pub at_number : {A : Type 0} → ℕ → Result A LineKind → Result A TextFault
+at_number n (Ok x) = Ok x
+at_number n (Err kind) = Err (fault.Line n kind)
 
 -- what each line says by this meaning of its words, or the first faulty line (own)
 unfoldable pub said_by : {A : Type 0} → (List (List ℕ) → Result A LineKind) → List Line →
     Result (List (Said A)) TextFault
 said_by meaning [] = Ok []
 said_by meaning (l ∷ ls) = do
-  value ← numbered l.number (meaning l.words)
+  value ← at_number l.number (meaning l.words)
   others ← said_by meaning ls
   Ok (record { number = l.number; value = value } ∷ others)
 

@@ -45,14 +45,14 @@ unfoldable pub literal_in : List ℕ → List (List ℕ) → Result (Taken (Unit
 literal_in text ws = word_as (λ w. if bytes_eq w text then Some tt else None) Word ws
 
 -- which of two texts a word is: whether it is the other one (own)
-abbrev pub choice_of : List ℕ → List ℕ → List ℕ → Option Bool
+abbrev pub choice_of : (one other word : List ℕ) → Option Bool
 choice_of one other w =
     if bytes_eq w one then Some false
     else if bytes_eq w other then Some true
     else None
 
 -- the next word, which is one of two texts: whether it is the other one (own)
-unfoldable pub choice_in : List ℕ → List ℕ → List (List ℕ) → Result (Taken Bool) LineKind
+unfoldable pub choice_in : (one other : List ℕ) → List (List ℕ) → Result (Taken Bool) LineKind
 choice_in one other ws = word_as (choice_of one other) Word ws
 
 -- the end that a word names, `a` or `b` (own)
@@ -75,14 +75,14 @@ unfoldable pub algorithm_in : List (List ℕ) → Result (Taken Algorithm) LineK
 algorithm_in ws = word_as algorithm_of Word ws
 
 -- the value, where the number is from low to high (own)
-abbrev pub within : {A : Type 0} → ℕ → ℕ → ℕ → A → Result A LineKind
-within low high n x = if nat_le low n && nat_le n high then Ok x else Err Range
+abbrev pub if_within : {A : Type 0} → (low high number : ℕ) → A → Result A LineKind
+if_within low high n x = if nat_le low n && nat_le n high then Ok x else Err Range
 
 -- the next word as a decimal from low to high (own)
-unfoldable pub number_in : ℕ → ℕ → List (List ℕ) → Result (Taken ℕ) LineKind
+unfoldable pub number_in : (low high : ℕ) → List (List ℕ) → Result (Taken ℕ) LineKind
 number_in low high ws = do
   n ← word_as decimal_of Number ws
-  within low high n.value n
+  if_within low high n.value n
 
 -- the next two words as an address, and a port of two bytes (own)
 unfoldable pub socket_in : List (List ℕ) → Result (Taken Socket) LineKind
@@ -96,10 +96,10 @@ unfoldable pub hex_in : List (List ℕ) → Result (Taken (List ℕ)) LineKind
 hex_in ws = word_as bytes_of_hex Hex ws
 
 -- the next word as from low to high bytes in hexadecimal (own)
-unfoldable pub sized_hex_in : ℕ → ℕ → List (List ℕ) → Result (Taken (List ℕ)) LineKind
+unfoldable pub sized_hex_in : (low high : ℕ) → List (List ℕ) → Result (Taken (List ℕ)) LineKind
 sized_hex_in low high ws = do
   bytes ← hex_in ws
-  within low high (length bytes.value) bytes
+  if_within low high (length bytes.value) bytes
 
 -- the next word as at least one byte in hexadecimal (own)
 unfoldable pub some_hex_in : List (List ℕ) → Result (Taken (List ℕ)) LineKind

@@ -12,12 +12,12 @@ abbrev pub has_place : List ℕ → ℕ → Bool
 has_place bytes place = nat_lt (place_in bytes place) (length bytes)
 
 -- the bytes with the one at a place xored with a mask (own)
-abbrev pub masked : List ℕ → ℕ → ℕ → List ℕ
+abbrev pub masked : List ℕ → (place mask : ℕ) → List ℕ
 masked bytes i mask = slice_set bytes i (bit_xor (slice_index bytes i) mask)
 
 -- a copy whose byte at a place, counted from the TCP header, is xored with a mask; with fix the
 -- TCP checksum is then set right (own)
-unfoldable pub altered : List ℕ → ℕ → ℕ → Bool → List ℕ
+unfoldable pub altered : List ℕ → (place mask : ℕ) → Bool → List ℕ
 altered bytes place mask fix =
     let copy = masked bytes (place_in bytes place) mask in
     if fix then with_right_checksum copy else copy

@@ -1,4 +1,4 @@
--- A row as an event adds it. Its top is `row_of`.
+-- A row as an event adds it. Its top is `added_row`.
 use Rattle.std.specs.Prelude.{Bool, true, false, [], ◌∷◌, None}
 use Rattle.book_keys.specs.declared.direction.Direction.{Direction}
 use Rattle.book_keys.specs.declared.direction.Direction.TheVariants.{Receive, Send, Both, Disabled}
@@ -6,15 +6,15 @@ use Rattle.book_keys.specs.Rows.{Row}
 use Rattle.book_link.specs.declared.event.RowLine.{RowLine}
 
 -- the Direction of a row that receives, sends, does both or neither (RFC 7210, section 2)
-abbrev pub direction_of : (receive send : Bool) → Direction
-direction_of true true = Both
-direction_of true false = Receive
-direction_of false true = Send
-direction_of false false = Disabled
+abbrev pub direction_by : (receive send : Bool) → Direction
+direction_by true true = Both
+direction_by true false = Receive
+direction_by false true = Send
+direction_by false false = Disabled
 
 -- the row that a line adds, which matches every pair (RFC 7210, section 2, and own)
-abbrev pub row_of : RowLine → Row
-row_of l = record {
+abbrev pub added_row : RowLine → Row
+added_row l = record {
   recv_id = l.recv_id;
   send_id = l.send_id;
   peers = None ∷ [];
@@ -23,7 +23,7 @@ row_of l = record {
   algorithm = l.algorithm;
   master = l.master;
   with_options = l.with_options;
-  direction = direction_of l.receive l.send;
+  direction = direction_by l.receive l.send;
   sending = record { first = l.send_first; last = l.send_last };
   accepting = record { first = l.accept_first; last = l.accept_last };
 }

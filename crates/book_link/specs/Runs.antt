@@ -4,12 +4,12 @@ use Rattle.ao_base.specs.declared.end.End.{End}
 use Rattle.ao_base.specs.declared.end.End.TheVariants.{A, B}
 use Rattle.book_link.specs.declared.event.Event.{Event}
 use Rattle.book_link.specs.Outcomes.{Outcome}
-use Rattle.book_link.specs.Worlds.{Setup, rows_of, Side, World}
+use Rattle.book_link.specs.Worlds.{Setup, first_rows, LinkSide, World}
 use Rattle.book_link.specs.Steps.{step}
 
 -- an end as it begins: the clock 0, its first table, no session (own)
-abbrev pub begins : Setup → End → Side
-begins setup e = record { clock = 0; rows = rows_of setup e; sessions = [] }
+abbrev pub begins : Setup → End → LinkSide
+begins setup e = record { clock = 0; rows = first_rows setup e; sessions = [] }
 
 -- both ends as they begin, when nothing was made (own)
 abbrev pub empty : Setup → World

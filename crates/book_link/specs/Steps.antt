@@ -19,8 +19,8 @@ use Rattle.book_link.specs.declared.event.Event.TheVariants.{Withdraw, Dump}
 use Rattle.book_link.specs.Outcomes.{Outcome, Done, Sent, Answered, Took, Image, Added, IsnUsed}
 use Rattle.book_link.specs.Outcomes.{NoSession, NoSegment, NoPlace, Full, HasClosed, WithoutKey}
 use Rattle.book_link.specs.Outcomes.{Idle, Nothing, TooManyRows, OverlapWith, NoRow}
-use Rattle.book_link.specs.RowLines.{row_of}
-use Rattle.book_link.specs.Worlds.{Setup, pair_of, Session, Side, Made, Happening, Making, Coming}
+use Rattle.book_link.specs.RowLines.{added_row}
+use Rattle.book_link.specs.Worlds.{Setup, pair_of, Session, LinkSide, Made, Happening, Making, Coming}
 use Rattle.book_link.specs.Worlds.{World, side, find, segments, segment_named}
 
 -- the world after an event, and the event's outcome (own)
@@ -42,17 +42,17 @@ add None history = history
 add (Some h) history = h ∷ history
 
 -- the world with this end, and with one more happening (own)
-abbrev pub put : World → End → Side → Option Happening → World
+abbrev pub put : World → End → LinkSide → Option Happening → World
 put w A now happened = record w { a = now; history = add happened w.history }
 put w B now happened = record w { b = now; history = add happened w.history }
 
 -- an end with these sessions in place of its own (own)
-abbrev pub with_sessions : Side → List Session → Side
+abbrev pub with_sessions : LinkSide → List Session → LinkSide
 with_sessions s sessions = record { clock = s.clock; rows = s.rows; sessions = sessions }
 
 -- an end with these rows in place of its table (own)
-abbrev pub with_rows : Side → List Row → Side
-with_rows s rows = record { clock = s.clock; rows = rows; sessions = s.sessions }
+abbrev pub with_table : LinkSide → List Row → LinkSide
+with_table s rows = record { clock = s.clock; rows = rows; sessions = s.sessions }
 
 -- a session after what a call did to it (own)
 abbrev pub acted : Session → Act → Session
@@ -82,7 +82,7 @@ ticked now [] = []
 ticked now (s ∷ rest) = record { state = tick now s.state; end_shown = s.end_shown } ∷ rest
 
 -- an end whose clock is set, which ticks its live session (own)
-abbrev pub with_clock : Side → ℕ → Side
+abbrev pub with_clock : LinkSide → ℕ → LinkSide
 with_clock s seconds = record {
   clock = seconds;
   rows = s.rows;
@@ -174,7 +174,7 @@ deliver setup e w None = record { world = w; outcome = NoSegment }
 deliver setup e w (Some m) = on_live w e (come setup e w m.bytes)
 
 -- a copy of a segment is delivered with one byte altered (own)
-abbrev pub alter : Setup → End → World → ℕ → ℕ → Bool → Option Made → Stepped
+abbrev pub alter : Setup → End → World → (place mask : ℕ) → Bool → Option Made → Stepped
 alter setup e w place mask fix None = record { world = w; outcome = NoSegment }
 alter setup e w place mask fix (Some m) =
     if has_place m.bytes place then on_live w e (come setup e w (altered m.bytes place mask fix))
@@ -188,7 +188,7 @@ image_of (Some m) = Image m.bytes
 -- a row is added to an end's table, or refused (own)
 abbrev pub add_row : World → End → Adding → Stepped
 add_row w e (AddedAs number rows) = record {
-  world = put w e (with_rows (side w e) rows) None;
+  world = put w e (with_table (side w e) rows) None;
   outcome = Added number;
 }
 add_row w e TooMany = record { world = w; outcome = TooManyRows }
@@ -198,7 +198,7 @@ add_row w e (OverlapsRow number) = record { world = w; outcome = OverlapWith num
 abbrev pub withdraw : World → End → Option (List Row) → Stepped
 withdraw w e None = record { world = w; outcome = NoRow }
 withdraw w e (Some rows) = record {
-  world = put w e (with_rows (side w e) rows) None;
+  world = put w e (with_table (side w e) rows) None;
   outcome = Done;
 }
 
@@ -222,6 +222,6 @@ step setup w (Alter e name place mask fix) =
 step setup w (Take e count) = on_live w e (took count)
 step setup w (Close e) = on_live w e (λ s. quietly (close s) Done)
 step setup w (Abort e) = on_live w e (λ s. quietly (abort s) Done)
-step setup w (AddRow e row) = add_row w e (adding (side w e).rows (row_of row))
+step setup w (AddRow e row) = add_row w e (adding (side w e).rows (added_row row))
 step setup w (Withdraw e number) = withdraw w e (withdrawn (side w e).rows number)
 step setup w (Dump name) = record { world = w; outcome = image_of (segment_named name w.history) }

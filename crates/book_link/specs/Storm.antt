@@ -22,18 +22,19 @@ abbrev pub drawn : ℕ → ℕ
 drawn state = (state + 0x9e3779b97f4a7c15) % words_of_64
 
 -- a number xored with itself shifted down, times a constant (SplitMix64)
-abbrev pub mixed : ℕ → ℕ → ℕ → ℕ
-mixed z shift factor = bit_xor z (z / shift) * factor % words_of_64
+abbrev pub xor_shifted : (number shift factor : ℕ) → ℕ
+xor_shifted z shift factor = bit_xor z (z / shift) * factor % words_of_64
 
 -- what a state draws: the shifts are by 30, 27 and 31 bits (SplitMix64)
 unfoldable pub draw : ℕ → ℕ
 draw state =
-    let z = mixed (mixed state 1073741824 0xbf58476d1ce4e5b9) 134217728 0x94d049bb133111eb in
+    let y = xor_shifted state 0x40000000 0xbf58476d1ce4e5b9 in
+    let z = xor_shifted y 0x8000000 0x94d049bb133111eb in
     bit_xor z (z / 2147483648)
 
 -- the end that a draw names: an even number is for end a (own)
-abbrev pub end_of : ℕ → End
-end_of r = if r % 2 == 0 then A else B
+abbrev pub drawn_end : ℕ → End
+drawn_end r = if r % 2 == 0 then A else B
 
 -- the last segment is delivered to the end that didn't make it; where there is none, the end
 -- sends (own)
@@ -42,7 +43,7 @@ last_delivered e None = Send e
 last_delivered e (Some m) = Deliver (other m.maker) m.name
 
 -- one of so many segments is delivered; where there is none, the end sends (own)
-abbrev pub one_delivered : End → ℕ → ℕ → Event
+abbrev pub one_delivered : End → (count number : ℕ) → Event
 one_delivered e zero v = Send e
 one_delivered e (suc n) v = Deliver e (1 + v % suc n)
 
@@ -61,10 +62,10 @@ event_by w e kind v =
 -- the event that a draw makes of a world: its end, its kind and its number are the draw's lowest
 -- bit, the three bits above it, and the rest (own)
 abbrev pub event_of : World → ℕ → Event
-event_of w r = event_by w (end_of r) (r / 2 % 8) (r / 256)
+event_of w r = event_by w (drawn_end r) (r / 2 % 8) (r / 256)
 
 -- so many events, each drawn after the ones before it were stepped (own)
-abbrev pub events_drawn : Setup → World → ℕ → ℕ → List Event
+abbrev pub events_drawn : Setup → World → (state count : ℕ) → List Event
 events_drawn setup w state zero = []
 events_drawn setup w state (suc n) =
     let event = event_of w (draw (drawn state)) in
@@ -85,7 +86,7 @@ abbrev pub storm_starts : List Event
 storm_starts = Start A 4294960000 4000000000 ∷ Start B 4000000000 4294960000 ∷ []
 
 -- the events of the storm from a seed, so many of them drawn (own)
-unfoldable pub storm_events : ℕ → ℕ → List Event
+unfoldable pub storm_events : (seed count : ℕ) → List Event
 storm_events seed count =
     storm_starts
     ++ events_drawn storm_setup (run_from storm_setup (empty storm_setup) storm_starts) seed count

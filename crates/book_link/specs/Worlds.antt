@@ -10,7 +10,7 @@ use Rattle.book_segments.specs.Bytes.{same_bytes}
 use Rattle.book_segments.specs.Segments.{Segment, has, ACK, SYN}
 use Rattle.book_keys.specs.Plans.{rows_at}
 use Rattle.book_keys.specs.Rows.{Row, Table}
-use Rattle.book_endpoint.specs.Verdicts.{key_of, same_key, Finding}
+use Rattle.book_endpoint.specs.Verdicts.{key_of, same_master_key, Finding}
 use Rattle.book_endpoint.specs.States.{EndState}
 use Rattle.book_endpoint.specs.declared.arrival.Arrival.{Arrival}
 use Rattle.book_endpoint.specs.Emissions.{Emission}
@@ -21,7 +21,7 @@ other A = B
 other B = A
 
 -- two names are of the same end (own)
-abbrev pub same_end : End → End → Bool
+abbrev pub same_end : (one other : End) → Bool
 same_end A A = true
 same_end B B = true
 same_end _ _ = false
@@ -34,7 +34,7 @@ pub record Setup : Type 0 where
   pub b_rows : List Row
 
 -- the link of two sockets over the tables of a key file (own)
-abbrev pub setup_of : List Table → Socket → Socket → Setup
+abbrev pub setup_of : List Table → (a b : Socket) → Setup
 setup_of tables a b = record {
   a = a;
   b = b;
@@ -48,9 +48,9 @@ pair_of setup A = record { local = setup.a; remote = setup.b }
 pair_of setup B = record { local = setup.b; remote = setup.a }
 
 -- the rows with which an end begins (own)
-abbrev pub rows_of : Setup → End → List Row
-rows_of setup A = setup.a_rows
-rows_of setup B = setup.b_rows
+abbrev pub first_rows : Setup → End → List Row
+first_rows setup A = setup.a_rows
+first_rows setup B = setup.b_rows
 
 -- a session of an end, and whether a take showed the end of its stream (own)
 pub record Session : Type 0 where
@@ -59,7 +59,7 @@ pub record Session : Type 0 where
 
 -- an end: its clock, its table as it is now, and its sessions, the newest first; that one is
 -- live, and the others were dropped (own)
-pub record Side : Type 0 where
+pub record LinkSide : Type 0 where
   pub clock : ℕ
   pub rows : List Row
   pub sessions : List Session
@@ -90,12 +90,12 @@ pub data Happening : Type 0 where
 
 -- both ends, and what happened, the newest first (own)
 pub record World : Type 0 where
-  pub a : Side
-  pub b : Side
+  pub a : LinkSide
+  pub b : LinkSide
   pub history : List Happening
 
 -- one of the two ends of a world (own)
-abbrev pub side : World → End → Side
+abbrev pub side : World → End → LinkSide
 side w A = w.a
 side w B = w.b
 
@@ -133,7 +133,7 @@ partner w e s = partner_among (side w (other e)).sessions s.isn s.peer_isn
 -- a segment of session s is addressed to session r of the other end: any, for SYN without ACK;
 -- one with the number known as the peer's, for SYN with ACK; else the partner (RFC 9293, section
 -- 3.5, and own)
-abbrev pub addressed : Segment → EndState → EndState → Bool
+abbrev pub addressed : Segment → (sending receiving : EndState) → Bool
 addressed d s r =
     if has SYN d then (if has ACK d then is_known s.peer_isn r.isn else true)
     else is_known s.peer_isn r.isn && is_known r.peer_isn s.isn
@@ -143,7 +143,7 @@ addressed d s r =
 abbrev pub accounts_for : End → Finding → Made → Bool
 accounts_for at p m =
     let e = m.emission in
-    same_end m.maker (other at) && same_key (key_of e.sending.row) p.key
+    same_end m.maker (other at) && same_master_key (key_of e.sending.row) p.key
     && same_bytes e.context p.context && same_bytes e.input p.input
 
 -- the other end made what passed: the history before has such an entry (own)

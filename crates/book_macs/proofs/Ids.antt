@@ -11,7 +11,7 @@ use Rattle.book_segments.specs.Spelling.{FitsIp, IsV4, IsV6}
 use Rattle.book_segments.proofs.Blanked.{blanked, length-blanked, blank_option, blanks, leading, take_exact, drop_exact}
 use Rattle.book_segments.proofs.Fields.{append_split}
 use Rattle.book_macs.specs.MacInput.{covered, mac_input}
-use Rattle.book_macs.specs.Meaning.{SameFamily, HasNumber, SameMeaning}
+use Rattle.book_macs.specs.Meaning.{SameFamily, NumberedSegment, SameMeaning}
 use Rattle.book_macs.proofs.Telling.{opened}
 
 -- the area that the MAC covers has this one option, with these ids
@@ -160,7 +160,7 @@ same_16 n m a b e = omega arith
 same_32 : (n m : ℕ) → n < 4294967296 → m < 4294967296 → n % 4294967296 ≡ m % 4294967296 → n ≡ m
 same_32 n m a b e = omega arith
 
-pub equal_inputs_equal_meaning : (n m : ℕ) (d e : Segment) (p q : Ao) (f g : Bool) → HasNumber n d p → HasNumber m e q → SameFamily d.ip e.ip → length p.mac ≡ length q.mac
+pub equal_inputs_equal_meaning : (n m : ℕ) (d e : Segment) (p q : Ao) (f g : Bool) → NumberedSegment n d p → NumberedSegment m e q → SameFamily d.ip e.ip → length p.mac ≡ length q.mac
     → mac_input n d p f ≡ mac_input m e q g → SameMeaning n m d e p q
 equal_inputs_equal_meaning n m d e p q f g one two family macs same =
     let fd = one.fits in

@@ -7,7 +7,7 @@ use Rattle.book_segments.specs.Segments.{IpHeader, Ipv4, Ipv6, Segment}
 use Rattle.book_segments.specs.Spelling.{Fits}
 
 -- both headers are of IPv4, or both of IPv6 (RFC 791, section 3.1; RFC 8200, section 3)
-abbrev pub SameFamily : IpHeader → IpHeader → Type 0
+abbrev pub SameFamily : (one other : IpHeader) → Type 0
 SameFamily (Ipv4 service identification flags ttl checksum options)
     (Ipv4 service2 identification2 flags2 ttl2 checksum2 options2) = Unit {0}
 SameFamily (Ipv6 class_flow hops) (Ipv6 class_flow2 hops2) = Unit {0}
@@ -15,7 +15,7 @@ SameFamily _ _ = ⊥
 
 -- a segment whose fields fit their places, with one TCP-AO option, and a number that its sequence
 -- field means (RFC 5925, section 6.2)
-pub record HasNumber (n : ℕ) (d : Segment) (ao : Ao) : Type 0 where
+pub record NumberedSegment (n : ℕ) (d : Segment) (ao : Ao) : Type 0 where
   pub fits : Fits d
   pub option : find_ao d.area ≡ One ao
   pub number : n < 2 ^ 64

@@ -23,17 +23,17 @@ abbrev pub padded : List ℕ → List ℕ
 padded m = if is_complete m then m else m ++ 0x80 ∷ replicate (15 - length m % 16) 0
 
 -- the subkey K1 where the last block is complete, else K2 (RFC 4493, section 2.3)
-abbrev pub subkey : List ℕ → List ℕ → List ℕ
+abbrev pub subkey : (key message : List ℕ) → List ℕ
 subkey key m =
     let l = aes key (replicate 16 0) in
     if is_complete m then doubled l else doubled (doubled l)
 
 -- the padded message with the subkey in its last block (RFC 4493, section 2.4, step 4)
-abbrev pub with_subkey : List ℕ → List ℕ → List ℕ
+abbrev pub with_subkey : (key message : List ℕ) → List ℕ
 with_subkey key m =
     let last = length (padded m) - 16 in
     take last (padded m) ++ xor (drop last (padded m)) (subkey key m)
 
 -- a step of the chain: the state, xor a block, through AES (RFC 4493, section 2.4, steps 6 and 7)
-abbrev pub chain : List ℕ → List ℕ → List ℕ → List ℕ
+abbrev pub chain : (key state block : List ℕ) → List ℕ
 chain key state block = aes key (xor state block)

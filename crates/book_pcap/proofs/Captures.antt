@@ -4,14 +4,14 @@ use Rattle.std.proofs.lemmas.Bool.{cases_lt, cases_eq, lt-ltb, le-ltb, eq-eqb, n
 use Rattle.std.proofs.lemmas.List.{length-drop}
 use Rattle.book_pcap.specs.declared.pcap_head.ByteOrder.{ByteOrder}
 use Rattle.book_pcap.specs.declared.pcap_head.Head.{Head}
-use Rattle.book_pcap.specs.Packets.{Kept, RecordFront, Done, Broken, Whole, four_at, record_by, record_at, Packets, datagram_of, with_packet, packets_by, packets_from, packets_in}
+use Rattle.book_pcap.specs.Packets.{Kept, RecordFront, NoMoreRecords, Broken, Whole, four_at, record_by, record_at, Packets, datagram_of, with_packet, packets_by, packets_from, packets_in}
 
 -- no record is left
-pub record_none : (order : ByteOrder) → record_at order [] ≡ Done
+pub record_none : (order : ByteOrder) → record_at order [] ≡ NoMoreRecords
 unfolding record_at
 record_none order = refl
 
-none_at : (order : ByteOrder) (text : List ℕ) → length text ≡ 0 → record_at order text ≡ Done
+none_at : (order : ByteOrder) (text : List ℕ) → length text ≡ 0 → record_at order text ≡ NoMoreRecords
 unfolding record_at
 none_at order text none = rw (eq-eqb (length text) 0 none) refl
 
@@ -41,7 +41,7 @@ record_whole order text le fits all = rw (record_long order text le, le-ltb 2621
 pub record_rest : (order : ByteOrder) (text : List ℕ) (kept : Kept) (rest : List ℕ) → record_at order text ≡ Whole kept rest → 16 + length rest ≤ length text
 record_rest order text kept rest is =
     elim (cases_eq (length text) 0) [
-      | inl none ↦ let no : record_at order text ≡ Done = none_at order text none in let bad = sym no ∙ is in absurd (cc)
+      | inl none ↦ let no : record_at order text ≡ NoMoreRecords = none_at order text none in let bad = sym no ∙ is in absurd (cc)
       | inr some ↦ elim (cases_lt (length text) 16) [
         | inl short ↦ let bad = sym (record_short order text (omega arith) short) ∙ is in absurd (cc)
         | inr long ↦ elim (cases_lt 262144 (four_at order text 8)) [
@@ -62,7 +62,7 @@ record_rest order text kept rest is =
 -- a bound on the number of records that is large enough doesn't matter
 same_by : (f : RecordFront) (head : Head) (n : ℕ) (text : List ℕ) (one two : List ℕ → Packets) → record_at head.order text ≡ f → ((rest : List ℕ) → length rest < length text → one rest ≡ two rest) →
     packets_by head n f one ≡ packets_by head n f two
-same_by Done head n text one two is same = refl
+same_by NoMoreRecords head n text one two is same = refl
 same_by Broken head n text one two is same = refl
 same_by (Whole kept rest) head n text one two is same =
     let size = record_rest head.order text kept rest is in

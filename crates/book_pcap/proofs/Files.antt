@@ -12,7 +12,7 @@ use Rattle.book_pcap.specs.declared.pcap_head.LinkType.TheVariants.{Ethernet, Ra
 use Rattle.book_pcap.specs.declared.pcap_head.Head.{Head}
 use Rattle.book_pcap.specs.declared.pcap_head.HeadFault.{HeadFault}
 use Rattle.book_pcap.specs.declared.pcap_head.HeadFault.TheVariants as head_fault
-use Rattle.book_pcap.specs.Packets.{two_at, four_at, magic, order_of, link_of, head_in, head_of, and_rest, opened, Kept, RecordFront, Done, Broken, Whole, record_at, Packet, Packets, FileFault, BadRecord, datagram_of, with_packet, packets_by, packets_in, packets_behind, packets_of}
+use Rattle.book_pcap.specs.Packets.{two_at, four_at, magic, order_of, link_of, head_in, head_of, and_rest, opened, Kept, RecordFront, NoMoreRecords, Broken, Whole, record_at, Packet, Packets, FileFault, BadRecord, datagram_of, with_packet, packets_by, packets_in, packets_behind, packets_of}
 use Rattle.book_pcap.specs.PacketFiles.{link_number, IsHeader, IsRecord, AreRecords, IsBroken, IsFile, and_packet, with_datagrams}
 use Rattle.book_pcap.proofs.Captures.{record_none, record_short, record_over, record_part, record_whole, packets_step}
 
@@ -83,7 +83,7 @@ record AtFront (order : ByteOrder) (text : List ℕ) (kept : Kept) (rest : List 
   shorter : length rest < length text
 
 abbrev Tells : ByteOrder → List ℕ → RecordFront → Type 0
-Tells order text Done = text ≡ []
+Tells order text NoMoreRecords = text ≡ []
 Tells order text Broken = 0 < length text
 Tells order text (Whole kept rest) = AtFront order text kept rest
 
@@ -121,7 +121,7 @@ told : (order : ByteOrder) (text : List ℕ) → Told order text (record_at orde
 told order text = elim (cases_eq (length text) 0) [
   | inl none ↦
       let empty : text ≡ [] = nil_from_length text none in
-      told_as order text Done (record_at order text) (ap (record_at order) empty ∙ record_none order) (record { tells = empty })
+      told_as order text NoMoreRecords (record_at order text) (ap (record_at order) empty ∙ record_none order) (record { tells = empty })
   | inr some ↦ elim (cases_lt (length text) 16) [
     | inl short ↦ told_as order text Broken (record_at order text) (record_short order text (omega arith) short) (record { tells = omega arith })
     | inr long ↦ elim (cases_lt 262144 (four_at order text 8)) [
@@ -141,7 +141,7 @@ broken order text e some = record {
 }
 
 broken_by : (f : RecordFront) (order : ByteOrder) (text : List ℕ) → Told order text f → IsBroken order text → f ≡ Broken
-broken_by Done order text t b = let none = ap (λ (xs : List ℕ). length xs) t.tells in let some = b.some in absurd (omega arith)
+broken_by NoMoreRecords order text t b = let none = ap (λ (xs : List ℕ). length xs) t.tells in let some = b.some in absurd (omega arith)
 broken_by Broken order text t b = refl
 broken_by (Whole kept rest) order text t b = let w = t.tells in absurd (b.no_record kept w.one rest w.is w.parts)
 
@@ -156,7 +156,7 @@ record Split (order : ByteOrder) (text : List ℕ) : Type 0 where
   ends : (tail ≡ []) ⊎ IsBroken order tail
 
 split_by : (f : RecordFront) (order : ByteOrder) (text : List ℕ) → record_at order text ≡ f → Told order text f → ((rest : List ℕ) → length rest < length text → Split order rest) → Split order text
-split_by Done order text e t rests = record { kept = []; body = []; tail = []; are = refl; parts = t.tells; ends = inl refl }
+split_by NoMoreRecords order text e t rests = record { kept = []; body = []; tail = []; are = refl; parts = t.tells; ends = inl refl }
 split_by Broken order text e t rests = record { kept = []; body = []; tail = text; are = refl; parts = refl; ends = inr (broken order text e t.tells) }
 split_by (Whole k rest) order text e t rests =
     let w = t.tells in

@@ -77,7 +77,7 @@ most_kept = 262144
 -- what stands at the front of records: nothing, a record that isn't whole, or a record and what
 -- follows it (pcap-savefile)
 pub data RecordFront : Type 0 where
-  Done Broken : RecordFront
+  NoMoreRecords Broken : RecordFront
   Whole : (kept : Kept) (rest : List ℕ) → RecordFront
 
 -- what stands at the front of records, where the first one has this kept length (pcap-savefile)
@@ -92,7 +92,7 @@ record_by order len text =
 -- length of four bytes each, and then the kept bytes (pcap-savefile)
 unfoldable pub record_at : ByteOrder → List ℕ → RecordFront
 record_at order text =
-    if length text == 0 then Done
+    if length text == 0 then NoMoreRecords
     else if nat_lt (length text) 16 then Broken
     else record_by order (four_at order text 8) text
 
@@ -138,7 +138,7 @@ with_packet p others =
 -- the packets of records with this front, the first of number n, where those of what follows are
 -- handed in (pcap-savefile)
 abbrev pub packets_by : Head → ℕ → RecordFront → (List ℕ → Packets) → Packets
-packets_by head n Done others = record { list = []; fault = None }
+packets_by head n NoMoreRecords others = record { list = []; fault = None }
 packets_by head n Broken others = record { list = []; fault = Some (BadRecord n) }
 packets_by head n (Whole kept rest) others =
     let datagram = datagram_of head.link kept.bytes in

@@ -3,7 +3,8 @@ use Rattle.std.proofs.Common.{◌≡◌, Bool, true, false, ◌&&◌, not, ◌==
 use Rattle.ao_base.specs.declared.address.Pair.{Pair}
 use Rattle.book_segments.specs.Bytes.{same_bytes}
 use Rattle.book_keys.specs.Rows.{Row, matches, receives}
-use Rattle.book_keys.specs.Plans.{mirrored, same_algorithm, same_flag, accepts_from}
+use Rattle.book_keys.specs.Plans.{mirrored, same_flag, accepts_from}
+use Rattle.ao_base.specs.Algorithms.{same_algorithm}
 use Rattle.book_plans.specs.Differences.{differences, is_alike}
 
 twice_not : (a : Bool) → not (not a) ≡ a

@@ -29,7 +29,7 @@ has_role rows pair n r SentWith time = is_number n (number_of (send_row rows pai
 
 -- the turn of a row and a role by whether it has it before and now: it begins, it ends, or there
 -- is none (own)
-abbrev pub turn_by : ℕ → End → ℕ → Role → Bool → Bool → List Turn
+abbrev pub turn_by : ℕ → End → ℕ → Role → (before now : Bool) → List Turn
 turn_by time end n role false true = record {
   time = time;
   end = end;
@@ -47,13 +47,13 @@ turn_by time end n role true false = record {
 turn_by time end n role before now = []
 
 -- the turn of a row and a role in the second after this time (own)
-abbrev pub role_turn : End → List Row → Pair → ℕ → ℕ → Row → Role → List Turn
+abbrev pub role_turn : End → List Row → Pair → (time number : ℕ) → Row → Role → List Turn
 role_turn end rows pair time n r role =
     turn_by (time + 1) end n role (has_role rows pair n r role time)
     (has_role rows pair n r role (time + 1))
 
 -- the turns of a row in the second after this time (own)
-abbrev pub row_turns : End → List Row → Pair → ℕ → ℕ → Row → List Turn
+abbrev pub row_turns : End → List Row → Pair → (time number : ℕ) → Row → List Turn
 row_turns end rows pair time n r =
     role_turn end rows pair time n r Acceptable
     ++ (role_turn end rows pair time n r AskedFor
@@ -62,17 +62,17 @@ row_turns end rows pair time n r =
 
 -- the turns of some of the rows of an end in the second after this time, the first having number
 -- n (own)
-abbrev pub turns_from : End → List Row → Pair → ℕ → ℕ → List Row → List Turn
+abbrev pub turns_from : End → List Row → Pair → (time first : ℕ) → List Row → List Turn
 turns_from end rows pair time n [] = []
 turns_from end rows pair time n (r ∷ rs) =
     row_turns end rows pair time n r ++ turns_from end rows pair time (n + 1) rs
 
 -- the turns at both ends in the second after this time (own)
-abbrev pub turns_after : List Row → List Row → Pair → ℕ → List Turn
+abbrev pub turns_after : (a_rows b_rows : List Row) → Pair → ℕ → List Turn
 turns_after a b pair time = turns_from A a pair time 1 a ++ turns_from B b (mirrored pair) time 1 b
 
 -- the turns at both ends in so many seconds after this time (own)
-abbrev pub turns_in : List Row → List Row → Pair → ℕ → ℕ → List Turn
+abbrev pub turns_in : (a_rows b_rows : List Row) → Pair → (time count : ℕ) → List Turn
 turns_in a b pair time zero = []
 turns_in a b pair time (suc n) = turns_after a b pair time ++ turns_in a b pair (time + 1) n
 
@@ -82,7 +82,7 @@ pub record Keeps (time : ℕ) (r : Row) : Type 0 where
   pub accepting : contains r.accepting time ≡ contains r.accepting (time + 1)
 
 -- all turns after one time until another, at both ends of a connection, in order (own)
-abbrev pub calendar_of : List Table → Pair → ℕ → ℕ → List Turn
+abbrev pub calendar_of : List Table → Pair → (low high : ℕ) → List Turn
 calendar_of tables pair low high =
     turns_in (rows_at tables pair.local.address) (rows_at tables pair.remote.address) pair low
     (high - low)

@@ -4,11 +4,12 @@ use Rattle.std.specs.Prelude.{◌==◌, ◌&&◌, not, Bool}
 use Rattle.ao_base.specs.declared.address.Pair.{Pair}
 use Rattle.book_segments.specs.Bytes.{same_bytes}
 use Rattle.book_plans.specs.declared.differences.Differences.{Differences}
-use Rattle.book_keys.specs.Plans.{mirrored, same_algorithm, same_flag}
+use Rattle.book_keys.specs.Plans.{mirrored, same_flag}
+use Rattle.ao_base.specs.Algorithms.{same_algorithm}
 use Rattle.book_keys.specs.Rows.{Row, matches, receives}
 
 -- the columns in which the other end's row isn't as the row that sends asks (RFC 5925, section 3.1)
-abbrev pub differences : Pair → Row → Row → Differences
+abbrev pub differences : Pair → (sending other : Row) → Differences
 differences pair r other = record {
   connection = not (matches other (mirrored pair));
   direction = not (receives other.direction);

@@ -27,7 +27,8 @@ with_finding None fs = fs
 with_finding (Some f) fs = f ∷ fs
 
 -- each row of an end that isn't met at the other, in order, the first row having number n (own)
-abbrev pub unmet_findings : End → ℕ → List Row → List Row → Pair → ℕ → ℕ → List Finding
+abbrev pub unmet_findings :
+    End → ℕ → (rows others : List Row) → Pair → (lead lag : ℕ) → List Finding
 unmet_findings end n [] others pair lead lag = []
 unmet_findings end n (r ∷ rs) others pair lead lag =
     with_finding (option_map (finding_by end n) (unmet_reason others pair lead lag r))
@@ -47,7 +48,7 @@ lengthened time (s ∷ ss) =
 
 -- the longest spans of times that fail the test, in order, among so many times from this one on
 -- (own)
-abbrev pub failing_spans : (ℕ → Bool) → ℕ → ℕ → List Span
+abbrev pub failing_spans : (ℕ → Bool) → (time count : ℕ) → List Span
 failing_spans good time zero = []
 failing_spans good time (suc n) =
     if good time then failing_spans good (time + 1) n
@@ -64,7 +65,7 @@ pub record IsFirstSpan (good : ℕ → Bool) (low end : ℕ) (s : Span) : Type 0
   pub after : s.last + 1 < end → good (s.last + 1) ≡ true
 
 -- the spans are all the longest in which each time from low on and before the end fails (own)
-abbrev pub AreLongest : (ℕ → Bool) → ℕ → ℕ → List Span → Type 0
+abbrev pub AreLongest : (ℕ → Bool) → (low end : ℕ) → List Span → Type 0
 AreLongest good low end [] = (t : ℕ) → low ≤ t → t < end → good t ≡ true
 AreLongest good low end (s ∷ ss) = IsFirstSpan good low end s × AreLongest good (s.last + 1) end ss
 
@@ -73,12 +74,12 @@ abbrev pub gap_finding : End → Span → Finding
 gap_finding end s = finding.Gap end s.first s.last
 
 -- each gap of an end from low to high, in order (RFC 7210, section 3, and own)
-abbrev pub gap_findings : End → List Row → Pair → ℕ → ℕ → List Finding
+abbrev pub gap_findings : End → List Row → Pair → (low high : ℕ) → List Finding
 gap_findings end rows pair low high =
     map (gap_finding end) (failing_spans (has_sendable rows pair) low (high + 1 - low))
 
 -- all findings: the rows of a that aren't met, those of b, the gaps of a, those of b (own)
-unfoldable pub findings : List Row → List Row → Pair → ℕ → ℕ → ℕ → ℕ → List Finding
+unfoldable pub findings : (a_rows b_rows : List Row) → Pair → (lead lag low high : ℕ) → List Finding
 findings a b pair lead lag low high =
     unmet_findings A 1 a b pair lead lag
     ++ (unmet_findings B 1 b a (mirrored pair) lead lag
@@ -86,7 +87,7 @@ findings a b pair lead lag low high =
     ++ gap_findings B b (mirrored pair) low high))
 
 -- all findings on a connection by the tables of a key file (own)
-abbrev pub findings_of : List Table → Pair → ℕ → ℕ → ℕ → ℕ → List Finding
+abbrev pub findings_of : List Table → Pair → (lead lag low high : ℕ) → List Finding
 findings_of tables pair lead lag low high =
     findings (rows_at tables pair.local.address) (rows_at tables pair.remote.address) pair lead lag
     low high
@@ -99,14 +100,14 @@ first_answer (finding.ShortAccept end n ∷ fs) = answer.ShortAccept end n
 first_answer (finding.Gap end from to ∷ fs) = answer.Gap end from
 
 -- when a row of the other end is to accept what this row sends (own)
-abbrev pub wanted_accepting : ℕ → ℕ → Row → Lifetime
+abbrev pub wanted_accepting : (lead lag : ℕ) → Row → Lifetime
 wanted_accepting lead lag r = record {
   first = r.sending.first - lead;
   last = min greatest_time (r.sending.last + lag);
 }
 
 -- the least lifetime that contains both of two (own)
-abbrev pub widened : Lifetime → Lifetime → Lifetime
+abbrev pub widened : (one other : Lifetime) → Lifetime
 widened one two = record { first = min one.first two.first; last = max one.last two.last }
 
 -- a row with another AcceptLifetimeStart and AcceptLifetimeEnd (RFC 7210, section 2)

@@ -24,7 +24,7 @@ IsMargin Holds (Some Any) = (n : ℕ) → Holds n
 IsMargin Holds (Some (UpTo most)) = (n : ℕ) → Holds n ↔ (n ≤ most)
 
 -- the greater of two margins, no margin being the least (own)
-abbrev pub wider : Option Margin → Option Margin → Option Margin
+abbrev pub wider : (one other : Option Margin) → Option Margin
 wider None two = two
 wider (Some Any) two = Some Any
 wider (Some (UpTo one)) None = Some (UpTo one)
@@ -32,7 +32,7 @@ wider (Some (UpTo one)) (Some Any) = Some Any
 wider (Some (UpTo one)) (Some (UpTo two)) = Some (UpTo (max one two))
 
 -- the lesser of two margins (own)
-abbrev pub narrower : Option Margin → Option Margin → Option Margin
+abbrev pub narrower : (one other : Option Margin) → Option Margin
 narrower None two = None
 narrower (Some Any) two = two
 narrower (Some (UpTo one)) None = None
@@ -51,12 +51,12 @@ narrowest margin so_far (r ∷ rs) = narrowest margin (narrower so_far (margin r
 
 -- by how much accepting from this time on begins before sending from that time on; always, from 0
 -- (own)
-abbrev pub time_before : ℕ → ℕ → Margin
+abbrev pub time_before : (accepted sent : ℕ) → Margin
 time_before accepted sent = if accepted == 0 then Any else UpTo (sent - accepted)
 
 -- by how much accepting until this time ends after sending until that time; always, at the last
 -- (own)
-abbrev pub time_after : ℕ → ℕ → Margin
+abbrev pub time_after : (accepted sent : ℕ) → Margin
 time_after accepted sent = if nat_le greatest_time accepted then Any else UpTo (accepted - sent)
 
 -- the margin, where the test holds (own)
@@ -66,14 +66,14 @@ margin_where false margin = None
 
 -- the leads with which, at this lag, the other end's row accepts throughout what this row sends
 -- (own)
-abbrev pub lead_by : Pair → ℕ → Row → Row → Option Margin
+abbrev pub lead_by : Pair → ℕ → (sending other : Row) → Option Margin
 lead_by pair lag r other =
     margin_where (accepts_throughout pair 0 lag r other)
     (time_before other.accepting.first r.sending.first)
 
 -- the lags with which, at this lead, the other end's row accepts throughout what this row sends
 -- (own)
-abbrev pub lag_by : Pair → ℕ → Row → Row → Option Margin
+abbrev pub lag_by : Pair → ℕ → (sending other : Row) → Option Margin
 lag_by pair lead r other =
     margin_where (accepts_throughout pair lead 0 r other)
     (time_after other.accepting.last r.sending.last)
@@ -90,19 +90,19 @@ lag_of_row others pair lead r =
     if sends_for pair r then widest (lag_by pair lead r) None others else Some Any
 
 -- the leads with which, at this lag, each row of a sender's table is met in the receiver's (own)
-abbrev pub lead_from : List Row → List Row → Pair → ℕ → Option Margin
+abbrev pub lead_from : (rows others : List Row) → Pair → ℕ → Option Margin
 lead_from rows others pair lag = narrowest (lead_of_row others pair lag) (Some Any) rows
 
 -- the lags with which, at this lead, each row of a sender's table is met in the receiver's (own)
-abbrev pub lag_from : List Row → List Row → Pair → ℕ → Option Margin
+abbrev pub lag_from : (rows others : List Row) → Pair → ℕ → Option Margin
 lag_from rows others pair lead = narrowest (lag_of_row others pair lead) (Some Any) rows
 
 -- the leads with which, at this lag, both ends' tables are aligned (own)
-abbrev pub lead_margin : List Row → List Row → Pair → ℕ → Option Margin
+abbrev pub lead_margin : (a_rows b_rows : List Row) → Pair → ℕ → Option Margin
 lead_margin a b pair lag = narrower (lead_from a b pair lag) (lead_from b a (mirrored pair) lag)
 
 -- the lags with which, at this lead, both ends' tables are aligned (own)
-abbrev pub lag_margin : List Row → List Row → Pair → ℕ → Option Margin
+abbrev pub lag_margin : (a_rows b_rows : List Row) → Pair → ℕ → Option Margin
 lag_margin a b pair lead = narrower (lag_from a b pair lead) (lag_from b a (mirrored pair) lead)
 
 -- the leads by the tables of a key file (own)
@@ -127,19 +127,19 @@ abbrev pub AreOrdered : List Row → Type 0
 AreOrdered rows = AllByRecursion IsOrdered rows
 
 -- at this lag the tables are aligned with the lead (own)
-abbrev pub AlignedAtLead : List Row → List Row → Pair → ℕ → ℕ → Type 0
+abbrev pub AlignedAtLead : (a_rows b_rows : List Row) → Pair → (lag lead : ℕ) → Type 0
 AlignedAtLead a b pair lag lead = Aligned a b pair lead lag
 
 -- at this lead the tables are aligned with the lag (own)
-abbrev pub AlignedAtLag : List Row → List Row → Pair → ℕ → ℕ → Type 0
+abbrev pub AlignedAtLag : (a_rows b_rows : List Row) → Pair → (lead lag : ℕ) → Type 0
 AlignedAtLag a b pair lead lag = Aligned a b pair lead lag
 
 -- at this lag the judgement is that a connection is aligned with the lead (own)
-abbrev pub SaysAlignedAtLead : List Table → Pair → ℕ → ℕ → ℕ → ℕ → Type 0
+abbrev pub SaysAlignedAtLead : List Table → Pair → (lag low high lead : ℕ) → Type 0
 SaysAlignedAtLead tables pair lag low high lead =
     lint_of tables pair lead lag low high ≡ answer.Aligned
 
 -- at this lead the judgement is that a connection is aligned with the lag (own)
-abbrev pub SaysAlignedAtLag : List Table → Pair → ℕ → ℕ → ℕ → ℕ → Type 0
+abbrev pub SaysAlignedAtLag : List Table → Pair → (lead low high lag : ℕ) → Type 0
 SaysAlignedAtLag tables pair lead low high lag =
     lint_of tables pair lead lag low high ≡ answer.Aligned

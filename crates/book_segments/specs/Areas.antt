@@ -33,7 +33,7 @@ ending p = record { kind = 0; body = []; place = p }
 
 -- the bytes from a place on are these options and then the tail: kind 0 stands at most last, and
 -- only behind it is there a tail (RFC 9293, section 3.2)
-abbrev pub AreaAt : ℕ → List Opt → List ℕ → List ℕ → Type 0
+abbrev pub AreaAt : ℕ → List Opt → (tail bytes : List ℕ) → Type 0
 AreaAt p list tail bytes =
     (Open p list × (tail ≡ []) × (bytes ≡ spell_options list))
     ⊎ ((before : List Opt) × Open p before
@@ -41,7 +41,7 @@ AreaAt p list tail bytes =
     × (bytes ≡ spell_options before ++ 0 ∷ tail))
 
 -- the bytes are these options and then the tail (RFC 9293, section 3.2)
-abbrev pub Area : List Opt → List ℕ → List ℕ → Type 0
+abbrev pub Area : List Opt → (tail bytes : List ℕ) → Type 0
 Area list tail bytes = AreaAt 0 list tail bytes
 
 -- the option at the front of these bytes is refused: no length byte, a length below the least, or

@@ -55,7 +55,7 @@ by_front (Leading kind body size rest) p others =
 
 -- the options of an area from a place on, of which the first argument bounds the number (RFC 9293,
 -- section 3.2)
-abbrev pub options_from : ℕ → ℕ → List ℕ → Options
+abbrev pub options_from : (most place : ℕ) → List ℕ → Options
 options_from zero p area = Listed []
 options_from (suc k) p area = by_front (option_front area) p (options_from k)
 
@@ -126,7 +126,7 @@ ao_of o = record {
 }
 
 -- what the options of kind 29 and those of kind 19 say together (RFC 5925, section 2.2)
-abbrev pub found : List Opt → List Opt → AoFound
+abbrev pub found : (ao md5 : List Opt) → AoFound
 found [] md5 = Absent
 found (o ∷ p ∷ os) md5 = Two
 found (o ∷ []) [] = One (ao_of o)

@@ -5,29 +5,29 @@ use Rattle.std.specs.Prelude.{if◌then◌else◌}
 
 -- so many bytes from a number on, 0 in place of one that is missing (RFC 9293, section 3.4, and
 -- own)
-abbrev pub bytes_from : (ℕ → Option ℕ) → ℕ → ℕ → List ℕ
+abbrev pub bytes_from : (ℕ → Option ℕ) → (first count : ℕ) → List ℕ
 bytes_from m n zero = []
 bytes_from m n (suc k) = unwrap_or (m n) 0 ∷ bytes_from m (suc n) k
 
 -- the byte that was kept first, where there is one, else the later one (own)
-abbrev pub first_known : Option ℕ → Option ℕ → Option ℕ
+abbrev pub first_known : (kept later : Option ℕ) → Option ℕ
 first_known (Some b) o = Some b
 first_known None o = o
 
 -- a payload at number n, kept at the numbers from low to below high that have no byte yet (RFC
 -- 9293, section 3.10.7.4)
-unfoldable pub keep : (ℕ → Option ℕ) → ℕ → List ℕ → ℕ → ℕ → ℕ → Option ℕ
+unfoldable pub keep : (ℕ → Option ℕ) → ℕ → List ℕ → (low high place : ℕ) → Option ℕ
 keep m n payload low high p = first_known (m p)
     (if nat_le low p && nat_lt p high && nat_le n p then slice_get payload (p - n) else None)
 
 -- the first number from p on that has no byte, within so many (RFC 9293, section 3.10.7.4)
-abbrev pub first_missing : (ℕ → Option ℕ) → ℕ → ℕ → ℕ
+abbrev pub first_missing : (ℕ → Option ℕ) → (first count : ℕ) → ℕ
 first_missing m p zero = p
 first_missing m p (suc k) = if is_some (m p) then first_missing m (suc p) k else p
 
 -- how many separate runs of bytes begin from p on, within so many numbers; `inside` says that the
 -- number before p has a byte (own)
-abbrev pub runs : (ℕ → Option ℕ) → Bool → ℕ → ℕ → ℕ
+abbrev pub runs : (ℕ → Option ℕ) → Bool → (first count : ℕ) → ℕ
 runs m inside p zero = 0
 runs m inside p (suc k) =
     (if is_some (m p) && not inside then 1 else 0) + runs m (is_some (m p)) (suc p) k

@@ -16,6 +16,7 @@ use Rattle.book_segments.specs.declared.fault.DatagramFault.TheVariants.{NotTcp,
 use Rattle.book_segments.specs.declared.fault.DatagramFault.TheVariants.{DataOffset, BadOption}
 use Rattle.book_segments.specs.Folded.{folded}
 use Rattle.book_segments.specs.Options.{Options, Listed, Faulty, options_of}
+use Rattle.ao_base.specs.declared.address.Pair.{Pair}
 
 -- the fields of an IP header but its addresses and lengths (RFC 791, section 3.1; RFC 8200, section
 -- 3)
@@ -208,7 +209,7 @@ first_fault (first ∷ rest) =
 
 -- a datagram of this IP header, these addresses and the fields of its TCP bytes (RFC 9293, section
 -- 3.1)
-abbrev pub tcp_fields : IpHeader → Address → Address → List ℕ → Segment
+abbrev pub tcp_fields : IpHeader → (source destination : Address) → List ℕ → Segment
 tcp_fields ip source destination t =
     let size = 4 * (slice_index t 12 / 16) in
     record {
@@ -253,3 +254,7 @@ read_unless (Some fault) d = Bad fault
 -- 3.1; RFC 8200, section 3; RFC 9293, section 3.1)
 unfoldable pub reading : List ℕ → Reading
 reading b = read_unless (first_fault b) (fields b)
+
+-- the pair of a segment as its destination sees it (own)
+abbrev pub pair_reached : Segment → Pair
+pair_reached d = record { local = d.destination; remote = d.source }

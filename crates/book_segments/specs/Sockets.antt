@@ -12,12 +12,12 @@ octets (V4 bytes) = bytes
 octets (V6 bytes) = bytes
 
 -- both addresses are of one family and have the same bytes (own)
-abbrev pub same_address : Address → Address → Bool
+abbrev pub same_address : (one other : Address) → Bool
 same_address (V4 one) (V4 two) = same_bytes one two
 same_address (V4 one) (V6 two) = false
 same_address (V6 one) (V4 two) = false
 same_address (V6 one) (V6 two) = same_bytes one two
 
 -- both sockets have the same address and port (RFC 9293, section 4)
-abbrev pub same_socket : Socket → Socket → Bool
+abbrev pub same_socket : (one other : Socket) → Bool
 same_socket one two = same_address one.address two.address && (one.port == two.port)

@@ -110,7 +110,7 @@ addresses_in b =
 
 -- the pseudo-header of a datagram's bytes whose IP header has no options, and then the rest (RFC
 -- 9293, section 3.1; RFC 8200, section 8.1)
-abbrev pub pseudo_in : List ℕ → List ℕ → List ℕ
+abbrev pub pseudo_in : (datagram rest : List ℕ) → List ℕ
 pseudo_in b rest =
     if slice_index b 0 / 16 == 4 then addresses_in b ++ (0 ∷ 6 ∷ put2 (length b - 20) rest)
     else addresses_in b ++ put4 (length b - 40) (0 ∷ 0 ∷ 0 ∷ 6 ∷ rest)

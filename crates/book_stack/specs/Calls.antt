@@ -14,44 +14,45 @@ use Rattle.book_cmd_node.specs.declared.node.Act.{Act}
 use Rattle.book_cmd_node.specs.declared.node.Act.TheVariants as act
 use Rattle.book_cmd_node.specs.declared.node.NodeEvent.{NodeEvent}
 use Rattle.book_cmd_node.specs.declared.node.NodeEvent.TheVariants as event
-use Rattle.book_cmd_node.specs.NodeRuns.{NodeOutcome, Answered, Full, HasClosed, InUse, NodeFull, NoConnection, NodeStep, called, held_end, most_ends, node_step, pair_reached}
+use Rattle.book_cmd_node.specs.NodeRuns.{NodeOutcome, DatagramAnswered, NoRoom, ConnectionClosing, InUse, NodeFull, NoConnection, NodeStep, called, held_end, most_ends, node_step}
+use Rattle.book_segments.specs.Segments.{pair_reached}
 use Rattle.book_stack.specs.declared.front.Change.{Change}
 use Rattle.book_stack.specs.Watches.{arrived, is_heard}
 use Rattle.book_stack.specs.Stacks.{StackState, forgotten, knocks, touched, watched}
 use Rattle.book_stack.specs.Turns.{Turn, called_at, change_by, clocked, output_at}
 
 -- bytes that come at a time in milliseconds (own)
-pub record Coming : Type 0 where
+pub record Incoming : Type 0 where
   pub now : ℕ
   pub bytes : List ℕ
 
 -- what is called at a stack; of what happens at a pair its user calls all but Send and Resend (own)
 pub data Call : Type 0 where
   At : (pair : Pair) (what : Act) → Call
-  Input : (coming : Coming) → Call
+  Input : (coming : Incoming) → Call
   Output : (now : ℕ) → Call
   Add : (row : NewRow) → Call
   Withdraw : (number : ℕ) → Call
 
 -- what a call answers: as a node does; a SYN asks for a connection of this pair; the next datagram
 -- or none; what came of adding a row; whether there was the row to withdraw (own)
-pub data Answer : Type 0 where
-  Told : (outcome : NodeOutcome) → Answer
-  Knocks : (pair : Pair) → Answer
-  Hands : (emission : Emission) → Answer
-  Rests : Answer
-  Adds : (adding : Adding) → Answer
-  Withdraws NoSuchRow : Answer
+pub data CallAnswer : Type 0 where
+  Told : (outcome : NodeOutcome) → CallAnswer
+  Knocks : (pair : Pair) → CallAnswer
+  Hands : (emission : Emission) → CallAnswer
+  Rests : CallAnswer
+  Adds : (adding : Adding) → CallAnswer
+  Withdraws NoSuchRow : CallAnswer
 
 -- what a call leaves, the plain events that it made with their answers, and what it answers (own)
 pub record Did : Type 0 where
   pub stack : StackState
   pub events : List NodeEvent
   pub outcomes : List NodeOutcome
-  pub answer : Answer
+  pub answer : CallAnswer
 
 -- a call that makes no plain event (own)
-abbrev pub unasked : StackState → Answer → Did
+abbrev pub unasked : StackState → CallAnswer → Did
 unasked s answer = record { stack = s; events = []; outcomes = []; answer = answer }
 
 -- a call that makes one plain event and answers as it is answered (own)
@@ -63,39 +64,39 @@ abbrev pub stepped : StackState → NodeStep → StackState
 stepped s step = record s { node = step.node }
 
 -- a plain event of a node of a stack (own)
-abbrev pub plain : StackState → NodeEvent → NodeStep
-plain s e = node_step most_ends s.rows s.node e
+abbrev pub plain_step : StackState → NodeEvent → NodeStep
+plain_step s e = node_step most_ends s.rows s.node e
 
 -- what is kept after a call at a pair that is held: nothing where it was dropped; after a refusal
 -- as before; else its end may have something to send (own)
 abbrev pub kept : Pair → Act → NodeOutcome → StackState → StackState
 kept pair act.Remove o s = forgotten pair s
 kept pair a InUse s = s
-kept pair a Full s = s
-kept pair a HasClosed s = s
+kept pair a NoRoom s = s
+kept pair a ConnectionClosing s = s
 kept pair a o s = touched pair s
 
 -- a call at a pair that is held (own)
 abbrev pub at_held : Pair → Act → StackState → Did
-at_held pair a s = let step = plain s (event.On pair a) in
+at_held pair a s = let step = plain_step s (event.On pair a) in
     asking (kept pair a step.outcome (stepped s step)) (event.On pair a) step.outcome
 
 -- the call makes a new end (own)
-abbrev pub begins : Act → Bool
-begins (act.Open isn) = true
-begins (act.Listen isn) = true
-begins (act.Start isn peer) = true
-begins _ = false
+abbrev pub makes_an_end : Act → Bool
+makes_an_end (act.Open isn) = true
+makes_an_end (act.Listen isn) = true
+makes_an_end (act.Start isn peer) = true
+makes_an_end _ = false
 
 -- a new end, where fewer are held than the stack holds at most (own)
 abbrev pub begun : Pair → Act → StackState → Did
 begun pair a s = if nat_le s.most (length s.node.ends) then unasked s (Told NodeFull)
-    else (let step = plain s (event.On pair a) in
+    else (let step = plain_step s (event.On pair a) in
     asking (touched pair (stepped s step)) (event.On pair a) step.outcome)
 
 -- a call at a pair that isn't held (own)
 abbrev pub at_other : Pair → Act → StackState → Did
-at_other pair a s = if begins a then begun pair a s else asking s (event.On pair a) NoConnection
+at_other pair a s = if makes_an_end a then begun pair a s else asking s (event.On pair a) NoConnection
 
 -- a call at a pair (own)
 abbrev pub at_pair : Pair → Act → StackState → Option EndState → Did
@@ -103,32 +104,32 @@ at_pair pair a s None = at_other pair a s
 at_pair pair a s (Some e) = at_held pair a s
 
 -- the timer and the line after an end heard a segment: as before where the check refused it (own)
-abbrev pub heard : ℕ → Pair → Arrival → Change → StackState → StackState
-heard now pair answer c s = if is_heard answer
+abbrev pub after_segment_heard : ℕ → Pair → Arrival → Change → StackState → StackState
+after_segment_heard now pair answer c s = if is_heard answer
     then touched pair (watched pair (arrived now answer c (s.watches pair)) s) else s
 
 -- the end of a pair hears a segment, with what it answers (RFC 9293, section 3.10.7)
-abbrev pub heard_end : Coming → Pair → EndState → book.Arrived → StackState → Did
+abbrev pub heard_end : Incoming → Pair → EndState → book.Arrived → StackState → Did
 heard_end coming pair e a s =
-    let c = called a.state (Answered a.answer) in
-    asking (heard coming.now pair a.answer (change_by e c) (called_at pair c s))
-    (event.Inject coming.bytes) (Answered a.answer)
+    let c = called a.state (DatagramAnswered a.answer) in
+    asking (after_segment_heard coming.now pair a.answer (change_by e c) (called_at pair c s))
+    (event.Inject coming.bytes) (DatagramAnswered a.answer)
 
 -- a segment comes to the end of a pair, where it is held (own)
-abbrev pub heard_pair : Coming → Pair → Segment → StackState → Option EndState → Did
+abbrev pub heard_pair : Incoming → Pair → Segment → StackState → Option EndState → Did
 heard_pair coming pair d s None = asking s (event.Inject coming.bytes) NoConnection
 heard_pair coming pair d s (Some e) =
     heard_end coming pair e (book.arrive s.rows pair s.node.clock e (Read d)) s
 
 -- a segment comes: it knocks, or it comes to the end of its pair (own)
-abbrev pub met : Coming → Segment → StackState → Option EndState → Did
+abbrev pub met : Incoming → Segment → StackState → Option EndState → Did
 met coming d s held = if knocks d held then unasked s (Knocks (pair_reached d))
     else heard_pair coming (pair_reached d) d s held
 
 -- bytes come (own)
-abbrev pub came : Coming → Reading → StackState → Did
-came coming (Unread fault) s = asking s (event.Inject coming.bytes) (Answered (Bad fault))
-came coming (Read d) s = met coming d s (held_end (pair_reached d) s.node.ends)
+abbrev pub bytes_received : Incoming → Reading → StackState → Did
+bytes_received coming (Unread fault) s = asking s (event.Inject coming.bytes) (DatagramAnswered (Bad fault))
+bytes_received coming (Read d) s = met coming d s (held_end (pair_reached d) s.node.ends)
 
 -- the call after a turn (own)
 abbrev pub after_turn : Turn → (StackState → Did) → Did
@@ -140,13 +141,13 @@ after_turn t next = let d = next t.stack in record {
 }
 
 -- a datagram is handed out, or none is due (own)
-abbrev pub handed_out : Option Emission → Answer
+abbrev pub handed_out : Option Emission → CallAnswer
 handed_out None = Rests
 handed_out (Some x) = Hands x
 
 -- the answer of a turn (own)
-abbrev pub ended : Turn → Did
-ended t = record {
+abbrev pub turn_ended : Turn → Did
+turn_ended t = record {
   stack = t.stack;
   events = t.events;
   outcomes = t.outcomes;
@@ -166,7 +167,7 @@ withdrew s (Some rows) = unasked (record s { rows = rows }) Withdraws
 -- what a call does (own)
 unfoldable pub call : Call → StackState → Did
 call (At pair a) s = at_pair pair a s (held_end pair s.node.ends)
-call (Input coming) s = after_turn (clocked coming.now s) (came coming (reading coming.bytes))
-call (Output now) s = ended (output_at now s)
+call (Input coming) s = after_turn (clocked coming.now s) (bytes_received coming (reading coming.bytes))
+call (Output now) s = turn_ended (output_at now s)
 call (Add row) s = added s (adding s.rows (row_of_new row))
 call (Withdraw n) s = withdrew s (withdrawn s.rows n)

@@ -3,7 +3,7 @@ use Rattle.std.specs.Prelude.{◌≡◌, ℕ, Bool, true, false, List, [], ◌�
 use Rattle.book_keys.specs.Rows.{Row}
 use Rattle.book_cmd_node.specs.declared.node.NodeEvent.{NodeEvent}
 use Rattle.book_cmd_node.specs.NodeRuns.{NodeOutcome, most_ends, node_from, node_outcomes_from}
-use Rattle.book_stack.specs.Calls.{Answer, Call, Add, Withdraw, call}
+use Rattle.book_stack.specs.Calls.{CallAnswer, Call, Add, Withdraw, call}
 use Rattle.book_stack.specs.Stacks.{StackState, empty_stack}
 
 -- the stack after these calls (own)
@@ -12,7 +12,7 @@ stack_after s [] = s
 stack_after s (c ∷ cs) = stack_after (call c s).stack cs
 
 -- the answers to these calls (own)
-abbrev pub answers_from : StackState → List Call → List Answer
+abbrev pub answers_from : StackState → List Call → List CallAnswer
 answers_from s [] = []
 answers_from s (c ∷ cs) = let d = call c s in d.answer ∷ answers_from d.stack cs
 

@@ -11,14 +11,14 @@ use Rattle.book_endpoint.specs.Arrivals.{syn_alone}
 use Rattle.book_cmd_node.specs.NodeRuns.{NodeState, no_ends, same_pair}
 use Rattle.book_stack.specs.declared.alarm.Alarm.{Alarm}
 use Rattle.book_stack.specs.Alarms.{earliest, lined, with_alarm, without_alarm, without_pair}
-use Rattle.book_stack.specs.Watches.{Watch, new_watch, silence, is_overdue}
+use Rattle.book_stack.specs.Watches.{ConnectionWatch, new_connection_watch, silence, is_overdue}
 
 -- a stack (own)
 pub record StackState : Type 0 where
   pub rows : List Row  -- the rows of its table
   pub most : ℕ  -- how many ends it holds at most
   pub node : NodeState  -- its ends, and their clock in seconds
-  pub watches : Pair → Watch  -- the timer of each connection
+  pub watches : Pair → ConnectionWatch  -- the timer of each connection
   pub alarms : List Alarm  -- the deadlines of the timers, the earliest first
   pub line : List Pair  -- the ends that may have something to send, in their turn
 
@@ -28,7 +28,7 @@ empty_stack rows most = record {
   rows = rows;
   most = most;
   node = no_ends;
-  watches = λ pair. new_watch;
+  watches = λ pair. new_connection_watch;
   alarms = [];
   line = [];
 }
@@ -38,7 +38,7 @@ abbrev pub touched : Pair → StackState → StackState
 touched pair s = record s { line = lined s.most pair s.line }
 
 -- the timer of a pair becomes another, and its alarm with it (own)
-abbrev pub watched : Pair → Watch → StackState → StackState
+abbrev pub watched : Pair → ConnectionWatch → StackState → StackState
 watched pair w s = record s {
   watches = λ q. if same_pair pair q then w else s.watches q;
   alarms = with_alarm s.most pair w.deadline s.alarms;
@@ -47,13 +47,13 @@ watched pair w s = record s {
 -- nothing is kept of a pair (own)
 abbrev pub forgotten : Pair → StackState → StackState
 forgotten pair s = record s {
-  watches = λ q. if same_pair pair q then new_watch else s.watches q;
+  watches = λ q. if same_pair pair q then new_connection_watch else s.watches q;
   alarms = without_alarm pair s.alarms;
   line = without_pair pair s.line;
 }
 
 -- the earlier of two deadlines, where there are any (own)
-abbrev pub sooner : Option ℕ → Option ℕ → Option ℕ
+abbrev pub sooner : (one other : Option ℕ) → Option ℕ
 sooner None b = b
 sooner (Some a) None = Some a
 sooner (Some a) (Some b) = Some (min a b)

@@ -8,10 +8,10 @@ use Rattle.book_endpoint.specs.Emissions.{Emission, emit, resend}
 use Rattle.book_cmd_node.specs.declared.node.NodeEvent.{NodeEvent}
 use Rattle.book_cmd_node.specs.declared.node.NodeEvent.TheVariants as event
 use Rattle.book_cmd_node.specs.declared.node.Act.TheVariants as act
-use Rattle.book_cmd_node.specs.NodeRuns.{NodeOutcome, Done, Sent, WithoutKey, Called, Idle, Nothing, after_call, made_called, held_end, ends_ticked}
+use Rattle.book_cmd_node.specs.NodeRuns.{NodeOutcome, Performed, Transmitted, NoUsableKey, Called, NothingToSend, NothingToResend, after_call, made_called, held_end, ends_ticked}
 use Rattle.book_stack.specs.declared.alarm.Alarm.{Alarm}
 use Rattle.book_stack.specs.declared.front.Change.{Change}
-use Rattle.book_stack.specs.Watches.{Watch, at_rest, awaits, expired_at, front_of, sent, stopped}
+use Rattle.book_stack.specs.Watches.{ConnectionWatch, at_rest, awaits, expired_at, end_front, after_sending, timer_stopped}
 use Rattle.book_stack.specs.Stacks.{StackState, touched, watched}
 
 -- what a turn leaves: the stack, the plain events that it made with their answers, and the segment
@@ -47,7 +47,7 @@ clocked now s = if s.node.clock == now / 1000 then passing s else record {
     node = record { clock = now / 1000; ends = ends_ticked (now / 1000) s.node.ends };
   };
   events = event.Clock (now / 1000) ∷ [];
-  outcomes = Done ∷ [];
+  outcomes = Performed ∷ [];
   hands = None;
 }
 
@@ -57,24 +57,24 @@ called_at pair c s = record s { node = (after_call s.node pair c).node }
 
 -- where an end stood before it was called, and after (own)
 abbrev pub change_by : EndState → Called → Change
-change_by e c = record { before = front_of e; after = front_of c.state }
+change_by e c = record { before = end_front e; after = end_front c.state }
 
 -- the segment of an answer (own)
 abbrev pub segment_in : NodeOutcome → Option Emission
-segment_in (Sent x) = Some x
+segment_in (Transmitted x) = Some x
 segment_in _ = None
 
 -- the timer of an end that was asked for its next segment: after one; without a row to send with it
 -- stays; else the end is at rest (own)
-abbrev pub asked_watch : ℕ → Change → Bool → NodeOutcome → Watch → Watch
-asked_watch now c waits (Sent x) w = sent now c w
-asked_watch now c waits WithoutKey w = w
+abbrev pub asked_watch : ℕ → Change → Bool → NodeOutcome → ConnectionWatch → ConnectionWatch
+asked_watch now c waits (Transmitted x) w = after_sending now c w
+asked_watch now c waits NoUsableKey w = w
 asked_watch now c waits _ w = at_rest now c.after.phase waits w
 
 -- the line after an end was asked: who has something to send stands at its end (own)
 abbrev pub asked_line : Pair → NodeOutcome → StackState → StackState
-asked_line pair (Sent x) s = touched pair s
-asked_line pair WithoutKey s = touched pair s
+asked_line pair (Transmitted x) s = touched pair s
+asked_line pair NoUsableKey s = touched pair s
 asked_line pair _ s = s
 
 -- an end is asked for its next segment, with what it answers (own)
@@ -89,11 +89,11 @@ asked_end now pair e c s =
 
 -- what the end of a pair answers that is asked for its next segment (RFC 9293, section 3.10)
 abbrev pub spoken_by : StackState → Pair → EndState → Called
-spoken_by s pair e = made_called e Idle (emit s.rows pair s.node.clock e)
+spoken_by s pair e = made_called e NothingToSend (emit s.rows pair s.node.clock e)
 
 -- what it answers that is to send again (RFC 9293, section 3.10.8)
 abbrev pub repeated_by : StackState → Pair → EndState → Called
-repeated_by s pair e = made_called e Nothing (resend s.rows pair s.node.clock e)
+repeated_by s pair e = made_called e NothingToResend (resend s.rows pair s.node.clock e)
 
 -- the end of a pair is asked, where it is held (own)
 abbrev pub asked_pair : ℕ → Pair → StackState → Option EndState → Turn
@@ -110,10 +110,10 @@ abbrev pub ask : ℕ → StackState → Turn
 ask now s = asked_first now s s.line
 
 -- the timer of an end that was to send again: it expired, but for an end that had nothing to (own)
-abbrev pub woken_watch : ℕ → Phase → NodeOutcome → Watch → Watch
-woken_watch now phase (Sent x) w = expired_at now phase w
-woken_watch now phase WithoutKey w = expired_at now phase w
-woken_watch now phase _ w = stopped w
+abbrev pub woken_watch : ℕ → Phase → NodeOutcome → ConnectionWatch → ConnectionWatch
+woken_watch now phase (Transmitted x) w = expired_at now phase w
+woken_watch now phase NoUsableKey w = expired_at now phase w
+woken_watch now phase _ w = timer_stopped w
 
 -- an end sends again, with what it answers (RFC 6298, section 5.4)
 abbrev pub woken_end : ℕ → Pair → EndState → Called → StackState → Turn

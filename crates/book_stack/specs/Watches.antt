@@ -15,7 +15,7 @@ use Rattle.book_stack.specs.declared.front.Timed.{Timed}
 use Rattle.book_stack.specs.Millis.{sampled_millis, slowed}
 
 -- what is kept of a connection beside its end (own)
-pub record Watch : Type 0 where
+pub record ConnectionWatch : Type 0 where
   pub timer : Timer  -- the timer's value, and the smoothed times (RFC 6298, section 2)
   pub deadline : Option ℕ  -- when the timer expires, if it runs, or when TIME-WAIT ends
   pub timed : Option Timed  -- the number that is timed, and when it was sent (section 3)
@@ -23,8 +23,8 @@ pub record Watch : Type 0 where
   pub heard : ℕ  -- when the peer was last heard, or the end began to wait for it
 
 -- the timer of a new connection (RFC 6298, section 2.1)
-abbrev pub new_watch : Watch
-new_watch = record {
+abbrev pub new_connection_watch : ConnectionWatch
+new_connection_watch = record {
   timer = new_timer;
   deadline = None;
   timed = None;
@@ -33,28 +33,28 @@ new_watch = record {
 }
 
 -- where an end stands (own)
-abbrev pub front_of : EndState → Front
-front_of s = record { phase = s.phase; una = s.una; next = s.next }
+abbrev pub end_front : EndState → Front
+end_front s = record { phase = s.phase; una = s.una; next = s.next }
 
 -- the timer runs anew, its value from now on (RFC 6298, section 5)
-abbrev pub started : ℕ → Watch → Watch
-started now w = record w { deadline = Some (now + w.timer.value) }
+abbrev pub timer_started : ℕ → ConnectionWatch → ConnectionWatch
+timer_started now w = record w { deadline = Some (now + w.timer.value) }
 
 -- the timer doesn't run, and nothing is timed (RFC 6298, section 5.2)
-abbrev pub stopped : Watch → Watch
-stopped w = record w { deadline = None; timed = None }
+abbrev pub timer_stopped : ConnectionWatch → ConnectionWatch
+timer_stopped w = record w { deadline = None; timed = None }
 
 -- what is timed was acknowledged: a sample is taken (RFC 6298, section 3)
-abbrev pub sampled_by : ℕ → Front → Watch → Option Timed → Watch
-sampled_by now f w None = w
-sampled_by now f w (Some t) = if nat_le t.number f.una
+abbrev pub after_sample : ℕ → Front → ConnectionWatch → Option Timed → ConnectionWatch
+after_sample now f w None = w
+after_sample now f w (Some t) = if nat_le t.number f.una
     then record w { timer = sampled_millis w.timer (now - t.sent); timed = None } else w
 
 -- an acknowledgement of new data: the timer runs anew where some isn't acknowledged, else it stops
 -- (RFC 6298, sections 5.2 and 5.3)
-abbrev pub acknowledged : ℕ → Front → Watch → Watch
-acknowledged now f w = let t = sampled_by now f w w.timed in
-    if nat_lt f.una f.next then started now t else stopped t
+abbrev pub after_acknowledgement : ℕ → Front → ConnectionWatch → ConnectionWatch
+after_acknowledgement now f w = let t = after_sample now f w w.timed in
+    if nat_lt f.una f.next then timer_started now t else timer_stopped t
 
 -- the own SYN isn't acknowledged (own)
 abbrev pub is_opening : Phase → Bool
@@ -69,8 +69,8 @@ is_time_wait _ = false
 
 -- the handshake was completed after the SYN was sent again: the value is three seconds at least (RFC
 -- 6298, section 5.7)
-abbrev pub opened : Change → Watch → Watch
-opened c w = if w.syn_again && is_opening c.before.phase && not (is_opening c.after.phase)
+abbrev pub after_handshake : Change → ConnectionWatch → ConnectionWatch
+after_handshake c w = if w.syn_again && is_opening c.before.phase && not (is_opening c.after.phase)
     then record w { timer = slowed w.timer; syn_again = false } else w
 
 -- where TIME-WAIT that is entered now ends: twice 120 seconds on (RFC 9293, section 3.4.2)
@@ -78,7 +78,7 @@ abbrev pub time_wait_end : ℕ → ℕ
 time_wait_end now = 1000 * (now / 1000 + 240)
 
 -- TIME-WAIT was entered (own)
-abbrev pub rests_now : ℕ → Change → Watch → Watch
+abbrev pub rests_now : ℕ → Change → ConnectionWatch → ConnectionWatch
 rests_now now c w = if is_time_wait c.after.phase && not (is_time_wait c.before.phase)
     then record w { deadline = Some (time_wait_end now) } else w
 
@@ -92,29 +92,29 @@ is_heard (Refused why) = false
 is_heard _ = true
 
 -- a segment was heard (own)
-abbrev pub hearing : ℕ → Arrival → Watch → Watch
+abbrev pub hearing : ℕ → Arrival → ConnectionWatch → ConnectionWatch
 hearing now answer w = if is_heard answer then record w { heard = now } else w
 
 -- the timer after an arrival (RFC 6298, sections 3, 5.2, 5.3 and 5.7)
-abbrev pub arrived : ℕ → Arrival → Change → Watch → Watch
-arrived now answer c w = let v = opened c (hearing now answer w) in
-    rests_now now c (if nat_lt c.before.una c.after.una then acknowledged now c.after v else v)
+abbrev pub arrived : ℕ → Arrival → Change → ConnectionWatch → ConnectionWatch
+arrived now answer c w = let v = after_handshake c (hearing now answer w) in
+    rests_now now c (if nat_lt c.before.una c.after.una then after_acknowledgement now c.after v else v)
 
 -- the timer runs from now on, and the peer is waited for, unless it runs already (RFC 6298, section
 -- 5.1)
-abbrev pub running : ℕ → Watch → Option ℕ → Watch
-running now w None = started now (record w { heard = now })
+abbrev pub running : ℕ → ConnectionWatch → Option ℕ → ConnectionWatch
+running now w None = timer_started now (record w { heard = now })
 running now w (Some d) = w
 
 -- the number is timed, unless another one is (RFC 6298, section 3)
-abbrev pub timing : ℕ → Front → Watch → Option Timed → Watch
+abbrev pub timing : ℕ → Front → ConnectionWatch → Option Timed → ConnectionWatch
 timing now f w None = record w { timed = Some (record { number = f.next; sent = now }) }
 timing now f w (Some t) = w
 
 -- the timer after a segment was sent for the first time: new numbers are timed, and start it (RFC
 -- 6298, sections 3 and 5.1)
-abbrev pub sent : ℕ → Change → Watch → Watch
-sent now c w = if nat_lt c.before.next c.after.next
+abbrev pub after_sending : ℕ → Change → ConnectionWatch → ConnectionWatch
+after_sending now c w = if nat_lt c.before.next c.after.next
     then (let r = running now w w.deadline in timing now c.after r r.timed) else w
 
 -- something isn't acknowledged or waits for the peer's window: numbers that were sent, bytes that
@@ -136,19 +136,19 @@ awaits s = awaits_in s.phase s
 
 -- the timer of an end that has nothing to send, in this phase: it runs exactly where something would be
 -- sent again (own)
-abbrev pub at_rest : ℕ → Phase → Bool → Watch → Watch
+abbrev pub at_rest : ℕ → Phase → Bool → ConnectionWatch → ConnectionWatch
 at_rest now phase true w = running now w w.deadline
-at_rest now phase false w = if is_time_wait phase then w else stopped w
+at_rest now phase false w = if is_time_wait phase then w else timer_stopped w
 
 -- the timer expired: its value is doubled, it runs anew, and nothing is timed (RFC 6298, sections 3,
 -- 5.5 and 5.6)
-abbrev pub expired_at : ℕ → Phase → Watch → Watch
-expired_at now phase w = started now (record w
+abbrev pub expired_at : ℕ → Phase → ConnectionWatch → ConnectionWatch
+expired_at now phase w = timer_started now (record w
     { timer = expired w.timer; timed = None; syn_again = w.syn_again || is_opening phase })
 
 -- how long the end has waited for its peer and heard nothing, where it waits (RFC 9293, section
 -- 3.9.1.1)
-abbrev pub silence : ℕ → Phase → Watch → Option ℕ
+abbrev pub silence : ℕ → Phase → ConnectionWatch → Option ℕ
 silence now phase w = if is_time_wait phase || not (is_some w.deadline) then None
     else Some (now - w.heard)
 

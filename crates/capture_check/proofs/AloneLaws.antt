@@ -6,7 +6,7 @@ use Rattle.book_segments.specs.Options.{find_ao}
 use Rattle.book_segments.specs.Segments.{Segment, has, SYN}
 use Rattle.book_segments.proofs.Fields.{lt_is, lt_not}
 use Rattle.book_keys.specs.Rows.{Row}
-use Rattle.book_cmd_check.specs.Captures.{pair_at}
+use Rattle.book_segments.specs.Segments.{pair_reached}
 use Rattle.ao_kdf.specs.declared.way.Way.{Way}
 use Rattle.ao_kdf.specs.declared.way.Way.TheVariants.{Inbound}
 use Rattle.ao_check.specs.Bonds.{Bond, Fits, Counted, key_for}
@@ -19,7 +19,7 @@ no_key (Some r) way pair own None k p e = absurd (cc)
 no_key (Some r) way pair own (Some x) k p e = absurd (cc)
 
 pub alone_counts : (rows : List Row) (now : ℕ) (d : Segment) (before after : Bond) (computed : Bool) (old new : ℕ) → Fits rows after → after.peer ≡ None
-    → before.pair ≡ pair_at d → Counted before.keys after.keys (judging rows before.pair now (find_ao d.area)) computed Inbound (has SYN d) old new → AloneCounts rows now d old new
+    → before.pair ≡ pair_reached d → Counted before.keys after.keys (judging rows before.pair now (find_ao d.area)) computed Inbound (has SYN d) old new → AloneCounts rows now d old new
 alone_counts rows now d before after computed old new f none p c =
     let least = c.least in
     let most = c.most in
@@ -36,7 +36,7 @@ alone_counts rows now d before after computed old new f none p c =
         tested true e = inl (lt_is x y e)
         tested false e = inr (lt_not x y e)
 
-    at : (n : ℕ) → has SYN d ≡ false → judging rows (pair_at d) now (find_ao d.area) ≡ Some n → (old < new) ⊎ (new ≤ old) → new ≡ old
+    at : (n : ℕ) → has SYN d ≡ false → judging rows (pair_reached d) now (find_ao d.area) ≡ Some n → (old < new) ⊎ (new ≤ old) → new ≡ old
     at n syn row (inl more) =
         let k = c.derived n syn (rw p row) more in
         absurd (no_key (slice_get rows (n - 1)) Inbound after.pair after.own after.peer k.0 none (f.keys n Inbound k.0 k.1))

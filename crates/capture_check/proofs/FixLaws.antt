@@ -10,7 +10,8 @@ use Rattle.book_segments.proofs.Fields.{some_is}
 use Rattle.book_keys.specs.Rows.{Row, Table}
 use Rattle.book_endpoint.specs.declared.verdict.Verdict.{Verdict}
 use Rattle.book_endpoint.specs.Verdicts.{Judgement, judge}
-use Rattle.book_cmd_check.specs.Captures.{Connection, Heard, acknowledged_isn, connection_between, fixed, hear_judged, hear_later, hear_syn_ack, judge_stored, most_connections, pair_at, same_isns, with_connection}
+use Rattle.book_cmd_check.specs.Captures.{Connection, Heard, acknowledged_isn, connection_between, fixed, hear_judged, hear_later, hear_syn_ack, judge_stored, most_connections, same_isns, with_connection}
+use Rattle.book_segments.specs.Segments.{pair_reached}
 use Rattle.ao_kdf.specs.declared.way.Way.TheVariants.{Inbound}
 use Rattle.ao_kdf.proofs.CacheLaws.{kept-empty}
 use Rattle.ao_check.specs.Bonds.{Fits, fresh}
@@ -214,27 +215,27 @@ heard_fixed after held d k v (Ok p) l syn ack pass is h =
 
 -- a segment with SYN is judged by itself
 judged_first : (rows : List Row) (now own : ℕ) (d : Segment) (k : Option Connection) → has SYN d ≡ true → own ≡ acknowledged_isn d
-    → judge rows (pair_at d) (record { own_isn = own; peer_isn = None; expected = None }) now d ≡ judge_stored rows (pair_at d) now d k
+    → judge rows (pair_reached d) (record { own_isn = own; peer_isn = None; expected = None }) now d ≡ judge_stored rows (pair_reached d) now d k
 judged_first rows now own d k syn e = rw (e, syn) refl
 
 pub first_refused : (rows : List Row) (after : List (Ends × Flows)) (held : List Connection) (now own : ℕ) (d : Segment) (v : Verdict) → StandsFor after held → has SYN d ≡ true → own ≡ acknowledged_isn d
-    → Alone rows now own d v → is_pass v ≡ false → Hears after (line.Verdict v (good d)) (hear_judged held d (connection_between d held) (judge_stored rows (pair_at d) now d (connection_between d held)))
+    → Alone rows now own d v → is_pass v ≡ false → Hears after (line.Verdict v (good d)) (hear_judged held d (connection_between d held) (judge_stored rows (pair_reached d) now d (connection_between d held)))
 first_refused rows after held now own d v S syn e A no_pass =
-    let is = told_judged rows (pair_at d) d v (judge rows (pair_at d) (record { own_isn = own; peer_isn = None; expected = None }) now d) A.tells in
+    let is = told_judged rows (pair_reached d) d v (judge rows (pair_reached d) (record { own_isn = own; peer_isn = None; expected = None }) now d) A.tells in
     subst (λ (j : Judgement). Hears after (line.Verdict v (good d)) (hear_judged held d (connection_between d held) j)) (judged_first rows now own d (connection_between d held) syn e)
-    (heard_refused after held d (connection_between d held) v (judge rows (pair_at d) (record { own_isn = own; peer_isn = None; expected = None }) now d) S no_pass is)
+    (heard_refused after held d (connection_between d held) v (judge rows (pair_reached d) (record { own_isn = own; peer_isn = None; expected = None }) now d) S no_pass is)
 
 pub first_alone : (rows : List Row) (after : List (Ends × Flows)) (held : List Connection) (now own : ℕ) (d : Segment) (v : Verdict) → StandsFor after held → has SYN d ≡ true → own ≡ acknowledged_isn d
-    → Alone rows now own d v → has ACK d ≡ false → Hears after (line.Verdict v (good d)) (hear_judged held d (connection_between d held) (judge_stored rows (pair_at d) now d (connection_between d held)))
+    → Alone rows now own d v → has ACK d ≡ false → Hears after (line.Verdict v (good d)) (hear_judged held d (connection_between d held) (judge_stored rows (pair_reached d) now d (connection_between d held)))
 first_alone rows after held now own d v S syn e A ack =
-    let is = told_judged rows (pair_at d) d v (judge rows (pair_at d) (record { own_isn = own; peer_isn = None; expected = None }) now d) A.tells in
+    let is = told_judged rows (pair_reached d) d v (judge rows (pair_reached d) (record { own_isn = own; peer_isn = None; expected = None }) now d) A.tells in
     subst (λ (j : Judgement). Hears after (line.Verdict v (good d)) (hear_judged held d (connection_between d held) j)) (judged_first rows now own d (connection_between d held) syn e)
-    (heard_alone after held d (connection_between d held) v (judge rows (pair_at d) (record { own_isn = own; peer_isn = None; expected = None }) now d) S syn ack is)
+    (heard_alone after held d (connection_between d held) v (judge rows (pair_reached d) (record { own_isn = own; peer_isn = None; expected = None }) now d) S syn ack is)
 
 -- a SYN with ACK passed, and what is to be done with its connection was done
 pub record First (tables : List Table) (rows : List Row) (before after : List (Ends × Flows)) (now : ℕ) (d : Segment) (v : Verdict) (result : Bool) : Type 0 where
   pub heard : (held : List Connection) → StandsFor before held
-      → Hears after (fixed_line result v (good d)) (hear_judged held d (connection_between d held) (judge_stored rows (pair_at d) now d (connection_between d held)))
+      → Hears after (fixed_line result v (good d)) (hear_judged held d (connection_between d held) (judge_stored rows (pair_reached d) now d (connection_between d held)))
   pub sound : IsSound tables after
   pub keys : KeepsKeys before after
 
@@ -245,8 +246,8 @@ first tables rows before after now own d v result T ne syn ack e A pass small D 
     record {
       heard = λ held S.
           let o = found before (key_at d) in
-          let j = judge rows (pair_at d) (record { own_isn = own; peer_isn = None; expected = None }) now d in
-          let is = told_judged rows (pair_at d) d v j A.tells in
+          let j = judge rows (pair_reached d) (record { own_isn = own; peer_isn = None; expected = None }) now d in
+          let is = told_judged rows (pair_reached d) d v j A.tells in
           let done = hears_fixed tables before after held d v j o result S ne refl is D in
           let known_so = subst (λ (k : Option Connection). Hears after (fixed_line result v (good d)) (hear_syn_ack held d j k)) (sym (met before held d o S ne refl)) done in
           subst (λ (i : Judgement). Hears after (fixed_line result v (good d)) (hear_judged held d (connection_between d held) i)) (judged_first rows now own d (connection_between d held) syn e)

@@ -11,7 +11,8 @@ use Rattle.book_keys.specs.Rows.{Row, Table, has_address}
 use Rattle.book_endpoint.specs.declared.verdict.Verdict.{Verdict}
 use Rattle.book_endpoint.specs.declared.verdict.Verdict.TheVariants.{Pass, NoAo, TwoAo, WithMd5, NoTuple, Expired, MacLength, NoContext, Range, BadMac}
 use Rattle.book_endpoint.specs.Verdicts.{Finding, Judgement, judge}
-use Rattle.book_cmd_check.specs.Captures.{Connection, Heard, connection_between, hear_judged, hear_later, judge_stored, pair_at, with_connection}
+use Rattle.book_cmd_check.specs.Captures.{Connection, Heard, connection_between, hear_judged, hear_later, judge_stored, with_connection}
+use Rattle.book_segments.specs.Segments.{pair_reached}
 use Rattle.ao_kdf.specs.declared.way.Way.TheVariants.{Inbound}
 use Rattle.ao_check.specs.Bonds.{Bond}
 use Rattle.wrap_seq.specs.Counter.{number}
@@ -112,11 +113,11 @@ heard_known before after held s t d h next v (Ok p) S ne f P syn i o is_told e =
 
 pub hears_known : (tables : List Table) (rows : List Row) (before after : List (Ends × Flows)) (held : List Connection) (now : ℕ) (d : Segment) (h : Flows) (v : Verdict) (old new : ℕ)
     → StandsFor before held → IsSound tables before → same_socket d.source d.destination ≡ false → found before (key_at d) ≡ Some h → OfKnown rows now d before after h v old new → has SYN d ≡ false
-    → Hears after (line.Verdict v (good d)) (hear_judged held d (connection_between d held) (judge_stored rows (pair_at d) now d (connection_between d held)))
+    → Hears after (line.Verdict v (good d)) (hear_judged held d (connection_between d held) (judge_stored rows (pair_reached d) now d (connection_between d held)))
 hears_known tables rows before after held now d h v old new S T ne f K syn =
     let F = T d.source d.destination h ne f in
     let one = flow_from d.source d.destination h in
-    let is = judged_as rows now d one (pair_at d) (flow_from d.destination d.source h).isn F.pair F.own F.peer in
+    let is = judged_as rows now d one (pair_reached d) (flow_from d.destination d.source h).isn F.pair F.own F.peer in
     let H = K.hears.hears in
     let o = other_stays rows now d h K.next v old new ne K.hears in
     let is_told = told_judged rows one.receiver.pair d v (judged_on rows now d one) H.tells in
@@ -184,7 +185,7 @@ derives_known tables rows before after now d h v old new T ne f K =
     F : IsFlow tables d.source d.destination (flow_from d.source d.destination h) (flow_from d.destination d.source h)
     F = T d.source d.destination h ne f
 
-    judged_by : (n : ℕ) → judging rows (pair_at d) now (find_ao d.area) ≡ Some n → judging rows (flow_from d.source d.destination h).receiver.pair now (find_ao d.area) ≡ Some n
+    judged_by : (n : ℕ) → judging rows (pair_reached d) now (find_ao d.area) ≡ Some n → judging rows (flow_from d.source d.destination h).receiver.pair now (find_ao d.area) ≡ Some n
     judged_by n e = rw F.pair e
 
 -- ---- a segment without SYN of a connection that isn't known
@@ -197,9 +198,9 @@ heard_unknown after held d v (Ok p) S syn is_told =
 
 pub hears_unknown : (rows : List Row) (before after : List (Ends × Flows)) (held : List Connection) (now : ℕ) (d : Segment) (v : Verdict) (old new : ℕ)
     → StandsFor before held → same_socket d.source d.destination ≡ false → found before (key_at d) ≡ None → OfUnknown rows now d before after v old new → has SYN d ≡ false
-    → Hears after (line.Verdict v (good d)) (hear_judged held d (connection_between d held) (judge_stored rows (pair_at d) now d (connection_between d held)))
+    → Hears after (line.Verdict v (good d)) (hear_judged held d (connection_between d held) (judge_stored rows (pair_reached d) now d (connection_between d held)))
 hears_unknown rows before after held now d v old new S ne f U syn =
-    let is_told = told_judged rows (pair_at d) d v _ U.alone.tells in
+    let is_told = told_judged rows (pair_reached d) d v _ U.alone.tells in
     let stands : StandsFor after held = rw U.same S in
     rw (met before held d None S ne f) (rw syn (heard_unknown after held d v _ stands syn is_told))
 
@@ -219,7 +220,7 @@ derives_unknown rows before after now d v old new U =
 
 pub record Later (tables : List Table) (rows : List Row) (before after : List (Ends × Flows)) (now : ℕ) (d : Segment) (v : Verdict) (old new : ℕ) : Type 0 where
   pub heard : (held : List Connection) → StandsFor before held
-      → Hears after (line.Verdict v (good d)) (hear_judged held d (connection_between d held) (judge_stored rows (pair_at d) now d (connection_between d held)))
+      → Hears after (line.Verdict v (good d)) (hear_judged held d (connection_between d held) (judge_stored rows (pair_reached d) now d (connection_between d held)))
   pub sound : IsSound tables after
   pub keys : KeepsKeys before after
   pub derives : Derives before after rows now d old new

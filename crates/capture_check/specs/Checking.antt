@@ -8,7 +8,8 @@ use Rattle.book_segments.specs.Options.{find_ao}
 use Rattle.book_segments.specs.Segments.{Segment, has, SYN}
 use Rattle.book_segments.specs.Sockets.{same_socket}
 use Rattle.book_keys.specs.Rows.{Row, Table}
-use Rattle.book_cmd_check.specs.Captures.{Connection, Heard, joins, seen_from, pair_at}
+use Rattle.book_cmd_check.specs.Captures.{Connection, Heard, joins, seen_from}
+use Rattle.book_segments.specs.Segments.{pair_reached}
 use Rattle.ao_kdf.specs.declared.way.Way.TheVariants.{Inbound}
 use Rattle.ao_kdf.specs.Cache.{kept}
 use Rattle.ao_check.specs.Verdicts.{judging}
@@ -79,5 +80,5 @@ pub record KeepsKeys (before after : List (Ends × Flows)) : Type 0 where
 pub record Derives (before after : List (Ends × Flows)) (rows : List Row) (now : ℕ) (d : Segment) (old new : ℕ) : Type 0 where
   pub least : old ≤ new
   pub most : new ≤ old + 1
-  pub none : (n : ℕ) (k : List ℕ) → has SYN d ≡ false → judging rows (pair_at d) now (find_ao d.area) ≡ Some n → kept_key before d.source d.destination n ≡ Some k → new ≡ old
-  pub derived : (n : ℕ) → has SYN d ≡ false → judging rows (pair_at d) now (find_ao d.area) ≡ Some n → old < new → (k : List ℕ) × (kept_key after d.source d.destination n ≡ Some k)
+  pub none : (n : ℕ) (k : List ℕ) → has SYN d ≡ false → judging rows (pair_reached d) now (find_ao d.area) ≡ Some n → kept_key before d.source d.destination n ≡ Some k → new ≡ old
+  pub derived : (n : ℕ) → has SYN d ≡ false → judging rows (pair_reached d) now (find_ao d.area) ≡ Some n → old < new → (k : List ℕ) × (kept_key after d.source d.destination n ≡ Some k)

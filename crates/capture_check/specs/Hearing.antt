@@ -6,7 +6,8 @@ use Rattle.book_segments.specs.Segments.{Segment, has, SYN}
 use Rattle.book_keys.specs.Rows.{Row, Table}
 use Rattle.book_endpoint.specs.declared.verdict.Verdict.{Verdict}
 use Rattle.book_endpoint.specs.Verdicts.{judge}
-use Rattle.book_cmd_check.specs.Captures.{acknowledged_isn, most_connections, pair_at}
+use Rattle.book_cmd_check.specs.Captures.{acknowledged_isn, most_connections}
+use Rattle.book_segments.specs.Segments.{pair_reached}
 use Rattle.ao_check.specs.Verdicts.{Tells, judging}
 use Rattle.capture_check.specs.declared.ends.Ends.{Ends}
 use Rattle.capture_check.specs.declared.flows.Flows.{Flows}
@@ -34,13 +35,13 @@ pub record FlowsHear (rows : List Row) (now : ℕ) (d : Segment) (low : Bool) (b
 
 -- the verdict on a segment of which nothing is known but its destination's initial sequence number; without SYN no step is counted for a row that judges it
 pub record Alone (rows : List Row) (now own : ℕ) (d : Segment) (result : Verdict) : Type 0 where
-  pub tells : Tells rows (pair_at d) d result (judge rows (pair_at d) (record { own_isn = own; peer_isn = None; expected = None }) now d)
+  pub tells : Tells rows (pair_reached d) d result (judge rows (pair_reached d) (record { own_isn = own; peer_isn = None; expected = None }) now d)
 
 -- the steps that this costs
 pub record AloneCounts (rows : List Row) (now : ℕ) (d : Segment) (old new : ℕ) : Type 0 where
   pub least : old ≤ new
   pub most : new ≤ old + 1
-  pub free : (n : ℕ) → has SYN d ≡ false → judging rows (pair_at d) now (find_ao d.area) ≡ Some n → new ≡ old
+  pub free : (n : ℕ) → has SYN d ≡ false → judging rows (pair_reached d) now (find_ao d.area) ≡ Some n → new ≡ old
 
 -- a segment without SYN of a connection that is known
 pub record OfKnown (rows : List Row) (now : ℕ) (d : Segment) (before after : List (Ends × Flows)) (h : Flows) (result : Verdict) (old new : ℕ) : Type 0 where

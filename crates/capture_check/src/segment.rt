@@ -1,7 +1,8 @@
 //! What a checker reads of a segment.
 ghost use Rattle.std.specs.Prelude.{◌≡◌, ◌≤◌, ◌<◌, false};
 ghost use Rattle.book_segments.specs.Segments.{has, segment_length, ACK, SYN};
-ghost use Rattle.book_cmd_check.specs.Captures.{acknowledged_isn, pair_at};
+ghost use Rattle.book_cmd_check.specs.Captures.{acknowledged_isn};
+ghost use Rattle.book_segments.specs.Segments.{pair_reached};
 
 use ao_base::Pair;
 use tcp_segment::Datagram;
@@ -53,7 +54,7 @@ pub(crate) fn acknowledged_isn(datagram: &Datagram<'_>) -> u32
 
 /// The sockets of a segment as its destination sees them.
 pub(crate) fn pair_at(datagram: &Datagram<'_>) -> Pair
-    ensures { result ≡ pair_at datagram.now }
+    ensures { result ≡ pair_reached datagram.now }
 {
     Pair {
         local: datagram.destination(),

@@ -4,7 +4,7 @@ use Rattle.std.proofs.lemmas.Bool.Decides.{nat_tests}
 use Rattle.std.proofs.lemmas.List.{append-nil, length-append}
 use Rattle.ao_base.specs.declared.line_kind.LineKind.TheVariants.{Range}
 use Rattle.ao_base.specs.Lines.{lines_of}
-use Rattle.ao_base.specs.Outside.{Side, Gave, Took, IsAtEnd}
+use Rattle.ao_base.specs.Outside.{Side, Gave, WasWritten, IsAtEnd}
 use Rattle.ao_base.proofs.Sides.{gave_more, gave_none, rose_after, took_none}
 use Rattle.book_keys.specs.Rows.{Table}
 use Rattle.line_reader.specs.declared.reader.LineStep.{LineStep}
@@ -25,7 +25,7 @@ pub record Going (tables : List Table) (reading : Reading) (judging : Judging) (
   pub faultless : (stored_from 1 read).fault ≡ None
   pub tables_same : judging.checking.tables ≡ tables
   pub heard : HasHeard judging (segments_of read)
-  pub wrote : Took (written_of tables read) out_before out_now
+  pub wrote : WasWritten (written_of tables read) out_before out_now
   pub counted : number ≡ length read
   pub longest : reading.longest ≡ 131200
   pub most : reading.most ≡ 268435456

@@ -1,7 +1,7 @@
 -- One more segment is judged.
 use Rattle.std.proofs.Common.{◌≡◌, ℕ, ◌<◌, Bool, false, not, ◌||◌, List, [], ◌∷◌, ◌++◌, length, take, Ok, Err, sym, ap, subst, ◌∙◌}
 use Rattle.std.proofs.Math.Seq.{take-length}
-use Rattle.ao_base.specs.Outside.{Side, Took, WritesAll}
+use Rattle.ao_base.specs.Outside.{Side, WasWritten, WritesAll}
 use Rattle.book_keys.specs.Rows.{Table}
 use Rattle.book_lines.specs.Texts.{numbered_text}
 use Rattle.book_cmd_check.specs.Captures.{Connection, Saying, Stored, has_refusal, hear, is_pass, saying_texts}
@@ -52,12 +52,12 @@ module _ (before now : Judging) (stored : List Stored) (s : Stored) (answer : Ch
         record {
           tables = tables;
           heard = heard_then pass passes amiss;
-          wrote = subst (λ (xs : List ℕ). Took xs a b) (whole ∙ line_is) wrote.took;
+          wrote = subst (λ (xs : List ℕ). WasWritten xs a b) (whole ∙ line_is) wrote.took;
         }
 
     pub broken : {E : Type 0} (e : E) → WritesAll {E = E} a b line n (Err e) → Judges before now stored s a b (Err Write)
     broken e wrote = record {
       tables = tables;
       heard = tt;
-      wrote = (n, subst (λ (xs : List ℕ). n < length xs) line_is wrote.failed.0, subst (λ (xs : List ℕ). Took (take n xs) a b) line_is wrote.took, wrote.failed.1);
+      wrote = (n, subst (λ (xs : List ℕ). n < length xs) line_is wrote.failed.0, subst (λ (xs : List ℕ). WasWritten (take n xs) a b) line_is wrote.took, wrote.failed.1);
     }

@@ -3,7 +3,7 @@ use Rattle.std.proofs.Common.{◌≡◌, inl, inr, ℕ, suc, ◌+◌, ◌-◌, �
 use Rattle.std.proofs.lemmas.List.{append-nil, length-append}
 use Rattle.ao_base.specs.declared.line_kind.LineKind.{LineKind}
 use Rattle.ao_base.specs.Lines.{lines_of}
-use Rattle.ao_base.specs.Outside.{Side, Gave, Took, IsAtEnd}
+use Rattle.ao_base.specs.Outside.{Side, Gave, WasWritten, IsAtEnd}
 use Rattle.ao_base.proofs.Sides.{gave_more, rose_after, took_more}
 use Rattle.book_keys.specs.Rows.{Table}
 use Rattle.line_reader.specs.declared.reader.LineStep.TheVariants as step
@@ -67,10 +67,10 @@ module _ (tables : List Table) (reader now : Reading) (judge : Judging) (number 
   gives : Gave (given ++ more) ib i1
   gives = gave_more given more ib i0 i1 going.gave advances.gave
 
-  unwritten : Took [] o0 o1 → Took (written_of tables read) ob o1
+  unwritten : WasWritten [] o0 o1 → WasWritten (written_of tables read) ob o1
   unwritten none = let same : written_of tables read ++ [] ≡ written_of tables read = append-nil (written_of tables read) in rw same at (took_more (written_of tables read) [] ob o0 o1 going.wrote none)
 
-  written_now : (after : Judging) → JudgedLine tables after read line o0 o1 → Took (written_of tables (read ++ line ∷ [])) ob o1
+  written_now : (after : Judging) → JudgedLine tables after read line o0 o1 → WasWritten (written_of tables (read ++ line ∷ [])) ob o1
   written_now after judged = rw judged.whole (took_more (written_of tables read) judged.text ob o0 o1 going.wrote judged.wrote)
 
   pub goes : (after : Judging) → now.lacks_newline ≡ false → JudgedLine tables after read line o0 o1 → Going tables now after (number + 1) (given ++ more) (read ++ line ∷ []) ib i1 ob o1
@@ -125,13 +125,13 @@ module _ (tables : List Table) (reader now : Reading) (judge : Judging) (number 
         faultless = going.faultless;
       }
 
-  pub memory_ends : Took [] o0 o1 → Checks tables (given ++ more) ib i1 ob o1 (Err halt.Memory)
+  pub memory_ends : WasWritten [] o0 o1 → Checks tables (given ++ more) ib i1 ob o1 (Err halt.Memory)
   memory_ends none =
       let held = advances.held in
       let long = going.longest in
       record { gave = gives; few = few_now; ends = record { read = read; rest = reader.kept ++ more; has_read = read_before; few = omega arith; wrote = unwritten none } }
 
-  pub refused_ends : (n : ℕ) (kind : LineKind) → n ≡ length read + 1 → stored_line n line ≡ Err kind → Took [] o0 o1 → Checks tables (given ++ more) ib i1 ob o1 (Err (halt.Line n kind))
+  pub refused_ends : (n : ℕ) (kind : LineKind) → n ≡ length read + 1 → stored_line n line ≡ Err kind → WasWritten [] o0 o1 → Checks tables (given ++ more) ib i1 ob o1 (Err (halt.Line n kind))
   refused_ends n kind at is none =
       let then : (others : List (List ℕ)) → (read ++ line ∷ []) ++ others ≡ read ++ line ∷ others = λ others. append_assoc read (line ∷ []) others in
       let refused : (text : List ℕ) (others : List (List ℕ)) → lines_of text ≡ (read ++ line ∷ []) ++ others → stored_input text ≡ record { stored = segments_of read; fault = Some (record { number = n; kind = kind }) } =

@@ -3,7 +3,7 @@ use Rattle.std.specs.Prelude.{◌≡◌, ◌⊎◌, ℕ, ◌+◌, ◌<◌, ◌�
 use Rattle.std.specs.Prelude.{Some, None, Result, Ok, Err}
 use Rattle.ao_base.specs.declared.line_kind.LineKind.{LineKind}
 use Rattle.ao_base.specs.Lines.{lines_of}
-use Rattle.ao_base.specs.Outside.{Side, Gave, Took, Rose, IsAtEnd}
+use Rattle.ao_base.specs.Outside.{Side, Gave, WasWritten, Rose, IsAtEnd}
 use Rattle.book_keys.specs.Rows.{Table}
 use Rattle.book_cmd_check.specs.Captures.{Stored, capture_run, has_refusal}
 use Rattle.book_cmd_check.specs.StoredLines.{stored_from, stored_input, stored_line}
@@ -46,7 +46,7 @@ pub record Finishes (tables : List Table) (given : List ℕ) (source_now out_bef
   pub within : length given ≤ most_bytes
   pub faultless : (stored_input given).fault ≡ None
   pub amiss_is : amiss ≡ has_refusal tables (stored_input given).stored
-  pub wrote : Took (capture_run tables (stored_input given).stored) out_before out_now
+  pub wrote : WasWritten (capture_run tables (stored_input given).stored) out_before out_now
 
 -- a line is faulty: the lines of the segments before it were written, and nothing was taken
 -- behind it but what the reader keeps (own)
@@ -58,7 +58,7 @@ pub record Refuses (tables : List Table) (given : List ℕ) (source_now out_befo
   pub lines : length (lines_of front) ≤ n
   pub few : length rest ≤ most_ahead
   pub fault : (stored_input given).fault ≡ Some (record { number = n; kind = kind })
-  pub wrote : Took (capture_run tables (stored_input given).stored) out_before out_now
+  pub wrote : WasWritten (capture_run tables (stored_input given).stored) out_before out_now
   pub whatever : IsAtEnd source_now ⊎ ((more : List ℕ)
       → stored_input (given ++ more) ≡ stored_input given)
 
@@ -70,7 +70,7 @@ pub record Stops (tables : List Table) (given : List ℕ) (source_now out_before
   pub rest : List ℕ
   pub has_read : HasRead given read rest source_now
   pub few : length rest ≤ most_ahead
-  pub wrote : Took (written_of tables read) out_before out_now
+  pub wrote : WasWritten (written_of tables read) out_before out_now
 
 -- more was given than the most bytes of an input: it ended between two lines within those bytes
 -- (own)
@@ -94,7 +94,7 @@ pub record Breaks (tables : List Table) (given : List ℕ) (source_now out_befor
   pub of_last : segments_of (read ++ last ∷ []) ≡ segments_of read ++ segment ∷ []
   pub all_before : length (written_of tables read) ≤ n
   pub not_all : n < length (written_of tables (read ++ last ∷ []))
-  pub wrote : Took (take n (written_of tables (read ++ last ∷ []))) out_before out_now
+  pub wrote : WasWritten (take n (written_of tables (read ++ last ∷ []))) out_before out_now
   pub rose : Rose out_before out_now
 
 -- how each end comes (own)
@@ -130,7 +130,7 @@ pub record BreaksLine (tables : List Table) (lines : List (List ℕ)) (line : Li
   pub of_line : segments_of (lines ++ line ∷ []) ≡ segments_of lines ++ segment ∷ []
   pub whole : written_of tables (lines ++ line ∷ []) ≡ written_of tables lines ++ text
   pub less : n < length text
-  pub wrote : Took (take n text) out_before out_now
+  pub wrote : WasWritten (take n text) out_before out_now
   pub rose : Rose out_before out_now
 
 -- one more line is judged (own)
@@ -141,7 +141,7 @@ pub record JudgedLine (tables : List Table) (now : Judging) (lines : List (List 
   pub faultless : (stored_from 1 (lines ++ line ∷ [])).fault ≡ None
   pub heard : HasHeard now (segments_of (lines ++ line ∷ []))
   pub whole : written_of tables (lines ++ line ∷ []) ≡ written_of tables lines ++ text
-  pub wrote : Took text out_before out_now
+  pub wrote : WasWritten text out_before out_now
 
 -- what became of one more line behind these (own)
 abbrev pub JudgesLine : List Table → Judging → List (List ℕ) → List ℕ → Side → Side →
@@ -149,9 +149,9 @@ abbrev pub JudgesLine : List Table → Judging → List (List ℕ) → List ℕ 
 JudgesLine tables now lines line out_before out_now (Ok done) =
     JudgedLine tables now lines line out_before out_now
 JudgesLine tables now lines line out_before out_now (Err (Line n kind)) =
-    (n ≡ length lines + 1) × (stored_line n line ≡ Err kind) × Took [] out_before out_now
+    (n ≡ length lines + 1) × (stored_line n line ≡ Err kind) × WasWritten [] out_before out_now
 JudgesLine tables now lines line out_before out_now (Err TooLong) = ⊥
 JudgesLine tables now lines line out_before out_now (Err Read) = ⊥
 JudgesLine tables now lines line out_before out_now (Err Write) =
     BreaksLine tables lines line out_before out_now
-JudgesLine tables now lines line out_before out_now (Err Memory) = Took [] out_before out_now
+JudgesLine tables now lines line out_before out_now (Err Memory) = WasWritten [] out_before out_now

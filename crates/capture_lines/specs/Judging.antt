@@ -1,7 +1,7 @@
 -- A judge of stored segments: what it has heard, and what it writes (own). Its top is `Judges`.
 use Rattle.std.specs.Prelude.{◌≡◌, ℕ, ◌<◌, Bool, List, [], ◌∷◌, ◌++◌, length, take, Result, Ok, Err}
 use Rattle.std.specs.Prelude.{IfOk}
-use Rattle.ao_base.specs.Outside.{Side, Took, Rose}
+use Rattle.ao_base.specs.Outside.{Side, WasWritten, Rose}
 use Rattle.book_keys.specs.Rows.{Table}
 use Rattle.book_lines.specs.Texts.{numbered_text}
 use Rattle.book_cmd_check.specs.Captures.{Connection, Stored, has_refusal, hear, saying_texts}
@@ -44,10 +44,10 @@ pub record Gathers {E : Type 0} (before now : Judging) (stored : List Stored) (s
 
 -- what was written of a line (own)
 abbrev pub Wrote : List ℕ → Side → Side → Result (Unit {0}) Unwritten → Type 0
-Wrote line before now (Ok done) = Took line before now
-Wrote line before now (Err Memory) = Took [] before now
+Wrote line before now (Ok done) = WasWritten line before now
+Wrote line before now (Err Memory) = WasWritten [] before now
 Wrote line before now (Err Write) =
-    (n : ℕ) × (n < length line) × Took (take n line) before now × Rose before now
+    (n : ℕ) × (n < length line) × WasWritten (take n line) before now × Rose before now
 
 -- one more segment is judged by those before it, and its line written (own)
 pub record Judges (before now : Judging) (stored : List Stored) (s : Stored)

@@ -3,7 +3,7 @@ use Rattle.std.proofs.Common.{◌≡◌, inl, inr, ◌⊎◌, ℕ, ◌+◌, ◌-
 use Rattle.std.proofs.lemmas.Bool.{cases_lt}
 use Rattle.std.proofs.lemmas.List.{append-nil, length-append, take-append-le}
 use Rattle.std.proofs.Math.Seq.{take-append-add}
-use Rattle.ao_base.specs.Outside.{Side, Took}
+use Rattle.ao_base.specs.Outside.{Side, WasWritten}
 use Rattle.ao_base.proofs.Sides.{rose_after, took_more, took_none}
 use Rattle.book_keys.specs.Rows.{Table}
 use Rattle.book_pcap.specs.Packets.{Packet, packets_of}
@@ -27,7 +27,7 @@ pub record Place (tables : List Table) (given : List ℕ) (shown : List Packet) 
 pub record Gathered (tables : List Table) (given : List ℕ) (shown : List Packet) (lines : List ℕ) (out_before out_now : Side) : Type 0 where
   pub early : List ℕ
   pub whole : written_of tables shown ≡ early ++ lines
-  pub wrote : Took early out_before out_now
+  pub wrote : WasWritten early out_before out_now
   pub places : (k : ℕ) → k < length lines → Place tables given shown (length early + k)
 
 pub nothing_written : (tables : List Table) → written_of tables [] ≡ []
@@ -42,10 +42,10 @@ gathered_none tables given side = record { early = []; whole = nothing_written t
 
 module _ (tables : List Table) (given : List ℕ) (shown : List Packet) (lines : List ℕ) (a b c : Side) (gathered : Gathered tables given shown lines a b) where
   -- all lines are written
-  pub wrote_all : Took lines b c → Took (written_of tables shown) a c
+  pub wrote_all : WasWritten lines b c → WasWritten (written_of tables shown) a c
   wrote_all wrote = rw gathered.whole (took_more gathered.early lines a b c gathered.wrote wrote)
 
-  pub gathered_written : (later : List ℕ) → Took lines b c → Gathered tables later shown [] a c
+  pub gathered_written : (later : List ℕ) → WasWritten lines b c → Gathered tables later shown [] a c
   gathered_written later wrote = record {
     early = gathered.early ++ lines;
     whole = gathered.whole ∙ sym (append-nil (gathered.early ++ lines));

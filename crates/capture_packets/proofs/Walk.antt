@@ -3,7 +3,7 @@ use Rattle.std.proofs.Common.{◌≡◌, ◌⊎◌, inr, ℕ, ◌+◌, ◌-◌, 
 use Rattle.std.proofs.lemmas.List.{append-nil, length-append, length-drop}
 use Rattle.std.proofs.lemmas.List.Elements.{All-append, All-from_get_or}
 use Rattle.std.specs.List.{All}
-use Rattle.ao_base.specs.Outside.{Side, Gave, Took, told}
+use Rattle.ao_base.specs.Outside.{Side, Gave, WasWritten, told}
 use Rattle.ao_base.proofs.Sides.{gave_more, gave_none, rose_after, took_none}
 use Rattle.book_keys.specs.Rows.{Table}
 use Rattle.book_pcap.specs.declared.pcap_head.Head.{Head}
@@ -141,7 +141,7 @@ module _ (tables : List Table) (reader next_reader : Reading) (judging : Judging
   }
 
   -- all lines are written before the source is asked
-  wrote_all_of : (later : List ℕ) (r : Side) → Written lines later q r → Took (written_of tables shown) o r
+  wrote_all_of : (later : List ℕ) (r : Side) → Written lines later q r → WasWritten (written_of tables shown) o r
   wrote_all_of later r written = wrote_all tables given shown lines o q r between.gathered written.wrote
 
   -- the end of the file
@@ -296,7 +296,7 @@ module _ (tables : List Table) (reader next_reader : Reading) (judging : Judging
           }
 
       -- memory ran out for it
-      ends_memory : (t : Side) → Took later r t → Checks tables (given ++ next) a c o t (Err halt.Memory)
+      ends_memory : (t : Side) → WasWritten later r t → Checks tables (given ++ next) a c o t (Err halt.Memory)
       ends_memory t wrote =
           let one = and_later shown p in
           record {

@@ -2,7 +2,7 @@
 use Rattle.std.specs.Prelude.{◌≡◌, ◌⊎◌, ℕ, ◌+◌, ◌<◌, ◌≤◌, Bool, List, [], ◌∷◌, ◌++◌, length, map, take}
 use Rattle.std.specs.Prelude.{Some, None, Result, Ok, Err, IsOk}
 use Rattle.std.specs.List.{All}
-use Rattle.ao_base.specs.Outside.{Side, Gave, Took, Rose, IsAtEnd, told}
+use Rattle.ao_base.specs.Outside.{Side, Gave, WasWritten, Rose, IsAtEnd, told}
 use Rattle.book_keys.specs.Rows.{Table}
 use Rattle.book_pcap.specs.Packets.{BadHead, BadRecord, FileFault, Packet, opened, packets_of}
 use Rattle.book_cmd_check.specs.StoredPackets.{stored_packet}
@@ -44,7 +44,7 @@ pub record Finishes (tables : List Table) (given : List ℕ) (source_now out_bef
   pub within : length given ≤ most_bytes
   pub faultless : (packets_of given).fault ≡ None
   pub amiss_is : amiss ≡ has_refusal tables (segments_of given)
-  pub wrote : Took (capture_run tables (segments_of given)) out_before out_now
+  pub wrote : WasWritten (capture_run tables (segments_of given)) out_before out_now
 
 -- these packets were read: they are those of the bytes in front, and whatever follows is read by
 -- a reader that stands there, so the bytes in front are none, or end with a record; little more
@@ -64,13 +64,13 @@ pub record Refuses (tables : List Table) (given : List ℕ) (source_now out_befo
   pub has_read : HasRead given (packets_of given).list
   pub fault_is : (packets_of given).fault ≡ Some fault
   pub all : packets_of (given ++ told source_now.bytes) ≡ packets_of given
-  pub wrote : Took (capture_run tables (segments_of given)) out_before out_now
+  pub wrote : WasWritten (capture_run tables (segments_of given)) out_before out_now
 
 -- it ended between two packets: the lines of all packets before were written (own)
 pub record Stops (tables : List Table) (given : List ℕ) (out_before out_now : Side) : Type 0 where
   pub read : List Packet
   pub has_read : HasRead given read
-  pub wrote : Took (written_of tables read) out_before out_now
+  pub wrote : WasWritten (written_of tables read) out_before out_now
 
 -- more was given than the most bytes of a file, whose header isn't faulty: it ended between two
 -- packets within those bytes (own)
@@ -87,7 +87,7 @@ pub record Lacks (tables : List Table) (given : List ℕ) (out_before out_now : 
   pub later : List Packet
   pub one : length later ≤ 1
   pub has_read : HasRead given (read ++ later)
-  pub wrote : Took (written_of tables read) out_before out_now
+  pub wrote : WasWritten (written_of tables read) out_before out_now
 
 -- a write failed: of the line of the last packet that was read a front part was written; with its
 -- record the bytes in front end, as no shorter part of them has that packet, and no more was
@@ -103,7 +103,7 @@ pub record Breaks (tables : List Table) (given : List ℕ) (out_before out_now :
   pub near : length has_read.rest ≤ most_ahead
   pub all_before : length (written_of tables read) ≤ n
   pub not_all : n < length (written_of tables (read ++ last ∷ []))
-  pub wrote : Took (take n (written_of tables (read ++ last ∷ []))) out_before out_now
+  pub wrote : WasWritten (take n (written_of tables (read ++ last ∷ []))) out_before out_now
   pub rose : Rose out_before out_now
 
 -- how each end comes (own)
@@ -157,13 +157,13 @@ JudgesPacket before now shown p lines_before lines_now (Err error) = lines_now �
 pub record BreaksLines (lines : List ℕ) (out_before out_now : Side) : Type 0 where
   pub n : ℕ
   pub less : n < length lines
-  pub wrote : Took (take n lines) out_before out_now
+  pub wrote : WasWritten (take n lines) out_before out_now
   pub rose : Rose out_before out_now
 
 -- the lines that were gathered are written, and none is left (own)
 pub record Written (lines_before lines_now : List ℕ) (out_before out_now : Side) : Type 0 where
   pub none : lines_now ≡ []
-  pub wrote : Took lines_before out_before out_now
+  pub wrote : WasWritten lines_before out_before out_now
 
 -- the lines that were gathered are written, or of a write that failed a front part (own)
 abbrev pub WritesLines : {E : Type 0} → (lines_before lines_now : List ℕ) → Side → Side →
@@ -217,7 +217,7 @@ Moves before now source_before source_now given lines_before lines_now out_befor
 -- memory ran out, and the lines that were gathered are written, or of a write that failed a front
 -- part (own)
 abbrev pub RunsOut : List ℕ → (out_before out_now : Side) → PacketHalt → Type 0
-RunsOut lines out_before out_now Memory = Took lines out_before out_now
+RunsOut lines out_before out_now Memory = WasWritten lines out_before out_now
 RunsOut lines out_before out_now Write = BreaksLines lines out_before out_now
 RunsOut lines out_before out_now (Head fault) = ⊥
 RunsOut lines out_before out_now (Record n) = ⊥

@@ -26,9 +26,9 @@ use Rattle.book_link.specs.Alterations.{has_place, altered}
 use Rattle.book_link.specs.declared.event.Event.{Event}
 use Rattle.book_link.specs.declared.event.Event.TheVariants.{Clock, Connect, Listen as Await, Start, Give, Fill, Send, Resend, Deliver, Inject, Alter, Take, Close, Abort, AddRow, Withdraw, Dump}
 use Rattle.book_link.specs.Outcomes.{Outcome, Done, Took, IsnUsed, NoSession, Full, HasClosed, Idle, Nothing}
-use Rattle.book_link.specs.RowLines.{row_of}
-use Rattle.book_link.specs.Worlds.{Setup, pair_of, Session, Side, Made, Happening, World, other, side, find, segment_named}
-use Rattle.book_link.specs.Steps.{Stepped, Act, put, with_sessions, with_rows, acted, act_on, on_live, quietly, ticked, with_clock, begin, given, sent, send, send_again, come, took, deliver, alter, add_row, withdraw, step}
+use Rattle.book_link.specs.RowLines.{added_row}
+use Rattle.book_link.specs.Worlds.{Setup, pair_of, Session, LinkSide, Made, Happening, World, other, side, find, segment_named}
+use Rattle.book_link.specs.Steps.{Stepped, Act, put, with_sessions, with_table, acted, act_on, on_live, quietly, ticked, with_clock, begin, given, sent, send, send_again, come, took, deliver, alter, add_row, withdraw, step}
 use Rattle.law_link.proofs.Tests.{choose}
 use Rattle.cmd_bgp.specs.Streams.{streams_of, streams}
 
@@ -238,7 +238,7 @@ come_same setup e w bytes s = read_same (side w e).rows (pair_of setup e) (side 
 abbrev pub AllSame : World → World → Type 0
 AllSame w v = (f : End) → streams v f ≡ streams w f
 
-put_same : (w : World) (e : End) (now : Side) (happened : Option Happening) → streams_of now.sessions ≡ streams w e → AllSame w (put w e now happened)
+put_same : (w : World) (e : End) (now : LinkSide) (happened : Option Happening) → streams_of now.sessions ≡ streams w e → AllSame w (put w e now happened)
 put_same w A now happened h A = h
 put_same w A now happened h B = refl
 put_same w B now happened h A = refl
@@ -270,13 +270,13 @@ alter_same setup e w place mask fix (Some m) =
     (λ t. live_same w e (come setup e w bytes) (λ s. come_same setup e w bytes s)) (λ t. λ f. refl)
 
 add_row_same : (w : World) (e : End) (a : Adding) → AllSame w (add_row w e a).world
-add_row_same w e (AddedAs number rows) = put_same w e (with_rows (side w e) rows) None refl
+add_row_same w e (AddedAs number rows) = put_same w e (with_table (side w e) rows) None refl
 add_row_same w e TooMany = λ f. refl
 add_row_same w e (OverlapsRow number) = λ f. refl
 
 withdraw_same : (w : World) (e : End) (o : Option (List Row)) → AllSame w (withdraw w e o).world
 withdraw_same w e None = λ f. refl
-withdraw_same w e (Some rows) = put_same w e (with_rows (side w e) rows) None refl
+withdraw_same w e (Some rows) = put_same w e (with_table (side w e) rows) None refl
 
 -- ---- an event by which bytes are taken, or a session begins
 
@@ -287,23 +287,23 @@ pub record Begins (e : End) (w : World) (after : Stepped) : Type 0 where
   pub used : after.outcome ≡ IsnUsed → streams after.world e ≡ streams w e
   pub others : streams after.world (other e) ≡ streams w (other e)
 
-put_at : (w : World) (e : End) (now : Side) (happened : Option Happening) → side (put w e now happened) e ≡ now
+put_at : (w : World) (e : End) (now : LinkSide) (happened : Option Happening) → side (put w e now happened) e ≡ now
 put_at w A now happened = refl
 put_at w B now happened = refl
 
-put_other : (w : World) (e : End) (now : Side) (happened : Option Happening) → side (put w e now happened) (other e) ≡ side w (other e)
+put_other : (w : World) (e : End) (now : LinkSide) (happened : Option Happening) → side (put w e now happened) (other e) ≡ side w (other e)
 put_other w A now happened = refl
 put_other w B now happened = refl
 
 begin_streams : (w : World) (e : End) (s : EndState) (o : Option Session) → s.taken ≡ [] → Begins e w (begin w e s o)
 begin_streams w e s (Some used) h = record { either = inr refl; new = λ is. absurd (cc); used = λ is. refl; others = refl }
 begin_streams w e s None h =
-    let now : Side = with_sessions (side w e) (record { state = s; end_shown = false } ∷ (side w e).sessions) in
+    let now : LinkSide = with_sessions (side w e) (record { state = s; end_shown = false } ∷ (side w e).sessions) in
     record {
       either = inl refl;
-      new = λ is. ap (λ (d : Side). streams_of d.sessions) (put_at w e now None) ∙ ap (λ (t : List ℕ). t ∷ streams w e) h;
+      new = λ is. ap (λ (d : LinkSide). streams_of d.sessions) (put_at w e now None) ∙ ap (λ (t : List ℕ). t ∷ streams w e) h;
       used = λ is. absurd (cc);
-      others = ap (λ (d : Side). streams_of d.sessions) (put_other w e now None);
+      others = ap (λ (d : LinkSide). streams_of d.sessions) (put_other w e now None);
     }
 
 -- the live session of an end delivered these bytes
@@ -328,7 +328,7 @@ take_streams : (w : World) (e : End) (count : ℕ) (sessions : List Session) →
 take_streams w e count [] is = record { either = inl refl; none = λ h. refl; some = λ bytes shown h. absurd (cc); others = refl }
 take_streams w e count (s ∷ rest) is =
     let act = took count s.state in
-    let now : Side = with_sessions (side w e) (acted s act ∷ rest) in
+    let now : LinkSide = with_sessions (side w e) (acted s act ∷ rest) in
     record {
       either = inr (taking count s.state, at_end (take_out count s.state), refl);
       none = λ h. absurd (cc);
@@ -338,10 +338,10 @@ take_streams w e count (s ∷ rest) is =
             old = s.state.taken;
             older = streams_of rest;
             before = ap streams_of is;
-            after = ap (λ (d : Side). streams_of d.sessions) (put_at w e now act.happened)
+            after = ap (λ (d : LinkSide). streams_of d.sessions) (put_at w e now act.happened)
                 ∙ ap (λ (t : List ℕ). (s.state.taken ++ t) ∷ streams_of rest) same;
           };
-      others = ap (λ (d : Side). streams_of d.sessions) (put_other w e now act.happened);
+      others = ap (λ (d : LinkSide). streams_of d.sessions) (put_other w e now act.happened);
     }
 
 -- ---- any event
@@ -369,6 +369,6 @@ changes setup w (Alter e name place mask fix) = alter_same setup e w place mask 
 changes setup w (Take e count) = take_streams w e count (side w e).sessions refl
 changes setup w (Close e) = live_same w e (λ s. quietly (close s) Done) (λ s. close_same s s.phase)
 changes setup w (Abort e) = live_same w e (λ s. quietly (abort s) Done) (λ s. refl)
-changes setup w (AddRow e row) = add_row_same w e (adding (side w e).rows (row_of row))
+changes setup w (AddRow e row) = add_row_same w e (adding (side w e).rows (added_row row))
 changes setup w (Withdraw e number) = withdraw_same w e (withdrawn (side w e).rows number)
 changes setup w (Dump name) = λ f. refl

@@ -8,7 +8,7 @@ use Rattle.book_lines.specs.declared.text_fault.TextFault.{TextFault}
 use Rattle.book_lines.specs.declared.text_fault.TextFault.TheVariants as fault
 use Rattle.book_lines.specs.Lines.{Line}
 use Rattle.ao_base.specs.Results.{◌>>=◌}
-use Rattle.book_lines.specs.Said.{Said, numbered, said_by}
+use Rattle.book_lines.specs.Said.{Said, at_number, said_by}
 use Rattle.text_lines.specs.Readings.{Answers, Fails}
 use Rattle.text_lines.proofs.SaidLaws.{said_few, same_fault}
 use Rattle.book_cmd_keys.specs.declared.plan.Plan.{Plan}
@@ -55,13 +55,13 @@ module _ (tables : List Table) (plan : Plan) where
     step : from_lines before misfit (l ∷ ls) ≡ whole
     step = sym (ap (λ x. from_lines before misfit x) next) ∙ so_far
 
-    pub line_judged : (pair : Pair) (out : List ℕ) (now : Bool) → Ok pair ≡ numbered l.number (lint_pair_of l.words)
+    pub line_judged : (pair : Pair) (out : List ℕ) (now : Bool) → Ok pair ≡ at_number l.number (lint_pair_of l.words)
         → out ≡ before ++ lint_line tables plan (said_at l pair) → now ≡ (misfit || misfits (said_at l pair)) → from_lines out now ls ≡ whole
     unfolding said_by
     line_judged pair out now h text also =
         one_judged before out misfit now (said_at l pair) (said_by lint_pair_of ls) text also ∙ (rw (sym h) at step)
 
-    pub line_refused : (f : TextFault) → Err f ≡ numbered l.number (lint_pair_of l.words) → Fails f whole
+    pub line_refused : (f : TextFault) → Err f ≡ at_number l.number (lint_pair_of l.words) → Fails f whole
     unfolding said_by
     line_refused fault.Memory h = tt
     line_refused fault.TooManyLines h = sym (rw (sym h) at step)

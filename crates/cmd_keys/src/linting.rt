@@ -2,7 +2,7 @@
 ghost use Rattle.std.specs.Prelude.{◌≡◌, ◌<◌, ◌↔◌, ◌++◌, ◌∷◌, [], IsErrOf, OnOk, false, length, decimal};
 ghost use Rattle.ao_base.specs.Lines.{lines_of};
 ghost use Rattle.book_lines.specs.Lines.{most_lines};
-ghost use Rattle.book_lines.specs.Said.{numbered, said_by};
+ghost use Rattle.book_lines.specs.Said.{at_number, said_by};
 ghost use Rattle.book_lines.specs.Texts.{end_text, numbered_text, spaced};
 ghost use Rattle.text_lines.specs.Readings.{Answers};
 ghost use Rattle.book_cmd_keys.specs.LintTexts.{lint_pair_of, is_aligned, lint_texts};
@@ -21,7 +21,7 @@ use text_lines::{
 };
 
 fn connection_in(mut line: Saying) -> Result<Pair, TextFault>
-    ensures { result ≡ numbered line.entry.number (lint_pair_of line.entry.words) }
+    ensures { result ≡ at_number line.entry.number (lint_pair_of line.entry.words) }
 {
     let number = line.number;
     match read_connection(&mut line.words) {

@@ -5,7 +5,7 @@ use Rattle.book_link.specs.declared.event.Event.{Event}
 use Rattle.book_link.specs.Runs.{empty, run, run_from}
 use Rattle.book_link.specs.Steps.{step}
 use Rattle.book_link.specs.declared.event.Event.TheVariants.{Fill, Send, Resend, Deliver, Take}
-use Rattle.book_link.specs.Storm.{draw, drawn, end_of, event_by, event_of, events_drawn, last_delivered, one_delivered, storm_events, storm_setup, storm_starts}
+use Rattle.book_link.specs.Storm.{draw, drawn, drawn_end, event_by, event_of, events_drawn, last_delivered, one_delivered, storm_events, storm_setup, storm_starts}
 use Rattle.book_link.specs.Worlds.{Made, Setup, World, segment_named, segments}
 use Rattle.link_world.specs.Events.{CanHappen}
 use Rattle.link_world.specs.declared.world.World.{World as Link}
@@ -75,4 +75,4 @@ by_kind w e kind v =
 
 -- each event that is drawn can happen
 pub can_happen : (w : World) (r : ℕ) → CanHappen (event_of w r)
-can_happen w r = by_kind w (end_of r) (r / 2 % 8) (r / 256)
+can_happen w r = by_kind w (drawn_end r) (r / 2 % 8) (r / 256)

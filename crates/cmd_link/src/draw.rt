@@ -1,6 +1,6 @@
 //! The numbers that a storm draws, by SplitMix64.
 ghost use Rattle.std.specs.Prelude.{◌≡◌, ◌<◌, ◌^◌};
-ghost use Rattle.book_link.specs.Storm.{draw, drawn, mixed};
+ghost use Rattle.book_link.specs.Storm.{draw, drawn, xor_shifted};
 
 /// What a draw adds to the state.
 const STEP: u64 = 0x9e37_79b9_7f4a_7c15;
@@ -19,7 +19,7 @@ pub(crate) fn drawn(state: u64) -> u64
 /// The number xored with itself shifted down by so many bits, times the factor modulo 2^64.
 fn mixed(z: u64, shift: u32, factor: u64) -> u64
     requires { shift < 64 }
-    ensures { result ≡ mixed z (2 ^ shift) factor }
+    ensures { result ≡ xor_shifted z (2 ^ shift) factor }
 {
     (z ^ (z >> shift)).wrapping_mul(factor)
 }

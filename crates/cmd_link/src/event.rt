@@ -2,7 +2,7 @@
 ghost use Rattle.std.specs.Prelude.{◌≡◌, ◌<◌, ◌+◌, ◌/◌, ◌%◌, List};
 ghost use Rattle.book_link.specs.declared.event.Event.{Event as Happening};
 ghost use Rattle.book_link.specs.Runs.{run};
-ghost use Rattle.book_link.specs.Storm.{end_of, event_by, event_of, last_delivered, one_delivered};
+ghost use Rattle.book_link.specs.Storm.{drawn_end, event_by, event_of, last_delivered, one_delivered};
 ghost use Rattle.book_link.specs.Worlds.{Setup as Link, other, segment_named, segments};
 ghost use Rattle.link_world.specs.Standing.{StandsFor};
 
@@ -20,7 +20,7 @@ fn other(end: End) -> End
 }
 
 fn end_of(number: u64) -> End
-    ensures { result ≡ end_of number }
+    ensures { result ≡ drawn_end number }
 {
     if number % 2 == 0 { End::A } else { End::B }
 }

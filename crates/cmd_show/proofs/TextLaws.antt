@@ -7,7 +7,7 @@ use Rattle.book_lines.specs.declared.text_fault.TextFault.{TextFault}
 use Rattle.book_lines.specs.declared.text_fault.TextFault.TheVariants as fault
 use Rattle.book_lines.specs.Lines.{Line}
 use Rattle.ao_base.specs.Results.{◌>>=◌}
-use Rattle.book_lines.specs.Said.{Said, numbered, said_by}
+use Rattle.book_lines.specs.Said.{Said, at_number, said_by}
 use Rattle.text_lines.specs.Readings.{Fails}
 use Rattle.cmd_show.specs.Loops.{shown_from}
 use Rattle.book_cmd_show.specs.Show.{bytes_of_line, shown_line}
@@ -32,12 +32,12 @@ module _ (before : List ℕ) (l : Line) (ls lines : List Line) (whole : Result (
   others_shown bytes out (Ok said) more = rw more (ap Ok (append_assoc before (shown_line (record { number = l.number; value = bytes })) (flat_map shown_line said)))
   others_shown bytes out (Err e) more = refl
 
-  pub line_shown : (bytes out : List ℕ) → numbered l.number (bytes_of_line l.words) ≡ Ok bytes → out ≡ before ++ shown_line (record { number = l.number; value = bytes }) →
+  pub line_shown : (bytes out : List ℕ) → at_number l.number (bytes_of_line l.words) ≡ Ok bytes → out ≡ before ++ shown_line (record { number = l.number; value = bytes }) →
       shown_from out (said_by bytes_of_line ls) ≡ whole
   unfolding said_by
   line_shown bytes out h more = others_shown bytes out (said_by bytes_of_line ls) more ∙ (rw h at step)
 
-  pub line_refused : (f : TextFault) → Fails f (numbered l.number (bytes_of_line l.words)) → Fails f whole
+  pub line_refused : (f : TextFault) → Fails f (at_number l.number (bytes_of_line l.words)) → Fails f whole
   unfolding said_by
   line_refused fault.Memory h = tt
   line_refused fault.TooManyLines h = sym (rw h at step)

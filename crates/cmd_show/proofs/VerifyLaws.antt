@@ -8,7 +8,7 @@ use Rattle.book_lines.specs.declared.text_fault.TextFault.{TextFault}
 use Rattle.book_lines.specs.declared.text_fault.TextFault.TheVariants as fault
 use Rattle.book_lines.specs.Lines.{Line}
 use Rattle.ao_base.specs.Results.{◌>>=◌}
-use Rattle.book_lines.specs.Said.{Said, numbered, said_by}
+use Rattle.book_lines.specs.Said.{Said, at_number, said_by}
 use Rattle.text_lines.specs.Readings.{Fails}
 use Rattle.cmd_show.specs.Loops.{Sums, sums_from}
 use Rattle.book_cmd_show.specs.Vectors.{Vector, vector_of}
@@ -30,12 +30,12 @@ module _ (before : Sums) (l : Line) (ls lines : List Line) (whole : Result Sums 
   step : sums_from before (said_by vector_of (l ∷ ls)) ≡ whole
   step = sym (ap (λ x. sums_from before (said_by vector_of x)) next) ∙ so_far
 
-  pub vector_summed : (v : Vector) (after : Sums) → numbered l.number (vector_of l.words) ≡ Ok v → after.text ≡ before.text ++ verdict_line (record { number = l.number; value = v }) →
+  pub vector_summed : (v : Vector) (after : Sums) → at_number l.number (vector_of l.words) ≡ Ok v → after.text ≡ before.text ++ verdict_line (record { number = l.number; value = v }) →
       after.count ≡ before.count + 1 → after.differing ≡ before.differing + (if not (agrees v) then 1 else 0) → sums_from after (said_by vector_of ls) ≡ whole
   unfolding said_by
   vector_summed v after h text count differing = one_summed before after (record { number = l.number; value = v }) (said_by vector_of ls) text count differing ∙ (rw h at step)
 
-  pub vector_refused : (f : TextFault) → Fails f (numbered l.number (vector_of l.words)) → Fails f whole
+  pub vector_refused : (f : TextFault) → Fails f (at_number l.number (vector_of l.words)) → Fails f whole
   unfolding said_by
   vector_refused fault.Memory h = tt
   vector_refused fault.TooManyLines h = sym (rw h at step)

@@ -2,7 +2,7 @@
 ghost use Rattle.std.specs.Prelude.{◌≡◌, ◌<◌, ◌↔◌, ◌++◌, IsErrOf, OnOk, length};
 ghost use Rattle.ao_base.specs.Lines.{lines_of};
 ghost use Rattle.book_lines.specs.Lines.{most_lines};
-ghost use Rattle.book_lines.specs.Said.{numbered, said_by};
+ghost use Rattle.book_lines.specs.Said.{at_number, said_by};
 ghost use Rattle.text_lines.specs.Readings.{Answers, Tells};
 ghost use Rattle.cmd_show.specs.Loops.{shown_after, shown_from};
 ghost use Rattle.book_cmd_show.specs.Show.{bytes_of_line, show_of, shown_line};
@@ -23,7 +23,7 @@ fn line_bytes(alloc: Global, words: &mut LineWords) -> Result<Bytes, Refusal>
 }
 
 fn bytes_in(alloc: Global, mut line: Saying) -> Result<Bytes, TextFault>
-    ensures { Answers result (numbered line.entry.number (bytes_of_line line.entry.words)) }
+    ensures { Answers result (at_number line.entry.number (bytes_of_line line.entry.words)) }
 {
     match line_bytes(alloc, &mut line.words) {
         Ok(bytes) => Ok(bytes),

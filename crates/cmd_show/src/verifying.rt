@@ -2,7 +2,7 @@
 ghost use Rattle.std.specs.Prelude.{if◌then◌else◌, not, ◌≡◌, ◌≤◌, ◌<◌, ◌+◌, ◌↔◌, ◌++◌, IsErrOf, OnOk, length};
 ghost use Rattle.ao_base.specs.Lines.{lines_of};
 ghost use Rattle.book_lines.specs.Lines.{most_lines};
-ghost use Rattle.book_lines.specs.Said.{numbered, said_by};
+ghost use Rattle.book_lines.specs.Said.{at_number, said_by};
 ghost use Rattle.book_lines.specs.Texts.{spaced};
 ghost use Rattle.text_lines.specs.Readings.{Answers};
 ghost use Rattle.cmd_show.specs.Loops.{no_sums, sums_after, sums_from};
@@ -26,7 +26,7 @@ struct Totals {
 }
 
 fn vector_in(alloc: Global, mut line: Saying) -> Result<Vector, TextFault>
-    ensures { Answers result (numbered line.entry.number (vector_of line.entry.words)) }
+    ensures { Answers result (at_number line.entry.number (vector_of line.entry.words)) }
 {
     match read_vector(alloc, &mut line.words) {
         Ok(vector) => Ok(vector),

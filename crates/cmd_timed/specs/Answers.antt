@@ -2,7 +2,7 @@
 use Rattle.std.specs.Prelude.{◌≡◌, ◌==◌, ℕ, not, List, Result, Ok, Err, ⊤}
 use Rattle.book_keys.specs.Rows.{Table}
 use Rattle.book_lines.specs.declared.text_fault.TextFault.TheVariants as fault
-use Rattle.book_lines.specs.Faults.{fault_text}
+use Rattle.book_lines.specs.Faults.{input_fault_text}
 use Rattle.book_answer.specs.Answers.{Answer, done, if_read, refusal, timed_over, too_many_events}
 use Rattle.book_cmd_timed.specs.TimedRuns.{timed_script_of}
 use Rattle.cmd_timed.specs.declared.answer.TimedProblem.{TimedProblem}
@@ -17,5 +17,5 @@ timed_answer tables text = if_read (timed_over tables) (timed_script_of text)
 abbrev pub AnswersTimed : List Table → List ℕ → Result TimedReport TimedProblem → Type 0
 AnswersTimed tables text (Ok r) = timed_answer tables text ≡ done (not (r.forgeries == 0)) r.text
 AnswersTimed tables text (Err (Fault fault.Memory)) = ⊤
-AnswersTimed tables text (Err (Fault f)) = timed_answer tables text ≡ refusal 4 (fault_text f)
+AnswersTimed tables text (Err (Fault f)) = timed_answer tables text ≡ refusal 4 (input_fault_text f)
 AnswersTimed tables text (Err TooManyEvents) = timed_answer tables text ≡ refusal 4 too_many_events

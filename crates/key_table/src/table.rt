@@ -5,7 +5,7 @@ ghost use Rattle.book_keys.specs.Rows.{Row as Entry, sendable};
 ghost use Rattle.book_keys.specs.Lifetimes.{greatest_time};
 ghost use Rattle.book_keys.specs.Coordination.{numbered};
 ghost use Rattle.book_keys.specs.Lookups.{number_of, accept_of};
-ghost use Rattle.book_keys.specs.Tables.{adding, withdrawn, row_of_new, Added, Withdrawn};
+ghost use Rattle.book_keys.specs.Tables.{adding, withdrawn, row_of_new, Addition, Withdrawn};
 ghost use Rattle.book_keys.specs.Choices.{latest, lowest, later, send_row, next_row, named_send, has_id};
 ghost use Rattle.key_table.specs.Fitting.{FitsColumns};
 ghost use Rattle.key_table.specs.Wants.{usable, usable_as, wanted_start};
@@ -176,7 +176,7 @@ impl Table {
         requires sent { row.sending.last ≤ greatest_time }
         requires accepting { row.accepting.first ≤ row.accepting.last }
         requires accepted { row.accepting.last ≤ greatest_time }
-        ensures { Added self.old self.new result (adding self.old.rows (row_of_new row)) }
+        ensures { Addition self.old self.new result (adding self.old.rows (row_of_new row)) }
     {
         if self.rows.len() >= 64 {
             return Err(AddRefusal::TooMany);

@@ -22,8 +22,8 @@ use Rattle.book_endpoint.specs.States.{EndState, window, is_closed, hears}
 use Rattle.book_endpoint.specs.Emissions.{is_syn_received}
 use Rattle.book_endpoint.specs.Arrivals.{Moved, Arrived, answered, unmoved, passes, owing, above}
 use Rattle.book_endpoint.specs.Arrivals.{fits_window, from_peer, heard, judged_by, syn_alone}
-use Rattle.book_endpoint.specs.Arrivals.{syn_ack_alone, opened, acked, windowed, acked_fin, pass_fin}
-use Rattle.book_endpoint.specs.Arrivals.{fin_of, finish, within}
+use Rattle.book_endpoint.specs.Arrivals.{syn_ack_alone, told_by_syn, acked, windowed, acked_fin, pass_fin}
+use Rattle.book_endpoint.specs.Arrivals.{fin_of, finish, in_range}
 
 -- A segment that passed the check, as it comes to an end (own).
 pub record Admitted : Type 0 where
@@ -83,7 +83,7 @@ hear_text i s =
     let missing = first_missing kept s.expected (window s) in
     let fin_at = i.number + length d.payload in
     let none_past_fin = runs kept false fin_at (end - fin_at) == 0 in
-    let is_fin = has FIN d && within fin_at s.expected end && none_past_fin in
+    let is_fin = has FIN d && in_range fin_at s.expected end && none_past_fin in
     let fin = fin_of s.fin is_fin fin_at in
     let filled = record s { received = kept; fin = fin; ack_owed = true; expected = missing } in
     if nat_lt 64 (runs kept false missing (end - missing)) then answered (owing s) TooManyRuns
@@ -96,7 +96,7 @@ has_text s d = hears s.phase && (nat_lt 0 (length d.payload) || has FIN d)
 -- In LISTEN: a SYN alone is heard, and all else is unexpected (RFC 9293, section 3.10.7.2).
 abbrev pub listen_cases : Pair → Admitted → Moved
 listen_cases pair i =
-    let told = opened pair i.after i.segment i.number in
+    let told = told_by_syn pair i.after i.segment i.number in
     if not (syn_alone i.segment) then answered i.before Unexpected
     else answered (record told { phase = SynReceived }) Taken
 
@@ -104,7 +104,7 @@ listen_cases pair i =
 -- is unexpected (RFC 9293, section 3.10.7.3).
 abbrev pub syn_sent_cases : Pair → Admitted → Moved
 syn_sent_cases pair i =
-    let told = opened pair i.after i.segment i.number in
+    let told = told_by_syn pair i.after i.segment i.number in
     let acknowledged = i.before.isn + 1 in
     if not (syn_ack_alone i.segment) then answered i.before Unexpected
     else if not (acknowledges_syn i) then answered i.before BadAck

@@ -15,8 +15,8 @@ use Rattle.book_keys.specs.Shared.{shared_row}
 use Rattle.book_keys.proofs.ValidLaws.{empty-valid, shared-valid, tables_of-valid}
 use Rattle.book_link.specs.declared.event.Event.{Event}
 use Rattle.book_link.specs.declared.event.Event.TheVariants.{Clock, Connect, Listen, Start, Give, Fill, Send, Resend, Deliver, Inject, Alter, Take, Close, Abort, AddRow, Withdraw, Dump}
-use Rattle.law_link.specs.Laws.{EventFits, OneFamily, RowFits, SetupFits, TablesFit}
-use Rattle.book_link.specs.Worlds.{rows_of, setup_of}
+use Rattle.law_link.specs.Laws.{EventFits, AddressesFit, RowFits, SetupFits, TablesFit}
+use Rattle.book_link.specs.Worlds.{first_rows, setup_of}
 use Rattle.book_cmd_link.specs.declared.script.Script.{Script}
 use Rattle.book_cmd_link.specs.declared.script.SharedKey.{SharedKey}
 use Rattle.book_cmd_link.specs.LinkFiles.{shared_by}
@@ -59,7 +59,7 @@ events_fit with_keys text script is = all_events script.events (script_of_ok wit
 
 -- ---- sockets
 
-family : (a b : Address) → IsAddress a → IsAddress b → are_two_of_a_family a b ≡ true → OneFamily a b
+family : (a b : Address) → IsAddress a → IsAddress b → are_two_of_a_family a b ≡ true → AddressesFit a b
 family (V4 one) (V4 two) x y h = (x, y)
 family (V6 one) (V6 two) x y h = (x, y)
 family (V4 one) (V6 two) x y h = absurd (cc)
@@ -93,14 +93,14 @@ fits tables a b is_a is_b two fit =
       rows = of_end;
     }
   where
-    of_end : (e : End) → AllByRecursion RowFits (rows_of (setup_of tables a b) e)
+    of_end : (e : End) → AllByRecursion RowFits (first_rows (setup_of tables a b) e)
     of_end A = fit_at tables a.address fit
     of_end B = fit_at tables b.address fit
 
 valid_tables : (tables : List Table) (a b : Socket) → All (λ (t : Table). IsValid t.rows) tables → TablesFit (setup_of tables a b)
 valid_tables tables a b valid = record { valid = valid_of_end }
   where
-    valid_of_end : (e : End) → IsValid (rows_of (setup_of tables a b) e)
+    valid_of_end : (e : End) → IsValid (first_rows (setup_of tables a b) e)
     valid_of_end A = valid_at tables a.address valid
     valid_of_end B = valid_at tables b.address valid
 

@@ -11,8 +11,8 @@ use Rattle.book_link.specs.declared.event.Event.{Event}
 use Rattle.law_link.specs.Laws.{EventFits, RowFits, SetupFits, TablesFit}
 use Rattle.book_link.specs.Runs.{empty, run_from}
 use Rattle.book_link.specs.Steps.{step}
-use Rattle.book_link.specs.Storm.{draw, drawn, end_of, event_by, event_of, events_drawn, last_delivered, one_delivered, storm_events, storm_setup, storm_starts}
-use Rattle.book_link.specs.Worlds.{Made, Setup, World, rows_of, segment_named, segments}
+use Rattle.book_link.specs.Storm.{draw, drawn, drawn_end, event_by, event_of, events_drawn, last_delivered, one_delivered, storm_events, storm_setup, storm_starts}
+use Rattle.book_link.specs.Worlds.{Made, Setup, World, first_rows, segment_named, segments}
 
 -- four bytes of an address
 are_four : (last : ℕ) → last < 256 → AreBytes (10 ∷ 0 ∷ 0 ∷ last ∷ [])
@@ -30,11 +30,11 @@ elevens (suc n) (suc i) = elevens n i
 row_fits : RowFits (shared_row HmacSha1 (replicate 20 11))
 row_fits = record { recv_id = lit< tt; send_id = lit< tt; master = elevens 20 }
 
-one_fits : (e : End) → AllByRecursion RowFits (rows_of storm_setup e)
+one_fits : (e : End) → AllByRecursion RowFits (first_rows storm_setup e)
 one_fits A = (row_fits, tt)
 one_fits B = (row_fits, tt)
 
-one_valid : (e : End) → IsValid (rows_of storm_setup e)
+one_valid : (e : End) → IsValid (first_rows storm_setup e)
 one_valid A = record { apart = λ i j d less within. absurd (omega arith); limit = omega arith }
 one_valid B = record { apart = λ i j d less within. absurd (omega arith); limit = omega arith }
 
@@ -76,7 +76,7 @@ drawn_fit : (setup : Setup) (w : World) (state n : ℕ) → AllByRecursion Event
 drawn_fit setup w state zero = tt
 drawn_fit setup w state (suc n) =
     let event = event_of w (draw (drawn state)) in
-    (by_kind w (end_of (draw (drawn state))) (draw (drawn state) / 2 % 8) (draw (drawn state) / 256), drawn_fit setup (step setup w event).world (drawn state) n)
+    (by_kind w (drawn_end (draw (drawn state))) (draw (drawn state) / 2 % 8) (draw (drawn state) / 256), drawn_fit setup (step setup w event).world (drawn state) n)
 
 pub events_fit : (seed count : ℕ) → AllByRecursion EventFits (storm_events seed count)
 unfolding storm_events

@@ -16,7 +16,7 @@ use Rattle.book_keys.specs.Rows.{Row}
 use Rattle.book_keys.specs.Choices.{Numbered, accept_row}
 use Rattle.book_keys.proofs.OverlapLaws.{same_address-refl}
 use Rattle.book_endpoint.specs.States.{EndState}
-use Rattle.book_endpoint.specs.Verdicts.{Judgement, mac_of, found_with, number_of}
+use Rattle.book_endpoint.specs.Verdicts.{Judgement, mac_of, found_with, segment_number}
 use Rattle.book_endpoint.proofs.JudgeSteps.{judge_mac, judge_number, judge_context, judge_row, judge_ao, judge_by_steps}
 use Rattle.book_endpoint.specs.Arrivals.{number_expected, numbers_known, judged_by}
 use Rattle.law_link.proofs.Tests.{choose}
@@ -105,7 +105,7 @@ pub record Passes (rows : List Row) (pair : Pair) (now : ℕ) (s : EndState) (d 
   pub long : length ao.mac ≡ mac_length_of r.row.algorithm
   pub known : context_of d s.peer_isn (Some s.isn) ≡ Some c
   pub expects : (not (has SYN d) && not (is_some (number_expected s s.peer_isn))) ≡ false
-  pub number : number_of d (number_expected s s.peer_isn) ≡ Some n
+  pub number : segment_number d (number_expected s s.peer_isn) ≡ Some n
   pub range : nat_lt 9223372036854775808 (n + segment_length d) ≡ false
   pub right : same_bytes ao.mac (mac_of (found_with r d ao c n)) ≡ true
 
@@ -114,7 +114,7 @@ pass_context : (rows : List Row) (pair : Pair) (now : ℕ) (s : EndState) (d : S
 pass_context rows pair now s d ao r c n h =
     let goal : Judgement = Ok (found_with r d ao c n) in
     let expects = h.expects in
-    choose (λ (v : Judgement). v ≡ goal) (not (has SYN d) && not (is_some (number_expected s s.peer_isn))) _ (judge_number r d ao c (number_of d (number_expected s s.peer_isn))) (λ t. absurd (cc)) (λ t.
+    choose (λ (v : Judgement). v ≡ goal) (not (has SYN d) && not (is_some (number_expected s s.peer_isn))) _ (judge_number r d ao c (segment_number d (number_expected s s.peer_isn))) (λ t. absurd (cc)) (λ t.
     ap (judge_number r d ao c) h.number ∙ pass_number r d ao c n h.range h.right)
 
 pass_row : (rows : List Row) (pair : Pair) (now : ℕ) (s : EndState) (d : Segment) (ao : Ao) (r : Numbered) (c : List ℕ) (n : ℕ) → Passes rows pair now s d ao r c n

@@ -6,8 +6,8 @@ use Rattle.ao_base.specs.declared.end.End.{End}
 use Rattle.ao_base.specs.declared.end.End.TheVariants.{A, B}
 use Rattle.book_segments.specs.Bytes.{same_bytes}
 use Rattle.book_segments.proofs.Fields.{and_tells, some_is, same_bytes_tells}
-use Rattle.book_macs.specs.Keys.{same_algorithm}
-use Rattle.book_endpoint.specs.Verdicts.{Key, key_of, same_key, Finding}
+use Rattle.ao_base.specs.Algorithms.{same_algorithm}
+use Rattle.book_endpoint.specs.Verdicts.{Key, key_of, same_master_key, Finding}
 use Rattle.book_link.specs.Worlds.{other, same_end, Setup, Made, Happening, Making, Coming, World, side, accounts_for, was_made, forged}
 use Rattle.law_link.specs.Laws.{IsAmong}
 use Rattle.law_link.proofs.Invariant.{MadeOk, AllMadeOk}
@@ -54,7 +54,7 @@ same_algorithm_tells AesCmac HmacSha256 e = absurd (cc)
 same_algorithm_tells HmacSha256 HmacSha1 e = absurd (cc)
 same_algorithm_tells HmacSha256 AesCmac e = absurd (cc)
 
-same_key_algorithm : (k l : Key) → same_key k l ≡ true → k.algorithm ≡ l.algorithm
+same_key_algorithm : (k l : Key) → same_master_key k l ≡ true → k.algorithm ≡ l.algorithm
 same_key_algorithm k l e = same_algorithm_tells k.algorithm l.algorithm (and_tells (same_algorithm k.algorithm l.algorithm) (same_bytes k.master l.master) e).0
 
 -- what an entry that accounts for what passed has in common with it
@@ -68,9 +68,9 @@ pub accounts_tell : (at : End) (p : Finding) (m : Made) → accounts_for at p m 
 accounts_tell at p m e =
     let k = key_of m.emission.sending.row in
     let c = m.emission.context in
-    let one = and_tells (same_end m.maker (other at) && same_key k p.key && same_bytes c p.context) (same_bytes m.emission.input p.input) e in
-    let two = and_tells (same_end m.maker (other at) && same_key k p.key) (same_bytes c p.context) one.0 in
-    let three = and_tells (same_end m.maker (other at)) (same_key k p.key) two.0 in
+    let one = and_tells (same_end m.maker (other at) && same_master_key k p.key && same_bytes c p.context) (same_bytes m.emission.input p.input) e in
+    let two = and_tells (same_end m.maker (other at) && same_master_key k p.key) (same_bytes c p.context) one.0 in
+    let three = and_tells (same_end m.maker (other at)) (same_master_key k p.key) two.0 in
     record {
       maker = maker_is m.maker (other at) three.0;
       algorithm = same_key_algorithm k p.key three.1;

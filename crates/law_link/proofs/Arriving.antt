@@ -23,7 +23,7 @@ use Rattle.book_endpoint.specs.declared.phase.Phase.{Phase}
 use Rattle.book_endpoint.specs.declared.phase.Phase.TheVariants.{Listen, SynSent}
 use Rattle.book_endpoint.specs.States.{EndState, is_closed}
 use Rattle.book_endpoint.specs.declared.verdict.Verdict.TheVariants.{NoTuple, Expired, MacLength, NoContext, Range, BadMac}
-use Rattle.book_endpoint.specs.Verdicts.{Finding, Judgement, mac_of, found_with, number_of}
+use Rattle.book_endpoint.specs.Verdicts.{Finding, Judgement, mac_of, found_with, segment_number}
 use Rattle.book_endpoint.proofs.JudgeSteps.{judge_number, judge_context, judge_row, judge_ao, judge_by_steps}
 use Rattle.book_endpoint.specs.declared.arrival.Arrival.{Arrival}
 use Rattle.book_endpoint.specs.declared.arrival.Arrival.TheVariants.{Bad, Foreign, Checksum, Closed as AtClosed, Refused, Reset}
@@ -44,7 +44,7 @@ IsNumber d n = (n % ring ≡ d.sequence) × (has SYN d ≡ true → n ≡ d.sequ
 sequence_itself : (d : Segment) (n : ℕ) → d.sequence < ring → Some d.sequence ≡ Some n → IsNumber d n
 sequence_itself d n fits e = let same = some_is d.sequence n e in (omega arith, λ syn. sym same)
 
-number_told : (d : Segment) (x : Option ℕ) (n : ℕ) → d.sequence < ring → number_of d x ≡ Some n → IsNumber d n
+number_told : (d : Segment) (x : Option ℕ) (n : ℕ) → d.sequence < ring → segment_number d x ≡ Some n → IsNumber d n
 number_told d None n fits e = sequence_itself d n fits e
 number_told d (Some x) n fits e = by_test (has SYN d) refl e
   where
@@ -70,7 +70,7 @@ JudgedIf s d (Err why) = ⊤
 JudgedIf s d (Ok p) = Judged s d p
 
 module _ (rows : List Row) (pair : Pair) (now : ℕ) (s : EndState) (d : Segment) (fits : d.sequence < ring) (x : Option ℕ) where
-  number_judged : (r : Numbered) (ao : Ao) (c : List ℕ) (n : Option ℕ) → number_of d x ≡ n → find_ao d.area ≡ One ao → length ao.mac ≡ mac_length_of r.row.algorithm → context_of d s.peer_isn (Some s.isn) ≡ Some c
+  number_judged : (r : Numbered) (ao : Ao) (c : List ℕ) (n : Option ℕ) → segment_number d x ≡ n → find_ao d.area ≡ One ao → length ao.mac ≡ mac_length_of r.row.algorithm → context_of d s.peer_isn (Some s.isn) ≡ Some c
       → JudgedIf s d (judge_number r d ao c n)
   number_judged r ao c None is option long known = tt
   number_judged r ao c (Some n) is option long known =
@@ -84,7 +84,7 @@ module _ (rows : List Row) (pair : Pair) (now : ℕ) (s : EndState) (d : Segment
   context_judged : (r : Numbered) (ao : Ao) (o : Option (List ℕ)) → find_ao d.area ≡ One ao → length ao.mac ≡ mac_length_of r.row.algorithm → context_of d s.peer_isn (Some s.isn) ≡ o → JudgedIf s d (judge_context r d ao x o)
   context_judged r ao None option long known = tt
   context_judged r ao (Some c) option long known =
-      choose (JudgedIf s d) (not (has SYN d) && not (is_some x)) (Err NoContext) _ (λ t. tt) (λ t. number_judged r ao c (number_of d x) refl option long known)
+      choose (JudgedIf s d) (not (has SYN d) && not (is_some x)) (Err NoContext) _ (λ t. tt) (λ t. number_judged r ao c (segment_number d x) refl option long known)
 
   row_judged : (ao : Ao) (o : Option (List ℕ)) (r : Option Numbered) → find_ao d.area ≡ One ao → context_of d s.peer_isn (Some s.isn) ≡ o → JudgedIf s d (judge_row rows pair d ao x o r)
   row_judged ao o None option known = choose (JudgedIf s d) (has_id rows pair ao.key_id) (Err Expired) (Err NoTuple) (λ t. tt) (λ t. tt)

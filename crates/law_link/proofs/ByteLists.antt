@@ -14,7 +14,7 @@ use Rattle.book_segments.proofs.ByteLaws.{bytes_drop, bytes_take, nil_bytes}
 use Rattle.book_macs.specs.Contexts.{context}
 use Rattle.book_macs.specs.MacInput.{covered, mac_input}
 use Rattle.book_link.specs.Alterations.{masked, place_in, altered}
-use Rattle.law_link.specs.Laws.{OneFamily}
+use Rattle.law_link.specs.Laws.{AddressesFit}
 use Rattle.law_link.proofs.Tests.{choose}
 
 -- numbers below 256, as a record, so that the list is told by the fact
@@ -115,11 +115,11 @@ input_bytes n d ao flag f key next long =
 
 -- the sockets of a pair fit their places
 pub record PairFits (pair : Pair) : Type 0 where
-  pub family : OneFamily pair.local.address pair.remote.address
+  pub family : AddressesFit pair.local.address pair.remote.address
   pub local_port : pair.local.port < 65536
   pub remote_port : pair.remote.port < 65536
 
-family_bytes : (a c : Address) → OneFamily a c → Byted (octets a) × Byted (octets c)
+family_bytes : (a c : Address) → AddressesFit a c → Byted (octets a) × Byted (octets c)
 family_bytes (V4 one) (V4 two) f = (v4_bytes (V4 one) f.0, v4_bytes (V4 two) f.1)
 family_bytes (V6 one) (V6 two) f = (v6_bytes (V6 one) f.0, v6_bytes (V6 two) f.1)
 family_bytes (V4 one) (V6 two) f = absurd f

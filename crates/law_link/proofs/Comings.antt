@@ -1,7 +1,7 @@
 -- Which events are arrivals, and of what.
 use Rattle.std.proofs.Common.{◌≡◌, ℕ, suc, ◌<◌, Bool, true, false, not, List, [], ◌∷◌, length, replicate, Option, Some, None, if◌then◌else◌, refl, sym, ap, ◌∙◌, subst, arith, nat_lt}
 use Rattle.std.specs.Prelude.{⊤}
-use Rattle.book_link.specs.RowLines.{row_of}
+use Rattle.book_link.specs.RowLines.{added_row}
 use Rattle.ao_base.specs.declared.end.End.{End}
 use Rattle.ao_base.specs.declared.end.End.TheVariants.{A, B}
 use Rattle.book_segments.specs.Segments.{reading}
@@ -17,8 +17,8 @@ use Rattle.book_link.specs.Alterations.{has_place, altered}
 use Rattle.book_link.specs.declared.event.Event.{Event}
 use Rattle.book_link.specs.declared.event.Event.TheVariants.{Clock, Connect, Listen as Await, Start, Give, Fill, Send, Resend, Deliver, Inject, Alter, Take, Close, Abort, AddRow, Withdraw, Dump}
 use Rattle.book_link.specs.Outcomes.{Outcome, Idle, Nothing, HasClosed, Full, Done, NoPlace}
-use Rattle.book_link.specs.Worlds.{Setup, pair_of, Session, Side, Made, Came, Happening, Making, Coming, World, side, live, segment_named}
-use Rattle.book_link.specs.Steps.{Act, add, put, with_rows, with_clock, act_on, on_live, quietly, begin, given, sent, send, send_again, come, took, deliver, alter, add_row, withdraw, step}
+use Rattle.book_link.specs.Worlds.{Setup, pair_of, Session, LinkSide, Made, Came, Happening, Making, Coming, World, side, live, segment_named}
+use Rattle.book_link.specs.Steps.{Act, add, put, with_table, with_clock, act_on, on_live, quietly, begin, given, sent, send, send_again, come, took, deliver, alter, add_row, withdraw, step}
 use Rattle.law_link.specs.Laws.{SetupFits, EventFits}
 use Rattle.law_link.proofs.Invariant.{Inv}
 use Rattle.law_link.proofs.Running.{named_bytes}
@@ -44,7 +44,7 @@ not_coming None past r no_one e = longer (Coming r) past e
 not_coming (Some (Making m)) past r no_one e = absurd (cc)
 not_coming (Some (Coming k)) past r no_one e = absurd no_one
 
-put_history : (w : World) (e : End) (now : Side) (h : Option Happening) → (put w e now h).history ≡ add h w.history
+put_history : (w : World) (e : End) (now : LinkSide) (h : Option Happening) → (put w e now h).history ≡ add h w.history
 put_history w A now h = refl
 put_history w B now h = refl
 
@@ -66,17 +66,17 @@ begin_quiet : (w : World) (e : End) (s : EndState) (o : Option Session) (r : Cam
 begin_quiet w e s (Some used) r is = longer (Coming r) w.history is
 begin_quiet w e s None r is = not_coming None w.history r tt (sym (put_history w e _ None) ∙ is)
 
-put_quiet : (w : World) (e : End) (now : Side) (r : Came) → (put w e now None).history ≡ Coming r ∷ w.history → ⊥
+put_quiet : (w : World) (e : End) (now : LinkSide) (r : Came) → (put w e now None).history ≡ Coming r ∷ w.history → ⊥
 put_quiet w e now r is = not_coming None w.history r tt (sym (put_history w e now None) ∙ is)
 
 add_quiet : (w : World) (e : End) (o : Adding) (r : Came) → (add_row w e o).world.history ≡ Coming r ∷ w.history → ⊥
-add_quiet w e (AddedAs n rows) r is = put_quiet w e (with_rows (side w e) rows) r is
+add_quiet w e (AddedAs n rows) r is = put_quiet w e (with_table (side w e) rows) r is
 add_quiet w e TooMany r is = longer (Coming r) w.history is
 add_quiet w e (OverlapsRow n) r is = longer (Coming r) w.history is
 
 withdraw_quiet : (w : World) (e : End) (o : Option (List Row)) (r : Came) → (withdraw w e o).world.history ≡ Coming r ∷ w.history → ⊥
 withdraw_quiet w e None r is = longer (Coming r) w.history is
-withdraw_quiet w e (Some rows) r is = put_quiet w e (with_rows (side w e) rows) r is
+withdraw_quiet w e (Some rows) r is = put_quiet w e (with_table (side w e) rows) r is
 
 came_is : (k r : Came) (past : List Happening) → Coming k ∷ past ≡ Coming r ∷ past → k ≡ r
 came_is k r past e = cc
@@ -121,6 +121,6 @@ module _ (setup : Setup) (fits : SetupFits setup) where
   came_by w (Take e count) r f inv is = absurd (live_quiet w e (side w e).sessions (took count) r (λ s. tt) is)
   came_by w (Close e) r f inv is = absurd (live_quiet w e (side w e).sessions _ r (λ s. tt) is)
   came_by w (Abort e) r f inv is = absurd (live_quiet w e (side w e).sessions _ r (λ s. tt) is)
-  came_by w (AddRow e row) r f inv is = absurd (add_quiet w e (adding (side w e).rows (row_of row)) r is)
+  came_by w (AddRow e row) r f inv is = absurd (add_quiet w e (adding (side w e).rows (added_row row)) r is)
   came_by w (Withdraw e n) r f inv is = absurd (withdraw_quiet w e (withdrawn (side w e).rows n) r is)
   came_by w (Dump name) r f inv is = absurd (longer (Coming r) w.history is)

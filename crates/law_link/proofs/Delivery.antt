@@ -9,14 +9,14 @@ use Rattle.book_endpoint.specs.States.{EndState, connected, listening, started, 
 use Rattle.law_link.proofs.Tests.{choose}
 use Rattle.law_link.proofs.Sound.{Sound, steady_sound}
 use Rattle.law_link.proofs.Whole.{Whole}
-use Rattle.book_link.specs.RowLines.{row_of}
+use Rattle.book_link.specs.RowLines.{added_row}
 use Rattle.law_link.proofs.ByteLists.{altered_bytes, repeated}
 use Rattle.book_link.specs.Alterations.{has_place, altered}
 use Rattle.book_link.specs.declared.event.Event.{Event}
 use Rattle.book_link.specs.declared.event.Event.TheVariants.{Clock, Connect, Listen as Await, Start, Give, Fill, Send, Resend, Deliver, Inject, Alter, Take, Close, Abort, AddRow, Withdraw, Dump}
 use Rattle.law_link.specs.Laws.{SetupFits, EventFits}
-use Rattle.book_link.specs.Worlds.{other, Setup, pair_of, Session, Side, Made, World, side, find, segment_named}
-use Rattle.book_link.specs.Steps.{Stepped, Act, put, with_sessions, with_rows, ticked, with_clock, acted, act_on, begin, on_live, come, deliver, alter, add_row, withdraw, step}
+use Rattle.book_link.specs.Worlds.{other, Setup, pair_of, Session, LinkSide, Made, World, side, find, segment_named}
+use Rattle.book_link.specs.Steps.{Stepped, Act, put, with_sessions, with_table, ticked, with_clock, acted, act_on, begin, on_live, come, deliver, alter, add_row, withdraw, step}
 use Rattle.book_link.specs.Runs.{empty, run_from, run}
 use Rattle.law_link.proofs.Invariant.{AllSound, AllWhole, Inv}
 use Rattle.law_link.proofs.Sessions.{both, grows_refl, grows_head, grows_new}
@@ -40,7 +40,7 @@ module _ (setup : Setup) (fits : SetupFits setup) where
       let u = acted s act in
       head_heard setup fits w e s rest (with_sessions (side w e) (u ∷ rest)) u act.happened is refl inv sound.0 done.sound done.whole done.later done.gained (grows_head s u rest done.later) h
 
-  quiet_heard : (w : World) (e : End) (now : Side) → now.sessions ≡ (side w e).sessions → Heard w → Heard (put w e now None)
+  quiet_heard : (w : World) (e : End) (now : LinkSide) → now.sessions ≡ (side w e).sessions → Heard w → Heard (put w e now None)
   quiet_heard w e now same h =
       let others = (side w (other e)).sessions in
       put_heard w e now None h (λ isn t f. grows_refl now.sessions isn t (ap (λ (l : List Session). find l isn) same ∙ f))
@@ -87,13 +87,13 @@ module _ (setup : Setup) (fits : SetupFits setup) where
       (λ t. arrive_heard w e (altered m.bytes place mask fix) (altered_bytes m.bytes place mask fix low (record { at = all m refl })).at inv h) (λ t. h)
 
   add_heard : (w : World) (e : End) (o : Adding) → Heard w → Heard (add_row w e o).world
-  add_heard w e (AddedAs n rows) h = quiet_heard w e (with_rows (side w e) rows) refl h
+  add_heard w e (AddedAs n rows) h = quiet_heard w e (with_table (side w e) rows) refl h
   add_heard w e TooMany h = h
   add_heard w e (OverlapsRow n) h = h
 
   withdraw_heard : (w : World) (e : End) (o : Option (List Row)) → Heard w → Heard (withdraw w e o).world
   withdraw_heard w e None h = h
-  withdraw_heard w e (Some rows) h = quiet_heard w e (with_rows (side w e) rows) refl h
+  withdraw_heard w e (Some rows) h = quiet_heard w e (with_table (side w e) rows) refl h
 
   pub step_heard : (w : World) (event : Event) → EventFits event → Inv setup w → Heard w → Heard (step setup w event).world
   step_heard w (Clock e seconds) f inv h = clock_heard w e seconds inv h
@@ -110,7 +110,7 @@ module _ (setup : Setup) (fits : SetupFits setup) where
   step_heard w (Take e count) f inv h = act_heard w e (side w e).sessions _ refl inv (λ s a b. took_ok setup e count s a b) h
   step_heard w (Close e) f inv h = act_heard w e (side w e).sessions _ refl inv (λ s a b. close_ok setup e s s.phase a b) h
   step_heard w (Abort e) f inv h = act_heard w e (side w e).sessions _ refl inv (λ s a b. abort_ok setup e s a b) h
-  step_heard w (AddRow e row) f inv h = add_heard w e (adding (side w e).rows (row_of row)) h
+  step_heard w (AddRow e row) f inv h = add_heard w e (adding (side w e).rows (added_row row)) h
   step_heard w (Withdraw e n) f inv h = withdraw_heard w e (withdrawn (side w e).rows n) h
   step_heard w (Dump name) f inv h = h
 

@@ -10,7 +10,7 @@ use Rattle.book_endpoint.specs.declared.phase.Phase.TheVariants.{Listen, SynSent
 use Rattle.book_endpoint.specs.States.{EndState, window}
 use Rattle.book_segments.specs.Received.{below_limit, keep, first_missing, runs}
 use Rattle.book_endpoint.specs.declared.arrival.Arrival.TheVariants.{Challenge, NoAck, Reset}
-use Rattle.book_endpoint.specs.Arrivals.{Moved, answered, owing, reset, above, within, fits_window, rested, finish, past_fin, pass_fin, fin_of, heard_runs, hear_data, after_own_fin, acked_fin, windowed, acked, go_on, acknowledged, ordinary, syn_alone, syn_ack_alone, after_check}
+use Rattle.book_endpoint.specs.Arrivals.{Moved, answered, owing, reset, above, in_range, fits_window, rested, finish, past_fin, pass_fin, fin_of, heard_runs, hear_data, after_own_fin, acked_fin, windowed, acked, go_on, acknowledged, ordinary, syn_alone, syn_ack_alone, after_check}
 use Rattle.law_link.proofs.Tests.{not_false}
 use Rattle.law_link.proofs.Moves.{following}
 use Rattle.law_link.proofs.Stream.{fm_low, keep-cases}
@@ -138,7 +138,7 @@ module _ (n : ℕ) (d : Segment) where
   heard_gains s m now true z h = none s
   heard_gains s m now false z h =
       let f = n + length d.payload in
-      let records = has FIN d && within f s.expected (s.expected + window s) && (runs m false f (s.expected + window s - f) == 0) in
+      let records = has FIN d && in_range f s.expected (s.expected + window s) && (runs m false f (s.expected + window s - f) == 0) in
       let t : EndState = record s { received = m; fin = fin_of s.fin records f; ack_owed = true; expected = first_missing m s.expected (window s) } in
       let u = pass_fin t t.fin in
       let v = (finish u now).state in
@@ -146,7 +146,7 @@ module _ (n : ℕ) (d : Segment) where
       (record {
         same_isn = refl;
         bytes = h;
-        fins = λ g e. fin_came d n s.fin records f z (λ r. (and_tells (has FIN d) (within f s.expected (s.expected + window s)) (and_tells (has FIN d && within f s.expected (s.expected + window s)) (runs m false f (s.expected + window s - f) == 0) r).0).0) refl g e;
+        fins = λ g e. fin_came d n s.fin records f z (λ r. (and_tells (has FIN d) (in_range f s.expected (s.expected + window s)) (and_tells (has FIN d && in_range f s.expected (s.expected + window s)) (runs m false f (s.expected + window s - f) == 0) r).0).0) refl g e;
         keeps_fin = λ g e. fin_stays s.fin records f g e;
         same_taken = refl;
         acks = inl refl;

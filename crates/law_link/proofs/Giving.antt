@@ -15,10 +15,10 @@ use Rattle.book_link.specs.Alterations.{has_place, altered}
 use Rattle.book_link.specs.declared.event.Event.{Event}
 use Rattle.book_link.specs.declared.event.Event.TheVariants.{Clock, Connect, Listen, Start, Give, Fill, Send, Resend, Deliver, Inject, Alter, Take, Close, Abort, AddRow, Withdraw, Dump}
 use Rattle.book_link.specs.Outcomes.{Outcome, Done, Full, HasClosed, Idle, Nothing}
-use Rattle.book_link.specs.RowLines.{row_of}
+use Rattle.book_link.specs.RowLines.{added_row}
 use Rattle.book_link.specs.Runs.{empty, run_from, run}
-use Rattle.book_link.specs.Steps.{Stepped, Act, quietly, put, with_clock, with_rows, with_sessions, ticked, acted, act_on, on_live, begin, given, sent, took, come, deliver, alter, add_row, withdraw, step}
-use Rattle.book_link.specs.Worlds.{Setup, pair_of, Session, Side, Made, Happening, World, side, find, segment_named}
+use Rattle.book_link.specs.Steps.{Stepped, Act, quietly, put, with_clock, with_table, with_sessions, ticked, acted, act_on, on_live, begin, given, sent, took, come, deliver, alter, add_row, withdraw, step}
+use Rattle.book_link.specs.Worlds.{Setup, pair_of, Session, LinkSide, Made, Happening, World, side, find, segment_named}
 use Rattle.law_link.specs.Headline.{GivesFew, few_events}
 use Rattle.law_link.proofs.GivenStays.{Emitting, arrive_given, emit_emitting, resend_emitting}
 use Rattle.law_link.proofs.Running.{ticks}
@@ -71,7 +71,7 @@ close_gives s phase = same_gives s (quietly (close_in phase s) Done) refl
 
 -- ---- a step
 
-put_most : (n : ℕ) (w : World) (e : End) (now : Side) (happened : Option Happening) → AtMost (n + 65535) now.sessions → EachAtMost n w → EachAtMost (n + 65535) (put w e now happened)
+put_most : (n : ℕ) (w : World) (e : End) (now : LinkSide) (happened : Option Happening) → AtMost (n + 65535) now.sessions → EachAtMost n w → EachAtMost (n + 65535) (put w e now happened)
 put_most n w A now happened new h = both (λ f. AtMost (n + 65535) (side (put w A now happened) f).sessions) new (stays n w h B)
 put_most n w B now happened new h = both (λ f. AtMost (n + 65535) (side (put w B now happened) f).sessions) (stays n w h A) new
 
@@ -111,13 +111,13 @@ alter_most n setup w e place mask fix (Some m) h =
     (λ t. live_most n w e (come setup e w (altered m.bytes place mask fix)) (come_gives setup e w (altered m.bytes place mask fix)) h) (λ t. stays n w h)
 
 row_most : (n : ℕ) (w : World) (e : End) (o : Adding) → EachAtMost n w → EachAtMost (n + 65535) (add_row w e o).world
-row_most n w e (AddedAs k rows) h = put_most n w e (with_rows (side w e) rows) None (stays n w h e) h
+row_most n w e (AddedAs k rows) h = put_most n w e (with_table (side w e) rows) None (stays n w h e) h
 row_most n w e TooMany h = stays n w h
 row_most n w e (OverlapsRow k) h = stays n w h
 
 withdraw_most : (n : ℕ) (w : World) (e : End) (o : Option (List Row)) → EachAtMost n w → EachAtMost (n + 65535) (withdraw w e o).world
 withdraw_most n w e None h = stays n w h
-withdraw_most n w e (Some rows) h = put_most n w e (with_rows (side w e) rows) None (stays n w h e) h
+withdraw_most n w e (Some rows) h = put_most n w e (with_table (side w e) rows) None (stays n w h e) h
 
 step_most : (n : ℕ) (setup : Setup) (w : World) (event : Event) → EachAtMost n w → EachAtMost (n + 65535) (step setup w event).world
 step_most n setup w (Clock e seconds) h = put_most n w e (with_clock (side w e) seconds) None (ticked_most n seconds (side w e).sessions (h e)) h
@@ -134,7 +134,7 @@ step_most n setup w (Alter e name place mask fix) h = alter_most n setup w e pla
 step_most n setup w (Take e count) h = live_most n w e (took count) (λ s. same_gives s (took count s) refl) h
 step_most n setup w (Close e) h = live_most n w e _ (λ s. close_gives s s.phase) h
 step_most n setup w (Abort e) h = live_most n w e _ (λ s. same_gives s (quietly (abort s) Done) refl) h
-step_most n setup w (AddRow e row) h = row_most n w e (adding (side w e).rows (row_of row)) h
+step_most n setup w (AddRow e row) h = row_most n w e (adding (side w e).rows (added_row row)) h
 step_most n setup w (Withdraw e k) h = withdraw_most n w e (withdrawn (side w e).rows k) h
 step_most n setup w (Dump name) h = stays n w h
 

@@ -10,10 +10,10 @@ use Rattle.book_link.specs.declared.event.Event.{Event}
 use Rattle.book_link.specs.declared.event.Event.TheVariants.{Clock, Connect, Listen, Start, Give, Fill, Send, Resend, Deliver, Inject, Alter, Take, Close, Abort, AddRow, Withdraw, Dump}
 use Rattle.book_link.specs.Outcomes.{Outcome}
 use Rattle.book_link.specs.Reports.{outcome_line, lines_from, summary, report}
-use Rattle.book_link.specs.RowLines.{row_of}
+use Rattle.book_link.specs.RowLines.{added_row}
 use Rattle.book_link.specs.Runs.{empty, run_from, run, outcomes_from}
-use Rattle.book_link.specs.Worlds.{Setup, pair_of, Session, Side, Made, Happening, World, side, find, segment_named}
-use Rattle.book_link.specs.Steps.{Stepped, Act, put, with_clock, with_rows, act_on, on_live, begin, come, deliver, alter, add_row, withdraw, step}
+use Rattle.book_link.specs.Worlds.{Setup, pair_of, Session, LinkSide, Made, Happening, World, side, find, segment_named}
+use Rattle.book_link.specs.Steps.{Stepped, Act, put, with_clock, with_table, act_on, on_live, begin, come, deliver, alter, add_row, withdraw, step}
 use Rattle.law_link.proofs.Tests.{choose}
 
 -- ---- a run in two parts
@@ -74,7 +74,7 @@ adds_none w = ([], refl)
 adds_then : (w v u : World) → Adds w v → Adds v u → Adds w u
 adds_then w v u (one, is) (two, so) = (two ++ one, so ∙ ap (λ (l : List Happening). two ++ l) is ∙ sym (append_assoc two one w.history))
 
-put_adds : (w : World) (e : End) (now : Side) (happened : Option Happening) → Adds w (put w e now happened)
+put_adds : (w : World) (e : End) (now : LinkSide) (happened : Option Happening) → Adds w (put w e now happened)
 put_adds w A now None = ([], refl)
 put_adds w B now None = ([], refl)
 put_adds w A now (Some h) = (h ∷ [], refl)
@@ -102,13 +102,13 @@ alter_adds setup w e place mask fix (Some m) =
     (λ t. live_adds w e (come setup e w (altered m.bytes place mask fix))) (λ t. adds_none w)
 
 row_adds : (w : World) (e : End) (o : Adding) → Adds w (add_row w e o).world
-row_adds w e (AddedAs n rows) = put_adds w e (with_rows (side w e) rows) None
+row_adds w e (AddedAs n rows) = put_adds w e (with_table (side w e) rows) None
 row_adds w e TooMany = adds_none w
 row_adds w e (OverlapsRow n) = adds_none w
 
 withdraw_adds : (w : World) (e : End) (o : Option (List Row)) → Adds w (withdraw w e o).world
 withdraw_adds w e None = adds_none w
-withdraw_adds w e (Some rows) = put_adds w e (with_rows (side w e) rows) None
+withdraw_adds w e (Some rows) = put_adds w e (with_table (side w e) rows) None
 
 step_adds : (setup : Setup) (w : World) (event : Event) → Adds w (step setup w event).world
 step_adds setup w (Clock e seconds) = put_adds w e (with_clock (side w e) seconds) None
@@ -125,7 +125,7 @@ step_adds setup w (Alter e name place mask fix) = alter_adds setup w e place mas
 step_adds setup w (Take e count) = live_adds w e _
 step_adds setup w (Close e) = live_adds w e _
 step_adds setup w (Abort e) = live_adds w e _
-step_adds setup w (AddRow e row) = row_adds w e (adding (side w e).rows (row_of row))
+step_adds setup w (AddRow e row) = row_adds w e (adding (side w e).rows (added_row row))
 step_adds setup w (Withdraw e n) = withdraw_adds w e (withdrawn (side w e).rows n)
 step_adds setup w (Dump name) = adds_none w
 

@@ -28,7 +28,7 @@ use Rattle.law_link.proofs.Carrying.{Carries}
 use Rattle.law_link.proofs.ByteLists.{PairFits, zeros, context_bytes, input_bytes, spell_bytes}
 use Rattle.law_link.proofs.Written.{mac_words, written_fits}
 use Rattle.book_link.specs.Worlds.{Setup, pair_of, Session, Made, Happening, Making, Coming, World, side, find, live}
-use Rattle.law_link.specs.Laws.{RowFits, OneFamily, SetupFits, TablesFit}
+use Rattle.law_link.specs.Laws.{RowFits, AddressesFit, SetupFits, TablesFit}
 
 -- as made: how a session made a segment, in its state and from its table then, and what it kept since
 pub record MadeBy (setup : Setup) (t : EndState) (m : Made) : Type 0 where
@@ -124,7 +124,7 @@ Grows old new = (isn : ℕ) (t : Session) → find old isn ≡ Some t → (u : S
 
 -- ---- the sockets
 
-family_turned : (a c : Address) → OneFamily a c → OneFamily c a
+family_turned : (a c : Address) → AddressesFit a c → AddressesFit c a
 family_turned (V4 one) (V4 two) f = (f.1, f.0)
 family_turned (V6 one) (V6 two) f = (f.1, f.0)
 family_turned (V4 one) (V6 two) f = absurd f

@@ -13,7 +13,7 @@ use Rattle.law_link.proofs.Ended.{at_end-later}
 use Rattle.law_link.proofs.Sound.{Sound, Later}
 use Rattle.law_link.proofs.Whole.{Whole}
 use Rattle.law_link.proofs.Gains.{Brings, BringsFin, BringsAck}
-use Rattle.book_link.specs.Worlds.{Setup, pair_of, Session, Side, Made, Happening, Making, Coming, World, side, find}
+use Rattle.book_link.specs.Worlds.{Setup, pair_of, Session, LinkSide, Made, Happening, Making, Coming, World, side, find}
 use Rattle.book_link.specs.Steps.{Act, add, put, with_sessions, acted, act_on}
 use Rattle.law_link.specs.Laws.{RowFits, TablesFit}
 use Rattle.law_link.proofs.Invariant.{MadeBy, made-later, MadeOk, AllMadeOk, AllSound, AllWhole, AllShown, Distinct, Inv, Grows}
@@ -44,7 +44,7 @@ made_add setup v e (Some (Making m)) history new h = (subst (λ (f : End). MadeO
 made_add setup v e (Some (Coming r)) history new h = h
 
 -- an end of which this holds
-pub record SideOk (setup : Setup) (now : Side) : Type 0 where
+pub record SideOk (setup : Setup) (now : LinkSide) : Type 0 where
   pub sound : AllSound now.sessions
   pub whole : AllWhole now.sessions
   pub shown : AllShown now.sessions
@@ -59,7 +59,7 @@ side_ok setup w e inv = record { sound = inv.sound e; whole = inv.whole e; shown
 inv_of : (setup : Setup) (v : World) → AllMadeOk setup v v.history → ((e : End) → SideOk setup (side v e)) → Inv setup v
 inv_of setup v made ok = record { made = made; sound = λ e. (ok e).sound; whole = λ e. (ok e).whole; shown = λ e. (ok e).shown; distinct = λ e. (ok e).distinct; rows = λ e. (ok e).rows; valid = λ t e. (ok e).valid t; clock = λ e. (ok e).clock }
 
-pub put_keeps : (setup : Setup) (w : World) (e : End) (now : Side) (happened : Option Happening) → Inv setup w → Grows (side w e).sessions now.sessions
+pub put_keeps : (setup : Setup) (w : World) (e : End) (now : LinkSide) (happened : Option Happening) → Inv setup w → Grows (side w e).sessions now.sessions
     → NewMade setup e now.sessions happened → SideOk setup now → Inv setup (put w e now happened)
 put_keeps setup w A now happened inv g new ok =
     let v = put w A now happened in

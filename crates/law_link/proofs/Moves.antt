@@ -8,7 +8,7 @@ use Rattle.book_endpoint.specs.declared.phase.Phase.TheVariants.{Listen, SynSent
 use Rattle.book_endpoint.specs.States.{EndState, window}
 use Rattle.book_segments.specs.Received.{keep, below_limit, first_missing, runs}
 use Rattle.book_endpoint.specs.declared.arrival.Arrival.TheVariants.{Unexpected, Window, Challenge, NoAck, BadAck, TooManyRuns, Reset, Taken}
-use Rattle.book_endpoint.specs.Arrivals.{Moved, answered, owing, above, within, fits_window, rested, finish, past_fin, pass_fin, fin_of, heard_runs, hear_data, after_own_fin, acked_fin, windowed, acked, go_on, acknowledged, ordinary, opened, syn_alone, syn_ack_alone, after_check}
+use Rattle.book_endpoint.specs.Arrivals.{Moved, answered, owing, above, in_range, fits_window, rested, finish, past_fin, pass_fin, fin_of, heard_runs, hear_data, after_own_fin, acked_fin, windowed, acked, go_on, acknowledged, ordinary, told_by_syn, syn_alone, syn_ack_alone, after_check}
 use Rattle.law_link.proofs.Tests.{choose, not_false}
 use Rattle.law_link.proofs.Phases.{waits, PhaseOk, own_ok, past_ok, closed_ok, established_ok, received_ok, answered_ok}
 use Rattle.law_link.proofs.Sound.{Sound, Steady, steady_refl, steady_then, with_phase, learns}
@@ -61,7 +61,7 @@ heard_ok s t m d n now true h = too_many s d (owing t) h
 heard_ok s t m d n now false h =
     let w = window t in
     let f = n + length d.payload in
-    let records = has FIN d && within f t.expected (t.expected + w) && (runs m false f (t.expected + w - f) == 0) in
+    let records = has FIN d && in_range f t.expected (t.expected + w) && (runs m false f (t.expected + w - f) == 0) in
     let u : EndState = record t { received = m; fin = fin_of t.fin records f; ack_owed = true; expected = first_missing m t.expected w } in
     finish_ok s (pass_fin u u.fin) d now (steady_then s u (pass_fin u u.fin) h (pass_steady u u.fin))
 
@@ -125,13 +125,13 @@ syn_of false b c e is = absurd (cc)
 pub after_check_ok : (pair : Pair) (s : EndState) (c : Option ℕ) (d : Segment) (n now : ℕ) (phase : Phase) → s.phase ≡ phase → (has SYN d ≡ true → n < 2 ^ 32) → Sound s
     → MovedOk s d (after_check pair s (following c s) d n now phase)
 after_check_ok pair s c d n now Listen is fits h =
-    let t = opened pair (following c s) d n in
+    let t = told_by_syn pair (following c s) d n in
     choose (MovedOk s d) (syn_alone d) (answered (record t { phase = SynReceived }) Taken) (answered s Unexpected)
     (λ e. taken s d (record t { phase = SynReceived })
     (learns s n SynReceived (h.unknown (subst (λ p. waits p ≡ true) (sym is) refl)) (fits (syn_of (has SYN d) (not (has ACK d)) (not (has RST d)) (not (has FIN d)) e)) refl (subst (λ p. PhaseOk p SynReceived) (sym is) received_ok)))
     (λ e. unexpected s d s (steady_refl s))
 after_check_ok pair s c d n now SynSent is fits h =
-    let t = opened pair (following c s) d n in
+    let t = told_by_syn pair (following c s) d n in
     let u : EndState = record t { phase = Established; una = s.isn + 1; wl2 = s.isn + 1; ack_owed = true } in
     choose (MovedOk s d) (not (syn_ack_alone d)) (answered s Unexpected) _
     (λ e. unexpected s d s (steady_refl s))

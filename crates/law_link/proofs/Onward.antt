@@ -10,10 +10,10 @@ use Rattle.book_endpoint.specs.States.{EndState, connected, listening, started}
 use Rattle.book_link.specs.Alterations.{has_place, altered}
 use Rattle.book_link.specs.declared.event.Event.{Event}
 use Rattle.book_link.specs.declared.event.Event.TheVariants.{Clock, Connect, Listen, Start, Give, Fill, Send, Resend, Deliver, Inject, Alter, Take, Close, Abort, AddRow, Withdraw, Dump}
-use Rattle.book_link.specs.RowLines.{row_of}
+use Rattle.book_link.specs.RowLines.{added_row}
 use Rattle.book_link.specs.Runs.{empty, run_from, run}
-use Rattle.book_link.specs.Steps.{Stepped, Act, put, with_clock, with_rows, with_sessions, acted, act_on, on_live, begin, come, deliver, alter, add_row, withdraw, step}
-use Rattle.book_link.specs.Worlds.{Setup, pair_of, Session, Side, Made, Happening, World, side, find, segment_named}
+use Rattle.book_link.specs.Steps.{Stepped, Act, put, with_clock, with_table, with_sessions, acted, act_on, on_live, begin, come, deliver, alter, add_row, withdraw, step}
+use Rattle.book_link.specs.Worlds.{Setup, pair_of, Session, LinkSide, Made, Happening, World, side, find, segment_named}
 use Rattle.law_link.specs.Laws.{SetupFits, EventFits}
 use Rattle.law_link.specs.Sessions.{OnlyGrow}
 use Rattle.law_link.proofs.ByteLists.{altered_bytes, repeated}
@@ -41,7 +41,7 @@ grows_then old mid new one two = λ isn t e.
     let b = two isn a.0 a.1 in
     (b.0, b.1, later_then t.state (a.0).state (b.0).state a.2 b.2)
 
-put_grow : (w : World) (e : End) (now : Side) (happened : Option Happening) → Grows (side w e).sessions now.sessions → BothGrow w (put w e now happened)
+put_grow : (w : World) (e : End) (now : LinkSide) (happened : Option Happening) → Grows (side w e).sessions now.sessions → BothGrow w (put w e now happened)
 put_grow w A now happened g = both (λ f. Grows (side w f).sessions (side (put w A now happened) f).sessions) g (grows_refl w.b.sessions)
 put_grow w B now happened g = both (λ f. Grows (side w f).sessions (side (put w B now happened) f).sessions) (grows_refl w.a.sessions) g
 
@@ -62,8 +62,8 @@ begin_grow w e s None is =
     let u : Session = record { state = s; end_shown = false } in
     put_grow w e (with_sessions (side w e) (u ∷ (side w e).sessions)) None (grows_new u (side w e).sessions is)
 
-rows_grow : (w : World) (e : End) (rows : List Row) → BothGrow w (put w e (with_rows (side w e) rows) None)
-rows_grow w e rows = put_grow w e (with_rows (side w e) rows) None (grows_refl (side w e).sessions)
+rows_grow : (w : World) (e : End) (rows : List Row) → BothGrow w (put w e (with_table (side w e) rows) None)
+rows_grow w e rows = put_grow w e (with_table (side w e) rows) None (grows_refl (side w e).sessions)
 
 add_grow : (w : World) (e : End) (o : Adding) → BothGrow w (add_row w e o).world
 add_grow w e (AddedAs n rows) = rows_grow w e rows
@@ -104,7 +104,7 @@ module _ (setup : Setup) (fits : SetupFits setup) where
   step_grow w (Take e count) f inv = act_grow setup w e (side w e).sessions _ refl inv (λ s a b. took_ok setup e count s a b)
   step_grow w (Close e) f inv = act_grow setup w e (side w e).sessions _ refl inv (λ s a b. close_ok setup e s s.phase a b)
   step_grow w (Abort e) f inv = act_grow setup w e (side w e).sessions _ refl inv (λ s a b. abort_ok setup e s a b)
-  step_grow w (AddRow e row) f inv = add_grow w e (adding (side w e).rows (row_of row))
+  step_grow w (AddRow e row) f inv = add_grow w e (adding (side w e).rows (added_row row))
   step_grow w (Withdraw e n) f inv = withdraw_grow w e (withdrawn (side w e).rows n)
   step_grow w (Dump name) f inv = still w
 

@@ -14,7 +14,7 @@ use Rattle.book_segments.specs.Spelling.{IsV4, IsV6, FitsIp}
 use Rattle.book_segments.proofs.Fields.{some_is}
 use Rattle.book_macs.specs.Contexts.{context, context_of_syn, context_of_later, context_of}
 use Rattle.book_macs.specs.MacInput.{mac_input}
-use Rattle.book_macs.specs.Meaning.{SameFamily, HasNumber, SameMeaning}
+use Rattle.book_macs.specs.Meaning.{SameFamily, NumberedSegment, SameMeaning}
 use Rattle.book_macs.proofs.Ids.{equal_inputs_equal_meaning}
 use Rattle.book_macs.proofs.Telling.{context_law}
 use Rattle.book_endpoint.specs.States.{EndState}
@@ -100,9 +100,9 @@ meaning_met setup t m h at s bytes p fits same g =
     let zero_mac = no_mac h.sending in
     let own = own_ao h.draft h.sending zero_mac in
     let small = h.drafted.small in
-    let ours : HasNumber h.draft.number b own =
+    let ours : NumberedSegment h.draft.number b own =
     record { fits = blank_fits setup t m h fits; option = area_ao there (sets h.draft.flags SYN) h.sending zero_mac; number = omega arith; sequence = refl } in
-    let theirs : HasNumber p.number d j.ao = record { fits = g.fits; option = j.option; number = j.small; sequence = j.number.0 } in
+    let theirs : NumberedSegment p.number d j.ao = record { fits = g.fits; option = j.option; number = j.small; sequence = j.number.0 } in
     let source = (sockets_met setup at m.maker s bytes p same.maker g).0 in
     let family = family_met b.ip d.ip b d ours.fits.ip g.fits.ip (ap (λ (k : Socket). k.address) source) in
     let algorithm : h.sending.row.algorithm ≡ p.key.algorithm = ap (λ x. x.sending.row.algorithm) (sym h.emission) ∙ same.algorithm in

@@ -18,7 +18,7 @@ use Rattle.law_link.proofs.Gains.{Brings, BringsFin, BringsAck}
 use Rattle.law_link.proofs.Carrying.{GivenAt, given-later}
 use Rattle.law_link.specs.Headline.{GivesFew}
 use Rattle.law_link.specs.Laws.{SetupFits, Repeats}
-use Rattle.book_link.specs.Worlds.{other, Setup, pair_of, Session, Side, Made, Came, Happening, Making, Coming, World, side, find, forged, forgeries}
+use Rattle.book_link.specs.Worlds.{other, Setup, pair_of, Session, LinkSide, Made, Came, Happening, Making, Coming, World, side, find, forged, forgeries}
 use Rattle.book_link.specs.Steps.{add, put}
 use Rattle.law_link.proofs.Invariant.{MadeBy, Inv, Grows}
 use Rattle.law_link.proofs.Sessions.{both}
@@ -276,7 +276,7 @@ few_before s u l few =
     omega arith
 
 -- an end changes so
-pub put_heard : (w : World) (e : End) (now : Side) (happened : Option Happening) → Heard w → Grows (side w e).sessions now.sessions → (AllFew now.sessions → AllFew (side w e).sessions)
+pub put_heard : (w : World) (e : End) (now : LinkSide) (happened : Option Happening) → Heard w → Grows (side w e).sessions now.sessions → (AllFew now.sessions → AllFew (side w e).sessions)
     → (forgeries (add happened w.history) ≡ 0 → AllReceived (side w (other e)).sessions (side w e).sessions → AllReceived (side w (other e)).sessions now.sessions)
     → (forgeries (add happened w.history) ≡ 0 → AllFew now.sessions → AllAcked (side w (other e)).sessions (side w e).sessions → AllAcked (side w (other e)).sessions now.sessions)
     → Heard (put w e now happened)
@@ -302,7 +302,7 @@ put_heard w B now happened h g few received acked =
     }
 
 -- the newest session of an end changes so
-pub head_heard : (setup : Setup) → SetupFits setup → (w : World) (e : End) (s : Session) (rest : List Session) (now : Side) (u : Session) (happened : Option Happening) → (side w e).sessions ≡ s ∷ rest → now.sessions ≡ u ∷ rest
+pub head_heard : (setup : Setup) → SetupFits setup → (w : World) (e : End) (s : Session) (rest : List Session) (now : LinkSide) (u : Session) (happened : Option Happening) → (side w e).sessions ≡ s ∷ rest → now.sessions ≡ u ∷ rest
     → Inv setup w → Sound s.state → Sound u.state → Whole u.state → Later s.state u.state → Gained setup e s.state u.state happened → Grows (s ∷ rest) (u ∷ rest) → Heard w → Heard (put w e now happened)
 head_heard setup fits w e s rest now u happened old new inv sound sound_u whole_u l gained grows h =
     let others = (side w (other e)).sessions in

@@ -22,7 +22,7 @@ use Rattle.book_keys.specs.Plans.{mirrored, IsMet, AlignedFrom}
 use Rattle.book_keys.proofs.SendingLaws.{chosen}
 use Rattle.book_keys.proofs.PlanLaws.{Meets, meets, same_key_tells}
 use Rattle.book_endpoint.specs.States.{EndState, is_closed}
-use Rattle.book_endpoint.specs.Verdicts.{Key, key_of, Finding, mac_of, found_with, number_of}
+use Rattle.book_endpoint.specs.Verdicts.{Key, key_of, Finding, mac_of, found_with, segment_number}
 use Rattle.book_endpoint.specs.declared.arrival.Arrival.{Arrival}
 use Rattle.book_endpoint.specs.declared.arrival.Arrival.TheVariants.{Foreign, Checksum, Closed as AtClosed, Unexpected, Window, Challenge, NoAck, BadAck, TooManyRuns, Reset, Taken}
 use Rattle.book_endpoint.specs.Arrivals.{Arrived, unmoved, heard, after_check, arrive_judged, number_expected, judged_by, from_peer, arrive_read, arrive}
@@ -108,11 +108,11 @@ mac_met pair st out sending c r long algorithm master flag =
     subst (λ (l : List ℕ). same_bytes m l ≡ true) (sym is) (same_bytes-refl m)
 
 -- the number that the receiver finds is the sender's
-syn_number : (d : Segment) (x : Option ℕ) → has SYN d ≡ true → number_of d x ≡ Some d.sequence
+syn_number : (d : Segment) (x : Option ℕ) → has SYN d ≡ true → segment_number d x ≡ Some d.sequence
 syn_number d None syn = refl
 syn_number d (Some x) syn = choose (λ o. o ≡ Some d.sequence) (has SYN d) (Some d.sequence) (meant d.sequence x) (λ t. refl) (λ t. absurd (cc))
 
-plain_number : (d : Segment) (n x : ℕ) (o : Option ℕ) → o ≡ Some x → has SYN d ≡ false → d.sequence ≡ n % ring → IsNear n x → number_of d o ≡ Some n
+plain_number : (d : Segment) (n x : ℕ) (o : Option ℕ) → o ≡ Some x → has SYN d ≡ false → d.sequence ≡ n % ring → IsNear n x → segment_number d o ≡ Some n
 plain_number d n x None e syn is near = absurd (cc)
 plain_number d n x (Some y) e syn is near =
     let same : y ≡ x = option_is y x e in
@@ -135,7 +135,7 @@ expects_known false (Some y) x e = refl
 -- the number, and that it is expected
 record Counted (s : EndState) (d : Segment) (n : ℕ) : Type 0 where
   expects : (not (has SYN d) && not (is_some (number_expected s s.peer_isn))) ≡ false
-  number : number_of d (number_expected s s.peer_isn) ≡ Some n
+  number : segment_number d (number_expected s s.peer_isn) ≡ Some n
   syn : has SYN d ≡ true → n < 2 ^ 32
 
 to_plain : (b : Bool) (x y : Bool) (z : Bool) → b ≡ false → (if b then x else y && z) ≡ true → z ≡ true

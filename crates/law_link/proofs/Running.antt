@@ -25,12 +25,12 @@ use Rattle.law_link.proofs.Gains.{Brings, BringsFin, BringsAck, Gains}
 use Rattle.book_endpoint.specs.Emissions.{is_silent}
 use Rattle.law_link.proofs.ByteLists.{repeated, altered_bytes}
 use Rattle.ao_base.specs.declared.address.Pair.{Pair}
-use Rattle.book_link.specs.RowLines.{row_of}
+use Rattle.book_link.specs.RowLines.{added_row}
 use Rattle.book_link.specs.Alterations.{has_place, altered}
 use Rattle.book_link.specs.declared.event.Event.{Event}
 use Rattle.book_link.specs.declared.event.Event.TheVariants.{Clock, Connect, Listen as Await, Start, Give, Fill, Send, Resend, Deliver, Inject, Alter, Take, Close, Abort, AddRow, Withdraw, Dump}
 use Rattle.book_link.specs.Worlds.{Setup, pair_of, Session, Made, Came, Happening, Making, Coming, World, side, find, segment_named}
-use Rattle.book_link.specs.Steps.{Stepped, with_sessions, with_rows, ticked, with_clock, begin, on_live, come, deliver, alter, add_row, withdraw, step}
+use Rattle.book_link.specs.Steps.{Stepped, with_sessions, with_table, ticked, with_clock, begin, on_live, come, deliver, alter, add_row, withdraw, step}
 use Rattle.book_link.specs.Runs.{empty, run_from, run}
 use Rattle.law_link.specs.Laws.{RowFits, SetupFits, EventFits}
 use Rattle.law_link.proofs.Invariant.{MadeOk, AllMadeOk, AllSound, AllWhole, AllShown, Distinct, Inv, Grows, wired}
@@ -218,13 +218,13 @@ module _ (setup : Setup) (fits : SetupFits setup) where
   add_keeps w e row TooMany is f inv = inv
   add_keeps w e row (OverlapsRow n) is f inv = inv
   add_keeps w e row (AddedAs n rows) is f inv =
-      put_keeps setup w e (with_rows (side w e) rows) None inv (grows_refl (side w e).sessions) tt
+      put_keeps setup w e (with_table (side w e) rows) None inv (grows_refl (side w e).sessions) tt
       (record { sound = inv.sound e; whole = inv.whole e; shown = inv.shown e; distinct = inv.distinct e; rows = all_added RowFits (side w e).rows row n rows is (inv.rows e) f; valid = λ t. valid_added (side w e).rows row n rows is (inv.valid t e); clock = inv.clock e })
 
   withdraw_keeps : (w : World) (e : End) (n : ℕ) (o : Option (List Row)) → withdrawn (side w e).rows n ≡ o → Inv setup w → Inv setup (withdraw w e o).world
   withdraw_keeps w e n None is inv = inv
   withdraw_keeps w e n (Some rows) is inv =
-      put_keeps setup w e (with_rows (side w e) rows) None inv (grows_refl (side w e).sessions) tt
+      put_keeps setup w e (with_table (side w e) rows) None inv (grows_refl (side w e).sessions) tt
       (record {
         sound = inv.sound e;
         whole = inv.whole e;
@@ -252,7 +252,7 @@ module _ (setup : Setup) (fits : SetupFits setup) where
   step_keeps w (Take e count) f inv = act_keeps setup w e (side w e).sessions _ refl inv (λ s h k. took_ok setup e count s h k)
   step_keeps w (Close e) f inv = act_keeps setup w e (side w e).sessions _ refl inv (λ s h k. close_ok setup e s s.phase h k)
   step_keeps w (Abort e) f inv = act_keeps setup w e (side w e).sessions _ refl inv (λ s h k. abort_ok setup e s h k)
-  step_keeps w (AddRow e row) f inv = add_keeps w e (row_of row) (adding (side w e).rows (row_of row)) refl f inv
+  step_keeps w (AddRow e row) f inv = add_keeps w e (added_row row) (adding (side w e).rows (added_row row)) refl f inv
   step_keeps w (Withdraw e n) f inv = withdraw_keeps w e n (withdrawn (side w e).rows n) refl inv
   step_keeps w (Dump name) f inv = inv
 

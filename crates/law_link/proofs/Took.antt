@@ -6,10 +6,10 @@ use Rattle.book_endpoint.specs.States.{taking, take_out, at_end}
 use Rattle.law_link.specs.Headline.{TookFrom}
 use Rattle.book_link.specs.declared.event.Event.TheVariants.{Take}
 use Rattle.book_link.specs.Outcomes.{Took}
-use Rattle.book_link.specs.Worlds.{Setup, Session, Side, Happening, World, side, live}
+use Rattle.book_link.specs.Worlds.{Setup, Session, LinkSide, Happening, World, side, live}
 use Rattle.book_link.specs.Steps.{put, with_sessions, acted, act_on, took, step}
 
-put_side : (w : World) (e : End) (now : Side) (happened : Option Happening) → side (put w e now happened) e ≡ now
+put_side : (w : World) (e : End) (now : LinkSide) (happened : Option Happening) → side (put w e now happened) e ≡ now
 put_side w A now happened = refl
 put_side w B now happened = refl
 
@@ -34,7 +34,7 @@ took_by w e (s ∷ rest) count bytes shown is =
       old = s;
       new = u;
       lived = refl;
-      lives = ap (λ (x : Side). live x.sessions) (put_side w e (with_sessions (side w e) (u ∷ rest)) act.happened);
+      lives = ap (λ (x : LinkSide). live x.sessions) (put_side w e (with_sessions (side w e) (u ∷ rest)) act.happened);
       appended = ap (λ (l : List ℕ). s.state.taken ++ l) (bytes_are (taking count s.state) bytes (at_end t) shown is);
       marked = λ told. or_right s.end_shown (at_end t) (mark_is (taking count s.state) bytes (at_end t) shown is ∙ told);
     }

@@ -9,7 +9,7 @@ use Rattle.book_endpoint.specs.declared.phase.Phase.{Phase}
 use Rattle.book_endpoint.specs.declared.phase.Phase.TheVariants.{Listen, SynSent, SynReceived, Established, TimeWait, Closed}
 use Rattle.book_endpoint.specs.States.{EndState, first, window, hears}
 use Rattle.book_segments.specs.Received.{below_limit, keep, first_missing, runs}
-use Rattle.book_endpoint.specs.Arrivals.{Moved, owing, above, within, fits_window, rested, finish, past_fin, pass_fin, fin_of, heard_runs, hear_data, after_own_fin, acked_fin, windowed, acked, go_on, acknowledged, ordinary, syn_alone, syn_ack_alone, after_check}
+use Rattle.book_endpoint.specs.Arrivals.{Moved, owing, above, in_range, fits_window, rested, finish, past_fin, pass_fin, fin_of, heard_runs, hear_data, after_own_fin, acked_fin, windowed, acked, go_on, acknowledged, ordinary, syn_alone, syn_ack_alone, after_check}
 use Rattle.book_endpoint.specs.Emissions.{is_silent}
 use Rattle.law_link.proofs.Tests.{not_true}
 use Rattle.law_link.proofs.Phases.{waits, open_now, PhaseKept, own_kept, past_kept, closed_kept, hears_speaks}
@@ -117,10 +117,10 @@ pub pass_whole : (t : EndState) (o : Option ℕ) → t.fin ≡ o → Stream t.pe
 pass_whole t None e stream missing ends = record { stream = stream; missing = missing; moved = λ g e2 at. absurd (cc); ends = ends }
 pass_whole t (Some f) e stream missing ends = pass_if t f (f == t.expected) refl e stream missing ends
 
-pub record_says : (a b : Bool) (f low high k : ℕ) → (a && within f low high && b) ≡ true → b ≡ (k == 0) → (low ≤ f) × (f < high) × (k ≡ 0)
+pub record_says : (a b : Bool) (f low high k : ℕ) → (a && in_range f low high && b) ≡ true → b ≡ (k == 0) → (low ≤ f) × (f < high) × (k ≡ 0)
 record_says a b f low high k e is =
-    let one = and_tells (a && within f low high) b e in
-    let two = and_tells a (within f low high) one.0 in
+    let one = and_tells (a && in_range f low high) b e in
+    let two = and_tells a (in_range f low high) one.0 in
     let three = and_tells (nat_le low f) (nat_lt f high) two.1 in
     (le_is low f three.0, lt_is f high three.1, eqb_is k 0 (sym is ∙ one.1))
 
@@ -130,7 +130,7 @@ hear_if s d n now true known h = h
 hear_if s d n now false known h =
     let m = keep s.received n d.payload s.expected (below_limit s.fin (s.expected + window s)) in
     let f = n + length d.payload in
-    let records = has FIN d && within f s.expected (s.expected + window s) && (runs m false f (s.expected + window s - f) == 0) in
+    let records = has FIN d && in_range f s.expected (s.expected + window s) && (runs m false f (s.expected + window s - f) == 0) in
     let t : EndState = record s { received = m; fin = fin_of s.fin records f; ack_owed = true; expected = first_missing m s.expected (window s) } in
     let r = heard s.peer_isn s.taken s.received s.fin s.expected n d.payload known h.stream in
     let g = fin_whole s.peer_isn s.taken m s.fin s.expected (first_missing m s.expected (window s)) f records known h.stream.begun refl

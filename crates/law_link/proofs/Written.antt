@@ -22,7 +22,7 @@ use Rattle.book_macs.specs.MacInput.{covered, mac_input}
 use Rattle.book_keys.specs.Coordination.{Sending}
 use Rattle.book_endpoint.specs.States.{EndState, window, own_mss}
 use Rattle.book_endpoint.specs.Emissions.{Draft, sets, ip_words, written_ip, written_area, ao_place, written, no_mac, blank, own_ao}
-use Rattle.law_link.specs.Laws.{OneFamily}
+use Rattle.law_link.specs.Laws.{AddressesFit}
 use Rattle.law_link.proofs.ByteLists.{Byted, cons, two, PairFits}
 use Rattle.law_link.proofs.Drafts.{DraftOk}
 
@@ -49,7 +49,7 @@ v4_right pair b size d es ed e =
     ∙ ap (λ (n : ℕ). sums (shape pair.local pair.remote n)) e
     ∙ right_header (octets pair.local.address) (octets pair.remote.address) (20 + size)
 
-ip_fits : (a c : Address) (pair : Pair) (size : ℕ) (d : Segment) → pair.local.address ≡ a → pair.remote.address ≡ c → OneFamily a c → d.source ≡ pair.local → d.destination ≡ pair.remote
+ip_fits : (a c : Address) (pair : Pair) (size : ℕ) (d : Segment) → pair.local.address ≡ a → pair.remote.address ≡ c → AddressesFit a c → d.source ≡ pair.local → d.destination ≡ pair.remote
     → d.ip ≡ written_ip pair size a → tcp_length d ≡ size → size < 65000 → FitsIp (written_ip pair size a) d
 ip_fits (V4 x) (V4 y) pair size d ea ec f es ed ei e small =
     record {

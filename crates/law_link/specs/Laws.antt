@@ -26,8 +26,8 @@ use Rattle.book_link.specs.declared.event.Event.TheVariants.{Fill, Send, Resend,
 use Rattle.book_link.specs.declared.event.Event.TheVariants.{Alter, Take, Close, Abort, AddRow}
 use Rattle.book_link.specs.declared.event.Event.TheVariants.{Withdraw, Dump}
 use Rattle.book_link.specs.Outcomes.{Outcome, Answered}
-use Rattle.book_link.specs.RowLines.{row_of}
-use Rattle.book_link.specs.Worlds.{other, Setup, pair_of, rows_of, Session, Made, Came, Happening}
+use Rattle.book_link.specs.RowLines.{added_row}
+use Rattle.book_link.specs.Worlds.{other, Setup, pair_of, first_rows, Session, Made, Came, Happening}
 use Rattle.book_link.specs.Worlds.{Making, Coming, World, side, find, live, partner, addressed}
 use Rattle.book_link.specs.Worlds.{forgeries, segment_named}
 use Rattle.book_link.specs.Steps.{step}
@@ -41,22 +41,22 @@ pub record RowFits (r : Row) : Type 0 where
 
 -- two addresses of one family, each as long as its family's are
 -- (RFC 791, section 3.1; RFC 8200, section 3)
-abbrev pub OneFamily : Address → Address → Type 0
-OneFamily (V4 one) (V4 two) = IsV4 (V4 one) × IsV4 (V4 two)
-OneFamily (V6 one) (V6 two) = IsV6 (V6 one) × IsV6 (V6 two)
-OneFamily _ _ = ⊥
+abbrev pub AddressesFit : Address → Address → Type 0
+AddressesFit (V4 one) (V4 two) = IsV4 (V4 one) × IsV4 (V4 two)
+AddressesFit (V6 one) (V6 two) = IsV6 (V6 one) × IsV6 (V6 two)
+AddressesFit _ _ = ⊥
 
 -- what the types of a setup say (RFC 9293, section 3.1; RFC 7210, section 2)
 pub record SetupFits (setup : Setup) : Type 0 where
-  pub family : OneFamily setup.a.address setup.b.address
+  pub family : AddressesFit setup.a.address setup.b.address
   pub a_port : setup.a.port < 65536
   pub b_port : setup.b.port < 65536
-  pub rows : (e : End) → AllByRecursion RowFits (rows_of setup e)
+  pub rows : (e : End) → AllByRecursion RowFits (first_rows setup e)
 
 -- the tables with which both ends begin are valid: no two of their rows overlap
 -- (RFC 7210, section 3)
 pub record TablesFit (setup : Setup) : Type 0 where
-  pub valid : (e : End) → IsValid (rows_of setup e)
+  pub valid : (e : End) → IsValid (first_rows setup e)
 
 -- what the types of an event say: initial sequence numbers are 32-bit numbers (RFC 9293, section
 -- 3.4.1), contents are bytes; and clock readings are times of a key file (own)
@@ -75,7 +75,7 @@ EventFits (Alter e name place mask fix) = mask < 256
 EventFits (Take e count) = ⊤
 EventFits (Close e) = ⊤
 EventFits (Abort e) = ⊤
-EventFits (AddRow e row) = RowFits (row_of row)
+EventFits (AddRow e row) = RowFits (added_row row)
 EventFits (Withdraw e number) = ⊤
 EventFits (Dump name) = ⊤
 

@@ -11,19 +11,20 @@ use Rattle.book_cmd_node.specs.declared.node.Act.{Act}
 use Rattle.book_cmd_node.specs.declared.node.Act.TheVariants as act
 use Rattle.book_cmd_node.specs.declared.node.NodeEvent.{NodeEvent}
 use Rattle.book_cmd_node.specs.declared.node.NodeEvent.TheVariants as event
-use Rattle.book_cmd_node.specs.NodeRuns.{Held, NodeState, NodeStep, Called, Answered, Done, NodeFull, InUse, Full, HasClosed, Idle, Nothing, called, made_called, take_called, same_pair, held_end, ends_ticked, stays, after_call, on_held, new_end, on_other, on_pair, arrived_at, pair_reached, injected, node_step}
+use Rattle.book_cmd_node.specs.NodeRuns.{Held, NodeState, NodeStep, Called, DatagramAnswered, Performed, NodeFull, InUse, NoRoom, ConnectionClosing, NothingToSend, NothingToResend, called, made_called, take_called, same_pair, held_end, ends_ticked, stays, after_call, on_held, new_end, on_other, on_pair, arrived_at, injected, node_step}
+use Rattle.book_segments.specs.Segments.{pair_reached}
 use Rattle.law_node.specs.Alone.{is_for, is_mine, is_placed}
 use Rattle.law_node.proofs.Held.{held, IsOnce, end_with_same, end_with_other, end_without_other, end_ticked, end_pushed_other, end_pushed_same, once_with, once_without, once_ticked, once_pushed}
 use Rattle.law_node.proofs.Pairs.{same_pair_is, same_pair-refl}
 
 -- a call of a held end
 abbrev act_on : List Row → Pair → ℕ → EndState → Act → Called
-act_on rows pair now s (act.Give piece) = offered called HasClosed Full Done piece s
+act_on rows pair now s (act.Give piece) = offered called ConnectionClosing NoRoom Performed piece s
 act_on rows pair now s (act.Take count) = take_called count s
-act_on rows pair now s act.Send = made_called s Idle (emit rows pair now s)
-act_on rows pair now s act.Resend = made_called s Nothing (resend rows pair now s)
-act_on rows pair now s act.Close = called (close s) Done
-act_on rows pair now s act.Abort = called (abort s) Done
+act_on rows pair now s act.Send = made_called s NothingToSend (emit rows pair now s)
+act_on rows pair now s act.Resend = made_called s NothingToResend (resend rows pair now s)
+act_on rows pair now s act.Close = called (close s) Performed
+act_on rows pair now s act.Abort = called (abort s) Performed
 act_on rows pair now s _ = called s InUse
 
 -- this end alone, if there is one
@@ -55,14 +56,14 @@ after_call_alone p n s c e = rw (end_with_same p c.state s n.ends e, same_pair-r
 arrived_alone : (rows : List Row) (p : Pair) (n : NodeState) (r : Reading) (o : Option EndState) → held_end p n.ends ≡ o
     → arrived_at rows (record { clock = n.clock; ends = only p o }) p r o ≡ lone p (arrived_at rows n p r o)
 arrived_alone rows p n r None e = rw e refl
-arrived_alone rows p n r (Some s) e = let a = arrive rows p n.clock s r in after_call_alone p n s (called a.state (Answered a.answer)) e
+arrived_alone rows p n r (Some s) e = let a = arrive rows p n.clock s r in after_call_alone p n s (called a.state (DatagramAnswered a.answer)) e
 
 new_end_alone : (most : ℕ) (p : Pair) (n : NodeState) (s : EndState) → nat_le most 0 ≡ false → held_end p n.ends ≡ None → is_placed (new_end most n p s).outcome ≡ true
     → new_end most (record { clock = n.clock; ends = [] }) p s ≡ lone p (new_end most n p s)
 new_end_alone most p n s m e f = at (nat_le most (length n.ends)) f
   where
-    at : (v : Bool) → is_placed (let r : NodeStep = if v then stays n NodeFull else stays (record n { ends = n.ends ++ held p s ∷ [] }) Done in r.outcome) ≡ true
-        → new_end most (record { clock = n.clock; ends = [] }) p s ≡ lone p (if v then stays n NodeFull else stays (record n { ends = n.ends ++ held p s ∷ [] }) Done)
+    at : (v : Bool) → is_placed (let r : NodeStep = if v then stays n NodeFull else stays (record n { ends = n.ends ++ held p s ∷ [] }) Performed in r.outcome) ≡ true
+        → new_end most (record { clock = n.clock; ends = [] }) p s ≡ lone p (if v then stays n NodeFull else stays (record n { ends = n.ends ++ held p s ∷ [] }) Performed)
     at true f = absurd (cc)
     at false f = rw (m, end_pushed_same p s n.ends e) refl
 
@@ -103,7 +104,7 @@ pub mine_step : (most : ℕ) (rows : List Row) (p : Pair) (n : NodeState) (e : N
     → is_placed (node_step most rows n e).outcome ≡ true → node_step most rows (alone p n) e ≡ lone p (node_step most rows n e)
 mine_step most rows p n (event.Clock seconds) m once i f = rw (end_ticked p seconds n.ends) (at (held_end p n.ends))
   where
-    at : (o : Option EndState) → stays (record { clock = seconds; ends = ends_ticked seconds (only p o) }) Done ≡ stays (record { clock = seconds; ends = only p (option_map (tick seconds) o) }) Done
+    at : (o : Option EndState) → stays (record { clock = seconds; ends = ends_ticked seconds (only p o) }) Performed ≡ stays (record { clock = seconds; ends = only p (option_map (tick seconds) o) }) Performed
     at None = refl
     at (Some s) = refl
 mine_step most rows p n (event.Inject bytes) m once i f = at (reading bytes) i
@@ -124,12 +125,12 @@ after_call_other p q n c e = rw (end_with_other p q c.state n.ends e) refl
 
 arrived_other : (rows : List Row) (p q : Pair) (n : NodeState) (r : Reading) (o : Option EndState) → same_pair q p ≡ false → alone p (arrived_at rows n q r o).node ≡ alone p n
 arrived_other rows p q n r None e = refl
-arrived_other rows p q n r (Some s) e = let a = arrive rows q n.clock s r in after_call_other p q n (called a.state (Answered a.answer)) e
+arrived_other rows p q n r (Some s) e = let a = arrive rows q n.clock s r in after_call_other p q n (called a.state (DatagramAnswered a.answer)) e
 
 new_end_other : (most : ℕ) (p q : Pair) (n : NodeState) (s : EndState) → same_pair q p ≡ false → alone p (new_end most n q s).node ≡ alone p n
 new_end_other most p q n s e = at (nat_le most (length n.ends))
   where
-    at : (v : Bool) → alone p (let r : NodeStep = if v then stays n NodeFull else stays (record n { ends = n.ends ++ held q s ∷ [] }) Done in r.node) ≡ alone p n
+    at : (v : Bool) → alone p (let r : NodeStep = if v then stays n NodeFull else stays (record n { ends = n.ends ++ held q s ∷ [] }) Performed in r.node) ≡ alone p n
     at true = refl
     at false = rw (end_pushed_other p q s n.ends e) refl
 
@@ -170,7 +171,7 @@ other_step most rows p n (event.On q a) i = pair_other most rows p q n a (held_e
 new_end_once : (most : ℕ) (p q : Pair) (n : NodeState) (s : EndState) → held_end q n.ends ≡ None → IsOnce p n.ends → IsOnce p (new_end most n q s).node.ends
 new_end_once most p q n s e o = at (nat_le most (length n.ends))
   where
-    at : (v : Bool) → IsOnce p (let r : NodeStep = if v then stays n NodeFull else stays (record n { ends = n.ends ++ held q s ∷ [] }) Done in r.node.ends)
+    at : (v : Bool) → IsOnce p (let r : NodeStep = if v then stays n NodeFull else stays (record n { ends = n.ends ++ held q s ∷ [] }) Performed in r.node.ends)
     at true = o
     at false = once_pushed p q s n.ends e o
 

@@ -6,7 +6,8 @@ use Rattle.book_segments.specs.Segments.{Reading, Read, Bad as Unread, reading}
 use Rattle.book_keys.specs.Rows.{Row}
 use Rattle.book_cmd_node.specs.declared.node.NodeEvent.{NodeEvent}
 use Rattle.book_cmd_node.specs.declared.node.NodeEvent.TheVariants as event
-use Rattle.book_cmd_node.specs.NodeRuns.{NodeOutcome, NodeFull, same_pair, pair_reached, outcomes}
+use Rattle.book_cmd_node.specs.NodeRuns.{NodeOutcome, NodeFull, same_pair, outcomes}
+use Rattle.book_segments.specs.Segments.{pair_reached}
 
 -- the datagram is for the connection of this pair
 abbrev pub is_for : Pair → Reading → Bool

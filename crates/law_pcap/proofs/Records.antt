@@ -13,7 +13,7 @@ use Rattle.book_pcap.specs.declared.pcap_head.LinkType.{LinkType}
 use Rattle.book_pcap.specs.declared.pcap_head.LinkType.TheVariants.{Ethernet, Raw}
 use Rattle.book_pcap.specs.declared.pcap_head.Head.{Head}
 use Rattle.book_pcap.specs.declared.pcap_head.HeadFault.{HeadFault}
-use Rattle.book_pcap.specs.Packets.{Kept, RecordFront, Done, Broken, Whole, four_at, record_at, Packets, is_ip, datagram_of, with_packet, packets_by, packets_from, packets_in, packets_behind, packets_of, opened, head_of, and_rest}
+use Rattle.book_pcap.specs.Packets.{Kept, RecordFront, NoMoreRecords, Broken, Whole, four_at, record_at, Packets, is_ip, datagram_of, with_packet, packets_by, packets_from, packets_in, packets_behind, packets_of, opened, head_of, and_rest}
 use Rattle.book_pcap.proofs.Captures.{record_short, record_over, record_part, record_whole, record_none}
 use Rattle.book_cmd_check.specs.StoredPackets.{stored_packet}
 use Rattle.book_cmd_check.specs.StoredLines.{StoredInput, stored_from, stored_input}
@@ -52,14 +52,14 @@ whole_parts order text kept rest all same =
       rest = rw (← rest_is) (All-drop IsByte (16 + four_at order text 8) text all);
     }
 
-none_at : (order : ByteOrder) (text : List ℕ) → length text ≡ 0 → record_at order text ≡ Done
+none_at : (order : ByteOrder) (text : List ℕ) → length text ≡ 0 → record_at order text ≡ NoMoreRecords
 none_at order [] none = record_none order
 none_at order (b ∷ bs) none = absurd (omega arith)
 
 whole_is : (order : ByteOrder) (text : List ℕ) (kept : Kept) (rest : List ℕ) → All IsByte text → record_at order text ≡ Whole kept rest → IsWhole kept rest
 whole_is order text kept rest all is =
     elim (cases_eq (length text) 0) [
-      | inl none ↦ let no : record_at order text ≡ Done = none_at order text none in let bad = sym no ∙ is in absurd (cc)
+      | inl none ↦ let no : record_at order text ≡ NoMoreRecords = none_at order text none in let bad = sym no ∙ is in absurd (cc)
       | inr some ↦ elim (cases_lt (length text) 16) [
         | inl short ↦ let bad = sym (record_short order text (omega arith) short) ∙ is in absurd (cc)
         | inr long ↦ elim (cases_lt 262144 (four_at order text 8)) [
@@ -105,7 +105,7 @@ by_front : (f : RecordFront) (head : Head) (n : ℕ) (text : List ℕ) (lines : 
     ((rest : List ℕ) → All IsByte rest → stored_from (n + 1) (lines_of (lines rest)) ≡ shows (packets rest)) →
     stored_from n (lines_of (lines_by head f lines)) ≡ shows (packets_by head n f packets)
 unfolding lines_of
-by_front Done head n text lines packets all is others = refl
+by_front NoMoreRecords head n text lines packets all is others = refl
 by_front Broken head n text lines packets all is others = refl
 by_front (Whole kept rest) head n text lines packets all is others =
     let whole = whole_is head.order text kept rest all is in

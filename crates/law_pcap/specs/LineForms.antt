@@ -3,7 +3,7 @@ use Rattle.std.specs.Prelude.{ℕ, zero, suc, List, [], ◌∷◌, ◌++◌, len
 use Rattle.ao_base.specs.Hexadecimal.{hex_of}
 use Rattle.book_pcap.specs.declared.pcap_head.Head.{Head}
 use Rattle.book_pcap.specs.declared.pcap_head.HeadFault.{HeadFault}
-use Rattle.book_pcap.specs.Packets.{RecordFront, Done, Broken, Whole, record_at, datagram_of, opened}
+use Rattle.book_pcap.specs.Packets.{RecordFront, NoMoreRecords, Broken, Whole, record_at, datagram_of, opened}
 
 -- the line of a packet: when it was seen and its datagram in hexadecimal, or a number sign where it has none
 abbrev pub packet_line : ℕ → List ℕ → List ℕ
@@ -12,7 +12,7 @@ packet_line seconds (b ∷ bs) = decimal seconds ++ 32 ∷ hex_of (b ∷ bs)
 
 -- the lines of records with this front, where those of what follows are known
 abbrev pub lines_by : Head → RecordFront → (List ℕ → List ℕ) → List ℕ
-lines_by head Done others = []
+lines_by head NoMoreRecords others = []
 lines_by head Broken others = []
 lines_by head (Whole kept rest) others = packet_line kept.seconds (datagram_of head.link kept.bytes) ++ 10 ∷ others rest
 

@@ -27,9 +27,9 @@ use Rattle.book_link.specs.Alterations.{has_place, altered}
 use Rattle.book_link.specs.declared.event.Event.{Event}
 use Rattle.book_link.specs.declared.event.Event.TheVariants.{Clock, Connect, Listen as Await, Start, Give, Fill, Send, Resend, Deliver, Inject, Alter, Take, Close, Abort, AddRow, Withdraw, Dump}
 use Rattle.book_link.specs.Outcomes.{Outcome, Idle, Nothing}
-use Rattle.book_link.specs.RowLines.{row_of}
-use Rattle.book_link.specs.Worlds.{Setup, pair_of, Session, Made, Side, Happening, World, side, find, segment_named}
-use Rattle.book_link.specs.Steps.{Act, Stepped, put, with_sessions, with_rows, ticked, with_clock, begin, sent, send, send_again, come, given, acted, act_on, on_live, deliver, alter, add_row, withdraw, step}
+use Rattle.book_link.specs.RowLines.{added_row}
+use Rattle.book_link.specs.Worlds.{Setup, pair_of, Session, Made, LinkSide, Happening, World, side, find, segment_named}
+use Rattle.book_link.specs.Steps.{Act, Stepped, put, with_sessions, with_table, ticked, with_clock, begin, sent, send, send_again, come, given, acted, act_on, on_live, deliver, alter, add_row, withdraw, step}
 use Rattle.law_link.proofs.Drafts.{sends_data_says, sends_fin_says}
 use Rattle.law_link.proofs.Moves.{following}
 use Rattle.law_link.proofs.Sessions.{both}
@@ -294,7 +294,7 @@ come_calm setup e w bytes s h = read_calm (side w e).rows (pair_of setup e) (sid
 
 -- ---- the sides
 
-put_calm : (w : World) (e : End) (now : Side) (happened : Option Happening) → AllCalm now.sessions → AllCalms w → AllCalms (put w e now happened)
+put_calm : (w : World) (e : End) (now : LinkSide) (happened : Option Happening) → AllCalm now.sessions → AllCalms w → AllCalms (put w e now happened)
 put_calm w A now happened new h = both (λ (f : End). AllCalm (side (put w A now happened) f).sessions) new (h B)
 put_calm w B now happened new h = both (λ (f : End). AllCalm (side (put w B now happened) f).sessions) (h A) new
 
@@ -326,13 +326,13 @@ module _ (setup : Setup) where
       choose (λ (x : Stepped). AllCalms x.world) (has_place m.bytes place) _ _ (λ t. arrival_calm w e (altered m.bytes place mask fix) h) (λ t. h)
 
   add_calm : (w : World) (e : End) (o : Adding) → AllCalms w → AllCalms (add_row w e o).world
-  add_calm w e (AddedAs n rows) h = put_calm w e (with_rows (side w e) rows) None (h e) h
+  add_calm w e (AddedAs n rows) h = put_calm w e (with_table (side w e) rows) None (h e) h
   add_calm w e TooMany h = h
   add_calm w e (OverlapsRow n) h = h
 
   withdraw_calm : (w : World) (e : End) (o : Option (List Row)) → AllCalms w → AllCalms (withdraw w e o).world
   withdraw_calm w e None h = h
-  withdraw_calm w e (Some rows) h = put_calm w e (with_rows (side w e) rows) None (h e) h
+  withdraw_calm w e (Some rows) h = put_calm w e (with_table (side w e) rows) None (h e) h
 
   pub calm_step : (w : World) (event : Event) → AllCalms w → AllCalms (step setup w event).world
   calm_step w (Clock e seconds) h = put_calm w e (with_clock (side w e) seconds) None (ticked_calm seconds (side w e).sessions (h e)) h
@@ -349,6 +349,6 @@ module _ (setup : Setup) where
   calm_step w (Take e count) h = act_calm w e (side w e).sessions _ refl (λ s c. c) h
   calm_step w (Close e) h = act_calm w e (side w e).sessions _ refl (λ s c. close_calm s s.phase refl c) h
   calm_step w (Abort e) h = act_calm w e (side w e).sessions _ refl (λ s c. past_calm (abort s) refl) h
-  calm_step w (AddRow e row) h = add_calm w e (adding (side w e).rows (row_of row)) h
+  calm_step w (AddRow e row) h = add_calm w e (adding (side w e).rows (added_row row)) h
   calm_step w (Withdraw e n) h = withdraw_calm w e (withdrawn (side w e).rows n) h
   calm_step w (Dump name) h = h

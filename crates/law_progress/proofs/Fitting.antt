@@ -20,12 +20,12 @@ use Rattle.book_endpoint.specs.declared.phase.Phase.TheVariants.{Listen, SynSent
 use Rattle.book_endpoint.specs.declared.arrival.Arrival.TheVariants.{Foreign, Checksum, Closed as AtClosed}
 use Rattle.book_endpoint.specs.States.{EndState, window, hears, passed_fin, is_closed, given_end, room, gives, give, close_in, abort, is_due, tick_in, beginning, started, own_mss, default_mss}
 use Rattle.book_endpoint.specs.Verdicts.{Judgement}
-use Rattle.book_endpoint.specs.Arrivals.{Moved, Arrived, owing, above, within, fits_window, rested, finish, past_fin, pass_fin, fin_of, heard_runs, hear_data, after_own_fin, acked_fin, windowed, acked, go_on, acknowledged, ordinary, peer_mss, syn_alone, syn_ack_alone, after_check, unmoved, arrive_judged, judged_by, from_peer, arrive_read, arrive}
+use Rattle.book_endpoint.specs.Arrivals.{Moved, Arrived, owing, above, in_range, fits_window, rested, finish, past_fin, pass_fin, fin_of, heard_runs, hear_data, after_own_fin, acked_fin, windowed, acked, go_on, acknowledged, ordinary, peer_mss, syn_alone, syn_ack_alone, after_check, unmoved, arrive_judged, judged_by, from_peer, arrive_read, arrive}
 use Rattle.book_endpoint.specs.Emissions.{Draft, Emitted, Quiet, NoKey, is_sending, is_silent, is_syn_sent, is_syn_received, unsent, fin_sent, rst_draft, syn_draft, syn_ack_draft, data_draft, again_draft, fin_draft, fin_again_draft, ack_draft, sends_data, sends_fin, fitting, resends, is_blocked, most_bytes, blank, seal_known}
 use Rattle.endpoint_steps.specs.Drafting.{to_emit, unacknowledged, probe, to_resend, keyed, emitted}
 use Rattle.endpoint_steps.proofs.Drafting.{emit_by_drafts, resend_by_drafts}
 use Rattle.book_link.specs.Outcomes.{Outcome, Idle, Nothing}
-use Rattle.book_link.specs.Worlds.{Setup, pair_of, Session, Side, Happening, World, side}
+use Rattle.book_link.specs.Worlds.{Setup, pair_of, Session, LinkSide, Happening, World, side}
 use Rattle.book_link.specs.Steps.{Act, put, sent, send, send_again, come, given, acted, act_on}
 use Rattle.law_link.proofs.Tests.{choose, not_true, not_false}
 use Rattle.law_link.proofs.Phases.{waits, fin_made, own_ok, past_ok, hears_speaks}
@@ -401,7 +401,7 @@ heard_fit s d n now true on known whole h test = h
 heard_fit s d n now false on known whole h test =
     let m = keep s.received n d.payload s.expected (below_limit s.fin (s.expected + window s)) in
     let f = n + length d.payload in
-    let records = has FIN d && within f s.expected (s.expected + window s) && (runs m false f (s.expected + window s - f) == 0) in
+    let records = has FIN d && in_range f s.expected (s.expected + window s) && (runs m false f (s.expected + window s - f) == 0) in
     let t : EndState = record s { received = m; fin = fin_of s.fin records f; ack_owed = true; expected = first_missing m s.expected (window s) } in
     let r = heard s.peer_isn s.taken s.received s.fin s.expected n d.payload known whole.stream in
     let says : records ≡ true → (s.expected ≤ f) × (f < s.expected + window s) × (runs m false f (s.expected + window s - f) ≡ 0) =
@@ -641,7 +641,7 @@ started_fit pair isn peer =
 
 -- ---- the sides
 
-pub put_fit : (w : World) (e : End) (now : Side) (happened : Option Happening) → AllFit now.sessions → AllFits w → AllFits (put w e now happened)
+pub put_fit : (w : World) (e : End) (now : LinkSide) (happened : Option Happening) → AllFit now.sessions → AllFits w → AllFits (put w e now happened)
 put_fit w A now happened new h = both (λ (f : End). AllFit (side (put w A now happened) f).sessions) new (h B)
 put_fit w B now happened new h = both (λ (f : End). AllFit (side (put w B now happened) f).sessions) (h A) new
 

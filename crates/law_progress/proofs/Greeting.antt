@@ -14,7 +14,7 @@ use Rattle.book_endpoint.specs.declared.phase.Phase.{Phase}
 use Rattle.book_endpoint.specs.declared.phase.Phase.TheVariants.{Listen, SynSent, SynReceived, Established, TimeWait}
 use Rattle.book_endpoint.specs.declared.arrival.Arrival.TheVariants.{Taken, Unexpected, Window, Challenge, NoAck, BadAck}
 use Rattle.book_endpoint.specs.States.{EndState, window, hears}
-use Rattle.book_endpoint.specs.Arrivals.{Moved, answered, owing, above, fits_window, reset, rested, pass_fin, fin_of, records_fin, heard_runs, hear_data, after_own_fin, acked_fin, windowed, acked, go_on, acknowledged, ordinary, opened, syn_alone, syn_ack_alone, after_check}
+use Rattle.book_endpoint.specs.Arrivals.{Moved, answered, owing, above, fits_window, reset, rested, pass_fin, fin_of, records_fin, heard_runs, hear_data, after_own_fin, acked_fin, windowed, acked, go_on, acknowledged, ordinary, told_by_syn, syn_alone, syn_ack_alone, after_check}
 use Rattle.book_endpoint.specs.Emissions.{Draft, Quiet, is_sending, is_silent, is_syn_sent, is_syn_received, unsent, rst_draft, syn_draft, syn_ack_draft, data_draft, fin_draft, ack_draft, window_end, sends_data, sends_fin, fitting, resends, is_blocked, sets, most_bytes, blank, seal_known, emit, resend}
 use Rattle.endpoint_steps.specs.Drafting.{to_emit, unacknowledged, probe, to_resend, keyed, emitted}
 use Rattle.endpoint_steps.proofs.Drafting.{emit_by_drafts, resend_by_drafts}
@@ -191,7 +191,7 @@ clash b e f = cc
 greeted_in : (pair : Pair) (s : EndState) (c : Option ℕ) (d : Segment) (n now q : ℕ) (phase : Phase) → s.phase ≡ phase → d.flags ≡ SYN → n ≡ q → awaits phase s.peer_isn q ≡ true → Greeted s (after_check pair s (following c s) d n now phase).state q
 greeted_in pair s c d n now q Listen is flags at waits =
     let alone : syn_alone d ≡ true = ap (λ (k : ℕ). sets k SYN && not (sets k ACK) && not (sets k RST) && not (sets k FIN)) flags in
-    choose (λ (m : Moved). Greeted s m.state q) (syn_alone d) (answered (record (opened pair (following c s) d n) { phase = SynReceived }) Taken) (answered s Unexpected)
+    choose (λ (m : Moved). Greeted s m.state q) (syn_alone d) (answered (record (told_by_syn pair (following c s) d n) { phase = SynReceived }) Taken) (answered s Unexpected)
     (λ e. record { phase = refl; peer = ap (λ (k : ℕ). Some k) at; same = record { isn = refl; given = refl; closing = refl } }) (λ e. absurd (clash (syn_alone d) alone e))
 greeted_in pair s c d n now q SynReceived is flags at waits =
     let syn : has SYN d ≡ true = ap (λ (k : ℕ). sets k SYN) flags in
@@ -226,7 +226,7 @@ met_in pair s c d n now SynSent is flags sent acks =
     let on : (nat_lt s.isn s.next && (d.acknowledgement == (s.isn + 1) % ring)) ≡ true = both_on (nat_lt s.isn s.next) (d.acknowledgement == (s.isn + 1) % ring) (less_now s.isn s.next sent) (equal_now d.acknowledgement ((s.isn + 1) % ring) acks) in
     let P : Moved → Type 0 = λ m. Met s m.state n in
     choose P (not (syn_ack_alone d)) (answered s Unexpected) _ (λ e. absurd (clash (not (syn_ack_alone d)) e off)) (λ e.
-    choose P (nat_lt s.isn s.next && (d.acknowledgement == (s.isn + 1) % ring)) (answered (record (opened pair f d n) { phase = Established; una = s.isn + 1; wl2 = s.isn + 1; ack_owed = true }) Taken) (answered s BadAck)
+    choose P (nat_lt s.isn s.next && (d.acknowledgement == (s.isn + 1) % ring)) (answered (record (told_by_syn pair f d n) { phase = Established; una = s.isn + 1; wl2 = s.isn + 1; ack_owed = true }) Taken) (answered s BadAck)
     (λ e1. record { phase = refl; peer = refl; una = refl; expected = refl; owed = refl; next = refl; same = record { isn = refl; given = refl; closing = refl } })
     (λ e1. absurd (clash (nat_lt s.isn s.next && (d.acknowledgement == (s.isn + 1) % ring)) on e1)))
 met_in pair s c d n now _ is flags sent acks = absurd (cc)

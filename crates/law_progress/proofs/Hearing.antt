@@ -9,7 +9,7 @@ use Rattle.book_segments.proofs.Fields.{lt_is, lt_not, some_is}
 use Rattle.book_endpoint.specs.declared.phase.Phase.{Phase}
 use Rattle.book_endpoint.specs.declared.phase.Phase.TheVariants.{Listen, SynSent, SynReceived, Established, FinWait1, FinWait2, CloseWait, Closing, LastAck, TimeWait, Closed}
 use Rattle.book_endpoint.specs.States.{EndState, first, window, hears}
-use Rattle.book_endpoint.specs.Arrivals.{Moved, answered, owing, above, within, fits_window, rested, finish, past_fin, pass_fin, fin_of, records_fin, heard_runs, hear_data, after_own_fin, acked_fin, windowed, acked, go_on, acknowledged, ordinary, after_check}
+use Rattle.book_endpoint.specs.Arrivals.{Moved, answered, owing, above, in_range, fits_window, rested, finish, past_fin, pass_fin, fin_of, records_fin, heard_runs, hear_data, after_own_fin, acked_fin, windowed, acked, go_on, acknowledged, ordinary, after_check}
 use Rattle.book_endpoint.specs.declared.arrival.Arrival.TheVariants.{Window, BadAck}
 use Rattle.law_link.proofs.Tests.{choose, by_bool}
 use Rattle.law_link.proofs.Stream.{fm_low, fm_high, fm_stop, not_some}
@@ -239,8 +239,8 @@ module _ (s : EndState) (d : Segment) (n now : ℕ) where
       let one : bit_of (has FIN d) ≡ 1 = ap bit_of on in
       let no_runs : runs m false f (s.expected + w - f) ≤ 0 = none_runs m false f (s.expected + w - f) none in
       let zero_runs : (runs m false f (s.expected + w - f) == 0) ≡ true = grind (arith, nat_tests) in
-      let in_window : within f s.expected (s.expected + w) ≡ true = grind (arith, nat_tests) in
-      let recorded : records ≡ true = all_on (has FIN d) (within f s.expected (s.expected + w)) (runs m false f (s.expected + w - f) == 0) on in_window zero_runs in
+      let in_window : in_range f s.expected (s.expected + w) ≡ true = grind (arith, nat_tests) in
+      let recorded : records ≡ true = all_on (has FIN d) (in_range f s.expected (s.expected + w)) (runs m false f (s.expected + w - f) == 0) on in_window zero_runs in
       let fin : t.fin ≡ Some f = fin_now s.fin f records (λ k is. h.ends k is ∙ sym at) recorded in
       let passed = pass_here t t.fin f fin (omega arith) in
       omega arith)

@@ -8,11 +8,11 @@ use Rattle.book_keys.specs.Rows.{Row}
 use Rattle.book_endpoint.specs.declared.phase.Phase.TheVariants.{Listen, SynSent}
 use Rattle.book_endpoint.specs.States.{EndState, connected, listening, started}
 use Rattle.book_link.specs.Alterations.{has_place, altered}
-use Rattle.book_link.specs.RowLines.{row_of}
+use Rattle.book_link.specs.RowLines.{added_row}
 use Rattle.book_link.specs.declared.event.Event.{Event}
 use Rattle.book_link.specs.declared.event.Event.TheVariants.{Clock, Connect, Listen as Await, Start, Give, Fill, Send, Resend, Deliver, Inject, Alter, Take, Close, Abort, AddRow, Withdraw, Dump}
 use Rattle.book_link.specs.Worlds.{other, Setup, pair_of, Session, Made, World, side, find, segment_named}
-use Rattle.book_link.specs.Steps.{Stepped, with_sessions, with_rows, ticked, with_clock, begin, on_live, come, deliver, alter, add_row, withdraw, step}
+use Rattle.book_link.specs.Steps.{Stepped, with_sessions, with_table, ticked, with_clock, begin, on_live, come, deliver, alter, add_row, withdraw, step}
 use Rattle.book_link.specs.Runs.{empty, run_from, run}
 use Rattle.law_link.specs.Laws.{SetupFits, TablesFit, EventFits}
 use Rattle.law_link.proofs.Tests.{choose}
@@ -50,13 +50,13 @@ module _ (setup : Setup) where
       choose (λ (x : Stepped). AllFits x.world) (has_place m.bytes place) _ _ (λ t. arrival_fit w e (altered m.bytes place mask fix) inv h) (λ t. h)
 
   add_fit : (w : World) (e : End) (o : Adding) → AllFits w → AllFits (add_row w e o).world
-  add_fit w e (AddedAs n rows) h = put_fit w e (with_rows (side w e) rows) None (h e) h
+  add_fit w e (AddedAs n rows) h = put_fit w e (with_table (side w e) rows) None (h e) h
   add_fit w e TooMany h = h
   add_fit w e (OverlapsRow n) h = h
 
   withdraw_fit : (w : World) (e : End) (o : Option (List Row)) → AllFits w → AllFits (withdraw w e o).world
   withdraw_fit w e None h = h
-  withdraw_fit w e (Some rows) h = put_fit w e (with_rows (side w e) rows) None (h e) h
+  withdraw_fit w e (Some rows) h = put_fit w e (with_table (side w e) rows) None (h e) h
 
   fit_step : (w : World) (event : Event) → Inv setup w → AllFits w → AllFits (step setup w event).world
   fit_step w (Clock e seconds) inv h = put_fit w e (with_clock (side w e) seconds) None (ticked_fit seconds (side w e).sessions (h e)) h
@@ -73,7 +73,7 @@ module _ (setup : Setup) where
   fit_step w (Take e count) inv h = act_fit setup w e (side w e).sessions _ refl inv (λ s a b fit. fit) h
   fit_step w (Close e) inv h = act_fit setup w e (side w e).sessions _ refl inv (λ s a b fit. close_fit s s.phase fit) h
   fit_step w (Abort e) inv h = act_fit setup w e (side w e).sessions _ refl inv (λ s a b fit. abort_fit s fit) h
-  fit_step w (AddRow e row) inv h = add_fit w e (adding (side w e).rows (row_of row)) h
+  fit_step w (AddRow e row) inv h = add_fit w e (adding (side w e).rows (added_row row)) h
   fit_step w (Withdraw e n) inv h = withdraw_fit w e (withdrawn (side w e).rows n) h
   fit_step w (Dump name) inv h = h
 
@@ -93,13 +93,13 @@ module _ (setup : Setup) (fits : SetupFits setup) where
       (λ t. arrival_telling w e (altered m.bytes place mask fix) (altered_bytes m.bytes place mask fix low (record { at = all m refl })).at h) (λ t. h.telling)
 
   add_telling : (w : World) (e : End) (o : Adding) → Telling w → Telling (add_row w e o).world
-  add_telling w e (AddedAs n rows) h = quiet_telling w e (with_rows (side w e) rows) refl h
+  add_telling w e (AddedAs n rows) h = quiet_telling w e (with_table (side w e) rows) refl h
   add_telling w e TooMany h = h
   add_telling w e (OverlapsRow n) h = h
 
   withdraw_telling : (w : World) (e : End) (o : Option (List Row)) → Telling w → Telling (withdraw w e o).world
   withdraw_telling w e None h = h
-  withdraw_telling w e (Some rows) h = quiet_telling w e (with_rows (side w e) rows) refl h
+  withdraw_telling w e (Some rows) h = quiet_telling w e (with_table (side w e) rows) refl h
 
   telling_step : (w : World) (event : Event) → EventFits event → Facts setup w → Telling (step setup w event).world
   telling_step w (Clock e seconds) f h = clock_telling w e seconds h.telling
@@ -116,7 +116,7 @@ module _ (setup : Setup) (fits : SetupFits setup) where
   telling_step w (Take e count) f h = act_telling setup fits w e (side w e).sessions _ refl h.inv h.heard h.fit (λ s a b c. took_ok setup e count s a b) (λ s a b c. took_told setup e count s) h.telling
   telling_step w (Close e) f h = act_telling setup fits w e (side w e).sessions _ refl h.inv h.heard h.fit (λ s a b c. close_ok setup e s s.phase a b) (λ s a b c. close_told setup e s s.phase) h.telling
   telling_step w (Abort e) f h = act_telling setup fits w e (side w e).sessions _ refl h.inv h.heard h.fit (λ s a b c. abort_ok setup e s a b) (λ s a b c. abort_told setup e s) h.telling
-  telling_step w (AddRow e row) f h = add_telling w e (adding (side w e).rows (row_of row)) h.telling
+  telling_step w (AddRow e row) f h = add_telling w e (adding (side w e).rows (added_row row)) h.telling
   telling_step w (Withdraw e n) f h = withdraw_telling w e (withdrawn (side w e).rows n) h.telling
   telling_step w (Dump name) f h = h.telling
 

@@ -10,7 +10,7 @@ use Rattle.book_segments.proofs.Fields.{lt_is, lt_not}
 use Rattle.book_endpoint.specs.declared.phase.Phase.{Phase}
 use Rattle.book_endpoint.specs.declared.phase.Phase.TheVariants.{Listen, SynSent, SynReceived, Established, FinWait1, FinWait2, CloseWait, Closing, LastAck, TimeWait, Closed}
 use Rattle.book_endpoint.specs.States.{EndState, window, hears}
-use Rattle.book_endpoint.specs.Arrivals.{Moved, owing, above, within, fits_window, rested, finish, past_fin, pass_fin, fin_of, records_fin, heard_runs, hear_data, after_own_fin, acked_fin, windowed, acked, go_on, acknowledged, ordinary, opened, syn_alone, syn_ack_alone, after_check}
+use Rattle.book_endpoint.specs.Arrivals.{Moved, owing, above, in_range, fits_window, rested, finish, past_fin, pass_fin, fin_of, records_fin, heard_runs, hear_data, after_own_fin, acked_fin, windowed, acked, go_on, acknowledged, ordinary, told_by_syn, syn_alone, syn_ack_alone, after_check}
 use Rattle.law_link.proofs.Tests.{choose, not_false}
 use Rattle.law_link.proofs.Phases.{fin_gone, waits}
 use Rattle.law_link.proofs.Moves.{following}
@@ -168,7 +168,7 @@ module _ (s : EndState) (d : Segment) (n now : ℕ) where
         gone = h.gone;
         last = h.last;
         una = h.una;
-        fins = λ g e. fin_came s.fin records (has FIN d) f g (first_on (has FIN d) (within f s.expected (s.expected + window s)) (runs m false f (s.expected + window s - f) == 0)) (sym h.fin ∙ e);
+        fins = λ g e. fin_came s.fin records (has FIN d) f g (first_on (has FIN d) (in_range f s.expected (s.expected + window s)) (runs m false f (s.expected + window s - f) == 0)) (sym h.fin ∙ e);
       }
 
   hear_on : (b : Bool) → Hearing s (hear_data s d n now b).state d
@@ -240,13 +240,13 @@ ordinary_on s c d n now =
 pub check_on : (pair : Pair) (s : EndState) (c : Option ℕ) (d : Segment) (n now : ℕ) (phase : Phase) → s.phase ≡ phase → (waits s.phase ≡ true → s.una ≤ s.isn + 1) → Onward s (after_check pair s (following c s) d n now phase).state d
 check_on pair s c d n now Listen is low =
     pick s d (syn_alone d) _ _
-    (λ e. quiet_onward s (record (opened pair (following c s) d n) { phase = SynReceived }) d (record { gone = λ g. let wrong = sym (ap fin_gone is) ∙ g in absurd (cc); last = λ g. absurd (cc); una = omega arith; fin = refl }))
+    (λ e. quiet_onward s (record (told_by_syn pair (following c s) d n) { phase = SynReceived }) d (record { gone = λ g. let wrong = sym (ap fin_gone is) ∙ g in absurd (cc); last = λ g. absurd (cc); una = omega arith; fin = refl }))
     (λ e. quiet_onward s s d (quiet_refl s))
 check_on pair s c d n now SynSent is low =
     pick s d (not (syn_ack_alone d)) _ _ (λ e. quiet_onward s s d (quiet_refl s))
     (λ e. pick s d (nat_lt s.isn s.next && (d.acknowledgement == (s.isn + 1) % ring)) _ _
     (λ g. let una = low (ap waits is) in
-    quiet_onward s (record (opened pair (following c s) d n) { phase = Established; una = s.isn + 1; wl2 = s.isn + 1; ack_owed = true }) d (record { gone = λ g. let wrong = sym (ap fin_gone is) ∙ g in absurd (cc); last = λ g. absurd (cc); una = una; fin = refl }))
+    quiet_onward s (record (told_by_syn pair (following c s) d n) { phase = Established; una = s.isn + 1; wl2 = s.isn + 1; ack_owed = true }) d (record { gone = λ g. let wrong = sym (ap fin_gone is) ∙ g in absurd (cc); last = λ g. absurd (cc); una = una; fin = refl }))
     (λ g. quiet_onward s s d (quiet_refl s)))
 check_on pair s c d n now _ is low =
     pick s d (fits_window n (segment_length d) s.expected (window s)) _ _ (λ e. ordinary_on s c d n now)

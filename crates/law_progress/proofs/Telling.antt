@@ -23,7 +23,7 @@ use Rattle.book_endpoint.specs.Emissions.{Draft, Emitted, Quiet, NoKey, is_sendi
 use Rattle.endpoint_steps.specs.Drafting.{to_emit, unacknowledged, probe, to_resend, keyed, emitted}
 use Rattle.endpoint_steps.proofs.Drafting.{emit_by_drafts, resend_by_drafts}
 use Rattle.book_link.specs.Outcomes.{Outcome, Idle, Nothing, Done, Full, HasClosed}
-use Rattle.book_link.specs.Worlds.{other, Setup, pair_of, Session, Side, Made, Came, Happening, Making, Coming, World, side, find, forgeries}
+use Rattle.book_link.specs.Worlds.{other, Setup, pair_of, Session, LinkSide, Made, Came, Happening, Making, Coming, World, side, find, forgeries}
 use Rattle.book_link.specs.Steps.{Act, add, put, quietly, made_of, sent, send, send_again, came, come, took, given, acted, act_on, begin, ticked, with_clock, with_sessions}
 use Rattle.law_link.specs.Headline.{GivesFew}
 use Rattle.law_link.specs.Laws.{SetupFits, IsAmong}
@@ -128,7 +128,7 @@ tells_add v e (Some (Coming r)) history new h = h
 abbrev Few : List Session → Type 0
 Few sessions = AllByRecursion (λ (s : Session). length s.state.given < 2 ^ 31) sessions
 
-put_telling : (w : World) (e : End) (now : Side) (happened : Option Happening) → Telling w → OntoGrows (side w e).sessions now.sessions → (Few now.sessions → Few (side w e).sessions) → NewTells e now.sessions happened
+put_telling : (w : World) (e : End) (now : LinkSide) (happened : Option Happening) → Telling w → OntoGrows (side w e).sessions now.sessions → (Few now.sessions → Few (side w e).sessions) → NewTells e now.sessions happened
     → (forgeries (add happened w.history) ≡ 0 → Few now.sessions → AllFinTold (side w (other e)).sessions (side w e).sessions → AllFinTold (side w (other e)).sessions now.sessions)
     → Telling (put w e now happened)
 put_telling w A now happened h g few new head =
@@ -555,7 +555,7 @@ act_telling setup fits w e (s ∷ rest) call is inv h fit ok told telling =
         let same : length u.given ≡ length (s.given ++ l.grown.0) = ap length l.grown.1 in
         omega arith
 
-pub quiet_telling : (w : World) (e : End) (now : Side) → now.sessions ≡ (side w e).sessions → Telling w → Telling (put w e now None)
+pub quiet_telling : (w : World) (e : End) (now : LinkSide) → now.sessions ≡ (side w e).sessions → Telling w → Telling (put w e now None)
 quiet_telling w e now same telling =
     put_telling w e now None telling
     (λ isn t f. onto_grows_refl now.sessions isn t (ap (λ (l : List Session). find l isn) same ∙ f))

@@ -10,14 +10,14 @@ use Rattle.book_segments.specs.Received.{bytes_from}
 use Rattle.book_segments.specs.Segments.{Segment, Reading, Read, reading, good, has, bit_of, segment_length, SYN, FIN, RST, ACK}
 use Rattle.ao_base.specs.declared.algorithm.Algorithm.{Algorithm}
 use Rattle.ao_base.specs.declared.algorithm.Algorithm.TheVariants.{HmacSha1, AesCmac, HmacSha256}
-use Rattle.book_macs.specs.Keys.{same_algorithm}
+use Rattle.ao_base.specs.Algorithms.{same_algorithm}
 use Rattle.book_keys.specs.Rows.{Row}
 use Rattle.book_keys.specs.Coordination.{Sending, follow}
 use Rattle.book_keys.specs.Plans.{AlignedFrom}
 use Rattle.book_endpoint.specs.declared.phase.Phase.TheVariants.{LastAck, Closed}
 use Rattle.book_endpoint.specs.declared.arrival.Arrival.TheVariants.{Foreign, Checksum, Closed as AtClosed}
 use Rattle.book_endpoint.specs.States.{EndState, window, ready, ready_at, ready_count, taking, take_out, given_end, is_closed, hears}
-use Rattle.book_endpoint.specs.Verdicts.{Finding, Key, key_of, same_key}
+use Rattle.book_endpoint.specs.Verdicts.{Finding, Key, key_of, same_master_key}
 use Rattle.book_endpoint.specs.Arrivals.{Arrived, unmoved, heard, passes, fits_window, after_check, arrive_judged, judged_by, from_peer, arrive_read, arrive}
 use Rattle.book_endpoint.specs.Emissions.{Draft, Emission, Emitted, Quiet, Emits, sets, sealed}
 use Rattle.book_link.specs.declared.event.Event.{Event}
@@ -124,7 +124,7 @@ two_true true true e f = refl
 two_true true false e f = f
 two_true false b e f = absurd (cc)
 
-same_key-refl : (k : Key) → same_key k k ≡ true
+same_key-refl : (k : Key) → same_master_key k k ≡ true
 same_key-refl k = two_true (same_algorithm k.algorithm k.algorithm) (same_bytes k.master k.master) (same_algorithm-refl k.algorithm) (same_bytes-refl k.master)
 
 pub in_window : (n l x w : ℕ) → 0 < w → x ≤ n → n < x + w → fits_window n l x w ≡ true
@@ -153,10 +153,10 @@ pub unforged_now : (y : End) (p : Finding) (m : Made) (past : List Happening) �
 unforged_now y p m past maker key context input =
     let e = m.emission in
     let one : same_end m.maker (other y) ≡ true = ap (λ (f : End). same_end f (other y)) maker ∙ same_end-refl (other y) in
-    let two : same_key (key_of e.sending.row) p.key ≡ true = ap (same_key (key_of e.sending.row)) key ∙ same_key-refl (key_of e.sending.row) in
+    let two : same_master_key (key_of e.sending.row) p.key ≡ true = ap (same_master_key (key_of e.sending.row)) key ∙ same_key-refl (key_of e.sending.row) in
     let three : same_bytes e.context p.context ≡ true = ap (same_bytes e.context) context ∙ same_bytes-refl e.context in
     let four : same_bytes e.input p.input ≡ true = ap (same_bytes e.input) input ∙ same_bytes-refl e.input in
-    let all = and_all (same_end m.maker (other y)) (same_key (key_of e.sending.row) p.key) (same_bytes e.context p.context) (same_bytes e.input p.input) one two three four in
+    let all = and_all (same_end m.maker (other y)) (same_master_key (key_of e.sending.row) p.key) (same_bytes e.context p.context) (same_bytes e.input p.input) one two three four in
     made_so (accounts_for y p m) (was_made y p past) all
   where
     made_so : (a b : Bool) → a ≡ true → ◌≡◌ {A = ℕ} (if a || b then 0 else 1) 0

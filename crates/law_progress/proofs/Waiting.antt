@@ -25,7 +25,7 @@ use Rattle.book_link.specs.Alterations.{has_place, altered}
 use Rattle.book_link.specs.declared.event.Event.{Event}
 use Rattle.book_link.specs.declared.event.Event.TheVariants as event
 use Rattle.book_link.specs.Outcomes.{Outcome, Idle, Nothing}
-use Rattle.book_link.specs.RowLines.{row_of}
+use Rattle.book_link.specs.RowLines.{added_row}
 use Rattle.book_link.specs.Runs.{empty}
 use Rattle.book_link.specs.Steps.{Act, Stepped, acted, act_on, on_live, begin, given, sent, send, send_again, come, took, deliver, alter, add_row, withdraw, ticked, step}
 use Rattle.book_link.specs.Worlds.{other, Setup, pair_of, Session, Made, World, side, find, live, segment_named}
@@ -353,7 +353,7 @@ module _ (setup : Setup) where
   plain_watched p (event.Take e count) h = by_event p (event.Take e count) e h (on_steps setup p.world h.calm e (took count) (λ s c. record { una = omega arith; shut = λ g. g }))
   plain_watched p (event.Close e) h = by_event p (event.Close e) e h (on_steps setup p.world h.calm e _ (λ s c. close_holds s s.phase))
   plain_watched p (event.Abort e) h = by_event p (event.Abort e) e h (on_steps setup p.world h.calm e _ (λ s c. record { una = omega arith; shut = λ g. refl }))
-  plain_watched p (event.AddRow e row) h = by_event p (event.AddRow e row) e h (add_steps setup p.world h.calm e (adding (side p.world e).rows (row_of row)))
+  plain_watched p (event.AddRow e row) h = by_event p (event.AddRow e row) e h (add_steps setup p.world h.calm e (adding (side p.world e).rows (added_row row)))
   plain_watched p (event.Withdraw e n) h = by_event p (event.Withdraw e n) e h (withdraw_steps setup p.world h.calm e (withdrawn (side p.world e).rows n))
   plain_watched p (event.Dump n) h = h
 

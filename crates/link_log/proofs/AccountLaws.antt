@@ -11,9 +11,9 @@ use Rattle.book_segments.specs.Spelling.{Fits}
 use Rattle.book_segments.proofs.Fields.{header_law, same_bytes_tells}
 use Rattle.book_macs.specs.declared.context.Context.{Context}
 use Rattle.book_macs.specs.Contexts.{bytes_of}
-use Rattle.book_macs.specs.Keys.{same_algorithm}
+use Rattle.ao_base.specs.Algorithms.{same_algorithm}
 use Rattle.book_keys.specs.Rows.{Row}
-use Rattle.book_endpoint.specs.Verdicts.{Key, Finding, key_of, same_key}
+use Rattle.book_endpoint.specs.Verdicts.{Key, Finding, key_of, same_master_key}
 use Rattle.book_link.specs.Worlds.{Made, accounts_for, other, same_end}
 use Rattle.ao_mac.specs.Macs.{IsSameInput}
 use Rattle.ao_mac.proofs.InputLaws.{never, to_parts}
@@ -60,16 +60,16 @@ both_true : (a b : Bool) → (a && b) ≡ true → (a ≡ true) × (b ≡ true)
 both_true true b h = (refl, h)
 both_true false b h = absurd (cc)
 
-same_key_itself : (k : Key) → same_key k k ≡ true
+same_key_itself : (k : Key) → same_master_key k k ≡ true
 same_key_itself k = let a = same_algorithm_itself k.algorithm in rw a (same_bytes_itself k.master)
 
-same_key_is : (j k : Key) → j ≡ k → same_key j k ≡ true
-same_key_is j k e = subst (λ x. same_key j x ≡ true) e (same_key_itself j)
+same_key_is : (j k : Key) → j ≡ k → same_master_key j k ≡ true
+same_key_is j k e = subst (λ x. same_master_key j x ≡ true) e (same_key_itself j)
 
 key_is : (a b : Algorithm) (m n : List ℕ) → a ≡ b → m ≡ n → ◌≡◌ {A = Key} (record { algorithm = a; master = m }) (record { algorithm = b; master = n })
 key_is a b m n e f = rw (e, f) refl
 
-same_key_tells : (j k : Key) → same_key j k ≡ true → j ≡ k
+same_key_tells : (j k : Key) → same_master_key j k ≡ true → j ≡ k
 same_key_tells j k h =
     let both = both_true (same_algorithm j.algorithm k.algorithm) (same_bytes j.master k.master) h in
     key_is j.algorithm k.algorithm j.master k.master (same_algorithm_tells j.algorithm k.algorithm both.0) (same_bytes_tells j.master k.master both.1)
@@ -101,23 +101,23 @@ other_end B B ne = absurd (ne refl)
 -- ---- an entry and what passed
 
 module _ (at : End) (k : Entry) (m : Made) (row : Row) (d : Segment) (number : ℕ) (c : Context) (f : Finding) (is : IsEntry k m) (passes : PassesUnder row d number c f) where
-  by_tests : (r : Bool) → same_end m.maker (other at) ≡ true → same_key (key_of m.emission.sending.row) f.key ≡ true → same_bytes m.emission.context f.context ≡ true
+  by_tests : (r : Bool) → same_end m.maker (other at) ≡ true → same_master_key (key_of m.emission.sending.row) f.key ≡ true → same_bytes m.emission.context f.context ≡ true
       → same_bytes m.emission.input f.input ≡ r → r ≡ accounts_for at f m
   by_tests r one two three four =
-      all_four (same_end m.maker (other at)) (same_key (key_of m.emission.sending.row) f.key) (same_bytes m.emission.context f.context) (same_bytes m.emission.input f.input) r
+      all_four (same_end m.maker (other at)) (same_master_key (key_of m.emission.sending.row) f.key) (same_bytes m.emission.context f.context) (same_bytes m.emission.input f.input) r
       one two three four
 
   -- another key
   pub by_key : (IsTrue false ↔ (entry_key k ≡ key_of row)) → false ≡ accounts_for at f m
   by_key differs =
-      second_not (same_end m.maker (other at)) (same_key (key_of m.emission.sending.row) f.key) (same_bytes m.emission.context f.context) (same_bytes m.emission.input f.input)
-      (not_true (same_key (key_of m.emission.sending.row) f.key)
+      second_not (same_end m.maker (other at)) (same_master_key (key_of m.emission.sending.row) f.key) (same_bytes m.emission.context f.context) (same_bytes m.emission.input f.input)
+      (not_true (same_master_key (key_of m.emission.sending.row) f.key)
       (λ e. never (differs.1 (sym is.key ∙ same_key_tells (key_of m.emission.sending.row) f.key e ∙ passes.key))))
 
   -- another context
   pub by_context : (IsTrue false ↔ (bytes_of k.context ≡ bytes_of c)) → false ≡ accounts_for at f m
   by_context differs =
-      third_not (same_end m.maker (other at)) (same_key (key_of m.emission.sending.row) f.key) (same_bytes m.emission.context f.context) (same_bytes m.emission.input f.input)
+      third_not (same_end m.maker (other at)) (same_master_key (key_of m.emission.sending.row) f.key) (same_bytes m.emission.context f.context) (same_bytes m.emission.input f.input)
       (same_bytes_not m.emission.context f.context (λ e. never (differs.1 (sym is.context ∙ e ∙ passes.context_is))))
 
   -- equal MAC inputs tell the number of the entry
@@ -140,7 +140,7 @@ module _ (at : End) (k : Entry) (m : Made) (row : Row) (d : Segment) (number : �
   -- another number
   pub by_number : Fits d → number < 2 ^ 64 → k.number ≢ number / 4294967296 * 4294967296 + d.sequence → false ≡ accounts_for at f m
   by_number fits small ne =
-      fourth_not (same_end m.maker (other at)) (same_key (key_of m.emission.sending.row) f.key) (same_bytes m.emission.context f.context) (same_bytes m.emission.input f.input)
+      fourth_not (same_end m.maker (other at)) (same_master_key (key_of m.emission.sending.row) f.key) (same_bytes m.emission.context f.context) (same_bytes m.emission.input f.input)
       (same_bytes_not m.emission.input f.input (λ e. ne (number_told fits small e)))
 
   read_is : (x y : Segment) → Read x ≡ Read y → x ≡ y

@@ -6,7 +6,7 @@ use Rattle.ao_base.specs.declared.end.End.{End}
 use Rattle.book_endpoint.specs.declared.phase.Phase.{Phase}
 use Rattle.book_endpoint.specs.States.{EndState}
 use Rattle.book_link.specs.Reports.{dropped_lines, phase_text, session_lines}
-use Rattle.book_link.specs.Worlds.{Session, Side as EndSide}
+use Rattle.book_link.specs.Worlds.{Session, LinkSide as EndSide}
 use Rattle.link_side.specs.declared.sessions.Ended.{Ended}
 use Rattle.link_side.specs.declared.sessions.Live.{Live}
 use Rattle.link_side.specs.declared.side.Side.{Side}

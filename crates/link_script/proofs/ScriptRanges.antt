@@ -11,7 +11,7 @@ use Rattle.ao_base.specs.Lines.{lines_of}
 use Rattle.book_lines.specs.declared.text_fault.TextFault.{TextFault}
 use Rattle.book_lines.specs.declared.text_fault.TextFault.TheVariants as fault
 use Rattle.book_lines.specs.Lines.{Line, saying_from}
-use Rattle.book_lines.specs.Said.{numbered}
+use Rattle.book_lines.specs.Said.{at_number}
 use Rattle.book_lines.specs.Words.{Taken, address_in, algorithm_in, sized_hex_in, literal_in, nothing_in, number_in, socket_in}
 use Rattle.book_link.specs.declared.event.Event.{Event}
 use Rattle.book_cmd_link.specs.declared.script.SharedKey.{SharedKey}
@@ -117,7 +117,7 @@ refused : (b : Bool) (n : ℕ) (k : LineKind) (r : Result Event TextFault) (e : 
 refused true n k r e h = absurd (cc h)
 refused false n k r e h = h
 
-numbered_ok : (n : ℕ) (r : Result Event LineKind) (e : Event) → numbered n r ≡ Ok e → r ≡ Ok e
+numbered_ok : (n : ℕ) (r : Result Event LineKind) (e : Event) → at_number n r ≡ Ok e → r ≡ Ok e
 numbered_ok n (Ok x) e h = cc h
 numbered_ok n (Err k) e h = absurd (cc h)
 

@@ -9,7 +9,7 @@ use Rattle.ao_base.specs.Lines.{lines_of}
 use Rattle.book_lines.specs.declared.text_fault.TextFault.{TextFault}
 use Rattle.book_lines.specs.declared.text_fault.TextFault.TheVariants as fault
 use Rattle.book_lines.specs.Lines.{Line, saying_from}
-use Rattle.book_lines.specs.Said.{numbered}
+use Rattle.book_lines.specs.Said.{at_number}
 use Rattle.book_lines.specs.Words.{end_in, nothing_in, number_in, word_in}
 use Rattle.ao_base.specs.Results.{◌>>=◌}
 use Rattle.book_cmd_timed.specs.declared.timed.TimedEvent.{TimedEvent}
@@ -54,7 +54,7 @@ refused : (b : Bool) (n : ℕ) (k : LineKind) (r : Result TimedEvent TextFault) 
 refused true n k r e h = absurd (cc h)
 refused false n k r e h = h
 
-numbered_ok : (n : ℕ) (r : Result TimedEvent LineKind) (e : TimedEvent) → numbered n r ≡ Ok e → r ≡ Ok e
+numbered_ok : (n : ℕ) (r : Result TimedEvent LineKind) (e : TimedEvent) → at_number n r ≡ Ok e → r ≡ Ok e
 numbered_ok n (Ok x) e h = cc h
 numbered_ok n (Err k) e h = absurd (cc h)
 

@@ -13,7 +13,7 @@ use Rattle.ao_base.specs.declared.line_kind.LineKind.TheVariants.{Range}
 use Rattle.ao_base.specs.Addresses.{address_of, between_dots, below_256, dotted_of, four, has_leading_zero, octet_of}
 use Rattle.ao_base.specs.Decimals.{decimal_of}
 use Rattle.ao_base.specs.Hexadecimal.{bytes_of_hex}
-use Rattle.book_lines.specs.Words.{Taken, address_in, byte_in, first_of, hex_in, sized_hex_in, number_in, some_hex_in, within, word_as}
+use Rattle.book_lines.specs.Words.{Taken, address_in, byte_in, first_of, hex_in, sized_hex_in, number_in, some_hex_in, if_within, word_as}
 use Rattle.ao_base.specs.Results.{◌>>=◌, or_fault}
 use Rattle.book_lines.specs.Words.{word_in}
 use Rattle.link_script.specs.Scripts.{AreBytes, IsAddress, IsWithin}
@@ -41,7 +41,7 @@ within_case : {A : Type 0} (b : Bool) (x y : A) → cond b (Ok x) (Err Range) �
 within_case true x y h = (refl, cc h)
 within_case false x y h = absurd (cc h)
 
-within_ok : {A : Type 0} (low high n : ℕ) (x y : A) → within low high n x ≡ Ok y → (low ≤ n) × (n ≤ high) × (x ≡ y)
+within_ok : {A : Type 0} (low high n : ℕ) (x y : A) → if_within low high n x ≡ Ok y → (low ≤ n) × (n ≤ high) × (x ≡ y)
 within_ok low high n x y h =
     let c = within_case (nat_le low n && nat_le n high) x y h in
     let p = and_parts (nat_le low n) (nat_le n high) c.0 in
@@ -50,7 +50,7 @@ within_ok low high n x y h =
 pub number_ok : (low high : ℕ) (ws : List (List ℕ)) (t : Taken ℕ) → number_in low high ws ≡ Ok t → IsWithin low high t.value
 unfolding number_in
 number_ok low high ws t h =
-    let b = bind_ok (word_as decimal_of _ ws) (λ n. within low high n.value n) t h in
+    let b = bind_ok (word_as decimal_of _ ws) (λ n. if_within low high n.value n) t h in
     let w = within_ok low high b.0.value b.0 t b.2 in
     let e : b.0.value ≡ t.value = ap (λ (x : Taken ℕ). x.value) w.2 in
     record { least = rw e at w.0; most = rw e at w.1 }
@@ -66,7 +66,7 @@ hex_bytes w bytes h = let d = decode_of-ok w bytes (decoded w (decode_of w) byte
 pub hex_ok : (low high : ℕ) (ws : List (List ℕ)) (t : Taken (List ℕ)) → sized_hex_in low high ws ≡ Ok t → AreBytes low high t.value
 unfolding sized_hex_in hex_in
 hex_ok low high ws t h =
-    let b = bind_ok (word_as bytes_of_hex _ ws) (λ bytes. within low high (length bytes.value) bytes) t h in
+    let b = bind_ok (word_as bytes_of_hex _ ws) (λ bytes. if_within low high (length bytes.value) bytes) t h in
     let w = within_ok low high (length b.0.value) b.0 t b.2 in
     let e : b.0.value ≡ t.value = ap (λ (x : Taken (List ℕ)). x.value) w.2 in
     let word = word_as_ok bytes_of_hex _ ws b.0 b.1 in

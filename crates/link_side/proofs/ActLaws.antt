@@ -6,7 +6,7 @@ use Rattle.book_keys.specs.Rows.{Row}
 use Rattle.book_endpoint.specs.States.{EndState}
 use Rattle.book_link.specs.Outcomes.{Outcome, NoSession}
 use Rattle.book_link.specs.Steps.{Act, act_on, on_live, add, put}
-use Rattle.book_link.specs.Worlds.{Session, Happening, World, Side as EndSide, other, side as side_of}
+use Rattle.book_link.specs.Worlds.{Session, Happening, World, LinkSide as EndSide, other, side as side_of}
 use Rattle.link_side.specs.declared.sessions.Ended.{Ended}
 use Rattle.link_side.specs.declared.sessions.Live.{Live}
 use Rattle.link_side.specs.declared.side.Side.{Side}

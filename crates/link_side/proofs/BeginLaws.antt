@@ -6,7 +6,7 @@ use Rattle.ao_base.specs.declared.end.End.{End}
 use Rattle.book_endpoint.specs.States.{EndState}
 use Rattle.book_link.specs.Outcomes.{Done, IsnUsed}
 use Rattle.book_link.specs.Steps.{Stepped, begin, begin_new, put, with_sessions}
-use Rattle.book_link.specs.Worlds.{Session, World, Side as EndSide, find, side as side_of}
+use Rattle.book_link.specs.Worlds.{Session, World, LinkSide as EndSide, find, side as side_of}
 use Rattle.link_side.specs.declared.sessions.Ended.{Ended}
 use Rattle.link_side.specs.declared.sessions.Live.{Live}
 use Rattle.link_side.specs.declared.side.Side.{Side}

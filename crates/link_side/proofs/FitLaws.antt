@@ -5,13 +5,13 @@ use Rattle.book_keys.specs.declared.new_row.NoRow.{NoRow}
 use Rattle.book_keys.specs.declared.new_row.AddRefusal.{AddRefusal}
 use Rattle.book_keys.specs.declared.new_row.AddRefusal.TheVariants as refusal
 use Rattle.book_keys.specs.Rows.{Row, Table}
-use Rattle.book_keys.specs.Tables.{Added, adding, withdrawn, Withdrawn}
+use Rattle.book_keys.specs.Tables.{Addition, adding, withdrawn, Withdrawn}
 use Rattle.tcp_endpoint.specs.declared.endpoint.Endpoint.{Endpoint}
 use Rattle.tcp_endpoint.specs.Ends.{FitsEnd}
 use Rattle.tcp_endpoint.proofs.FitLaws.{end_fits_added, end_fits_withdrawn}
 
 -- where a row was added, or wasn't
-pub fits_added_to : (old new : Table) (result : Result ℕ AddRefusal) (r : Row) (e : Endpoint) → Added old new result (adding old.rows r)
+pub fits_added_to : (old new : Table) (result : Result ℕ AddRefusal) (r : Row) (e : Endpoint) → Addition old new result (adding old.rows r)
     → FitsEnd old.rows e → FitsEnd new.rows e
 fits_added_to old new (Ok n) r e s f =
     let rows : List Row = s.0 in

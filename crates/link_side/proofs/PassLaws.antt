@@ -9,7 +9,7 @@ use Rattle.book_endpoint.specs.Emissions.{Emitted, Quiet, NoKey, Emits}
 use Rattle.book_endpoint.specs.States.{EndState}
 use Rattle.book_link.specs.Outcomes.{NoSession}
 use Rattle.book_link.specs.Steps.{Act, Stepped, act_on, acted, came, come, made_of, on_live, put, sent, step, with_sessions}
-use Rattle.book_link.specs.Worlds.{Setup, pair_of, Session, World, Side as EndSide, other, side as side_of}
+use Rattle.book_link.specs.Worlds.{Setup, pair_of, Session, World, LinkSide as EndSide, other, side as side_of}
 use Rattle.link_side.specs.declared.sessions.Ended.{Ended}
 use Rattle.link_side.specs.declared.sessions.Live.{Live}
 use Rattle.link_side.specs.declared.side.Side.{Side}

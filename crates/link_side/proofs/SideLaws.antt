@@ -7,7 +7,7 @@ use Rattle.std.proofs.lemmas.Bool.Decides.{nat_tests}
 use Rattle.std.proofs.lemmas.Grind.{reverse_onto}
 use Rattle.std.proofs.lemmas.List.Folds.{list_any-append}
 use Rattle.book_endpoint.specs.States.{EndState}
-use Rattle.book_link.specs.Worlds.{Session, Side as EndSide, find}
+use Rattle.book_link.specs.Worlds.{Session, LinkSide as EndSide, find}
 use Rattle.link_side.specs.declared.sessions.Ended.{Ended}
 use Rattle.link_side.specs.declared.sessions.Live.{Live}
 use Rattle.link_side.specs.declared.side.Side.{Side}

@@ -1,6 +1,6 @@
 -- What an end with all its sessions stands for.
 use Rattle.std.specs.Prelude.{◌≡◌, ℕ, Bool, List, [], ◌∷◌, length, map, reverse, Option, Some, None}
-use Rattle.book_link.specs.Worlds.{Session, Side as EndSide}
+use Rattle.book_link.specs.Worlds.{Session, LinkSide as EndSide}
 use Rattle.link_side.specs.declared.sessions.Ended.{Ended}
 use Rattle.link_side.specs.declared.sessions.Live.{Live}
 use Rattle.link_side.specs.declared.side.Side.{Side}

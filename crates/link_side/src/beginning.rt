@@ -2,7 +2,7 @@
 ghost use Rattle.std.specs.Prelude.{◌≡◌, ◌∷◌, false, OnOk, OnErr, IfOk};
 ghost use Rattle.book_endpoint.specs.States.{EndState};
 ghost use Rattle.book_link.specs.declared.event.Event.TheVariants.{Connect, Listen, Start};
-ghost use Rattle.book_link.specs.Worlds.{Side as EndSide};
+ghost use Rattle.book_link.specs.Worlds.{LinkSide as EndSide};
 ghost use Rattle.link_side.specs.Sides.{StandsSide};
 ghost use Rattle.link_side.specs.Steps.{Steps};
 ghost use Rattle.tcp_endpoint.specs.Ends.{Stands, FitsEnd};

@@ -2,7 +2,7 @@
 ghost use Rattle.std.specs.Prelude.{◌≡◌, ◌≤◌, true, [], Some, None, IfSome, is_some};
 ghost use Rattle.std.specs.Option.{ForSome};
 ghost use Rattle.book_keys.specs.Lifetimes.{greatest_time};
-ghost use Rattle.book_link.specs.Worlds.{Side as EndSide, find};
+ghost use Rattle.book_link.specs.Worlds.{LinkSide as EndSide, find};
 ghost use Rattle.tcp_endpoint.specs.Ends.{FitsEnd};
 ghost use Rattle.tcp_endpoint.specs.Halves.{same_family};
 

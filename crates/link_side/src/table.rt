@@ -1,8 +1,8 @@
 //! The events at an end's table.
 ghost use Rattle.std.specs.Prelude.{◌≡◌, OnErr, IfOk};
 ghost use Rattle.book_link.specs.declared.event.Event.TheVariants.{AddRow, Withdraw};
-ghost use Rattle.book_link.specs.RowLines.{direction_of};
-ghost use Rattle.book_link.specs.Worlds.{Side as EndSide};
+ghost use Rattle.book_link.specs.RowLines.{direction_by};
+ghost use Rattle.book_link.specs.Worlds.{LinkSide as EndSide};
 ghost use Rattle.link_side.specs.Sides.{StandsSide};
 ghost use Rattle.link_side.specs.Steps.{Steps, IsRowLine};
 
@@ -15,7 +15,7 @@ use std::alloc::{AllocError, Global};
 
 /// The Direction of a row that receives, sends, does both or neither (RFC 7210, section 2).
 fn direction_of(receive: bool, send: bool) -> Direction
-    ensures { result ≡ direction_of receive send }
+    ensures { result ≡ direction_by receive send }
 {
     match (receive, send) {
         (true, true) => Direction::Both,

@@ -5,7 +5,7 @@ use Rattle.ao_base.specs.declared.end.End.TheVariants.{A, B}
 use Rattle.book_link.specs.declared.event.Event.{Event}
 use Rattle.book_link.specs.Outcomes as book
 use Rattle.book_link.specs.Steps.{Stepped, step}
-use Rattle.book_link.specs.Worlds.{Setup, World, Side as EndSide, Happening, pair_of, other, side as side_of}
+use Rattle.book_link.specs.Worlds.{Setup, World, LinkSide as EndSide, Happening, pair_of, other, side as side_of}
 use Rattle.link_log.specs.declared.log.Log.{Log}
 use Rattle.link_log.specs.Logs.{StandsLog, forgery_count, made_count}
 use Rattle.link_report.specs.declared.outcome.Outcome.{Outcome}

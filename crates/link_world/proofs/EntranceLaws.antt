@@ -17,7 +17,7 @@ use Rattle.book_keys.proofs.ChoiceLaws.{lowest-IsLowest}
 use Rattle.book_endpoint.specs.States.{EndState, is_closed}
 use Rattle.book_endpoint.specs.declared.verdict.Passed.{Passed}
 use Rattle.book_endpoint.specs.declared.verdict.Verdict.TheVariants.{NoTuple, Expired, MacLength, NoContext, Range, BadMac}
-use Rattle.book_endpoint.specs.Verdicts.{Finding, Judgement, key_of, mac_of, found_with, number_of}
+use Rattle.book_endpoint.specs.Verdicts.{Finding, Judgement, key_of, mac_of, found_with, segment_number}
 use Rattle.book_endpoint.proofs.JudgeSteps.{judge_number, judge_context, judge_row, judge_ao, judge_by_steps}
 use Rattle.book_endpoint.specs.declared.arrival.Arrival.TheVariants.{Foreign, Checksum, Closed as AtClosed}
 use Rattle.book_endpoint.specs.Arrivals.{Arrived, unmoved, arrive_judged, number_expected, numbers_known, judged_by, from_peer, arrive_read, arrive}
@@ -25,7 +25,7 @@ use Rattle.ao_check.specs.Verdicts.{Names}
 use Rattle.tcp_endpoint.specs.Arriving.{TellsPassed}
 use Rattle.tcp_endpoint.specs.declared.arrival.Arrived.{Arrived as Told}
 use Rattle.book_link.specs.Steps.{Act, act_on, add, come, on_live, put}
-use Rattle.book_link.specs.Worlds.{Setup, pair_of, Session, Side as EndSide, Came, Happening, Making, Coming, World, side}
+use Rattle.book_link.specs.Worlds.{Setup, pair_of, Session, LinkSide as EndSide, Came, Happening, Making, Coming, World, side}
 use Rattle.law_link.proofs.Tests.{choose}
 use Rattle.link_side.specs.declared.side.Side.{Side}
 use Rattle.link_side.specs.Passing.{IsCome}
@@ -94,7 +94,7 @@ module _ (rows : List Row) (pair : Pair) (now : ℕ) (d : Segment) (x : Option �
   context_numbered : (r : Numbered) (ao : Ao) (o : Option (List ℕ)) → 1 ≤ r.number → AdmitsNumbered (judge_context r d ao x o)
   context_numbered r ao None low = tt
   context_numbered r ao (Some c) low =
-      choose AdmitsNumbered (not (has SYN d) && not (is_some x)) (Err NoContext) _ (λ t. tt) (λ t. number_numbered r ao c (number_of d x) low)
+      choose AdmitsNumbered (not (has SYN d) && not (is_some x)) (Err NoContext) _ (λ t. tt) (λ t. number_numbered r ao c (segment_number d x) low)
 
   row_numbered : (ao : Ao) (o : Option (List ℕ)) (r : Option Numbered) → ((n : Numbered) → r ≡ Some n → 1 ≤ n.number) → AdmitsNumbered (judge_row rows pair d ao x o r)
   row_numbered ao o None low = choose AdmitsNumbered (has_id rows pair ao.key_id) (Err Expired) (Err NoTuple) (λ t. tt) (λ t. tt)

@@ -11,7 +11,7 @@ use Rattle.book_link.specs.Alterations.{altered, has_place}
 use Rattle.book_link.specs.declared.event.Event.{Event}
 use Rattle.book_link.specs.declared.event.Event.TheVariants.{Clock, Connect, Listen, Start, Give, Fill, Send, Resend, Deliver, Inject, Alter, Take, Close, Abort, AddRow, Withdraw, Dump}
 use Rattle.book_link.specs.Outcomes as book
-use Rattle.book_link.specs.RowLines.{row_of}
+use Rattle.book_link.specs.RowLines.{added_row}
 use Rattle.book_link.specs.Steps.{Act, act_on, add_row, begin, come, deliver, alter, given, image_of, on_live, quietly, send, send_again, sent, step, took, withdraw}
 use Rattle.book_link.specs.Worlds.{Setup, World, Session, Made, pair_of, side, find, segment_named}
 use Rattle.link_report.specs.declared.outcome.Outcome.{Outcome}
@@ -131,7 +131,7 @@ step_fits setup w (Alter e name place mask fix) = fits_none _ 0 (altered_none se
 step_fits setup w (Take e count) = took_fits w e (side w e).sessions count
 step_fits setup w (Close e) = fits_none _ 0 (on_sessions w e (side w e).sessions (λ s. quietly (close s) book.Done) (λ s. refl))
 step_fits setup w (Abort e) = fits_none _ 0 (on_sessions w e (side w e).sessions (λ s. quietly (abort s) book.Done) (λ s. refl))
-step_fits setup w (AddRow e row) = fits_none _ 0 (added_none w e (adding (side w e).rows (row_of row)))
+step_fits setup w (AddRow e row) = fits_none _ 0 (added_none w e (adding (side w e).rows (added_row row)))
 step_fits setup w (Withdraw e number) = fits_none _ 0 (withdrawn_none w e (withdrawn (side w e).rows number))
 step_fits setup w (Dump name) = image_fits (segment_named name w.history)
 

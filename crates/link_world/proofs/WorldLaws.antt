@@ -13,7 +13,7 @@ use Rattle.book_link.specs.declared.event.Event.{Event}
 use Rattle.book_link.specs.Outcomes as book
 use Rattle.book_link.specs.Runs.{begins, empty, outcomes_from, run}
 use Rattle.book_link.specs.Steps.{Stepped, step}
-use Rattle.book_link.specs.Worlds.{Setup, World as Both, pair_of, rows_of}
+use Rattle.book_link.specs.Worlds.{Setup, World as Both, pair_of, first_rows}
 use Rattle.link_log.specs.declared.log.Log.{Log}
 use Rattle.link_log.specs.Logs.{StandsLog}
 use Rattle.link_report.specs.declared.outcome.Outcome.{Outcome}
@@ -21,7 +21,7 @@ use Rattle.link_report.specs.Outcomes.{AreShown, Shows}
 use Rattle.link_side.specs.declared.side.Side.{Side}
 use Rattle.link_side.specs.Sides.{StandsSide}
 use Rattle.link_world.specs.declared.world.World.{World}
-use Rattle.law_link.specs.Laws.{EventFits, OneFamily, RowFits, SetupFits}
+use Rattle.law_link.specs.Laws.{EventFits, AddressesFit, RowFits, SetupFits}
 use Rattle.link_world.specs.Fitting.{IsPlace, SocketsFit}
 use Rattle.link_world.specs.Following.{Acts, Happens, Moves, Rests, by_event}
 use Rattle.link_world.specs.Links.{AreOfEnd, AreOfLink, StandsAt, StandsLink}
@@ -146,7 +146,7 @@ one_more P [] event all fits = (fits, tt)
 one_more P (e ∷ events) event all fits = (all.0, one_more P events event all.1 fits)
 
 -- two places of a family
-pub one_family : (a b : Address) → are_two_of_a_family a b ≡ true → IsPlace a → IsPlace b → OneFamily a b
+pub one_family : (a b : Address) → are_two_of_a_family a b ≡ true → IsPlace a → IsPlace b → AddressesFit a b
 one_family (V4 a) (V4 b) h x y = (x, y)
 one_family (V6 a) (V6 b) h x y = (x, y)
 one_family (V4 a) (V6 b) h x y = absurd (cc)
@@ -158,10 +158,10 @@ rows_fit [] all = tt
 rows_fit (r ∷ rs) all = (record { recv_id = all.0.recv_id; send_id = all.0.send_id; master = all.0.master }, rows_fit rs all.1)
 
 -- sockets and rows that fit are a setup that fits
-pub setup_fits : (setup : Setup) → SocketsFit setup.a setup.b → AllByRecursion RowFits (rows_of setup A) → AllByRecursion RowFits (rows_of setup B) → SetupFits setup
+pub setup_fits : (setup : Setup) → SocketsFit setup.a setup.b → AllByRecursion RowFits (first_rows setup A) → AllByRecursion RowFits (first_rows setup B) → SetupFits setup
 setup_fits setup sockets a b = record { family = sockets.family; a_port = sockets.a_port; b_port = sockets.b_port; rows = of_end }
   where
-    of_end : (e : End) → AllByRecursion RowFits (rows_of setup e)
+    of_end : (e : End) → AllByRecursion RowFits (first_rows setup e)
     of_end A = a
     of_end B = b
 

@@ -4,7 +4,7 @@ use Rattle.ao_base.specs.declared.address.Address.{Address}
 use Rattle.ao_base.specs.declared.address.Address.TheVariants.{V4, V6}
 use Rattle.ao_base.specs.declared.address.Socket.{Socket}
 use Rattle.book_segments.specs.Spelling.{IsV4, IsV6}
-use Rattle.law_link.specs.Laws.{OneFamily}
+use Rattle.law_link.specs.Laws.{AddressesFit}
 
 -- an address as long as its family's are, of bytes
 -- (RFC 791, section 3.1; RFC 8200, section 3)
@@ -15,6 +15,6 @@ IsPlace (V6 bytes) = IsV6 (V6 bytes)
 -- two addresses of one family, each as long as its family's are, and ports of 16 bits
 -- (RFC 791, section 3.1; RFC 8200, section 3; RFC 9293, section 3.1)
 pub record SocketsFit (a b : Socket) : Type 0 where
-  pub family : OneFamily a.address b.address
+  pub family : AddressesFit a.address b.address
   pub a_port : a.port < 65536
   pub b_port : b.port < 65536

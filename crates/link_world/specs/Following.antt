@@ -4,7 +4,7 @@ use Rattle.std.specs.declared.alloc.AllocError.{AllocError}
 use Rattle.ao_base.specs.declared.end.End.{End}
 use Rattle.book_link.specs.declared.event.Event.{Event}
 use Rattle.book_link.specs.Steps.{Stepped, come, on_live, step}
-use Rattle.book_link.specs.Worlds.{Setup, World, Side as EndSide, Happening, other, side as side_of}
+use Rattle.book_link.specs.Worlds.{Setup, World, LinkSide as EndSide, Happening, other, side as side_of}
 use Rattle.link_log.specs.declared.log.Log.{Log}
 use Rattle.link_log.specs.Logs.{StandsLog, forgery_count, made_count}
 use Rattle.link_report.specs.declared.outcome.Outcome.{Outcome}

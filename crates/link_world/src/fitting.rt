@@ -5,7 +5,7 @@ ghost use Rattle.std.specs.List.{AllByRecursion};
 ghost use Rattle.book_cmd_link.specs.LinkFiles.{are_two_of_a_family};
 ghost use Rattle.book_segments.specs.Spelling.{AreBytes};
 ghost use Rattle.law_link.specs.Laws.{EventFits, RowFits};
-ghost use Rattle.book_link.specs.RowLines.{row_of};
+ghost use Rattle.book_link.specs.RowLines.{added_row};
 ghost use Rattle.link_world.specs.Events.{CanHappen};
 ghost use Rattle.link_world.specs.Fitting.{IsPlace, SocketsFit};
 
@@ -57,7 +57,7 @@ pub(crate) fn see_rows(table: &Table)
 
 /// Ids of a row are below 256, and its key is of bytes.
 fn see_row(row: &RowLine)
-    ensures { RowFits (row_of row.now) }
+    ensures { RowFits (added_row row.now) }
 {
     see_byte(row.recv_id);
     see_byte(row.send_id);

@@ -27,14 +27,14 @@ use Rattle.node_run.specs.declared.told.Told.TheVariants as tells
 given_if : (shut long : Bool) (piece room : List ℕ) (s : EndState) (e : Endpoint) (r : GiveAnswer)
     → r ≡ (if shut then given.Closed else (if long then given.Full else given.Ok))
     → Stands e (if shut then s else (if long then s else give piece s))
-    → Follows e room (told_given r) (if shut then book.called s book.HasClosed else (if long then book.called s book.Full else book.called (give piece s) book.Done))
+    → Follows e room (told_given r) (if shut then book.called s book.ConnectionClosing else (if long then book.called s book.NoRoom else book.called (give piece s) book.Performed))
 given_if true long piece room s e r is stands = rw is (record { stands = stands; tells = refl })
 given_if false true piece room s e r is stands = rw is (record { stands = stands; tells = refl })
 given_if false false piece room s e r is stands = rw is (record { stands = stands; tells = refl })
 
 -- a piece is offered
 pub given_follows : (piece bytes : List ℕ) (s : EndState) (e : Endpoint) (r : GiveAnswer) → r ≡ give_answer s piece → Stands e (offered piece s)
-    → Follows e bytes (told_given r) (states.offered book.called book.HasClosed book.Full book.Done piece s)
+    → Follows e bytes (told_given r) (states.offered book.called book.ConnectionClosing book.NoRoom book.Performed piece s)
 given_follows piece bytes s e r is stands = given_if (not (gives s)) (nat_lt (room s) (length piece)) piece bytes s e r is stands
 
 -- ---- sending
@@ -50,7 +50,7 @@ made_told before after m x h = record {
 }
 
 pub sent_follows : (s : EndState) (e : Endpoint) (before after : List ℕ) (a : Emission) (b : Emitted) → EmitsAs s e before after a b
-    → Follows e after (told_made a) (book.made_called s book.Idle b)
+    → Follows e after (told_made a) (book.made_called s book.NothingToSend b)
 sent_follows s e before after emissions.Idle Quiet h = record { stands = h.stands; tells = refl }
 sent_follows s e before after emissions.Idle NoKey h = absurd h.answer_is
 sent_follows s e before after emissions.Idle (Emits x) h = absurd h.answer_is
@@ -62,7 +62,7 @@ sent_follows s e before after (emissions.Segment m) NoKey h = absurd h.answer_is
 sent_follows s e before after (emissions.Segment m) (Emits x) h = record { stands = h.stands; tells = (x, refl, made_told before after m x h.answer_is) }
 
 pub resent_follows : (s : EndState) (e : Endpoint) (before after : List ℕ) (a : Resent) (b : Emitted) → ResendsAs s e before after a b
-    → Follows e after (told_again a) (book.made_called s book.Nothing b)
+    → Follows e after (told_again a) (book.made_called s book.NothingToResend b)
 resent_follows s e before after resents.Nothing Quiet h = record { stands = h.stands; tells = refl }
 resent_follows s e before after resents.Nothing NoKey h = absurd h.answer_is
 resent_follows s e before after resents.Nothing (Emits x) h = absurd h.answer_is

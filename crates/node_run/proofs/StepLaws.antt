@@ -11,7 +11,8 @@ use Rattle.book_cmd_node.specs.declared.node.Act.{Act}
 use Rattle.book_cmd_node.specs.declared.node.Act.TheVariants as act
 use Rattle.book_cmd_node.specs.declared.node.NodeEvent.TheVariants as event
 use Rattle.book_cmd_node.specs.NodeRuns as book
-use Rattle.book_cmd_node.specs.NodeRuns.{NodeState, NodeStep, most_ends, same_pair, held_end, with_end, arrived_at, called, stays, after_call, new_end, injected, node_step, pair_reached}
+use Rattle.book_cmd_node.specs.NodeRuns.{NodeState, NodeStep, most_ends, same_pair, held_end, with_end, arrived_at, called, stays, after_call, new_end, injected, node_step}
+use Rattle.book_segments.specs.Segments.{pair_reached}
 use Rattle.law_node.proofs.Pairs.{same_pair_is}
 use Rattle.law_node.proofs.Held.{held, once_with, once_without, once_ticked, once_pushed}
 use Rattle.tcp_endpoint.specs.declared.endpoint.Endpoint.{Endpoint}
@@ -110,7 +111,7 @@ in_use_reaches rows h after clock n p room told (Err why) e s S is at F refused 
 added_reaches : (rows : List Row) (h after : Holding) (clock : ℕ) (n : NodeState) (p : Pair) (room : List ℕ) (told : Told) (r : Result ⊤ NodeRefusal) (s : EndState) (full : Bool)
     → StandsNode rows h clock n → held_end p n.ends ≡ None → IsRefused r (if full then Some refusals.Full else None) → OnErr r (after ≡ h)
     → OnOk r ((e : Endpoint) × Adds h after p e × Begins rows p s e) → IsBegun r told
-    → Reaches rows after clock room told (if full then stays n book.NodeFull else stays (record n { ends = n.ends ++ held p s ∷ [] }) book.Done)
+    → Reaches rows after clock room told (if full then stays n book.NodeFull else stays (record n { ends = n.ends ++ held p s ∷ [] }) book.Performed)
 added_reaches rows h after clock n p room told (Ok x) s true S at refused same added begun = absurd (cc)
 added_reaches rows h after clock n p room told (Err why) s true S at refused same added begun =
     let told_is : told ≡ tells.NodeFull = rw refused at begun in rw (same, told_is) (record { stands = S; tells = refl })
@@ -193,10 +194,10 @@ came_reaches rows h after clock n bytes room answer S C = at (reading bytes) C
         subst (λ (q : Pair). Arrives rows e.pair (Read d) c.2.next c.0 (arrive rows q n.clock k.state (Read d))) k.stands.pair_is timed in
         let finds : (q : Pair) → end_at after q ≡ (if same_pair p q then Some c.2.next else end_at h q) =
         λ q. subst (λ (z : Pair). end_at after q ≡ (if same_pair z q then Some c.2.next else end_at h q)) seen (c.2.finds q) in
-        let reached : Reaches rows after clock room (tells.Answered c.0.arrival) (after_call n p (called m.state (book.Answered m.answer))) = record {
+        let reached : Reaches rows after clock room (tells.Answered c.0.arrival) (after_call n p (called m.state (book.DatagramAnswered m.answer))) = record {
           stands = put_stands rows h after clock n p c.2.next k.state m.state S k.is c.2.most finds c.2.count
               (record { stands = does.stands; fits = H.fits; pair_is = H.pair ∙ k.stands.pair_is });
-          tells = ap (λ a. book.Answered a) (sym does.answer);
+          tells = ap (λ a. book.DatagramAnswered a) (sym does.answer);
         } in
         subst (λ (x : Option EndState). Reaches rows after clock room (told_of answer) (arrived_at rows n p (Read d) x)) (sym k.is)
         (subst (λ (x : NodeArrival). Reaches rows after clock room (told_of x) (arrived_at rows n p (Read d) (Some k.state))) (sym c.1) reached)

@@ -19,18 +19,18 @@ pub record TellsMade (room : List ℕ) (m : Made) (e : Emission) : Type 0 where
 
 -- the answer is this one of the definitions
 abbrev pub Tells : List ℕ → Told → book.NodeOutcome → Type 0
-Tells room tells.Done o = o ≡ book.Done
+Tells room tells.Done o = o ≡ book.Performed
 Tells room tells.InUse o = o ≡ book.InUse
 Tells room tells.NodeFull o = o ≡ book.NodeFull
 Tells room tells.NoConnection o = o ≡ book.NoConnection
-Tells room tells.Full o = o ≡ book.Full
-Tells room tells.Closed o = o ≡ book.HasClosed
-Tells room (tells.Sent m) o = (e : Emission) × (o ≡ book.Sent e) × TellsMade room m e
-Tells room tells.NoKey o = o ≡ book.WithoutKey
-Tells room tells.Idle o = o ≡ book.Idle
-Tells room tells.Nothing o = o ≡ book.Nothing
-Tells room (tells.Answered answer) o = o ≡ book.Answered answer
-Tells room (tells.Took bytes shown) o = o ≡ book.Took bytes shown
+Tells room tells.Full o = o ≡ book.NoRoom
+Tells room tells.Closed o = o ≡ book.ConnectionClosing
+Tells room (tells.Sent m) o = (e : Emission) × (o ≡ book.Transmitted e) × TellsMade room m e
+Tells room tells.NoKey o = o ≡ book.NoUsableKey
+Tells room tells.Idle o = o ≡ book.NothingToSend
+Tells room tells.Nothing o = o ≡ book.NothingToResend
+Tells room (tells.Answered answer) o = o ≡ book.DatagramAnswered answer
+Tells room (tells.Took bytes shown) o = o ≡ book.Delivered bytes shown
 
 -- how many bytes of the buffer a segment takes
 abbrev pub length_told : Told → ℕ

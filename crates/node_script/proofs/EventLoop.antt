@@ -5,7 +5,7 @@ use Rattle.ao_base.specs.declared.address.Address.{Address}
 use Rattle.book_lines.specs.declared.text_fault.TextFault.{TextFault}
 use Rattle.book_lines.specs.declared.text_fault.TextFault.TheVariants as fault
 use Rattle.book_lines.specs.Lines.{Line}
-use Rattle.book_lines.specs.Said.{numbered}
+use Rattle.book_lines.specs.Said.{at_number}
 use Rattle.ao_base.specs.Results.{◌>>=◌}
 use Rattle.text_lines.specs.Readings.{Fails}
 use Rattle.book_cmd_node.specs.declared.node.NodeEvent.{NodeEvent}
@@ -23,14 +23,14 @@ event_first before e (Err f) = refl
 
 module _ (own : Address) (before : List NodeEvent) (l : Line) (ls lines : List Line) (whole : Result (List NodeEvent) TextFault)
     (next : lines ≡ l ∷ ls) (so_far : after before (node_events_of own lines) ≡ whole) where
-  step : after before (node_events_of own lines) ≡ after before (numbered l.number (node_event_of own l.words) >>= λ e. node_events_of own ls >>= λ xs. Ok (e ∷ xs))
+  step : after before (node_events_of own lines) ≡ after before (at_number l.number (node_event_of own l.words) >>= λ e. node_events_of own ls >>= λ xs. Ok (e ∷ xs))
   unfolding node_events_of
   step = rw next refl
 
-  pub event_read : (e : NodeEvent) → numbered l.number (node_event_of own l.words) ≡ Ok e → after (before ++ e ∷ []) (node_events_of own ls) ≡ whole
+  pub event_read : (e : NodeEvent) → at_number l.number (node_event_of own l.words) ≡ Ok e → after (before ++ e ∷ []) (node_events_of own ls) ≡ whole
   event_read e h = sym (event_first before e (node_events_of own ls)) ∙ (sym (rw h at step) ∙ so_far)
 
-  pub event_refused : (f : TextFault) → Fails f (numbered l.number (node_event_of own l.words)) → Fails f whole
+  pub event_refused : (f : TextFault) → Fails f (at_number l.number (node_event_of own l.words)) → Fails f whole
   event_refused fault.Memory h = tt
   event_refused fault.TooManyLines h = sym so_far ∙ rw h at step
   event_refused (fault.Line n kind) h = sym so_far ∙ rw h at step

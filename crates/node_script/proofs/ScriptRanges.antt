@@ -9,7 +9,7 @@ use Rattle.ao_base.specs.Lines.{lines_of}
 use Rattle.book_lines.specs.declared.text_fault.TextFault.{TextFault}
 use Rattle.book_lines.specs.declared.text_fault.TextFault.TheVariants as fault
 use Rattle.book_lines.specs.Lines.{Line, saying_from}
-use Rattle.book_lines.specs.Said.{numbered}
+use Rattle.book_lines.specs.Said.{at_number}
 use Rattle.book_lines.specs.Words.{address_in, literal_in, nothing_in}
 use Rattle.book_cmd_node.specs.declared.node.NodeEvent.{NodeEvent}
 use Rattle.book_cmd_node.specs.declared.node.NodeScript.{NodeScript}
@@ -46,7 +46,7 @@ line_ok missing kind meaning (l ∷ ls) t h =
     let a = at_line_ok l.number kind ls (meaning l.words) t h in
     (l.words, a.0, rw (← a.1) (omega arith))
 
-numbered_ok : (n : ℕ) (r : Result NodeEvent LineKind) (e : NodeEvent) → numbered n r ≡ Ok e → r ≡ Ok e
+numbered_ok : (n : ℕ) (r : Result NodeEvent LineKind) (e : NodeEvent) → at_number n r ≡ Ok e → r ≡ Ok e
 numbered_ok n (Ok x) e h = cc h
 numbered_ok n (Err k) e h = absurd (cc h)
 
@@ -58,7 +58,7 @@ events_ok : (own : Address) (ls : List Line) (es : List NodeEvent) → node_even
 unfolding node_events_of
 events_ok own [] es h = let is : [] ≡ es = cc h in rw (← is) ((λ n d below. absurd (omega arith)), refl)
 events_ok own (l ∷ ls) es h =
-    let e = bind_ok (numbered l.number (node_event_of own l.words)) _ es h in
+    let e = bind_ok (at_number l.number (node_event_of own l.words)) _ es h in
     let others = bind_ok (node_events_of own ls) _ es e.2 in
     let more = events_ok own ls others.0 others.1 in
     let is : e.0 ∷ others.0 ≡ es = cc others.2 in

@@ -2,7 +2,7 @@
 ghost use Rattle.std.specs.Prelude.{◌≡◌, ◌<◌, ◌↔◌, length, IfOk, IsErrOf};
 ghost use Rattle.ao_base.specs.Lines.{lines_of};
 ghost use Rattle.book_lines.specs.Lines.{most_lines};
-ghost use Rattle.book_lines.specs.Said.{numbered};
+ghost use Rattle.book_lines.specs.Said.{at_number};
 ghost use Rattle.text_lines.specs.Readings.{Answers};
 ghost use Rattle.book_cmd_node.specs.NodeRuns.{node_event_of, node_events_of, node_script_of};
 ghost use Rattle.node_script.specs.Scripts.{IsScript};
@@ -17,7 +17,7 @@ use text_lines::{Saying, SayingLines, count_lines};
 
 /// The event of a line.
 fn event_line(alloc: Global, own: &Address, mut line: Saying) -> Result<NodeEvent, TextFault>
-    ensures { Answers result (numbered line.entry.number (node_event_of own.now line.entry.words)) }
+    ensures { Answers result (at_number line.entry.number (node_event_of own.now line.entry.words)) }
 {
     match read_event(alloc, own, &mut line.words) {
         Ok(event) => Ok(event),

@@ -6,7 +6,7 @@ use Rattle.std.proofs.Math.Seq.{take-append_seam, drop-append_seam}
 use Rattle.book_pcap.specs.declared.pcap_head.ByteOrder.{ByteOrder}
 use Rattle.book_pcap.specs.declared.pcap_head.Head.{Head}
 use Rattle.book_pcap.specs.declared.pcap_head.HeadFault.{HeadFault}
-use Rattle.book_pcap.specs.Packets.{Kept, Done, Whole, four_at, record_at, head_of, and_rest, opened}
+use Rattle.book_pcap.specs.Packets.{Kept, NoMoreRecords, Whole, four_at, record_at, head_of, and_rest, opened}
 use Rattle.book_pcap.proofs.Captures.{record_none, record_short, record_over, record_part, record_whole}
 use Rattle.pcap_file.specs.Reading.{opened_from}
 use Rattle.pcap_file.proofs.Parts.{four_in_front}
@@ -54,7 +54,7 @@ whole_front order text kept rest long fits all is =
       stays = λ more. alone order past len size len_is fits more ∙ ap (λ k. Whole k more) kept_is;
     }
 
-none_at : (order : ByteOrder) (text : List ℕ) → length text ≡ 0 → record_at order text ≡ Done
+none_at : (order : ByteOrder) (text : List ℕ) → length text ≡ 0 → record_at order text ≡ NoMoreRecords
 none_at order text none = ap (record_at order) (nil_from_length text none) ∙ record_none order
 
 -- a whole record stays one

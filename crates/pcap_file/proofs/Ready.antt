@@ -9,7 +9,7 @@ use Rattle.ao_base.specs.Outside.{Side, told}
 use Rattle.ao_base.proofs.Sides.{gave_none}
 use Rattle.book_pcap.specs.declared.pcap_head.ByteOrder.{ByteOrder}
 use Rattle.book_pcap.specs.declared.pcap_head.Head.{Head}
-use Rattle.book_pcap.specs.Packets.{Broken, Done, RecordFront, Kept, Whole, datagram_of, four_at, record_at}
+use Rattle.book_pcap.specs.Packets.{Broken, NoMoreRecords, RecordFront, Kept, Whole, datagram_of, four_at, record_at}
 use Rattle.book_pcap.proofs.Captures.{record_none, record_over, record_part, record_short, record_whole}
 use Rattle.pcap_file.specs.declared.packets.PacketStep.TheVariants as step
 use Rattle.pcap_file.specs.Reading.{IsByte, Steps, ends_within, is_ready, is_whole}
@@ -61,7 +61,7 @@ reached head buffer side fits = record {
 }
 
 by_front : (taken : ℕ) (front : RecordFront) → is_whole front ≡ false → ends_within taken front ≡ false
-by_front taken Done none = refl
+by_front taken NoMoreRecords none = refl
 by_front taken Broken none = refl
 by_front taken (Whole packet rest) none = absurd (cc)
 

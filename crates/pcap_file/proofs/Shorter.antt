@@ -5,7 +5,7 @@ use Rattle.ao_base.specs.Outside.{Side, told}
 use Rattle.book_pcap.specs.declared.pcap_head.ByteOrder.{ByteOrder}
 use Rattle.book_pcap.specs.declared.pcap_head.Head.{Head}
 use Rattle.book_pcap.specs.declared.pcap_head.HeadFault.{HeadFault}
-use Rattle.book_pcap.specs.Packets.{RecordFront, Done, Broken, Whole, Kept, packets_in, record_at}
+use Rattle.book_pcap.specs.Packets.{RecordFront, NoMoreRecords, Broken, Whole, Kept, packets_in, record_at}
 use Rattle.book_pcap.proofs.Captures.{packets_step}
 use Rattle.pcap_file.specs.declared.packets.PacketStep.TheVariants.{Packet}
 use Rattle.pcap_file.specs.Reading.{Reading, Steps, opened_from, packets_after, packets_at}
@@ -34,7 +34,7 @@ none_missing order text more left one two rest is then =
 
 -- without a whole record there is no packet
 no_packet : (head : Head) (n : ℕ) (text : List ℕ) (front : RecordFront) → record_at head.order text ≡ front → ((kept : Kept) (rest : List ℕ) → front ≡ Whole kept rest → ⊥) → (packets_in head n text).list ≡ []
-no_packet head n text Done is none = rw (packets_step head n text, is) refl
+no_packet head n text NoMoreRecords is none = rw (packets_step head n text, is) refl
 no_packet head n text Broken is none = rw (packets_step head n text, is) refl
 no_packet head n text (Whole kept rest) is none = absurd (none kept rest refl)
 

@@ -3,14 +3,14 @@ use Rattle.std.proofs.Common.{◌≡◌, ℕ, ◌+◌, List, [], ◌++◌, lengt
 use Rattle.std.proofs.lemmas.List.{length-append}
 use Rattle.ao_base.specs.Outside.{Side, told}
 use Rattle.ao_base.proofs.Sides.{told_given}
-use Rattle.book_pcap.specs.Packets.{RecordFront, Done, Broken, Whole, record_at, datagram_of}
+use Rattle.book_pcap.specs.Packets.{RecordFront, NoMoreRecords, Broken, Whole, record_at, datagram_of}
 use Rattle.book_pcap.proofs.Captures.{record_none, packets_step}
 use Rattle.pcap_file.specs.declared.packets.PacketStep.{PacketStep}
 use Rattle.pcap_file.specs.declared.packets.PacketStep.TheVariants.{Packet, End, Fault, TooLong, BadHead, BadRecord}
 use Rattle.pcap_file.specs.Reading.{Reading, Steps, step_at, wanted_step, IsOpen, Exactly, Walks, IsQuiet, IsPacketOrEnd}
 
 at_front : (count : ℕ) (front : RecordFront) → IsOpen (step_at count front)
-at_front count Done = tt
+at_front count NoMoreRecords = tt
 at_front count Broken = tt
 at_front count (Whole packet rest) = tt
 

@@ -4,7 +4,7 @@ use Rattle.std.specs.List.{All}
 use Rattle.ao_base.specs.Outside.{Side, Gave, Rose, IsAtEnd, told}
 use Rattle.book_pcap.specs.declared.pcap_head.Head.{Head}
 use Rattle.book_pcap.specs.declared.pcap_head.HeadFault.{HeadFault}
-use Rattle.book_pcap.specs.Packets.{opened, Kept, RecordFront, Done, Broken, Whole, record_at, datagram_of, Packet, Packets, with_packet, packets_in, packets_of}
+use Rattle.book_pcap.specs.Packets.{opened, Kept, RecordFront, NoMoreRecords, Broken, Whole, record_at, datagram_of, Packet, Packets, with_packet, packets_in, packets_of}
 use Rattle.book_pcap.specs.Packets.{BadHead as head_refused, BadRecord as record_refused}
 use Rattle.pcap_file.specs.declared.packets.PacketStep.{PacketStep}
 use Rattle.pcap_file.specs.declared.packets.PacketStep.TheVariants as step
@@ -72,13 +72,13 @@ Answers before now source_before source_now given text (step.BadRecord n) =
 
 -- a whole record stands there
 abbrev pub is_whole : RecordFront → Bool
-is_whole Done = false
+is_whole NoMoreRecords = false
 is_whole Broken = false
 is_whole (Whole packet rest) = true
 
 -- a whole record stands there, and ends within the most bytes of a file, of which so many were taken
 abbrev pub ends_within : ℕ → RecordFront → Bool
-ends_within taken Done = false
+ends_within taken NoMoreRecords = false
 ends_within taken Broken = false
 ends_within taken (Whole packet rest) = nat_le (taken - length rest) 268435456
 
@@ -107,7 +107,7 @@ pub record Steps (before now : Reading) (source_before source_now : Side) (given
 
 -- the answer that the record at the front wants
 abbrev pub step_at : ℕ → RecordFront → PacketStep
-step_at count Done = step.End
+step_at count NoMoreRecords = step.End
 step_at count Broken = step.BadRecord (count + 1)
 step_at count (Whole packet rest) = step.Packet
 

@@ -4,7 +4,7 @@ use Rattle.std.proofs.lemmas.List.{append-nil, length-append}
 use Rattle.std.proofs.lemmas.List.Elements.{All-append, All-from_get_or}
 use Rattle.std.proofs.lemmas.Grind.{flat_map-append}
 use Rattle.std.specs.List.{All}
-use Rattle.ao_base.specs.Outside.{Side, Gave, Took, told}
+use Rattle.ao_base.specs.Outside.{Side, Gave, WasWritten, told}
 use Rattle.ao_base.proofs.Sides.{gave_more, gave_none, rose_after, took_more, took_none}
 use Rattle.std.proofs.Common.{append_assoc}
 use Rattle.book_captures.specs.declared.capture_parts.CaptureFault.{CaptureFault}
@@ -28,7 +28,7 @@ pub record Between (reader : Reading) (given : List ℕ) (shown : List CapturePa
   pub near : length reader.kept ≤ 16842752
   pub within : reader.counts.bytes ≤ 9223372036854775808
   pub going : reader.over ≡ false
-  pub wrote : Took (packet_lines shown) out_before out_now
+  pub wrote : WasWritten (packet_lines shown) out_before out_now
 
 all_none : All IsByte []
 all_none = All-from_get_or IsByte [] 0 (λ i within. absurd (omega arith))
@@ -57,11 +57,11 @@ lines_more : (shown : List CapturePacket) (packet : Option CapturePacket) → pa
 lines_more shown packet = flat_map-append (λ p. packet_line p ++ 10 ∷ []) shown (listed packet)
 
 -- the line of the packet that is shown was written
-wrote_listed : (packet : Option CapturePacket) (b c : Side) (done : Unit {0}) → WritesPacket packet b c (Ok done) → Took (packet_lines (listed packet)) b c
+wrote_listed : (packet : Option CapturePacket) (b c : Side) (done : Unit {0}) → WritesPacket packet b c (Ok done) → WasWritten (packet_lines (listed packet)) b c
 wrote_listed None b c done wrote = absurd wrote
 wrote_listed (Some p) b c done wrote = let same : (packet_line p ++ 10 ∷ []) ++ [] ≡ packet_line p ++ 10 ∷ [] = append-nil (packet_line p ++ 10 ∷ []) in rw same wrote
 
-nothing_listed : (packet : Option CapturePacket) (b c : Side) → WritesPacket packet b c (Err line_halt.Memory) → Took [] b c
+nothing_listed : (packet : Option CapturePacket) (b c : Side) → WritesPacket packet b c (Err line_halt.Memory) → WasWritten [] b c
 nothing_listed None b c wrote = absurd wrote
 nothing_listed (Some p) b c wrote = wrote
 
@@ -135,7 +135,7 @@ module _ (before : Reading) (given next : List ℕ) (shown : List CapturePacket)
         let most = passes.within in
         omega arith
 
-    between_listed : (r : Side) → Took (packet_lines (listed now.packet)) q r → Between now (given ++ next) (shown ++ listed now.packet) a c o r
+    between_listed : (r : Side) → WasWritten (packet_lines (listed now.packet)) q r → Between now (given ++ next) (shown ++ listed now.packet) a c o r
     between_listed r wrote = record {
       gave = gave_all gave;
       bytes = bytes_all bytes;

@@ -1,7 +1,7 @@
 -- What is read of a capture and written of it, packet by packet (own). Its top is `Writes`.
 use Rattle.std.specs.Prelude.{◌≡◌, ℕ, ◌+◌, ◌<◌, ◌≤◌, List, [], ◌∷◌, ◌++◌, length, take, Option, Some, None, Result, Ok, Err}
 use Rattle.std.specs.List.{All}
-use Rattle.ao_base.specs.Outside.{Side, Gave, Took, Rose, IsAtEnd, told}
+use Rattle.ao_base.specs.Outside.{Side, Gave, WasWritten, Rose, IsAtEnd, told}
 use Rattle.book_captures.specs.declared.capture_parts.CaptureFault.{CaptureFault}
 use Rattle.book_captures.specs.declared.reasons.Skipped.{Skipped}
 use Rattle.book_captures.specs.Frames.{Datagram}
@@ -38,7 +38,7 @@ pub record HasRead (given : List ℕ) (read : List CapturePacket) : Type 0 where
 pub record Finishes (given : List ℕ) (source_now out_before out_now : Side) : Type 0 where
   pub at_end : IsAtEnd source_now
   pub faultless : (capture_of given).fault ≡ None
-  pub wrote : Took (packet_lines (capture_of given).packets) out_before out_now
+  pub wrote : WasWritten (packet_lines (capture_of given).packets) out_before out_now
 
 -- the capture has this fault, whatever follows in the source: the lines of the packets before it
 -- were written (own)
@@ -47,13 +47,13 @@ pub record Refuses (given : List ℕ) (source_now out_before out_now : Side) (fa
   pub has_read : HasRead given (capture_of given).packets
   pub fault_is : (capture_of given).fault ≡ Some fault
   pub all : capture_of (given ++ told source_now.bytes) ≡ capture_of given
-  pub wrote : Took (packet_lines (capture_of given).packets) out_before out_now
+  pub wrote : WasWritten (packet_lines (capture_of given).packets) out_before out_now
 
 -- it ended between two packets: the lines of all packets before were written (own)
 pub record Stops (given : List ℕ) (out_before out_now : Side) : Type 0 where
   pub read : List CapturePacket
   pub has_read : HasRead given read
-  pub wrote : Took (packet_lines read) out_before out_now
+  pub wrote : WasWritten (packet_lines read) out_before out_now
 
 -- memory ran out: the lines of all packets that were read were written, but for the last one, and
 -- little more was taken than their parts (own)
@@ -63,7 +63,7 @@ pub record Lacks (given : List ℕ) (out_before out_now : Side) : Type 0 where
   pub one : length later ≤ 1
   pub has_read : HasRead given (read ++ later)
   pub near : length has_read.rest ≤ most_buffered
-  pub wrote : Took (packet_lines read) out_before out_now
+  pub wrote : WasWritten (packet_lines read) out_before out_now
 
 -- a write failed: of the line of the last packet that was read a front part was written, and little
 -- more was taken than its part (own)
@@ -74,7 +74,7 @@ pub record Breaks (given : List ℕ) (out_before out_now : Side) : Type 0 where
   pub has_read : HasRead given (read ++ last ∷ [])
   pub near : length has_read.rest ≤ most_buffered
   pub not_all : n < length (packet_line last ++ 10 ∷ [])
-  pub wrote : Took (packet_lines read ++ take n (packet_line last ++ 10 ∷ [])) out_before out_now
+  pub wrote : WasWritten (packet_lines read ++ take n (packet_line last ++ 10 ∷ [])) out_before out_now
   pub rose : Rose out_before out_now
 
 -- how each end comes (own)
@@ -104,14 +104,14 @@ pub record Writes (given : List ℕ) (source_before source_now out_before out_no
 pub record BreaksLine (line : List ℕ) (out_before out_now : Side) : Type 0 where
   pub n : ℕ
   pub not_all : n < length line
-  pub wrote : Took (take n line) out_before out_now
+  pub wrote : WasWritten (take n line) out_before out_now
   pub rose : Rose out_before out_now
 
 -- what became of this line
 abbrev pub WritesBytes : List ℕ → Side → Side → Result (Unit {0}) LineHalt → Type 0
-WritesBytes line out_before out_now (Ok done) = Took line out_before out_now
+WritesBytes line out_before out_now (Ok done) = WasWritten line out_before out_now
 WritesBytes line out_before out_now (Err line_halt.Write) = BreaksLine line out_before out_now
-WritesBytes line out_before out_now (Err line_halt.Memory) = Took [] out_before out_now
+WritesBytes line out_before out_now (Err line_halt.Memory) = WasWritten [] out_before out_now
 
 -- what became of the line of the packet that is shown
 abbrev pub WritesPacket : Option CapturePacket → Side → Side → Result (Unit {0}) LineHalt → Type 0

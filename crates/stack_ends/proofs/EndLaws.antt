@@ -7,7 +7,8 @@ use Rattle.book_keys.specs.Rows.{Row}
 use Rattle.book_segments.specs.Segments.{Segment, Reading, Read, Bad as Unread}
 use Rattle.book_endpoint.specs.States.{EndState}
 use Rattle.book_endpoint.specs.Arrivals.{arrive}
-use Rattle.book_cmd_node.specs.NodeRuns.{Called, Held, NodeState, held_end, pair_reached, same_pair, ends_ticked, with_end, without_end}
+use Rattle.book_cmd_node.specs.NodeRuns.{Called, Held, NodeState, held_end, same_pair, ends_ticked, with_end, without_end}
+use Rattle.book_segments.specs.Segments.{pair_reached}
 use Rattle.law_node.proofs.Held.{held, once_with, once_without, once_ticked, once_pushed}
 use Rattle.tcp_endpoint.specs.declared.endpoint.Endpoint.{Endpoint}
 use Rattle.tcp_endpoint.specs.Ends.{FitsEnd, Stands as EndStands}

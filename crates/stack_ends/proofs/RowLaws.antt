@@ -2,7 +2,7 @@
 use Rattle.std.proofs.Common.{◌≡◌, ℕ, List, Option, Some, None, Result, Ok, Err, sym, ap, subst, ◌∙◌}
 use Rattle.ao_base.specs.declared.address.Pair.{Pair}
 use Rattle.book_keys.specs.Rows.{Row, Table}
-use Rattle.book_keys.specs.Tables.{AddedAs, Added, Withdrawn, adding, withdrawn}
+use Rattle.book_keys.specs.Tables.{AddedAs, Addition, Withdrawn, adding, withdrawn}
 use Rattle.book_keys.specs.declared.new_row.AddRefusal.{AddRefusal}
 use Rattle.book_keys.specs.declared.new_row.AddRefusal.TheVariants as refused
 use Rattle.book_keys.specs.declared.new_row.NoRow.{NoRow}
@@ -27,7 +27,7 @@ WithdrawingFits = (rows new : List Row) (n : ℕ) (e : Endpoint) → withdrawn r
 same_fits : (before after : Table) (h : Holding) → FitsAll before.rows h → after ≡ before → FitsAll after.rows h
 same_fits before after h fit same = subst (λ (t : Table). FitsAll t.rows h) (sym same) fit
 
-pub added_fits : (before after : Table) (h : Holding) (r : Row) (result : Result ℕ AddRefusal) → AddingFits → FitsAll before.rows h → Added before after result (adding before.rows r) → FitsAll after.rows h
+pub added_fits : (before after : Table) (h : Holding) (r : Row) (result : Result ℕ AddRefusal) → AddingFits → FitsAll before.rows h → Addition before after result (adding before.rows r) → FitsAll after.rows h
 added_fits before after h r (Ok n) law fit added = subst (λ (t : Table). FitsAll t.rows h) (sym added.2) (λ q e is. law before.rows added.0 r n e added.1 (fit q e is))
 added_fits before after h r (Err refused.Memory) law fit added = same_fits before after h fit added
 added_fits before after h r (Err refused.TooMany) law fit added = same_fits before after h fit added.1
@@ -55,11 +55,11 @@ module _ (k after : Ends) (rows : List Row) (n : NodeState) (S : Stands k rows n
   same_stands : after.table ≡ k.table → after.node ≡ k.node → after.clock ≡ k.clock → Stands after rows n
   same_stands table node clock = under rows (ap (λ (t : Table). t.rows) table ∙ S.rows_are) node clock (λ e f. f)
 
-  pub added_stands : (r : Row) (result : Result ℕ AddRefusal) → AddingFits → after.node ≡ k.node → after.clock ≡ k.clock → Added k.table after.table result (adding k.table.rows r)
+  pub added_stands : (r : Row) (result : Result ℕ AddRefusal) → AddingFits → after.node ≡ k.node → after.clock ≡ k.clock → Addition k.table after.table result (adding k.table.rows r)
       → RowAdded after n rows result (adding rows r)
-  added_stands r result law node clock added = at result (subst (λ (rs : List Row). Added k.table after.table result (adding rs r)) S.rows_are added)
+  added_stands r result law node clock added = at result (subst (λ (rs : List Row). Addition k.table after.table result (adding rs r)) S.rows_are added)
     where
-      at : (u : Result ℕ AddRefusal) → Added k.table after.table u (adding rows r) → RowAdded after n rows u (adding rows r)
+      at : (u : Result ℕ AddRefusal) → Addition k.table after.table u (adding rows r) → RowAdded after n rows u (adding rows r)
       at (Ok m) a = (a.0, a.1, under a.0 (ap (λ (t : Table). t.rows) a.2) node clock (λ e f. law rows a.0 r m e a.1 f))
       at (Err refused.Memory) a = same_stands a node clock
       at (Err refused.TooMany) a = (a.0, same_stands a.1 node clock)

@@ -18,7 +18,7 @@ use Rattle.tcp_endpoint.specs.declared.giving.GiveAnswer.TheVariants as given
 use Rattle.tcp_endpoint.specs.Answers.{give_answer, offered}
 use Rattle.tcp_endpoint.specs.Emitting.{IsMade, Emits as EmitsAs, Resends as ResendsAs, state_after}
 use Rattle.tcp_endpoint.specs.Ends.{Stands}
-use Rattle.book_stack.specs.Watches.{awaits, front_of}
+use Rattle.book_stack.specs.Watches.{awaits, end_front}
 use Rattle.stack_ends.specs.declared.speaking.Spoken.{Spoken}
 use Rattle.stack_ends.specs.Calling.{given_as}
 use Rattle.stack_ends.specs.Saying.{Speaks, said, said_again}
@@ -41,23 +41,23 @@ pub open_full : (s : EndState) (piece : List ℕ) (r : GiveAnswer) → r ≡ giv
 open_full s piece r e is = open_if (not (gives s)) (nat_lt (room s) (length piece)) r e is
 
 given_if : (b full : Bool) (piece : List ℕ) (s : EndState) (r : GiveAnswer) → r ≡ (if b then given.Closed else (if full then given.Full else given.Ok))
-    → (if b then node.called s node.HasClosed else (if full then node.called s node.Full else node.called (give piece s) node.Done)).outcome ≡ given_as r
+    → (if b then node.called s node.ConnectionClosing else (if full then node.called s node.NoRoom else node.called (give piece s) node.Performed)).outcome ≡ given_as r
 given_if true full piece s r e = rw e refl
 given_if false true piece s r e = rw e refl
 given_if false false piece s r e = rw e refl
 
 stood_if : (b full : Bool) (piece : List ℕ) (s : EndState) (e : Endpoint) → Stands e (if b then s else (if full then s else give piece s))
-    → Stands e (if b then node.called s node.HasClosed else (if full then node.called s node.Full else node.called (give piece s) node.Done)).state
+    → Stands e (if b then node.called s node.ConnectionClosing else (if full then node.called s node.NoRoom else node.called (give piece s) node.Performed)).state
 stood_if true full piece s e S = S
 stood_if false true piece s e S = S
 stood_if false false piece s e S = S
 
 -- the end stands for what a node makes of it where a piece was given
-pub given_stands : (s : EndState) (piece : List ℕ) (e : Endpoint) → Stands e (offered piece s) → Stands e (states.offered node.called node.HasClosed node.Full node.Done piece s).state
+pub given_stands : (s : EndState) (piece : List ℕ) (e : Endpoint) → Stands e (offered piece s) → Stands e (states.offered node.called node.ConnectionClosing node.NoRoom node.Performed piece s).state
 given_stands s piece e S = stood_if (not (gives s)) (nat_lt (room s) (length piece)) piece s e S
 
 -- what a node answers where a piece was given
-pub given_called : (s : EndState) (piece : List ℕ) (r : GiveAnswer) → r ≡ give_answer s piece → (states.offered node.called node.HasClosed node.Full node.Done piece s).outcome ≡ given_as r
+pub given_called : (s : EndState) (piece : List ℕ) (r : GiveAnswer) → r ≡ give_answer s piece → (states.offered node.called node.ConnectionClosing node.NoRoom node.Performed piece s).outcome ≡ given_as r
 given_called s piece r e = given_if (not (gives s)) (nat_lt (room s) (length piece)) piece s r e
 
 -- ---- what is told
@@ -68,13 +68,13 @@ bytes_of before after m x h =
 
 module _ (s : EndState) (e f : Endpoint) (before after : List ℕ) (b : Emitted) (told : Spoken) where
   pub speaks_of : (a : Emission) → EmitsAs s e before after a b → (Stands e (state_after s b) → Stands f (state_after s b))
-      → told ≡ record { says = said a; change = record { before = front_of s; after = front_of (state_after s b) }; waits = awaits (state_after s b) }
-      → Speaks f after told s (node.made_called s node.Idle b)
+      → told ≡ record { says = said a; change = record { before = end_front s; after = end_front (state_after s b) }; waits = awaits (state_after s b) }
+      → Speaks f after told s (node.made_called s node.NothingToSend b)
   speaks_of a h next is = at a b h next is
     where
       at : (x : Emission) (y : Emitted) → EmitsAs s e before after x y → (Stands e (state_after s y) → Stands f (state_after s y))
-          → told ≡ record { says = said x; change = record { before = front_of s; after = front_of (state_after s y) }; waits = awaits (state_after s y) }
-          → Speaks f after told s (node.made_called s node.Idle y)
+          → told ≡ record { says = said x; change = record { before = end_front s; after = end_front (state_after s y) }; waits = awaits (state_after s y) }
+          → Speaks f after told s (node.made_called s node.NothingToSend y)
       at emissions.Idle Quiet i n q = rw q (record { stands = n i.stands; says_as = tt; change = refl; waits = refl })
       at emissions.Idle NoKey i n q = absurd i.answer_is
       at emissions.Idle (Emits x) i n q = absurd i.answer_is
@@ -86,13 +86,13 @@ module _ (s : EndState) (e f : Endpoint) (before after : List ℕ) (b : Emitted)
       at (emissions.Segment m) (Emits x) i n q = rw q (record { stands = n i.stands; says_as = bytes_of before after m x i.answer_is; change = refl; waits = refl })
 
   pub repeats_of : (a : Resent) → ResendsAs s e before after a b → (Stands e (state_after s b) → Stands f (state_after s b))
-      → told ≡ record { says = said_again a; change = record { before = front_of s; after = front_of (state_after s b) }; waits = awaits (state_after s b) }
-      → Speaks f after told s (node.made_called s node.Nothing b)
+      → told ≡ record { says = said_again a; change = record { before = end_front s; after = end_front (state_after s b) }; waits = awaits (state_after s b) }
+      → Speaks f after told s (node.made_called s node.NothingToResend b)
   repeats_of a h next is = at a b h next is
     where
       at : (x : Resent) (y : Emitted) → ResendsAs s e before after x y → (Stands e (state_after s y) → Stands f (state_after s y))
-          → told ≡ record { says = said_again x; change = record { before = front_of s; after = front_of (state_after s y) }; waits = awaits (state_after s y) }
-          → Speaks f after told s (node.made_called s node.Nothing y)
+          → told ≡ record { says = said_again x; change = record { before = end_front s; after = end_front (state_after s y) }; waits = awaits (state_after s y) }
+          → Speaks f after told s (node.made_called s node.NothingToResend y)
       at resents.Nothing Quiet i n q = rw q (record { stands = n i.stands; says_as = tt; change = refl; waits = refl })
       at resents.Nothing NoKey i n q = absurd i.answer_is
       at resents.Nothing (Emits x) i n q = absurd i.answer_is

@@ -43,9 +43,9 @@ CallsAt k q _ does _ = ⊥
 
 -- whether a piece was taken, as a node answers (own)
 abbrev pub given_as : GiveAnswer → runs.NodeOutcome
-given_as given.Ok = runs.Done
-given_as given.Full = runs.Full
-given_as given.Closed = runs.HasClosed
+given_as given.Ok = runs.Performed
+given_as given.Full = runs.NoRoom
+given_as given.Closed = runs.ConnectionClosing
 
 -- a piece was given (own)
 abbrev pub Gives : GiveAnswer → EndState → runs.Called → Type 0
@@ -54,13 +54,13 @@ Gives answer s c = c.outcome ≡ given_as answer
 -- the bytes that were taken stand in front of the buffer, and it is told whether they were the last (own)
 pub record Takes (before after : List ℕ) (taken : Taken) (s : EndState) (c : runs.Called) : Type 0 where
   pub bytes : List ℕ
-  pub outcome : c.outcome ≡ runs.Took bytes taken.at_end
+  pub outcome : c.outcome ≡ runs.Delivered bytes taken.at_end
   pub count : taken.count ≡ length bytes
   pub filled : after ≡ bytes ++ drop taken.count before
 
 -- it was done (own)
 abbrev pub IsDone : ⊤ → EndState → runs.Called → Type 0
-IsDone done s c = c.outcome ≡ runs.Done
+IsDone done s c = c.outcome ≡ runs.Performed
 
 -- what is told of an end that was asked for a segment (own)
 pub record Tells (room : List ℕ) (spoken : Spoken) (s : EndState) (c : runs.Called) : Type 0 where

@@ -5,7 +5,8 @@ use Rattle.book_segments.specs.Segments.{Segment, Reading, Read, Bad as Unread}
 use Rattle.book_keys.specs.Rows.{Row}
 use Rattle.book_endpoint.specs.States.{EndState}
 use Rattle.book_endpoint.specs.Arrivals.{arrive}
-use Rattle.book_cmd_node.specs.NodeRuns.{NodeState, Answered, after_call, called, held_end, pair_reached}
+use Rattle.book_cmd_node.specs.NodeRuns.{NodeState, DatagramAnswered, after_call, called, held_end}
+use Rattle.book_segments.specs.Segments.{pair_reached}
 use Rattle.ao_node.specs.declared.answer.NodeArrival.{NodeArrival}
 use Rattle.ao_node.specs.declared.answer.NodeArrival.TheVariants as answers
 use Rattle.tcp_endpoint.specs.declared.arrival.Arrived.{Arrived}
@@ -17,7 +18,7 @@ abbrev pub MeetsPair : Ends → List Row → NodeState → Segment → Pair → 
 MeetsPair k rows n d pair told None = (told ≡ answers.NoConnection) × Stands k rows n
 MeetsPair k rows n d pair told (Some s) = let a = arrive rows pair n.clock s (Read d) in
     (arrived : Arrived) × (told ≡ answers.At pair arrived) × (arrived.arrival ≡ a.answer)
-    × Stands k rows (after_call n pair (called a.state (Answered a.answer))).node
+    × Stands k rows (after_call n pair (called a.state (DatagramAnswered a.answer))).node
 
 -- a segment comes to the end of its pair (own)
 abbrev pub MeetsRead : Ends → List Row → NodeState → Segment → NodeArrival → Option EndState → Type 0

@@ -29,10 +29,10 @@ said_again resents.Nothing = says.Nothing
 
 -- what is said is that answer, and the segment stands in front of the buffer (own)
 abbrev pub SaysAs : List ℕ → Says → node.NodeOutcome → Type 0
-SaysAs room (says.Segment n) (node.Sent x) = take n room ≡ spell x.segment
-SaysAs room says.NoKey node.WithoutKey = ⊤
-SaysAs room says.Nothing node.Idle = ⊤
-SaysAs room says.Nothing node.Nothing = ⊤
+SaysAs room (says.Segment n) (node.Transmitted x) = take n room ≡ spell x.segment
+SaysAs room says.NoKey node.NoUsableKey = ⊤
+SaysAs room says.Nothing node.NothingToSend = ⊤
+SaysAs room says.Nothing node.NothingToResend = ⊤
 SaysAs room _ _ = ⊥
 
 -- the end stands for the state after it was asked, and what is told of it is so (own)

@@ -6,7 +6,7 @@ ghost use Rattle.book_endpoint.specs.Emissions.{unsent};
 ghost use Rattle.book_cmd_node.specs.declared.node.Act.TheVariants as act;
 ghost use Rattle.node_run.specs.Acting.{act_on};
 ghost use Rattle.tcp_endpoint.specs.Ends.{Stands, FitsEnd};
-ghost use Rattle.book_stack.specs.Watches.{awaits, front_of};
+ghost use Rattle.book_stack.specs.Watches.{awaits, end_front};
 ghost use Rattle.stack_ends.specs.Saying.{Speaks, said, said_again};
 
 use ao_base::Steps;
@@ -38,7 +38,7 @@ pub struct Spoken {
 
 /// Where an end stands.
 pub(crate) fn front_of(end: &Endpoint) -> Front
-    ensures { (s : EndState) → Stands end.now s → result ≡ front_of s }
+    ensures { (s : EndState) → Stands end.now s → result ≡ end_front s }
 {
     Front {
         phase: end.phase(),

@@ -8,7 +8,7 @@ use Rattle.stack_timers.specs.declared.watch.Watch.{Watch}
 use Rattle.stack_timers.specs.declared.key.Key.{Key}
 use Rattle.stack_timers.specs.Keys.{by_key, key_of}
 use Rattle.stack_timers.specs.Watching.{seen}
-use Rattle.book_stack.specs.Watches.{new_watch}
+use Rattle.book_stack.specs.Watches.{new_connection_watch}
 
 -- timers by the keys of their pairs (own)
 pub record Timing : Type 0 where
@@ -21,7 +21,7 @@ watch_at t pair = lookup (is_at (by_key (key_of pair))) t.entries
 -- the pair has a new timer from now on, and all others stay (own)
 pub record KeepsNew (before after : Timing) (pair : Pair) : Type 0 where
   pub watch : Watch
-  pub is_new : seen watch ≡ new_watch
+  pub is_new : seen watch ≡ new_connection_watch
   pub finds : (q : Pair)
       → watch_at after q ≡ (if same_pair pair q then Some watch else watch_at before q)
 

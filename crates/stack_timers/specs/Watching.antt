@@ -8,7 +8,7 @@ abbrev pub latest : ℕ
 latest = 253402300799999
 
 -- the timer of a connection, as the definitions have it (own)
-abbrev pub seen : Watch → book.Watch
+abbrev pub seen : Watch → book.ConnectionWatch
 seen w = record {
   timer = w.timer;
   deadline = w.deadline;

@@ -61,7 +61,7 @@ pub fn is_heard(arrival: Arrival) -> bool
 impl Watch {
     /// The timer of a new connection: it doesn't run, and nothing is timed.
     pub fn new() -> Watch
-        ensures { seen result ≡ book.new_watch }
+        ensures { seen result ≡ book.new_connection_watch }
     {
         Watch {
             timer: Rto::new(),
@@ -82,14 +82,14 @@ impl Watch {
     /// The timer runs anew, its value from now on.
     fn start(&mut self, now: u64)
         requires { now ≤ latest }
-        ensures { seen self.new ≡ book.started now (seen self.old) }
+        ensures { seen self.new ≡ book.timer_started now (seen self.old) }
     {
         self.deadline = Some(now + u64::from(self.timer.value()));
     }
 
     /// The timer stops, and nothing is timed.
     pub fn stop(&mut self)
-        ensures { seen self.new ≡ book.stopped (seen self.old) }
+        ensures { seen self.new ≡ book.timer_stopped (seen self.old) }
     {
         self.deadline = None;
         self.timed = None;
@@ -97,7 +97,7 @@ impl Watch {
 
     /// Takes a sample, where what is timed was acknowledged (RFC 6298, section 3).
     fn sample(&mut self, now: u64, front: Front)
-        ensures { seen self.new ≡ book.sampled_by now front (seen self.old) (seen self.old).timed }
+        ensures { seen self.new ≡ book.after_sample now front (seen self.old) (seen self.old).timed }
     {
         match self.timed {
             None => {}
@@ -114,7 +114,7 @@ impl Watch {
     /// New data was acknowledged (RFC 6298, sections 5.2 and 5.3).
     fn acknowledge(&mut self, now: u64, front: Front)
         requires { now ≤ latest }
-        ensures { seen self.new ≡ book.acknowledged now front (seen self.old) }
+        ensures { seen self.new ≡ book.after_acknowledgement now front (seen self.old) }
     {
         self.sample(now, front);
         if front.una < front.next {
@@ -126,7 +126,7 @@ impl Watch {
 
     /// Data begins to flow after a SYN that was sent again (RFC 6298, section 5.7).
     fn open(&mut self, change: Change)
-        ensures { seen self.new ≡ book.opened change (seen self.old) }
+        ensures { seen self.new ≡ book.after_handshake change (seen self.old) }
     {
         if self.syn_again && is_opening(change.before.phase) && !is_opening(change.after.phase) {
             self.timer.slow();
@@ -174,7 +174,7 @@ impl Watch {
     /// A segment was sent for the first time (RFC 6298, sections 3 and 5.1).
     pub fn send(&mut self, now: u64, change: Change)
         requires { now ≤ latest }
-        ensures { seen self.new ≡ book.sent now change (seen self.old) }
+        ensures { seen self.new ≡ book.after_sending now change (seen self.old) }
     {
         if change.before.next < change.after.next {
             self.run(now);

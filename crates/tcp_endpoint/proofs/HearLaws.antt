@@ -43,7 +43,7 @@ kept_map s d n = keep s.received n d.payload s.expected (below_limit s.fin (s.ex
 -- a FIN is recorded
 abbrev pub recorded : states.EndState → Segment → ℕ → Bool
 recorded s d n =
-    has FIN d && book.within (n + length d.payload) s.expected (s.expected + states.window s)
+    has FIN d && book.in_range (n + length d.payload) s.expected (s.expected + states.window s)
     && (runs (kept_map s d n) false (n + length d.payload) (s.expected + states.window s - (n + length d.payload)) == 0)
 
 -- the state before the FIN is passed
@@ -111,14 +111,14 @@ bytes_kept e s h open_too d n x fin q k shows =
     let same = grown_same e.reassembly s.received n s.expected (states.window s) d.payload fin s.fin b.same b.x b.w q in
     record { at = λ p le. shows.bytes p ∙ same.at p le }
 
-test_move : (fin finish : Bool) (f x y w v : ℕ) (kept : Bool) → fin ≡ finish → x ≡ y → w ≡ v → (fin && book.within f x (x + w) && not kept) ≡ (finish && book.within f y (y + v) && not kept)
+test_move : (fin finish : Bool) (f x y w v : ℕ) (kept : Bool) → fin ≡ finish → x ≡ y → w ≡ v → (fin && book.in_range f x (x + w) && not kept) ≡ (finish && book.in_range f y (y + v) && not kept)
 test_move fin finish f x y w v kept p q r = rw (p, q, r) refl
 
 pub recorded_is : (e : Endpoint) (s : states.EndState) → Stands e s → states.hears e.phase ≡ true → (d : Segment) (n missing : ℕ) (fin : Option ℕ) → fin ≡ s.fin → (k : Kept) → IsKept e.reassembly → IsKept k
     → Shows k e.reassembly.from missing (grown e.reassembly n d.payload fin)
     → (kept flag records : Bool) (x w : ℕ) → (IsTrue kept ↔ ((p : ℕ) × (n + length d.payload ≤ p) × IsSome (byte_at k p)))
     → flag ≡ has FIN d → x ≡ e.reassembly.expected → w ≡ window e.reassembly
-    → records ≡ (flag && book.within (n + length d.payload) x (x + w) && not kept)
+    → records ≡ (flag && book.in_range (n + length d.payload) x (x + w) && not kept)
     → records ≡ recorded s d n
 recorded_is e s h open_too d n missing fin q k old new shows kept flag records x w there a b c r =
     let before = before_is e s h open_too in
@@ -273,13 +273,13 @@ never : (b : Bool) → (true && b && not true) ≡ true → ⊥
 never true e = absurd (cc)
 never false e = absurd (cc)
 
-recorded_says : (flag kept records : Bool) (at x w : ℕ) → records ≡ (flag && book.within at x (x + w) && not kept) → records ≡ true → (flag ≡ true) × (x ≤ at) × (kept ≡ false)
-recorded_says true false records at x w e r = let t : book.within at x (x + w) ≡ true = within_of (book.within at x (x + w)) (sym e ∙ r) in (refl, grind (arith, nat_tests, t), refl)
-recorded_says true true records at x w e r = let t = never (book.within at x (x + w)) (sym e ∙ r) in absurd t
+recorded_says : (flag kept records : Bool) (at x w : ℕ) → records ≡ (flag && book.in_range at x (x + w) && not kept) → records ≡ true → (flag ≡ true) × (x ≤ at) × (kept ≡ false)
+recorded_says true false records at x w e r = let t : book.in_range at x (x + w) ≡ true = within_of (book.in_range at x (x + w)) (sym e ∙ r) in (refl, grind (arith, nat_tests, t), refl)
+recorded_says true true records at x w e r = let t = never (book.in_range at x (x + w)) (sym e ∙ r) in absurd t
 recorded_says false kept records at x w e r = absurd (cc)
 
 pub rec_is : (k new : Kept) (d : Segment) (n : ℕ) (kept flag records : Bool) (x w : ℕ) → (((p : ℕ) × (n + length d.payload ≤ p) × IsSome (byte_at new p)) → IsTrue kept) → flag ≡ has FIN d → x ≡ k.expected
-    → (has FIN d ≡ true → n + length d.payload < 2 ^ 63) → records ≡ (flag && book.within (n + length d.payload) x (x + w) && not kept)
+    → (has FIN d ≡ true → n + length d.payload < 2 ^ 63) → records ≡ (flag && book.in_range (n + length d.payload) x (x + w) && not kept)
     → records ≡ true → (k.expected ≤ n + length d.payload) × (n + length d.payload < 2 ^ 63) × ((z : ℕ) → n + length d.payload ≤ z → byte_at new z ≡ None)
 rec_is k new d n kept flag records x w back f e last test r =
     let says = recorded_says flag kept records (n + length d.payload) x w test r in

@@ -36,30 +36,30 @@ numbers_found r d ao c (Some n) =
     choose (Numbers (Some n)) (nat_lt 9223372036854775808 (n + segment_length d)) (Err refusals.Range) (steps.judge_mac ao (v.found_with r d ao c n)) (λ u. tt)
     (λ u. choose (Numbers (Some n)) (same_bytes ao.mac (v.mac_of (v.found_with r d ao c n))) (Ok (v.found_with r d ao c n)) (Err refusals.BadMac) (λ w. refl) (λ w. tt))
 
-numbers_context : (r : Numbered) (d : Segment) (ao : Ao) (expected : Option ℕ) (c : Option (List ℕ)) → Numbers (v.number_of d expected) (steps.judge_context r d ao expected c)
+numbers_context : (r : Numbered) (d : Segment) (ao : Ao) (expected : Option ℕ) (c : Option (List ℕ)) → Numbers (v.segment_number d expected) (steps.judge_context r d ao expected c)
 numbers_context r d ao expected None = tt
 numbers_context r d ao expected (Some c) =
-    choose (Numbers (v.number_of d expected)) (not (has SYN d) && not (is_some expected)) (Err refusals.NoContext) (steps.judge_number r d ao c (v.number_of d expected)) (λ t. tt)
-    (λ t. numbers_found r d ao c (v.number_of d expected))
+    choose (Numbers (v.segment_number d expected)) (not (has SYN d) && not (is_some expected)) (Err refusals.NoContext) (steps.judge_number r d ao c (v.segment_number d expected)) (λ t. tt)
+    (λ t. numbers_found r d ao c (v.segment_number d expected))
 
 numbers_row : (rows : List Row) (pair : Pair) (d : Segment) (ao : Ao) (expected : Option ℕ) (c : Option (List ℕ)) (r : Option Numbered)
-    → Numbers (v.number_of d expected) (steps.judge_row rows pair d ao expected c r)
+    → Numbers (v.segment_number d expected) (steps.judge_row rows pair d ao expected c r)
 numbers_row rows pair d ao expected c None =
-    choose (Numbers (v.number_of d expected)) (has_id rows pair ao.key_id) (Err refusals.Expired) (Err refusals.NoTuple) (λ t. tt) (λ t. tt)
+    choose (Numbers (v.segment_number d expected)) (has_id rows pair ao.key_id) (Err refusals.Expired) (Err refusals.NoTuple) (λ t. tt) (λ t. tt)
 numbers_row rows pair d ao expected c (Some r) =
-    choose (Numbers (v.number_of d expected)) (not (length ao.mac == mac_length_of r.row.algorithm)) (Err refusals.MacLength) (steps.judge_context r d ao expected c) (λ t. tt)
+    choose (Numbers (v.segment_number d expected)) (not (length ao.mac == mac_length_of r.row.algorithm)) (Err refusals.MacLength) (steps.judge_context r d ao expected c) (λ t. tt)
     (λ t. numbers_context r d ao expected c)
 
 numbers_ao : (rows : List Row) (pair : Pair) (now : ℕ) (d : Segment) (expected : Option ℕ) (c : Option (List ℕ)) (f : AoFound)
-    → Numbers (v.number_of d expected) (steps.judge_ao rows pair now expected d c f)
+    → Numbers (v.segment_number d expected) (steps.judge_ao rows pair now expected d c f)
 numbers_ao rows pair now d expected c Absent = tt
 numbers_ao rows pair now d expected c Two = tt
 numbers_ao rows pair now d expected c FoundMd5 = tt
 numbers_ao rows pair now d expected c (One ao) = numbers_row rows pair d ao expected c (accept_row rows pair ao.key_id now)
 
-numbers : (rows : List Row) (pair : Pair) (own : ℕ) (peer expected : Option ℕ) (now : ℕ) (d : Segment) → Numbers (v.number_of d expected) (v.judge rows pair (record { own_isn = own; peer_isn = peer; expected = expected }) now d)
+numbers : (rows : List Row) (pair : Pair) (own : ℕ) (peer expected : Option ℕ) (now : ℕ) (d : Segment) → Numbers (v.segment_number d expected) (v.judge rows pair (record { own_isn = own; peer_isn = peer; expected = expected }) now d)
 numbers rows pair own peer expected now d =
-    subst (Numbers (v.number_of d expected)) (sym (steps.judge_by_steps rows pair (record { own_isn = own; peer_isn = peer; expected = expected }) now d))
+    subst (Numbers (v.segment_number d expected)) (sym (steps.judge_by_steps rows pair (record { own_isn = own; peer_isn = peer; expected = expected }) now d))
     (numbers_ao rows pair now d expected (context_of d peer (Some own)) (find_ao d.area))
 
 some_is : (a b : ℕ) → Some a ≡ Some b → b ≡ a
@@ -67,7 +67,7 @@ some_is a b e = cc
 
 -- before the peer is known a segment's number is its sequence
 pub number_first : (rows : List Row) (pair : Pair) (own : ℕ) (peer : Option ℕ) (now : ℕ) (d : Segment) (p : v.Finding) → v.judge rows pair (record { own_isn = own; peer_isn = peer; expected = None }) now d ≡ Ok p → p.number ≡ d.sequence
-number_first rows pair own peer now d p e = some_is d.sequence p.number (subst (Numbers (v.number_of d None)) e (numbers rows pair own peer None now d))
+number_first rows pair own peer now d p e = some_is d.sequence p.number (subst (Numbers (v.segment_number d None)) e (numbers rows pair own peer None now d))
 
 second_of : {X : Type 0} (b : Bool) (x y z : X) → b ≡ false → (if b then x else y) ≡ z → y ≡ z
 second_of true x y z t e = absurd (cc)
@@ -77,7 +77,7 @@ second_of false x y z t e = e
 pub number_near : (rows : List Row) (pair : Pair) (own : ℕ) (peer : Option ℕ) (x now : ℕ) (d : Segment) (p : v.Finding) → v.judge rows pair (record { own_isn = own; peer_isn = peer; expected = Some x }) now d ≡ Ok p → has SYN d ≡ false
     → meant d.sequence x ≡ Some p.number
 number_near rows pair own peer x now d p e syn =
-    second_of (has SYN d) (Some d.sequence) (meant d.sequence x) (Some p.number) syn (subst (Numbers (v.number_of d (Some x))) e (numbers rows pair own peer (Some x) now d))
+    second_of (has SYN d) (Some d.sequence) (meant d.sequence x) (Some p.number) syn (subst (Numbers (v.segment_number d (Some x))) e (numbers rows pair own peer (Some x) now d))
 
 -- ---- sockets
 

@@ -89,7 +89,7 @@ fn phase_past(passes: bool, phase: Phase) -> Phase
 /// past it.
 fn is_heard(fin: bool, at: u64, expected: u64, window: u64, kept: bool) -> bool
     requires { expected + window < 2 ^ 64 }
-    ensures { result ≡ (fin && book.within at expected (expected + window) && not kept) }
+    ensures { result ≡ (fin && book.in_range at expected (expected + window) && not kept) }
 {
     fin && expected <= at && at < expected + window && !kept
 }

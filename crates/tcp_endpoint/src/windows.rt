@@ -20,7 +20,7 @@ fn length_of(datagram: &Datagram<'_>) -> u64
 
 /// Whether a number is from `low` to below `high`.
 fn is_within(number: u64, low: u64, high: u64) -> bool
-    ensures { result ≡ book.within number low high }
+    ensures { result ≡ book.in_range number low high }
 {
     low <= number && number < high
 }
@@ -57,7 +57,7 @@ fn is_expected(sequence: u32, expected: Counter) -> bool
 /// ring decides it.
 fn is_in_window(sequence: u32, ahead: u32, expected: Counter, window: u16) -> bool
     requires { ahead ≤ 65537 }
-    ensures { (n : ℕ) → meant sequence (value_of expected) ≡ Some n → result ≡ book.within (n + ahead) (value_of expected) (value_of expected + window) }
+    ensures { (n : ℕ) → meant sequence (value_of expected) ≡ Some n → result ≡ book.in_range (n + ahead) (value_of expected) (value_of expected + window) }
 {
     in_window(
         sequence.wrapping_add(ahead),

@@ -5,17 +5,17 @@ use Rattle.ao_base.specs.Lines.{words_of}
 use Rattle.book_lines.specs.declared.text_fault.TextFault.{TextFault}
 use Rattle.book_lines.specs.declared.text_fault.TextFault.TheVariants as fault
 use Rattle.book_lines.specs.Lines.{Line, saying_from, says_something}
-use Rattle.book_lines.specs.Said.{Said, numbered, said_by}
+use Rattle.book_lines.specs.Said.{Said, at_number, said_by}
 use Rattle.ao_base.specs.Results.{◌>>=◌}
 use Rattle.text_lines.specs.declared.refusal.Refusal.{Refusal}
 use Rattle.text_lines.specs.declared.refusal.Refusal.TheVariants as refusal
 use Rattle.text_lines.specs.Readings.{Fails, Tells, fault_at}
 
 -- a line that isn't read fails as it says, at its number
-pub fails_at : {A : Type 0} (n : ℕ) (r : Refusal) (said : Result A LineKind) → Tells (Err r) said → Fails (fault_at n r) (numbered n said)
+pub fails_at : {A : Type 0} (n : ℕ) (r : Refusal) (said : Result A LineKind) → Tells (Err r) said → Fails (fault_at n r) (at_number n said)
 fails_at n refusal.Memory said h = tt
 fails_at n (refusal.Kind kind) (Ok x) h = absurd (cc h)
-fails_at n (refusal.Kind kind) (Err e) h = ap (λ (s : Result _ LineKind). numbered n s) h
+fails_at n (refusal.Kind kind) (Err e) h = ap (λ (s : Result _ LineKind). at_number n s) h
 
 pub same_problem : {A : Type 0} (e f : TextFault) → ◌≡◌ {A = Result A TextFault} (Err e) (Err f) → e ≡ f
 same_problem e f h = grind arith
@@ -29,7 +29,7 @@ with_others_few (Ok x) n (Ok o) few more h = absurd (cc)
 with_others_few (Ok x) n (Err e) few more h = more (same_fault e fault.TooManyLines h)
 with_others_few (Err e) n others few more h = few (same_fault e fault.TooManyLines h)
 
-numbered_few : {A : Type 0} (n : ℕ) (r : Result A LineKind) → numbered n r ≡ Err fault.TooManyLines → ⊥
+numbered_few : {A : Type 0} (n : ℕ) (r : Result A LineKind) → at_number n r ≡ Err fault.TooManyLines → ⊥
 numbered_few n (Ok x) h = absurd (cc)
 numbered_few n (Err kind) h = absurd (cc)
 
@@ -37,7 +37,7 @@ numbered_few n (Err kind) h = absurd (cc)
 pub said_few : {A : Type 0} (meaning : List (List ℕ) → Result A LineKind) (ls : List Line) → said_by meaning ls ≡ Err fault.TooManyLines → ⊥
 unfolding said_by
 said_few meaning [] h = absurd (cc)
-said_few meaning (l ∷ ls) h = with_others_few (numbered l.number (meaning l.words)) l.number (said_by meaning ls) (numbered_few l.number (meaning l.words)) (said_few meaning ls) h
+said_few meaning (l ∷ ls) h = with_others_few (at_number l.number (meaning l.words)) l.number (said_by meaning ls) (numbered_few l.number (meaning l.words)) (said_few meaning ls) h
 
 one_says : (b : Bool) (l : Line) (ls : List Line) (m : ℕ) → length ls ≤ m → length (if b then l ∷ ls else ls) ≤ suc m
 one_says true l ls m h = omega arith

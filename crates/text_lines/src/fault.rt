@@ -1,6 +1,6 @@
 //! The text of a fault.
 ghost use Rattle.std.specs.Prelude.{◌≡◌, ◌++◌, ◌∷◌, [], OnOk, IfOk, codes, decimal};
-ghost use Rattle.book_lines.specs.Faults.{fault_text, kind_text};
+ghost use Rattle.book_lines.specs.Faults.{input_fault_text, kind_text};
 ghost use Rattle.book_lines.specs.Texts.{line_text, spaced};
 
 use crate::writing::{push_newline, push_number, push_text};
@@ -37,7 +37,7 @@ fn push_line(out: &mut Vec<u8>, number: u32, kind: LineKind) -> Result<(), Alloc
 }
 
 fn push_fault(out: &mut Vec<u8>, fault: &TextFault) -> Result<(), AllocError>
-    ensures { OnOk result (out.new.items ≡ out.old.items ++ fault_text fault.now) }
+    ensures { OnOk result (out.new.items ≡ out.old.items ++ input_fault_text fault.now) }
 {
     match fault {
         TextFault::Memory => out.extend_from_slice(b"memory\n"),
@@ -48,7 +48,7 @@ fn push_fault(out: &mut Vec<u8>, fault: &TextFault) -> Result<(), AllocError>
 
 /// The text that says why an input of lines isn't read.
 pub fn print_fault(alloc: Global, fault: &TextFault) -> Result<Bytes, AllocError>
-    ensures { IfOk result (λ text. text ≡ fault_text fault.now) }
+    ensures { IfOk result (λ text. text ≡ input_fault_text fault.now) }
 {
     let mut text = Vec::new(alloc);
     push_fault(&mut text, fault)?;

@@ -1,16 +1,16 @@
 use Rattle.std.proofs.Common.{◌≡◌, ℕ, ◌+◌, ◌<◌, List, [], ◌++◌, length, take, ap, ◌∙◌, arith}
 use Rattle.std.proofs.lemmas.List.{length-append, length-take}
 use Rattle.ao_base.specs.InMemory.{TakingState, taking_side}
-use Rattle.ao_base.specs.Outside.{Side, Took, Rose}
+use Rattle.ao_base.specs.Outside.{Side, WasWritten, Rose}
 use Rattle.ao_base.proofs.InMemoryLaws.{sink_stays}
 use Rattle.ao_base.proofs.Sides.{rose_after, took_more}
 use Rattle.base_tests.proofs.of_ao_base_memory.both_written.Goals as goal
 
 -- a new sink, with room for more than two writes
 never : (s : TakingState) (b c : Side) (first second : List ℕ) (n m : ℕ) → s.held ≡ [] → s.failing ≡ [] → s.faults ≡ 0 →
-    Took (take n first) (taking_side s) b → Took (take m second) b c → length first + length second < s.room → Rose b c → ⊥
+    WasWritten (take n first) (taking_side s) b → WasWritten (take m second) b c → length first + length second < s.room → Rose b c → ⊥
 never s b c first second n m empty none no_fault x y less rose =
-    let both : Took (take n first ++ take m second) (taking_side s) c = took_more (take n first) (take m second) (taking_side s) b c x y in
+    let both : WasWritten (take n first ++ take m second) (taking_side s) c = took_more (take n first) (take m second) (taking_side s) b c x y in
     let size = length-append (take n first) (take m second) in
     let one = length-take n first in
     let two = length-take m second in

@@ -1,7 +1,7 @@
 use Rattle.std.proofs.Common.{◌≡◌, [], Some, None, refl, ap, subst, ◌∙◌}
 use Rattle.ao_base.specs.declared.address.Pair.{Pair}
 use Rattle.ao_base.specs.declared.address.Socket.{Socket}
-use Rattle.book_cmd_node.specs.NodeRuns.{pair_reached}
+use Rattle.book_segments.specs.Segments.{pair_reached}
 use Rattle.ao_node.specs.declared.answer.NodeArrival.TheVariants as answers
 use Rattle.ao_node.specs.Held.{end_at}
 use Rattle.ao_node.specs.Lending.{written}
