@@ -26,13 +26,6 @@ use Rattle.ao_run.specs.Obeys.{Unread, asks_keys, asks_input, most_of, writes_al
 use Rattle.ao_run.specs.Stops.{Makes, Stopped, made, status_of, text_of}
 use Rattle.ao_run.proofs.AnswerLaws.{either, faulty_tables, long_input, long_keys, long_plain, over_tables, short_input, unkeyed, unread_four, unread_input, within_plain}
 
--- an input with a fault has no output
-pub refused_makes : {A : Type 0} (said : Result A TextFault) (value : A → Answer) (e : TextFault) (stop : Stop) →
-    Fails e said → Stopped stop (refusal 4 (input_fault_text e)) → (e ≡ text_fault.Memory → stop ≡ Memory) → Makes (Err stop) (if_read value said)
-refused_makes said value text_fault.Memory stop fails stopped none = rw (none refl) tt
-refused_makes said value text_fault.TooManyLines stop fails stopped none = rw fails stopped
-refused_makes said value (text_fault.Line n kind) stop fails stopped none = rw fails stopped
-
 -- nothing is read
 pub unread : (s : Side) → Unread [] s s
 unread s = (refl, refl)

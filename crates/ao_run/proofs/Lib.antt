@@ -7,9 +7,7 @@ pub mod Gathering
 pub mod Given
 pub mod Headline
 pub mod LineEnds
-pub mod LinkLaws
-pub mod LintLaws
 pub mod PacketEnds
 pub mod Streaming
-pub mod RunLaws
 pub mod Telling
+pub mod ReportLaws

@@ -7,14 +7,14 @@ ghost use Rattle.ao_run.specs.Obeys.{writes_along};
 ghost use Rattle.ao_run.specs.Stops.{Makes};
 
 use crate::command::{most_input, reads_input, reads_keys};
-use crate::key_commands::{judge, list_keys};
 use crate::key_fault::stop_of;
-use crate::link::{link, link_keys, run_storm};
-use crate::runs::{bgp, node, timed};
 use crate::stop::{Output, Stop};
-use crate::texts::{show_all, verify_all};
+use crate::told::told;
 use ao_base::{Bytes, ReadProblem, Source, read_all};
 use book_answer::Command;
+use cmd_keys::{answer_keys, answer_lint};
+use cmd_link::{answer_link, answer_link_keys, answer_storm};
+use cmd_show::{answer_show, answer_vectors};
 use key_table::{Tables, read_tables};
 use std::alloc::Global;
 
@@ -71,19 +71,20 @@ fn answer(
     requires tables { is_some tables ≡ reads_keys command }
     ensures { Makes result (answer_over command (tables_in tables) input.now) }
 {
-    match (command, tables) {
-        (Command::Link, _) => link(alloc, input),
-        (Command::LinkKeys, Some(tables)) => link_keys(alloc, tables, input),
-        (Command::Show, _) => show_all(alloc, input),
-        (Command::Vectors, _) => verify_all(alloc, input),
-        (Command::Keys(time), Some(tables)) => list_keys(alloc, &tables, time),
-        (Command::Lint(plan), Some(tables)) => judge(alloc, &tables, plan, input),
-        (Command::Storm(seed, count), _) => run_storm(alloc, seed, count),
-        (Command::Bgp, Some(tables)) => bgp(alloc, tables, input),
-        (Command::Timed, Some(tables)) => timed(alloc, tables, input),
-        (Command::Node, Some(tables)) => node(alloc, &tables, input),
+    let answer = match (command, tables) {
+        (Command::Link, _) => answer_link(alloc, input),
+        (Command::LinkKeys, Some(tables)) => answer_link_keys(alloc, tables, input),
+        (Command::Show, _) => answer_show(alloc, input),
+        (Command::Vectors, _) => answer_vectors(alloc, input),
+        (Command::Keys(time), Some(tables)) => answer_keys(alloc, &tables, time),
+        (Command::Lint(plan), Some(tables)) => answer_lint(alloc, &tables, plan, input),
+        (Command::Storm(seed, count), _) => answer_storm(alloc, seed, count),
+        (Command::Bgp, Some(tables)) => cmd_bgp::answer(alloc, tables, input),
+        (Command::Timed, Some(tables)) => cmd_timed::answer(alloc, tables, input),
+        (Command::Node, Some(tables)) => node_run::answer(alloc, &tables, input),
         _ => unreachable!(),
-    }
+    };
+    told(alloc, answer)
 }
 
 /// Reads what the command reads, the key file first, and makes its output.

@@ -5,14 +5,11 @@
 
 mod command;
 mod gather;
-mod key_commands;
 mod key_fault;
-mod link;
 mod pcap_fault;
-mod runs;
 mod stop;
 mod stream;
-mod texts;
+mod told;
 mod top;
 
 pub use command::key_file;

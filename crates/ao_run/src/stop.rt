@@ -1,7 +1,8 @@
 //! How a command ends: with output, or without.
 ghost use Rattle.std.specs.Prelude.{◌≡◌};
 ghost use Rattle.book_lines.specs.Faults.{input_fault_text};
-ghost use Rattle.book_answer.specs.Answers.{refusal};
+ghost use Rattle.book_answer.specs.Answers.{Answer, refusal};
+ghost use Rattle.command_report.specs.Reporting.{Stopped as NoReport};
 ghost use Rattle.ao_run.specs.Stops.{IsHalted, IsPacketHalted, Stopped, status_of, text_of};
 ghost use Rattle.ao_run.specs.declared.stop.Stop.TheVariants.{Memory};
 
@@ -68,6 +69,17 @@ impl Stop {
                 Ok(text) => Stop::Input(text),
                 Err(_) => Stop::Memory,
             },
+        }
+    }
+
+    /// How the program ends where a command made no report.
+    pub(crate) fn of_command(alloc: Global, stop: command_report::Stop) -> Stop
+        ensures { (a : Answer) → NoReport stop a → Stopped result a }
+    {
+        match stop {
+            command_report::Stop::Input(fault) => Stop::of_input(alloc, &fault),
+            command_report::Stop::TooManyEvents => Stop::TooManyEvents,
+            command_report::Stop::Memory => Stop::Memory,
         }
     }
 

@@ -1,22 +1,16 @@
 //! The commands that write as they read: `check KEYS` and `check --pcap KEYS`.
-ghost use Rattle.std.specs.Prelude.{◌≡◌, ℕ, List, Some, if◌then◌else◌};
+ghost use Rattle.std.specs.Prelude.{◌≡◌, ℕ, List, Some};
 ghost use Rattle.book_answer.specs.declared.command.Command.TheVariants.{Check, CheckPcap};
 ghost use Rattle.ao_run.specs.Ended.{Ended};
 
 use crate::gather::tables_for;
 use crate::stop::Stop;
+use crate::told::status_of;
 use ao_base::{Sink, Source};
 use book_answer::Command;
 use capture_lines::check_segments;
 use capture_packets::check_packets;
 use std::alloc::Global;
-
-/// The status of a check that came to the input's end: 1 where a segment is no pass.
-fn status_of(amiss: bool) -> u8
-    ensures { result ≡ (if amiss then 1 else 0) }
-{
-    if amiss { 1 } else { 0 }
-}
 
 /// Reads the key file, and then judges the stored segments of the input line by line; the answer is
 /// the status of the program.

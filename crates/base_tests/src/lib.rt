@@ -1,5 +1,6 @@
 //! Tests of what every crate speaks of, of lines and of buffers, by public calls. A module tests the crate
-//! whose name it has. They stand apart from it, since a crate that has tests is proved twice.
+//! whose name it has. They stand apart from it, since a crate that has tests is proved twice. `text_lines` has
+//! none: each line that a command reads or writes goes through it, and so does each folder of `examples/`.
 #![tactic(auto)]
 
 #[cfg(test)]
@@ -12,5 +13,3 @@ mod of_line_reader;
 mod of_slot_list;
 #[cfg(test)]
 mod of_stream_buffers;
-#[cfg(test)]
-mod of_text_lines;

@@ -23,15 +23,15 @@ fn use_three_places<L: Ledger>(rt: &impl Abort, alloc: Global, blank: Blank) -> 
     let mut steps = Steps::<L>::new(blank);
     let mut list: Slots<u8> = Slots::new(alloc, 3)?;
     assert!(rt; reads(&list, &[], &mut steps));
-    assert!(rt; list.insert_after(None, 1).is_ok());
+    assert!(rt; insert_first(&mut list, 1) == Ok(()));
     assert!(rt; insert_behind(&mut list, 0, 3, &mut steps));
     assert!(rt; insert_behind(&mut list, 0, 2, &mut steps));
     assert!(rt; reads(&list, &[1, 2, 3], &mut steps));
-    assert_eq!(rt; list.insert_after(None, 4), Err(4));
+    assert!(rt; insert_first(&mut list, 4) == Err(4));
     assert!(rt; reads(&list, &[1, 2, 3], &mut steps));
-    assert_eq!(rt; remove_at(&mut list, 1, &mut steps), Some(2));
+    assert!(rt; remove_at(&mut list, 1, &mut steps) == Some(2));
     assert!(rt; reads(&list, &[1, 3], &mut steps));
-    assert!(rt; list.insert_after(None, 0).is_ok());
+    assert!(rt; insert_first(&mut list, 0) == Ok(()));
     assert!(rt; set_at(&mut list, 2, 5, &mut steps));
     assert!(rt; reads(&list, &[0, 1, 5], &mut steps));
     Ok(())
@@ -49,6 +49,14 @@ fn slot_at<L: Ledger>(list: &Slots<u8>, place: usize, steps: &mut Steps<L>) -> O
         }
     }
     at
+}
+
+/// Puts an item in front, or hands it back.
+fn insert_first(list: &mut Slots<u8>, item: u8) -> Result<(), u8> {
+    match list.insert_after(None, item) {
+        Ok(_) => Ok(()),
+        Err(back) => Err(back),
+    }
 }
 
 fn insert_behind<L: Ledger>(

@@ -1,6 +1,7 @@
+//! A read and a write that fail in the middle of a check of lines.
 ghost use Rattle.std.specs.Prelude.{◌≤◌};
 
-use ao_base::{Address, Algorithm, Bytes, LineKind, MemSink, MemSource, Numbers};
+use ao_base::{Address, Algorithm, Bytes, MemSink, MemSource, Numbers};
 use capture_lines::{Halt, check_segments};
 use key_table::Tables;
 use std::alloc::{AllocError, Global};
@@ -15,18 +16,13 @@ struct Way<'a> {
     writes: &'a [u64],
 }
 
-const SMOOTH: Way<'static> = Way {
-    piece: 7,
-    reads: &[],
-    writes: &[],
-};
-
-/// Checks the text by two nodes with one key: how it ended, and what was written.
-fn checked(
+/// Checks the text by two nodes with one key: how it ended, and whether this was written.
+fn ends(
     alloc: Global,
     text: &[u8],
     way: Way<'_>,
-) -> Result<(Result<bool, Halt>, MemSink), AllocError>
+    written: &[u8],
+) -> Result<(Result<bool, Halt>, bool), AllocError>
     requires { 1 ≤ way.piece }
 {
     let (a, b) = (Address::V4([10, 0, 0, 1]), Address::V4([10, 0, 0, 2]));
@@ -37,40 +33,24 @@ fn checked(
     let mut input = MemSource::new(content, way.piece, reads);
     let mut out = MemSink::new(alloc, 1_000, writes)?;
     let end = check_segments(alloc, tables, &mut input, &mut out);
-    Ok((end, out))
-}
-
-#[test]
-fn each_segment_has_a_line(rt: HostRuntime) -> Result<(), Fail> {
-    let (end, out) = checked(rt.alloc(), b"# two\n0 45\n\n7 00", SMOOTH)?;
-    assert_eq!(rt; end, Ok(true));
-    assert_eq!(rt; out.bytes(), b"2 bad truncated\n4 bad version\n".as_slice());
-    Ok(())
-}
-
-#[test]
-fn nothing_behind_a_faulty_line_is_judged(rt: HostRuntime) -> Result<(), Fail> {
-    let (end, out) = checked(rt.alloc(), b"0 45\n0 4\n0 45\n", SMOOTH)?;
-    assert_eq!(rt; end, Err(Halt::Line(2, LineKind::Hex)));
-    assert_eq!(rt; out.bytes(), b"1 bad truncated\n".as_slice());
-    Ok(())
+    Ok((end, out.bytes() == written))
 }
 
 #[test]
 fn a_fault_leaves_what_was_written(rt: HostRuntime) -> Result<(), Fail> {
+    let two = b"0 45\n0 45\n".as_slice();
+    let one = b"1 bad truncated\n".as_slice();
     let reads = Way {
+        piece: 7,
         reads: &[2],
-        ..SMOOTH
+        writes: &[],
     };
-    let (end, out) = checked(rt.alloc(), b"0 45\n0 45\n", reads)?;
-    assert_eq!(rt; end, Err(Halt::Read));
-    assert_eq!(rt; out.bytes(), b"1 bad truncated\n".as_slice());
+    assert!(rt; ends(rt.alloc(), two, reads, one)? == (Err(Halt::Read), true));
     let writes = Way {
+        piece: 7,
+        reads: &[],
         writes: &[2],
-        ..SMOOTH
     };
-    let (end, out) = checked(rt.alloc(), b"0 45\n0 45\n", writes)?;
-    assert_eq!(rt; end, Err(Halt::Write));
-    assert_eq!(rt; out.bytes(), b"1 bad truncated\n".as_slice());
+    assert!(rt; ends(rt.alloc(), two, writes, one)? == (Err(Halt::Write), true));
     Ok(())
 }

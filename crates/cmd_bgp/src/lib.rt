@@ -9,7 +9,7 @@ mod lines;
 mod reading;
 mod running;
 
-pub use answering::{Spoken, speak};
+pub use answering::answer;
 pub use laws::messages_come_in_order;
 pub use lines::Place;
 pub use reading::read_piece;

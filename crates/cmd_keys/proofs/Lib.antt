@@ -1,2 +1,3 @@
 mod JudgedLaws
 mod KeyLaws
+pub mod LintLaws

@@ -2,9 +2,9 @@
 
 use ao_base::Bytes;
 
-/// What `lint_lines` answers: a line for each connection, and whether some connection isn't aligned.
+/// What the judging of connections comes to: a line for each connection, and whether some connection isn't aligned.
 #[derive(Debug, Drop)]
-pub struct Judged {
-    pub text: Bytes,
-    pub has_misfit: bool,
+pub(crate) struct Judged {
+    pub(crate) text: Bytes,
+    pub(crate) has_misfit: bool,
 }

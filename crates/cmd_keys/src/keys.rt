@@ -1,12 +1,15 @@
 //! The rows of a key file with their state at a time.
-ghost use Rattle.std.specs.Prelude.{◌≡◌, ◌++◌, ◌&&◌, OnOk, IfOk};
+ghost use Rattle.std.specs.Prelude.{◌≡◌, ◌++◌, ◌&&◌, OnOk, IfOk, false};
 ghost use Rattle.book_lines.specs.Texts.{spaced};
 ghost use Rattle.book_keys.specs.Lifetimes.{contains};
 ghost use Rattle.book_keys.specs.Rows.{receives, sends};
 ghost use Rattle.book_cmd_keys.specs.KeyTexts.{direction_text, yes_or_no, row_line, row_lines, node_lines, keys_text};
+ghost use Rattle.book_answer.specs.Answers.{done};
+ghost use Rattle.command_report.specs.Reporting.{Reports};
 ghost use Rattle.cmd_keys.specs.RowTexts.{state_texts, term_texts};
 
 use ao_base::{Bytes, print_address};
+use command_report::{Report, Stop};
 use key_table::{Direction, Row, Table, Tables};
 use std::alloc::{AllocError, Global};
 use text_lines::{push_field, push_newline, push_number, push_text};
@@ -101,13 +104,9 @@ fn push_node(
     push_rows(out, table.entries(), time)
 }
 
-/// The answer of `keys`: for each node in the key file's order a line `node N NAME ADDRESS`, and for
-/// each of its rows `row N send-id ID recv-id ID ALGORITHM DIRECTION sending YES accepting YES`, where
-/// each YES is `yes` or `no`. A row sends where its direction is out or both and its send lifetime
-/// contains the time, in seconds since 1970; it accepts where its direction is in or both and its
-/// accept lifetime does, whatever the connection (RFC 7210, section 3).
+/// The rows of each node with their state at a time.
 #[tactic(auto, unfolding(book_cmd_keys::specs::KeyTexts::keys_text))]
-pub fn keys_text(alloc: Global, tables: &Tables, time: u64) -> Result<Bytes, AllocError>
+fn keys_text(alloc: Global, tables: &Tables, time: u64) -> Result<Bytes, AllocError>
     ensures { IfOk result (λ text. text ≡ keys_text time tables.now) }
 {
     let mut out = Vec::new(alloc);
@@ -115,4 +114,20 @@ pub fn keys_text(alloc: Global, tables: &Tables, time: u64) -> Result<Bytes, All
         push_node(alloc, &mut out, i + 1, tables.node(i + 1), time)?;
     }
     Ok(Bytes::from_vec(out))
+}
+
+/// The answer of `keys`: for each node in the key file's order a line `node N NAME ADDRESS`, and for
+/// each of its rows `row N send-id ID recv-id ID ALGORITHM DIRECTION sending YES accepting YES`, where
+/// each YES is `yes` or `no`. A row sends where its direction is out or both and its send lifetime
+/// contains the time, in seconds since 1970; it accepts where its direction is in or both and its
+/// accept lifetime does, whatever the connection (RFC 7210, section 3). Nothing is amiss. `Memory`
+/// only for want of memory, and no other stop comes.
+pub fn answer_keys(alloc: Global, tables: &Tables, time: u64) -> Result<Report, Stop>
+    ensures { Reports result (done false (keys_text time tables.now)) }
+{
+    let text = keys_text(alloc, tables, time)?;
+    Ok(Report {
+        text,
+        is_amiss: false,
+    })
 }

@@ -8,6 +8,5 @@ mod judged;
 mod keys;
 mod linting;
 
-pub use judged::Judged;
-pub use keys::keys_text;
-pub use linting::lint_lines;
+pub use keys::answer_keys;
+pub use linting::answer_lint;

@@ -2,10 +2,12 @@
 ghost use Rattle.std.specs.Prelude.{◌≡◌, ◌<◌, ◌↔◌, ◌++◌, ◌∷◌, [], IsErrOf, OnOk, false, length, decimal};
 ghost use Rattle.ao_base.specs.Lines.{lines_of};
 ghost use Rattle.book_lines.specs.Lines.{most_lines};
-ghost use Rattle.book_lines.specs.Said.{at_number, said_by};
+ghost use Rattle.book_lines.specs.Said.{at_number, said_by, said_in};
 ghost use Rattle.book_lines.specs.Texts.{end_text, numbered_text, spaced};
 ghost use Rattle.text_lines.specs.Readings.{Answers};
 ghost use Rattle.book_cmd_keys.specs.LintTexts.{lint_pair_of, is_aligned, lint_texts};
+ghost use Rattle.book_answer.specs.Answers.{if_read, linted};
+ghost use Rattle.command_report.specs.Reporting.{Reports};
 ghost use Rattle.cmd_keys.specs.Judgements.{judged_from, judgements};
 
 use crate::connection::read_connection;
@@ -13,6 +15,7 @@ use crate::judged::Judged;
 use ao_base::{Bytes, End, Pair, push_decimal};
 use book_cmd_keys::Plan;
 use book_lines::TextFault;
+use command_report::{Report, Stop};
 use key_lint::{LintAnswer, lint};
 use key_table::Tables;
 use std::alloc::{AllocError, Global};
@@ -88,26 +91,34 @@ fn judge(
     })
 }
 
+/// The judgement on each connection of the input, a line each, or the input's first fault.
+#[tactic(auto, unfolding(crate::specs::Judgements::judgements, book_lines::specs::Said::said_in))]
+fn lint_lines(alloc: Global, tables: &Tables, plan: Plan, input: &[u8]) -> Result<Judged, TextFault>
+    ensures text { Answers result (judgements tables.now plan input.now) }
+    ensures too_many { IsErrOf result TextFault.TooManyLines ↔ (most_lines < length (lines_of input.now)) }
+{
+    let _count = count_lines(input)?;
+    judge(alloc, tables, plan, SayingLines::new(input))
+}
+
 /// The answer of `lint`: for each connection of the input, a line `ADDRESS PORT ADDRESS PORT` whose
 /// first socket is end a, its number and whether the tables of the key file carry it through a
 /// rollover: `aligned`, or `no-peer-row END ROW`, `short-accept END ROW` or `gap END TIME`, as
-/// `key_lint::lint` judges it.
+/// `key_lint::lint` judges it. A connection that isn't aligned is amiss.
 ///
 /// `Ok` exactly where each line that says something is a connection between two addresses of one
 /// family that differ. `TooManyLines` exactly where the input has more than 20,000 lines; else `Line`
 /// is the first faulty line, counted from 1 among all lines, with the kind of its first faulty word:
 /// `Range` for a port over 65,535 and for a second address that is the first one or of the other
 /// family. `Memory` only for want of memory.
-#[tactic(auto, unfolding(crate::specs::Judgements::judgements, book_lines::specs::Said::said_in))]
-pub fn lint_lines(
-    alloc: Global,
-    tables: &Tables,
-    plan: Plan,
-    input: &[u8],
-) -> Result<Judged, TextFault>
-    ensures text { Answers result (judgements tables.now plan input.now) }
-    ensures too_many { IsErrOf result TextFault.TooManyLines ↔ (most_lines < length (lines_of input.now)) }
+#[tactic(auto, using(crate::proofs::LintLaws::judged_reports, crate::proofs::LintLaws::refused_reports))]
+pub fn answer_lint(alloc: Global, tables: &Tables, plan: Plan, input: &[u8]) -> Result<Report, Stop>
+    ensures answer { Reports result (if_read (linted tables.now plan) (said_in lint_pair_of input.now)) }
+    ensures too_many { IsErrOf result (Stop.Input TextFault.TooManyLines) ↔ (most_lines < length (lines_of input.now)) }
 {
-    let _count = count_lines(input)?;
-    judge(alloc, tables, plan, SayingLines::new(input))
+    let judged = lint_lines(alloc, tables, plan, input)?;
+    Ok(Report {
+        text: judged.text,
+        is_amiss: judged.has_misfit,
+    })
 }

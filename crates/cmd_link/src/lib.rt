@@ -6,9 +6,7 @@
 mod draw;
 mod event;
 mod link;
-mod played;
 mod running;
 
-pub use link::{link_keys_report, link_report, play};
-pub use played::Played;
-pub use running::{Stormed, storm};
+pub use link::{answer_link, answer_link_keys};
+pub use running::answer_storm;

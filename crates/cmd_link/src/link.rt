@@ -1,15 +1,14 @@
 //! The run of a link file.
-ghost use Rattle.std.specs.Prelude.{◌≡◌, ◌≤◌, IfOk, length, true};
+ghost use Rattle.std.specs.Prelude.{◌≡◌, ◌≤◌, IfOk, length, true, false};
 ghost use Rattle.std.specs.List.{All};
-ghost use Rattle.book_cmd_link.specs.LinkFiles.{are_two_of_a_family};
-ghost use Rattle.text_lines.specs.Readings.{Answers};
-ghost use Rattle.cmd_link.specs.Playing.{linked, linked_by_shared, played};
+ghost use Rattle.book_answer.specs.Answers.{done, if_read, linked, linked_by_shared, reported};
+ghost use Rattle.book_cmd_link.specs.LinkFiles.{are_two_of_a_family, script_of};
+ghost use Rattle.command_report.specs.Reporting.{Reports};
 ghost use Rattle.link_world.specs.Events.{CanHappen};
 ghost use Rattle.link_world.specs.Standing.{StandsFor, setup_of};
 
-use crate::played::Played;
-use book_lines::TextFault;
 use book_link::Event;
+use command_report::{Report, Stop};
 use key_table::Tables;
 use link_script::{Script, read_script};
 use link_world::{Setup, World};
@@ -17,7 +16,7 @@ use std::alloc::{AllocError, Global};
 
 /// The link after these events, at most 20,000: clocks are set to LATEST at most, and rows that are
 /// added are those of a link file.
-pub fn play(alloc: Global, setup: Setup, events: &[Event]) -> Result<World, AllocError>
+fn play(alloc: Global, setup: Setup, events: &[Event]) -> Result<World, AllocError>
     requires family { are_two_of_a_family setup.a.address setup.b.address ≡ true }
     requires events { All CanHappen events.now }
     requires few { length events.now ≤ 20000 }
@@ -30,30 +29,28 @@ pub fn play(alloc: Global, setup: Setup, events: &[Event]) -> Result<World, Allo
     Ok(world)
 }
 
-/// The report of the run of these events, and its forgeries.
-fn report_of(alloc: Global, setup: Setup, events: &[Event]) -> Result<Played, AllocError>
+/// The report of the run of these events, in which a forgery is amiss.
+fn report_of(alloc: Global, setup: Setup, events: &[Event]) -> Result<Report, AllocError>
     requires family { are_two_of_a_family setup.a.address setup.b.address ≡ true }
     requires events { All CanHappen events.now }
     requires few { length events.now ≤ 20000 }
-    ensures { IfOk result (λ p. p ≡ played (setup_of setup) events.now) }
+    ensures { IfOk result (λ r. reported (setup_of setup) events.now ≡ done r.is_amiss r.text) }
 {
     let world = play(alloc, setup, events)?;
-    let report = world.report(alloc)?;
-    Ok(Played {
-        report,
-        forgeries: world.forgeries(),
-    })
+    let text = world.report(alloc)?;
+    let is_amiss = world.forgeries() != 0;
+    Ok(Report { text, is_amiss })
 }
 
 /// The answer of `link`: the report of a link file that names the key that both ends share.
 ///
-/// `Ok` exactly where the text is such a link file; the faults are those of `link_script::read_script`.
+/// `Ok` exactly where the input is such a link file; its faults are those of `link_script::read_script`.
 /// `Memory` only for want of memory.
-#[tactic(auto, unfolding(crate::specs::Playing::linked_by_shared))]
-pub fn link_report(alloc: Global, text: &[u8]) -> Result<Played, TextFault>
-    ensures { Answers result (linked_by_shared text.now) }
+#[tactic(auto, using(command_report::proofs::Reporting::fails_stops))]
+pub fn answer_link(alloc: Global, input: &[u8]) -> Result<Report, Stop>
+    ensures { Reports result (if_read linked_by_shared (script_of false input.now)) }
 {
-    let script = read_script(alloc, false, text)?;
+    let script = read_script(alloc, false, input)?;
     let Script {
         a,
         b,
@@ -62,20 +59,20 @@ pub fn link_report(alloc: Global, text: &[u8]) -> Result<Played, TextFault>
     } = script;
     let Some(key) = shared else { unreachable!() };
     let tables = Tables::shared(alloc, a.address, b.address, key.alg, key.master.as_slice())?;
-    let played = report_of(alloc, Setup { tables, a, b }, events.as_slice())?;
-    Ok(played)
+    let report = report_of(alloc, Setup { tables, a, b }, events.as_slice())?;
+    Ok(report)
 }
 
 /// The answer of `link KEYS`: the report of a link file over the tables of a key file.
 ///
-/// `Ok` exactly where the text is a link file that names no key; the faults are those of
+/// `Ok` exactly where the input is a link file that names no key; its faults are those of
 /// `link_script::read_script`. `Memory` only for want of memory.
-#[tactic(auto, unfolding(crate::specs::Playing::linked))]
-pub fn link_keys_report(alloc: Global, tables: Tables, text: &[u8]) -> Result<Played, TextFault>
-    ensures { Answers result (linked tables text.now) }
+#[tactic(auto, using(command_report::proofs::Reporting::fails_stops))]
+pub fn answer_link_keys(alloc: Global, tables: Tables, input: &[u8]) -> Result<Report, Stop>
+    ensures { Reports result (if_read (linked tables) (script_of true input.now)) }
 {
-    let script = read_script(alloc, true, text)?;
+    let script = read_script(alloc, true, input)?;
     let Script { a, b, events, .. } = script;
-    let played = report_of(alloc, Setup { tables, a, b }, events.as_slice())?;
-    Ok(played)
+    let report = report_of(alloc, Setup { tables, a, b }, events.as_slice())?;
+    Ok(report)
 }

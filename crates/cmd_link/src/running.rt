@@ -1,15 +1,15 @@
 //! The run of a storm.
 ghost use Rattle.std.specs.Prelude.{◌≡◌, ◌≤◌, IfOk, []};
-ghost use Rattle.book_link.specs.Reports.{summary};
-ghost use Rattle.book_link.specs.Runs.{run};
+ghost use Rattle.book_answer.specs.Answers.{stormed};
 ghost use Rattle.book_link.specs.Storm.{storm_events, storm_setup, storm_starts};
-ghost use Rattle.book_link.specs.Worlds.{forgeries};
+ghost use Rattle.command_report.specs.Reporting.{Reports};
 ghost use Rattle.link_world.specs.Standing.{StandsFor, steps_taken};
 
 use crate::draw::{draw, drawn};
 use crate::event::event_of;
-use ao_base::{Address, Algorithm, Bytes, End, Socket};
+use ao_base::{Address, Algorithm, End, Socket};
 use book_link::Event;
+use command_report::{Report, Stop};
 use key_table::Tables;
 use link_world::{Setup, World};
 use std::alloc::{AllocError, Global};
@@ -18,13 +18,6 @@ use std::alloc::{AllocError, Global};
 const OF_A: u32 = 4_294_960_000;
 
 const OF_B: u32 = 4_000_000_000;
-
-/// What a storm comes to: the sessions and counts of its run, and how many forgeries it counts.
-#[derive(Debug, Drop)]
-pub struct Stormed {
-    pub summary: Bytes,
-    pub forgeries: u32,
-}
 
 /// The link of a storm, before anything happened.
 fn link(alloc: Global) -> Result<World, AllocError>
@@ -77,16 +70,14 @@ fn drawn_out(alloc: Global, seed: u64, count: u32) -> Result<World, AllocError>
 }
 
 /// The answer of `storm`: the summary of the run of so many events, at most 10,000, that are drawn
-/// from a seed, over a link whose two ends begin established.
-pub fn storm(alloc: Global, seed: u64, count: u32) -> Result<Stormed, AllocError>
+/// from a seed, over a link whose two ends begin established. `Memory` only for want of memory, and
+/// no other stop comes.
+pub fn answer_storm(alloc: Global, seed: u64, count: u32) -> Result<Report, Stop>
     requires { count ≤ 10000 }
-    ensures summary { IfOk result (λ s. s.summary ≡ summary (run storm_setup (storm_events seed count))) }
-    ensures forgeries { IfOk result (λ s. s.forgeries ≡ forgeries (run storm_setup (storm_events seed count)).history) }
+    ensures { Reports result (stormed (storm_events seed count)) }
 {
     let world = drawn_out(alloc, seed, count)?;
-    let summary = world.summary(alloc)?;
-    Ok(Stormed {
-        summary,
-        forgeries: world.forgeries(),
-    })
+    let text = world.summary(alloc)?;
+    let is_amiss = world.forgeries() != 0;
+    Ok(Report { text, is_amiss })
 }

@@ -1,6 +1,6 @@
 //! Datagrams shown as text, and test vectors of the algorithms verified.
 //!
-//! Both calls read a text of lines, and name the first faulty line with its kind. `show` writes the
+//! Both commands read a text of lines, and name the first faulty line with its kind. `show` writes the
 //! fields of each datagram, or why the bytes are none; `vectors` writes for each vector whether what
 //! is computed is what its line says.
 #![tactic(auto)]
@@ -14,7 +14,5 @@ mod vector;
 mod vector_words;
 mod verifying;
 
-pub use book_cmd_show::Verified;
-pub use book_lines::TextFault as TextProblem;
-pub use showing::show;
-pub use verifying::vectors;
+pub use showing::answer_show;
+pub use verifying::answer_vectors;

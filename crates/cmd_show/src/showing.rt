@@ -1,15 +1,18 @@
 //! Datagrams shown as text.
-ghost use Rattle.std.specs.Prelude.{◌≡◌, ◌<◌, ◌↔◌, ◌++◌, IsErrOf, OnOk, length};
+ghost use Rattle.std.specs.Prelude.{◌≡◌, ◌<◌, ◌↔◌, ◌++◌, IsErrOf, OnOk, length, false};
 ghost use Rattle.ao_base.specs.Lines.{lines_of};
 ghost use Rattle.book_lines.specs.Lines.{most_lines};
 ghost use Rattle.book_lines.specs.Said.{at_number, said_by};
 ghost use Rattle.text_lines.specs.Readings.{Answers, Tells};
+ghost use Rattle.book_answer.specs.Answers.{done, if_read};
+ghost use Rattle.command_report.specs.Reporting.{Reports};
 ghost use Rattle.cmd_show.specs.Loops.{shown_after, shown_from};
 ghost use Rattle.book_cmd_show.specs.Show.{bytes_of_line, show_of, shown_line};
 
 use crate::datagram_text::push_reading;
 use ao_base::{Bytes, push_decimal};
 use book_lines::TextFault;
+use command_report::{Report, Stop};
 use std::alloc::{AllocError, Global};
 use text_lines::{LineWords, Refusal, Saying, SayingLines, count_lines, push_newline};
 
@@ -51,17 +54,9 @@ fn push_lines(alloc: Global, out: &mut Vec<u8>, lines: &mut SayingLines) -> Resu
     Ok(())
 }
 
-/// Shows each datagram of a text of lines, which hold one each in hexadecimal, of any length.
-///
-/// A line of the answer has the number of its line and `bad` with the first of the nine faults, or
-/// the fields of the datagram that a prefix of the bytes is: family, sender, receiver, numbers, flags
-/// in hexadecimal, whether the TCP checksum is right, and the options in order.
-///
-/// `Ok` exactly where each line that says something is hexadecimal. `TooManyLines` exactly where the
-/// text has more than 20,000 lines; else `Line` is the first faulty line, counted from 1 among all
-/// lines, with the kind of its first faulty word. `Memory` only for want of memory.
+/// The lines of the datagrams of a text, or its first fault.
 #[tactic(auto, unfolding(book_cmd_show::specs::Show::show_of, book_lines::specs::Said::said_in))]
-pub fn show(alloc: Global, text: &[u8]) -> Result<Bytes, TextFault>
+fn show(alloc: Global, text: &[u8]) -> Result<Bytes, TextFault>
     ensures text { Answers result (show_of text.now) }
     ensures too_many { IsErrOf result TextFault.TooManyLines ↔ (most_lines < length (lines_of text.now)) }
 {
@@ -69,4 +64,26 @@ pub fn show(alloc: Global, text: &[u8]) -> Result<Bytes, TextFault>
     let mut out = Vec::new(alloc);
     push_lines(alloc, &mut out, &mut SayingLines::new(text))?;
     Ok(Bytes::from_vec(out))
+}
+
+/// The answer of `show`: each datagram of a text of lines, which hold one each in hexadecimal, of any
+/// length, is shown.
+///
+/// A line of the answer has the number of its line and `bad` with the first of the nine faults, or
+/// the fields of the datagram that a prefix of the bytes is: family, sender, receiver, numbers, flags
+/// in hexadecimal, whether the TCP checksum is right, and the options in order. Nothing is amiss.
+///
+/// `Ok` exactly where each line that says something is hexadecimal. `TooManyLines` exactly where the
+/// text has more than 20,000 lines; else `Line` is the first faulty line, counted from 1 among all
+/// lines, with the kind of its first faulty word. `Memory` only for want of memory.
+#[tactic(auto, using(command_report::proofs::Reporting::fails_stops, command_report::proofs::Reporting::many_stop))]
+pub fn answer_show(alloc: Global, input: &[u8]) -> Result<Report, Stop>
+    ensures answer { Reports result (if_read (done false) (show_of input.now)) }
+    ensures too_many { IsErrOf result (Stop.Input TextFault.TooManyLines) ↔ (most_lines < length (lines_of input.now)) }
+{
+    let text = show(alloc, input)?;
+    Ok(Report {
+        text,
+        is_amiss: false,
+    })
 }

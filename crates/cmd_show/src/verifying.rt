@@ -5,6 +5,8 @@ ghost use Rattle.book_lines.specs.Lines.{most_lines};
 ghost use Rattle.book_lines.specs.Said.{at_number, said_by};
 ghost use Rattle.book_lines.specs.Texts.{spaced};
 ghost use Rattle.text_lines.specs.Readings.{Answers};
+ghost use Rattle.book_answer.specs.Answers.{if_read, verified};
+ghost use Rattle.command_report.specs.Reporting.{Reports};
 ghost use Rattle.cmd_show.specs.Loops.{no_sums, sums_after, sums_from};
 ghost use Rattle.book_cmd_show.specs.Vectors.{vector_of};
 ghost use Rattle.book_cmd_show.specs.Verified.{agrees, totals_line, vectors_of, verdict_line, verdict_texts};
@@ -13,6 +15,7 @@ use crate::vector::{Vector, read_vector};
 use ao_base::{Bytes, push_decimal};
 use book_cmd_show::Verified;
 use book_lines::TextFault;
+use command_report::{Report, Stop};
 use std::alloc::{AllocError, Global};
 use text_lines::{
     Saying, SayingLines, count_lines, push_bytes, push_field, push_newline, push_number, push_text,
@@ -108,19 +111,9 @@ fn one_more(totals: Totals, vector: &Vector) -> Totals
     }
 }
 
-/// Verifies each test vector of a text of lines.
-///
-/// A line is `hmac KEY MESSAGE OUT` (RFC 2104), `aes KEY BLOCK OUT` (FIPS 197), `cmac KEY MESSAGE
-/// OUT` (RFC 4493), `prf KEY MESSAGE OUT` (RFC 4615), `kdf ALGORITHM MASTER CONTEXT OUT` (RFC 5926,
-/// section 3.1) or `segment ALGORITHM MASTER SOURCEISN DESTISN EXTENSION options DATAGRAM`, or
-/// `no-options` (RFC 5925, section 5.1). The answer has for each its line's number with `ok`, or
-/// `differs` with what is computed; last how many vectors there are and how many differ.
-///
-/// `Ok` exactly where the text is in the grammar. `TooManyLines` exactly where it has more than
-/// 20,000 lines; else `Line` is the first faulty line, counted from 1 among all lines, with the kind
-/// of its first faulty word. `Memory` only for want of memory.
+/// The lines of the vectors of a text and the totals, or its first fault.
 #[tactic(auto, unfolding(book_cmd_show::specs::Verified::vectors_of, book_lines::specs::Said::said_in))]
-pub fn vectors(alloc: Global, text: &[u8]) -> Result<Verified, TextFault>
+fn vectors(alloc: Global, text: &[u8]) -> Result<Verified, TextFault>
     ensures text { Answers result (vectors_of text.now) }
     ensures too_many { IsErrOf result TextFault.TooManyLines ↔ (most_lines < length (lines_of text.now)) }
 {
@@ -131,5 +124,30 @@ pub fn vectors(alloc: Global, text: &[u8]) -> Result<Verified, TextFault>
     Ok(Verified {
         text: Bytes::from_vec(out),
         differing: totals.differing,
+    })
+}
+
+/// The answer of `vectors`: each test vector of a text of lines is verified.
+///
+/// A line is `hmac KEY MESSAGE OUT` (RFC 2104), `aes KEY BLOCK OUT` (FIPS 197), `cmac KEY MESSAGE
+/// OUT` (RFC 4493), `prf KEY MESSAGE OUT` (RFC 4615), `kdf ALGORITHM MASTER CONTEXT OUT` (RFC 5926,
+/// section 3.1) or `segment ALGORITHM MASTER SOURCEISN DESTISN EXTENSION options DATAGRAM`, or
+/// `no-options` (RFC 5925, section 5.1). The answer has for each its line's number with `ok`, or
+/// `differs` with what is computed; last how many vectors there are and how many differ. One that
+/// differs is amiss.
+///
+/// `Ok` exactly where the text is in the grammar. `TooManyLines` exactly where it has more than
+/// 20,000 lines; else `Line` is the first faulty line, counted from 1 among all lines, with the kind
+/// of its first faulty word. `Memory` only for want of memory.
+#[tactic(auto, using(command_report::proofs::Reporting::fails_stops, command_report::proofs::Reporting::many_stop))]
+pub fn answer_vectors(alloc: Global, input: &[u8]) -> Result<Report, Stop>
+    ensures answer { Reports result (if_read verified (vectors_of input.now)) }
+    ensures too_many { IsErrOf result (Stop.Input TextFault.TooManyLines) ↔ (most_lines < length (lines_of input.now)) }
+{
+    let told = vectors(alloc, input)?;
+    let is_amiss = told.differing != 0;
+    Ok(Report {
+        text: told.text,
+        is_amiss,
     })
 }

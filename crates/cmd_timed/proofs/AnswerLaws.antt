@@ -1,10 +1,9 @@
 -- The whole answer to a link file with waits.
-use Rattle.std.proofs.Common.{◌≡◌, ℕ, ◌<◌, ◌==◌, not, nat_lt, true, false, List, length, Ok, Err, refl, ap, ◌∙◌, All}
+use Rattle.std.proofs.Common.{◌≡◌, ℕ, ◌<◌, ◌==◌, not, nat_lt, true, false, List, length, Ok, refl, ap, ◌∙◌, All}
 use Rattle.std.proofs.lemmas.Bool.{lt-ltb, le-ltb}
 use Rattle.book_keys.specs.Rows.{Table}
 use Rattle.book_timers.specs.declared.timer.Timer.{Timer}
 use Rattle.book_lines.specs.declared.text_fault.TextFault.{TextFault}
-use Rattle.book_lines.specs.declared.text_fault.TextFault.TheVariants as fault
 use Rattle.book_link.specs.declared.event.Event.{Event}
 use Rattle.book_link.specs.declared.event.Event.TheVariants as event
 use Rattle.book_link.specs.declared.event.RowLine.{RowLine}
@@ -20,8 +19,9 @@ use Rattle.link_script.specs.Scripts.{IsEvent, IsRow}
 use Rattle.link_script.specs.Timed.{IsTimedEvent}
 use Rattle.link_side.specs.Steps.{IsRowLine}
 use Rattle.link_world.specs.Events.{CanHappen}
-use Rattle.cmd_timed.specs.declared.answer.TimedProblem.TheVariants as problem
-use Rattle.cmd_timed.specs.Answers.{AnswersTimed, timed_answer}
+use Rattle.command_report.specs.Reporting.{Stopped, stop_of}
+use Rattle.command_report.proofs.Reporting.{fails_stops}
+use Rattle.cmd_timed.specs.Answers.{timed_answer}
 use Rattle.cmd_timed.specs.Events.{CanPass}
 use Rattle.cmd_timed.specs.Reports.{IsReport}
 
@@ -57,10 +57,8 @@ pub all_can_pass : (events : List TimedEvent) → All IsTimedEvent events → Al
 all_can_pass events h = λ k d below. can_pass _ (h k d below)
 
 -- a text that isn't read
-pub answered_fault : (tables : List Table) (text : List ℕ) (f : TextFault) → Fails f (timed_script_of text) → AnswersTimed tables text (Err (problem.Fault f))
-answered_fault tables text fault.Memory h = tt
-answered_fault tables text fault.TooManyLines h = ap (if_read (timed_over tables)) h
-answered_fault tables text (fault.Line n kind) h = ap (if_read (timed_over tables)) h
+pub answered_fault : (tables : List Table) (text : List ℕ) (f : TextFault) → Fails f (timed_script_of text) → Stopped (stop_of f) (timed_answer tables text)
+answered_fault tables text f fails = fails_stops (timed_over tables) (timed_script_of text) f fails
 
 -- a script that has a report
 pub answered_report : (tables : List Table) (text : List ℕ) (s : TimedScript) (a b : Timer) (report : List ℕ) (count : ℕ) → timed_script_of text ≡ Ok s

@@ -6,8 +6,8 @@ use Rattle.book_link.specs.Worlds.{Setup}
 use Rattle.book_cmd_timed.specs.TimedRuns.{most_events}
 use Rattle.book_cmd_timed.specs.TimedRuns.{Expanded, Progress, before}
 use Rattle.cmd_timed.specs.declared.link.Link.{Link}
-use Rattle.cmd_timed.specs.declared.stop.Stop.{Stop}
-use Rattle.cmd_timed.specs.declared.stop.Stop.TheVariants as stop
+use Rattle.cmd_timed.specs.declared.unfinished.Unfinished.{Unfinished}
+use Rattle.cmd_timed.specs.declared.unfinished.Unfinished.TheVariants as unfinished
 use Rattle.cmd_timed.specs.Links.{Does, Makes, Reaches, Stands, progress}
 
 -- one expansion after another
@@ -83,7 +83,7 @@ ended whole rest first now next setup past s did =
     subst (λ (x : Expanded). Reaches next setup (past ++ x.events) x.progress) s.goes moved
 
 too_many : (whole rest : Makes) (first now next : Link) (setup : Setup) (past : List Event) → Going whole rest first now setup past
-    → Does rest now next (Err stop.TooMany) → most_events < length (past ++ (whole setup (progress first setup past)).events)
+    → Does rest now next (Err unfinished.TooMany) → most_events < length (past ++ (whole setup (progress first setup past)).events)
 too_many whole rest first now next setup past s did =
     let here = past ++ s.mid in
     let y = rest setup (progress now setup here) in
@@ -105,11 +105,11 @@ left_as whole rest other first now l same = record {
 }
 
 -- the last call is the whole answer
-pub last_call : (whole rest : Makes) (first now next : Link) (r : Result (Unit {0}) Stop) → Left whole rest first now → Does rest now next r
+pub last_call : (whole rest : Makes) (first now next : Link) (r : Result (Unit {0}) Unfinished) → Left whole rest first now → Does rest now next r
     → Does whole first next r
 last_call whole rest first now next (Ok done) l did = λ setup past h. ended whole rest first now next setup past (l.going setup past h) did
-last_call whole rest first now next (Err stop.TooMany) l did = λ setup past h. too_many whole rest first now next setup past (l.going setup past h) did
-last_call whole rest first now next (Err (stop.Memory error)) l did = tt
+last_call whole rest first now next (Err unfinished.TooMany) l did = λ setup past h. too_many whole rest first now next setup past (l.going setup past h) did
+last_call whole rest first now next (Err (unfinished.Memory error)) l did = tt
 
 -- nothing is left
 abbrev pub nothing : Makes
@@ -127,7 +127,7 @@ same_does f g now next same did = λ setup past h.
     subst (λ (x : Expanded). Reaches next setup (past ++ x.events) x.progress) (sym (same.same setup past h)) (did setup past h)
 
 -- one call is the whole answer
-pub does_as : (whole f : Makes) (l next : Link) (r : Result (Unit {0}) Stop) → Same whole f l → Does f l next r → Does whole l next r
+pub does_as : (whole f : Makes) (l next : Link) (r : Result (Unit {0}) Unfinished) → Same whole f l → Does f l next r → Does whole l next r
 does_as whole f l next r same did = last_call whole f l l next r (left_as whole whole f l l (all_left whole l) same) did
 
 -- nothing is left
@@ -146,14 +146,14 @@ first_is_less f g setup p past h =
     let c : length (x.events ++ y.events) ≡ length x.events + length y.events = length-append x.events y.events in
     omega arith
 
-same_stops : (rest f g : Makes) (now next : Link) (s : Stop) → Same rest (chained f g) now → Does f now next (Err s) → Does rest now next (Err s)
-same_stops rest f g now next (stop.Memory error) same did = tt
-same_stops rest f g now next stop.TooMany same did = λ setup past h.
+same_stops : (rest f g : Makes) (now next : Link) (s : Unfinished) → Same rest (chained f g) now → Does f now next (Err s) → Does rest now next (Err s)
+same_stops rest f g now next (unfinished.Memory error) same did = tt
+same_stops rest f g now next unfinished.TooMany same did = λ setup past h.
     let p = progress now setup past in
     subst (λ (x : Expanded). most_events < length (past ++ x.events)) (sym (same.same setup past h)) (first_is_less f g setup p past (did setup past h))
 
 -- one more call stopped
-pub stopped_at : (whole rest f g : Makes) (first now next : Link) (s : Stop) → Left whole rest first now → Same rest (chained f g) now → Does f now next (Err s)
+pub stopped_at : (whole rest f g : Makes) (first now next : Link) (s : Unfinished) → Left whole rest first now → Same rest (chained f g) now → Does f now next (Err s)
     → Does whole first next (Err s)
 stopped_at whole rest f g first now next s l same did =
     last_call whole rest first now next (Err s) l (same_stops rest f g now next s same did)

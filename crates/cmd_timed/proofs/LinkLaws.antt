@@ -21,8 +21,8 @@ use Rattle.link_world.specs.declared.world.World.{World}
 use Rattle.link_world.specs.Standing.{StandsFor}
 use Rattle.cmd_timed.specs.declared.change.Change.{Change}
 use Rattle.cmd_timed.specs.declared.link.Link.{Link}
-use Rattle.cmd_timed.specs.declared.stop.Stop.{Stop}
-use Rattle.cmd_timed.specs.declared.stop.Stop.TheVariants as stop
+use Rattle.cmd_timed.specs.declared.unfinished.Unfinished.{Unfinished}
+use Rattle.cmd_timed.specs.declared.unfinished.Unfinished.TheVariants as unfinished
 use Rattle.cmd_timed.specs.declared.watch.Watch.{Watch}
 use Rattle.cmd_timed.specs.Changes.{changed}
 use Rattle.cmd_timed.specs.Links.{Does, Makes, Stands, due_at, expands, expires, happens, progress, steps, untils, up_to, waits}
@@ -140,7 +140,7 @@ steps_nowhere l x world here stood few = λ setup past h.
 
 -- the plain events are too many with this one
 pub steps_too_many : (l next : Link) (x : Event) → ((setup : Setup) (past : List Event) → StandsFor l.world setup past → most_events ≤ length past)
-    → Does (steps x) l next (Err stop.TooMany)
+    → Does (steps x) l next (Err unfinished.TooMany)
 steps_too_many l next x many = λ setup past h.
     let long = many setup past h.world_is in
     let one : length (past ++ x ∷ []) ≡ length past + 1 = length-append past (x ∷ []) in omega arith
@@ -209,9 +209,9 @@ expires_here l0 l1 l2 e here d w reading same one two r is =
     let P : End → Type 0 = λ y. seen w ≡ expired_at reading (seen (at l2 y)) → Does (expires e d) l0 (after_at l2 l2.world y w) (Ok tt) in
     subst P same (expires_at l0 l1 l2 e d w reading one two r) is
 
-pub sends_again_stopped : (before l : Link) (e : End) (s : Stop) → Does (steps (event.Resend e)) before l (Err s) → Does (sends_again e) before l (Err s)
-sends_again_stopped before l e (stop.Memory error) did = tt
-sends_again_stopped before l e stop.TooMany did = did
+pub sends_again_stopped : (before l : Link) (e : End) (s : Unfinished) → Does (steps (event.Resend e)) before l (Err s) → Does (sends_again e) before l (Err s)
+sends_again_stopped before l e (unfinished.Memory error) did = tt
+sends_again_stopped before l e unfinished.TooMany did = did
 
 late_by : (b : Bool) (d : ℕ) → cond b None (Some d) ≡ None → b ≡ true
 late_by true d h = refl

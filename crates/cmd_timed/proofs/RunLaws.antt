@@ -8,7 +8,7 @@ use Rattle.book_cmd_timed.specs.TimedRuns.{most_events}
 use Rattle.book_cmd_timed.specs.TimedRuns.{Progress, begins_timed, expand, expand_from, new_watch}
 use Rattle.link_world.specs.Standing.{StandsFor}
 use Rattle.cmd_timed.specs.declared.link.Link.{Link}
-use Rattle.cmd_timed.specs.declared.stop.Stop.TheVariants as stop
+use Rattle.cmd_timed.specs.declared.unfinished.Unfinished.TheVariants as unfinished
 use Rattle.cmd_timed.specs.Links.{Does, Reaches, Stands, expands, progress}
 use Rattle.cmd_timed.specs.Reports.{IsReport}
 use Rattle.cmd_timed.specs.Watches.{seen}
@@ -30,7 +30,7 @@ ran l next setup events b did =
     subst P b.progress_is (did setup [] b.stands)
 
 -- where the plain events are too many
-pub ran_too_far : (l next : Link) (setup : Setup) (events : List TimedEvent) → Begins l setup → Does (expands events) l next (Err stop.TooMany)
+pub ran_too_far : (l next : Link) (setup : Setup) (events : List TimedEvent) → Begins l setup → Does (expands events) l next (Err unfinished.TooMany)
     → most_events < length (expand setup events).events
 unfolding expand
 ran_too_far l next setup events b did =

@@ -10,8 +10,8 @@ use Rattle.book_cmd_timed.specs.TimedRuns.{most_events}
 use Rattle.book_cmd_timed.specs.TimedRuns.{Expanded, Progress, after_expiry, due, expand_from, expiry, plain, reading_at, timed_event, until, waited, watch_of}
 use Rattle.link_world.specs.Standing.{StandsFor}
 use Rattle.cmd_timed.specs.declared.link.Link.{Link}
-use Rattle.cmd_timed.specs.declared.stop.Stop.{Stop}
-use Rattle.cmd_timed.specs.declared.stop.Stop.TheVariants as stop
+use Rattle.cmd_timed.specs.declared.unfinished.Unfinished.{Unfinished}
+use Rattle.cmd_timed.specs.declared.unfinished.Unfinished.TheVariants as unfinished
 use Rattle.cmd_timed.specs.Watches.{seen}
 
 -- what is expanded of a progress on a link
@@ -33,14 +33,14 @@ pub record Reaches (l : Link) (setup : Setup) (past : List Event) (p : Progress)
   pub progress_is : progress l setup past ≡ p
 
 -- what is expanded came about, or the plain events are too many, or memory ran out
-abbrev pub Does : Makes → Link → Link → Result (Unit {0}) Stop → Type 0
+abbrev pub Does : Makes → Link → Link → Result (Unit {0}) Unfinished → Type 0
 Does makes before after (Ok done) =
     (setup : Setup) (past : List Event) → Stands before setup past
     → let x = makes setup (progress before setup past) in Reaches after setup (past ++ x.events) x.progress
-Does makes before after (Err stop.TooMany) =
+Does makes before after (Err unfinished.TooMany) =
     (setup : Setup) (past : List Event) → Stands before setup past
     → most_events < length (past ++ (makes setup (progress before setup past)).events)
-Does makes before after (Err (stop.Memory error)) = ⊤
+Does makes before after (Err (unfinished.Memory error)) = ⊤
 
 -- a plain event
 abbrev pub steps : Event → Makes

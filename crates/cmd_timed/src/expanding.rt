@@ -6,7 +6,7 @@ ghost use Rattle.cmd_timed.specs.Events.{CanPass};
 ghost use Rattle.cmd_timed.specs.Links.{Does, expands, happens, waits};
 
 use crate::link::Link;
-use crate::stop::Stop;
+use crate::unfinished::Unfinished;
 use ao_base::End;
 use book_cmd_timed::TimedEvent;
 use book_keys::LATEST;
@@ -15,7 +15,7 @@ use std::alloc::Global;
 impl Link {
     /// The end waits up to this reading: its timer expires, at most so many times, while that comes
     /// before it.
-    fn wait_until(&mut self, alloc: Global, end: End, to: u64, most: u32) -> Result<(), Stop>
+    fn wait_until(&mut self, alloc: Global, end: End, to: u64, most: u32) -> Result<(), Unfinished>
         requires { to ≤ greatest_time }
         ensures { Does (waits most end to) self.old self.new result }
     {
@@ -29,14 +29,14 @@ impl Link {
     }
 
     /// So many seconds pass at the end, up to LATEST.
-    fn wait(&mut self, alloc: Global, end: End, count: u16) -> Result<(), Stop>
+    fn wait(&mut self, alloc: Global, end: End, count: u16) -> Result<(), Unfinished>
         ensures { Does (happens (Wait end count)) self.old self.new result }
     {
         let to = (self.world.reading(end) + u64::from(count)).min(LATEST);
         self.wait_until(alloc, end, to, u32::from(count) + 1)
     }
 
-    fn happen(&mut self, alloc: Global, event: &TimedEvent) -> Result<(), Stop>
+    fn happen(&mut self, alloc: Global, event: &TimedEvent) -> Result<(), Unfinished>
         requires { CanPass event.now }
         ensures { Does (happens event.now) self.old self.new result }
     {
@@ -47,7 +47,11 @@ impl Link {
     }
 
     /// All events happen, in order, unless the plain events are too many or memory runs out.
-    pub(crate) fn happen_all(&mut self, alloc: Global, events: &[TimedEvent]) -> Result<(), Stop>
+    pub(crate) fn happen_all(
+        &mut self,
+        alloc: Global,
+        events: &[TimedEvent],
+    ) -> Result<(), Unfinished>
         requires { All CanPass events.now }
         ensures { Does (expands events.now) self.old self.new result }
     {

@@ -2,14 +2,13 @@
 //! that it leaves, and the whole answer to a link file with waits.
 #![tactic(auto)]
 
-mod answer;
+mod answering;
 mod change;
 mod expanding;
 mod link;
 mod running;
-mod stop;
+mod unfinished;
 mod watch;
 
-pub use answer::{TimedProblem, TimedReport, timed_report};
-pub use link_script::{TimedEvent, TimedEvents, TimedScript};
+pub use answering::answer;
 pub use running::{TimedRun, run_timed};

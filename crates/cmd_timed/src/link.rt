@@ -10,7 +10,7 @@ ghost use Rattle.link_world.specs.Standing.{StandsFor, steps_taken};
 ghost use Rattle.cmd_timed.specs.Links.{Does, due_at, expires, progress, steps, untils, up_to};
 
 use crate::change::{Change, end_of, is_again, is_begin, is_done, is_sent};
-use crate::stop::Stop;
+use crate::unfinished::Unfinished;
 use crate::watch::Watch;
 use ao_base::End;
 use book_link::Event;
@@ -62,12 +62,12 @@ impl Link {
     }
 
     /// Steps through a plain event, unless the plain run has all its events.
-    pub(crate) fn step(&mut self, alloc: Global, event: &Event) -> Result<(), Stop>
+    pub(crate) fn step(&mut self, alloc: Global, event: &Event) -> Result<(), Unfinished>
         requires { CanHappen event.now }
         ensures { Does (steps event.now) self.old self.new result }
     {
         if self.world.outcomes().len() >= MOST_EVENTS {
-            return Err(Stop::TooMany);
+            return Err(Unfinished::TooMany);
         }
         match end_of(event) {
             None => {
@@ -82,7 +82,7 @@ impl Link {
     }
 
     /// The end's clock goes to this reading, unless it is there.
-    pub(crate) fn until(&mut self, alloc: Global, end: End, to: u64) -> Result<(), Stop>
+    pub(crate) fn until(&mut self, alloc: Global, end: End, to: u64) -> Result<(), Unfinished>
         requires { to ≤ greatest_time }
         ensures { Does (untils end to) self.old self.new result }
     {
@@ -111,7 +111,7 @@ impl Link {
 
     /// The end's timer expires at this reading: the clock goes to it, the end sends again, and the timer
     /// runs anew with twice its value.
-    pub(crate) fn expire(&mut self, alloc: Global, end: End, at: u64) -> Result<(), Stop>
+    pub(crate) fn expire(&mut self, alloc: Global, end: End, at: u64) -> Result<(), Unfinished>
         requires { at ≤ greatest_time }
         ensures { Does (expires end at) self.old self.new result }
     {

@@ -6,7 +6,7 @@ ghost use Rattle.cmd_timed.specs.Events.{CanPass};
 ghost use Rattle.cmd_timed.specs.Reports.{Reports};
 
 use crate::link::Link;
-use crate::stop::Stop;
+use crate::unfinished::Unfinished;
 use crate::watch::Watch;
 use ao_base::Bytes;
 use book_cmd_timed::TimedEvents;
@@ -48,8 +48,8 @@ pub fn run_timed(
     };
     match link.happen_all(alloc, events.as_slice()) {
         Ok(()) => {}
-        Err(Stop::TooMany) => return Ok(TimedRun::TooMany),
-        Err(Stop::Memory(error)) => return Err(error),
+        Err(Unfinished::TooMany) => return Ok(TimedRun::TooMany),
+        Err(Unfinished::Memory(error)) => return Err(error),
     }
     let Link {
         world,

@@ -1,5 +1,7 @@
-//! Tests of MACs: hashes and ciphers, traffic keys, and the check of a segment, by public calls. A module tests the crate
-//! whose name it has. They stand apart from it, since a crate that has tests is proved twice.
+//! Tests of MACs: hashes in pieces, keys that are kept, sealing, and the check of a segment, by public calls that
+//! no command makes so. A module tests the crate whose name it has. Vectors of the RFCs and of other programs
+//! stand in the examples of `vectors`, datagrams in those of `show`: there they run as the built program does
+//! them, and aren't proved a second time.
 #![tactic(auto)]
 
 #[cfg(test)]
@@ -8,9 +10,5 @@ mod of_ao_check;
 mod of_ao_kdf;
 #[cfg(test)]
 mod of_ao_mac;
-#[cfg(test)]
-mod of_ao_show;
-#[cfg(test)]
-mod of_ao_show_vectors;
 #[cfg(test)]
 mod of_hmac_sha1;

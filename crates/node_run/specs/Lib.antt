@@ -1,4 +1,3 @@
 pub mod Acting
-pub mod Answers
 pub mod Nodes
 pub mod Telling

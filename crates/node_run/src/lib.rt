@@ -3,11 +3,11 @@
 #![tactic(auto)]
 
 mod acts;
-mod answer;
+mod answering;
 mod events;
 mod lines;
 mod run;
 mod told;
 
-pub use answer::run_over_tables;
+pub use answering::answer;
 pub use run::run_node;

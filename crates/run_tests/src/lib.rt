@@ -1,10 +1,9 @@
-//! Tests of links with timers and with messages of BGP, by public calls. A module tests the crate
-//! whose name it has. They stand apart from it, since a crate that has tests is proved twice.
+//! Tests of links with timers and with messages of BGP, by public calls that lend what they leave: readers and
+//! timers. A module tests the crate whose name it has. Whole runs stand in the examples of `bgp` and `timed`:
+//! there they run as the built program does them, and aren't proved a second time.
 #![tactic(auto)]
 
 #[cfg(test)]
-mod of_bgp_link;
+mod of_cmd_bgp;
 #[cfg(test)]
-mod of_bgp_link_runs;
-#[cfg(test)]
-mod of_timed_link;
+mod of_cmd_timed;

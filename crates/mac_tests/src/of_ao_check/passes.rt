@@ -3,7 +3,12 @@
 use super::{END, LAST, PAIR, four_rows, verdict};
 use ao_base::{Address, Pair, Socket};
 use ao_check::Verdict;
+use key_table::Table;
+use std::alloc::{AllocError, Global};
 use std::test::Fail;
+
+/// How many sequence numbers there are.
+const LAP: u64 = 1 << 32;
 
 /// The first segment of RFC 9235, section 4.1.1: HMAC-SHA-1 under id 61.
 const SYN_HMAC: [u8; 76] = [
@@ -82,45 +87,64 @@ fn place(verdict: Option<Verdict>) -> Option<(u8, u64)> {
     }
 }
 
+/// What is said of a segment of the usual sockets at the second 0.
+fn seen(
+    alloc: Global,
+    table: &Table,
+    expected: u64,
+    bytes: &[u8],
+) -> Result<Option<Verdict>, AllocError> {
+    verdict(alloc, table, PAIR, 0, Some(expected), bytes)
+}
+
+/// The segments of the cases below.
+fn signed(name: u8) -> &'static [u8] {
+    match name {
+        0 => &PAST_A_LAP,
+        1 => &BEFORE_A_LAP,
+        2 => &AT_THE_END,
+        _ => &LAST_FIN,
+    }
+}
+
 #[test]
 fn a_first_segment_passes_up_to_the_last_second(rt: HostRuntime) -> Result<(), Fail> {
     let table = four_rows(rt.alloc())?;
     let seen = verdict(rt.alloc(), &table, BGP, LAST, None, &SYN_HMAC)?;
-    assert_eq!(rt; place(seen), Some((1, 0xfbfb_ab5a)));
+    assert!(rt; place(seen) == Some((1, 0xfbfb_ab5a)));
     let seen = verdict(rt.alloc(), &table, BGP, LAST + 1, None, &SYN_HMAC)?;
-    assert_eq!(rt; seen, Some(Verdict::Expired));
+    assert!(rt; seen == Some(Verdict::Expired));
     Ok(())
 }
 
 #[test]
 fn numbers_go_over_laps_and_end_at_2_to_63(rt: HostRuntime) -> Result<(), Fail> {
     let table = four_rows(rt.alloc())?;
-    let lap = 1 << 32;
     let cases = [
-        (PAST_A_LAP, lap - 6, Some((4, lap + 5))),
-        (PAST_A_LAP, lap + 900, Some((4, lap + 5))),
-        (PAST_A_LAP, 5, None),
-        (BEFORE_A_LAP, lap - 1, Some((4, lap - 3))),
-        (BEFORE_A_LAP, lap + 9, Some((4, lap - 3))),
-        (BEFORE_A_LAP, 2 * lap - 1, None),
-        (AT_THE_END, END, Some((4, END))),
-        (AT_THE_END, END - 9, Some((4, END))),
-        (LAST_FIN, END - 1, Some((4, END - 1))),
+        // the segment, the number that is expected, and the one that it has
+        (0, LAP - 6, LAP + 5),
+        (0, LAP + 900, LAP + 5),
+        (1, LAP - 1, LAP - 3),
+        (1, LAP + 9, LAP - 3),
+        (2, END, END),
+        (2, END - 9, END),
+        (3, END - 1, END - 1),
     ];
-    for (bytes, expected, wanted) in cases {
-        let seen = verdict(rt.alloc(), &table, PAIR, 0, Some(expected), &bytes)?;
-        assert_eq!(rt; place(seen), wanted, "expected {expected}");
-        assert_eq!(rt;
-            seen == Some(Verdict::BadMac),
-            wanted.is_none(),
-            "expected {expected}"
-        );
+    for (name, expected, number) in cases {
+        let seen = seen(rt.alloc(), &table, expected, signed(name))?;
+        assert!(rt; place(seen) == Some((4, number)));
     }
-    let seen = verdict(rt.alloc(), &table, PAIR, 0, Some(END), &PAST_THE_END)?;
-    assert_eq!(rt; seen, Some(Verdict::Range));
-    let seen = verdict(rt.alloc(), &table, PAIR, 0, Some(0), &BEFORE_A_LAP)?;
-    assert_eq!(rt; seen, Some(Verdict::Range));
-    let seen = verdict(rt.alloc(), &table, PAIR, 0, Some(lap), &RESET)?;
-    assert_eq!(rt; place(seen), Some((3, lap + 5)));
+    Ok(())
+}
+
+#[test]
+fn another_lap_is_refused_and_so_are_numbers_past_the_ends(rt: HostRuntime) -> Result<(), Fail> {
+    let table = four_rows(rt.alloc())?;
+    assert!(rt; seen(rt.alloc(), &table, 5, &PAST_A_LAP)? == Some(Verdict::BadMac));
+    assert!(rt; seen(rt.alloc(), &table, 2 * LAP - 1, &BEFORE_A_LAP)? == Some(Verdict::BadMac));
+    assert!(rt; seen(rt.alloc(), &table, END, &PAST_THE_END)? == Some(Verdict::Range));
+    assert!(rt; seen(rt.alloc(), &table, 0, &BEFORE_A_LAP)? == Some(Verdict::Range));
+    let reset = seen(rt.alloc(), &table, LAP, &RESET)?;
+    assert!(rt; place(reset) == Some((3, LAP + 5)));
     Ok(())
 }

@@ -4,6 +4,6 @@ use Rattle.cmd_link.proofs.link.report_of.Goals as goal
 
 pub returns : goal.returns
 returns c =
-    let text = c.in_ok-report.ensures (setup_of c.args.setup) c.args.events.now c.in_ok-world.ensures in
-    let counted = c.forgeries.ensures (setup_of c.args.setup) c.args.events.now c.in_ok-world.ensures in
+    let text = c.in_ok-text.ensures (setup_of c.args.setup) c.args.events.now c.in_ok-world.ensures in
+    let counted = c.forgeries-is_amiss.ensures (setup_of c.args.setup) c.args.events.now c.in_ok-world.ensures in
     rw (text, counted) refl
