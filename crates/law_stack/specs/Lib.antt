@@ -1,0 +1,5 @@
+pub mod Ending
+pub mod Handed
+pub mod Resting
+pub mod Ruled
+pub mod Single

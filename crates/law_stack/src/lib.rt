@@ -1,0 +1,10 @@
+//! What holds of every run of a node that runs by itself. Theorems alone, as contracts of empty
+//! functions.
+#![tactic(auto)]
+
+mod laws;
+
+pub use laws::{
+    each_is_single, handed_is_taken_alike, nothing_due_is_left, output_comes_to_rest,
+    runs_are_a_nodes,
+};
