@@ -1,0 +1,4 @@
+pub mod Counts
+pub mod OutcomeTexts
+pub mod SessionTexts
+pub mod Sessions

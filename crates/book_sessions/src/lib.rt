@@ -1,0 +1,10 @@
+//! The sessions of a capture: what was verified of each direction under each KeyID, and what wasn't.
+//! Definitions, with the plain types that code shares with them; the empty function carries a theorem
+//! about the definitions.
+#![tactic(auto)]
+
+mod laws;
+mod outcome;
+
+pub use laws::counts_are_those_of_the_verdicts;
+pub use outcome::{PassedOver, SegmentOutcome};

@@ -1,0 +1,28 @@
+//! What comes of a packet of a capture.
+use book_captures::Skipped;
+use book_endpoint::Verdict;
+use book_segments::DatagramFault;
+
+/// What the check says of a segment of a capture.
+#[derive(Clone, Copy, Debug, PartialEq, Eq)]
+pub enum SegmentOutcome {
+    /// It passes: its MAC is right (RFC 5925, section 7.5).
+    Verified,
+    /// It is refused for this reason.
+    Refused(Verdict),
+    /// No node of the tables has its destination's address, or both its sockets are one.
+    NoNode,
+    /// It passes, and would fix a connection more than are held.
+    TooMany,
+}
+
+/// Why a packet of a capture is no segment that the check judges.
+#[derive(Clone, Copy, Debug, PartialEq, Eq)]
+pub enum PassedOver {
+    /// It has no datagram.
+    NoDatagram(Skipped),
+    /// The capture doesn't say when it was seen.
+    NoTime,
+    /// Its datagram is none of TCP, or faulty.
+    Faulty(DatagramFault),
+}
