@@ -22,26 +22,26 @@ use Rattle.law_stack.proofs.Tidy.{Ends, Tidy, length_with, queue_with}
 use Rattle.law_stack.proofs.TidyTurns.{ask_tidy, clocked_tidy, output_tidy}
 use Rattle.law_stack.proofs.TidyCalls.{empty_tidy, run_tidy}
 
-abbrev makes : Emitted → Bool
+abbrev pub makes : Emitted → Bool
 makes Quiet = false
 makes NoKey = false
 makes (Emits out) = true
 
 -- the end of a pair makes nothing when it is asked
-abbrev IsMute : StackState → Pair → Type 0
+abbrev pub IsMute : StackState → Pair → Type 0
 IsMute s p = (e : EndState) → held_end p s.node.ends ≡ Some e → makes (emit s.rows p s.node.clock e) ≡ false
 
-record Mute (s : StackState) : Type 0 where
-  all : (p : Pair) → IsMute s p
+pub record Mute (s : StackState) : Type 0 where
+  pub all : (p : Pair) → IsMute s p
 
-record MuteIn (line : List Pair) (s : StackState) : Type 0 where
-  all : (p : Pair) → stands_in p line ≡ true → IsMute s p
+pub record MuteIn (line : List Pair) (s : StackState) : Type 0 where
+  pub all : (p : Pair) → stands_in p line ≡ true → IsMute s p
 
 -- who doesn't stand in line makes nothing
 out_mute : (s : StackState) (p : Pair) → Tidy s → stands_in p s.line ≡ false → IsMute s p
 out_mute s p h out e was = ap makes (nothing_is_quiet s.rows p s.node.clock e (h.settles.all p e refl was out).nothing)
 
-mute_of : (s : StackState) → Tidy s → MuteIn s.line s → Mute s
+pub mute_of : (s : StackState) → Tidy s → MuteIn s.line s → Mute s
 mute_of s h m = record { all = λ p. at p (stands_in p s.line) refl }
   where
     at : (p : Pair) (v : Bool) → stands_in p s.line ≡ v → IsMute s p
@@ -65,7 +65,7 @@ then_rests P t next none go = at (is_some t.hands) refl none
     at false e none = go (no_hands t.hands e) none
 
 -- the ends that are held stay as they are where an end becomes itself
-same_held : (p q : Pair) (e : EndState) (hs : List Held) → held_end p hs ≡ Some e → held_end q (with_end p e hs) ≡ held_end q hs
+pub same_held : (p q : Pair) (e : EndState) (hs : List Held) → held_end p hs ≡ Some e → held_end q (with_end p e hs) ≡ held_end q hs
 same_held p q e hs was = at (same_pair p q) refl
   where
     at : (v : Bool) → same_pair p q ≡ v → held_end q (with_end p e hs) ≡ held_end q hs
@@ -165,7 +165,7 @@ wakes_mute : (now n : ℕ) (s : StackState) → Mute s → (turns n (wake now) s
 wakes_mute now zero s mute none = mute
 wakes_mute now (suc n) s mute none = then_rests Mute (wake now s) (turns n (wake now)) none (λ quiet rest. wakes_mute now n (wake now s).stack (wake_mute now s mute quiet) rest)
 
-output_mute : (now : ℕ) (s : StackState) → Tidy s → (output_at now s).hands ≡ None → Mute (output_at now s).stack
+pub output_mute : (now : ℕ) (s : StackState) → Tidy s → (output_at now s).hands ≡ None → Mute (output_at now s).stack
 output_mute now s h none =
     then_rests Mute (clocked now s) (λ t. then_turn (turns (length t.line) (ask now) t) (λ u. turns (length u.alarms) (wake now) u)) none (λ quiet rest.
     let t = (clocked now s).stack in

@@ -46,8 +46,8 @@ wakes_none now (suc n) s h few none =
 -- ---- the clock of the ends
 
 -- the clock of the ends is at the second of this time
-record IsClocked (now : ℕ) (s : StackState) : Type 0 where
-  clock : s.node.clock ≡ now / 1000
+pub record IsClocked (now : ℕ) (s : StackState) : Type 0 where
+  pub clock : s.node.clock ≡ now / 1000
 
 clocked_clock : (now : ℕ) (s : StackState) → IsClocked now (clocked now s).stack
 clocked_clock now s = at (s.node.clock == now / 1000) refl
@@ -98,7 +98,7 @@ turns_keep : (P : StackState → Type 0) (n : ℕ) (turn : StackState → Turn) 
 turns_keep P zero turn s h go = h
 turns_keep P (suc n) turn s h go = then_keeps P (turn s) (turns n turn) (go s h) (λ u k. turns_keep P n turn u k go)
 
-output_clock : (now : ℕ) (s : StackState) → IsClocked now (output_at now s).stack
+pub output_clock : (now : ℕ) (s : StackState) → IsClocked now (output_at now s).stack
 output_clock now s =
     let P = IsClocked now in
     then_keeps P (clocked now s) (λ t. then_turn (turns (length t.line) (ask now) t) (λ u. turns (length u.alarms) (wake now) u)) (clocked_clock now s) (λ t ht.

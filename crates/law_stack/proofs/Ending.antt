@@ -45,7 +45,7 @@ due_put now most a xs = at (nat_le most (length xs))
     at false = omega (arith, due_placed now a xs)
 
 -- where the alarm stays or goes off later, no more are reached than before
-due_rung : (now most : ℕ) (p : Pair) (o : Option ℕ) (xs : List Alarm) → ((d : ℕ) → o ≡ Some d → (now < d) ⊎ (alarm_of p xs ≡ Some d)) → due now (with_alarm most p o xs) ≤ due now xs
+pub due_rung : (now most : ℕ) (p : Pair) (o : Option ℕ) (xs : List Alarm) → ((d : ℕ) → o ≡ Some d → (now < d) ⊎ (alarm_of p xs ≡ Some d)) → due now (with_alarm most p o xs) ≤ due now xs
 due_rung now most p None xs later = due_without now p xs
 due_rung now most p (Some d) xs later = at (later d refl)
   where
@@ -89,7 +89,7 @@ rest_stays now phase false w on = at (is_time_wait phase)
     at true d e = inr e
     at false d e = absurd (cc)
 
-asked_stays : (now : ℕ) (c : Change) (waits : Bool) (o : NodeOutcome) (w : ConnectionWatch) → IsOn w → StaysOrLater now w (asked_watch now c waits o w)
+pub asked_stays : (now : ℕ) (c : Change) (waits : Bool) (o : NodeOutcome) (w : ConnectionWatch) → IsOn w → StaysOrLater now w (asked_watch now c waits o w)
 asked_stays now c waits (Transmitted x) w on = sent_stays now c w on
 asked_stays now c waits NoUsableKey w on = λ d e. inr e
 asked_stays now c waits _ w on = rest_stays now c.after.phase waits w on

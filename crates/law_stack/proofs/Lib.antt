@@ -10,6 +10,7 @@ pub mod Rings
 pub mod Runs
 pub mod Settling
 pub mod Single
+pub mod Sleeping
 pub mod Speaking
 pub mod Tidy
 pub mod TidyCalls

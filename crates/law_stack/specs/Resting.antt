@@ -46,3 +46,8 @@ pub record IsTimely (now : ℕ) (s : StackState) : Type 0 where
   -- and for each end in line, which is asked in the next second (own)
   pub tried : (pair : Pair) → stands_in pair s.line ≡ true → IsBy (1000 * (s.node.clock + 1)) (next_deadline s)
   pub ahead : (d : ℕ) → next_deadline s ≡ Some d → now < d  -- it is after now, so nobody calls in vain at once (own)
+
+-- this time is before the deadline, if there is one (own)
+abbrev pub IsBefore : ℕ → Option ℕ → Type 0
+IsBefore time None = Unit {0}
+IsBefore time (Some deadline) = time < deadline

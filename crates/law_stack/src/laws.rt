@@ -5,12 +5,12 @@ ghost use Rattle.book_cmd_node.specs.NodeRuns.{most_ends};
 ghost use Rattle.book_keys.specs.Rows.{Row};
 ghost use Rattle.book_stack.specs.Calls.{Call, Output, Rests, call};
 ghost use Rattle.book_stack.specs.Runs.{IsNodeRun, keeps_rows, stack_after};
-ghost use Rattle.book_stack.specs.Stacks.{StackState, empty_stack};
+ghost use Rattle.book_stack.specs.Stacks.{StackState, empty_stack, next_deadline};
 ghost use Rattle.book_segments.specs.Segments.{Segment};
 ghost use Rattle.book_segments.specs.Spelling.{Fits};
 ghost use Rattle.law_stack.specs.Ending.{RestsWithin};
 ghost use Rattle.law_stack.specs.Handed.{IsHandedWell, IsTakenAlike};
-ghost use Rattle.law_stack.specs.Resting.{AreAtRest, IsTimely};
+ghost use Rattle.law_stack.specs.Resting.{AreAtRest, IsBefore, IsTimely};
 ghost use Rattle.law_stack.specs.Ruled.{IsRuledRun};
 ghost use Rattle.law_stack.specs.Single.{IsSingle};
 
@@ -42,6 +42,14 @@ pub fn nothing_due_is_left()
         let d = call (Output now) (stack_after (empty_stack rows most) calls) in d.answer ≡ Rests → AreAtRest d.stack }
     ensures timely { (rows : List Row) (most : ℕ) (calls : List Call) (now : ℕ) → most ≤ most_ends →
         let d = call (Output now) (stack_after (empty_stack rows most) calls) in d.answer ≡ Rests → IsTimely now d.stack }
+{}
+
+/// Whoever sleeps until the deadline that was told misses nothing: asked for what is due at a time
+/// before it, with nothing else called since, the stack answers that nothing is.
+pub fn nothing_is_due_before_the_deadline()
+    ensures { (rows : List Row) (most : ℕ) (calls : List Call) (now later : ℕ) → most ≤ most_ends →
+        let d = call (Output now) (stack_after (empty_stack rows most) calls) in d.answer ≡ Rests →
+        now ≤ later → IsBefore later (next_deadline d.stack) → (call (Output later) d.stack).answer ≡ Rests }
 {}
 
 /// A stack of at most 1024 ends, whatever was called before, has handed out all that is due after
