@@ -1,0 +1,4 @@
+pub mod Datagrams
+pub mod Lines
+pub mod Reasons
+pub mod StoredWords
