@@ -1,0 +1,131 @@
+-- A datagram comes to a stack.
+use Rattle.std.proofs.Common.{◌≡◌, ℕ, Bool, true, false, Option, Some, None, refl, sym, ap, subst, ◌∙◌}
+use Rattle.std.specs.Prelude.{option_map, if◌then◌else◌}
+use Rattle.ao_base.specs.declared.address.Pair.{Pair}
+use Rattle.book_segments.specs.declared.fault.DatagramFault.{DatagramFault}
+use Rattle.book_segments.specs.Segments.{Segment, Reading, Read, Bad as Unread, reading}
+use Rattle.book_endpoint.specs.declared.arrival.Arrival.{Arrival}
+use Rattle.book_endpoint.specs.Arrivals.{arrive}
+use Rattle.book_endpoint.specs.States.{EndState}
+use Rattle.book_cmd_node.specs.NodeRuns.{DatagramAnswered, called, held_end}
+use Rattle.book_segments.specs.Segments.{pair_reached}
+use Rattle.law_node.proofs.Held.{end_with_same}
+use Rattle.book_stack.specs.declared.front.Change.{Change}
+use Rattle.book_stack.specs.declared.front.Front.{Front}
+use Rattle.book_stack.specs.Calls as book
+use Rattle.book_stack.specs.Calls.{CallAnswer, Incoming, Did, Input, after_turn, call, bytes_received, after_segment_heard, heard_pair, met, unasked}
+use Rattle.book_stack.specs.Stacks.{StackState, knocks, touched, watched}
+use Rattle.book_stack.specs.Turns.{called_at, clocked}
+use Rattle.book_stack.specs.Watches.{arrived, end_front, is_heard}
+use Rattle.tcp_endpoint.specs.declared.arrival.Arrived.{Arrived}
+use Rattle.ao_node.specs.declared.answer.NodeArrival.{NodeArrival}
+use Rattle.ao_node.specs.declared.answer.NodeArrival.TheVariants as arrivals
+use Rattle.stack_ends.specs.Meeting.{Meets, MeetsPair, MeetsRead}
+use Rattle.stack_ends.specs.Standing.{most_of}
+use Rattle.ao_stack.specs.declared.stack.Stack.{Stack}
+use Rattle.ao_stack.specs.declared.arriving.Heard.{Heard}
+use Rattle.ao_stack.specs.declared.arriving.Heard.TheVariants as heards
+use Rattle.ao_stack.specs.Answering.{Does, Follows, IsHeard, IsTold}
+use Rattle.ao_stack.specs.Standing.{Stands}
+use Rattle.ao_stack.proofs.CallLaws.{follows}
+use Rattle.ao_stack.proofs.StandLaws.{moved, some_with}
+
+-- ---- the timer and the line
+
+pub heard_not : (k : Stack) (now : ℕ) (p : Pair) (a : Arrival) (c : Change) (s : StackState) → is_heard a ≡ false → Stands k s → Stands k (after_segment_heard now p a c s)
+heard_not k now p a c s e S = subst (λ (b : Bool). Stands k (if b then touched p (watched p (arrived now a c (s.watches p)) s) else s)) (sym e) S
+
+pub heard_so : (k : Stack) (now : ℕ) (p : Pair) (a : Arrival) (b c : Change) (s : StackState) → is_heard a ≡ true → b ≡ c → Stands k (touched p (watched p (arrived now a b (s.watches p)) s)) → Stands k (after_segment_heard now p a c s)
+heard_so k now p a b c s e same S =
+    subst (λ (v : Bool). Stands k (if v then touched p (watched p (arrived now a c (s.watches p)) s) else s)) (sym e)
+    (subst (λ (x : Change). Stands k (touched p (watched p (arrived now a x (s.watches p)) s))) same S)
+
+-- where an end stands, once its pair is known to be held
+pub front_missed : (o : Option EndState) (e : EndState) → None ≡ option_map end_front o → o ≡ Some e → ⊥
+front_missed None e f is = absurd (cc)
+front_missed (Some x) e f is = absurd (cc)
+
+pub front_found : (o : Option EndState) (f : Front) (e : EndState) → Some f ≡ option_map end_front o → o ≡ Some e → f ≡ end_front e
+front_found None f e h is = absurd (cc)
+front_found (Some x) f e h is = let one : f ≡ end_front x = cc in let two : x ≡ e = cc in one ∙ ap end_front two
+
+pub some_front : (o : Option EndState) (f : Front) → Some f ≡ option_map end_front o → (e : EndState) × (o ≡ Some e) × (f ≡ end_front e)
+some_front None f h = absurd (cc)
+some_front (Some x) f h = (x, refl, cc)
+
+pub no_front : (o : Option EndState) → None ≡ option_map end_front o → o ≡ None
+no_front None h = refl
+no_front (Some x) h = absurd (cc)
+
+-- where the end of a pair stands, by another name of the pair
+pub front_at : (s : StackState) (p q : Pair) → p ≡ q → (f : Option Front) → f ≡ option_map end_front (held_end p s.node.ends) → f ≡ option_map end_front (held_end q s.node.ends)
+front_at s p q e f h = subst (λ (x : Pair). f ≡ option_map end_front (held_end x s.node.ends)) e h
+
+pub told_same : (p q : Pair) (a b : Arrived) → arrivals.At p a ≡ arrivals.At q b → a.arrival ≡ b.arrival
+told_same p q a b e = let same : a ≡ b = cc in ap (λ (x : Arrived). x.arrival) same
+
+-- ---- a segment comes to the end of its pair
+
+pub heard_none : (k : Stack) (coming : Incoming) (p : Pair) (d : Segment) (s : StackState) → Stands k s → p ≡ pair_reached d → held_end p s.node.ends ≡ None
+    → Does k (IsTold arrivals.NoConnection) (heard_pair coming (pair_reached d) d s (held_end (pair_reached d) s.node.ends))
+heard_none k coming p d s S q none =
+    subst (λ (x : Pair). Does k (IsTold arrivals.NoConnection) (heard_pair coming x d s (held_end x s.node.ends))) q
+    (subst (λ (o : Option EndState). Does k (IsTold arrivals.NoConnection) (heard_pair coming p d s o)) (sym none) (record { stands = S; answer = refl }))
+
+module _ (k mid after : Stack) (s : StackState) (S : Stands k s) (coming : Incoming) (p : Pair) (d : Segment) (told : NodeArrival) where
+  pub heard_some : (e : EndState) (before : Front) → p ≡ pair_reached d → held_end p s.node.ends ≡ Some e → before ≡ end_front e → Meets mid.ends s.rows s.node told (reading coming.bytes)
+      → reading coming.bytes ≡ Read d → most_of mid.ends ≡ most_of k.ends → mid.watches ≡ k.watches → mid.alarms ≡ k.alarms → mid.line ≡ k.line
+      → ((t : StackState) (f : EndState) (r : Pair) (arrived : Arrived) → Stands mid t → held_end p t.node.ends ≡ Some f → told ≡ arrivals.At r arrived
+      → Stands after (after_segment_heard coming.now p arrived.arrival (record { before = before; after = end_front f }) t))
+      → Does after (IsTold told) (heard_pair coming (pair_reached d) d s (held_end (pair_reached d) s.node.ends))
+  heard_some e before q is was meets read most w al li follow =
+      let first : MeetsRead mid.ends s.rows s.node d told (held_end (pair_reached d) s.node.ends) = subst (λ (r : Reading). Meets mid.ends s.rows s.node told r) read meets in
+      let second : MeetsPair mid.ends s.rows s.node d p told (held_end p s.node.ends) =
+      subst (λ (x : Pair). MeetsPair mid.ends s.rows s.node d x told (held_end x s.node.ends)) (sym q) first in
+      let M : MeetsPair mid.ends s.rows s.node d p told (Some e) = subst (λ (o : Option EndState). MeetsPair mid.ends s.rows s.node d p told o) is second in
+      let a = arrive s.rows p s.node.clock e (Read d) in
+      let c = called a.state (DatagramAnswered a.answer) in
+      let t = called_at p c s in
+      let T = moved k mid s S t.node M.3 most w al li (λ r. some_with p r e a.state s.node.ends is) in
+      let held : held_end p t.node.ends ≡ Some a.state = end_with_same p a.state e s.node.ends is in
+      let F = follow t a.state p M.0 T held M.1 in
+      let answered : Stands after (after_segment_heard coming.now p a.answer (record { before = before; after = end_front a.state }) t) =
+      subst (λ (x : Arrival). Stands after (after_segment_heard coming.now p x (record { before = before; after = end_front a.state }) t)) M.2 F in
+      let stands : Stands after (after_segment_heard coming.now p a.answer (record { before = end_front e; after = end_front a.state }) t) =
+      subst (λ (x : Front). Stands after (after_segment_heard coming.now p a.answer (record { before = x; after = end_front a.state }) t)) was answered in
+      let answer : IsTold told (book.Told (DatagramAnswered a.answer)) =
+      subst (λ (x : NodeArrival). IsTold x (book.Told (DatagramAnswered a.answer))) (sym M.1) (ap (λ (x : Arrival). book.Told (DatagramAnswered x)) (sym M.2)) in
+      let some : Does after (IsTold told) (heard_pair coming p d s (Some e)) = record { stands = stands; answer = answer } in
+      subst (λ (x : Pair). Does after (IsTold told) (heard_pair coming x d s (held_end x s.node.ends))) q
+      (subst (λ (o : Option EndState). Does after (IsTold told) (heard_pair coming p d s o)) (sym is) some)
+
+-- ---- it knocks, or it doesn't
+
+pub met_knocks : (k : Stack) (coming : Incoming) (p : Pair) (d : Segment) (s : StackState) → Stands k s → p ≡ pair_reached d → knocks d (held_end (pair_reached d) s.node.ends) ≡ true
+    → Does k (IsHeard (heards.Knocks p)) (met coming d s (held_end (pair_reached d) s.node.ends))
+met_knocks k coming p d s S q e =
+    subst (λ (b : Bool). Does k (IsHeard (heards.Knocks p)) (if b then unasked s (book.Knocks (pair_reached d)) else heard_pair coming (pair_reached d) d s (held_end (pair_reached d) s.node.ends))) (sym e)
+    (record { stands = S; answer = ap book.Knocks (sym q) })
+
+pub met_else : (k : Stack) (coming : Incoming) (d : Segment) (s : StackState) (told : NodeArrival) → knocks d (held_end (pair_reached d) s.node.ends) ≡ false
+    → Does k (IsTold told) (heard_pair coming (pair_reached d) d s (held_end (pair_reached d) s.node.ends)) → Does k (IsHeard (heards.Told told)) (met coming d s (held_end (pair_reached d) s.node.ends))
+met_else k coming d s told e D =
+    subst (λ (b : Bool). Does k (IsHeard (heards.Told told)) (if b then unasked s (book.Knocks (pair_reached d)) else heard_pair coming (pair_reached d) d s (held_end (pair_reached d) s.node.ends))) (sym e)
+    (record { stands = D.stands; answer = D.answer })
+
+-- ---- the whole call
+
+input_is : (coming : Incoming) (s : StackState) → call (Input coming) s ≡ after_turn (clocked coming.now s) (bytes_received coming (reading coming.bytes))
+unfolding call
+input_is coming s = refl
+
+-- what came after the clock was set is what the call does
+pub inputs : (k : Stack) (coming : Incoming) (s : StackState) (r : Reading) (told : Heard) → reading coming.bytes ≡ r → Does k (IsHeard told) (bytes_received coming r (clocked coming.now s).stack)
+    → Follows k (Input coming) s (IsHeard told)
+inputs k coming s r told e D =
+    let d = after_turn (clocked coming.now s) (bytes_received coming r) in
+    follows k (Input coming) s (IsHeard told) d (input_is coming s ∙ ap (λ (x : Reading). after_turn (clocked coming.now s) (bytes_received coming x)) e) D.stands D.answer
+
+-- the bytes are no datagram
+pub came_bad : (k : Stack) (coming : Incoming) (fault : DatagramFault) (s : StackState) → Stands k s → Does k (IsHeard (heards.Told (arrivals.Bad fault))) (bytes_received coming (Unread fault) s)
+came_bad k coming fault s S = record { stands = S; answer = refl }

@@ -1,0 +1,10 @@
+mod ActLaws
+mod ArriveLaws
+mod BeginLaws
+mod CallLaws
+mod HandLaws
+mod RowLaws
+mod SendLaws
+mod StandLaws
+mod TellLaws
+mod TurnLaws

@@ -1,0 +1,26 @@
+use Rattle.std.proofs.Common.{refl}
+use Rattle.book_cmd_node.specs.declared.node.Act.TheVariants as act
+use Rattle.book_stack.specs.Turns.{called_at, spoken_by}
+use Rattle.stack_ends.specs.Calling.{Tells}
+use Rattle.ao_stack.specs.declared.stack.Stack.{Stack}
+use Rattle.ao_stack.proofs.ActLaws.{has_called, missed}
+use Rattle.ao_stack.proofs.SendLaws.{asked_so, asked_none, held_after, held_before}
+use Rattle.ao_stack.proofs.TellLaws.{spoken_from}
+use Rattle.ao_stack.proofs.stack.Stack.ask_pair.Goals as goal
+
+pub returns-in-None : goal.returns-in-None
+returns-in-None g c s S =
+    let k = c.args.self.now in
+    let mid : Stack = record { ends = c.speak.new.self; watches = k.watches; alarms = k.alarms; line = k.line } in
+    let M = missed k mid s S c.args.pair.now act.Send c.speak.ensures.most refl refl refl (Tells c.speak.new.room) (c.in-None.ensures.called s.rows s.node S.ends) in
+    asked_none mid c.speak.new.room c.args.now s c.args.pair.now M.1 M.0
+
+pub returns-in-Some : goal.returns-in-Some
+returns-in-Some g c s S =
+    let k = c.args.self.now in
+    let mid : Stack = record { ends = c.speak.new.self; watches = k.watches; alarms = k.alarms; line = k.line } in
+    let p = c.args.pair.now in
+    let H = has_called k mid s S p act.Send c.speak.ensures.most refl refl refl (Tells c.speak.new.room) c.in-Some.spoken (c.in-Some.ensures.called s.rows s.node S.ends) in
+    asked_so mid _ s p c.args.now c.speak.new.room c.made.new.room c.in-Some.spoken c.made.result H
+    (c.follow_asked.ensures (called_at p (spoken_by s p H.state) s) H.stands (held_after s p H.state (spoken_by s p H.state) H.held))
+    (c.made.ensures (spoken_by s p H.state).outcome (S.family p (held_before s p H.state H.held)) H.done.says_as (spoken_from s.rows p s.node.clock H.state))

@@ -1,0 +1,17 @@
+use Rattle.std.proofs.Common.{sym, subst, ◌∙◌}
+use Rattle.book_endpoint.specs.declared.arrival.Arrival.{Arrival}
+use Rattle.book_stack.specs.Calls.{after_segment_heard}
+use Rattle.book_stack.specs.Watches.{end_front}
+use Rattle.ao_stack.specs.Standing.{Stands}
+use Rattle.ao_stack.proofs.ArriveLaws.{told_same}
+use Rattle.ao_stack.proofs.stack.Stack.follow_told.Goals as goal
+
+pub returns-in-Bad : goal.returns-in-Bad
+returns-in-Bad c s e p arrived S is at = let bad = c.in-Bad.is in absurd (cc)
+
+pub returns-in-NoConnection : goal.returns-in-NoConnection
+returns-in-NoConnection c s e p arrived S is at = let none = c.in-NoConnection.is in absurd (cc)
+
+pub returns-in-At : goal.returns-in-At
+returns-in-At c s e p arrived S is at =
+    subst (λ (x : Arrival). Stands c.follow.new.self (after_segment_heard c.args.now c.args.pair.now x (record { before = c.args.before; after = end_front e }) s)) (told_same c.in-At.field-0 p c.in-At.arrived arrived (sym c.in-At.is ∙ at)) (c.follow.ensures s e S is)

@@ -1,0 +1,116 @@
+-- What the calls of a stack answer, as the definitions answer (own).
+use Rattle.std.specs.Prelude.{◌≡◌, ℕ, Bool, true, false, List, ◌++◌, length, take, drop, Option, Some, None, Result, Ok, Err, ⊤}
+use Rattle.book_segments.specs.Segments.{spell}
+use Rattle.book_keys.specs.declared.new_row.AddRefusal.{AddRefusal}
+use Rattle.book_keys.specs.declared.new_row.AddRefusal.TheVariants as refused
+use Rattle.book_keys.specs.declared.new_row.NewRow.{NewRow}
+use Rattle.book_keys.specs.declared.new_row.NoRow.{NoRow}
+use Rattle.book_keys.specs.Rows.{Row}
+use Rattle.book_keys.specs.Tables.{AddedAs, OverlapsRow, TooMany}
+use Rattle.book_endpoint.specs.declared.arrival.Arrival.TheVariants.{Bad}
+use Rattle.book_endpoint.specs.Emissions.{Emission}
+use Rattle.book_cmd_node.specs.NodeRuns as node
+use Rattle.book_stack.specs.Calls as book
+use Rattle.book_stack.specs.Calls.{CallAnswer, Call, call}
+use Rattle.book_stack.specs.Stacks.{StackState, handed}
+use Rattle.book_stack.specs.Turns.{Turn}
+use Rattle.tcp_endpoint.specs.declared.giving.GiveAnswer.{GiveAnswer}
+use Rattle.ao_node.specs.declared.answer.NodeArrival.{NodeArrival}
+use Rattle.ao_node.specs.declared.answer.NodeArrival.TheVariants as arrivals
+use Rattle.ao_node.specs.declared.answer.NodeRefusal.{NodeRefusal}
+use Rattle.ao_node.specs.declared.answer.NodeRefusal.TheVariants as refusals
+use Rattle.stack_ends.specs.declared.calling.Taken.{Taken}
+use Rattle.stack_ends.specs.Calling.{given_as}
+use Rattle.ao_stack.specs.declared.stack.Stack.{Stack}
+use Rattle.ao_stack.specs.declared.arriving.Heard.{Heard}
+use Rattle.ao_stack.specs.declared.arriving.Heard.TheVariants as heard
+use Rattle.ao_stack.specs.Standing.{Stands}
+
+-- the stack stands for what a call leaves, and that call's answer is so (own)
+pub record Follows (k : Stack) (c : Call) (s : StackState) (IsSo : CallAnswer → Type 0) : Type 0 where
+  pub stands : Stands k (call c s).stack
+  pub answer : IsSo (call c s).answer
+
+-- the same of a part of a call (own)
+pub record Does (k : Stack) (IsSo : CallAnswer → Type 0) (d : book.Did) : Type 0 where
+  pub stands : Stands k d.stack
+  pub answer : IsSo d.answer
+
+-- a connection began, or why not (own)
+abbrev pub IsBegun : {A : Type 0} → Result A NodeRefusal → CallAnswer → Type 0
+IsBegun (Ok x) a = a ≡ book.Told node.Performed
+IsBegun (Err refusals.InUse) a = a ≡ book.Told node.InUse
+IsBegun (Err refusals.Full) a = a ≡ book.Told node.NodeFull
+IsBegun (Err refusals.Memory) a = ⊥
+
+-- a connection is to begin by this call: for want of memory all stays as it is (own)
+abbrev pub BeginsAs : {A : Type 0} → Stack → Call → StackState → Result A NodeRefusal → Type 0
+BeginsAs k c s (Err refusals.Memory) = Stands k s
+BeginsAs k c s r = Follows k c s (IsBegun r)
+
+-- a row was added, or why not (own)
+abbrev pub IsAdded : Result ℕ AddRefusal → CallAnswer → Type 0
+IsAdded (Ok n) a = (rows : List Row) × (a ≡ book.Adds (AddedAs n rows))
+IsAdded (Err refused.TooMany) a = a ≡ book.Adds TooMany
+IsAdded (Err (refused.Overlap n)) a = a ≡ book.Adds (OverlapsRow n)
+IsAdded (Err refused.Memory) a = ⊥
+
+-- a row is to be added: for want of memory all stays as it is (own)
+abbrev pub AddsAs : Stack → NewRow → StackState → Result ℕ AddRefusal → Type 0
+AddsAs k row s (Err refused.Memory) = Stands k s
+AddsAs k row s r = Follows k (book.Add row) s (IsAdded r)
+
+-- a row was withdrawn, or there is no such row (own)
+abbrev pub IsWithdrawn : Result (Unit {0}) NoRow → CallAnswer → Type 0
+IsWithdrawn (Ok done) a = a ≡ book.Withdraws
+IsWithdrawn (Err none) a = a ≡ book.NoSuchRow
+
+-- the pair was held, and its end did it; or it isn't held (own)
+abbrev pub IsDone : Bool → CallAnswer → Type 0
+IsDone true a = a ≡ book.Told node.Performed
+IsDone false a = a ≡ book.Told node.NoConnection
+
+-- a piece was given to the end of a pair that is held, or the pair isn't (own)
+abbrev pub IsGiven : Option GiveAnswer → CallAnswer → Type 0
+IsGiven None a = a ≡ book.Told node.NoConnection
+IsGiven (Some answer) a = a ≡ book.Told (given_as answer)
+
+-- bytes of a pair that is held were moved to the front of the buffer (own)
+pub record HasTaken (before after : List ℕ) (taken : Taken) (a : CallAnswer) : Type 0 where
+  pub bytes : List ℕ
+  pub answer : a ≡ book.Told (node.Delivered bytes taken.at_end)
+  pub count : taken.count ≡ length bytes
+  pub filled : after ≡ bytes ++ drop taken.count before
+
+-- bytes were taken of a pair that is held, or the pair isn't (own)
+abbrev pub IsTaken : List ℕ → List ℕ → Option Taken → CallAnswer → Type 0
+IsTaken before after None a = a ≡ book.Told node.NoConnection
+IsTaken before after (Some taken) a = HasTaken before after taken a
+
+-- what a datagram that came was answered (own)
+abbrev pub IsTold : NodeArrival → CallAnswer → Type 0
+IsTold (arrivals.Bad fault) a = a ≡ book.Told (node.DatagramAnswered (Bad fault))
+IsTold arrivals.NoConnection a = a ≡ book.Told node.NoConnection
+IsTold (arrivals.At pair arrived) a = a ≡ book.Told (node.DatagramAnswered arrived.arrival)
+
+-- what a datagram that came was answered, or it knocked (own)
+abbrev pub IsHeard : Heard → CallAnswer → Type 0
+IsHeard (heard.Told told) a = IsTold told a
+IsHeard (heard.Knocks pair) a = a ≡ book.Knocks pair
+
+-- the datagram that is handed out stands in front of the buffer; or none is due (own)
+abbrev pub IsHanded : List ℕ → Option ℕ → CallAnswer → Type 0
+IsHanded room (Some n) (book.Hands x) = take n room ≡ spell (handed x.segment)
+IsHanded room None book.Rests = ⊤
+IsHanded room _ _ = ⊥
+
+-- the segment that a turn hands out stands in front of the buffer; or it hands out none (own)
+abbrev pub HandsAs : List ℕ → Option ℕ → Option Emission → Type 0
+HandsAs room (Some n) (Some x) = take n room ≡ spell (handed x.segment)
+HandsAs room None None = ⊤
+HandsAs room _ _ = ⊥
+
+-- the stack stands for what a turn leaves, and hands out what that hands out (own)
+pub record Turns (k : Stack) (room : List ℕ) (length : Option ℕ) (t : Turn) : Type 0 where
+  pub stands : Stands k t.stack
+  pub hands : HandsAs room length t.hands

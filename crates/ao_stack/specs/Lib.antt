@@ -1,0 +1,4 @@
+pub mod Answering
+pub mod Handing
+pub mod Standing
+pub mod Telling

@@ -1,0 +1,174 @@
+//! A datagram comes.
+ghost use Rattle.std.specs.Prelude.{◌≡◌, ◌≤◌, ◌<◌, ◌&&◌, Option, Some, option_map};
+ghost use Rattle.ao_base.specs.declared.address.Pair.{Pair as OnePair};
+ghost use Rattle.book_segments.specs.Segments.{Segment, Read, good, has, reading};
+ghost use Rattle.book_endpoint.specs.Arrivals.{syn_alone};
+ghost use Rattle.book_endpoint.specs.States.{EndState};
+ghost use Rattle.book_cmd_node.specs.NodeRuns.{held_end};
+ghost use Rattle.book_segments.specs.Segments.{pair_reached};
+ghost use Rattle.book_stack.specs.Calls.{Input, after_segment_heard, heard_pair, met};
+ghost use Rattle.book_stack.specs.Stacks.{StackState, is_free, is_over, knocks};
+ghost use Rattle.book_stack.specs.Watches.{end_front};
+ghost use Rattle.stack_timers.specs.Watching.{latest};
+ghost use Rattle.ao_node.specs.declared.answer.NodeArrival.TheVariants.{At};
+ghost use Rattle.tcp_endpoint.specs.declared.arrival.Arrived.{Arrived as OneArrived};
+ghost use Rattle.ao_stack.specs.Answering.{Does, Follows, IsHeard, IsTold};
+ghost use Rattle.ao_stack.specs.Standing.{Stands};
+
+use crate::stack::Stack;
+use ao_base::{Pair, Steps};
+use ao_node::NodeArrival;
+use book_endpoint::{Arrival, Phase};
+use book_stack::{Change, Front};
+use stack_timers::is_heard;
+use std::marker::Brand;
+use std::sync::ledger::{Blank, Ledger};
+use tcp_segment::{Datagram, read_datagram};
+
+const FIN: u8 = 0x01;
+
+const SYN: u8 = 0x02;
+
+const RST: u8 = 0x04;
+
+const ACK: u8 = 0x10;
+
+/// What a stack answers to a datagram that comes.
+#[derive(Clone, Copy, Debug, PartialEq, Eq)]
+pub enum Heard {
+    /// The answer of its end, or why none heard it.
+    Told(NodeArrival),
+    /// A SYN for a pair that is free: not held, or in TIME-WAIT, or closed. Nothing was heard; a user who
+    /// wants the connection drops the old one, lets a new one listen, and hands the datagram in again.
+    Knocks(Pair),
+}
+
+/// Whether a flag is set.
+fn has(datagram: &Datagram<'_>, flag: u8) -> bool
+    requires { 0 < flag }
+    ensures { result ≡ has flag datagram.now }
+{
+    datagram.flags() / flag % 2 == 1
+}
+
+/// SYN without ACK, RST and FIN, and the checksum is right.
+fn asks(datagram: &Datagram<'_>) -> bool
+    ensures { result ≡ (syn_alone datagram.now && good datagram.now) }
+{
+    has(datagram, SYN)
+        && !has(datagram, ACK)
+        && !has(datagram, RST)
+        && !has(datagram, FIN)
+        && datagram.checksum_ok()
+}
+
+/// Whether no SYN is heard in this phase.
+fn is_over(phase: Phase) -> bool
+    ensures { result ≡ is_over phase }
+{
+    matches!(phase, Phase::TimeWait | Phase::Closed)
+}
+
+/// Whether a pair is free for a new connection, where its end stands so.
+fn is_free(front: Option<Front>) -> bool
+    ensures { (held : Option EndState) → front ≡ option_map end_front held → result ≡ is_free held }
+{
+    match front {
+        None => true,
+        Some(front) => is_over(front.phase),
+    }
+}
+
+/// Whether a segment knocks that asks for a connection or doesn't, where the end of its pair stands so.
+fn knocks(asks: bool, front: Option<Front>) -> bool
+    ensures { (d : Segment) (held : Option EndState) → asks ≡ (syn_alone d && good d) → front ≡ option_map end_front held → result ≡ knocks d held }
+{
+    asks && is_free(front)
+}
+
+impl Stack {
+    /// The end of the pair, which stood so before, heard a segment with this answer.
+    fn follow(&mut self, pair: &Pair, now: u64, before: Front, arrival: Arrival)
+        requires { now ≤ latest }
+        ensures { (s : StackState) (e : EndState) → Stands self.old s → held_end pair.now s.node.ends ≡ Some e
+            → Stands self.new (after_segment_heard now pair.now arrival (record { before = before; after = end_front e }) s) }
+    {
+        let heard = is_heard(arrival);
+        if !heard {
+            return;
+        }
+        match self.ends.front(pair) {
+            None => {}
+            Some(after) => {
+                self.time_arrival(pair, now, arrival, Change { before, after });
+                self.touch(pair);
+            }
+        }
+    }
+
+    /// The end of the pair, which stood so before, was told of a segment.
+    fn follow_told(&mut self, pair: &Pair, now: u64, before: Front, told: &NodeArrival)
+        requires { now ≤ latest }
+        ensures { (s : StackState) (e : EndState) (p : OnePair) (arrived : OneArrived) → Stands self.old s → held_end pair.now s.node.ends ≡ Some e → told.now ≡ At p arrived
+            → Stands self.new (after_segment_heard now pair.now arrived.arrival (record { before = before; after = end_front e }) s) }
+    {
+        match told {
+            NodeArrival::Bad(_) => {}
+            NodeArrival::NoConnection => {}
+            NodeArrival::At(_, arrived) => self.follow(pair, now, before, arrived.arrival),
+        }
+    }
+
+    /// A segment comes for the pair.
+    fn hear<L: Ledger>(&mut self, blank: Blank, pair: &Pair, now: u64, bytes: &[u8]) -> NodeArrival
+        requires name { blank.name ≡ L.name }
+        requires parts { blank.parts ≡ L.parts }
+        requires part { 0 < blank.parts }
+        requires time { now ≤ latest }
+        ensures { (s : StackState) (d : Segment) → Stands self.old s → reading bytes.now ≡ Read d → pair.now ≡ pair_reached d
+            → Does self.new (IsTold result) (heard_pair (record { now = now; bytes = bytes.now }) (pair_reached d) d s (held_end (pair_reached d) s.node.ends)) }
+    {
+        match self.ends.front(pair) {
+            None => NodeArrival::NoConnection,
+            Some(before) => {
+                let told = self.ends.arrive(bytes, &mut Steps::<L>::new(blank));
+                self.follow_told(pair, now, before, &told);
+                told
+            }
+        }
+    }
+
+    /// A segment comes for the pair, and asks for a connection or not.
+    fn meet(&mut self, pair: &Pair, asks: bool, now: u64, bytes: &[u8]) -> Heard
+        requires time { now ≤ latest }
+        ensures { (s : StackState) (d : Segment) → Stands self.old s → reading bytes.now ≡ Read d → pair.now ≡ pair_reached d → asks ≡ (syn_alone d && good d)
+            → Does self.new (IsHeard result) (met (record { now = now; bytes = bytes.now }) d s (held_end (pair_reached d) s.node.ends)) }
+    {
+        let knocks = knocks(asks, self.ends.front(pair));
+        if knocks {
+            return Heard::Knocks(*pair);
+        }
+        Heard::Told(self.hear::<Brand>(Blank::new(1), pair, now, bytes))
+    }
+
+    /// A datagram comes at `now`, in milliseconds since 1970 and at most the last one of the year 9999: to
+    /// the end of its pair (RFC 9293, section 3.10.7), or it knocks.
+    pub fn input(&mut self, now: u64, bytes: &[u8]) -> Heard
+        requires time { now ≤ latest }
+        ensures { (s : StackState) → Stands self.old s
+            → Follows self.new (Input (record { now = now; bytes = bytes.now })) s (IsHeard result) }
+    {
+        self.set_clock(now);
+        match read_datagram(bytes) {
+            Err(fault) => Heard::Told(NodeArrival::Bad(fault)),
+            Ok(datagram) => {
+                let pair = Pair {
+                    local: datagram.destination(),
+                    remote: datagram.source(),
+                };
+                let asks = asks(&datagram);
+                self.meet(&pair, asks, now, bytes)
+            }
+        }
+    }
+}

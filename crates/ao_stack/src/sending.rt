@@ -1,0 +1,206 @@
+//! The next datagram.
+ghost use Rattle.std.specs.Prelude.{◌≡◌, ◌≤◌, ◌<◌, true, is_some, length};
+ghost use Rattle.book_cmd_node.specs.NodeRuns.{NodeOutcome, held_end};
+ghost use Rattle.book_stack.specs.Calls.{Output};
+ghost use Rattle.book_stack.specs.Stacks.{StackState, watched};
+ghost use Rattle.book_stack.specs.Turns.{ask, asked_pair, output_at, segment_in, turns, wake, woken_pair};
+ghost use Rattle.tcp_segment.specs.Writing.{IsOneFamily};
+ghost use Rattle.stack_ends.specs.Saying.{SaysAs};
+ghost use Rattle.stack_timers.specs.Watching.{latest};
+ghost use Rattle.ao_stack.specs.Answering.{Follows, HandsAs, IsHanded, Turns};
+ghost use Rattle.ao_stack.specs.Handing.{IsFromIf};
+ghost use Rattle.ao_stack.specs.Standing.{Stands};
+ghost use Rattle.ao_stack.specs.Telling.{asked_by, asked_turn};
+
+use crate::handing::hand;
+use crate::stack::Stack;
+use ao_base::{Pair, Steps};
+use stack_ends::{Says, Spoken};
+use std::marker::Brand;
+use std::sync::ledger::{Blank, Ledger};
+
+/// The length of the datagram, where one was made, and it is as it is handed out.
+fn made(pair: &Pair, says: Says, room: &mut [u8]) -> Option<usize>
+    requires { 1500 ≤ length room.old }
+    ensures { (o : NodeOutcome) → IsOneFamily pair.now.local.address pair.now.remote.address → SaysAs room.old says o → IsFromIf pair.now (segment_in o)
+        → HandsAs room.new result (segment_in o) }
+{
+    match says {
+        Says::Segment(length) => {
+            hand(pair, room);
+            Some(length)
+        }
+        Says::NoKey => None,
+        Says::Nothing => None,
+    }
+}
+
+impl Stack {
+    /// What follows where the end of the pair was asked for its next segment.
+    fn follow_asked(&mut self, pair: &Pair, now: u64, spoken: &Spoken)
+        requires { now ≤ latest }
+        ensures { (s : StackState) → Stands self.old s → is_some (held_end pair.now s.node.ends) ≡ true
+            → Stands self.new (asked_turn pair.now spoken.now.says (watched pair.now (asked_by now spoken.now (s.watches pair.now)) s)) }
+    {
+        self.time_asked(pair, now, spoken);
+        match spoken.says {
+            Says::Segment(_) => self.touch(pair),
+            Says::NoKey => self.touch(pair),
+            Says::Nothing => {}
+        }
+    }
+
+    /// The end of the pair is asked.
+    fn ask_pair<L: Ledger>(
+        &mut self,
+        pair: &Pair,
+        now: u64,
+        room: &mut [u8],
+        steps: &mut Steps<L>,
+    ) -> Option<usize>
+        requires time { now ≤ latest }
+        requires room { 1500 ≤ length room.old }
+        ensures { (s : StackState) → Stands self.old s → Turns self.new room.new result (asked_pair now pair.now s (held_end pair.now s.node.ends)) }
+    {
+        match self.ends.speak(pair, room, steps) {
+            None => None,
+            Some(spoken) => {
+                self.follow_asked(pair, now, &spoken);
+                made(pair, spoken.says, room)
+            }
+        }
+    }
+
+    /// The end whose turn it is, is asked.
+    fn ask<L: Ledger>(&mut self, now: u64, room: &mut [u8], steps: &mut Steps<L>) -> Option<usize>
+        requires time { now ≤ latest }
+        requires room { 1500 ≤ length room.old }
+        ensures { (s : StackState) → Stands self.old s → Turns self.new room.new result (ask now s) }
+    {
+        match self.line.take_first() {
+            None => None,
+            Some(pair) => self.ask_pair(&pair, now, room, steps),
+        }
+    }
+
+    /// The end of the pair sends again.
+    fn wake_pair<L: Ledger>(
+        &mut self,
+        pair: &Pair,
+        now: u64,
+        room: &mut [u8],
+        steps: &mut Steps<L>,
+    ) -> Option<usize>
+        requires time { now ≤ latest }
+        requires room { 1500 ≤ length room.old }
+        ensures { (s : StackState) → Stands self.old s → Turns self.new room.new result (woken_pair now pair.now s (held_end pair.now s.node.ends)) }
+    {
+        match self.ends.repeat(pair, room, steps) {
+            None => None,
+            Some(spoken) => {
+                self.time_woken(pair, now, spoken.change.before.phase, spoken.says);
+                self.touch(pair);
+                made(pair, spoken.says, room)
+            }
+        }
+    }
+
+    /// The earliest alarm goes off, where its deadline is reached.
+    fn wake<L: Ledger>(&mut self, now: u64, room: &mut [u8], steps: &mut Steps<L>) -> Option<usize>
+        requires time { now ≤ latest }
+        requires room { 1500 ≤ length room.old }
+        ensures { (s : StackState) → Stands self.old s → Turns self.new room.new result (wake now s) }
+    {
+        match self.alarms.take_due(now) {
+            None => None,
+            Some(pair) => self.wake_pair(&pair, now, room, steps),
+        }
+    }
+
+    /// Each end in line is asked once at most, up to the first that has a segment.
+    fn ask_all<L: Ledger>(
+        &mut self,
+        now: u64,
+        room: &mut [u8],
+        steps: &mut Steps<L>,
+    ) -> Option<usize>
+        requires time { now ≤ latest }
+        requires room { 1500 ≤ length room.old }
+        ensures { (s : StackState) → Stands self.old s → Turns self.new room.new result (turns (length s.line) (ask now) s) }
+    {
+        let count = self.line.len();
+        for _turn in 0..count {
+            match self.ask(now, room, steps) {
+                None => {}
+                Some(length) => return Some(length),
+            }
+        }
+        None
+    }
+
+    /// Each alarm whose deadline is reached goes off once at most, up to the first at which a segment is
+    /// made.
+    fn wake_all<L: Ledger>(
+        &mut self,
+        now: u64,
+        room: &mut [u8],
+        steps: &mut Steps<L>,
+    ) -> Option<usize>
+        requires time { now ≤ latest }
+        requires room { 1500 ≤ length room.old }
+        ensures { (s : StackState) → Stands self.old s → Turns self.new room.new result (turns (length s.alarms) (wake now) s) }
+    {
+        let count = self.alarms.len();
+        for _turn in 0..count {
+            match self.wake(now, room, steps) {
+                None => {}
+                Some(length) => return Some(length),
+            }
+        }
+        None
+    }
+
+    /// The clock goes on, and then the next datagram is made.
+    fn advance<L: Ledger>(
+        &mut self,
+        now: u64,
+        room: &mut [u8],
+        steps: &mut Steps<L>,
+    ) -> Option<usize>
+        requires time { now ≤ latest }
+        requires room { 1500 ≤ length room.old }
+        ensures { (s : StackState) → Stands self.old s → Turns self.new room.new result (output_at now s) }
+    {
+        self.set_clock(now);
+        match self.ask_all(now, room, steps) {
+            None => self.wake_all(now, room, steps),
+            Some(length) => Some(length),
+        }
+    }
+
+    /// The next datagram, with steps that nobody counts.
+    fn hand_out<L: Ledger>(&mut self, blank: Blank, now: u64, room: &mut [u8]) -> Option<usize>
+        requires name { blank.name ≡ L.name }
+        requires parts { blank.parts ≡ L.parts }
+        requires part { 0 < blank.parts }
+        requires time { now ≤ latest }
+        requires room { 1500 ≤ length room.old }
+        ensures { (s : StackState) → Stands self.old s → Turns self.new room.new result (output_at now s) }
+    {
+        let mut steps = Steps::<L>::new(blank);
+        self.advance(now, room, &mut steps)
+    }
+
+    /// The next datagram that is due at `now`, in milliseconds since 1970 and at most the last one of the
+    /// year 9999, and its length: it stands in front of `room`, which has at least 1,500 bytes. Each end
+    /// in line is asked for its next segment once at most; then each alarm whose deadline is reached goes
+    /// off once at most. `None` where no datagram is due: then `output` is to be called again at
+    /// `next_deadline`, or after another call.
+    pub fn output(&mut self, now: u64, room: &mut [u8]) -> Option<usize>
+        requires time { now ≤ latest }
+        requires room { 1500 ≤ length room.old }
+        ensures { (s : StackState) → Stands self.old s → Follows self.new (Output now) s (IsHanded room.new result) }
+    {
+        self.hand_out::<Brand>(Blank::new(1), now, room)
+    }
+}
