@@ -1,4 +1,5 @@
 pub mod Datagrams
+pub mod Files
 pub mod Lines
 pub mod Reasons
 pub mod StoredWords

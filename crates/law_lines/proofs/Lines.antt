@@ -104,7 +104,7 @@ remark_back n number text short = rw (le-ltb 131200 (length (remark number text)
 
 -- ---- a datagram is said
 
-by_places : (xs : List ℕ) → All IsByte xs → IsBytes xs
+pub by_places : (xs : List ℕ) → All IsByte xs → IsBytes xs
 by_places xs all = λ i. elim (cases_lt i (length xs)) [
   | inl within ↦ All-get_or IsByte xs i 0 within all
   | inr behind ↦ rw (get_or_past xs i 0 behind) (omega arith)

@@ -1,5 +1,9 @@
+use Rattle.law_lines.proofs.Files.{files_judged}
 use Rattle.law_lines.proofs.Lines.{lines_judged}
 use Rattle.law_lines.proofs.laws.check_judges_what_lines_writes.Goals as goal
 
-pub returns : goal.returns
-returns c = lines_judged
+pub returns-clause-packets : goal.returns-clause-packets
+returns-clause-packets c = lines_judged
+
+pub returns-clause-files : goal.returns-clause-files
+returns-clause-files c = files_judged
