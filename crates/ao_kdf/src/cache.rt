@@ -1,7 +1,7 @@
 //! Traffic keys that are kept once they were derived.
 ghost use Rattle.std.specs.Prelude.{◌≡◌, ◌+◌, ◌-◌, ◌<◌, ◌≤◌, ℕ, List, Option, Some, None, length, option_map, replicate, slice_set, IfOk};
 ghost use Rattle.book_macs.specs.Contexts.{bytes_of};
-ghost use Rattle.book_macs.specs.Keys.{traffic_key};
+ghost use Rattle.book_macs.specs.Keys.{key_length, traffic_key};
 ghost use Rattle.ao_kdf.specs.Cache.{empty, key_at, kept, keeping, IsRight, steps_for};
 
 use crate::key::{TrafficKey, traffic_key};
@@ -100,6 +100,36 @@ impl KeyCache {
         match way {
             Way::Inbound => fill(&mut self.inbound, at, alg, master, context, steps),
             Way::Outbound => fill(&mut self.outbound, at, alg, master, context, steps),
+        }
+    }
+
+    /// The traffic key of a row, from 1 to `rows`, for a way: of this master key and this context
+    /// (RFC 5925, section 5.2). Where a key is kept for the row and the way, it is that of these
+    /// arguments; a copy of it is given, and no step is counted. Else the key is derived and kept, and
+    /// one step is counted. All other keys stay. Who needs the key for one MAC borrows it: `keep`,
+    /// then `kept`.
+    pub fn get<L: Ledger>(
+        &mut self,
+        row: u8,
+        way: Way,
+        alg: Algorithm,
+        master: &[u8],
+        context: &Context,
+        steps: &mut Steps<L>,
+    ) -> TrafficKey
+        requires low { 1 ≤ row }
+        requires high { row ≤ self.old.rows }
+        requires right { IsRight (kept self.old row way) (traffic_key alg master.now (bytes_of context.now)) }
+        ensures key { result ≡ traffic_key alg master.now (bytes_of context.now) }
+        ensures length { length result ≡ key_length alg }
+        ensures keys { self.new ≡ keeping self.old row way result }
+        ensures kept { kept self.new row way ≡ Some result }
+        ensures counted { steps.new ≡ steps.old + steps_for (kept self.old row way) }
+    {
+        self.keep(row, way, alg, master, context, steps);
+        match self.kept(row, way) {
+            Some(key) => key.copied(),
+            None => unreachable!(),
         }
     }
 

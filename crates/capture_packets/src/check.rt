@@ -139,13 +139,14 @@ fn check_counted<L: Ledger, I: Source, O: Sink>(
 /// has a datagram, which begins with the packet's number, as it reads on: lines are gathered, and
 /// written before the source is asked for more. Ok at the file's end, and whether a segment is no pass.
 ///
-/// At most 327,696 bytes of the file are kept, and the lines of its packets that were kept at once. Write
-/// comes only where the sink's count of faults rose, with a front part of the line that failed written;
-/// no more bytes than are kept were taken past the record of its packet. Head comes where the header is faulty, and Record where the record behind the packets whose
-/// lines were written is; TooLong only where more than 268,435,456 bytes were given and the header isn't
-/// faulty; Read only where the source's count of faults rose, and Memory for want of memory. With these
-/// the packets in front of at most 327,720 bytes were read, and the lines of all of them written, but
-/// with Memory perhaps not that of the last one; with TooLong they lie within the 268,435,456 bytes.
+/// At most 327,696 bytes of the file are kept, and the lines of its packets that were kept at once.
+/// Write comes only where the sink's count of faults rose, with a front part of the line that failed
+/// written; no more bytes than are kept were taken past the record of its packet. Head comes where the
+/// header is faulty, and Record where the record behind the packets whose lines were written is;
+/// TooLong only where more than 268,435,456 bytes were given and the header isn't faulty; Read only
+/// where the source's count of faults rose, and Memory for want of memory. With these the packets in
+/// front of at most 327,720 bytes were read, and the lines of all of them written, but with Memory
+/// perhaps not that of the last one; with TooLong they lie within the 268,435,456 bytes.
 pub fn check_packets<I: Source, O: Sink>(
     alloc: Global,
     tables: Tables,

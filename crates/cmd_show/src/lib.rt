@@ -1,8 +1,8 @@
 //! Datagrams shown as text, and test vectors of the algorithms verified.
 //!
-//! Both commands read a text of lines, and name the first faulty line with its kind. `show` writes the
+//! Both calls read a text of lines, and name the first faulty line with its kind. `show` writes the
 //! fields of each datagram, or why the bytes are none; `vectors` writes for each vector whether what
-//! is computed is what its line says.
+//! is computed is what its line says. `answer_show` and `answer_vectors` are the commands over them.
 #![tactic(auto)]
 
 mod array;
@@ -14,5 +14,7 @@ mod vector;
 mod vector_words;
 mod verifying;
 
-pub use showing::answer_show;
-pub use verifying::answer_vectors;
+pub use book_cmd_show::Verified;
+pub use book_lines::TextFault;
+pub use showing::{answer_show, show};
+pub use verifying::{answer_vectors, vectors};

@@ -54,9 +54,17 @@ fn push_lines(alloc: Global, out: &mut Vec<u8>, lines: &mut SayingLines) -> Resu
     Ok(())
 }
 
-/// The lines of the datagrams of a text, or its first fault.
+/// Shows each datagram of a text of lines, which hold one each in hexadecimal, of any length.
+///
+/// A line of the answer has the number of its line and `bad` with the first of the nine faults, or
+/// the fields of the datagram that a prefix of the bytes is: family, sender, receiver, numbers, flags
+/// in hexadecimal, whether the TCP checksum is right, and the options in order.
+///
+/// `Ok` exactly where each line that says something is hexadecimal. `TooManyLines` exactly where the
+/// text has more than 20,000 lines; else `Line` is the first faulty line, counted from 1 among all
+/// lines, with the kind of its first faulty word. `Memory` only for want of memory.
 #[tactic(auto, unfolding(book_cmd_show::specs::Show::show_of, book_lines::specs::Said::said_in))]
-fn show(alloc: Global, text: &[u8]) -> Result<Bytes, TextFault>
+pub fn show(alloc: Global, text: &[u8]) -> Result<Bytes, TextFault>
     ensures text { Answers result (show_of text.now) }
     ensures too_many { IsErrOf result TextFault.TooManyLines ↔ (most_lines < length (lines_of text.now)) }
 {
@@ -66,16 +74,7 @@ fn show(alloc: Global, text: &[u8]) -> Result<Bytes, TextFault>
     Ok(Bytes::from_vec(out))
 }
 
-/// The answer of `show`: each datagram of a text of lines, which hold one each in hexadecimal, of any
-/// length, is shown.
-///
-/// A line of the answer has the number of its line and `bad` with the first of the nine faults, or
-/// the fields of the datagram that a prefix of the bytes is: family, sender, receiver, numbers, flags
-/// in hexadecimal, whether the TCP checksum is right, and the options in order. Nothing is amiss.
-///
-/// `Ok` exactly where each line that says something is hexadecimal. `TooManyLines` exactly where the
-/// text has more than 20,000 lines; else `Line` is the first faulty line, counted from 1 among all
-/// lines, with the kind of its first faulty word. `Memory` only for want of memory.
+/// The answer of `show`: what `show` gives for the input, in which nothing is amiss, or its fault.
 #[tactic(auto, using(command_report::proofs::Reporting::fails_stops, command_report::proofs::Reporting::many_stop))]
 pub fn answer_show(alloc: Global, input: &[u8]) -> Result<Report, Stop>
     ensures answer { Reports result (if_read (done false) (show_of input.now)) }

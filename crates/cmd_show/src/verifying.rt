@@ -111,9 +111,19 @@ fn one_more(totals: Totals, vector: &Vector) -> Totals
     }
 }
 
-/// The lines of the vectors of a text and the totals, or its first fault.
+/// Verifies each test vector of a text of lines.
+///
+/// A line is `hmac KEY MESSAGE OUT` (RFC 2104), `aes KEY BLOCK OUT` (FIPS 197), `cmac KEY MESSAGE
+/// OUT` (RFC 4493), `prf KEY MESSAGE OUT` (RFC 4615), `kdf ALGORITHM MASTER CONTEXT OUT` (RFC 5926,
+/// section 3.1) or `segment ALGORITHM MASTER SOURCEISN DESTISN EXTENSION options DATAGRAM`, or
+/// `no-options` (RFC 5925, section 5.1). The answer has for each its line's number with `ok`, or
+/// `differs` with what is computed; last how many vectors there are and how many differ.
+///
+/// `Ok` exactly where the text is in the grammar. `TooManyLines` exactly where it has more than
+/// 20,000 lines; else `Line` is the first faulty line, counted from 1 among all lines, with the kind
+/// of its first faulty word. `Memory` only for want of memory.
 #[tactic(auto, unfolding(book_cmd_show::specs::Verified::vectors_of, book_lines::specs::Said::said_in))]
-fn vectors(alloc: Global, text: &[u8]) -> Result<Verified, TextFault>
+pub fn vectors(alloc: Global, text: &[u8]) -> Result<Verified, TextFault>
     ensures text { Answers result (vectors_of text.now) }
     ensures too_many { IsErrOf result TextFault.TooManyLines ↔ (most_lines < length (lines_of text.now)) }
 {
@@ -127,18 +137,8 @@ fn vectors(alloc: Global, text: &[u8]) -> Result<Verified, TextFault>
     })
 }
 
-/// The answer of `vectors`: each test vector of a text of lines is verified.
-///
-/// A line is `hmac KEY MESSAGE OUT` (RFC 2104), `aes KEY BLOCK OUT` (FIPS 197), `cmac KEY MESSAGE
-/// OUT` (RFC 4493), `prf KEY MESSAGE OUT` (RFC 4615), `kdf ALGORITHM MASTER CONTEXT OUT` (RFC 5926,
-/// section 3.1) or `segment ALGORITHM MASTER SOURCEISN DESTISN EXTENSION options DATAGRAM`, or
-/// `no-options` (RFC 5925, section 5.1). The answer has for each its line's number with `ok`, or
-/// `differs` with what is computed; last how many vectors there are and how many differ. One that
-/// differs is amiss.
-///
-/// `Ok` exactly where the text is in the grammar. `TooManyLines` exactly where it has more than
-/// 20,000 lines; else `Line` is the first faulty line, counted from 1 among all lines, with the kind
-/// of its first faulty word. `Memory` only for want of memory.
+/// The answer of `vectors`: what `vectors` gives for the input, or its fault. One vector that differs is
+/// amiss.
 #[tactic(auto, using(command_report::proofs::Reporting::fails_stops, command_report::proofs::Reporting::many_stop))]
 pub fn answer_vectors(alloc: Global, input: &[u8]) -> Result<Report, Stop>
     ensures answer { Reports result (if_read verified (vectors_of input.now)) }

@@ -12,11 +12,9 @@ mod row_lines;
 mod row_texts;
 mod timed;
 
-pub use ao_base::End;
-pub use book_cmd_link::{Script, SharedKey};
-pub use book_cmd_timed::{TimedEvent, TimedEvents, TimedScript};
-pub use book_lines::TextFault as ScriptFault;
-pub use book_link::{Event, Events, RowLine};
+pub use book_cmd_link::Script;
+pub use book_cmd_timed::TimedScript;
+pub use book_lines::TextFault;
 pub use head::{Head, read_head};
 pub use line_events::read_event;
 pub use printing::print_script;

@@ -7,6 +7,6 @@ mod line_events;
 mod name;
 mod reading;
 
-pub use book_cmd_node::{Act, NodeEvent, NodeEvents, NodeScript};
-pub use book_lines::TextFault as NodeFault;
+pub use book_cmd_node::NodeScript;
+pub use book_lines::TextFault;
 pub use reading::read_node;

@@ -82,11 +82,12 @@ impl Packets {
     /// The content is what the reader keeps, and then what the source has left. It begins with the
     /// header at the first call, and with a record at each later one (pcap-savefile). Packet: the
     /// record at the front is shown, also of a packet that has no datagram, and the content afterwards
-    /// is what follows it; what was taken shows this, whatever follows. End comes only at the source's end, with all packets shown. BadHead and
-    /// BadRecord come exactly where the header, or the record at the front, has a fault; but Fault
-    /// may come before both, and TooLong before BadRecord. Fault comes only where the source's count
-    /// of faults rose, TooLong only where the source gave more than 268,435,456 bytes. Where none of
-    /// this is so, the answer is Packet or End. At most 327,696 bytes are kept after any call.
+    /// is what follows it; what was taken shows this, whatever follows. End comes only at the source's
+    /// end, with all packets shown. BadHead and BadRecord come exactly where the header, or the record
+    /// at the front, has a fault; but Fault may come before both, and TooLong before BadRecord. Fault
+    /// comes only where the source's count of faults rose, TooLong only where the source gave more than
+    /// 268,435,456 bytes. Where none of this is so, the answer is Packet or End. At most 327,696 bytes
+    /// are kept after any call.
     pub fn next<S: Source>(&mut self, src: &mut S) -> PacketStep
         requires { self.old.over ≡ false }
         ensures steps { (given : List ℕ) × Steps self.old self.new (S.side src.old) (S.side src.new) given result × GoesOn self.old self.new (self.old.kept ++ given) result }
