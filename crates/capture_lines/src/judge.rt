@@ -1,5 +1,5 @@
 //! A judge of stored segments, which says a line of each.
-ghost use Rattle.std.specs.Prelude.{◌≡◌, [], List, IfOk};
+ghost use Rattle.std.specs.Prelude.{◌≡◌, ◌≤◌, ◌+◌, [], List, IfOk};
 ghost use Rattle.book_cmd_check.specs.Captures.{Stored};
 ghost use Rattle.capture_lines.specs.Judging.{Gathers, HasHeard, Judges};
 
@@ -52,7 +52,7 @@ impl Judge {
 
     /// Judges the bytes that were stored at a time, in seconds since 1970, by the segments heard
     /// before, and puts the line of it, which begins with this number, behind `lines`. Where memory
-    /// runs out these stay as they were, and no call may follow.
+    /// runs out these stay as they were, and no call may follow. At most one key is derived.
     pub fn hear<L: Ledger>(
         &mut self,
         alloc: Global,
@@ -62,8 +62,10 @@ impl Judge {
         bytes: &[u8],
         lines: &mut Vec<u8>,
     ) -> Result<(), AllocError>
-        ensures { (stored : List Stored) → HasHeard self.old stored →
+        ensures gathers { (stored : List Stored) → HasHeard self.old stored →
             Gathers self.old self.new stored (record { number = number; time = time; bytes = bytes.now }) lines.old.items lines.new.items result }
+        ensures least { steps.old ≤ steps.new }
+        ensures most { steps.new ≤ steps.old + 1 }
     {
         let answer = match self.checker.next(alloc, time, bytes, steps) {
             Ok(answer) => answer,
@@ -83,7 +85,7 @@ impl Judge {
 
     /// Judges the bytes that were stored at a time, in seconds since 1970, by the segments heard
     /// before, and writes the line of it, which begins with this number. No call may follow one that
-    /// answered an error.
+    /// answered an error. At most one key is derived.
     pub fn judge<L: Ledger, O: Sink>(
         &mut self,
         alloc: Global,
@@ -93,8 +95,10 @@ impl Judge {
         bytes: &[u8],
         out: &mut O,
     ) -> Result<(), Unwritten>
-        ensures { (stored : List Stored) → HasHeard self.old stored →
+        ensures judges { (stored : List Stored) → HasHeard self.old stored →
             Judges self.old self.new stored (record { number = number; time = time; bytes = bytes.now }) (O.side out.old) (O.side out.new) result }
+        ensures least { steps.old ≤ steps.new }
+        ensures most { steps.new ≤ steps.old + 1 }
     {
         let answer = match self.checker.next(alloc, time, bytes, steps) {
             Ok(answer) => answer,

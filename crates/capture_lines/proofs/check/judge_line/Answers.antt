@@ -10,11 +10,11 @@ returns-in-Ok-Empty g c = λ lines at none heard.
 pub returns-in-Ok : goal.returns-in-Ok
 returns-in-Ok g c = λ lines at none heard.
     let said = rw c.in-Ok-Segment.field-0-is at (c.in-Ok-Segment.ensures c.args.number) in
-    let judges = rw (c.from-number.ensures, c.as_slice.ensures) at (c.in-Ok.ensures (segments_of lines) heard) in
+    let judges = rw (c.from-number.ensures, c.as_slice.ensures) at (c.in-Ok.ensures.judges (segments_of lines) heard) in
     segment_line c.args.judge.now c.judge.new.self c.args.number lines c.args.line.now _ _ _ _ at said none judges
 
 pub returns-in-Ok-Segment : goal.returns-in-Ok-Segment
 returns-in-Ok-Segment g c = λ lines at none heard.
     let said = rw c.in-Ok-Segment.field-0-is at (c.in-Ok-Segment.ensures c.args.number) in
-    let judges = rw (c.in-Err-Write.field-0-is, c.from-number.ensures, c.as_slice.ensures) at (c.in-Err-Write.ensures (segments_of lines) heard) in
+    let judges = rw (c.in-Err-Write.field-0-is, c.from-number.ensures, c.as_slice.ensures) at (c.in-Err-Write.ensures.judges (segments_of lines) heard) in
     broken_line c.args.judge.now c.judge.new.self c.args.number lines c.args.line.now _ _ _ at said none judges

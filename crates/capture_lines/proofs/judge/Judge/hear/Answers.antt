@@ -6,8 +6,8 @@ use Rattle.capture_lines.proofs.JudgeLaws.{gathered}
 use Rattle.capture_lines.proofs.judge.Judge.hear.Goals as goal
 use Rattle.capture_lines.proofs.judge.Judge.hear.Goals.{in-Ok-extend_from_slice, in-Err-extend_from_slice}
 
-pub returns : goal.returns
-returns g c =
+pub returns-clause-gathers : goal.returns-clause-gathers
+returns-clause-gathers g c =
     let texts : (w : Saying) → Says c.in-Ok.answer w → c.as_slice.result.now ≡ numbered_text c.args.number (saying_texts w) = λ w says. c.as_slice.ensures.value ∙ rw c.clear.ensures.items at (c.in-Ok-push_check_line.ensures w says) in
     rw (← c.self.view_is)
     (elim c.match-extend_from_slice.branch [

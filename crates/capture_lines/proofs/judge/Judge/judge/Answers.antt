@@ -6,8 +6,8 @@ use Rattle.capture_lines.proofs.JudgeLaws.{judged, broken}
 use Rattle.capture_lines.proofs.judge.Judge.judge.Goals as goal
 use Rattle.capture_lines.proofs.judge.Judge.judge.Goals.{in-Ok-write_all, in-Err-write_all}
 
-pub returns : goal.returns
-returns g c =
+pub returns-clause-judges : goal.returns-clause-judges
+returns-clause-judges g c =
     let texts : (w : Saying) → Says c.in-Ok.answer w → c.as_slice.result.now ≡ numbered_text c.args.number (saying_texts w) = λ w says. c.as_slice.ensures.value ∙ rw c.clear.ensures.items at (c.in-Ok-push_check_line.ensures w says) in
     rw (← c.self.view_is)
     (elim c.match-write_all.branch [
