@@ -1,0 +1,10 @@
+pub mod Windows
+pub mod Advancing
+pub mod Nearing
+pub mod Speaking
+pub mod Conversing
+pub mod Staying
+pub mod Taking
+pub mod Delivering
+pub mod Beginning
+pub mod Handshaking
