@@ -1,0 +1,2 @@
+mod InstantLaws
+mod ReadingLaws

@@ -1,0 +1,12 @@
+//! Addresses, times and lengths of time as operators read and write them.
+#![tactic(auto)]
+
+mod address;
+mod duration;
+mod instant;
+mod reading;
+
+pub use address::{push_address, read_address};
+pub use duration::read_duration;
+pub use instant::{push_instant, push_key_time};
+pub use reading::read_instant;
