@@ -9,8 +9,11 @@ use Rattle.book_cmd_check.specs.Captures.{Stored, Connection, hear, hear_read, s
 use Rattle.book_captures.specs.Captures.{CapturePacket}
 use Rattle.book_sessions.specs.declared.outcome.SegmentOutcome.{SegmentOutcome}
 use Rattle.book_sessions.specs.declared.outcome.PassedOver.{PassedOver}
-use Rattle.book_sessions.specs.OutcomeTexts.{outcome_text, passed_text}
-use Rattle.book_sessions.specs.Sessions.{SeenSegment, KeyUse, PassedCount, SessionTable, outcome_of, seen_by, same_outcome, is_use_of, session_of, used_again, with_use, and_segment, with_passed, and_counted, stored_of_packet, stored_before, all_stored, counted_by, sessions_from, no_sessions, sessions_of}
+use Rattle.book_sessions.specs.declared.uses.SeenSegment.{SeenSegment}
+use Rattle.book_sessions.specs.declared.uses.KeyUse.{KeyUse}
+use Rattle.book_sessions.specs.declared.uses.PassedCount.{PassedCount}
+use Rattle.book_sessions.specs.OutcomeTexts.{outcome_text}
+use Rattle.book_sessions.specs.Sessions.{SessionTable, same_reason, outcome_of, seen_by, same_outcome, is_use_of, session_of, used_again, with_use, and_segment, with_passed, and_counted, stored_of_packet, stored_before, all_stored, counted_by, sessions_from, no_sessions, sessions_of}
 use Rattle.book_sessions.specs.Counts.{if_outcome, counted, said_once, said_times, all_counted, all_passed}
 
 zero_first : (n : ℕ) → 0 + n ≡ n
@@ -18,9 +21,12 @@ zero_first n = omega arith
 
 -- ---- one more segment
 
-first_holds : (a b : Bool) → a && b ≡ true → a ≡ true
-first_holds true b e = refl
-first_holds false b e = e
+second_holds : (a b : Bool) → a && b ≡ true → b ≡ true
+second_holds true b e = e
+second_holds false b e = absurd (cc)
+
+third_holds : (a b c : Bool) → a && (b && c) ≡ true → c ≡ true
+third_holds a b c e = second_holds b c (second_holds a (b && c) e)
 
 same_text : (a b : SegmentOutcome) → same_outcome a b ≡ true → outcome_text a ≡ outcome_text b
 same_text a b e = (bytes_eq-Decides (outcome_text a) (outcome_text b)).0 e
@@ -38,7 +44,7 @@ between a b c d e = omega arith
 
 use_step : (b : Bool) (o : SegmentOutcome) (session : ℕ) (s : SeenSegment) (u : KeyUse) (us : List KeyUse) → is_use_of s u ≡ b → counted o (with_use session s us) ≡ if_outcome o s.outcome 1 + counted o us →
     counted o (if b then used_again s u ∷ us else u ∷ with_use session s us) ≡ if_outcome o s.outcome 1 + (if_outcome o u.outcome u.segments + counted o us)
-use_step true o session s u us is others = again o s.outcome u.outcome u.segments (counted o us) (same_text s.outcome u.outcome (first_holds (same_outcome s.outcome u.outcome) _ is))
+use_step true o session s u us is others = again o s.outcome u.outcome u.segments (counted o us) (same_text s.outcome u.outcome (third_holds _ _ (same_outcome s.outcome u.outcome) is))
 use_step false o session s u us is others = between (if_outcome o s.outcome 1) (if_outcome o u.outcome u.segments) (counted o us) (counted o (with_use session s us)) others
 
 use_counted : (o : SegmentOutcome) (session : ℕ) (s : SeenSegment) (us : List KeyUse) → counted o (with_use session s us) ≡ if_outcome o s.outcome 1 + counted o us
@@ -61,7 +67,7 @@ passed_step false why c cs others = omega arith
 
 passed_all : (why : PassedOver) (cs : List PassedCount) → all_passed (with_passed why cs) ≡ 1 + all_passed cs
 passed_all why [] = refl
-passed_all why (c ∷ cs) = passed_step (bytes_eq (passed_text why) (passed_text c.why)) why c cs (passed_all why cs)
+passed_all why (c ∷ cs) = passed_step (same_reason why c.why) why c cs (passed_all why cs)
 
 -- ---- one more packet
 

@@ -1,9 +1,15 @@
 -- The numbers in a table of sessions, and how often something is said (own).
-use Rattle.std.specs.Prelude.{ℕ, ◌+◌, List, [], ◌∷◌, Result, Ok, Err, if◌then◌else◌}
+use Rattle.std.specs.Prelude.{ℕ, ◌+◌, Bool, List, [], ◌∷◌, Result, Ok, Err, if◌then◌else◌}
 use Rattle.book_segments.specs.declared.fault.DatagramFault.{DatagramFault}
-use Rattle.book_cmd_check.specs.Captures.{Saying}
+use Rattle.book_segments.specs.Segments.{reading}
+use Rattle.book_keys.specs.Rows.{Table}
+use Rattle.book_cmd_check.specs.Captures.{Saying, Stored, Connection, hear}
+use Rattle.book_sessions.specs.declared.outcome.PassedOver.{PassedOver}
 use Rattle.book_sessions.specs.declared.outcome.SegmentOutcome.{SegmentOutcome}
-use Rattle.book_sessions.specs.Sessions.{KeyUse, PassedCount, outcome_of, same_outcome}
+use Rattle.book_sessions.specs.declared.uses.KeyUse.{KeyUse}
+use Rattle.book_sessions.specs.declared.uses.PassedCount.{PassedCount}
+use Rattle.book_sessions.specs.declared.uses.SeenSegment.{SeenSegment}
+use Rattle.book_sessions.specs.Sessions.{outcome_of, same_outcome, seen_by, is_use_of, first_use}
 
 -- so many, if it is the outcome that is asked for (own)
 abbrev pub if_outcome : SegmentOutcome → SegmentOutcome → ℕ → ℕ
@@ -33,3 +39,29 @@ all_counted (u ∷ us) = u.segments + all_counted us
 abbrev pub all_passed : List PassedCount → ℕ
 all_passed [] = 0
 all_passed (c ∷ cs) = c.packets + all_passed cs
+
+-- a segment that was seen, in front of others (own)
+abbrev pub seen_before : Result SeenSegment PassedOver → List SeenSegment → List SeenSegment
+seen_before (Ok s) others = s ∷ others
+seen_before (Err why) others = others
+
+-- the segments of stored datagrams, each with what `check` says of it (own)
+abbrev pub segments_seen : List Table → List Connection → List Stored → List SeenSegment
+segments_seen tables held [] = []
+segments_seen tables held (s ∷ rest) = let h = hear tables held s.time s.bytes in
+    seen_before (seen_by s.time (reading s.bytes) (outcome_of h.saying))
+    (segments_seen tables h.connections rest)
+
+-- two segments go the same way with the same KeyID, and the same is said of them (own)
+abbrev pub is_like : SeenSegment → SeenSegment → Bool
+is_like s other = is_use_of s (first_use 0 other)
+
+-- how many of these are like a segment (own)
+abbrev pub like_times : SeenSegment → List SeenSegment → ℕ
+like_times s [] = 0
+like_times s (other ∷ others) = (if is_like s other then 1 else 0) + like_times s others
+
+-- how many segments like this one are counted (own)
+abbrev pub like_counted : SeenSegment → List KeyUse → ℕ
+like_counted s [] = 0
+like_counted s (u ∷ us) = (if is_use_of s u then u.segments else 0) + like_counted s us

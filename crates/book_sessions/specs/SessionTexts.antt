@@ -1,27 +1,101 @@
 -- A table of sessions as text. Our own format. Its top is `sessions_text`.
-use Rattle.std.specs.Prelude.{ℕ, List, [], ◌∷◌, ◌++◌, codes, decimal, Option, Some, None}
-use Rattle.std.specs.List.{flat_map}
-use Rattle.book_lines.specs.Texts.{line_text, socket_texts}
-use Rattle.book_sessions.specs.OutcomeTexts.{outcome_text, passed_text}
-use Rattle.book_sessions.specs.Sessions.{KeyUse, PassedCount, SessionTable}
+use Rattle.std.specs.Prelude.{ℕ, zero, suc, ◌==◌, ◌&&◌, ◌||◌, min, max, Bool, not, List, [], ◌∷◌}
+use Rattle.std.specs.Prelude.{◌++◌, codes, decimal, Option, Some, None, if◌then◌else◌}
+use Rattle.std.specs.List.{find, flat_map, list_any}
+use Rattle.book_keys.specs.Rows.{Table}
+use Rattle.book_lines.specs.Texts.{line_text}
+use Rattle.book_scope_texts.specs.Addresses.{usual_address_text}
+use Rattle.book_scope_texts.specs.Instants.{instant_text}
+use Rattle.book_sessions.specs.declared.uses.KeyUse.{KeyUse}
+use Rattle.book_sessions.specs.declared.uses.PassedCount.{PassedCount}
+use Rattle.book_sessions.specs.OutcomeTexts.{outcome_text, passed_text, is_verified, is_doubtful}
+use Rattle.book_sessions.specs.Counts.{all_counted, all_passed}
+use Rattle.book_sessions.specs.KeyLines.{keys_lines}
+use Rattle.book_sessions.specs.Sessions.{SessionTable}
 
 -- a KeyID, or a dash where there is none (own)
 abbrev pub id_text : Option ℕ → List ℕ
 id_text None = codes "-"
 id_text (Some id) = decimal id
 
--- the texts of the segments of one direction with one KeyID, of which the same is said (own)
-abbrev pub use_texts : KeyUse → List (List ℕ)
-use_texts u = decimal u.session ∷ codes "from" ∷ socket_texts u.source (codes "to"
-    ∷ socket_texts u.destination (codes "key" ∷ id_text u.key_id ∷ outcome_text u.outcome
-    ∷ decimal u.segments ∷ codes "first" ∷ decimal u.first ∷ codes "last" ∷ decimal u.last
-    ∷ codes "asks" ∷ id_text u.asked ∷ []))
+-- the earliest_seen of a time and of those at which segments were seen (own)
+abbrev pub earliest_seen : ℕ → List KeyUse → ℕ
+earliest_seen time [] = time
+earliest_seen time (u ∷ us) = earliest_seen (min time u.first) us
 
--- the texts of packets that are passed over for one reason (own)
-abbrev pub passed_texts : PassedCount → List (List ℕ)
-passed_texts c = codes "passed over" ∷ decimal c.packets ∷ passed_text c.why ∷ []
+-- the latest of a time and of those at which segments were seen (own)
+abbrev pub latest_seen : ℕ → List KeyUse → ℕ
+latest_seen time [] = time
+latest_seen time (u ∷ us) = latest_seen (max time u.last) us
 
--- the lines of a table (own)
-abbrev pub sessions_text : SessionTable → List ℕ
-sessions_text t = flat_map (λ u. line_text (use_texts u)) t.uses
-    ++ flat_map (λ c. line_text (passed_texts c)) t.passed
+-- from when to when segments were seen (own)
+abbrev pub span_texts : List KeyUse → List (List ℕ)
+span_texts [] = []
+span_texts (u ∷ us) = codes "from" ∷ instant_text (earliest_seen u.first us)
+    ∷ codes "to" ∷ instant_text (latest_seen u.last us) ∷ []
+
+-- the line of a capture: of its packets, how many are segments and how many are none (own)
+abbrev pub capture_line : (segments others : ℕ) → List KeyUse → List ℕ
+capture_line segments others uses =
+    line_text (codes "capture" ∷ codes "segments" ∷ decimal segments
+    ∷ codes "other" ∷ decimal others ∷ span_texts uses)
+
+-- these are of the session of this number (own)
+abbrev pub is_of_session : ℕ → KeyUse → Bool
+is_of_session number u = u.session == number
+
+-- of these a SYN with ACK is verified, of the session of this number (RFC 5925, section 5.2)
+abbrev pub opens_session : ℕ → KeyUse → Bool
+opens_session number u = is_of_session number u && (u.opens && is_verified u.outcome)
+
+-- whether the handshake of a session was seen (own)
+abbrev pub seen_text : Bool → List ℕ
+seen_text seen = if seen then codes "seen" else codes "not seen"
+
+-- the line of a session, by the first segments of it; there is none without segments (own)
+abbrev pub heading_line : (number : ℕ) → (handshake : Bool) → Option KeyUse → List ℕ
+heading_line number handshake None = []
+heading_line number handshake (Some u) =
+    line_text (codes "session" ∷ decimal number
+    ∷ usual_address_text u.source.address ∷ decimal u.source.port
+    ∷ usual_address_text u.destination.address ∷ decimal u.destination.port
+    ∷ codes "handshake" ∷ seen_text handshake ∷ [])
+
+-- the line of the segments of one direction with one KeyID, of which the same is said (own)
+abbrev pub use_line : KeyUse → List ℕ
+use_line u = line_text (codes " " ∷ usual_address_text u.source.address ∷ codes ">"
+    ∷ usual_address_text u.destination.address ∷ codes "key" ∷ id_text u.key_id
+    ∷ outcome_text u.outcome ∷ decimal u.segments ∷ codes "first" ∷ instant_text u.first
+    ∷ codes "last" ∷ instant_text u.last ∷ codes "asks" ∷ id_text u.asked ∷ [])
+
+-- the same, if they are of the session of this number (own)
+abbrev pub use_line_in : (number : ℕ) → KeyUse → List ℕ
+use_line_in number u = if is_of_session number u then use_line u else []
+
+-- the lines of the session of this number (own)
+abbrev pub lines_of_session : List KeyUse → (number : ℕ) → List ℕ
+lines_of_session uses number =
+    heading_line number (list_any (opens_session number) uses) (find (is_of_session number) uses)
+    ++ flat_map (use_line_in number) uses
+
+-- the lines of the sessions of all numbers up to this one (own)
+abbrev pub sessions_lines : List KeyUse → (last : ℕ) → List ℕ
+sessions_lines uses zero = []
+sessions_lines uses (suc n) = sessions_lines uses n ++ lines_of_session uses (suc n)
+
+-- the line of packets that are passed over for one reason (own)
+abbrev pub passed_line : PassedCount → List ℕ
+passed_line c = line_text (codes "other" ∷ decimal c.packets ∷ passed_text c.why ∷ [])
+
+-- the text of a table: the capture, why packets are no segments, each session, and each key of the
+-- key file (own)
+unfoldable pub sessions_text : List Table → SessionTable → List ℕ
+sessions_text tables t =
+    capture_line (all_counted t.uses) (all_passed t.passed) t.uses
+    ++ (flat_map passed_line t.passed ++ (sessions_lines t.uses t.sessions
+    ++ keys_lines t.uses tables))
+
+-- a segment isn't verified, or a packet that is passed over may be one (own)
+unfoldable pub has_amiss : SessionTable → Bool
+has_amiss t = list_any (λ u. not (is_verified u.outcome)) t.uses
+    || list_any (λ c. is_doubtful c.why) t.passed

@@ -1,14 +1,14 @@
 -- The sessions of a capture: the segments of each direction, by KeyID and by what the check says of
 -- them (RFC 5925, sections 2.2, 7.1 and 7.5, and own). Its top is `sessions_of`.
-use Rattle.std.specs.Prelude.{ℕ, ◌+◌, ◌/◌, ◌==◌, Bool, true, false, ◌&&◌, ◌||◌, List, [], ◌∷◌}
+use Rattle.std.specs.Prelude.{ℕ, ◌+◌, ◌/◌, ◌==◌, min, max, Bool, true, false, ◌&&◌, ◌||◌}
+use Rattle.std.specs.Prelude.{List, [], ◌∷◌}
 use Rattle.std.specs.Prelude.{Option, Some, None, option_map, Result, Ok, Err, if◌then◌else◌}
 use Rattle.std.specs.List.{find}
 use Rattle.std.specs.Str.{bytes_eq}
-use Rattle.ao_base.specs.declared.address.Socket.{Socket}
 use Rattle.book_segments.specs.declared.fault.DatagramFault.{DatagramFault}
 use Rattle.book_segments.specs.Sockets.{same_socket}
 use Rattle.book_segments.specs.Options.{AoFound, Absent, One, Two, WithMd5, find_ao}
-use Rattle.book_segments.specs.Segments.{Segment, Reading, Read, Bad, reading}
+use Rattle.book_segments.specs.Segments.{Segment, Reading, Read, Bad, reading, has, SYN, ACK}
 use Rattle.book_keys.specs.Rows.{Table}
 use Rattle.book_cmd_check.specs.Captures.{Stored, Connection, Saying, Unreadable, UnknownNode}
 use Rattle.book_cmd_check.specs.Captures.{Judged, TooManyConnections, hear}
@@ -20,40 +20,12 @@ use Rattle.book_sessions.specs.declared.outcome.SegmentOutcome.{SegmentOutcome}
 use Rattle.book_sessions.specs.declared.outcome.SegmentOutcome.TheVariants as outcome
 use Rattle.book_sessions.specs.declared.outcome.PassedOver.{PassedOver}
 use Rattle.book_sessions.specs.declared.outcome.PassedOver.TheVariants as passed
-use Rattle.book_sessions.specs.OutcomeTexts.{outcome_text, passed_text}
-
--- the KeyID and the RNextKeyID of a segment (RFC 5925, section 2.2)
-pub record KeyIds : Type 0 where
-  pub key_id : ℕ
-  pub rnext_key_id : ℕ
-
--- a segment of a capture: when it was seen, its sockets, its ids, and what the check says of it
--- (own)
-pub record SeenSegment : Type 0 where
-  pub time : ℕ
-  pub source : Socket
-  pub destination : Socket
-  pub ids : Option KeyIds
-  pub outcome : SegmentOutcome
-
--- the segments from one socket to another with one KeyID, or with no single one, of which the check
--- says the same: the number of their session, how many there are, when the first and the last was
--- seen, and which KeyID the last asks for (RFC 5925, section 7.1, and own)
-pub record KeyUse : Type 0 where
-  pub session : ℕ
-  pub source : Socket
-  pub destination : Socket
-  pub key_id : Option ℕ
-  pub outcome : SegmentOutcome
-  pub segments : ℕ
-  pub first : ℕ
-  pub last : ℕ
-  pub asked : Option ℕ
-
--- how many packets are passed over for this reason (own)
-pub record PassedCount : Type 0 where
-  pub why : PassedOver
-  pub packets : ℕ
+use Rattle.book_sessions.specs.declared.uses.KeyIds.{KeyIds}
+use Rattle.book_sessions.specs.declared.uses.SeenSegment.{SeenSegment}
+use Rattle.book_sessions.specs.declared.uses.KeyUse.{KeyUse}
+use Rattle.book_sessions.specs.declared.uses.PassedCount.{PassedCount}
+use Rattle.book_sessions.specs.contracts.outcome.PassedOverPartialEq.TheImpl as passed_eq
+use Rattle.book_sessions.specs.OutcomeTexts.{outcome_text}
 
 -- a table of sessions: how many there are, what their segments use, and what was passed over (own)
 pub record SessionTable : Type 0 where
@@ -83,6 +55,7 @@ seen_segment time d said = record {
   source = d.source;
   destination = d.destination;
   ids = ids_found (find_ao d.area);
+  opens = has SYN d && has ACK d;
   outcome = said;
 }
 
@@ -113,9 +86,8 @@ asked_by s = option_map (λ ids. ids.rnext_key_id) s.ids
 
 -- a segment is one of these (own)
 abbrev pub is_use_of : SeenSegment → KeyUse → Bool
-is_use_of s u = same_outcome s.outcome u.outcome
-    && (same_socket s.source u.source && same_socket s.destination u.destination
-    && same_id (key_id_of s) u.key_id)
+is_use_of s u = (same_socket s.source u.source && same_socket s.destination u.destination)
+    && (same_id (key_id_of s) u.key_id && same_outcome s.outcome u.outcome)
 
 -- a segment is between the sockets of these, in either direction (own)
 abbrev pub is_session_of : SeenSegment → KeyUse → Bool
@@ -134,6 +106,7 @@ first_use session s = record {
   destination = s.destination;
   key_id = key_id_of s;
   outcome = s.outcome;
+  opens = s.opens;
   segments = 1;
   first = s.time;
   last = s.time;
@@ -148,9 +121,10 @@ used_again s u = record {
   destination = u.destination;
   key_id = u.key_id;
   outcome = u.outcome;
+  opens = u.opens || s.opens;
   segments = u.segments + 1;
-  first = u.first;
-  last = s.time;
+  first = min u.first s.time;
+  last = max u.last s.time;
   asked = asked_by s;
 }
 
@@ -170,10 +144,14 @@ and_segment None s t = record {
 and_segment (Some session) s t =
     record { sessions = t.sessions; uses = with_use session s t.uses; passed = t.passed }
 
+-- packets are passed over for the same reason (own)
+abbrev pub same_reason : PassedOver → PassedOver → Bool
+same_reason = (passed_eq.ghosts).eq
+
 -- one more packet that is passed over for this reason (own)
 abbrev pub with_passed : PassedOver → List PassedCount → List PassedCount
 with_passed why [] = record { why = why; packets = 1 } ∷ []
-with_passed why (c ∷ cs) = if bytes_eq (passed_text why) (passed_text c.why)
+with_passed why (c ∷ cs) = if same_reason why c.why
     then record { why = c.why; packets = c.packets + 1 } ∷ cs
     else c ∷ with_passed why cs
 

@@ -1,10 +1,12 @@
-//! The sessions of a capture: what was verified of each direction under each KeyID, and what wasn't.
-//! Definitions, with the plain types that code shares with them; the empty function carries a theorem
-//! about the definitions.
+//! The sessions of a capture: what was verified of each direction under each KeyID, and what wasn't;
+//! and of each key of a key file who used it last, and whether anyone asks for it. Definitions, with the
+//! plain types that code shares with them; the empty function carries a theorem about the definitions.
 #![tactic(auto)]
 
 mod laws;
 mod outcome;
+mod uses;
 
 pub use laws::counts_are_those_of_the_verdicts;
 pub use outcome::{PassedOver, SegmentOutcome};
+pub use uses::{KeyIds, KeyUse, PassedCount, SeenSegment};
