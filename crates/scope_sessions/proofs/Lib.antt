@@ -1,0 +1,5 @@
+pub mod Counting
+pub mod Ends
+pub mod KeyWords
+pub mod Placing
+pub mod Walk

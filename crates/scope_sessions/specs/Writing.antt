@@ -1,0 +1,96 @@
+-- What is read of a capture and written of it (own). Its top is `Writes`.
+use Rattle.std.specs.Prelude.{◌≡◌, ℕ, ◌<◌, Bool, List, [], ◌++◌, length, take, Option, Some, None, Result, Ok, Err}
+use Rattle.std.specs.List.{All}
+use Rattle.ao_base.specs.Outside.{Side, Gave, WasWritten, Rose, IsAtEnd, told}
+use Rattle.book_captures.specs.declared.capture_parts.CaptureFault.{CaptureFault}
+use Rattle.book_captures.specs.Captures.{CapturePacket, capture_of}
+use Rattle.book_keys.specs.declared.fault.TableFault.{TableFault}
+use Rattle.book_keys.specs.declared.fault.TableFault.TheVariants as fault
+use Rattle.book_keys.specs.Rows.{Table}
+use Rattle.book_keys.specs.Nodes.{tables_of}
+use Rattle.book_sessions.specs.Sessions.{SessionTable, sessions_of}
+use Rattle.book_sessions.specs.SessionTexts.{has_amiss, sessions_text}
+use Rattle.capture_stream.specs.Finding.{IsByte}
+use Rattle.capture_stream.specs.Reading.{most_read}
+use Rattle.scope_lines.specs.Writing.{HasRead}
+use Rattle.scope_sessions.specs.declared.count.Counted.{Counted}
+use Rattle.scope_sessions.specs.declared.write.SessionsHalt.{SessionsHalt}
+use Rattle.scope_sessions.specs.declared.write.SessionsHalt.TheVariants as halt
+use Rattle.scope_sessions.specs.Counting.{table_of}
+use Rattle.scope_sessions.specs.Reading.{IsWhole, Stops}
+
+-- the table of the packets of a capture (own)
+abbrev pub table_in : List Table → List ℕ → SessionTable
+table_in tables given = sessions_of tables (capture_of given).packets
+
+-- the text of that table (own)
+abbrev pub text_in : List Table → List ℕ → List ℕ
+text_in tables given = sessions_text tables (table_in tables given)
+
+-- a front part of this text was written (own)
+pub record BreaksText (text : List ℕ) (out_before out_now : Side) : Type 0 where
+  pub n : ℕ
+  pub not_all : n < length text
+  pub wrote : WasWritten (take n text) out_before out_now
+  pub rose : Rose out_before out_now
+
+-- the whole capture was read, and its table written (own)
+pub record Finishes (tables : List Table) (given : List ℕ) (source_now out_before out_now : Side) (amiss : Bool) : Type 0 where
+  pub at_end : IsAtEnd source_now
+  pub faultless : (capture_of given).fault ≡ None
+  pub amiss_is : amiss ≡ has_amiss (table_in tables given)
+  pub wrote : WasWritten (text_in tables given) out_before out_now
+
+-- the capture has this fault, whatever follows in the source: the table of the packets before it was written (own)
+pub record Refuses (tables : List Table) (given : List ℕ) (source_now out_before out_now : Side) (fault : CaptureFault) : Type 0 where
+  pub has_read : HasRead given (capture_of given).packets
+  pub fault_is : (capture_of given).fault ≡ Some fault
+  pub all : capture_of (given ++ told source_now.bytes) ≡ capture_of given
+  pub wrote : WasWritten (text_in tables given) out_before out_now
+
+-- a write failed, behind the capture's end or its fault (own)
+pub record Breaks (tables : List Table) (given : List ℕ) (source_now out_before out_now : Side) : Type 0 where
+  pub whole : IsWhole given source_now (capture_of given).fault
+  pub breaks : BreaksText (text_in tables given) out_before out_now
+
+-- how each end comes, where these are the key file's tables (own)
+abbrev pub Ends : List Table → List ℕ → (source_before source_now out_before out_now : Side) → Result Bool SessionsHalt → Type 0
+Ends tables given source_before source_now out_before out_now (Ok amiss) = Finishes tables given source_now out_before out_now amiss
+Ends tables given source_before source_now out_before out_now (Err (halt.Keys fault)) = ⊥
+Ends tables given source_before source_now out_before out_now (Err (halt.Broken fault)) = Refuses tables given source_now out_before out_now fault
+Ends tables given source_before source_now out_before out_now (Err halt.TooLong) = (most_read < length given) × Stops given × WasWritten [] out_before out_now
+Ends tables given source_before source_now out_before out_now (Err halt.Read) = Rose source_before source_now × Stops given × WasWritten [] out_before out_now
+Ends tables given source_before source_now out_before out_now (Err halt.Write) = Breaks tables given source_now out_before out_now
+Ends tables given source_before source_now out_before out_now (Err halt.Memory) = Stops given × WasWritten [] out_before out_now
+
+-- nothing was read, and nothing written (own)
+abbrev pub Nothing : List ℕ → (out_before out_now : Side) → Type 0
+Nothing given out_before out_now = (given ≡ []) × WasWritten [] out_before out_now
+
+-- how each end comes: a key file that is refused ends all before the capture is read (own)
+abbrev pub EndsBy : Result (List Table) TableFault → List ℕ → (source_before source_now out_before out_now : Side) → Result Bool SessionsHalt → Type 0
+EndsBy (Ok tables) given source_before source_now out_before out_now result = Ends tables given source_before source_now out_before out_now result
+EndsBy (Err why) given source_before source_now out_before out_now (Err (halt.Keys fault)) = (fault ≡ why) × Nothing given out_before out_now
+EndsBy (Err why) given source_before source_now out_before out_now (Err halt.Memory) = Nothing given out_before out_now
+EndsBy (Err why) given source_before source_now out_before out_now other = ⊥
+
+-- the table of a capture is written, of which the source gave these bytes, by the key file of this text (own)
+pub record Writes (keys given : List ℕ) (source_before source_now out_before out_now : Side) (result : Result Bool SessionsHalt) : Type 0 where
+  pub gave : Gave given source_before source_now
+  pub bytes : All IsByte given
+  pub ends : EndsBy (tables_of keys) given source_before source_now out_before out_now result
+
+-- why all ends where the key file has this fault
+abbrev pub halt_of : TableFault → SessionsHalt
+halt_of fault.Memory = halt.Memory
+halt_of why = halt.Keys why
+
+-- the table of what was counted is written
+abbrev pub WritesCounted : List Table → Counted → (out_before out_now : Side) → Result Bool SessionsHalt → Type 0
+WritesCounted tables counted out_before out_now (Ok amiss) = (counted.fault ≡ None) × (amiss ≡ has_amiss (table_of counted.tally))
+    × WasWritten (sessions_text tables (table_of counted.tally)) out_before out_now
+WritesCounted tables counted out_before out_now (Err (halt.Broken fault)) = (counted.fault ≡ Some fault)
+    × WasWritten (sessions_text tables (table_of counted.tally)) out_before out_now
+WritesCounted tables counted out_before out_now (Err halt.Write) = BreaksText (sessions_text tables (table_of counted.tally)) out_before out_now
+WritesCounted tables counted out_before out_now (Err halt.Memory) = WasWritten [] out_before out_now
+WritesCounted tables counted out_before out_now (Err other) = ⊥

@@ -1,0 +1,21 @@
+//! The sessions of a capture and the keys of a key file: counted as the capture is read, packet after
+//! packet, and written as a table. Memory grows with sessions, and not with packets.
+#![tactic(auto)]
+
+mod count;
+mod heard;
+mod key_fault;
+mod key_texts;
+mod lasting;
+mod passed_texts;
+mod session_texts;
+mod table_text;
+mod tally;
+mod words;
+mod write;
+
+pub use book_sessions::{PassedOver, SegmentOutcome};
+pub use capture_stream::{BlockFault, BodyFault, CaptureFault, Cause, PcapHeadFault, RecordFault};
+pub use key_fault::push_key_fault;
+pub use key_table::TableFault;
+pub use write::{SessionsHalt, write_sessions};

@@ -1,0 +1,99 @@
+//! The whole text of a table, and whether anything in it is amiss.
+ghost use Rattle.std.specs.Prelude.{◌≡◌, ◌++◌, ◌||◌, not, OnOk, IfSome};
+ghost use Rattle.std.specs.List.{list_any};
+ghost use Rattle.book_sessions.specs.Counts.{all_counted, all_passed};
+ghost use Rattle.book_sessions.specs.OutcomeTexts.{is_doubtful, is_verified};
+ghost use Rattle.book_sessions.specs.SessionTexts.{has_amiss, sessions_text};
+ghost use Rattle.scope_sessions.specs.Counting.{table_of};
+
+use crate::key_texts::push_keys;
+use crate::passed_texts::is_doubtful;
+use crate::session_texts::{push_capture, push_counts, push_sessions};
+use crate::tally::Tally;
+use crate::words::is_verified;
+use book_sessions::{KeyUse, PassedCount};
+use key_table::Tables;
+use std::alloc::AllocError;
+
+/// How many segments there are; None where they are more than 2^64 - 1.
+fn all_counted(uses: &[KeyUse]) -> Option<u64>
+    ensures { IfSome result (λ n. n ≡ all_counted uses.now) }
+{
+    let mut count: u64 = 0;
+    for one in uses {
+        match count.checked_add(one.segments) {
+            None => return None,
+            Some(more) => count = more,
+        }
+    }
+    Some(count)
+}
+
+/// How many packets are passed over; None where they are more than 2^64 - 1.
+fn all_passed(passed: &[PassedCount]) -> Option<u64>
+    ensures { IfSome result (λ n. n ≡ all_passed passed.now) }
+{
+    let mut count: u64 = 0;
+    for one in passed {
+        match count.checked_add(one.packets) {
+            None => return None,
+            Some(more) => count = more,
+        }
+    }
+    Some(count)
+}
+
+fn has_unverified(uses: &[KeyUse]) -> bool
+    ensures { result ≡ list_any (λ u. not (is_verified u.outcome)) uses.now }
+{
+    for one in uses {
+        if !is_verified(one.outcome) {
+            return true;
+        }
+    }
+    false
+}
+
+fn has_doubtful(passed: &[PassedCount]) -> bool
+    ensures { result ≡ list_any (λ c. is_doubtful c.why) passed.now }
+{
+    for count in passed {
+        if is_doubtful(count.why) {
+            return true;
+        }
+    }
+    false
+}
+
+/// Whether a segment isn't verified, or a packet that is passed over may be one.
+#[tactic(auto, unfolding(book_sessions::specs::SessionTexts::has_amiss))]
+pub(crate) fn has_amiss(tally: &Tally) -> bool
+    ensures { result ≡ has_amiss (table_of tally.now) }
+{
+    has_unverified(tally.uses.as_slice()) || has_doubtful(tally.passed.as_slice())
+}
+
+/// Puts the text of a table behind `out`, with the keys of these tables. An error for want of memory,
+/// or where more than 2^64 - 1 packets are counted; then a part of it may stand there.
+pub(crate) fn push_table(
+    out: &mut Vec<u8>,
+    tables: &Tables,
+    tally: &Tally,
+) -> Result<(), AllocError>
+    ensures { OnOk result (out.new.items ≡ out.old.items ++ sessions_text tables.now (table_of tally.now)) }
+{
+    let uses = tally.uses.as_slice();
+    let segments = match all_counted(uses) {
+        None => return Err(AllocError),
+        Some(segments) => segments,
+    };
+    let others = match all_passed(tally.passed.as_slice()) {
+        None => return Err(AllocError),
+        Some(others) => others,
+    };
+    push_capture(out, segments, others, uses)?;
+    push_counts(out, tally.passed.as_slice())?;
+    push_sessions(out, uses, tally.sessions)?;
+    push_keys(out, uses, tables)?;
+    Ok(())
+}

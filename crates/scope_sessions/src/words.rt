@@ -1,0 +1,60 @@
+//! Words for what is said of a segment, and when two of them are the same.
+ghost use Rattle.std.specs.Prelude.{◌≡◌};
+ghost use Rattle.book_link.specs.Reports.{verdict_text};
+ghost use Rattle.book_sessions.specs.OutcomeTexts.{is_verified, outcome_text};
+ghost use Rattle.book_sessions.specs.Sessions.{same_id, same_outcome};
+
+use book_endpoint::Verdict;
+use book_sessions::SegmentOutcome;
+
+fn verdict_name(verdict: Verdict) -> &'static [u8]
+    ensures { result.now ≡ verdict_text verdict }
+{
+    match verdict {
+        Verdict::Pass(_) => b"pass",
+        Verdict::NoAo => b"no-ao",
+        Verdict::TwoAo => b"two-ao",
+        Verdict::WithMd5 => b"with-md5",
+        Verdict::NoTuple => b"no-tuple",
+        Verdict::Expired => b"expired",
+        Verdict::MacLength => b"mac-length",
+        Verdict::NoContext => b"no-context",
+        Verdict::Range => b"range",
+        Verdict::BadMac => b"bad-mac",
+    }
+}
+
+pub(crate) fn outcome_name(outcome: SegmentOutcome) -> &'static [u8]
+    ensures { result.now ≡ outcome_text outcome }
+{
+    match outcome {
+        SegmentOutcome::Verified => b"verified",
+        SegmentOutcome::Refused(why) => verdict_name(why),
+        SegmentOutcome::NoNode => b"unknown-node",
+        SegmentOutcome::TooMany => b"full",
+    }
+}
+
+pub(crate) fn is_same_outcome(one: SegmentOutcome, two: SegmentOutcome) -> bool
+    ensures { result ≡ same_outcome one two }
+{
+    outcome_name(one) == outcome_name(two)
+}
+
+pub(crate) fn is_verified(outcome: SegmentOutcome) -> bool
+    ensures { result ≡ is_verified outcome }
+{
+    matches!(outcome, SegmentOutcome::Verified)
+}
+
+pub(crate) fn is_same_id(one: Option<u8>, two: Option<u8>) -> bool
+    ensures { result ≡ same_id one two }
+{
+    match one {
+        None => two.is_none(),
+        Some(one) => match two {
+            None => false,
+            Some(two) => one == two,
+        },
+    }
+}

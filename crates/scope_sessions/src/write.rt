@@ -1,0 +1,101 @@
+//! A capture's table of sessions, written when the capture is read.
+ghost use Rattle.std.specs.Prelude.{◌≡◌, ℕ, List};
+ghost use Rattle.ao_base.specs.Outside.{Side};
+ghost use Rattle.scope_sessions.specs.Writing.{halt_of, Writes, WritesCounted};
+
+use crate::count::{CountHalt, Counted, count_capture};
+use crate::table_text::{has_amiss, push_table};
+use ao_base::{Failed, Sink, Source, write_all};
+use capture_stream::CaptureFault;
+use key_table::{TableFault, Tables, read_tables};
+use std::alloc::Global;
+
+/// Why not the table of a whole capture was written.
+#[derive(Clone, Copy, Debug, PartialEq, Eq)]
+pub enum SessionsHalt {
+    /// The key file is refused.
+    Keys(TableFault),
+    /// The capture is faulty here. The table of the packets in front was written.
+    Broken(CaptureFault),
+    /// The source gave more than 2^63 bytes.
+    TooLong,
+    /// A read failed.
+    Read,
+    /// A write failed.
+    Write,
+    /// Memory ran out.
+    Memory,
+}
+
+fn halt_of(fault: TableFault) -> SessionsHalt
+    ensures { result ≡ halt_of fault }
+{
+    match fault {
+        TableFault::Memory => SessionsHalt::Memory,
+        TableFault::Syntax => SessionsHalt::Keys(TableFault::Syntax),
+        TableFault::Field(node, row, column) => {
+            SessionsHalt::Keys(TableFault::Field(node, row, column))
+        }
+        TableFault::TooMany(node) => SessionsHalt::Keys(TableFault::TooMany(node)),
+        TableFault::Overlap(node, first, second) => {
+            SessionsHalt::Keys(TableFault::Overlap(node, first, second))
+        }
+    }
+}
+
+// Writes the table of what was counted.
+fn write_counted<O: Sink>(
+    alloc: Global,
+    tables: &Tables,
+    counted: &Counted,
+    out: &mut O,
+) -> Result<bool, SessionsHalt>
+    ensures { WritesCounted tables.now counted.now (O.side out.old) (O.side out.new) result }
+{
+    let mut text = Vec::new(alloc);
+    match push_table(&mut text, tables, &counted.tally) {
+        Ok(()) => {}
+        Err(_) => return Err(SessionsHalt::Memory),
+    }
+    match write_all(out, text.as_slice()) {
+        Ok(()) => {}
+        Err(Failed) => return Err(SessionsHalt::Write),
+    }
+    match counted.fault {
+        None => Ok(has_amiss(&counted.tally)),
+        Some(fault) => Err(SessionsHalt::Broken(fault)),
+    }
+}
+
+/// Writes the table of the sessions of a capture, judged by the tables of a key file, and of each key of
+/// these tables who used it last and whether anyone asks for it. Ok at the capture's end, and whether
+/// anything is amiss: a segment that isn't verified, or a packet that is passed over and may be one.
+///
+/// Keys comes exactly where the key file is refused, and nothing was read. Broken comes where the capture
+/// has this fault, with the table of the packets in front of it written; Read only where the source's count
+/// of faults rose; TooLong only where it gave more than 2^63 bytes; Write only where the sink's count of
+/// faults rose, with a front part of the table written; and Memory for want of memory, or where 2^64 - 1
+/// packets of one kind are counted. With Read, TooLong and Memory nothing was written.
+pub fn write_sessions<I: Source, O: Sink>(
+    alloc: Global,
+    keys: &[u8],
+    input: &mut I,
+    out: &mut O,
+) -> Result<bool, SessionsHalt>
+    ensures { (given : List ℕ) × Writes keys.now given (I.side input.old) (I.side input.new) (O.side out.old) (O.side out.new) result }
+{
+    let tables = match read_tables(alloc, keys) {
+        Ok(tables) => tables,
+        Err(fault) => return Err(halt_of(fault)),
+    };
+    let judged_by = match read_tables(alloc, keys) {
+        Ok(tables) => tables,
+        Err(_) => return Err(SessionsHalt::Memory),
+    };
+    match count_capture(alloc, judged_by, input) {
+        Ok(counted) => write_counted(alloc, &tables, &counted, out),
+        Err(CountHalt::TooLong) => Err(SessionsHalt::TooLong),
+        Err(CountHalt::Read) => Err(SessionsHalt::Read),
+        Err(CountHalt::Memory) => Err(SessionsHalt::Memory),
+    }
+}
