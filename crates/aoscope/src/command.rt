@@ -1,4 +1,5 @@
 //! The words that the program knows, with a page of help for each.
+use crate::sessions;
 use clap::Command;
 use std::alloc::{AllocError, Global};
 
@@ -6,7 +7,7 @@ const ABOUT: &str =
     "Reads captures of TCP-AO, of any form: pcap and pcapng, behind VLAN tags, PPPoE and MPLS";
 
 const AFTER: &str =
-    "Status 0: done; 2: usage; 4: input; 5: a read failed; 6: a write failed; 7: out of memory.";
+    "Status 0: done; 1: amiss; 2: usage; 3: keys; 4: input; 5: a read failed; 6: a write failed; 7: out of memory.";
 
 const LINES_ABOUT: &str =
     "Writes the capture on standard input as lines for `aotcp check`, one for each packet";
@@ -23,11 +24,13 @@ pub(crate) fn command<'a>(alloc: Global) -> Result<Command<'a>, AllocError> {
     let lines = Command::new(alloc, "lines")
         .about(LINES_ABOUT)
         .after_help(LINES_AFTER);
+    let sessions = sessions::command(alloc)?;
     Command::new(alloc, "aoscope")
         .version("0.1.0")
         .about(ABOUT)
         .after_help(AFTER)
         .subcommand_required(true)
         .arg_required_else_help(true)
-        .subcommand(lines)
+        .subcommand(lines)?
+        .subcommand(sessions)
 }

@@ -2,6 +2,7 @@
 #![tactic(auto)]
 
 mod command;
+mod sessions;
 mod told;
 
 use ao_base::{ReadSource, WriteSink};
@@ -34,8 +35,9 @@ fn lines(rt: &HostRuntime) -> u8 {
 
 /// What the words ask for.
 fn run(rt: &HostRuntime, matches: &ArgMatches<'_>) -> u8 {
-    match matches.subcommand_name() {
-        Some("lines") => lines(rt),
+    match matches.subcommand() {
+        Some(("lines", _)) => lines(rt),
+        Some(("sessions", matches)) => sessions::run(rt, matches),
         _ => tell(rt, Told::Memory),
     }
 }
