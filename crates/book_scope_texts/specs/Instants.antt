@@ -49,7 +49,8 @@ instant_text time =
     ++ (84 ∷ (clock_text (58 ∷ []) (time % 86400) ++ 90 ∷ []))
     else decimal time
 
--- a time as YYYYMMDDHHMMSSZ, as a key file writes it; past the year 9999 the number of seconds (own)
+-- a time as YYYYMMDDHHMMSSZ, as a key file writes it; past the year 9999 the number of seconds
+-- (own)
 unfoldable pub key_time_text : ℕ → List ℕ
 key_time_text time =
     if nat_le time greatest_time

@@ -1,0 +1,38 @@
+-- The connection that a line names, its addresses in their usual form. Its top is `plan_pair_of`.
+use Rattle.std.specs.Prelude.{ℕ, List, if◌then◌else◌, Result, Ok, Err}
+use Rattle.ao_base.specs.declared.address.Address.{Address}
+use Rattle.ao_base.specs.declared.address.Pair.{Pair}
+use Rattle.ao_base.specs.declared.address.Socket.{Socket}
+use Rattle.ao_base.specs.declared.line_kind.LineKind.{LineKind}
+use Rattle.ao_base.specs.declared.line_kind.LineKind.TheVariants.{Word, Range}
+use Rattle.ao_base.specs.Results.{◌>>=◌}
+use Rattle.book_cmd_link.specs.LinkFiles.{are_two_of_a_family}
+use Rattle.book_lines.specs.Words.{Taken, word_as, number_in, nothing_in}
+use Rattle.book_scope_texts.specs.Addresses.{usual_address_of}
+
+-- the next word as an address in its usual form (RFC 4291, section 2.2, and own)
+unfoldable pub usual_address_in : List (List ℕ) → Result (Taken Address) LineKind
+usual_address_in ws = word_as usual_address_of Word ws
+
+-- the next two words as an address in its usual form, and a port of two bytes (own)
+unfoldable pub usual_socket_in : List (List ℕ) → Result (Taken Socket) LineKind
+usual_socket_in ws = do
+  address ← usual_address_in ws
+  port ← number_in 0 65535 address.rest
+  Ok (record { value = record { address = address.value; port = port.value }; rest = port.rest })
+
+-- the next word as an address of this one's family that differs from it (own)
+abbrev pub usual_address_beside : Address → List (List ℕ) → Result (Taken Address) LineKind
+usual_address_beside a ws = do
+  b ← usual_address_in ws
+  if are_two_of_a_family a b.value then Ok b else Err Range
+
+-- the connection that the words of a line say: two sockets, and no more; the first one is end a
+-- (own)
+unfoldable pub plan_pair_of : List (List ℕ) → Result Pair LineKind
+plan_pair_of ws = do
+  a ← usual_socket_in ws
+  b ← usual_address_beside a.value.address a.rest
+  port ← number_in 0 65535 b.rest
+  none ← nothing_in port.rest
+  Ok (record { local = a.value; remote = record { address = b.value; port = port.value } })

@@ -1,0 +1,4 @@
+pub mod Connections
+pub mod CalendarTexts
+pub mod FindingTexts
+pub mod PlanTexts

@@ -1,0 +1,102 @@
+-- What is written of the planned rollover of each connection of an input. Our own format. Its tops
+-- are `plans_text` and `has_wrong_plan`.
+use Rattle.std.specs.Prelude.{ℕ, not, ◌&&◌, Bool, true, false, List, [], ◌∷◌, ◌++◌, codes, decimal}
+use Rattle.std.specs.Prelude.{flat_map, Option, Some, None, is_some}
+use Rattle.std.specs.List.{list_any, find}
+use Rattle.ao_base.specs.declared.address.Address.{Address}
+use Rattle.ao_base.specs.declared.address.Pair.{Pair}
+use Rattle.ao_base.specs.declared.address.Socket.{Socket}
+use Rattle.book_cmd_keys.specs.declared.plan.Plan.{Plan}
+use Rattle.book_keys.specs.Rows.{Table, has_address}
+use Rattle.book_lines.specs.Said.{Said}
+use Rattle.book_plans.specs.declared.finding.Finding.{Finding}
+use Rattle.book_plans.specs.declared.margin.Margin.{Margin}
+use Rattle.book_plans.specs.declared.margin.Margin.TheVariants.{UpTo, Any}
+use Rattle.book_plans.specs.Calendar.{calendar_of}
+use Rattle.book_plans.specs.Findings.{findings_of}
+use Rattle.book_plans.specs.Margins.{lead_margin_of, lag_margin_of}
+use Rattle.book_scope_texts.specs.Addresses.{usual_address_text}
+use Rattle.book_scope_plan.specs.CalendarTexts.{calendar_text}
+use Rattle.book_scope_plan.specs.FindingTexts.{finding_text}
+
+-- an address and a port (own)
+unfoldable pub usual_socket_text : Socket → List ℕ
+usual_socket_text s = usual_address_text s.address ++ (32 ∷ decimal s.port)
+
+-- the line that names a connection (own)
+unfoldable pub connection_line : Pair → List ℕ
+connection_line pair =
+    codes "connection " ++ (usual_socket_text pair.local
+    ++ (32 ∷ (usual_socket_text pair.remote ++ 10 ∷ [])))
+
+-- how many seconds the plan leaves: up to a greatest number, any, or none (own)
+unfoldable pub margin_text : (name : List ℕ) → Option Margin → List ℕ
+margin_text name None = codes "no " ++ name
+margin_text name (Some Any) = codes "any " ++ name
+margin_text name (Some (UpTo most)) = name ++ (codes " to " ++ decimal most)
+
+-- the line of a plan of which all holds, with the leads and the lags for which it does (own)
+unfoldable pub aligned_line : (lead lag : Option Margin) → List ℕ
+aligned_line lead lag =
+    codes "  aligned; the plan holds for " ++ (margin_text (codes "LEAD") lead
+    ++ (codes " and " ++ (margin_text (codes "LAG") lag ++ 10 ∷ [])))
+
+-- what is said of all findings, or that there is none (own)
+abbrev pub findings_text : (a b : Table) → List Table → Pair → Plan → List Finding → List ℕ
+findings_text a b tables pair plan [] =
+    aligned_line (lead_margin_of tables pair plan.lag) (lag_margin_of tables pair plan.lead)
+findings_text a b tables pair plan (f ∷ fs) = flat_map (finding_text a b pair plan) (f ∷ fs)
+
+-- all findings on a connection (own)
+abbrev pub plan_findings : List Table → Plan → Pair → List Finding
+plan_findings tables plan pair = findings_of tables pair plan.lead plan.lag plan.from plan.to
+
+-- what is said of a connection whose ends have these tables (own)
+abbrev pub both_text : (a b : Table) → List Table → Plan → Pair → List ℕ
+both_text a b tables plan pair =
+    calendar_text a b (calendar_of tables pair plan.from plan.to)
+    ++ findings_text a b tables pair plan (plan_findings tables plan pair)
+
+-- that no node has the address, where none has (own)
+abbrev pub missing_text : Option Table → Address → List ℕ
+missing_text (Some t) address = []
+missing_text None address =
+    codes "  no node of the key file has " ++ (usual_address_text address ++ 10 ∷ [])
+
+-- the node of an address (own)
+abbrev pub node_with : List Table → Address → Option Table
+node_with tables address = find (has_address address) tables
+
+-- what is said of a connection by the nodes of its ends (own)
+abbrev pub nodes_text : (a b : Option Table) → List Table → Plan → Pair → List ℕ
+nodes_text (Some a) (Some b) tables plan pair = both_text a b tables plan pair
+nodes_text a b tables plan pair =
+    missing_text a pair.local.address ++ missing_text b pair.remote.address
+
+-- what is said of a connection (own)
+unfoldable pub connection_text : List Table → Plan → Pair → List ℕ
+connection_text tables plan pair =
+    connection_line pair
+    ++ nodes_text (node_with tables pair.local.address) (node_with tables pair.remote.address)
+    tables plan pair
+
+-- there are none (own)
+abbrev pub has_none : List Finding → Bool
+has_none [] = true
+has_none (f ∷ fs) = false
+
+-- nothing is wrong with the plan of a connection: both its ends have nodes, and there is no finding
+-- (own)
+unfoldable pub is_good_plan : List Table → Plan → Pair → Bool
+is_good_plan tables plan pair =
+    (is_some (node_with tables pair.local.address)
+    && is_some (node_with tables pair.remote.address))
+    && has_none (plan_findings tables plan pair)
+
+-- what is said of the connections, one after another (own)
+unfoldable pub plans_text : List Table → Plan → List (Said Pair) → List ℕ
+plans_text tables plan said = flat_map (λ s. connection_text tables plan s.value) said
+
+-- something is wrong with the plan of some connection (own)
+abbrev pub has_wrong_plan : List Table → Plan → List (Said Pair) → Bool
+has_wrong_plan tables plan said = list_any (λ s. not (is_good_plan tables plan s.value)) said

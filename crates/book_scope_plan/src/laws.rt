@@ -1,0 +1,36 @@
+//! Theorems about the texts of plans, as clauses of functions that do nothing.
+ghost use Rattle.std.specs.Prelude.{◌≡◌, ◌↔◌, ◌++◌, true, List, Some, is_some};
+ghost use Rattle.ao_base.specs.declared.address.Pair.{Pair};
+ghost use Rattle.book_cmd_keys.specs.declared.plan.Plan.{Plan};
+ghost use Rattle.book_keys.specs.declared.lint.LintAnswer.TheVariants as answer;
+ghost use Rattle.book_keys.specs.Plans.{lint_of, rows_at};
+ghost use Rattle.book_keys.specs.Rows.{Table};
+ghost use Rattle.book_plans.specs.Calendar.{calendar_of};
+ghost use Rattle.book_plans.specs.Margins.{AreOrdered, IsMargin, SaysAlignedAtLead, SaysAlignedAtLag, lead_margin_of, lag_margin_of};
+ghost use Rattle.book_scope_plan.specs.CalendarTexts.{calendar_text};
+ghost use Rattle.book_scope_plan.specs.PlanTexts.{aligned_line, connection_line, connection_text, is_good_plan, node_with};
+
+/// A plan is good exactly where both ends have nodes and the judgement on the connection is `Aligned`.
+pub fn aligned_plans_are_of_lint()
+    ensures { (tables : List Table) (plan : Plan) (pair : Pair)
+        → (is_good_plan tables plan pair ≡ true)
+        ↔ ((is_some (node_with tables pair.local.address) ≡ true) × (is_some (node_with tables pair.remote.address) ≡ true)
+        × (lint_of tables pair plan.lead plan.lag plan.from plan.to ≡ answer.Aligned)) }
+{}
+
+/// Of a connection whose plan is good the text is its name, its calendar and the line that says `aligned`
+/// with the margins of lead and lag; by the tables of a key file these are greatest: with a lead within
+/// the one, and with a lag within the other, the judgement stays `Aligned`, and with no more.
+pub fn good_plans_say_aligned()
+    ensures text { (tables : List Table) (plan : Plan) (pair : Pair) (a b : Table)
+        → node_with tables pair.local.address ≡ Some a → node_with tables pair.remote.address ≡ Some b → is_good_plan tables plan pair ≡ true
+        → connection_text tables plan pair
+        ≡ connection_line pair ++ (calendar_text a b (calendar_of tables pair plan.from plan.to)
+        ++ aligned_line (lead_margin_of tables pair plan.lag) (lag_margin_of tables pair plan.lead)) }
+    ensures lead { (tables : List Table) (plan : Plan) (pair : Pair)
+        → AreOrdered (rows_at tables pair.local.address) → AreOrdered (rows_at tables pair.remote.address) → is_good_plan tables plan pair ≡ true
+        → IsMargin (SaysAlignedAtLead tables pair plan.lag plan.from plan.to) (lead_margin_of tables pair plan.lag) }
+    ensures lag { (tables : List Table) (plan : Plan) (pair : Pair)
+        → AreOrdered (rows_at tables pair.local.address) → AreOrdered (rows_at tables pair.remote.address) → is_good_plan tables plan pair ≡ true
+        → IsMargin (SaysAlignedAtLag tables pair plan.lead plan.from plan.to) (lag_margin_of tables pair plan.lead) }
+{}

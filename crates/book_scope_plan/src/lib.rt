@@ -1,0 +1,11 @@
+//! What is written of planned rollovers for those who operate routers: the line that names a connection,
+//! the calendar of its keys, all that is wrong and what to set, and by how much the clocks may be off.
+//! Definitions, with the plain type that code shares with them; the empty functions carry theorems about
+//! them.
+#![tactic(auto)]
+
+mod laws;
+mod told;
+
+pub use laws::{aligned_plans_are_of_lint, good_plans_say_aligned};
+pub use told::Told;

@@ -1,0 +1,3 @@
+mod Parts
+mod PlannedLaws
+pub mod ReportLaws

@@ -1,0 +1,83 @@
+-- Connections told one after another, as a loop tells them.
+use Rattle.std.proofs.Common.{◌≡◌, ℕ, Bool, true, false, not, ◌||◌, List, [], ◌∷◌, ◌++◌, Result, Ok, Err, refl, sym, ap, ◌∙◌, append_assoc}
+use Rattle.std.proofs.lemmas.List.{append-nil}
+use Rattle.std.specs.List.{flat_map}
+use Rattle.ao_base.specs.declared.address.Pair.{Pair}
+use Rattle.book_keys.specs.Rows.{Table}
+use Rattle.book_lines.specs.declared.text_fault.TextFault.{TextFault}
+use Rattle.book_lines.specs.declared.text_fault.TextFault.TheVariants as fault
+use Rattle.book_lines.specs.Lines.{Line}
+use Rattle.ao_base.specs.Results.{◌>>=◌}
+use Rattle.book_lines.specs.Said.{Said, at_number, said_by}
+use Rattle.text_lines.specs.Readings.{Answers, Fails}
+use Rattle.text_lines.proofs.SaidLaws.{said_few, same_fault}
+use Rattle.book_cmd_keys.specs.declared.plan.Plan.{Plan}
+use Rattle.book_scope_plan.specs.Connections.{plan_pair_of}
+use Rattle.book_scope_plan.specs.PlanTexts.{connection_text, has_wrong_plan, is_good_plan, plans_text}
+use Rattle.scope_plan.specs.declared.planned.Planned.{Planned}
+use Rattle.scope_plan.specs.Plannings.{planned_from}
+
+same_answer : (t u : List ℕ) (x y : Bool) → t ≡ u → x ≡ y
+    → ◌≡◌ {A = Result Planned TextFault} (Ok (record { text = t; has_wrong = x })) (Ok (record { text = u; has_wrong = y }))
+same_answer t u x y e f = rw (e, f) refl
+
+or_grouped : (a b c : Bool) → ((a || b) || c) ≡ (a || (b || c))
+or_grouped true b c = refl
+or_grouped false b c = refl
+
+or_false : (a : Bool) → (a || false) ≡ a
+or_false true = refl
+or_false false = refl
+
+-- the connection of a line
+abbrev said_at : Line → Pair → Said Pair
+said_at l pair = record { number = l.number; value = pair }
+
+module _ (tables : List Table) (plan : Plan) where
+  -- something is wrong with the connection of this line
+  abbrev is_wrong : Said Pair → Bool
+  is_wrong s = not (is_good_plan tables plan s.value)
+
+  -- the answer so far, and then the connections of the lines
+  abbrev from_lines : List ℕ → Bool → List Line → Result Planned TextFault
+  from_lines out wrong ls = planned_from tables plan out wrong (said_by plan_pair_of ls)
+
+  one_planned : (before out : List ℕ) (wrong now : Bool) (s : Said Pair) (others : Result (List (Said Pair)) TextFault)
+      → out ≡ before ++ connection_text tables plan s.value → now ≡ (wrong || is_wrong s)
+      → planned_from tables plan out now others ≡ planned_from tables plan before wrong (others >>= λ o. Ok (s ∷ o))
+  unfolding plans_text
+  one_planned before out wrong now s (Ok said) text also =
+      same_answer _ _ _ _ (rw text (append_assoc before (connection_text tables plan s.value) (flat_map (λ (t : Said Pair). connection_text tables plan t.value) said)))
+      (rw also (or_grouped wrong (is_wrong s) (has_wrong_plan tables plan said)))
+  one_planned before out wrong now s (Err e) text also = refl
+
+  module _ (before : List ℕ) (wrong : Bool) (l : Line) (ls lines : List Line) (whole : Result Planned TextFault)
+      (next : lines ≡ l ∷ ls) (so_far : from_lines before wrong lines ≡ whole) where
+    step : from_lines before wrong (l ∷ ls) ≡ whole
+    step = sym (ap (λ x. from_lines before wrong x) next) ∙ so_far
+
+    pub line_planned : (pair : Pair) (out : List ℕ) (now : Bool) → Ok pair ≡ at_number l.number (plan_pair_of l.words)
+        → out ≡ before ++ connection_text tables plan pair → now ≡ (wrong || is_wrong (said_at l pair)) → from_lines out now ls ≡ whole
+    unfolding said_by
+    line_planned pair out now h text also =
+        one_planned before out wrong now (said_at l pair) (said_by plan_pair_of ls) text also ∙ (rw (sym h) at step)
+
+    pub line_refused : (f : TextFault) → Err f ≡ at_number l.number (plan_pair_of l.words) → Fails f whole
+    unfolding said_by
+    line_refused fault.Memory h = tt
+    line_refused fault.TooManyLines h = sym (rw (sym h) at step)
+    line_refused (fault.Line n kind) h = sym (rw (sym h) at step)
+
+  pub lines_planned : (out : List ℕ) (wrong : Bool) (lines : List Line) (whole : Result Planned TextFault)
+      → lines ≡ [] → from_lines out wrong lines ≡ whole → whole ≡ Ok (record { text = out; has_wrong = wrong })
+  unfolding said_by plans_text
+  lines_planned out wrong lines whole none so_far = sym (rw none at so_far) ∙ same_answer _ _ _ _ (append-nil out) (or_false wrong)
+
+  planned_few : (said : Result (List (Said Pair)) TextFault) → (said ≡ Err fault.TooManyLines → ⊥)
+      → Fails fault.TooManyLines (planned_from tables plan [] false said) → ⊥
+  planned_few (Ok said) few h = absurd (cc h)
+  planned_few (Err e) few h = few (same_fault e fault.TooManyLines h)
+
+  -- what lines say is never that they are too many
+  pub never_too_many : (r : Result Planned TextFault) (ls : List Line) → Answers r (from_lines [] false ls) → r ≡ Err fault.TooManyLines → ⊥
+  never_too_many r ls h is = planned_few (said_by plan_pair_of ls) (said_few plan_pair_of ls) (rw is at h)

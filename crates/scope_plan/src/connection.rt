@@ -1,0 +1,53 @@
+//! The connection of a line: the sockets of its two ends, with addresses in their usual form.
+ghost use Rattle.std.specs.Prelude.{◌≡◌};
+ghost use Rattle.text_lines.specs.Readings.{gives};
+ghost use Rattle.book_scope_plan.specs.Connections.{plan_pair_of, usual_address_beside, usual_address_in, usual_socket_in};
+
+use ao_base::{Address, LineKind, Pair, Socket};
+use scope_texts::read_address;
+use text_lines::LineWords;
+
+/// An address; `Word` for another word.
+#[tactic(auto, unfolding(book_scope_plan::specs::Connections::usual_address_in))]
+fn usual_address(words: &mut LineWords) -> Result<Address, LineKind>
+    ensures { gives result words.new ≡ usual_address_in words.old }
+{
+    read_address(words.word()?).ok_or(LineKind::Word)
+}
+
+/// An address and a port.
+#[tactic(auto, unfolding(book_scope_plan::specs::Connections::usual_socket_in))]
+fn usual_socket(words: &mut LineWords) -> Result<Socket, LineKind>
+    ensures { gives result words.new ≡ usual_socket_in words.old }
+{
+    let address = usual_address(words)?;
+    let port = words.short()?;
+    Ok(Socket { address, port })
+}
+
+/// An address of the first one's family that differs from it; `Range` for another address.
+fn usual_address_beside(a: &Address, words: &mut LineWords) -> Result<Address, LineKind>
+    ensures { gives result words.new ≡ usual_address_beside a.now words.old }
+{
+    let b = usual_address(words)?;
+    match (a, &b) {
+        (Address::V4(one), Address::V4(other)) if one != other => Ok(b),
+        (Address::V6(one), Address::V6(other)) if one != other => Ok(b),
+        _ => Err(LineKind::Range),
+    }
+}
+
+/// Two sockets, and no more; the first one is the local one.
+#[tactic(auto, unfolding(book_scope_plan::specs::Connections::plan_pair_of))]
+pub(crate) fn read_connection(words: &mut LineWords) -> Result<Pair, LineKind>
+    ensures { result ≡ plan_pair_of words.old }
+{
+    let local = usual_socket(words)?;
+    let address = usual_address_beside(&local.address, words)?;
+    let port = words.short()?;
+    words.nothing()?;
+    Ok(Pair {
+        local,
+        remote: Socket { address, port },
+    })
+}

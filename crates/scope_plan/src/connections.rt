@@ -1,0 +1,167 @@
+//! What is said of a connection.
+ghost use Rattle.std.specs.Prelude.{◌≡◌, ◌++◌, OnOk, IfOk, option_map};
+ghost use Rattle.book_plans.specs.Margins.{lead_margin_of, lag_margin_of};
+ghost use Rattle.book_scope_plan.specs.PlanTexts.{aligned_line, both_text, connection_line, connection_text, findings_text, has_none, is_good_plan, margin_text, missing_text, node_with, nodes_text, plan_findings, usual_socket_text};
+
+use crate::calendar::push_calendar;
+use crate::ends::Ends;
+use crate::findings::push_findings;
+use ao_base::{Address, Pair, Socket, push_decimal};
+use book_cmd_keys::Plan;
+use key_plan::{Finding, Margin, calendar, findings, lag_margin, lead_margin};
+use key_table::{Table, Tables};
+use scope_texts::push_address;
+use std::alloc::{AllocError, Global};
+
+#[tactic(auto, unfolding(book_scope_plan::specs::PlanTexts::usual_socket_text))]
+fn push_socket(out: &mut Vec<u8>, socket: &Socket) -> Result<(), AllocError>
+    ensures { OnOk result (out.new.items ≡ out.old.items ++ usual_socket_text socket.now) }
+{
+    push_address(out, &socket.address)?;
+    out.push(b' ')?;
+    push_decimal(out, u64::from(socket.port))
+}
+
+/// The line that names a connection.
+#[tactic(auto, unfolding(book_scope_plan::specs::PlanTexts::connection_line))]
+fn push_connection_line(out: &mut Vec<u8>, pair: &Pair) -> Result<(), AllocError>
+    ensures { OnOk result (out.new.items ≡ out.old.items ++ connection_line pair.now) }
+{
+    out.extend_from_slice(b"connection ")?;
+    push_socket(out, &pair.local)?;
+    out.push(b' ')?;
+    push_socket(out, &pair.remote)?;
+    out.push(b'\n')?;
+    Ok(())
+}
+
+#[tactic(auto, unfolding(book_scope_plan::specs::PlanTexts::margin_text))]
+fn push_margin(out: &mut Vec<u8>, name: &[u8], margin: Option<Margin>) -> Result<(), AllocError>
+    ensures { OnOk result (out.new.items ≡ out.old.items ++ margin_text name.now margin) }
+{
+    match margin {
+        None => {
+            out.extend_from_slice(b"no ")?;
+            out.extend_from_slice(name)
+        }
+        Some(Margin::Any) => {
+            out.extend_from_slice(b"any ")?;
+            out.extend_from_slice(name)
+        }
+        Some(Margin::UpTo(most)) => {
+            out.extend_from_slice(name)?;
+            out.extend_from_slice(b" to ")?;
+            push_decimal(out, most)
+        }
+    }
+}
+
+/// The line of a plan of which all holds.
+#[tactic(auto, unfolding(book_scope_plan::specs::PlanTexts::aligned_line))]
+fn push_aligned(
+    out: &mut Vec<u8>,
+    lead: Option<Margin>,
+    lag: Option<Margin>,
+) -> Result<(), AllocError>
+    ensures { OnOk result (out.new.items ≡ out.old.items ++ aligned_line lead lag) }
+{
+    out.extend_from_slice(b"  aligned; the plan holds for ")?;
+    push_margin(out, b"LEAD", lead)?;
+    out.extend_from_slice(b" and ")?;
+    push_margin(out, b"LAG", lag)?;
+    out.push(b'\n')?;
+    Ok(())
+}
+
+fn has_none(findings: &[Finding]) -> bool
+    ensures { result ≡ has_none findings.now }
+{
+    match findings {
+        [] => true,
+        [_, ..] => false,
+    }
+}
+
+/// What is said of all findings, or that there is none.
+fn push_judgement(
+    out: &mut Vec<u8>,
+    ends: &Ends,
+    tables: &Tables,
+    pair: &Pair,
+    plan: &Plan,
+    findings: &[Finding],
+) -> Result<(), AllocError>
+    ensures { OnOk result (out.new.items ≡ out.old.items ++ findings_text ends.now.a.now ends.now.b.now tables.now pair.now plan.now findings.now) }
+{
+    match findings {
+        [] => {
+            let lead = lead_margin(tables, pair, plan.lag);
+            let lag = lag_margin(tables, pair, plan.lead);
+            push_aligned(out, lead, lag)
+        }
+        [_, ..] => push_findings(out, ends, pair, plan, findings),
+    }
+}
+
+/// What is said of a connection whose ends have tables; whether there is no finding.
+fn push_both(
+    alloc: Global,
+    out: &mut Vec<u8>,
+    ends: &Ends,
+    tables: &Tables,
+    plan: &Plan,
+    pair: &Pair,
+) -> Result<bool, AllocError>
+    ensures text { OnOk result (out.new.items ≡ out.old.items ++ both_text ends.now.a.now ends.now.b.now tables.now plan.now pair.now) }
+    ensures good { IfOk result (λ good. good ≡ has_none (plan_findings tables.now plan.now pair.now)) }
+{
+    let turns = calendar(alloc, tables, pair, plan.from, plan.to)?;
+    push_calendar(alloc, out, ends, turns.as_slice())?;
+    let findings = findings(alloc, tables, pair, plan.lead, plan.lag, plan.from, plan.to)?;
+    push_judgement(out, ends, tables, pair, plan, findings.as_slice())?;
+    Ok(has_none(findings.as_slice()))
+}
+
+/// That no node has the address, where none has.
+fn push_missing(
+    out: &mut Vec<u8>,
+    node: Option<&Table>,
+    address: &Address,
+) -> Result<(), AllocError>
+    ensures { OnOk result (out.new.items ≡ out.old.items ++ missing_text (option_map (λ t. t.now) node.entry) address.now) }
+{
+    match node {
+        Some(_) => Ok(()),
+        None => {
+            out.extend_from_slice(b"  no node of the key file has ")?;
+            push_address(out, address)?;
+            out.push(b'\n')?;
+            Ok(())
+        }
+    }
+}
+
+/// What is said of a connection; whether nothing is wrong with its plan.
+#[tactic(auto, unfolding(book_scope_plan::specs::PlanTexts::connection_text, book_scope_plan::specs::PlanTexts::is_good_plan))]
+pub(crate) fn push_connection(
+    alloc: Global,
+    out: &mut Vec<u8>,
+    tables: &Tables,
+    plan: &Plan,
+    pair: &Pair,
+) -> Result<bool, AllocError>
+    ensures text { OnOk result (out.new.items ≡ out.old.items ++ connection_text tables.now plan.now pair.now) }
+    ensures good { IfOk result (λ good. good ≡ is_good_plan tables.now plan.now pair.now) }
+{
+    push_connection_line(out, pair)?;
+    let a = tables.table(&pair.local.address);
+    let b = tables.table(&pair.remote.address);
+    match (a, b) {
+        (Some(a), Some(b)) => push_both(alloc, out, &Ends { a, b }, tables, plan, pair),
+        _ => {
+            push_missing(out, a, &pair.local.address)?;
+            push_missing(out, b, &pair.remote.address)?;
+            Ok(false)
+        }
+    }
+}

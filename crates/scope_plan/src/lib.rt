@@ -1,0 +1,18 @@
+//! What is written of the planned rollovers of the connections of an input: the calendar of each, all that
+//! is wrong with it and what to set, and by how much the clocks may be off.
+#![tactic(auto)]
+
+mod calendar;
+mod connection;
+mod connections;
+mod differences;
+mod ends;
+mod findings;
+mod key_fault;
+mod lifetimes;
+mod planned;
+mod plans;
+mod told;
+
+pub use key_fault::push_key_fault;
+pub use plans::answer_plan;

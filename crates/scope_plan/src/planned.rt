@@ -1,0 +1,10 @@
+//! What the planning of connections comes to.
+
+use ao_base::Bytes;
+
+/// What is said of the planned rollover of each connection, and whether something is wrong with one.
+#[derive(Debug, Drop)]
+pub(crate) struct Planned {
+    pub(crate) text: Bytes,
+    pub(crate) has_wrong: bool,
+}

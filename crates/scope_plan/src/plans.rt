@@ -1,0 +1,97 @@
+//! What is said of each connection of an input.
+ghost use Rattle.std.specs.Prelude.{◌≡◌, ◌<◌, ◌↔◌, IsErrOf, [], false, length};
+ghost use Rattle.ao_base.specs.Lines.{lines_of};
+ghost use Rattle.book_lines.specs.Lines.{most_lines};
+ghost use Rattle.book_lines.specs.Said.{at_number, said_by, said_in};
+ghost use Rattle.text_lines.specs.Readings.{Answers};
+ghost use Rattle.book_scope_plan.specs.Connections.{plan_pair_of};
+ghost use Rattle.book_answer.specs.Answers.{if_read};
+ghost use Rattle.command_report.specs.Reporting.{Reports};
+ghost use Rattle.scope_plan.specs.Plannings.{planned_answer, planned_from, plannings};
+
+use crate::connection::read_connection;
+use crate::connections::push_connection;
+use crate::planned::Planned;
+use ao_base::{Bytes, Pair};
+use book_cmd_keys::Plan;
+use book_lines::TextFault;
+use command_report::{Report, Stop};
+use key_table::Tables;
+use std::alloc::Global;
+use text_lines::{Saying, SayingLines, count_lines};
+
+fn connection_in(mut line: Saying) -> Result<Pair, TextFault>
+    ensures { result ≡ at_number line.entry.number (plan_pair_of line.entry.words) }
+{
+    let number = line.number;
+    match read_connection(&mut line.words) {
+        Ok(pair) => Ok(pair),
+        Err(kind) => Err(TextFault::Line(number, kind)),
+    }
+}
+
+/// What is said of each connection of the lines that are left.
+fn plan_lines(
+    alloc: Global,
+    tables: &Tables,
+    plan: &Plan,
+    mut lines: SayingLines,
+) -> Result<Planned, TextFault>
+    ensures { Answers result (planned_from tables.now plan.now [] false (said_by plan_pair_of lines.entry)) }
+{
+    let mut out = Vec::new(alloc);
+    let mut has_wrong = false;
+    while let Some(line) = lines.next() {
+        let pair = connection_in(line)?;
+        let is_good = push_connection(alloc, &mut out, tables, plan, &pair)?;
+        has_wrong |= !is_good;
+    }
+    Ok(Planned {
+        text: Bytes::from_vec(out),
+        has_wrong,
+    })
+}
+
+/// What is said of each connection of the input, or the input's first fault.
+#[tactic(auto, unfolding(crate::specs::Plannings::plannings, book_lines::specs::Said::said_in))]
+fn plan_input(
+    alloc: Global,
+    tables: &Tables,
+    plan: &Plan,
+    input: &[u8],
+) -> Result<Planned, TextFault>
+    ensures text { Answers result (plannings tables.now plan.now input.now) }
+    ensures too_many { IsErrOf result TextFault.TooManyLines ↔ (most_lines < length (lines_of input.now)) }
+{
+    let _count = count_lines(input)?;
+    plan_lines(alloc, tables, plan, SayingLines::new(input))
+}
+
+/// The answer of `plan`: for each connection of the input, a line `ADDRESS PORT ADDRESS PORT` with
+/// addresses in their usual form whose first socket is end a, the line `connection ..`, and behind it, by
+/// the tables of the key file:
+/// - each time after `from` until `to` at which a row begins or ends to be accepted or sent with, or begins
+///   to be asked for, in order, with the name of the node, or those of both where both turn alike;
+/// - each finding of `key_plan::findings` for the plan's lead and lag, in order, with the columns in which
+///   the nearest rows differ, or what a lifetime is to be set to;
+/// - or, where there is none, `aligned` with the greatest lead and lag for which it stays so.
+///
+/// Of a connection with an address that no node has it is only said so. A finding or such an address is
+/// amiss.
+///
+/// `Ok` exactly where each line that says something is a connection between two addresses of one family
+/// that differ. `TooManyLines` exactly where the input has more than 20,000 lines; else `Line` is the first
+/// faulty line, counted from 1 among all lines, with the kind of its first faulty word: `Range` for a port
+/// over 65,535 and for a second address that is the first one or of the other family. `Memory` only for
+/// want of memory.
+#[tactic(auto, using(crate::proofs::ReportLaws::planned_reports, crate::proofs::ReportLaws::refused_reports))]
+pub fn answer_plan(alloc: Global, tables: &Tables, plan: Plan, input: &[u8]) -> Result<Report, Stop>
+    ensures answer { Reports result (if_read (planned_answer tables.now plan) (said_in plan_pair_of input.now)) }
+    ensures too_many { IsErrOf result (Stop.Input TextFault.TooManyLines) ↔ (most_lines < length (lines_of input.now)) }
+{
+    let planned = plan_input(alloc, tables, &plan, input)?;
+    Ok(Report {
+        text: planned.text,
+        is_amiss: planned.has_wrong,
+    })
+}
