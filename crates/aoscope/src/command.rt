@@ -1,5 +1,5 @@
 //! The words that the program knows, with a page of help for each.
-use crate::sessions;
+use crate::{plan, sessions};
 use clap::Command;
 use std::alloc::{AllocError, Global};
 
@@ -25,6 +25,7 @@ pub(crate) fn command<'a>(alloc: Global) -> Result<Command<'a>, AllocError> {
         .about(LINES_ABOUT)
         .after_help(LINES_AFTER);
     let sessions = sessions::command(alloc)?;
+    let plan = plan::command(alloc)?;
     Command::new(alloc, "aoscope")
         .version("0.1.0")
         .about(ABOUT)
@@ -32,5 +33,6 @@ pub(crate) fn command<'a>(alloc: Global) -> Result<Command<'a>, AllocError> {
         .subcommand_required(true)
         .arg_required_else_help(true)
         .subcommand(lines)?
-        .subcommand(sessions)
+        .subcommand(sessions)?
+        .subcommand(plan)
 }

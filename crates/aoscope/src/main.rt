@@ -2,6 +2,7 @@
 #![tactic(auto)]
 
 mod command;
+mod plan;
 mod sessions;
 mod told;
 
@@ -38,6 +39,7 @@ fn run(rt: &HostRuntime, matches: &ArgMatches<'_>) -> u8 {
     match matches.subcommand() {
         Some(("lines", _)) => lines(rt),
         Some(("sessions", matches)) => sessions::run(rt, matches),
+        Some(("plan", matches)) => plan::run(rt, matches),
         _ => tell(rt, Told::Memory),
     }
 }
