@@ -16,12 +16,12 @@ use Rattle.tcp_endpoint.specs.declared.endpoint.Endpoint.{Endpoint}
 use Rattle.tcp_endpoint.specs.declared.giving.GiveAnswer.{GiveAnswer}
 use Rattle.tcp_endpoint.specs.declared.giving.GiveAnswer.TheVariants as given
 use Rattle.tcp_endpoint.specs.Answers.{give_answer, offered}
-use Rattle.tcp_endpoint.specs.Emitting.{IsMade, Emits as EmitsAs, Resends as ResendsAs, state_after}
+use Rattle.tcp_endpoint.specs.Emitting.{IsMade, Emits as EmitsAs, MakesNone, Resends as ResendsAs, ResendsNone, state_after}
 use Rattle.tcp_endpoint.specs.Ends.{Stands}
 use Rattle.book_stack.specs.Watches.{awaits, end_front}
 use Rattle.stack_ends.specs.declared.speaking.Spoken.{Spoken}
 use Rattle.stack_ends.specs.Calling.{given_as}
-use Rattle.stack_ends.specs.Saying.{Speaks, said, said_again}
+use Rattle.stack_ends.specs.Saying.{Leaves, Speaks, said, said_again}
 
 -- ---- whether more may be given
 
@@ -102,3 +102,15 @@ module _ (s : EndState) (e f : Endpoint) (before after : List ℕ) (b : Emitted)
       at (resents.Segment m) Quiet i n q = absurd i.answer_is
       at (resents.Segment m) NoKey i n q = absurd i.answer_is
       at (resents.Segment m) (Emits x) i n q = rw q (record { stands = n i.stands; says_as = bytes_of before after m x i.answer_is; change = refl; waits = refl })
+
+-- ---- the buffer
+
+pub leaves_of : (before after : List ℕ) (a : Emission) → (MakesNone a → after ≡ before) → Leaves before after (said a)
+leaves_of before after emissions.Idle h = h tt
+leaves_of before after emissions.NoKey h = h tt
+leaves_of before after (emissions.Segment m) h = tt
+
+pub leaves_again : (before after : List ℕ) (a : Resent) → (ResendsNone a → after ≡ before) → Leaves before after (said_again a)
+leaves_again before after resents.Nothing h = h tt
+leaves_again before after resents.NoKey h = h tt
+leaves_again before after (resents.Segment m) h = tt

@@ -1,5 +1,5 @@
 -- What an end says that is asked for a segment (own).
-use Rattle.std.specs.Prelude.{◌≡◌, ℕ, List, ⊤, take}
+use Rattle.std.specs.Prelude.{◌≡◌, ℕ, List, Option, Some, None, ⊤, take}
 use Rattle.book_segments.specs.Segments.{spell}
 use Rattle.book_endpoint.specs.States.{EndState}
 use Rattle.book_cmd_node.specs.NodeRuns as node
@@ -34,6 +34,17 @@ SaysAs room says.NoKey node.NoUsableKey = ⊤
 SaysAs room says.Nothing node.NothingToSend = ⊤
 SaysAs room says.Nothing node.NothingToResend = ⊤
 SaysAs room _ _ = ⊥
+
+-- the buffer is as before, where no segment was made (own)
+abbrev pub Leaves : (before after : List ℕ) → Says → Type 0
+Leaves before after (says.Segment n) = ⊤
+Leaves before after says.NoKey = after ≡ before
+Leaves before after says.Nothing = after ≡ before
+
+-- the same where no end was asked (own)
+abbrev pub LeavesIf : (before after : List ℕ) → Option Spoken → Type 0
+LeavesIf before after None = after ≡ before
+LeavesIf before after (Some spoken) = Leaves before after spoken.says
 
 -- the end stands for the state after it was asked, and what is told of it is so (own)
 pub record Speaks (f : Endpoint) (room : List ℕ) (spoken : Spoken) (s : EndState) (c : node.Called) : Type 0 where

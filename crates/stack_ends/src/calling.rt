@@ -6,6 +6,7 @@ ghost use Rattle.book_keys.specs.Rows.{Row};
 ghost use Rattle.book_cmd_node.specs.declared.node.Act.TheVariants as act;
 ghost use Rattle.book_cmd_node.specs.NodeRuns.{NodeState, held_end};
 ghost use Rattle.stack_ends.specs.Calling.{Asking, CallsAt, Gives, IsDone, Takes, Tells, acting};
+ghost use Rattle.stack_ends.specs.Saying.{LeavesIf};
 ghost use Rattle.stack_ends.specs.Standing.{Stands, most_of};
 
 use crate::ends::Ends;
@@ -91,8 +92,8 @@ impl Ends {
         }
     }
 
-    /// The end of the pair makes its next segment in front of `room`, which has at least 1,500 bytes.
-    /// `None` exactly where the pair isn't held. At most one step is counted.
+    /// The end of the pair makes its next segment in front of `room`, which has at least 1,500 bytes, and
+    /// stays where none is made. `None` exactly where the pair isn't held. At most one step is counted.
     pub fn speak<L: Ledger>(
         &mut self,
         pair: &Pair,
@@ -102,6 +103,7 @@ impl Ends {
         requires { 1500 ≤ length room.old }
         ensures called { (rows : List Row) (n : NodeState) → Stands self.old rows n
             → let q : Asking = record { rows = rows; node = n; pair = pair.now; answers = acting act.Send } in CallsAt self.new q result (Tells room.new) (held_end pair.now n.ends) }
+        ensures room { LeavesIf room.old room.new result }
         ensures most { most_of self.new ≡ most_of self.old }
     {
         match self.node.end_mut(pair) {
@@ -120,6 +122,7 @@ impl Ends {
         requires { 1500 ≤ length room.old }
         ensures called { (rows : List Row) (n : NodeState) → Stands self.old rows n
             → let q : Asking = record { rows = rows; node = n; pair = pair.now; answers = acting act.Resend } in CallsAt self.new q result (Tells room.new) (held_end pair.now n.ends) }
+        ensures room { LeavesIf room.old room.new result }
         ensures most { most_of self.new ≡ most_of self.old }
     {
         match self.node.end_mut(pair) {

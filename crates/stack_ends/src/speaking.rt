@@ -7,7 +7,7 @@ ghost use Rattle.book_cmd_node.specs.declared.node.Act.TheVariants as act;
 ghost use Rattle.node_run.specs.Acting.{act_on};
 ghost use Rattle.tcp_endpoint.specs.Ends.{Stands, FitsEnd};
 ghost use Rattle.book_stack.specs.Watches.{awaits, end_front};
-ghost use Rattle.stack_ends.specs.Saying.{Speaks, said, said_again};
+ghost use Rattle.stack_ends.specs.Saying.{Leaves, Speaks, said, said_again};
 
 use ao_base::Steps;
 use book_endpoint::Phase;
@@ -113,7 +113,7 @@ fn said_again(resent: &Resent) -> Says
     }
 }
 
-/// An end makes its next segment in front of `room`.
+/// An end makes its next segment in front of `room`, which stays where it makes none.
 pub(crate) fn speak<L: Ledger>(
     end: &mut Endpoint,
     table: &Table,
@@ -125,6 +125,7 @@ pub(crate) fn speak<L: Ledger>(
     requires room { 1500 ≤ length room.old }
     ensures speaks { (s : EndState) → Stands end.old s
         → Speaks end.new room.new result s (act_on table.now.rows end.old.pair clock s act.Send) }
+    ensures room { Leaves room.old room.new result.says }
     ensures pair { end.new.pair ≡ end.old.pair }
     ensures fits { FitsEnd table.now.rows end.new }
     ensures steps { steps.new ≤ steps.old + 1 }
@@ -140,7 +141,7 @@ pub(crate) fn speak<L: Ledger>(
     }
 }
 
-/// An end makes a segment again in front of `room`.
+/// An end makes a segment again in front of `room`, which stays where it makes none.
 pub(crate) fn repeat<L: Ledger>(
     end: &mut Endpoint,
     table: &Table,
@@ -152,6 +153,7 @@ pub(crate) fn repeat<L: Ledger>(
     requires room { 1500 ≤ length room.old }
     ensures speaks { (s : EndState) → Stands end.old s
         → Speaks end.new room.new result s (act_on table.now.rows end.old.pair clock s act.Resend) }
+    ensures room { Leaves room.old room.new result.says }
     ensures pair { end.new.pair ≡ end.old.pair }
     ensures fits { FitsEnd table.now.rows end.new }
     ensures steps { steps.new ≤ steps.old + 1 }
