@@ -96,9 +96,10 @@ key_finds p q = at (is_at (by_key (key_of p)) (key_of q)) (same_pair p q) refl r
         let told : is_at (by_key (key_of q)) (key_of q) ≡ false = rw is at f in
         let same = key_tied (key_of q) in absurd (cc)
 
--- ---- a timer that is written in the place of another
+-- ---- something that is written in the place of another
 
-set_finds : (p q : Pair) (w : Watch) (es : List (Key × Watch)) → is_some (lookup (is_at (by_key (key_of p))) es) ≡ true
+-- what is written for the key of a pair that has something is found for it, and all else as before
+pub set_finds : {A : Type 0} (p q : Pair) (w : A) (es : List (Key × A)) → is_some (lookup (is_at (by_key (key_of p))) es) ≡ true
     → lookup (is_at (by_key (key_of q))) (set_value (is_at (by_key (key_of p))) es w) ≡ (if same_pair p q then Some w else lookup (is_at (by_key (key_of q))) es)
 set_finds p q w [] e = absurd (cc)
 set_finds p q w (x ∷ es) e = at (is_at (by_key (key_of p)) x.0) (is_at (by_key (key_of q)) x.0) (same_pair p q) refl refl refl (λ f. set_finds p q w es f) e

@@ -11,9 +11,10 @@ pub(crate) enum Place {
     V6([u8; 16], u16),
 }
 
-/// A pair, in the order of its local sockets, then of its remote ones.
+/// A pair, in the order of its local sockets, then of its remote ones: what is kept of a connection is
+/// found by it.
 #[derive(Clone, Copy, Debug, PartialEq, Eq, PartialOrd, Ord)]
-pub(crate) struct Key {
+pub struct Key {
     local: Place,
     remote: Place,
 }
@@ -28,7 +29,7 @@ fn place_of(socket: Socket) -> Place
 }
 
 /// The key of a pair.
-pub(crate) fn key_of(pair: &Pair) -> Key
+pub fn key_of(pair: &Pair) -> Key
     ensures { result ≡ key_of pair.now }
 {
     Key {

@@ -9,6 +9,7 @@ mod watch;
 mod watches;
 
 pub use alarms::Alarms;
+pub use key::{Key, key_of};
 pub use line::Line;
 pub use watch::{Watch, is_heard};
 pub use watches::Watches;
