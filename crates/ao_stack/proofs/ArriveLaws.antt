@@ -67,17 +67,17 @@ told_same p q a b e = let same : a ≡ b = cc in ap (λ (x : Arrived). x.arrival
 -- ---- a segment comes to the end of its pair
 
 pub heard_none : (k : Stack) (coming : Incoming) (p : Pair) (d : Segment) (s : StackState) → Stands k s → p ≡ pair_reached d → held_end p s.node.ends ≡ None
-    → Does k (IsTold arrivals.NoConnection) (heard_pair coming (pair_reached d) d s (held_end (pair_reached d) s.node.ends))
+    → Does k (IsTold (Read d) arrivals.NoConnection) (heard_pair coming (pair_reached d) d s (held_end (pair_reached d) s.node.ends))
 heard_none k coming p d s S q none =
-    subst (λ (x : Pair). Does k (IsTold arrivals.NoConnection) (heard_pair coming x d s (held_end x s.node.ends))) q
-    (subst (λ (o : Option EndState). Does k (IsTold arrivals.NoConnection) (heard_pair coming p d s o)) (sym none) (record { stands = S; answer = refl }))
+    subst (λ (x : Pair). Does k (IsTold (Read d) arrivals.NoConnection) (heard_pair coming x d s (held_end x s.node.ends))) q
+    (subst (λ (o : Option EndState). Does k (IsTold (Read d) arrivals.NoConnection) (heard_pair coming p d s o)) (sym none) (record { stands = S; answer = refl }))
 
 module _ (k mid after : Stack) (s : StackState) (S : Stands k s) (coming : Incoming) (p : Pair) (d : Segment) (told : NodeArrival) where
   pub heard_some : (e : EndState) (before : Front) → p ≡ pair_reached d → held_end p s.node.ends ≡ Some e → before ≡ end_front e → Meets mid.ends s.rows s.node told (reading coming.bytes)
       → reading coming.bytes ≡ Read d → most_of mid.ends ≡ most_of k.ends → mid.watches ≡ k.watches → mid.alarms ≡ k.alarms → mid.line ≡ k.line
       → ((t : StackState) (f : EndState) (r : Pair) (arrived : Arrived) → Stands mid t → held_end p t.node.ends ≡ Some f → told ≡ arrivals.At r arrived
       → Stands after (after_segment_heard coming.now p arrived.arrival (record { before = before; after = end_front f }) t))
-      → Does after (IsTold told) (heard_pair coming (pair_reached d) d s (held_end (pair_reached d) s.node.ends))
+      → Does after (IsTold (Read d) told) (heard_pair coming (pair_reached d) d s (held_end (pair_reached d) s.node.ends))
   heard_some e before q is was meets read most w al li follow =
       let first : MeetsRead mid.ends s.rows s.node d told (held_end (pair_reached d) s.node.ends) = subst (λ (r : Reading). Meets mid.ends s.rows s.node told r) read meets in
       let second : MeetsPair mid.ends s.rows s.node d p told (held_end p s.node.ends) =
@@ -93,24 +93,24 @@ module _ (k mid after : Stack) (s : StackState) (S : Stands k s) (coming : Incom
       subst (λ (x : Arrival). Stands after (after_segment_heard coming.now p x (record { before = before; after = end_front a.state }) t)) M.2 F in
       let stands : Stands after (after_segment_heard coming.now p a.answer (record { before = end_front e; after = end_front a.state }) t) =
       subst (λ (x : Front). Stands after (after_segment_heard coming.now p a.answer (record { before = x; after = end_front a.state }) t)) was answered in
-      let answer : IsTold told (book.Told (DatagramAnswered a.answer)) =
-      subst (λ (x : NodeArrival). IsTold x (book.Told (DatagramAnswered a.answer))) (sym M.1) (ap (λ (x : Arrival). book.Told (DatagramAnswered x)) (sym M.2)) in
-      let some : Does after (IsTold told) (heard_pair coming p d s (Some e)) = record { stands = stands; answer = answer } in
-      subst (λ (x : Pair). Does after (IsTold told) (heard_pair coming x d s (held_end x s.node.ends))) q
-      (subst (λ (o : Option EndState). Does after (IsTold told) (heard_pair coming p d s o)) (sym is) some)
+      let answer : IsTold (Read d) told (book.Told (DatagramAnswered a.answer)) =
+      subst (λ (x : NodeArrival). IsTold (Read d) x (book.Told (DatagramAnswered a.answer))) (sym M.1) (ap (λ (x : Arrival). book.Told (DatagramAnswered x)) (sym M.2), q) in
+      let some : Does after (IsTold (Read d) told) (heard_pair coming p d s (Some e)) = record { stands = stands; answer = answer } in
+      subst (λ (x : Pair). Does after (IsTold (Read d) told) (heard_pair coming x d s (held_end x s.node.ends))) q
+      (subst (λ (o : Option EndState). Does after (IsTold (Read d) told) (heard_pair coming p d s o)) (sym is) some)
 
 -- ---- it knocks, or it doesn't
 
 pub met_knocks : (k : Stack) (coming : Incoming) (p : Pair) (d : Segment) (s : StackState) → Stands k s → p ≡ pair_reached d → knocks d (held_end (pair_reached d) s.node.ends) ≡ true
-    → Does k (IsHeard (heards.Knocks p)) (met coming d s (held_end (pair_reached d) s.node.ends))
+    → Does k (IsHeard (Read d) (heards.Knocks p)) (met coming d s (held_end (pair_reached d) s.node.ends))
 met_knocks k coming p d s S q e =
-    subst (λ (b : Bool). Does k (IsHeard (heards.Knocks p)) (if b then unasked s (book.Knocks (pair_reached d)) else heard_pair coming (pair_reached d) d s (held_end (pair_reached d) s.node.ends))) (sym e)
+    subst (λ (b : Bool). Does k (IsHeard (Read d) (heards.Knocks p)) (if b then unasked s (book.Knocks (pair_reached d)) else heard_pair coming (pair_reached d) d s (held_end (pair_reached d) s.node.ends))) (sym e)
     (record { stands = S; answer = ap book.Knocks (sym q) })
 
 pub met_else : (k : Stack) (coming : Incoming) (d : Segment) (s : StackState) (told : NodeArrival) → knocks d (held_end (pair_reached d) s.node.ends) ≡ false
-    → Does k (IsTold told) (heard_pair coming (pair_reached d) d s (held_end (pair_reached d) s.node.ends)) → Does k (IsHeard (heards.Told told)) (met coming d s (held_end (pair_reached d) s.node.ends))
+    → Does k (IsTold (Read d) told) (heard_pair coming (pair_reached d) d s (held_end (pair_reached d) s.node.ends)) → Does k (IsHeard (Read d) (heards.Told told)) (met coming d s (held_end (pair_reached d) s.node.ends))
 met_else k coming d s told e D =
-    subst (λ (b : Bool). Does k (IsHeard (heards.Told told)) (if b then unasked s (book.Knocks (pair_reached d)) else heard_pair coming (pair_reached d) d s (held_end (pair_reached d) s.node.ends))) (sym e)
+    subst (λ (b : Bool). Does k (IsHeard (Read d) (heards.Told told)) (if b then unasked s (book.Knocks (pair_reached d)) else heard_pair coming (pair_reached d) d s (held_end (pair_reached d) s.node.ends))) (sym e)
     (record { stands = D.stands; answer = D.answer })
 
 -- ---- the whole call
@@ -120,12 +120,12 @@ unfolding call
 input_is coming s = refl
 
 -- what came after the clock was set is what the call does
-pub inputs : (k : Stack) (coming : Incoming) (s : StackState) (r : Reading) (told : Heard) → reading coming.bytes ≡ r → Does k (IsHeard told) (bytes_received coming r (clocked coming.now s).stack)
-    → Follows k (Input coming) s (IsHeard told)
+pub inputs : (k : Stack) (coming : Incoming) (s : StackState) (r : Reading) (told : Heard) → reading coming.bytes ≡ r → Does k (IsHeard r told) (bytes_received coming r (clocked coming.now s).stack)
+    → Follows k (Input coming) s (IsHeard (reading coming.bytes) told)
 inputs k coming s r told e D =
     let d = after_turn (clocked coming.now s) (bytes_received coming r) in
-    follows k (Input coming) s (IsHeard told) d (input_is coming s ∙ ap (λ (x : Reading). after_turn (clocked coming.now s) (bytes_received coming x)) e) D.stands D.answer
+    follows k (Input coming) s (IsHeard (reading coming.bytes) told) d (input_is coming s ∙ ap (λ (x : Reading). after_turn (clocked coming.now s) (bytes_received coming x)) e) D.stands (subst (λ (x : Reading). IsHeard x told d.answer) (sym e) D.answer)
 
 -- the bytes are no datagram
-pub came_bad : (k : Stack) (coming : Incoming) (fault : DatagramFault) (s : StackState) → Stands k s → Does k (IsHeard (heards.Told (arrivals.Bad fault))) (bytes_received coming (Unread fault) s)
-came_bad k coming fault s S = record { stands = S; answer = refl }
+pub came_bad : (k : Stack) (coming : Incoming) (fault : DatagramFault) (s : StackState) → Stands k s → Does k (IsHeard (Unread fault) (heards.Told (arrivals.Bad fault))) (bytes_received coming (Unread fault) s)
+came_bad k coming fault s S = record { stands = S; answer = (refl, refl) }

@@ -3,6 +3,7 @@ mod ArriveLaws
 mod BeginLaws
 mod CallLaws
 mod HandLaws
+pub mod LastLaws
 mod RowLaws
 mod SendLaws
 mod StandLaws

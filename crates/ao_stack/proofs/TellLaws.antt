@@ -7,7 +7,7 @@ use Rattle.book_keys.specs.Rows.{Row}
 use Rattle.book_keys.specs.Coordination.{Sending, choose}
 use Rattle.book_endpoint.specs.declared.phase.Phase.{Phase}
 use Rattle.book_endpoint.specs.States.{EndState}
-use Rattle.book_endpoint.specs.Emissions.{Draft, Due, Emission, Emitted, Quiet, NoKey, Emits, draft_again, draft_next, due_again, due_next, emit, made_if_due, most_bytes, resend, seal_known, sealed}
+use Rattle.book_endpoint.specs.Emissions.{Draft, Due, Emission, Emitted, Quiet, NoKey, Emits, draft_again, draft_next, due_again, due_next, emit, made_if_due, most_bytes, resend, seal_known}
 use Rattle.book_cmd_node.specs.NodeRuns as node
 use Rattle.book_cmd_node.specs.NodeRuns.{NodeOutcome, made_called}
 use Rattle.book_stack.specs.Stacks.{StackState, handed}
@@ -17,9 +17,11 @@ use Rattle.stack_ends.specs.declared.speaking.Says.{Says}
 use Rattle.stack_ends.specs.declared.speaking.Says.TheVariants as says
 use Rattle.stack_ends.specs.declared.speaking.Spoken.{Spoken}
 use Rattle.stack_ends.specs.Saying.{SaysAs}
-use Rattle.ao_stack.specs.Answering.{HandsAs}
 use Rattle.ao_stack.specs.Handing.{IsFrom, IsFromIf}
 use Rattle.ao_stack.specs.Telling.{asked_saying, asked_turn, woken_by}
+use Rattle.ao_stack.specs.Turning.{Makes}
+use Rattle.ao_stack.specs.declared.outgoing.Outgoing.{Outgoing}
+use Rattle.ao_stack.specs.declared.outgoing.Sending.{Sending as Kind}
 
 -- ---- the segment of an answer
 
@@ -153,12 +155,13 @@ repeated_from rows p now e = answered_from p e node.NothingToResend (resend rows
 
 -- ---- what is handed out
 
-pub made_segment : (p : Pair) (before after : List ℕ) (n : ℕ) (o : NodeOutcome) → SaysAs before (says.Segment n) o → IsFromIf p (segment_in o)
-    → ((m : ℕ) (d : Segment) → IsFrom p d → take m before ≡ spell d → take m after ≡ spell (handed d)) → HandsAs after (Some n) (segment_in o)
-made_segment p before after n o h from change =
-    let X = said_segment before n o h in
+pub made_segment : (p : Pair) (kind : Kind) (before room after : List ℕ) (n : ℕ) (o : NodeOutcome) → SaysAs room (says.Segment n) o → IsFromIf p (segment_in o)
+    → ((m : ℕ) (d : Segment) → IsFrom p d → take m room ≡ spell d → take m after ≡ spell (handed d)) → Makes p kind before after (Some (record { length = n; pair = p; kind = kind })) (segment_in o)
+made_segment p kind before room after n o h from change =
+    let X = said_segment room n o h in
     let F : IsFromIf p (Some X.emission) = subst (λ (z : Option Emission). IsFromIf p z) X.is from in
-    subst (λ (z : Option Emission). HandsAs after (Some n) z) (sym X.is) (change n X.emission.segment F X.bytes)
+    let told : Outgoing = record { length = n; pair = p; kind = kind } in
+    subst (λ (z : Option Emission). Makes p kind before after (Some told) z) (sym X.is) (record { hands = change n X.emission.segment F X.bytes; by = (refl, refl); stays = tt })
 
-pub made_none : (room : List ℕ) (o : NodeOutcome) → segment_in o ≡ None → HandsAs room None (segment_in o)
-made_none room o e = subst (λ (z : Option Emission). HandsAs room None z) (sym e) tt
+pub made_none : (p : Pair) (kind : Kind) (before after : List ℕ) (o : NodeOutcome) → segment_in o ≡ None → after ≡ before → Makes p kind before after None (segment_in o)
+made_none p kind before after o e same = subst (λ (z : Option Emission). Makes p kind before after None z) (sym e) (record { hands = tt; by = tt; stays = same })

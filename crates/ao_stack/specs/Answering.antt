@@ -1,6 +1,7 @@
 -- What the calls of a stack answer, as the definitions answer (own).
 use Rattle.std.specs.Prelude.{◌≡◌, ℕ, Bool, true, false, List, ◌++◌, length, take, drop, Option, Some, None, Result, Ok, Err, ⊤}
-use Rattle.book_segments.specs.Segments.{spell}
+use Rattle.ao_base.specs.declared.address.Pair.{Pair}
+use Rattle.book_segments.specs.Segments.{Reading, Read, Bad as Unread, pair_reached, spell}
 use Rattle.book_keys.specs.declared.new_row.AddRefusal.{AddRefusal}
 use Rattle.book_keys.specs.declared.new_row.AddRefusal.TheVariants as refused
 use Rattle.book_keys.specs.declared.new_row.NewRow.{NewRow}
@@ -8,12 +9,10 @@ use Rattle.book_keys.specs.declared.new_row.NoRow.{NoRow}
 use Rattle.book_keys.specs.Rows.{Row}
 use Rattle.book_keys.specs.Tables.{AddedAs, OverlapsRow, TooMany}
 use Rattle.book_endpoint.specs.declared.arrival.Arrival.TheVariants.{Bad}
-use Rattle.book_endpoint.specs.Emissions.{Emission}
 use Rattle.book_cmd_node.specs.NodeRuns as node
 use Rattle.book_stack.specs.Calls as book
 use Rattle.book_stack.specs.Calls.{CallAnswer, Call, call}
 use Rattle.book_stack.specs.Stacks.{StackState, handed}
-use Rattle.book_stack.specs.Turns.{Turn}
 use Rattle.tcp_endpoint.specs.declared.giving.GiveAnswer.{GiveAnswer}
 use Rattle.ao_node.specs.declared.answer.NodeArrival.{NodeArrival}
 use Rattle.ao_node.specs.declared.answer.NodeArrival.TheVariants as arrivals
@@ -87,30 +86,26 @@ abbrev pub IsTaken : List ℕ → List ℕ → Option Taken → CallAnswer → T
 IsTaken before after None a = a ≡ book.Told node.NoConnection
 IsTaken before after (Some taken) a = HasTaken before after taken a
 
--- what a datagram that came was answered (own)
-abbrev pub IsTold : NodeArrival → CallAnswer → Type 0
-IsTold (arrivals.Bad fault) a = a ≡ book.Told (node.DatagramAnswered (Bad fault))
-IsTold arrivals.NoConnection a = a ≡ book.Told node.NoConnection
-IsTold (arrivals.At pair arrived) a = a ≡ book.Told (node.DatagramAnswered arrived.arrival)
+-- bytes that are read so are a segment for this pair (own)
+abbrev pub Reaches : Reading → Pair → Type 0
+Reaches (Read d) pair = pair ≡ pair_reached d
+Reaches (Unread fault) pair = ⊥
 
--- what a datagram that came was answered, or it knocked (own)
-abbrev pub IsHeard : Heard → CallAnswer → Type 0
-IsHeard (heard.Told told) a = IsTold told a
-IsHeard (heard.Knocks pair) a = a ≡ book.Knocks pair
+-- what bytes that came and are read so were answered (own)
+abbrev pub IsTold : Reading → NodeArrival → CallAnswer → Type 0
+IsTold r (arrivals.Bad fault) a =
+    (a ≡ book.Told (node.DatagramAnswered (Bad fault))) × (r ≡ Unread fault)
+IsTold r arrivals.NoConnection a = a ≡ book.Told node.NoConnection
+IsTold r (arrivals.At pair arrived) a =
+    (a ≡ book.Told (node.DatagramAnswered arrived.arrival)) × Reaches r pair
+
+-- what they were answered, or a segment knocked (own)
+abbrev pub IsHeard : Reading → Heard → CallAnswer → Type 0
+IsHeard r (heard.Told told) a = IsTold r told a
+IsHeard r (heard.Knocks pair) a = a ≡ book.Knocks pair
 
 -- the datagram that is handed out stands in front of the buffer; or none is due (own)
 abbrev pub IsHanded : List ℕ → Option ℕ → CallAnswer → Type 0
 IsHanded room (Some n) (book.Hands x) = take n room ≡ spell (handed x.segment)
 IsHanded room None book.Rests = ⊤
 IsHanded room _ _ = ⊥
-
--- the segment that a turn hands out stands in front of the buffer; or it hands out none (own)
-abbrev pub HandsAs : List ℕ → Option ℕ → Option Emission → Type 0
-HandsAs room (Some n) (Some x) = take n room ≡ spell (handed x.segment)
-HandsAs room None None = ⊤
-HandsAs room _ _ = ⊥
-
--- the stack stands for what a turn leaves, and hands out what that hands out (own)
-pub record Turns (k : Stack) (room : List ℕ) (length : Option ℕ) (t : Turn) : Type 0 where
-  pub stands : Stands k t.stack
-  pub hands : HandsAs room length t.hands

@@ -2,3 +2,4 @@ pub mod Answering
 pub mod Handing
 pub mod Standing
 pub mod Telling
+pub mod Turning

@@ -126,7 +126,7 @@ impl Stack {
         requires part { 0 < blank.parts }
         requires time { now ≤ latest }
         ensures { (s : StackState) (d : Segment) → Stands self.old s → reading bytes.now ≡ Read d → pair.now ≡ pair_reached d
-            → Does self.new (IsTold result) (heard_pair (record { now = now; bytes = bytes.now }) (pair_reached d) d s (held_end (pair_reached d) s.node.ends)) }
+            → Does self.new (IsTold (Read d) result) (heard_pair (record { now = now; bytes = bytes.now }) (pair_reached d) d s (held_end (pair_reached d) s.node.ends)) }
     {
         match self.ends.front(pair) {
             None => NodeArrival::NoConnection,
@@ -142,7 +142,7 @@ impl Stack {
     fn meet(&mut self, pair: &Pair, asks: bool, now: u64, bytes: &[u8]) -> Heard
         requires time { now ≤ latest }
         ensures { (s : StackState) (d : Segment) → Stands self.old s → reading bytes.now ≡ Read d → pair.now ≡ pair_reached d → asks ≡ (syn_alone d && good d)
-            → Does self.new (IsHeard result) (met (record { now = now; bytes = bytes.now }) d s (held_end (pair_reached d) s.node.ends)) }
+            → Does self.new (IsHeard (Read d) result) (met (record { now = now; bytes = bytes.now }) d s (held_end (pair_reached d) s.node.ends)) }
     {
         let knocks = knocks(asks, self.ends.front(pair));
         if knocks {
@@ -152,11 +152,11 @@ impl Stack {
     }
 
     /// A datagram comes at `now`, in milliseconds since 1970 and at most the last one of the year 9999: to
-    /// the end of its pair (RFC 9293, section 3.10.7), or it knocks.
+    /// the end of its pair (RFC 9293, section 3.10.7), which is told, or it knocks.
     pub fn input(&mut self, now: u64, bytes: &[u8]) -> Heard
         requires time { now ≤ latest }
         ensures { (s : StackState) → Stands self.old s
-            → Follows self.new (Input (record { now = now; bytes = bytes.now })) s (IsHeard result) }
+            → Follows self.new (Input (record { now = now; bytes = bytes.now })) s (IsHeard (reading bytes.now) result) }
     {
         self.set_clock(now);
         match read_datagram(bytes) {

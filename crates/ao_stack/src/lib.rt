@@ -8,10 +8,12 @@ mod beginning;
 mod calling;
 mod handing;
 mod looking;
+mod outgoing;
 mod rows;
 mod sending;
 mod stack;
 mod timing;
 
 pub use arriving::Heard;
+pub use outgoing::{Outgoing, Sending};
 pub use stack::Stack;

@@ -1,7 +1,7 @@
 use Rattle.std.proofs.Common.{length}
 use Rattle.book_stack.specs.Stacks.{StackState}
 use Rattle.book_stack.specs.Turns.{Turn, ask, clocked, then_turn, turns, wake}
-use Rattle.ao_stack.proofs.TurnLaws.{clocked_hands, none_of, turned_none, turned_some}
+use Rattle.ao_stack.proofs.TurnLaws.{clocked_hands, earlier, none_of, turned_none, turned_some}
 use Rattle.ao_stack.proofs.stack.Stack.advance.Goals as goal
 
 pub returns-in-None : goal.returns-in-None
@@ -12,7 +12,7 @@ returns-in-None g c s S =
     let u = turns (length t.stack.line) (ask c.args.now) t.stack in
     let later : StackState → Turn = λ x. turns (length x.alarms) (wake c.args.now) x in
     let then : StackState → Turn = λ x. then_turn (turns (length x.line) (ask c.args.now) x) later in
-    turned_none _ _ _ t then (clocked_hands c.args.now s) (turned_none _ _ _ u later (none_of _ _ u T) (c.wake_all.ensures u.stack T.stands))
+    turned_none _ _ _ _ t then (clocked_hands c.args.now s) (turned_none _ _ _ _ u later (none_of _ _ _ u T) (earlier _ _ _ _ _ _ T.stays (c.wake_all.ensures u.stack T.stands)))
 
 pub returns-in-Some : goal.returns-in-Some
 returns-in-Some g c s S =
@@ -22,4 +22,4 @@ returns-in-Some g c s S =
     let u = turns (length t.stack.line) (ask c.args.now) t.stack in
     let later : StackState → Turn = λ x. turns (length x.alarms) (wake c.args.now) x in
     let then : StackState → Turn = λ x. then_turn (turns (length x.line) (ask c.args.now) x) later in
-    turned_none _ _ _ t then (clocked_hands c.args.now s) (turned_some _ _ c.in-Some.length u later T)
+    turned_none _ _ _ _ t then (clocked_hands c.args.now s) (turned_some _ _ _ c.in-Some.outgoing u later T)

@@ -20,4 +20,4 @@ returns-in-Some g c s S =
     let p = c.in-Some.pair in
     let first = first_in_line s.line p (c.in-Some.ensures.taken ∙ ap first_of S.line) in
     let M = left_line k between s S (behind_first s.line) refl refl refl (c.take_first.ensures.left ∙ ap behind_first S.line) c.take_first.ensures.most in
-    ask_first _ c.ask_pair.new.room c.ask_pair.result c.args.now s p (behind_first s.line) first (c.ask_pair.ensures _ M)
+    ask_first _ c.args.room.now c.ask_pair.new.room c.ask_pair.result c.args.now s p (behind_first s.line) first (c.ask_pair.ensures _ M)

@@ -20,4 +20,4 @@ returns-in-Some g c s S =
     let p = c.in-Some.pair in
     let some = c.in-Some.ensures.taken ∙ ap (taken_due c.args.now) S.alarms in
     let M = left_alarms k between s S (left_due c.args.now s.alarms) refl refl (c.take_due.ensures.left ∙ ap (left_due c.args.now) S.alarms) c.take_due.ensures.most refl in
-    wake_first _ c.wake_pair.new.room c.wake_pair.result c.args.now s p some (c.wake_pair.ensures _ M)
+    wake_first _ c.args.room.now c.wake_pair.new.room c.wake_pair.result c.args.now s p some (c.wake_pair.ensures _ M)

@@ -13,7 +13,7 @@ returns-in-None g c s S =
     let k = c.args.self.now in
     let mid : Stack = record { ends = c.repeat.new.self; watches = k.watches; alarms = k.alarms; line = k.line } in
     let M = missed k mid s S c.args.pair.now act.Resend c.repeat.ensures.most refl refl refl (Tells c.repeat.new.room) (c.in-None.ensures.called s.rows s.node S.ends) in
-    woken_none mid c.repeat.new.room c.args.now s c.args.pair.now M.1 M.0
+    woken_none mid c.args.room.now c.repeat.new.room c.args.now s c.args.pair.now M.1 M.0 c.in-None.ensures.room
 
 pub returns-in-Some : goal.returns-in-Some
 returns-in-Some g c s S =
@@ -21,6 +21,6 @@ returns-in-Some g c s S =
     let mid : Stack = record { ends = c.repeat.new.self; watches = k.watches; alarms = k.alarms; line = k.line } in
     let p = c.args.pair.now in
     let H = has_called k mid s S p act.Resend c.repeat.ensures.most refl refl refl (Tells c.repeat.new.room) c.in-Some.spoken (c.in-Some.ensures.called s.rows s.node S.ends) in
-    woken_so mid _ s p c.args.now c.repeat.new.room c.made.new.room c.in-Some.spoken c.made.result H
+    woken_so mid _ s p c.args.now c.args.room.now c.repeat.new.room c.made.new.room c.in-Some.spoken c.made.result H
     (c.touch.ensures _ (c.time_woken.ensures (called_at p (repeated_by s p H.state) s) H.stands (held_after s p H.state (repeated_by s p H.state) H.held)))
-    (c.made.ensures (repeated_by s p H.state).outcome (S.family p (held_before s p H.state H.held)) H.done.says_as (repeated_from s.rows p s.node.clock H.state))
+    (c.made.ensures c.args.room.now (repeated_by s p H.state).outcome (S.family p (held_before s p H.state H.held)) H.done.says_as (repeated_from s.rows p s.node.clock H.state) c.in-Some.ensures.room)
