@@ -1,0 +1,115 @@
+-- What a call counts, by its answer.
+use Rattle.std.proofs.Common.{◌≡◌, ℕ, ◌/◌, Bool, true, false, List, ◌++◌, length, Option, Some, None, refl, ap, ◌∙◌}
+use Rattle.std.specs.Prelude.{◌==◌, nat_le, if◌then◌else◌}
+use Rattle.ao_base.specs.declared.address.Pair.{Pair}
+use Rattle.book_segments.specs.Segments.{Segment, Reading, Read, Bad as Unread, pair_reached, reading}
+use Rattle.book_keys.specs.declared.new_row.NewRow.{NewRow}
+use Rattle.book_keys.specs.Rows.{Row}
+use Rattle.book_keys.specs.Tables.{Adding, AddedAs, OverlapsRow, TooMany, adding, row_of_new, withdrawn}
+use Rattle.book_endpoint.specs.declared.arrival.Arrival.TheVariants.{Bad}
+use Rattle.book_endpoint.specs.States.{EndState}
+use Rattle.book_cmd_node.specs.declared.node.Act.{Act}
+use Rattle.book_cmd_node.specs.declared.node.NodeEvent.{NodeEvent}
+use Rattle.book_cmd_node.specs.declared.node.NodeEvent.TheVariants as event
+use Rattle.book_cmd_node.specs.NodeRuns.{NodeOutcome, DatagramAnswered, NoConnection, NodeFull, held_end}
+use Rattle.book_counters.specs.Counters.{StackCounts, act_counted, call_counted, datagram_counted, event_counted, events_counted, knock_counted, told_counted}
+use Rattle.book_stack.specs.Calls.{Add, At, Did, Incoming, Input, Knocks, Told, Withdraw, added, after_turn, asking, at_pair, begun, bytes_received, call, heard_pair, makes_an_end, plain_step, stepped, unasked, withdrew}
+use Rattle.book_stack.specs.Stacks.{StackState, knocks, touched}
+use Rattle.book_stack.specs.Turns.{clocked}
+
+-- one plain event was made and answered so, and it is counted
+asked_so : (t : StackState) (e : NodeEvent) (one o : NodeOutcome) (n : StackCounts) → Told one ≡ Told o → call_counted (asking t e one) n ≡ event_counted e o n
+asked_so t e one o n h = let same : one ≡ o = cc in ap (λ (x : NodeOutcome). event_counted e x n) same
+
+-- ---- a call at a pair
+
+-- a new end begins
+abbrev begins : Pair → Act → StackState → Did
+begins p a s = let step = plain_step s (event.On p a) in asking (touched p (stepped s step)) (event.On p a) step.outcome
+
+module _ (p : Pair) (a : Act) (s : StackState) (n : StackCounts) (o : NodeOutcome) where
+  full_counts : (b : Bool) → (if b then unasked s (Told NodeFull) else begins p a s).answer ≡ Told o → call_counted (if b then unasked s (Told NodeFull) else begins p a s) n ≡ act_counted o p a n
+  full_counts true h = let same : NodeFull ≡ o = cc in ap (λ (x : NodeOutcome). act_counted x p a n) same
+  full_counts false h = asked_so s (event.On p a) _ o n h
+
+  other_counts : (b : Bool) → (if b then begun p a s else asking s (event.On p a) NoConnection).answer ≡ Told o → call_counted (if b then begun p a s else asking s (event.On p a) NoConnection) n ≡ act_counted o p a n
+  other_counts true h = full_counts (nat_le s.most (length s.node.ends)) h
+  other_counts false h = asked_so s (event.On p a) NoConnection o n h
+
+  pair_counts : (m : Option EndState) → (at_pair p a s m).answer ≡ Told o → call_counted (at_pair p a s m) n ≡ act_counted o p a n
+  pair_counts (Some x) h = asked_so s (event.On p a) _ o n h
+  pair_counts None h = other_counts (makes_an_end a) h
+
+  pub at_counts : (call (At p a) s).answer ≡ Told o → call_counted (call (At p a) s) n ≡ act_counted o p a n
+  unfolding call
+  at_counts h = pair_counts (held_end p s.node.ends) h
+
+-- ---- bytes come
+
+-- the clock counts nothing
+clock_counts : (now : ℕ) (s : StackState) (es : List NodeEvent) (os : List NodeOutcome) (n : StackCounts) → events_counted ((clocked now s).events ++ es) ((clocked now s).outcomes ++ os) n ≡ events_counted es os n
+clock_counts now s es os n = at (s.node.clock == now / 1000) refl
+  where
+    at : (b : Bool) → (s.node.clock == now / 1000) ≡ b → events_counted ((clocked now s).events ++ es) ((clocked now s).outcomes ++ os) n ≡ events_counted es os n
+    at true e = rw e refl
+    at false e = rw e refl
+
+after_counts : (now : ℕ) (s : StackState) (next : StackState → Did) (n : StackCounts) → call_counted (after_turn (clocked now s) next) n ≡ call_counted (next (clocked now s).stack) n
+after_counts now s next n = let d = next (clocked now s).stack in ap (λ (m : StackCounts). told_counted d.answer m) (clock_counts now s d.events d.outcomes n)
+
+module _ (coming : Incoming) (t : StackState) (n : StackCounts) where
+  module _ (o : NodeOutcome) where
+    pair_told : (p : Pair) (d : Segment) (m : Option EndState) → (heard_pair coming p d t m).answer ≡ Told o → call_counted (heard_pair coming p d t m) n ≡ event_counted (event.Inject coming.bytes) o n
+    pair_told p d None h = asked_so t (event.Inject coming.bytes) NoConnection o n h
+    pair_told p d (Some e) h = asked_so t (event.Inject coming.bytes) _ o n h
+
+    read_told : (d : Segment) (m : Option EndState) (b : Bool) → (if b then unasked t (Knocks (pair_reached d)) else heard_pair coming (pair_reached d) d t m).answer ≡ Told o
+        → call_counted (if b then unasked t (Knocks (pair_reached d)) else heard_pair coming (pair_reached d) d t m) n ≡ event_counted (event.Inject coming.bytes) o n
+    read_told d m true h = absurd (cc)
+    read_told d m false h = pair_told (pair_reached d) d m h
+
+    came_told : (r : Reading) → (bytes_received coming r t).answer ≡ Told o → call_counted (bytes_received coming r t) n ≡ event_counted (event.Inject coming.bytes) o n
+    came_told (Unread fault) h = asked_so t (event.Inject coming.bytes) (DatagramAnswered (Bad fault)) o n h
+    came_told (Read d) h = let m = held_end (pair_reached d) t.node.ends in read_told d m (knocks d m) h
+
+  module _ (q : Pair) where
+    pair_knocks : (p : Pair) (d : Segment) (m : Option EndState) → (heard_pair coming p d t m).answer ≡ Knocks q → ⊥
+    pair_knocks p d None h = absurd (cc)
+    pair_knocks p d (Some e) h = absurd (cc)
+
+    read_knocks : (d : Segment) (m : Option EndState) (b : Bool) → (if b then unasked t (Knocks (pair_reached d)) else heard_pair coming (pair_reached d) d t m).answer ≡ Knocks q
+        → call_counted (if b then unasked t (Knocks (pair_reached d)) else heard_pair coming (pair_reached d) d t m) n ≡ record n { node = knock_counted n.node }
+    read_knocks d m true h = refl
+    read_knocks d m false h = absurd (pair_knocks (pair_reached d) d m h)
+
+    came_knocks : (r : Reading) → (bytes_received coming r t).answer ≡ Knocks q → call_counted (bytes_received coming r t) n ≡ record n { node = knock_counted n.node }
+    came_knocks (Unread fault) h = absurd (cc)
+    came_knocks (Read d) h = let m = held_end (pair_reached d) t.node.ends in read_knocks d m (knocks d m) h
+
+module _ (coming : Incoming) (s : StackState) (n : StackCounts) where
+  pub input_told : (o : NodeOutcome) → (call (Input coming) s).answer ≡ Told o → call_counted (call (Input coming) s) n ≡ datagram_counted o (reading coming.bytes) n
+  unfolding call
+  input_told o h = after_counts coming.now s (bytes_received coming (reading coming.bytes)) n ∙ came_told coming (clocked coming.now s).stack n o (reading coming.bytes) h
+
+  pub input_knocks : (q : Pair) → (call (Input coming) s).answer ≡ Knocks q → call_counted (call (Input coming) s) n ≡ record n { node = knock_counted n.node }
+  unfolding call
+  input_knocks q h = after_counts coming.now s (bytes_received coming (reading coming.bytes)) n ∙ came_knocks coming (clocked coming.now s).stack n q (reading coming.bytes) h
+
+-- ---- rows
+
+add_none : (s : StackState) (n : StackCounts) (x : Adding) → call_counted (added s x) n ≡ n
+add_none s n (AddedAs m rows) = refl
+add_none s n TooMany = refl
+add_none s n (OverlapsRow m) = refl
+
+pub add_counts : (row : NewRow) (s : StackState) (n : StackCounts) → call_counted (call (Add row) s) n ≡ n
+unfolding call
+add_counts row s n = add_none s n (adding s.rows (row_of_new row))
+
+withdraw_none : (s : StackState) (n : StackCounts) (x : Option (List Row)) → call_counted (withdrew s x) n ≡ n
+withdraw_none s n None = refl
+withdraw_none s n (Some rows) = refl
+
+pub withdraw_counts : (number : ℕ) (s : StackState) (n : StackCounts) → call_counted (call (Withdraw number) s) n ≡ n
+unfolding call
+withdraw_counts number s n = withdraw_none s n (withdrawn s.rows number)

@@ -1,0 +1,4 @@
+mod CallLaws
+mod MapLaws
+mod StandLaws
+mod TurnLaws

@@ -1,0 +1,4 @@
+pub mod Answering
+pub mod Happening
+pub mod Standing
+pub mod Tallying

@@ -1,0 +1,188 @@
+//! What happened adds to counters.
+ghost use Rattle.std.specs.Prelude.{◌≡◌};
+ghost use Rattle.book_counters.specs.Counters.{arrival_counted, knock_counted, next_count, no_counters, refusal_counted, sending_counted, stray_counted};
+ghost use Rattle.ao_counters.specs.Happening.{changed_by};
+ghost use Rattle.ao_stack.specs.Turning.{act_of};
+
+use ao_stack::Sending;
+use book_counters::Counters;
+use book_endpoint::{Arrival, Verdict};
+
+/// What happened at a connection.
+#[derive(Clone, Copy, Debug, PartialEq, Eq)]
+pub(crate) enum Happened {
+    /// A segment came, and was answered so.
+    Heard(Arrival),
+    /// A segment was sent.
+    Sent(Sending),
+    /// It begins, or doesn't: its counters become these.
+    Become(Counters),
+}
+
+/// Nothing was counted.
+pub(crate) fn no_counters() -> Counters
+    ensures { result ≡ no_counters }
+{
+    Counters {
+        passed: 0,
+        bad: 0,
+        foreign: 0,
+        checksum: 0,
+        closed: 0,
+        no_ao: 0,
+        two_ao: 0,
+        with_md5: 0,
+        no_tuple: 0,
+        expired: 0,
+        mac_length: 0,
+        no_context: 0,
+        range: 0,
+        bad_mac: 0,
+        no_connection: 0,
+        knocks: 0,
+        sent: 0,
+        sent_again: 0,
+    }
+}
+
+/// One more, up to the greatest number.
+fn one_more(count: u64) -> u64
+    ensures { result ≡ next_count count }
+{
+    count.saturating_add(1)
+}
+
+/// One segment more was refused by the check, for this reason.
+fn refused(counters: Counters, why: Verdict) -> Counters
+    ensures { result ≡ refusal_counted why counters }
+{
+    match why {
+        Verdict::Pass(_) => counters,
+        Verdict::NoAo => Counters {
+            no_ao: one_more(counters.no_ao),
+            ..counters
+        },
+        Verdict::TwoAo => Counters {
+            two_ao: one_more(counters.two_ao),
+            ..counters
+        },
+        Verdict::WithMd5 => Counters {
+            with_md5: one_more(counters.with_md5),
+            ..counters
+        },
+        Verdict::NoTuple => Counters {
+            no_tuple: one_more(counters.no_tuple),
+            ..counters
+        },
+        Verdict::Expired => Counters {
+            expired: one_more(counters.expired),
+            ..counters
+        },
+        Verdict::MacLength => Counters {
+            mac_length: one_more(counters.mac_length),
+            ..counters
+        },
+        Verdict::NoContext => Counters {
+            no_context: one_more(counters.no_context),
+            ..counters
+        },
+        Verdict::Range => Counters {
+            range: one_more(counters.range),
+            ..counters
+        },
+        Verdict::BadMac => Counters {
+            bad_mac: one_more(counters.bad_mac),
+            ..counters
+        },
+    }
+}
+
+/// One segment more passed the check.
+fn passed(counters: Counters) -> Counters
+    ensures { result ≡ record counters { passed = next_count counters.passed } }
+{
+    Counters {
+        passed: one_more(counters.passed),
+        ..counters
+    }
+}
+
+/// One datagram more was answered so.
+pub(crate) fn arrived(counters: Counters, arrival: Arrival) -> Counters
+    ensures { result ≡ arrival_counted arrival counters }
+{
+    match arrival {
+        Arrival::Bad(_) => Counters {
+            bad: one_more(counters.bad),
+            ..counters
+        },
+        Arrival::Foreign => Counters {
+            foreign: one_more(counters.foreign),
+            ..counters
+        },
+        Arrival::Checksum => Counters {
+            checksum: one_more(counters.checksum),
+            ..counters
+        },
+        Arrival::Closed => Counters {
+            closed: one_more(counters.closed),
+            ..counters
+        },
+        Arrival::Refused(why) => refused(counters, why),
+        Arrival::Unexpected => passed(counters),
+        Arrival::Window => passed(counters),
+        Arrival::Challenge => passed(counters),
+        Arrival::NoAck => passed(counters),
+        Arrival::BadAck => passed(counters),
+        Arrival::TooManyRuns => passed(counters),
+        Arrival::Reset => passed(counters),
+        Arrival::Taken => passed(counters),
+    }
+}
+
+/// One segment more was sent.
+fn sent(counters: Counters, kind: Sending) -> Counters
+    ensures { result ≡ sending_counted (act_of kind) counters }
+{
+    match kind {
+        Sending::First => Counters {
+            sent: one_more(counters.sent),
+            ..counters
+        },
+        Sending::Again => Counters {
+            sent_again: one_more(counters.sent_again),
+            ..counters
+        },
+    }
+}
+
+/// One datagram more came for a pair that isn't held.
+pub(crate) fn stray(counters: Counters) -> Counters
+    ensures { result ≡ stray_counted counters }
+{
+    Counters {
+        no_connection: one_more(counters.no_connection),
+        ..counters
+    }
+}
+
+/// One SYN more knocked.
+pub(crate) fn knocked(counters: Counters) -> Counters
+    ensures { result ≡ knock_counted counters }
+{
+    Counters {
+        knocks: one_more(counters.knocks),
+        ..counters
+    }
+}
+
+/// The counters once something happened.
+pub(crate) fn changed(counters: Counters, what: Happened) -> Counters
+    ensures { result ≡ changed_by what counters }
+{
+    match what {
+        Happened::Heard(arrival) => arrived(counters, arrival),
+        Happened::Sent(kind) => sent(counters, kind),
+        Happened::Become(others) => others,
+    }
+}

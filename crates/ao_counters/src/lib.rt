@@ -1,0 +1,16 @@
+//! A node that runs by itself and counts what happens at it and at each of its connections. Each call is
+//! that of the stack of `ao_stack`, and the counters after it are those of `book_counters`.
+#![tactic(auto)]
+
+mod arriving;
+mod beginning;
+mod calling;
+mod counted_stack;
+mod counting;
+mod looking;
+mod rows;
+mod sending;
+mod tallies;
+
+pub use book_counters::Counters;
+pub use counted_stack::CountedStack;

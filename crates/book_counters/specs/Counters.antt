@@ -1,0 +1,151 @@
+-- What is counted of a stack: of its node, and of each of its connections (own). Its top is
+-- `counts_after`.
+use Rattle.std.specs.Prelude.{ℕ, ◌+◌, min, List, [], ◌∷◌, Option, Some, None, option_map, if◌then◌else◌}
+use Rattle.ao_base.specs.declared.address.Pair.{Pair}
+use Rattle.book_segments.specs.Segments.{Reading, Read, Bad as Unread, pair_reached, reading}
+use Rattle.book_endpoint.specs.declared.arrival.Arrival.{Arrival}
+use Rattle.book_endpoint.specs.declared.arrival.Arrival.TheVariants as arrival
+use Rattle.book_endpoint.specs.declared.verdict.Verdict.{Verdict}
+use Rattle.book_endpoint.specs.declared.verdict.Verdict.TheVariants as verdict
+use Rattle.book_cmd_node.specs.declared.node.Act.{Act}
+use Rattle.book_cmd_node.specs.declared.node.Act.TheVariants as act
+use Rattle.book_cmd_node.specs.declared.node.NodeEvent.{NodeEvent}
+use Rattle.book_cmd_node.specs.declared.node.NodeEvent.TheVariants as event
+use Rattle.book_cmd_node.specs.NodeRuns.{NodeOutcome, Performed, NoConnection, Transmitted, DatagramAnswered, same_pair}
+use Rattle.book_stack.specs.Calls.{Call, CallAnswer, Did, Knocks, call}
+use Rattle.book_stack.specs.Stacks.{StackState}
+use Rattle.book_counters.specs.declared.counters.Counters.{Counters}
+
+-- one more, up to the greatest number of 64 bits (own)
+abbrev pub next_count : ℕ → ℕ
+next_count n = min (n + 1) 18446744073709551615
+
+-- nothing was counted (own)
+abbrev pub no_counters : Counters
+no_counters = record {
+  passed = 0;
+  bad = 0;
+  foreign = 0;
+  checksum = 0;
+  closed = 0;
+  no_ao = 0;
+  two_ao = 0;
+  with_md5 = 0;
+  no_tuple = 0;
+  expired = 0;
+  mac_length = 0;
+  no_context = 0;
+  range = 0;
+  bad_mac = 0;
+  no_connection = 0;
+  knocks = 0;
+  sent = 0;
+  sent_again = 0;
+}
+
+-- one segment more was refused by the check, for this reason; a pass is none (own)
+abbrev pub refusal_counted : Verdict → Counters → Counters
+refusal_counted (verdict.Pass passed) k = k
+refusal_counted verdict.NoAo k = record k { no_ao = next_count k.no_ao }
+refusal_counted verdict.TwoAo k = record k { two_ao = next_count k.two_ao }
+refusal_counted verdict.WithMd5 k = record k { with_md5 = next_count k.with_md5 }
+refusal_counted verdict.NoTuple k = record k { no_tuple = next_count k.no_tuple }
+refusal_counted verdict.Expired k = record k { expired = next_count k.expired }
+refusal_counted verdict.MacLength k = record k { mac_length = next_count k.mac_length }
+refusal_counted verdict.NoContext k = record k { no_context = next_count k.no_context }
+refusal_counted verdict.Range k = record k { range = next_count k.range }
+refusal_counted verdict.BadMac k = record k { bad_mac = next_count k.bad_mac }
+
+-- one datagram more was answered so; what the check didn't refuse passed it (own)
+abbrev pub arrival_counted : Arrival → Counters → Counters
+arrival_counted (arrival.Bad fault) k = record k { bad = next_count k.bad }
+arrival_counted arrival.Foreign k = record k { foreign = next_count k.foreign }
+arrival_counted arrival.Checksum k = record k { checksum = next_count k.checksum }
+arrival_counted arrival.Closed k = record k { closed = next_count k.closed }
+arrival_counted (arrival.Refused why) k = refusal_counted why k
+arrival_counted _ k = record k { passed = next_count k.passed }
+
+-- one segment more was made by this act: for the first time, or again (own)
+abbrev pub sending_counted : Act → Counters → Counters
+sending_counted act.Send k = record k { sent = next_count k.sent }
+sending_counted act.Resend k = record k { sent_again = next_count k.sent_again }
+sending_counted _ k = k
+
+-- one datagram more came for a pair that isn't held (own)
+abbrev pub stray_counted : Counters → Counters
+stray_counted k = record k { no_connection = next_count k.no_connection }
+
+-- one SYN more knocked (own)
+abbrev pub knock_counted : Counters → Counters
+knock_counted k = record k { knocks = next_count k.knocks }
+
+-- the counters of a stack (own)
+pub record StackCounts : Type 0 where
+  pub node : Counters  -- of all that happened at it
+  pub pairs : Pair → Option Counters  -- of each connection, since it began
+
+-- the counters as a stack begins (own)
+abbrev pub no_stack_counts : StackCounts
+no_stack_counts = record { node = no_counters; pairs = λ pair. None }
+
+-- the counters of a connection become these, or there are none any more (own)
+abbrev pub with_counters : Pair → Option Counters → StackCounts → StackCounts
+with_counters pair k n = record n { pairs = λ q. if same_pair pair q then k else n.pairs q }
+
+-- something more is counted, of the node and of the connection of a pair (own)
+abbrev pub counted_at : Pair → (Counters → Counters) → StackCounts → StackCounts
+counted_at pair more n = record {
+  node = more n.node;
+  pairs = λ q. if same_pair pair q then option_map more (n.pairs q) else n.pairs q;
+}
+
+-- an act was performed: counters begin at 0 with a connection, and go with it (own)
+abbrev pub performed_counted : Pair → Act → StackCounts → StackCounts
+performed_counted pair (act.Open isn) n = with_counters pair (Some no_counters) n
+performed_counted pair (act.Listen isn) n = with_counters pair (Some no_counters) n
+performed_counted pair (act.Start isn peer) n = with_counters pair (Some no_counters) n
+performed_counted pair act.Remove n = with_counters pair None n
+performed_counted pair _ n = n
+
+-- an act at a pair was answered so (own)
+abbrev pub act_counted : NodeOutcome → Pair → Act → StackCounts → StackCounts
+act_counted Performed pair a n = performed_counted pair a n
+act_counted (Transmitted x) pair a n = counted_at pair (sending_counted a) n
+act_counted _ pair a n = n
+
+-- an end, or the node, answered bytes that are read so (own)
+abbrev pub answer_counted : Arrival → Reading → StackCounts → StackCounts
+answer_counted a (Read d) n = counted_at (pair_reached d) (arrival_counted a) n
+answer_counted a (Unread fault) n = record n { node = arrival_counted a n.node }
+
+-- bytes that are read so came, and were answered so (own)
+abbrev pub datagram_counted : NodeOutcome → Reading → StackCounts → StackCounts
+datagram_counted (DatagramAnswered a) r n = answer_counted a r n
+datagram_counted NoConnection r n = record n { node = stray_counted n.node }
+datagram_counted _ r n = n
+
+-- a plain event was answered so (own)
+abbrev pub event_counted : NodeEvent → NodeOutcome → StackCounts → StackCounts
+event_counted (event.Clock seconds) o n = n
+event_counted (event.Inject bytes) o n = datagram_counted o (reading bytes) n
+event_counted (event.On pair a) o n = act_counted o pair a n
+
+-- plain events were answered so, each in its turn (own)
+abbrev pub events_counted : List NodeEvent → List NodeOutcome → StackCounts → StackCounts
+events_counted [] os n = n
+events_counted (e ∷ es) [] n = n
+events_counted (e ∷ es) (o ∷ os) n = events_counted es os (event_counted e o n)
+
+-- a call was answered so: of what makes no plain event, a SYN that knocks is counted (own)
+abbrev pub told_counted : CallAnswer → StackCounts → StackCounts
+told_counted (Knocks pair) n = record n { node = knock_counted n.node }
+told_counted _ n = n
+
+-- the counters after a call that did this (own)
+abbrev pub call_counted : Did → StackCounts → StackCounts
+call_counted d n = told_counted d.answer (events_counted d.events d.outcomes n)
+
+-- the counters after these calls of a stack (own)
+abbrev pub counts_after : StackState → List Call → StackCounts → StackCounts
+counts_after s [] n = n
+counts_after s (c ∷ cs) n = let d = call c s in counts_after d.stack cs (call_counted d n)
