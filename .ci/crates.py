@@ -14,6 +14,7 @@ def listed():
     """The crates of crates.txt, in its order, each with those on which it stands."""
     lines = (TOP / "crates.txt").read_text(encoding="utf-8").splitlines()
     found = [line.split(":") for line in lines if line and not line.startswith("#")]
+    found = [(head.split()[0], under) for head, under in found]  # behind the name may stand `staticlib`
     return [name for name, _ in found], {name: under.split() for name, under in found}
 
 

@@ -1,0 +1,3 @@
+pub mod AnswerLaws
+pub mod Places
+pub mod RowLaws

@@ -1,0 +1,6 @@
+pub mod Held
+pub mod Numbers
+pub mod Codes
+pub mod Shapes
+pub mod RowShapes
+pub mod Calls
