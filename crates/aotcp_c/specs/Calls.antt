@@ -2,7 +2,7 @@
 use Rattle.std.specs.Prelude.{◌≡◌, ◌≢◌, ◌≤◌, ◌<◌, ◌++◌, ℕ, ℤ, Bool, List, Option, Some, None, Ok, true, false, length, take, drop, ⊤}
 use Rattle.ao_base.specs.declared.address.Address.{Address}
 use Rattle.ao_base.specs.declared.address.Pair.{Pair}
-use Rattle.book_segments.specs.Segments.{spell}
+use Rattle.book_segments.specs.Segments.{reading, spell}
 use Rattle.book_keys.specs.declared.fault.TableFault.{TableFault}
 use Rattle.book_keys.specs.declared.new_row.NewRow.{NewRow}
 use Rattle.book_keys.specs.Nodes.{tables_of}
@@ -70,7 +70,8 @@ pub record Hears (k : Stack) (coming : Incoming) (s : StackState) (told : CHeard
   pub late : latest < coming.now → Declines k s bad_time code
   pub done : coming.now ≤ latest → code ≡ ok
   pub hears : coming.now ≤ latest
-      → Follows k (book.Input coming) s (λ a. (h : Heard) × IsHeard h a × (told ≡ heard_of h))
+      → Follows k (book.Input coming) s
+      (λ a. (h : Heard) × IsHeard (reading coming.bytes) h a × (told ≡ heard_of h))
 
 -- a datagram of this length that is handed out stands in front of the room (own)
 abbrev pub IsIn : List ℕ → ℕ → CallAnswer → Type 0

@@ -79,15 +79,16 @@ short_words = codes " takes it for long enough\n"
 
 -- the lines of the columns that make up the key in which a row of the other end, of this name and
 -- number, differs from one that accepts what a row sends (RFC 7210, section 2, and own)
-unfoldable pub key_lines : (name : List ℕ) → ℕ → (sending other : Row) → Differences → List ℕ
-key_lines name n r o d =
+unfoldable pub key_column_lines :
+    (name : List ℕ) → ℕ → (sending other : Row) → Differences → List ℕ
+key_column_lines name n r o d =
     text_if d.key_id (difference_head name n ++ ids_text r o)
     ++ (text_if d.master (difference_head name n ++ key_words)
     ++ text_if d.algorithm (difference_head name n ++ algorithms_text r o))
 
 -- the lines of the columns that say what for (RFC 7210, section 2, and own)
-unfoldable pub use_lines : (name : List ℕ) → ℕ → Differences → List ℕ
-use_lines name n d =
+unfoldable pub use_column_lines : (name : List ℕ) → ℕ → Differences → List ℕ
+use_column_lines name n d =
     text_if d.options (difference_head name n ++ options_words)
     ++ (text_if d.direction (difference_head name n ++ direction_words)
     ++ text_if d.connection (difference_head name n ++ connection_words))
@@ -95,7 +96,7 @@ use_lines name n d =
 -- the lines of all columns in which it differs (RFC 7210, section 2, and own)
 unfoldable pub difference_lines :
     (name : List ℕ) → ℕ → (sending other : Row) → Differences → List ℕ
-difference_lines name n r o d = key_lines name n r o d ++ use_lines name n d
+difference_lines name n r o d = key_column_lines name n r o d ++ use_column_lines name n d
 
 -- the lines of the rows of the other end that differ in so many columns, the first row having
 -- number n (own)

@@ -2,7 +2,7 @@
 ghost use Rattle.std.specs.Prelude.{◌≡◌, ◌==◌, ◌++◌, ◌≤◌, OnOk, decimal};
 ghost use Rattle.ao_base.specs.Algorithms.{name_of};
 ghost use Rattle.book_plans.specs.Differences.{differences};
-ghost use Rattle.book_scope_plan.specs.FindingTexts.{algorithms_text, connection_words, difference_count, difference_head, difference_lines, direction_words, fewest, ids_text, key_lines, key_words, nearest_lines, one_if, options_words, row_name, text_if, use_lines};
+ghost use Rattle.book_scope_plan.specs.FindingTexts.{algorithms_text, connection_words, difference_count, difference_head, difference_lines, direction_words, fewest, ids_text, key_column_lines, key_words, nearest_lines, one_if, options_words, row_name, text_if, use_column_lines};
 
 use ao_base::{Pair, push_decimal};
 use key_plan::{Differences, differences};
@@ -185,7 +185,7 @@ fn connection_words() -> &'static [u8]
 }
 
 /// The lines of the columns that make up the key.
-#[tactic(auto, unfolding(book_scope_plan::specs::FindingTexts::key_lines))]
+#[tactic(auto, unfolding(book_scope_plan::specs::FindingTexts::key_column_lines))]
 fn push_key_lines(
     out: &mut Vec<u8>,
     name: &[u8],
@@ -194,7 +194,7 @@ fn push_key_lines(
     other: &Row,
     d: &Differences,
 ) -> Result<(), AllocError>
-    ensures { OnOk result (out.new.items ≡ out.old.items ++ key_lines name.now number row.now other.now d.now) }
+    ensures { OnOk result (out.new.items ≡ out.old.items ++ key_column_lines name.now number row.now other.now d.now) }
 {
     push_ids_if(out, d.key_id, name, number, row, other)?;
     push_if(out, d.master, name, number, key_words())?;
@@ -202,14 +202,14 @@ fn push_key_lines(
 }
 
 /// The lines of the columns that say what for.
-#[tactic(auto, unfolding(book_scope_plan::specs::FindingTexts::use_lines))]
+#[tactic(auto, unfolding(book_scope_plan::specs::FindingTexts::use_column_lines))]
 fn push_use_lines(
     out: &mut Vec<u8>,
     name: &[u8],
     number: u8,
     d: &Differences,
 ) -> Result<(), AllocError>
-    ensures { OnOk result (out.new.items ≡ out.old.items ++ use_lines name.now number d.now) }
+    ensures { OnOk result (out.new.items ≡ out.old.items ++ use_column_lines name.now number d.now) }
 {
     push_if(out, d.options, name, number, options_words())?;
     push_if(out, d.direction, name, number, direction_words())?;
