@@ -37,7 +37,7 @@ def main():
     words.add_argument("--profiles", default="v4-sha1-opt,v6-cmac-noopt,v4-sha256-opt,v6-sha256-noopt,v4-cmac-opt,v6-sha1-noopt")
     words.add_argument("--long", action="store_true", help="the session of several minutes too")
     words.add_argument("names", nargs="*")
-    given = words.parse_args()
+    given = words.parse_intermixed_args()
     os.makedirs(given.folder, exist_ok=True)
     guest = Guest(given.port)
     names = given.names or [name for name, what in scenarios.ALL.items() if given.long or what.only != "long"]

@@ -52,7 +52,7 @@ def loss(session, role):
 
 def heavy_loss(session, role):
     at = one_connection(session)
-    if at.begin(role, "--lose", 20, "--seed", 3):
+    if at.begin(role, "--lose", 20, "--seed", 3, seconds=120):
         at.exchange(5000, 5000, 180)
 
 
@@ -121,10 +121,11 @@ def no_key_at_the_kernel(session, role):
 
 
 def two_rows(session):
-    """The first row sends until six seconds from now, and the second from then on; both accept long enough."""
+    """The first row sends until six seconds from now, and the second from then on. Both accept long enough; the second, which begins
+    to accept later, is asked for from three seconds from now on."""
     turn = session.now + 6
     return [Key(0, sending=(session.now - 1000, turn - 1), accepting=(session.now - 1000, turn + 600)),
-            Key(1, sending=(turn, turn + 86400), accepting=(session.now - 1000, turn + 86400))]
+            Key(1, sending=(turn, turn + 86400), accepting=(turn - 3, turn + 86400))]
 
 
 def rollover_by_the_clock(session, role):
@@ -213,7 +214,7 @@ def twenty_at_once(session):
 def four_rows(session):
     """Three rollovers, one each minute from now on."""
     turns = [session.now - 1000] + [session.now + 60 * n for n in (1, 2, 3)] + [session.now + 86400]
-    return [Key(n, sending=(turns[n], turns[n + 1] - 1), accepting=(session.now - 1000, turns[n + 1] + 600)) for n in range(4)]
+    return [Key(n, sending=(turns[n], turns[n + 1] - 1), accepting=(turns[n] - 20, turns[n + 1] + 600)) for n in range(4)]
 
 
 @scenario(only="long")

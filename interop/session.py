@@ -101,7 +101,7 @@ class Connection:
             self.session.guest.ask(f"isn {self.kernel} {isn}")
         self.session.guest.ask(f"connect {self.kernel} {nc} {NC_PORT}")
 
-    def begin(self, role, *words, keys=None):
+    def begin(self, role, *words, keys=None, seconds=20):
         """The connection opened from the side that `role` says, `nc` or `kernel`; whether it is up."""
         if role == "nc":
             self.kernel_serves(keys)
@@ -110,7 +110,7 @@ class Connection:
             self.start_nc("--listen", *words)
             self.session.pump(lambda: False, 0.3)
             self.kernel_connects(keys)
-        return self.session.expect(self.session.pump(lambda: self.opened, 20), f"opened by {role}")
+        return self.session.expect(self.session.pump(lambda: self.opened, seconds), f"opened by {role}")
 
     def give(self, count):
         """Bytes for ao-nc to send."""
