@@ -155,7 +155,7 @@ static int device(int number, const char *mtu) {
         struct { struct in6_addr address; uint32_t prefix; int index; } six;
         int socket6 = socket(AF_INET6, SOCK_DGRAM, 0);
         memset(&six, 0, sizeof six);
-        snprintf(text, sizeof text, "2001:db8:%d::2", number);
+        snprintf(text, sizeof text, "2001:db8:%x::2", number);
         inet_pton(AF_INET6, text, &six.address);
         six.prefix = 64;
         six.index = (int)if_nametoindex(name);

@@ -1,7 +1,7 @@
 """The scenarios. Each is a function of a profile's session; its attributes say how it is set up: keys(session), connections, mtu."""
 import time
 
-from session import Key
+from session import Key, key_file
 
 ALL = {}
 ROLES = ("nc", "kernel")
@@ -176,9 +176,9 @@ def key_file_read_again(session, role):
     at = one_connection(session, [old])
     if not at.begin(role):
         return
-    from session import key_file
     at.exchange(1000, 1000)
     at.kernel_key(new)
+    at.keys = [old, new]
     for keys in ([old, new], [new]):
         session.guest.ask(f"file /keys{at.number} {key_file(session.profile, keys).encode().hex()}")
         session.guest.ask(f"signal {at.nc} 1")

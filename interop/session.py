@@ -26,7 +26,7 @@ class Profile:
         """Of ao-nc and of the kernel on a device, and ao-nc's and the kernel's as a key file has them."""
         if self.family == 4:
             return f"10.0.{number}.1", f"10.0.{number}.2", f"10.0.{number}.1", f"10.0.{number}.2"
-        return f"2001:db8:{number}::1", f"2001:db8:{number}::2", f"20010db8{number:04x}{1:020x}", f"20010db8{number:04x}{2:020x}"
+        return f"2001:db8:{number:x}::1", f"2001:db8:{number:x}::2", f"20010db8{number:04x}{1:020x}", f"20010db8{number:04x}{2:020x}"
 
 
 class Key:
@@ -84,8 +84,8 @@ class Connection:
 
     def kernel_socket(self, keys=None):
         self.session.guest.ask(f"socket {self.kernel}")
-        for key in self.keys if keys is None else keys:
-            self.kernel_key(key)
+        for number, key in enumerate(self.keys if keys is None else keys):
+            self.kernel_key(key, int(number == 0), int(number == 0))
 
     def kernel_serves(self, keys=None):
         self.kernel_socket(keys)
