@@ -1,7 +1,7 @@
 #!/usr/bin/env python3
 """The names, the sources and the arguments of the book: which names have more than one definition in it, which definitions' comments name
 no source, and, with --arguments, which functions have more than five arguments or neighbouring arguments of one plain type. The book
-here is all crates of definitions: each crate whose name begins with `book_`, with `ao_base`.
+here is all crates of definitions: each crate whose name begins with `book_`.
 A definition is what a file of specs/ defines by a name of its own: functions, types and the constructors of its types; the fields
 of a record belong to it, and are none. An operator that `do` blocks are written over, `◌>>=◌`, has one for each type of what is read. A
 source is an RFC or another standard with the section, or *own* in brackets. Plain types are numbers, truth values, and lists and
@@ -24,7 +24,7 @@ MOST_ARGUMENTS = 5
 
 def files():
     for crate in sorted(CRATES.iterdir()):
-        if crate.name == "ao_base" or crate.name.startswith("book_"):
+        if crate.name.startswith("book_"):
             yield from sorted(crate.glob("specs/*.antt"))
 
 

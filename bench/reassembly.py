@@ -14,7 +14,7 @@ import subprocess
 
 import measure
 
-NEEDED = ["ao_base", "book_segments", "slot_list", "stream_buffers"]
+NEEDED = ["book_base", "ao_base", "book_segments", "slot_list", "wrap_seq", "stream_buffers"]
 PAIRS = 50_000
 MOST_SECONDS = 0.2
 PROGRAM = r"""//! Prints the sum of the bytes that a reassembly gave back, and of their number.

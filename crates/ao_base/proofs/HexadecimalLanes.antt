@@ -6,8 +6,8 @@ use Rattle.std.proofs.lemmas.Simd.{length-chunk, get_or-chunk, chunk-fits, get_o
 use lib.Ieee.Fits.{and_l, and_r}
 use lib.Lanes.{Each1, zip2, chunk, sel_l, top, mask_l, pick_l, put_chunk}
 use Rattle.hex.specs.Hex.{hex_digit_value}
-use Rattle.ao_base.specs.Hexadecimal.{bytes_of_hex}
-use Rattle.ao_base.proofs.HexadecimalLaws.{IsRead, both_read, none_at}
+use Rattle.book_base.specs.Hexadecimal.{bytes_of_hex}
+use Rattle.book_base.proofs.HexadecimalLaws.{IsRead, both_read, none_at}
 
 abbrev pub all_below : (ℕ → Bool) → ℕ → Bool
 all_below p zero = true

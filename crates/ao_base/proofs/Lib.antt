@@ -1,12 +1,12 @@
-pub mod Examples
-pub mod LineLaws
-pub mod DecimalLaws
+pub mod CutLaws
 mod HexadecimalLanes
-pub mod HexadecimalLaws
 pub mod InMemoryLaws
-pub mod AddressLaws
 pub mod Pieces
 pub mod ReadingOn
 pub mod BufferLaws
 pub mod Sides
 pub mod Slices
+pub mod Calls
+pub mod Newlines
+pub mod Searches
+pub mod Showing

@@ -1,10 +1,7 @@
-pub mod Addresses
-pub mod Algorithms
 pub mod Buffered
-pub mod Decimals
-pub mod Hexadecimal
+pub mod Cuts
+pub mod Finding
 pub mod InMemory
-pub mod Lines
 pub mod Outside
 pub mod ReadAll
-pub mod Results
+pub mod Reading

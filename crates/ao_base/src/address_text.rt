@@ -1,11 +1,10 @@
 //! Addresses as text.
 ghost use Rattle.std.specs.Prelude.{◌≡◌, [], ◌∷◌, ◌++◌, decimal, position, IfOk, OnOk, MatchOption};
-ghost use Rattle.ao_base.specs.Addresses.{address_of, address_text, between_dots, dotted_of, dotted_text, four, has_leading_zero, is_dot, octet_of};
+ghost use Rattle.book_base.specs.Addresses.{address_of, address_text, between_dots, dotted_of, dotted_text, four, has_leading_zero, is_dot, octet_of};
 
-use crate::address::Address;
 use crate::decimal::read_decimal;
-use crate::list::Bytes;
 use crate::print::{push_decimal, push_hex};
+use book_base::{Address, Bytes};
 use std::alloc::{AllocError, Global};
 
 /// The address that a word writes: four decimals 0 to 255 without leading zeros joined by dots, or
@@ -45,7 +44,7 @@ fn read_four(a: &[u8], b: &[u8], c: &[u8], d: &[u8]) -> Option<Address>
     Some(Address::V4([a, b, c, d]))
 }
 
-#[tactic(auto, unfolding(crate::specs::Addresses::octet_of))]
+#[tactic(auto, unfolding(book_base::specs::Addresses::octet_of))]
 fn read_octet(word: &[u8]) -> Option<u8>
     ensures { result ≡ octet_of word.now }
 {

@@ -2,7 +2,7 @@
 ghost use Rattle.std.specs.Prelude.{◌≡◌};
 ghost use Rattle.std.specs.Char.{is_ascii_digit};
 ghost use Rattle.std.specs.List.{list_all};
-ghost use Rattle.ao_base.specs.Decimals.{decimal_of};
+ghost use Rattle.book_base.specs.Decimals.{decimal_of};
 
 /// The number that a word writes in decimal; None exactly where it isn't 1 to 20 digits or its
 /// value is 2^64 or more. Leading zeros count as digits.

@@ -3,9 +3,9 @@ ghost use Rattle.std.specs.Prelude.{◌≡◌, ◌↔◌, ◌+◌, ◌*◌, ◌/
 ghost use Rattle.std.specs.List.{list_all};
 ghost use Rattle.std.specs.Char.{is_ascii_hexdigit};
 ghost use Rattle.hex.specs.Hex.{hex_digit_value, pair_value};
-ghost use Rattle.ao_base.specs.Hexadecimal.{bytes_of_hex};
+ghost use Rattle.book_base.specs.Hexadecimal.{bytes_of_hex};
 
-use crate::list::Bytes;
+use book_base::Bytes;
 use std::alloc::Global;
 use std::simd::prelude::*;
 use thiserror::Error;

@@ -1,7 +1,8 @@
 //! Lines of a text and words of a line.
 ghost use Rattle.std.specs.Prelude.{◌≡◌, ℕ, ◌+◌, ◌≤◌, ◌<◌, min, List, [], not, length, drop, position, MatchOption};
 ghost use Rattle.std.specs.List.{position_or_len, prefix_len};
-ghost use Rattle.ao_base.specs.Lines.{is_blank, is_newline, lines_of, words_of, IsNextLine, IsNextWord};
+ghost use Rattle.book_base.specs.Lines.{is_blank, is_newline, lines_of, words_of};
+ghost use Rattle.ao_base.specs.Cuts.{IsNextLine, IsNextWord};
 
 use memchr::{memchr, memchr3};
 

@@ -5,8 +5,8 @@ ghost use Rattle.std.specs.Prelude.{◌==◌};
 ghost use Rattle.ao_base.specs.InMemory.{GivingState, TakingState, Gives, Takes, IsTaking, giving_side, taking_side};
 ghost use Rattle.ao_base.specs.Outside.{Side, Reads, Writes, one_later};
 
-use crate::list::{Bytes, Numbers};
 use crate::outside::{Failed, Sink, Source};
+use book_base::{Bytes, Numbers};
 use std::alloc::{AllocError, Global};
 use std::marker::Model;
 

@@ -1,7 +1,7 @@
 //! Pieces of printed text.
 ghost use Rattle.std.specs.Prelude.{◌≡◌, ◌++◌, if◌then◌else◌, decimal};
 ghost use Rattle.std.specs.Result.{is_ok};
-ghost use Rattle.ao_base.specs.Hexadecimal.{hex_of};
+ghost use Rattle.book_base.specs.Hexadecimal.{hex_of};
 
 use itoa::Buffer;
 use std::alloc::AllocError;

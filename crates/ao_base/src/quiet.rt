@@ -2,9 +2,9 @@
 ghost use Rattle.std.specs.Prelude.{◌≡◌, ℕ, ◌≤◌, ◌++◌, List, Some, None, Result, Ok, length, take, drop, min};
 ghost use Rattle.ao_base.specs.Outside.{Side, Reads, Writes, wary};
 
-use crate::list::Bytes;
 use crate::memory::give;
 use crate::outside::{Failed, Sink, Source};
+use book_base::Bytes;
 use std::marker::Model;
 
 /// A source over bytes in memory that never fails: its count of faults is the constant 0. It tells

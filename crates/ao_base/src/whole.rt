@@ -3,8 +3,8 @@ ghost use Rattle.std.specs.Prelude.{◌≡◌, ℕ, ◌+◌, ◌<◌, ◌≤◌,
 ghost use Rattle.ao_base.specs.Outside.{Side, WritesAll};
 ghost use Rattle.ao_base.specs.ReadAll.{ReadsAll};
 
-use crate::list::Bytes;
 use crate::outside::{Failed, Sink, Source};
+use book_base::Bytes;
 use std::alloc::Global;
 use thiserror::Error;
 

@@ -1,7 +1,7 @@
 -- What is known of a segment whose MAC is left to judge.
 use Rattle.std.proofs.Common.{◌≡◌, ◌<◌, ◌≤◌, ℕ, ◌+◌, ◌-◌, Bool, true, false, List, length, Option, Some, None, refl, sym, ap, ◌∙◌, subst, arith, get_or, Ok, Err}
 use Rattle.std.specs.Prelude.{slice_get}
-use Rattle.ao_base.specs.Algorithms.{mac_length_of}
+use Rattle.book_base.specs.Algorithms.{mac_length_of}
 use Rattle.book_segments.specs.Bytes.{same_bytes}
 use Rattle.book_segments.specs.Options.{Ao, AoFound, One, find_ao}
 use Rattle.book_segments.specs.Segments.{Segment, has, SYN}
@@ -16,7 +16,7 @@ use Rattle.ao_kdf.specs.Cache.{Cache, kept, IsRight}
 use Rattle.ao_kdf.specs.declared.way.Way.{Way}
 use Rattle.ao_kdf.specs.declared.way.Way.TheVariants.{Inbound, Outbound}
 use Rattle.book_keys.specs.Lookups.{number_of}
-use Rattle.ao_base.specs.declared.address.Pair.{Pair}
+use Rattle.book_base.specs.declared.address.Pair.{Pair}
 use Rattle.ao_check.specs.declared.screen.Screened.{Screened}
 use Rattle.book_endpoint.specs.declared.verdict.Passed.{Passed}
 use Rattle.book_endpoint.specs.declared.verdict.Verdict.TheVariants.{BadMac}

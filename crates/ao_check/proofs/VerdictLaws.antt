@@ -3,7 +3,7 @@ use Rattle.std.proofs.Common.{◌≡◌, ◌<◌, ◌≤◌, ℕ, ◌+◌, ◌-�
 use Rattle.std.specs.Prelude.{is_some, option_map}
 use Rattle.std.specs.List.{list_any}
 use Rattle.std.proofs.lemmas.Bool.Decides.{nat_tests}
-use Rattle.ao_base.specs.declared.address.Pair.{Pair}
+use Rattle.book_base.specs.declared.address.Pair.{Pair}
 use Rattle.book_segments.specs.Bytes.{same_bytes}
 use Rattle.book_segments.specs.Options.{Ao, AoFound, One, find_ao}
 use Rattle.book_segments.specs.Segments.{Segment, has, segment_length, SYN}
@@ -12,7 +12,7 @@ use Rattle.book_keys.specs.Rows.{Row, matches, receives, acceptable}
 use Rattle.book_keys.specs.Lifetimes.{contains}
 use Rattle.book_keys.specs.Choices.{Numbered, qualified, lowest, acceptable_as, accept_row, accepts_as, has_id}
 use Rattle.std.specs.Option.{option_or}
-use Rattle.ao_base.specs.Algorithms.{mac_length_of}
+use Rattle.book_base.specs.Algorithms.{mac_length_of}
 use Rattle.book_endpoint.specs.Verdicts.{Finding, Judgement, judge, segment_number, found_with, mac_of}
 use Rattle.book_endpoint.proofs.JudgeSteps.{judge_by_steps, judge_ao, judge_row, judge_context, judge_number, judge_mac}
 use Rattle.book_endpoint.specs.declared.verdict.Verdict.TheVariants.{NoTuple, Expired, MacLength, NoContext, Range, BadMac}

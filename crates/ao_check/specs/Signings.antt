@@ -1,11 +1,11 @@
 -- A segment that is to be signed.
 use Rattle.std.specs.Prelude.{◌≡◌, ◌+◌, ◌≤◌, ◌^◌, ◌&&◌, not, false, is_some, ℕ, List, Option, Some}
-use Rattle.ao_base.specs.declared.address.Pair.{Pair}
+use Rattle.book_base.specs.declared.address.Pair.{Pair}
 use Rattle.book_segments.specs.Segments.{Segment, has, segment_length, SYN}
 use Rattle.book_macs.specs.Contexts.{context_of}
 use Rattle.book_keys.specs.Choices.{Numbered, accept_row}
 use Rattle.book_endpoint.specs.Verdicts.{segment_number}
-use Rattle.ao_base.specs.Algorithms.{mac_length_of}
+use Rattle.book_base.specs.Algorithms.{mac_length_of}
 use Rattle.book_keys.specs.Rows.{Row}
 use Rattle.tcp_segment.specs.declared.writing.Head.{Head}
 use Rattle.book_segments.specs.Options.{Ao}

@@ -1,6 +1,6 @@
 //! What is judged of a segment before its MAC.
 ghost use Rattle.std.specs.Prelude.{◌≡◌, ◌==◌, ◌≤◌, ◌<◌, ◌-◌, ◌^◌, ◌/◌, length, IfErr, IfOk, Ok, Err, Result};
-ghost use Rattle.ao_base.specs.Algorithms.{mac_length_of};
+ghost use Rattle.book_base.specs.Algorithms.{mac_length_of};
 ghost use Rattle.book_segments.specs.Bytes.{same_bytes};
 ghost use Rattle.book_segments.specs.Options.{Ao, One, find_ao};
 ghost use Rattle.book_macs.specs.Keys.{key_length, mac};
@@ -13,9 +13,9 @@ ghost use Rattle.ao_check.specs.Verdicts.{Tells, Screens};
 
 use crate::compare::is_same;
 use crate::context::{context_of, ends_late, is_silent, number_of};
-use ao_base::Pair;
 use ao_kdf::{Context, TrafficKey};
 use ao_mac::mac;
+use book_base::Pair;
 use book_endpoint::Verdict;
 use key_table::{Accept, Row, Table};
 use tcp_options::AoFound;

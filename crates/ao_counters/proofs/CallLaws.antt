@@ -1,7 +1,7 @@
 -- What a call counts, by its answer.
 use Rattle.std.proofs.Common.{◌≡◌, ℕ, ◌/◌, Bool, true, false, List, ◌++◌, length, Option, Some, None, refl, ap, ◌∙◌}
 use Rattle.std.specs.Prelude.{◌==◌, nat_le, if◌then◌else◌}
-use Rattle.ao_base.specs.declared.address.Pair.{Pair}
+use Rattle.book_base.specs.declared.address.Pair.{Pair}
 use Rattle.book_segments.specs.Segments.{Segment, Reading, Read, Bad as Unread, pair_reached, reading}
 use Rattle.book_keys.specs.declared.new_row.NewRow.{NewRow}
 use Rattle.book_keys.specs.Rows.{Row}

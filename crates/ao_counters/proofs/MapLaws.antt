@@ -3,7 +3,7 @@ use Rattle.std.proofs.Common.{◌≡◌, Bool, true, false, List, Option, Some, 
 use Rattle.std.specs.Prelude.{cond, is_some, option_map, if◌then◌else◌}
 use Rattle.std.specs.BTreeMap.{is_at}
 use Rattle.std.specs.Map.{lookup, set_value}
-use Rattle.ao_base.specs.declared.address.Pair.{Pair}
+use Rattle.book_base.specs.declared.address.Pair.{Pair}
 use Rattle.book_cmd_node.specs.NodeRuns.{same_pair}
 use Rattle.book_counters.specs.declared.counters.Counters.{Counters}
 use Rattle.law_node.proofs.Pairs.{same_pair_is}

@@ -1,7 +1,7 @@
 -- A stack that counts stands for what a call leaves.
 use Rattle.std.proofs.Common.{◌≡◌, ℕ, Bool, true, false, List, Option, Some, None, Result, Ok, Err, refl, sym, ap, subst, ◌∙◌}
 use Rattle.std.specs.Prelude.{is_some, option_map, if◌then◌else◌}
-use Rattle.ao_base.specs.declared.address.Pair.{Pair}
+use Rattle.book_base.specs.declared.address.Pair.{Pair}
 use Rattle.book_segments.specs.declared.fault.DatagramFault.{DatagramFault}
 use Rattle.book_segments.specs.Segments.{Reading, Read, Bad as Unread, reading}
 use Rattle.book_keys.specs.declared.new_row.AddRefusal.{AddRefusal}
@@ -23,9 +23,9 @@ use Rattle.law_node.proofs.Pairs.{same_pair_is, same_pair-refl}
 use Rattle.tcp_endpoint.specs.declared.arrival.Arrived.{Arrived}
 use Rattle.tcp_endpoint.specs.declared.giving.GiveAnswer.{GiveAnswer}
 use Rattle.tcp_endpoint.specs.declared.giving.GiveAnswer.TheVariants as given
-use Rattle.ao_node.specs.declared.answer.NodeArrival.TheVariants as arrivals
-use Rattle.ao_node.specs.declared.answer.NodeRefusal.{NodeRefusal}
-use Rattle.ao_node.specs.declared.answer.NodeRefusal.TheVariants as refusals
+use Rattle.node_ends.specs.declared.answer.NodeArrival.TheVariants as arrivals
+use Rattle.node_ends.specs.declared.answer.NodeRefusal.{NodeRefusal}
+use Rattle.node_ends.specs.declared.answer.NodeRefusal.TheVariants as refusals
 use Rattle.stack_ends.specs.declared.calling.Taken.{Taken}
 use Rattle.ao_stack.specs.Answering as below
 use Rattle.ao_stack.specs.Answering.{IsAdded, IsBegun, IsDone, IsGiven, IsHanded, IsHeard, IsTaken, Reaches}

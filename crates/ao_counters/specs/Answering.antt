@@ -6,8 +6,8 @@ use Rattle.book_keys.specs.declared.new_row.AddRefusal.TheVariants as refused
 use Rattle.book_keys.specs.declared.new_row.NewRow.{NewRow}
 use Rattle.book_stack.specs.Calls.{Add, Call, CallAnswer, call}
 use Rattle.book_stack.specs.Stacks.{StackState}
-use Rattle.ao_node.specs.declared.answer.NodeRefusal.{NodeRefusal}
-use Rattle.ao_node.specs.declared.answer.NodeRefusal.TheVariants as refusals
+use Rattle.node_ends.specs.declared.answer.NodeRefusal.{NodeRefusal}
+use Rattle.node_ends.specs.declared.answer.NodeRefusal.TheVariants as refusals
 use Rattle.ao_stack.specs.Answering.{IsAdded, IsBegun}
 use Rattle.ao_counters.specs.declared.counted_stack.CountedStack.{CountedStack}
 use Rattle.ao_counters.specs.Standing.{Stands}

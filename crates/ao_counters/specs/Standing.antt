@@ -1,6 +1,6 @@
 -- Which stacks and counters of the definitions a stack that counts stands for (own).
 use Rattle.std.specs.Prelude.{◌≡◌}
-use Rattle.ao_base.specs.declared.address.Pair.{Pair}
+use Rattle.book_base.specs.declared.address.Pair.{Pair}
 use Rattle.book_counters.specs.Counters.{StackCounts}
 use Rattle.book_stack.specs.Stacks.{StackState}
 use Rattle.ao_stack.specs.Standing as below

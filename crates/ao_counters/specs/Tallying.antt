@@ -2,7 +2,7 @@
 use Rattle.std.specs.Prelude.{◌≡◌, List, Option, if◌then◌else◌}
 use Rattle.std.specs.Map.{lookup}
 use Rattle.std.specs.BTreeMap.{is_at}
-use Rattle.ao_base.specs.declared.address.Pair.{Pair}
+use Rattle.book_base.specs.declared.address.Pair.{Pair}
 use Rattle.book_cmd_node.specs.NodeRuns.{same_pair}
 use Rattle.book_counters.specs.declared.counters.Counters.{Counters}
 use Rattle.stack_timers.specs.declared.key.Key.{Key}

@@ -11,9 +11,9 @@ ghost use Rattle.ao_counters.specs.Standing.{Stands};
 
 use crate::counted_stack::CountedStack;
 use crate::counting::{Happened, arrived, knocked, stray};
-use ao_node::NodeArrival;
 use ao_stack::Heard;
 use book_endpoint::Arrival;
+use node_ends::NodeArrival;
 
 impl CountedStack {
     /// A datagram comes at `now`, in milliseconds since 1970 and at most the last one of the year 9999: to

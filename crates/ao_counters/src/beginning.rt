@@ -12,10 +12,10 @@ ghost use Rattle.ao_counters.specs.Standing.{Stands};
 use crate::counted_stack::CountedStack;
 use crate::counting::no_counters;
 use crate::tallies::Tallies;
-use ao_base::Pair;
-use ao_node::NodeRefusal;
 use ao_stack::Stack;
+use book_base::Pair;
 use key_table::Table;
+use node_ends::NodeRefusal;
 use std::alloc::{AllocError, Global};
 
 impl CountedStack {

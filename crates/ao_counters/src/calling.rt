@@ -9,7 +9,7 @@ ghost use Rattle.ao_counters.specs.Answering.{Follows};
 ghost use Rattle.ao_counters.specs.Standing.{Stands};
 
 use crate::counted_stack::CountedStack;
-use ao_base::Pair;
+use book_base::Pair;
 use stack_ends::Taken;
 use tcp_endpoint::GiveAnswer;
 

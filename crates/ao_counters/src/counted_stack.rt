@@ -5,8 +5,8 @@ ghost use Rattle.ao_counters.specs.Tallying.{Becomes, tally_at};
 
 use crate::counting::{Happened, changed};
 use crate::tallies::Tallies;
-use ao_base::Pair;
 use ao_stack::Stack;
+use book_base::Pair;
 use book_counters::Counters;
 
 /// A node that runs by itself (`ao_stack::Stack`), with counters of all that happens at it and of each

@@ -7,7 +7,7 @@ ghost use Rattle.book_stack.specs.Watches.{end_front};
 ghost use Rattle.ao_counters.specs.Standing.{Stands};
 
 use crate::counted_stack::CountedStack;
-use ao_base::Pair;
+use book_base::Pair;
 use book_counters::Counters;
 use book_stack::Front;
 

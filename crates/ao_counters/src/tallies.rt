@@ -5,7 +5,7 @@ ghost use Rattle.ao_counters.specs.Happening.{changed_by};
 ghost use Rattle.ao_counters.specs.Tallying.{Becomes, tally_at};
 
 use crate::counting::{Happened, changed, no_counters};
-use ao_base::Pair;
+use book_base::Pair;
 use book_counters::Counters;
 use stack_timers::{Key, key_of};
 use std::alloc::{AllocError, Global};

@@ -1,7 +1,7 @@
 -- A hasher of an algorithm goes on as the hasher in it does.
 use Rattle.std.proofs.Common.{◌≡◌, ℕ, List, ◌++◌, subst}
-use Rattle.ao_base.specs.declared.algorithm.Algorithm.{Algorithm}
-use Rattle.ao_base.specs.declared.algorithm.Algorithm.TheVariants.{HmacSha1, AesCmac, HmacSha256}
+use Rattle.book_base.specs.declared.algorithm.Algorithm.{Algorithm}
+use Rattle.book_base.specs.declared.algorithm.Algorithm.TheVariants.{HmacSha1, AesCmac, HmacSha256}
 use Rattle.hmac_sha1.specs.Hasher as hmac_hasher
 use Rattle.aes_cmac.specs.declared.hasher.Cmac as cmac_hasher
 use Rattle.aes_cmac.specs.Hasher as cmac_fed

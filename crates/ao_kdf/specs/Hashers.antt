@@ -1,7 +1,7 @@
 -- What is fed to a hasher of an algorithm.
 use Rattle.std.specs.Prelude.{ℕ, List}
-use Rattle.ao_base.specs.declared.algorithm.Algorithm.{Algorithm}
-use Rattle.ao_base.specs.declared.algorithm.Algorithm.TheVariants.{HmacSha1, AesCmac, HmacSha256}
+use Rattle.book_base.specs.declared.algorithm.Algorithm.{Algorithm}
+use Rattle.book_base.specs.declared.algorithm.Algorithm.TheVariants.{HmacSha1, AesCmac, HmacSha256}
 use Rattle.hmac_sha1.specs.Hasher.{StandsForSha1, StandsForSha256}
 use Rattle.aes_cmac.specs.Hasher as cmac
 use Rattle.ao_kdf.specs.declared.hasher.Hasher.{Hasher}

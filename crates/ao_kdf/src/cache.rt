@@ -6,7 +6,8 @@ ghost use Rattle.ao_kdf.specs.Cache.{empty, key_at, kept, keeping, IsRight, step
 
 use crate::key::{TrafficKey, traffic_key};
 use crate::way::Way;
-use ao_base::{Algorithm, Steps};
+use ao_base::Steps;
+use book_base::Algorithm;
 use book_macs::Context;
 use std::alloc::{AllocError, Global};
 use std::marker::Model;

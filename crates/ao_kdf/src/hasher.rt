@@ -1,11 +1,11 @@
 //! A hasher of each algorithm.
 ghost use Rattle.std.specs.Prelude.{◌≡◌, ℕ, List, [], ◌++◌, length};
-ghost use Rattle.ao_base.specs.declared.algorithm.Algorithm.{Algorithm};
-ghost use Rattle.ao_base.specs.declared.algorithm.Algorithm.TheVariants.{AesCmac};
+ghost use Rattle.book_base.specs.declared.algorithm.Algorithm.{Algorithm};
+ghost use Rattle.book_base.specs.declared.algorithm.Algorithm.TheVariants.{AesCmac};
 ghost use Rattle.ao_kdf.specs.Hashers.{StandsFor};
 
 use aes_cmac::Cmac;
-use ao_base::Algorithm;
+use book_base::Algorithm;
 use hmac_sha1::{HmacSha1, HmacSha256};
 
 /// HMAC-SHA-1, AES-CMAC (RFC 5926, section 3.2) or HMAC-SHA-256 of the bytes fed to it under a

@@ -1,8 +1,8 @@
 -- What a hasher answers is the MAC of what was fed to it, in whatever pieces.
 use Rattle.std.proofs.Common.{◌≡◌, ℕ, List, take, ap, subst}
-use Rattle.ao_base.specs.Algorithms.{mac_length_of}
-use Rattle.ao_base.specs.declared.algorithm.Algorithm.{Algorithm}
-use Rattle.ao_base.specs.declared.algorithm.Algorithm.TheVariants.{HmacSha1, AesCmac, HmacSha256}
+use Rattle.book_base.specs.Algorithms.{mac_length_of}
+use Rattle.book_base.specs.declared.algorithm.Algorithm.{Algorithm}
+use Rattle.book_base.specs.declared.algorithm.Algorithm.TheVariants.{HmacSha1, AesCmac, HmacSha256}
 use Rattle.hmac_sha1.specs.Hasher as hmac_hasher
 use Rattle.aes_cmac.specs.declared.hasher.Cmac as cmac_hasher
 use Rattle.aes_cmac.specs.Hasher as cmac_fed

@@ -2,8 +2,8 @@
 use Rattle.std.proofs.Common.{◌≡◌, ℕ, zero, suc, ◌+◌, ◌-◌, ◌/◌, ◌%◌, ◌<◌, Bool, true, false, List, [], ◌∷◌, ◌++◌, length, take, drop, replicate, refl, sym, ap, ◌∙◌, arith, append_assoc}
 use Rattle.std.specs.Prelude.{◌↔◌, IsTrue, slice_index, slice_index_or}
 use Rattle.std.proofs.lemmas.List.{length-append, drop_at, drop-drop, take_rest, same_lists, get_or_default}
-use Rattle.ao_base.specs.declared.address.Address.{Address}
-use Rattle.ao_base.specs.declared.address.Address.TheVariants.{V4, V6}
+use Rattle.book_base.specs.declared.address.Address.{Address}
+use Rattle.book_base.specs.declared.address.Address.TheVariants.{V4, V6}
 use Rattle.book_segments.specs.Bytes.{put2, put4}
 use Rattle.book_segments.specs.Sockets.{octets}
 use Rattle.book_segments.specs.Options.{Ao, One, find_ao, options_of}

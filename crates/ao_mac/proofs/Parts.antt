@@ -1,12 +1,12 @@
 -- The MAC input as the parts that are fed one after another.
 use Rattle.std.proofs.Common.{◌≡◌, ℕ, ◌+◌, ◌-◌, ◌/◌, ◌%◌, ◌≤◌, ◌<◌, Bool, List, [], ◌∷◌, ◌++◌, length, take, drop, refl, sym, ap, subst, true, ◌∙◌, append_assoc, arith, replicate}
 use Rattle.std.proofs.lemmas.List.{length-drop, take_all, take-replicate}
-use Rattle.ao_base.specs.declared.address.Address.TheVariants.{V4, V6}
+use Rattle.book_base.specs.declared.address.Address.TheVariants.{V4, V6}
 use Rattle.book_segments.specs.Bytes.{put2, put4}
 use Rattle.book_segments.specs.Options.{Ao}
 use Rattle.book_segments.specs.Segments.{IpHeader, Ipv4, Ipv6, Segment, pseudo_of, pseudo, header, tcp_length}
 use Rattle.book_segments.specs.Spelling.{FitsIp, IsV4, IsV6}
-use Rattle.ao_base.specs.declared.algorithm.Algorithm.{Algorithm}
+use Rattle.book_base.specs.declared.algorithm.Algorithm.{Algorithm}
 use Rattle.book_macs.specs.Keys.{mac}
 use Rattle.book_macs.specs.MacInput.{covered, mac_input}
 

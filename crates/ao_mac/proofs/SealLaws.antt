@@ -1,9 +1,9 @@
 -- The MAC of a draft doesn't depend on what stands in its MAC field.
 use Rattle.std.proofs.Common.{◌≡◌, ℕ, ◌+◌, ◌/◌, Bool, true, false, List, [], ◌∷◌, ◌++◌, length, take, drop, replicate, refl, sym, ap, subst, ◌∙◌, arith}
 use Rattle.std.proofs.lemmas.List.{take_at, drop_all}
-use Rattle.ao_base.specs.declared.address.Address.{Address}
-use Rattle.ao_base.specs.declared.address.Address.TheVariants.{V4, V6}
-use Rattle.ao_base.specs.declared.algorithm.Algorithm.{Algorithm}
+use Rattle.book_base.specs.declared.address.Address.{Address}
+use Rattle.book_base.specs.declared.address.Address.TheVariants.{V4, V6}
+use Rattle.book_base.specs.declared.algorithm.Algorithm.{Algorithm}
 use Rattle.book_segments.specs.Bytes.{put4}
 use Rattle.book_segments.specs.Options.{Ao, AoFound, One, find_ao}
 use Rattle.book_segments.specs.Segments.{Segment, pseudo_of, pseudo, header}

@@ -1,6 +1,6 @@
 -- The MAC of a segment that has a TCP-AO option.
 use Rattle.std.specs.Prelude.{◌≡◌, ◌↔◌, ℕ, ◌/◌, Bool, IsTrue, List}
-use Rattle.ao_base.specs.declared.algorithm.Algorithm.{Algorithm}
+use Rattle.book_base.specs.declared.algorithm.Algorithm.{Algorithm}
 use Rattle.book_segments.specs.Bytes.{ring}
 use Rattle.book_segments.specs.Options.{Ao, One, find_ao}
 use Rattle.book_segments.specs.Segments.{Segment}

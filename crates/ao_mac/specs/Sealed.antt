@@ -1,6 +1,6 @@
 -- A draft whose MAC was put in.
 use Rattle.std.specs.Prelude.{ℕ, Bool, List}
-use Rattle.ao_base.specs.declared.algorithm.Algorithm.{Algorithm}
+use Rattle.book_base.specs.declared.algorithm.Algorithm.{Algorithm}
 use Rattle.tcp_segment.specs.declared.writing.Head.{Head}
 use Rattle.tcp_segment.specs.Drafts.{DatagramMut, Drafted}
 use Rattle.tcp_segment.specs.Writing.{drafted}

@@ -8,7 +8,7 @@ ghost use Rattle.tcp_options.specs.Views.{view_ao};
 ghost use Rattle.book_macs.specs.MacInput.{covered};
 ghost use Rattle.ao_mac.specs.Macs.{HasAo};
 
-use ao_base::Address;
+use book_base::Address;
 use std::marker::Model;
 use tcp_options::{AoFound, AoOption};
 use tcp_segment::Datagram;

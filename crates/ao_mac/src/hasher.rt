@@ -1,7 +1,7 @@
 //! The MAC of what was fed to a hasher.
 ghost use Rattle.std.specs.Prelude.{◌≡◌, ℕ, List, length};
-ghost use Rattle.ao_base.specs.Algorithms.{mac_length_of};
-ghost use Rattle.ao_base.specs.declared.algorithm.Algorithm.{Algorithm};
+ghost use Rattle.book_base.specs.Algorithms.{mac_length_of};
+ghost use Rattle.book_base.specs.declared.algorithm.Algorithm.{Algorithm};
 ghost use Rattle.book_macs.specs.Keys.{mac};
 ghost use Rattle.ao_kdf.specs.Hashers.{StandsFor};
 

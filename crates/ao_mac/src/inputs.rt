@@ -6,7 +6,7 @@ ghost use Rattle.book_macs.specs.MacInput.{covered, mac_input};
 ghost use Rattle.ao_mac.specs.Macs.{HasAo, IsSameInput};
 
 use crate::front::{AO_KIND, tcp_length_of};
-use ao_base::Address;
+use book_base::Address;
 use std::marker::Model;
 use tcp_options::{AoFound, AoOption};
 use tcp_segment::Datagram;

@@ -1,14 +1,14 @@
 //! The MAC of a segment.
 ghost use Rattle.std.specs.Prelude.{◌≡◌, length};
-ghost use Rattle.ao_base.specs.Algorithms.{mac_length_of};
-ghost use Rattle.ao_base.specs.declared.algorithm.Algorithm.TheVariants.{AesCmac};
+ghost use Rattle.book_base.specs.Algorithms.{mac_length_of};
+ghost use Rattle.book_base.specs.declared.algorithm.Algorithm.TheVariants.{AesCmac};
 ghost use Rattle.ao_mac.specs.Macs.{HasAo, IsMacOf};
 
 use crate::front::Front;
 use crate::hasher::finish;
 use crate::mac_bytes::MacBytes;
-use ao_base::Algorithm;
 use ao_kdf::TrafficKey;
+use book_base::Algorithm;
 use tcp_segment::Datagram;
 
 /// The MAC of a segment under a traffic key (RFC 5925, section 5.1; RFC 5926, section 3.2).

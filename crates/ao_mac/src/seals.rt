@@ -1,14 +1,14 @@
 //! The MAC of a segment that is being written.
 ghost use Rattle.std.specs.Prelude.{◌≡◌, ◌+◌, ℕ, List, length};
-ghost use Rattle.ao_base.specs.Algorithms.{mac_length_of};
+ghost use Rattle.book_base.specs.Algorithms.{mac_length_of};
 ghost use Rattle.tcp_segment.specs.Drafts.{Drafted};
 ghost use Rattle.tcp_segment.specs.declared.writing.Head.{Head};
-ghost use Rattle.ao_base.specs.declared.algorithm.Algorithm.TheVariants.{AesCmac};
+ghost use Rattle.book_base.specs.declared.algorithm.Algorithm.TheVariants.{AesCmac};
 ghost use Rattle.ao_mac.specs.Sealed.{IsSealed};
 
 use crate::macs::mac;
-use ao_base::Algorithm;
 use ao_kdf::TrafficKey;
+use book_base::Algorithm;
 use tcp_segment::DatagramMut;
 
 /// Puts the MAC of a segment that is being written into its MAC field (RFC 5925, section 5.1).

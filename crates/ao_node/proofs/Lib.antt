@@ -1,2 +1,4 @@
-pub mod MapLaws
-pub mod NodeLaws
+pub mod ActLaws
+pub mod HoldLaws
+pub mod StepLaws
+pub mod RunLaws

@@ -1,4 +1,3 @@
-pub mod Arrivals
-pub mod Held
-pub mod Keys
-pub mod Lending
+pub mod Acting
+pub mod Nodes
+pub mod Telling

@@ -1,10 +1,17 @@
-//! Many connections on one node: an end for each pair of sockets, found by the sockets of a
-//! datagram, and each as if it were alone. Our own format.
+//! A node with many connections, its file and the run of it: each event does to the node what the
+//! definitions say, and a line is written for each answer. Our own format.
+//!
+//! The node itself stands in `node_ends`, the reading of its file in `node_script`.
 #![tactic(auto)]
 
-mod answer;
-mod key;
-mod node;
+mod acts;
+mod events;
+mod lines;
+mod run;
+mod told;
 
-pub use answer::{NodeArrival, NodeRefusal};
-pub use node::Node;
+pub use book_cmd_node::{Act, NodeEvent, NodeScript};
+pub use book_lines::TextFault;
+pub use node_ends::{Node, NodeArrival, NodeRefusal};
+pub use node_script::read_node;
+pub use run::run_node;

@@ -4,7 +4,7 @@ use Rattle.std.proofs.lemmas.Bool.Decides.{nat_tests}
 use Rattle.std.proofs.lemmas.List.{get_or_past}
 use Rattle.std.proofs.lemmas.Str.{IsUtf8-from_ascii}
 use Rattle.std.specs.Str.{IsAscii, IsUtf8, bytes_eq}
-use Rattle.ao_base.specs.Decimals.{decimal_of}
+use Rattle.book_base.specs.Decimals.{decimal_of}
 use Rattle.book_keys.specs.Times.{◌>>=◌, two_digits_at, time_of, time_of_digits}
 use Rattle.book_answer.specs.declared.command.Command.{Command}
 use Rattle.book_answer.specs.declared.command.Command.TheVariants as command

@@ -2,7 +2,7 @@
 -- `CommandsDeliver` (own).
 use Rattle.std.specs.Prelude.{◌≡◌, ◌↔◌, ℕ, ◌<◌, ◌≤◌, List, [], ◌∷◌, ◌++◌, length, All, true, false}
 use Rattle.std.specs.Prelude.{codes, Some, Result, Ok, None}
-use Rattle.ao_base.specs.declared.address.Pair.{Pair}
+use Rattle.book_base.specs.declared.address.Pair.{Pair}
 use Rattle.ao_base.specs.Outside.{Side, WasWritten, IsAtEnd}
 use Rattle.book_keys.specs.Nodes.{tables_of}
 use Rattle.book_keys.specs.Plans.{rows_at}

@@ -6,8 +6,9 @@ ghost use Rattle.book_answer.specs.Answers.{most_input};
 ghost use Rattle.ao_run.specs.Gathered.{is_ready};
 ghost use Rattle.ao_run.specs.KeyFiles.{key_word, second, third};
 
-use ao_base::{Words, read_decimal};
+use ao_base::read_decimal;
 use book_answer::Command;
+use book_base::Words;
 use book_cmd_keys::Plan;
 use key_table::{LATEST, read_time};
 

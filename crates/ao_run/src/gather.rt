@@ -10,8 +10,9 @@ use crate::command::{most_input, reads_input, reads_keys};
 use crate::key_fault::stop_of;
 use crate::stop::{Output, Stop};
 use crate::told::told;
-use ao_base::{Bytes, ReadProblem, Source, read_all};
+use ao_base::{ReadProblem, Source, read_all};
 use book_answer::Command;
+use book_base::Bytes;
 use cmd_keys::{answer_keys, answer_lint};
 use cmd_link::{answer_link, answer_link_keys, answer_storm};
 use cmd_show::{answer_show, answer_vectors};
@@ -81,7 +82,7 @@ fn answer(
         (Command::Storm(seed, count), _) => answer_storm(alloc, seed, count),
         (Command::Bgp, Some(tables)) => cmd_bgp::answer(alloc, tables, input),
         (Command::Timed, Some(tables)) => cmd_timed::answer(alloc, tables, input),
-        (Command::Node, Some(tables)) => node_run::answer(alloc, &tables, input),
+        (Command::Node, Some(tables)) => cmd_node::answer(alloc, &tables, input),
         _ => unreachable!(),
     };
     told(alloc, answer)

@@ -6,7 +6,7 @@ ghost use Rattle.book_lines.specs.Texts.{spaced};
 ghost use Rattle.ao_run.specs.Stops.{Stopped};
 
 use crate::stop::Stop;
-use ao_base::Bytes;
+use book_base::Bytes;
 use key_table::{Column, TableFault};
 use std::alloc::{AllocError, Global};
 use text_lines::{push_field, push_newline, push_number, push_text};

@@ -5,7 +5,7 @@ ghost use Rattle.book_answer.specs.Answers.{head_fault_text, pcap_fault_line, re
 ghost use Rattle.ao_run.specs.Stops.{Stopped};
 
 use crate::stop::Stop;
-use ao_base::Bytes;
+use book_base::Bytes;
 use pcap_file::HeadFault;
 use std::alloc::{AllocError, Global};
 use text_lines::{push_newline, push_number, push_text};

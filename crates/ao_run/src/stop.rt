@@ -7,7 +7,7 @@ ghost use Rattle.ao_run.specs.Stops.{IsHalted, IsPacketHalted, Stopped, status_o
 ghost use Rattle.ao_run.specs.declared.stop.Stop.TheVariants.{Memory};
 
 use crate::pcap_fault::{of_head, of_record};
-use ao_base::Bytes;
+use book_base::Bytes;
 use book_lines::TextFault;
 use capture_lines::Halt;
 use capture_packets::PacketHalt;

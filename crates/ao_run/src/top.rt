@@ -9,8 +9,9 @@ use crate::command::named;
 use crate::gather::gather;
 use crate::stop::Stop;
 use crate::stream::{check_file, check_lines};
-use ao_base::{Failed, Sink, Source, Words, write_all};
+use ao_base::{Failed, Sink, Source, write_all};
 use book_answer::Command;
+use book_base::Words;
 use std::alloc::Global;
 
 /// Reads all that the command reads, and then writes its whole output.

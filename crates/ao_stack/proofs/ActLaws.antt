@@ -1,6 +1,6 @@
 -- The connection of a pair is called, or dropped.
 use Rattle.std.proofs.Common.{◌≡◌, Bool, true, false, Option, Some, None, refl}
-use Rattle.ao_base.specs.declared.address.Pair.{Pair}
+use Rattle.book_base.specs.declared.address.Pair.{Pair}
 use Rattle.book_endpoint.specs.States.{EndState}
 use Rattle.book_cmd_node.specs.declared.node.Act.{Act}
 use Rattle.book_cmd_node.specs.declared.node.Act.TheVariants as act
@@ -10,7 +10,7 @@ use Rattle.book_stack.specs.Alarms.{without_alarm, without_pair}
 use Rattle.book_stack.specs.Calls.{CallAnswer, At, Told, makes_an_end, kept}
 use Rattle.book_stack.specs.Stacks.{StackState}
 use Rattle.book_stack.specs.Turns.{called_at}
-use Rattle.node_run.specs.Acting.{act_on}
+use Rattle.ao_node.specs.Acting.{act_on}
 use Rattle.stack_ends.specs.Calling.{Asking, CallsAt, acting}
 use Rattle.stack_ends.specs.Standing as below
 use Rattle.stack_ends.specs.Standing.{Removed, most_of}

@@ -1,7 +1,7 @@
 -- A datagram comes to a stack.
 use Rattle.std.proofs.Common.{◌≡◌, ℕ, Bool, true, false, Option, Some, None, refl, sym, ap, subst, ◌∙◌}
 use Rattle.std.specs.Prelude.{option_map, if◌then◌else◌}
-use Rattle.ao_base.specs.declared.address.Pair.{Pair}
+use Rattle.book_base.specs.declared.address.Pair.{Pair}
 use Rattle.book_segments.specs.declared.fault.DatagramFault.{DatagramFault}
 use Rattle.book_segments.specs.Segments.{Segment, Reading, Read, Bad as Unread, reading}
 use Rattle.book_endpoint.specs.declared.arrival.Arrival.{Arrival}
@@ -18,8 +18,8 @@ use Rattle.book_stack.specs.Stacks.{StackState, knocks, touched, watched}
 use Rattle.book_stack.specs.Turns.{called_at, clocked}
 use Rattle.book_stack.specs.Watches.{arrived, end_front, is_heard}
 use Rattle.tcp_endpoint.specs.declared.arrival.Arrived.{Arrived}
-use Rattle.ao_node.specs.declared.answer.NodeArrival.{NodeArrival}
-use Rattle.ao_node.specs.declared.answer.NodeArrival.TheVariants as arrivals
+use Rattle.node_ends.specs.declared.answer.NodeArrival.{NodeArrival}
+use Rattle.node_ends.specs.declared.answer.NodeArrival.TheVariants as arrivals
 use Rattle.stack_ends.specs.Meeting.{Meets, MeetsPair, MeetsRead}
 use Rattle.stack_ends.specs.Standing.{most_of}
 use Rattle.ao_stack.specs.declared.stack.Stack.{Stack}

@@ -1,7 +1,7 @@
 -- A connection begins, or doesn't.
 use Rattle.std.proofs.Common.{◌≡◌, ℕ, ◌<◌, ◌≤◌, true, false, List, [], Option, Some, None, Result, Ok, Err, OnOk, OnErr, refl, sym, ap, subst, ◌∙◌}
 use Rattle.std.specs.Prelude.{is_some, length, option_map}
-use Rattle.ao_base.specs.declared.address.Pair.{Pair}
+use Rattle.book_base.specs.declared.address.Pair.{Pair}
 use Rattle.book_endpoint.specs.States.{EndState}
 use Rattle.book_cmd_node.specs.declared.node.Act.{Act}
 use Rattle.book_cmd_node.specs.NodeRuns as node
@@ -13,8 +13,8 @@ use Rattle.book_stack.specs.Calls.{At, makes_an_end, kept}
 use Rattle.book_stack.specs.Stacks.{StackState, empty_stack, touched}
 use Rattle.book_stack.specs.Watches.{end_front, new_connection_watch}
 use Rattle.tcp_segment.specs.Writing.{IsOneFamily}
-use Rattle.ao_node.specs.declared.answer.NodeRefusal.{NodeRefusal}
-use Rattle.ao_node.specs.declared.answer.NodeRefusal.TheVariants as refusals
+use Rattle.node_ends.specs.declared.answer.NodeRefusal.{NodeRefusal}
+use Rattle.node_ends.specs.declared.answer.NodeRefusal.TheVariants as refusals
 use Rattle.stack_ends.specs.declared.ends.Ends.{Ends}
 use Rattle.stack_ends.specs.Standing as ends
 use Rattle.stack_ends.specs.Standing.{most_of, with_new}

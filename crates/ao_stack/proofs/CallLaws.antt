@@ -2,7 +2,7 @@
 use Rattle.std.proofs.Common.{◌≡◌, ℕ, ◌<◌, ◌≤◌, ◌/◌, Bool, true, false, List, length, Option, Some, None, refl, sym, ap, subst, ◌∙◌, arith}
 use Rattle.std.proofs.lemmas.Bool.Decides.{nat_tests}
 use Rattle.std.specs.Prelude.{◌==◌, nat_le, if◌then◌else◌}
-use Rattle.ao_base.specs.declared.address.Pair.{Pair}
+use Rattle.book_base.specs.declared.address.Pair.{Pair}
 use Rattle.book_endpoint.specs.States.{EndState}
 use Rattle.book_cmd_node.specs.declared.node.Act.{Act}
 use Rattle.book_cmd_node.specs.declared.node.Act.TheVariants as act
@@ -13,7 +13,7 @@ use Rattle.law_node.proofs.Held.{held}
 use Rattle.book_stack.specs.Calls.{CallAnswer, Call, At, Did, Told, asking, at_pair, makes_an_end, begun, call, kept, stepped, unasked}
 use Rattle.book_stack.specs.Stacks.{StackState, forgotten, touched}
 use Rattle.book_stack.specs.Turns.{called_at, clocked}
-use Rattle.node_run.specs.Acting.{act_on}
+use Rattle.ao_node.specs.Acting.{act_on}
 use Rattle.stack_ends.specs.Standing.{with_new}
 use Rattle.ao_stack.specs.declared.stack.Stack.{Stack}
 use Rattle.ao_stack.specs.Answering.{Follows}

@@ -1,7 +1,7 @@
 -- A stack stands for a state after a part of it changed.
 use Rattle.std.proofs.Common.{◌≡◌, ℕ, Bool, true, false, List, [], ◌∷◌, ◌++◌, Option, Some, None, refl, sym, ap, subst, ◌∙◌}
 use Rattle.std.specs.Prelude.{is_some, option_map, if◌then◌else◌}
-use Rattle.ao_base.specs.declared.address.Pair.{Pair}
+use Rattle.book_base.specs.declared.address.Pair.{Pair}
 use Rattle.book_endpoint.specs.States.{EndState, tick}
 use Rattle.book_cmd_node.specs.NodeRuns.{Held, NodeState, held_end, same_pair, with_end, without_end, ends_ticked}
 use Rattle.law_node.proofs.Pairs.{same_pair_is}

@@ -1,7 +1,7 @@
 -- What is told of an end that was asked for a segment is what the definitions answer.
 use Rattle.std.proofs.Common.{◌≡◌, ℕ, ◌≤◌, List, Option, Some, None, take, refl, sym, subst, arith}
 use Rattle.std.specs.Prelude.{⊤}
-use Rattle.ao_base.specs.declared.address.Pair.{Pair}
+use Rattle.book_base.specs.declared.address.Pair.{Pair}
 use Rattle.book_segments.specs.Segments.{Segment, checksum_of, complement_of, spell}
 use Rattle.book_keys.specs.Rows.{Row}
 use Rattle.book_keys.specs.Coordination.{Sending, choose}

@@ -1,6 +1,6 @@
 -- What the calls of a stack answer, as the definitions answer (own).
 use Rattle.std.specs.Prelude.{◌≡◌, ℕ, Bool, true, false, List, ◌++◌, length, take, drop, Option, Some, None, Result, Ok, Err, ⊤}
-use Rattle.ao_base.specs.declared.address.Pair.{Pair}
+use Rattle.book_base.specs.declared.address.Pair.{Pair}
 use Rattle.book_segments.specs.Segments.{Reading, Read, Bad as Unread, pair_reached, spell}
 use Rattle.book_keys.specs.declared.new_row.AddRefusal.{AddRefusal}
 use Rattle.book_keys.specs.declared.new_row.AddRefusal.TheVariants as refused
@@ -14,10 +14,10 @@ use Rattle.book_stack.specs.Calls as book
 use Rattle.book_stack.specs.Calls.{CallAnswer, Call, call}
 use Rattle.book_stack.specs.Stacks.{StackState, handed}
 use Rattle.tcp_endpoint.specs.declared.giving.GiveAnswer.{GiveAnswer}
-use Rattle.ao_node.specs.declared.answer.NodeArrival.{NodeArrival}
-use Rattle.ao_node.specs.declared.answer.NodeArrival.TheVariants as arrivals
-use Rattle.ao_node.specs.declared.answer.NodeRefusal.{NodeRefusal}
-use Rattle.ao_node.specs.declared.answer.NodeRefusal.TheVariants as refusals
+use Rattle.node_ends.specs.declared.answer.NodeArrival.{NodeArrival}
+use Rattle.node_ends.specs.declared.answer.NodeArrival.TheVariants as arrivals
+use Rattle.node_ends.specs.declared.answer.NodeRefusal.{NodeRefusal}
+use Rattle.node_ends.specs.declared.answer.NodeRefusal.TheVariants as refusals
 use Rattle.stack_ends.specs.declared.calling.Taken.{Taken}
 use Rattle.stack_ends.specs.Calling.{given_as}
 use Rattle.ao_stack.specs.declared.stack.Stack.{Stack}

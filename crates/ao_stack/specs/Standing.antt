@@ -1,6 +1,6 @@
 -- Which stacks of the definitions a stack stands for (own).
 use Rattle.std.specs.Prelude.{◌≡◌, ◌≤◌, true, Option, Some, None, is_some}
-use Rattle.ao_base.specs.declared.address.Pair.{Pair}
+use Rattle.book_base.specs.declared.address.Pair.{Pair}
 use Rattle.book_cmd_node.specs.NodeRuns.{held_end, most_ends}
 use Rattle.book_stack.specs.Stacks.{StackState}
 use Rattle.book_stack.specs.Watches as book

@@ -1,6 +1,6 @@
 -- What the timer of a connection is told (own).
 use Rattle.std.specs.Prelude.{ℕ}
-use Rattle.ao_base.specs.declared.address.Pair.{Pair}
+use Rattle.book_base.specs.declared.address.Pair.{Pair}
 use Rattle.book_endpoint.specs.declared.phase.Phase.{Phase}
 use Rattle.book_stack.specs.Stacks.{StackState, touched}
 use Rattle.book_stack.specs.Watches.{ConnectionWatch, at_rest, expired_at, after_sending, timer_stopped}

@@ -1,6 +1,6 @@
 -- What the turns of a stack hand out, and what is told of it (own).
 use Rattle.std.specs.Prelude.{◌≡◌, ℕ, List, [], ◌∷◌, take, Option, Some, None, ⊤}
-use Rattle.ao_base.specs.declared.address.Pair.{Pair}
+use Rattle.book_base.specs.declared.address.Pair.{Pair}
 use Rattle.book_segments.specs.Segments.{spell}
 use Rattle.book_endpoint.specs.Emissions.{Emission}
 use Rattle.book_cmd_node.specs.declared.node.Act.{Act}

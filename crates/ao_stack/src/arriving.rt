@@ -1,6 +1,6 @@
 //! A datagram comes.
 ghost use Rattle.std.specs.Prelude.{◌≡◌, ◌≤◌, ◌<◌, ◌&&◌, Option, Some, option_map};
-ghost use Rattle.ao_base.specs.declared.address.Pair.{Pair as OnePair};
+ghost use Rattle.book_base.specs.declared.address.Pair.{Pair as OnePair};
 ghost use Rattle.book_segments.specs.Segments.{Segment, Read, good, has, reading};
 ghost use Rattle.book_endpoint.specs.Arrivals.{syn_alone};
 ghost use Rattle.book_endpoint.specs.States.{EndState};
@@ -10,16 +10,17 @@ ghost use Rattle.book_stack.specs.Calls.{Input, after_segment_heard, heard_pair,
 ghost use Rattle.book_stack.specs.Stacks.{StackState, is_free, is_over, knocks};
 ghost use Rattle.book_stack.specs.Watches.{end_front};
 ghost use Rattle.stack_timers.specs.Watching.{latest};
-ghost use Rattle.ao_node.specs.declared.answer.NodeArrival.TheVariants.{At};
+ghost use Rattle.node_ends.specs.declared.answer.NodeArrival.TheVariants.{At};
 ghost use Rattle.tcp_endpoint.specs.declared.arrival.Arrived.{Arrived as OneArrived};
 ghost use Rattle.ao_stack.specs.Answering.{Does, Follows, IsHeard, IsTold};
 ghost use Rattle.ao_stack.specs.Standing.{Stands};
 
 use crate::stack::Stack;
-use ao_base::{Pair, Steps};
-use ao_node::NodeArrival;
+use ao_base::Steps;
+use book_base::Pair;
 use book_endpoint::{Arrival, Phase};
 use book_stack::{Change, Front};
+use node_ends::NodeArrival;
 use stack_timers::is_heard;
 use std::marker::Brand;
 use std::sync::ledger::{Blank, Ledger};

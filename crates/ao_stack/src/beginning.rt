@@ -9,9 +9,9 @@ ghost use Rattle.ao_stack.specs.Answering.{BeginsAs};
 ghost use Rattle.ao_stack.specs.Standing.{Stands, TakesBack};
 
 use crate::stack::Stack;
-use ao_base::Pair;
-use ao_node::NodeRefusal;
+use book_base::Pair;
 use key_table::Table;
+use node_ends::NodeRefusal;
 use stack_ends::Ends;
 use stack_timers::{Alarms, Line, Watches};
 use std::alloc::{AllocError, Global};

@@ -8,7 +8,7 @@ ghost use Rattle.ao_stack.specs.Answering.{Follows, IsDone, IsGiven, IsTaken};
 ghost use Rattle.ao_stack.specs.Standing.{Stands};
 
 use crate::stack::Stack;
-use ao_base::Pair;
+use book_base::Pair;
 use stack_ends::Taken;
 use tcp_endpoint::GiveAnswer;
 

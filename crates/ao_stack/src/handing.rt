@@ -6,7 +6,7 @@ ghost use Rattle.book_stack.specs.Stacks.{handed};
 ghost use Rattle.tcp_segment.specs.Writing.{IsOneFamily, IsSized};
 ghost use Rattle.ao_stack.specs.Handing.{IsFrom, sum_handed, sum_place};
 
-use ao_base::{Address, Pair};
+use book_base::{Address, Pair};
 
 /// The bytes of an address.
 fn octets_of(address: &Address) -> &[u8]

@@ -6,7 +6,7 @@ ghost use Rattle.book_stack.specs.Watches.{end_front};
 ghost use Rattle.ao_stack.specs.Standing.{Stands};
 
 use crate::stack::Stack;
-use ao_base::Pair;
+use book_base::Pair;
 use book_stack::Front;
 
 impl Stack {

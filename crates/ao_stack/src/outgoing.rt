@@ -1,6 +1,6 @@
 //! What is told of a datagram that is handed out.
 
-use ao_base::Pair;
+use book_base::Pair;
 
 /// Whether a segment is sent for the first time.
 #[derive(Clone, Copy, Debug, PartialEq, Eq)]

@@ -5,7 +5,7 @@ ghost use Rattle.book_stack.specs.Turns.{clocked};
 ghost use Rattle.stack_timers.specs.Watching.{latest};
 ghost use Rattle.ao_stack.specs.Standing.{Stands};
 
-use ao_base::Pair;
+use book_base::Pair;
 use stack_ends::Ends;
 use stack_timers::{Alarms, Line, Watches};
 

@@ -8,7 +8,7 @@ ghost use Rattle.ao_stack.specs.Standing.{Stands};
 ghost use Rattle.ao_stack.specs.Telling.{asked_by, woken_by};
 
 use crate::stack::Stack;
-use ao_base::Pair;
+use book_base::Pair;
 use book_endpoint::{Arrival, Phase};
 use book_stack::Change;
 use stack_ends::{Says, Spoken};

@@ -1,5 +1,6 @@
 //! The word `sessions`: the table of a capture's sessions and of the keys of a key file.
-use ao_base::{Bytes, ReadProblem, ReadSource, WriteSink, read_all, write_all};
+use ao_base::{ReadProblem, ReadSource, WriteSink, read_all, write_all};
+use book_base::Bytes;
 use clap::{Arg, ArgAction, ArgMatches, Command};
 use scope_lines::push_fault;
 use scope_sessions::{SessionsHalt, push_key_fault, write_sessions};

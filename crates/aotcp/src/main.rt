@@ -6,8 +6,9 @@ mod own_text;
 #[cfg(test)]
 mod tests;
 
-use ao_base::{Bytes, Failed, QuietSource, ReadSource, Source, Words, WriteSink, write_all};
+use ao_base::{Failed, QuietSource, ReadSource, Source, WriteSink, write_all};
 use ao_run::{key_file, run};
+use book_base::{Bytes, Words};
 use own_text::OwnText;
 use std::fs::File;
 use std::io::{ErrorKind, Read};

@@ -2,7 +2,7 @@
 ghost use Rattle.std.specs.Prelude.{◌≡◌};
 ghost use Rattle.aotcp.specs.OwnTexts.{asked_by, text_of};
 
-use ao_base::Words;
+use book_base::Words;
 
 const HELP: &[u8] = b"usage: aotcp link [KEYS] | check KEYS | show | vectors | keys KEYS TIME | \
 lint KEYS LEAD LAG FROM TO | storm SEED COUNT | check --pcap KEYS | bgp KEYS | timed KEYS | node KEYS

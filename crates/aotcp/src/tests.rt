@@ -6,8 +6,9 @@ mod completeness;
 mod halting;
 mod hostile;
 
-use ao_base::{Bytes, MemSink, MemSource, Numbers, Words};
+use ao_base::{MemSink, MemSource};
 use ao_run::run;
+use book_base::{Bytes, Numbers, Words};
 use std::alloc::{AllocError, Global};
 use std::test::Fail;
 

@@ -10,8 +10,8 @@ use Rattle.book_stack.specs.Stacks.{StackState}
 use Rattle.book_stack.specs.Watches.{end_front}
 use Rattle.tcp_endpoint.specs.declared.giving.GiveAnswer.{GiveAnswer}
 use Rattle.tcp_endpoint.specs.declared.giving.GiveAnswer.TheVariants as given
-use Rattle.ao_node.specs.declared.answer.NodeRefusal.{NodeRefusal}
-use Rattle.ao_node.specs.declared.answer.NodeRefusal.TheVariants as refusals
+use Rattle.node_ends.specs.declared.answer.NodeRefusal.{NodeRefusal}
+use Rattle.node_ends.specs.declared.answer.NodeRefusal.TheVariants as refusals
 use Rattle.stack_ends.specs.declared.calling.Taken.{Taken}
 use Rattle.ao_stack.specs.declared.stack.Stack.{Stack}
 use Rattle.ao_stack.specs.Answering.{BeginsAs, Follows, HasTaken, IsBegun, IsDone, IsGiven, IsHanded, IsTaken, IsWithdrawn}

@@ -1,9 +1,9 @@
 -- Rows of a table, from a C program and to one (own).
 use Rattle.std.specs.Prelude.{◌≡◌, ℕ, ◌-◌, ◌&&◌, nat_le, nat_lt, Bool, not, List, length, take, slice_index_or, Option, Some, is_some, Result, Ok, Err}
 use Rattle.std.specs.List.{find, list_any}
-use Rattle.ao_base.specs.declared.address.Address.{Address}
-use Rattle.ao_base.specs.declared.algorithm.Algorithm.{Algorithm}
-use Rattle.ao_base.specs.declared.algorithm.Algorithm.TheVariants as algorithm
+use Rattle.book_base.specs.declared.address.Address.{Address}
+use Rattle.book_base.specs.declared.algorithm.Algorithm.{Algorithm}
+use Rattle.book_base.specs.declared.algorithm.Algorithm.TheVariants as algorithm
 use Rattle.book_keys.specs.declared.direction.Direction.{Direction}
 use Rattle.book_keys.specs.declared.direction.Direction.TheVariants as direction
 use Rattle.book_keys.specs.declared.new_row.AddRefusal.{AddRefusal}

@@ -1,14 +1,14 @@
 -- What crosses between a C program and a stack (own).
 use Rattle.std.specs.Prelude.{ℕ, ◌==◌, [], ◌∷◌, List, Option, Some, None, slice_index, false, is_some, if◌then◌else◌}
-use Rattle.ao_base.specs.declared.address.Address.{Address}
-use Rattle.ao_base.specs.declared.address.Address.TheVariants.{V4, V6}
-use Rattle.ao_base.specs.declared.address.Pair.{Pair}
+use Rattle.book_base.specs.declared.address.Address.{Address}
+use Rattle.book_base.specs.declared.address.Address.TheVariants.{V4, V6}
+use Rattle.book_base.specs.declared.address.Pair.{Pair}
 use Rattle.book_keys.specs.declared.fault.TableFault.{TableFault}
 use Rattle.book_keys.specs.declared.fault.TableFault.TheVariants as fault
 use Rattle.book_endpoint.specs.declared.verdict.Passed.{Passed}
 use Rattle.book_stack.specs.declared.front.Front.{Front}
-use Rattle.ao_node.specs.declared.answer.NodeArrival.{NodeArrival}
-use Rattle.ao_node.specs.declared.answer.NodeArrival.TheVariants as told
+use Rattle.node_ends.specs.declared.answer.NodeArrival.{NodeArrival}
+use Rattle.node_ends.specs.declared.answer.NodeArrival.TheVariants as told
 use Rattle.ao_stack.specs.declared.arriving.Heard.{Heard}
 use Rattle.ao_stack.specs.declared.arriving.Heard.TheVariants as heard
 use Rattle.aotcp_c.specs.declared.shapes.CAddress.{CAddress}

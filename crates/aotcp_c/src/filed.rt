@@ -10,7 +10,7 @@ use crate::codes::{FAMILY, FAULT, NO_NODE, NO_ROW, OK, ROOM};
 use crate::faults::fault_of;
 use crate::pairs::address_of;
 use crate::shapes::{CAddress, CFault, CRow};
-use ao_base::{Address, Algorithm};
+use book_base::{Address, Algorithm};
 use book_keys::Direction;
 use key_table::{Row, Tables, read_tables};
 use std::alloc::Global;

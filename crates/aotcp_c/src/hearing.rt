@@ -5,9 +5,9 @@ ghost use Rattle.aotcp_c.specs.Shapes.{answered, heard_of, number_in, row_in, to
 use crate::numbers::{arrival_number, datagram_number, reason_number};
 use crate::pairs::{no_pair, told_pair};
 use crate::shapes::CHeard;
-use ao_node::NodeArrival;
 use ao_stack::Heard;
 use book_endpoint::Passed;
+use node_ends::NodeArrival;
 
 /// The row under which a segment passed, 0 for none.
 fn row_in(passed: Option<Passed>) -> u8

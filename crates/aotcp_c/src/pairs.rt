@@ -4,7 +4,7 @@ ghost use Rattle.tcp_segment.specs.Writing.{IsOneFamily};
 ghost use Rattle.aotcp_c.specs.Shapes.{address_of, bytes_of, family_of, four, no_pair, pair_of, padded, told_pair};
 
 use crate::shapes::{CAddress, CPair};
-use ao_base::{Address, Pair, Socket};
+use book_base::{Address, Pair, Socket};
 
 /// The first four bytes.
 fn four(bytes: &[u8; 16]) -> [u8; 4]

@@ -12,8 +12,8 @@ ghost use Rattle.aotcp_c.specs.RowShapes.{IsRow, algorithm_number, direction_num
 use crate::codes::{MEMORY, NO_STACK, ROW, added_code, withdrawn_code};
 use crate::handle::Handle;
 use crate::shapes::CRow;
-use ao_base::{Algorithm, Bytes};
 use ao_stack::Stack;
+use book_base::{Algorithm, Bytes};
 use book_keys::{AddRefusal, Direction, LATEST, Lifetime, NewRow};
 use std::alloc::{AllocError, Global};
 use std::mem;

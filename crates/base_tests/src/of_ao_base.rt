@@ -2,9 +2,10 @@
 ghost use Rattle.std.specs.Prelude.{◌≡◌};
 
 use ao_base::{
-    Buffer, Bytes, Failed, MemSink, MemSource, Numbers, QuietSource, ReadProblem, ReadSource, Sink,
-    Source, WriteSink, read_all, write_all,
+    Buffer, Failed, MemSink, MemSource, QuietSource, ReadProblem, ReadSource, Sink, Source,
+    WriteSink, read_all, write_all,
 };
+use book_base::{Bytes, Numbers};
 use std::alloc::{AllocError, Global};
 use std::io::{Error, Read, Write};
 use std::test::Fail;

@@ -1,7 +1,8 @@
 //! What is known over sources and sinks in memory of which no call is told to fail: proved callers.
 ghost use Rattle.std.specs.Prelude.{◌≡◌, ◌+◌, ◌<◌, ◌≤◌, ◌++◌, length, IfOk, IfSome};
 
-use ao_base::{Bytes, Failed, MemSink, MemSource, Numbers, ReadProblem, read_all, write_all};
+use ao_base::{Failed, MemSink, MemSource, ReadProblem, read_all, write_all};
+use book_base::{Bytes, Numbers};
 use std::alloc::{AllocError, Global};
 use std::test::Fail;
 

@@ -1,8 +1,8 @@
 //! Lines of sources that come in pieces, are too long or fail.
 ghost use Rattle.std.specs.Prelude.{◌≡◌, ◌≤◌, false, IsSome, OnOk};
 
-use ao_base::{Bytes, MemSource, Numbers};
-use line_reader::{LineReader, LineStep};
+use ao_base::{LineReader, LineStep, MemSource};
+use book_base::{Bytes, Numbers};
 use std::alloc::{AllocError, Global};
 use std::test::Fail;
 

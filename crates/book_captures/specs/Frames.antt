@@ -1,7 +1,7 @@
 -- The datagram in a frame: behind the link's header, tags, a session's header and a stack of
 -- labels.
 use Rattle.std.specs.Prelude.{ℕ, ◌+◌, ◌-◌, ◌*◌, ◌/◌, ◌%◌, ◌==◌, nat_lt, Bool, true, false, List, ◌∷◌, length, take, drop, slice_index, Option, Some, None, Result, Ok, Err, if◌then◌else◌}
-use Rattle.ao_base.specs.Results.{◌>>=◌}
+use Rattle.book_base.specs.Results.{◌>>=◌}
 use Rattle.book_pcap.specs.declared.pcap_head.ByteOrder.TheVariants.{Big, Little}
 use Rattle.book_pcap.specs.Packets.{two_at, four_at}
 use Rattle.book_captures.specs.declared.link_type.LinkType.{LinkType}

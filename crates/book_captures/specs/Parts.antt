@@ -1,6 +1,6 @@
 -- A part of a capture: a record of a classic pcap file, or a block of a pcapng file.
 use Rattle.std.specs.Prelude.{ℕ, ◌+◌, ◌==◌, nat_lt, Bool, List, [], ◌∷◌, ◌++◌, length, slice_get, Option, Some, None, Result, Ok, Err, if◌then◌else◌}
-use Rattle.ao_base.specs.Results.{◌>>=◌, or_fault}
+use Rattle.book_base.specs.Results.{◌>>=◌, or_fault}
 use Rattle.book_pcap.specs.declared.pcap_head.ByteOrder.TheVariants.{Big}
 use Rattle.book_pcap.specs.Packets.{two_at, four_at}
 use Rattle.book_captures.specs.declared.block_parts.BlockFault.{BlockFault}

@@ -2,7 +2,7 @@
 -- top is `bgp_text`.
 use Rattle.std.specs.Prelude.{ℕ, suc, ◌+◌, nat_lt, Bool, List, [], ◌∷◌, ◌++◌, length, drop, codes}
 use Rattle.std.specs.Prelude.{decimal, Option, Some, None}
-use Rattle.ao_base.specs.declared.end.End.{End}
+use Rattle.book_base.specs.declared.end.End.{End}
 use Rattle.book_lines.specs.Texts.{numbered_text, end_text}
 use Rattle.book_bgp.specs.declared.bgp_fault.BgpFault.{BgpFault}
 use Rattle.book_bgp.specs.declared.bgp_fault.BgpFault.TheVariants as fault

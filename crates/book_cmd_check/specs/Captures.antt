@@ -4,8 +4,8 @@ use Rattle.std.specs.Prelude.{ℕ, ◌+◌, ◌-◌, ◌%◌, ◌==◌, max, nat
 use Rattle.std.specs.Prelude.{◌&&◌, ◌||◌, List, [], ◌∷◌, ◌++◌, length, codes, decimal, Option, Some}
 use Rattle.std.specs.Prelude.{None, option_map, if◌then◌else◌, Ok, Err}
 use Rattle.std.specs.List.{find, list_any, flat_map}
-use Rattle.ao_base.specs.declared.address.Pair.{Pair}
-use Rattle.ao_base.specs.declared.address.Socket.{Socket}
+use Rattle.book_base.specs.declared.address.Pair.{Pair}
+use Rattle.book_base.specs.declared.address.Socket.{Socket}
 use Rattle.book_segments.specs.Bytes.{ring}
 use Rattle.book_segments.specs.Faults.{fault_text}
 use Rattle.book_segments.specs.Sockets.{same_socket}

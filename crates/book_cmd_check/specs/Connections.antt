@@ -1,7 +1,7 @@
 -- The connections that are held while stored datagrams are judged, as a map (own). Its top is
 -- `IsMap`.
 use Rattle.std.specs.Prelude.{◌≡◌, ℕ, ◌<◌, true, List, [], ◌∷◌, length, slice_index_or}
-use Rattle.ao_base.specs.declared.address.Socket.{Socket}
+use Rattle.book_base.specs.declared.address.Socket.{Socket}
 use Rattle.book_keys.specs.Rows.{Table}
 use Rattle.book_cmd_check.specs.Captures.{Stored, Connection, joins, hear}
 

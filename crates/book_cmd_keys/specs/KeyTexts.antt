@@ -2,8 +2,8 @@
 -- format. Its top is `keys_text`.
 use Rattle.std.specs.Prelude.{ℕ, suc, Bool, List, [], ◌∷◌, ◌++◌, ◌&&◌, codes, decimal}
 use Rattle.std.specs.Prelude.{if◌then◌else◌}
-use Rattle.ao_base.specs.Addresses.{address_text}
-use Rattle.ao_base.specs.Algorithms.{name_of}
+use Rattle.book_base.specs.Addresses.{address_text}
+use Rattle.book_base.specs.Algorithms.{name_of}
 use Rattle.book_keys.specs.declared.direction.Direction.{Direction}
 use Rattle.book_keys.specs.declared.direction.Direction.TheVariants.{Receive, Send, Both, Disabled}
 use Rattle.book_keys.specs.declared.fault.Column.{Column}

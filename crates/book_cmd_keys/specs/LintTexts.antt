@@ -3,10 +3,10 @@
 use Rattle.std.specs.Prelude.{ℕ, not, Bool, true, false, List, [], ◌∷◌, codes, decimal, Result, Ok}
 use Rattle.std.specs.Prelude.{Err, if◌then◌else◌}
 use Rattle.std.specs.List.{list_any, flat_map}
-use Rattle.ao_base.specs.declared.address.Pair.{Pair}
-use Rattle.ao_base.specs.declared.address.Address.{Address}
-use Rattle.ao_base.specs.declared.line_kind.LineKind.{LineKind}
-use Rattle.ao_base.specs.declared.line_kind.LineKind.TheVariants.{Range}
+use Rattle.book_base.specs.declared.address.Pair.{Pair}
+use Rattle.book_base.specs.declared.address.Address.{Address}
+use Rattle.book_base.specs.declared.line_kind.LineKind.{LineKind}
+use Rattle.book_base.specs.declared.line_kind.LineKind.TheVariants.{Range}
 use Rattle.book_keys.specs.declared.lint.LintAnswer.{LintAnswer}
 use Rattle.book_keys.specs.declared.lint.LintAnswer.TheVariants as answer
 use Rattle.book_keys.specs.Plans.{lint_of}
@@ -14,7 +14,7 @@ use Rattle.book_keys.specs.Rows.{Table}
 use Rattle.book_lines.specs.Said.{Said}
 use Rattle.book_lines.specs.Texts.{numbered_text, end_text}
 use Rattle.book_lines.specs.Words.{Taken, address_in, number_in, socket_in, nothing_in}
-use Rattle.ao_base.specs.Results.{◌>>=◌}
+use Rattle.book_base.specs.Results.{◌>>=◌}
 use Rattle.book_cmd_keys.specs.declared.plan.Plan.{Plan}
 use Rattle.book_cmd_link.specs.LinkFiles.{are_two_of_a_family}
 

@@ -2,15 +2,15 @@
 use Rattle.std.specs.Prelude.{ℕ, nat_le, nat_lt, Bool, true, false, List, codes, Option, Some, None}
 use Rattle.std.specs.Prelude.{Result, Ok, Err, if◌then◌else◌}
 use Rattle.std.specs.Str.{bytes_eq}
-use Rattle.ao_base.specs.declared.end.End.{End}
-use Rattle.ao_base.specs.declared.line_kind.LineKind.{LineKind}
-use Rattle.ao_base.specs.declared.line_kind.LineKind.TheVariants.{Word, Range}
+use Rattle.book_base.specs.declared.end.End.{End}
+use Rattle.book_base.specs.declared.line_kind.LineKind.{LineKind}
+use Rattle.book_base.specs.declared.line_kind.LineKind.TheVariants.{Word, Range}
 use Rattle.book_keys.specs.Lifetimes.{greatest_time}
 use Rattle.book_keys.specs.MasterKeys.{longest_master_key}
 use Rattle.book_keys.specs.Rows.{row_limit}
 use Rattle.book_lines.specs.Words.{Taken, word_in, word_as, nothing_in, choice_in, end_in}
 use Rattle.book_lines.specs.Words.{algorithm_in, number_in, sized_hex_in, some_hex_in, byte_in}
-use Rattle.ao_base.specs.Results.{◌>>=◌}
+use Rattle.book_base.specs.Results.{◌>>=◌}
 use Rattle.book_link.specs.declared.event.Event.{Event}
 use Rattle.book_link.specs.declared.event.Event.TheVariants as event
 

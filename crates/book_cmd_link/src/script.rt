@@ -1,6 +1,6 @@
 //! The script of a link file.
 
-use ao_base::{Algorithm, Bytes, Socket};
+use book_base::{Algorithm, Bytes, Socket};
 use book_link::Events;
 
 /// The key that both ends of a link share where there is no key file.

@@ -4,11 +4,11 @@ use Rattle.std.specs.Prelude.{ℕ, suc, ◌+◌, nat_lt, nat_le, Bool, not, ◌&
 use Rattle.std.specs.Prelude.{length, codes, decimal, Option, Some, None, Result, Ok, Err}
 use Rattle.std.specs.Prelude.{if◌then◌else◌}
 use Rattle.std.specs.Str.{bytes_eq}
-use Rattle.ao_base.specs.declared.address.Address.{Address}
-use Rattle.ao_base.specs.declared.address.Pair.{Pair}
-use Rattle.ao_base.specs.declared.line_kind.LineKind.{LineKind}
-use Rattle.ao_base.specs.declared.line_kind.LineKind.TheVariants as kind
-use Rattle.ao_base.specs.Hexadecimal.{hex_of}
+use Rattle.book_base.specs.declared.address.Address.{Address}
+use Rattle.book_base.specs.declared.address.Pair.{Pair}
+use Rattle.book_base.specs.declared.line_kind.LineKind.{LineKind}
+use Rattle.book_base.specs.declared.line_kind.LineKind.TheVariants as kind
+use Rattle.book_base.specs.Hexadecimal.{hex_of}
 use Rattle.book_segments.specs.Sockets.{same_socket}
 use Rattle.book_segments.specs.Segments.{Reading, Read, Bad as Unread, reading, spell}
 use Rattle.book_keys.specs.Lifetimes.{greatest_time}
@@ -19,7 +19,7 @@ use Rattle.book_lines.specs.Said.{at_number, if_few_lines}
 use Rattle.book_lines.specs.Texts.{numbered_text}
 use Rattle.book_lines.specs.Words.{Taken, word_in, literal_in, address_in, number_in, sized_hex_in}
 use Rattle.book_lines.specs.Words.{some_hex_in, nothing_in}
-use Rattle.ao_base.specs.Results.{◌>>=◌}
+use Rattle.book_base.specs.Results.{◌>>=◌}
 use Rattle.book_endpoint.specs.declared.arrival.Arrival.{Arrival}
 use Rattle.book_endpoint.specs.declared.arrival.Arrival.TheVariants.{Bad}
 use Rattle.book_endpoint.specs.States.{EndState, connected, listening, started, offered, taking}

@@ -1,7 +1,7 @@
 //! The script of a node with many connections.
 ghost use Rattle.std.specs.Prelude.{◌≡◌};
 
-use ao_base::{Address, Bytes, Pair};
+use book_base::{Address, Bytes, Pair};
 use std::marker::Model;
 
 /// What happens at one connection of a node.

@@ -1,9 +1,9 @@
 -- The fields of a datagram as text. Our own format. Its top is `datagram_texts`.
 use Rattle.std.specs.Prelude.{ℕ, nat_lt, if◌then◌else◌, Bool, List, [], ◌∷◌, ◌++◌, length, map}
 use Rattle.std.specs.Prelude.{codes, decimal}
-use Rattle.ao_base.specs.declared.address.Address.{Address}
-use Rattle.ao_base.specs.declared.address.Address.TheVariants.{V4, V6}
-use Rattle.ao_base.specs.Hexadecimal.{hex_of}
+use Rattle.book_base.specs.declared.address.Address.{Address}
+use Rattle.book_base.specs.declared.address.Address.TheVariants.{V4, V6}
+use Rattle.book_base.specs.Hexadecimal.{hex_of}
 use Rattle.book_lines.specs.Texts.{socket_texts}
 use Rattle.book_segments.specs.Options.{Plain, plains, listed, options_of}
 use Rattle.book_segments.specs.Segments.{Segment, good}

@@ -1,14 +1,14 @@
 -- The text that `show` writes. Our own format. Its top is `show_of`.
 use Rattle.std.specs.Prelude.{ℕ, List, [], ◌∷◌, codes, Result, Ok}
 use Rattle.std.specs.List.{flat_map}
-use Rattle.ao_base.specs.declared.line_kind.LineKind.{LineKind}
+use Rattle.book_base.specs.declared.line_kind.LineKind.{LineKind}
 use Rattle.book_segments.specs.Faults.{fault_text}
 use Rattle.book_segments.specs.Segments.{Reading, Bad, Read, reading}
 use Rattle.book_lines.specs.declared.text_fault.TextFault.{TextFault}
 use Rattle.book_lines.specs.Said.{Said, said_in}
 use Rattle.book_lines.specs.Texts.{numbered_text}
 use Rattle.book_lines.specs.Words.{hex_in, nothing_in}
-use Rattle.ao_base.specs.Results.{◌>>=◌}
+use Rattle.book_base.specs.Results.{◌>>=◌}
 use Rattle.book_cmd_show.specs.DatagramTexts.{datagram_texts}
 
 -- the bytes that the words of a line say in hexadecimal, and nothing else (own)

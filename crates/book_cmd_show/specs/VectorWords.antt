@@ -2,11 +2,11 @@
 use Rattle.std.specs.Prelude.{ℕ, ◌||◌, ◌==◌, if◌then◌else◌, Bool, List, [], length, codes, Option}
 use Rattle.std.specs.Prelude.{Some, Result, Ok, Err}
 use Rattle.std.specs.Str.{bytes_eq}
-use Rattle.ao_base.specs.declared.line_kind.LineKind.{LineKind}
-use Rattle.ao_base.specs.declared.line_kind.LineKind.TheVariants.{Hex, Range}
-use Rattle.ao_base.specs.Hexadecimal.{bytes_of_hex}
+use Rattle.book_base.specs.declared.line_kind.LineKind.{LineKind}
+use Rattle.book_base.specs.declared.line_kind.LineKind.TheVariants.{Hex, Range}
+use Rattle.book_base.specs.Hexadecimal.{bytes_of_hex}
 use Rattle.book_lines.specs.Words.{Taken, word_as, choice_in, hex_in}
-use Rattle.ao_base.specs.Results.{◌>>=◌}
+use Rattle.book_base.specs.Results.{◌>>=◌}
 
 -- the next word as a message in hexadecimal, or a hyphen for the empty one (own)
 unfoldable pub message_in : List (List ℕ) → Result (Taken (List ℕ)) LineKind

@@ -4,10 +4,10 @@ use Rattle.std.specs.Prelude.{Some, None, Result, Ok, Err}
 use Rattle.std.specs.Str.{bytes_eq}
 use Rattle.sha1.specs.Sha1.{sha1}
 use Rattle.sha2.specs.Sha256.{sha256}
-use Rattle.ao_base.specs.declared.algorithm.Algorithm.{Algorithm}
-use Rattle.ao_base.specs.declared.line_kind.LineKind.{LineKind}
-use Rattle.ao_base.specs.declared.line_kind.LineKind.TheVariants.{Word, Range}
-use Rattle.ao_base.specs.Algorithms.{mac_length_of}
+use Rattle.book_base.specs.declared.algorithm.Algorithm.{Algorithm}
+use Rattle.book_base.specs.declared.line_kind.LineKind.{LineKind}
+use Rattle.book_base.specs.declared.line_kind.LineKind.TheVariants.{Word, Range}
+use Rattle.book_base.specs.Algorithms.{mac_length_of}
 use Rattle.book_segments.specs.Bytes.{ring}
 use Rattle.book_segments.specs.Options.{Ao, AoFound, One, find_ao}
 use Rattle.book_segments.specs.Segments.{Segment, Reading, Bad, Read, reading}
@@ -18,7 +18,7 @@ use Rattle.book_macs.specs.Keys.{mac, traffic_key}
 use Rattle.book_macs.specs.MacInput.{mac_input}
 use Rattle.book_lines.specs.Words.{Taken, word_in, nothing_in, hex_in, sized_hex_in, number_in}
 use Rattle.book_lines.specs.Words.{algorithm_in}
-use Rattle.ao_base.specs.Results.{◌>>=◌, or_fault}
+use Rattle.book_base.specs.Results.{◌>>=◌, or_fault}
 use Rattle.book_cmd_show.specs.VectorWords.{message_in, context_in, covering_in}
 use Rattle.book_cmd_link.specs.LinkEvents.{greatest_isn}
 

@@ -3,11 +3,11 @@ use Rattle.std.specs.Prelude.{ℕ, not, if◌then◌else◌, Bool, List, [], ◌
 use Rattle.std.specs.Prelude.{decimal, count_by, Result, Ok}
 use Rattle.std.specs.List.{flat_map}
 use Rattle.std.specs.Str.{bytes_eq}
-use Rattle.ao_base.specs.Hexadecimal.{hex_of}
+use Rattle.book_base.specs.Hexadecimal.{hex_of}
 use Rattle.book_lines.specs.declared.text_fault.TextFault.{TextFault}
 use Rattle.book_lines.specs.Said.{Said, said_in}
 use Rattle.book_lines.specs.Texts.{line_text, numbered_text}
-use Rattle.ao_base.specs.Results.{◌>>=◌}
+use Rattle.book_base.specs.Results.{◌>>=◌}
 use Rattle.book_cmd_show.specs.declared.verified.Verified.{Verified}
 use Rattle.book_cmd_show.specs.Vectors.{Vector, vector_of}
 

@@ -1,6 +1,6 @@
 //! What the verifying of test vectors answers.
 
-use ao_base::Bytes;
+use book_base::Bytes;
 
 /// What `vectors` answers: its text, and how many vectors differ.
 #[derive(Debug, Drop)]

@@ -5,15 +5,15 @@ use Rattle.std.specs.Prelude.{true, false, not, ◌&&◌, List, [], ◌∷◌, �
 use Rattle.std.specs.Prelude.{Some, None, Result, Ok, Err, if◌then◌else◌}
 use Rattle.std.specs.Option.{option_or}
 use Rattle.std.specs.Str.{bytes_eq}
-use Rattle.ao_base.specs.declared.end.End.{End}
-use Rattle.ao_base.specs.declared.end.End.TheVariants.{A, B}
-use Rattle.ao_base.specs.declared.line_kind.LineKind.{LineKind}
+use Rattle.book_base.specs.declared.end.End.{End}
+use Rattle.book_base.specs.declared.end.End.TheVariants.{A, B}
+use Rattle.book_base.specs.declared.line_kind.LineKind.{LineKind}
 use Rattle.book_keys.specs.Lifetimes.{greatest_time}
 use Rattle.book_lines.specs.declared.text_fault.TextFault.{TextFault}
 use Rattle.book_lines.specs.Lines.{Line, saying_lines}
 use Rattle.book_lines.specs.Said.{if_few_lines}
 use Rattle.book_lines.specs.Words.{word_in, end_in, number_in, nothing_in}
-use Rattle.ao_base.specs.Results.{◌>>=◌}
+use Rattle.book_base.specs.Results.{◌>>=◌}
 use Rattle.book_timers.specs.declared.timer.Timer.{Timer}
 use Rattle.book_timers.specs.Timers.{new_timer, sampled, expired}
 use Rattle.book_endpoint.specs.States.{EndState, is_closed}

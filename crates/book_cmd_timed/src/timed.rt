@@ -1,7 +1,7 @@
 //! The script of a link with retransmission timers.
 ghost use Rattle.std.specs.Prelude.{◌≡◌};
 
-use ao_base::{End, Socket};
+use book_base::{End, Socket};
 use book_link::Event;
 use std::marker::Model;
 

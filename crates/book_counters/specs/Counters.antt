@@ -1,7 +1,7 @@
 -- What is counted of a stack: of its node, and of each of its connections (own). Its top is
 -- `counts_after`.
 use Rattle.std.specs.Prelude.{ℕ, ◌+◌, min, List, [], ◌∷◌, Option, Some, None, option_map, if◌then◌else◌}
-use Rattle.ao_base.specs.declared.address.Pair.{Pair}
+use Rattle.book_base.specs.declared.address.Pair.{Pair}
 use Rattle.book_segments.specs.Segments.{Reading, Read, Bad as Unread, pair_reached, reading}
 use Rattle.book_endpoint.specs.declared.arrival.Arrival.{Arrival}
 use Rattle.book_endpoint.specs.declared.arrival.Arrival.TheVariants as arrival

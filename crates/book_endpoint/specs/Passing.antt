@@ -2,8 +2,8 @@
 -- Its top: `Passes`.
 use Rattle.std.specs.Prelude.{◌≡◌, ℕ, ◌+◌, ◌≤◌, true, false, List, [], ◌∷◌, length, Option}
 use Rattle.std.specs.Prelude.{Some}
-use Rattle.ao_base.specs.declared.address.Pair.{Pair}
-use Rattle.ao_base.specs.Algorithms.{mac_length_of}
+use Rattle.book_base.specs.declared.address.Pair.{Pair}
+use Rattle.book_base.specs.Algorithms.{mac_length_of}
 use Rattle.book_segments.specs.Meant.{meant}
 use Rattle.book_segments.specs.Options.{Opt, Ao, ao_of, of_kind, options_of, listed}
 use Rattle.book_segments.specs.Segments.{Segment, has, SYN, segment_length}

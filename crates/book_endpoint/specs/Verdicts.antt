@@ -2,10 +2,10 @@
 -- 7.5). Its top: `judge`; `Passing.Passes` says of a pass what holds then.
 use Rattle.std.specs.Prelude.{ℕ, ◌+◌, ◌==◌, nat_le, Bool, true, false, ◌&&◌, ◌||◌, List, length}
 use Rattle.std.specs.Prelude.{Option, Some, None, is_some, Result, Ok, Err, if◌then◌else◌}
-use Rattle.ao_base.specs.Results.{◌>>=◌, or_fault}
-use Rattle.ao_base.specs.declared.algorithm.Algorithm.{Algorithm}
-use Rattle.ao_base.specs.declared.address.Pair.{Pair}
-use Rattle.ao_base.specs.Algorithms.{mac_length_of}
+use Rattle.book_base.specs.Results.{◌>>=◌, or_fault}
+use Rattle.book_base.specs.declared.algorithm.Algorithm.{Algorithm}
+use Rattle.book_base.specs.declared.address.Pair.{Pair}
+use Rattle.book_base.specs.Algorithms.{mac_length_of}
 use Rattle.book_segments.specs.Bytes.{same_bytes}
 use Rattle.book_segments.specs.Meant.{meant}
 use Rattle.book_segments.specs.Options.{Ao, AoFound, Absent, One, Two, WithMd5 as FoundMd5, find_ao}
@@ -13,7 +13,7 @@ use Rattle.book_segments.specs.Segments.{Segment, has, SYN, segment_length}
 use Rattle.book_macs.specs.Contexts.{context_of}
 use Rattle.book_macs.specs.MacInput.{mac_input}
 use Rattle.book_macs.specs.Keys.{traffic_key, mac}
-use Rattle.ao_base.specs.Algorithms.{same_algorithm}
+use Rattle.book_base.specs.Algorithms.{same_algorithm}
 use Rattle.book_keys.specs.Rows.{Row}
 use Rattle.book_keys.specs.Choices.{Numbered, accept_row, has_id}
 use Rattle.book_endpoint.specs.States.{number_limit}

@@ -1,6 +1,6 @@
 //! What the definitions say of single steps, as clauses of functions that do nothing.
 ghost use Rattle.std.specs.Prelude.{◌≡◌, ◌↔◌, ◌⊎◌, ℕ, ◌+◌, ◌-◌, ◌<◌, Bool, true, false, List, length, Option, Some, Ok, Err};
-ghost use Rattle.ao_base.specs.declared.address.Pair.{Pair};
+ghost use Rattle.book_base.specs.declared.address.Pair.{Pair};
 ghost use Rattle.book_segments.specs.Received.{runs};
 ghost use Rattle.book_segments.specs.Segments.{Segment, Read};
 ghost use Rattle.book_keys.specs.Rows.{Row};

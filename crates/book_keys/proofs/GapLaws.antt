@@ -1,7 +1,7 @@
 -- A gap is the least time at which no row is sendable.
 use Rattle.std.proofs.Common.{◌≡◌, ◌↔◌, ℕ, zero, suc, ◌+◌, ◌-◌, ◌<◌, ◌≤◌, Bool, true, false, ◌&&◌, ◌||◌, List, [], ◌∷◌, Option, Some, None, ◌⊎◌, inl, inr, refl, ap, subst, arith, if◌then◌else◌}
 use Rattle.std.proofs.lemmas.Bool.{cases_order}
-use Rattle.ao_base.specs.declared.address.Pair.{Pair}
+use Rattle.book_base.specs.declared.address.Pair.{Pair}
 use Rattle.book_keys.specs.declared.lint.LintAnswer.TheVariants as answer
 use Rattle.book_keys.specs.Lifetimes.{contains, is_covered}
 use Rattle.book_keys.specs.Rows.{Row, matches, sends}

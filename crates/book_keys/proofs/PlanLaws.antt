@@ -4,9 +4,9 @@ use Rattle.std.specs.Prelude.{IsSomeAnd}
 use Rattle.std.proofs.lemmas.Bool.Decides.{nat_tests}
 use Rattle.std.specs.List.{list_any, AllByRecursion}
 use Rattle.std.specs.Option.{option_or}
-use Rattle.ao_base.specs.declared.address.Pair.{Pair}
-use Rattle.ao_base.specs.declared.algorithm.Algorithm.{Algorithm}
-use Rattle.ao_base.specs.declared.algorithm.Algorithm.TheVariants.{HmacSha1, AesCmac, HmacSha256}
+use Rattle.book_base.specs.declared.address.Pair.{Pair}
+use Rattle.book_base.specs.declared.algorithm.Algorithm.{Algorithm}
+use Rattle.book_base.specs.declared.algorithm.Algorithm.TheVariants.{HmacSha1, AesCmac, HmacSha256}
 use Rattle.book_segments.specs.Bytes.{same_bytes}
 use Rattle.book_segments.proofs.Fields.{and_tells, eqb_is, le_is, same_bytes_tells}
 use Rattle.book_keys.specs.Lifetimes.{greatest_time, contains}
@@ -15,7 +15,7 @@ use Rattle.book_keys.specs.Rows.{Row, matches, receives, sends, sendable, accept
 use Rattle.book_keys.specs.Overlaps.{IsValid}
 use Rattle.book_keys.specs.Choices.{Numbered, IsLowest, qualified, lowest, acceptable_as, accept_row}
 use Rattle.book_keys.specs.Plans.{mirrored, same_flag, same_key, accepts_from, outlasts, accepts_throughout, IsMet, AlignedFrom, IsFoundAt}
-use Rattle.ao_base.specs.Algorithms.{same_algorithm}
+use Rattle.book_base.specs.Algorithms.{same_algorithm}
 use Rattle.book_keys.proofs.OverlapLaws.{one_accepts}
 use Rattle.book_keys.proofs.ChoiceLaws.{lowest-IsLowest}
 

@@ -3,7 +3,7 @@ use Rattle.std.proofs.Common.{◌≡◌, ℕ, ◌+◌, ◌==◌, Bool, true, fal
 use Rattle.std.specs.Prelude.{option_map}
 use Rattle.std.specs.List.{list_any, AllByRecursion}
 use Rattle.std.specs.Option.{option_or}
-use Rattle.ao_base.specs.declared.address.Pair.{Pair}
+use Rattle.book_base.specs.declared.address.Pair.{Pair}
 use Rattle.book_segments.proofs.Fields.{some_is}
 use Rattle.book_keys.specs.Rows.{Row, sendable, acceptable}
 use Rattle.book_keys.specs.Choices.{Numbered, later, qualified, latest, send_start, accept_start, send_row, next_row}

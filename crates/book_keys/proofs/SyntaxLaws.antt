@@ -1,10 +1,10 @@
 -- The walk over a document never ends in a fault of syntax.
 use Rattle.std.proofs.Common.{◌≡◌, ◌↔◌, ℕ, ◌+◌, ◌&&◌, cond, ltb, option_and_then, Bool, true, false, List, [], ◌∷◌, ◌++◌, codes, Option, Some, None, Result, Ok, Err, refl, ap, leb}
 use Rattle.toml.specs.Data.{Data, string, integer, float, boolean, datetime, array, table, Items, no_items, item, Members, get_member}
-use Rattle.ao_base.specs.Hexadecimal.{bytes_of_hex}
-use Rattle.ao_base.specs.declared.address.Address.{Address}
-use Rattle.ao_base.specs.declared.algorithm.Algorithm.{Algorithm}
-use Rattle.ao_base.specs.Algorithms.{name_of}
+use Rattle.book_base.specs.Hexadecimal.{bytes_of_hex}
+use Rattle.book_base.specs.declared.address.Address.{Address}
+use Rattle.book_base.specs.declared.algorithm.Algorithm.{Algorithm}
+use Rattle.book_base.specs.Algorithms.{name_of}
 use Rattle.book_keys.specs.declared.direction.Direction.{Direction}
 use Rattle.book_keys.specs.declared.lifetime.Lifetime.{Lifetime}
 use Rattle.book_keys.specs.Lifetimes.{greatest_time}
@@ -14,7 +14,7 @@ use Rattle.book_keys.specs.declared.fault.Column.{Column}
 use Rattle.book_keys.specs.declared.fault.TableFault.{TableFault}
 use Rattle.book_keys.specs.declared.fault.TableFault.TheVariants as fault
 use Rattle.book_keys.specs.Reading.{must, each}
-use Rattle.ao_base.specs.Results.{◌>>=◌, or_fault}
+use Rattle.book_base.specs.Results.{◌>>=◌, or_fault}
 use Rattle.book_keys.specs.declared.fault.Column.TheVariants as column
 use Rattle.book_keys.specs.declared.groups.Ids.{Ids}
 use Rattle.book_keys.specs.declared.groups.Terms.{Terms}

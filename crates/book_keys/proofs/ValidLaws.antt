@@ -3,8 +3,8 @@ use Rattle.std.proofs.Common.{◌≡◌, ◌≤◌, ℕ, zero, suc, ◌+◌, leb
 use Rattle.std.specs.List.{All}
 use Rattle.std.proofs.lemmas.Bool.Decides.{nat_tests}
 use Rattle.toml.specs.Data.{Data, string, integer, float, boolean, datetime, array, table, Items, no_items, item, Members, get_member}
-use Rattle.ao_base.specs.declared.address.Address.{Address}
-use Rattle.ao_base.specs.declared.algorithm.Algorithm.{Algorithm}
+use Rattle.book_base.specs.declared.address.Address.{Address}
+use Rattle.book_base.specs.declared.algorithm.Algorithm.{Algorithm}
 use Rattle.book_keys.specs.Shared.{shared_row, shared_tables}
 use Rattle.book_keys.specs.Rows.{Row, Table, node_limit, row_limit}
 use Rattle.book_keys.specs.Overlaps.{TwoRows, first_overlap, AreApart, IsValid}
@@ -13,7 +13,7 @@ use Rattle.book_keys.specs.declared.fault.TableFault.{TableFault}
 use Rattle.book_keys.specs.declared.fault.Column.TheVariants as column
 use Rattle.book_keys.specs.declared.fault.TableFault.TheVariants as fault
 use Rattle.book_keys.specs.Reading.{each}
-use Rattle.ao_base.specs.Results.{◌>>=◌, or_fault}
+use Rattle.book_base.specs.Results.{◌>>=◌, or_fault}
 use Rattle.book_keys.specs.Columns.{count, only, text_of, row_of}
 use Rattle.book_keys.specs.Nodes.{node_name_of, node_address_of, rows_of, fields_of, node_of, nodes_from, overlap_of, overlap_in, unless, nodes_of, tables_of_document, document_of, tables_of}
 

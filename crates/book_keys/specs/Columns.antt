@@ -7,13 +7,13 @@ use Rattle.std.specs.List.{list_any}
 use Rattle.std.specs.Str.{bytes_eq}
 use Rattle.toml.specs.Data.{Data, array, table, Items, no_items, item}
 use Rattle.toml.specs.Data.{Members, no_members, member, get_member, as_str}
-use Rattle.ao_base.specs.declared.address.Address.{Address}
-use Rattle.ao_base.specs.declared.algorithm.Algorithm.{Algorithm}
-use Rattle.ao_base.specs.declared.algorithm.Algorithm.TheVariants.{HmacSha1, AesCmac, HmacSha256}
-use Rattle.ao_base.specs.Addresses.{address_of}
-use Rattle.ao_base.specs.Algorithms.{name_of}
-use Rattle.ao_base.specs.Decimals.{decimal_of}
-use Rattle.ao_base.specs.Hexadecimal.{bytes_of_hex}
+use Rattle.book_base.specs.declared.address.Address.{Address}
+use Rattle.book_base.specs.declared.algorithm.Algorithm.{Algorithm}
+use Rattle.book_base.specs.declared.algorithm.Algorithm.TheVariants.{HmacSha1, AesCmac, HmacSha256}
+use Rattle.book_base.specs.Addresses.{address_of}
+use Rattle.book_base.specs.Algorithms.{name_of}
+use Rattle.book_base.specs.Decimals.{decimal_of}
+use Rattle.book_base.specs.Hexadecimal.{bytes_of_hex}
 use Rattle.book_keys.specs.declared.direction.Direction.{Direction}
 use Rattle.book_keys.specs.declared.direction.Direction.TheVariants.{Receive, Send, Both, Disabled}
 use Rattle.book_keys.specs.declared.lifetime.Lifetime.{Lifetime}
@@ -29,7 +29,7 @@ use Rattle.book_keys.specs.declared.groups.Terms.{Terms}
 use Rattle.book_keys.specs.declared.groups.Ports.{Ports}
 use Rattle.book_keys.specs.Times.{time_of}
 use Rattle.book_keys.specs.Reading.{must, each}
-use Rattle.ao_base.specs.Results.{◌>>=◌, or_fault}
+use Rattle.book_base.specs.Results.{◌>>=◌, or_fault}
 
 -- the text at a key of a table, where there is one (own)
 abbrev pub text_of : List ℕ → Members → Option (List ℕ)

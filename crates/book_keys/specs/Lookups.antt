@@ -1,6 +1,6 @@
 -- What the look-ups of a table answer, in the numbers of its rows.
 use Rattle.std.specs.Prelude.{ℕ, Bool, true, false, List, Option, Some, None}
-use Rattle.ao_base.specs.declared.address.Pair.{Pair}
+use Rattle.book_base.specs.declared.address.Pair.{Pair}
 use Rattle.book_keys.specs.declared.accept.Accept.{Accept}
 use Rattle.book_keys.specs.declared.accept.Accept.TheVariants as found
 use Rattle.book_keys.specs.Rows.{Row}

@@ -7,15 +7,15 @@ use Rattle.std.specs.List.{list_any, list_all}
 use Rattle.std.specs.Str.{bytes_eq, is_utf8}
 use Rattle.toml.specs.Data.{Data, array, table, Items, no_items, item, Members, get_member}
 use Rattle.toml.specs.Parse.{parse_document}
-use Rattle.ao_base.specs.declared.address.Address.{Address}
-use Rattle.ao_base.specs.Addresses.{address_of}
+use Rattle.book_base.specs.declared.address.Address.{Address}
+use Rattle.book_base.specs.Addresses.{address_of}
 use Rattle.book_keys.specs.Rows.{Row, Table, node_limit, row_limit, has_address}
 use Rattle.book_keys.specs.Overlaps.{TwoRows, first_overlap}
 use Rattle.book_keys.specs.declared.fault.Column.TheVariants as column
 use Rattle.book_keys.specs.declared.fault.TableFault.{TableFault}
 use Rattle.book_keys.specs.declared.fault.TableFault.TheVariants as fault
 use Rattle.book_keys.specs.Reading.{each}
-use Rattle.ao_base.specs.Results.{◌>>=◌, or_fault}
+use Rattle.book_base.specs.Results.{◌>>=◌, or_fault}
 use Rattle.book_keys.specs.Columns.{text_of, only, count, row_of}
 
 -- a byte is printed and no space: from ! to ~ (own)

@@ -6,10 +6,10 @@ use Rattle.std.specs.Prelude.{Bool, true, false, not, ◌&&◌, List, [], ◌∷
 use Rattle.std.specs.Prelude.{Option, Some, None, option_map, IsSomeAnd}
 use Rattle.std.specs.List.{list_any, find, AllByRecursion}
 use Rattle.std.specs.Option.{option_or}
-use Rattle.ao_base.specs.declared.address.Address.{Address}
-use Rattle.ao_base.specs.declared.address.Pair.{Pair}
-use Rattle.ao_base.specs.declared.end.End.{End}
-use Rattle.ao_base.specs.declared.end.End.TheVariants.{A, B}
+use Rattle.book_base.specs.declared.address.Address.{Address}
+use Rattle.book_base.specs.declared.address.Pair.{Pair}
+use Rattle.book_base.specs.declared.end.End.{End}
+use Rattle.book_base.specs.declared.end.End.TheVariants.{A, B}
 use Rattle.book_segments.specs.Bytes.{same_bytes}
 use Rattle.book_keys.specs.declared.lifetime.Lifetime.{Lifetime}
 use Rattle.book_keys.specs.declared.lint.LintAnswer.{LintAnswer}
@@ -17,7 +17,7 @@ use Rattle.book_keys.specs.declared.lint.LintAnswer.TheVariants as answer
 use Rattle.book_keys.specs.Choices.{accept_row}
 use Rattle.book_keys.specs.Lifetimes.{greatest_time, contains}
 use Rattle.book_keys.specs.Rows.{Row, Table, has_address, matches, receives, sends_for, sendable}
-use Rattle.ao_base.specs.Algorithms.{same_algorithm}
+use Rattle.book_base.specs.Algorithms.{same_algorithm}
 
 -- the pair of sockets as the other end sees it (own)
 abbrev pub mirrored : Pair → Pair

@@ -1,7 +1,7 @@
 -- The two tables of one shared key (own): `shared_tables` is the file's top.
 use Rattle.std.specs.Prelude.{ℕ, true, List, [], ◌∷◌, codes, None}
-use Rattle.ao_base.specs.declared.address.Address.{Address}
-use Rattle.ao_base.specs.declared.algorithm.Algorithm.{Algorithm}
+use Rattle.book_base.specs.declared.address.Address.{Address}
+use Rattle.book_base.specs.declared.algorithm.Algorithm.{Algorithm}
 use Rattle.book_keys.specs.declared.direction.Direction.TheVariants.{Both}
 use Rattle.book_keys.specs.declared.lifetime.Lifetime.{Lifetime}
 use Rattle.book_keys.specs.Lifetimes.{greatest_time}

@@ -1,9 +1,9 @@
 //! Theorems about the definitions, as clauses of functions that do nothing.
 ghost use Rattle.std.specs.Prelude.{◌≡◌, ◌↔◌, ℕ, ◌<◌, Bool, true, false, List, [], length, slice_index_or, Some, None, Ok, Err};
 ghost use Rattle.std.specs.List.{All};
-ghost use Rattle.ao_base.specs.declared.address.Address.{Address};
-ghost use Rattle.ao_base.specs.declared.address.Pair.{Pair};
-ghost use Rattle.ao_base.specs.declared.algorithm.Algorithm.{Algorithm};
+ghost use Rattle.book_base.specs.declared.address.Address.{Address};
+ghost use Rattle.book_base.specs.declared.address.Pair.{Pair};
+ghost use Rattle.book_base.specs.declared.algorithm.Algorithm.{Algorithm};
 ghost use Rattle.book_keys.specs.Rows.{Row, Table, sendable, acceptable};
 ghost use Rattle.book_keys.specs.Shared.{shared_tables};
 ghost use Rattle.book_keys.specs.Nodes.{document_of, tables_of};

@@ -1,5 +1,5 @@
 //! The judgement on the tables of the two ends of a connection.
-use ao_base::End;
+use book_base::End;
 
 /// Whether two ends' tables carry a connection through its rollovers; end A is the local one. Rows
 /// are numbered from 1, times are seconds since 1970.

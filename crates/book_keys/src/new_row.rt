@@ -5,7 +5,7 @@ ghost use Rattle.std.specs.Prelude.{◌≡◌};
 
 use crate::direction::Direction;
 use crate::lifetime::Lifetime;
-use ao_base::{Algorithm, Bytes};
+use book_base::{Algorithm, Bytes};
 use std::alloc::{AllocError, AllocFailed};
 use thiserror::Error;
 

@@ -2,7 +2,7 @@
 //! rollover, as clauses of functions that do nothing.
 ghost use Rattle.std.specs.Prelude.{◌≡◌, ◌↔◌, ◌≤◌, ◌+◌, ℕ, true, false, List, Option, Some, None};
 ghost use Rattle.std.specs.List.{AllByRecursion};
-ghost use Rattle.ao_base.specs.declared.address.Pair.{Pair};
+ghost use Rattle.book_base.specs.declared.address.Pair.{Pair};
 ghost use Rattle.book_keys.specs.Choices.{send_row};
 ghost use Rattle.book_keys.specs.Coordination.{Sending, choose};
 ghost use Rattle.book_keys.specs.declared.lint.LintAnswer.TheVariants as answer;

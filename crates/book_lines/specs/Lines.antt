@@ -1,6 +1,6 @@
 -- The lines of an input that say something. Our own format. Its top is `saying_lines`.
 use Rattle.std.specs.Prelude.{ℕ, ◌+◌, ◌==◌, not, if◌then◌else◌, Bool, false, List, [], ◌∷◌}
-use Rattle.ao_base.specs.Lines.{lines_of, words_of}
+use Rattle.book_base.specs.Lines.{lines_of, words_of}
 
 -- the most lines of an input (own)
 abbrev pub most_lines : ℕ

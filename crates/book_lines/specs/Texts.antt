@@ -1,9 +1,9 @@
 -- The lines of an output. Our own format. Its top is `numbered_text`.
 use Rattle.std.specs.Prelude.{ℕ, List, [], ◌∷◌, ◌++◌, codes, decimal}
-use Rattle.ao_base.specs.declared.address.Socket.{Socket}
-use Rattle.ao_base.specs.declared.end.End.{End}
-use Rattle.ao_base.specs.declared.end.End.TheVariants.{A, B}
-use Rattle.ao_base.specs.Addresses.{address_text}
+use Rattle.book_base.specs.declared.address.Socket.{Socket}
+use Rattle.book_base.specs.declared.end.End.{End}
+use Rattle.book_base.specs.declared.end.End.TheVariants.{A, B}
+use Rattle.book_base.specs.Addresses.{address_text}
 
 -- each text with a space in front of it (own)
 abbrev pub spaced : List (List ℕ) → List ℕ

@@ -4,18 +4,18 @@
 use Rattle.std.specs.Prelude.{ℕ, ◌&&◌, nat_le, nat_lt, if◌then◌else◌, Bool, true, false, List, []}
 use Rattle.std.specs.Prelude.{◌∷◌, length, codes, Option, Some, None, Result, Ok, Err}
 use Rattle.std.specs.Str.{bytes_eq}
-use Rattle.ao_base.specs.declared.address.Address.{Address}
-use Rattle.ao_base.specs.declared.address.Socket.{Socket}
-use Rattle.ao_base.specs.declared.algorithm.Algorithm.{Algorithm}
-use Rattle.ao_base.specs.declared.end.End.{End}
-use Rattle.ao_base.specs.declared.end.End.TheVariants.{A, B}
-use Rattle.ao_base.specs.declared.line_kind.LineKind.{LineKind}
-use Rattle.ao_base.specs.declared.line_kind.LineKind.TheVariants.{Word, Number, Hex, Range}
-use Rattle.ao_base.specs.Addresses.{address_of}
-use Rattle.ao_base.specs.Algorithms.{algorithm_of}
-use Rattle.ao_base.specs.Decimals.{decimal_of}
-use Rattle.ao_base.specs.Hexadecimal.{bytes_of_hex}
-use Rattle.ao_base.specs.Results.{◌>>=◌, or_fault}
+use Rattle.book_base.specs.declared.address.Address.{Address}
+use Rattle.book_base.specs.declared.address.Socket.{Socket}
+use Rattle.book_base.specs.declared.algorithm.Algorithm.{Algorithm}
+use Rattle.book_base.specs.declared.end.End.{End}
+use Rattle.book_base.specs.declared.end.End.TheVariants.{A, B}
+use Rattle.book_base.specs.declared.line_kind.LineKind.{LineKind}
+use Rattle.book_base.specs.declared.line_kind.LineKind.TheVariants.{Word, Number, Hex, Range}
+use Rattle.book_base.specs.Addresses.{address_of}
+use Rattle.book_base.specs.Algorithms.{algorithm_of}
+use Rattle.book_base.specs.Decimals.{decimal_of}
+use Rattle.book_base.specs.Hexadecimal.{bytes_of_hex}
+use Rattle.book_base.specs.Results.{◌>>=◌, or_fault}
 
 -- what words in front say, and the words after them (own)
 pub record Taken (A : Type 0) : Type 0 where

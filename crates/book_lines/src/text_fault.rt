@@ -2,7 +2,7 @@
 ghost use Rattle.std.specs.Prelude.{◌≡◌};
 ghost use Rattle.book_lines.specs.declared.text_fault.TextFault.TheVariants.{Memory};
 
-use ao_base::LineKind;
+use book_base::LineKind;
 use std::alloc::{AllocError, AllocFailed};
 use thiserror::Error;
 

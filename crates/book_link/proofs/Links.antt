@@ -1,8 +1,8 @@
 -- The links of worked reports, and texts in lines.
 use Rattle.std.proofs.Common.{ℕ, true, List, [], ◌∷◌, ◌++◌, replicate, None}
-use Rattle.ao_base.specs.declared.address.Address.TheVariants.{V4}
-use Rattle.ao_base.specs.declared.algorithm.Algorithm.{Algorithm}
-use Rattle.ao_base.specs.declared.algorithm.Algorithm.TheVariants.{HmacSha1}
+use Rattle.book_base.specs.declared.address.Address.TheVariants.{V4}
+use Rattle.book_base.specs.declared.algorithm.Algorithm.{Algorithm}
+use Rattle.book_base.specs.declared.algorithm.Algorithm.TheVariants.{HmacSha1}
 use Rattle.book_keys.specs.declared.direction.Direction.TheVariants.{Both}
 use Rattle.book_keys.specs.Rows.{Row}
 use Rattle.book_keys.specs.Shared.{shared_row}

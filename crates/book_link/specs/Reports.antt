@@ -1,9 +1,9 @@
 -- The text of a run. Our own format. Its top is `report`.
 use Rattle.std.specs.Prelude.{ℕ, suc, ◌+◌, ◌==◌, Bool, true, false, List, [], ◌∷◌, ◌++◌, length}
 use Rattle.std.specs.Prelude.{decimal, codes, Option, Some, None, if◌then◌else◌}
-use Rattle.ao_base.specs.declared.end.End.{End}
-use Rattle.ao_base.specs.declared.end.End.TheVariants.{A, B}
-use Rattle.ao_base.specs.Hexadecimal.{hex_of}
+use Rattle.book_base.specs.declared.end.End.{End}
+use Rattle.book_base.specs.declared.end.End.TheVariants.{A, B}
+use Rattle.book_base.specs.Hexadecimal.{hex_of}
 use Rattle.book_lines.specs.Texts.{line_text, numbered_text, end_text}
 use Rattle.book_segments.specs.Faults.{fault_text}
 use Rattle.book_segments.specs.Segments.{FIN, SYN, PSH, ACK}

@@ -1,7 +1,7 @@
 -- The run of a list of events. Its top is `run`.
 use Rattle.std.specs.Prelude.{List, [], ◌∷◌}
-use Rattle.ao_base.specs.declared.end.End.{End}
-use Rattle.ao_base.specs.declared.end.End.TheVariants.{A, B}
+use Rattle.book_base.specs.declared.end.End.{End}
+use Rattle.book_base.specs.declared.end.End.TheVariants.{A, B}
 use Rattle.book_link.specs.declared.event.Event.{Event}
 use Rattle.book_link.specs.Outcomes.{Outcome}
 use Rattle.book_link.specs.Worlds.{Setup, first_rows, LinkSide, World}

@@ -1,10 +1,10 @@
 -- A large run that is made from a number. Our own format. Its top is `storm_events`.
 use Rattle.std.specs.Prelude.{ℕ, zero, suc, ◌+◌, ◌*◌, ◌/◌, ◌%◌, ◌==◌, List, [], ◌∷◌, ◌++◌}
 use Rattle.std.specs.Prelude.{replicate, bit_xor, Option, Some, None, if◌then◌else◌}
-use Rattle.ao_base.specs.declared.address.Address.TheVariants.{V4}
-use Rattle.ao_base.specs.declared.algorithm.Algorithm.TheVariants.{HmacSha1}
-use Rattle.ao_base.specs.declared.end.End.{End}
-use Rattle.ao_base.specs.declared.end.End.TheVariants.{A, B}
+use Rattle.book_base.specs.declared.address.Address.TheVariants.{V4}
+use Rattle.book_base.specs.declared.algorithm.Algorithm.TheVariants.{HmacSha1}
+use Rattle.book_base.specs.declared.end.End.{End}
+use Rattle.book_base.specs.declared.end.End.TheVariants.{A, B}
 use Rattle.book_keys.specs.Shared.{shared_row}
 use Rattle.book_link.specs.declared.event.Event.{Event}
 use Rattle.book_link.specs.declared.event.Event.TheVariants.{Start, Fill, Send, Resend, Deliver}

@@ -2,10 +2,10 @@
 -- Its top is `World`; what is counted of one is `forgeries`.
 use Rattle.std.specs.Prelude.{ℕ, suc, ◌+◌, ◌==◌, Bool, true, false, ◌&&◌, ◌||◌, List, [], ◌∷◌}
 use Rattle.std.specs.Prelude.{Option, Some, None, if◌then◌else◌}
-use Rattle.ao_base.specs.declared.address.Socket.{Socket}
-use Rattle.ao_base.specs.declared.address.Pair.{Pair}
-use Rattle.ao_base.specs.declared.end.End.{End}
-use Rattle.ao_base.specs.declared.end.End.TheVariants.{A, B}
+use Rattle.book_base.specs.declared.address.Socket.{Socket}
+use Rattle.book_base.specs.declared.address.Pair.{Pair}
+use Rattle.book_base.specs.declared.end.End.{End}
+use Rattle.book_base.specs.declared.end.End.TheVariants.{A, B}
 use Rattle.book_segments.specs.Bytes.{same_bytes}
 use Rattle.book_segments.specs.Segments.{Segment, has, ACK, SYN}
 use Rattle.book_keys.specs.Plans.{rows_at}

@@ -1,7 +1,7 @@
 //! The events of a link.
 ghost use Rattle.std.specs.Prelude.{◌≡◌};
 
-use ao_base::{Algorithm, Bytes, End};
+use book_base::{Algorithm, Bytes, End};
 use std::marker::Model;
 
 /// A row as a link file writes it; it matches every pair. Neither `receive` nor `send` is a row that

@@ -4,9 +4,9 @@ use Rattle.std.specs.Prelude.{◌⊎◌, bit_xor}
 use Rattle.std.specs.Int.{w32, to_be_bytes}
 use Rattle.sha1.specs.Sha1 as one
 use Rattle.sha2.specs.Sha256 as two
-use Rattle.ao_base.specs.Algorithms.{mac_length_of}
-use Rattle.ao_base.specs.declared.algorithm.Algorithm.{Algorithm}
-use Rattle.ao_base.specs.declared.algorithm.Algorithm.TheVariants.{HmacSha1, AesCmac, HmacSha256}
+use Rattle.book_base.specs.Algorithms.{mac_length_of}
+use Rattle.book_base.specs.declared.algorithm.Algorithm.{Algorithm}
+use Rattle.book_base.specs.declared.algorithm.Algorithm.TheVariants.{HmacSha1, AesCmac, HmacSha256}
 use Rattle.book_segments.proofs.Fields.{eqb_is}
 use Rattle.book_macs.specs.Hmac.{ipad, opad, xored_key, hmac}
 use Rattle.book_macs.specs.Ciphers.{xor, sub_shift, mix, chained, next_key, aes_rounds, aes, last_block, cmac_from, cmac, prf}

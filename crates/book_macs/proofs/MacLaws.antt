@@ -5,9 +5,9 @@ use Rattle.std.specs.Int.{w32, to_be_bytes}
 use Rattle.std.proofs.lemmas.Nat.{xor_of_8}
 use Rattle.sha1.specs.Sha1 as one
 use Rattle.sha2.specs.Sha256 as two
-use Rattle.ao_base.specs.Algorithms.{mac_length_of}
-use Rattle.ao_base.specs.declared.algorithm.Algorithm.{Algorithm}
-use Rattle.ao_base.specs.declared.algorithm.Algorithm.TheVariants.{HmacSha1, AesCmac, HmacSha256}
+use Rattle.book_base.specs.Algorithms.{mac_length_of}
+use Rattle.book_base.specs.declared.algorithm.Algorithm.{Algorithm}
+use Rattle.book_base.specs.declared.algorithm.Algorithm.TheVariants.{HmacSha1, AesCmac, HmacSha256}
 use Rattle.book_segments.specs.Bytes.{put2}
 use Rattle.book_segments.specs.Spelling.{AreBytes}
 use Rattle.book_segments.proofs.ByteLaws.{bytes_drop, bytes_take, nil_bytes}

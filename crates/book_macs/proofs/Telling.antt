@@ -1,7 +1,7 @@
 -- Equal MAC inputs, and equal contexts, come from equal fields.
 use Rattle.std.proofs.Common.{◌≡◌, ℕ, ◌+◌, ◌*◌, ◌/◌, ◌%◌, ◌^◌, ◌<◌, ◌≤◌, Bool, true, List, ◌++◌, length, take, drop, replicate, sym, ◌∙◌, arith, length-append, length-take, length-drop}
 use Rattle.std.proofs.lemmas.List.{append_cancel_left, length-replicate}
-use Rattle.ao_base.specs.declared.address.Socket.{Socket}
+use Rattle.book_base.specs.declared.address.Socket.{Socket}
 use Rattle.book_segments.specs.Sockets.{octets}
 use Rattle.book_segments.specs.Options.{Ao}
 use Rattle.book_segments.specs.Segments.{IpHeader, Ipv4, Ipv6, Segment, tcp_length, pseudo_of, pseudo}

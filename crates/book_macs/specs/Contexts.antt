@@ -1,7 +1,7 @@
 -- The context of a traffic key, and that of a segment's traffic key: `context_of` is the file's
 -- top.
 use Rattle.std.specs.Prelude.{ℕ, List, [], ◌++◌, Option, Some, None, if◌then◌else◌}
-use Rattle.ao_base.specs.declared.address.Socket.{Socket}
+use Rattle.book_base.specs.declared.address.Socket.{Socket}
 use Rattle.book_segments.specs.Bytes.{put2, put4}
 use Rattle.book_segments.specs.Sockets.{octets}
 use Rattle.book_segments.specs.Segments.{Segment, has, ACK, SYN}

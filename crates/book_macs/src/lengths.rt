@@ -1,7 +1,7 @@
 //! How long traffic keys and MACs are.
 ghost use Rattle.std.specs.Prelude.{◌≡◌, ℕ, List, length};
-ghost use Rattle.ao_base.specs.Algorithms.{mac_length_of};
-ghost use Rattle.ao_base.specs.declared.algorithm.Algorithm.{Algorithm};
+ghost use Rattle.book_base.specs.Algorithms.{mac_length_of};
+ghost use Rattle.book_base.specs.declared.algorithm.Algorithm.{Algorithm};
 ghost use Rattle.book_segments.specs.Spelling.{AreBytes};
 ghost use Rattle.book_macs.specs.Keys.{key_length, mac, traffic_key};
 

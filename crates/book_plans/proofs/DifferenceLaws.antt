@@ -1,10 +1,10 @@
 -- A row accepts what another sends exactly where it differs in no column.
 use Rattle.std.proofs.Common.{◌≡◌, Bool, true, false, ◌&&◌, not, ◌==◌, refl, ap, ◌∙◌}
-use Rattle.ao_base.specs.declared.address.Pair.{Pair}
+use Rattle.book_base.specs.declared.address.Pair.{Pair}
 use Rattle.book_segments.specs.Bytes.{same_bytes}
 use Rattle.book_keys.specs.Rows.{Row, matches, receives}
 use Rattle.book_keys.specs.Plans.{mirrored, same_flag, accepts_from}
-use Rattle.ao_base.specs.Algorithms.{same_algorithm}
+use Rattle.book_base.specs.Algorithms.{same_algorithm}
 use Rattle.book_plans.specs.Differences.{differences, is_alike}
 
 twice_not : (a : Bool) → not (not a) ≡ a

@@ -4,9 +4,9 @@ use Rattle.std.specs.Prelude.{option_map}
 use Rattle.std.specs.Option.{option_or}
 use Rattle.std.proofs.lemmas.Bool.Decides.{nat_tests}
 use Rattle.std.proofs.lemmas.Bool.{eq-eqb, ne_eqb, eqb-false, cases_lt}
-use Rattle.ao_base.specs.declared.address.Pair.{Pair}
-use Rattle.ao_base.specs.declared.end.End.{End}
-use Rattle.ao_base.specs.declared.end.End.TheVariants.{A, B}
+use Rattle.book_base.specs.declared.address.Pair.{Pair}
+use Rattle.book_base.specs.declared.end.End.{End}
+use Rattle.book_base.specs.declared.end.End.TheVariants.{A, B}
 use Rattle.book_plans.specs.declared.finding.Finding.{Finding}
 use Rattle.book_plans.specs.declared.finding.Finding.TheVariants as finding
 use Rattle.book_plans.specs.Findings.{IsFirstSpan, AreLongest, finding_by, with_finding, unmet_findings, Span, lengthened, failing_spans, gap_finding, gap_findings, findings, first_answer, wanted_accepting, widened, accepting_in}

@@ -1,11 +1,11 @@
 -- In which columns a row of the other end differs from one that accepts what a row sends. Its top
 -- is `differences`.
 use Rattle.std.specs.Prelude.{◌==◌, ◌&&◌, not, Bool}
-use Rattle.ao_base.specs.declared.address.Pair.{Pair}
+use Rattle.book_base.specs.declared.address.Pair.{Pair}
 use Rattle.book_segments.specs.Bytes.{same_bytes}
 use Rattle.book_plans.specs.declared.differences.Differences.{Differences}
 use Rattle.book_keys.specs.Plans.{mirrored, same_flag}
-use Rattle.ao_base.specs.Algorithms.{same_algorithm}
+use Rattle.book_base.specs.Algorithms.{same_algorithm}
 use Rattle.book_keys.specs.Rows.{Row, matches, receives}
 
 -- the columns in which the other end's row isn't as the row that sends asks (RFC 5925, section 3.1)

@@ -3,9 +3,9 @@
 use Rattle.std.specs.Prelude.{◌≡◌, ◌≤◌, ◌<◌, true, false, ℕ, zero, suc, ◌+◌, ◌-◌, ◌==◌, min, max}
 use Rattle.std.specs.Prelude.{Bool, List, [], ◌∷◌, ◌++◌, map, Option, Some, None, option_map}
 use Rattle.std.specs.Prelude.{if◌then◌else◌}
-use Rattle.ao_base.specs.declared.address.Pair.{Pair}
-use Rattle.ao_base.specs.declared.end.End.{End}
-use Rattle.ao_base.specs.declared.end.End.TheVariants.{A, B}
+use Rattle.book_base.specs.declared.address.Pair.{Pair}
+use Rattle.book_base.specs.declared.end.End.{End}
+use Rattle.book_base.specs.declared.end.End.TheVariants.{A, B}
 use Rattle.book_plans.specs.declared.finding.Finding.{Finding}
 use Rattle.book_plans.specs.declared.finding.Finding.TheVariants as finding
 use Rattle.book_keys.specs.declared.lifetime.Lifetime.{Lifetime}

@@ -1,5 +1,5 @@
 //! What doesn't hold of a plan.
-use ao_base::End;
+use book_base::End;
 
 /// What doesn't hold of a planned rollover. Rows are numbered from 1, times are seconds since 1970.
 #[derive(Clone, Copy, Debug, PartialEq, Eq)]

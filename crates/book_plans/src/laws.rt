@@ -1,7 +1,7 @@
 //! Theorems about the margins of a plan, as clauses of functions that do nothing.
 ghost use Rattle.std.specs.Prelude.{◌≡◌, ◌↔◌, ◌+◌, ℕ, Bool, List, [], true, Ok};
-ghost use Rattle.ao_base.specs.declared.address.Address.{Address};
-ghost use Rattle.ao_base.specs.declared.address.Pair.{Pair};
+ghost use Rattle.book_base.specs.declared.address.Address.{Address};
+ghost use Rattle.book_base.specs.declared.address.Pair.{Pair};
 ghost use Rattle.book_keys.specs.declared.lint.LintAnswer.TheVariants as answer;
 ghost use Rattle.book_keys.specs.Plans.{accepts_from, outlasts, lint_of, lint_rows, rows_at};
 ghost use Rattle.book_keys.specs.Nodes.{tables_of};

@@ -1,5 +1,5 @@
 //! What changes in the use of a row.
-use ao_base::End;
+use book_base::End;
 
 /// What a row of an end is used for over a connection (RFC 7210, section 3, and RFC 5925, section 7).
 #[derive(Clone, Copy, Debug, PartialEq, Eq)]

@@ -1,7 +1,7 @@
 -- A capture as lines of stored segments, one for each packet. Our own format.
 use Rattle.std.specs.Prelude.{ℕ, ◌/◌, List, [], ◌∷◌, ◌++◌, take, codes, decimal, Option, Some, None, Result, Ok, Err}
 use Rattle.std.specs.List.{flat_map}
-use Rattle.ao_base.specs.Hexadecimal.{hex_of}
+use Rattle.book_base.specs.Hexadecimal.{hex_of}
 use Rattle.book_pcap.specs.Packets.{longest_datagram}
 use Rattle.book_captures.specs.declared.reasons.Header.{Header}
 use Rattle.book_captures.specs.declared.reasons.Header.TheVariants as header

@@ -1,11 +1,11 @@
 -- The connection that a line names, its addresses in their usual form. Its top is `plan_pair_of`.
 use Rattle.std.specs.Prelude.{ℕ, List, if◌then◌else◌, Result, Ok, Err}
-use Rattle.ao_base.specs.declared.address.Address.{Address}
-use Rattle.ao_base.specs.declared.address.Pair.{Pair}
-use Rattle.ao_base.specs.declared.address.Socket.{Socket}
-use Rattle.ao_base.specs.declared.line_kind.LineKind.{LineKind}
-use Rattle.ao_base.specs.declared.line_kind.LineKind.TheVariants.{Word, Range}
-use Rattle.ao_base.specs.Results.{◌>>=◌}
+use Rattle.book_base.specs.declared.address.Address.{Address}
+use Rattle.book_base.specs.declared.address.Pair.{Pair}
+use Rattle.book_base.specs.declared.address.Socket.{Socket}
+use Rattle.book_base.specs.declared.line_kind.LineKind.{LineKind}
+use Rattle.book_base.specs.declared.line_kind.LineKind.TheVariants.{Word, Range}
+use Rattle.book_base.specs.Results.{◌>>=◌}
 use Rattle.book_cmd_link.specs.LinkFiles.{are_two_of_a_family}
 use Rattle.book_lines.specs.Words.{Taken, word_as, number_in, nothing_in}
 use Rattle.book_scope_texts.specs.Addresses.{usual_address_of}

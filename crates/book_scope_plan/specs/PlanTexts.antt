@@ -3,9 +3,9 @@
 use Rattle.std.specs.Prelude.{ℕ, not, ◌&&◌, Bool, true, false, List, [], ◌∷◌, ◌++◌, codes, decimal}
 use Rattle.std.specs.Prelude.{flat_map, Option, Some, None, is_some}
 use Rattle.std.specs.List.{list_any, find}
-use Rattle.ao_base.specs.declared.address.Address.{Address}
-use Rattle.ao_base.specs.declared.address.Pair.{Pair}
-use Rattle.ao_base.specs.declared.address.Socket.{Socket}
+use Rattle.book_base.specs.declared.address.Address.{Address}
+use Rattle.book_base.specs.declared.address.Pair.{Pair}
+use Rattle.book_base.specs.declared.address.Socket.{Socket}
 use Rattle.book_cmd_keys.specs.declared.plan.Plan.{Plan}
 use Rattle.book_keys.specs.Rows.{Table, has_address}
 use Rattle.book_lines.specs.Said.{Said}

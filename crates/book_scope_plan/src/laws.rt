@@ -1,6 +1,6 @@
 //! Theorems about the texts of plans, as clauses of functions that do nothing.
 ghost use Rattle.std.specs.Prelude.{◌≡◌, ◌↔◌, ◌++◌, true, List, Some, is_some};
-ghost use Rattle.ao_base.specs.declared.address.Pair.{Pair};
+ghost use Rattle.book_base.specs.declared.address.Pair.{Pair};
 ghost use Rattle.book_cmd_keys.specs.declared.plan.Plan.{Plan};
 ghost use Rattle.book_keys.specs.declared.lint.LintAnswer.TheVariants as answer;
 ghost use Rattle.book_keys.specs.Plans.{lint_of, rows_at};

@@ -1,5 +1,5 @@
 //! A turn as it is told.
-use ao_base::{Bytes, End};
+use book_base::{Bytes, End};
 
 /// A turn of the calendar of a connection: its time, in seconds since 1970, its end, and what is said of
 /// it behind the name of the end's node.

@@ -1,7 +1,7 @@
 -- Lengths of time as operators write them. Its top is `duration_of`.
 use Rattle.std.specs.Prelude.{ℕ, ◌-◌, ◌*◌, ◌==◌, nat_lt, if◌then◌else◌, List, length, take}
 use Rattle.std.specs.Prelude.{slice_index, Option, Some, None}
-use Rattle.ao_base.specs.Decimals.{decimal_of}
+use Rattle.book_base.specs.Decimals.{decimal_of}
 
 -- the seconds of a second `s`, a minute `m`, an hour `h` or a day `d` (own)
 abbrev pub unit_of : ℕ → Option ℕ

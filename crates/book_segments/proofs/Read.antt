@@ -3,8 +3,8 @@ use Rattle.std.proofs.Common.{◌≡◌, ℕ, ◌+◌, ◌-◌, ◌*◌, ◌/◌
 use Rattle.std.specs.Prelude.{slice_index, slice_range, ◌==◌, not, ◌||◌, if◌then◌else◌}
 use Rattle.std.proofs.lemmas.Bool.{ltb-false, not-false, eqb-true, or_cases}
 use Rattle.std.proofs.lemmas.List.{length-append, length-drop, take_at}
-use Rattle.ao_base.specs.declared.address.Address.{Address}
-use Rattle.ao_base.specs.declared.address.Address.TheVariants.{V4, V6}
+use Rattle.book_base.specs.declared.address.Address.{Address}
+use Rattle.book_base.specs.declared.address.Address.TheVariants.{V4, V6}
 use Rattle.book_segments.specs.Sockets.{octets}
 use Rattle.book_segments.specs.Options.{Options, Listed, Faulty, AreListed, options_of}
 use Rattle.book_segments.specs.declared.fault.DatagramFault.{DatagramFault}

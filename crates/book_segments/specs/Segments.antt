@@ -3,9 +3,9 @@
 use Rattle.std.specs.Prelude.{ℕ, ◌+◌, ◌-◌, ◌*◌, ◌/◌, ◌%◌, ◌==◌, nat_lt, if◌then◌else◌}
 use Rattle.std.specs.Prelude.{Bool, true, false, not, ◌||◌, Option, Some, None}
 use Rattle.std.specs.Prelude.{List, [], ◌∷◌, ◌++◌, length, take, drop, slice_index, slice_range}
-use Rattle.ao_base.specs.declared.address.Address.{Address}
-use Rattle.ao_base.specs.declared.address.Address.TheVariants.{V4, V6}
-use Rattle.ao_base.specs.declared.address.Socket.{Socket}
+use Rattle.book_base.specs.declared.address.Address.{Address}
+use Rattle.book_base.specs.declared.address.Address.TheVariants.{V4, V6}
+use Rattle.book_base.specs.declared.address.Socket.{Socket}
 use Rattle.book_segments.specs.Bytes.{put2, put4}
 use Rattle.book_segments.specs.Sockets.{octets}
 use Rattle.book_segments.specs.declared.fault.DatagramFault.{DatagramFault}
@@ -16,7 +16,7 @@ use Rattle.book_segments.specs.declared.fault.DatagramFault.TheVariants.{NotTcp,
 use Rattle.book_segments.specs.declared.fault.DatagramFault.TheVariants.{DataOffset, BadOption}
 use Rattle.book_segments.specs.Folded.{folded}
 use Rattle.book_segments.specs.Options.{Options, Listed, Faulty, options_of}
-use Rattle.ao_base.specs.declared.address.Pair.{Pair}
+use Rattle.book_base.specs.declared.address.Pair.{Pair}
 
 -- the fields of an IP header but its addresses and lengths (RFC 791, section 3.1; RFC 8200, section
 -- 3)

@@ -3,8 +3,8 @@
 -- file's tops.
 use Rattle.std.specs.Prelude.{◌≡◌, ℕ, ◌+◌, ◌-◌, ◌/◌, ◌%◌, ◌==◌, ◌<◌, ◌≤◌, true, IsTrue}
 use Rattle.std.specs.Prelude.{List, [], ◌∷◌, ◌++◌, length, take, drop, slice_index, if◌then◌else◌}
-use Rattle.ao_base.specs.declared.address.Address.{Address}
-use Rattle.ao_base.specs.declared.address.Address.TheVariants.{V4, V6}
+use Rattle.book_base.specs.declared.address.Address.{Address}
+use Rattle.book_base.specs.declared.address.Address.TheVariants.{V4, V6}
 use Rattle.book_segments.specs.Bytes.{put2, put4, ring}
 use Rattle.book_segments.specs.Options.{AreListed, options_of}
 use Rattle.book_segments.specs.Segments.{IpHeader, Ipv4, Ipv6, Segment, sums, complement_of}

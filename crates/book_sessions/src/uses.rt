@@ -1,6 +1,6 @@
 //! What is counted of a capture.
 use crate::outcome::{PassedOver, SegmentOutcome};
-use ao_base::Socket;
+use book_base::Socket;
 
 /// The KeyID and the RNextKeyID of a segment (RFC 5925, section 2.2).
 #[derive(Clone, Copy, Debug, PartialEq, Eq)]

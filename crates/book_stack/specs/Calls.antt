@@ -1,6 +1,6 @@
 -- The calls of a stack: what each answers and leaves, and the plain events that it makes (own).
 use Rattle.std.specs.Prelude.{ℕ, nat_le, Bool, true, false, List, [], ◌∷◌, ◌++◌, length, Option, Some, None, if◌then◌else◌}
-use Rattle.ao_base.specs.declared.address.Pair.{Pair}
+use Rattle.book_base.specs.declared.address.Pair.{Pair}
 use Rattle.book_segments.specs.Segments.{Segment, Reading, Read, Bad as Unread, reading}
 use Rattle.book_keys.specs.declared.new_row.NewRow.{NewRow}
 use Rattle.book_keys.specs.Tables.{Adding, AddedAs, adding, row_of_new, withdrawn}

@@ -1,6 +1,6 @@
 //! When a connection is looked at again.
 
-use ao_base::Pair;
+use book_base::Pair;
 
 /// A connection, and when it is to be looked at: its retransmission timer expires, or TIME-WAIT ends.
 #[derive(Clone, Copy, Debug, PartialEq, Eq)]

@@ -1,7 +1,7 @@
 -- A segment of which nothing is known costs no derivation, unless it has SYN: without the peer's initial sequence number no key can be kept.
 use Rattle.std.proofs.Common.{◌≡◌, ◌<◌, ◌≤◌, ℕ, ◌-◌, Bool, true, false, List, Option, Some, None, ◌⊎◌, inl, inr, refl, arith}
 use Rattle.std.specs.Prelude.{nat_lt, slice_get}
-use Rattle.ao_base.specs.declared.address.Pair.{Pair}
+use Rattle.book_base.specs.declared.address.Pair.{Pair}
 use Rattle.book_segments.specs.Options.{find_ao}
 use Rattle.book_segments.specs.Segments.{Segment, has, SYN}
 use Rattle.book_segments.proofs.Fields.{lt_is, lt_not}

@@ -8,9 +8,9 @@ use Rattle.std.specs.Ordering.{is_lt, is_eq, nat_cmp, ordering_then, ordering_re
 use Rattle.std.specs.Cmp.Lexicographic.{slice_cmp}
 use Rattle.std.proofs.lemmas.Cmp.{tied_itself}
 use Rattle.std.proofs.lemmas.Map.Lookups.{exact_unsigned, exact_bytes}
-use Rattle.ao_base.specs.declared.address.Address.{Address}
-use Rattle.ao_base.specs.declared.address.Address.TheVariants as address
-use Rattle.ao_base.specs.declared.address.Socket.{Socket}
+use Rattle.book_base.specs.declared.address.Address.{Address}
+use Rattle.book_base.specs.declared.address.Address.TheVariants as address
+use Rattle.book_base.specs.declared.address.Socket.{Socket}
 use Rattle.book_segments.specs.Bytes.{same_bytes}
 use Rattle.book_segments.specs.Sockets.{same_address, same_socket}
 use Rattle.book_segments.proofs.Fields.{and_tells, eqb_is, same_bytes_tells}

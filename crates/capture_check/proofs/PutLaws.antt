@@ -3,7 +3,7 @@ use Rattle.std.proofs.Common.{◌≡◌, Bool, true, false, List, Option, Some, 
 use Rattle.std.specs.Prelude.{cond, is_some, option_map}
 use Rattle.std.specs.BTreeMap.{is_at}
 use Rattle.std.specs.List.{find}
-use Rattle.ao_base.specs.declared.address.Socket.{Socket}
+use Rattle.book_base.specs.declared.address.Socket.{Socket}
 use Rattle.book_segments.specs.Sockets.{same_socket}
 use Rattle.book_keys.specs.Rows.{Table}
 use Rattle.book_cmd_check.specs.Captures.{Connection, joins, seen_from, with_connection}

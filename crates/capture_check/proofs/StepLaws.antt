@@ -1,8 +1,8 @@
 -- What a checker answers to a segment, and what it knows afterwards, is what the definitions say.
 use Rattle.std.proofs.Common.{◌≡◌, ◌+◌, ℕ, Bool, true, false, not, List, Option, Some, None, refl, sym, ap, ◌∙◌, subst, arith, Ok, Err}
 use Rattle.std.specs.Prelude.{max, if◌then◌else◌}
-use Rattle.ao_base.specs.declared.address.Pair.{Pair}
-use Rattle.ao_base.specs.declared.address.Socket.{Socket}
+use Rattle.book_base.specs.declared.address.Pair.{Pair}
+use Rattle.book_base.specs.declared.address.Socket.{Socket}
 use Rattle.book_segments.specs.Options.{find_ao}
 use Rattle.book_segments.specs.Segments.{Segment, has, segment_length, good, SYN}
 use Rattle.book_segments.specs.Sockets.{same_socket}

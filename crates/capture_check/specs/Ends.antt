@@ -2,9 +2,9 @@
 use Rattle.std.specs.Prelude.{ℕ, Bool, not, if◌then◌else◌}
 use Rattle.std.specs.declared.cmp.Ordering.{Ordering}
 use Rattle.std.specs.Ordering.{is_lt}
-use Rattle.ao_base.specs.declared.address.Address.{Address}
-use Rattle.ao_base.specs.declared.address.Address.TheVariants as address
-use Rattle.ao_base.specs.declared.address.Socket.{Socket}
+use Rattle.book_base.specs.declared.address.Address.{Address}
+use Rattle.book_base.specs.declared.address.Address.TheVariants as address
+use Rattle.book_base.specs.declared.address.Socket.{Socket}
 use Rattle.capture_check.specs.declared.ends.Place.{Place}
 use Rattle.capture_check.specs.declared.ends.Place.TheVariants.{V4, V6}
 use Rattle.capture_check.specs.declared.ends.Ends.{Ends}

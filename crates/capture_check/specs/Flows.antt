@@ -1,7 +1,7 @@
 -- What is known of a connection: both ways of it (own).
 use Rattle.std.specs.Prelude.{◌≡◌, ◌≤◌, ◌+◌, ◌%◌, ◌/◌, ◌^◌, ℕ, max, Bool, true, false, List, [], length, Option, Some, None, Ok, Err}
 use Rattle.std.specs.List.{find}
-use Rattle.ao_base.specs.declared.address.Socket.{Socket}
+use Rattle.book_base.specs.declared.address.Socket.{Socket}
 use Rattle.book_segments.specs.Bytes.{ring}
 use Rattle.book_segments.specs.Options.{find_ao}
 use Rattle.book_segments.specs.Segments.{Segment, has, segment_length, SYN}

@@ -3,7 +3,7 @@ ghost use Rattle.std.specs.Prelude.{◌≡◌, not};
 ghost use Rattle.book_segments.specs.Sockets.{same_socket};
 ghost use Rattle.capture_check.specs.Ends.{place_of, is_low, key_of};
 
-use ao_base::{Address, Socket};
+use book_base::{Address, Socket};
 use std::cmp::Ordering;
 
 /// A socket, in an order: IPv4 first, then by the port, in which sockets differ soonest, then by the

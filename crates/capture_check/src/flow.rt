@@ -5,8 +5,9 @@ ghost use Rattle.wrap_seq.specs.Counter.{number};
 ghost use Rattle.ao_check.specs.Bonds.{fresh, Fits};
 
 use crate::segment::length_of;
-use ao_base::{Pair, Socket, Steps};
+use ao_base::Steps;
 use ao_check::{Association, Verdict};
+use book_base::{Pair, Socket};
 use key_table::{Table, Tables};
 use std::alloc::{AllocError, Global};
 use std::sync::ledger::Ledger;

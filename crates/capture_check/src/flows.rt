@@ -7,8 +7,9 @@ ghost use Rattle.capture_check.specs.Hearing.{FlowsHear, has_isns};
 
 use crate::ends::is_low;
 use crate::flow::Flow;
-use ao_base::{Socket, Steps};
+use ao_base::Steps;
 use ao_check::Verdict;
+use book_base::Socket;
 use key_table::{Table, Tables};
 use std::alloc::{AllocError, Global};
 use std::sync::ledger::Ledger;

@@ -4,7 +4,7 @@ ghost use Rattle.book_segments.specs.Segments.{has, segment_length, ACK, SYN};
 ghost use Rattle.book_cmd_check.specs.Captures.{acknowledged_isn};
 ghost use Rattle.book_segments.specs.Segments.{pair_reached};
 
-use ao_base::Pair;
+use book_base::Pair;
 use tcp_segment::Datagram;
 
 /// The flags of TCP that a checker looks at (RFC 9293, section 3.1).

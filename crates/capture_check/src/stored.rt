@@ -1,11 +1,11 @@
 //! A line of stored segments: a time and a datagram.
 ghost use Rattle.std.specs.Prelude.{◌≡◌, ℕ};
-ghost use Rattle.ao_base.specs.Lines.{words_of};
+ghost use Rattle.book_base.specs.Lines.{words_of};
 ghost use Rattle.book_lines.specs.Lines.{is_comment, says_something};
 ghost use Rattle.book_cmd_check.specs.StoredLines.{stored_line, stored_of};
 ghost use Rattle.capture_check.specs.Lines.{IsRead, IsStoredAs};
 
-use ao_base::{Bytes, LineKind};
+use book_base::{Bytes, LineKind};
 use book_keys::LATEST;
 use std::alloc::Global;
 use text_lines::{LineWords, Refusal};

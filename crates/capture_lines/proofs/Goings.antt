@@ -2,16 +2,16 @@
 use Rattle.std.proofs.Common.{◌≡◌, ◌⊎◌, inl, inr, ℕ, ◌+◌, ◌-◌, ◌<◌, ◌≤◌, nat_lt, Bool, true, false, List, [], ◌∷◌, ◌++◌, length, Some, None, Ok, Err, refl, sym, ap, subst, ◌∙◌, append_assoc, arith}
 use Rattle.std.proofs.lemmas.Bool.Decides.{nat_tests}
 use Rattle.std.proofs.lemmas.List.{append-nil, length-append}
-use Rattle.ao_base.specs.declared.line_kind.LineKind.TheVariants.{Range}
-use Rattle.ao_base.specs.Lines.{lines_of}
+use Rattle.book_base.specs.declared.line_kind.LineKind.TheVariants.{Range}
+use Rattle.book_base.specs.Lines.{lines_of}
 use Rattle.ao_base.specs.Outside.{Side, Gave, WasWritten, IsAtEnd}
 use Rattle.ao_base.proofs.Sides.{gave_more, gave_none, rose_after, took_none}
 use Rattle.book_keys.specs.Rows.{Table}
-use Rattle.line_reader.specs.declared.reader.LineStep.{LineStep}
-use Rattle.line_reader.specs.declared.reader.LineStep.TheVariants as step
-use Rattle.line_reader.specs.Reading.{Advances, IsLong, Reading, Stops as StopsReading}
-use Rattle.line_reader.proofs.Newlines.{longer}
-use Rattle.line_reader.proofs.Showing.{HasShown, shown_none, shown_still}
+use Rattle.ao_base.specs.declared.reader.LineStep.{LineStep}
+use Rattle.ao_base.specs.declared.reader.LineStep.TheVariants as step
+use Rattle.ao_base.specs.Reading.{Advances, IsLong, Reading, Stops as StopsReading}
+use Rattle.ao_base.proofs.Newlines.{longer}
+use Rattle.ao_base.proofs.Showing.{HasShown, shown_none, shown_still}
 use Rattle.book_cmd_check.specs.StoredLines.{StoredInput, stored_from, stored_input, stored_line}
 use Rattle.capture_lines.specs.Checked.{Checks, HasRead, Stops, segments_of, written_of}
 use Rattle.capture_lines.specs.Judging.{HasHeard, Judging}

@@ -1,14 +1,14 @@
 -- A check of lines with one more line read: it goes on, or ends there.
 use Rattle.std.proofs.Common.{◌≡◌, inl, inr, ℕ, suc, ◌+◌, ◌-◌, ◌<◌, ◌≤◌, Bool, true, false, List, [], ◌∷◌, ◌++◌, length, take, Option, Some, Ok, Err, refl, sym, ap, subst, ◌∙◌, append_assoc, arith}
 use Rattle.std.proofs.lemmas.List.{append-nil, length-append}
-use Rattle.ao_base.specs.declared.line_kind.LineKind.{LineKind}
-use Rattle.ao_base.specs.Lines.{lines_of}
+use Rattle.book_base.specs.declared.line_kind.LineKind.{LineKind}
+use Rattle.book_base.specs.Lines.{lines_of}
 use Rattle.ao_base.specs.Outside.{Side, Gave, WasWritten, IsAtEnd}
 use Rattle.ao_base.proofs.Sides.{gave_more, rose_after, took_more}
 use Rattle.book_keys.specs.Rows.{Table}
-use Rattle.line_reader.specs.declared.reader.LineStep.TheVariants as step
-use Rattle.line_reader.specs.Reading.{Advances, IsCut, Reading, Shows}
-use Rattle.line_reader.proofs.Showing.{HasShown, shown_more}
+use Rattle.ao_base.specs.declared.reader.LineStep.TheVariants as step
+use Rattle.ao_base.specs.Reading.{Advances, IsCut, Reading, Shows}
+use Rattle.ao_base.proofs.Showing.{HasShown, shown_more}
 use Rattle.book_cmd_check.specs.StoredLines.{StoredInput, stored_from, stored_input, stored_line}
 use Rattle.capture_lines.specs.Checked.{BreaksLine, Checks, HasRead, JudgedLine, JudgesLine, segments_of, written_of}
 use Rattle.capture_lines.specs.declared.check.Halt.{Halt}

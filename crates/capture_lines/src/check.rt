@@ -5,10 +5,10 @@ ghost use Rattle.capture_lines.specs.Checked.{Checks, JudgesLine, segments_of};
 ghost use Rattle.capture_lines.specs.Judging.{HasHeard};
 
 use crate::judge::{Judge, Unwritten};
-use ao_base::{LineKind, Sink, Source, Steps};
+use ao_base::{LineReader, LineStep, Sink, Source, Steps};
+use book_base::LineKind;
 use capture_check::{LineProblem, Stored, read_line};
 use key_table::Tables;
-use line_reader::{LineReader, LineStep};
 use std::alloc::Global;
 use std::marker::Brand;
 use std::sync::ledger::{Blank, Ledger};

@@ -1,7 +1,8 @@
 //! A read and a write that fail in the middle of a check of lines.
 ghost use Rattle.std.specs.Prelude.{◌≤◌};
 
-use ao_base::{Address, Algorithm, Bytes, MemSink, MemSource, Numbers};
+use ao_base::{MemSink, MemSource};
+use book_base::{Address, Algorithm, Bytes, Numbers};
 use capture_lines::{Halt, check_segments};
 use key_table::Tables;
 use std::alloc::{AllocError, Global};

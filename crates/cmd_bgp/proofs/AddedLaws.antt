@@ -1,6 +1,6 @@
 -- What a take adds to what is told of a session.
 use Rattle.std.proofs.Common.{◌≡◌, ℕ, ◌+◌, Bool, true, false, List, [], ◌∷◌, ◌++◌, length, drop, Option, Some, None, if◌then◌else◌, refl, sym, ap, ◌∙◌, arith, append_assoc, append-nil}
-use Rattle.ao_base.specs.declared.end.End.{End}
+use Rattle.book_base.specs.declared.end.End.{End}
 use Rattle.book_bgp.specs.declared.bgp_fault.BgpFault.{BgpFault}
 use Rattle.book_bgp.specs.Messages.{Message, messages, place_of, fault_in}
 use Rattle.book_bgp.proofs.Streams.{fault_messages, fault_stays}

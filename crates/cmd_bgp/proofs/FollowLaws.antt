@@ -1,7 +1,7 @@
 -- Following a run event by event.
 use Rattle.std.proofs.Common.{◌≡◌, inl, inr, ℕ, suc, ◌+◌, ◌^◌, ◌<◌, ◌≤◌, Bool, true, false, List, [], ◌∷◌, ◌++◌, length, length-append, None, refl, sym, ap, ◌∙◌, subst, arith, append_assoc, append-nil}
-use Rattle.ao_base.specs.declared.end.End.{End}
-use Rattle.ao_base.specs.declared.end.End.TheVariants.{A, B}
+use Rattle.book_base.specs.declared.end.End.{End}
+use Rattle.book_base.specs.declared.end.End.TheVariants.{A, B}
 use Rattle.book_bgp.specs.Messages.{fault_in, fault_of, message_front}
 use Rattle.book_bgp.proofs.Fronts.{front_short}
 use Rattle.book_bgp.proofs.Streams.{behind_none, none_before}

@@ -1,6 +1,6 @@
 -- The bytes that the sessions of an end delivered.
 use Rattle.std.specs.Prelude.{ℕ, List, [], ◌∷◌}
-use Rattle.ao_base.specs.declared.end.End.{End}
+use Rattle.book_base.specs.declared.end.End.{End}
 use Rattle.book_link.specs.Worlds.{Session, World, side}
 
 -- of each session, the newest first

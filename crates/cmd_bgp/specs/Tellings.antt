@@ -1,7 +1,7 @@
 -- What the text of a run tells of each session: the theorem on messages.
 use Rattle.std.specs.Prelude.{◌≡◌, ℕ, suc, ◌+◌, ◌==◌, Bool, ◌&&◌, List, [], ◌∷◌, ◌++◌, length, codes, decimal, Option, Some, None, if◌then◌else◌, ⊤}
 use Rattle.std.specs.List.{AllByRecursion}
-use Rattle.ao_base.specs.declared.end.End.{End}
+use Rattle.book_base.specs.declared.end.End.{End}
 use Rattle.book_lines.specs.Texts.{end_text, numbered_text}
 use Rattle.book_bgp.specs.declared.bgp_fault.BgpFault.{BgpFault}
 use Rattle.book_bgp.specs.Messages.{Message, messages, fault_in, place_of}

@@ -5,7 +5,8 @@ ghost use Rattle.book_lines.specs.Texts.{end_text, numbered_text, spaced};
 ghost use Rattle.book_bgp.specs.Messages.{Message, message_length};
 ghost use Rattle.cmd_bgp.specs.Places.{place_of};
 
-use ao_base::{End, push_decimal};
+use ao_base::push_decimal;
+use book_base::End;
 use book_bgp::BgpFault;
 use std::alloc::AllocError;
 use text_lines::{push_end, push_field, push_newline, push_number, push_text};

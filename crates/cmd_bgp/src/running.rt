@@ -14,8 +14,8 @@ ghost use Rattle.cmd_bgp.specs.Tellings.{TellsRun};
 
 use crate::lines::Place;
 use crate::reading::read_piece;
-use ao_base::{Bytes, End};
 use bgp_messages::BgpReader;
+use book_base::{Bytes, End};
 use book_link::{Event, Events};
 use link_world::{Outcome, Setup, World};
 use std::alloc::{AllocError, Global};

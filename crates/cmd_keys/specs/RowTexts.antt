@@ -1,6 +1,6 @@
 -- The two halves of the line of a row.
 use Rattle.std.specs.Prelude.{ℕ, ◌&&◌, List, [], ◌∷◌, codes, decimal}
-use Rattle.ao_base.specs.Algorithms.{name_of}
+use Rattle.book_base.specs.Algorithms.{name_of}
 use Rattle.book_keys.specs.Lifetimes.{contains}
 use Rattle.book_keys.specs.Rows.{Row, receives, sends}
 use Rattle.book_cmd_keys.specs.KeyTexts.{direction_text, yes_or_no}

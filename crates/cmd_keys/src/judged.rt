@@ -1,6 +1,6 @@
 //! What the judging of connections answers.
 
-use ao_base::Bytes;
+use book_base::Bytes;
 
 /// What the judging of connections comes to: a line for each connection, and whether some connection isn't aligned.
 #[derive(Debug, Drop)]

@@ -8,7 +8,8 @@ ghost use Rattle.book_answer.specs.Answers.{done};
 ghost use Rattle.command_report.specs.Reporting.{Reports};
 ghost use Rattle.cmd_keys.specs.RowTexts.{state_texts, term_texts};
 
-use ao_base::{Bytes, print_address};
+use ao_base::print_address;
+use book_base::Bytes;
 use command_report::{Report, Stop};
 use key_table::{Direction, Row, Table, Tables};
 use std::alloc::{AllocError, Global};

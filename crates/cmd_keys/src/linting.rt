@@ -1,6 +1,6 @@
 //! The judgement on each connection of an input.
 ghost use Rattle.std.specs.Prelude.{◌≡◌, ◌<◌, ◌↔◌, ◌++◌, ◌∷◌, [], IsErrOf, OnOk, false, length, decimal};
-ghost use Rattle.ao_base.specs.Lines.{lines_of};
+ghost use Rattle.book_base.specs.Lines.{lines_of};
 ghost use Rattle.book_lines.specs.Lines.{most_lines};
 ghost use Rattle.book_lines.specs.Said.{at_number, said_by, said_in};
 ghost use Rattle.book_lines.specs.Texts.{end_text, numbered_text, spaced};
@@ -12,7 +12,8 @@ ghost use Rattle.cmd_keys.specs.Judgements.{judged_from, judgements};
 
 use crate::connection::read_connection;
 use crate::judged::Judged;
-use ao_base::{Bytes, End, Pair, push_decimal};
+use ao_base::push_decimal;
+use book_base::{Bytes, End, Pair};
 use book_cmd_keys::Plan;
 use book_lines::TextFault;
 use command_report::{Report, Stop};

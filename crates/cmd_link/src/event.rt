@@ -6,7 +6,7 @@ ghost use Rattle.book_link.specs.Storm.{drawn_end, event_by, event_of, last_deli
 ghost use Rattle.book_link.specs.Worlds.{Setup as Link, other, segment_named, segments};
 ghost use Rattle.link_world.specs.Standing.{StandsFor};
 
-use ao_base::End;
+use book_base::End;
 use book_link::Event;
 use link_world::World;
 

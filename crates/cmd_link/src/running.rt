@@ -7,7 +7,7 @@ ghost use Rattle.link_world.specs.Standing.{StandsFor, steps_taken};
 
 use crate::draw::{draw, drawn};
 use crate::event::event_of;
-use ao_base::{Address, Algorithm, End, Socket};
+use book_base::{Address, Algorithm, End, Socket};
 use book_link::Event;
 use command_report::{Report, Stop};
 use key_table::Tables;

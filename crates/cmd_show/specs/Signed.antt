@@ -1,6 +1,6 @@
 -- A datagram that was found with its MAC, and the MAC that was made of it.
 use Rattle.std.specs.Prelude.{◌≡◌, ℕ, List, Some, Result, Ok, Err}
-use Rattle.ao_base.specs.declared.algorithm.Algorithm.{Algorithm}
+use Rattle.book_base.specs.declared.algorithm.Algorithm.{Algorithm}
 use Rattle.book_segments.specs.Options.{Ao, One, find_ao}
 use Rattle.book_segments.specs.Segments.{Segment}
 use Rattle.text_lines.specs.declared.refusal.Refusal.{Refusal}

@@ -1,6 +1,6 @@
 //! The fields of a datagram as text.
 ghost use Rattle.std.specs.Prelude.{◌≡◌, ◌++◌, ◌∷◌, [], OnOk, IfOk, codes, decimal, length, map};
-ghost use Rattle.ao_base.specs.Hexadecimal.{hex_of};
+ghost use Rattle.book_base.specs.Hexadecimal.{hex_of};
 ghost use Rattle.book_segments.specs.Faults.{fault_text};
 ghost use Rattle.book_segments.specs.Options.{plains, listed, options_of};
 ghost use Rattle.book_segments.specs.Segments.{good, reading};
@@ -9,7 +9,8 @@ ghost use Rattle.book_lines.specs.Texts.{socket_texts, spaced};
 ghost use Rattle.book_cmd_show.specs.DatagramTexts.{checksum_text, datagram_texts, family_text, number_texts, option_text, options_texts, rest_texts};
 ghost use Rattle.book_cmd_show.specs.Show.{reading_texts};
 
-use ao_base::{Address, push_decimal, push_hex};
+use ao_base::{push_decimal, push_hex};
+use book_base::Address;
 use std::alloc::{AllocError, Global};
 use tcp_options::{Opt, OptionFault, OptionIter};
 use tcp_segment::{Datagram, DatagramFault, read_datagram};

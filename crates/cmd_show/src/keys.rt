@@ -6,8 +6,9 @@ ghost use Rattle.book_macs.specs.Contexts.{bytes_of};
 ghost use Rattle.book_macs.specs.Keys.{key_length, traffic_key};
 
 use crate::array::array_of;
-use ao_base::{Address, Algorithm, Socket, Steps};
+use ao_base::Steps;
 use ao_kdf::{Context, TrafficKey, traffic_key};
+use book_base::{Address, Algorithm, Socket};
 use std::marker::Brand;
 use std::sync::ledger::{Blank, Ledger};
 

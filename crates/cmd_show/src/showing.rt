@@ -1,6 +1,6 @@
 //! Datagrams shown as text.
 ghost use Rattle.std.specs.Prelude.{◌≡◌, ◌<◌, ◌↔◌, ◌++◌, IsErrOf, OnOk, length, false};
-ghost use Rattle.ao_base.specs.Lines.{lines_of};
+ghost use Rattle.book_base.specs.Lines.{lines_of};
 ghost use Rattle.book_lines.specs.Lines.{most_lines};
 ghost use Rattle.book_lines.specs.Said.{at_number, said_by};
 ghost use Rattle.text_lines.specs.Readings.{Answers, Tells};
@@ -10,7 +10,8 @@ ghost use Rattle.cmd_show.specs.Loops.{shown_after, shown_from};
 ghost use Rattle.book_cmd_show.specs.Show.{bytes_of_line, show_of, shown_line};
 
 use crate::datagram_text::push_reading;
-use ao_base::{Bytes, push_decimal};
+use ao_base::push_decimal;
+use book_base::Bytes;
 use book_lines::TextFault;
 use command_report::{Report, Stop};
 use std::alloc::{AllocError, Global};

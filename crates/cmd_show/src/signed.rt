@@ -6,9 +6,9 @@ ghost use Rattle.cmd_show.specs.Signed.{IsMade, IsSigned};
 ghost use Rattle.book_cmd_show.specs.Vectors.{signed_of};
 
 use crate::keys::key_of;
-use ao_base::Algorithm;
 use ao_kdf::Context;
 use ao_mac::{MacBytes, mac};
+use book_base::Algorithm;
 use std::marker::Model;
 use tcp_options::AoFound;
 use tcp_segment::{Datagram, read_datagram};

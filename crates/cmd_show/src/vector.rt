@@ -13,7 +13,7 @@ use crate::keys::{key_of, read_context};
 use crate::signed::{Making, SignedDatagram, mac_of, signed};
 use crate::vector_words::{block, context, covering, message};
 use aes_cmac::{Aes128, Cmac, prf};
-use ao_base::{Algorithm, Bytes, LineKind};
+use book_base::{Algorithm, Bytes, LineKind};
 use hmac_sha1::{HmacSha1, HmacSha256};
 use std::alloc::Global;
 use std::marker::Model;

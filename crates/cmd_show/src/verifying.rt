@@ -1,6 +1,6 @@
 //! Test vectors of the algorithms, verified.
 ghost use Rattle.std.specs.Prelude.{if◌then◌else◌, not, ◌≡◌, ◌≤◌, ◌<◌, ◌+◌, ◌↔◌, ◌++◌, IsErrOf, OnOk, length};
-ghost use Rattle.ao_base.specs.Lines.{lines_of};
+ghost use Rattle.book_base.specs.Lines.{lines_of};
 ghost use Rattle.book_lines.specs.Lines.{most_lines};
 ghost use Rattle.book_lines.specs.Said.{at_number, said_by};
 ghost use Rattle.book_lines.specs.Texts.{spaced};
@@ -12,7 +12,8 @@ ghost use Rattle.book_cmd_show.specs.Vectors.{vector_of};
 ghost use Rattle.book_cmd_show.specs.Verified.{agrees, totals_line, vectors_of, verdict_line, verdict_texts};
 
 use crate::vector::{Vector, read_vector};
-use ao_base::{Bytes, push_decimal};
+use ao_base::push_decimal;
+use book_base::Bytes;
 use book_cmd_show::Verified;
 use book_lines::TextFault;
 use command_report::{Report, Stop};

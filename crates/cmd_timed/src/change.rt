@@ -8,7 +8,7 @@ ghost use Rattle.cmd_timed.specs.Changes.{changed};
 ghost use Rattle.cmd_timed.specs.Watches.{seen};
 
 use crate::watch::Watch;
-use ao_base::End;
+use book_base::End;
 use book_link::Event;
 use link_report::Outcome;
 use link_world::Front;

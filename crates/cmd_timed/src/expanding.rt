@@ -7,7 +7,7 @@ ghost use Rattle.cmd_timed.specs.Links.{Does, expands, happens, waits};
 
 use crate::link::Link;
 use crate::unfinished::Unfinished;
-use ao_base::End;
+use book_base::End;
 use book_cmd_timed::TimedEvent;
 use book_keys::LATEST;
 use std::alloc::Global;

@@ -12,7 +12,7 @@ ghost use Rattle.cmd_timed.specs.Links.{Does, due_at, expires, progress, steps, 
 use crate::change::{Change, end_of, is_again, is_begin, is_done, is_sent};
 use crate::unfinished::Unfinished;
 use crate::watch::Watch;
-use ao_base::End;
+use book_base::End;
 use book_link::Event;
 use link_world::World;
 use std::alloc::{AllocError, Global};

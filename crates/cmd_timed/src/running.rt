@@ -8,7 +8,7 @@ ghost use Rattle.cmd_timed.specs.Reports.{Reports};
 use crate::link::Link;
 use crate::unfinished::Unfinished;
 use crate::watch::Watch;
-use ao_base::Bytes;
+use book_base::Bytes;
 use book_cmd_timed::TimedEvents;
 use link_world::{Setup, World};
 use rto_timer::Rto;

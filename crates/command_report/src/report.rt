@@ -1,6 +1,6 @@
 //! The report of a command.
 
-use ao_base::Bytes;
+use book_base::Bytes;
 
 /// The whole output of a command.
 #[derive(Debug, Drop)]

@@ -4,6 +4,6 @@
 #![tactic(auto)]
 
 #[cfg(test)]
-mod of_ao_node;
+mod of_node_ends;
 #[cfg(test)]
 mod of_rto_timer;

@@ -1,7 +1,7 @@
 -- What an end makes as one choice of a draft, by the most bytes that it may carry: the form over
 -- which the proofs of ends and runs go.
 use Rattle.std.specs.Prelude.{ℕ, ◌+◌, ◌-◌, ◌==◌, min, nat_lt, not, ◌&&◌, Option, Some, None, is_some, if◌then◌else◌}
-use Rattle.ao_base.specs.declared.address.Pair.{Pair}
+use Rattle.book_base.specs.declared.address.Pair.{Pair}
 use Rattle.book_macs.specs.Contexts.{context_of}
 use Rattle.book_keys.specs.Coordination.{Sending}
 use Rattle.book_endpoint.specs.States.{EndState, given_end}

@@ -1,6 +1,6 @@
 //! The steps are what the definitions say, as clauses of functions that do nothing.
 ghost use Rattle.std.specs.Prelude.{◌≡◌, ◌↔◌, ℕ, List, None};
-ghost use Rattle.ao_base.specs.declared.address.Pair.{Pair};
+ghost use Rattle.book_base.specs.declared.address.Pair.{Pair};
 ghost use Rattle.book_keys.specs.Rows.{Row};
 ghost use Rattle.book_keys.specs.Coordination.{choose};
 ghost use Rattle.book_endpoint.specs.States.{EndState};

@@ -2,7 +2,7 @@
 use Rattle.std.proofs.Common.{◌≡◌, ◌<◌, ◌≤◌, ℕ, suc, ◌+◌, ◌-◌, ◌==◌, Bool, true, false, List, [], ◌∷◌, length, Option, Some, None, if◌then◌else◌, refl, sym, ap, ◌∙◌, arith, get_or}
 use Rattle.std.specs.Prelude.{is_some, option_map, IfSome}
 use Rattle.std.proofs.lemmas.Bool.Decides.{nat_tests}
-use Rattle.ao_base.specs.declared.address.Pair.{Pair}
+use Rattle.book_base.specs.declared.address.Pair.{Pair}
 use Rattle.book_keys.specs.Rows.{Row, sendable, acceptable}
 use Rattle.std.specs.Option.{option_or}
 use Rattle.book_keys.specs.Choices.{Numbered, qualified, send_start, accept_start, send_row, next_row, sendable_as, named_send}

@@ -5,7 +5,7 @@ ghost use Rattle.book_keys.specs.Coordination.{row_to_send, rnext_key_id_of, cho
 ghost use Rattle.book_keys.specs.Lookups.{number_of};
 ghost use Rattle.key_coordination.specs.Sendings.{told};
 
-use ao_base::Pair;
+use book_base::Pair;
 use key_table::{Row, Table};
 use std::marker::Model;
 

@@ -2,7 +2,7 @@
 use Rattle.std.proofs.Common.{◌≡◌, ℕ, suc, ◌+◌, ◌<◌, ◌==◌, Bool, true, false, ◌&&◌, ◌||◌, List, length, take, drop, get_or, map, refl, sym, ap, ◌∙◌, add-one, drop-cons}
 use Rattle.std.proofs.lemmas.List.{get_or-take, get_or-map}
 use Rattle.std.specs.List.{list_any}
-use Rattle.ao_base.specs.declared.address.Pair.{Pair}
+use Rattle.book_base.specs.declared.address.Pair.{Pair}
 use Rattle.book_keys.specs.Plans.{mirrored, same_key, accepts_from, outlasts, accepts_throughout}
 use Rattle.book_keys.specs.Rows.{Row, matches, receives}
 use Rattle.key_lint.specs.Unmet.{hears}

@@ -1,6 +1,6 @@
 -- What the tables of two ends are to be, so that a rollover breaks no session.
 use Rattle.std.specs.Prelude.{ℕ, List, None}
-use Rattle.ao_base.specs.declared.address.Pair.{Pair}
+use Rattle.book_base.specs.declared.address.Pair.{Pair}
 use Rattle.book_keys.specs.Plans.{mirrored, AlignedFrom, IsGap}
 use Rattle.book_keys.specs.Rows.{Row}
 

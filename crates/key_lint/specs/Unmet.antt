@@ -1,7 +1,7 @@
 -- Rows that hear what is sent from the other end, and the answer for a row that isn't met there.
 use Rattle.std.specs.Prelude.{ℕ, ◌&&◌, Bool, List, Option, option_map}
-use Rattle.ao_base.specs.declared.address.Pair.{Pair}
-use Rattle.ao_base.specs.declared.end.End.{End}
+use Rattle.book_base.specs.declared.address.Pair.{Pair}
+use Rattle.book_base.specs.declared.end.End.{End}
 use Rattle.book_keys.specs.declared.lint.LintAnswer.{LintAnswer}
 use Rattle.book_keys.specs.Plans.{mirrored, misaligned_answer, misaligned_by, unmet_reason}
 use Rattle.book_keys.specs.Rows.{Row, matches, receives}

@@ -3,7 +3,7 @@ ghost use Rattle.std.specs.Prelude.{◌≡◌, ◌≤◌, length};
 ghost use Rattle.book_keys.specs.Plans.{gap};
 
 use crate::way::{MOST_ROWS, is_sending_for};
-use ao_base::Pair;
+use book_base::Pair;
 use key_table::{Lifetime, Row, first_gap};
 
 /// The least time from `from` to `to`, in seconds since 1970, at which no row is sendable for the

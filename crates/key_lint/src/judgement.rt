@@ -6,7 +6,7 @@ ghost use Rattle.key_lint.specs.CarriesThrough.{CarriesThrough};
 
 use crate::gap::gap;
 use crate::way::Way;
-use ao_base::{Address, End, Pair};
+use book_base::{Address, End, Pair};
 use book_keys::LintAnswer;
 use key_table::{Row, Tables};
 

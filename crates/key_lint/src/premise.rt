@@ -1,6 +1,6 @@
 //! What the judgement promises of a rollover.
 ghost use Rattle.std.specs.Prelude.{◌≡◌, ◌↔◌, ℕ, List};
-ghost use Rattle.ao_base.specs.declared.address.Pair.{Pair};
+ghost use Rattle.book_base.specs.declared.address.Pair.{Pair};
 ghost use Rattle.book_keys.specs.declared.lint.LintAnswer.TheVariants as answer;
 ghost use Rattle.book_keys.specs.Plans.{lint_of, rows_at};
 ghost use Rattle.book_keys.specs.Rows.{Table};

@@ -3,12 +3,12 @@ ghost use Rattle.std.specs.Prelude.{◌≡◌, ◌==◌, ◌&&◌, ◌≤◌, le
 ghost use Rattle.std.specs.List.{list_any};
 ghost use Rattle.book_segments.specs.Bytes.{same_bytes};
 ghost use Rattle.book_keys.specs.Plans.{mirrored, same_flag, same_key, accepts_from, outlasts, accepts_throughout};
-ghost use Rattle.ao_base.specs.Algorithms.{same_algorithm};
+ghost use Rattle.book_base.specs.Algorithms.{same_algorithm};
 ghost use Rattle.book_keys.specs.Plans.{first_unmet, misaligned_answer};
 ghost use Rattle.key_lint.specs.Unmet.{hears, unmet_answer};
 ghost use Rattle.book_keys.specs.Rows.{matches, receives, sends_for};
 
-use ao_base::{Algorithm, End, Pair};
+use book_base::{Algorithm, End, Pair};
 use book_keys::{Direction, LATEST, LintAnswer};
 use key_table::Row;
 

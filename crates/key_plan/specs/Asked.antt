@@ -1,6 +1,6 @@
 -- The margin of a lead where the lag is given, and of a lag where the lead is.
 use Rattle.std.specs.Prelude.{List, Option, Some, None, if◌then◌else◌}
-use Rattle.ao_base.specs.declared.address.Pair.{Pair}
+use Rattle.book_base.specs.declared.address.Pair.{Pair}
 use Rattle.book_plans.specs.declared.margin.Margin.{Margin}
 use Rattle.book_plans.specs.declared.margin.Margin.TheVariants.{Any}
 use Rattle.book_plans.specs.Margins.{lead_by, lag_by, narrower, widest, narrowest}

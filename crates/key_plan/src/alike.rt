@@ -2,11 +2,11 @@
 ghost use Rattle.std.specs.Prelude.{◌≡◌};
 ghost use Rattle.book_segments.specs.Bytes.{same_bytes};
 ghost use Rattle.book_keys.specs.Plans.{mirrored, same_flag, accepts_from};
-ghost use Rattle.ao_base.specs.Algorithms.{same_algorithm};
+ghost use Rattle.book_base.specs.Algorithms.{same_algorithm};
 ghost use Rattle.book_keys.specs.Rows.{receives, sends, sends_for};
 ghost use Rattle.book_plans.specs.Differences.{differences};
 
-use ao_base::{Algorithm, Pair};
+use book_base::{Algorithm, Pair};
 use book_plans::Differences;
 use key_table::{Direction, Row};
 

@@ -9,7 +9,7 @@ use crate::alike::{is_accepting_from, is_sending_for, mirrored};
 use crate::gaps::add_gaps;
 use crate::tables::rows_at;
 use crate::way::is_accepting_throughout;
-use ao_base::{End, Pair};
+use book_base::{End, Pair};
 use book_plans::Finding;
 use key_table::{LATEST, Lifetime, Row, Tables};
 use std::alloc::{AllocError, Global};

@@ -5,7 +5,7 @@ ghost use Rattle.book_keys.specs.Plans.{send_lifetimes};
 ghost use Rattle.book_plans.specs.Findings.{failing_spans, gap_finding, gap_findings};
 
 use crate::alike::is_sending_for;
-use ao_base::{End, Pair};
+use book_base::{End, Pair};
 use book_plans::Finding;
 use key_table::{Lifetime, Row, first_gap};
 use std::alloc::{AllocError, Global};

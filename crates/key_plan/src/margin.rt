@@ -8,7 +8,7 @@ ghost use Rattle.key_plan.specs.Asked.{margin_of_row, margin_of_plan};
 use crate::alike::mirrored;
 use crate::tables::rows_at;
 use crate::way::{Given, narrower, narrowest};
-use ao_base::Pair;
+use book_base::Pair;
 use book_plans::Margin;
 use key_table::Tables;
 

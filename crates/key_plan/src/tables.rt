@@ -2,7 +2,7 @@
 ghost use Rattle.std.specs.Prelude.{◌≡◌, ◌≤◌, length};
 ghost use Rattle.book_keys.specs.Plans.{rows_at};
 
-use ao_base::Address;
+use book_base::Address;
 use key_table::{Row, Tables};
 
 /// The rows of the node with this address; none where no node has it.

@@ -8,7 +8,7 @@ ghost use Rattle.book_plans.specs.Calendar.{is_number, has_role, turn_by, role_t
 
 use crate::alike::{is_receiving, is_sending, mirrored};
 use crate::tables::rows_at;
-use ao_base::{Address, End, Pair};
+use book_base::{Address, End, Pair};
 use book_plans::{Role, Turn};
 use key_table::{Lifetime, Row, Table, Tables};
 use std::alloc::{AllocError, Global};

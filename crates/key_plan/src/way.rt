@@ -6,7 +6,7 @@ ghost use Rattle.book_plans.specs.Margins.{wider, narrower, widest, narrowest, t
 ghost use Rattle.key_plan.specs.Asked.{margin_by, margin_of_row};
 
 use crate::alike::{is_accepting_from, is_sending_for};
-use ao_base::Pair;
+use book_base::Pair;
 use book_plans::Margin;
 use key_table::{LATEST, Row};
 

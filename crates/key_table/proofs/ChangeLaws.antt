@@ -3,7 +3,7 @@ use Rattle.std.proofs.Common.{◌≡◌, ◌<◌, ◌≤◌, ℕ, zero, suc, ◌
 use Rattle.std.specs.Prelude.{slice_set, slice_get, is_some}
 use Rattle.key_table.specs.Lending.{place_of}
 use Rattle.std.specs.List.{find}
-use Rattle.ao_base.specs.declared.address.Address.{Address}
+use Rattle.book_base.specs.declared.address.Address.{Address}
 use Rattle.std.proofs.lemmas.Bool.Decides.{nat_tests}
 use Rattle.book_keys.specs.Rows.{Row, Table, has_address}
 use Rattle.book_keys.specs.Choices.{Numbered, qualified}

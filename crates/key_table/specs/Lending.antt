@@ -1,7 +1,7 @@
 -- A table is lent, and written.
 use Rattle.std.specs.Prelude.{ℕ, ◌+◌, Option, List, [], ◌∷◌, slice_set, if◌then◌else◌}
 use Rattle.std.specs.Borrow.{LendsIf, MutBor, Fml}
-use Rattle.ao_base.specs.declared.address.Address.{Address}
+use Rattle.book_base.specs.declared.address.Address.{Address}
 use Rattle.book_keys.specs.Rows.{Table, has_address}
 use Rattle.key_table.specs.contracts.tables.Tables.{the_row}
 use Rattle.key_table.specs.contracts.table.Table.{the_row as table_row}

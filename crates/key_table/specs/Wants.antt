@@ -1,6 +1,6 @@
 -- What a row is wanted for: to send, or to accept what comes in.
 use Rattle.std.specs.Prelude.{ℕ, Bool}
-use Rattle.ao_base.specs.declared.address.Pair.{Pair}
+use Rattle.book_base.specs.declared.address.Pair.{Pair}
 use Rattle.book_keys.specs.declared.direction.Direction.{Direction}
 use Rattle.book_keys.specs.declared.lifetime.Lifetime.{Lifetime}
 use Rattle.book_keys.specs.Rows.{Row, receives, sends, sendable, acceptable}

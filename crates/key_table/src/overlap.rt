@@ -8,7 +8,7 @@ ghost use Rattle.key_table.specs.Pairs.{two_of};
 
 use crate::row::{Row, is_receiving, is_same_address, is_sending};
 use crate::table::Table;
-use ao_base::Address;
+use book_base::Address;
 use book_keys::{Lifetime, TableFault};
 
 fn is_peer_meeting(one: &Option<Address>, other: &Option<Address>) -> bool

@@ -5,7 +5,8 @@ ghost use Rattle.book_keys.specs.Columns.{peer_of_text, peer_of, peer_at, peers_
 ghost use Rattle.book_keys.specs.Reading.{ReadingGives, each};
 
 use crate::columns::is_text;
-use ao_base::{Address, read_address};
+use ao_base::read_address;
+use book_base::Address;
 use book_keys::{Column, TableFault};
 use std::alloc::Global;
 use toml::Value;

@@ -2,7 +2,7 @@
 ghost use Rattle.std.specs.Prelude.{◌≡◌, codes, option_and_then, Some};
 ghost use Rattle.toml.specs.Data.{get_member};
 ghost use Rattle.toml.specs.View.{view, table_view};
-ghost use Rattle.ao_base.specs.Decimals.{decimal_of};
+ghost use Rattle.book_base.specs.Decimals.{decimal_of};
 ghost use Rattle.book_keys.specs.Columns.{up_to, port_of, ports_of};
 
 use crate::columns::member_at;

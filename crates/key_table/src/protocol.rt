@@ -7,7 +7,8 @@ ghost use Rattle.book_keys.specs.Reading.{ReadingGives};
 
 use crate::columns::{is_text, is_word_at, member_at, must, text_at};
 use crate::master_key::MasterKey;
-use ao_base::{Algorithm, HexProblem, read_hex};
+use ao_base::{HexProblem, read_hex};
+use book_base::Algorithm;
 use book_keys::{Column, TableFault};
 use std::alloc::Global;
 use toml::Table;

@@ -14,7 +14,7 @@ ghost use Rattle.key_table.specs.Seen.{seen};
 use crate::new_row::{disable, overlapping, row_of_new};
 use crate::row::{Row, see_columns};
 use crate::want::Want;
-use ao_base::{Address, Pair};
+use book_base::{Address, Pair};
 use book_keys::{Accept, AddRefusal, NewRow, NoRow};
 use std::alloc::Global;
 use std::marker::Model;

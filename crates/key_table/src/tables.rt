@@ -13,7 +13,7 @@ ghost use Rattle.key_table.specs.Lending.{LendsAt, place_of};
 use crate::master_key::MasterKey;
 use crate::row::{Row, is_same_address, see_columns};
 use crate::table::Table;
-use ao_base::{Address, Algorithm};
+use book_base::{Address, Algorithm};
 use book_keys::{Direction, LATEST, Lifetime};
 use std::alloc::{AllocError, Global};
 use std::marker::Model;

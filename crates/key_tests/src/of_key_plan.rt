@@ -1,5 +1,5 @@
 //! Margins, findings and calendars of two nodes with one row each.
-use ao_base::{Address, Algorithm, Bytes, End, Pair, Socket};
+use book_base::{Address, Algorithm, Bytes, End, Pair, Socket};
 use key_plan::{
     Finding, Margin, Role, Turn, calendar, differences, findings, lag_margin, lead_margin,
     wanted_accepting, widened,

@@ -1,6 +1,6 @@
 -- The book's steps of an arrival are the table of its cases.
 use Rattle.std.proofs.Common.{◌≡◌, ℕ, ◌+◌, ◌-◌, ◌%◌, ◌==◌, nat_lt, Bool, true, false, not, ◌&&◌, ◌||◌, List, length, Option, Some, None, Ok, Err, if◌then◌else◌, refl, ap, ◌∙◌}
-use Rattle.ao_base.specs.declared.address.Pair.{Pair}
+use Rattle.book_base.specs.declared.address.Pair.{Pair}
 use Rattle.book_segments.specs.Meant.{meant}
 use Rattle.book_segments.specs.Bytes.{ring}
 use Rattle.book_segments.specs.Received.{keep, first_missing, runs, below_limit}

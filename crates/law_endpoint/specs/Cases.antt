@@ -2,7 +2,7 @@
 -- they are tried (RFC 9293, section 3.10.7, in a profile). Its top: `arrival`.
 use Rattle.std.specs.Prelude.{ℕ, ◌+◌, ◌-◌, ◌%◌, ◌==◌, nat_lt, Bool, true, false, not, ◌&&◌}
 use Rattle.std.specs.Prelude.{◌||◌, List, length, Option, Ok, Err, if◌then◌else◌}
-use Rattle.ao_base.specs.declared.address.Pair.{Pair}
+use Rattle.book_base.specs.declared.address.Pair.{Pair}
 use Rattle.book_segments.specs.Bytes.{ring}
 use Rattle.book_segments.specs.Meant.{meant}
 use Rattle.book_segments.specs.Received.{keep, first_missing, runs, below_limit}

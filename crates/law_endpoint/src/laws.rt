@@ -1,6 +1,6 @@
 //! An arrival is the table of its cases.
 ghost use Rattle.std.specs.Prelude.{◌≡◌, ℕ, List};
-ghost use Rattle.ao_base.specs.declared.address.Pair.{Pair};
+ghost use Rattle.book_base.specs.declared.address.Pair.{Pair};
 ghost use Rattle.book_segments.specs.Segments.{Reading};
 ghost use Rattle.book_keys.specs.Rows.{Row};
 ghost use Rattle.book_endpoint.specs.States.{EndState};

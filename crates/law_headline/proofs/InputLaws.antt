@@ -2,11 +2,11 @@
 use Rattle.std.proofs.Common.{◌≡◌, ◌≤◌, ℕ, suc, ◌+◌, Bool, true, false, cond, List, [], ◌∷◌, ◌++◌, length, map, Option, Some, None, Ok, ap, ◌∙◌, arith, length-append}
 use Rattle.std.proofs.lemmas.List.{length-map}
 use Rattle.std.specs.List.{All, AllByRecursion, find}
-use Rattle.ao_base.specs.declared.address.Address.{Address}
-use Rattle.ao_base.specs.declared.address.Address.TheVariants.{V4, V6}
-use Rattle.ao_base.specs.declared.address.Socket.{Socket}
-use Rattle.ao_base.specs.declared.end.End.{End}
-use Rattle.ao_base.specs.declared.end.End.TheVariants.{A, B}
+use Rattle.book_base.specs.declared.address.Address.{Address}
+use Rattle.book_base.specs.declared.address.Address.TheVariants.{V4, V6}
+use Rattle.book_base.specs.declared.address.Socket.{Socket}
+use Rattle.book_base.specs.declared.end.End.{End}
+use Rattle.book_base.specs.declared.end.End.TheVariants.{A, B}
 use Rattle.book_keys.specs.Nodes.{tables_of}
 use Rattle.book_keys.specs.Overlaps.{IsValid}
 use Rattle.book_keys.specs.Plans.{rows_at, rows_of_table}

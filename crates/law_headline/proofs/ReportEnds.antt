@@ -1,6 +1,6 @@
 -- The last line of a report.
 use Rattle.std.proofs.Common.{◌≡◌, ℕ, List, ◌++◌, sym, ◌∙◌, append_assoc}
-use Rattle.ao_base.specs.declared.end.End.TheVariants.{A, B}
+use Rattle.book_base.specs.declared.end.End.TheVariants.{A, B}
 use Rattle.book_link.specs.declared.event.Event.{Event}
 use Rattle.book_link.specs.Reports.{report, summary, lines_from, session_lines, counts_line}
 use Rattle.book_link.specs.Runs.{empty, run, outcomes_from}

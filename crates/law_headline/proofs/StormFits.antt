@@ -1,9 +1,9 @@
 -- The link of a storm and each of its events fit.
 use Rattle.std.proofs.Common.{◌≡◌, ◌<◌, ◌+◌, ◌/◌, ◌%◌, ◌==◌, ℕ, zero, suc, Bool, true, false, cond, [], ◌∷◌, replicate, Option, Some, None, length, refl, ap, arith, lit<}
 use Rattle.std.specs.List.{AllByRecursion}
-use Rattle.ao_base.specs.declared.algorithm.Algorithm.TheVariants.{HmacSha1}
-use Rattle.ao_base.specs.declared.end.End.{End}
-use Rattle.ao_base.specs.declared.end.End.TheVariants.{A, B}
+use Rattle.book_base.specs.declared.algorithm.Algorithm.TheVariants.{HmacSha1}
+use Rattle.book_base.specs.declared.end.End.{End}
+use Rattle.book_base.specs.declared.end.End.TheVariants.{A, B}
 use Rattle.book_segments.specs.Spelling.{AreBytes}
 use Rattle.book_keys.specs.Overlaps.{IsValid}
 use Rattle.book_keys.specs.Shared.{shared_row}

@@ -4,8 +4,8 @@ use Rattle.std.specs.List.{AllByRecursion}
 use Rattle.std.proofs.lemmas.Bool.{leb-true}
 use Rattle.toml.specs.Data.{Data, string, integer, float, boolean, datetime, array, table, Items, no_items, item, Members, get_member}
 use Rattle.book_segments.specs.Spelling.{AreBytes}
-use Rattle.ao_base.specs.Decimals.{decimal_of}
-use Rattle.ao_base.specs.Hexadecimal.{bytes_of_hex}
+use Rattle.book_base.specs.Decimals.{decimal_of}
+use Rattle.book_base.specs.Hexadecimal.{bytes_of_hex}
 use Rattle.book_keys.specs.declared.fault.TableFault.{TableFault}
 use Rattle.book_keys.specs.declared.fault.Column.TheVariants as column
 use Rattle.book_keys.specs.declared.fault.TableFault.TheVariants as fault
@@ -13,7 +13,7 @@ use Rattle.book_keys.specs.declared.groups.Ids.{Ids}
 use Rattle.book_keys.specs.Columns.{algorithm_at, columns_of, count, id_of_text, ids_of, is_admin, master_of, only, peers_of, ports_of, protocol_of, row_keys, row_of, sized, terms_of, text_of, up_to}
 use Rattle.book_keys.specs.Nodes.{node_name_of, node_address_of, rows_of, fields_of, node_of, nodes_from, overlap_in, unless, nodes_of, tables_of_document, document_of, tables_of}
 use Rattle.book_keys.specs.Reading.{must, each}
-use Rattle.ao_base.specs.Results.{◌>>=◌, or_fault}
+use Rattle.book_base.specs.Results.{◌>>=◌, or_fault}
 use Rattle.book_keys.specs.Rows.{Row, Table, node_limit, row_limit}
 use Rattle.law_link.specs.Laws.{RowFits}
 use Rattle.std.specs.Result.{result_ok}

@@ -2,7 +2,7 @@
 -- each run.
 use Rattle.std.specs.Prelude.{◌≡◌, List}
 use Rattle.std.specs.List.{AllByRecursion}
-use Rattle.ao_base.specs.declared.end.End.{End}
+use Rattle.book_base.specs.declared.end.End.{End}
 use Rattle.book_link.specs.declared.event.Event.{Event}
 use Rattle.book_link.specs.Worlds.{Setup, Session, World, side, partner, forgeries}
 use Rattle.law_link.specs.Headline.{GivesFew, IsReceived}

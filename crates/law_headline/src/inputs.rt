@@ -2,7 +2,7 @@
 //! gets through.
 ghost use Rattle.std.specs.Prelude.{◌≡◌, ◌≤◌, ℕ, Bool, List, length, true, false, Ok};
 ghost use Rattle.std.specs.List.{AllByRecursion};
-ghost use Rattle.ao_base.specs.declared.address.Socket.{Socket};
+ghost use Rattle.book_base.specs.declared.address.Socket.{Socket};
 ghost use Rattle.book_keys.specs.Nodes.{tables_of};
 ghost use Rattle.book_keys.specs.Rows.{Table};
 ghost use Rattle.law_link.specs.Laws.{SetupFits, TablesFit, EventFits};

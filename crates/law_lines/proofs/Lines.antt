@@ -6,9 +6,9 @@ use Rattle.std.proofs.lemmas.Fmt.{decimal_is_IsNumeral, length-decimal-le}
 use Rattle.std.proofs.lemmas.List.{length-append, length-take, get_or_past}
 use Rattle.std.proofs.lemmas.List.Elements.{All-take, All-get_or}
 use Rattle.hex.specs.Hex.{IsBytes}
-use Rattle.ao_base.specs.Hexadecimal.{hex_of}
-use Rattle.ao_base.specs.Lines.{is_newline, lines_of, words_of}
-use Rattle.ao_base.proofs.LineLaws.{NoNewline, decimal_plain, lines_of-line}
+use Rattle.book_base.specs.Hexadecimal.{hex_of}
+use Rattle.book_base.specs.Lines.{is_newline, lines_of, words_of}
+use Rattle.book_base.proofs.LineLaws.{NoNewline, decimal_plain, lines_of-line}
 use Rattle.book_lines.specs.Lines.{says_something}
 use Rattle.book_cmd_check.specs.Captures.{Stored}
 use Rattle.book_cmd_check.specs.StoredLines.{by_line, stored_line, stored_from, stored_input}

@@ -1,6 +1,6 @@
 -- Only a link type that isn't read is told by its number.
 use Rattle.std.proofs.Common.{◌≡◌, ℕ, ◌+◌, ◌*◌, ◌%◌, ◌/◌, ◌==◌, Bool, true, false, List, ◌∷◌, length, nat_lt, slice_index, Option, None, Some, Result, Ok, Err, if◌then◌else◌, ap}
-use Rattle.ao_base.specs.Results.{◌>>=◌}
+use Rattle.book_base.specs.Results.{◌>>=◌}
 use Rattle.book_pcap.specs.declared.pcap_head.ByteOrder.TheVariants.{Big}
 use Rattle.book_pcap.specs.Packets.{two_at}
 use Rattle.book_captures.specs.declared.datagram_parts.IpVersion.{IpVersion}

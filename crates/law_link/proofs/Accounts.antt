@@ -1,12 +1,12 @@
 -- The entry that accounts for what passed, where no forgery is counted.
 use Rattle.std.proofs.Common.{◌≡◌, ℕ, Bool, true, false, ◌&&◌, ◌||◌, List, [], ◌∷◌, Option, Some, None, inl, inr, if◌then◌else◌, refl, subst}
-use Rattle.ao_base.specs.declared.algorithm.Algorithm.{Algorithm}
-use Rattle.ao_base.specs.declared.algorithm.Algorithm.TheVariants.{HmacSha1, AesCmac, HmacSha256}
-use Rattle.ao_base.specs.declared.end.End.{End}
-use Rattle.ao_base.specs.declared.end.End.TheVariants.{A, B}
+use Rattle.book_base.specs.declared.algorithm.Algorithm.{Algorithm}
+use Rattle.book_base.specs.declared.algorithm.Algorithm.TheVariants.{HmacSha1, AesCmac, HmacSha256}
+use Rattle.book_base.specs.declared.end.End.{End}
+use Rattle.book_base.specs.declared.end.End.TheVariants.{A, B}
 use Rattle.book_segments.specs.Bytes.{same_bytes}
 use Rattle.book_segments.proofs.Fields.{and_tells, some_is, same_bytes_tells}
-use Rattle.ao_base.specs.Algorithms.{same_algorithm}
+use Rattle.book_base.specs.Algorithms.{same_algorithm}
 use Rattle.book_endpoint.specs.Verdicts.{Key, key_of, same_master_key, Finding}
 use Rattle.book_link.specs.Worlds.{other, same_end, Setup, Made, Happening, Making, Coming, World, side, accounts_for, was_made, forged}
 use Rattle.law_link.specs.Laws.{IsAmong}

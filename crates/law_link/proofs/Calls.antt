@@ -1,6 +1,6 @@
 -- The calls of a session that make no segment keep the facts.
 use Rattle.std.proofs.Common.{◌≡◌, ℕ, ◌+◌, ◌-◌, ◌≤◌, Bool, true, false, not, ◌||◌, List, [], ◌++◌, length, take, Option, Some, None, min, refl, sym, ap, ◌∙◌, arith, append-nil, length-append, length-take, nat_lt}
-use Rattle.ao_base.specs.declared.end.End.{End}
+use Rattle.book_base.specs.declared.end.End.{End}
 use Rattle.book_segments.specs.Spelling.{AreBytes}
 use Rattle.book_segments.proofs.Fields.{and_tells, lt_not}
 use Rattle.book_endpoint.specs.declared.phase.Phase.{Phase}

@@ -1,9 +1,9 @@
 -- What emit and resend make.
 use Rattle.std.proofs.Common.{◌≡◌, ℕ, ◌+◌, ◌-◌, ◌^◌, ◌<◌, ◌≤◌, ◌==◌, min, Bool, true, false, not, ◌&&◌, nat_lt, [], length, drop, Option, Some, None, refl, arith, length-take}
 use Rattle.std.specs.Prelude.{⊤, is_some, if◌then◌else◌}
-use Rattle.ao_base.specs.declared.address.Address.{Address}
-use Rattle.ao_base.specs.declared.address.Address.TheVariants.{V4, V6}
-use Rattle.ao_base.specs.declared.address.Pair.{Pair}
+use Rattle.book_base.specs.declared.address.Address.{Address}
+use Rattle.book_base.specs.declared.address.Address.TheVariants.{V4, V6}
+use Rattle.book_base.specs.declared.address.Pair.{Pair}
 use Rattle.book_segments.specs.Segments.{bit_of, FIN, SYN, RST}
 use Rattle.book_segments.specs.Spelling.{AreBytes}
 use Rattle.book_segments.proofs.ByteLaws.{bytes_drop, bytes_take, nil_bytes}

@@ -1,7 +1,7 @@
 -- What an arrival may bring: bytes, a FIN and an acknowledgement of its segment, and the number expected never goes back.
 use Rattle.std.proofs.Common.{◌≡◌, ℕ, ◌+◌, ◌-◌, ◌≤◌, ◌<◌, ◌%◌, ◌==◌, Bool, true, false, not, ◌&&◌, nat_lt, nat_le, List, length, slice_get, Option, Some, None, ◌⊎◌, inl, inr, ⊎_elim, if◌then◌else◌, refl, sym, ap, ◌∙◌, arith}
 use Rattle.std.specs.Prelude.{⊤}
-use Rattle.ao_base.specs.declared.address.Pair.{Pair}
+use Rattle.book_base.specs.declared.address.Pair.{Pair}
 use Rattle.book_segments.specs.Meant.{meant}
 use Rattle.book_segments.specs.Segments.{Segment, has, segment_length, ACK, FIN, RST, SYN}
 use Rattle.book_segments.proofs.Fields.{and_tells, eqb_is, le_is, some_is}

@@ -1,8 +1,8 @@
 -- Each step gives a session 65,535 bytes at most, so that few events give few bytes.
 use Rattle.std.proofs.Common.{◌≡◌, ℕ, ◌+◌, ◌*◌, ◌≤◌, ◌<◌, ◌^◌, Bool, false, not, nat_lt, List, [], ◌∷◌, length, replicate, Option, Some, None, refl, ap, subst, arith, length-append}
 use Rattle.std.specs.List.{AllByRecursion}
-use Rattle.ao_base.specs.declared.end.End.{End}
-use Rattle.ao_base.specs.declared.end.End.TheVariants.{A, B}
+use Rattle.book_base.specs.declared.end.End.{End}
+use Rattle.book_base.specs.declared.end.End.TheVariants.{A, B}
 use Rattle.book_segments.specs.Segments.{reading}
 use Rattle.book_segments.proofs.Fields.{lt_not}
 use Rattle.book_keys.specs.Rows.{Row}

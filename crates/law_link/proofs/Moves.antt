@@ -1,6 +1,6 @@
 -- Each case of an arrival is a steady change, and none of them answers as the check does.
 use Rattle.std.proofs.Common.{◌≡◌, ℕ, ◌+◌, ◌-◌, ◌%◌, ◌^◌, ◌<◌, ◌==◌, Bool, true, false, not, ◌&&◌, nat_lt, length, Option, Some, None, ◌⊎◌, inl, inr, if◌then◌else◌, refl, sym, subst}
-use Rattle.ao_base.specs.declared.address.Pair.{Pair}
+use Rattle.book_base.specs.declared.address.Pair.{Pair}
 use Rattle.book_segments.specs.Meant.{meant}
 use Rattle.book_segments.specs.Segments.{Segment, has, segment_length, ACK, FIN, RST, SYN}
 use Rattle.book_endpoint.specs.declared.phase.Phase.{Phase}

@@ -1,8 +1,8 @@
 -- The facts hold in each state of each run.
 use Rattle.std.proofs.Common.{◌≡◌, ℕ, ◌+◌, ◌≤◌, ◌^◌, ◌<◌, ◌==◌, Bool, true, false, List, [], ◌∷◌, length, replicate, Option, Some, None, ◌⊎◌, inl, inr, ⊎_elim, if◌then◌else◌, refl, sym, ap, ◌∙◌, subst, arith}
 use Rattle.std.specs.List.{AllByRecursion}
-use Rattle.ao_base.specs.declared.end.End.{End}
-use Rattle.ao_base.specs.declared.end.End.TheVariants.{A, B}
+use Rattle.book_base.specs.declared.end.End.{End}
+use Rattle.book_base.specs.declared.end.End.TheVariants.{A, B}
 use Rattle.book_segments.specs.Segments.{reading}
 use Rattle.book_segments.specs.Spelling.{AreBytes}
 use Rattle.book_segments.proofs.Fields.{some_is}
@@ -24,7 +24,7 @@ use Rattle.book_endpoint.specs.Arrivals.{Arrived, arrive}
 use Rattle.law_link.proofs.Gains.{Brings, BringsFin, BringsAck, Gains}
 use Rattle.book_endpoint.specs.Emissions.{is_silent}
 use Rattle.law_link.proofs.ByteLists.{repeated, altered_bytes}
-use Rattle.ao_base.specs.declared.address.Pair.{Pair}
+use Rattle.book_base.specs.declared.address.Pair.{Pair}
 use Rattle.book_link.specs.RowLines.{added_row}
 use Rattle.book_link.specs.Alterations.{has_place, altered}
 use Rattle.book_link.specs.declared.event.Event.{Event}

@@ -1,8 +1,8 @@
 -- Sessions that are found by their number, and that grow.
 use Rattle.std.proofs.Common.{◌≡◌, ℕ, ◌==◌, Bool, true, false, List, [], ◌∷◌, Option, Some, None, if◌then◌else◌, refl, sym, ap, ◌∙◌, subst, arith}
 use Rattle.std.proofs.lemmas.Bool.Decides.{nat_tests}
-use Rattle.ao_base.specs.declared.end.End.{End}
-use Rattle.ao_base.specs.declared.end.End.TheVariants.{A, B}
+use Rattle.book_base.specs.declared.end.End.{End}
+use Rattle.book_base.specs.declared.end.End.TheVariants.{A, B}
 use Rattle.book_segments.proofs.Fields.{eqb_is, some_is}
 use Rattle.law_link.proofs.Sound.{Later, later_refl}
 use Rattle.book_link.specs.Worlds.{Session, find, is_known, known_by, partner_among}

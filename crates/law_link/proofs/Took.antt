@@ -1,7 +1,7 @@
 -- What a take gives is taken, and it shows the end where it tells it.
 use Rattle.std.proofs.Common.{◌≡◌, ℕ, Bool, true, false, ◌||◌, List, [], ◌∷◌, ◌++◌, Option, refl, ap, ◌∙◌}
-use Rattle.ao_base.specs.declared.end.End.{End}
-use Rattle.ao_base.specs.declared.end.End.TheVariants.{A, B}
+use Rattle.book_base.specs.declared.end.End.{End}
+use Rattle.book_base.specs.declared.end.End.TheVariants.{A, B}
 use Rattle.book_endpoint.specs.States.{taking, take_out, at_end}
 use Rattle.law_link.specs.Headline.{TookFrom}
 use Rattle.book_link.specs.declared.event.Event.TheVariants.{Take}

@@ -1,7 +1,7 @@
 -- What a session keeps as it goes on, and what it received.
 use Rattle.std.specs.Prelude.{◌≡◌, ℕ, ◌+◌, ◌≤◌, true, slice_get, Option, Some, None}
 use Rattle.std.specs.List.{AllByRecursion}
-use Rattle.ao_base.specs.declared.end.End.{End}
+use Rattle.book_base.specs.declared.end.End.{End}
 use Rattle.book_endpoint.specs.States.{EndState, given_end}
 use Rattle.book_link.specs.Worlds.{Session, World, side, find, partner, forgeries}
 use Rattle.law_link.specs.Headline.{IsPrefixOf}

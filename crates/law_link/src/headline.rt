@@ -1,7 +1,7 @@
 //! What holds of the streams of every run: prefix, end of stream, acknowledgement.
 ghost use Rattle.std.specs.Prelude.{◌≡◌, ◌≤◌, ℕ, Bool, List, length};
 ghost use Rattle.std.specs.List.{AllByRecursion};
-ghost use Rattle.ao_base.specs.declared.end.End.{End};
+ghost use Rattle.book_base.specs.declared.end.End.{End};
 ghost use Rattle.book_link.specs.declared.event.Event.{Event};
 ghost use Rattle.book_link.specs.declared.event.Event.TheVariants.{Take};
 ghost use Rattle.law_link.specs.Headline.{DeliversInOrder, EndsWhole, ShowsEnds, TookFrom, GivesFew, few_events, Acknowledges, AcknowledgedWasReceived, OnePartner, PartnerIsOne};

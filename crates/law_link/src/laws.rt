@@ -1,7 +1,7 @@
 //! What holds of every run of the tables of two ends: no gap, rollover, origin and reset.
 ghost use Rattle.std.specs.Prelude.{◌≢◌, ℕ, List};
 ghost use Rattle.std.specs.List.{AllByRecursion};
-ghost use Rattle.ao_base.specs.declared.end.End.{End};
+ghost use Rattle.book_base.specs.declared.end.End.{End};
 ghost use Rattle.book_link.specs.declared.event.Event.{Event};
 ghost use Rattle.book_link.specs.declared.event.Event.TheVariants.{Send, Resend, Deliver};
 ghost use Rattle.book_link.specs.Outcomes.{WithoutKey};

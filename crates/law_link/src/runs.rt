@@ -1,7 +1,7 @@
 //! What holds of what was made, and of a run with more events.
 ghost use Rattle.std.specs.Prelude.{◌≡◌, ◌↔◌, ℕ, suc, List, [], ◌∷◌, ◌++◌, length, Some, None};
 ghost use Rattle.std.specs.List.{AllByRecursion};
-ghost use Rattle.ao_base.specs.declared.end.End.{End};
+ghost use Rattle.book_base.specs.declared.end.End.{End};
 ghost use Rattle.book_endpoint.specs.Emissions.{Quiet, due_next, due_again, emit, resend};
 ghost use Rattle.book_link.specs.declared.event.Event.{Event};
 ghost use Rattle.law_link.specs.Entries.{AsMade, AllMade, Carried};

@@ -1,6 +1,6 @@
 -- What the near end of a turn knows of the far one's window afterwards.
 use Rattle.std.proofs.Common.{◌≡◌, ℕ, [], ◌∷◌, Option, Some, sym, ap, ◌∙◌, subst, if◌then◌else◌}
-use Rattle.ao_base.specs.declared.end.End.{End}
+use Rattle.book_base.specs.declared.end.End.{End}
 use Rattle.book_segments.specs.Segments.{Reading, Read, reading, RST, ACK}
 use Rattle.book_segments.proofs.Fields.{some_is}
 use Rattle.book_endpoint.specs.States.{EndState, window}

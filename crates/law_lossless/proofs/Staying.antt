@@ -1,7 +1,7 @@
 -- Ends in step stay so, whoever speaks.
 use Rattle.std.proofs.Common.{ℕ, List, [], ◌∷◌, ◌⊎◌, inl, inr, ⊎_elim, refl, sym, subst}
-use Rattle.ao_base.specs.declared.end.End.{End}
-use Rattle.ao_base.specs.declared.end.End.TheVariants.{A, B}
+use Rattle.book_base.specs.declared.end.End.{End}
+use Rattle.book_base.specs.declared.end.End.TheVariants.{A, B}
 use Rattle.book_endpoint.specs.States.{EndState}
 use Rattle.book_link.specs.Worlds.{Setup, Session, World}
 use Rattle.book_link.specs.Runs.{run_from}

@@ -2,8 +2,8 @@
 -- again. Our own laws, over RFC 9293.
 use Rattle.std.specs.Prelude.{◌≡◌, ℕ, zero, suc, ◌+◌, ◌<◌, ◌≤◌, true, ◌⊎◌}
 use Rattle.std.specs.Prelude.{List, [], ◌∷◌, ◌++◌, length}
-use Rattle.ao_base.specs.declared.end.End.{End}
-use Rattle.ao_base.specs.declared.end.End.TheVariants.{A, B}
+use Rattle.book_base.specs.declared.end.End.{End}
+use Rattle.book_base.specs.declared.end.End.TheVariants.{A, B}
 use Rattle.book_endpoint.specs.States.{EndState}
 use Rattle.book_link.specs.declared.event.Event.{Event}
 use Rattle.book_link.specs.declared.event.Event.TheVariants.{Take}

@@ -1,7 +1,7 @@
 //! Ends in step over a way that loses nothing.
 ghost use Rattle.std.specs.Prelude.{List, [], ◌∷◌, ◌++◌};
 ghost use Rattle.std.specs.List.{AllByRecursion};
-ghost use Rattle.ao_base.specs.declared.end.End.TheVariants.{A, B};
+ghost use Rattle.book_base.specs.declared.end.End.TheVariants.{A, B};
 ghost use Rattle.book_link.specs.declared.event.Event.{Event};
 ghost use Rattle.book_link.specs.declared.event.Event.TheVariants.{Connect, Deliver, Give, Listen, Send};
 ghost use Rattle.book_link.specs.Runs.{run};

@@ -1,7 +1,7 @@
 -- Two stacks that hold the ends of a link in step, with a byte that waits.
 use Rattle.std.proofs.Common.{List, [], ◌∷◌, inr, refl, arith}
-use Rattle.ao_base.specs.declared.end.End.{End}
-use Rattle.ao_base.specs.declared.end.End.TheVariants.{A, B}
+use Rattle.book_base.specs.declared.end.End.{End}
+use Rattle.book_base.specs.declared.end.End.TheVariants.{A, B}
 use Rattle.book_cmd_node.specs.declared.node.Act.TheVariants as act
 use Rattle.book_link.specs.Storm.{storm_setup}
 use Rattle.book_link.specs.Worlds.{first_rows, pair_of}

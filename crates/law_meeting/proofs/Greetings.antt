@@ -1,7 +1,7 @@
 -- Only an end in SYN-SENT makes a SYN without ACK.
 use Rattle.std.proofs.Common.{◌≡◌, ℕ, ◌+◌, ◌==◌, Bool, true, false, not, ◌&&◌, List, Option, Some, None, refl, sym, subst}
 use Rattle.std.specs.Prelude.{⊤, is_some}
-use Rattle.ao_base.specs.declared.address.Pair.{Pair}
+use Rattle.book_base.specs.declared.address.Pair.{Pair}
 use Rattle.book_segments.specs.Segments.{FIN, SYN, RST, ACK}
 use Rattle.book_macs.specs.Contexts.{context_of}
 use Rattle.book_keys.specs.Rows.{Row}

@@ -1,8 +1,8 @@
 //! Two stacks over a way that loses nothing.
 ghost use Rattle.std.specs.Prelude.{◌≤◌, ℕ, List, [], ◌∷◌, ◌++◌};
 ghost use Rattle.std.specs.List.{AllByRecursion};
-ghost use Rattle.ao_base.specs.declared.end.End.{End};
-ghost use Rattle.ao_base.specs.declared.end.End.TheVariants.{A};
+ghost use Rattle.book_base.specs.declared.end.End.{End};
+ghost use Rattle.book_base.specs.declared.end.End.TheVariants.{A};
 ghost use Rattle.book_cmd_node.specs.NodeRuns.{most_ends};
 ghost use Rattle.book_keys.specs.Rows.{Row};
 ghost use Rattle.book_link.specs.declared.event.Event.{Event};

@@ -1,7 +1,7 @@
 -- The ends of a node, by their pairs.
 use Rattle.std.proofs.Common.{◌≡◌, ℕ, Bool, true, false, List, [], ◌∷◌, ◌++◌, Some, None, refl, ◌∙◌}
 use Rattle.std.specs.Prelude.{option_map, if◌then◌else◌}
-use Rattle.ao_base.specs.declared.address.Pair.{Pair}
+use Rattle.book_base.specs.declared.address.Pair.{Pair}
 use Rattle.book_endpoint.specs.States.{EndState, tick}
 use Rattle.book_cmd_node.specs.NodeRuns.{Held, same_pair, held_end, with_end, without_end, ends_ticked}
 use Rattle.law_node.proofs.Pairs.{same_pair_is, same_pair-refl, apart, apart_from}

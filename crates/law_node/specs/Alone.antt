@@ -1,7 +1,7 @@
 -- A connection of a node as if it were alone. Our own format.
 use Rattle.std.specs.Prelude.{◌≡◌, Bool, true, false, not, List, [], ◌∷◌, if◌then◌else◌}
 use Rattle.std.specs.List.{list_any}
-use Rattle.ao_base.specs.declared.address.Pair.{Pair}
+use Rattle.book_base.specs.declared.address.Pair.{Pair}
 use Rattle.book_segments.specs.Segments.{Reading, Read, Bad as Unread, reading}
 use Rattle.book_keys.specs.Rows.{Row}
 use Rattle.book_cmd_node.specs.declared.node.NodeEvent.{NodeEvent}

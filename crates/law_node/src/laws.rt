@@ -1,6 +1,6 @@
 //! Many connections on one node don't touch each other.
 ghost use Rattle.std.specs.Prelude.{List};
-ghost use Rattle.ao_base.specs.declared.address.Pair.{Pair};
+ghost use Rattle.book_base.specs.declared.address.Pair.{Pair};
 ghost use Rattle.book_keys.specs.Rows.{Row};
 ghost use Rattle.book_cmd_node.specs.declared.node.NodeEvent.{NodeEvent};
 ghost use Rattle.law_node.specs.Alone.{Alone};

@@ -9,11 +9,11 @@ use Rattle.std.proofs.lemmas.List.Sums.{list_all-from_AllPass}
 use Rattle.std.proofs.lemmas.Str.Parse.{digit_from_value}
 use Rattle.hex.specs.Hex.{IsBytes, is_hex_digit}
 use Rattle.hex.proofs.HexLemmas.{decode_of-encode_lower, decode_of-ok}
-use Rattle.ao_base.specs.Hexadecimal.{hex_of}
-use Rattle.ao_base.specs.Lines.{words_of}
-use Rattle.ao_base.proofs.DecimalLaws.{decimal_of-decimal}
-use Rattle.ao_base.proofs.HexadecimalLaws.{bytes_of_hex-hex_of, length-hex_of}
-use Rattle.ao_base.proofs.LineLaws.{NoBlank, NoNewline, decimal_plain, words_of-spaced}
+use Rattle.book_base.specs.Hexadecimal.{hex_of}
+use Rattle.book_base.specs.Lines.{words_of}
+use Rattle.book_base.proofs.DecimalLaws.{decimal_of-decimal}
+use Rattle.book_base.proofs.HexadecimalLaws.{bytes_of_hex-hex_of, length-hex_of}
+use Rattle.book_base.proofs.LineLaws.{NoBlank, NoNewline, decimal_plain, words_of-spaced}
 use Rattle.book_keys.specs.Lifetimes.{greatest_time}
 use Rattle.book_lines.specs.Lines.{says_something}
 use Rattle.book_lines.specs.Words.{word_in, number_in, hex_in, sized_hex_in, nothing_in}

@@ -5,8 +5,8 @@ use Rattle.std.proofs.lemmas.Bool.{cases_lt, cases_eq, lt-ltb, le-ltb, ne_eqb}
 use Rattle.std.proofs.lemmas.List.{length-take, get_or_past}
 use Rattle.std.proofs.lemmas.List.Elements.{All-take, All-drop, All-get_or, All-nil}
 use Rattle.hex.specs.Hex.{IsBytes}
-use Rattle.ao_base.specs.Lines.{lines_of}
-use Rattle.ao_base.proofs.LineLaws.{lines_of-line}
+use Rattle.book_base.specs.Lines.{lines_of}
+use Rattle.book_base.proofs.LineLaws.{lines_of-line}
 use Rattle.book_pcap.specs.declared.pcap_head.ByteOrder.{ByteOrder}
 use Rattle.book_pcap.specs.declared.pcap_head.ByteOrder.TheVariants.{Big, Little}
 use Rattle.book_pcap.specs.declared.pcap_head.LinkType.{LinkType}

@@ -1,6 +1,6 @@
 -- The line form of a pcap file: its packets as lines of stored segments. Our own format.
 use Rattle.std.specs.Prelude.{ℕ, zero, suc, List, [], ◌∷◌, ◌++◌, length, decimal, Result, Ok, Err}
-use Rattle.ao_base.specs.Hexadecimal.{hex_of}
+use Rattle.book_base.specs.Hexadecimal.{hex_of}
 use Rattle.book_pcap.specs.declared.pcap_head.Head.{Head}
 use Rattle.book_pcap.specs.declared.pcap_head.HeadFault.{HeadFault}
 use Rattle.book_pcap.specs.Packets.{RecordFront, NoMoreRecords, Broken, Whole, record_at, datagram_of, opened}

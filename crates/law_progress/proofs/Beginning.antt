@@ -1,7 +1,7 @@
 -- A run that is up, with a byte that waits.
 use Rattle.std.proofs.Common.{◌≡◌, ◌+◌, ◌≤◌, true, false, [], ◌∷◌, ◌++◌, Some, refl, arith}
-use Rattle.ao_base.specs.declared.end.End.{End}
-use Rattle.ao_base.specs.declared.end.End.TheVariants.{A, B}
+use Rattle.book_base.specs.declared.end.End.{End}
+use Rattle.book_base.specs.declared.end.End.TheVariants.{A, B}
 use Rattle.book_keys.specs.Plans.{AlignedFrom, has_sendable}
 use Rattle.book_endpoint.specs.States.{connected, give, listening, started}
 use Rattle.book_link.specs.declared.event.Event.TheVariants.{Connect, Listen, Give}

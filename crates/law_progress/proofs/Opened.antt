@@ -1,7 +1,7 @@
 -- A link whose two ends are past the handshake.
 use Rattle.std.proofs.Common.{◌≡◌, ℕ, ◌+◌, ◌≤◌, true, Some}
-use Rattle.ao_base.specs.declared.end.End.{End}
-use Rattle.ao_base.specs.declared.end.End.TheVariants.{A, B}
+use Rattle.book_base.specs.declared.end.End.{End}
+use Rattle.book_base.specs.declared.end.End.TheVariants.{A, B}
 use Rattle.book_keys.specs.Plans.{AlignedFrom, has_sendable}
 use Rattle.book_link.specs.Worlds.{other, Setup, pair_of, Session, World, side, live, forgeries}
 use Rattle.law_link.specs.Headline.{ArePartners}

@@ -1,8 +1,8 @@
 -- A round trip moves the oldest unacknowledged number.
 use Rattle.std.proofs.Common.{◌≡◌, ℕ, ◌+◌, ◌<◌, ◌≤◌, ◌==◌, Bool, true, false, ◌&&◌, nat_lt, ◌∷◌, length, ◌⊎◌, inl, inr, ⊎_elim, refl, sym, ap, ◌∙◌, subst, arith}
 use Rattle.std.proofs.lemmas.Bool.Decides.{nat_tests}
-use Rattle.ao_base.specs.declared.end.End.{End}
-use Rattle.ao_base.specs.declared.end.End.TheVariants.{A, B}
+use Rattle.book_base.specs.declared.end.End.{End}
+use Rattle.book_base.specs.declared.end.End.TheVariants.{A, B}
 use Rattle.book_endpoint.specs.States.{EndState, given_end}
 use Rattle.book_segments.specs.Segments.{bit_of}
 use Rattle.book_endpoint.specs.Emissions.{Quiet, emit, resend, is_sending, unsent, window_end, sends_data, sends_fin}

@@ -1,9 +1,9 @@
 -- The timer of an end runs while something that it sent isn't acknowledged.
 use Rattle.std.proofs.Common.{◌≡◌, ℕ, zero, suc, ◌+◌, ◌-◌, ◌<◌, ◌≤◌, ◌==◌, min, max, Bool, true, false, not, ◌&&◌, nat_lt, List, [], ◌∷◌, ◌++◌, length, replicate, Option, Some, None, if◌then◌else◌, refl, sym, ap, ◌∙◌, subst, arith, Ok, Err}
 use Rattle.std.specs.Prelude.{⊤, is_some}
-use Rattle.ao_base.specs.declared.address.Pair.{Pair}
-use Rattle.ao_base.specs.declared.end.End.{End}
-use Rattle.ao_base.specs.declared.end.End.TheVariants.{A, B}
+use Rattle.book_base.specs.declared.address.Pair.{Pair}
+use Rattle.book_base.specs.declared.end.End.{End}
+use Rattle.book_base.specs.declared.end.End.TheVariants.{A, B}
 use Rattle.book_segments.specs.Segments.{Segment, Reading, Read, Bad as Unread, reading, good}
 use Rattle.book_segments.proofs.Fields.{lt_is, lt_not, some_is}
 use Rattle.book_keys.specs.Coordination.{Sending, follow, choose as choose_row}

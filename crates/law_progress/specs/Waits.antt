@@ -1,7 +1,7 @@
 -- What a wait brings about by itself on a link with retransmission timers. Our own law, over
 -- RFC 6298.
 use Rattle.std.specs.Prelude.{◌≡◌, ℕ, ◌+◌, ◌<◌, ◌≤◌, min, List, ◌∷◌, Some}
-use Rattle.ao_base.specs.declared.end.End.{End}
+use Rattle.book_base.specs.declared.end.End.{End}
 use Rattle.book_keys.specs.Lifetimes.{greatest_time}
 use Rattle.book_link.specs.declared.event.Event.{Event}
 use Rattle.book_link.specs.declared.event.Event.TheVariants.{Clock, Resend}

@@ -2,7 +2,7 @@
 //! is asked of the tables as they are stands in `IsKeyed`.
 ghost use Rattle.std.specs.Prelude.{List, [], ◌∷◌, ◌++◌};
 ghost use Rattle.std.specs.List.{AllByRecursion};
-ghost use Rattle.ao_base.specs.declared.end.End.TheVariants.{A, B};
+ghost use Rattle.book_base.specs.declared.end.End.TheVariants.{A, B};
 ghost use Rattle.book_link.specs.declared.event.Event.{Event};
 ghost use Rattle.book_link.specs.declared.event.Event.TheVariants.{Connect, Listen, Give};
 ghost use Rattle.book_link.specs.Runs.{run};

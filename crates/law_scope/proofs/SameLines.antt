@@ -3,8 +3,8 @@ use Rattle.std.proofs.Common.{◌≡◌, ◌⊎◌, ℕ, ◌+◌, ◌*◌, ◌/�
 use Rattle.std.specs.Prelude.{nat_lt, slice_index}
 use Rattle.std.proofs.lemmas.Bool.{le-ltb}
 use Rattle.std.proofs.lemmas.List.{length-drop, length-take, take-append-drop, drop_more}
-use Rattle.ao_base.specs.Hexadecimal.{hex_of}
-use Rattle.ao_base.specs.Results.{◌>>=◌}
+use Rattle.book_base.specs.Hexadecimal.{hex_of}
+use Rattle.book_base.specs.Results.{◌>>=◌}
 use Rattle.book_pcap.specs.declared.pcap_head.ByteOrder.TheVariants.{Big}
 use Rattle.book_pcap.specs.declared.pcap_head.LinkType.TheVariants.{Ethernet, Raw}
 use Rattle.book_pcap.specs.Packets.{two_at, datagram_of, is_ip}

@@ -1,7 +1,7 @@
 -- The line of ends: no pair stands in it twice, each is held, and so there is room for another that is held.
 use Rattle.std.proofs.Common.{◌≡◌, ℕ, suc, ◌<◌, ◌≤◌, Bool, true, false, ◌||◌, nat_le, List, [], ◌∷◌, ◌++◌, length, Some, refl, sym, ap, ◌∙◌, ◌⊎◌, inl, inr, if◌then◌else◌, arith}
 use Rattle.std.specs.Prelude.{is_some}
-use Rattle.ao_base.specs.declared.address.Pair.{Pair}
+use Rattle.book_base.specs.declared.address.Pair.{Pair}
 use Rattle.book_cmd_node.specs.NodeRuns.{Held, same_pair, held_end, without_end}
 use Rattle.book_segments.proofs.Fields.{le_is}
 use Rattle.law_node.proofs.Held.{end_without_other}

@@ -1,7 +1,7 @@
 -- Who has nothing to send, and what is known of its timer then.
 use Rattle.std.proofs.Common.{◌≡◌, ℕ, ◌+◌, ◌≤◌, ◌==◌, Bool, true, false, not, ◌&&◌, nat_lt, List, Option, Some, None, refl, sym, ap, ◌∙◌, ◌⊎◌, inl, inr, subst, if◌then◌else◌}
 use Rattle.std.specs.Prelude.{is_some}
-use Rattle.ao_base.specs.declared.address.Pair.{Pair}
+use Rattle.book_base.specs.declared.address.Pair.{Pair}
 use Rattle.book_segments.specs.Segments.{Segment, has, ACK, SYN}
 use Rattle.book_segments.proofs.Fields.{and_tells}
 use Rattle.book_macs.specs.Contexts.{context, context_known, context_of}

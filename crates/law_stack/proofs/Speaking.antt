@@ -1,7 +1,7 @@
 -- An end that may speak knows its peer, so whoever has something to send makes a segment of it, or lacks a row.
 use Rattle.std.proofs.Common.{◌≡◌, ℕ, ◌+◌, ◌-◌, ◌≤◌, ◌==◌, Bool, true, false, not, ◌&&◌, ◌||◌, nat_lt, nat_le, List, length, Option, Some, None, Ok, Err, refl, sym, ap, ◌∙◌, subst, if◌then◌else◌, arith}
 use Rattle.std.specs.Prelude.{is_some, min, ◌%◌}
-use Rattle.ao_base.specs.declared.address.Pair.{Pair}
+use Rattle.book_base.specs.declared.address.Pair.{Pair}
 use Rattle.book_segments.specs.Bytes.{ring}
 use Rattle.book_segments.specs.Meant.{meant}
 use Rattle.book_segments.specs.Received.{below_limit, first_missing, keep, runs}

@@ -1,6 +1,6 @@
 -- A datagram as a stack hands it out, beside the datagram that its end made (own).
 use Rattle.std.specs.Prelude.{◌≡◌, ℕ, List}
-use Rattle.ao_base.specs.declared.address.Pair.{Pair}
+use Rattle.book_base.specs.declared.address.Pair.{Pair}
 use Rattle.book_segments.specs.Segments.{Segment, Read, good, reading, spell}
 use Rattle.book_segments.specs.Spelling.{Fits}
 use Rattle.book_keys.specs.Rows.{Row}

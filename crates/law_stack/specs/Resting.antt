@@ -1,6 +1,6 @@
 -- A stack after it has handed out all that is due (own).
 use Rattle.std.specs.Prelude.{◌≡◌, ℕ, ◌+◌, ◌*◌, ◌<◌, ◌≤◌, Bool, true, false, not, ◌⊎◌, Option, Some, None, is_some}
-use Rattle.ao_base.specs.declared.address.Pair.{Pair}
+use Rattle.book_base.specs.declared.address.Pair.{Pair}
 use Rattle.book_endpoint.specs.Emissions.{Quiet, NoKey, due_again, due_next, emit}
 use Rattle.book_endpoint.specs.States.{EndState, is_closed}
 use Rattle.book_cmd_node.specs.NodeRuns.{held_end}

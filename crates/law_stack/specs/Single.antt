@@ -1,6 +1,6 @@
 -- A connection of a stack as if it were alone (own).
 use Rattle.std.specs.Prelude.{◌≡◌, ℕ, List}
-use Rattle.ao_base.specs.declared.address.Pair.{Pair}
+use Rattle.book_base.specs.declared.address.Pair.{Pair}
 use Rattle.book_keys.specs.Rows.{Row}
 use Rattle.book_cmd_node.specs.NodeRuns.{outcomes}
 use Rattle.book_stack.specs.Calls.{Call}

@@ -2,7 +2,7 @@
 use Rattle.std.specs.Prelude.{◌≡◌, ℕ, suc, ◌<◌, ◌≤◌, List, [], ◌∷◌, ◌++◌, length, vec_capacity, vec_len, Option, Some, None}
 use Rattle.std.specs.HashMap.{spare}
 use Rattle.std.specs.Option.{IsSomeAnd}
-use Rattle.ao_base.specs.declared.end.End.{End}
+use Rattle.book_base.specs.declared.end.End.{End}
 use Rattle.book_link.specs.Worlds.{Made, Happening, Making, Coming, forgeries}
 use Rattle.link_log.specs.declared.kept.Kept.{Kept}
 use Rattle.link_log.specs.declared.log.Log.{Log}

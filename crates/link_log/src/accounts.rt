@@ -11,8 +11,8 @@ ghost use Rattle.book_endpoint.specs.Verdicts.{key_of};
 
 use crate::context::is_same_context;
 use crate::entry::{Entrance, Entry};
-use ao_base::End;
 use ao_mac::same_input;
+use book_base::End;
 use key_table::Row;
 use tcp_options::AoFound;
 use tcp_segment::{Datagram, read_datagram};

@@ -4,7 +4,7 @@ ghost use Rattle.book_segments.specs.Sockets.{octets};
 ghost use Rattle.book_macs.specs.Contexts.{bytes_of};
 ghost use Rattle.link_log.specs.Contexts.{numbers_of};
 
-use ao_base::Address;
+use book_base::Address;
 use book_macs::Context;
 
 /// The bytes of an address in the order in which they are sent.

@@ -1,5 +1,5 @@
 //! What a log keeps of a segment, and what it is told of one that passed.
-use ao_base::{Algorithm, Bytes, End};
+use book_base::{Algorithm, Bytes, End};
 use book_macs::Context;
 use key_table::Row;
 

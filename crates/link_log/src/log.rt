@@ -10,7 +10,7 @@ ghost use Rattle.link_log.specs.Numbers.{AreLinked};
 use crate::accounts::{accounts_for, sought};
 use crate::entry::{Entrance, Entry};
 use crate::kept::Kept;
-use ao_base::{Bytes, End};
+use book_base::{Bytes, End};
 use book_macs::Context;
 use key_table::Row;
 use std::alloc::{AllocError, Global};

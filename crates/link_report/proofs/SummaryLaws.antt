@@ -2,7 +2,7 @@
 use Rattle.std.proofs.Common.{◌≡◌, ℕ, suc, ◌+◌, List, [], ◌∷◌, ◌++◌, length, map, Some, None, refl, sym, ap, ◌∙◌, subst, arith}
 use Rattle.std.specs.Prelude.{reverse}
 use Rattle.std.proofs.lemmas.List.{length-map, length-reverse}
-use Rattle.ao_base.specs.declared.end.End.{End}
+use Rattle.book_base.specs.declared.end.End.{End}
 use Rattle.book_endpoint.specs.declared.phase.Phase.{Phase}
 use Rattle.book_endpoint.specs.States.{EndState}
 use Rattle.book_link.specs.Reports.{dropped_lines, phase_text, session_lines}

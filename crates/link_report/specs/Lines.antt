@@ -1,6 +1,6 @@
 -- The lines of sessions, by what is told of them.
 use Rattle.std.specs.Prelude.{ℕ, suc, List, [], ◌∷◌, ◌++◌, length, codes, decimal}
-use Rattle.ao_base.specs.declared.end.End.{End}
+use Rattle.book_base.specs.declared.end.End.{End}
 use Rattle.book_lines.specs.Texts.{end_text, line_text}
 use Rattle.book_link.specs.Reports.{number_text, shown_text}
 use Rattle.link_side.specs.Sides.{Facts}

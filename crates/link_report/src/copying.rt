@@ -3,7 +3,7 @@ ghost use Rattle.std.specs.Prelude.{◌≡◌, ◌≤◌, length};
 ghost use Rattle.link_report.specs.Outcomes.{content_of};
 
 use crate::outcome::Outcome;
-use ao_base::Bytes;
+use book_base::Bytes;
 
 /// A copy of the bytes, in room that is long enough.
 fn filled(mut room: Vec<u8>, bytes: &[u8]) -> Bytes

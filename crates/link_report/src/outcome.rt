@@ -1,13 +1,14 @@
 //! What an event of a link answers, and the line of it.
 ghost use Rattle.std.specs.Prelude.{◌≡◌, ◌++◌, ◌∷◌, [], ℕ, List, OnOk, codes, decimal};
-ghost use Rattle.ao_base.specs.Hexadecimal.{hex_of};
+ghost use Rattle.book_base.specs.Hexadecimal.{hex_of};
 ghost use Rattle.book_lines.specs.Texts.{spaced};
 ghost use Rattle.book_link.specs.Outcomes as book;
 ghost use Rattle.book_link.specs.Reports.{end_mark, flags_text, hex_or_none, lines_from, number_text, outcome_line, outcome_texts};
 ghost use Rattle.link_report.specs.Outcomes.{AreShown, Shows};
 
 use crate::arrival::push_answer;
-use ao_base::{Bytes, push_decimal};
+use ao_base::push_decimal;
+use book_base::Bytes;
 use book_endpoint::Arrival;
 use std::alloc::AllocError;
 use tcp_endpoint::Made;

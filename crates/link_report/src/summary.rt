@@ -1,6 +1,6 @@
 //! The lines of sessions, and the counts.
 ghost use Rattle.std.specs.Prelude.{◌≡◌, ◌++◌, ◌∷◌, [], map, reverse, OnOk, codes, decimal};
-ghost use Rattle.ao_base.specs.declared.end.End.TheVariants.{A, B};
+ghost use Rattle.book_base.specs.declared.end.End.TheVariants.{A, B};
 ghost use Rattle.book_lines.specs.Texts.{end_text, line_text, spaced};
 ghost use Rattle.book_link.specs.Reports.{number_text, phase_text, session_lines, shown_text, summary};
 ghost use Rattle.book_link.specs.Worlds.{LinkSide as EndSide, World, forgeries as count_of_forgeries, segments as count_of_segments};
@@ -8,7 +8,7 @@ ghost use Rattle.link_report.specs.Lines.{facts_line, kept_lines};
 ghost use Rattle.link_side.specs.Sides.{StandsSide, kept_facts};
 
 use crate::outcome::push_known;
-use ao_base::End;
+use book_base::End;
 use book_endpoint::Phase;
 use link_side::{Ended, Side};
 use std::alloc::AllocError;

@@ -1,10 +1,10 @@
 -- Events read one after another, as a loop reads them.
 use Rattle.std.proofs.Common.{◌≡◌, ℕ, List, [], ◌∷◌, ◌++◌, Result, Ok, Err, refl, sym, ap, ◌∙◌, append_assoc}
 use Rattle.std.proofs.lemmas.List.{append-nil}
-use Rattle.ao_base.specs.declared.line_kind.LineKind.{LineKind}
+use Rattle.book_base.specs.declared.line_kind.LineKind.{LineKind}
 use Rattle.book_lines.specs.declared.text_fault.TextFault.{TextFault}
 use Rattle.book_lines.specs.declared.text_fault.TextFault.TheVariants as fault
-use Rattle.ao_base.specs.Results.{◌>>=◌}
+use Rattle.book_base.specs.Results.{◌>>=◌}
 use Rattle.book_lines.specs.Lines.{Line}
 use Rattle.text_lines.specs.Readings.{Fails}
 use Rattle.book_cmd_link.specs.LinkFiles.{event_at, events_of}

@@ -1,12 +1,12 @@
 -- An event that a line says has its numbers and lengths in their ranges.
 use Rattle.std.proofs.Common.{◌≡◌, ℕ, ◌≤◌, cond, Bool, true, false, List, [], ◌∷◌, codes, Result, Ok, Err, refl}
 use Rattle.std.specs.Str.{bytes_eq}
-use Rattle.ao_base.specs.declared.end.End.{End}
-use Rattle.ao_base.specs.declared.line_kind.LineKind.{LineKind}
-use Rattle.ao_base.specs.declared.line_kind.LineKind.TheVariants.{Word}
+use Rattle.book_base.specs.declared.end.End.{End}
+use Rattle.book_base.specs.declared.line_kind.LineKind.{LineKind}
+use Rattle.book_base.specs.declared.line_kind.LineKind.TheVariants.{Word}
 use Rattle.book_keys.specs.Lifetimes.{greatest_time}
 use Rattle.book_lines.specs.Words.{word_as, word_in, nothing_in, choice_in, end_in, algorithm_in, number_in, sized_hex_in, some_hex_in, byte_in}
-use Rattle.ao_base.specs.Results.{◌>>=◌}
+use Rattle.book_base.specs.Results.{◌>>=◌}
 use Rattle.book_link.specs.declared.event.Event.{Event}
 use Rattle.book_link.specs.declared.event.Event.TheVariants as event
 use Rattle.book_cmd_link.specs.LinkEvents.{greatest_isn, most_segments, event_of_end, event_of_number, start_of, give_of, fill_of, inject_of, alter_of, ways_of}

@@ -1,8 +1,8 @@
 -- A printed event is read back from its words.
 use Rattle.std.proofs.Common.{◌≡◌, ℕ, ◌≤◌, ◌^◌, ◌<◌, Bool, List, [], ◌∷◌, decimal, Ok, refl, arith, lit<}
-use Rattle.ao_base.specs.declared.end.End.{End}
-use Rattle.ao_base.specs.Algorithms.{name_of}
-use Rattle.ao_base.specs.Hexadecimal.{hex_of}
+use Rattle.book_base.specs.declared.end.End.{End}
+use Rattle.book_base.specs.Algorithms.{name_of}
+use Rattle.book_base.specs.Hexadecimal.{hex_of}
 use Rattle.book_keys.specs.Lifetimes.{greatest_time}
 use Rattle.book_lines.specs.Texts.{end_text}
 use Rattle.book_lines.specs.Words.{word_in, nothing_in}

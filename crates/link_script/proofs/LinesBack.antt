@@ -1,8 +1,8 @@
 -- Printed lines are the lines of their text, numbered from the first.
 use Rattle.std.proofs.Common.{◌≡◌, ℕ, ◌+◌, true, List, [], ◌∷◌, ◌++◌, length, map, refl, sym, ap, ◌∙◌, append_assoc}
 use Rattle.std.proofs.lemmas.List.{append-nil, length-map}
-use Rattle.ao_base.specs.Lines.{lines_of}
-use Rattle.ao_base.proofs.LineLaws.{spaced, lines_of-line, words_of-spaced}
+use Rattle.book_base.specs.Lines.{lines_of}
+use Rattle.book_base.proofs.LineLaws.{spaced, lines_of-line, words_of-spaced}
 use Rattle.book_lines.specs.Lines.{Line, says_something, saying_from}
 use Rattle.book_lines.specs.Texts.{line_text}
 use Rattle.book_lines.specs.Texts as texts

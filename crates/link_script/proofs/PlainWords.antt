@@ -7,13 +7,13 @@ use Rattle.std.proofs.lemmas.List.Sums.{list_all-from_AllPass}
 use Rattle.std.proofs.lemmas.Fmt.{decimal_is_IsNumeral, decimal_nonempty}
 use Rattle.hex.specs.Hex.{IsBytes, is_hex_digit}
 use Rattle.hex.proofs.HexLemmas.{decode_of-encode_lower, decode_of-ok}
-use Rattle.ao_base.specs.declared.address.Address.{Address}
-use Rattle.ao_base.specs.declared.address.Address.TheVariants.{V4, V6}
-use Rattle.ao_base.specs.Addresses.{address_text, dotted_text}
-use Rattle.ao_base.specs.Hexadecimal.{hex_of}
-use Rattle.ao_base.specs.Lines.{is_blank, is_newline}
-use Rattle.ao_base.proofs.HexadecimalLaws.{length-hex_of}
-use Rattle.ao_base.proofs.LineLaws.{NoBlank, NoNewline, AllWords, spaced, decimal_plain}
+use Rattle.book_base.specs.declared.address.Address.{Address}
+use Rattle.book_base.specs.declared.address.Address.TheVariants.{V4, V6}
+use Rattle.book_base.specs.Addresses.{address_text, dotted_text}
+use Rattle.book_base.specs.Hexadecimal.{hex_of}
+use Rattle.book_base.specs.Lines.{is_blank, is_newline}
+use Rattle.book_base.proofs.HexadecimalLaws.{length-hex_of}
+use Rattle.book_base.proofs.LineLaws.{NoBlank, NoNewline, AllWords, spaced, decimal_plain}
 use Rattle.link_script.specs.Scripts.{IsAddress}
 
 -- a word that stands on a line as it is

@@ -1,13 +1,13 @@
 -- The words of a printed event, of a socket and of a key make a line.
 use Rattle.std.proofs.Common.{◌≡◌, ℕ, zero, suc, ◌<◌, ◌≤◌, ◌^◌, length, Bool, true, false, List, [], ◌∷◌, map, decimal, codes, Option, Some, None, refl}
 use Rattle.std.proofs.Common.{arith, lit<, All}
-use Rattle.ao_base.specs.declared.address.Socket.{Socket}
-use Rattle.ao_base.specs.declared.algorithm.Algorithm.{Algorithm}
-use Rattle.ao_base.specs.declared.algorithm.Algorithm.TheVariants.{HmacSha1, AesCmac, HmacSha256}
-use Rattle.ao_base.specs.declared.end.End.{End}
-use Rattle.ao_base.specs.declared.end.End.TheVariants.{A, B}
-use Rattle.ao_base.specs.Algorithms.{name_of}
-use Rattle.ao_base.specs.Hexadecimal.{hex_of}
+use Rattle.book_base.specs.declared.address.Socket.{Socket}
+use Rattle.book_base.specs.declared.algorithm.Algorithm.{Algorithm}
+use Rattle.book_base.specs.declared.algorithm.Algorithm.TheVariants.{HmacSha1, AesCmac, HmacSha256}
+use Rattle.book_base.specs.declared.end.End.{End}
+use Rattle.book_base.specs.declared.end.End.TheVariants.{A, B}
+use Rattle.book_base.specs.Algorithms.{name_of}
+use Rattle.book_base.specs.Hexadecimal.{hex_of}
 use Rattle.book_lines.specs.Lines.{is_comment, says_something}
 use Rattle.book_lines.specs.Texts.{end_text}
 use Rattle.book_link.specs.declared.event.RowLine.{RowLine}

@@ -3,13 +3,13 @@ use Rattle.std.proofs.Common.{◌≡◌, ℕ, ◌+◌, nat_lt, true, false, List
 use Rattle.std.proofs.Common.{lit<, All}
 use Rattle.std.specs.Option.{is_none}
 use Rattle.std.proofs.lemmas.Bool.{le-ltb}
-use Rattle.ao_base.specs.declared.address.Socket.{Socket}
-use Rattle.ao_base.specs.Lines.{lines_of}
-use Rattle.ao_base.specs.Algorithms.{name_of}
-use Rattle.ao_base.specs.Hexadecimal.{hex_of}
+use Rattle.book_base.specs.declared.address.Socket.{Socket}
+use Rattle.book_base.specs.Lines.{lines_of}
+use Rattle.book_base.specs.Algorithms.{name_of}
+use Rattle.book_base.specs.Hexadecimal.{hex_of}
 use Rattle.book_lines.specs.declared.text_fault.TextFault.{TextFault}
 use Rattle.book_lines.specs.Words.{word_in, nothing_in, literal_in, socket_in}
-use Rattle.ao_base.specs.Results.{◌>>=◌}
+use Rattle.book_base.specs.Results.{◌>>=◌}
 use Rattle.book_link.specs.declared.event.Event.{Event}
 use Rattle.book_link.specs.declared.event.Event.TheVariants as event
 use Rattle.book_cmd_link.specs.declared.script.SharedKey.{SharedKey}

@@ -3,15 +3,15 @@ use Rattle.std.proofs.Common.{◌≡◌, ℕ, zero, suc, ◌+◌, ◌≤◌, con
 use Rattle.std.proofs.Common.{Result, Ok, Err, refl, ap, ◌∙◌, arith, All}
 use Rattle.std.specs.Str.{bytes_eq}
 use Rattle.std.proofs.lemmas.Bool.{ltb-false}
-use Rattle.ao_base.specs.declared.line_kind.LineKind.{LineKind}
-use Rattle.ao_base.specs.declared.line_kind.LineKind.TheVariants as kind
-use Rattle.ao_base.specs.Lines.{lines_of}
+use Rattle.book_base.specs.declared.line_kind.LineKind.{LineKind}
+use Rattle.book_base.specs.declared.line_kind.LineKind.TheVariants as kind
+use Rattle.book_base.specs.Lines.{lines_of}
 use Rattle.book_lines.specs.declared.text_fault.TextFault.{TextFault}
 use Rattle.book_lines.specs.declared.text_fault.TextFault.TheVariants as fault
 use Rattle.book_lines.specs.Lines.{Line, saying_from}
 use Rattle.book_lines.specs.Said.{at_number}
 use Rattle.book_lines.specs.Words.{end_in, nothing_in, number_in, word_in}
-use Rattle.ao_base.specs.Results.{◌>>=◌}
+use Rattle.book_base.specs.Results.{◌>>=◌}
 use Rattle.book_cmd_timed.specs.declared.timed.TimedEvent.{TimedEvent}
 use Rattle.book_cmd_timed.specs.declared.timed.TimedEvent.TheVariants.{Plain, Wait}
 use Rattle.book_cmd_timed.specs.declared.timed.TimedScript.{TimedScript}

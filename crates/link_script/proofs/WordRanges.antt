@@ -6,15 +6,15 @@ use Rattle.std.proofs.lemmas.Bool.{and_parts, leb-true, ltb-true, eqb-true}
 use Rattle.hex.specs.Hex.{IsBytes, decode_of}
 use Rattle.hex.specs.declared.error.FromHexError.{FromHexError}
 use Rattle.hex.proofs.HexLemmas.{decode_of-ok}
-use Rattle.ao_base.specs.declared.address.Address.{Address}
-use Rattle.ao_base.specs.declared.address.Address.TheVariants.{V4, V6}
-use Rattle.ao_base.specs.declared.line_kind.LineKind.{LineKind}
-use Rattle.ao_base.specs.declared.line_kind.LineKind.TheVariants.{Range}
-use Rattle.ao_base.specs.Addresses.{address_of, between_dots, below_256, dotted_of, four, has_leading_zero, octet_of}
-use Rattle.ao_base.specs.Decimals.{decimal_of}
-use Rattle.ao_base.specs.Hexadecimal.{bytes_of_hex}
+use Rattle.book_base.specs.declared.address.Address.{Address}
+use Rattle.book_base.specs.declared.address.Address.TheVariants.{V4, V6}
+use Rattle.book_base.specs.declared.line_kind.LineKind.{LineKind}
+use Rattle.book_base.specs.declared.line_kind.LineKind.TheVariants.{Range}
+use Rattle.book_base.specs.Addresses.{address_of, between_dots, below_256, dotted_of, four, has_leading_zero, octet_of}
+use Rattle.book_base.specs.Decimals.{decimal_of}
+use Rattle.book_base.specs.Hexadecimal.{bytes_of_hex}
 use Rattle.book_lines.specs.Words.{Taken, address_in, byte_in, first_of, hex_in, sized_hex_in, number_in, some_hex_in, if_within, word_as}
-use Rattle.ao_base.specs.Results.{◌>>=◌, or_fault}
+use Rattle.book_base.specs.Results.{◌>>=◌, or_fault}
 use Rattle.book_lines.specs.Words.{word_in}
 use Rattle.link_script.specs.Scripts.{AreBytes, IsAddress, IsWithin}
 

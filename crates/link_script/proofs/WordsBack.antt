@@ -3,18 +3,18 @@ use Rattle.std.proofs.Common.{◌≡◌, ℕ, zero, suc, lit<, ◌<◌, ◌≤�
 use Rattle.std.proofs.Common.{Some, Ok, refl, arith}
 use Rattle.std.proofs.lemmas.Bool.{le-leb, lt-ltb}
 use Rattle.hex.specs.Hex.{IsBytes}
-use Rattle.ao_base.specs.declared.address.Address.{Address}
-use Rattle.ao_base.specs.declared.algorithm.Algorithm.{Algorithm}
-use Rattle.ao_base.specs.declared.algorithm.Algorithm.TheVariants.{HmacSha1, AesCmac, HmacSha256}
-use Rattle.ao_base.specs.declared.end.End.{End}
-use Rattle.ao_base.specs.declared.end.End.TheVariants.{A, B}
-use Rattle.ao_base.specs.declared.line_kind.LineKind.TheVariants.{Word}
-use Rattle.ao_base.specs.Addresses.{address_text}
-use Rattle.ao_base.specs.Algorithms.{name_of}
-use Rattle.ao_base.specs.Hexadecimal.{hex_of}
-use Rattle.ao_base.proofs.AddressLaws.{address_of-address_text}
-use Rattle.ao_base.proofs.DecimalLaws.{decimal_of-decimal}
-use Rattle.ao_base.proofs.HexadecimalLaws.{bytes_of_hex-hex_of}
+use Rattle.book_base.specs.declared.address.Address.{Address}
+use Rattle.book_base.specs.declared.algorithm.Algorithm.{Algorithm}
+use Rattle.book_base.specs.declared.algorithm.Algorithm.TheVariants.{HmacSha1, AesCmac, HmacSha256}
+use Rattle.book_base.specs.declared.end.End.{End}
+use Rattle.book_base.specs.declared.end.End.TheVariants.{A, B}
+use Rattle.book_base.specs.declared.line_kind.LineKind.TheVariants.{Word}
+use Rattle.book_base.specs.Addresses.{address_text}
+use Rattle.book_base.specs.Algorithms.{name_of}
+use Rattle.book_base.specs.Hexadecimal.{hex_of}
+use Rattle.book_base.proofs.AddressLaws.{address_of-address_text}
+use Rattle.book_base.proofs.DecimalLaws.{decimal_of-decimal}
+use Rattle.book_base.proofs.HexadecimalLaws.{bytes_of_hex-hex_of}
 use Rattle.book_lines.specs.Words.{word_in, word_as, choice_of, choice_in, end_of, end_in, address_in, algorithm_in, number_in, hex_in, sized_hex_in}
 use Rattle.book_lines.specs.Words.{some_hex_in, byte_in}
 use Rattle.book_lines.specs.Texts.{end_text}

@@ -1,9 +1,9 @@
 -- The text of a script. Our own format.
 use Rattle.std.specs.Prelude.{ℕ, Bool, true, false, List, [], ◌∷◌, ◌++◌, map, codes, Option, Some, None, decimal}
-use Rattle.ao_base.specs.declared.address.Socket.{Socket}
-use Rattle.ao_base.specs.declared.end.End.{End}
-use Rattle.ao_base.specs.Algorithms.{name_of}
-use Rattle.ao_base.specs.Hexadecimal.{hex_of}
+use Rattle.book_base.specs.declared.address.Socket.{Socket}
+use Rattle.book_base.specs.declared.end.End.{End}
+use Rattle.book_base.specs.Algorithms.{name_of}
+use Rattle.book_base.specs.Hexadecimal.{hex_of}
 use Rattle.book_lines.specs.Texts.{end_text, line_text, socket_texts}
 use Rattle.book_link.specs.declared.event.RowLine.{RowLine}
 use Rattle.book_link.specs.declared.event.Event.{Event}

@@ -1,11 +1,11 @@
 //! The lines in front of a link file: its title and the sockets of its two ends.
 ghost use Rattle.std.specs.Prelude.{◌≡◌, [], ◌∷◌, codes, IfOk, IfErr};
-ghost use Rattle.ao_base.specs.declared.line_kind.LineKind.TheVariants as line_kind;
+ghost use Rattle.book_base.specs.declared.line_kind.LineKind.TheVariants as line_kind;
 ghost use Rattle.book_lines.specs.declared.text_fault.TextFault.TheVariants as fault;
 ghost use Rattle.book_cmd_link.specs.LinkFiles.{title_of, socket_of, are_two_of_a_family, peer_socket_of, line_in, link_head_in};
 ghost use Rattle.link_script.specs.Left.{leaves, said_head};
 
-use ao_base::{Address, LineKind, Socket};
+use book_base::{Address, LineKind, Socket};
 use book_lines::TextFault;
 use text_lines::{LineWords, Saying, SayingLines};
 

@@ -1,6 +1,6 @@
 //! The events of a link, each read from the words of its line.
 ghost use Rattle.std.specs.Prelude.{◌≡◌, ◌≤◌, ℕ};
-ghost use Rattle.ao_base.specs.declared.end.End.{End as OneEnd};
+ghost use Rattle.book_base.specs.declared.end.End.{End as OneEnd};
 ghost use Rattle.book_link.specs.declared.event.Event.{Event as OneEvent};
 ghost use Rattle.text_lines.specs.Readings.{Tells};
 ghost use Rattle.book_cmd_link.specs.LinkEvents.{event_of_end, event_of_number, start_of, give_of, fill_of, inject_of, alter_of, dump_of, event_named, link_event_of};
@@ -9,7 +9,7 @@ ghost use Rattle.link_script.specs.Names.{name_text};
 
 use super::name::Name;
 use super::row_lines::add;
-use ao_base::{End, LineKind};
+use book_base::{End, LineKind};
 use book_keys::LATEST;
 use book_link::Event;
 use std::alloc::Global;

@@ -1,7 +1,7 @@
 //! A script, printed as a link file.
 ghost use Rattle.std.specs.Prelude.{◌≡◌, ◌++◌, ◌∷◌, [], OnOk, IfOk, codes, decimal, map, option_map, Ok};
 ghost use Rattle.std.specs.Option.{is_none};
-ghost use Rattle.ao_base.specs.Hexadecimal.{hex_of};
+ghost use Rattle.book_base.specs.Hexadecimal.{hex_of};
 ghost use Rattle.book_lines.specs.Texts.{end_text, line_text};
 ghost use Rattle.book_cmd_link.specs.LinkFiles.{script_of};
 ghost use Rattle.link_script.specs.Names.{name_text};
@@ -10,7 +10,7 @@ ghost use Rattle.link_script.specs.Printed.{event_words, key_lines, lines_text, 
 
 use super::name::Name;
 use super::row_texts::{chosen, push_row};
-use ao_base::{Bytes, End, Socket};
+use book_base::{Bytes, End, Socket};
 use book_cmd_link::{Script, SharedKey};
 use book_link::Event;
 use std::alloc::{AllocError, Global};

@@ -8,7 +8,7 @@ ghost use Rattle.link_script.specs.Timed.{IsTimedScript, plain_of};
 use super::head::read_head;
 use super::line_events::read_event;
 use super::reading::is_shared;
-use ao_base::LineKind;
+use book_base::LineKind;
 use book_cmd_timed::{TimedEvent, TimedEvents, TimedScript};
 use book_lines::TextFault;
 use std::alloc::Global;

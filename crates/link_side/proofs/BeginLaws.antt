@@ -2,7 +2,7 @@
 use Rattle.std.proofs.Common.{◌≡◌, ℕ, Bool, true, false, List, [], ◌∷◌, ◌++◌, map, reverse, Option, Some, None, refl, sym, ap, ◌∙◌, subst}
 use Rattle.std.specs.Prelude.{is_some}
 use Rattle.std.proofs.lemmas.List.{map-append, reverse-append}
-use Rattle.ao_base.specs.declared.end.End.{End}
+use Rattle.book_base.specs.declared.end.End.{End}
 use Rattle.book_endpoint.specs.States.{EndState}
 use Rattle.book_link.specs.Outcomes.{Done, IsnUsed}
 use Rattle.book_link.specs.Steps.{Stepped, begin, begin_new, put, with_sessions}

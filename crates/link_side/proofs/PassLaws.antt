@@ -1,7 +1,7 @@
 -- What it does to an end that stands for its sessions that a segment is made, or that bytes come.
 use Rattle.std.proofs.Common.{◌≡◌, ℕ, Bool, true, false, ◌||◌, List, [], ◌∷◌, Option, Some, None, refl, sym, ap, ◌∙◌, subst}
-use Rattle.ao_base.specs.declared.address.Pair.{Pair}
-use Rattle.ao_base.specs.declared.end.End.{End}
+use Rattle.book_base.specs.declared.address.Pair.{Pair}
+use Rattle.book_base.specs.declared.end.End.{End}
 use Rattle.book_segments.specs.Segments.{Reading, reading}
 use Rattle.book_keys.specs.Rows.{Row}
 use Rattle.book_endpoint.specs.Arrivals as arrivals

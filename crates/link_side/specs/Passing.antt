@@ -1,7 +1,7 @@
 -- A side after an event at its end by which a segment may be made, or bytes come.
 use Rattle.std.specs.Prelude.{◌≡◌, ℕ, suc, Bool, true, false, List, ◌∷◌, Option, Some, None}
-use Rattle.ao_base.specs.declared.address.Pair.{Pair}
-use Rattle.ao_base.specs.declared.end.End.{End}
+use Rattle.book_base.specs.declared.address.Pair.{Pair}
+use Rattle.book_base.specs.declared.end.End.{End}
 use Rattle.book_segments.specs.Segments.{reading, spell}
 use Rattle.book_keys.specs.Rows.{Row}
 use Rattle.book_endpoint.specs.Emissions.{Emission as BookEmission, Emitted, Emits, emit, resend}

@@ -1,6 +1,6 @@
 -- A side after an event at its end by which no segment is made and nothing comes.
 use Rattle.std.specs.Prelude.{◌≡◌, ℕ, ◌≤◌, length}
-use Rattle.ao_base.specs.declared.end.End.{End}
+use Rattle.book_base.specs.declared.end.End.{End}
 use Rattle.book_keys.specs.Lifetimes.{greatest_time}
 use Rattle.book_endpoint.specs.States.{EndState}
 use Rattle.book_link.specs.declared.event.Event.{Event}

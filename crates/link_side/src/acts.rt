@@ -8,7 +8,7 @@ ghost use Rattle.link_side.specs.Steps.{Steps, StepsBy};
 
 use crate::answer::Answer;
 use crate::side::Side;
-use ao_base::Bytes;
+use book_base::Bytes;
 use std::alloc::{AllocError, Global};
 use tcp_endpoint::GiveAnswer;
 

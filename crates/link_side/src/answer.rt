@@ -1,5 +1,5 @@
 //! What an event at one end answers.
-use ao_base::Bytes;
+use book_base::Bytes;
 
 /// What an event answers by which no segment is made and nothing comes.
 #[derive(Debug, Drop)]

@@ -1,6 +1,6 @@
 //! The events by which a segment may be made at an end, or by which bytes come.
 ghost use Rattle.std.specs.Prelude.{◌≡◌, ℕ, ◌+◌, ◌≤◌, Bool, true, false, List, length, Some};
-ghost use Rattle.ao_base.specs.declared.end.End.{End};
+ghost use Rattle.book_base.specs.declared.end.End.{End};
 ghost use Rattle.book_endpoint.specs.States.{EndState};
 ghost use Rattle.book_keys.specs.Lifetimes.{greatest_time};
 ghost use Rattle.book_keys.specs.Rows.{Row};

@@ -7,7 +7,7 @@ ghost use Rattle.tcp_endpoint.specs.Ends.{FitsEnd};
 ghost use Rattle.tcp_endpoint.specs.Halves.{same_family};
 
 use crate::sessions::{Ended, Live, has_isn};
-use ao_base::Pair;
+use book_base::Pair;
 use key_table::Table;
 use std::alloc::Global;
 

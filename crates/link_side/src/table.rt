@@ -8,7 +8,7 @@ ghost use Rattle.link_side.specs.Steps.{Steps, IsRowLine};
 
 use crate::answer::Answer;
 use crate::side::Side;
-use ao_base::Bytes;
+use book_base::Bytes;
 use book_link::RowLine;
 use key_table::{AddRefusal, Direction, Lifetime, NewRow};
 use std::alloc::{AllocError, Global};

@@ -2,7 +2,7 @@
 ghost use Rattle.std.specs.Prelude.{◌≡◌, ◌+◌, ◌<◌, ◌≤◌, length, IfOk, OnOk};
 ghost use Rattle.link_log.specs.Logs.{made_count};
 
-use ao_base::{Address, Algorithm, Bytes, End, Socket};
+use book_base::{Address, Algorithm, Bytes, End, Socket};
 use book_macs::Context;
 use key_table::{AddRefusal, Direction, Lifetime, NewRow, Row, Table};
 use link_log::{Entrance, Log};

@@ -1,6 +1,6 @@
 //! Link files that are printed, which no command does. What is read of them, and each of their faults,
 //! stands in the examples of `link` and `timed`.
-use ao_base::Bytes;
+use book_base::Bytes;
 use link_script::{print_script, read_script};
 use std::alloc::Global;
 use std::test::Fail;

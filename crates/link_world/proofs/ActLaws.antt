@@ -1,7 +1,7 @@
 -- What an event does to an end and to the log.
 use Rattle.std.proofs.Common.{◌≡◌, ◌+◌, ◌≤◌, ℕ, List, [], ◌∷◌, Option, Some, None, Result, Ok, Err, refl, sym, ap, ◌∙◌, subst, arith}
-use Rattle.ao_base.specs.declared.end.End.{End}
-use Rattle.ao_base.specs.declared.end.End.TheVariants.{A, B}
+use Rattle.book_base.specs.declared.end.End.{End}
+use Rattle.book_base.specs.declared.end.End.TheVariants.{A, B}
 use Rattle.book_link.specs.declared.event.Event.{Event}
 use Rattle.book_link.specs.Outcomes as book
 use Rattle.book_link.specs.Steps.{Stepped, step}

@@ -1,7 +1,7 @@
 -- Bytes that come to an end.
 use Rattle.std.proofs.Common.{◌≡◌, ◌+◌, ◌-◌, ◌≤◌, ◌<◌, ℕ, Bool, true, false, List, [], ◌∷◌, length, Option, Some, None, if◌then◌else◌, slice_get, refl, sym, ap, ◌∙◌, subst, arith}
-use Rattle.ao_base.specs.declared.address.Pair.{Pair}
-use Rattle.ao_base.specs.declared.end.End.{End}
+use Rattle.book_base.specs.declared.address.Pair.{Pair}
+use Rattle.book_base.specs.declared.end.End.{End}
 use Rattle.book_segments.specs.Segments.{bit_of, reading}
 use Rattle.tcp_segment.specs.Sums.{HasPlainHeader}
 use Rattle.book_keys.specs.Rows.{Row}

@@ -1,7 +1,7 @@
 -- Segments that an end makes.
 use Rattle.std.proofs.Common.{◌≡◌, ◌+◌, ◌-◌, ◌≤◌, ℕ, suc, Bool, List, [], ◌∷◌, ◌++◌, length, take, get_or, Option, Some, None, refl, sym, ap, ◌∙◌, subst, arith}
 use Rattle.std.proofs.lemmas.List.{take-append-le, take-take}
-use Rattle.ao_base.specs.declared.end.End.{End}
+use Rattle.book_base.specs.declared.end.End.{End}
 use Rattle.ao_check.proofs.KeyLaws.{same_row}
 use Rattle.book_keys.specs.Rows.{Row}
 use Rattle.book_link.specs.Outcomes as book

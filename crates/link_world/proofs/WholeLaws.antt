@@ -2,9 +2,9 @@
 use Rattle.std.proofs.Common.{◌≡◌, ℕ, ◌+◌, ◌-◌, ◌*◌, ◌/◌, ◌%◌, ◌==◌, ◌≤◌, Bool, true, false, List, [], ◌++◌, length, take, drop, Option, Some, None, if◌then◌else◌, refl, sym, ap, ◌∙◌, subst, arith, append-nil}
 use Rattle.std.specs.Prelude.{is_some, slice_get, slice_index, slice_range}
 use Rattle.std.proofs.lemmas.Bool.{eqb-true}
-use Rattle.ao_base.specs.declared.address.Pair.{Pair}
-use Rattle.ao_base.specs.declared.end.End.{End}
-use Rattle.ao_base.specs.Algorithms.{mac_length_of}
+use Rattle.book_base.specs.declared.address.Pair.{Pair}
+use Rattle.book_base.specs.declared.end.End.{End}
+use Rattle.book_base.specs.Algorithms.{mac_length_of}
 use Rattle.book_segments.specs.Bytes.{ring}
 use Rattle.book_segments.specs.declared.fault.DatagramFault.{DatagramFault}
 use Rattle.book_segments.specs.Options.{find_ao}

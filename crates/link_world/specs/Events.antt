@@ -1,7 +1,7 @@
 -- What an event asks of the numbers in it, and where it happens.
 use Rattle.std.specs.Prelude.{ℕ, ◌≤◌, List, [], length, Option, Some, None, ⊤}
-use Rattle.ao_base.specs.declared.end.End.{End}
-use Rattle.ao_base.specs.declared.end.End.TheVariants.{A}
+use Rattle.book_base.specs.declared.end.End.{End}
+use Rattle.book_base.specs.declared.end.End.TheVariants.{A}
 use Rattle.book_keys.specs.Lifetimes.{greatest_time}
 use Rattle.book_link.specs.declared.event.Event.{Event}
 use Rattle.book_link.specs.declared.event.Event.TheVariants.{Clock, Connect, Listen, Start, Give, Fill, Send, Resend, Deliver, Inject, Alter, Take, Close, Abort, AddRow, Withdraw, Dump}

@@ -1,8 +1,8 @@
 -- What the types of sockets say.
 use Rattle.std.specs.Prelude.{◌<◌}
-use Rattle.ao_base.specs.declared.address.Address.{Address}
-use Rattle.ao_base.specs.declared.address.Address.TheVariants.{V4, V6}
-use Rattle.ao_base.specs.declared.address.Socket.{Socket}
+use Rattle.book_base.specs.declared.address.Address.{Address}
+use Rattle.book_base.specs.declared.address.Address.TheVariants.{V4, V6}
+use Rattle.book_base.specs.declared.address.Socket.{Socket}
 use Rattle.book_segments.specs.Spelling.{IsV4, IsV6}
 use Rattle.law_link.specs.Laws.{AddressesFit}
 

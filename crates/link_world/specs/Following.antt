@@ -1,7 +1,7 @@
 -- An end and the log after an event there.
 use Rattle.std.specs.Prelude.{◌≡◌, ℕ, ◌≤◌, ◌+◌, List, Result, Ok, Err}
 use Rattle.std.specs.declared.alloc.AllocError.{AllocError}
-use Rattle.ao_base.specs.declared.end.End.{End}
+use Rattle.book_base.specs.declared.end.End.{End}
 use Rattle.book_link.specs.declared.event.Event.{Event}
 use Rattle.book_link.specs.Steps.{Stepped, come, on_live, step}
 use Rattle.book_link.specs.Worlds.{Setup, World, LinkSide as EndSide, Happening, other, side as side_of}

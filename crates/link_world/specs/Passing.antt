@@ -1,6 +1,6 @@
 -- A datagram that came to an end.
 use Rattle.std.specs.Prelude.{◌≡◌, ◌-◌, List, ◌∷◌, Option, Some, None, slice_get, ⊤}
-use Rattle.ao_base.specs.declared.end.End.{End}
+use Rattle.book_base.specs.declared.end.End.{End}
 use Rattle.book_segments.specs.Segments.{bit_of}
 use Rattle.book_keys.specs.Rows.{Row}
 use Rattle.book_endpoint.specs.declared.verdict.Passed.{Passed}

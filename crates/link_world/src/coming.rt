@@ -9,7 +9,8 @@ ghost use Rattle.link_world.specs.Links.{AreOfEnd, StandsAt};
 ghost use Rattle.link_world.specs.Passing.{Counts, EntersAs, HasReceived, outcome_come};
 
 use crate::copying::altered;
-use ao_base::{End, Steps};
+use ao_base::Steps;
+use book_base::End;
 use book_endpoint::{Arrival, Passed};
 use key_table::Table;
 use link_log::{Entrance, Log};

@@ -9,7 +9,7 @@ ghost use Rattle.book_link.specs.RowLines.{added_row};
 ghost use Rattle.link_world.specs.Events.{CanHappen};
 ghost use Rattle.link_world.specs.Fitting.{IsPlace, SocketsFit};
 
-use ao_base::{Address, Socket};
+use book_base::{Address, Socket};
 use book_link::{Event, RowLine};
 use key_table::Table;
 

@@ -10,7 +10,7 @@ use crate::acting::told;
 use crate::coming::{Change, alter, deliver, inject};
 use crate::sending::send;
 use crate::showing::dump;
-use ao_base::End;
+use book_base::End;
 use book_link::Event;
 use link_log::Log;
 use link_report::Outcome;

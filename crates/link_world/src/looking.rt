@@ -12,7 +12,7 @@ ghost use Rattle.link_world.specs.Fronts.{front_of};
 
 use crate::front::Front;
 use crate::world::World;
-use ao_base::End;
+use book_base::End;
 use link_side::Side;
 use tcp_endpoint::{Endpoint, Phase};
 

@@ -1,6 +1,6 @@
 //! The events by which an end makes a segment.
 ghost use Rattle.std.specs.Prelude.{◌≡◌, ◌<◌, ◌≤◌, length};
-ghost use Rattle.ao_base.specs.declared.end.End.{End};
+ghost use Rattle.book_base.specs.declared.end.End.{End};
 ghost use Rattle.link_log.specs.Logs.{made_count};
 ghost use Rattle.book_link.specs.Steps.{step};
 ghost use Rattle.book_link.specs.Worlds.{Setup, World, pair_of, side as side_of};
@@ -10,7 +10,8 @@ ghost use Rattle.link_side.specs.Sides.{StandsSide};
 ghost use Rattle.link_world.specs.Following.{Acts, by_event};
 ghost use Rattle.link_world.specs.Links.{AreOfEnd};
 
-use ao_base::{Bytes, End, Steps};
+use ao_base::Steps;
+use book_base::{Bytes, End};
 use link_log::Log;
 use link_report::Outcome;
 use link_side::Side;

@@ -1,10 +1,10 @@
 //! What a link begins with.
 ghost use Rattle.std.specs.Prelude.{◌≡◌, false};
-ghost use Rattle.ao_base.specs.declared.address.Address.{Address as Place};
+ghost use Rattle.book_base.specs.declared.address.Address.{Address as Place};
 ghost use Rattle.book_keys.specs.Plans.{rows_at};
 ghost use Rattle.book_segments.specs.Sockets.{same_address};
 
-use ao_base::{Address, Socket};
+use book_base::{Address, Socket};
 use key_table::{Table, Tables};
 use std::alloc::Global;
 

@@ -9,7 +9,7 @@ ghost use Rattle.link_log.specs.Logs.{StandsLog};
 ghost use Rattle.link_report.specs.Outcomes.{Shows};
 
 use crate::world::World;
-use ao_base::Bytes;
+use book_base::Bytes;
 use link_log::Log;
 use link_report::{Outcome, push_outcomes, push_summary};
 use std::alloc::{AllocError, Global};

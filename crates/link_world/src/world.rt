@@ -1,6 +1,6 @@
 //! A link between two ends.
 ghost use Rattle.std.specs.Prelude.{◌≡◌, ◌<◌, ◌≤◌, ◌+◌, ◌^◌, IfOk, List, OnOk, OnErr, true, [], ◌∷◌, ◌++◌, length};
-ghost use Rattle.ao_base.specs.declared.end.End.TheVariants.{A, B};
+ghost use Rattle.book_base.specs.declared.end.End.TheVariants.{A, B};
 ghost use Rattle.book_cmd_link.specs.LinkFiles.{are_two_of_a_family};
 ghost use Rattle.book_link.specs.declared.event.Event.{Event as Happening};
 ghost use Rattle.book_link.specs.Steps.{step};
@@ -19,7 +19,7 @@ use crate::fitting::{see_event, see_rows, see_sockets};
 use crate::happening::happen;
 use crate::room::room_for;
 use crate::setup::{Setup, take_table};
-use ao_base::Pair;
+use book_base::Pair;
 use book_link::Event;
 use link_log::Log;
 use link_report::Outcome;

@@ -7,8 +7,9 @@ mod changes;
 mod passes;
 mod refusals;
 
-use ao_base::{Address, Algorithm, Bytes, Pair, Socket, Steps};
+use ao_base::Steps;
 use ao_check::{Association, Verdict};
+use book_base::{Address, Algorithm, Bytes, Pair, Socket};
 use key_table::{AddRefusal, Direction, Lifetime, NewRow, Table};
 use std::alloc::{AllocError, Global};
 use std::marker::Brand;

@@ -2,8 +2,9 @@
 //! expected value is that of `oracle/vectors_sha256.py`, a program on Python's `hmac` alone.
 ghost use Rattle.std.specs.Prelude.{◌≡◌, ◌+◌, ◌<◌, ◌≤◌, length, IfOk};
 
-use ao_base::{Address, Algorithm, Socket, Steps};
+use ao_base::Steps;
 use ao_kdf::{Context, KeyCache, Way};
+use book_base::{Address, Algorithm, Socket};
 use std::alloc::{AllocError, Global};
 use std::marker::Brand;
 use std::sync::ledger::{Blank, Ledger};

@@ -1,16 +1,17 @@
 //! A segment that is sealed has its MAC, and what two inputs share. The segments of RFC 9235 stand in
 //! `examples/rfc9235`.
 ghost use Rattle.std.specs.Prelude.{◌≡◌, ◌<◌, ◌≤◌, length, IfSome};
-ghost use Rattle.ao_base.specs.Algorithms.{mac_length_of};
+ghost use Rattle.book_base.specs.Algorithms.{mac_length_of};
 ghost use Rattle.book_macs.specs.Keys.{key_length};
 ghost use Rattle.tcp_segment.specs.Writing.{IsHead};
 ghost use Rattle.ao_mac.specs.Macs.{HasAo};
 
 mod segments;
 
-use ao_base::{Address, Algorithm, Socket, Steps};
+use ao_base::Steps;
 use ao_kdf::{Context, TrafficKey, traffic_key};
 use ao_mac::{mac, same_input, seal};
+use book_base::{Address, Algorithm, Socket};
 use segments::{ALONE, SYN_HMAC};
 use std::marker::Brand;
 use std::sync::ledger::{Blank, Ledger};

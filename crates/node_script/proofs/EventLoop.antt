@@ -1,12 +1,12 @@
 -- Events read one after another, as a loop reads them.
 use Rattle.std.proofs.Common.{◌≡◌, ℕ, List, [], ◌∷◌, ◌++◌, Result, Ok, Err, refl, sym, ap, ◌∙◌, append_assoc}
 use Rattle.std.proofs.lemmas.List.{append-nil}
-use Rattle.ao_base.specs.declared.address.Address.{Address}
+use Rattle.book_base.specs.declared.address.Address.{Address}
 use Rattle.book_lines.specs.declared.text_fault.TextFault.{TextFault}
 use Rattle.book_lines.specs.declared.text_fault.TextFault.TheVariants as fault
 use Rattle.book_lines.specs.Lines.{Line}
 use Rattle.book_lines.specs.Said.{at_number}
-use Rattle.ao_base.specs.Results.{◌>>=◌}
+use Rattle.book_base.specs.Results.{◌>>=◌}
 use Rattle.text_lines.specs.Readings.{Fails}
 use Rattle.book_cmd_node.specs.declared.node.NodeEvent.{NodeEvent}
 use Rattle.book_cmd_node.specs.NodeRuns.{node_event_of, node_events_of}

@@ -1,13 +1,13 @@
 -- An event that a line says has its connection, numbers and lengths in their ranges.
 use Rattle.std.proofs.Common.{◌≡◌, ℕ, ◌≤◌, cond, Bool, true, false, List, [], ◌∷◌, codes, Result, Ok, Err, refl}
 use Rattle.std.specs.Str.{bytes_eq}
-use Rattle.ao_base.specs.declared.address.Address.{Address}
-use Rattle.ao_base.specs.declared.address.Pair.{Pair}
-use Rattle.ao_base.specs.declared.line_kind.LineKind.{LineKind}
-use Rattle.ao_base.specs.declared.line_kind.LineKind.TheVariants.{Range}
+use Rattle.book_base.specs.declared.address.Address.{Address}
+use Rattle.book_base.specs.declared.address.Pair.{Pair}
+use Rattle.book_base.specs.declared.line_kind.LineKind.{LineKind}
+use Rattle.book_base.specs.declared.line_kind.LineKind.TheVariants.{Range}
 use Rattle.book_keys.specs.Lifetimes.{greatest_time}
 use Rattle.book_lines.specs.Words.{Taken, word_in, nothing_in, address_in, number_in, sized_hex_in, some_hex_in}
-use Rattle.ao_base.specs.Results.{◌>>=◌}
+use Rattle.book_base.specs.Results.{◌>>=◌}
 use Rattle.book_cmd_node.specs.declared.node.Act.{Act}
 use Rattle.book_cmd_node.specs.declared.node.Act.TheVariants as act
 use Rattle.book_cmd_node.specs.declared.node.NodeEvent.{NodeEvent}

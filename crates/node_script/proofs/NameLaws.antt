@@ -2,8 +2,8 @@
 use Rattle.std.proofs.Common.{◌≡◌, ℕ, true, false, List, [], ◌∷◌, Option, Some, None, MatchOption, Err, refl, ap, lit<, All}
 use Rattle.std.specs.Str.{bytes_eq}
 use Rattle.std.proofs.lemmas.Slice.Eq.{bytes_eq-Decides}
-use Rattle.ao_base.specs.declared.address.Address.{Address}
-use Rattle.ao_base.specs.declared.line_kind.LineKind.TheVariants.{Word}
+use Rattle.book_base.specs.declared.address.Address.{Address}
+use Rattle.book_base.specs.declared.line_kind.LineKind.TheVariants.{Word}
 use Rattle.book_cmd_node.specs.NodeRuns.{node_event_named}
 use Rattle.node_script.specs.declared.name.Name.{Name}
 use Rattle.node_script.specs.declared.name.Name.TheVariants as name

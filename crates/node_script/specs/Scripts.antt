@@ -1,8 +1,8 @@
 -- The scripts that a node's file can say. Our own format.
 use Rattle.std.specs.Prelude.{◌≡◌, ℕ, ◌+◌, ◌<◌, ◌≤◌, true, List, length, All}
 use Rattle.hex.specs.Hex.{IsBytes}
-use Rattle.ao_base.specs.declared.address.Address.{Address}
-use Rattle.ao_base.specs.declared.address.Pair.{Pair}
+use Rattle.book_base.specs.declared.address.Address.{Address}
+use Rattle.book_base.specs.declared.address.Pair.{Pair}
 use Rattle.book_keys.specs.Lifetimes.{greatest_time}
 use Rattle.book_lines.specs.Lines.{most_lines}
 use Rattle.book_cmd_node.specs.declared.node.Act.{Act}

@@ -1,12 +1,12 @@
 //! The lines in front of a node's file: its title and the node's address.
 ghost use Rattle.std.specs.Prelude.{◌≡◌, [], ◌∷◌, codes, IfOk, IfErr};
-ghost use Rattle.ao_base.specs.declared.line_kind.LineKind.TheVariants as line_kind;
+ghost use Rattle.book_base.specs.declared.line_kind.LineKind.TheVariants as line_kind;
 ghost use Rattle.book_lines.specs.declared.text_fault.TextFault.TheVariants as fault;
 ghost use Rattle.book_cmd_link.specs.LinkFiles.{line_in, title_of};
 ghost use Rattle.book_cmd_node.specs.NodeRuns.{own_address_of};
 ghost use Rattle.link_script.specs.Left.{leaves};
 
-use ao_base::{Address, LineKind};
+use book_base::{Address, LineKind};
 use book_lines::TextFault;
 use text_lines::{LineWords, Saying, SayingLines};
 

@@ -8,7 +8,7 @@ ghost use Rattle.book_cmd_node.specs.NodeRuns.{act_alone, act_give, act_number, 
 ghost use Rattle.node_script.specs.Names.{name_text};
 
 use crate::name::Name;
-use ao_base::{Address, LineKind, Pair, Socket};
+use book_base::{Address, LineKind, Pair, Socket};
 use book_cmd_node::{Act, NodeEvent};
 use book_keys::LATEST;
 use std::alloc::Global;

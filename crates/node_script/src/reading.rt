@@ -1,6 +1,6 @@
 //! A node's file, read from its first line to its last.
 ghost use Rattle.std.specs.Prelude.{◌≡◌, ◌<◌, ◌↔◌, length, IfOk, IsErrOf};
-ghost use Rattle.ao_base.specs.Lines.{lines_of};
+ghost use Rattle.book_base.specs.Lines.{lines_of};
 ghost use Rattle.book_lines.specs.Lines.{most_lines};
 ghost use Rattle.book_lines.specs.Said.{at_number};
 ghost use Rattle.text_lines.specs.Readings.{Answers};
@@ -9,7 +9,7 @@ ghost use Rattle.node_script.specs.Scripts.{IsScript};
 
 use crate::head::{address_line, title_line};
 use crate::line_events::read_event;
-use ao_base::Address;
+use book_base::Address;
 use book_cmd_node::{NodeEvent, NodeEvents, NodeScript};
 use book_lines::TextFault;
 use std::alloc::Global;

@@ -2,8 +2,8 @@
 ghost use Rattle.std.specs.Prelude.{◌≡◌};
 ghost use Rattle.bgp_messages.specs.Readers.{new_reading};
 
-use ao_base::{Address, Algorithm};
 use bgp_messages::BgpReader;
+use book_base::{Address, Algorithm};
 use cmd_bgp::run_bgp;
 use key_table::Tables;
 use link_script::read_script;

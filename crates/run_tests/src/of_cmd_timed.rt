@@ -1,5 +1,5 @@
 //! The timers that a run was lent, and how many plain events a run has at most.
-use ao_base::{Address, Algorithm};
+use book_base::{Address, Algorithm};
 use cmd_timed::{TimedRun, answer, run_timed};
 use command_report::Stop;
 use key_table::Tables;

@@ -1,7 +1,7 @@
 -- The line of a packet, and what is written of it.
 use Rattle.std.proofs.Common.{◌≡◌, ℕ, ◌-◌, ◌≤◌, true, false, List, [], ◌∷◌, ◌++◌, length, take, drop, min, Option, Some, None, Result, Ok, Err, IfSome, IsSome, refl, ap, ◌∙◌, arith, ◌/◌, decimal, IfOk}
 use Rattle.std.proofs.lemmas.List.Folds.{drop_split}
-use Rattle.ao_base.specs.Hexadecimal.{hex_of}
+use Rattle.book_base.specs.Hexadecimal.{hex_of}
 use Rattle.std.proofs.lemmas.List.{take_all, take_min, length-drop}
 use Rattle.ao_base.specs.Outside.{Side}
 use Rattle.ao_base.proofs.Sides.{took_none}

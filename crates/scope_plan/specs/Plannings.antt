@@ -1,7 +1,7 @@
 -- What is answered on the planned rollovers of an input.
 use Rattle.std.specs.Prelude.{ℕ, ◌++◌, ◌||◌, Bool, List, Result, Ok, Err}
-use Rattle.ao_base.specs.declared.address.Pair.{Pair}
-use Rattle.ao_base.specs.Results.{◌>>=◌}
+use Rattle.book_base.specs.declared.address.Pair.{Pair}
+use Rattle.book_base.specs.Results.{◌>>=◌}
 use Rattle.book_answer.specs.Answers.{Answer, done}
 use Rattle.book_cmd_keys.specs.declared.plan.Plan.{Plan}
 use Rattle.book_keys.specs.Rows.{Table}

@@ -6,7 +6,7 @@ ghost use Rattle.book_scope_plan.specs.CalendarTexts.{are_both_ends, calendar_li
 
 use crate::ends::Ends;
 use crate::told::told_turns;
-use ao_base::End;
+use book_base::End;
 use book_scope_plan::Told;
 use key_plan::Turn;
 use scope_texts::push_instant;

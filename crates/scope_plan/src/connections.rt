@@ -6,7 +6,8 @@ ghost use Rattle.book_scope_plan.specs.PlanTexts.{aligned_line, both_text, conne
 use crate::calendar::push_calendar;
 use crate::ends::Ends;
 use crate::findings::push_findings;
-use ao_base::{Address, Pair, Socket, push_decimal};
+use ao_base::push_decimal;
+use book_base::{Address, Pair, Socket};
 use book_cmd_keys::Plan;
 use key_plan::{Finding, Margin, calendar, findings, lag_margin, lead_margin};
 use key_table::{Table, Tables};

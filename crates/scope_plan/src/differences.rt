@@ -1,10 +1,11 @@
 //! In which columns rows of the other end differ from one that accepts what a row sends.
 ghost use Rattle.std.specs.Prelude.{◌≡◌, ◌==◌, ◌++◌, ◌≤◌, OnOk, decimal};
-ghost use Rattle.ao_base.specs.Algorithms.{name_of};
+ghost use Rattle.book_base.specs.Algorithms.{name_of};
 ghost use Rattle.book_plans.specs.Differences.{differences};
 ghost use Rattle.book_scope_plan.specs.FindingTexts.{algorithms_text, connection_words, difference_count, difference_head, difference_lines, direction_words, fewest, ids_text, key_column_lines, key_words, nearest_lines, one_if, options_words, row_name, text_if, use_column_lines};
 
-use ao_base::{Pair, push_decimal};
+use ao_base::push_decimal;
+use book_base::Pair;
 use key_plan::{Differences, differences};
 use key_table::{Row, Table};
 use std::alloc::AllocError;

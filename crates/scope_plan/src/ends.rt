@@ -3,7 +3,7 @@ ghost use Rattle.std.specs.Prelude.{◌≡◌, option_map};
 ghost use Rattle.book_keys.specs.Plans.{mirrored};
 ghost use Rattle.book_scope_plan.specs.CalendarTexts.{row_numbered, side_of};
 
-use ao_base::{End, Pair};
+use book_base::{End, Pair};
 use key_table::{Row, Table};
 
 /// The tables of the two ends of a connection.

@@ -6,7 +6,8 @@ ghost use Rattle.book_scope_plan.specs.FindingTexts.{finding_text, gap_text, ref
 use crate::differences::{fewest, push_nearest, push_row_name, push_sent};
 use crate::ends::{Ends, pair_at, row_numbered};
 use crate::lifetimes::push_short;
-use ao_base::{Pair, push_decimal};
+use ao_base::push_decimal;
+use book_base::Pair;
 use book_cmd_keys::Plan;
 use key_plan::Finding;
 use key_table::{Row, Table};

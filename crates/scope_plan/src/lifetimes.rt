@@ -5,7 +5,8 @@ ghost use Rattle.book_plans.specs.Findings.{wanted_accepting};
 ghost use Rattle.book_scope_plan.specs.FindingTexts.{accepting_lines, accepting_row, accepts_text, early_line, late_line, lifetime_lines, sends_text, set_text, text_if, wanted_text};
 
 use crate::differences::push_row_name;
-use ao_base::{Pair, push_decimal};
+use ao_base::push_decimal;
+use book_base::Pair;
 use book_cmd_keys::Plan;
 use key_plan::{differences, wanted_accepting};
 use key_table::{Lifetime, Row, Table};

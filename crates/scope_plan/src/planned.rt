@@ -1,6 +1,6 @@
 //! What the planning of connections comes to.
 
-use ao_base::Bytes;
+use book_base::Bytes;
 
 /// What is said of the planned rollover of each connection, and whether something is wrong with one.
 #[derive(Debug, Drop)]

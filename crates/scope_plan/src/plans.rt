@@ -1,6 +1,6 @@
 //! What is said of each connection of an input.
 ghost use Rattle.std.specs.Prelude.{◌≡◌, ◌<◌, ◌↔◌, IsErrOf, [], false, length};
-ghost use Rattle.ao_base.specs.Lines.{lines_of};
+ghost use Rattle.book_base.specs.Lines.{lines_of};
 ghost use Rattle.book_lines.specs.Lines.{most_lines};
 ghost use Rattle.book_lines.specs.Said.{at_number, said_by, said_in};
 ghost use Rattle.text_lines.specs.Readings.{Answers};
@@ -12,7 +12,7 @@ ghost use Rattle.scope_plan.specs.Plannings.{planned_answer, planned_from, plann
 use crate::connection::read_connection;
 use crate::connections::push_connection;
 use crate::planned::Planned;
-use ao_base::{Bytes, Pair};
+use book_base::{Bytes, Pair};
 use book_cmd_keys::Plan;
 use book_lines::TextFault;
 use command_report::{Report, Stop};

@@ -4,7 +4,8 @@ ghost use Rattle.book_keys.specs.Rows.{receives, sends};
 ghost use Rattle.book_scope_plan.specs.CalendarTexts.{id_for, is_spent, row_numbered, row_turn_text, side_of, spent_text, told_turns, told_with, turn_words};
 
 use crate::ends::{Ends, row_numbered};
-use ao_base::{Bytes, push_decimal};
+use ao_base::push_decimal;
+use book_base::Bytes;
 use book_scope_plan::Told;
 use key_plan::{Role, Turn};
 use key_table::{Direction, Row};

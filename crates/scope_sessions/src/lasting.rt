@@ -5,7 +5,7 @@ ghost use Rattle.book_segments.specs.Sockets.{same_address, same_socket};
 ghost use Rattle.book_sessions.specs.KeyLines.{asks_for_row, asks_row_still, carries_row, is_current, is_id, is_of_row, is_wanted, last_of, later_of, overtakes, uses_row_still};
 
 use crate::words::{is_same_id, is_verified};
-use ao_base::{Address, Pair, Socket};
+use book_base::{Address, Pair, Socket};
 use book_sessions::KeyUse;
 use key_table::{Row, Table};
 

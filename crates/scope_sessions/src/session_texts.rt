@@ -8,7 +8,8 @@ ghost use Rattle.book_sessions.specs.SessionTexts.{capture_line, earliest_seen, 
 
 use crate::passed_texts::push_passed;
 use crate::words::{is_verified, outcome_name};
-use ao_base::{Address, Socket, push_decimal};
+use ao_base::push_decimal;
+use book_base::{Address, Socket};
 use book_sessions::{KeyUse, PassedCount};
 use scope_texts::{push_address, push_instant};
 use std::alloc::AllocError;

@@ -5,7 +5,7 @@ ghost use Rattle.book_sessions.specs.Sessions.{and_counted, and_segment, asked_b
 ghost use Rattle.scope_sessions.specs.Counting.{place_of_reason, place_of_use, table_of};
 
 use crate::words::{is_same_id, is_same_outcome};
-use ao_base::Socket;
+use book_base::Socket;
 use book_sessions::{KeyUse, PassedCount, PassedOver, SeenSegment};
 use std::alloc::{AllocError, Global};
 

@@ -2,7 +2,8 @@
 ghost use Rattle.std.specs.Prelude.{◌≤◌};
 
 use crate::files::{PCAP, PCAPNG};
-use ao_base::{Bytes, MemSink, MemSource, Numbers};
+use ao_base::{MemSink, MemSource};
+use book_base::{Bytes, Numbers};
 use scope_lines::{CaptureFault, Cause, LinesHalt, RecordFault, write_lines};
 use std::alloc::{AllocError, Global};
 use std::test::Fail;

@@ -4,7 +4,7 @@ ghost use Rattle.std.specs.Net.Addr.{segments_of};
 ghost use Rattle.std.specs.Net.Text.{ipv4_text, ipv6_text};
 ghost use Rattle.book_scope_texts.specs.Addresses.{usual_address_of, usual_address_text};
 
-use ao_base::Address;
+use book_base::Address;
 use std::alloc::AllocError;
 use std::net::{IpAddr, Ipv4Addr, Ipv6Addr};
 

@@ -1,9 +1,9 @@
 -- What is laid out of the head of a draft is the segment of the draft.
 use Rattle.std.proofs.Common.{◌≡◌, ℕ, ◌+◌, Bool, true, false, List, ◌++◌, length, Option, Some, None, refl, ap, ◌∙◌, arith, if◌then◌else◌}
-use Rattle.ao_base.specs.declared.address.Address.{Address}
-use Rattle.ao_base.specs.declared.address.Address.TheVariants.{V4, V6}
-use Rattle.ao_base.specs.declared.address.Pair.{Pair}
-use Rattle.ao_base.specs.Algorithms.{mac_length_of}
+use Rattle.book_base.specs.declared.address.Address.{Address}
+use Rattle.book_base.specs.declared.address.Address.TheVariants.{V4, V6}
+use Rattle.book_base.specs.declared.address.Pair.{Pair}
+use Rattle.book_base.specs.Algorithms.{mac_length_of}
 use Rattle.book_segments.specs.Bytes.{put2}
 use Rattle.book_segments.specs.Segments.{IpHeader, Segment, SYN}
 use Rattle.book_keys.specs.Coordination.{Sending}

@@ -1,8 +1,8 @@
 -- A head that was laid out, with its payload and its MAC, is the sealed segment of its draft.
 use Rattle.std.proofs.Common.{◌≡◌, ℕ, ◌/◌, List, length, drop, replicate, Option, Some, refl, sym, ap, subst, ◌∙◌}
 use Rattle.std.proofs.lemmas.List.{length-replicate}
-use Rattle.ao_base.specs.declared.address.Pair.{Pair}
-use Rattle.ao_base.specs.Algorithms.{mac_length_of}
+use Rattle.book_base.specs.declared.address.Pair.{Pair}
+use Rattle.book_base.specs.Algorithms.{mac_length_of}
 use Rattle.book_segments.specs.Bytes.{ring}
 use Rattle.book_segments.specs.Options.{Ao, One, find_ao}
 use Rattle.book_segments.specs.Segments.{Segment, spell}

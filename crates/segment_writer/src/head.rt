@@ -7,7 +7,7 @@ ghost use Rattle.wrap_seq.specs.Counter.{number as value_of};
 ghost use Rattle.segment_writer.specs.Heads.{head_of, mss_with, window_with, expected_with};
 
 use crate::outgoing::Outgoing;
-use ao_base::{Address, Pair};
+use book_base::{Address, Pair};
 use key_coordination::Sending;
 use tcp_segment::Head;
 use wrap_seq::Counter;

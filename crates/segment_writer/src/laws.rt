@@ -1,7 +1,7 @@
 //! What is laid out is the segment of the definitions, as a clause of a function that does nothing.
 ghost use Rattle.std.specs.Prelude.{◌≡◌, ℕ, List, length};
-ghost use Rattle.ao_base.specs.declared.address.Pair.{Pair};
-ghost use Rattle.ao_base.specs.Algorithms.{mac_length_of};
+ghost use Rattle.book_base.specs.declared.address.Pair.{Pair};
+ghost use Rattle.book_base.specs.Algorithms.{mac_length_of};
 ghost use Rattle.book_keys.specs.Coordination.{Sending};
 ghost use Rattle.book_endpoint.specs.Emissions.{Draft, written};
 ghost use Rattle.book_endpoint.specs.States.{EndState};

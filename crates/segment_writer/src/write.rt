@@ -1,6 +1,6 @@
 //! A segment, written and sealed.
 ghost use Rattle.std.specs.Prelude.{◌≡◌, true, ◌≤◌, ◌+◌, ◌-◌, ◌^◌, ℕ, length, Some, slice_index_or};
-ghost use Rattle.ao_base.specs.declared.address.Pair.{Pair as Sockets};
+ghost use Rattle.book_base.specs.declared.address.Pair.{Pair as Sockets};
 ghost use Rattle.book_keys.specs.Coordination.{Sending as Chosen};
 ghost use Rattle.book_keys.specs.Rows.{Row};
 ghost use Rattle.book_endpoint.specs.Emissions.{Draft, Emits, made_under, sealed, sets};
@@ -16,8 +16,9 @@ ghost use Rattle.segment_writer.specs.Heads.{size_of};
 
 use crate::head::head_of;
 use crate::outgoing::{Outgoing, Written};
-use ao_base::{Pair, Steps};
+use ao_base::Steps;
 use ao_check::Association;
+use book_base::Pair;
 use key_coordination::Sending;
 use key_table::Table;
 use lent_bytes::Room;

@@ -2,7 +2,7 @@
 use Rattle.std.proofs.Common.{◌≡◌, ℕ, ◌<◌, ◌≤◌, Bool, true, false, List, length, Option, Some, None, Result, Ok, Err, OnErr, OnOk, refl, sym, ap, subst, ◌∙◌, arith}
 use Rattle.std.proofs.lemmas.Bool.Decides.{nat_tests}
 use Rattle.std.specs.Prelude.{is_some, nat_le, if◌then◌else◌}
-use Rattle.ao_base.specs.declared.address.Pair.{Pair}
+use Rattle.book_base.specs.declared.address.Pair.{Pair}
 use Rattle.book_keys.specs.Rows.{Row}
 use Rattle.book_segments.specs.Segments.{Segment, Reading, Read, Bad as Unread}
 use Rattle.book_endpoint.specs.States.{EndState}
@@ -14,16 +14,16 @@ use Rattle.tcp_endpoint.specs.declared.endpoint.Endpoint.{Endpoint}
 use Rattle.tcp_endpoint.specs.Ends.{FitsEnd, Stands as EndStands}
 use Rattle.tcp_endpoint.specs.Arriving.{Arrives}
 use Rattle.tcp_endpoint.specs.declared.arrival.Arrived.{Arrived}
-use Rattle.ao_node.specs.declared.answer.NodeArrival.{NodeArrival}
-use Rattle.ao_node.specs.declared.answer.NodeArrival.TheVariants as answers
-use Rattle.ao_node.specs.declared.answer.NodeRefusal.{NodeRefusal}
-use Rattle.ao_node.specs.declared.answer.NodeRefusal.TheVariants as refusals
-use Rattle.ao_node.specs.Arrivals.{Comes, ComesTo, HearsAt}
-use Rattle.ao_node.specs.Held.{Holding, end_at, ends, holds, refusal, Adds, Begins, IsRefused, Removes, Ticks}
-use Rattle.ao_node.specs.Lending.{written}
-use Rattle.ao_node.proofs.MapLaws.{written_finds, written_count}
-use Rattle.node_run.specs.Nodes.{StandsFor, StandsAt, HoldsAs}
-use Rattle.node_run.proofs.HoldLaws.{put_holds, drop_holds, add_holds, tick_holds, held_alike}
+use Rattle.node_ends.specs.declared.answer.NodeArrival.{NodeArrival}
+use Rattle.node_ends.specs.declared.answer.NodeArrival.TheVariants as answers
+use Rattle.node_ends.specs.declared.answer.NodeRefusal.{NodeRefusal}
+use Rattle.node_ends.specs.declared.answer.NodeRefusal.TheVariants as refusals
+use Rattle.node_ends.specs.Arrivals.{Comes, ComesTo, HearsAt}
+use Rattle.node_ends.specs.Held.{Holding, end_at, ends, holds, refusal, Adds, Begins, IsRefused, Removes, Ticks}
+use Rattle.node_ends.specs.Lending.{written}
+use Rattle.node_ends.proofs.MapLaws.{written_finds, written_count}
+use Rattle.ao_node.specs.Nodes.{StandsFor, StandsAt, HoldsAs}
+use Rattle.ao_node.proofs.HoldLaws.{put_holds, drop_holds, add_holds, tick_holds, held_alike}
 use Rattle.stack_ends.specs.declared.ends.Ends.{Ends}
 use Rattle.stack_ends.specs.Calling.{Asking, CallsAt}
 use Rattle.stack_ends.specs.Meeting.{Meets, MeetsPair, MeetsRead}

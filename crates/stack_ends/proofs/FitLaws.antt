@@ -2,7 +2,7 @@
 use Rattle.std.proofs.Common.{◌≡◌, ℕ, Bool, true, false, List, Option, Some, None, Result, Ok, Err, refl, sym, ap, ◌∙◌}
 use Rattle.std.specs.Prelude.{is_some, if◌then◌else◌, OnErr, OnOk}
 use mathlib.Core.Path.{subst}
-use Rattle.ao_base.specs.declared.address.Pair.{Pair}
+use Rattle.book_base.specs.declared.address.Pair.{Pair}
 use Rattle.book_segments.specs.Segments.{Segment, Reading, Read, Bad as Unread}
 use Rattle.book_keys.specs.Rows.{Row}
 use Rattle.book_endpoint.specs.States.{EndState}
@@ -10,12 +10,12 @@ use Rattle.book_cmd_node.specs.NodeRuns.{same_pair}
 use Rattle.book_segments.specs.Segments.{pair_reached}
 use Rattle.tcp_endpoint.specs.declared.endpoint.Endpoint.{Endpoint}
 use Rattle.tcp_endpoint.specs.Ends.{FitsEnd}
-use Rattle.ao_node.specs.declared.answer.NodeArrival.{NodeArrival}
-use Rattle.ao_node.specs.declared.answer.NodeRefusal.{NodeRefusal}
-use Rattle.ao_node.specs.Arrivals.{Comes, ComesTo}
-use Rattle.ao_node.specs.Held.{Holding, end_at, Adds, Begins, FitsAll, Removes, Ticks, TicksAt}
-use Rattle.ao_node.specs.Lending.{written}
-use Rattle.ao_node.proofs.MapLaws.{written_finds}
+use Rattle.node_ends.specs.declared.answer.NodeArrival.{NodeArrival}
+use Rattle.node_ends.specs.declared.answer.NodeRefusal.{NodeRefusal}
+use Rattle.node_ends.specs.Arrivals.{Comes, ComesTo}
+use Rattle.node_ends.specs.Held.{Holding, end_at, Adds, Begins, FitsAll, Removes, Ticks, TicksAt}
+use Rattle.node_ends.specs.Lending.{written}
+use Rattle.node_ends.proofs.MapLaws.{written_finds}
 
 pub fits_put : (rows : List Row) (before after : Holding) (p : Pair) (f : Endpoint) → FitsAll rows before
     → ((q : Pair) → end_at after q ≡ (if same_pair p q then Some f else end_at before q)) → FitsEnd rows f → FitsAll rows after

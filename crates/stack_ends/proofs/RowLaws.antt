@@ -1,6 +1,6 @@
 -- Ends go on under a table where a row was added or withdrawn.
 use Rattle.std.proofs.Common.{◌≡◌, ℕ, List, Option, Some, None, Result, Ok, Err, sym, ap, subst, ◌∙◌}
-use Rattle.ao_base.specs.declared.address.Pair.{Pair}
+use Rattle.book_base.specs.declared.address.Pair.{Pair}
 use Rattle.book_keys.specs.Rows.{Row, Table}
 use Rattle.book_keys.specs.Tables.{AddedAs, Addition, Withdrawn, adding, withdrawn}
 use Rattle.book_keys.specs.declared.new_row.AddRefusal.{AddRefusal}
@@ -10,8 +10,8 @@ use Rattle.book_endpoint.specs.States.{EndState}
 use Rattle.book_cmd_node.specs.NodeRuns.{NodeState, held_end}
 use Rattle.tcp_endpoint.specs.declared.endpoint.Endpoint.{Endpoint}
 use Rattle.tcp_endpoint.specs.Ends.{FitsEnd}
-use Rattle.ao_node.specs.Held.{Holding, FitsAll, end_at}
-use Rattle.node_run.specs.Nodes.{StandsAt}
+use Rattle.node_ends.specs.Held.{Holding, FitsAll, end_at}
+use Rattle.ao_node.specs.Nodes.{StandsAt}
 use Rattle.stack_ends.specs.declared.ends.Ends.{Ends}
 use Rattle.stack_ends.specs.Rows.{RowAdded, RowWithdrawn}
 use Rattle.stack_ends.specs.Standing.{Stands}

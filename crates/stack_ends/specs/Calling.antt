@@ -1,6 +1,6 @@
 -- The end of a pair is called (own).
 use Rattle.std.specs.Prelude.{◌≡◌, ℕ, List, ◌++◌, length, drop, Option, Some, None, ⊤}
-use Rattle.ao_base.specs.declared.address.Pair.{Pair}
+use Rattle.book_base.specs.declared.address.Pair.{Pair}
 use Rattle.book_keys.specs.Rows.{Row}
 use Rattle.book_endpoint.specs.States.{EndState}
 use Rattle.book_cmd_node.specs.declared.node.Act.{Act}
@@ -9,7 +9,7 @@ use Rattle.tcp_endpoint.specs.declared.giving.GiveAnswer.{GiveAnswer}
 use Rattle.tcp_endpoint.specs.declared.giving.GiveAnswer.TheVariants as given
 use Rattle.book_stack.specs.Turns.{change_by}
 use Rattle.book_stack.specs.Watches.{awaits}
-use Rattle.node_run.specs.Acting.{act_on}
+use Rattle.ao_node.specs.Acting.{act_on}
 use Rattle.stack_ends.specs.declared.calling.Taken.{Taken}
 use Rattle.stack_ends.specs.declared.ends.Ends.{Ends}
 use Rattle.stack_ends.specs.declared.speaking.Spoken.{Spoken}

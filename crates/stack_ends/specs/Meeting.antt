@@ -1,14 +1,14 @@
 -- A datagram comes to the ends of a stack (own).
 use Rattle.std.specs.Prelude.{◌≡◌, List, Option, Some, None}
-use Rattle.ao_base.specs.declared.address.Pair.{Pair}
+use Rattle.book_base.specs.declared.address.Pair.{Pair}
 use Rattle.book_segments.specs.Segments.{Segment, Reading, Read, Bad as Unread}
 use Rattle.book_keys.specs.Rows.{Row}
 use Rattle.book_endpoint.specs.States.{EndState}
 use Rattle.book_endpoint.specs.Arrivals.{arrive}
 use Rattle.book_cmd_node.specs.NodeRuns.{NodeState, DatagramAnswered, after_call, called, held_end}
 use Rattle.book_segments.specs.Segments.{pair_reached}
-use Rattle.ao_node.specs.declared.answer.NodeArrival.{NodeArrival}
-use Rattle.ao_node.specs.declared.answer.NodeArrival.TheVariants as answers
+use Rattle.node_ends.specs.declared.answer.NodeArrival.{NodeArrival}
+use Rattle.node_ends.specs.declared.answer.NodeArrival.TheVariants as answers
 use Rattle.tcp_endpoint.specs.declared.arrival.Arrived.{Arrived}
 use Rattle.stack_ends.specs.declared.ends.Ends.{Ends}
 use Rattle.stack_ends.specs.Standing.{Stands}

@@ -1,12 +1,12 @@
 -- Which nodes of the definitions the ends of a stack stand for (own).
 use Rattle.std.specs.Prelude.{◌≡◌, ◌<◌, ◌≤◌, ℕ, Bool, true, false, List, ◌++◌, [], ◌∷◌, length, Option, Some, None, Result, Ok, Err, is_some}
-use Rattle.ao_base.specs.declared.address.Pair.{Pair}
+use Rattle.book_base.specs.declared.address.Pair.{Pair}
 use Rattle.book_keys.specs.Rows.{Row}
 use Rattle.book_endpoint.specs.States.{EndState}
 use Rattle.book_cmd_node.specs.NodeRuns.{Held, NodeState, held_end, without_end}
-use Rattle.ao_node.specs.declared.answer.NodeRefusal.{NodeRefusal}
-use Rattle.ao_node.specs.declared.answer.NodeRefusal.TheVariants as refusals
-use Rattle.node_run.specs.Nodes.{HoldsAs}
+use Rattle.node_ends.specs.declared.answer.NodeRefusal.{NodeRefusal}
+use Rattle.node_ends.specs.declared.answer.NodeRefusal.TheVariants as refusals
+use Rattle.ao_node.specs.Nodes.{HoldsAs}
 use Rattle.stack_ends.specs.declared.ends.Ends.{Ends}
 
 -- the ends stand for the node under these rows, which are their table's; no pair is held twice (own)

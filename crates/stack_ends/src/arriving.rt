@@ -8,7 +8,7 @@ ghost use Rattle.stack_ends.specs.Standing.{Stands, most_of};
 
 use crate::ends::Ends;
 use ao_base::Steps;
-use ao_node::NodeArrival;
+use node_ends::NodeArrival;
 use std::sync::ledger::Ledger;
 
 impl Ends {

@@ -8,9 +8,9 @@ ghost use Rattle.tcp_segment.specs.Writing.{IsOneFamily};
 ghost use Rattle.stack_ends.specs.Standing.{Stands, Begun, Removed, most_of};
 
 use crate::ends::Ends;
-use ao_base::Pair;
-use ao_node::{Node, NodeRefusal};
+use book_base::Pair;
 use key_table::Table;
+use node_ends::{Node, NodeRefusal};
 use std::alloc::{AllocError, Global};
 
 impl Ends {

@@ -11,7 +11,8 @@ ghost use Rattle.stack_ends.specs.Standing.{Stands, most_of};
 
 use crate::ends::Ends;
 use crate::speaking::{Spoken, repeat, speak};
-use ao_base::{Pair, Steps};
+use ao_base::Steps;
+use book_base::Pair;
 use std::sync::ledger::Ledger;
 use tcp_endpoint::{Endpoint, GiveAnswer};
 

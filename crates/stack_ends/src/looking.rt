@@ -7,7 +7,7 @@ ghost use Rattle.stack_ends.specs.Standing.{Stands};
 
 use crate::ends::Ends;
 use crate::speaking::front_of;
-use ao_base::Pair;
+use book_base::Pair;
 use book_stack::Front;
 
 impl Ends {

@@ -7,8 +7,8 @@ ghost use Rattle.tcp_segment.specs.Writing.{IsOneFamily};
 ghost use Rattle.stack_ends.specs.Standing.{Stands, Begun, most_of};
 
 use crate::ends::Ends;
-use ao_base::Pair;
-use ao_node::NodeRefusal;
+use book_base::Pair;
+use node_ends::NodeRefusal;
 use std::alloc::Global;
 
 impl Ends {

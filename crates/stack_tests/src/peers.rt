@@ -4,8 +4,8 @@ ghost use Rattle.stack_timers.specs.Watching.{latest};
 ghost use Rattle.tcp_segment.specs.Writing.{IsOneFamily};
 
 use crate::way::{LATEST, Way};
-use ao_base::{Address, Algorithm, Bytes, Pair, Socket};
 use ao_stack::{Heard, Stack};
+use book_base::{Address, Algorithm, Bytes, Pair, Socket};
 use book_endpoint::Phase;
 use key_table::{AddRefusal, Direction, Lifetime, NewRow, Table};
 use std::alloc::{AllocError, Global};

@@ -3,7 +3,7 @@ use Rattle.std.proofs.Common.{◌≡◌, List, Some, None, refl, ◌∙◌}
 use Rattle.std.specs.Prelude.{cond}
 use Rattle.std.specs.BTreeMap.{is_at}
 use Rattle.std.specs.Map.{lookup}
-use Rattle.ao_base.specs.declared.address.Pair.{Pair}
+use Rattle.book_base.specs.declared.address.Pair.{Pair}
 use Rattle.book_stack.specs.Watches.{new_connection_watch}
 use Rattle.stack_timers.specs.declared.key.Key.{Key}
 use Rattle.stack_timers.specs.declared.watch.Watch.{Watch}

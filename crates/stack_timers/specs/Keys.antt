@@ -1,10 +1,10 @@
 -- The sockets of a connection, in an order. Our own format.
 use Rattle.std.specs.Prelude.{ℕ}
 use Rattle.std.specs.declared.cmp.Ordering.{Ordering}
-use Rattle.ao_base.specs.declared.address.Address.{Address}
-use Rattle.ao_base.specs.declared.address.Address.TheVariants as address
-use Rattle.ao_base.specs.declared.address.Pair.{Pair}
-use Rattle.ao_base.specs.declared.address.Socket.{Socket}
+use Rattle.book_base.specs.declared.address.Address.{Address}
+use Rattle.book_base.specs.declared.address.Address.TheVariants as address
+use Rattle.book_base.specs.declared.address.Pair.{Pair}
+use Rattle.book_base.specs.declared.address.Socket.{Socket}
 use Rattle.stack_timers.specs.declared.key.Key.{Key}
 use Rattle.stack_timers.specs.declared.key.Place.{Place}
 use Rattle.stack_timers.specs.declared.key.Place.TheVariants.{V4, V6}

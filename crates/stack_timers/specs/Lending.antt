@@ -3,7 +3,7 @@ use Rattle.std.specs.Prelude.{Option}
 use Rattle.std.specs.Borrow.{LendsIf, MutBor, Fml}
 use Rattle.std.specs.Map.{set_value}
 use Rattle.std.specs.BTreeMap.{is_at}
-use Rattle.ao_base.specs.declared.address.Pair.{Pair}
+use Rattle.book_base.specs.declared.address.Pair.{Pair}
 use Rattle.stack_timers.specs.declared.watch.Watch.{Watch}
 use Rattle.stack_timers.specs.contracts.watch.Watch.{the_row as watch_row}
 use Rattle.stack_timers.specs.contracts.watches.Watches.{the_row}

@@ -1,6 +1,6 @@
 -- The lists of a stack, and for how many there is room (own).
 use Rattle.std.specs.Prelude.{ℕ, nat_lt, nat_le, Bool, List, [], ◌∷◌, Option, Some, None, if◌then◌else◌}
-use Rattle.ao_base.specs.declared.address.Pair.{Pair}
+use Rattle.book_base.specs.declared.address.Pair.{Pair}
 use Rattle.book_cmd_node.specs.NodeRuns.{same_pair}
 use Rattle.book_stack.specs.declared.alarm.Alarm.{Alarm}
 

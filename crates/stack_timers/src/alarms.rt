@@ -6,7 +6,7 @@ ghost use Rattle.book_stack.specs.Alarms.{earliest, placed, put_alarm, with_alar
 ghost use Rattle.stack_timers.specs.Places.{is_later, is_of, left_due, taken_due};
 
 use crate::line::is_same_pair;
-use ao_base::Pair;
+use book_base::Pair;
 use book_stack::Alarm;
 use std::alloc::{AllocError, Global};
 use std::marker::Model;

@@ -2,7 +2,7 @@
 ghost use Rattle.std.specs.Prelude.{◌≡◌};
 ghost use Rattle.stack_timers.specs.Keys.{place_of, key_of};
 
-use ao_base::{Address, Pair, Socket};
+use book_base::{Address, Pair, Socket};
 
 /// A socket, in an order: IPv4 first, then by the bytes of the address, then by the port.
 #[derive(Clone, Copy, Debug, PartialEq, Eq, PartialOrd, Ord)]

@@ -5,7 +5,7 @@ ghost use Rattle.book_stack.specs.Alarms.{lined, stands_in, without_pair};
 ghost use Rattle.book_cmd_node.specs.NodeRuns.{same_pair};
 ghost use Rattle.stack_timers.specs.Places.{behind_first, first_of, is_pair};
 
-use ao_base::Pair;
+use book_base::Pair;
 use std::alloc::{AllocError, Global};
 use std::marker::Model;
 

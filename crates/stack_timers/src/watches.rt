@@ -7,7 +7,7 @@ ghost use Rattle.stack_timers.specs.Timing.{KeepsNew, Drops, watch_at};
 
 use crate::key::{Key, key_of};
 use crate::watch::Watch;
-use ao_base::Pair;
+use book_base::Pair;
 use std::alloc::{AllocError, Global};
 use std::collections::BTreeMap;
 use std::marker::Model;

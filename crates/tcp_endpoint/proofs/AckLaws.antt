@@ -1,7 +1,7 @@
 -- An acknowledgement, by the phase.
 use Rattle.std.proofs.Common.{◌≡◌, ℕ, Bool, true, false, not, Option, refl, sym, ap, ◌∙◌, subst}
 use Rattle.std.specs.Prelude.{◌==◌, ◌&&◌, if◌then◌else◌, List}
-use Rattle.ao_base.specs.declared.address.Pair.{Pair}
+use Rattle.book_base.specs.declared.address.Pair.{Pair}
 use Rattle.book_segments.specs.Meant.{meant}
 use Rattle.book_segments.specs.Segments.{Segment, has, SYN, RST, ACK}
 use Rattle.book_keys.specs.Rows.{Row}

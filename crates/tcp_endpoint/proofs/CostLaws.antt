@@ -1,6 +1,6 @@
 -- The work of an arrival.
 use Rattle.std.proofs.Common.{◌≡◌, ◌≤◌, ◌<◌, ◌+◌, ℕ, Bool, true, false, length, List, Option, Some, None, refl, sym, subst, arith}
-use Rattle.ao_base.specs.declared.address.Pair.{Pair}
+use Rattle.book_base.specs.declared.address.Pair.{Pair}
 use Rattle.book_segments.specs.Options.{find_ao}
 use Rattle.book_segments.specs.Segments.{Segment, Reading, Read, has, SYN}
 use Rattle.book_keys.specs.Rows.{Row}

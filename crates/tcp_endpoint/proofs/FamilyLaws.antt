@@ -1,7 +1,7 @@
 -- Addresses of one family.
 use Rattle.std.proofs.Common.{◌≡◌, true, refl}
-use Rattle.ao_base.specs.declared.address.Address.{Address}
-use Rattle.ao_base.specs.declared.address.Address.TheVariants.{V4, V6}
+use Rattle.book_base.specs.declared.address.Address.{Address}
+use Rattle.book_base.specs.declared.address.Address.TheVariants.{V4, V6}
 use Rattle.tcp_segment.specs.Writing.{IsOneFamily}
 use Rattle.tcp_endpoint.specs.Halves.{same_family}
 

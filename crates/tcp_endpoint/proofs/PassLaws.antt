@@ -1,7 +1,7 @@
 -- An arrival that the check judged.
 use Rattle.std.proofs.Common.{◌≡◌, ℕ, Bool, true, false, not, List, Option, Some, None, refl, sym, ap, ◌∙◌, subst, Ok, Err}
 use Rattle.std.specs.Prelude.{if◌then◌else◌, is_some}
-use Rattle.ao_base.specs.declared.address.Pair.{Pair}
+use Rattle.book_base.specs.declared.address.Pair.{Pair}
 use Rattle.book_segments.specs.Segments.{Segment, Read, reading, good}
 use Rattle.book_keys.specs.Rows.{Row}
 use Rattle.book_endpoint.specs.States as states

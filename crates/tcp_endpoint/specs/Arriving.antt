@@ -1,6 +1,6 @@
 -- What an end answers to an arrival, as the definitions answer.
 use Rattle.std.specs.Prelude.{◌≡◌, ◌+◌, ◌≤◌, ◌<◌, ◌^◌, Bool, true, false, length, ℕ, List, Option, Some, None, ⊤}
-use Rattle.ao_base.specs.declared.address.Pair.{Pair}
+use Rattle.book_base.specs.declared.address.Pair.{Pair}
 use Rattle.book_segments.specs.Options as options
 use Rattle.book_segments.specs.Segments.{Reading, Read, Segment, has, FIN, SYN, segment_length}
 use Rattle.book_keys.specs.Rows.{Row}

@@ -1,6 +1,6 @@
 //! An arrival.
 ghost use Rattle.std.specs.Prelude.{◌≡◌, ◌+◌, ◌≤◌, ℕ, Option, Some, None, true, false, is_some};
-ghost use Rattle.ao_base.specs.declared.address.Socket.{Socket};
+ghost use Rattle.book_base.specs.declared.address.Socket.{Socket};
 ghost use Rattle.book_segments.specs.Options.{One, find_ao};
 ghost use Rattle.book_segments.specs.Sockets.{same_socket};
 ghost use Rattle.book_segments.specs.Segments.{Read, Segment, reading};
@@ -16,7 +16,8 @@ use crate::arrival::Arrived;
 use crate::endpoint::Endpoint;
 use crate::phases::is_closed;
 use crate::sequence::Received;
-use ao_base::{Pair, Socket, Steps};
+use ao_base::Steps;
+use book_base::{Pair, Socket};
 use book_endpoint::{Arrival, Verdict};
 use key_table::Table;
 use std::sync::ledger::Ledger;

@@ -7,8 +7,8 @@ ghost use Rattle.tcp_endpoint.specs.Ends.{Stands, FitsEnd};
 
 use crate::endpoint::Endpoint;
 use crate::sequence::{Received, SequenceState};
-use ao_base::{Address, Pair};
 use ao_check::Association;
+use book_base::{Address, Pair};
 use book_endpoint::Phase;
 use key_table::Table;
 use segment_writer::own_mss;

@@ -5,8 +5,8 @@ ghost use Rattle.tcp_endpoint.specs.Halves.{Bound, Owes, Sends, Receives};
 ghost use Rattle.tcp_endpoint.specs.Numbers.{expected_in, fin_in};
 
 use crate::sequence::SequenceState;
-use ao_base::Pair;
 use ao_check::Association;
+use book_base::Pair;
 use book_endpoint::Phase;
 use stream_buffers::{Reassembly, SendQueue};
 

@@ -6,7 +6,7 @@ ghost use Rattle.tcp_endpoint.specs.Numbers.{HasNumbersOf};
 
 use crate::endpoint::Endpoint;
 use crate::sequence::SequenceState;
-use ao_base::Pair;
+use book_base::Pair;
 use book_endpoint::Phase;
 
 impl Endpoint {

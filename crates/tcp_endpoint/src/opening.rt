@@ -12,7 +12,7 @@ use crate::beginning::default_mss;
 use crate::endpoint::Endpoint;
 use crate::flags::{ACK, FIN, RST, SYN, has};
 use crate::sequence::Received;
-use ao_base::Pair;
+use book_base::Pair;
 use book_endpoint::{Arrival, Phase};
 use key_table::Table;
 use tcp_segment::Datagram;

@@ -1,6 +1,6 @@
 //! What a planned segment is made of.
 ghost use Rattle.std.specs.Prelude.{◌≡◌, ◌+◌, ◌-◌, ◌≤◌, ◌^◌, true, min, max, length};
-ghost use Rattle.ao_base.specs.Algorithms.{mac_length_of};
+ghost use Rattle.book_base.specs.Algorithms.{mac_length_of};
 ghost use Rattle.book_segments.specs.Segments.{SYN as Syn};
 ghost use Rattle.book_endpoint.specs.States.{EndState, own_mss};
 ghost use Rattle.book_endpoint.specs.Emissions.{sets};
@@ -12,7 +12,7 @@ use crate::endpoint::Endpoint;
 use crate::flags::{ACK, FIN, PSH, RST, SYN};
 use crate::planning::Plan;
 use crate::sequence::SequenceState;
-use ao_base::Algorithm;
+use book_base::Algorithm;
 use segment_writer::own_mss;
 use wrap_seq::Counter;
 

@@ -2,8 +2,8 @@
 use Rattle.std.proofs.Common.{◌≡◌, ℕ, suc, ◌+◌, ◌-◌, ◌/◌, ◌%◌, ◌<◌, ◌≤◌, true, List, [], ◌∷◌, ◌++◌, length, take, drop, Option, Some, None, refl, sym, ap, subst, ◌∙◌, arith, append_assoc, inl, inr}
 use Rattle.std.specs.Prelude.{slice_range, ◌⊎◌}
 use Rattle.std.proofs.lemmas.List.{length-append, take_at, drop_at, append-nil}
-use Rattle.ao_base.specs.declared.address.Address.{Address}
-use Rattle.ao_base.specs.declared.address.Address.TheVariants.{V4, V6}
+use Rattle.book_base.specs.declared.address.Address.{Address}
+use Rattle.book_base.specs.declared.address.Address.TheVariants.{V4, V6}
 use Rattle.book_segments.specs.Bytes.{put2, put4}
 use Rattle.book_segments.specs.Sockets.{octets}
 use Rattle.book_segments.specs.Options.{Opt, Listed, AreListed, Ao, One, options_of, find_ao}

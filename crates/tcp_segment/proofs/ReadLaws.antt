@@ -4,9 +4,9 @@ use Rattle.std.specs.Prelude.{slice_index, slice_range, ◌==◌, if◌then◌el
 use Rattle.std.proofs.lemmas.Bool.{lt-ltb, ne_eqb}
 use Rattle.std.proofs.lemmas.List.{length-drop, length-take, take_at, drop_at, drop-drop, drop-take, take-take}
 use Rattle.std.proofs.Math.Seq.{take-add}
-use Rattle.ao_base.specs.declared.address.Address.{Address}
-use Rattle.ao_base.specs.declared.address.Address.TheVariants.{V4, V6}
-use Rattle.ao_base.specs.declared.address.Socket.{Socket}
+use Rattle.book_base.specs.declared.address.Address.{Address}
+use Rattle.book_base.specs.declared.address.Address.TheVariants.{V4, V6}
+use Rattle.book_base.specs.declared.address.Socket.{Socket}
 use Rattle.book_segments.specs.Bytes.{put2, put4}
 use Rattle.book_segments.specs.Sockets.{octets}
 use Rattle.book_segments.specs.declared.fault.DatagramFault.{DatagramFault}

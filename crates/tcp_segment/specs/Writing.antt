@@ -1,7 +1,7 @@
 -- The written form of a datagram: what a sender lays out of a head, a MAC and a payload.
 use Rattle.std.specs.Prelude.{◌≡◌, ℕ, ◌+◌, ◌*◌, ◌<◌, ◌≤◌, ◌⊎◌, List, [], ◌∷◌, ◌++◌, length, Option, Some, None}
-use Rattle.ao_base.specs.declared.address.Address.{Address}
-use Rattle.ao_base.specs.declared.address.Address.TheVariants.{V4, V6}
+use Rattle.book_base.specs.declared.address.Address.{Address}
+use Rattle.book_base.specs.declared.address.Address.TheVariants.{V4, V6}
 use Rattle.book_segments.specs.Bytes.{put2, put4, ring}
 use Rattle.book_segments.specs.Segments.{IpHeader, Segment, complement_of, spell, reading, Read}
 use Rattle.book_segments.specs.Spelling.{Fits, Good, with_sum, finished}

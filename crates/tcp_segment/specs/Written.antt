@@ -1,8 +1,8 @@
 -- The written form of a datagram: what a sender lays out. Where the standards leave a choice, it is our own.
 use Rattle.std.specs.Prelude.{ℕ, ◌+◌, List, [], ◌∷◌, ◌++◌, length, Option, Some, None}
-use Rattle.ao_base.specs.declared.address.Address.{Address}
-use Rattle.ao_base.specs.declared.address.Address.TheVariants.{V4, V6}
-use Rattle.ao_base.specs.declared.address.Socket.{Socket}
+use Rattle.book_base.specs.declared.address.Address.{Address}
+use Rattle.book_base.specs.declared.address.Address.TheVariants.{V4, V6}
+use Rattle.book_base.specs.declared.address.Socket.{Socket}
 use Rattle.book_segments.specs.Bytes.{put2}
 use Rattle.book_segments.specs.Sockets.{octets}
 use Rattle.book_segments.specs.Segments.{IpHeader, Ipv4, Ipv6, Segment, complement_of}

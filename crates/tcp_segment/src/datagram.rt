@@ -1,13 +1,13 @@
 //! A datagram in the caller's bytes.
 ghost use Rattle.std.specs.Prelude.{◌≡◌, ℕ, List, [], ◌+◌, ◌*◌, ◌/◌, ◌%◌, ◌≤◌, ◌<◌, ◌++◌, length, take, drop, slice_index, slice_range, IfOk, IfErr, IsOkAnd};
-ghost use Rattle.ao_base.specs.declared.address.Address.TheVariants.{V4, V6};
+ghost use Rattle.book_base.specs.declared.address.Address.TheVariants.{V4, V6};
 ghost use Rattle.book_segments.specs.Segments.{Segment, reading, Read, Bad, first_fault, fields, spell, header, good};
 ghost use Rattle.book_segments.specs.Spelling.{AreBytes, Fits, Spells};
 ghost use Rattle.tcp_segment.specs.Places.{IsRead};
 
 use crate::reading::{Places, places_in};
 use crate::sums::{address_sum, four, two, words_modulo};
-use ao_base::{Address, Socket};
+use book_base::{Address, Socket};
 use book_segments::DatagramFault;
 use std::marker::Model;
 use tcp_options::{Options, options_over};

@@ -10,7 +10,7 @@ ghost use Rattle.tcp_segment.specs.Drafts.{Drafted};
 use crate::draft::{DatagramMut, Draft};
 use crate::parts::{put, put_zeros};
 use crate::sums::{complement, words};
-use ao_base::{Address, Socket};
+use book_base::{Address, Socket};
 use byteorder::{BigEndian, ByteOrder};
 
 /// What a sender sets in a datagram. The addresses are of one family, and the MAC of TCP-AO has 12

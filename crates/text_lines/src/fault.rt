@@ -4,7 +4,7 @@ ghost use Rattle.book_lines.specs.Faults.{input_fault_text, kind_text};
 ghost use Rattle.book_lines.specs.Texts.{line_text, spaced};
 
 use crate::writing::{push_newline, push_number, push_text};
-use ao_base::{Bytes, LineKind};
+use book_base::{Bytes, LineKind};
 use book_lines::TextFault;
 use std::alloc::{AllocError, Global};
 

@@ -1,14 +1,12 @@
 //! The words of a line, read one by one.
 ghost use Rattle.std.specs.Prelude.{◌≡◌, ℕ, ◌≤◌, ◌<◌, List, drop, length, IfOk, MatchResult, Ok, Err};
-ghost use Rattle.ao_base.specs.Lines.{words_of};
+ghost use Rattle.book_base.specs.Lines.{words_of};
 ghost use Rattle.book_lines.specs.Words.{word_in, nothing_in, literal_in, choice_of, choice_in, end_of, end_in, address_in, socket_in, algorithm_in, number_in, hex_in, sized_hex_in, some_hex_in, byte_in};
 ghost use Rattle.text_lines.specs.Readings.{gives, Tells};
 
 use crate::refusal::Refusal;
-use ao_base::{
-    Address, Algorithm, Bytes, End, HexProblem, LineKind, Socket, next_word, read_address,
-    read_decimal, read_hex,
-};
+use ao_base::{HexProblem, next_word, read_address, read_decimal, read_hex};
+use book_base::{Address, Algorithm, Bytes, End, LineKind, Socket};
 use std::alloc::Global;
 use std::marker::Model;
 

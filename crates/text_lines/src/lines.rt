@@ -1,6 +1,6 @@
 //! The lines of a text, one after another.
 ghost use Rattle.std.specs.Prelude.{◌≡◌, ◌+◌, ◌≤◌, ◌<◌, [], ◌∷◌, MatchOption, MatchResult, drop, length};
-ghost use Rattle.ao_base.specs.Lines.{lines_of};
+ghost use Rattle.book_base.specs.Lines.{lines_of};
 ghost use Rattle.book_lines.specs.Lines.{most_lines};
 ghost use Rattle.book_lines.specs.declared.text_fault.TextFault.TheVariants as fault;
 
@@ -20,7 +20,7 @@ pub(crate) struct Lines<'a> {
 
 impl<'a> Model for Lines<'a> {
     ghost use Rattle.std.specs.Prelude.{List, ℕ, ◌≤◌, drop, length};
-    ghost use Rattle.ao_base.specs.Lines.{lines_of};
+    ghost use Rattle.book_base.specs.Lines.{lines_of};
 
     ghost Value = { List (List ℕ) };
 

@@ -3,7 +3,7 @@ ghost use Rattle.std.specs.Prelude.{◌≡◌};
 ghost use Rattle.text_lines.specs.declared.refusal.Refusal.TheVariants as refusal;
 ghost use Rattle.text_lines.specs.Readings.{fault_at};
 
-use ao_base::LineKind;
+use book_base::LineKind;
 use book_lines::TextFault;
 use std::alloc::AllocError;
 use thiserror::Error;

@@ -1,6 +1,6 @@
 //! The lines of a text that say something, one after another.
 ghost use Rattle.std.specs.Prelude.{◌≡◌, ◌+◌, ◌<◌, ◌^◌, [], ◌∷◌, MatchOption, length};
-ghost use Rattle.ao_base.specs.Lines.{lines_of, words_of};
+ghost use Rattle.book_base.specs.Lines.{lines_of, words_of};
 ghost use Rattle.book_lines.specs.Lines.{is_comment, saying_from, saying_lines, says_something};
 
 use crate::line_words::LineWords;

@@ -1,10 +1,11 @@
 //! Texts put behind one another, with a space in front of each. Where memory runs out, a part of
 //! them may stand there.
 ghost use Rattle.std.specs.Prelude.{◌≡◌, ◌++◌, ◌∷◌, [], OnOk, decimal};
-ghost use Rattle.ao_base.specs.Hexadecimal.{hex_of};
+ghost use Rattle.book_base.specs.Hexadecimal.{hex_of};
 ghost use Rattle.book_lines.specs.Texts.{end_text, socket_texts, spaced};
 
-use ao_base::{End, Socket, print_address, push_decimal, push_hex};
+use ao_base::{print_address, push_decimal, push_hex};
+use book_base::{End, Socket};
 use std::alloc::{AllocError, Global};
 
 /// Puts a space and the text behind `out`.

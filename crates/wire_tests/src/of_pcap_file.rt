@@ -1,6 +1,7 @@
 ghost use Rattle.std.specs.Prelude.{◌≡◌, false};
 
-use ao_base::{Bytes, MemSource, Numbers};
+use ao_base::MemSource;
+use book_base::{Bytes, Numbers};
 use pcap_file::{HeadFault, PacketStep, Packets};
 use std::alloc::{AllocError, Global};
 use std::test::Fail;

@@ -1,7 +1,7 @@
 ghost use Rattle.std.specs.Prelude.{◌≡◌, ◌≤◌, length};
 ghost use Rattle.tcp_segment.specs.Writing.{IsHead};
 
-use ao_base::{Address, Socket};
+use book_base::{Address, Socket};
 use std::test::Fail;
 use tcp_options::OptionFault;
 use tcp_segment::{DatagramFault, Head, fix_checksum, read_datagram, write_datagram};

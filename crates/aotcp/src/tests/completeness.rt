@@ -4,8 +4,9 @@ ghost use Rattle.std.specs.Prelude.{◌≡◌, ◌⊎◌, ◌<◌, [], IfOk, len
 ghost use Rattle.book_answer.specs.Answers.{answer_of};
 ghost use Rattle.book_answer.specs.Commands.{command_of};
 
-use ao_base::{Bytes, MemSink, MemSource, Numbers, QuietSink, Words};
+use ao_base::{MemSink, MemSource, QuietSink};
 use ao_run::run;
+use book_base::{Bytes, Numbers, Words};
 use std::alloc::{AllocError, Global};
 
 /// A source of these bytes, no call of which is told to fail.

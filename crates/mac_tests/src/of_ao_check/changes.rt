@@ -4,8 +4,9 @@ ghost use Rattle.ao_check.specs.Bonds.{Bond, Fits};
 
 use super::passes::PAST_A_LAP;
 use super::{LOCAL, PAIR, REMOTE, add, arriving};
-use ao_base::{Algorithm, Pair, Steps};
+use ao_base::Steps;
 use ao_check::{Association, Verdict};
+use book_base::{Algorithm, Pair};
 use key_table::{NoRow, Table};
 use std::alloc::Global;
 use std::marker::Brand;

@@ -1,8 +1,8 @@
 //! Segments that were signed elsewhere: by RFC 9235, and by `oracle/vectors_check.py`, a program on
 //! Python's `hmac` alone. Their master key is `testvector`.
 use super::{END, LAST, PAIR, four_rows, verdict};
-use ao_base::{Address, Pair, Socket};
 use ao_check::Verdict;
+use book_base::{Address, Pair, Socket};
 use key_table::Table;
 use std::alloc::{AllocError, Global};
 use std::test::Fail;

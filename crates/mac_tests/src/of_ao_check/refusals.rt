@@ -1,8 +1,8 @@
 //! Each refusal in front of those behind it. The segments are over IPv6 and have 40 bytes of
 //! options; their MACs are wrong.
 use super::{END, LAST, four_rows, verdict};
-use ao_base::{Address, Pair, Socket};
 use ao_check::Verdict;
+use book_base::{Address, Pair, Socket};
 use key_table::Table;
 use std::alloc::{AllocError, Global};
 use std::test::Fail;

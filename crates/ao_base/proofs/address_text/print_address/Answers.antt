@@ -1,6 +1,6 @@
 use Rattle.std.proofs.Common.{ap}
-use Rattle.ao_base.specs.Addresses.{address_text}
-use Rattle.ao_base.proofs.AddressLaws.{address_text-V4, address_text-V6}
+use Rattle.book_base.specs.Addresses.{address_text}
+use Rattle.book_base.proofs.AddressLaws.{address_text-V4, address_text-V6}
 use Rattle.ao_base.proofs.address_text.print_address.Goals as goal
 use Rattle.ao_base.proofs.address_text.print_address.Goals.{in-V4+in_ok-push_dotted-in-V4, in-V6+in_ok-push_hex-in-V6}
 

@@ -1,4 +1,4 @@
-use Rattle.ao_base.proofs.AddressLaws.{four_pushed}
+use Rattle.book_base.proofs.AddressLaws.{four_pushed}
 use Rattle.ao_base.proofs.address_text.push_dotted.Goals as goal
 
 pub returns : goal.returns

@@ -1,5 +1,5 @@
 use Rattle.std.proofs.Common.{◌∙◌, sym}
-use Rattle.ao_base.proofs.AddressLaws.{not_32, hex_ok, hex_err}
+use Rattle.book_base.proofs.AddressLaws.{not_32, hex_ok, hex_err}
 use Rattle.ao_base.proofs.address_text.read_address.Goals as goal
 
 pub returns-then-word-ne32 : goal.returns-then-word-ne32

@@ -1,5 +1,5 @@
 use Rattle.std.proofs.Common.{◌∙◌, sym}
-use Rattle.ao_base.proofs.AddressLaws.{none_one, none_two, none_three, none_five, just_four}
+use Rattle.book_base.proofs.AddressLaws.{none_one, none_two, none_three, none_five, just_four}
 use Rattle.ao_base.proofs.address_text.read_dotted.Goals as goal
 
 pub returns-in_err-a : goal.returns-in_err-a

@@ -1,6 +1,6 @@
 use Rattle.std.proofs.Common.{◌+◌, add-one}
 use Rattle.std.proofs.lemmas.List.{take_rest}
-use Rattle.ao_base.proofs.AddressLaws.{split_some, split_none}
+use Rattle.book_base.proofs.AddressLaws.{split_some, split_none}
 use Rattle.ao_base.proofs.address_text.split_dot.Goals as goal
 
 pub returns-in-Some : goal.returns-in-Some

@@ -1,5 +1,5 @@
 use Rattle.std.proofs.Common.{sym, ◌∙◌, arith}
-use Rattle.ao_base.proofs.DecimalLaws.{none_long, none_other, parsed, digits_utf8, all_digits}
+use Rattle.book_base.proofs.DecimalLaws.{none_long, none_other, parsed, digits_utf8, all_digits}
 use Rattle.ao_base.proofs.decimal.read_decimal.Goals as goal
 
 pub returns-then-word-gt20 : goal.returns-then-word-gt20

@@ -1,5 +1,5 @@
 use Rattle.std.proofs.Common.{ℕ, ◌*◌, ◌<◌}
-use Rattle.ao_base.proofs.HexadecimalLaws.{IsRead}
+use Rattle.book_base.proofs.HexadecimalLaws.{IsRead}
 use Rattle.ao_base.proofs.hexadecimal.decode_blocks.Given as goal
 
 abbrev pub invariant-whole : goal.invariant-whole

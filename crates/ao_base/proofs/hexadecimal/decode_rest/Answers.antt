@@ -1,6 +1,6 @@
 use Rattle.std.proofs.Common.{arith}
 use Rattle.std.proofs.lemmas.Bool.{ltb-true}
-use Rattle.ao_base.proofs.HexadecimalLaws.{decoding_on, decoding_done}
+use Rattle.book_base.proofs.HexadecimalLaws.{decoding_on, decoding_done}
 use Rattle.ao_base.proofs.hexadecimal.decode_rest.Goals as goal
 
 pub pairs-preserved : goal.pairs-preserved

@@ -1,5 +1,5 @@
 use Rattle.std.proofs.Common.{arith, refl}
-use Rattle.ao_base.proofs.HexadecimalLaws.{odd_none}
+use Rattle.book_base.proofs.HexadecimalLaws.{odd_none}
 use Rattle.ao_base.proofs.hexadecimal.read_hex.Goals as goal
 
 pub returns-then-word-ne0-clause-not_hex : goal.returns-then-word-ne0-clause-not_hex

@@ -1,6 +1,6 @@
 use Rattle.std.proofs.Common.{sym, ◌∙◌, refl}
 use Rattle.std.proofs.lemmas.Option.{none-some}
-use Rattle.ao_base.proofs.HexadecimalLaws.{other_none, digits_some}
+use Rattle.book_base.proofs.HexadecimalLaws.{other_none, digits_some}
 use Rattle.ao_base.proofs.hexadecimal.without_memory.Goals as goal
 
 pub returns-then-is_hex : goal.returns-then-is_hex

@@ -1,6 +1,6 @@
 use Rattle.std.proofs.Common.{not}
-use Rattle.ao_base.specs.Lines.{is_blank}
-use Rattle.ao_base.proofs.LineLaws.{place_or_length, in_front}
+use Rattle.book_base.specs.Lines.{is_blank}
+use Rattle.book_base.proofs.LineLaws.{place_or_length, in_front}
 use Rattle.ao_base.proofs.lines.blanks_length.Goals as goal
 
 pub returns-clause-length : goal.returns-clause-length

@@ -1,7 +1,7 @@
 use Rattle.std.proofs.Common.{◌≡◌, ◌-◌, length, take, drop, sym, ◌∙◌, arith}
 use Rattle.std.proofs.lemmas.List.{take_rest}
 use Rattle.std.proofs.lemmas.Bool.{eqb-true, eqb-false}
-use Rattle.ao_base.proofs.LineLaws.{next_line_is, no_line}
+use Rattle.ao_base.proofs.CutLaws.{next_line_is, no_line}
 use Rattle.ao_base.proofs.lines.next_line.Goals as goal
 
 pub returns-then-is_empty : goal.returns-then-is_empty

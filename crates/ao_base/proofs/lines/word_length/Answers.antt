@@ -1,5 +1,5 @@
-use Rattle.ao_base.specs.Lines.{is_blank}
-use Rattle.ao_base.proofs.LineLaws.{first_or_length, first_within}
+use Rattle.book_base.specs.Lines.{is_blank}
+use Rattle.ao_base.proofs.CutLaws.{first_or_length, first_within}
 use Rattle.ao_base.proofs.lines.word_length.Goals as goal
 
 pub returns-clause-length : goal.returns-clause-length

@@ -1,5 +1,5 @@
 use Rattle.std.specs.Prelude.{[], ◌∷◌}
-use Rattle.ao_base.specs.declared.end.End.TheVariants.{A}
+use Rattle.book_base.specs.declared.end.End.TheVariants.{A}
 use Rattle.book_link.specs.declared.event.Event.TheVariants.{Start}
 use Rattle.book_link.specs.Storm.{storm_setup}
 use Rattle.cmd_link.proofs.running.started.Goals as goal

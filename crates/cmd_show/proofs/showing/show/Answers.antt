@@ -1,6 +1,6 @@
 use Rattle.std.proofs.Common.{arith}
 use Rattle.std.proofs.lemmas.Result.{err_from_is_err_and}
-use Rattle.ao_base.specs.Lines.{lines_of}
+use Rattle.book_base.specs.Lines.{lines_of}
 use Rattle.book_lines.specs.Lines.{saying_from}
 use Rattle.cmd_show.proofs.TextLaws.{never_too_many}
 use Rattle.text_lines.proofs.SaidLaws.{same_problem}

@@ -1,5 +1,5 @@
 use Rattle.std.proofs.Common.{◌≡◌, length, refl, sym, ◌∙◌}
-use Rattle.ao_base.specs.Algorithms.{mac_length_of}
+use Rattle.book_base.specs.Algorithms.{mac_length_of}
 use Rattle.book_segments.specs.Options.{One, find_ao}
 use Rattle.tcp_options.specs.Views.{view_ao}
 use Rattle.cmd_show.proofs.SignedLaws.{signed_so}

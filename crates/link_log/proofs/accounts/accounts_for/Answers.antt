@@ -1,6 +1,6 @@
 use Rattle.std.proofs.Common.{sym, ap, ◌∙◌}
 use denote.Enum.Bare.{same_false}
-use Rattle.ao_base.specs.contracts.end.End.{the_type}
+use Rattle.book_base.specs.contracts.end.End.{the_type}
 use Rattle.book_segments.specs.Segments.{reading}
 use Rattle.link_log.proofs.AccountLaws.{by_key, by_context, by_input}
 use Rattle.ao_mac.proofs.InputLaws.{holds}

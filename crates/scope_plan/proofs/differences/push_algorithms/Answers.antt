@@ -1,5 +1,5 @@
 use Rattle.std.specs.Prelude.{codes}
-use Rattle.ao_base.specs.Algorithms.{name_of}
+use Rattle.book_base.specs.Algorithms.{name_of}
 use Rattle.book_scope_plan.specs.FindingTexts.{algorithms_text}
 use Rattle.scope_plan.proofs.Parts.{five}
 use Rattle.scope_plan.proofs.differences.push_algorithms.Goals as goal

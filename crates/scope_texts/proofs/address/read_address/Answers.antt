@@ -1,6 +1,6 @@
 use Rattle.std.proofs.Common.{Some, sym, ap, ◌∙◌}
 use Rattle.std.specs.declared.net.ip_addr.IpAddr.TheVariants as ip
-use Rattle.ao_base.specs.declared.address.Address.TheVariants.{V4, V6}
+use Rattle.book_base.specs.declared.address.Address.TheVariants.{V4, V6}
 use Rattle.book_scope_texts.proofs.AddressLaws.{dotted_read, groups_read, others_refused}
 use Rattle.scope_texts.proofs.address.read_address.Goals as goal
 

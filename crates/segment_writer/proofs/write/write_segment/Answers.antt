@@ -1,5 +1,5 @@
 use Rattle.std.proofs.Common.{rules, ◌≡◌, ◌≤◌, ℕ, List, length, sym, ap, subst, ◌∙◌}
-use Rattle.ao_base.specs.Algorithms.{mac_length_of}
+use Rattle.book_base.specs.Algorithms.{mac_length_of}
 use Rattle.book_macs.specs.Contexts.{bytes_of}
 use Rattle.book_keys.specs.Rows.{Row}
 use Rattle.tcp_segment.specs.Lending.{with_payload}

@@ -1,5 +1,5 @@
 use Rattle.std.proofs.Common.{◌≡◌, ◌+◌, ◌≤◌, length}
-use Rattle.ao_base.specs.Lines.{lines_of}
+use Rattle.book_base.specs.Lines.{lines_of}
 use Rattle.text_lines.proofs.lines.count_lines.Given as goal
 
 abbrev pub invariant-loop-count : goal.invariant-loop-count

@@ -1,8 +1,8 @@
 use Rattle.std.proofs.Common.{refl, sym, subst}
 use Rattle.book_segments.specs.Segments.{reading}
 use Rattle.book_stack.specs.Calls.{Incoming, Input}
-use Rattle.ao_node.specs.declared.answer.NodeArrival.{NodeArrival}
-use Rattle.ao_node.specs.declared.answer.NodeArrival.TheVariants.{At}
+use Rattle.node_ends.specs.declared.answer.NodeArrival.{NodeArrival}
+use Rattle.node_ends.specs.declared.answer.NodeArrival.TheVariants.{At}
 use Rattle.ao_stack.specs.declared.arriving.Heard.TheVariants as heard
 use Rattle.ao_stack.specs.declared.stack.Stack.{Stack}
 use Rattle.ao_stack.specs.Answering.{Follows, IsHeard}

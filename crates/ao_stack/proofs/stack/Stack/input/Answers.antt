@@ -1,10 +1,10 @@
 use Rattle.std.proofs.Common.{◌≡◌, ap, ◌∙◌}
-use Rattle.ao_base.specs.declared.address.Pair.{Pair}
-use Rattle.ao_base.specs.declared.address.Socket.{Socket}
+use Rattle.book_base.specs.declared.address.Pair.{Pair}
+use Rattle.book_base.specs.declared.address.Socket.{Socket}
 use Rattle.book_segments.specs.Segments.{Read, Bad}
 use Rattle.book_segments.specs.Segments.{pair_reached}
 use Rattle.book_stack.specs.Calls.{Incoming}
-use Rattle.ao_node.specs.declared.answer.NodeArrival.TheVariants as arrivals
+use Rattle.node_ends.specs.declared.answer.NodeArrival.TheVariants as arrivals
 use Rattle.ao_stack.specs.declared.arriving.Heard.TheVariants as heards
 use Rattle.ao_stack.proofs.ArriveLaws.{came_bad, inputs}
 use Rattle.ao_stack.proofs.stack.Stack.input.Goals as goal

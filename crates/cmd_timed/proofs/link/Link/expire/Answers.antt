@@ -1,4 +1,4 @@
-use Rattle.ao_base.specs.declared.end.End.TheVariants.{A, B}
+use Rattle.book_base.specs.declared.end.End.TheVariants.{A, B}
 use Rattle.cmd_timed.proofs.LinkLaws.{expires_here}
 use Rattle.cmd_timed.proofs.link.Link.expire.Goals as goal
 

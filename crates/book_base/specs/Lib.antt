@@ -1,0 +1,6 @@
+pub mod Addresses
+pub mod Algorithms
+pub mod Decimals
+pub mod Hexadecimal
+pub mod Lines
+pub mod Results

@@ -1,4 +1,0 @@
-pub mod Calls
-pub mod Newlines
-pub mod Searches
-pub mod Showing

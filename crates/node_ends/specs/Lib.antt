@@ -1,0 +1,4 @@
+pub mod Arrivals
+pub mod Held
+pub mod Keys
+pub mod Lending
