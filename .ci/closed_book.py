@@ -14,7 +14,7 @@ BOOK = ["book_base", "book_segments", "book_macs", "book_keys", "book_endpoint",
 # What may stand outside the book, a file of a crate: what was read and written, the relations by which the top call speaks of it and
 # of a check that writes as it reads, the statements of the laws of each run of a link and of a node, what a run tells of
 # messages, and the line form of a pcap file.
-OUTSIDE = ["ao_base/specs/Outside.antt", "ao_run/specs/Runs.antt", "ao_run/specs/Obeys.antt", "ao_run/specs/Delivers.antt", "ao_run/specs/Completes.antt",
+OUTSIDE = ["ao_base/specs/Outside.antt", "ao_run/specs/Runs.antt", "ao_run/specs/Outcomes.antt", "ao_run/specs/Obeys.antt", "ao_run/specs/Delivers.antt", "ao_run/specs/Completes.antt",
            "law_headline/specs/GetsThrough.antt", "law_headline/specs/Lawful.antt", "law_link/specs/Entries.antt",
            "law_link/specs/Headline.antt", "law_link/specs/Laws.antt", "law_link/specs/Sessions.antt",
            "law_progress/specs/Progress.antt", "law_node/specs/Alone.antt",

@@ -7,6 +7,7 @@ pub mod Gathering
 pub mod Given
 pub mod Headline
 pub mod LineEnds
+pub mod OutcomeLaws
 pub mod PacketEnds
 pub mod Streaming
 pub mod Telling

@@ -4,5 +4,6 @@ pub mod Ended
 pub mod Gathered
 pub mod KeyFiles
 pub mod Obeys
+pub mod Outcomes
 pub mod Runs
 pub mod Stops
