@@ -9,7 +9,7 @@ use Rattle.book_base.specs.declared.end.End.TheVariants.{A, B}
 use Rattle.book_plans.specs.declared.turn.Role.{Role}
 use Rattle.book_plans.specs.declared.turn.Role.TheVariants.{Acceptable, AskedFor, Sendable, SentWith}
 use Rattle.book_plans.specs.declared.turn.Turn.{Turn}
-use Rattle.book_plans.specs.Calendar.{is_number, has_role, turn_by, role_turn, row_turns, turns_from, turns_after, turns_in, Keeps}
+use Rattle.book_plans.specs.Calendar.{PlannedEnd, planned, is_number, has_role, turn_at, turn_by, role_turn, row_turns, turns_from, turns_after, turns_in, Keeps}
 use Rattle.book_keys.specs.declared.lifetime.Lifetime.{Lifetime}
 use Rattle.book_keys.specs.Choices.{Numbered, later, qualified, latest, send_start, accept_start, send_row, next_row}
 use Rattle.book_keys.specs.Lifetimes.{contains}
@@ -52,22 +52,22 @@ asked_stays rows pair time steady =
     same_latest (acceptable pair time) (acceptable pair (time + 1)) accept_start 1 rows
     (each_stays (acceptable pair time) (acceptable pair (time + 1)) time (acceptable_stays pair time) rows steady)
 
-role_stays : (rows : List Row) (pair : Pair) (n : ℕ) (r : Row) (role : Role) (time : ℕ) → Steady time rows → Keeps time r
-    → has_role rows pair n r role time ≡ has_role rows pair n r role (time + 1)
-role_stays rows pair n r Acceptable time steady keeps = acceptable_stays pair time r keeps
-role_stays rows pair n r AskedFor time steady keeps = ap (λ o. is_number n (number_of o)) (asked_stays rows pair time steady)
-role_stays rows pair n r Sendable time steady keeps = sendable_stays pair time r keeps
-role_stays rows pair n r SentWith time steady keeps = ap (λ o. is_number n (number_of o)) (sent_stays rows pair time steady)
+role_stays : (e : PlannedEnd) (n : ℕ) (r : Row) (role : Role) (time : ℕ) → Steady time e.rows → Keeps time r
+    → has_role e n time r role ≡ has_role e n (time + 1) r role
+role_stays e n r Acceptable time steady keeps = acceptable_stays e.pair time r keeps
+role_stays e n r AskedFor time steady keeps = ap (λ o. is_number n (number_of o)) (asked_stays e.rows e.pair time steady)
+role_stays e n r Sendable time steady keeps = sendable_stays e.pair time r keeps
+role_stays e n r SentWith time steady keeps = ap (λ o. is_number n (number_of o)) (sent_stays e.rows e.pair time steady)
 
-no_turn : (time : ℕ) (end : End) (n : ℕ) (role : Role) (before now : Bool) → before ≡ now → turn_by time end n role before now ≡ []
-no_turn time end n role true true same = refl
-no_turn time end n role false false same = refl
-no_turn time end n role true false same = absurd (cc)
-no_turn time end n role false true same = absurd (cc)
+no_turn : (before now : Bool) (turn : Bool → Turn) → before ≡ now → turn_by before now turn ≡ []
+no_turn true true turn same = refl
+no_turn false false turn same = refl
+no_turn true false turn same = absurd (cc)
+no_turn false true turn same = absurd (cc)
 
-no_role_turn : (end : End) (rows : List Row) (pair : Pair) (time n : ℕ) (r : Row) (role : Role) → Steady time rows → Keeps time r → role_turn end rows pair time n r role ≡ []
-no_role_turn end rows pair time n r role steady keeps =
-    no_turn (time + 1) end n role (has_role rows pair n r role time) (has_role rows pair n r role (time + 1)) (role_stays rows pair n r role time steady keeps)
+no_role_turn : (e : PlannedEnd) (time n : ℕ) (r : Row) (role : Role) → Steady time e.rows → Keeps time r → role_turn e time n r role ≡ []
+no_role_turn e time n r role steady keeps =
+    no_turn (has_role e n time r role) (has_role e n (time + 1) r role) (turn_at e.end (time + 1) n role) (role_stays e n r role time steady keeps)
 
 four_empty : (a b c d : List Turn) → a ≡ [] → b ≡ [] → c ≡ [] → d ≡ [] → (a ++ (b ++ (c ++ d))) ≡ []
 four_empty a b c d e f g h = rw (e, f, g, h) refl
@@ -75,21 +75,21 @@ four_empty a b c d e f g h = rw (e, f, g, h) refl
 two_empty : (a b : List Turn) → a ≡ [] → b ≡ [] → (a ++ b) ≡ []
 two_empty a b e f = rw (e, f) refl
 
-none_turns : (end : End) (all : List Row) (pair : Pair) (time n : ℕ) (rows : List Row) → Steady time all → Steady time rows → turns_from end all pair time n rows ≡ []
-none_turns end all pair time n [] steady here = refl
-none_turns end all pair time n (r ∷ rs) steady here =
-    two_empty (row_turns end all pair time n r) (turns_from end all pair time (n + 1) rs)
-    (four_empty (role_turn end all pair time n r Acceptable) (role_turn end all pair time n r AskedFor) (role_turn end all pair time n r Sendable) (role_turn end all pair time n r SentWith)
-    (no_role_turn end all pair time n r Acceptable steady here.0) (no_role_turn end all pair time n r AskedFor steady here.0)
-    (no_role_turn end all pair time n r Sendable steady here.0) (no_role_turn end all pair time n r SentWith steady here.0))
-    (none_turns end all pair time (n + 1) rs steady here.1)
+none_turns : (e : PlannedEnd) (time n : ℕ) (rows : List Row) → Steady time e.rows → Steady time rows → turns_from e time n rows ≡ []
+none_turns e time n [] steady here = refl
+none_turns e time n (r ∷ rs) steady here =
+    two_empty (row_turns e time n r) (turns_from e time (n + 1) rs)
+    (four_empty (role_turn e time n r Acceptable) (role_turn e time n r AskedFor) (role_turn e time n r Sendable) (role_turn e time n r SentWith)
+    (no_role_turn e time n r Acceptable steady here.0) (no_role_turn e time n r AskedFor steady here.0)
+    (no_role_turn e time n r Sendable steady here.0) (no_role_turn e time n r SentWith steady here.0))
+    (none_turns e time (n + 1) rs steady here.1)
 
 pub nothing_turns : (a b : List Row) (pair : Pair) (time : ℕ) → All (Keeps time) a → All (Keeps time) b → turns_after a b pair time ≡ []
 nothing_turns a b pair time at_a at_b =
     let sa = by_places time a at_a in
     let sb = by_places time b at_b in
-    two_empty (turns_from A a pair time 1 a) (turns_from B b (mirrored pair) time 1 b)
-    (none_turns A a pair time 1 a sa sa) (none_turns B b (mirrored pair) time 1 b sb sb)
+    two_empty (turns_from (planned A a pair) time 1 a) (turns_from (planned B b (mirrored pair)) time 1 b)
+    (none_turns (planned A a pair) time 1 a sa sa) (none_turns (planned B b (mirrored pair)) time 1 b sb sb)
 
 -- seconds in which nothing turns are passed over
 pub quiet_run : (a b : List Row) (pair : Pair) (k time next n m : ℕ) → next ≡ time + k → m ≡ k + n

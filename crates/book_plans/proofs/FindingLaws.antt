@@ -53,10 +53,10 @@ reason_first end n (Some NoPeerRow) fs later more h = refl
 reason_first end n (Some ShortAccept) fs later more h = refl
 
 unmet_first : (end : End) (n : ℕ) (rows others : List Row) (pair : Pair) (lead lag : ℕ) (more : LintAnswer)
-    → or_answer (unmet_findings end n rows others pair lead lag) more ≡ or_unmet (first_unmet end n rows others pair lead lag) more
+    → or_answer (unmet_findings (unmet_reason others pair lead lag) end n rows) more ≡ or_unmet (first_unmet end n rows others pair lead lag) more
 unmet_first end n [] others pair lead lag more = refl
 unmet_first end n (r ∷ rs) others pair lead lag more =
-    reason_first end n (unmet_reason others pair lead lag r) (unmet_findings end (n + 1) rs others pair lead lag) (first_unmet end (n + 1) rs others pair lead lag) more
+    reason_first end n (unmet_reason others pair lead lag r) (unmet_findings (unmet_reason others pair lead lag) end (n + 1) rs) (first_unmet end (n + 1) rs others pair lead lag) more
     (unmet_first end (n + 1) rs others pair lead lag more)
 
 lengthened_first : (end : End) (time : ℕ) (ss : List Span) (more : LintAnswer) → or_answer (map (gap_finding end) (lengthened time ss)) more ≡ answer.Gap end time
@@ -101,8 +101,8 @@ pub first_is_lint : (a b : List Row) (pair : Pair) (lead lag low high : ℕ)
     → first_answer (findings a b pair lead lag low high) ≡ lint_rows a b pair lead lag low high
 unfolding findings lint_rows first_misaligned
 first_is_lint a b pair lead lag low high =
-    let one = unmet_findings A 1 a b pair lead lag in
-    let two = unmet_findings B 1 b a (mirrored pair) lead lag in
+    let one = unmet_findings (unmet_reason b pair lead lag) A 1 a in
+    let two = unmet_findings (unmet_reason a (mirrored pair) lead lag) B 1 b in
     let three = gap_findings A a pair low high in
     let four = gap_findings B b (mirrored pair) low high in
     let at_four : first_answer four ≡ or_gap B (gap b (mirrored pair) low high) answer.Aligned =

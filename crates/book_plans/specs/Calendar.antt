@@ -20,56 +20,63 @@ abbrev pub is_number : ℕ → Option ℕ → Bool
 is_number n None = false
 is_number n (Some found) = found == n
 
--- the row of this number has the role at the time (RFC 7210, section 3, and own)
-abbrev pub has_role : List Row → Pair → ℕ → Row → Role → ℕ → Bool
-has_role rows pair n r Acceptable time = acceptable pair time r
-has_role rows pair n r AskedFor time = is_number n (number_of (next_row rows pair time))
-has_role rows pair n r Sendable time = sendable pair time r
-has_role rows pair n r SentWith time = is_number n (number_of (send_row rows pair time))
+-- an end of a connection whose change is planned: its rows, and the pair as it sees it (own)
+pub record PlannedEnd : Type 0 where
+  pub end : End
+  pub rows : List Row
+  pub pair : Pair
 
--- the turn of a row and a role by whether it has it before and now: it begins, it ends, or there
--- is none (own)
-abbrev pub turn_by : ℕ → End → ℕ → Role → (before now : Bool) → List Turn
-turn_by time end n role false true = record {
+-- an end with these rows that sees the pair so (own)
+abbrev pub planned : End → List Row → Pair → PlannedEnd
+planned end rows pair = record { end = end; rows = rows; pair = pair }
+
+-- the row of this number has the role at the time (RFC 7210, section 3, and own)
+abbrev pub has_role : PlannedEnd → (number time : ℕ) → Row → Role → Bool
+has_role e n time r Acceptable = acceptable e.pair time r
+has_role e n time r AskedFor = is_number n (number_of (next_row e.rows e.pair time))
+has_role e n time r Sendable = sendable e.pair time r
+has_role e n time r SentWith = is_number n (number_of (send_row e.rows e.pair time))
+
+-- at the time a row of this end and number begins to have the role, or ceases to (own)
+abbrev pub turn_at : End → (time number : ℕ) → Role → (begins : Bool) → Turn
+turn_at end time n role begins = record {
   time = time;
   end = end;
   row = n;
   role = role;
-  begins = true;
-} ∷ []
-turn_by time end n role true false = record {
-  time = time;
-  end = end;
-  row = n;
-  role = role;
-  begins = false;
-} ∷ []
-turn_by time end n role before now = []
+  begins = begins;
+}
+
+-- the turn by whether something is so before and now: it begins, it ends, or there is none (own)
+abbrev pub turn_by : (before now : Bool) → (Bool → Turn) → List Turn
+turn_by false true turn = turn true ∷ []
+turn_by true false turn = turn false ∷ []
+turn_by before now turn = []
 
 -- the turn of a row and a role in the second after this time (own)
-abbrev pub role_turn : End → List Row → Pair → (time number : ℕ) → Row → Role → List Turn
-role_turn end rows pair time n r role =
-    turn_by (time + 1) end n role (has_role rows pair n r role time)
-    (has_role rows pair n r role (time + 1))
+abbrev pub role_turn : PlannedEnd → (time number : ℕ) → Row → Role → List Turn
+role_turn e time n r role =
+    turn_by (has_role e n time r role) (has_role e n (time + 1) r role)
+    (turn_at e.end (time + 1) n role)
 
 -- the turns of a row in the second after this time (own)
-abbrev pub row_turns : End → List Row → Pair → (time number : ℕ) → Row → List Turn
-row_turns end rows pair time n r =
-    role_turn end rows pair time n r Acceptable
-    ++ (role_turn end rows pair time n r AskedFor
-    ++ (role_turn end rows pair time n r Sendable
-    ++ role_turn end rows pair time n r SentWith))
+abbrev pub row_turns : PlannedEnd → (time number : ℕ) → Row → List Turn
+row_turns e time n r =
+    role_turn e time n r Acceptable
+    ++ (role_turn e time n r AskedFor
+    ++ (role_turn e time n r Sendable
+    ++ role_turn e time n r SentWith))
 
 -- the turns of some of the rows of an end in the second after this time, the first having number
 -- n (own)
-abbrev pub turns_from : End → List Row → Pair → (time first : ℕ) → List Row → List Turn
-turns_from end rows pair time n [] = []
-turns_from end rows pair time n (r ∷ rs) =
-    row_turns end rows pair time n r ++ turns_from end rows pair time (n + 1) rs
+abbrev pub turns_from : PlannedEnd → (time first : ℕ) → List Row → List Turn
+turns_from e time n [] = []
+turns_from e time n (r ∷ rs) = row_turns e time n r ++ turns_from e time (n + 1) rs
 
 -- the turns at both ends in the second after this time (own)
 abbrev pub turns_after : (a_rows b_rows : List Row) → Pair → ℕ → List Turn
-turns_after a b pair time = turns_from A a pair time 1 a ++ turns_from B b (mirrored pair) time 1 b
+turns_after a b pair time =
+    turns_from (planned A a pair) time 1 a ++ turns_from (planned B b (mirrored pair)) time 1 b
 
 -- the turns at both ends in so many seconds after this time (own)
 abbrev pub turns_in : (a_rows b_rows : List Row) → Pair → (time count : ℕ) → List Turn

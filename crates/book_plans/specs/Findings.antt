@@ -26,13 +26,13 @@ abbrev pub with_finding : Option Finding → List Finding → List Finding
 with_finding None fs = fs
 with_finding (Some f) fs = f ∷ fs
 
--- each row of an end that isn't met at the other, in order, the first row having number n (own)
-abbrev pub unmet_findings :
-    End → ℕ → (rows others : List Row) → Pair → (lead lag : ℕ) → List Finding
-unmet_findings end n [] others pair lead lag = []
-unmet_findings end n (r ∷ rs) others pair lead lag =
-    with_finding (option_map (finding_by end n) (unmet_reason others pair lead lag r))
-    (unmet_findings end (n + 1) rs others pair lead lag)
+-- each row of an end that isn't met, by the reasons why rows aren't, in order, the first row having
+-- number n (own)
+abbrev pub unmet_findings : (Row → Option Reason) → End → ℕ → List Row → List Finding
+unmet_findings reason end n [] = []
+unmet_findings reason end n (r ∷ rs) =
+    with_finding (option_map (finding_by end n) (reason r))
+    (unmet_findings reason end (n + 1) rs)
 
 -- the times from the first to the last, both included (own)
 pub record Span : Type 0 where
@@ -81,8 +81,8 @@ gap_findings end rows pair low high =
 -- all findings: the rows of a that aren't met, those of b, the gaps of a, those of b (own)
 unfoldable pub findings : (a_rows b_rows : List Row) → Pair → (lead lag low high : ℕ) → List Finding
 findings a b pair lead lag low high =
-    unmet_findings A 1 a b pair lead lag
-    ++ (unmet_findings B 1 b a (mirrored pair) lead lag
+    unmet_findings (unmet_reason b pair lead lag) A 1 a
+    ++ (unmet_findings (unmet_reason a (mirrored pair) lead lag) B 1 b
     ++ (gap_findings A a pair low high
     ++ gap_findings B b (mirrored pair) low high))
 

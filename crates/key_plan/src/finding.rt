@@ -77,7 +77,7 @@ impl<'a> Way<'a> {
     /// Adds each row that isn't met, in order; the rows are those of `end`.
     fn add_unmet(&self, findings: &mut Vec<Finding>, end: End) -> Result<(), AllocError>
         requires { length self.now.rows.now ≤ 64 }
-        ensures { OnOk result (findings.new.items ≡ findings.old.items ++ unmet_findings end 1 self.now.rows.now self.now.others.now self.now.pair self.now.lead self.now.lag) }
+        ensures { OnOk result (findings.new.items ≡ findings.old.items ++ unmet_findings (unmet_reason self.now.others.now self.now.pair self.now.lead self.now.lag) end 1 self.now.rows.now) }
     {
         for (i, row) in self.rows.iter().enumerate() {
             if let Some(finding) = self.unmet(end, (i + 1) as u8, row) {

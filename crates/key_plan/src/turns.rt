@@ -4,7 +4,7 @@ ghost use Rattle.std.specs.List.{All};
 ghost use Rattle.book_keys.specs.Lifetimes.{contains};
 ghost use Rattle.book_keys.specs.Plans.{mirrored, rows_at};
 ghost use Rattle.book_keys.specs.Rows.{sendable, acceptable};
-ghost use Rattle.book_plans.specs.Calendar.{is_number, has_role, turn_by, role_turn, row_turns, turns_from, turns_after, turns_in, calendar_of, Keeps};
+ghost use Rattle.book_plans.specs.Calendar.{planned, is_number, has_role, turn_at, turn_by, role_turn, row_turns, turns_from, turns_after, turns_in, calendar_of, Keeps};
 
 use crate::alike::{is_receiving, is_sending, mirrored};
 use crate::tables::rows_at;
@@ -46,7 +46,7 @@ struct Second<'a> {
 impl<'a> Second<'a> {
     /// Whether the row of this number has the role at the time.
     fn has_role(&self, number: u8, row: &Row, role: Role, time: u64) -> bool
-        ensures { result ≡ has_role self.now.table.now.rows self.now.pair number row.now role time }
+        ensures { result ≡ has_role (planned self.now.end self.now.table.now.rows self.now.pair) number time row.now role }
     {
         match role {
             Role::Acceptable => is_acceptable(row, &self.pair, time),
@@ -65,7 +65,7 @@ impl<'a> Second<'a> {
         role: Role,
     ) -> Result<(), AllocError>
         requires { self.now.time < 18446744073709551615 }
-        ensures { OnOk result (turns.new.items ≡ turns.old.items ++ role_turn self.now.end self.now.table.now.rows self.now.pair self.now.time number row.now role) }
+        ensures { OnOk result (turns.new.items ≡ turns.old.items ++ role_turn (planned self.now.end self.now.table.now.rows self.now.pair) self.now.time number row.now role) }
     {
         let time = self.time + 1;
         let before = self.has_role(number, row, role, self.time);
@@ -76,7 +76,7 @@ impl<'a> Second<'a> {
     /// Adds the turns of a row.
     fn add_row(&self, turns: &mut Vec<Turn>, number: u8, row: &Row) -> Result<(), AllocError>
         requires { self.now.time < 18446744073709551615 }
-        ensures { OnOk result (turns.new.items ≡ turns.old.items ++ row_turns self.now.end self.now.table.now.rows self.now.pair self.now.time number row.now) }
+        ensures { OnOk result (turns.new.items ≡ turns.old.items ++ row_turns (planned self.now.end self.now.table.now.rows self.now.pair) self.now.time number row.now) }
     {
         self.add_role(turns, number, row, Role::Acceptable)?;
         self.add_role(turns, number, row, Role::AskedFor)?;
@@ -88,7 +88,7 @@ impl<'a> Second<'a> {
     /// Adds the turns of each row, in order.
     fn add_all(&self, turns: &mut Vec<Turn>) -> Result<(), AllocError>
         requires { self.now.time < 18446744073709551615 }
-        ensures { OnOk result (turns.new.items ≡ turns.old.items ++ turns_from self.now.end self.now.table.now.rows self.now.pair self.now.time 1 self.now.table.now.rows) }
+        ensures { OnOk result (turns.new.items ≡ turns.old.items ++ turns_from (planned self.now.end self.now.table.now.rows self.now.pair) self.now.time 1 self.now.table.now.rows) }
     {
         // It tells that a table has at most 64 rows, so that each number fits.
         let _count = self.table.rows();
@@ -110,7 +110,7 @@ fn push_turn(
     before: bool,
     now: bool,
 ) -> Result<(), AllocError>
-    ensures { OnOk result (turns.new.items ≡ turns.old.items ++ turn_by time end row role before now) }
+    ensures { OnOk result (turns.new.items ≡ turns.old.items ++ turn_by before now (turn_at end time row role)) }
 {
     if before == now {
         return Ok(());
@@ -198,7 +198,7 @@ fn add_end(
     time: u64,
 ) -> Result<(), AllocError>
     requires { time < 18446744073709551615 }
-    ensures { OnOk result (turns.new.items ≡ turns.old.items ++ turns_from end (rows_at tables.now address.now) pair time 1 (rows_at tables.now address.now)) }
+    ensures { OnOk result (turns.new.items ≡ turns.old.items ++ turns_from (planned end (rows_at tables.now address.now) pair) time 1 (rows_at tables.now address.now)) }
 {
     match tables.table(address) {
         Some(table) => {
