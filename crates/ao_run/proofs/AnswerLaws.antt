@@ -29,47 +29,14 @@ either false = inr refl
 
 -- the answer of a command that reads no key file
 pub unkeyed : (c : Command) (keys input : List ℕ) → reads_keys c ≡ false → answer_of (Some c) keys input ≡ answer_in c [] input
-unkeyed command.Link keys input lacks = refl
-unkeyed command.LinkKeys keys input lacks = cc
-unkeyed command.Check keys input lacks = cc
-unkeyed command.CheckPcap keys input lacks = cc
-unkeyed command.Show keys input lacks = refl
-unkeyed command.Vectors keys input lacks = refl
-unkeyed (command.Keys time) keys input lacks = cc
-unkeyed (command.Lint plan) keys input lacks = cc
-unkeyed (command.Storm seed count) keys input lacks = refl
-unkeyed command.Bgp keys input lacks = cc
-unkeyed command.Timed keys input lacks = cc
-unkeyed command.Node keys input lacks = cc
+unkeyed c keys input lacks = rw lacks refl
 
 -- that of a command that reads it
 pub keyed : (c : Command) (keys input : List ℕ) → reads_keys c ≡ true → answer_of (Some c) keys input ≡ answer_with_keys c keys input
-keyed command.Link keys input holds = cc
-keyed command.LinkKeys keys input holds = refl
-keyed command.Check keys input holds = refl
-keyed command.CheckPcap keys input holds = refl
-keyed command.Show keys input holds = cc
-keyed command.Vectors keys input holds = cc
-keyed (command.Keys time) keys input holds = refl
-keyed (command.Lint plan) keys input holds = refl
-keyed (command.Storm seed count) keys input holds = cc
-keyed command.Bgp keys input holds = refl
-keyed command.Timed keys input holds = refl
-keyed command.Node keys input holds = refl
+keyed c keys input holds = rw holds refl
 
 within_same : (c : Command) (tables : List Table) (input : List ℕ) → reads_keys c ≡ true → answer_within c tables input ≡ answer_in c tables input
-within_same command.Link tables input holds = cc
-within_same command.LinkKeys tables input holds = refl
-within_same command.Check tables input holds = refl
-within_same command.CheckPcap tables input holds = refl
-within_same command.Show tables input holds = cc
-within_same command.Vectors tables input holds = cc
-within_same (command.Keys time) tables input holds = refl
-within_same (command.Lint plan) tables input holds = refl
-within_same (command.Storm seed count) tables input holds = cc
-within_same command.Bgp tables input holds = refl
-within_same command.Timed tables input holds = refl
-within_same command.Node tables input holds = refl
+within_same c tables input holds = refl
 
 pub longer : (m n : ℕ) → m < n → nat_lt m n ≡ true
 longer m n h = grind (arith, nat_tests)
@@ -105,18 +72,8 @@ long_input c tables input holds many =
 
 -- but for a pcap file it has one text
 pub long_plain : (c : Command) (input : List ℕ) → writes_along (Some c) ≡ false → long_text c input ≡ too_long
-long_plain command.Link input last = refl
-long_plain command.LinkKeys input last = refl
-long_plain command.Check input last = refl
 long_plain command.CheckPcap input last = absurd (cc)
-long_plain command.Show input last = refl
-long_plain command.Vectors input last = refl
-long_plain (command.Keys time) input last = refl
-long_plain (command.Lint plan) input last = refl
-long_plain (command.Storm seed count) input last = refl
-long_plain command.Bgp input last = refl
-long_plain command.Timed input last = refl
-long_plain command.Node input last = refl
+long_plain c input last = refl
 
 limited : (a b : Bool) (x y : Answer) → b ≡ false → (if a && b then x else y) ≡ y
 limited true b x y lacks = rw lacks refl
@@ -177,18 +134,9 @@ not_four false h = omega arith
 
 -- a command that reads no input refuses none
 pub unread_four : (c : Command) (tables : List Table) (input : List ℕ) → reads_input c ≡ false → (answer_over c tables input).status ≢ 4
-unread_four command.Link tables input lacks = cc
-unread_four command.LinkKeys tables input lacks = cc
-unread_four command.Check tables input lacks = cc
-unread_four command.CheckPcap tables input lacks = cc
-unread_four command.Show tables input lacks = cc
-unread_four command.Vectors tables input lacks = cc
 unread_four (command.Keys time) tables input lacks = not_four false
-unread_four (command.Lint plan) tables input lacks = cc
 unread_four (command.Storm seed count) tables input lacks = not_four _
-unread_four command.Bgp tables input lacks = cc
-unread_four command.Timed tables input lacks = cc
-unread_four command.Node tables input lacks = cc
+unread_four c tables input lacks = cc
 
 by_plain : (c : Command) (input other : List ℕ) (b : Bool) (r : Result (List Table) TableFault) → reads_keys c ≡ true →
     (if b then refusal 3 keys_too_long else answer_by c input r).status ≡ 3 → (if b then refusal 3 keys_too_long else answer_by c other r).status ≡ 3
@@ -239,18 +187,9 @@ long_refused c keys input reads many = elim (either (reads_keys c)) [
 ]
 
 over_unread : (c : Command) (tables : List Table) (input other : List ℕ) → reads_input c ≡ false → answer_in c tables input ≡ answer_in c tables other
-over_unread command.Link tables input other lacks = cc
-over_unread command.LinkKeys tables input other lacks = cc
-over_unread command.Check tables input other lacks = cc
-over_unread command.CheckPcap tables input other lacks = cc
-over_unread command.Show tables input other lacks = cc
-over_unread command.Vectors tables input other lacks = cc
 over_unread (command.Keys time) tables input other lacks = refl
-over_unread (command.Lint plan) tables input other lacks = cc
 over_unread (command.Storm seed count) tables input other lacks = refl
-over_unread command.Bgp tables input other lacks = cc
-over_unread command.Timed tables input other lacks = cc
-over_unread command.Node tables input other lacks = cc
+over_unread c tables input other lacks = cc
 
 by_unread : (c : Command) (input other : List ℕ) (b : Bool) (r : Result (List Table) TableFault) → reads_keys c ≡ true → reads_input c ≡ false →
     (if b then refusal 3 keys_too_long else answer_by c input r) ≡ (if b then refusal 3 keys_too_long else answer_by c other r)

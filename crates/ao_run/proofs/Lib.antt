@@ -6,6 +6,7 @@ pub mod Facts
 pub mod Gathering
 pub mod Given
 pub mod Headline
+pub mod JobLaws
 pub mod LineEnds
 pub mod OutcomeLaws
 pub mod PacketEnds

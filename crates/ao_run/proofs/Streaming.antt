@@ -1,5 +1,5 @@
 -- The ways in which a command ends that writes as it reads.
-use Rattle.std.proofs.Common.{◌≡◌, ◌≢◌, ◌⊎◌, inl, inr, ℕ, ◌+◌, ◌<◌, ◌≤◌, Bool, true, false, List, [], length, Option, Some, None, Result, Ok, Err, if◌then◌else◌, refl, sym, ap, ◌∙◌, arith}
+use Rattle.std.proofs.Common.{◌≡◌, ◌≢◌, ◌⊎◌, inl, inr, ℕ, ◌+◌, ◌<◌, ◌≤◌, Bool, true, false, List, [], length, Option, Some, None, Result, Ok, Err, if◌then◌else◌, refl, sym, ap, subst, ◌∙◌, arith}
 use Rattle.ao_base.specs.Outside.{Side, Gave}
 use Rattle.ao_base.proofs.Sides.{gave_none, took_none}
 use Rattle.book_keys.specs.Rows.{Table}
@@ -15,16 +15,16 @@ use Rattle.book_answer.specs.Answers.{Answer, answer_of as answer, memory, most_
 use Rattle.book_answer.specs.Commands.{reads_input, reads_keys}
 use Rattle.ao_run.specs.declared.stop.Stop.{Stop}
 use Rattle.ao_run.specs.declared.stop.Stop.TheVariants.{Usage, KeysTooLong, Keys, TooLong, Input, TooManyEvents, Read, Write, Memory}
-use Rattle.ao_run.specs.Ended.{Ended}
+use Rattle.ao_run.specs.Ended.{Ended, EndedBehind}
 use Rattle.ao_run.specs.Gathered.{KeysGathered, Sources}
 use Rattle.ao_run.specs.Obeys.{Along, Begun, ChecksLines, ChecksPackets, EndsSo, NotBegun, ObeysAs, Offers, Sides, lines_end, packets_end, past_limit, text_of as text_with, writes_along}
 use Rattle.ao_run.specs.Stops.{IsHalted, IsPacketHalted, Stopped, status_of, text_of}
 use Rattle.ao_run.proofs.AnswerLaws.{within_plain}
 use Rattle.ao_run.proofs.Facts.{Facts}
-use Rattle.ao_run.proofs.Gathering.{not_both}
+use Rattle.ao_run.proofs.Gathering.{keys_stopped, not_both}
 use Rattle.ao_run.proofs.LineEnds.{line_facts}
 use Rattle.ao_run.proofs.PacketEnds.{packet_facts}
-use Rattle.ao_run.proofs.Telling.{same_text, silent}
+use Rattle.ao_run.proofs.Telling.{refused_ends, same_text, silent}
 
 not_small : (status : ℕ) → (2 ≤ status) × (status < 4) → status ≢ 2 → status ≢ 3 → ⊥
 not_small status h two three = omega (arith, h, two, three)
@@ -132,27 +132,27 @@ module _ (c : Command) (along : writes_along (Some c) ≡ true) (keyed : reads_k
       }
 
 -- a fault of the input has this text, or there was no memory for it
-refused_ends : (text : List ℕ) (stop : Stop) (e0 e1 : Side) → Stopped stop (refusal 4 text) → Offers (text_of stop) e0 e1 → EndsSo (4, text) e0 e1 (status_of stop)
-refused_ends text Memory e0 e1 stopped offers = inr (refl, refl, offers)
-refused_ends text (Input line) e0 e1 stopped offers = inl (refl, rw (ap (λ (a : Answer). a.text) stopped) offers)
-refused_ends text TooManyEvents e0 e1 stopped offers = inl (refl, rw (ap (λ (a : Answer). a.text) stopped) offers)
-refused_ends text (Keys line) e0 e1 stopped offers = let no : 4 ≡ 3 = ap (λ (a : Answer). a.status) stopped in absurd (omega (arith, no))
-refused_ends text Usage e0 e1 stopped offers = absurd stopped
-refused_ends text KeysTooLong e0 e1 stopped offers = absurd stopped
-refused_ends text TooLong e0 e1 stopped offers = absurd stopped
-refused_ends text Read e0 e1 stopped offers = absurd stopped
-refused_ends text Write e0 e1 stopped offers = absurd stopped
+refused_text : (text : List ℕ) (stop : Stop) (e0 e1 : Side) → Stopped stop (refusal 4 text) → Offers (text_of stop) e0 e1 → EndsSo (4, text) e0 e1 (status_of stop)
+refused_text text Memory e0 e1 stopped offers = inr (refl, refl, offers)
+refused_text text (Input line) e0 e1 stopped offers = inl (refl, rw (ap (λ (a : Answer). a.text) stopped) offers)
+refused_text text TooManyEvents e0 e1 stopped offers = inl (refl, rw (ap (λ (a : Answer). a.text) stopped) offers)
+refused_text text (Keys line) e0 e1 stopped offers = let no : 4 ≡ 3 = ap (λ (a : Answer). a.status) stopped in absurd (omega (arith, no))
+refused_text text Usage e0 e1 stopped offers = absurd stopped
+refused_text text KeysTooLong e0 e1 stopped offers = absurd stopped
+refused_text text TooLong e0 e1 stopped offers = absurd stopped
+refused_text text Read e0 e1 stopped offers = absurd stopped
+refused_text text Write e0 e1 stopped offers = absurd stopped
 
 lines_halted : (h : Halt) (stop : Stop) (e0 e1 : Side) → IsHalted h stop → Offers (text_of stop) e0 e1 → EndsSo (lines_end (Err h)) e0 e1 (status_of stop)
-lines_halted (halt.Line n kind) stop e0 e1 is offers = refused_ends _ stop e0 e1 is offers
+lines_halted (halt.Line n kind) stop e0 e1 is offers = refused_text _ stop e0 e1 is offers
 lines_halted halt.TooLong stop e0 e1 is offers = inl (rw is refl, rw is at offers)
 lines_halted halt.Read stop e0 e1 is offers = inl (rw is refl, rw is at offers)
 lines_halted halt.Write stop e0 e1 is offers = inl (rw is refl, rw is at offers)
 lines_halted halt.Memory stop e0 e1 is offers = inl (rw is refl, rw is at offers)
 
 packets_halted : (h : PacketHalt) (stop : Stop) (e0 e1 : Side) → IsPacketHalted h stop → Offers (text_of stop) e0 e1 → EndsSo (packets_end (Err h)) e0 e1 (status_of stop)
-packets_halted (packet_halt.Head fault) stop e0 e1 is offers = refused_ends _ stop e0 e1 is offers
-packets_halted (packet_halt.Record n) stop e0 e1 is offers = refused_ends _ stop e0 e1 is offers
+packets_halted (packet_halt.Head fault) stop e0 e1 is offers = refused_text _ stop e0 e1 is offers
+packets_halted (packet_halt.Record n) stop e0 e1 is offers = refused_text _ stop e0 e1 is offers
 packets_halted packet_halt.TooLong stop e0 e1 is offers = inl (rw is refl, rw is at offers)
 packets_halted packet_halt.Read stop e0 e1 is offers = inl (rw is refl, rw is at offers)
 packets_halted packet_halt.Write stop e0 e1 is offers = inl (rw is refl, rw is at offers)
@@ -202,3 +202,17 @@ module _ (k : List ℕ) (k0 k1 : Side) where
     pub packets_stopped : (h : PacketHalt) (stop : Stop) → KeysGathered commands.CheckPcap k k0 k1 (Ok (Some tables)) → JudgesPackets tables i i0 i1 o0 o1 (Err h) → IsPacketHalted h stop →
         Ended (Some commands.CheckPcap) k i (record { keys = k0; input = i0 }) (record { keys = k1; input = i1 }) o0 o1 (Err stop)
     packets_stopped h stop x j is = λ e0 e1 offers. packets_obey e0 e1 (status_of stop) x (record { end = Err h; judges = j; ends = packets_halted h stop e0 e1 is offers })
+
+-- without tables nothing else is read or written, whatever the command
+pub unprepared : (c : Command) (k : List ℕ) (k0 k1 i o : Side) (stop : Stop) → KeysGathered c k k0 k1 (Err stop) →
+    Ended (Some c) k [] (record { keys = k0; input = i }) (record { keys = k1; input = i }) o o (Err stop)
+unprepared commands.Check k k0 k1 i o stop x = unkeyed_lines k k0 k1 i o stop x
+unprepared commands.CheckPcap k k0 k1 i o stop x = unkeyed_packets k k0 k1 i o stop x
+unprepared c k k0 k1 i o stop x = refused_ends (Some c) k [] k0 k1 i i refl o stop (keys_stopped c k k0 k1 i stop x)
+
+-- what ended so behind any key file with these tables ended so behind this one
+pub done_behind : (c d : Command) (t : Option (List Table)) → d ≡ c → (k i : List ℕ) (k0 k1 i0 i1 o0 o1 : Side) (r : Result ℕ Stop) → KeysGathered c k k0 k1 (Ok t) →
+    EndedBehind d t i i0 i1 o0 o1 r → Ended (Some c) k i (record { keys = k0; input = i0 }) (record { keys = k1; input = i1 }) o0 o1 r
+done_behind c d t same k i k0 k1 i0 i1 o0 o1 r keyed ended =
+    let here : EndedBehind c t i i0 i1 o0 o1 r = subst (λ (x : Command). EndedBehind x t i i0 i1 o0 o1 r) same ended in
+    here.behind k k0 k1 keyed

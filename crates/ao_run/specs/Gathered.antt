@@ -1,7 +1,7 @@
 -- What reading and running answer, before anything is written (own).
 use Rattle.std.specs.Prelude.{◌≡◌, ◌≢◌, ◌⊎◌, ℕ, ◌+◌, ◌<◌, ◌≤◌, nat_le, nat_lt, ◌&&◌, Bool, true}
 use Rattle.std.specs.Prelude.{false, List, [], length, Option, Some, None, is_some, Result, Ok}
-use Rattle.std.specs.Prelude.{IfOk, IfErr, if◌then◌else◌}
+use Rattle.std.specs.Prelude.{Err, IfOk, IfErr, if◌then◌else◌}
 use Rattle.ao_base.specs.Outside.{Side, Gave, Rose, IsAtEnd}
 use Rattle.book_keys.specs.Nodes.{tables_of}
 use Rattle.book_keys.specs.Rows.{Table}
@@ -10,8 +10,11 @@ use Rattle.book_answer.specs.declared.command.Command.TheVariants as command
 use Rattle.book_answer.specs.Answers.{Answer, answer_of, answer_over, long_text, most_keys}
 use Rattle.book_answer.specs.Answers.{most_input, refusal}
 use Rattle.book_answer.specs.Commands.{reads_keys, reads_input}
+use Rattle.ao_run.specs.declared.job.Job.{Job}
+use Rattle.ao_run.specs.declared.job.Whole.{Whole}
 use Rattle.ao_run.specs.declared.stop.Output.{Output}
 use Rattle.ao_run.specs.declared.stop.Stop.{Stop}
+use Rattle.ao_run.specs.Jobs.{job_command, job_tables, whole_command, whole_tables}
 use Rattle.ao_run.specs.Obeys.{Unread, asks_keys, asks_input, most_of, writes_along}
 use Rattle.ao_run.specs.Stops.{status_of, text_of, made}
 
@@ -55,6 +58,28 @@ pub record KeysGathered (c : Command) (keys : List ℕ) (before now : Side)
       → answer_of (Some c) keys input ≡ refusal 3 (text_of stop))
   pub judged : IfErr result (λ stop. status_of stop ≡ 3 → IsAtEnd now ⊎ (most_keys < length keys))
   pub fault : IfErr result (λ stop. status_of stop ≡ 5 → Rose before now)
+
+-- the tables that were read, for a command that stands on them (own)
+abbrev pub for_command : Result (List Table) Stop → Result (Option (List Table)) Stop
+for_command (Ok tables) = Ok (Some tables)
+for_command (Err stop) = Err stop
+
+-- the key file gave these bytes, whichever command reads it (own)
+pub record KeysRead (keys : List ℕ) (before now : Side) (result : Result (List Table) Stop)
+    : Type 0 where
+  pub for_each : (c : Command) → reads_keys c ≡ true →
+      KeysGathered c keys before now (for_command result)
+
+-- the tables of a job that was made (own)
+abbrev pub tables_made : Result Job Stop → Result (Option (List Table)) Stop
+tables_made (Ok job) = Ok (job_tables job)
+tables_made (Err stop) = Err stop
+
+-- the key file gave these bytes: the job of the command, with the tables where it reads them (own)
+pub record Prepares (c : Command) (keys : List ℕ) (before now : Side) (result : Result Job Stop)
+    : Type 0 where
+  pub reads : KeysGathered c keys before now (tables_made result)
+  pub same : IfOk result (λ job. job_command job ≡ c)
 
 -- the input gave these bytes: all of them, where the command reads it (own)
 pub record InputGathered (c : Command) (input : List ℕ) (before now : Side)
@@ -108,3 +133,13 @@ pub record Gathered (command : Option Command) (keys input : List ℕ) (before n
       ((asks_keys command ≡ true) × Rose before.keys now.keys × Unread input before.input now.input)
       ⊎ ((asks_input command ≡ true) × ((answer_of command keys input).status ≢ 3)
       × Rose before.input now.input))
+
+-- behind a key file that gave a command its tables, whatever it gave, the input gave these bytes
+-- (own)
+pub record GatheredBehind (whole : Whole) (input : List ℕ) (before now : Side)
+    (result : Result Output Stop) : Type 0 where
+  pub behind : (keys : List ℕ) (keys_before keys_now : Side) →
+      KeysGathered (whole_command whole) keys keys_before keys_now (Ok (whole_tables whole)) →
+      Gathered (Some (whole_command whole)) keys input
+      (record { keys = keys_before; input = before }) (record { keys = keys_now; input = now })
+      result

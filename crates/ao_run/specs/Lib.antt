@@ -2,6 +2,7 @@ pub mod Completes
 pub mod Delivers
 pub mod Ended
 pub mod Gathered
+pub mod Jobs
 pub mod KeyFiles
 pub mod Obeys
 pub mod Outcomes

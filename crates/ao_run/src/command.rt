@@ -1,8 +1,7 @@
-//! The command that the words name, and what it reads.
+//! The command that the words name, and the word that names its key file.
 ghost use Rattle.std.specs.Prelude.{◌≡◌, option_map, true};
 ghost use Rattle.book_keys.specs.Times.{time_of};
-ghost use Rattle.book_answer.specs.Commands.{alone_of, command_of, keys_of, lint_command, pcap_of, reads_input, reads_keys, storm_of, three_of, decimal_up_to, with_keys_of};
-ghost use Rattle.book_answer.specs.Answers.{most_input};
+ghost use Rattle.book_answer.specs.Commands.{alone_of, command_of, keys_of, lint_command, pcap_of, reads_keys, storm_of, three_of, decimal_up_to, with_keys_of};
 ghost use Rattle.ao_run.specs.Gathered.{is_ready};
 ghost use Rattle.ao_run.specs.KeyFiles.{key_word, second, third};
 
@@ -12,10 +11,6 @@ use book_base::Words;
 use book_cmd_keys::Plan;
 use key_table::{LATEST, read_time};
 
-/// The most bytes of stored segments.
-const MOST_STORED: u64 = 268_435_456;
-/// The most bytes of any other input.
-const MOST_INPUT: u64 = 33_554_432;
 /// The most events that a storm draws.
 const MOST_DRAWN: u64 = 10_000;
 
@@ -160,7 +155,7 @@ pub(crate) fn named(words: &Words) -> Option<Command>
 }
 
 /// Whether the command reads the key file.
-pub(crate) fn reads_keys(command: Command) -> bool
+fn reads_keys(command: Command) -> bool
     ensures { result ≡ reads_keys command }
 {
     match command {
@@ -169,28 +164,6 @@ pub(crate) fn reads_keys(command: Command) -> bool
         Command::Vectors => false,
         Command::Storm(_, _) => false,
         _ => true,
-    }
-}
-
-/// Whether the command reads standard input.
-pub(crate) fn reads_input(command: Command) -> bool
-    ensures { result ≡ reads_input command }
-{
-    match command {
-        Command::Keys(_) => false,
-        Command::Storm(_, _) => false,
-        _ => true,
-    }
-}
-
-/// The most bytes of the command's input.
-pub(crate) fn most_input(command: Command) -> u64
-    ensures { result ≡ most_input command }
-{
-    match command {
-        Command::Check => MOST_STORED,
-        Command::CheckPcap => MOST_STORED,
-        _ => MOST_INPUT,
     }
 }
 

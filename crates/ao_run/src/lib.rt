@@ -5,6 +5,7 @@
 
 mod command;
 mod gather;
+mod job;
 mod key_fault;
 mod pcap_fault;
 mod stop;

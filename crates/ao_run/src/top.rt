@@ -1,12 +1,14 @@
 //! The top call.
-ghost use Rattle.std.specs.Prelude.{◌≡◌, ℕ, List, true, false};
-ghost use Rattle.ao_run.specs.Ended.{Ended};
+ghost use Rattle.std.specs.Prelude.{◌≡◌, ℕ, List, true, Some};
+ghost use Rattle.ao_run.specs.Ended.{Ended, EndedBehind};
 ghost use Rattle.ao_run.specs.Gathered.{is_ready};
-ghost use Rattle.ao_run.specs.Obeys.{Sides, writes_along};
+ghost use Rattle.ao_run.specs.Jobs.{job_command, job_tables, whole_command, whole_tables};
+ghost use Rattle.ao_run.specs.Obeys.{Sides};
 ghost use Rattle.ao_run.specs.Runs.{Runs};
 
 use crate::command::named;
 use crate::gather::gather;
+use crate::job::{Job, Whole, prepare};
 use crate::stop::Stop;
 use crate::stream::{check_file, check_lines};
 use ao_base::{Failed, Sink, Source, write_all};
@@ -14,22 +16,17 @@ use book_answer::Command;
 use book_base::Words;
 use std::alloc::Global;
 
-/// Reads all that the command reads, and then writes its whole output.
-fn make_whole<K: Source, I: Source, O: Sink>(
+/// Reads the input, where the command reads it, and then writes the whole output.
+fn make_whole<I: Source, O: Sink>(
     alloc: Global,
-    command: Option<Command>,
-    keys: &mut K,
+    whole: Whole,
     input: &mut I,
     out: &mut O,
 ) -> Result<u8, Stop>
-    requires ready { is_ready command ≡ true }
-    requires last { writes_along command ≡ false }
-    ensures { (k : List ℕ) × (i : List ℕ) × Ended command k i
-        (record { keys = K.side keys.old; input = I.side input.old })
-        (record { keys = K.side keys.new; input = I.side input.new })
-        (O.side out.old) (O.side out.new) result }
+    requires { is_ready (Some (whole_command whole)) ≡ true }
+    ensures { (i : List ℕ) × EndedBehind (whole_command whole) (whole_tables whole) i (I.side input.old) (I.side input.new) (O.side out.old) (O.side out.new) result }
 {
-    let output = match gather(alloc, command, keys, input) {
+    let output = match gather(alloc, whole, input) {
         Ok(output) => output,
         Err(stop) => return Err(stop),
     };
@@ -39,7 +36,25 @@ fn make_whole<K: Source, I: Source, O: Sink>(
     }
 }
 
-/// Does what the command says, or stops; tells nothing.
+/// Does the job, or stops; tells nothing.
+fn do_job<I: Source, O: Sink>(
+    alloc: Global,
+    job: Job,
+    input: &mut I,
+    out: &mut O,
+) -> Result<u8, Stop>
+    requires { is_ready (Some (job_command job)) ≡ true }
+    ensures { (i : List ℕ) × EndedBehind (job_command job) (job_tables job) i (I.side input.old) (I.side input.new) (O.side out.old) (O.side out.new) result }
+{
+    match job {
+        Job::Whole(whole) => make_whole(alloc, whole, input, out),
+        Job::CheckLines(tables) => check_lines(alloc, tables, input, out),
+        Job::CheckPackets(tables) => check_file(alloc, tables, input, out),
+    }
+}
+
+/// Does what the command says, the key file first, or stops; tells nothing.
+#[tactic(auto, using(crate::proofs::JobLaws::job_ready))]
 fn act<K: Source, I: Source, O: Sink>(
     alloc: Global,
     command: Option<Command>,
@@ -53,10 +68,12 @@ fn act<K: Source, I: Source, O: Sink>(
         (record { keys = K.side keys.new; input = I.side input.new })
         (O.side out.old) (O.side out.new) result }
 {
-    match command {
-        Some(Command::Check) => check_lines(alloc, keys, input, out),
-        Some(Command::CheckPcap) => check_file(alloc, keys, input, out),
-        _ => make_whole(alloc, command, keys, input, out),
+    let Some(command) = command else {
+        return Err(Stop::Usage);
+    };
+    match prepare(alloc, command, keys) {
+        Ok(job) => do_job(alloc, job, input, out),
+        Err(stop) => Err(stop),
     }
 }
 

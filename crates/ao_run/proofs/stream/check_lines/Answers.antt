@@ -1,23 +1,14 @@
-use Rattle.std.proofs.Common.{[]}
-use Rattle.ao_run.proofs.Streaming.{lines_done, lines_stopped, unkeyed_lines}
+use Rattle.ao_run.proofs.Streaming.{lines_done, lines_stopped}
 use Rattle.ao_run.proofs.stream.check_lines.Goals as goal
-
--- the key file gave no tables
-pub returns-in-Err : goal.returns-in-Err
-returns-in-Err g c =
-    let k = c.in-Err.ensures in
-    (k.0, [], unkeyed_lines k.0 _ _ (g.I.Source.side c.args.input.now) (g.O.Sink.side c.args.out.now) c.in-Err.stop k.1)
 
 -- all lines were judged
 pub returns-in-Ok : goal.returns-in-Ok
 returns-in-Ok g c =
-    let k = rw c.in-Ok-Some.field-0-is at c.in-Ok-Some.ensures in
     let i = c.in-Ok.ensures in
-    (k.0, i.0, rw c.status_of.ensures (lines_done k.0 _ _ i.0 _ _ _ _ c.in-Ok-Some.tables c.in-Ok.amiss k.1 i.1))
+    (i.0, record { behind = λ k k0 k1 keyed. rw c.status_of.ensures (lines_done k k0 k1 i.0 _ _ _ _ c.args.tables c.in-Ok.amiss keyed i.1) })
 
 -- they weren't
-pub returns-in-Err-check_segments : goal.returns-in-Err-check_segments
-returns-in-Err-check_segments g c =
-    let k = rw c.in-Ok-Some.field-0-is at c.in-Ok-Some.ensures in
-    let i = c.in-Err-check_segments.ensures in
-    (k.0, i.0, lines_stopped k.0 _ _ i.0 _ _ _ _ c.in-Ok-Some.tables c.in-Err-check_segments.halt c.of_check.result k.1 i.1 c.of_check.ensures)
+pub returns-in-Err : goal.returns-in-Err
+returns-in-Err g c =
+    let i = c.in-Err.ensures in
+    (i.0, record { behind = λ k k0 k1 keyed. lines_stopped k k0 k1 i.0 _ _ _ _ c.args.tables c.in-Err.halt c.of_check.result keyed i.1 c.of_check.ensures })
