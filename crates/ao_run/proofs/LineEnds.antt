@@ -7,16 +7,16 @@ use Rattle.book_base.specs.Lines.{lines_of}
 use Rattle.ao_base.specs.Outside.{Side, told}
 use Rattle.ao_base.proofs.Sides.{told_given}
 use Rattle.book_keys.specs.Rows.{Table}
-use Rattle.capture_lines.specs.Checked.{Breaks, Ends, Finishes, HasRead, Refuses, segments_of, written_of}
-use Rattle.capture_lines.specs.declared.check.Halt.{Halt}
-use Rattle.capture_lines.specs.declared.check.Halt.TheVariants as halt
-use Rattle.capture_lines.proofs.RunLaws.{input_is, run_longer, stored_append}
+use Rattle.cmd_check.specs.CheckedLines.{Breaks, Ends, Finishes, HasRead, Refuses, segments_of, written_of}
+use Rattle.cmd_check.specs.declared.halt.Halt.{Halt}
+use Rattle.cmd_check.specs.declared.halt.Halt.TheVariants as halt
+use Rattle.cmd_check.proofs.RunLaws.{input_is, run_longer, stored_append}
 use Rattle.book_answer.specs.declared.command.Command.TheVariants.{Check}
 use Rattle.book_answer.specs.Answers.{Answer, done, line_fault_line, lines_checked, long_text}
 use Rattle.book_cmd_check.specs.Captures.{Stored, capture_run}
 use Rattle.book_cmd_check.specs.StoredLines.{LineFault, StoredInput, stored_from, stored_input}
 use Rattle.ao_run.specs.Gathered.{answer_in}
-use Rattle.ao_run.specs.Obeys.{ChecksLines, EndsSo, Sides, lines_end}
+use Rattle.ao_run.specs.Obeys.{ChecksLines, EndsSo, Sides, check_end}
 use Rattle.ao_run.proofs.AnswerLaws.{long_input, short_input}
 use Rattle.ao_run.proofs.Facts.{Facts, Fewer, done_facts, judged_refused, judged_whole, memory_facts, past_output, past_refused, read_facts, refused_facts, write_facts}
 use Rattle.ao_run.proofs.Given.{all_given, no_more}
@@ -83,9 +83,11 @@ module _ (tables : List Table) (i : List ℕ) (i0 i1 o0 o1 : Side) where
       let cut : length (take br.n (written_of tables read)) ≤ length (written_of tables read) = grind (arith, length-take) in
       record { n = length (take br.n (written_of tables read)); few = omega (arith, more, size, cut); counts = br.wrote.counts }
 
-  of_end : (end : Result Bool Halt) → Ends tables i i0 i1 o0 o1 end → Facts Check tables i i0 i1 o0 o1 (lines_end end).0
+  of_end : (end : Result Bool Halt) → Ends tables i i0 i1 o0 o1 end → Facts Check tables i i0 i1 o0 o1 (check_end end).0
   of_end (Ok amiss) f = done_facts Check tables i i0 i1 o0 o1 amiss (capture_run tables (stored_input i).stored) (finish_is tables i i1 o0 o1 amiss f) f.at_end f.wrote
   of_end (Err (halt.Line n kind)) f = refused_facts Check tables i i0 i1 o0 o1 (refused_within tables i n kind f.fault) (still_refused n kind f)
+  of_end (Err (halt.Head fault)) f = absurd f
+  of_end (Err (halt.Record n)) f = absurd f
   of_end (Err halt.TooLong) f = refused_facts Check tables i i0 i1 o0 o1 (ap (λ (a : Answer). a.status) (long_input Check tables i refl f.more)) (still_long f.more)
   of_end (Err halt.Read) f = read_facts Check tables i i0 i1 o0 o1 f.0
   of_end (Err halt.Write) f = write_facts Check tables i i0 i1 o0 o1 f.rose (fewer f)

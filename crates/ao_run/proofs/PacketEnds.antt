@@ -6,17 +6,17 @@ use Rattle.ao_base.specs.Outside.{Side, told}
 use Rattle.ao_base.proofs.Sides.{told_given}
 use Rattle.book_keys.specs.Rows.{Table}
 use Rattle.book_pcap.specs.Packets.{BadHead, BadRecord, FileFault, Packet, Packets, packets_of}
-use Rattle.capture_lines.proofs.RunLaws.{run_longer}
-use Rattle.capture_packets.specs.Checked.{Breaks, Ends, Finishes, Refuses, segments_of, written_of}
+use Rattle.cmd_check.proofs.RunLaws.{run_longer}
+use Rattle.cmd_check.specs.CheckedPackets.{Breaks, Ends, Finishes, Refuses, segments_of, written_of}
 use Rattle.pcap_file.specs.Reading.{packets_at}
-use Rattle.capture_packets.specs.declared.check.PacketHalt.{PacketHalt}
-use Rattle.capture_packets.specs.declared.check.PacketHalt.TheVariants as halt
+use Rattle.cmd_check.specs.declared.halt.Halt.{Halt}
+use Rattle.cmd_check.specs.declared.halt.Halt.TheVariants as halt
 use Rattle.book_answer.specs.declared.command.Command.TheVariants.{CheckPcap}
 use Rattle.book_answer.specs.Answers.{Answer, done, long_text, packets_checked, pcap_fault_line}
 use Rattle.book_cmd_check.specs.StoredPackets.{stored_packet}
 use Rattle.book_cmd_check.specs.Captures.{Stored, capture_run}
 use Rattle.ao_run.specs.Gathered.{answer_in}
-use Rattle.ao_run.specs.Obeys.{ChecksPackets, EndsSo, Sides, packets_end}
+use Rattle.ao_run.specs.Obeys.{ChecksPackets, EndsSo, Sides, check_end}
 use Rattle.ao_run.proofs.AnswerLaws.{long_input, short_input}
 use Rattle.ao_run.proofs.Facts.{Facts, Fewer, done_facts, judged_refused, judged_whole, memory_facts, past_output, past_refused, read_facts, refused_facts, write_facts}
 use Rattle.ao_run.proofs.Given.{no_more}
@@ -66,8 +66,9 @@ module _ (tables : List Table) (i : List ℕ) (i0 i1 o0 o1 : Side) where
       let cut : length (take br.n (written_of tables read)) ≤ length (written_of tables read) = grind (arith, length-take) in
       record { n = length (take br.n (written_of tables read)); few = omega (arith, more, size, cut); counts = br.wrote.counts }
 
-  of_end : (end : Result Bool PacketHalt) → Ends tables i i0 i1 o0 o1 end → Facts CheckPcap tables i i0 i1 o0 o1 (packets_end end).0
+  of_end : (end : Result Bool Halt) → Ends tables i i0 i1 o0 o1 end → Facts CheckPcap tables i i0 i1 o0 o1 (check_end end).0
   of_end (Ok amiss) f = done_facts CheckPcap tables i i0 i1 o0 o1 amiss (capture_run tables (segments_of i)) (finish_is tables i i1 o0 o1 amiss f) f.at_end f.wrote
+  of_end (Err (halt.Line n kind)) f = absurd f
   of_end (Err (halt.Head fault)) f = refused_facts CheckPcap tables i i0 i1 o0 o1 (refused_within tables i (BadHead fault) f.fault_is) (still_refused (BadHead fault) f)
   of_end (Err (halt.Record n)) f = refused_facts CheckPcap tables i i0 i1 o0 o1 (refused_within tables i (BadRecord n) f.fault_is) (still_refused (BadRecord n) f)
   of_end (Err halt.TooLong) f = refused_facts CheckPcap tables i i0 i1 o0 o1 (ap (λ (a : Answer). a.status) (long_input CheckPcap tables i refl f.more)) (still_long f.more)

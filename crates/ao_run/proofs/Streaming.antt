@@ -3,12 +3,11 @@ use Rattle.std.proofs.Common.{◌≡◌, ◌≢◌, ◌⊎◌, inl, inr, ℕ, �
 use Rattle.ao_base.specs.Outside.{Side, Gave}
 use Rattle.ao_base.proofs.Sides.{gave_none, took_none}
 use Rattle.book_keys.specs.Rows.{Table}
-use Rattle.capture_lines.specs.Checked.{Checks as JudgesLines}
-use Rattle.capture_lines.specs.declared.check.Halt.{Halt}
-use Rattle.capture_lines.specs.declared.check.Halt.TheVariants as halt
-use Rattle.capture_packets.specs.Checked.{Checks as JudgesPackets}
-use Rattle.capture_packets.specs.declared.check.PacketHalt.{PacketHalt}
-use Rattle.capture_packets.specs.declared.check.PacketHalt.TheVariants as packet_halt
+use Rattle.cmd_check.specs.Checked.{Checks as Judges}
+use Rattle.cmd_check.specs.declared.answering.Form.{Form}
+use Rattle.cmd_check.specs.declared.answering.Form.TheVariants as form
+use Rattle.cmd_check.specs.declared.halt.Halt.{Halt}
+use Rattle.cmd_check.specs.declared.halt.Halt.TheVariants as halt
 use Rattle.book_answer.specs.declared.command.Command.{Command}
 use Rattle.book_answer.specs.declared.command.Command.TheVariants as commands
 use Rattle.book_answer.specs.Answers.{Answer, answer_of as answer, memory, most_input, refusal}
@@ -17,8 +16,9 @@ use Rattle.ao_run.specs.declared.stop.Stop.{Stop}
 use Rattle.ao_run.specs.declared.stop.Stop.TheVariants.{Usage, KeysTooLong, Keys, TooLong, Input, TooManyEvents, Read, Write, Memory}
 use Rattle.ao_run.specs.Ended.{Ended, EndedBehind}
 use Rattle.ao_run.specs.Gathered.{KeysGathered, Sources}
-use Rattle.ao_run.specs.Obeys.{Along, Begun, ChecksLines, ChecksPackets, EndsSo, NotBegun, ObeysAs, Offers, Sides, lines_end, packets_end, past_limit, text_of as text_with, writes_along}
-use Rattle.ao_run.specs.Stops.{IsHalted, IsPacketHalted, Stopped, status_of, text_of}
+use Rattle.ao_run.specs.Jobs.{check_command}
+use Rattle.ao_run.specs.Obeys.{Along, Begun, ChecksLines, ChecksPackets, EndsSo, NotBegun, ObeysAs, Offers, Sides, check_end, past_limit, text_of as text_with, writes_along}
+use Rattle.ao_run.specs.Stops.{IsHalted, Stopped, status_of, text_of}
 use Rattle.ao_run.proofs.AnswerLaws.{within_plain}
 use Rattle.ao_run.proofs.Facts.{Facts}
 use Rattle.ao_run.proofs.Gathering.{keys_stopped, not_both}
@@ -143,20 +143,15 @@ refused_text text TooLong e0 e1 stopped offers = absurd stopped
 refused_text text Read e0 e1 stopped offers = absurd stopped
 refused_text text Write e0 e1 stopped offers = absurd stopped
 
-lines_halted : (h : Halt) (stop : Stop) (e0 e1 : Side) → IsHalted h stop → Offers (text_of stop) e0 e1 → EndsSo (lines_end (Err h)) e0 e1 (status_of stop)
-lines_halted (halt.Line n kind) stop e0 e1 is offers = refused_text _ stop e0 e1 is offers
-lines_halted halt.TooLong stop e0 e1 is offers = inl (rw is refl, rw is at offers)
-lines_halted halt.Read stop e0 e1 is offers = inl (rw is refl, rw is at offers)
-lines_halted halt.Write stop e0 e1 is offers = inl (rw is refl, rw is at offers)
-lines_halted halt.Memory stop e0 e1 is offers = inl (rw is refl, rw is at offers)
-
-packets_halted : (h : PacketHalt) (stop : Stop) (e0 e1 : Side) → IsPacketHalted h stop → Offers (text_of stop) e0 e1 → EndsSo (packets_end (Err h)) e0 e1 (status_of stop)
-packets_halted (packet_halt.Head fault) stop e0 e1 is offers = refused_text _ stop e0 e1 is offers
-packets_halted (packet_halt.Record n) stop e0 e1 is offers = refused_text _ stop e0 e1 is offers
-packets_halted packet_halt.TooLong stop e0 e1 is offers = inl (rw is refl, rw is at offers)
-packets_halted packet_halt.Read stop e0 e1 is offers = inl (rw is refl, rw is at offers)
-packets_halted packet_halt.Write stop e0 e1 is offers = inl (rw is refl, rw is at offers)
-packets_halted packet_halt.Memory stop e0 e1 is offers = inl (rw is refl, rw is at offers)
+-- a stop that comes of this halt ends so
+halted : (h : Halt) (stop : Stop) (e0 e1 : Side) → IsHalted h stop → Offers (text_of stop) e0 e1 → EndsSo (check_end (Err h)) e0 e1 (status_of stop)
+halted (halt.Line n kind) stop e0 e1 is offers = refused_text _ stop e0 e1 is offers
+halted (halt.Head fault) stop e0 e1 is offers = refused_text _ stop e0 e1 is offers
+halted (halt.Record n) stop e0 e1 is offers = refused_text _ stop e0 e1 is offers
+halted halt.TooLong stop e0 e1 is offers = inl (rw is refl, rw is at offers)
+halted halt.Read stop e0 e1 is offers = inl (rw is refl, rw is at offers)
+halted halt.Write stop e0 e1 is offers = inl (rw is refl, rw is at offers)
+halted halt.Memory stop e0 e1 is offers = inl (rw is refl, rw is at offers)
 
 module _ (k : List ℕ) (k0 k1 : Side) where
   -- without tables nothing else is read or written
@@ -183,25 +178,21 @@ module _ (k : List ℕ) (k0 k1 : Side) where
         checked_obeys commands.CheckPcap refl refl refl k i _ _ tables status x c.judges.gave c.judges.few (packet_facts tables i _ _ status c)
         (inr (record { tables = tables; is_key_file = (x.file tables refl).0; few = (x.file tables refl).1; checks = c }))
 
-    -- all lines were judged
-    pub lines_done : (amiss : Bool) → KeysGathered commands.Check k k0 k1 (Ok (Some tables)) → JudgesLines tables i i0 i1 o0 o1 (Ok amiss) →
-        Ended (Some commands.Check) k i (record { keys = k0; input = i0 }) (record { keys = k1; input = i1 }) o0 o1 (Ok (if amiss then 1 else 0))
-    lines_done amiss x j = λ e. lines_obey e e (if amiss then 1 else 0) x (record { end = Ok amiss; judges = j; ends = inl (refl, silent [] e refl) })
+    -- a check of this form
+    form_obeys : (f : Form) (e0 e1 : Side) (end : Result Bool Halt) (status : ℕ) → KeysGathered (check_command f) k k0 k1 (Ok (Some tables)) → Judges f tables i i0 i1 o0 o1 end → EndsSo (check_end end) e0 e1 status →
+        ObeysAs (Some (check_command f)) k i (record { keys = k0; input = i0; out = o0; err = e0 }) (record { keys = k1; input = i1; out = o1; err = e1 }) status
+    form_obeys form.Lines e0 e1 end status x j ends = lines_obey e0 e1 status x (record { end = end; judges = j; ends = ends })
+    form_obeys form.Pcap e0 e1 end status x j ends = packets_obey e0 e1 status x (record { end = end; judges = j; ends = ends })
+
+    -- all segments were judged
+    pub check_done : (f : Form) (amiss : Bool) → KeysGathered (check_command f) k k0 k1 (Ok (Some tables)) → Judges f tables i i0 i1 o0 o1 (Ok amiss) →
+        Ended (Some (check_command f)) k i (record { keys = k0; input = i0 }) (record { keys = k1; input = i1 }) o0 o1 (Ok (if amiss then 1 else 0))
+    check_done f amiss x j = λ e. form_obeys f e e (Ok amiss) (if amiss then 1 else 0) x j (inl (refl, silent [] e refl))
 
     -- they weren't
-    pub lines_stopped : (h : Halt) (stop : Stop) → KeysGathered commands.Check k k0 k1 (Ok (Some tables)) → JudgesLines tables i i0 i1 o0 o1 (Err h) → IsHalted h stop →
-        Ended (Some commands.Check) k i (record { keys = k0; input = i0 }) (record { keys = k1; input = i1 }) o0 o1 (Err stop)
-    lines_stopped h stop x j is = λ e0 e1 offers. lines_obey e0 e1 (status_of stop) x (record { end = Err h; judges = j; ends = lines_halted h stop e0 e1 is offers })
-
-    -- all packets were judged
-    pub packets_done : (amiss : Bool) → KeysGathered commands.CheckPcap k k0 k1 (Ok (Some tables)) → JudgesPackets tables i i0 i1 o0 o1 (Ok amiss) →
-        Ended (Some commands.CheckPcap) k i (record { keys = k0; input = i0 }) (record { keys = k1; input = i1 }) o0 o1 (Ok (if amiss then 1 else 0))
-    packets_done amiss x j = λ e. packets_obey e e (if amiss then 1 else 0) x (record { end = Ok amiss; judges = j; ends = inl (refl, silent [] e refl) })
-
-    -- they weren't
-    pub packets_stopped : (h : PacketHalt) (stop : Stop) → KeysGathered commands.CheckPcap k k0 k1 (Ok (Some tables)) → JudgesPackets tables i i0 i1 o0 o1 (Err h) → IsPacketHalted h stop →
-        Ended (Some commands.CheckPcap) k i (record { keys = k0; input = i0 }) (record { keys = k1; input = i1 }) o0 o1 (Err stop)
-    packets_stopped h stop x j is = λ e0 e1 offers. packets_obey e0 e1 (status_of stop) x (record { end = Err h; judges = j; ends = packets_halted h stop e0 e1 is offers })
+    pub check_stopped : (f : Form) (h : Halt) (stop : Stop) → KeysGathered (check_command f) k k0 k1 (Ok (Some tables)) → Judges f tables i i0 i1 o0 o1 (Err h) → IsHalted h stop →
+        Ended (Some (check_command f)) k i (record { keys = k0; input = i0 }) (record { keys = k1; input = i1 }) o0 o1 (Err stop)
+    check_stopped f h stop x j is = λ e0 e1 offers. form_obeys f e0 e1 (Err h) (status_of stop) x j (halted h stop e0 e1 is offers)
 
 -- without tables nothing else is read or written, whatever the command
 pub unprepared : (c : Command) (k : List ℕ) (k0 k1 i o : Side) (stop : Stop) → KeysGathered c k k0 k1 (Err stop) →

@@ -3,6 +3,8 @@ use Rattle.std.specs.Prelude.{List, Option, Some, None}
 use Rattle.book_keys.specs.Rows.{Table}
 use Rattle.book_answer.specs.declared.command.Command.{Command}
 use Rattle.book_answer.specs.declared.command.Command.TheVariants as command
+use Rattle.cmd_check.specs.declared.answering.Form.{Form}
+use Rattle.cmd_check.specs.declared.answering.Form.TheVariants as form
 use Rattle.ao_run.specs.declared.job.Job.{Job}
 use Rattle.ao_run.specs.declared.job.Job.TheVariants as job
 use Rattle.ao_run.specs.declared.job.Whole.{Whole}
@@ -34,14 +36,17 @@ whole_tables (whole.Bgp tables) = Some tables
 whole_tables (whole.Timed tables) = Some tables
 whole_tables (whole.Node tables) = Some tables
 
+-- the command that judges stored segments that are given so (own)
+abbrev pub check_command : Form → Command
+check_command form.Lines = command.Check
+check_command form.Pcap = command.CheckPcap
+
 -- the command of a job (own)
 abbrev pub job_command : Job → Command
 job_command (job.Whole w) = whole_command w
-job_command (job.CheckLines tables) = command.Check
-job_command (job.CheckPackets tables) = command.CheckPcap
+job_command (job.Check f tables) = check_command f
 
 -- the tables of a job (own)
 abbrev pub job_tables : Job → Option (List Table)
 job_tables (job.Whole w) = whole_tables w
-job_tables (job.CheckLines tables) = Some tables
-job_tables (job.CheckPackets tables) = Some tables
+job_tables (job.Check f tables) = Some tables

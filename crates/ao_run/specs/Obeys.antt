@@ -2,13 +2,12 @@
 use Rattle.std.specs.Prelude.{◌≡◌, ◌≢◌, ◌⊎◌, ℕ, ◌+◌, ◌<◌, ◌≤◌, ◌==◌, if◌then◌else◌, Bool, true}
 use Rattle.std.specs.Prelude.{false, List, [], length, take, Option, Some, None, Result, Ok, Err}
 use Rattle.ao_base.specs.Outside.{Side, Gave, WasWritten, Rose, IsAtEnd}
-use Rattle.capture_lines.specs.Checked.{Checks as JudgesLines, most_ahead as most_ahead_of_lines}
-use Rattle.capture_lines.specs.declared.check.Halt.{Halt}
-use Rattle.capture_lines.specs.declared.check.Halt.TheVariants as halt
-use Rattle.capture_packets.specs.Checked.{Checks as JudgesPackets}
-use Rattle.capture_packets.specs.Checked.{most_ahead as most_ahead_of_packets}
-use Rattle.capture_packets.specs.declared.check.PacketHalt.{PacketHalt}
-use Rattle.capture_packets.specs.declared.check.PacketHalt.TheVariants as packet_halt
+use Rattle.cmd_check.specs.CheckedLines.{Checks as JudgesLines}
+use Rattle.cmd_check.specs.CheckedLines.{most_ahead as most_ahead_of_lines}
+use Rattle.cmd_check.specs.CheckedPackets.{Checks as JudgesPackets}
+use Rattle.cmd_check.specs.CheckedPackets.{most_ahead as most_ahead_of_packets}
+use Rattle.cmd_check.specs.declared.halt.Halt.{Halt}
+use Rattle.cmd_check.specs.declared.halt.Halt.TheVariants as halt
 use Rattle.book_keys.specs.Nodes.{tables_of}
 use Rattle.book_keys.specs.Rows.{Table}
 use Rattle.book_lines.specs.declared.text_fault.TextFault.TheVariants.{Line}
@@ -87,26 +86,17 @@ WritesNothing c status =
     ((2 ≤ status) × (status < 4)) ⊎ ((writes_along c ≡ false)
     × (((4 ≤ status) × (status < 6)) ⊎ (status ≡ 7)))
 
--- how a check of lines ends that is done or stopped so: the status, and the text for standard
--- error (own)
-abbrev pub lines_end : Result Bool Halt → ℕ × List ℕ
-lines_end (Ok amiss) = (if amiss then 1 else 0, [])
-lines_end (Err (halt.Line n kind)) = (4, input_fault_text (Line n kind))
-lines_end (Err halt.TooLong) = (4, too_long)
-lines_end (Err halt.Read) = (5, read_fault)
-lines_end (Err halt.Write) = (6, write_fault)
-lines_end (Err halt.Memory) = (7, memory)
-
--- how a check of a pcap file ends that is done or stopped so: the status, and the text for
+-- how a check of stored segments ends that is done or stopped so: the status, and the text for
 -- standard error (own)
-abbrev pub packets_end : Result Bool PacketHalt → ℕ × List ℕ
-packets_end (Ok amiss) = (if amiss then 1 else 0, [])
-packets_end (Err (packet_halt.Head fault)) = (4, pcap_fault_line (BadHead fault))
-packets_end (Err (packet_halt.Record n)) = (4, pcap_fault_line (BadRecord n))
-packets_end (Err packet_halt.TooLong) = (4, too_long)
-packets_end (Err packet_halt.Read) = (5, read_fault)
-packets_end (Err packet_halt.Write) = (6, write_fault)
-packets_end (Err packet_halt.Memory) = (7, memory)
+abbrev pub check_end : Result Bool Halt → ℕ × List ℕ
+check_end (Ok amiss) = (if amiss then 1 else 0, [])
+check_end (Err (halt.Line n kind)) = (4, input_fault_text (Line n kind))
+check_end (Err (halt.Head fault)) = (4, pcap_fault_line (BadHead fault))
+check_end (Err (halt.Record n)) = (4, pcap_fault_line (BadRecord n))
+check_end (Err halt.TooLong) = (4, too_long)
+check_end (Err halt.Read) = (5, read_fault)
+check_end (Err halt.Write) = (6, write_fault)
+check_end (Err halt.Memory) = (7, memory)
 
 -- with this status standard error was offered that text, unless there was no memory for the text
 -- of a fault of the input (own)
@@ -120,14 +110,14 @@ pub record ChecksLines (tables : List Table) (input : List ℕ) (before now : Si
     : Type 0 where
   pub end : Result Bool Halt
   pub judges : JudgesLines tables input before.input now.input before.out now.out end
-  pub ends : EndsSo (lines_end end) before.err now.err status
+  pub ends : EndsSo (check_end end) before.err now.err status
 
 -- `check --pcap KEYS` by these tables reads, judges and writes packet by packet (own)
 pub record ChecksPackets (tables : List Table) (input : List ℕ) (before now : Sides) (status : ℕ)
     : Type 0 where
-  pub end : Result Bool PacketHalt
+  pub end : Result Bool Halt
   pub judges : JudgesPackets tables input before.input now.input before.out now.out end
-  pub ends : EndsSo (packets_end end) before.err now.err status
+  pub ends : EndsSo (check_end end) before.err now.err status
 
 -- the key file wasn't read, or is refused: the input isn't read, and nothing written (own)
 pub record NotBegun (text input : List ℕ) (before now : Sides) (status : ℕ) : Type 0 where

@@ -7,10 +7,8 @@ use Rattle.ao_run.specs.declared.stop.Output.{Output}
 use Rattle.book_lines.specs.declared.text_fault.TextFault.TheVariants.{Line}
 use Rattle.book_lines.specs.Faults.{input_fault_text}
 use Rattle.book_pcap.specs.Packets.{BadHead, BadRecord}
-use Rattle.capture_lines.specs.declared.check.Halt.{Halt}
-use Rattle.capture_lines.specs.declared.check.Halt.TheVariants as halt
-use Rattle.capture_packets.specs.declared.check.PacketHalt.{PacketHalt}
-use Rattle.capture_packets.specs.declared.check.PacketHalt.TheVariants as packet_halt
+use Rattle.cmd_check.specs.declared.halt.Halt.{Halt}
+use Rattle.cmd_check.specs.declared.halt.Halt.TheVariants as halt
 use Rattle.book_answer.specs.Answers.{Answer, refusal, keys_too_long, too_long, too_many_events}
 use Rattle.book_answer.specs.Answers.{pcap_fault_line, read_fault, write_fault, memory}
 use Rattle.book_answer.specs.Commands.{usage}
@@ -57,23 +55,13 @@ abbrev pub Makes : Result Output Stop → Answer → Type 0
 Makes (Ok o) a = (a ≡ made o) × (o.status < 2)
 Makes (Err stop) a = Stopped stop a
 
--- a check of lines that stopped so has this stop; there may be no memory for the text of a line's
--- fault (own)
+-- a check of stored segments that stopped so has this stop; there may be no memory for the text of
+-- a fault (own)
 abbrev pub IsHalted : Halt → Stop → Type 0
 IsHalted (halt.Line n kind) stop = Stopped stop (refusal 4 (input_fault_text (Line n kind)))
+IsHalted (halt.Head fault) stop = Stopped stop (refusal 4 (pcap_fault_line (BadHead fault)))
+IsHalted (halt.Record n) stop = Stopped stop (refusal 4 (pcap_fault_line (BadRecord n)))
 IsHalted halt.TooLong stop = stop ≡ TooLong
 IsHalted halt.Read stop = stop ≡ Read
 IsHalted halt.Write stop = stop ≡ Write
 IsHalted halt.Memory stop = stop ≡ Memory
-
--- a check of a pcap file that stopped so has this stop; there may be no memory for the text of a
--- fault (own)
-abbrev pub IsPacketHalted : PacketHalt → Stop → Type 0
-IsPacketHalted (packet_halt.Head fault) stop =
-    Stopped stop (refusal 4 (pcap_fault_line (BadHead fault)))
-IsPacketHalted (packet_halt.Record n) stop =
-    Stopped stop (refusal 4 (pcap_fault_line (BadRecord n)))
-IsPacketHalted packet_halt.TooLong stop = stop ≡ TooLong
-IsPacketHalted packet_halt.Read stop = stop ≡ Read
-IsPacketHalted packet_halt.Write stop = stop ≡ Write
-IsPacketHalted packet_halt.Memory stop = stop ≡ Memory

@@ -9,6 +9,7 @@ use crate::stop::Stop;
 use ao_base::{ReadProblem, Source, read_all};
 use book_answer::Command;
 use book_cmd_keys::Plan;
+use cmd_check::Form;
 use key_table::{Tables, read_tables};
 use std::alloc::Global;
 
@@ -45,10 +46,8 @@ pub(crate) enum Whole {
 pub(crate) enum Job {
     /// Read the whole input, and write then.
     Whole(Whole),
-    /// Judge stored segments, given as lines, and write of each as it is read.
-    CheckLines(Tables),
-    /// Judge stored segments, given as a pcap file, and write of each as it is read.
-    CheckPackets(Tables),
+    /// Judge stored segments that are given so, and write of each as it is read.
+    Check(Form, Tables),
 }
 
 impl Whole {
@@ -88,8 +87,8 @@ pub(crate) fn prepare<K: Source>(alloc: Global, command: Command, keys: &mut K) 
     match command {
         Command::Link => Ok(Job::Whole(Whole::Link)),
         Command::LinkKeys => Ok(Job::Whole(Whole::LinkKeys(tables_in(alloc, keys)?))),
-        Command::Check => Ok(Job::CheckLines(tables_in(alloc, keys)?)),
-        Command::CheckPcap => Ok(Job::CheckPackets(tables_in(alloc, keys)?)),
+        Command::Check => Ok(Job::Check(Form::Lines, tables_in(alloc, keys)?)),
+        Command::CheckPcap => Ok(Job::Check(Form::Pcap, tables_in(alloc, keys)?)),
         Command::Show => Ok(Job::Whole(Whole::Show)),
         Command::Vectors => Ok(Job::Whole(Whole::Vectors)),
         Command::Keys(time) => Ok(Job::Whole(Whole::Keys(tables_in(alloc, keys)?, time))),

@@ -3,14 +3,13 @@ ghost use Rattle.std.specs.Prelude.{◌≡◌};
 ghost use Rattle.book_lines.specs.Faults.{input_fault_text};
 ghost use Rattle.book_answer.specs.Answers.{Answer, refusal};
 ghost use Rattle.command_report.specs.Reporting.{Stopped as NoReport};
-ghost use Rattle.ao_run.specs.Stops.{IsHalted, IsPacketHalted, Stopped, status_of, text_of};
+ghost use Rattle.ao_run.specs.Stops.{IsHalted, Stopped, status_of, text_of};
 ghost use Rattle.ao_run.specs.declared.stop.Stop.TheVariants.{Memory};
 
 use crate::pcap_fault::{of_head, of_record};
 use book_base::Bytes;
 use book_lines::TextFault;
-use capture_lines::Halt;
-use capture_packets::PacketHalt;
+use cmd_check::Halt;
 use std::alloc::{AllocError, Global};
 use text_lines::print_fault;
 
@@ -83,30 +82,18 @@ impl Stop {
         }
     }
 
-    /// Why a check of lines ended so.
+    /// Why a check of stored segments ended so.
     pub(crate) fn of_check(alloc: Global, halt: Halt) -> Stop
         ensures { IsHalted halt result }
     {
         match halt {
             Halt::Line(number, kind) => Stop::of_input(alloc, &TextFault::Line(number, kind)),
+            Halt::Head(fault) => of_head(alloc, fault),
+            Halt::Record(number) => of_record(alloc, number),
             Halt::TooLong => Stop::TooLong,
             Halt::Read => Stop::Read,
             Halt::Write => Stop::Write,
             Halt::Memory => Stop::Memory,
-        }
-    }
-
-    /// Why a check of a pcap file ended so.
-    pub(crate) fn of_packets(alloc: Global, halt: PacketHalt) -> Stop
-        ensures { IsPacketHalted halt result }
-    {
-        match halt {
-            PacketHalt::Head(fault) => of_head(alloc, fault),
-            PacketHalt::Record(number) => of_record(alloc, number),
-            PacketHalt::TooLong => Stop::TooLong,
-            PacketHalt::Read => Stop::Read,
-            PacketHalt::Write => Stop::Write,
-            PacketHalt::Memory => Stop::Memory,
         }
     }
 

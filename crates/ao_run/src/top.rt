@@ -10,7 +10,7 @@ use crate::command::named;
 use crate::gather::gather;
 use crate::job::{Job, Whole, prepare};
 use crate::stop::Stop;
-use crate::stream::{check_file, check_lines};
+use crate::stream::check;
 use ao_base::{Failed, Sink, Source, write_all};
 use book_answer::Command;
 use book_base::Words;
@@ -48,8 +48,7 @@ fn do_job<I: Source, O: Sink>(
 {
     match job {
         Job::Whole(whole) => make_whole(alloc, whole, input, out),
-        Job::CheckLines(tables) => check_lines(alloc, tables, input, out),
-        Job::CheckPackets(tables) => check_file(alloc, tables, input, out),
+        Job::Check(form, tables) => check(alloc, form, tables, input, out),
     }
 }
 

@@ -4,6 +4,4 @@
 #![tactic(auto)]
 
 #[cfg(test)]
-mod of_capture_lines;
-#[cfg(test)]
-mod of_capture_packets;
+mod of_cmd_check;

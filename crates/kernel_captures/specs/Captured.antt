@@ -3,15 +3,16 @@ use Rattle.std.specs.Prelude.{◌≡◌, ℕ, Bool, List, Result, Ok, Err}
 use Rattle.ao_base.specs.Outside.{Side}
 use Rattle.book_keys.specs.Nodes.{tables_of}
 use Rattle.book_keys.specs.Rows.{Table}
-use Rattle.capture_packets.specs.declared.check.PacketHalt.{PacketHalt}
-use Rattle.capture_packets.specs.Checked.{Checks}
+use Rattle.cmd_check.specs.declared.answering.Form.TheVariants.{Pcap}
+use Rattle.cmd_check.specs.declared.halt.Halt.{Halt}
+use Rattle.cmd_check.specs.Checked.{Checks}
 use Rattle.kernel_captures.specs.declared.captured.Unchecked.{Unchecked}
 use Rattle.kernel_captures.specs.declared.captured.Unchecked.TheVariants.{Keys, Capture}
 
 -- the packets are checked by the tables of this key file
-abbrev pub ByTables : List ℕ → (source_before source_now out_before out_now : Side) → Result Bool PacketHalt → Type 0
+abbrev pub ByTables : List ℕ → (source_before source_now out_before out_now : Side) → Result Bool Halt → Type 0
 ByTables text source_before source_now out_before out_now result =
-    (tables : List Table) × (tables_of text ≡ Ok tables) × (given : List ℕ) × Checks tables given source_before source_now out_before out_now result
+    (tables : List Table) × (tables_of text ≡ Ok tables) × (given : List ℕ) × Checks Pcap tables given source_before source_now out_before out_now result
 
 -- a check by a key file of this text: without tables nothing is taken or written
 abbrev pub ChecksBy : List ℕ → (source_before source_now out_before out_now : Side) → Result Bool Unchecked → Type 0

@@ -4,7 +4,7 @@ ghost use Rattle.ao_base.specs.Outside.{Gave};
 ghost use Rattle.kernel_captures.specs.Captured.{ChecksBy};
 
 use ao_base::{Sink, Source, read_all};
-use capture_packets::{PacketHalt, check_packets};
+use cmd_check::{Form, Halt, answer};
 use key_table::read_tables;
 use std::alloc::Global;
 
@@ -17,7 +17,7 @@ pub enum Unchecked {
     /// The key file wasn't read, or isn't one; nothing of the capture was taken, and nothing written.
     Keys,
     /// The check of its packets ended early.
-    Capture(PacketHalt),
+    Capture(Halt),
 }
 
 /// Judges the packets of a pcap file by the tables of a key file, and writes the line of each that has
@@ -38,7 +38,7 @@ pub fn check_by<K: Source, I: Source, O: Sink>(
         Ok(tables) => tables,
         Err(_) => return Err(Unchecked::Keys),
     };
-    match check_packets(alloc, tables, capture, out) {
+    match answer(alloc, tables, Form::Pcap, capture, out) {
         Ok(amiss) => Ok(amiss),
         Err(halt) => Err(Unchecked::Capture(halt)),
     }

@@ -1,6 +1,7 @@
 use Rattle.std.proofs.Common.{[], refl}
 use Rattle.std.proofs.lemmas.Result.{err_from_is_err_and}
 use Rattle.book_answer.specs.declared.command.Command.TheVariants as commands
+use Rattle.cmd_check.specs.declared.answering.Form.TheVariants as form
 use Rattle.ao_run.specs.declared.job.Job.TheVariants as job
 use Rattle.ao_run.specs.declared.job.Whole.TheVariants as whole
 use Rattle.ao_run.proofs.JobLaws.{keyed_prepared, keyless, plain_prepared}
@@ -20,7 +21,7 @@ returns-in_err-tables_in-in-LinkKeys g c =
 pub returns-in_ok-tables_in-in-Check : goal.returns-in_ok-tables_in-in-Check
 returns-in_ok-tables_in-in-Check g c =
     let k = c.in_ok-tables_in-in-Check.ensures in
-    (k.0, rw c.in-Check.is (keyed_prepared commands.Check k.0 _ _ c.in_ok-tables_in-in-Check.field-0 (job.CheckLines c.in_ok-tables_in-in-Check.field-0) refl refl refl k.1))
+    (k.0, rw c.in-Check.is (keyed_prepared commands.Check k.0 _ _ c.in_ok-tables_in-in-Check.field-0 (job.Check form.Lines c.in_ok-tables_in-in-Check.field-0) refl refl refl k.1))
 
 pub returns-in_err-tables_in-in-Check : goal.returns-in_err-tables_in-in-Check
 returns-in_err-tables_in-in-Check g c =
@@ -31,7 +32,7 @@ returns-in_err-tables_in-in-Check g c =
 pub returns-in_ok-tables_in-in-CheckPcap : goal.returns-in_ok-tables_in-in-CheckPcap
 returns-in_ok-tables_in-in-CheckPcap g c =
     let k = c.in_ok-tables_in-in-CheckPcap.ensures in
-    (k.0, rw c.in-CheckPcap.is (keyed_prepared commands.CheckPcap k.0 _ _ c.in_ok-tables_in-in-CheckPcap.field-0 (job.CheckPackets c.in_ok-tables_in-in-CheckPcap.field-0) refl refl refl k.1))
+    (k.0, rw c.in-CheckPcap.is (keyed_prepared commands.CheckPcap k.0 _ _ c.in_ok-tables_in-in-CheckPcap.field-0 (job.Check form.Pcap c.in_ok-tables_in-in-CheckPcap.field-0) refl refl refl k.1))
 
 pub returns-in_err-tables_in-in-CheckPcap : goal.returns-in_err-tables_in-in-CheckPcap
 returns-in_err-tables_in-in-CheckPcap g c =

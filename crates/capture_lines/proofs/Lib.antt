@@ -1,5 +1,0 @@
-pub mod Goings
-pub mod JudgeLaws
-pub mod LineEnds
-pub mod LineSteps
-pub mod RunLaws

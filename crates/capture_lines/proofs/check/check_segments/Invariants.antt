@@ -1,4 +1,0 @@
-use Rattle.capture_lines.proofs.check.check_segments.Given as goal
-
-abbrev pub ghosts-check_counted : goal.ghosts-check_counted
-ghosts-check_counted g a = record { name = a.blank.name; parts = a.blank.parts }

@@ -1,3 +1,0 @@
-mod Gathering
-mod Heard
-mod Walk

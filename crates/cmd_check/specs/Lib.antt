@@ -1,0 +1,5 @@
+pub mod Checked
+pub mod CheckedLines
+pub mod CheckedPackets
+pub mod Gatherings
+pub mod Judging
