@@ -4,7 +4,6 @@
 
 mod count;
 mod heard;
-mod key_fault;
 mod key_texts;
 mod lasting;
 mod passed_texts;
@@ -16,6 +15,6 @@ mod write;
 
 pub use book_sessions::{PassedOver, SegmentOutcome};
 pub use capture_stream::{BlockFault, BodyFault, CaptureFault, Cause, PcapHeadFault, RecordFault};
-pub use key_fault::push_key_fault;
 pub use key_table::TableFault;
+pub use scope_faults::push_key_fault;
 pub use write::{SessionsHalt, write_sessions};

@@ -56,7 +56,9 @@ fn push_fault(out: &mut Vec<u8>, fault: TableFault) -> Result<(), AllocError>
     }
 }
 
-/// Puts the line of a key file's fault behind `out`. Where memory runs out a part of it may stand there.
+/// Puts the line of a key file's fault behind `out`: `keys: syntax`, `keys: node N row N column NAME`,
+/// `keys: too many in node N` or `keys: overlap node N rows N N`, nodes and rows counted from 1. An error
+/// only for want of memory; then a part of it may stand there.
 pub fn push_key_fault(out: &mut Vec<u8>, fault: TableFault) -> Result<(), AllocError>
     ensures { OnOk result (out.new.items ≡ out.old.items ++ table_fault_line fault) }
 {

@@ -1,0 +1,7 @@
+//! The text of a refused key file, as each word of the second program tells it.
+#![tactic(auto)]
+
+mod key_fault;
+
+pub use key_fault::push_key_fault;
+pub use key_table::{Column, TableFault};
