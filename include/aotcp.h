@@ -168,6 +168,39 @@ struct aotcp_state {
     uint8_t phase; /* an enum aotcp_phase */
 };
 
+/* The two ids of a TCP-AO option (RFC 5925, section 2.2). */
+struct aotcp_key_ids {
+    bool there;           /* there was such a segment; else all is zero */
+    uint8_t key_id;       /* KeyID: of the key of its MAC */
+    uint8_t rnext_key_id; /* RNextKeyID: of the key that its sender asks to be sent with */
+};
+
+/* What was counted, of a connection since it began or of all at the node. Each number stays at 2^64 - 1 once it is there.
+ * Of a segment that was refused the first reason counts. */
+struct aotcp_counters {
+    uint64_t passed;        /* segments that passed TCP-AO's check, whatever came of them */
+    uint64_t bad;           /* bytes that are no datagram; of the node alone, 0 of a connection */
+    uint64_t foreign;       /* segments of another connection than the one they came to; a stack has none */
+    uint64_t checksum;      /* segments with a wrong TCP checksum */
+    uint64_t closed;        /* segments for an end that is closed */
+    uint64_t no_ao;         /* segments refused: no TCP-AO option */
+    uint64_t two_ao;        /* more than one */
+    uint64_t with_md5;      /* TCP MD5 beside it */
+    uint64_t no_row;        /* no row takes segments with their KeyID */
+    uint64_t expired;       /* a row does, but not at this time */
+    uint64_t mac_length;    /* their MAC hasn't the algorithm's length */
+    uint64_t no_context;    /* the initial sequence numbers of their traffic key aren't known */
+    uint64_t range;         /* their number is below 0, or they end past 2^63 */
+    uint64_t bad_mac;       /* their MAC is wrong */
+    uint64_t no_connection; /* segments whose pair isn't held; of the node alone */
+    uint64_t knocks;        /* SYNs that knocked; of the node alone */
+    uint64_t sent;          /* segments handed out for the first time */
+    uint64_t sent_again;    /* segments that a timer handed out again */
+    struct aotcp_key_ids ids_sent;  /* of the last segment handed out: the current key, and the one asked for; not of the
+                                       node */
+    struct aotcp_key_ids ids_heard; /* of the last segment that passed: the peer's; not of the node */
+};
+
 /* A row of a node's table (RFC 7210, section 2), but for its master key, of 1 to 255 bytes. No lifetime ends before it
  * begins, or after 253402300799; both ends are included. */
 enum aotcp_algorithm { AOTCP_HMAC_SHA_1_96, AOTCP_AES_128_CMAC_96, AOTCP_HMAC_SHA_256_128 };
@@ -245,6 +278,14 @@ int aotcp_state(struct aotcp_stack *stack, const struct aotcp_pair *pair, struct
  * it (RFC 9293, section 3.9.1.1); false where the pair isn't held. Nothing is done of itself: abort, or wait on.
  * AOTCP_NO_STACK, AOTCP_BAD_FAMILY. */
 int aotcp_is_overdue(struct aotcp_stack *stack, const struct aotcp_pair *pair, uint64_t now, bool *overdue);
+
+/* What was counted of the connection since it began, and the key ids that it sent and heard last. `counters` is written
+ * with AOTCP_OK alone. AOTCP_NO_STACK, AOTCP_BAD_FAMILY, AOTCP_NO_CONNECTION. */
+int aotcp_counters(struct aotcp_stack *stack, const struct aotcp_pair *pair, struct aotcp_counters *counters);
+
+/* What was counted of all that happened at the node, also of connections that are gone; it has no key ids. `counters` is
+ * written with AOTCP_OK alone. AOTCP_NO_STACK. */
+int aotcp_node_counters(struct aotcp_stack *stack, struct aotcp_counters *counters);
 
 /* Adds a row behind the last one, for any peer and any ports, with a master key of `length` bytes; connections go on.
  * *number is the new row's number with AOTCP_OK, and the least row that overlaps it with AOTCP_OVERLAP; else it stays.

@@ -7,8 +7,8 @@ import time
 
 
 class Guest:
-    def __init__(self, path):
-        self.port = self.connect(path)
+    def __init__(self, path, number=1):
+        self.port, self.number = self.connect(path), number
         self.answers, self.events, self.packets = queue.Queue(), queue.Queue(), queue.Queue()
         self.woken = threading.Event()
         threading.Thread(target=self.read, daemon=True).start()
@@ -27,7 +27,10 @@ class Guest:
     def read(self):
         kept = b""
         while True:
-            more = self.port.recv(1 << 16)
+            try:
+                more = self.port.recv(1 << 16)
+            except OSError:
+                more = b""
             if not more:
                 self.events.put(("gone", ""))
                 self.woken.set()
@@ -55,7 +58,7 @@ class Guest:
     def ask(self, text):
         """A command; its answer behind ok."""
         self.send(b"C", text.encode())
-        answer = self.answers.get(timeout=60)
+        answer = self.answers.get(timeout=200)
         if not answer.startswith("ok"):
             raise RuntimeError(f"{text[:80]}: {answer}")
         return answer[3:]

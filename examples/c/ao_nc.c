@@ -2,11 +2,13 @@
  *
  *   ao-nc --tun DEV --keys FILE [--listen] LOCAL:PORT REMOTE:PORT
  *
- * An address of IPv6 stands in brackets. For tests: --isn N is the own initial sequence number, in the place of a random
- * one; --lose N loses so many of a hundred datagrams each way, by --seed N.
+ * An address of IPv6 stands in brackets. SIGTERM aborts the connection; then the status is 1. For tests: --isn N is the own
+ * initial sequence number, in the place of a random one; --lose N loses so many of a hundred datagrams each way, by
+ * --seed N; --weather loses, doubles and delays chosen ones, as out:syn:drop,in:data%5:hold does (weather.h).
  *
  * Standard input is given to the connection, and what is taken goes to standard output; the end of the input closes it.
- * SIGHUP reads the key file again. Each change of phase is a line on standard error. The status is 0 where both ends
+ * SIGHUP reads the key file again. Each change of phase is a line on standard error, with what was counted and the key ids
+ * that were sent and heard last. The status is 0 where both ends
  * closed, 1 where the connection was reset, was overdue or couldn't begin, 2 for other words. */
 #include "aotcp.h"
 #include "key_rows.h"
@@ -14,6 +16,7 @@
 #include "tun.h"
 
 #include <errno.h>
+#include <limits.h>
 #include <poll.h>
 #include <signal.h>
 #include <stdio.h>
@@ -34,16 +37,15 @@ struct program {
     uint64_t now, rests_from;
     uint8_t piece[8192];
     size_t waiting;
-    bool input_ended, closed, ended;
+    bool input_ended, output_full, closed, ended, aborted;
     int phase;
 };
 
 static int hangup[2];
 
-static void on_hangup(int number) {
-    (void)number;
+static void on_signal(int number) {
     int before = errno;
-    ssize_t done = write(hangup[1], "h", 1);
+    ssize_t done = write(hangup[1], number == SIGTERM ? "t" : "h", 1);
     (void)done;
     errno = before;
 }
@@ -96,19 +98,12 @@ static bool begin(struct program *p) {
     return code == AOTCP_OK;
 }
 
-/* Whether a datagram is to be lost. */
-static bool is_lost(struct program *p) {
-    p->options.seed = p->options.seed * 6364136223846793005u + 1442695040888963407u;
-    return (p->options.seed >> 33) % 100 < p->options.lost;
-}
-
 /* What stands in the device is handed in. */
 static void come(struct program *p) {
     uint8_t bytes[65536];
     ssize_t length;
-    while ((length = read(p->tun, bytes, sizeof bytes)) > 0) {
+    while ((length = weather_read(&p->options.weather, p->tun, bytes, sizeof bytes)) > 0) {
         struct aotcp_heard heard;
-        if (is_lost(p)) continue;
         if (aotcp_input(&p->stack, p->now, bytes, (size_t)length, &heard) != AOTCP_OK) return;
         if (heard.answer == AOTCP_ANSWER_REFUSED) fprintf(stderr, "ao-nc: refused: verdict %d\n", heard.reason);
     }
@@ -119,8 +114,7 @@ static void go(struct program *p) {
     uint8_t out[1500];
     size_t length = 0;
     while (aotcp_output(&p->stack, p->now, out, sizeof out, &length) == AOTCP_OK) {
-        if (is_lost(p)) continue;
-        ssize_t done = write(p->tun, out, length);
+        ssize_t done = weather_write(&p->options.weather, p->tun, out, length);
         if (done < 0) perror("ao-nc: write"); /* as if it was lost on the way */
     }
 }
@@ -137,11 +131,19 @@ static void give(struct program *p) {
     }
 }
 
-/* What was received goes to standard output. */
+/* Whether standard output is full: a pipe that isn't takes a piece of PIPE_BUF bytes without waiting. */
+static bool is_output_full(void) {
+    struct pollfd fd = {STDOUT_FILENO, POLLOUT, 0};
+    return poll(&fd, 1, 0) == 0;
+}
+
+/* What was received goes to standard output, while that takes it. */
 static bool take(struct program *p) {
-    uint8_t room[8192];
+    uint8_t room[PIPE_BUF];
     struct aotcp_taken taken;
     do {
+        p->output_full = is_output_full();
+        if (p->output_full) return true;
         if (aotcp_read(&p->stack, &p->options.pair, room, sizeof room, &taken) != AOTCP_OK) return false;
         for (size_t at = 0; at < taken.count;) {
             ssize_t done = write(STDOUT_FILENO, room + at, taken.count - at);
@@ -153,32 +155,73 @@ static bool take(struct program *p) {
     return true;
 }
 
+/* The ids of the last segment that was sent or heard: its key, and the one that it asks for. */
+static void tell_ids(const char *word, const struct aotcp_key_ids *ids) {
+    if (ids->there)
+        fprintf(stderr, " %s %d/%d", word, ids->key_id, ids->rnext_key_id);
+    else
+        fprintf(stderr, " %s none", word);
+}
+
+static void tell_count(const char *word, uint64_t count) {
+    if (count > 0) fprintf(stderr, " %s %llu", word, (unsigned long long)count);
+}
+
+/* What was counted of the connection, behind its phase; a reason to refuse only where it was met. */
+static void tell_counters(struct program *p) {
+    struct aotcp_counters c;
+    if (aotcp_counters(&p->stack, &p->options.pair, &c) != AOTCP_OK) return;
+    fprintf(stderr, " sent %llu again %llu passed %llu", (unsigned long long)c.sent, (unsigned long long)c.sent_again,
+            (unsigned long long)c.passed);
+    tell_count("checksum", c.checksum);
+    tell_count("closed", c.closed);
+    tell_count("no-ao", c.no_ao);
+    tell_count("two-ao", c.two_ao);
+    tell_count("with-md5", c.with_md5);
+    tell_count("no-row", c.no_row);
+    tell_count("expired", c.expired);
+    tell_count("mac-length", c.mac_length);
+    tell_count("no-context", c.no_context);
+    tell_count("range", c.range);
+    tell_count("bad-mac", c.bad_mac);
+    tell_ids("key", &c.ids_sent);
+    tell_ids("peer-key", &c.ids_heard);
+}
+
 static void tell_phase(struct program *p) {
     struct aotcp_state state;
     if (aotcp_state(&p->stack, &p->options.pair, &state) != AOTCP_OK || state.phase == p->phase) return;
     if (state.phase == AOTCP_TIME_WAIT) p->rests_from = p->now;
     p->phase = state.phase;
-    fprintf(stderr, "ao-nc: %s una %llu next %llu\n", phase_name(state.phase), (unsigned long long)state.una,
+    fprintf(stderr, "ao-nc: %s una %llu next %llu", phase_name(state.phase), (unsigned long long)state.una,
             (unsigned long long)state.next);
+    tell_counters(p);
+    fputc('\n', stderr);
 }
 
 /* How long to wait for something to come, in milliseconds. */
 static int wait_time(struct program *p) {
     uint64_t at = 0;
-    uint64_t most = p->phase == AOTCP_TIME_WAIT ? p->rests_from + REST : p->now + 60000;
+    uint64_t most = p->phase == AOTCP_TIME_WAIT && !p->output_full ? p->rests_from + REST : p->now + 60000;
     if (aotcp_deadline(&p->stack, &at) != AOTCP_OK || at > most) at = most;
     return at > p->now ? (int)(at - p->now) : 0;
 }
 
+/* A signal that came: the key file is read again, or the connection is aborted. */
+static void heed_signal(struct program *p) {
+    char word = ' ';
+    struct aotcp_address node = local_node(&p->options.pair);
+    if (read(hangup[0], &word, 1) != 1) return;
+    if (word == 'h') read_again(&p->stack, p->options.keys, &node, &p->known);
+    if (word == 't') p->aborted = aotcp_abort(&p->stack, &p->options.pair) == AOTCP_OK; /* the RST goes with what is due */
+}
+
 static void wait_for_something(struct program *p) {
     bool wants_input = !p->input_ended && p->waiting == 0 && p->phase >= AOTCP_ESTABLISHED;
-    struct pollfd fds[3] = {{p->tun, POLLIN, 0}, {hangup[0], POLLIN, 0}, {wants_input ? STDIN_FILENO : -1, POLLIN, 0}};
-    if (poll(fds, 3, wait_time(p)) < 0) return;
-    if (fds[1].revents != 0) {
-        char word[16];
-        struct aotcp_address node = local_node(&p->options.pair);
-        if (read(hangup[0], word, sizeof word) > 0) read_again(&p->stack, p->options.keys, &node, &p->known);
-    }
+    struct pollfd fds[4] = {{p->tun, POLLIN, 0}, {hangup[0], POLLIN, 0}, {wants_input ? STDIN_FILENO : -1, POLLIN, 0},
+                            {p->output_full ? STDOUT_FILENO : -1, POLLOUT, 0}};
+    if (poll(fds, 4, wait_time(p)) < 0) return;
+    if (fds[1].revents != 0) heed_signal(p);
     if (fds[2].revents != 0) {
         ssize_t count = read(STDIN_FILENO, p->piece, sizeof p->piece);
         if (count > 0) p->waiting = (size_t)count;
@@ -189,8 +232,9 @@ static void wait_for_something(struct program *p) {
 /* The status, or -1 while the connection goes on. */
 static int status(struct program *p) {
     bool overdue = false;
-    if (p->phase == AOTCP_CLOSED) return p->closed && p->ended ? 0 : 1;
-    if (p->phase == AOTCP_TIME_WAIT && p->now >= p->rests_from + REST) return 0;
+    if (p->aborted) return 1;
+    if (p->phase == AOTCP_CLOSED && !p->output_full) return p->closed && p->ended ? 0 : 1;
+    if (p->phase == AOTCP_TIME_WAIT && !p->output_full && p->now >= p->rests_from + REST) return 0;
     aotcp_is_overdue(&p->stack, &p->options.pair, p->now, &overdue);
     if (!overdue) return -1;
     fprintf(stderr, "ao-nc: nothing was heard for five minutes\n");
@@ -203,10 +247,10 @@ int main(int argc, char **argv) {
     static struct program p;
     struct sigaction action;
     memset(&action, 0, sizeof action);
-    action.sa_handler = on_hangup;
+    action.sa_handler = on_signal;
     p.phase = -1;
     if (!read_options(&p.options, argc, argv)) return 2;
-    if (pipe(hangup) != 0 || sigaction(SIGHUP, &action, NULL) != 0) return 1;
+    if (pipe(hangup) != 0 || sigaction(SIGHUP, &action, NULL) != 0 || sigaction(SIGTERM, &action, NULL) != 0) return 1;
     p.tun = open_tun(p.options.tun);
     look_at_clock(&p);
     if (p.tun < 0 || !begin(&p)) return 1;

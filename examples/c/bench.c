@@ -44,8 +44,9 @@ static void measure(const char *name, const char *keys, size_t total) {
     move(&w, total);
     wall = seconds(CLOCK_MONOTONIC) - wall;
     work = seconds(CLOCK_PROCESS_CPUTIME_ID) - work;
+    unsigned sent = w.sent[CLIENT] + w.sent[SERVER];
     printf("%s: %.0f bytes a second of processor, %.0f by the clock; %u segments, each made and checked in %.2f us\n",
-           name, (double)total / work, (double)total / wall, w.sent, 1e6 * work / w.sent);
+           name, (double)total / work, (double)total / wall, sent, 1e6 * work / sent);
     world_close(&w);
 }
 

@@ -33,7 +33,16 @@ static bool read_pair(struct aotcp_pair *pair, const char *local, const char *re
         && read_socket(remote, &other, pair->remote, &pair->remote_port) && other == pair->family;
 }
 
-/* A word with its value; false for another word. */
+/* So many of a hundred are lost each way. */
+static bool read_loss(struct weather *weather, const char *value) {
+    char rules[64];
+    unsigned long lost = strtoul(value, NULL, 10);
+    if (lost == 0) return true;
+    snprintf(rules, sizeof rules, "out:~%lu:drop,in:~%lu:drop", lost, lost);
+    return read_weather(weather, rules);
+}
+
+/* A word with its value; false for another word, and for weather that has a fault. */
 static bool read_word(struct options *options, const char *word, const char *value) {
     if (strcmp(word, "--tun") == 0) {
         options->tun = value;
@@ -43,9 +52,11 @@ static bool read_word(struct options *options, const char *word, const char *val
         options->has_isn = true;
         options->isn = (uint32_t)strtoul(value, NULL, 10);
     } else if (strcmp(word, "--lose") == 0) {
-        options->lost = strtoul(value, NULL, 10);
+        return read_loss(&options->weather, value);
+    } else if (strcmp(word, "--weather") == 0) {
+        return read_weather(&options->weather, value);
     } else if (strcmp(word, "--seed") == 0) {
-        options->seed = strtoull(value, NULL, 10);
+        options->weather.seed = strtoull(value, NULL, 10);
     } else {
         return false;
     }
@@ -66,6 +77,7 @@ bool read_options(struct options *options, int argc, char **argv) {
     }
     if (options->tun != NULL && options->keys != NULL && at + 2 == argc && read_pair(&options->pair, argv[at], argv[at + 1]))
         return true;
-    fprintf(stderr, "usage: ao-nc --tun DEV --keys FILE [--listen] LOCAL:PORT REMOTE:PORT\n");
+    fprintf(stderr, "usage: ao-nc --tun DEV --keys FILE [--listen] LOCAL:PORT REMOTE:PORT\n"
+                    "for tests: --isn N, --lose PERCENT, --seed N, --weather WAY:WHICH:FATE,..\n");
     return false;
 }

@@ -3,14 +3,14 @@
 #define OPTIONS_H
 
 #include "aotcp.h"
+#include "weather.h"
 
 struct options {
     const char *tun;
     const char *keys;
     bool listens, has_isn;
     uint32_t isn;
-    unsigned long lost;
-    uint64_t seed;
+    struct weather weather;
     struct aotcp_pair pair;
 };
 

@@ -74,7 +74,13 @@ static void check_codes(struct world *w) {
     size_t length = 0;
     uint64_t late = 253402300800000u;
     strange.family = 5;
+    struct aotcp_counters c;
     CHECK(aotcp_open(&none, &w->pairs[CLIENT], 1) == AOTCP_NO_STACK && aotcp_free(&none) == AOTCP_NO_STACK);
+    CHECK(aotcp_counters(&none, &w->pairs[CLIENT], &c) == AOTCP_NO_STACK);
+    CHECK(aotcp_node_counters(&none, &c) == AOTCP_NO_STACK);
+    CHECK(aotcp_counters(&w->stacks[CLIENT], &strange, &c) == AOTCP_BAD_FAMILY);
+    CHECK(aotcp_counters(&w->stacks[CLIENT], &w->pairs[SERVER], &c) == AOTCP_NO_CONNECTION);
+    CHECK(aotcp_counters(&w->stacks[CLIENT], &w->pairs[CLIENT], &c) == AOTCP_OK && c.sent == 0 && !c.ids_sent.there);
     CHECK(aotcp_open(&w->stacks[CLIENT], &strange, 1) == AOTCP_BAD_FAMILY);
     CHECK(aotcp_open(&w->stacks[CLIENT], &w->pairs[CLIENT], 1) == AOTCP_IN_USE);
     CHECK(aotcp_close(&w->stacks[CLIENT], &w->pairs[SERVER]) == AOTCP_NO_CONNECTION);
@@ -87,6 +93,21 @@ static void check_codes(struct world *w) {
     CHECK(aotcp_new(&none, (const uint8_t *)KEYS, sizeof KEYS - 1, &node, 1, &fault) == AOTCP_NO_NODE);
     CHECK(aotcp_new(&none, (const uint8_t *)"[[nod", 5, &node, 1, &fault) == AOTCP_BAD_KEYS && fault.kind == AOTCP_FAULT_SYNTAX);
     CHECK(aotcp_new(&w->stacks[CLIENT], (const uint8_t *)KEYS, sizeof KEYS - 1, &node, 1, &fault) == AOTCP_HELD);
+}
+
+/* What an end counted is what happened at it: what it sent, what was refused, and what passed under both rows; its last key and
+ * its peer's are the second row's. */
+static void check_counters(struct world *w, int end) {
+    struct aotcp_counters c, n;
+    uint8_t own = end == CLIENT ? 6 : 8, peer = end == CLIENT ? 8 : 6;
+    CHECK(aotcp_counters(&w->stacks[end], &w->pairs[end], &c) == AOTCP_OK);
+    CHECK(aotcp_node_counters(&w->stacks[end], &n) == AOTCP_OK);
+    CHECK(c.sent + c.sent_again == w->sent[end] && c.passed == w->rows[end][1] + w->rows[end][2]);
+    CHECK(c.checksum + c.no_row + c.expired + c.no_context + c.range + c.bad_mac + c.mac_length == w->refused[end]);
+    CHECK(n.sent == c.sent && n.passed == c.passed && n.no_connection == 0 && n.knocks == 0);
+    CHECK(n.bad == (end == CLIENT) && c.bad == 0 && !n.ids_sent.there);
+    CHECK(c.ids_sent.there && c.ids_sent.key_id == own && c.ids_sent.rnext_key_id == peer);
+    CHECK(c.ids_heard.there && c.ids_heard.key_id == peer && c.ids_heard.rnext_key_id == own);
 }
 
 /* Rows of a key file are told, added and withdrawn. */
@@ -155,10 +176,11 @@ static void run(uint64_t seed) {
     for (int end = 0; end < 2; end++) {
         CHECK(s[end].came == BYTES && memcmp(s[end].taken, s[end].given, BYTES) == 0);
         CHECK(w.rows[end][1] > 0 && w.rows[end][2] > 0);
+        check_counters(&w, end);
     }
     printf("seed %llu: %u segments, %u lost, %u altered, %u refused; under row 1 %u and %u, under row 2 %u and %u; %llu s\n",
-           (unsigned long long)seed, w.sent, w.lost, w.altered, w.refused, w.rows[0][1], w.rows[1][1], w.rows[0][2],
-           w.rows[1][2], (unsigned long long)((w.now - START) / 1000));
+           (unsigned long long)seed, w.sent[0] + w.sent[1], w.lost, w.altered, w.refused[0] + w.refused[1], w.rows[0][1],
+           w.rows[1][1], w.rows[0][2], w.rows[1][2], (unsigned long long)((w.now - START) / 1000));
     world_close(&w);
 }
 

@@ -50,7 +50,7 @@ void world_send(struct world *w, int end) {
         CHECK(code == AOTCP_OK || code == AOTCP_NOTHING);
         if (code == AOTCP_NOTHING) return;
         CHECK(length <= sizeof out);
-        w->sent++;
+        w->sent[end]++;
         if (roll(w, 1000) < w->way.lost) {
             w->lost++;
             continue;
@@ -68,7 +68,7 @@ void world_send(struct world *w, int end) {
 static void deliver(struct world *w, const struct flying *f) {
     struct aotcp_heard heard;
     CHECK(aotcp_input(&w->stacks[f->to], w->now, f->bytes, f->length, &heard) == AOTCP_OK);
-    if (heard.answer == AOTCP_ANSWER_REFUSED || heard.answer == AOTCP_ANSWER_CHECKSUM) w->refused++;
+    if (heard.answer == AOTCP_ANSWER_REFUSED || heard.answer == AOTCP_ANSWER_CHECKSUM) w->refused[f->to]++;
     if (heard.passed) {
         CHECK(heard.row == 1 || heard.row == 2);
         CHECK(memcmp(&heard.pair.local, &w->pairs[f->to].local, 16) == 0 && heard.pair.local_port == w->pairs[f->to].local_port);

@@ -38,7 +38,7 @@ struct world {
     uint64_t now, dice;
     struct flying *flying;
     size_t on_way;
-    unsigned sent, lost, altered, refused, rows[2][3];
+    unsigned sent[2], lost, altered, refused[2], rows[2][3];
 };
 
 /* A number below n, by the seed. */

@@ -1,4 +1,5 @@
 mod CallLaws
+mod HeldLaws
 mod MapLaws
 mod StandLaws
 mod TurnLaws

@@ -1,49 +1,49 @@
--- What the calls of the map of counters do to it.
+-- What the calls of the map of tallies do to it.
 use Rattle.std.proofs.Common.{◌≡◌, Bool, true, false, List, Option, Some, None, refl, sym, ap, subst, ◌∙◌}
 use Rattle.std.specs.Prelude.{cond, is_some, option_map, if◌then◌else◌}
 use Rattle.std.specs.BTreeMap.{is_at}
 use Rattle.std.specs.Map.{lookup, set_value}
 use Rattle.book_base.specs.declared.address.Pair.{Pair}
 use Rattle.book_cmd_node.specs.NodeRuns.{same_pair}
-use Rattle.book_counters.specs.declared.counters.Counters.{Counters}
+use Rattle.book_counters.specs.declared.tally.Tally.{Tally}
 use Rattle.law_node.proofs.Pairs.{same_pair_is}
 use Rattle.stack_timers.specs.declared.key.Key.{Key}
 use Rattle.stack_timers.specs.Keys.{by_key, key_of}
 use Rattle.stack_timers.proofs.MapLaws.{key_finds, set_finds}
 use Rattle.ao_counters.specs.Tallying.{Becomes, Tallying, tally_at}
 
--- counters with these entries
-abbrev pub of_entries : List (Key × Counters) → Tallying
+-- tallies with these entries
+abbrev pub of_entries : List (Key × Tally) → Tallying
 of_entries es = record { entries = es }
 
-module _ (es after : List (Key × Counters)) (k : Key) (p : Pair) (n : Tallying) (view : of_entries es ≡ n) (key : k ≡ key_of p) where
+module _ (es after : List (Key × Tally)) (k : Key) (p : Pair) (n : Tallying) (view : of_entries es ≡ n) (key : k ≡ key_of p) where
   -- what is found by the key is the pair's
-  pub found_at : (o : Option Counters) → o ≡ lookup (is_at (by_key k)) es → o ≡ tally_at n p
+  pub found_at : (o : Option Tally) → o ≡ lookup (is_at (by_key k)) es → o ≡ tally_at n p
   found_at o is = rw (is, key, ← view) refl
 
-  -- counters were put
-  pub put_becomes : (w : Counters) → ((q : Key) → lookup (is_at (by_key q)) after ≡ cond (is_at (by_key k) q) (Some w) (lookup (is_at (by_key q)) es)) → Becomes n (of_entries after) p (Some w)
+  -- a tally was put
+  pub put_becomes : (w : Tally) → ((q : Key) → lookup (is_at (by_key q)) after ≡ cond (is_at (by_key k) q) (Some w) (lookup (is_at (by_key q)) es)) → Becomes n (of_entries after) p (Some w)
   put_becomes w finds =
       let g : (q : Key) → lookup (is_at (by_key q)) after ≡ cond (is_at (by_key (key_of p)) q) (Some w) (lookup (is_at (by_key q)) es) = rw key at finds in
       rw (← view) (record { finds = λ q. g (key_of q) ∙ rw (key_finds p q) refl })
 
-  -- the counters of a pair were dropped
+  -- the tally of a pair was dropped
   pub drop_becomes : ((q : Key) → lookup (is_at (by_key q)) after ≡ cond (is_at (by_key k) q) None (lookup (is_at (by_key q)) es)) → Becomes n (of_entries after) p None
   drop_becomes finds =
       let g : (q : Key) → lookup (is_at (by_key q)) after ≡ cond (is_at (by_key (key_of p)) q) None (lookup (is_at (by_key q)) es) = rw key at finds in
       rw (← view) (record { finds = λ q. g (key_of q) ∙ rw (key_finds p q) refl })
 
-  -- those of a pair that has some were written
-  pub set_becomes : (one other : Counters) → Some one ≡ lookup (is_at (by_key k)) es → after ≡ set_value (is_at (by_key k)) es other → Becomes n (of_entries after) p (Some other)
+  -- that of a pair that has one was written
+  pub set_becomes : (one other : Tally) → Some one ≡ lookup (is_at (by_key k)) es → after ≡ set_value (is_at (by_key k)) es other → Becomes n (of_entries after) p (Some other)
   set_becomes one other is set =
       let there : is_some (lookup (is_at (by_key (key_of p))) es) ≡ true = rw (← key) (ap is_some (sym is)) in
       rw (← view, set, key) (record { finds = λ q. set_finds p q other es there })
 
-  -- those of a pair that has some were changed
-  pub some_changed : (one new : Counters) (f : Counters → Counters) → new ≡ f one → Some one ≡ lookup (is_at (by_key k)) es → after ≡ set_value (is_at (by_key k)) es new → Becomes n (of_entries after) p (option_map f (tally_at n p))
+  -- that of a pair that has one was changed
+  pub some_changed : (one new : Tally) (f : Tally → Tally) → new ≡ f one → Some one ≡ lookup (is_at (by_key k)) es → after ≡ set_value (is_at (by_key k)) es new → Becomes n (of_entries after) p (option_map f (tally_at n p))
   some_changed one new f made is set =
-      let known : Some new ≡ option_map f (tally_at n p) = ap Some made ∙ ap (λ (o : Option Counters). option_map f o) (found_at (Some one) is) in
-      subst (λ (x : Option Counters). Becomes n (of_entries after) p x) known (set_becomes one new is set)
+      let known : Some new ≡ option_map f (tally_at n p) = ap Some made ∙ ap (λ (o : Option Tally). option_map f o) (found_at (Some one) is) in
+      subst (λ (x : Option Tally). Becomes n (of_entries after) p x) known (set_becomes one new is set)
 
 -- the pair has none, and nothing changed
 pub none_becomes : (n : Tallying) (p : Pair) → tally_at n p ≡ None → Becomes n n p None
@@ -54,11 +54,11 @@ none_becomes n p none = record { finds = λ q. at q (same_pair p q) refl }
     at q false e = refl
 
 -- the pair becomes what it is known to be
-pub as_known : (before after : Tallying) (p : Pair) (k l : Option Counters) → k ≡ l → Becomes before after p k → Becomes before after p l
-as_known before after p k l e B = subst (λ (x : Option Counters). Becomes before after p x) e B
+pub as_known : (before after : Tallying) (p : Pair) (k l : Option Tally) → k ≡ l → Becomes before after p k → Becomes before after p l
+as_known before after p k l e B = subst (λ (x : Option Tally). Becomes before after p x) e B
 
 -- it has none, and so nothing changed
-pub none_changed : (before after : Tallying) (p : Pair) (f : Counters → Counters) → None ≡ tally_at before p → after ≡ before → Becomes before after p (option_map f (tally_at before p))
+pub none_changed : (before after : Tallying) (p : Pair) (f : Tally → Tally) → None ≡ tally_at before p → after ≡ before → Becomes before after p (option_map f (tally_at before p))
 none_changed before after p f none same =
     subst (λ (x : Tallying). Becomes before x p (option_map f (tally_at before p))) (sym same)
-    (as_known before before p None (option_map f (tally_at before p)) (ap (λ (o : Option Counters). option_map f o) none) (none_becomes before p (sym none)))
+    (as_known before before p None (option_map f (tally_at before p)) (ap (λ (o : Option Tally). option_map f o) none) (none_becomes before p (sym none)))

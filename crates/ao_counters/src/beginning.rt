@@ -35,7 +35,7 @@ impl CountedStack {
     }
 
     /// A connection of the pair opens actively (RFC 9293, section 3.10.1), with `isn` as its own initial
-    /// sequence number, and its counters at 0. The addresses of the pair are of one family.
+    /// sequence number, and a new tally. The addresses of the pair are of one family.
     ///
     /// `InUse` exactly where the pair is held, else `Full` exactly where as many connections are held as
     /// the stack holds at most; `Memory` only for want of memory. After each of these the stack and its

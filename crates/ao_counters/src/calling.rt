@@ -14,7 +14,7 @@ use stack_ends::Taken;
 use tcp_endpoint::GiveAnswer;
 
 impl CountedStack {
-    /// The connection of the pair is dropped, with its counters and all else that is kept of it. False
+    /// The connection of the pair is dropped, with its tally and all else that is kept of it. False
     /// exactly where the pair isn't held; then nothing has changed.
     pub fn remove(&mut self, pair: &Pair) -> bool
         ensures { (s : StackState) (n : StackCounts) → Stands self.old s n → Follows self.new (At pair.now act.Remove) s n (IsDone result) }

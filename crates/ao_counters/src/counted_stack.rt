@@ -1,17 +1,17 @@
 //! A stack that counts.
 ghost use Rattle.std.specs.Prelude.{◌≡◌, option_map};
-ghost use Rattle.ao_counters.specs.Happening.{changed_by};
+ghost use Rattle.ao_counters.specs.Happening.{changed_by, counted_by};
 ghost use Rattle.ao_counters.specs.Tallying.{Becomes, tally_at};
 
-use crate::counting::{Happened, changed};
+use crate::counting::{Happened, counted};
 use crate::tallies::Tallies;
 use ao_stack::Stack;
 use book_base::Pair;
 use book_counters::Counters;
 
-/// A node that runs by itself (`ao_stack::Stack`), with counters of all that happens at it and of each
-/// of its connections. The counters of a connection begin at 0 with it and go with it; only calls that
-/// begin one take memory for them.
+/// A node that runs by itself (`ao_stack::Stack`), with counters of all that happens at it and a tally
+/// of each of its connections: its counters, and the key ids that it sent and heard last. The tally of a
+/// connection begins with it and goes with it; only calls that begin one take memory for it.
 #[derive(Drop)]
 pub struct CountedStack {
     pub(crate) stack: Stack,
@@ -23,10 +23,10 @@ impl CountedStack {
     /// Something happened at the connection of the pair, and so at the node.
     pub(crate) fn count(&mut self, pair: &Pair, what: Happened)
         ensures stack { self.new.stack ≡ self.old.stack }
-        ensures node { self.new.node ≡ changed_by what self.old.node }
+        ensures node { self.new.node ≡ counted_by what self.old.node }
         ensures tallies { Becomes self.old.tallies self.new.tallies pair.now (option_map (changed_by what) (tally_at self.old.tallies pair.now)) }
     {
-        self.node = changed(self.node, what);
+        self.node = counted(self.node, what);
         self.tallies.change(pair, what);
     }
 }

@@ -1,22 +1,23 @@
-//! What happened adds to counters.
+//! What happened adds to counters and tallies.
 ghost use Rattle.std.specs.Prelude.{◌≡◌};
-ghost use Rattle.book_counters.specs.Counters.{arrival_counted, knock_counted, next_count, no_counters, refusal_counted, sending_counted, stray_counted};
-ghost use Rattle.ao_counters.specs.Happening.{changed_by};
+ghost use Rattle.book_counters.specs.Counters.{arrival_counted, knock_counted, next_count, no_counters, no_tally, refusal_counted, sending_counted, stray_counted};
+ghost use Rattle.ao_counters.specs.Happening.{changed_by, counted_by};
 ghost use Rattle.ao_stack.specs.Turning.{act_of};
 
+use crate::key_ids;
 use ao_stack::Sending;
-use book_counters::Counters;
+use book_counters::{Counters, KeyIds, KeyIdsSeen, Tally};
 use book_endpoint::{Arrival, Verdict};
 
 /// What happened at a connection.
 #[derive(Clone, Copy, Debug, PartialEq, Eq)]
 pub(crate) enum Happened {
-    /// A segment came, and was answered so.
-    Heard(Arrival),
-    /// A segment was sent.
-    Sent(Sending),
-    /// It begins, or doesn't: its counters become these.
-    Become(Counters),
+    /// A segment with these key ids came, and was answered so.
+    Heard(Arrival, Option<KeyIds>),
+    /// A segment with these key ids was sent.
+    Sent(Sending, Option<KeyIds>),
+    /// It begins, or doesn't: its tally becomes this one.
+    Become(Tally),
 }
 
 /// Nothing was counted.
@@ -42,6 +43,19 @@ pub(crate) fn no_counters() -> Counters
         knocks: 0,
         sent: 0,
         sent_again: 0,
+    }
+}
+
+/// The tally of a connection that begins.
+pub(crate) fn no_tally() -> Tally
+    ensures { result ≡ no_tally }
+{
+    Tally {
+        counters: no_counters(),
+        ids: KeyIdsSeen {
+            sent: None,
+            heard: None,
+        },
     }
 }
 
@@ -176,13 +190,30 @@ pub(crate) fn knocked(counters: Counters) -> Counters
     }
 }
 
-/// The counters once something happened.
-pub(crate) fn changed(counters: Counters, what: Happened) -> Counters
-    ensures { result ≡ changed_by what counters }
+/// The counters of the node once something happened at a connection.
+pub(crate) fn counted(counters: Counters, what: Happened) -> Counters
+    ensures { result ≡ counted_by what counters }
 {
     match what {
-        Happened::Heard(arrival) => arrived(counters, arrival),
-        Happened::Sent(kind) => sent(counters, kind),
-        Happened::Become(others) => others,
+        Happened::Heard(arrival, _) => arrived(counters, arrival),
+        Happened::Sent(kind, _) => sent(counters, kind),
+        Happened::Become(_) => counters,
+    }
+}
+
+/// The tally of a connection once something happened at it.
+pub(crate) fn changed(tally: Tally, what: Happened) -> Tally
+    ensures { result ≡ changed_by what tally }
+{
+    match what {
+        Happened::Heard(arrival, ids) => Tally {
+            counters: arrived(tally.counters, arrival),
+            ids: key_ids::heard(tally.ids, arrival, ids),
+        },
+        Happened::Sent(kind, ids) => Tally {
+            counters: sent(tally.counters, kind),
+            ids: key_ids::sent(tally.ids, ids),
+        },
+        Happened::Become(other) => other,
     }
 }

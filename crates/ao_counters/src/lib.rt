@@ -1,5 +1,6 @@
-//! A node that runs by itself and counts what happens at it and at each of its connections. Each call is
-//! that of the stack of `ao_stack`, and the counters after it are those of `book_counters`.
+//! A node that runs by itself and counts what happens at it and at each of its connections, with the key
+//! ids that each sent and heard last. Each call is that of the stack of `ao_stack`, and the counters after
+//! it are those of `book_counters`.
 #![tactic(auto)]
 
 mod arriving;
@@ -7,10 +8,11 @@ mod beginning;
 mod calling;
 mod counted_stack;
 mod counting;
+mod key_ids;
 mod looking;
 mod rows;
 mod sending;
 mod tallies;
 
-pub use book_counters::Counters;
+pub use book_counters::{Counters, KeyIds, KeyIdsSeen, Tally};
 pub use counted_stack::CountedStack;

@@ -8,14 +8,15 @@ ghost use Rattle.ao_counters.specs.Standing.{Stands};
 
 use crate::counted_stack::CountedStack;
 use book_base::Pair;
-use book_counters::Counters;
+use book_counters::{Counters, Tally};
 use book_stack::Front;
 
 impl CountedStack {
-    /// What was counted of the connection of the pair since it began. `None` where none began that wasn't
-    /// dropped since.
-    pub fn counters(&self, pair: &Pair) -> Option<Counters>
-        ensures { (s : StackState) (n : StackCounts) → Stands self.now s n → result ≡ n.pairs pair.now }
+    /// What was counted of the connection of the pair since it began, and the key ids that it sent and
+    /// heard last. `None` exactly where the pair isn't held.
+    pub fn counters(&self, pair: &Pair) -> Option<Tally>
+        ensures tally { (s : StackState) (n : StackCounts) → Stands self.now s n → result ≡ n.pairs pair.now }
+        ensures held { (s : StackState) (n : StackCounts) → Stands self.now s n → is_some result ≡ is_some (held_end pair.now s.node.ends) }
     {
         self.tallies.get(pair)
     }

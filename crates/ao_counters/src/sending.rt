@@ -11,12 +11,13 @@ ghost use Rattle.ao_counters.specs.Standing.{Stands};
 
 use crate::counted_stack::CountedStack;
 use crate::counting::Happened;
+use crate::key_ids::ids_in_front;
 use ao_stack::Outgoing;
 
 impl CountedStack {
     /// The next datagram that is due at `now`, in milliseconds since 1970 and at most the last one of the
-    /// year 9999: it stands in front of `room`, which has at least 1,500 bytes, and is counted. Its
-    /// connection is told, and whether it is sent for the first time or again. `None` where no datagram
+    /// year 9999: it stands in front of `room`, which has at least 1,500 bytes, is counted, and its key
+    /// ids are kept. Its connection is told, and whether it is sent for the first time or again. `None` where no datagram
     /// is due, and `room` is as it was: then `output` is to be called again at `next_deadline`, or after
     /// another call.
     pub fn output_told(&mut self, now: u64, room: &mut [u8]) -> Option<Outgoing>
@@ -29,7 +30,8 @@ impl CountedStack {
         match self.stack.output_told(now, room) {
             None => None,
             Some(outgoing) => {
-                self.count(&outgoing.pair, Happened::Sent(outgoing.kind));
+                let ids = ids_in_front(room, outgoing.length);
+                self.count(&outgoing.pair, Happened::Sent(outgoing.kind, ids));
                 Some(outgoing)
             }
         }

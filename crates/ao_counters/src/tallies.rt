@@ -1,21 +1,21 @@
-//! The counters of all connections.
+//! The tallies of all connections.
 ghost use Rattle.std.specs.Prelude.{◌≡◌, [], true, Some, None, OnOk, OnErr, is_some, option_map};
-ghost use Rattle.book_counters.specs.Counters.{no_counters};
+ghost use Rattle.book_counters.specs.Counters.{no_tally};
 ghost use Rattle.ao_counters.specs.Happening.{changed_by};
 ghost use Rattle.ao_counters.specs.Tallying.{Becomes, tally_at};
 
-use crate::counting::{Happened, changed, no_counters};
+use crate::counting::{Happened, changed, no_tally};
 use book_base::Pair;
-use book_counters::Counters;
+use book_counters::Tally;
 use stack_timers::{Key, key_of};
 use std::alloc::{AllocError, Global};
 use std::collections::BTreeMap;
 use std::marker::Model;
 
-/// The counters of each connection, by the pair of its sockets.
+/// The tally of each connection, by the pair of its sockets.
 #[derive(Drop)]
 pub(crate) struct Tallies {
-    items: BTreeMap<Key, Counters>,
+    items: BTreeMap<Key, Tally>,
 }
 
 impl Model for Tallies {
@@ -27,7 +27,7 @@ impl Model for Tallies {
 }
 
 impl Tallies {
-    /// No counters.
+    /// No tally.
     pub(crate) fn new(alloc: Global) -> Tallies
         ensures { result ≡ record { entries = [] } }
     {
@@ -36,49 +36,49 @@ impl Tallies {
         }
     }
 
-    /// The counters of the pair.
-    pub(crate) fn get(&self, pair: &Pair) -> Option<Counters>
+    /// The tally of the pair.
+    pub(crate) fn get(&self, pair: &Pair) -> Option<Tally>
         ensures { result ≡ tally_at self.now pair.now }
     {
         self.items.get(&key_of(pair)).copied()
     }
 
-    /// The pair has counters, all 0. After want of memory nothing has changed.
+    /// The pair has a new tally. After want of memory nothing has changed.
     pub(crate) fn put(&mut self, pair: &Pair) -> Result<(), AllocError>
-        ensures put { OnOk result (Becomes self.old self.new pair.now (Some no_counters)) }
+        ensures put { OnOk result (Becomes self.old self.new pair.now (Some no_tally)) }
         ensures unchanged { OnErr result (self.new ≡ self.old) }
     {
-        match self.items.insert(key_of(pair), no_counters()) {
+        match self.items.insert(key_of(pair), no_tally()) {
             Ok(_) => Ok(()),
             Err(_) => Err(AllocError),
         }
     }
 
-    /// The pair has no counters.
+    /// The pair has no tally.
     pub(crate) fn remove(&mut self, pair: &Pair)
         ensures { Becomes self.old self.new pair.now None }
     {
-        let _counters = self.items.remove(&key_of(pair));
+        let _tally = self.items.remove(&key_of(pair));
     }
 
-    /// Something happened at the connection of the pair; nothing where it has no counters.
+    /// Something happened at the connection of the pair; nothing where it has no tally.
     pub(crate) fn change(&mut self, pair: &Pair, what: Happened)
         ensures { Becomes self.old self.new pair.now (option_map (changed_by what) (tally_at self.old pair.now)) }
     {
         match self.items.get_mut(&key_of(pair)) {
             None => {}
-            Some(counters) => *counters = changed(*counters, what),
+            Some(tally) => *tally = changed(*tally, what),
         }
     }
 
-    /// The pair, which has counters, has those again that it had before, if it had any.
-    pub(crate) fn put_back(&mut self, pair: &Pair, before: Option<Counters>)
+    /// The pair, which has a tally, has that one again that it had before, if it had one.
+    pub(crate) fn put_back(&mut self, pair: &Pair, before: Option<Tally>)
         requires { is_some (tally_at self.old pair.now) ≡ true }
         ensures { Becomes self.old self.new pair.now before }
     {
         match before {
             None => self.remove(pair),
-            Some(counters) => self.change(pair, Happened::Become(counters)),
+            Some(tally) => self.change(pair, Happened::Become(tally)),
         }
     }
 }

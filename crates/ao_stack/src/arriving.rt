@@ -8,11 +8,13 @@ ghost use Rattle.book_cmd_node.specs.NodeRuns.{held_end};
 ghost use Rattle.book_segments.specs.Segments.{pair_reached};
 ghost use Rattle.book_stack.specs.Calls.{Input, after_segment_heard, heard_pair, met};
 ghost use Rattle.book_stack.specs.Stacks.{StackState, is_free, is_over, knocks};
+ghost use Rattle.book_stack.specs.Turns.{clocked};
 ghost use Rattle.book_stack.specs.Watches.{end_front};
 ghost use Rattle.stack_timers.specs.Watching.{latest};
 ghost use Rattle.node_ends.specs.declared.answer.NodeArrival.TheVariants.{At};
 ghost use Rattle.tcp_endpoint.specs.declared.arrival.Arrived.{Arrived as OneArrived};
 ghost use Rattle.ao_stack.specs.Answering.{Does, Follows, IsHeard, IsTold};
+ghost use Rattle.ao_stack.specs.Passing.{PassesAs, TellsFound};
 ghost use Rattle.ao_stack.specs.Standing.{Stands};
 
 use crate::stack::Stack;
@@ -126,8 +128,9 @@ impl Stack {
         requires parts { blank.parts ≡ L.parts }
         requires part { 0 < blank.parts }
         requires time { now ≤ latest }
-        ensures { (s : StackState) (d : Segment) → Stands self.old s → reading bytes.now ≡ Read d → pair.now ≡ pair_reached d
+        ensures told { (s : StackState) (d : Segment) → Stands self.old s → reading bytes.now ≡ Read d → pair.now ≡ pair_reached d
             → Does self.new (IsTold (Read d) result) (heard_pair (record { now = now; bytes = bytes.now }) (pair_reached d) d s (held_end (pair_reached d) s.node.ends)) }
+        ensures passed { (s : StackState) (d : Segment) → Stands self.old s → reading bytes.now ≡ Read d → TellsFound s (Read d) result }
     {
         match self.ends.front(pair) {
             None => NodeArrival::NoConnection,
@@ -142,8 +145,9 @@ impl Stack {
     /// A segment comes for the pair, and asks for a connection or not.
     fn meet(&mut self, pair: &Pair, asks: bool, now: u64, bytes: &[u8]) -> Heard
         requires time { now ≤ latest }
-        ensures { (s : StackState) (d : Segment) → Stands self.old s → reading bytes.now ≡ Read d → pair.now ≡ pair_reached d → asks ≡ (syn_alone d && good d)
+        ensures told { (s : StackState) (d : Segment) → Stands self.old s → reading bytes.now ≡ Read d → pair.now ≡ pair_reached d → asks ≡ (syn_alone d && good d)
             → Does self.new (IsHeard (Read d) result) (met (record { now = now; bytes = bytes.now }) d s (held_end (pair_reached d) s.node.ends)) }
+        ensures passed { (s : StackState) (d : Segment) → Stands self.old s → reading bytes.now ≡ Read d → PassesAs s (Read d) result }
     {
         let knocks = knocks(asks, self.ends.front(pair));
         if knocks {
@@ -153,11 +157,13 @@ impl Stack {
     }
 
     /// A datagram comes at `now`, in milliseconds since 1970 and at most the last one of the year 9999: to
-    /// the end of its pair (RFC 9293, section 3.10.7), which is told, or it knocks.
+    /// the end of its pair (RFC 9293, section 3.10.7), which is told, or it knocks. Of a segment that passed
+    /// the check the answer has the row, the number and the context that were found, and of no other.
     pub fn input(&mut self, now: u64, bytes: &[u8]) -> Heard
         requires time { now ≤ latest }
-        ensures { (s : StackState) → Stands self.old s
+        ensures told { (s : StackState) → Stands self.old s
             → Follows self.new (Input (record { now = now; bytes = bytes.now })) s (IsHeard (reading bytes.now) result) }
+        ensures passed { (s : StackState) → Stands self.old s → PassesAs (clocked now s).stack (reading bytes.now) result }
     {
         self.set_clock(now);
         match read_datagram(bytes) {

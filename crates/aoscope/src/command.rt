@@ -1,5 +1,5 @@
 //! The words that the program knows, with a page of help for each.
-use crate::{plan, sessions};
+use crate::{draw, plan, sessions};
 use clap::Command;
 use std::alloc::{AllocError, Global};
 
@@ -26,6 +26,7 @@ pub(crate) fn command<'a>(alloc: Global) -> Result<Command<'a>, AllocError> {
         .after_help(LINES_AFTER);
     let sessions = sessions::command(alloc)?;
     let plan = plan::command(alloc)?;
+    let draw = draw::command(alloc)?;
     Command::new(alloc, "aoscope")
         .version("0.1.0")
         .about(ABOUT)
@@ -34,5 +35,6 @@ pub(crate) fn command<'a>(alloc: Global) -> Result<Command<'a>, AllocError> {
         .arg_required_else_help(true)
         .subcommand(lines)?
         .subcommand(sessions)?
-        .subcommand(plan)
+        .subcommand(plan)?
+        .subcommand(draw)
 }

@@ -2,6 +2,7 @@
 #![tactic(auto)]
 
 mod command;
+mod draw;
 mod plan;
 mod sessions;
 mod told;
@@ -40,6 +41,7 @@ fn run(rt: &HostRuntime, matches: &ArgMatches<'_>) -> u8 {
         Some(("lines", _)) => lines(rt),
         Some(("sessions", matches)) => sessions::run(rt, matches),
         Some(("plan", matches)) => plan::run(rt, matches),
+        Some(("draw", matches)) => draw::run(rt, matches),
         _ => tell(rt, Told::Memory),
     }
 }

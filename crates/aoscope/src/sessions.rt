@@ -2,8 +2,9 @@
 use ao_base::{ReadProblem, ReadSource, WriteSink, read_all, write_all};
 use book_base::Bytes;
 use clap::{Arg, ArgAction, ArgMatches, Command};
+use scope_faults::push_key_fault;
 use scope_lines::push_fault;
-use scope_sessions::{SessionsHalt, push_key_fault, write_sessions};
+use scope_sessions::{SessionsHalt, write_sessions};
 use std::alloc::{AllocError, Global};
 use std::fs::File;
 

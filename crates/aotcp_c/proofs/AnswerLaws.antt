@@ -4,6 +4,7 @@ use Rattle.book_keys.specs.declared.new_row.NoRow.{NoRow}
 use Rattle.book_endpoint.specs.States.{EndState}
 use Rattle.book_cmd_node.specs.NodeRuns as node
 use Rattle.book_stack.specs.declared.front.Front.{Front}
+use Rattle.book_counters.specs.Counters.{StackCounts}
 use Rattle.book_stack.specs.Calls as book
 use Rattle.book_stack.specs.Calls.{Call, CallAnswer, call}
 use Rattle.book_stack.specs.Stacks.{StackState}
@@ -13,8 +14,9 @@ use Rattle.tcp_endpoint.specs.declared.giving.GiveAnswer.TheVariants as given
 use Rattle.node_ends.specs.declared.answer.NodeRefusal.{NodeRefusal}
 use Rattle.node_ends.specs.declared.answer.NodeRefusal.TheVariants as refusals
 use Rattle.stack_ends.specs.declared.calling.Taken.{Taken}
-use Rattle.ao_stack.specs.declared.stack.Stack.{Stack}
-use Rattle.ao_stack.specs.Answering.{BeginsAs, Follows, HasTaken, IsBegun, IsDone, IsGiven, IsHanded, IsTaken, IsWithdrawn}
+use Rattle.ao_stack.specs.Answering.{HasTaken, IsBegun, IsDone, IsGiven, IsHanded, IsTaken, IsWithdrawn}
+use Rattle.ao_counters.specs.declared.counted_stack.CountedStack.{CountedStack}
+use Rattle.ao_counters.specs.Answering.{BeginsAs, Follows}
 use Rattle.aotcp_c.specs.declared.shapes.CState.{CState}
 use Rattle.aotcp_c.specs.declared.shapes.CTaken.{CTaken}
 use Rattle.aotcp_c.specs.Calls.{Answers, IsIn, IsRead, IsStateOf, Tries}
@@ -31,9 +33,9 @@ given_is (Some given.Ok) a is = sym (ap code_of is)
 given_is (Some given.Full) a is = sym (ap code_of is)
 given_is (Some given.Closed) a is = sym (ap code_of is)
 
-pub given_answers : (k : Stack) (c : Call) (s : StackState) (r : Option GiveAnswer) (code : ℤ) → code ≡ given_code r
-    → Follows k c s (IsGiven r) → Answers k c s (returned code)
-given_answers k c s r code is f = record {
+pub given_answers : (k : CountedStack) (c : Call) (s : StackState) (n : StackCounts) (r : Option GiveAnswer) (code : ℤ) → code ≡ given_code r
+    → Follows k c s n (IsGiven r) → Answers k c s n (returned code)
+given_answers k c s n r code is f = record {
   stands = f.stands;
   answer = ap returned is ∙ given_is r (call c s).answer f.answer;
 }
@@ -42,9 +44,9 @@ pub done_is : (r : Bool) (a : CallAnswer) → IsDone r a → returned (done_code
 done_is true a is = sym (ap code_of is)
 done_is false a is = sym (ap code_of is)
 
-pub done_answers : (k : Stack) (c : Call) (s : StackState) (r : Bool) (code : ℤ) → code ≡ done_code r
-    → Follows k c s (IsDone r) → Answers k c s (returned code)
-done_answers k c s r code is f = record {
+pub done_answers : (k : CountedStack) (c : Call) (s : StackState) (n : StackCounts) (r : Bool) (code : ℤ) → code ≡ done_code r
+    → Follows k c s n (IsDone r) → Answers k c s n (returned code)
+done_answers k c s n r code is f = record {
   stands = f.stands;
   answer = ap returned is ∙ done_is r (call c s).answer f.answer;
 }
@@ -53,9 +55,9 @@ pub withdrawn_is : (r : Result (Unit {0}) NoRow) (a : CallAnswer) → IsWithdraw
 withdrawn_is (Ok x) a is = sym (ap code_of is)
 withdrawn_is (Err x) a is = sym (ap code_of is)
 
-pub withdrawn_answers : (k : Stack) (c : Call) (s : StackState) (r : Result (Unit {0}) NoRow) (code : ℤ) → code ≡ withdrawn_code r
-    → Follows k c s (IsWithdrawn r) → Answers k c s (returned code)
-withdrawn_answers k c s r code is f = record {
+pub withdrawn_answers : (k : CountedStack) (c : Call) (s : StackState) (n : StackCounts) (r : Result (Unit {0}) NoRow) (code : ℤ) → code ≡ withdrawn_code r
+    → Follows k c s n (IsWithdrawn r) → Answers k c s n (returned code)
+withdrawn_answers k c s n r code is f = record {
   stands = f.stands;
   answer = ap returned is ∙ withdrawn_is r (call c s).answer f.answer;
 }
@@ -66,21 +68,21 @@ begun_is (Err refusals.InUse) a is = sym (ap code_of is)
 begun_is (Err refusals.Full) a is = sym (ap code_of is)
 begun_is (Err refusals.Memory) a is = absurd is
 
-pub begun_tries : (k : Stack) (c : Call) (s : StackState) (r : Result (Unit {0}) NodeRefusal) (code : ℤ) → code ≡ begun_code r
-    → BeginsAs k c s r → Tries k c s (returned code)
-begun_tries k c s (Err refusals.Memory) code is b = record {
+pub begun_tries : (k : CountedStack) (c : Call) (s : StackState) (n : StackCounts) (r : Result (Unit {0}) NodeRefusal) (code : ℤ) → code ≡ begun_code r
+    → BeginsAs k c s n r → Tries k c s n (returned code)
+begun_tries k c s n (Err refusals.Memory) code is b = record {
   stays = λ _. b;
   does = λ differ. absurd (differ (ap returned is));
 }
-begun_tries k c s (Ok x) code is f = record {
+begun_tries k c s n (Ok x) code is f = record {
   stays = λ same. let e : pos 0 ≡ pos 3 = sym (ap returned is) ∙ same in absurd (cc e);
   does = λ _. record { stands = f.stands; answer = ap returned is ∙ begun_is (Ok x) (call c s).answer f.answer };
 }
-begun_tries k c s (Err refusals.InUse) code is f = record {
+begun_tries k c s n (Err refusals.InUse) code is f = record {
   stays = λ same. let e : pos 13 ≡ pos 3 = sym (ap returned is) ∙ same in absurd (cc e);
   does = λ _. record { stands = f.stands; answer = ap returned is ∙ begun_is (Err refusals.InUse) (call c s).answer f.answer };
 }
-begun_tries k c s (Err refusals.Full) code is f = record {
+begun_tries k c s n (Err refusals.Full) code is f = record {
   stays = λ same. let e : pos 14 ≡ pos 3 = sym (ap returned is) ∙ same in absurd (cc e);
   does = λ _. record { stands = f.stands; answer = ap returned is ∙ begun_is (Err refusals.Full) (call c s).answer f.answer };
 }
@@ -107,37 +109,37 @@ hands room n (book.Adds x) is = absurd is
 hands room n book.Withdraws is = absurd is
 hands room n book.NoSuchRow is = absurd is
 
-pub nothing_handed : (k : Stack) (c : Call) (s : StackState) (room : List ℕ) (n : ℕ) (r : Option ℕ) → r ≡ None
-    → Follows k c s (IsHanded room r) → Follows k c s (Handed room n (pos 19))
-nothing_handed k c s room n r is f = record {
+pub nothing_handed : (k : CountedStack) (c : Call) (s : StackState) (n : StackCounts) (room : List ℕ) (size : ℕ) (r : Option ℕ) → r ≡ None
+    → Follows k c s n (IsHanded room r) → Follows k c s n (Handed room size (pos 19))
+nothing_handed k c s n room size r is f = record {
   stands = f.stands;
-  answer = rests room n (call c s).answer (subst (λ (o : Option ℕ). IsHanded room o (call c s).answer) is f.answer);
+  answer = rests room size (call c s).answer (subst (λ (o : Option ℕ). IsHanded room o (call c s).answer) is f.answer);
 }
 
-pub something_handed : (k : Stack) (c : Call) (s : StackState) (room : List ℕ) (n : ℕ) (r : Option ℕ) → r ≡ Some n
-    → Follows k c s (IsHanded room r) → Follows k c s (Handed room n (pos 0))
-something_handed k c s room n r is f = record {
+pub something_handed : (k : CountedStack) (c : Call) (s : StackState) (n : StackCounts) (room : List ℕ) (size : ℕ) (r : Option ℕ) → r ≡ Some size
+    → Follows k c s n (IsHanded room r) → Follows k c s n (Handed room size (pos 0))
+something_handed k c s n room size r is f = record {
   stands = f.stands;
-  answer = hands room n (call c s).answer (subst (λ (o : Option ℕ). IsHanded room o (call c s).answer) is f.answer);
+  answer = hands room size (call c s).answer (subst (λ (o : Option ℕ). IsHanded room o (call c s).answer) is f.answer);
 }
 
 -- what a code and a shape tell of bytes that are taken
 abbrev pub Taking : (before after : List ℕ) → CTaken → ℤ → CallAnswer → Type 0
 Taking before after told code a = (code ≡ code_of a) × IsRead before after told a
 
-pub nothing_taken : (k : Stack) (c : Call) (s : StackState) (before after : List ℕ) (told : CTaken) (r : Option Taken) → r ≡ None
-    → Follows k c s (IsTaken before after r) → Follows k c s (Taking before after told (pos 12))
-nothing_taken k c s before after told r is f = record {
+pub nothing_taken : (k : CountedStack) (c : Call) (s : StackState) (n : StackCounts) (before after : List ℕ) (told : CTaken) (r : Option Taken) → r ≡ None
+    → Follows k c s n (IsTaken before after r) → Follows k c s n (Taking before after told (pos 12))
+nothing_taken k c s n before after told r is f = record {
   stands = f.stands;
   answer =
       let no : (call c s).answer ≡ book.Told node.NoConnection = subst (λ (o : Option Taken). IsTaken before after o (call c s).answer) is f.answer in
       subst (Taking before after told (pos 12)) (sym no) (refl, tt);
 }
 
-pub something_taken : (k : Stack) (c : Call) (s : StackState) (before after : List ℕ) (taken : Taken) (r : Option Taken) → r ≡ Some taken
-    → Follows k c s (IsTaken before after r)
-    → Follows k c s (Taking before after (record { count = taken.count; at_end = taken.at_end }) (pos 0))
-something_taken k c s before after taken r is f = record {
+pub something_taken : (k : CountedStack) (c : Call) (s : StackState) (n : StackCounts) (before after : List ℕ) (taken : Taken) (r : Option Taken) → r ≡ Some taken
+    → Follows k c s n (IsTaken before after r)
+    → Follows k c s n (Taking before after (record { count = taken.count; at_end = taken.at_end }) (pos 0))
+something_taken k c s n before after taken r is f = record {
   stands = f.stands;
   answer =
       let told : CTaken = record { count = taken.count; at_end = taken.at_end } in

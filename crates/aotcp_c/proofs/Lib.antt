@@ -1,3 +1,4 @@
 pub mod AnswerLaws
 pub mod Places
 pub mod RowLaws
+pub mod TallyLaws

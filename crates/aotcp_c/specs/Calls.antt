@@ -15,15 +15,19 @@ use Rattle.book_cmd_node.specs.declared.node.Act.{Act}
 use Rattle.book_cmd_node.specs.declared.node.Act.TheVariants as act
 use Rattle.book_cmd_node.specs.NodeRuns as node
 use Rattle.book_cmd_node.specs.NodeRuns.{held_end}
+use Rattle.book_counters.specs.Counters.{StackCounts, no_stack_counts}
 use Rattle.book_stack.specs.Calls as book
 use Rattle.book_stack.specs.Calls.{Call, CallAnswer, Incoming}
 use Rattle.book_stack.specs.Stacks.{StackState, empty_stack, handed, timed_out}
+use Rattle.book_stack.specs.Turns.{clocked}
 use Rattle.book_stack.specs.Watches.{end_front}
 use Rattle.stack_timers.specs.Watching.{latest}
 use Rattle.ao_stack.specs.declared.arriving.Heard.{Heard}
-use Rattle.ao_stack.specs.declared.stack.Stack.{Stack}
-use Rattle.ao_stack.specs.Answering.{Follows, IsHeard}
-use Rattle.ao_stack.specs.Standing.{Stands}
+use Rattle.ao_stack.specs.Answering.{IsHeard}
+use Rattle.ao_stack.specs.Passing.{PassesAs}
+use Rattle.ao_counters.specs.declared.counted_stack.CountedStack.{CountedStack}
+use Rattle.ao_counters.specs.Answering.{Follows}
+use Rattle.ao_counters.specs.Standing.{Stands}
 use Rattle.aotcp_c.specs.declared.shapes.CFault.{CFault}
 use Rattle.aotcp_c.specs.declared.shapes.CHeard.{CHeard}
 use Rattle.aotcp_c.specs.declared.shapes.CRow.{CRow}
@@ -35,43 +39,54 @@ use Rattle.aotcp_c.specs.RowShapes.{IsRow, is_row}
 
 -- what holds of the stack that a handle held and of the one that it holds after; where it held none
 -- it holds none, and the code says so (own)
-abbrev pub OnStack : (before after : Option Stack) → ℤ → (Stack → Stack → Type 0) → Type 0
+abbrev pub OnStack : (before after : Option CountedStack) → ℤ
+    → (CountedStack → CountedStack → Type 0) → Type 0
 OnStack (Some p) (Some q) code Does = Does p q
 OnStack None None code Does = code ≡ no_stack
 OnStack _ _ code Does = ⊥
 
 -- the stack made the call, and the code is that of its answer (own)
-abbrev pub Answers : Stack → Call → StackState → ℤ → Type 0
-Answers k c s code = Follows k c s (λ a. code ≡ code_of a)
+abbrev pub Answers : CountedStack → Call → StackState → StackCounts → ℤ → Type 0
+Answers k c s n code = Follows k c s n (λ a. code ≡ code_of a)
 
 -- the stack stands for what it did, and this is why nothing was done (own)
-pub record Declines (k : Stack) (s : StackState) (why code : ℤ) : Type 0 where
+pub record Declines (k : CountedStack) (s : StackState) (n : StackCounts)
+    (why code : ℤ) : Type 0 where
   pub says : code ≡ why
-  pub stands : Stands k s
+  pub stands : Stands k s n
 
 -- the call at a pair; nothing of a family that is neither 4 nor 6 (own)
-abbrev pub CallsAt : Stack → Option Pair → Act → StackState → ℤ → Type 0
-CallsAt k None a s code = Declines k s bad_family code
-CallsAt k (Some pair) a s code = Answers k (book.At pair a) s code
+abbrev pub CallsAt : CountedStack → Option Pair → Act → StackState → StackCounts → ℤ → Type 0
+CallsAt k None a s n code = Declines k s n bad_family code
+CallsAt k (Some pair) a s n code = Answers k (book.At pair a) s n code
 
 -- a call for which memory is needed: for want of it all stays as it is (own)
-pub record Tries (k : Stack) (c : Call) (s : StackState) (code : ℤ) : Type 0 where
-  pub stays : code ≡ no_memory → Stands k s
-  pub does : code ≢ no_memory → Answers k c s code
+pub record Tries (k : CountedStack) (c : Call) (s : StackState) (n : StackCounts)
+    (code : ℤ) : Type 0 where
+  pub stays : code ≡ no_memory → Stands k s n
+  pub does : code ≢ no_memory → Answers k c s n code
 
 -- a connection of the pair begins (own)
-abbrev pub Begins : Stack → Option Pair → Act → StackState → ℤ → Type 0
-Begins k None a s code = Declines k s bad_family code
-Begins k (Some pair) a s code = Tries k (book.At pair a) s code
+abbrev pub Begins : CountedStack → Option Pair → Act → StackState → StackCounts → ℤ → Type 0
+Begins k None a s n code = Declines k s n bad_family code
+Begins k (Some pair) a s n code = Tries k (book.At pair a) s n code
+
+-- what a datagram was answered is told by its numbers, with the row and the number of a segment
+-- that passed, as they were found (own)
+pub record TellsHeard (coming : Incoming) (s : StackState) (told : CHeard)
+    (a : CallAnswer) : Type 0 where
+  pub heard : Heard
+  pub answer : IsHeard (reading coming.bytes) heard a
+  pub passed : PassesAs (clocked coming.now s).stack (reading coming.bytes) heard
+  pub numbers : told ≡ heard_of heard
 
 -- a datagram comes, and its answer is told by its numbers (own)
-pub record Hears (k : Stack) (coming : Incoming) (s : StackState) (told : CHeard)
-    (code : ℤ) : Type 0 where
-  pub late : latest < coming.now → Declines k s bad_time code
+pub record Hears (k : CountedStack) (coming : Incoming) (s : StackState) (n : StackCounts)
+    (told : CHeard) (code : ℤ) : Type 0 where
+  pub late : latest < coming.now → Declines k s n bad_time code
   pub done : coming.now ≤ latest → code ≡ ok
   pub hears : coming.now ≤ latest
-      → Follows k (book.Input coming) s
-      (λ a. (h : Heard) × IsHeard (reading coming.bytes) h a × (told ≡ heard_of h))
+      → Follows k (book.Input coming) s n (TellsHeard coming s told)
 
 -- a datagram of this length that is handed out stands in front of the room (own)
 abbrev pub IsIn : List ℕ → ℕ → CallAnswer → Type 0
@@ -79,12 +94,12 @@ IsIn room n (book.Hands x) = take n room ≡ spell (handed x.segment)
 IsIn room n _ = ⊤
 
 -- the next datagram is handed out, or none is due (own)
-pub record Sends (k : Stack) (now : ℕ) (before after : List ℕ) (n : ℕ) (s : StackState)
-    (code : ℤ) : Type 0 where
-  pub late : latest < now → Declines k s bad_time code
-  pub small : now ≤ latest → length before < 1500 → Declines k s small_room code
+pub record Sends (k : CountedStack) (now : ℕ) (before after : List ℕ) (size : ℕ)
+    (s : StackState) (n : StackCounts) (code : ℤ) : Type 0 where
+  pub late : latest < now → Declines k s n bad_time code
+  pub small : now ≤ latest → length before < 1500 → Declines k s n small_room code
   pub sends : now ≤ latest → 1500 ≤ length before
-      → Follows k (book.Output now) s (λ a. (code ≡ code_of a) × IsIn after n a)
+      → Follows k (book.Output now) s n (λ a. (code ≡ code_of a) × IsIn after size a)
 
 -- the bytes that were taken stand in front of the room (own)
 pub record AreIn (before after : List ℕ) (told : CTaken) (bytes : List ℕ)
@@ -100,11 +115,16 @@ IsRead before after told (book.Told (node.Delivered bytes at_end)) =
 IsRead before after told _ = ⊤
 
 -- the first bytes of a pair are taken (own)
-abbrev pub Reads : Stack → Option Pair → (before after : List ℕ) → CTaken → StackState → ℤ → Type 0
-Reads k None before after told s code = Declines k s bad_family code
-Reads k (Some pair) before after told s code =
-    Follows k (book.At pair (act.Take (length before))) s
+abbrev pub Reads : CountedStack → Option Pair → (before after : List ℕ) → CTaken → StackState
+    → StackCounts → ℤ → Type 0
+Reads k None before after told s n code = Declines k s n bad_family code
+Reads k (Some pair) before after told s n code =
+    Follows k (book.At pair (act.Take (length before))) s n
     (λ a. (code ≡ code_of a) × IsRead before after told a)
+
+-- this is told of a stack that stands for the state, with these counters (own)
+pub record Sees (s : StackState) (n : StackCounts) (Told : Type 0) : Type 0 where
+  pub told : Told
 
 -- a deadline is told, or that there is none (own)
 abbrev pub Tells : Option ℕ → ℕ → ℤ → Type 0
@@ -128,10 +148,10 @@ IsOverdue (Some pair) now s told code =
     (code ≡ ok) × (told ≡ timed_out now pair s (held_end pair s.node.ends))
 
 -- the stack is that of the node of the address in the key file, without connections (own)
-pub record Opens (text : List ℕ) (address : Address) (most : ℕ) (k : Stack) : Type 0 where
+pub record Opens (text : List ℕ) (address : Address) (most : ℕ) (k : CountedStack) : Type 0 where
   pub tables : List Table
   pub read : tables_of text ≡ Ok tables
-  pub stands : Stands k (empty_stack (rows_at tables address) most)
+  pub stands : Stands k (empty_stack (rows_at tables address) most) no_stack_counts
 
 -- the key file isn't read, and this is its fault as numbers, or want of memory (own)
 pub record IsFaulty (text : List ℕ) (told : CFault) : Type 0 where
@@ -146,15 +166,15 @@ IsNumber n (book.Adds (tables.OverlapsRow m)) = n ≡ m
 IsNumber n _ = ⊤
 
 -- a row that stands so was added, or why not (own)
-pub record AddsRow (k : Stack) (row : CRow) (key : List ℕ) (s : StackState) (number : ℕ)
-    (code : ℤ) : Type 0 where
+pub record AddsRow (k : CountedStack) (row : CRow) (key : List ℕ) (s : StackState)
+    (n : StackCounts) (number : ℕ) (code : ℤ) : Type 0 where
   pub new : NewRow
   pub is : IsRow row key new
-  pub follows : Follows k (book.Add new) s (λ a. (code ≡ code_of a) × IsNumber number a)
+  pub follows : Follows k (book.Add new) s n (λ a. (code ≡ code_of a) × IsNumber number a)
 
 -- a row is added; nothing where no row stands so, or for want of memory (own)
-pub record Adds (k : Stack) (row : CRow) (key : List ℕ) (s : StackState) (number : ℕ)
-    (code : ℤ) : Type 0 where
-  pub faulty : is_row row key ≡ false → Declines k s bad_row code
-  pub stays : code ≡ no_memory → Stands k s
-  pub adds : is_row row key ≡ true → code ≢ no_memory → AddsRow k row key s number code
+pub record Adds (k : CountedStack) (row : CRow) (key : List ℕ) (s : StackState)
+    (n : StackCounts) (number : ℕ) (code : ℤ) : Type 0 where
+  pub faulty : is_row row key ≡ false → Declines k s n bad_row code
+  pub stays : code ≡ no_memory → Stands k s n
+  pub adds : is_row row key ≡ true → code ≢ no_memory → AddsRow k row key s n number code

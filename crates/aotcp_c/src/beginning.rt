@@ -1,8 +1,9 @@
 //! Connections begin.
 ghost use Rattle.std.specs.Prelude.{◌≡◌};
 ghost use Rattle.book_cmd_node.specs.declared.node.Act.TheVariants as act;
+ghost use Rattle.book_counters.specs.Counters.{StackCounts};
 ghost use Rattle.book_stack.specs.Stacks.{StackState};
-ghost use Rattle.ao_stack.specs.Standing.{Stands};
+ghost use Rattle.ao_counters.specs.Standing.{Stands};
 ghost use Rattle.aotcp_c.specs.Calls.{Begins, OnStack};
 ghost use Rattle.aotcp_c.specs.Held.{content};
 ghost use Rattle.aotcp_c.specs.Shapes.{pair_of};
@@ -11,13 +12,13 @@ use crate::codes::{FAMILY, NO_STACK, begun_code};
 use crate::handle::Handle;
 use crate::pairs::pair_of;
 use crate::shapes::CPair;
-use ao_stack::Stack;
+use ao_counters::CountedStack;
 use std::alloc::Global;
 use std::mem;
 
 /// A connection of the pair opens actively.
-fn open(alloc: Global, stack: &mut Stack, at: &CPair, isn: u32) -> i32
-    ensures { (s : StackState) → Stands stack.old s → Begins stack.new (pair_of at.now) (act.Open isn) s result }
+fn open(alloc: Global, stack: &mut CountedStack, at: &CPair, isn: u32) -> i32
+    ensures { (s : StackState) (n : StackCounts) → Stands stack.old s n → Begins stack.new (pair_of at.now) (act.Open isn) s n result }
 {
     match pair_of(at) {
         None => FAMILY,
@@ -26,8 +27,8 @@ fn open(alloc: Global, stack: &mut Stack, at: &CPair, isn: u32) -> i32
 }
 
 /// A connection of the pair waits for the SYN of its peer.
-fn listen(alloc: Global, stack: &mut Stack, at: &CPair, isn: u32) -> i32
-    ensures { (s : StackState) → Stands stack.old s → Begins stack.new (pair_of at.now) (act.Listen isn) s result }
+fn listen(alloc: Global, stack: &mut CountedStack, at: &CPair, isn: u32) -> i32
+    ensures { (s : StackState) (n : StackCounts) → Stands stack.old s n → Begins stack.new (pair_of at.now) (act.Listen isn) s n result }
 {
     match pair_of(at) {
         None => FAMILY,
@@ -38,8 +39,8 @@ fn listen(alloc: Global, stack: &mut Stack, at: &CPair, isn: u32) -> i32
 /// A connection of the pair opens actively, with `isn` as its own initial sequence number.
 #[unsafe(no_mangle)]
 pub extern "C" fn aotcp_open(alloc: Global, handle: &mut Handle, pair: &CPair, isn: u32) -> i32
-    ensures { OnStack (content handle.old.place.value) (content handle.new.place.value) result (λ p q. (s : StackState) → Stands p s
-        → Begins q (pair_of pair.now) (act.Open isn) s result) }
+    ensures { OnStack (content handle.old.place.value) (content handle.new.place.value) result (λ p q. (s : StackState) (n : StackCounts) → Stands p s n
+        → Begins q (pair_of pair.now) (act.Open isn) s n result) }
 {
     match mem::replace(handle, Handle::none()).into_box(alloc) {
         Some(mut b) => {
@@ -54,8 +55,8 @@ pub extern "C" fn aotcp_open(alloc: Global, handle: &mut Handle, pair: &CPair, i
 /// A connection of the pair waits for the SYN of its peer. All else is as for `aotcp_open`.
 #[unsafe(no_mangle)]
 pub extern "C" fn aotcp_listen(alloc: Global, handle: &mut Handle, pair: &CPair, isn: u32) -> i32
-    ensures { OnStack (content handle.old.place.value) (content handle.new.place.value) result (λ p q. (s : StackState) → Stands p s
-        → Begins q (pair_of pair.now) (act.Listen isn) s result) }
+    ensures { OnStack (content handle.old.place.value) (content handle.new.place.value) result (λ p q. (s : StackState) (n : StackCounts) → Stands p s n
+        → Begins q (pair_of pair.now) (act.Listen isn) s n result) }
 {
     match mem::replace(handle, Handle::none()).into_box(alloc) {
         Some(mut b) => {

@@ -1,8 +1,9 @@
 //! The connection of a pair is called.
 ghost use Rattle.std.specs.Prelude.{◌≡◌};
 ghost use Rattle.book_cmd_node.specs.declared.node.Act.TheVariants as act;
+ghost use Rattle.book_counters.specs.Counters.{StackCounts};
 ghost use Rattle.book_stack.specs.Stacks.{StackState};
-ghost use Rattle.ao_stack.specs.Standing.{Stands};
+ghost use Rattle.ao_counters.specs.Standing.{Stands};
 ghost use Rattle.aotcp_c.specs.Calls.{CallsAt, OnStack};
 ghost use Rattle.aotcp_c.specs.Held.{content};
 ghost use Rattle.aotcp_c.specs.Shapes.{pair_of};
@@ -11,13 +12,13 @@ use crate::codes::{FAMILY, NO_STACK, done_code, given_code};
 use crate::handle::Handle;
 use crate::pairs::pair_of;
 use crate::shapes::CPair;
-use ao_stack::Stack;
+use ao_counters::CountedStack;
 use std::alloc::Global;
 use std::mem;
 
 /// A piece is given to the connection of the pair.
-fn write(stack: &mut Stack, at: &CPair, piece: &[u8]) -> i32
-    ensures { (s : StackState) → Stands stack.old s → CallsAt stack.new (pair_of at.now) (act.Give piece.now) s result }
+fn write(stack: &mut CountedStack, at: &CPair, piece: &[u8]) -> i32
+    ensures { (s : StackState) (n : StackCounts) → Stands stack.old s n → CallsAt stack.new (pair_of at.now) (act.Give piece.now) s n result }
 {
     match pair_of(at) {
         None => FAMILY,
@@ -26,8 +27,8 @@ fn write(stack: &mut Stack, at: &CPair, piece: &[u8]) -> i32
 }
 
 /// The connection of the pair takes no more bytes to send.
-fn close(stack: &mut Stack, at: &CPair) -> i32
-    ensures { (s : StackState) → Stands stack.old s → CallsAt stack.new (pair_of at.now) act.Close s result }
+fn close(stack: &mut CountedStack, at: &CPair) -> i32
+    ensures { (s : StackState) (n : StackCounts) → Stands stack.old s n → CallsAt stack.new (pair_of at.now) act.Close s n result }
 {
     match pair_of(at) {
         None => FAMILY,
@@ -36,8 +37,8 @@ fn close(stack: &mut Stack, at: &CPair) -> i32
 }
 
 /// The connection of the pair is closed at once.
-fn abort(stack: &mut Stack, at: &CPair) -> i32
-    ensures { (s : StackState) → Stands stack.old s → CallsAt stack.new (pair_of at.now) act.Abort s result }
+fn abort(stack: &mut CountedStack, at: &CPair) -> i32
+    ensures { (s : StackState) (n : StackCounts) → Stands stack.old s n → CallsAt stack.new (pair_of at.now) act.Abort s n result }
 {
     match pair_of(at) {
         None => FAMILY,
@@ -46,8 +47,8 @@ fn abort(stack: &mut Stack, at: &CPair) -> i32
 }
 
 /// The connection of the pair is dropped.
-fn remove(stack: &mut Stack, at: &CPair) -> i32
-    ensures { (s : StackState) → Stands stack.old s → CallsAt stack.new (pair_of at.now) act.Remove s result }
+fn remove(stack: &mut CountedStack, at: &CPair) -> i32
+    ensures { (s : StackState) (n : StackCounts) → Stands stack.old s n → CallsAt stack.new (pair_of at.now) act.Remove s n result }
 {
     match pair_of(at) {
         None => FAMILY,
@@ -58,8 +59,8 @@ fn remove(stack: &mut Stack, at: &CPair) -> i32
 /// A piece is given to the connection of the pair, all of it or nothing.
 #[unsafe(no_mangle)]
 pub extern "C" fn aotcp_write(alloc: Global, handle: &mut Handle, pair: &CPair, piece: &[u8]) -> i32
-    ensures { OnStack (content handle.old.place.value) (content handle.new.place.value) result (λ p q. (s : StackState) → Stands p s
-        → CallsAt q (pair_of pair.now) (act.Give piece.now) s result) }
+    ensures { OnStack (content handle.old.place.value) (content handle.new.place.value) result (λ p q. (s : StackState) (n : StackCounts) → Stands p s n
+        → CallsAt q (pair_of pair.now) (act.Give piece.now) s n result) }
 {
     match mem::replace(handle, Handle::none()).into_box(alloc) {
         Some(mut b) => {
@@ -74,8 +75,8 @@ pub extern "C" fn aotcp_write(alloc: Global, handle: &mut Handle, pair: &CPair, 
 /// The connection of the pair takes no more bytes to send.
 #[unsafe(no_mangle)]
 pub extern "C" fn aotcp_close(alloc: Global, handle: &mut Handle, pair: &CPair) -> i32
-    ensures { OnStack (content handle.old.place.value) (content handle.new.place.value) result (λ p q. (s : StackState) → Stands p s
-        → CallsAt q (pair_of pair.now) act.Close s result) }
+    ensures { OnStack (content handle.old.place.value) (content handle.new.place.value) result (λ p q. (s : StackState) (n : StackCounts) → Stands p s n
+        → CallsAt q (pair_of pair.now) act.Close s n result) }
 {
     match mem::replace(handle, Handle::none()).into_box(alloc) {
         Some(mut b) => {
@@ -90,8 +91,8 @@ pub extern "C" fn aotcp_close(alloc: Global, handle: &mut Handle, pair: &CPair) 
 /// The connection of the pair is closed at once.
 #[unsafe(no_mangle)]
 pub extern "C" fn aotcp_abort(alloc: Global, handle: &mut Handle, pair: &CPair) -> i32
-    ensures { OnStack (content handle.old.place.value) (content handle.new.place.value) result (λ p q. (s : StackState) → Stands p s
-        → CallsAt q (pair_of pair.now) act.Abort s result) }
+    ensures { OnStack (content handle.old.place.value) (content handle.new.place.value) result (λ p q. (s : StackState) (n : StackCounts) → Stands p s n
+        → CallsAt q (pair_of pair.now) act.Abort s n result) }
 {
     match mem::replace(handle, Handle::none()).into_box(alloc) {
         Some(mut b) => {
@@ -106,8 +107,8 @@ pub extern "C" fn aotcp_abort(alloc: Global, handle: &mut Handle, pair: &CPair) 
 /// The connection of the pair is dropped, with all that is kept of it.
 #[unsafe(no_mangle)]
 pub extern "C" fn aotcp_remove(alloc: Global, handle: &mut Handle, pair: &CPair) -> i32
-    ensures { OnStack (content handle.old.place.value) (content handle.new.place.value) result (λ p q. (s : StackState) → Stands p s
-        → CallsAt q (pair_of pair.now) act.Remove s result) }
+    ensures { OnStack (content handle.old.place.value) (content handle.new.place.value) result (λ p q. (s : StackState) (n : StackCounts) → Stands p s n
+        → CallsAt q (pair_of pair.now) act.Remove s n result) }
 {
     match mem::replace(handle, Handle::none()).into_box(alloc) {
         Some(mut b) => {

@@ -1,10 +1,10 @@
 //! The handle of a stack, and what it holds.
 ghost use Rattle.std.specs.Prelude.{◌≡◌, true, Some, None, Option, is_some, option_map};
 ghost use Rattle.std.specs.declared.alloc.Global.{Global as Heap};
-ghost use Rattle.ao_stack.specs.declared.stack.Stack.{Stack as OneStack};
+ghost use Rattle.ao_counters.specs.declared.counted_stack.CountedStack.{CountedStack as OneStack};
 ghost use Rattle.aotcp_c.specs.Held.{held_stack, content};
 
-use ao_stack::Stack;
+use ao_counters::CountedStack;
 use loose::Loose;
 use std::alloc::Global;
 use std::marker::Model;
@@ -31,7 +31,7 @@ impl Place {
     }
 
     /// It holds what the box held.
-    fn of(loose: Loose<Stack, Global>) -> Place
+    fn of(loose: Loose<CountedStack, Global>) -> Place
         ensures { content result.value ≡ Some loose.value }
     {
         let Loose { at, alloc: _ } = loose;
@@ -39,13 +39,13 @@ impl Place {
     }
 
     /// The box again.
-    fn into_loose(self, alloc: Global) -> Loose<Stack, Global>
+    fn into_loose(self, alloc: Global) -> Loose<CountedStack, Global>
         requires { is_some (content self.value) ≡ true }
         ensures { content self.value ≡ Some result.value }
     {
         let Place { at } = self;
         Loose {
-            at: at as *mut Stack,
+            at: at as *mut CountedStack,
             alloc,
         }
     }
@@ -72,7 +72,7 @@ impl Handle {
     }
 
     /// It holds this one.
-    pub(crate) fn of(stack: Box<Stack, Global>) -> Handle
+    pub(crate) fn of(stack: Box<CountedStack, Global>) -> Handle
         ensures { content result.place.value ≡ Some stack.value }
     {
         Handle {
@@ -82,7 +82,7 @@ impl Handle {
     }
 
     /// The stack that it holds.
-    pub(crate) fn into_box(self, alloc: Global) -> Option<Box<Stack, Global>>
+    pub(crate) fn into_box(self, alloc: Global) -> Option<Box<CountedStack, Global>>
         ensures { option_map (λ b. b.value) result ≡ content self.place.value }
     {
         if self.live {

@@ -1,7 +1,8 @@
 //! Bytes that were received are taken.
 ghost use Rattle.std.specs.Prelude.{◌≡◌};
+ghost use Rattle.book_counters.specs.Counters.{StackCounts};
 ghost use Rattle.book_stack.specs.Stacks.{StackState};
-ghost use Rattle.ao_stack.specs.Standing.{Stands};
+ghost use Rattle.ao_counters.specs.Standing.{Stands};
 ghost use Rattle.aotcp_c.specs.Calls.{OnStack, Reads};
 ghost use Rattle.aotcp_c.specs.Held.{content};
 ghost use Rattle.aotcp_c.specs.Shapes.{pair_of};
@@ -10,13 +11,13 @@ use crate::codes::{FAMILY, NO_CONNECTION, NO_STACK, OK};
 use crate::handle::Handle;
 use crate::pairs::pair_of;
 use crate::shapes::{CPair, CTaken};
-use ao_stack::Stack;
+use ao_counters::CountedStack;
 use std::alloc::Global;
 use std::mem;
 
 /// The first bytes of the pair are moved to the front of `room`.
-fn read(stack: &mut Stack, at: &CPair, room: &mut [u8], told: &mut CTaken) -> i32
-    ensures { (s : StackState) → Stands stack.old s → Reads stack.new (pair_of at.now) room.old room.new told.new s result }
+fn read(stack: &mut CountedStack, at: &CPair, room: &mut [u8], told: &mut CTaken) -> i32
+    ensures { (s : StackState) (n : StackCounts) → Stands stack.old s n → Reads stack.new (pair_of at.now) room.old room.new told.new s n result }
 {
     match pair_of(at) {
         None => FAMILY,
@@ -43,8 +44,8 @@ pub extern "C" fn aotcp_read(
     room: &mut [u8],
     told: &mut CTaken,
 ) -> i32
-    ensures { OnStack (content handle.old.place.value) (content handle.new.place.value) result (λ p q. (s : StackState) → Stands p s
-        → Reads q (pair_of pair.now) room.old room.new told.new s result) }
+    ensures { OnStack (content handle.old.place.value) (content handle.new.place.value) result (λ p q. (s : StackState) (n : StackCounts) → Stands p s n
+        → Reads q (pair_of pair.now) room.old room.new told.new s n result) }
 {
     match mem::replace(handle, Handle::none()).into_box(alloc) {
         Some(mut b) => {

@@ -2,8 +2,9 @@
 ghost use Rattle.std.specs.Prelude.{◌≡◌, ◌≢◌, ◌≤◌, true, Some, None, Err, IfOk, IfSome, is_some, if◌then◌else◌};
 ghost use Rattle.book_cmd_node.specs.NodeRuns.{most_ends};
 ghost use Rattle.book_keys.specs.Plans.{rows_at};
+ghost use Rattle.book_counters.specs.Counters.{no_stack_counts};
 ghost use Rattle.book_stack.specs.Stacks.{empty_stack};
-ghost use Rattle.ao_stack.specs.Standing.{Stands};
+ghost use Rattle.ao_counters.specs.Standing.{Stands};
 ghost use Rattle.aotcp_c.specs.Calls.{IsFaulty, Opens};
 ghost use Rattle.aotcp_c.specs.Codes.{bad_keys, no_stack, ok};
 ghost use Rattle.aotcp_c.specs.Held.{content};
@@ -14,7 +15,7 @@ use crate::faults::fault_of;
 use crate::handle::Handle;
 use crate::pairs::address_of;
 use crate::shapes::{CAddress, CFault};
-use ao_stack::Stack;
+use ao_counters::CountedStack;
 use book_base::Address;
 use key_table::{Table, Tables, read_tables};
 use std::alloc::Global;
@@ -40,10 +41,10 @@ fn boxed(
     tables: &mut Tables,
     address: Address,
     most: u16,
-) -> Result<Box<Stack, Global>, i32>
+) -> Result<Box<CountedStack, Global>, i32>
     requires low { 1 ≤ most }
     requires high { most ≤ most_ends }
-    ensures opens { IfOk result (λ b. Stands b.value (empty_stack (rows_at tables.old address) most)) }
+    ensures opens { IfOk result (λ b. Stands b.value (empty_stack (rows_at tables.old address) most) no_stack_counts) }
     ensures failed { result ≢ Err ok }
     ensures read { result ≢ Err bad_keys }
 {
@@ -51,7 +52,7 @@ fn boxed(
         return Err(NO_NODE);
     }
     let table = take_table(alloc, tables, address);
-    match Stack::new(alloc, table, most) {
+    match CountedStack::new(alloc, table, most) {
         Err(_) => Err(MEMORY),
         Ok(stack) => match Box::new(alloc, stack) {
             Err(_) => Err(MEMORY),
@@ -67,7 +68,7 @@ fn made(
     address: Address,
     most: u16,
     fault: &mut CFault,
-) -> Result<Box<Stack, Global>, i32>
+) -> Result<Box<CountedStack, Global>, i32>
     requires low { 1 ≤ most }
     requires high { most ≤ most_ends }
     ensures opens { IfOk result (λ b. Opens text.now address most b.value) }

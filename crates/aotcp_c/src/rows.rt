@@ -3,8 +3,9 @@ ghost use Rattle.std.specs.Prelude.{◌≡◌, ◌≤◌, true, Some, IfOk, IfSo
 ghost use Rattle.book_keys.specs.Lifetimes.{greatest_time};
 ghost use Rattle.book_keys.specs.MasterKeys.{is_master_key};
 ghost use Rattle.book_stack.specs.Calls.{Withdraw};
+ghost use Rattle.book_counters.specs.Counters.{StackCounts};
 ghost use Rattle.book_stack.specs.Stacks.{StackState};
-ghost use Rattle.ao_stack.specs.Standing.{Stands};
+ghost use Rattle.ao_counters.specs.Standing.{Stands};
 ghost use Rattle.aotcp_c.specs.Calls.{Adds, Answers, OnStack};
 ghost use Rattle.aotcp_c.specs.Held.{content};
 ghost use Rattle.aotcp_c.specs.RowShapes.{IsRow, algorithm_number, direction_number, is_lifetime, is_row, number_in};
@@ -12,7 +13,7 @@ ghost use Rattle.aotcp_c.specs.RowShapes.{IsRow, algorithm_number, direction_num
 use crate::codes::{MEMORY, NO_STACK, ROW, added_code, withdrawn_code};
 use crate::handle::Handle;
 use crate::shapes::CRow;
-use ao_stack::Stack;
+use ao_counters::CountedStack;
 use book_base::{Algorithm, Bytes};
 use book_keys::{AddRefusal, Direction, LATEST, Lifetime, NewRow};
 use std::alloc::{AllocError, Global};
@@ -106,8 +107,8 @@ fn number_in(added: Result<u8, AddRefusal>, before: u8) -> u8
 }
 
 /// A row is added that stands so.
-fn add(alloc: Global, stack: &mut Stack, row: &CRow, key: &[u8], number: &mut u8) -> i32
-    ensures { (s : StackState) → Stands stack.old s → Adds stack.new row.now key.now s number.new result }
+fn add(alloc: Global, stack: &mut CountedStack, row: &CRow, key: &[u8], number: &mut u8) -> i32
+    ensures { (s : StackState) (n : StackCounts) → Stands stack.old s n → Adds stack.new row.now key.now s n number.new result }
 {
     let stands_so = is_row(row, key);
     if !stands_so {
@@ -124,8 +125,8 @@ fn add(alloc: Global, stack: &mut Stack, row: &CRow, key: &[u8], number: &mut u8
 }
 
 /// A row is taken out of use.
-fn withdraw(stack: &mut Stack, number: u8) -> i32
-    ensures { (s : StackState) → Stands stack.old s → Answers stack.new (Withdraw number) s result }
+fn withdraw(stack: &mut CountedStack, number: u8) -> i32
+    ensures { (s : StackState) (n : StackCounts) → Stands stack.old s n → Answers stack.new (Withdraw number) s n result }
 {
     withdrawn_code(stack.withdraw(number))
 }
@@ -139,8 +140,8 @@ pub extern "C" fn aotcp_add(
     key: &[u8],
     number: &mut u8,
 ) -> i32
-    ensures { OnStack (content handle.old.place.value) (content handle.new.place.value) result (λ p q. (s : StackState) → Stands p s
-        → Adds q row.now key.now s number.new result) }
+    ensures { OnStack (content handle.old.place.value) (content handle.new.place.value) result (λ p q. (s : StackState) (n : StackCounts) → Stands p s n
+        → Adds q row.now key.now s n number.new result) }
 {
     match mem::replace(handle, Handle::none()).into_box(alloc) {
         Some(mut b) => {
@@ -155,8 +156,8 @@ pub extern "C" fn aotcp_add(
 /// Takes a row out of use: it keeps its number, and neither sends nor accepts from now on.
 #[unsafe(no_mangle)]
 pub extern "C" fn aotcp_withdraw(alloc: Global, handle: &mut Handle, number: u8) -> i32
-    ensures { OnStack (content handle.old.place.value) (content handle.new.place.value) result (λ p q. (s : StackState) → Stands p s
-        → Answers q (Withdraw number) s result) }
+    ensures { OnStack (content handle.old.place.value) (content handle.new.place.value) result (λ p q. (s : StackState) (n : StackCounts) → Stands p s n
+        → Answers q (Withdraw number) s n result) }
 {
     match mem::replace(handle, Handle::none()).into_box(alloc) {
         Some(mut b) => {

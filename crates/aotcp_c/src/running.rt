@@ -1,7 +1,8 @@
 //! Datagrams come and go.
 ghost use Rattle.std.specs.Prelude.{◌≡◌, ◌≤◌, ◌<◌, length};
+ghost use Rattle.book_counters.specs.Counters.{StackCounts};
 ghost use Rattle.book_stack.specs.Stacks.{StackState};
-ghost use Rattle.ao_stack.specs.Standing.{Stands};
+ghost use Rattle.ao_counters.specs.Standing.{Stands};
 ghost use Rattle.aotcp_c.specs.Calls.{Hears, OnStack, Sends};
 ghost use Rattle.aotcp_c.specs.Held.{content};
 
@@ -9,7 +10,7 @@ use crate::codes::{NO_STACK, NOTHING, OK, ROOM, TIME};
 use crate::handle::Handle;
 use crate::hearing::heard_of;
 use crate::shapes::CHeard;
-use ao_stack::Stack;
+use ao_counters::CountedStack;
 use std::alloc::Global;
 use std::mem;
 
@@ -20,8 +21,8 @@ const LATEST: u64 = 253_402_300_799_999;
 const LEAST_ROOM: usize = 1500;
 
 /// A datagram comes.
-fn input(stack: &mut Stack, now: u64, bytes: &[u8], told: &mut CHeard) -> i32
-    ensures { (s : StackState) → Stands stack.old s → Hears stack.new (record { now = now; bytes = bytes.now }) s told.new result }
+fn input(stack: &mut CountedStack, now: u64, bytes: &[u8], told: &mut CHeard) -> i32
+    ensures { (s : StackState) (n : StackCounts) → Stands stack.old s n → Hears stack.new (record { now = now; bytes = bytes.now }) s n told.new result }
 {
     if now > LATEST {
         return TIME;
@@ -31,8 +32,8 @@ fn input(stack: &mut Stack, now: u64, bytes: &[u8], told: &mut CHeard) -> i32
 }
 
 /// The next datagram.
-fn output(stack: &mut Stack, now: u64, room: &mut [u8], length: &mut usize) -> i32
-    ensures { (s : StackState) → Stands stack.old s → Sends stack.new now room.old room.new length.new s result }
+fn output(stack: &mut CountedStack, now: u64, room: &mut [u8], length: &mut usize) -> i32
+    ensures { (s : StackState) (n : StackCounts) → Stands stack.old s n → Sends stack.new now room.old room.new length.new s n result }
 {
     if now > LATEST {
         return TIME;
@@ -58,8 +59,8 @@ pub extern "C" fn aotcp_input(
     bytes: &[u8],
     told: &mut CHeard,
 ) -> i32
-    ensures { OnStack (content handle.old.place.value) (content handle.new.place.value) result (λ p q. (s : StackState) → Stands p s
-        → Hears q (record { now = now; bytes = bytes.now }) s told.new result) }
+    ensures { OnStack (content handle.old.place.value) (content handle.new.place.value) result (λ p q. (s : StackState) (n : StackCounts) → Stands p s n
+        → Hears q (record { now = now; bytes = bytes.now }) s n told.new result) }
 {
     match mem::replace(handle, Handle::none()).into_box(alloc) {
         Some(mut b) => {
@@ -80,8 +81,8 @@ pub extern "C" fn aotcp_output(
     room: &mut [u8],
     length: &mut usize,
 ) -> i32
-    ensures { OnStack (content handle.old.place.value) (content handle.new.place.value) result (λ p q. (s : StackState) → Stands p s
-        → Sends q now room.old room.new length.new s result) }
+    ensures { OnStack (content handle.old.place.value) (content handle.new.place.value) result (λ p q. (s : StackState) (n : StackCounts) → Stands p s n
+        → Sends q now room.old room.new length.new s n result) }
 {
     match mem::replace(handle, Handle::none()).into_box(alloc) {
         Some(mut b) => {

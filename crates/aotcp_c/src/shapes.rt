@@ -87,3 +87,38 @@ pub struct CRow {
     /// The row is for any peer and any ports. Nothing reads it.
     pub for_all: bool,
 }
+
+/// The key ids of the last segment that was sent, or that passed the check; all zero where there is none.
+#[repr(C)]
+#[derive(Clone, Copy)]
+pub struct CKeyIds {
+    pub there: bool,
+    pub key_id: u8,
+    pub rnext_key_id: u8,
+}
+
+/// What was counted at a connection or at a node, each up to 2^64 - 1, and the key ids of a connection.
+#[repr(C)]
+#[derive(Clone, Copy)]
+pub struct CCounters {
+    pub passed: u64,
+    pub bad: u64,
+    pub foreign: u64,
+    pub checksum: u64,
+    pub closed: u64,
+    pub no_ao: u64,
+    pub two_ao: u64,
+    pub with_md5: u64,
+    pub no_row: u64,
+    pub expired: u64,
+    pub mac_length: u64,
+    pub no_context: u64,
+    pub range: u64,
+    pub bad_mac: u64,
+    pub no_connection: u64,
+    pub knocks: u64,
+    pub sent: u64,
+    pub sent_again: u64,
+    pub ids_sent: CKeyIds,
+    pub ids_heard: CKeyIds,
+}

@@ -1,5 +1,5 @@
--- What is counted of a stack: of its node, and of each of its connections (own). Its top is
--- `counts_after`.
+-- What is counted of a stack: of its node, and of each of its connections, with the key ids that it
+-- saw last (own). Its top is `counts_after`.
 use Rattle.std.specs.Prelude.{ℕ, ◌+◌, min, List, [], ◌∷◌, Option, Some, None, option_map, if◌then◌else◌}
 use Rattle.book_base.specs.declared.address.Pair.{Pair}
 use Rattle.book_segments.specs.Segments.{Reading, Read, Bad as Unread, pair_reached, reading}
@@ -15,6 +15,9 @@ use Rattle.book_cmd_node.specs.NodeRuns.{NodeOutcome, Performed, NoConnection, T
 use Rattle.book_stack.specs.Calls.{Call, CallAnswer, Did, Knocks, call}
 use Rattle.book_stack.specs.Stacks.{StackState}
 use Rattle.book_counters.specs.declared.counters.Counters.{Counters}
+use Rattle.book_counters.specs.declared.key_ids.KeyIdsSeen.{KeyIdsSeen}
+use Rattle.book_counters.specs.declared.tally.Tally.{Tally}
+use Rattle.book_counters.specs.KeyIds.{key_ids_heard, key_ids_made, key_ids_read, key_ids_sent, no_key_ids}
 
 -- one more, up to the greatest number of 64 bits (own)
 abbrev pub next_count : ℕ → ℕ
@@ -79,43 +82,54 @@ stray_counted k = record k { no_connection = next_count k.no_connection }
 abbrev pub knock_counted : Counters → Counters
 knock_counted k = record k { knocks = next_count k.knocks }
 
+-- the tally of a connection as it begins (own)
+abbrev pub no_tally : Tally
+no_tally = record { counters = no_counters; ids = no_key_ids }
+
+-- a tally once more is counted, and other ids are seen (own)
+abbrev pub tallied : (Counters → Counters) → (KeyIdsSeen → KeyIdsSeen) → Tally → Tally
+tallied more seen t = record { counters = more t.counters; ids = seen t.ids }
+
 -- the counters of a stack (own)
 pub record StackCounts : Type 0 where
   pub node : Counters  -- of all that happened at it
-  pub pairs : Pair → Option Counters  -- of each connection, since it began
+  pub pairs : Pair → Option Tally  -- of each connection, since it began
 
 -- the counters as a stack begins (own)
 abbrev pub no_stack_counts : StackCounts
 no_stack_counts = record { node = no_counters; pairs = λ pair. None }
 
--- the counters of a connection become these, or there are none any more (own)
-abbrev pub with_counters : Pair → Option Counters → StackCounts → StackCounts
-with_counters pair k n = record n { pairs = λ q. if same_pair pair q then k else n.pairs q }
+-- the tally of a connection becomes this one, or there is none any more (own)
+abbrev pub with_tally : Pair → Option Tally → StackCounts → StackCounts
+with_tally pair t n = record n { pairs = λ q. if same_pair pair q then t else n.pairs q }
 
--- something more is counted, of the node and of the connection of a pair (own)
-abbrev pub counted_at : Pair → (Counters → Counters) → StackCounts → StackCounts
-counted_at pair more n = record {
+-- something more is counted, of the node and of the connection of a pair, which saw other ids (own)
+abbrev pub counted_at : Pair → (Counters → Counters) → (KeyIdsSeen → KeyIdsSeen) → StackCounts
+    → StackCounts
+counted_at pair more seen n = record {
   node = more n.node;
-  pairs = λ q. if same_pair pair q then option_map more (n.pairs q) else n.pairs q;
+  pairs = λ q. if same_pair pair q then option_map (tallied more seen) (n.pairs q) else n.pairs q;
 }
 
--- an act was performed: counters begin at 0 with a connection, and go with it (own)
+-- an act was performed: a tally begins with a connection, and goes with it (own)
 abbrev pub performed_counted : Pair → Act → StackCounts → StackCounts
-performed_counted pair (act.Open isn) n = with_counters pair (Some no_counters) n
-performed_counted pair (act.Listen isn) n = with_counters pair (Some no_counters) n
-performed_counted pair (act.Start isn peer) n = with_counters pair (Some no_counters) n
-performed_counted pair act.Remove n = with_counters pair None n
+performed_counted pair (act.Open isn) n = with_tally pair (Some no_tally) n
+performed_counted pair (act.Listen isn) n = with_tally pair (Some no_tally) n
+performed_counted pair (act.Start isn peer) n = with_tally pair (Some no_tally) n
+performed_counted pair act.Remove n = with_tally pair None n
 performed_counted pair _ n = n
 
 -- an act at a pair was answered so (own)
 abbrev pub act_counted : NodeOutcome → Pair → Act → StackCounts → StackCounts
 act_counted Performed pair a n = performed_counted pair a n
-act_counted (Transmitted x) pair a n = counted_at pair (sending_counted a) n
+act_counted (Transmitted x) pair a n =
+    counted_at pair (sending_counted a) (key_ids_sent (key_ids_made x)) n
 act_counted _ pair a n = n
 
 -- an end, or the node, answered bytes that are read so (own)
 abbrev pub answer_counted : Arrival → Reading → StackCounts → StackCounts
-answer_counted a (Read d) n = counted_at (pair_reached d) (arrival_counted a) n
+answer_counted a (Read d) n =
+    counted_at (pair_reached d) (arrival_counted a) (key_ids_heard a (key_ids_read (Read d))) n
 answer_counted a (Unread fault) n = record n { node = arrival_counted a n.node }
 
 -- bytes that are read so came, and were answered so (own)

@@ -1,1 +1,2 @@
+pub mod KeyIds
 pub mod Counters

@@ -8,11 +8,9 @@ mod connections;
 mod differences;
 mod ends;
 mod findings;
-mod key_fault;
 mod lifetimes;
 mod planned;
 mod plans;
 mod told;
 
-pub use key_fault::push_key_fault;
 pub use plans::answer_plan;

@@ -16,5 +16,4 @@ mod write;
 pub use book_sessions::{PassedOver, SegmentOutcome};
 pub use capture_stream::{BlockFault, BodyFault, CaptureFault, Cause, PcapHeadFault, RecordFault};
 pub use key_table::TableFault;
-pub use scope_faults::push_key_fault;
 pub use write::{SessionsHalt, write_sessions};

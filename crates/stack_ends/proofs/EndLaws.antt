@@ -171,7 +171,7 @@ module _ (k after : Ends) (rows : List Row) (n : NodeState) (S : Stands k rows n
       let holds = put_holds rows k.node after.node p h.next s (arrive rows p n.clock s (Read d)).state n.ends S.holds F.is finds h.count
       (record { stands = A.stands; fits = subst (λ (rs : List Row). FitsEnd rs h.next) S.rows_are H.fits; pair_is = H.pair ∙ F.stands.pair_is }) in
       let stands = stands_with k after rows n p S table clock _ holds (λ q. once_with q p (arrive rows p n.clock s (Read d)).state n.ends (S.once q)) in
-      let some : MeetsPair after rows n d p told (Some s) = (arrived, answer, A.answer, stands) in
+      let some : MeetsPair after rows n d p told (Some s) = (arrived, answer, A.answer, A.passed, stands) in
       subst (λ (o : Option EndState). MeetsPair after rows n d p told o) (sym F.is) some
 
   met : (d : Segment) (told : NodeArrival) (o : Option Endpoint) → o ≡ end_at k.node (pair_reached d) → ComesTo k.table.rows k.clock d k.node after.node told o

@@ -2,12 +2,12 @@ use Rattle.aotcp_c.proofs.RowLaws.{added_does, added_stays}
 use Rattle.aotcp_c.proofs.rows.add.Goals as goal
 
 pub returns-in-Ok : goal.returns-in-Ok
-returns-in-Ok c = λ s stands. let a = c.add-added.ensures s stands in record {
+returns-in-Ok c = λ s n stands. let a = c.add-added.ensures s n stands in record {
   faulty = λ no. absurd (cc (no, c.is_row-stands_so.ensures, c.if-not-stands_so.false));
-  stays = λ same. added_stays c.add-added.new.self c.in-Ok.new s c.add-added.result c.added_code.result c.added_code.ensures a same;
+  stays = λ same. added_stays c.add-added.new.self c.in-Ok.new s n c.add-added.result c.added_code.result c.added_code.ensures a same;
   adds = λ _ differ. record {
     new = c.in-Ok.new;
     is = c.in-Ok.ensures;
-    follows = added_does c.add-added.new.self c.in-Ok.new s c.add-added.result c.args.number.now c.number_in.result c.added_code.result c.added_code.ensures c.number_in.ensures a differ;
+    follows = added_does c.add-added.new.self c.in-Ok.new s n c.add-added.result c.args.number.now c.number_in.result c.added_code.result c.added_code.ensures c.number_in.ensures a differ;
   };
 }

@@ -18,4 +18,4 @@ returns-in-Some-clause-handed c s n S =
     let room = c.output_told.new.room in
     let o = c.in-Some.outgoing in
     let F = subst (λ (x : Stack). Follows x (Output c.args.now) s (IsHanded room (Some o.length))) (sym c.count.ensures.stack) (c.in-Some.ensures.handed s S.stack) in
-    hands_so k c.count.new.self s n S c.args.now room o F (c.in-Some.ensures.told s S.stack) c.count.ensures.node c.count.ensures.tallies
+    hands_so k c.count.new.self s n S c.args.now room o c.ids_in_front-ids.result c.ids_in_front-ids.ensures F (c.in-Some.ensures.told s S.stack) c.count.ensures.node c.count.ensures.tallies

@@ -15,5 +15,5 @@ returns c =
           (rw (w.self-inside-is, c.get_mut.follows.holds-at-none) c.self.view_is)
       | in-Some w ↦
           let new = w.changed.result in
-          rw w.self-inside-is (some_changed es (c.get_mut.follows.lender new).entries c.key_of.result p n c.self.view_is c.key_of.ensures w.in-Some.counters.now new (changed_by c.args.what) w.changed.ensures w.in-Some.ensures.value (c.get_mut.follows.holds new).0)
+          rw w.self-inside-is (some_changed es (c.get_mut.follows.lender new).entries c.key_of.result p n c.self.view_is c.key_of.ensures w.in-Some.tally.now new (changed_by c.args.what) w.changed.ensures w.in-Some.ensures.value (c.get_mut.follows.holds new).0)
     ]

@@ -1,0 +1,5 @@
+pub mod Arrows
+pub mod Fates
+pub mod Ladders
+pub mod Margins
+pub mod Rungs

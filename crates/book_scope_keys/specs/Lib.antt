@@ -1,0 +1,6 @@
+pub mod FieldTexts
+pub mod FileFindings
+pub mod Hints
+pub mod Places
+pub mod RowFindings
+pub mod Suggestions

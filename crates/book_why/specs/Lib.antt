@@ -1,0 +1,4 @@
+pub mod Changes
+pub mod ChangeTexts
+pub mod Judging
+pub mod Recipes

@@ -1,0 +1,10 @@
+//! Why a segment of a capture doesn't pass: how its MAC is made, step by step, and under which single
+//! change of that it would be right. Definitions, with the plain types that code shares with them; the
+//! empty functions carry theorems about the definitions.
+#![tactic(auto)]
+
+mod change;
+mod laws;
+
+pub use change::{Change, MacPart, SegmentNode};
+pub use laws::{lines_are_those_of_passing_changes, right_recipe_is_the_checks};

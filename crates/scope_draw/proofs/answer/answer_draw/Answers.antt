@@ -1,0 +1,7 @@
+use Rattle.link_world.proofs.SetupLaws.{apart}
+use Rattle.cmd_link.proofs.ScriptLaws.{all_can_happen, key_lengths, names_key}
+use Rattle.link_script.proofs.Counts.{few_events}
+use Rattle.scope_draw.proofs.answer.answer_draw.Goals as goal
+
+pub report_of-requires-clause-few : goal.report_of-requires-clause-few
+report_of-requires-clause-few c = rw c.as_slice-2.ensures (few_events c.in_ok-script.script c.in_ok-script.ensures.grammar)

@@ -1,0 +1,22 @@
+-- The answer of `draw`, as a command's.
+use Rattle.std.specs.Prelude.{List, false}
+use Rattle.book_answer.specs.Answers.{Answer, done}
+use Rattle.book_cmd_link.specs.declared.script.Script.{Script}
+use Rattle.book_cmd_link.specs.LinkFiles.{shared_by}
+use Rattle.book_draw.specs.Ladders.{ladder_text}
+use Rattle.book_draw.specs.Rungs.{rungs}
+use Rattle.book_keys.specs.Rows.{Table}
+use Rattle.book_link.specs.declared.event.Event.{Event}
+use Rattle.book_link.specs.Worlds.{Setup, setup_of}
+
+-- the ladder of a run; nothing in it is amiss (own)
+abbrev pub drawing : Setup → List Event → Answer
+drawing setup events = done false (ladder_text (rungs setup events))
+
+-- the ladder of a script's run over these tables (own)
+abbrev pub drawn : List Table → Script → Answer
+drawn tables s = drawing (setup_of tables s.a s.b) s.events
+
+-- the ladder of a script's run over the key that it names (own)
+abbrev pub drawn_by_shared : Script → Answer
+drawn_by_shared s = drawn (shared_by s s.shared) s

@@ -1,0 +1,2 @@
+pub mod FrontParts
+pub mod Keeping
