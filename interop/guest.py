@@ -7,8 +7,8 @@ import time
 
 
 class Guest:
-    def __init__(self, path, number=1):
-        self.port, self.number = self.connect(path), number
+    def __init__(self, path):
+        self.port, self.number = self.connect(path), path[path.rindex("port"):]  # of its own in the guest: it names key files
         self.answers, self.events, self.packets = queue.Queue(), queue.Queue(), queue.Queue()
         self.woken = threading.Event()
         threading.Thread(target=self.read, daemon=True).start()

@@ -62,7 +62,7 @@ def main():
         for name in names:
             jobs.put((name, profile))
     count = jobs.qsize()
-    guests = [Guest(port, number) for number, port in enumerate(given.ports.split(","), 1)]
+    guests = [Guest(port) for port in given.ports.split(",")]
     workers = [threading.Thread(target=work, args=(guest, given.folder, jobs, results, lock), daemon=True) for guest in guests]
     for worker in workers:
         worker.start()

@@ -59,7 +59,7 @@ def make_known():
         def one(session, seed=seed):
             chaos(session, seed)
         one.__name__ = f"chaos_{seed}"
-        scenario()(one)
+        scenario(amiss=("refused no-context",))(one)  # as where a SYN with ACK is lost
 
 
 make_known()
