@@ -19,7 +19,10 @@ use Rattle.ao_counters.specs.declared.counted_stack.CountedStack.{CountedStack}
 use Rattle.ao_counters.specs.Answering.{BeginsAs, Follows}
 use Rattle.aotcp_c.specs.declared.shapes.CState.{CState}
 use Rattle.aotcp_c.specs.declared.shapes.CTaken.{CTaken}
-use Rattle.aotcp_c.specs.Calls.{Answers, IsIn, IsRead, IsStateOf, Tries}
+use Rattle.aotcp_c.specs.declared.shapes.CCounters.{CCounters}
+use Rattle.ao_counters.specs.Standing.{Stands}
+use Rattle.aotcp_c.specs.Calls.{Answers, IsIn, IsRead, IsStateOf, OnStack, Tells, Tries}
+use Rattle.aotcp_c.specs.Counting.{TellsNode}
 use Rattle.aotcp_c.specs.Codes.{begun_code, code_of, done_code, given_code, withdrawn_code}
 use Rattle.aotcp_c.specs.Shapes.{state_of}
 
@@ -147,6 +150,14 @@ something_taken k c s n before after taken r is f = record {
       subst (Taking before after told (pos 0)) (sym h.answer) (refl, record { count = h.count; at_end = refl; filled = h.filled });
 }
 
+pub nothing_due : (o r : Option ℕ) (at : ℕ) → r ≡ None → r ≡ o → Tells o at (pos 19)
+nothing_due None r at none is = refl
+nothing_due (Some d) r at none is = absurd (cc (none, is))
+
+pub something_due : (o r : Option ℕ) (d : ℕ) → r ≡ Some d → r ≡ o → Tells o d (pos 0)
+something_due None r d some is = absurd (cc (some, is))
+something_due (Some e) r d some is = let both : Some d ≡ Some e = sym some ∙ is in let same : d ≡ e = cc in (refl, same)
+
 -- where an end stands; elsewhere, where there is none
 abbrev pub front_or : Front → Option Front → Front
 front_or elsewhere None = elsewhere
@@ -163,3 +174,9 @@ something_stated None r front some is = absurd (cc (some, is))
 something_stated (Some e) r front some is =
     let same : Some front ≡ Some (end_front e) = sym some ∙ is in
     (refl, ap state_of (ap (front_or front) same))
+
+-- what was counted of the node is told of the stack in a handle
+pub node_told : (a b : Option CountedStack) (p q : CountedStack) (r : ℤ) (told : CCounters) → a ≡ Some p → b ≡ Some q → ((s : StackState) (n : StackCounts) → Stands p s n → TellsNode s n told r) →
+    OnStack a b (to_z w32 (of_z w32 r)) (λ p q. (s : StackState) (n : StackCounts) → Stands p s n → TellsNode s n told (to_z w32 (of_z w32 r)))
+node_told a b p q r told before after tells =
+    rw (before, after) (λ s n stands. let h = tells s n stands in record { is = rw (h.is) refl; counted = h.counted })

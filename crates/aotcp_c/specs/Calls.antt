@@ -122,9 +122,10 @@ Reads k (Some pair) before after told s n code =
     Follows k (book.At pair (act.Take (length before))) s n
     (λ a. (code ≡ code_of a) × IsRead before after told a)
 
--- this is told of a stack that stands for the state, with these counters (own)
-pub record Sees (s : StackState) (n : StackCounts) (Told : Type 0) : Type 0 where
-  pub told : Told
+-- the stack stands for this state, whatever it counted (own)
+pub record IsAt (k : CountedStack) (s : StackState) : Type 0 where
+  pub counts : StackCounts
+  pub stands : Stands k s counts
 
 -- a deadline is told, or that there is none (own)
 abbrev pub Tells : Option ℕ → ℕ → ℤ → Type 0

@@ -61,5 +61,7 @@ IsTally (Some pair) s n told code =
     IsTallyOf (n.pairs pair) told code × SaysHeld (held_end pair s.node.ends) code
 
 -- what was counted of the node is told; it has no key ids (own)
-abbrev pub IsNodeTally : StackCounts → CCounters → ℤ → Type 0
-IsNodeTally n told code = (code ≡ ok) × (told ≡ told_counters n.node no_key_ids)
+pub record TellsNode (s : StackState) (n : StackCounts) (told : CCounters) (code : ℤ)
+    : Type 0 where
+  pub is : code ≡ ok
+  pub counted : told ≡ told_counters n.node no_key_ids

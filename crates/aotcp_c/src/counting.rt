@@ -3,8 +3,9 @@ ghost use Rattle.std.specs.Prelude.{◌≡◌};
 ghost use Rattle.book_counters.specs.Counters.{StackCounts};
 ghost use Rattle.book_stack.specs.Stacks.{StackState};
 ghost use Rattle.ao_counters.specs.Standing.{Stands};
-ghost use Rattle.aotcp_c.specs.Calls.{OnStack, Sees};
-ghost use Rattle.aotcp_c.specs.Counting.{IsNodeTally, IsTally, told_counters, told_ids};
+ghost use Rattle.aotcp_c.specs.Calls.{OnStack};
+ghost use Rattle.aotcp_c.specs.Codes.{ok};
+ghost use Rattle.aotcp_c.specs.Counting.{IsTally, told_counters, told_ids, TellsNode};
 ghost use Rattle.aotcp_c.specs.Held.{content};
 ghost use Rattle.aotcp_c.specs.Shapes.{pair_of};
 
@@ -80,7 +81,7 @@ fn counters(stack: &CountedStack, at: &CPair, told: &mut CCounters) -> i32
 
 /// What was counted of the node.
 fn node_counters(stack: &CountedStack, told: &mut CCounters) -> i32
-    ensures { (s : StackState) (n : StackCounts) → Stands stack.now s n → Sees s n (IsNodeTally n told.new result) }
+    ensures { (s : StackState) (n : StackCounts) → Stands stack.now s n → TellsNode s n told.new result }
 {
     let seen = KeyIdsSeen {
         sent: None,
@@ -122,7 +123,7 @@ pub extern "C" fn aotcp_node_counters(
 ) -> i32
     ensures unchanged { content handle.new.place.value ≡ content handle.old.place.value }
     ensures told { OnStack (content handle.old.place.value) (content handle.new.place.value) result (λ p q. (s : StackState) (n : StackCounts) → Stands p s n
-        → Sees s n (IsNodeTally n told.new result)) }
+        → TellsNode s n told.new result) }
 {
     match mem::replace(handle, Handle::none()).into_box(alloc) {
         Some(b) => {

@@ -1,10 +1,8 @@
 //! Looking at a stack.
 ghost use Rattle.std.specs.Prelude.{◌≡◌};
 ghost use Rattle.book_cmd_node.specs.NodeRuns.{held_end};
-ghost use Rattle.book_counters.specs.Counters.{StackCounts};
 ghost use Rattle.book_stack.specs.Stacks.{StackState, next_deadline};
-ghost use Rattle.ao_counters.specs.Standing.{Stands};
-ghost use Rattle.aotcp_c.specs.Calls.{IsOverdue, IsState, OnStack, Sees, Tells};
+ghost use Rattle.aotcp_c.specs.Calls.{IsAt, IsOverdue, IsState, OnStack, Tells};
 ghost use Rattle.aotcp_c.specs.Held.{content};
 ghost use Rattle.aotcp_c.specs.Shapes.{pair_of, state_of};
 
@@ -31,7 +29,7 @@ fn state_of(front: Front) -> CState
 
 /// When the next datagram is due.
 fn deadline(stack: &CountedStack, at: &mut u64) -> i32
-    ensures { (s : StackState) (n : StackCounts) → Stands stack.now s n → Sees s n (Tells (next_deadline s) at.new result) }
+    ensures { (s : StackState) → IsAt stack.now s → Tells (next_deadline s) at.new result }
 {
     match stack.next_deadline() {
         None => NOTHING,
@@ -44,7 +42,7 @@ fn deadline(stack: &CountedStack, at: &mut u64) -> i32
 
 /// Where the end of the pair stands.
 fn state(stack: &CountedStack, at: &CPair, told: &mut CState) -> i32
-    ensures { (s : StackState) (n : StackCounts) → Stands stack.now s n → Sees s n (IsState (pair_of at.now) s told.new result) }
+    ensures { (s : StackState) → IsAt stack.now s → IsState (pair_of at.now) s told.new result }
 {
     match pair_of(at) {
         None => FAMILY,
@@ -60,7 +58,7 @@ fn state(stack: &CountedStack, at: &CPair, told: &mut CState) -> i32
 
 /// Whether the connection of the pair has heard nothing for so long.
 fn is_overdue(stack: &CountedStack, at: &CPair, now: u64, told: &mut bool) -> i32
-    ensures { (s : StackState) (n : StackCounts) → Stands stack.now s n → Sees s n (IsOverdue (pair_of at.now) now s told.new result) }
+    ensures { (s : StackState) → IsAt stack.now s → IsOverdue (pair_of at.now) now s told.new result }
 {
     match pair_of(at) {
         None => FAMILY,
@@ -76,8 +74,8 @@ fn is_overdue(stack: &CountedStack, at: &CPair, now: u64, told: &mut bool) -> i3
 #[unsafe(no_mangle)]
 pub extern "C" fn aotcp_deadline(alloc: Global, handle: &mut Handle, at: &mut u64) -> i32
     ensures unchanged { content handle.new.place.value ≡ content handle.old.place.value }
-    ensures told { OnStack (content handle.old.place.value) (content handle.new.place.value) result (λ p q. (s : StackState) (n : StackCounts) → Stands p s n
-        → Sees s n (Tells (next_deadline s) at.new result)) }
+    ensures told { OnStack (content handle.old.place.value) (content handle.new.place.value) result (λ p q. (s : StackState) → IsAt p s
+        → Tells (next_deadline s) at.new result) }
 {
     match mem::replace(handle, Handle::none()).into_box(alloc) {
         Some(b) => {
@@ -98,8 +96,8 @@ pub extern "C" fn aotcp_state(
     told: &mut CState,
 ) -> i32
     ensures unchanged { content handle.new.place.value ≡ content handle.old.place.value }
-    ensures told { OnStack (content handle.old.place.value) (content handle.new.place.value) result (λ p q. (s : StackState) (n : StackCounts) → Stands p s n
-        → Sees s n (IsState (pair_of pair.now) s told.new result)) }
+    ensures told { OnStack (content handle.old.place.value) (content handle.new.place.value) result (λ p q. (s : StackState) → IsAt p s
+        → IsState (pair_of pair.now) s told.new result) }
 {
     match mem::replace(handle, Handle::none()).into_box(alloc) {
         Some(b) => {
@@ -122,8 +120,8 @@ pub extern "C" fn aotcp_is_overdue(
     told: &mut bool,
 ) -> i32
     ensures unchanged { content handle.new.place.value ≡ content handle.old.place.value }
-    ensures told { OnStack (content handle.old.place.value) (content handle.new.place.value) result (λ p q. (s : StackState) (n : StackCounts) → Stands p s n
-        → Sees s n (IsOverdue (pair_of pair.now) now s told.new result)) }
+    ensures told { OnStack (content handle.old.place.value) (content handle.new.place.value) result (λ p q. (s : StackState) → IsAt p s
+        → IsOverdue (pair_of pair.now) now s told.new result) }
 {
     match mem::replace(handle, Handle::none()).into_box(alloc) {
         Some(b) => {

@@ -5,4 +5,7 @@ use Rattle.aotcp_c.specs.Counting.{told_counters}
 use Rattle.aotcp_c.proofs.counting.node_counters.Goals as goal
 
 pub returns : goal.returns
-returns c = λ s n stands. record { told = (refl, c.told_counters.ensures ∙ ap (λ (k : Counters). told_counters k no_key_ids) (c.node_counters.ensures s n stands)) }
+returns c = λ s n stands. record {
+  is = refl;
+  counted = c.told_counters.ensures ∙ ap (λ (k : Counters). told_counters k no_key_ids) (c.node_counters.ensures s n stands);
+}
