@@ -1,0 +1,10 @@
+use Rattle.std.proofs.Common.{rules, inl, inr}
+use Rattle.aotcp.proofs.tests.completeness.over_memory.Goals as goal
+
+pub returns : goal.returns
+returns c =
+    let whole = c.run-status.ensures.2.completes.done c.args.keys c.args.input c.requires.done (search rules) (search rules) (search rules) in
+    elim whole [
+      | inl written ↦ inl (written.0, search rules)
+      | inr short ↦ inr short
+    ]
