@@ -3,10 +3,6 @@
 #![tactic(auto)]
 
 #[cfg(test)]
-mod counted;
-#[cfg(test)]
-mod of_ao_counters;
-#[cfg(test)]
 mod of_ao_stack;
 #[cfg(test)]
 mod peers;

@@ -11,9 +11,9 @@ use key_table::{AddRefusal, Direction, Lifetime, NewRow, Table};
 use std::alloc::{AllocError, Global};
 use std::test::Fail;
 
-pub(crate) const CLIENT: Address = Address::V4([10, 0, 0, 1]);
+const CLIENT: Address = Address::V4([10, 0, 0, 1]);
 
-pub(crate) const SERVER: Address = Address::V4([10, 0, 0, 2]);
+const SERVER: Address = Address::V4([10, 0, 0, 2]);
 
 /// The connection as the client sees it.
 pub(crate) fn client_pair() -> Pair
