@@ -95,19 +95,19 @@ static void check_codes(struct world *w) {
     CHECK(aotcp_new(&w->stacks[CLIENT], (const uint8_t *)KEYS, sizeof KEYS - 1, &node, 1, &fault) == AOTCP_HELD);
 }
 
-/* What an end counted is what happened at it: what it sent, what was refused, and what passed under both rows; its last key and
- * its peer's are the second row's. */
+/* What an end counted is what happened at it: what it sent, what was refused, and what passed under both rows. Its last key and its
+ * peer's are the second row's; each asks for the first, since both rows accept at all times, and the lower one is asked for then. */
 static void check_counters(struct world *w, int end) {
     struct aotcp_counters c, n;
-    uint8_t own = end == CLIENT ? 6 : 8, peer = end == CLIENT ? 8 : 6;
+    uint8_t own = end == CLIENT ? 6 : 8, peer = end == CLIENT ? 8 : 6, asks = end == CLIENT ? 7 : 5, asked = end == CLIENT ? 5 : 7;
     CHECK(aotcp_counters(&w->stacks[end], &w->pairs[end], &c) == AOTCP_OK);
     CHECK(aotcp_node_counters(&w->stacks[end], &n) == AOTCP_OK);
     CHECK(c.sent + c.sent_again == w->sent[end] && c.passed == w->rows[end][1] + w->rows[end][2]);
     CHECK(c.checksum + c.no_row + c.expired + c.no_context + c.range + c.bad_mac + c.mac_length == w->refused[end]);
     CHECK(n.sent == c.sent && n.passed == c.passed && n.no_connection == 0 && n.knocks == 0);
     CHECK(n.bad == (end == CLIENT) && c.bad == 0 && !n.ids_sent.there);
-    CHECK(c.ids_sent.there && c.ids_sent.key_id == own && c.ids_sent.rnext_key_id == peer);
-    CHECK(c.ids_heard.there && c.ids_heard.key_id == peer && c.ids_heard.rnext_key_id == own);
+    CHECK(c.ids_sent.there && c.ids_sent.key_id == own && c.ids_sent.rnext_key_id == asks);
+    CHECK(c.ids_heard.there && c.ids_heard.key_id == peer && c.ids_heard.rnext_key_id == asked);
 }
 
 /* Rows of a key file are told, added and withdrawn. */
