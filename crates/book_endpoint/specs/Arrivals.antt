@@ -121,7 +121,8 @@ abbrev pub hear_data : EndState → Segment → (number now : ℕ) → Bool → 
 hear_data s d n now false = finish s now
 hear_data s d n now true =
     let high = s.expected + window s in
-    let kept = keep s.received n d.payload s.expected (below_limit s.fin high) in
+    let kept = keep s.received (record { number = n; bytes = d.payload })
+        (record { low = s.expected; high = below_limit s.fin high }) in
     let at = first_missing kept s.expected (window s) in
     heard_runs s kept d n now (nat_lt 64 (runs kept false at (high - at)))
 

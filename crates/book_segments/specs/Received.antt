@@ -14,11 +14,22 @@ abbrev pub first_known : (kept later : Option ℕ) → Option ℕ
 first_known (Some b) o = Some b
 first_known None o = o
 
--- a payload at number n, kept at the numbers from low to below high that have no byte yet (RFC
+-- bytes of a stream, with the number of the first (RFC 9293, section 3.4)
+pub record Piece : Type 0 where
+  pub number : ℕ
+  pub bytes : List ℕ
+
+-- the numbers from low to below high (own)
+pub record Interval : Type 0 where
+  pub low : ℕ
+  pub high : ℕ
+
+-- the received bytes, and of a piece those in the interval whose numbers have no byte yet (RFC
 -- 9293, section 3.10.7.4)
-unfoldable pub keep : (ℕ → Option ℕ) → ℕ → List ℕ → (low high place : ℕ) → Option ℕ
-keep m n payload low high p = first_known (m p)
-    (if nat_le low p && nat_lt p high && nat_le n p then slice_get payload (p - n) else None)
+unfoldable pub keep : (ℕ → Option ℕ) → Piece → Interval → (place : ℕ) → Option ℕ
+keep m piece interval p = first_known (m p)
+    (if nat_le interval.low p && nat_lt p interval.high && nat_le piece.number p
+    then slice_get piece.bytes (p - piece.number) else None)
 
 -- the first number from p on that has no byte, within so many (RFC 9293, section 3.10.7.4)
 abbrev pub first_missing : (ℕ → Option ℕ) → (first count : ℕ) → ℕ

@@ -156,7 +156,7 @@ hear_data_same : (s : EndState) (d : Segment) (n now : ℕ) (b : Bool) → Moved
 hear_data_same s d n now false = finish_same s now
 hear_data_same s d n now true =
     let high = s.expected + window s in
-    let m = keep s.received n d.payload s.expected (below_limit s.fin high) in
+    let m = keep s.received (record { number = n; bytes = d.payload }) (record { low = s.expected; high = below_limit s.fin high }) in
     let at = first_missing m s.expected (window s) in
     heard_runs_same s m d n now (nat_lt 64 (runs m false at (high - at)))
 

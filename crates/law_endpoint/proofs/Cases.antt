@@ -39,7 +39,7 @@ text_is : (s : EndState) (d : Segment) (n now : ℕ) (hears : Bool) → hear_dat
 text_is s d n now false = refl
 text_is s d n now true =
     let high = s.expected + window s in
-    let kept = keep s.received n d.payload s.expected (below_limit s.fin high) in
+    let kept = keep s.received (record { number = n; bytes = d.payload }) (record { low = s.expected; high = below_limit s.fin high }) in
     let at = first_missing kept s.expected (window s) in
     runs_are s kept d n now (nat_lt 64 (runs kept false at (high - at)))
 

@@ -79,7 +79,8 @@ abbrev pub hear_text : Admitted → EndState → Moved
 hear_text i s =
     let d = i.segment in
     let end = s.expected + window s in
-    let kept = keep s.received i.number d.payload s.expected (below_limit s.fin end) in
+    let kept = keep s.received (record { number = i.number; bytes = d.payload })
+        (record { low = s.expected; high = below_limit s.fin end }) in
     let missing = first_missing kept s.expected (window s) in
     let fin_at = i.number + length d.payload in
     let none_past_fin = runs kept false fin_at (end - fin_at) == 0 in

@@ -157,7 +157,7 @@ module _ (n : ℕ) (d : Segment) where
   hear_gains : (s : EndState) (now : ℕ) (b : Bool) → has SYN d ≡ false → Gains n d s (hear_data s d n now b).state
   hear_gains s now false z = finish_gains s now
   hear_gains s now true z =
-      heard_gains s (keep s.received n d.payload s.expected (below_limit s.fin (s.expected + window s))) now _ z
+      heard_gains s (keep s.received (record { number = n; bytes = d.payload }) (record { low = s.expected; high = below_limit s.fin (s.expected + window s) })) now _ z
       (λ p v e. ⊎_elim (λ (a : s.received p ≡ Some v). inl a) (λ (a : (n ≤ p) × (slice_get d.payload (p - n) ≡ Some v)). inr (z, a.0, a.1)) (keep-cases s.received n d.payload s.expected (below_limit s.fin (s.expected + window s)) p v e))
 
   go_on_gains : (s : EndState) (old : ℕ) (now : ℕ) (a : Option ℕ) → has SYN d ≡ false → Gains n d s (go_on s old d n now a).state

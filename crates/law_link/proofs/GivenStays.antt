@@ -52,7 +52,7 @@ module _ (g : List ℕ) where
   hear_data_leaves s d n now false h = finish_leaves s now h
   hear_data_leaves s d n now true h =
       let high = s.expected + window s in
-      let m = keep s.received n d.payload s.expected (below_limit s.fin high) in
+      let m = keep s.received (record { number = n; bytes = d.payload }) (record { low = s.expected; high = below_limit s.fin high }) in
       let at = first_missing m s.expected (window s) in
       heard_runs_leaves s m d n now (nat_lt 64 (runs m false at (high - at))) h
 

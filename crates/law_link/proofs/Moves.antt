@@ -67,7 +67,7 @@ heard_ok s t m d n now false h =
 
 hear_ok : (s t : EndState) (d : Segment) (n now : ℕ) (b : Bool) → Steady s t → MovedOk s d (hear_data t d n now b)
 hear_ok s t d n now false h = finish_ok s t d now h
-hear_ok s t d n now true h = heard_ok s t (keep t.received n d.payload t.expected (below_limit t.fin (t.expected + window t))) d n now _ h
+hear_ok s t d n now true h = heard_ok s t (keep t.received (record { number = n; bytes = d.payload }) (record { low = t.expected; high = below_limit t.fin (t.expected + window t) })) d n now _ h
 
 windowed_steady : (s : EndState) (old : ℕ) (d : Segment) (k : ℕ) (a : Option ℕ) → Steady s (windowed s old d k a)
 windowed_steady s old d k None = steady_refl s

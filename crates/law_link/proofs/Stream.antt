@@ -18,7 +18,7 @@ first_known-cases None false c b e = absurd (cc)
 last_is : (low high n p : ℕ) → (nat_le low p && nat_lt p high && nat_le n p) ≡ true → n ≤ p
 last_is low high n p e = grind (arith, nat_tests)
 
-pub keep-cases : (m : ℕ → Option ℕ) (n : ℕ) (payload : List ℕ) (low high p b : ℕ) → keep m n payload low high p ≡ Some b
+pub keep-cases : (m : ℕ → Option ℕ) (n : ℕ) (payload : List ℕ) (low high p b : ℕ) → keep m (record { number = n; bytes = payload }) (record { low = low; high = high }) p ≡ Some b
     → (m p ≡ Some b) ⊎ ((n ≤ p) × (slice_get payload (p - n) ≡ Some b))
 unfolding keep
 keep-cases m n payload low high p b e =
@@ -26,7 +26,7 @@ keep-cases m n payload low high p b e =
     (λ (x : ((nat_le low p && nat_lt p high && nat_le n p) ≡ true) × (slice_get payload (p - n) ≡ Some b)). inr (last_is low high n p x.0, x.1))
     (first_known-cases (m p) (nat_le low p && nat_lt p high && nat_le n p) (slice_get payload (p - n)) b e)
 
-keep-old : (m : ℕ → Option ℕ) (n : ℕ) (payload : List ℕ) (low high p b : ℕ) → m p ≡ Some b → keep m n payload low high p ≡ Some b
+keep-old : (m : ℕ → Option ℕ) (n : ℕ) (payload : List ℕ) (low high p b : ℕ) → m p ≡ Some b → keep m (record { number = n; bytes = payload }) (record { low = low; high = high }) p ≡ Some b
 unfolding keep
 keep-old m n payload low high p b e = rw e
 
@@ -115,7 +115,7 @@ between low high n p e =
     (le_is low p b.0, lt_is p high b.1, le_is n p a.1)
 
 -- a byte that is kept anew lies between the bounds
-pub keep-bounds : (m : ℕ → Option ℕ) (n : ℕ) (payload : List ℕ) (low high p b : ℕ) → keep m n payload low high p ≡ Some b
+pub keep-bounds : (m : ℕ → Option ℕ) (n : ℕ) (payload : List ℕ) (low high p b : ℕ) → keep m (record { number = n; bytes = payload }) (record { low = low; high = high }) p ≡ Some b
     → (m p ≡ Some b) ⊎ ((low ≤ p) × (p < high))
 unfolding keep
 keep-bounds m n payload low high p b e =
@@ -141,10 +141,10 @@ keep_high None start x p a b c low high = omega arith
 keep_high (Some f) start x p a b c low high = let h = c f refl in omega arith
 
 pub kept : (q : ℕ) (taken : List ℕ) (m : ℕ → Option ℕ) (fin : Option ℕ) (x n : ℕ) (payload : List ℕ) → Stream (Some q) taken m fin x
-    → Stream (Some q) taken (keep m n payload x (below_limit fin (x + room_of (Some q) taken fin x))) fin x
+    → Stream (Some q) taken (keep m (record { number = n; bytes = payload }) (record { low = x; high = below_limit fin (x + room_of (Some q) taken fin x) })) fin x
 kept q taken m fin x n payload h =
     let top = below_limit fin (x + room_of (Some q) taken fin x) in
-    let new = keep m n payload x top in
+    let new = keep m (record { number = n; bytes = payload }) (record { low = x; high = top }) in
     let begun = h.begun in
     let le = limit_le fin x in
     let old : (p : ℕ) → q + 1 ≤ p → p < below_limit fin x → (b : ℕ) × (m p ≡ Some b) × (new p ≡ Some b) =

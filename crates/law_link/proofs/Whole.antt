@@ -60,12 +60,12 @@ finish_whole s now h = rested_whole s now s.phase s.deadline h
 
 -- the bytes are kept, and the number expected moves to the first missing one
 pub heard : (o : Option ℕ) (taken : List ℕ) (m : ℕ → Option ℕ) (fin : Option ℕ) (x n : ℕ) (payload : List ℕ) → (q : ℕ) × (o ≡ Some q) → Stream o taken m fin x
-    → let new = keep m n payload x (below_limit fin (x + room_of o taken fin x)) in
+    → let new = keep m (record { number = n; bytes = payload }) (record { low = x; high = below_limit fin (x + room_of o taken fin x) }) in
     let y = first_missing new x (room_of o taken fin x) in Stream o taken new fin y × (new y ≡ None)
 heard None taken m fin x n payload known h = absurd (cc)
 heard (Some q) taken m fin x n payload known h =
     let k = kept q taken m fin x n payload h in
-    let new = keep m n payload x (below_limit fin (x + room_of (Some q) taken fin x)) in
+    let new = keep m (record { number = n; bytes = payload }) (record { low = x; high = below_limit fin (x + room_of (Some q) taken fin x) }) in
     (moved q taken new fin x k, moved_missing q taken new fin x k)
 
 -- a FIN is recorded only where no byte stands at or past it
@@ -125,10 +125,10 @@ record_says a b f low high k e is =
     (le_is low f three.0, lt_is f high three.1, eqb_is k 0 (sym is ∙ one.1))
 
 hear_if : (s : EndState) (d : Segment) (n now : ℕ) (b : Bool) → (q : ℕ) × (s.peer_isn ≡ Some q) → Whole s
-    → Whole (heard_runs s (keep s.received n d.payload s.expected (below_limit s.fin (s.expected + window s))) d n now b).state
+    → Whole (heard_runs s (keep s.received (record { number = n; bytes = d.payload }) (record { low = s.expected; high = below_limit s.fin (s.expected + window s) })) d n now b).state
 hear_if s d n now true known h = h
 hear_if s d n now false known h =
-    let m = keep s.received n d.payload s.expected (below_limit s.fin (s.expected + window s)) in
+    let m = keep s.received (record { number = n; bytes = d.payload }) (record { low = s.expected; high = below_limit s.fin (s.expected + window s) }) in
     let f = n + length d.payload in
     let records = has FIN d && in_range f s.expected (s.expected + window s) && (runs m false f (s.expected + window s - f) == 0) in
     let t : EndState = record s { received = m; fin = fin_of s.fin records f; ack_owed = true; expected = first_missing m s.expected (window s) } in

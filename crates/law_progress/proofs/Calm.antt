@@ -228,7 +228,7 @@ heard_past s m d n now false h =
 
 hear_past : (s : EndState) (d : Segment) (n now : ℕ) (b : Bool) → Past s → Past (hear_data s d n now b).state
 hear_past s d n now false h = rested_past s now s.phase s.deadline h
-hear_past s d n now true h = heard_past s (keep s.received n d.payload s.expected (below_limit s.fin (s.expected + window s))) d n now _ h
+hear_past s d n now true h = heard_past s (keep s.received (record { number = n; bytes = d.payload }) (record { low = s.expected; high = below_limit s.fin (s.expected + window s) })) d n now _ h
 
 windowed_past : (s : EndState) (old : ℕ) (d : Segment) (n : ℕ) (a : Option ℕ) → Past s → Past (windowed s old d n a)
 windowed_past s old d n None h = h

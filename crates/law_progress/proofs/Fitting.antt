@@ -338,13 +338,13 @@ finish_fit s now h = rested_fit s now s.phase s.deadline h
 
 -- few runs are left where the test says so
 few_heard : (o : Option ℕ) (taken : List ℕ) (m : ℕ → Option ℕ) (fin : Option ℕ) (x n : ℕ) (payload : List ℕ) → (q : ℕ) × (o ≡ Some q) → Stream o taken m fin x
-    → let new = keep m n payload x (below_limit fin (x + room_of o taken fin x)) in
+    → let new = keep m (record { number = n; bytes = payload }) (record { low = x; high = below_limit fin (x + room_of o taken fin x) }) in
     let y = first_missing new x (room_of o taken fin x) in
     nat_lt 64 (runs new false y (x + room_of o taken fin x - y)) ≡ false → HasFewRuns new y
 few_heard None taken m fin x n payload known h test = absurd (cc)
 few_heard (Some q) taken m fin x n payload known h test =
     let k = kept q taken m fin x n payload h in
-    let new = keep m n payload x (below_limit fin (x + room_of (Some q) taken fin x)) in
+    let new = keep m (record { number = n; bytes = payload }) (record { low = x; high = below_limit fin (x + room_of (Some q) taken fin x) }) in
     let w = room_of (Some q) taken fin x in
     let y = first_missing new x w in
     let high = fm_high new x w in
@@ -394,12 +394,12 @@ fin_low None true g x f old new e = let same = some_is g f e in let low = new re
 fin_low None false g x f old new e = absurd (cc)
 
 heard_fit : (s : EndState) (d : Segment) (n now : ℕ) (b : Bool) → hears s.phase ≡ true → (q : ℕ) × (s.peer_isn ≡ Some q) → Whole s → Fit s
-    → let m = keep s.received n d.payload s.expected (below_limit s.fin (s.expected + window s)) in
+    → let m = keep s.received (record { number = n; bytes = d.payload }) (record { low = s.expected; high = below_limit s.fin (s.expected + window s) }) in
     let y = first_missing m s.expected (window s) in
     nat_lt 64 (runs m false y (s.expected + window s - y)) ≡ b → Fit (heard_runs s m d n now b).state
 heard_fit s d n now true on known whole h test = h
 heard_fit s d n now false on known whole h test =
-    let m = keep s.received n d.payload s.expected (below_limit s.fin (s.expected + window s)) in
+    let m = keep s.received (record { number = n; bytes = d.payload }) (record { low = s.expected; high = below_limit s.fin (s.expected + window s) }) in
     let f = n + length d.payload in
     let records = has FIN d && in_range f s.expected (s.expected + window s) && (runs m false f (s.expected + window s - f) == 0) in
     let t : EndState = record s { received = m; fin = fin_of s.fin records f; ack_owed = true; expected = first_missing m s.expected (window s) } in

@@ -314,7 +314,7 @@ heard_steady s m d n now false none off =
 
 hear_steady : (s : EndState) (d : Segment) (n now : ℕ) (b : Bool) → s.fin ≡ None → has FIN d ≡ false → (hear_data s d n now b).state.phase ≡ s.phase
 hear_steady s d n now false none off = rested_steady s now s.phase s.deadline
-hear_steady s d n now true none off = heard_steady s (keep s.received n d.payload s.expected (below_limit s.fin (s.expected + window s))) d n now _ none off
+hear_steady s d n now true none off = heard_steady s (keep s.received (record { number = n; bytes = d.payload }) (record { low = s.expected; high = below_limit s.fin (s.expected + window s) })) d n now _ none off
 
 pub joins_steady : (s : EndState) (c : Option ℕ) (d : Segment) (n now a : ℕ) → s.fin ≡ None → has FIN d ≡ false → a ≤ s.isn + 1 + length s.given → (go_on (joined s c a) s.una d n now (Some a)).state.phase ≡ Established
 joins_steady s c d n now a none off low =

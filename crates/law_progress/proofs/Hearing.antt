@@ -174,10 +174,10 @@ all_on a b c e f g = grind arith
 
 module _ (s : EndState) (d : Segment) (n now : ℕ) where
   -- the bytes are kept, or too many runs would arise
-  heard_if : (b : Bool) → Hears s (heard_runs s (keep s.received n d.payload s.expected (below_limit s.fin (s.expected + window s))) d n now b).state d n
+  heard_if : (b : Bool) → Hears s (heard_runs s (keep s.received (record { number = n; bytes = d.payload }) (record { low = s.expected; high = below_limit s.fin (s.expected + window s) })) d n now b).state d n
   heard_if true = record { frame_is = refl; una = refl; opened = λ o. o; shut = λ e. e; up = omega arith; owed = λ e. refl }
   heard_if false =
-      let m = keep s.received n d.payload s.expected (below_limit s.fin (s.expected + window s)) in
+      let m = keep s.received (record { number = n; bytes = d.payload }) (record { low = s.expected; high = below_limit s.fin (s.expected + window s) }) in
       let f = n + length d.payload in
       let y = first_missing m s.expected (window s) in
       let t : EndState = record s { received = m; fin = fin_of s.fin (records_fin s m d f) f; ack_owed = true; expected = y } in
@@ -196,10 +196,10 @@ module _ (s : EndState) (d : Segment) (n now : ℕ) where
         owed = λ e. ap (λ (c : Core). c.ack_owed) r.0 ∙ p.2;
       }
 
-  heard_owed : (b : Bool) → (heard_runs s (keep s.received n d.payload s.expected (below_limit s.fin (s.expected + window s))) d n now b).state.ack_owed ≡ true
+  heard_owed : (b : Bool) → (heard_runs s (keep s.received (record { number = n; bytes = d.payload }) (record { low = s.expected; high = below_limit s.fin (s.expected + window s) })) d n now b).state.ack_owed ≡ true
   heard_owed true = refl
   heard_owed false =
-      let m = keep s.received n d.payload s.expected (below_limit s.fin (s.expected + window s)) in
+      let m = keep s.received (record { number = n; bytes = d.payload }) (record { low = s.expected; high = below_limit s.fin (s.expected + window s) }) in
       let f = n + length d.payload in
       let t : EndState = record s { received = m; fin = fin_of s.fin (records_fin s m d f) f; ack_owed = true; expected = first_missing m s.expected (window s) } in
       let u = pass_fin t t.fin in
@@ -207,18 +207,18 @@ module _ (s : EndState) (d : Segment) (n now : ℕ) where
 
   -- a piece that is due moves the number expected past it
   heard_moves : (g : ℕ) → Due s d n g → s.expected ≤ g → (b : Bool)
-      → nat_lt 64 (runs (keep s.received n d.payload s.expected (below_limit s.fin (s.expected + window s))) false (first_missing (keep s.received n d.payload s.expected (below_limit s.fin (s.expected + window s))) s.expected (window s)) (s.expected + window s - first_missing (keep s.received n d.payload s.expected (below_limit s.fin (s.expected + window s))) s.expected (window s))) ≡ b
-      → n + reach d ≤ (heard_runs s (keep s.received n d.payload s.expected (below_limit s.fin (s.expected + window s))) d n now b).state.expected
+      → nat_lt 64 (runs (keep s.received (record { number = n; bytes = d.payload }) (record { low = s.expected; high = below_limit s.fin (s.expected + window s) })) false (first_missing (keep s.received (record { number = n; bytes = d.payload }) (record { low = s.expected; high = below_limit s.fin (s.expected + window s) })) s.expected (window s)) (s.expected + window s - first_missing (keep s.received (record { number = n; bytes = d.payload }) (record { low = s.expected; high = below_limit s.fin (s.expected + window s) })) s.expected (window s))) ≡ b
+      → n + reach d ≤ (heard_runs s (keep s.received (record { number = n; bytes = d.payload }) (record { low = s.expected; high = below_limit s.fin (s.expected + window s) })) d n now b).state.expected
   heard_moves g h inside true test =
       let top = below_limit s.fin (s.expected + window s) in
-      let m = keep s.received n d.payload s.expected top in
+      let m = keep s.received (record { number = n; bytes = d.payload }) (record { low = s.expected; high = top }) in
       let fits = h.fits in
       let wide = limit_high s.fin g (s.expected + window s) (n + length d.payload) h.ends h.under (omega arith) in
       let high = fm_high m s.expected (window s) in
       absurd (test_false _ (few_past s.received n d.payload s.expected (window s) top h.at (omega arith) wide h.few (s.expected + window s - first_missing m s.expected (window s)) (omega arith)) test)
   heard_moves g h inside false test =
       let top = below_limit s.fin (s.expected + window s) in
-      let m = keep s.received n d.payload s.expected top in
+      let m = keep s.received (record { number = n; bytes = d.payload }) (record { low = s.expected; high = top }) in
       let f = n + length d.payload in
       let w = window s in
       let y = first_missing m s.expected w in

@@ -173,7 +173,7 @@ module _ (s : EndState) (d : Segment) (n now : ℕ) where
 
   hear_on : (b : Bool) → Hearing s (hear_data s d n now b).state d
   hear_on false = hearing_quiet (finish s now).state (rested_quiet s now s.phase s.deadline)
-  hear_on true = heard_on (keep s.received n d.payload s.expected (below_limit s.fin (s.expected + window s))) _
+  hear_on true = heard_on (keep s.received (record { number = n; bytes = d.payload }) (record { low = s.expected; high = below_limit s.fin (s.expected + window s) })) _
 
 -- ---- the arrival
 

@@ -66,7 +66,7 @@ known_still (Some a) t c e = refl
 known_still None true c e = e
 known_still None false c e = refl
 
-pub keep_past : (m : ℕ → Option ℕ) (n : ℕ) (payload : List ℕ) (low high p : ℕ) → n + length payload ≤ p → keep m n payload low high p ≡ m p
+pub keep_past : (m : ℕ → Option ℕ) (n : ℕ) (payload : List ℕ) (low high p : ℕ) → n + length payload ≤ p → keep m (record { number = n; bytes = payload }) (record { low = low; high = high }) p ≡ m p
 unfolding keep
 keep_past m n payload low high p past = known_still (m p) (nat_le low p && nat_lt p high && nat_le n p) (slice_get payload (p - n)) (slice_get_past payload (p - n) (omega arith))
 
@@ -79,7 +79,7 @@ within_now : (low high n p : ℕ) → low ≤ p → p < high → n ≤ p → (na
 within_now low high n p a b c = grind (arith, nat_tests)
 
 -- a byte of the piece between the bounds is kept, or one was there
-pub keep_within : (m : ℕ → Option ℕ) (n : ℕ) (payload : List ℕ) (low high p : ℕ) → n ≤ p → p < n + length payload → low ≤ p → p < high → (b : ℕ) × (keep m n payload low high p ≡ Some b)
+pub keep_within : (m : ℕ → Option ℕ) (n : ℕ) (payload : List ℕ) (low high p : ℕ) → n ≤ p → p < n + length payload → low ≤ p → p < high → (b : ℕ) × (keep m (record { number = n; bytes = payload }) (record { low = low; high = high }) p ≡ Some b)
 unfolding keep
 keep_within m n payload low high p from to above below =
     let got = slice_get-get_or payload (p - n) 0 (omega arith) in
@@ -89,7 +89,7 @@ keep_old_none : (o : Option ℕ) (x : Option ℕ) → first_known o x ≡ None �
 keep_old_none (Some a) x e = absurd (cc)
 keep_old_none None x e = refl
 
-pub keep_none : (m : ℕ → Option ℕ) (n : ℕ) (payload : List ℕ) (low high p : ℕ) → keep m n payload low high p ≡ None → m p ≡ None
+pub keep_none : (m : ℕ → Option ℕ) (n : ℕ) (payload : List ℕ) (low high p : ℕ) → keep m (record { number = n; bytes = payload }) (record { low = low; high = high }) p ≡ None → m p ≡ None
 unfolding keep
 keep_none m n payload low high p e = keep_old_none (m p) (if nat_le low p && nat_lt p high && nat_le n p then slice_get payload (p - n) else None) e
 
@@ -97,9 +97,9 @@ keep_none m n payload low high p e = keep_old_none (m p) (if nat_le low p && nat
 
 module _ (r : ℕ → Option ℕ) (n : ℕ) (payload : List ℕ) (x w top : ℕ) (low : n ≤ x) (fits : n + length payload ≤ x + w) (under : n + length payload ≤ top) where
   -- the first missing number is past the piece
-  pub missing_past : n + length payload ≤ first_missing (keep r n payload x top) x w
+  pub missing_past : n + length payload ≤ first_missing (keep r (record { number = n; bytes = payload }) (record { low = x; high = top })) x w
   missing_past =
-      let m = keep r n payload x top in
+      let m = keep r (record { number = n; bytes = payload }) (record { low = x; high = top }) in
       let y = first_missing m x w in
       let up = fm_low m x w in
       ⊎_elim (λ (a : y < n + length payload).
@@ -110,9 +110,9 @@ module _ (r : ℕ → Option ℕ) (n : ℕ) (payload : List ℕ) (x w top : ℕ)
       (λ (a : n + length payload ≤ y). a) (or_lt y (n + length payload))
 
   -- no more runs are past it than were
-  pub few_past : HasFewRuns r x → (k : ℕ) → first_missing (keep r n payload x top) x w + k ≤ x + w → runs (keep r n payload x top) false (first_missing (keep r n payload x top) x w) k ≤ 64
+  pub few_past : HasFewRuns r x → (k : ℕ) → first_missing (keep r (record { number = n; bytes = payload }) (record { low = x; high = top })) x w + k ≤ x + w → runs (keep r (record { number = n; bytes = payload }) (record { low = x; high = top })) false (first_missing (keep r (record { number = n; bytes = payload }) (record { low = x; high = top })) x w) k ≤ 64
   few_past few k high =
-      let m = keep r n payload x top in
+      let m = keep r (record { number = n; bytes = payload }) (record { low = x; high = top }) in
       let y = first_missing m x w in
       let up = fm_low m x w in
       let past = missing_past in

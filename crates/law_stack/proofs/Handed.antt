@@ -132,7 +132,7 @@ data_same : (s : EndState) (d : Segment) (c n now : ℕ) (heard : Bool) → hear
 data_same s d c n now false = refl
 data_same s d c n now true =
     let high = s.expected + window s in
-    let kept = keep s.received n d.payload s.expected (below_limit s.fin high) in
+    let kept = keep s.received (record { number = n; bytes = d.payload }) (record { low = s.expected; high = below_limit s.fin high }) in
     let at = first_missing kept s.expected (window s) in
     runs_same s kept d c n now (nat_lt 64 (runs kept false at (high - at)))
 

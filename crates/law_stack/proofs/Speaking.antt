@@ -80,7 +80,7 @@ data_moved : (s : EndState) (d : Segment) (n now : ℕ) (heard : Bool) → Moved
 data_moved s d n now false = record { heard = refl; same = rested_peer s now s.phase s.deadline }
 data_moved s d n now true =
     let high = s.expected + window s in
-    let kept = keep s.received n d.payload s.expected (below_limit s.fin high) in
+    let kept = keep s.received (record { number = n; bytes = d.payload }) (record { low = s.expected; high = below_limit s.fin high }) in
     let at = first_missing kept s.expected (window s) in
     runs_moved s kept d n now (nat_lt 64 (runs kept false at (high - at)))
 

@@ -77,7 +77,7 @@ get_or-part : (bytes : List ℕ) (a n i : ℕ) → i < n → get_or (take n (dro
 get_or-part bytes a n i lt = get_or-take n (drop a bytes) i 0 lt ∙ get_or-drop a bytes i 0
 
 -- the bytes of a piece from the first missing position on, below an edge
-pub keep_is_put : (m : ℕ → Option ℕ) (n : ℕ) (bytes : List ℕ) (expected edge low high : ℕ) (piece : List ℕ) → low ≡ max n expected → high ≡ min edge (n + length bytes) → piece ≡ take (high - n - (low - n)) (drop (low - n) bytes) → (p : ℕ) → keep m n bytes expected edge p ≡ put m low high piece p
+pub keep_is_put : (m : ℕ → Option ℕ) (n : ℕ) (bytes : List ℕ) (expected edge low high : ℕ) (piece : List ℕ) → low ≡ max n expected → high ≡ min edge (n + length bytes) → piece ≡ take (high - n - (low - n)) (drop (low - n) bytes) → (p : ℕ) → keep m (record { number = n; bytes = bytes }) (record { low = expected; high = edge }) p ≡ put m low high piece p
 unfolding keep
 keep_is_put m n bytes expected edge low high piece l h e p =
     ap (first_known (m p)) (elim (cases_lt p low) [

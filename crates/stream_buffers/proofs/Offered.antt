@@ -70,8 +70,8 @@ module _ {buffer : List ℕ} {from expected end : ℕ} {slots : Pool Run} {now :
       let t = order o in
       let x = expected_is o in
       let edge : now.expected + window now ≡ from + 65535 = omega (arith, x, from_is o, t.0, t.1, t.2) in
-      ap (λ k. keep (byte_at now) n bytes k (below_limit limit (now.expected + window now)) p) x
-      ∙ (ap (λ k. keep (byte_at now) n bytes expected (below_limit limit k) p) edge
+      ap (λ k. keep (byte_at now) (record { number = n; bytes = bytes }) (record { low = k; high = below_limit limit (now.expected + window now) }) p) x
+      ∙ (ap (λ k. keep (byte_at now) (record { number = n; bytes = bytes }) (record { low = expected; high = below_limit limit k }) p) edge
       ∙ (keep_is_put (byte_at now) n bytes expected (below_limit limit (from + 65535)) low high piece o.low_is o.high_is o.piece_is p
       ∙ ap (λ v. first_known v (if nat_le low p && nat_lt p high then Some (get_or piece (p - low) 0) else None)) (byte_at_now o.sound now o.view p)))
 

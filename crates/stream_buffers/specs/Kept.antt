@@ -36,7 +36,9 @@ window k = 65535 - ready_count k
 
 -- the bytes where a piece at a position is kept as well, within the window and below a limit if there is one (RFC 9293, section 3.10.7.4)
 abbrev pub grown : Kept → ℕ → List ℕ → Option ℕ → ℕ → Option ℕ
-grown k n piece limit = keep (byte_at k) n piece k.expected (below_limit limit (k.expected + window k))
+grown k n piece limit =
+    keep (byte_at k) (record { number = n; bytes = piece })
+    (record { low = k.expected; high = below_limit limit (k.expected + window k) })
 
 -- the first missing position where these bytes are kept (own)
 abbrev pub missing_then : Kept → (ℕ → Option ℕ) → ℕ

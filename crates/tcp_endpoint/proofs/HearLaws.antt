@@ -38,7 +38,7 @@ hearing_open Closed h = absurd (cc)
 
 -- the map once a segment's payload is kept
 abbrev pub kept_map : states.EndState → Segment → ℕ → ℕ → Option ℕ
-kept_map s d n = keep s.received n d.payload s.expected (below_limit s.fin (s.expected + states.window s))
+kept_map s d n = keep s.received (record { number = n; bytes = d.payload }) (record { low = s.expected; high = below_limit s.fin (s.expected + states.window s) })
 
 -- a FIN is recorded
 abbrev pub recorded : states.EndState → Segment → ℕ → Bool

@@ -17,7 +17,7 @@ or_same : (a b c : Option ℕ) → a ≡ b → first_known a c ≡ first_known b
 or_same (Some a) b c e = subst (λ x. Some a ≡ first_known x c) e refl
 or_same None b c e = subst (λ x. c ≡ first_known x c) e refl
 
-pub keep_same : (from n low high : ℕ) (m o : ℕ → Option ℕ) (piece : List ℕ) → SameFrom from m o → SameFrom from (keep m n piece low high) (keep o n piece low high)
+pub keep_same : (from n low high : ℕ) (m o : ℕ → Option ℕ) (piece : List ℕ) → SameFrom from m o → SameFrom from (keep m (record { number = n; bytes = piece }) (record { low = low; high = high })) (keep o (record { number = n; bytes = piece }) (record { low = low; high = high }))
 unfolding keep
 keep_same from n low high m o piece s = record { at = λ p h. or_same (m p) (o p) (if nat_le low p && nat_lt p high && nat_le n p then slice_get piece (p - n) else None) (s.at p h) }
 
@@ -80,15 +80,15 @@ pub none_of : (o : Option ℕ) → (IsSome o → ⊥) → o ≡ None
 none_of None h = refl
 none_of (Some a) h = absurd (h refl)
 
-shift_keep : (from n lo to hi high : ℕ) (m o : ℕ → Option ℕ) (piece : List ℕ) → lo ≡ to → hi ≡ high → SameFrom from m (keep o n piece lo hi) → SameFrom from m (keep o n piece to high)
+shift_keep : (from n lo to hi high : ℕ) (m o : ℕ → Option ℕ) (piece : List ℕ) → lo ≡ to → hi ≡ high → SameFrom from m (keep o (record { number = n; bytes = piece }) (record { low = lo; high = hi })) → SameFrom from m (keep o (record { number = n; bytes = piece }) (record { low = to; high = high }))
 shift_keep from n lo to hi high m o piece p q s =
-    subst (λ b. SameFrom from m (keep o n piece to b)) q (subst (λ a. SameFrom from m (keep o n piece a hi)) p s)
+    subst (λ b. SameFrom from m (keep o (record { number = n; bytes = piece }) (record { low = to; high = b }))) q (subst (λ a. SameFrom from m (keep o (record { number = n; bytes = piece }) (record { low = a; high = hi }))) p s)
 
 -- a piece that the buffer keeps is kept as in the book
 pub grown_same : (k : Kept) (o : ℕ → Option ℕ) (n x w : ℕ) (piece : List ℕ) (fin end : Option ℕ) → SameFrom k.from (byte_at k) o → k.expected ≡ x → window k ≡ w → fin ≡ end
-    → SameFrom k.from (grown k n piece fin) (keep o n piece x (below_limit end (x + w)))
+    → SameFrom k.from (grown k n piece fin) (keep o (record { number = n; bytes = piece }) (record { low = x; high = below_limit end (x + w) }))
 grown_same k o n x w piece fin end s a b e =
-    let base : SameFrom k.from (grown k n piece fin) (keep o n piece k.expected (below_limit fin (k.expected + window k))) = keep_same k.from n k.expected (below_limit fin (k.expected + window k)) (byte_at k) o piece s in
+    let base : SameFrom k.from (grown k n piece fin) (keep o (record { number = n; bytes = piece }) (record { low = k.expected; high = below_limit fin (k.expected + window k) })) = keep_same k.from n k.expected (below_limit fin (k.expected + window k)) (byte_at k) o piece s in
     let high : below_limit fin (k.expected + window k) ≡ below_limit end (x + w) = ap (λ f. below_limit f (k.expected + window k)) e ∙ ap (λ z. below_limit end z) (ap (λ y. y + window k) a ∙ ap (λ y. x + y) b) in
     shift_keep k.from n k.expected x (below_limit fin (k.expected + window k)) (below_limit end (x + w)) (grown k n piece fin) o piece a high base
 
@@ -150,7 +150,7 @@ or_none : (a b : Option ℕ) → a ≡ None → b ≡ None → first_known a b �
 or_none None b p q = q
 or_none (Some a) b p q = absurd (cc)
 
-keep_none : (m : ℕ → Option ℕ) (n : ℕ) (piece : List ℕ) (low high z : ℕ) → m z ≡ None → nat_lt z high ≡ false → keep m n piece low high z ≡ None
+keep_none : (m : ℕ → Option ℕ) (n : ℕ) (piece : List ℕ) (low high z : ℕ) → m z ≡ None → nat_lt z high ≡ false → keep m (record { number = n; bytes = piece }) (record { low = low; high = high }) z ≡ None
 unfolding keep
 keep_none m n piece low high z e t = or_none (m z) (if nat_le low z && nat_lt z high && nat_le n z then slice_get piece (z - n) else None) e (off (nat_le low z) (nat_lt z high) (nat_le n z) (slice_get piece (z - n)) t)
 
