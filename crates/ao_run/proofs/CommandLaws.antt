@@ -9,7 +9,7 @@ use Rattle.book_keys.specs.Times.{◌>>=◌, two_digits_at, time_of, time_of_dig
 use Rattle.book_answer.specs.declared.command.Command.{Command}
 use Rattle.book_answer.specs.declared.command.Command.TheVariants as command
 use Rattle.book_keys.specs.Lifetimes.{greatest_time}
-use Rattle.book_cmd_keys.specs.declared.plan.Plan.{Plan}
+use Rattle.book_keys.specs.declared.plan.Plan.{Plan}
 use Rattle.book_answer.specs.Commands.{command_of, keys_of, lint_command, storm_of, decimal_up_to}
 use Rattle.ao_run.specs.Gathered.{is_ready}
 

@@ -15,7 +15,7 @@ use Rattle.book_lines.specs.Said.{Said}
 use Rattle.book_lines.specs.Texts.{numbered_text, end_text}
 use Rattle.book_lines.specs.Words.{Taken, address_in, number_in, socket_in, nothing_in}
 use Rattle.book_base.specs.Results.{◌>>=◌}
-use Rattle.book_cmd_keys.specs.declared.plan.Plan.{Plan}
+use Rattle.book_keys.specs.declared.plan.Plan.{Plan}
 use Rattle.book_cmd_link.specs.LinkFiles.{are_two_of_a_family}
 
 -- the next word as an address of this one's family that differs from it (own)
@@ -43,7 +43,7 @@ lint_texts (answer.Gap e time) = codes "gap" ∷ end_text e ∷ decimal time ∷
 
 -- the judgement on the connection of a line (own)
 abbrev pub lint_said : List Table → Plan → Said Pair → LintAnswer
-lint_said tables plan said = lint_of tables said.value plan.lead plan.lag plan.from plan.to
+lint_said tables plan said = lint_of tables said.value plan
 
 -- the line of a connection (own)
 abbrev pub lint_line : List Table → Plan → Said Pair → List ℕ

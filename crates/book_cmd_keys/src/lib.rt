@@ -1,7 +1,5 @@
-//! What `keys` and `lint` write: the rows of a key file, and the judgement on it. Definitions, and the plain
-//! type that they and the code share. Our own format.
+//! What `keys` and `lint` write: the rows of a key file, and the judgement on it. Definitions. Our own
+//! format.
 #![tactic(auto)]
 
-mod plan;
-
-pub use plan::Plan;
+pub use book_keys::Plan;

@@ -3,6 +3,7 @@ use Rattle.std.proofs.Common.{◌≡◌, ◌↔◌, ℕ, zero, suc, ◌+◌, ◌
 use Rattle.std.proofs.lemmas.Bool.{cases_order}
 use Rattle.book_base.specs.declared.address.Pair.{Pair}
 use Rattle.book_keys.specs.declared.lint.LintAnswer.TheVariants as answer
+use Rattle.book_keys.specs.declared.plan.Plan.{Plan}
 use Rattle.book_keys.specs.Lifetimes.{contains, is_covered}
 use Rattle.book_keys.specs.Rows.{Row, matches, sends}
 use Rattle.book_keys.specs.Plans.{mirrored, Aligned, Reason, NoPeerRow, ShortAccept, Misaligned, misaligned_answer, first_misaligned, send_lifetimes, has_sendable, first_failing, gap, IsGap, lint_answer, lint_rows}
@@ -108,10 +109,13 @@ aligned_answer (Some m) g h a b c = absurd (cc)
 aligned_answer None (Some t) h a b c = absurd (cc)
 aligned_answer None None (Some t) a b c = absurd (cc)
 
-pub lint_aligned : (a b : List Row) (pair : Pair) (lead lag low high : ℕ) → (lint_rows a b pair lead lag low high ≡ answer.Aligned)
-    ↔ (Aligned a b pair lead lag × (gap a pair low high ≡ None) × (gap b (mirrored pair) low high ≡ None))
+pub lint_aligned : (a b : List Row) (pair : Pair) (plan : Plan) → (lint_rows a b pair plan ≡ answer.Aligned)
+    ↔ (Aligned a b pair plan.lead plan.lag × (gap a pair plan.from plan.to ≡ None) × (gap b (mirrored pair) plan.from plan.to ≡ None))
 unfolding lint_rows
-lint_aligned a b pair lead lag low high = (
-  λ e. let t = answer_aligned (first_misaligned a b pair lead lag) (gap a pair low high) (gap b (mirrored pair) low high) e in (none_misaligned a b pair lead lag t.0, t.1, t.2),
-  λ h. aligned_answer (first_misaligned a b pair lead lag) (gap a pair low high) (gap b (mirrored pair) low high) (aligned_has_none a b pair lead lag h.0) h.1 h.2,
-)
+lint_aligned a b pair plan =
+    let found = first_misaligned a b pair plan.lead plan.lag in
+    let at_a = gap a pair plan.from plan.to in
+    let at_b = gap b (mirrored pair) plan.from plan.to in (
+      λ e. let t = answer_aligned found at_a at_b e in (none_misaligned a b pair plan.lead plan.lag t.0, t.1, t.2),
+      λ h. aligned_answer found at_a at_b (aligned_has_none a b pair plan.lead plan.lag h.0) h.1 h.2,
+    )

@@ -46,30 +46,30 @@ any_weaker p q (r ∷ rs) e = by_test (p r) (q r) (λ f. any_weaker p q rs f) e
     by_test true c more e = refl
     by_test false c more e = more e
 
-none_unmet : (end : End) (n : ℕ) (rows others : List Row) (pair : Pair) (lead lag : ℕ) → first_unmet end n rows others pair lead lag ≡ None → AlignedFrom rows others pair lead lag
+none_unmet : (end : End) (n : ℕ) (rows others : List Row) (pair : Pair) (lead lag : ℕ) → first_unmet (unmet_reason others pair lead lag) end n rows ≡ None → AlignedFrom rows others pair lead lag
 none_unmet end n [] others pair lead lag e = tt
 none_unmet end n (r ∷ rs) others pair lead lag e =
-    let t = both_none (option_map (misaligned_by end n) (unmet_reason others pair lead lag r)) (first_unmet end (n + 1) rs others pair lead lag) e in (
+    let t = both_none (option_map (misaligned_by end n) (unmet_reason others pair lead lag r)) (first_unmet (unmet_reason others pair lead lag) end (n + 1) rs) e in (
       met (sends_for pair r) (list_any (accepts_from pair r) others) (list_any (accepts_throughout pair lead lag r) others) (no_reason end n (unmet_reason others pair lead lag r) t.0),
       none_unmet end (n + 1) rs others pair lead lag t.1,
     )
 
-aligned_none : (end : End) (n : ℕ) (rows others : List Row) (pair : Pair) (lead lag : ℕ) → AlignedFrom rows others pair lead lag → first_unmet end n rows others pair lead lag ≡ None
+aligned_none : (end : End) (n : ℕ) (rows others : List Row) (pair : Pair) (lead lag : ℕ) → AlignedFrom rows others pair lead lag → first_unmet (unmet_reason others pair lead lag) end n rows ≡ None
 aligned_none end n [] others pair lead lag h = refl
 aligned_none end n (r ∷ rs) others pair lead lag h =
     let here : unmet_reason others pair lead lag r ≡ None =
     without_reason (sends_for pair r) (list_any (accepts_from pair r) others) (list_any (accepts_throughout pair lead lag r) others) h.0 (any_weaker (accepts_from pair r) (outlasts lead lag r) others) in
-    neither_some (option_map (misaligned_by end n) (unmet_reason others pair lead lag r)) (first_unmet end (n + 1) rs others pair lead lag)
+    neither_some (option_map (misaligned_by end n) (unmet_reason others pair lead lag r)) (first_unmet (unmet_reason others pair lead lag) end (n + 1) rs)
     (ap (option_map (misaligned_by end n)) here) (aligned_none end (n + 1) rs others pair lead lag h.1)
 
 pub none_misaligned : (a b : List Row) (pair : Pair) (lead lag : ℕ) → first_misaligned a b pair lead lag ≡ None → Aligned a b pair lead lag
 unfolding first_misaligned
 none_misaligned a b pair lead lag e =
-    let t = both_none (first_unmet A 1 a b pair lead lag) (first_unmet B 1 b a (mirrored pair) lead lag) e in
+    let t = both_none (first_unmet (unmet_reason b pair lead lag) A 1 a) (first_unmet (unmet_reason a (mirrored pair) lead lag) B 1 b) e in
     (none_unmet A 1 a b pair lead lag t.0, none_unmet B 1 b a (mirrored pair) lead lag t.1)
 
 pub aligned_has_none : (a b : List Row) (pair : Pair) (lead lag : ℕ) → Aligned a b pair lead lag → first_misaligned a b pair lead lag ≡ None
 unfolding first_misaligned
 aligned_has_none a b pair lead lag h =
-    neither_some (first_unmet A 1 a b pair lead lag) (first_unmet B 1 b a (mirrored pair) lead lag)
+    neither_some (first_unmet (unmet_reason b pair lead lag) A 1 a) (first_unmet (unmet_reason a (mirrored pair) lead lag) B 1 b)
     (aligned_none A 1 a b pair lead lag h.0) (aligned_none B 1 b a (mirrored pair) lead lag h.1)

@@ -14,6 +14,7 @@ use Rattle.book_segments.specs.Bytes.{same_bytes}
 use Rattle.book_keys.specs.declared.lifetime.Lifetime.{Lifetime}
 use Rattle.book_keys.specs.declared.lint.LintAnswer.{LintAnswer}
 use Rattle.book_keys.specs.declared.lint.LintAnswer.TheVariants as answer
+use Rattle.book_keys.specs.declared.plan.Plan.{Plan}
 use Rattle.book_keys.specs.Choices.{accept_row}
 use Rattle.book_keys.specs.Lifetimes.{greatest_time, contains}
 use Rattle.book_keys.specs.Rows.{Row, Table, has_address, matches, receives, sends_for, sendable}
@@ -96,19 +97,19 @@ unmet_reason others pair lead lag r =
 abbrev pub misaligned_by : End → ℕ → Reason → Misaligned
 misaligned_by end n reason = record { end = end; row = n; reason = reason }
 
--- the first row of an end that isn't met at the other end, the first row having number n (own)
-abbrev pub first_unmet :
-    End → ℕ → (rows others : List Row) → Pair → (lead lag : ℕ) → Option Misaligned
-first_unmet end n [] others pair lead lag = None
-first_unmet end n (r ∷ rs) others pair lead lag =
-    option_or (option_map (misaligned_by end n) (unmet_reason others pair lead lag r))
-    (first_unmet end (n + 1) rs others pair lead lag)
+-- the first row of an end that isn't met, by the reasons why rows aren't, the first row having
+-- number n (own)
+abbrev pub first_unmet : (Row → Option Reason) → End → ℕ → List Row → Option Misaligned
+first_unmet reason end n [] = None
+first_unmet reason end n (r ∷ rs) =
+    option_or (option_map (misaligned_by end n) (reason r)) (first_unmet reason end (n + 1) rs)
 
 -- the first row that isn't met at the other end, the rows of end a first (own)
 unfoldable pub first_misaligned :
     (a_rows b_rows : List Row) → Pair → (lead lag : ℕ) → Option Misaligned
 first_misaligned a b pair lead lag =
-    option_or (first_unmet A 1 a b pair lead lag) (first_unmet B 1 b a (mirrored pair) lead lag)
+    option_or (first_unmet (unmet_reason b pair lead lag) A 1 a)
+    (first_unmet (unmet_reason a (mirrored pair) lead lag) B 1 b)
 
 -- the send lifetimes of the rows that send for the pair (RFC 7210, section 2)
 abbrev pub send_lifetimes : List Row → Pair → List Lifetime
@@ -155,11 +156,11 @@ lint_answer None (Some time) gap_b = answer.Gap A time
 lint_answer None None (Some time) = answer.Gap B time
 lint_answer None None None = answer.Aligned
 
--- the judgement on the tables of the two ends of a pair, end a being the local one (own)
-unfoldable pub lint_rows : (a_rows b_rows : List Row) → Pair → (lead lag low high : ℕ) → LintAnswer
-lint_rows a b pair lead lag low high =
-    lint_answer (first_misaligned a b pair lead lag) (gap a pair low high)
-    (gap b (mirrored pair) low high)
+-- the judgement on the tables of the two ends of a pair by a plan, end a being the local one (own)
+unfoldable pub lint_rows : (a_rows b_rows : List Row) → Pair → Plan → LintAnswer
+lint_rows a b pair plan =
+    lint_answer (first_misaligned a b pair plan.lead plan.lag) (gap a pair plan.from plan.to)
+    (gap b (mirrored pair) plan.from plan.to)
 
 -- the rows of a table, where there is one, and else none (own)
 abbrev pub rows_of_table : Option Table → List Row
@@ -170,8 +171,7 @@ rows_of_table (Some t) = t.rows
 abbrev pub rows_at : List Table → Address → List Row
 rows_at tables address = rows_of_table (find (has_address address) tables)
 
--- the judgement on a connection by the tables of a key file (own)
-abbrev pub lint_of : List Table → Pair → (lead lag low high : ℕ) → LintAnswer
-lint_of tables pair lead lag low high =
-    lint_rows (rows_at tables pair.local.address) (rows_at tables pair.remote.address)
-    pair lead lag low high
+-- the judgement on a connection by the tables of a key file and a plan (own)
+abbrev pub lint_of : List Table → Pair → Plan → LintAnswer
+lint_of tables pair plan =
+    lint_rows (rows_at tables pair.local.address) (rows_at tables pair.remote.address) pair plan

@@ -6,6 +6,7 @@ ghost use Rattle.book_base.specs.declared.address.Pair.{Pair};
 ghost use Rattle.book_keys.specs.Choices.{send_row};
 ghost use Rattle.book_keys.specs.Coordination.{Sending, choose};
 ghost use Rattle.book_keys.specs.declared.lint.LintAnswer.TheVariants as answer;
+ghost use Rattle.book_keys.specs.declared.plan.Plan.{Plan};
 ghost use Rattle.book_keys.specs.Lifetimes.{greatest_time, is_covered};
 ghost use Rattle.book_keys.specs.Overlaps.{IsValid};
 ghost use Rattle.book_keys.specs.Plans.{mirrored, AlignedFrom, Aligned, IsFoundAt, first_misaligned, gap, IsGap, has_sendable, send_lifetimes, lint_rows};
@@ -51,6 +52,7 @@ pub fn gap_is_least()
 /// The judgement on two tables is `Aligned` exactly where each is aligned to the other and neither
 /// has a gap.
 pub fn lint_is_aligned()
-    ensures { (a b : List Row) (pair : Pair) (lead lag low high : ℕ) → (lint_rows a b pair lead lag low high ≡ answer.Aligned)
-        ↔ (Aligned a b pair lead lag × (gap a pair low high ≡ None) × (gap b (mirrored pair) low high ≡ None)) }
+    ensures { (a b : List Row) (pair : Pair) (plan : Plan) → (lint_rows a b pair plan ≡ answer.Aligned)
+        ↔ (Aligned a b pair plan.lead plan.lag × (gap a pair plan.from plan.to ≡ None)
+        × (gap b (mirrored pair) plan.from plan.to ≡ None)) }
 {}

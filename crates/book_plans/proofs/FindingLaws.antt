@@ -53,10 +53,10 @@ reason_first end n (Some NoPeerRow) fs later more h = refl
 reason_first end n (Some ShortAccept) fs later more h = refl
 
 unmet_first : (end : End) (n : ℕ) (rows others : List Row) (pair : Pair) (lead lag : ℕ) (more : LintAnswer)
-    → or_answer (unmet_findings (unmet_reason others pair lead lag) end n rows) more ≡ or_unmet (first_unmet end n rows others pair lead lag) more
+    → or_answer (unmet_findings (unmet_reason others pair lead lag) end n rows) more ≡ or_unmet (first_unmet (unmet_reason others pair lead lag) end n rows) more
 unmet_first end n [] others pair lead lag more = refl
 unmet_first end n (r ∷ rs) others pair lead lag more =
-    reason_first end n (unmet_reason others pair lead lag r) (unmet_findings (unmet_reason others pair lead lag) end (n + 1) rs) (first_unmet end (n + 1) rs others pair lead lag) more
+    reason_first end n (unmet_reason others pair lead lag r) (unmet_findings (unmet_reason others pair lead lag) end (n + 1) rs) (first_unmet (unmet_reason others pair lead lag) end (n + 1) rs) more
     (unmet_first end (n + 1) rs others pair lead lag more)
 
 lengthened_first : (end : End) (time : ℕ) (ss : List Span) (more : LintAnswer) → or_answer (map (gap_finding end) (lengthened time ss)) more ≡ answer.Gap end time
@@ -98,7 +98,7 @@ last_answer (finding.ShortAccept end n ∷ fs) = refl
 last_answer (finding.Gap end from to ∷ fs) = refl
 
 pub first_is_lint : (a b : List Row) (pair : Pair) (lead lag low high : ℕ)
-    → first_answer (findings a b pair lead lag low high) ≡ lint_rows a b pair lead lag low high
+    → first_answer (findings a b pair lead lag low high) ≡ lint_rows a b pair (record { lead = lead; lag = lag; from = low; to = high })
 unfolding findings lint_rows first_misaligned
 first_is_lint a b pair lead lag low high =
     let one = unmet_findings (unmet_reason b pair lead lag) A 1 a in
@@ -109,10 +109,10 @@ first_is_lint a b pair lead lag low high =
     last_answer four ∙ gap_first B b (mirrored pair) low high answer.Aligned in
     let at_three : first_answer (three ++ four) ≡ or_gap A (gap a pair low high) (or_gap B (gap b (mirrored pair) low high) answer.Aligned) =
     in_front three four ∙ ap (or_answer three) at_four ∙ gap_first A a pair low high _ in
-    let at_two : first_answer (two ++ (three ++ four)) ≡ or_unmet (first_unmet B 1 b a (mirrored pair) lead lag) (or_gap A (gap a pair low high) (or_gap B (gap b (mirrored pair) low high) answer.Aligned)) =
+    let at_two : first_answer (two ++ (three ++ four)) ≡ or_unmet (first_unmet (unmet_reason a (mirrored pair) lead lag) B 1 b) (or_gap A (gap a pair low high) (or_gap B (gap b (mirrored pair) low high) answer.Aligned)) =
     in_front two (three ++ four) ∙ ap (or_answer two) at_three ∙ unmet_first B 1 b a (mirrored pair) lead lag _ in
     in_front one (two ++ (three ++ four)) ∙ ap (or_answer one) at_two ∙ unmet_first A 1 a b pair lead lag _
-    ∙ by_four (first_unmet A 1 a b pair lead lag) (first_unmet B 1 b a (mirrored pair) lead lag) (gap a pair low high) (gap b (mirrored pair) low high)
+    ∙ by_four (first_unmet (unmet_reason b pair lead lag) A 1 a) (first_unmet (unmet_reason a (mirrored pair) lead lag) B 1 b) (gap a pair low high) (gap b (mirrored pair) low high)
 
 none_is_aligned : (fs : List Finding) → (fs ≡ []) ↔ (first_answer fs ≡ answer.Aligned)
 none_is_aligned [] = (λ e. refl, λ e. refl)
@@ -121,7 +121,7 @@ none_is_aligned (finding.ShortAccept end n ∷ fs) = (λ e. absurd (cc), λ e. a
 none_is_aligned (finding.Gap end from to ∷ fs) = (λ e. absurd (cc), λ e. absurd (cc))
 
 pub none_exactly : (a b : List Row) (pair : Pair) (lead lag low high : ℕ)
-    → (findings a b pair lead lag low high ≡ []) ↔ (lint_rows a b pair lead lag low high ≡ answer.Aligned)
+    → (findings a b pair lead lag low high ≡ []) ↔ (lint_rows a b pair (record { lead = lead; lag = lag; from = low; to = high }) ≡ answer.Aligned)
 none_exactly a b pair lead lag low high =
     let fs = findings a b pair lead lag low high in
     let same = first_is_lint a b pair lead lag low high in

@@ -279,26 +279,26 @@ lag_greatest a b pair lead at_a at_b = is_margin (AlignedAtLag a b pair lead) (l
 
 pub lead_judged : (tables : List Table) (pair : Pair) (lead lag low high : ℕ)
     → AreOrdered (rows_at tables pair.local.address) → AreOrdered (rows_at tables pair.remote.address)
-    → lint_of tables pair lead lag low high ≡ answer.Aligned
+    → lint_of tables pair (record { lead = lead; lag = lag; from = low; to = high }) ≡ answer.Aligned
     → IsMargin (SaysAlignedAtLead tables pair lag low high) (lead_margin_of tables pair lag)
 lead_judged tables pair lead lag low high at_a at_b says =
     let a = rows_at tables pair.local.address in
     let b = rows_at tables pair.remote.address in
-    let gaps = (lint_aligned a b pair lead lag low high).0 says in
+    let gaps = (lint_aligned a b pair (record { lead = lead; lag = lag; from = low; to = high })).0 says in
     is_margin (SaysAlignedAtLead tables pair lag low high) (lead_margin_of tables pair lag) (λ n. (
-      λ w. (lint_aligned a b pair n lag low high).1 ((lead_aligned a b pair n lag at_a at_b).0 w, gaps.1, gaps.2),
-      λ s. (lead_aligned a b pair n lag at_a at_b).1 ((lint_aligned a b pair n lag low high).0 s).0,
+      λ w. (lint_aligned a b pair (record { lead = n; lag = lag; from = low; to = high })).1 ((lead_aligned a b pair n lag at_a at_b).0 w, gaps.1, gaps.2),
+      λ s. (lead_aligned a b pair n lag at_a at_b).1 ((lint_aligned a b pair (record { lead = n; lag = lag; from = low; to = high })).0 s).0,
     ))
 
 pub lag_judged : (tables : List Table) (pair : Pair) (lead lag low high : ℕ)
     → AreOrdered (rows_at tables pair.local.address) → AreOrdered (rows_at tables pair.remote.address)
-    → lint_of tables pair lead lag low high ≡ answer.Aligned
+    → lint_of tables pair (record { lead = lead; lag = lag; from = low; to = high }) ≡ answer.Aligned
     → IsMargin (SaysAlignedAtLag tables pair lead low high) (lag_margin_of tables pair lead)
 lag_judged tables pair lead lag low high at_a at_b says =
     let a = rows_at tables pair.local.address in
     let b = rows_at tables pair.remote.address in
-    let gaps = (lint_aligned a b pair lead lag low high).0 says in
+    let gaps = (lint_aligned a b pair (record { lead = lead; lag = lag; from = low; to = high })).0 says in
     is_margin (SaysAlignedAtLag tables pair lead low high) (lag_margin_of tables pair lead) (λ n. (
-      λ w. (lint_aligned a b pair lead n low high).1 ((lag_aligned a b pair lead n at_a at_b).0 w, gaps.1, gaps.2),
-      λ s. (lag_aligned a b pair lead n at_a at_b).1 ((lint_aligned a b pair lead n low high).0 s).0,
+      λ w. (lint_aligned a b pair (record { lead = lead; lag = n; from = low; to = high })).1 ((lag_aligned a b pair lead n at_a at_b).0 w, gaps.1, gaps.2),
+      λ s. (lag_aligned a b pair lead n at_a at_b).1 ((lint_aligned a b pair (record { lead = lead; lag = n; from = low; to = high })).0 s).0,
     ))

@@ -137,9 +137,9 @@ AlignedAtLag a b pair lead lag = Aligned a b pair lead lag
 -- at this lag the judgement is that a connection is aligned with the lead (own)
 abbrev pub SaysAlignedAtLead : List Table → Pair → (lag low high lead : ℕ) → Type 0
 SaysAlignedAtLead tables pair lag low high lead =
-    lint_of tables pair lead lag low high ≡ answer.Aligned
+    lint_of tables pair (record { lead = lead; lag = lag; from = low; to = high }) ≡ answer.Aligned
 
 -- at this lead the judgement is that a connection is aligned with the lag (own)
 abbrev pub SaysAlignedAtLag : List Table → Pair → (lead low high lag : ℕ) → Type 0
 SaysAlignedAtLag tables pair lead low high lag =
-    lint_of tables pair lead lag low high ≡ answer.Aligned
+    lint_of tables pair (record { lead = lead; lag = lag; from = low; to = high }) ≡ answer.Aligned

@@ -25,11 +25,11 @@ pub fn margins_are_greatest()
 pub fn lint_holds_within_margins()
     ensures lead { (tables : List Table) (pair : Pair) (lead lag low high : ℕ)
         → AreOrdered (rows_at tables pair.local.address) → AreOrdered (rows_at tables pair.remote.address)
-        → lint_of tables pair lead lag low high ≡ answer.Aligned
+        → lint_of tables pair (record { lead = lead; lag = lag; from = low; to = high }) ≡ answer.Aligned
         → IsMargin (SaysAlignedAtLead tables pair lag low high) (lead_margin_of tables pair lag) }
     ensures lag { (tables : List Table) (pair : Pair) (lead lag low high : ℕ)
         → AreOrdered (rows_at tables pair.local.address) → AreOrdered (rows_at tables pair.remote.address)
-        → lint_of tables pair lead lag low high ≡ answer.Aligned
+        → lint_of tables pair (record { lead = lead; lag = lag; from = low; to = high }) ≡ answer.Aligned
         → IsMargin (SaysAlignedAtLag tables pair lead low high) (lag_margin_of tables pair lead) }
 {}
 
@@ -42,8 +42,12 @@ pub fn alike_rows_accept()
 /// There is no finding exactly where the judgement is `Aligned`, and of the findings the first is what
 /// it says.
 pub fn findings_are_of_lint()
-    ensures first { (a b : List Row) (pair : Pair) (lead lag low high : ℕ) → first_answer (findings a b pair lead lag low high) ≡ lint_rows a b pair lead lag low high }
-    ensures none { (a b : List Row) (pair : Pair) (lead lag low high : ℕ) → (findings a b pair lead lag low high ≡ []) ↔ (lint_rows a b pair lead lag low high ≡ answer.Aligned) }
+    ensures first { (a b : List Row) (pair : Pair) (lead lag low high : ℕ)
+        → first_answer (findings a b pair lead lag low high)
+        ≡ lint_rows a b pair (record { lead = lead; lag = lag; from = low; to = high }) }
+    ensures none { (a b : List Row) (pair : Pair) (lead lag low high : ℕ)
+        → (findings a b pair lead lag low high ≡ [])
+        ↔ (lint_rows a b pair (record { lead = lead; lag = lag; from = low; to = high }) ≡ answer.Aligned) }
 {}
 
 /// A row that accepts for as long as before, and as long as another row wants, accepts throughout what

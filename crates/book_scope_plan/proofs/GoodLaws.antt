@@ -2,7 +2,7 @@
 use Rattle.std.proofs.Common.{◌≡◌, ◌↔◌, ◌++◌, ◌&&◌, Bool, true, false, List, [], ◌∷◌, Some, refl, ap, ◌∙◌}
 use Rattle.std.specs.Prelude.{is_some}
 use Rattle.book_base.specs.declared.address.Pair.{Pair}
-use Rattle.book_cmd_keys.specs.declared.plan.Plan.{Plan}
+use Rattle.book_keys.specs.declared.plan.Plan.{Plan}
 use Rattle.book_keys.specs.declared.lint.LintAnswer.TheVariants as answer
 use Rattle.book_keys.specs.Plans.{lint_of, rows_at}
 use Rattle.book_keys.specs.Rows.{Table}
@@ -32,7 +32,7 @@ and_all x y z a b c = rw (a, b, c) refl
 
 module _ (tables : List Table) (plan : Plan) (pair : Pair) where
   abbrev is_aligned : Type 0
-  is_aligned = lint_of tables pair plan.lead plan.lag plan.from plan.to ≡ answer.Aligned
+  is_aligned = lint_of tables pair plan ≡ answer.Aligned
 
   abbrev exactly : (plan_findings tables plan pair ≡ []) ↔ is_aligned
   exactly = none_exactly (rows_at tables pair.local.address) (rows_at tables pair.remote.address) pair plan.lead plan.lag plan.from plan.to

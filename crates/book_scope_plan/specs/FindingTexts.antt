@@ -11,7 +11,7 @@ use Rattle.book_plans.specs.declared.finding.Finding.{Finding}
 use Rattle.book_plans.specs.declared.finding.Finding.TheVariants as finding
 use Rattle.book_plans.specs.Differences.{differences, is_alike}
 use Rattle.book_plans.specs.Findings.{wanted_accepting}
-use Rattle.book_cmd_keys.specs.declared.plan.Plan.{Plan}
+use Rattle.book_keys.specs.declared.plan.Plan.{Plan}
 use Rattle.book_scope_texts.specs.Instants.{instant_text, key_time_text}
 use Rattle.book_scope_plan.specs.CalendarTexts.{side_of, row_numbered}
 

@@ -1,7 +1,7 @@
 //! Theorems about the texts of plans, as clauses of functions that do nothing.
 ghost use Rattle.std.specs.Prelude.{◌≡◌, ◌↔◌, ◌++◌, true, List, Some, is_some};
 ghost use Rattle.book_base.specs.declared.address.Pair.{Pair};
-ghost use Rattle.book_cmd_keys.specs.declared.plan.Plan.{Plan};
+ghost use Rattle.book_keys.specs.declared.plan.Plan.{Plan};
 ghost use Rattle.book_keys.specs.declared.lint.LintAnswer.TheVariants as answer;
 ghost use Rattle.book_keys.specs.Plans.{lint_of, rows_at};
 ghost use Rattle.book_keys.specs.Rows.{Table};
@@ -15,7 +15,7 @@ pub fn aligned_plans_are_of_lint()
     ensures { (tables : List Table) (plan : Plan) (pair : Pair)
         → (is_good_plan tables plan pair ≡ true)
         ↔ ((is_some (node_with tables pair.local.address) ≡ true) × (is_some (node_with tables pair.remote.address) ≡ true)
-        × (lint_of tables pair plan.lead plan.lag plan.from plan.to ≡ answer.Aligned)) }
+        × (lint_of tables pair plan ≡ answer.Aligned)) }
 {}
 
 /// Of a connection whose plan is good the text is its name, its calendar and the line that says `aligned`

@@ -11,7 +11,7 @@ use Rattle.book_base.specs.Results.{◌>>=◌}
 use Rattle.book_lines.specs.Said.{Said, at_number, said_by}
 use Rattle.text_lines.specs.Readings.{Answers, Fails}
 use Rattle.text_lines.proofs.SaidLaws.{said_few, same_fault}
-use Rattle.book_cmd_keys.specs.declared.plan.Plan.{Plan}
+use Rattle.book_keys.specs.declared.plan.Plan.{Plan}
 use Rattle.book_cmd_keys.specs.LintTexts.{lint_pair_of, has_misfit, is_aligned, lint_line, lint_said, lint_text}
 use Rattle.cmd_keys.specs.declared.judged.Judged.{Judged}
 use Rattle.cmd_keys.specs.Judgements.{judged_from}

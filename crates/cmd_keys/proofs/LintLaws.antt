@@ -7,7 +7,7 @@ use Rattle.book_lines.specs.declared.text_fault.TextFault.TheVariants as text_fa
 use Rattle.book_lines.specs.Said.{Said, said_in}
 use Rattle.book_base.specs.Results.{◌>>=◌}
 use Rattle.text_lines.specs.Readings.{Fails}
-use Rattle.book_cmd_keys.specs.declared.plan.Plan.{Plan}
+use Rattle.book_keys.specs.declared.plan.Plan.{Plan}
 use Rattle.book_answer.specs.Answers.{done, if_read, linted}
 use Rattle.book_cmd_keys.specs.LintTexts.{lint_pair_of, has_misfit, lint_text}
 use Rattle.command_report.specs.Reporting.{Stopped, stop_of}

@@ -5,7 +5,7 @@ use Rattle.book_keys.specs.Rows.{Table}
 use Rattle.book_lines.specs.declared.text_fault.TextFault.{TextFault}
 use Rattle.book_lines.specs.Said.{Said, said_in}
 use Rattle.book_base.specs.Results.{◌>>=◌}
-use Rattle.book_cmd_keys.specs.declared.plan.Plan.{Plan}
+use Rattle.book_keys.specs.declared.plan.Plan.{Plan}
 use Rattle.book_cmd_keys.specs.LintTexts.{lint_pair_of, has_misfit, lint_text}
 use Rattle.cmd_keys.specs.declared.judged.Judged.{Judged}
 

@@ -40,9 +40,9 @@ gap_told ls rows pair low high o same some none = sym (is_gap rows pair low high
     told (Some time) first none = (first.above, first.below, sendable_at time false first.free, λ t a b. sendable_at t true (first.least t a b))
 
 pub aligned_exactly : (a b : List Row) (pair : Pair) (lead lag low high : ℕ)
-    → (lint_rows a b pair lead lag low high ≡ answer.Aligned) ↔ CarriesThrough a b pair lead lag low high
+    → (lint_rows a b pair (record { lead = lead; lag = lag; from = low; to = high }) ≡ answer.Aligned) ↔ CarriesThrough a b pair lead lag low high
 aligned_exactly a b pair lead lag low high =
-    let law = lint_aligned a b pair lead lag low high in
+    let law = lint_aligned a b pair (record { lead = lead; lag = lag; from = low; to = high }) in
     let here = gap_exactly a pair low high None in
     let there = gap_exactly b (mirrored pair) low high None in (
       λ e. let t = law.0 e in record { taken_at_b = t.0.0; taken_at_a = t.0.1; keyed_at_a = here.0 t.1; keyed_at_b = there.0 t.2 },

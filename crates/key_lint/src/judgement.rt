@@ -28,7 +28,7 @@ fn rows_at<'a>(tables: &'a Tables, address: &Address) -> &'a [Row]
 /// The judgement: the first row that isn't met, of A and then of B, before a gap of A and then of B.
 #[tactic(auto, unfolding(book_keys::specs::Plans::lint_rows, book_keys::specs::Plans::first_misaligned))]
 fn judge(tables: &Tables, pair: &Pair, lead: u64, lag: u64, from: u64, to: u64) -> LintAnswer
-    ensures { result ≡ lint_of tables.now pair.now lead lag from to }
+    ensures { result ≡ lint_of tables.now pair.now (record { lead = lead; lag = lag; from = from; to = to }) }
 {
     let there = Way {
         rows: rows_at(tables, &pair.local.address),
@@ -66,7 +66,7 @@ fn judge(tables: &Tables, pair: &Pair, lead: u64, lag: u64, from: u64, to: u64) 
 /// a rollover through, the premise of the laws that no segment is refused for its key and that an end
 /// always has one.
 pub fn lint(tables: &Tables, pair: &Pair, lead: u64, lag: u64, from: u64, to: u64) -> LintAnswer
-    ensures answer { result ≡ lint_of tables.now pair.now lead lag from to }
+    ensures answer { result ≡ lint_of tables.now pair.now (record { lead = lead; lag = lag; from = from; to = to }) }
     ensures carries_through { (result ≡ answer.Aligned)
         ↔ CarriesThrough (rows_at tables.now pair.now.local.address) (rows_at tables.now pair.now.remote.address) pair.now lead lag from to }
 {

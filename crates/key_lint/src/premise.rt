@@ -15,6 +15,6 @@ ghost use Rattle.key_lint.specs.CarriesThrough.{CarriesThrough};
 /// the range an end has a row to send with (`never_keyless`).
 pub fn aligned_carries_through()
     ensures { (tables : List Table) (pair : Pair) (lead lag low high : ℕ) →
-        (lint_of tables pair lead lag low high ≡ answer.Aligned)
+        (lint_of tables pair (record { lead = lead; lag = lag; from = low; to = high }) ≡ answer.Aligned)
         ↔ CarriesThrough (rows_at tables pair.local.address) (rows_at tables pair.remote.address) pair lead lag low high }
 {}

@@ -2,7 +2,7 @@
 ghost use Rattle.std.specs.Prelude.{◌≡◌, ◌==◌, ◌&&◌, ◌≤◌, length, map, option_map, take};
 ghost use Rattle.std.specs.List.{list_any};
 ghost use Rattle.book_segments.specs.Bytes.{same_bytes};
-ghost use Rattle.book_keys.specs.Plans.{mirrored, same_flag, same_key, accepts_from, outlasts, accepts_throughout};
+ghost use Rattle.book_keys.specs.Plans.{mirrored, same_flag, same_key, accepts_from, outlasts, accepts_throughout, unmet_reason};
 ghost use Rattle.book_base.specs.Algorithms.{same_algorithm};
 ghost use Rattle.book_keys.specs.Plans.{first_unmet, misaligned_answer};
 ghost use Rattle.key_lint.specs.Unmet.{hears, unmet_answer};
@@ -188,7 +188,8 @@ impl<'a> Way<'a> {
     pub(crate) fn first_unmet(&self, end: End) -> Option<LintAnswer>
         requires rows { length self.now.rows.now ≤ 64 }
         requires others { length self.now.others.now ≤ 64 }
-        ensures { result ≡ option_map misaligned_answer (first_unmet end 1 self.now.rows.now self.now.others.now self.now.pair self.now.lead self.now.lag) }
+        ensures { result ≡ option_map misaligned_answer
+            (first_unmet (unmet_reason self.now.others.now self.now.pair self.now.lead self.now.lag) end 1 self.now.rows.now) }
     {
         let hearing = self.hearing();
         for (i, row) in self.rows.iter().enumerate() {

@@ -142,8 +142,8 @@ pub fn findings(
     to: u64,
 ) -> Result<Vec<Finding>, AllocError>
     ensures value { IfOk result (λ v. v.items ≡ findings_of tables.now pair.now lead lag from to) }
-    ensures first { IfOk result (λ v. first_answer v.items ≡ lint_of tables.now pair.now lead lag from to) }
-    ensures none { IfOk result (λ v. (v.items ≡ []) ↔ (lint_of tables.now pair.now lead lag from to ≡ answer.Aligned)) }
+    ensures first { IfOk result (λ v. first_answer v.items ≡ lint_of tables.now pair.now (record { lead = lead; lag = lag; from = from; to = to })) }
+    ensures none { IfOk result (λ v. (v.items ≡ []) ↔ (lint_of tables.now pair.now (record { lead = lead; lag = lag; from = from; to = to }) ≡ answer.Aligned)) }
 {
     let there = Way {
         rows: rows_at(tables, &pair.local.address),

@@ -11,7 +11,7 @@ use Rattle.book_base.specs.Results.{◌>>=◌}
 use Rattle.book_lines.specs.Said.{Said, at_number, said_by}
 use Rattle.text_lines.specs.Readings.{Answers, Fails}
 use Rattle.text_lines.proofs.SaidLaws.{said_few, same_fault}
-use Rattle.book_cmd_keys.specs.declared.plan.Plan.{Plan}
+use Rattle.book_keys.specs.declared.plan.Plan.{Plan}
 use Rattle.book_scope_plan.specs.Connections.{plan_pair_of}
 use Rattle.book_scope_plan.specs.PlanTexts.{connection_text, has_wrong_plan, is_good_plan, plans_text}
 use Rattle.scope_plan.specs.declared.planned.Planned.{Planned}

@@ -7,7 +7,7 @@ use Rattle.book_lines.specs.declared.text_fault.TextFault.TheVariants as text_fa
 use Rattle.book_lines.specs.Said.{Said, said_in}
 use Rattle.book_base.specs.Results.{◌>>=◌}
 use Rattle.text_lines.specs.Readings.{Fails}
-use Rattle.book_cmd_keys.specs.declared.plan.Plan.{Plan}
+use Rattle.book_keys.specs.declared.plan.Plan.{Plan}
 use Rattle.book_answer.specs.Answers.{done, if_read}
 use Rattle.book_scope_plan.specs.Connections.{plan_pair_of}
 use Rattle.book_scope_plan.specs.PlanTexts.{has_wrong_plan, plans_text}

@@ -3,7 +3,7 @@ use Rattle.std.specs.Prelude.{ℕ, ◌++◌, ◌||◌, Bool, List, Result, Ok, E
 use Rattle.book_base.specs.declared.address.Pair.{Pair}
 use Rattle.book_base.specs.Results.{◌>>=◌}
 use Rattle.book_answer.specs.Answers.{Answer, done}
-use Rattle.book_cmd_keys.specs.declared.plan.Plan.{Plan}
+use Rattle.book_keys.specs.declared.plan.Plan.{Plan}
 use Rattle.book_keys.specs.Rows.{Table}
 use Rattle.book_lines.specs.declared.text_fault.TextFault.{TextFault}
 use Rattle.book_lines.specs.Said.{Said, said_in}
