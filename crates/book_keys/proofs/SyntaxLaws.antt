@@ -19,7 +19,7 @@ use Rattle.book_keys.specs.declared.fault.Column.TheVariants as column
 use Rattle.book_keys.specs.declared.groups.Ids.{Ids}
 use Rattle.book_keys.specs.declared.groups.Terms.{Terms}
 use Rattle.book_keys.specs.declared.groups.Ports.{Ports}
-use Rattle.book_keys.specs.Columns.{count, only, row_keys, text_of, is_word, is_admin, id_of_text, ids_of, peer_of, peer_at, peers_of, is_absent_or, options_flag_of, protocol_of, kdf_of, algorithm_at, master_of, sized, direction_of, time_or, lifetime_of, terms_of, port_of, ports_of, columns_of, row_of}
+use Rattle.book_keys.specs.Columns.{count, only, row_keys, text_of, is_word, is_admin, id_of_text, ids_of, peer_of, peer_at, peers_of, is_absent_or, options_flag_of, protocol_of, kdf_of, algorithm_at, master_of, sized, direction_of, time_or, lifetime_of, TimeCell, sending_start, sending_end, accepting_start, accepting_end, terms_of, port_of, ports_of, columns_of, row_of}
 use Rattle.book_keys.specs.Nodes.{node_name_of, node_address_of, rows_of, fields_of, node_of, nodes_from, overlap_of, overlap_in, unless, nodes_of, tables_of_document, document_of, tables_of}
 
 -- another answer than a fault of syntax
@@ -107,23 +107,23 @@ module _ (n r : ℕ) (ms : Members) where
   master_parsed None = field_parsed n r column.Key
   master_parsed (Some text) = or_parsed (sized (bytes_of_hex text)) n r column.Key
 
-  lifetime_parsed : (start end : List ℕ) (start_column end_column : Column) → Parsed (lifetime_of n r start end start_column end_column ms)
+  lifetime_parsed : (start end : TimeCell) → Parsed (lifetime_of n r start end ms)
   unfolding lifetime_of
-  lifetime_parsed start end start_column end_column =
-      let from = time_or 0 (get_member start ms) in
-      let to = time_or greatest_time (get_member end ms) in
-      let made : ℕ → ℕ → Result Lifetime TableFault = λ first last. cond (ltb last first) (Err (fault.Field n r end_column)) (Ok (record { first = first; last = last })) in
-      then_parsed (or_fault from (fault.Field n r start_column)) (λ first. or_fault to (fault.Field n r end_column) >>= made first) (or_parsed from n r start_column) (λ first.
-      then_parsed (or_fault to (fault.Field n r end_column)) (made first) (or_parsed to n r end_column) (λ last.
-      if_parsed (ltb last first) (Err (fault.Field n r end_column)) (Ok (record { first = first; last = last })) (field_parsed n r end_column) (ok_parsed (record { first = first; last = last }))))
+  lifetime_parsed start end =
+      let from = time_or 0 (get_member start.name ms) in
+      let to = time_or greatest_time (get_member end.name ms) in
+      let made : ℕ → ℕ → Result Lifetime TableFault = λ first last. cond (ltb last first) (Err (fault.Field n r end.column)) (Ok (record { first = first; last = last })) in
+      then_parsed (or_fault from (fault.Field n r start.column)) (λ first. or_fault to (fault.Field n r end.column) >>= made first) (or_parsed from n r start.column) (λ first.
+      then_parsed (or_fault to (fault.Field n r end.column)) (made first) (or_parsed to n r end.column) (λ last.
+      if_parsed (ltb last first) (Err (fault.Field n r end.column)) (Ok (record { first = first; last = last })) (field_parsed n r end.column) (ok_parsed (record { first = first; last = last }))))
 
   terms_parsed : Parsed (terms_of n r ms)
   unfolding terms_of
   terms_parsed =
       let direction = option_and_then direction_of (text_of (codes "Direction") ms) in
       let made : Direction → Lifetime → Lifetime → Terms = λ x y z. record { direction = x; sending = y; accepting = z } in
-      three (or_fault direction (fault.Field n r column.Direction)) (lifetime_of n r (codes "SendLifetimeStart") (codes "SendLifetimeEnd") column.SendLifetimeStart column.SendLifetimeEnd ms) (lifetime_of n r (codes "AcceptLifetimeStart") (codes "AcceptLifetimeEnd") column.AcceptLifetimeStart column.AcceptLifetimeEnd ms)
-      made (or_parsed direction n r column.Direction) (lifetime_parsed (codes "SendLifetimeStart") (codes "SendLifetimeEnd") column.SendLifetimeStart column.SendLifetimeEnd) (lifetime_parsed (codes "AcceptLifetimeStart") (codes "AcceptLifetimeEnd") column.AcceptLifetimeStart column.AcceptLifetimeEnd)
+      three (or_fault direction (fault.Field n r column.Direction)) (lifetime_of n r sending_start sending_end ms) (lifetime_of n r accepting_start accepting_end ms)
+      made (or_parsed direction n r column.Direction) (lifetime_parsed sending_start sending_end) (lifetime_parsed accepting_start accepting_end)
 
   ports_parsed : Parsed (ports_of n r ms)
   unfolding ports_of

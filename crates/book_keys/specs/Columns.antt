@@ -174,15 +174,38 @@ abbrev pub time_or : ℕ → Option Data → Option ℕ
 time_or absent None = Some absent
 time_or absent (Some d) = option_and_then time_of (as_str d)
 
--- a lifetime of row r of node n, by the keys of its start and end; an end before its start is a
+-- a time of a row: the name of its key, and the column that a fault of it tells (own)
+pub record TimeCell : Type 0 where
+  pub name : List ℕ
+  pub column : Column
+
+-- a lifetime of row r of node n, by the cells of its start and end; an end before its start is a
 -- fault of the end (RFC 7210, section 2)
-unfoldable pub lifetime_of : (node row : ℕ) → (start_key end_key : List ℕ) →
-    (start_column end_column : Column) → Members → Result Lifetime TableFault
-lifetime_of n r start end start_column end_column ms = do
-  first ← or_fault (time_or 0 (get_member start ms)) (fault.Field n r start_column)
-  last ← or_fault (time_or greatest_time (get_member end ms)) (fault.Field n r end_column)
-  if nat_lt last first then Err (fault.Field n r end_column)
+unfoldable pub lifetime_of :
+    (node row : ℕ) → (start end : TimeCell) → Members → Result Lifetime TableFault
+lifetime_of n r start end ms = do
+  first ← or_fault (time_or 0 (get_member start.name ms)) (fault.Field n r start.column)
+  last ← or_fault (time_or greatest_time (get_member end.name ms)) (fault.Field n r end.column)
+  if nat_lt last first then Err (fault.Field n r end.column)
       else Ok (record { first = first; last = last })
+
+-- where a row says from when on it sends (RFC 7210, section 2)
+abbrev pub sending_start : TimeCell
+sending_start =
+    record { name = codes "SendLifetimeStart"; column = column.SendLifetimeStart }
+
+-- where a row says until when it sends (RFC 7210, section 2)
+abbrev pub sending_end : TimeCell
+sending_end = record { name = codes "SendLifetimeEnd"; column = column.SendLifetimeEnd }
+
+-- where a row says from when on it accepts (RFC 7210, section 2)
+abbrev pub accepting_start : TimeCell
+accepting_start =
+    record { name = codes "AcceptLifetimeStart"; column = column.AcceptLifetimeStart }
+
+-- where a row says until when it accepts (RFC 7210, section 2)
+abbrev pub accepting_end : TimeCell
+accepting_end = record { name = codes "AcceptLifetimeEnd"; column = column.AcceptLifetimeEnd }
 
 -- the port that a value writes, a decimal from 0 to 65535, or any port where it is absent (own)
 abbrev pub port_of : Option Data → Option (Option ℕ)
@@ -194,10 +217,8 @@ unfoldable pub terms_of : (node row : ℕ) → Members → Result Terms TableFau
 terms_of n r ms = do
   direction ← or_fault (option_and_then direction_of (text_of (codes "Direction") ms))
       (fault.Field n r column.Direction)
-  sending ← lifetime_of n r (codes "SendLifetimeStart") (codes "SendLifetimeEnd")
-      column.SendLifetimeStart column.SendLifetimeEnd ms
-  accepting ← lifetime_of n r (codes "AcceptLifetimeStart") (codes "AcceptLifetimeEnd")
-      column.AcceptLifetimeStart column.AcceptLifetimeEnd ms
+  sending ← lifetime_of n r sending_start sending_end ms
+  accepting ← lifetime_of n r accepting_start accepting_end ms
   Ok (record { direction = direction; sending = sending; accepting = accepting })
 
 -- the ports of row r of node n: LocalPort and PeerPort (own)

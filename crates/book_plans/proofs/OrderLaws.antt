@@ -16,7 +16,7 @@ use Rattle.book_keys.specs.Overlaps.{TwoRows}
 use Rattle.book_keys.specs.Plans.{rows_at, rows_of_table}
 use Rattle.book_keys.specs.Reading.{each}
 use Rattle.book_keys.specs.Rows.{Row, Table, node_limit, row_limit, has_address}
-use Rattle.book_keys.specs.Columns.{count, only, text_of, time_or, lifetime_of, direction_of, ids_of, peers_of, protocol_of, algorithm_at, master_of, terms_of, ports_of, columns_of, row_of, row_keys}
+use Rattle.book_keys.specs.Columns.{count, only, text_of, time_or, lifetime_of, TimeCell, sending_start, sending_end, accepting_start, accepting_end, direction_of, ids_of, peers_of, protocol_of, algorithm_at, master_of, terms_of, ports_of, columns_of, row_of, row_keys}
 use Rattle.book_keys.specs.Nodes.{node_name_of, node_address_of, rows_of, fields_of, node_of, nodes_from, overlap_in, unless, nodes_of, tables_of_document, document_of, tables_of}
 use Rattle.book_keys.specs.Times.{time_of}
 use Rattle.book_plans.proofs.TimeLaws.{some_is, time_bound}
@@ -62,23 +62,23 @@ unless_before first last f l low e = by_test (nat_lt last first) refl e
         let same : made ≡ l = ok_is made l h in
         subst (λ (x : Lifetime). Within x) same (record { ordered = ltb-false last first is; written = low })
 
-lifetime_within : (n r : ℕ) (start end : List ℕ) (sc ec : Column) (ms : Members) (l : Lifetime) → lifetime_of n r start end sc ec ms ≡ Ok l → Within l
+lifetime_within : (n r : ℕ) (start end : TimeCell) (ms : Members) (l : Lifetime) → lifetime_of n r start end ms ≡ Ok l → Within l
 unfolding lifetime_of
-lifetime_within n r start end sc ec ms l e =
-    let first = then_ok (or_fault (time_or 0 (get_member start ms)) (fault.Field n r sc)) _ l e in
-    let last = then_ok (or_fault (time_or greatest_time (get_member end ms)) (fault.Field n r ec)) _ l first.2 in
-    let low = time_or_bound greatest_time (get_member end ms) last.0 (omega arith) (there (time_or greatest_time (get_member end ms)) (fault.Field n r ec) last.0 last.1) in
-    unless_before first.0 last.0 (fault.Field n r ec) l low last.2
+lifetime_within n r start end ms l e =
+    let first = then_ok (or_fault (time_or 0 (get_member start.name ms)) (fault.Field n r start.column)) _ l e in
+    let last = then_ok (or_fault (time_or greatest_time (get_member end.name ms)) (fault.Field n r end.column)) _ l first.2 in
+    let low = time_or_bound greatest_time (get_member end.name ms) last.0 (omega arith) (there (time_or greatest_time (get_member end.name ms)) (fault.Field n r end.column) last.0 last.1) in
+    unless_before first.0 last.0 (fault.Field n r end.column) l low last.2
 
 terms_within : (n r : ℕ) (ms : Members) (t : Terms) → terms_of n r ms ≡ Ok t → Within t.sending
 unfolding terms_of
 terms_within n r ms t e =
     let direction = then_ok (or_fault (option_and_then direction_of (text_of (codes "Direction") ms)) (fault.Field n r column.Direction)) _ t e in
-    let sending = then_ok (lifetime_of n r (codes "SendLifetimeStart") (codes "SendLifetimeEnd") column.SendLifetimeStart column.SendLifetimeEnd ms) _ t direction.2 in
-    let accepting = then_ok (lifetime_of n r (codes "AcceptLifetimeStart") (codes "AcceptLifetimeEnd") column.AcceptLifetimeStart column.AcceptLifetimeEnd ms) _ t sending.2 in
+    let sending = then_ok (lifetime_of n r sending_start sending_end ms) _ t direction.2 in
+    let accepting = then_ok (lifetime_of n r accepting_start accepting_end ms) _ t sending.2 in
     let made : Terms = record { direction = direction.0; sending = sending.0; accepting = accepting.0 } in
     let same : made ≡ t = ok_is made t accepting.2 in
-    let good = lifetime_within n r (codes "SendLifetimeStart") (codes "SendLifetimeEnd") column.SendLifetimeStart column.SendLifetimeEnd ms sending.0 sending.1 in
+    let good = lifetime_within n r sending_start sending_end ms sending.0 sending.1 in
     subst (λ (x : Terms). Within x.sending) same good
 
 columns_ordered : (n r : ℕ) (ms : Members) (row : Row) → columns_of n r ms ≡ Ok row → IsOrdered row

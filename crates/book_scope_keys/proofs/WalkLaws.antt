@@ -22,7 +22,7 @@ use Rattle.book_keys.specs.Lifetimes.{greatest_time}
 use Rattle.book_keys.specs.Rows.{Row, Table, node_limit, row_limit, peer_limit, has_address}
 use Rattle.book_keys.specs.Overlaps.{TwoRows, first_overlap}
 use Rattle.book_keys.specs.Reading.{must, each}
-use Rattle.book_keys.specs.Columns.{count, only, row_keys, text_of, is_word, is_admin, id_of_text, ids_of, peer_of, peer_at, peers_of, is_absent_or, options_flag_of, protocol_of, kdf_of, algorithm_at, master_of, sized, direction_of, time_or, lifetime_of, terms_of, port_of, ports_of, columns_of, row_of}
+use Rattle.book_keys.specs.Columns.{count, only, row_keys, text_of, is_word, is_admin, id_of_text, ids_of, peer_of, peer_at, peers_of, is_absent_or, options_flag_of, protocol_of, kdf_of, algorithm_at, master_of, sized, direction_of, time_or, lifetime_of, TimeCell, sending_start, sending_end, accepting_start, accepting_end, terms_of, port_of, ports_of, columns_of, row_of}
 use Rattle.book_keys.specs.Nodes.{node_name_of, node_address_of, unused, rows_of, fields_of, node_of, nodes_from, overlap_in, unless, nodes_of, tables_of_document, document_of, tables_of}
 use Rattle.book_scope_keys.specs.declared.finding.KeyFinding.{KeyFinding}
 use Rattle.book_scope_keys.specs.declared.finding.KeyPlace.{KeyPlace}
@@ -157,22 +157,22 @@ module _ (p : KeyPlace) (n r : ℕ) (ms : Members) where
   unfolding order_findings
   order_clean start end one other first last e f h = rw (e, f) (clean _ _ _ _ _ _ h)
 
-  lifetime_clean : (start end : List ℕ) (c d : Column) (l : Lifetime) → lifetime_of n r start end c d ms ≡ Ok l → lifetime_findings p start end ms ≡ []
+  lifetime_clean : (start end : TimeCell) (l : Lifetime) → lifetime_of n r start end ms ≡ Ok l → lifetime_findings p start.name end.name ms ≡ []
   unfolding lifetime_of lifetime_findings
-  lifetime_clean start end c d l h =
-      let a = then_ok (or_fault (time_or 0 (get_member start ms)) (fault.Field n r c)) _ l h in
-      let b = then_ok (or_fault (time_or greatest_time (get_member end ms)) (fault.Field n r d)) _ l a.2 in
-      none_and _ _ (time_clean 0 start c a.0 a.1) (none_and _ _ (time_clean greatest_time end d b.0 b.1)
-      (order_clean start end _ _ a.0 b.0 (some_of _ _ a.0 a.1) (some_of _ _ b.0 b.1) (in_order (ltb b.0 a.0) l (record { first = a.0; last = b.0 }) d b.2)))
+  lifetime_clean start end l h =
+      let a = then_ok (or_fault (time_or 0 (get_member start.name ms)) (fault.Field n r start.column)) _ l h in
+      let b = then_ok (or_fault (time_or greatest_time (get_member end.name ms)) (fault.Field n r end.column)) _ l a.2 in
+      none_and _ _ (time_clean 0 start.name start.column a.0 a.1) (none_and _ _ (time_clean greatest_time end.name end.column b.0 b.1)
+      (order_clean start.name end.name _ _ a.0 b.0 (some_of _ _ a.0 a.1) (some_of _ _ b.0 b.1) (in_order (ltb b.0 a.0) l (record { first = a.0; last = b.0 }) end.column b.2)))
 
   terms_clean : (t : Terms) → terms_of n r ms ≡ Ok t → term_findings p ms ≡ []
   unfolding terms_of term_findings
   terms_clean t h =
       let a = then_ok (or_fault (option_and_then direction_of (text_of (codes "Direction") ms)) (fault.Field n r column.Direction)) _ t h in
-      let b = then_ok (lifetime_of n r (codes "SendLifetimeStart") (codes "SendLifetimeEnd") column.SendLifetimeStart column.SendLifetimeEnd ms) _ t a.2 in
-      let c = then_ok (lifetime_of n r (codes "AcceptLifetimeStart") (codes "AcceptLifetimeEnd") column.AcceptLifetimeStart column.AcceptLifetimeEnd ms) _ t b.2 in
+      let b = then_ok (lifetime_of n r sending_start sending_end ms) _ t a.2 in
+      let c = then_ok (lifetime_of n r accepting_start accepting_end ms) _ t b.2 in
       none_and _ _ (clean _ _ _ _ _ _ (is_there _ _ a.0 a.1))
-      (none_and _ _ (lifetime_clean _ _ column.SendLifetimeStart column.SendLifetimeEnd b.0 b.1) (lifetime_clean _ _ column.AcceptLifetimeStart column.AcceptLifetimeEnd c.0 c.1))
+      (none_and _ _ (lifetime_clean sending_start sending_end b.0 b.1) (lifetime_clean accepting_start accepting_end c.0 c.1))
 
   port_clean : (key : List ℕ) (c : Column) (x : Option ℕ) → or_fault (port_of (get_member key ms)) (fault.Field n r c) ≡ Ok x → port_findings p key ms ≡ []
   unfolding port_findings

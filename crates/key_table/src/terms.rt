@@ -63,7 +63,8 @@ fn lifetime_at(
     end_column: Column,
     table: &Table,
 ) -> Result<Lifetime, TableFault>
-    ensures { result ≡ lifetime_of node row start.now end.now start_column end_column (table_view table.now) }
+    ensures { result ≡ lifetime_of node row (record { name = start.now; column = start_column })
+        (record { name = end.now; column = end_column }) (table_view table.now) }
 {
     let first = time_at(table, start, 0).ok_or(TableFault::Field(node, row, start_column))?;
     let last = time_at(table, end, LATEST).ok_or(TableFault::Field(node, row, end_column))?;
