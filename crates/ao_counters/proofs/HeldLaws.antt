@@ -134,7 +134,7 @@ module _ (rows : List Row) (m : NodeState) (n : StackCounts) (K : Keeps m n) whe
   held_acts p s (act.Open isn) is = written m n K p s s n is (λ q. refl)
   held_acts p s (act.Listen isn) is = written m n K p s s n is (λ q. refl)
   held_acts p s (act.Start isn peer) is = written m n K p s s n is (λ q. refl)
-  held_acts p s (act.Give piece) is = acted m n K p (act.Give piece) s (offered called runs.ConnectionClosing runs.NoRoom runs.Performed piece s) is (λ q k. refl)
+  held_acts p s (act.Give piece) is = acted m n K p (act.Give piece) s (offered called runs.node_offers piece s) is (λ q k. refl)
   held_acts p s (act.Take count) is = acted m n K p (act.Take count) s (take_called count s) is (λ q k. refl)
   held_acts p s act.Send is = acted m n K p act.Send s (made_called s runs.NothingToSend (emit rows p m.clock s)) is (λ q k. refl)
   held_acts p s act.Resend is = acted m n K p act.Resend s (made_called s runs.NothingToResend (resend rows p m.clock s)) is (λ q k. refl)

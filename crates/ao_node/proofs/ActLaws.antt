@@ -34,7 +34,7 @@ given_if false false piece room s e r is stands = rw is (record { stands = stand
 
 -- a piece is offered
 pub given_follows : (piece bytes : List ℕ) (s : EndState) (e : Endpoint) (r : GiveAnswer) → r ≡ give_answer s piece → Stands e (offered piece s)
-    → Follows e bytes (told_given r) (states.offered book.called book.ConnectionClosing book.NoRoom book.Performed piece s)
+    → Follows e bytes (told_given r) (states.offered book.called book.node_offers piece s)
 given_follows piece bytes s e r is stands = given_if (not (gives s)) (nat_lt (room s) (length piece)) piece bytes s e r is stands
 
 -- ---- sending

@@ -44,7 +44,7 @@ pub record Follows (e : Endpoint) (room : List ℕ) (told : Told) (c : book.Call
 
 -- what a call of an end that is held makes of its state, and what it answers; the other acts are no calls
 abbrev pub act_on : List Row → Pair → ℕ → EndState → Act → book.Called
-act_on rows pair now s (act.Give piece) = offered book.called book.ConnectionClosing book.NoRoom book.Performed piece s
+act_on rows pair now s (act.Give piece) = offered book.called book.node_offers piece s
 act_on rows pair now s (act.Take count) = book.take_called count s
 act_on rows pair now s act.Send = book.made_called s book.NothingToSend (emit rows pair now s)
 act_on rows pair now s act.Resend = book.made_called s book.NothingToResend (resend rows pair now s)

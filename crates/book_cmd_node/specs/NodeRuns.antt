@@ -22,7 +22,7 @@ use Rattle.book_lines.specs.Words.{some_hex_in, nothing_in}
 use Rattle.book_base.specs.Results.{◌>>=◌}
 use Rattle.book_endpoint.specs.declared.arrival.Arrival.{Arrival}
 use Rattle.book_endpoint.specs.declared.arrival.Arrival.TheVariants.{Bad}
-use Rattle.book_endpoint.specs.States.{EndState, connected, listening, started, offered, taking}
+use Rattle.book_endpoint.specs.States.{EndState, connected, listening, started, Offers, offered, taking}
 use Rattle.book_endpoint.specs.States.{take_out, at_end, close, abort, tick}
 use Rattle.book_endpoint.specs.Arrivals.{arrive}
 use Rattle.book_endpoint.specs.Emissions.{Emission, Emitted, Quiet, NoKey, Emits, emit, resend}
@@ -121,6 +121,10 @@ take_called count s =
     let t = take_out count s in
     called t (Delivered (taking count s) (at_end t))
 
+-- what an end that is offered a piece may answer (own)
+abbrev pub node_offers : Offers NodeOutcome
+node_offers = record { closed = ConnectionClosing; full = NoRoom; done = Performed }
+
 -- what each act on a pair does whose end is held, and what it answers (RFC 9293, section 3.10, and
 -- own)
 abbrev pub on_held : List Row → NodeState → Pair → EndState → Act → NodeStep
@@ -128,7 +132,7 @@ on_held rows n pair s (act.Open isn) = after_call n pair (called s InUse)
 on_held rows n pair s (act.Listen isn) = after_call n pair (called s InUse)
 on_held rows n pair s (act.Start isn peer) = after_call n pair (called s InUse)
 on_held rows n pair s (act.Give piece) =
-    after_call n pair (offered called ConnectionClosing NoRoom Performed piece s)
+    after_call n pair (offered called node_offers piece s)
 on_held rows n pair s (act.Take count) = after_call n pair (take_called count s)
 on_held rows n pair s act.Send =
     after_call n pair (made_called s NothingToSend (emit rows pair n.clock s))

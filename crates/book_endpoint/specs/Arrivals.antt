@@ -1,12 +1,11 @@
--- What an arriving datagram does to an end (RFC 9293, section 3.10.7, in a profile). Its top:
+-- What an arriving datagram does to an end, as one table of cases, each a guard and what follows from
+-- it, in the order in which they are tried (RFC 9293, section 3.10.7, in a profile). Its top:
 -- `arrive`.
-use Rattle.std.specs.Prelude.{ℕ, zero, suc, ◌+◌, ◌-◌, ◌%◌, ◌==◌, max, nat_lt, nat_le, Bool, true}
-use Rattle.std.specs.Prelude.{false, not, ◌&&◌, ◌||◌, List, length, Option, Some, None, unwrap_or}
-use Rattle.std.specs.Prelude.{Ok, Err, if◌then◌else◌}
+use Rattle.std.specs.Prelude.{ℕ, ◌+◌, ◌-◌, ◌%◌, ◌==◌, nat_lt, Bool, true, false, not, ◌&&◌}
+use Rattle.std.specs.Prelude.{◌||◌, List, length, Option, Some, None, Ok, Err, if◌then◌else◌}
 use Rattle.book_base.specs.declared.address.Pair.{Pair}
 use Rattle.book_segments.specs.Bytes.{ring}
 use Rattle.book_segments.specs.Meant.{meant}
-use Rattle.book_segments.specs.Options.{listed, options_of, mss_among}
 use Rattle.book_segments.specs.Received.{keep, first_missing, runs, below_limit}
 use Rattle.book_segments.specs.Sockets.{same_socket}
 use Rattle.book_segments.specs.Segments.{Segment, Reading, Read, Bad as Unread, good, has, FIN, SYN}
@@ -21,16 +20,13 @@ use Rattle.book_endpoint.specs.declared.arrival.Arrival.TheVariants.{NoAck, BadA
 use Rattle.book_endpoint.specs.declared.arrival.Arrival.TheVariants.{Reset, Taken}
 use Rattle.book_endpoint.specs.declared.phase.Phase.{Phase}
 use Rattle.book_endpoint.specs.declared.phase.Phase.TheVariants.{Listen, SynSent, SynReceived}
-use Rattle.book_endpoint.specs.declared.phase.Phase.TheVariants.{Established, FinWait1, FinWait2}
-use Rattle.book_endpoint.specs.declared.phase.Phase.TheVariants.{CloseWait, Closing, LastAck}
-use Rattle.book_endpoint.specs.declared.phase.Phase.TheVariants.{TimeWait, Closed}
+use Rattle.book_endpoint.specs.declared.phase.Phase.TheVariants.{Established, Closed}
 use Rattle.book_endpoint.specs.Verdicts.{Finding, Judgement, Known, judge}
-use Rattle.book_endpoint.specs.States.{EndState, window, default_mss, is_closed, hears}
-
--- The state after a segment that passed the check, and the answer (own).
-pub record Moved : Type 0 where
-  pub state : EndState
-  pub answer : Arrival
+use Rattle.book_endpoint.specs.States.{EndState, window, is_closed, hears}
+use Rattle.book_endpoint.specs.Emissions.{is_syn_received}
+use Rattle.book_endpoint.specs.Hearing.{Moved, answered, owing, above, fits_window, finish, fin_of}
+use Rattle.book_endpoint.specs.Hearing.{pass_fin, records_fin, acked, windowed, acked_fin}
+use Rattle.book_endpoint.specs.Hearing.{told_by_syn}
 
 -- The state after an arrival, the answer, and what passed the check (own).
 pub record Arrived : Type 0 where
@@ -38,228 +34,17 @@ pub record Arrived : Type 0 where
   pub answer : Arrival
   pub passed : Option Finding
 
--- A state with its answer (own).
-abbrev pub answered : EndState → Arrival → Moved
-answered s answer = record { state = s; answer = answer }
-
--- An ACK is owed (RFC 9293, section 3.10.7.4).
-abbrev pub owing : EndState → EndState
-owing s = record s { ack_owed = true }
-
--- A number that may be below 0 is above another (own).
-abbrev pub above : Option ℕ → ℕ → Bool
-above None n = false
-above (Some a) n = nat_lt n a
-
--- The number is from low to below high (own).
-abbrev pub in_range : (number low high : ℕ) → Bool
-in_range n low high = nat_le low n && nat_lt n high
-
--- The segment at number n, of this length, is acceptable where RCV.NXT is x and RCV.WND is w (RFC
--- 9293, section 3.4).
-abbrev pub fits_window : (number size expected window : ℕ) → Bool
-fits_window n zero x w = if w == 0 then n == x else in_range n x (x + w)
-fits_window n (suc l) x w =
-    if w == 0 then false
-    else (in_range n x (x + w) || in_range (n + l) x (x + w))
-
--- Entering TIME-WAIT sets its deadline, twice 120 seconds on (RFC 9293, section 3.4.2); it isn't
--- set again (own).
-abbrev pub rested : EndState → ℕ → Phase → Option ℕ → EndState
-rested s now TimeWait None = record s { deadline = Some (now + 240) }
-rested s now _ _ = s
-
--- The segment is taken, and the time of TIME-WAIT runs where it was entered (RFC 9293, section
--- 3.10.7.4).
-abbrev pub finish : EndState → ℕ → Moved
-finish s now = answered (rested s now s.phase s.deadline) Taken
-
--- The phase once the peer's FIN is passed (RFC 9293, section 3.10.7.4, "check the FIN bit").
-abbrev pub past_fin : Phase → Phase
-past_fin Established = CloseWait
-past_fin FinWait1 = Closing
-past_fin FinWait2 = TimeWait
-past_fin phase = phase
-
--- RCV.NXT moves past the peer's FIN where it has come to it (RFC 9293, section 3.10.7.4).
-abbrev pub pass_fin : EndState → Option ℕ → EndState
-pass_fin s None = s
-pass_fin s (Some fin_at) =
-    if fin_at == s.expected then record s { expected = fin_at + 1; phase = past_fin s.phase }
-    else s
-
--- The FIN that is recorded is the first one (own).
-abbrev pub fin_of : Option ℕ → Bool → ℕ → Option ℕ
-fin_of (Some first) records new = Some first
-fin_of None true new = Some new
-fin_of None false new = None
-
--- A FIN at number f is recorded where it is in the window, and no byte that is kept stands at its
--- number or past it (own).
-abbrev pub records_fin : EndState → (ℕ → Option ℕ) → Segment → ℕ → Bool
-records_fin s kept d f =
-    let high = s.expected + window s in
-    has FIN d && in_range f s.expected high && (runs kept false f (high - f) == 0)
-
--- The bytes are kept and a FIN is recorded, unless too many separate runs would arise; RCV.NXT
--- moves to the first missing number (RFC 9293, section 3.10.7.4; the limit of runs: own).
-abbrev pub heard_runs : EndState → (ℕ → Option ℕ) → Segment → (number now : ℕ) → Bool → Moved
-heard_runs s kept d n now true = answered (owing s) TooManyRuns
-heard_runs s kept d n now false =
-    let f = n + length d.payload in
-    let t = record s {
-      received = kept;
-      fin = fin_of s.fin (records_fin s kept d f) f;
-      ack_owed = true;
-      expected = first_missing kept s.expected (window s);
-    } in
-    finish (pass_fin t t.fin) now
-
--- Payload and FIN, where they are heard: bytes in the window and before a recorded FIN that aren't
--- kept yet are kept (RFC 9293, section 3.10.7.4).
-abbrev pub hear_data : EndState → Segment → (number now : ℕ) → Bool → Moved
-hear_data s d n now false = finish s now
-hear_data s d n now true =
-    let high = s.expected + window s in
-    let kept = keep s.received (record { number = n; bytes = d.payload })
-        (record { low = s.expected; high = below_limit s.fin high }) in
-    let at = first_missing kept s.expected (window s) in
-    heard_runs s kept d n now (nat_lt 64 (runs kept false at (high - at)))
-
--- The phase once the own FIN is acknowledged (RFC 9293, section 3.10.7.4).
-abbrev pub after_own_fin : Phase → Phase
-after_own_fin FinWait1 = FinWait2
-after_own_fin Closing = TimeWait
-after_own_fin LastAck = Closed
-after_own_fin phase = phase
-
--- An acknowledgement past the own FIN ends the own side (RFC 9293, section 3.10.7.4).
-abbrev pub acked_fin : EndState → Option ℕ → EndState
-acked_fin s ack =
-    if above ack (s.isn + 1 + length s.given) then record s { phase = after_own_fin s.phase }
-    else s
-
--- SND.WND is told by a segment that acknowledges no less than SND.UNA before it, and that isn't
--- older than the last that told it, by SND.WL1 and SND.WL2 (RFC 9293, section 3.10.7.4).
-abbrev pub windowed : EndState → ℕ → Segment → ℕ → Option ℕ → EndState
-windowed s old_una d n None = s
-windowed s old_una d n (Some a) =
-    if nat_le old_una a && (nat_lt s.wl1 n || ((s.wl1 == n) && nat_le s.wl2 a))
-    then record s { send_window = d.window; wl1 = n; wl2 = a }
-    else s
-
--- An acknowledgement above SND.UNA moves it (RFC 9293, section 3.10.7.4).
-abbrev pub acked : EndState → Option ℕ → EndState
-acked s None = s
-acked s (Some a) = if nat_lt s.una a then record s { una = a } else s
-
--- Window, own FIN, and then payload and FIN where the phase hears them (RFC 9293, section
--- 3.10.7.4).
-abbrev pub go_on : EndState → ℕ → Segment → (number now : ℕ) → Option ℕ → Moved
-go_on s old_una d n now ack =
-    let t = acked_fin (windowed s old_una d n ack) ack in
-    hear_data t d n now (hears t.phase && (nat_lt 0 (length d.payload) || has FIN d))
-
--- The acknowledgement, by the phase (RFC 9293, section 3.10.7.4, "check the ACK field").
-abbrev pub acknowledged : EndState → Segment → (number now : ℕ) → Option ℕ → Phase → Moved
-acknowledged s d n now ack SynReceived =
-    if above ack s.una && not (above ack s.next)
-    then go_on (record (acked s ack) { phase = Established }) s.una d n now ack
-    else answered s BadAck
-acknowledged s d n now ack _ =
-    if above ack s.next then answered (owing s) BadAck
-    else go_on (acked s ack) s.una d n now ack
-
--- A RST resets at RCV.NXT alone (RFC 5961, section 3.2), also in SYN-RECEIVED after a passive open
--- (own).
-abbrev pub reset : EndState → ℕ → Moved
-reset s n =
-    if n == s.expected then answered (record s { phase = Closed }) Reset
-    else answered (owing s) Challenge
-
--- An acceptable segment: its RST, its SYN, its ACK, in this order (RFC 9293, section 3.10.7.4; RFC
--- 5961, sections 3.2 and 4.2). `heard` is the state once the RNextKeyID is heard; a RST leaves
--- `before`.
-abbrev pub ordinary : (before heard : EndState) → Segment → (number now : ℕ) → Moved
-ordinary before heard d n now =
-    if has RST d then reset before n
-    else (if has SYN d then answered (owing heard) Challenge
-    else (if not (has ACK d) then answered heard NoAck
-    else acknowledged heard d n now (meant d.acknowledgement heard.una) heard.phase))
-
--- The peer's maximum segment size that its SYN tells (RFC 9293, section 3.7.1), at least 88 (own).
-abbrev pub peer_mss : Pair → Segment → ℕ
-peer_mss pair d =
-    max 88 (unwrap_or (mss_among (listed (options_of d.area))) (default_mss pair.local.address))
-
--- What a SYN tells (RFC 9293, section 3.10.7.2); its payload is ignored (own).
-abbrev pub told_by_syn : Pair → EndState → Segment → ℕ → EndState
-told_by_syn pair s d n = record s {
-  peer_isn = Some n;
-  expected = n + 1;
-  mss = peer_mss pair d;
-  send_window = d.window;
-  wl1 = n;
-  wl2 = s.isn;
-}
-
--- A SYN without ACK, RST and FIN (own).
-abbrev pub syn_alone : Segment → Bool
-syn_alone d = has SYN d && not (has ACK d) && not (has RST d) && not (has FIN d)
-
--- A SYN with ACK, without RST and FIN (own).
-abbrev pub syn_ack_alone : Segment → Bool
-syn_ack_alone d = has SYN d && has ACK d && not (has RST d) && not (has FIN d)
-
--- In LISTEN a SYN alone is heard (RFC 9293, section 3.10.7.2); all else leaves `before`.
-abbrev pub in_listen : Pair → (before heard : EndState) → Segment → ℕ → Moved
-in_listen pair before heard d n =
-    if syn_alone d then answered (record (told_by_syn pair heard d n) { phase = SynReceived }) Taken
-    else answered before Unexpected
-
--- In SYN-SENT a SYN with the ACK of the own SYN is heard (RFC 9293, section 3.10.7.3); all else
--- leaves `before`.
-abbrev pub in_syn_sent : Pair → (before heard : EndState) → Segment → ℕ → Moved
-in_syn_sent pair before heard d n =
-    if not (syn_ack_alone d) then answered before Unexpected
-    else (if nat_lt before.isn before.next && (d.acknowledgement == (before.isn + 1) % ring)
-    then answered (record (told_by_syn pair heard d n) {
-      phase = Established;
-      una = before.isn + 1;
-      wl2 = before.isn + 1;
-      ack_owed = true;
-    }) Taken
-    else answered before BadAck)
-
--- A segment that passed, by the phase (RFC 9293, sections 3.10.7.2 to 3.10.7.4): `before` is the
--- state at its arrival, `heard` that state once the RNextKeyID is heard. What isn't acceptable
--- leaves `before`, and an ACK is owed unless it is a RST.
-abbrev pub after_check :
-    Pair → (before heard : EndState) → Segment → (number now : ℕ) → Phase → Moved
-after_check pair before heard d n now Listen = in_listen pair before heard d n
-after_check pair before heard d n now SynSent = in_syn_sent pair before heard d n
-after_check pair before heard d n now _ =
-    if fits_window n (segment_length d) before.expected (window before)
-    then ordinary before heard d n now
-    else answered (if has RST d then before else owing before) Window
-
 -- Nothing changes, and nothing passed (own).
 abbrev pub unmoved : EndState → Arrival → Arrived
 unmoved s answer = record { state = s; answer = answer; passed = None }
-
--- The state once an RNextKeyID is heard (RFC 5925, section 7.5).
-abbrev pub heard : List Row → Pair → ℕ → EndState → ℕ → EndState
-heard rows pair now s id = record s { current = follow s.current rows pair id now }
 
 -- A segment that passed, with its answer (own).
 abbrev pub passes : EndState → Finding → Moved → Arrived
 passes s p moved = record { state = moved.state; answer = moved.answer; passed = Some p }
 
--- A segment with what the check says of it: a refusal changes nothing (RFC 5925, section 7.5).
-abbrev pub arrive_judged : List Row → Pair → ℕ → EndState → Segment → Judgement → Arrived
-arrive_judged rows pair now s d (Err why) = unmoved s (Refused why)
-arrive_judged rows pair now s d (Ok p) =
-    passes s p (after_check pair s (heard rows pair now s p.rnext_key_id) d p.number now s.phase)
+-- The state once an RNextKeyID is heard (RFC 5925, section 7.5).
+abbrev pub heard : List Row → Pair → ℕ → EndState → ℕ → EndState
+heard rows pair now s id = record s { current = follow s.current rows pair id now }
 
 -- The number expected, once the peer's initial sequence number is known (own).
 abbrev pub number_expected : EndState → Option ℕ → Option ℕ
@@ -282,16 +67,155 @@ judged_by rows pair now s d = judge rows pair (numbers_known s) now d
 abbrev pub from_peer : Pair → Segment → Bool
 from_peer pair d = same_socket d.source pair.remote && same_socket d.destination pair.local
 
--- A datagram: its fault, its sockets, its checksum, the end's phase, the verdict, in this order
--- (RFC 9293, sections 3.1 and 3.10.7; RFC 5925, section 7.5; the order: own).
-abbrev pub arrive_read : List Row → Pair → ℕ → EndState → Reading → Arrived
-arrive_read rows pair now s (Unread fault) = unmoved s (Bad fault)
-arrive_read rows pair now s (Read d) =
-    if not (from_peer pair d) then unmoved s Foreign
-    else (if not (good d) then unmoved s Checksum
-    else (if is_closed s.phase then unmoved s AtClosed
-    else arrive_judged rows pair now s d (judged_by rows pair now s d)))
+-- A SYN without ACK, RST and FIN (own).
+abbrev pub syn_alone : Segment → Bool
+syn_alone d = has SYN d && not (has ACK d) && not (has RST d) && not (has FIN d)
 
--- An arrival: the first answer that holds, with the state after it (RFC 9293, section 3.10.7).
+-- A SYN with ACK, without RST and FIN (own).
+abbrev pub syn_ack_alone : Segment → Bool
+syn_ack_alone d = has SYN d && has ACK d && not (has RST d) && not (has FIN d)
+
+-- A segment that passed the check, as it comes to an end (own).
+pub record Admitted : Type 0 where
+  pub segment : Segment
+  pub number : ℕ  -- the number of its first byte
+  pub before : EndState  -- the end before the RNextKeyID of the segment is heard
+  pub after : EndState  -- the end once it is heard (RFC 5925, section 7.5)
+  pub now : ℕ  -- when it comes, in seconds
+
+-- What a segment acknowledges, near SND.UNA; nothing where that is below 0 (RFC 9293, section 3.4).
+abbrev pub acknowledges : Admitted → Option ℕ
+acknowledges i = meant i.segment.acknowledgement i.after.una
+
+-- The segment is acceptable: it touches the window (RFC 9293, section 3.4).
+abbrev pub is_acceptable : Admitted → Bool
+is_acceptable i =
+    fits_window i.number (segment_length i.segment) i.before.expected (window i.before)
+
+-- The acknowledgement is of the own SYN, which was sent (RFC 9293, section 3.10.7.3).
+abbrev pub acknowledges_syn : Admitted → Bool
+acknowledges_syn i =
+    nat_lt i.before.isn i.before.next
+    && (i.segment.acknowledgement == (i.before.isn + 1) % ring)
+
+-- The acknowledgement is of something that was sent: in SYN-RECEIVED above SND.UNA, in each phase not
+-- above SND.NXT (RFC 9293, section 3.10.7.4, "check the ACK field").
+abbrev pub acknowledges_sent : Admitted → Bool
+acknowledges_sent i =
+    (above (acknowledges i) i.after.una || not (is_syn_received i.after.phase))
+    && not (above (acknowledges i) i.after.next)
+
+-- The phase once the own SYN is acknowledged (RFC 9293, section 3.10.7.4).
+abbrev pub past_handshake : Phase → Phase
+past_handshake SynReceived = Established
+past_handshake phase = phase
+
+-- The end once the acknowledgement is taken: SYN-RECEIVED is left, SND.UNA moves, then the peer's
+-- window is told, then the own FIN may be acknowledged (RFC 9293, section 3.10.7.4, "check the ACK
+-- field").
+abbrev pub acknowledged_state : Admitted → EndState
+acknowledged_state i =
+    let moved = record (acked i.after (acknowledges i)) { phase = past_handshake i.after.phase } in
+    let told = windowed moved i.after.una i.segment i.number (acknowledges i) in
+    acked_fin told (acknowledges i)
+
+-- The most separate runs of bytes that are kept past the first that is missing (own).
+abbrev pub most_runs : ℕ
+most_runs = 64
+
+-- Text and FIN are heard by an end: the bytes in the window, and before a FIN that is recorded, that
+-- aren't kept yet are kept, unless too many separate runs would arise; a FIN is recorded where it is
+-- in the window, none is recorded yet, and no byte at its number or past it is kept; RCV.NXT moves
+-- to the first byte that is missing, and past the FIN where it comes to it (RFC 9293, section 3.10.7.4, "process the segment text" and "check the FIN bit"; the
+-- limit of runs, and which FIN is recorded: own).
+abbrev pub hear_text : Admitted → EndState → Moved
+hear_text i s =
+    let d = i.segment in
+    let end = s.expected + window s in
+    let text = record { number = i.number; bytes = d.payload } in
+    let kept = keep s.received text (record { low = s.expected; high = below_limit s.fin end }) in
+    let missing = first_missing kept s.expected (window s) in
+    let fin_at = i.number + length d.payload in
+    let fin = fin_of s.fin (records_fin s kept d fin_at) fin_at in
+    let filled = record s { received = kept; fin = fin; ack_owed = true; expected = missing } in
+    if nat_lt most_runs (runs kept false missing (end - missing))
+    then answered (owing s) TooManyRuns
+    else finish (pass_fin filled fin) i.now
+
+-- There is text or FIN, in a phase that hears them (RFC 9293, section 3.10.7.4).
+abbrev pub has_text : EndState → Segment → Bool
+has_text s d = hears s.phase && (nat_lt 0 (length d.payload) || has FIN d)
+
+-- In LISTEN: a SYN alone is heard, and all else is unexpected (RFC 9293, section 3.10.7.2).
+abbrev pub listen_cases : Pair → Admitted → Moved
+listen_cases pair i =
+    let told = told_by_syn pair i.after i.segment i.number in
+    if not (syn_alone i.segment) then answered i.before Unexpected
+    else answered (record told { phase = SynReceived }) Taken
+
+-- In SYN-SENT: a SYN with the ACK of the own SYN is heard, with another it is a bad one, and all else
+-- is unexpected (RFC 9293, section 3.10.7.3).
+abbrev pub syn_sent_cases : Pair → Admitted → Moved
+syn_sent_cases pair i =
+    let told = told_by_syn pair i.after i.segment i.number in
+    let acknowledged = i.before.isn + 1 in
+    if not (syn_ack_alone i.segment) then answered i.before Unexpected
+    else if not (acknowledges_syn i) then answered i.before BadAck
+    else answered (record told {
+      phase = Established;
+      una = acknowledged;
+      wl2 = acknowledged;
+      ack_owed = true;
+    }) Taken
+
+-- In all other phases, in this order: out of the window, a RST at RCV.NXT, a RST elsewhere, a SYN, no
+-- ACK, a bad ACK, of which no ACK is owed in SYN-RECEIVED; then what is acknowledged is taken, and
+-- text and FIN are heard (RFC 9293, section 3.10.7.4). The RNextKeyID of a segment that is out of
+-- the window, and of a RST, isn't heard (own).
+abbrev pub other_cases : Admitted → Moved
+other_cases i =
+    let d = i.segment in
+    let taken = acknowledged_state i in
+    if not (is_acceptable i)  -- RFC 9293, section 3.10.7.4, "check sequence number"
+    then answered (if has RST d then i.before else owing i.before) Window
+    else if has RST d && (i.number == i.before.expected)  -- RFC 5961, section 3.2
+    then answered (record (i.before) { phase = Closed }) Reset
+    else if has RST d then answered (owing i.before) Challenge  -- RFC 5961, section 3.2
+    else if has SYN d then answered (owing i.after) Challenge  -- RFC 5961, section 4.2
+    else if not (has ACK d) then answered i.after NoAck  -- RFC 9293, "check the ACK field"
+    else if not (acknowledges_sent i)  -- RFC 9293, "check the ACK field"
+    then answered (if is_syn_received i.after.phase then i.after else owing i.after) BadAck
+    else if has_text taken d then hear_text i taken  -- RFC 9293, "process the segment text"
+    else finish taken i.now  -- RFC 9293, "check the ACK field" alone
+
+-- A segment that passed, by the phase of the end at its arrival (RFC 9293, sections 3.10.7.2 to
+-- 3.10.7.4).
+abbrev pub cases_in : Pair → Phase → Admitted → Moved
+cases_in pair Listen i = listen_cases pair i
+cases_in pair SynSent i = syn_sent_cases pair i
+cases_in pair _ i = other_cases i
+
+-- What the check says comes first: a refusal changes nothing, and what passes goes on (RFC 5925,
+-- section 7.5).
+abbrev pub checked : EndState → (Finding → Moved) → Judgement → Arrived
+checked s onward (Err why) = unmoved s (Refused why)
+checked s onward (Ok p) = passes s p (onward p)
+
+-- An arrival, in this order: no datagram, other sockets, a wrong checksum, a closed end, what the
+-- check says, and then the phase (RFC 9293, sections 3.1 and 3.10.7; RFC 5925, section 7.5; the order:
+-- own).
 unfoldable pub arrive : List Row → Pair → ℕ → EndState → Reading → Arrived
-arrive rows pair now s r = arrive_read rows pair now s r
+arrive rows pair now s (Unread fault) = unmoved s (Bad fault)  -- RFC 9293, section 3.1
+arrive rows pair now s (Read d) =
+    if not (from_peer pair d) then unmoved s Foreign  -- RFC 9293, section 3.10.7
+    else if not (good d) then unmoved s Checksum  -- RFC 9293, section 3.1
+    else if is_closed s.phase then unmoved s AtClosed  -- RFC 9293, section 3.10.7.1
+    else checked s  -- RFC 5925, section 7.5
+    (λ p. cases_in pair s.phase (record {
+      segment = d;
+      number = p.number;
+      before = s;
+      after = heard rows pair now s p.rnext_key_id;
+      now = now;
+    }))
+    (judged_by rows pair now s d)

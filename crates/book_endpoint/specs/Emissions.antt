@@ -22,7 +22,7 @@ use Rattle.book_endpoint.specs.declared.phase.Phase.{Phase}
 use Rattle.book_endpoint.specs.declared.phase.Phase.TheVariants.{Listen, SynSent, SynReceived}
 use Rattle.book_endpoint.specs.declared.phase.Phase.TheVariants.{Established, FinWait1, CloseWait}
 use Rattle.book_endpoint.specs.declared.phase.Phase.TheVariants.{Closing, LastAck, Closed}
-use Rattle.book_endpoint.specs.States.{EndState, window, own_mss, given_end}
+use Rattle.book_endpoint.specs.States.{EndState, window, greatest_window, own_mss, given_end}
 
 -- A segment that an end is about to make, and the state after it (own).
 pub record Draft : Type 0 where
@@ -274,7 +274,7 @@ ao_place false = 0
 abbrev pub told_window : EndState → ℕ → ℕ
 told_window s flags =
     if sets flags RST then 0
-    else (if sets flags ACK then window s else 65535)
+    else (if sets flags ACK then window s else greatest_window)
 
 -- The segment of a draft with this MAC, its checksum still 0 (RFC 9293, section 3.1).
 abbrev pub written : Pair → EndState → Draft → Sending → List ℕ → Segment

@@ -55,9 +55,14 @@ ready_at s = first s.peer_isn + length s.taken
 abbrev pub ready_count : EndState → ℕ
 ready_count s = below_limit s.fin s.expected - ready_at s
 
--- RCV.WND: how many bytes may still be received (RFC 9293, section 3.8.6; the 65,535: own).
+-- The greatest window that a segment tells, 16 bits without a scale (RFC 9293, section 3.1).
+abbrev pub greatest_window : ℕ
+greatest_window = 65535
+
+-- RCV.WND: how many bytes may still be received, of as many as the greatest window tells (RFC 9293,
+-- section 3.8.6; how many: own).
 abbrev pub window : EndState → ℕ
-window s = 65535 - ready_count s
+window s = greatest_window - ready_count s
 
 -- The bytes that are received in order and not taken (RFC 9293, section 3.10.3).
 unfoldable pub ready : EndState → List ℕ
@@ -113,7 +118,7 @@ started pair isn peer = record (beginning pair Established isn) {
   una = isn + 1;
   next = isn + 1;
   expected = peer + 1;
-  send_window = 65535;
+  send_window = greatest_window;
   wl1 = peer;
   wl2 = isn + 1;
   mss = own_mss pair.local.address;
@@ -128,10 +133,11 @@ abbrev pub is_closed : Phase → Bool
 is_closed Closed = true
 is_closed _ = false
 
--- How many bytes may still be given: 65,535 that aren't acknowledged, and all numbers, with that of
--- the own FIN, are below 2^63 (own).
+-- How many bytes may still be given: as many as the greatest window tells aren't acknowledged, and
+-- all numbers, with that of the own FIN, are below the limit of numbers (own).
 abbrev pub room : EndState → ℕ
-room s = min (65535 - (given_end s - max s.una (s.isn + 1))) (number_limit - 1 - given_end s)
+room s =
+    min (greatest_window - (given_end s - max s.una (s.isn + 1))) (number_limit - 1 - given_end s)
 
 -- Bytes may be given where neither close nor abort was called and the end isn't closed (RFC 9293,
 -- section 3.10.2).
@@ -142,14 +148,20 @@ gives s = not s.closing && not (is_closed s.phase)
 abbrev pub give : List ℕ → EndState → EndState
 give piece s = record s { given = s.given ++ piece }
 
+-- What an end that is offered a piece may say, in the words of who offers it (RFC 9293, section
+-- 3.10.2).
+pub record Offers (B : Type 0) : Type 0 where
+  pub closed : B  -- it takes none
+  pub full : B  -- it has no room for the piece
+  pub done : B  -- the piece is given
+
 -- A piece is offered, and told with the state after it: `closed` where the end takes none, else
 -- `full` where it has no room for it, else `done` (RFC 9293, section 3.10.2).
-abbrev pub offered :
-    {A B : Type 0} → (EndState → B → A) → (closed full done : B) → List ℕ → EndState → A
-offered tell closed full done piece s =
-    if not (gives s) then tell s closed
-    else (if nat_lt (room s) (length piece) then tell s full
-    else tell (give piece s) done)
+abbrev pub offered : {A B : Type 0} → (EndState → B → A) → Offers B → List ℕ → EndState → A
+offered tell words piece s =
+    if not (gives s) then tell s words.closed
+    else (if nat_lt (room s) (length piece) then tell s words.full
+    else tell (give piece s) words.done)
 
 -- Data is heard in the phases in which the peer's FIN may still come (RFC 9293, section 3.10.7.4).
 abbrev pub hears : Phase → Bool

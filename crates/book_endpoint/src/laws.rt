@@ -2,14 +2,15 @@
 ghost use Rattle.std.specs.Prelude.{◌≡◌, ◌↔◌, ◌⊎◌, ℕ, ◌+◌, ◌-◌, ◌<◌, Bool, true, false, List, length, Option, Some, Ok, Err};
 ghost use Rattle.book_base.specs.declared.address.Pair.{Pair};
 ghost use Rattle.book_segments.specs.Received.{runs};
-ghost use Rattle.book_segments.specs.Segments.{Segment, Read};
+ghost use Rattle.book_segments.specs.Segments.{Segment, Read, has, RST};
 ghost use Rattle.book_keys.specs.Rows.{Row};
 ghost use Rattle.book_endpoint.specs.declared.phase.Phase.TheVariants.{SynReceived, CloseWait, Closed};
 ghost use Rattle.book_endpoint.specs.declared.verdict.Verdict.{Verdict};
 ghost use Rattle.book_endpoint.specs.Verdicts.{Finding, Known, judge};
 ghost use Rattle.book_endpoint.specs.Passing.{Passes};
 ghost use Rattle.book_endpoint.specs.States.{EndState, abort, hears, window};
-ghost use Rattle.book_endpoint.specs.Arrivals.{arrive, judged_by, acked, records_fin, reset, windowed};
+ghost use Rattle.book_endpoint.specs.Arrivals.{arrive, judged_by};
+ghost use Rattle.book_endpoint.specs.Hearing.{acked, records_fin, windowed};
 
 /// A segment passes exactly where each condition of the check holds: one TCP-AO option and no TCP MD5
 /// option, an acceptable row under its KeyID, a MAC of that row's length, a known context, a number in
@@ -39,9 +40,18 @@ pub fn fin_is_past_all_kept_bytes()
         → runs kept false f (s.expected + window s - f) ≡ 0 }
 {}
 
-/// A RST resets at the number expected alone (RFC 5961, section 3.2).
+/// A RST resets at the number expected alone (RFC 5961, section 3.2): an end that it leaves closed was
+/// closed, or the RST passed and has the number expected.
 pub fn reset_is_at_the_expected_number()
-    ensures { (s : EndState) (n : ℕ) → (reset s n).state.phase ≡ Closed → (n ≡ s.expected) ⊎ (s.phase ≡ Closed) }
+    ensures { (rows : List Row) (pair : Pair) (now : ℕ) (s : EndState) (d : Segment) → has RST d ≡ true
+        → (arrive rows pair now s (Read d)).state.phase ≡ Closed
+        → ((p : Finding) × ((arrive rows pair now s (Read d)).passed ≡ Some p) × (p.number ≡ s.expected)) ⊎ (s.phase ≡ Closed) }
+{}
+
+/// The RNextKeyID of a RST isn't heard: the current key stays (RFC 5925, section 7.5; of a RST: own).
+pub fn reset_hears_no_key()
+    ensures { (rows : List Row) (pair : Pair) (now : ℕ) (s : EndState) (d : Segment) → has RST d ≡ true
+        → (arrive rows pair now s (Read d)).state.current ≡ s.current }
 {}
 
 /// An abort closes; it makes a RST owed only where the peer may know of the end (RFC 9293, section

@@ -11,7 +11,7 @@ mod verdict;
 pub use arrival::Arrival;
 pub use laws::{
     abort_closes, fin_is_past_all_kept_bytes, old_acknowledgement_tells_nothing, passes_exactly,
-    refused_changes_nothing, reset_is_at_the_expected_number,
+    refused_changes_nothing, reset_hears_no_key, reset_is_at_the_expected_number,
 };
 pub use phase::Phase;
 pub use verdict::{Passed, Verdict};

@@ -103,7 +103,7 @@ begin_new w e s = begin w e s (find (side w e).sessions s.isn)
 
 -- a piece is given, unless the end is closed or there is no room for it (own)
 abbrev pub given : List ℕ → EndState → Act
-given piece s = offered quietly HasClosed Full Done piece s
+given piece s = offered quietly (record { closed = HasClosed; full = Full; done = Done }) piece s
 
 -- the entry of a segment in the history: each gets the next number from 1 (own)
 abbrev pub made_of : End → World → EndState → Emission → Made

@@ -16,12 +16,15 @@ use Rattle.book_endpoint.specs.declared.phase.Phase.TheVariants.{Listen, SynSent
 use Rattle.book_endpoint.specs.declared.arrival.Arrival.TheVariants.{Foreign, Checksum, Closed as AtClosed, Unexpected, Window, Challenge, NoAck, BadAck}
 use Rattle.book_endpoint.specs.States.{EndState, window, room, gives, give, taking, take_out, at_end, is_closed, hears, close_in, close, abort, is_due, tick_in, connected, listening, started}
 use Rattle.book_endpoint.specs.Verdicts.{Judgement}
-use Rattle.book_endpoint.specs.Arrivals.{Moved, Arrived, answered, owing, above, fits_window, rested, finish, pass_fin, fin_of, records_fin, heard_runs, hear_data, acked_fin, windowed, acked, go_on, acknowledged, reset, ordinary, syn_alone, syn_ack_alone, in_listen, in_syn_sent, after_check, unmoved, heard, arrive_judged, judged_by, from_peer, arrive_read, arrive}
+use Rattle.book_endpoint.specs.Arrivals.{Arrived, syn_alone, syn_ack_alone, unmoved, heard, judged_by, from_peer, arrive}
+use Rattle.book_endpoint.specs.Hearing.{Moved, answered, owing, above, fits_window, rested, finish, pass_fin, fin_of, records_fin, acked_fin, windowed, acked}
+use Rattle.endpoint_steps.specs.Arriving.{heard_runs, hear_data, go_on, acknowledged, reset, ordinary, in_listen, in_syn_sent, after_check, arrive_judged, arrive_read}
 use Rattle.book_endpoint.specs.Emissions.{Draft, Emitted, Quiet, NoKey, Emits, is_silent, is_syn_sent, is_syn_received, unsent, rst_draft, syn_draft, syn_ack_draft, data_draft, fin_draft, fin_again_draft, ack_draft, sends_data, sends_fin, fitting, resends, is_blocked, most_bytes, blank, seal_known}
 use Rattle.endpoint_steps.specs.Drafting.{to_emit, unacknowledged, probe, to_resend, keyed, emitted}
 use Rattle.endpoint_steps.proofs.Drafting.{emit_by_drafts, resend_by_drafts}
 use Rattle.book_segments.specs.Bytes.{ring}
 use Rattle.book_endpoint.specs.States.{given_end}
+use Rattle.endpoint_steps.proofs.Arriving.{read_by_cases}
 use Rattle.book_link.specs.Alterations.{has_place, altered}
 use Rattle.book_link.specs.declared.event.Event.{Event}
 use Rattle.book_link.specs.declared.event.Event.TheVariants.{Clock, Connect, Listen as Await, Start, Give, Fill, Send, Resend, Deliver, Inject, Alter, Take, Close, Abort, AddRow, Withdraw, Dump}
@@ -229,8 +232,7 @@ read_same rows pair now s (Read d) =
     choose (ArrivedSame s) (is_closed s.phase) (unmoved s AtClosed) _ (λ v. refl) (λ v. judged_same rows pair now s d (judged_by rows pair now s d))))
 
 come_same : (setup : Setup) (e : End) (w : World) (bytes : List ℕ) (s : EndState) → Same s (come setup e w bytes s)
-unfolding arrive
-come_same setup e w bytes s = read_same (side w e).rows (pair_of setup e) (side w e).clock s (reading bytes)
+come_same setup e w bytes s = subst (λ (a : Arrived). ArrivedSame s a) (read_by_cases (side w e).rows (pair_of setup e) (side w e).clock s (reading bytes)) (read_same (side w e).rows (pair_of setup e) (side w e).clock s (reading bytes))
 
 -- ---- the ends
 

@@ -4,4 +4,4 @@
 
 mod laws;
 
-pub use laws::emit_by_drafts;
+pub use laws::{arrivals_by_steps, emit_by_drafts};

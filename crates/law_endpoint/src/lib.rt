@@ -1,7 +1,7 @@
-//! What an arrival does to an end, as one table of cases, and that it is what the book says. A
-//! theorem alone, as the contract of an empty function.
+//! What an arrival leaves of an end, read off the table of its cases. A theorem alone, as the contract
+//! of an empty function.
 #![tactic(auto)]
 
 mod laws;
 
-pub use laws::arrivals_by_cases;
+pub use laws::only_what_is_taken_moves;

@@ -27,7 +27,9 @@ use Rattle.book_endpoint.specs.Verdicts.{Finding, Judgement, mac_of, found_with,
 use Rattle.book_endpoint.proofs.JudgeSteps.{judge_number, judge_context, judge_row, judge_ao, judge_by_steps}
 use Rattle.book_endpoint.specs.declared.arrival.Arrival.{Arrival}
 use Rattle.book_endpoint.specs.declared.arrival.Arrival.TheVariants.{Bad, Foreign, Checksum, Closed as AtClosed, Refused, Reset}
-use Rattle.book_endpoint.specs.Arrivals.{Arrived, unmoved, heard, after_check, arrive_judged, number_expected, numbers_known, judged_by, from_peer, arrive_read, arrive}
+use Rattle.book_endpoint.specs.Arrivals.{Arrived, unmoved, heard, number_expected, numbers_known, judged_by, from_peer, arrive}
+use Rattle.endpoint_steps.specs.Arriving.{after_check, arrive_judged, arrive_read}
+use Rattle.endpoint_steps.proofs.Arriving.{read_by_cases}
 use Rattle.law_link.proofs.Tests.{choose, not_false}
 use Rattle.law_link.proofs.Phases.{waits}
 use Rattle.law_link.proofs.Sound.{Sound, Later, later_refl, steady_later, steady_sound}
@@ -183,5 +185,5 @@ read_ok rows pair now s bytes (Read d) is all h whole =
     (judged rows pair now s d fits.sequence) h whole)))
 
 pub arrive_ok : (rows : List Row) (pair : Pair) (now : ℕ) (s : EndState) (bytes : List ℕ) → AreBytes bytes → Sound s → Whole s → ArrivedOk pair s bytes (arrive rows pair now s (reading bytes))
-unfolding arrive
-arrive_ok rows pair now s bytes all h whole = read_ok rows pair now s bytes (reading bytes) refl all h whole
+arrive_ok rows pair now s bytes all h whole =
+    subst (λ (a : Arrived). ArrivedOk pair s bytes a) (read_by_cases rows pair now s (reading bytes)) (read_ok rows pair now s bytes (reading bytes) refl all h whole)

@@ -10,7 +10,9 @@ use Rattle.book_endpoint.specs.declared.phase.Phase.TheVariants.{Listen, SynSent
 use Rattle.book_endpoint.specs.States.{EndState, window}
 use Rattle.book_segments.specs.Received.{below_limit, keep, first_missing, runs}
 use Rattle.book_endpoint.specs.declared.arrival.Arrival.TheVariants.{Challenge, NoAck, Reset}
-use Rattle.book_endpoint.specs.Arrivals.{Moved, answered, owing, reset, above, in_range, fits_window, rested, finish, past_fin, pass_fin, fin_of, heard_runs, hear_data, after_own_fin, acked_fin, windowed, acked, go_on, acknowledged, ordinary, syn_alone, syn_ack_alone, after_check}
+use Rattle.book_endpoint.specs.Arrivals.{syn_alone, syn_ack_alone}
+use Rattle.book_endpoint.specs.Hearing.{Moved, answered, owing, above, in_range, fits_window, rested, finish, past_fin, pass_fin, fin_of, after_own_fin, acked_fin, windowed, acked}
+use Rattle.endpoint_steps.specs.Arriving.{reset, heard_runs, hear_data, go_on, acknowledged, ordinary, after_check}
 use Rattle.law_link.proofs.Tests.{not_false}
 use Rattle.law_link.proofs.Moves.{following}
 use Rattle.law_link.proofs.Stream.{fm_low, keep-cases}

@@ -14,10 +14,13 @@ use Rattle.book_endpoint.specs.declared.phase.Phase.{Phase}
 use Rattle.book_endpoint.specs.declared.phase.Phase.TheVariants.{Listen, SynSent, SynReceived, Established, TimeWait}
 use Rattle.book_endpoint.specs.States.{EndState, window, hears, is_closed, given_end}
 use Rattle.book_endpoint.specs.Verdicts.{Judgement}
-use Rattle.book_endpoint.specs.Arrivals.{Moved, Arrived, answered, owing, above, fits_window, rested, finish, past_fin, pass_fin, fin_of, records_fin, heard_runs, hear_data, after_own_fin, acked_fin, windowed, acked, go_on, acknowledged, reset, ordinary, syn_alone, syn_ack_alone, after_check, unmoved, heard, arrive_judged, judged_by, from_peer, arrive_read, arrive}
+use Rattle.book_endpoint.specs.Arrivals.{Arrived, syn_alone, syn_ack_alone, unmoved, heard, judged_by, from_peer, arrive}
+use Rattle.book_endpoint.specs.Hearing.{Moved, answered, owing, above, fits_window, rested, finish, past_fin, pass_fin, fin_of, records_fin, after_own_fin, acked_fin, windowed, acked}
+use Rattle.endpoint_steps.specs.Arriving.{heard_runs, hear_data, go_on, acknowledged, reset, ordinary, after_check, arrive_judged, arrive_read}
 use Rattle.book_endpoint.specs.Emissions.{Draft, Emitted, Quiet, NoKey, Emits, is_silent, is_syn_sent, is_syn_received, unsent, rst_draft, syn_draft, syn_ack_draft, data_draft, again_draft, fin_draft, fin_again_draft, ack_draft, sends_data, sends_fin, fitting, resends, is_blocked, most_bytes, blank, seal_known, emit, resend}
 use Rattle.endpoint_steps.specs.Drafting.{to_emit, unacknowledged, probe, to_resend, keyed, emitted}
 use Rattle.endpoint_steps.proofs.Drafting.{emit_by_drafts, resend_by_drafts}
+use Rattle.endpoint_steps.proofs.Arriving.{read_by_cases}
 use Rattle.law_link.proofs.Tests.{choose}
 
 -- these bytes were given
@@ -109,8 +112,7 @@ read_given rows pair now s (Read d) =
     choose P (is_closed s.phase) (unmoved s AtClosed) _ (λ v. refl) (λ v. judged_given rows pair now s d (judged_by rows pair now s d))))
 
 pub arrive_given : (rows : List Row) (pair : Pair) (now : ℕ) (s : EndState) (r : Reading) → (arrive rows pair now s r).state.given ≡ s.given
-unfolding arrive
-arrive_given rows pair now s r = read_given rows pair now s r
+arrive_given rows pair now s r = subst (λ (a : Arrived). a.state.given ≡ s.given) (read_by_cases rows pair now s r) (read_given rows pair now s r)
 
 -- ---- a segment that is made
 

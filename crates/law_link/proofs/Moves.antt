@@ -8,7 +8,9 @@ use Rattle.book_endpoint.specs.declared.phase.Phase.TheVariants.{Listen, SynSent
 use Rattle.book_endpoint.specs.States.{EndState, window}
 use Rattle.book_segments.specs.Received.{keep, below_limit, first_missing, runs}
 use Rattle.book_endpoint.specs.declared.arrival.Arrival.TheVariants.{Unexpected, Window, Challenge, NoAck, BadAck, TooManyRuns, Reset, Taken}
-use Rattle.book_endpoint.specs.Arrivals.{Moved, answered, owing, above, in_range, fits_window, rested, finish, past_fin, pass_fin, fin_of, heard_runs, hear_data, after_own_fin, acked_fin, windowed, acked, go_on, acknowledged, ordinary, told_by_syn, syn_alone, syn_ack_alone, after_check}
+use Rattle.book_endpoint.specs.Arrivals.{syn_alone, syn_ack_alone}
+use Rattle.book_endpoint.specs.Hearing.{Moved, answered, owing, above, in_range, fits_window, rested, finish, past_fin, pass_fin, fin_of, after_own_fin, acked_fin, windowed, acked, told_by_syn}
+use Rattle.endpoint_steps.specs.Arriving.{heard_runs, hear_data, go_on, acknowledged, ordinary, after_check}
 use Rattle.law_link.proofs.Tests.{choose, not_false}
 use Rattle.law_link.proofs.Phases.{waits, PhaseOk, own_ok, past_ok, closed_ok, established_ok, received_ok, answered_ok}
 use Rattle.law_link.proofs.Sound.{Sound, Steady, steady_refl, steady_then, with_phase, learns}

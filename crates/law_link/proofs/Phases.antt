@@ -3,7 +3,7 @@ use Rattle.std.proofs.Common.{◌≡◌, Bool, true, false, refl}
 use Rattle.book_endpoint.specs.declared.phase.Phase.{Phase}
 use Rattle.book_endpoint.specs.declared.phase.Phase.TheVariants.{Listen, SynSent, SynReceived, Established, FinWait1, FinWait2, CloseWait, Closing, LastAck, TimeWait, Closed}
 use Rattle.book_endpoint.specs.States.{hears, abort_resets}
-use Rattle.book_endpoint.specs.Arrivals.{past_fin, after_own_fin}
+use Rattle.book_endpoint.specs.Hearing.{past_fin, after_own_fin}
 use Rattle.book_endpoint.specs.Emissions.{is_sending, is_silent, is_syn_sent, is_syn_received, fin_sent, resends}
 
 -- the own FIN was made, or the end is closed

@@ -25,8 +25,10 @@ use Rattle.book_endpoint.specs.States.{EndState, is_closed}
 use Rattle.book_endpoint.specs.Verdicts.{Key, key_of, Finding, mac_of, found_with, segment_number}
 use Rattle.book_endpoint.specs.declared.arrival.Arrival.{Arrival}
 use Rattle.book_endpoint.specs.declared.arrival.Arrival.TheVariants.{Foreign, Checksum, Closed as AtClosed, Unexpected, Window, Challenge, NoAck, BadAck, TooManyRuns, Reset, Taken}
-use Rattle.book_endpoint.specs.Arrivals.{Arrived, unmoved, heard, after_check, arrive_judged, number_expected, judged_by, from_peer, arrive_read, arrive}
+use Rattle.book_endpoint.specs.Arrivals.{Arrived, unmoved, heard, number_expected, judged_by, from_peer, arrive}
+use Rattle.endpoint_steps.specs.Arriving.{after_check, arrive_judged, arrive_read}
 use Rattle.book_endpoint.specs.Emissions.{Draft, Emission, sets, written, blank, own_ao, seal_of, input_of}
+use Rattle.endpoint_steps.proofs.Arriving.{read_by_cases}
 use Rattle.book_segments.specs.Spelling.{finished}
 use Rattle.law_link.proofs.Tests.{choose, by_bool, not_true}
 use Rattle.law_link.proofs.Sound.{Sound, Later}
@@ -70,8 +72,8 @@ read_heard rows pair now s d ours right awake h =
 
 arrive_heard : (rows : List Row) (pair : Pair) (now : ℕ) (s : EndState) (bytes : List ℕ) (d : Segment) → reading bytes ≡ Read d → IsHeard (arrive_read rows pair now s (Read d)).answer
     → IsHeard (arrive rows pair now s (reading bytes)).answer
-unfolding arrive
-arrive_heard rows pair now s bytes d reads h = subst (λ r. IsHeard (arrive_read rows pair now s r).answer) (sym reads) h
+arrive_heard rows pair now s bytes d reads h =
+    subst (λ (a : Arrived). IsHeard a.answer) (read_by_cases rows pair now s (reading bytes)) (subst (λ r. IsHeard (arrive_read rows pair now s r).answer) (sym reads) h)
 
 -- ---- the pairs
 

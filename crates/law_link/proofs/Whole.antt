@@ -9,7 +9,9 @@ use Rattle.book_endpoint.specs.declared.phase.Phase.{Phase}
 use Rattle.book_endpoint.specs.declared.phase.Phase.TheVariants.{Listen, SynSent, SynReceived, Established, TimeWait, Closed}
 use Rattle.book_endpoint.specs.States.{EndState, first, window, hears}
 use Rattle.book_segments.specs.Received.{below_limit, keep, first_missing, runs}
-use Rattle.book_endpoint.specs.Arrivals.{Moved, owing, above, in_range, fits_window, rested, finish, past_fin, pass_fin, fin_of, heard_runs, hear_data, after_own_fin, acked_fin, windowed, acked, go_on, acknowledged, ordinary, syn_alone, syn_ack_alone, after_check}
+use Rattle.book_endpoint.specs.Arrivals.{syn_alone, syn_ack_alone}
+use Rattle.book_endpoint.specs.Hearing.{Moved, owing, above, in_range, fits_window, rested, finish, past_fin, pass_fin, fin_of, after_own_fin, acked_fin, windowed, acked}
+use Rattle.endpoint_steps.specs.Arriving.{heard_runs, hear_data, go_on, acknowledged, ordinary, after_check}
 use Rattle.book_endpoint.specs.Emissions.{is_silent}
 use Rattle.law_link.proofs.Tests.{not_true}
 use Rattle.law_link.proofs.Phases.{waits, open_now, PhaseKept, own_kept, past_kept, closed_kept, hears_speaks}

@@ -1,5 +1,5 @@
 -- The window that an end knows after an arrival: the one that it knew before, or the one that the segment tells.
-use Rattle.std.proofs.Common.{◌≡◌, ℕ, ◌+◌, ◌%◌, ◌==◌, Bool, true, false, not, ◌&&◌, ◌||◌, nat_lt, length, Option, Some, None, ◌⊎◌, inl, inr, if◌then◌else◌, refl, ◌∙◌, Ok, Err}
+use Rattle.std.proofs.Common.{◌≡◌, ℕ, ◌+◌, ◌%◌, ◌==◌, Bool, true, false, not, ◌&&◌, ◌||◌, nat_lt, length, Option, Some, None, ◌⊎◌, inl, inr, if◌then◌else◌, refl, subst, ◌∙◌, Ok, Err}
 use Rattle.book_base.specs.declared.address.Pair.{Pair}
 use Rattle.book_segments.specs.Bytes.{ring}
 use Rattle.book_segments.specs.Meant.{meant}
@@ -13,7 +13,10 @@ use Rattle.book_endpoint.specs.declared.phase.Phase.TheVariants.{Listen, SynSent
 use Rattle.book_endpoint.specs.declared.arrival.Arrival.TheVariants.{Foreign, Checksum, Closed as AtClosed, Unexpected, Window, Challenge, NoAck, BadAck, Reset, Taken}
 use Rattle.book_endpoint.specs.States.{EndState, window, hears, is_closed}
 use Rattle.book_endpoint.specs.Verdicts.{Judgement}
-use Rattle.book_endpoint.specs.Arrivals.{Moved, Arrived, answered, owing, above, fits_window, rested, past_fin, pass_fin, fin_of, records_fin, heard_runs, hear_data, after_own_fin, acked_fin, windowed, acked, go_on, acknowledged, reset, ordinary, told_by_syn, syn_alone, syn_ack_alone, after_check, unmoved, arrive_judged, judged_by, from_peer, arrive}
+use Rattle.book_endpoint.specs.Arrivals.{Arrived, syn_alone, syn_ack_alone, unmoved, judged_by, from_peer, arrive}
+use Rattle.book_endpoint.specs.Hearing.{Moved, answered, owing, above, fits_window, rested, past_fin, pass_fin, fin_of, records_fin, after_own_fin, acked_fin, windowed, acked, told_by_syn}
+use Rattle.endpoint_steps.specs.Arriving.{heard_runs, hear_data, go_on, acknowledged, reset, ordinary, after_check, arrive_judged}
+use Rattle.endpoint_steps.proofs.Arriving.{read_by_cases}
 use Rattle.law_link.proofs.Moves.{following}
 use Rattle.law_link.proofs.Tests.{choose}
 
@@ -107,9 +110,9 @@ judged_told rows pair now s d (Err why) = inl refl
 judged_told rows pair now s d (Ok p) = check_told pair s (follow s.current rows pair p.rnext_key_id now) d p.number now s.phase
 
 pub arrive_told : (rows : List Row) (pair : Pair) (now : ℕ) (s : EndState) (d : Segment) → IsTold s (arrive rows pair now s (Read d)).state d.window
-unfolding arrive
 arrive_told rows pair now s d =
     let P : Arrived → Type 0 = λ a. IsTold s a.state d.window in
-    choose P (not (from_peer pair d)) (unmoved s Foreign) _ (λ e. inl refl) (λ e1.
+    subst P (read_by_cases rows pair now s (Read d))
+    (choose P (not (from_peer pair d)) (unmoved s Foreign) _ (λ e. inl refl) (λ e1.
     choose P (not (good d)) (unmoved s Checksum) _ (λ e. inl refl) (λ e2.
-    choose P (is_closed s.phase) (unmoved s AtClosed) (arrive_judged rows pair now s d (judged_by rows pair now s d)) (λ e. inl refl) (λ e3. judged_told rows pair now s d (judged_by rows pair now s d))))
+    choose P (is_closed s.phase) (unmoved s AtClosed) (arrive_judged rows pair now s d (judged_by rows pair now s d)) (λ e. inl refl) (λ e3. judged_told rows pair now s d (judged_by rows pair now s d)))))

@@ -11,7 +11,7 @@ use Rattle.book_cmd_node.specs.declared.node.Act.{Act}
 use Rattle.book_cmd_node.specs.declared.node.Act.TheVariants as act
 use Rattle.book_cmd_node.specs.declared.node.NodeEvent.{NodeEvent}
 use Rattle.book_cmd_node.specs.declared.node.NodeEvent.TheVariants as event
-use Rattle.book_cmd_node.specs.NodeRuns.{Held, NodeState, NodeStep, Called, DatagramAnswered, Performed, NodeFull, InUse, NoRoom, ConnectionClosing, NothingToSend, NothingToResend, called, made_called, take_called, same_pair, held_end, ends_ticked, stays, after_call, on_held, new_end, on_other, on_pair, arrived_at, injected, node_step}
+use Rattle.book_cmd_node.specs.NodeRuns.{Held, NodeState, NodeStep, Called, DatagramAnswered, Performed, NodeFull, InUse, node_offers, NothingToSend, NothingToResend, called, made_called, take_called, same_pair, held_end, ends_ticked, stays, after_call, on_held, new_end, on_other, on_pair, arrived_at, injected, node_step}
 use Rattle.book_segments.specs.Segments.{pair_reached}
 use Rattle.law_node.specs.Alone.{is_for, is_mine, is_placed}
 use Rattle.law_node.proofs.Held.{held, IsOnce, end_with_same, end_with_other, end_without_other, end_ticked, end_pushed_other, end_pushed_same, once_with, once_without, once_ticked, once_pushed}
@@ -19,7 +19,7 @@ use Rattle.law_node.proofs.Pairs.{same_pair_is, same_pair-refl}
 
 -- a call of a held end
 abbrev act_on : List Row → Pair → ℕ → EndState → Act → Called
-act_on rows pair now s (act.Give piece) = offered called ConnectionClosing NoRoom Performed piece s
+act_on rows pair now s (act.Give piece) = offered called node_offers piece s
 act_on rows pair now s (act.Take count) = take_called count s
 act_on rows pair now s act.Send = made_called s NothingToSend (emit rows pair now s)
 act_on rows pair now s act.Resend = made_called s NothingToResend (resend rows pair now s)

@@ -19,10 +19,13 @@ use Rattle.book_endpoint.specs.declared.phase.Phase.TheVariants.{Listen, SynSent
 use Rattle.book_endpoint.specs.declared.arrival.Arrival.TheVariants.{Foreign, Checksum, Closed as AtClosed, BadAck}
 use Rattle.book_endpoint.specs.States.{EndState, first, window, is_closed, given_end, room, gives, give, close_in, abort, is_due, tick_in, connected, listening, started}
 use Rattle.book_endpoint.specs.Verdicts.{Judgement}
-use Rattle.book_endpoint.specs.Arrivals.{Moved, Arrived, answered, owing, above, fits_window, rested, past_fin, pass_fin, fin_of, records_fin, heard_runs, hear_data, after_own_fin, acked_fin, windowed, acked, go_on, acknowledged, ordinary, syn_alone, syn_ack_alone, after_check, unmoved, arrive_judged, judged_by, from_peer, arrive_read, arrive}
+use Rattle.book_endpoint.specs.Arrivals.{Arrived, syn_alone, syn_ack_alone, unmoved, judged_by, from_peer, arrive}
+use Rattle.book_endpoint.specs.Hearing.{Moved, answered, owing, above, fits_window, rested, past_fin, pass_fin, fin_of, records_fin, after_own_fin, acked_fin, windowed, acked}
+use Rattle.endpoint_steps.specs.Arriving.{heard_runs, hear_data, go_on, acknowledged, ordinary, after_check, arrive_judged, arrive_read}
 use Rattle.book_endpoint.specs.Emissions.{Draft, Emitted, Quiet, NoKey, is_sending, is_silent, is_syn_sent, is_syn_received, fin_sent, unsent, rst_draft, syn_draft, syn_ack_draft, data_draft, again_draft, fin_draft, fin_again_draft, ack_draft, sends_data, sends_fin, fitting, resends, is_blocked, most_bytes, blank, seal_known}
 use Rattle.endpoint_steps.specs.Drafting.{to_emit, unacknowledged, probe, to_resend, keyed, emitted}
 use Rattle.endpoint_steps.proofs.Drafting.{emit_by_drafts, resend_by_drafts}
+use Rattle.endpoint_steps.proofs.Arriving.{read_by_cases}
 use Rattle.book_link.specs.Alterations.{has_place, altered}
 use Rattle.book_link.specs.declared.event.Event.{Event}
 use Rattle.book_link.specs.declared.event.Event.TheVariants.{Clock, Connect, Listen as Await, Start, Give, Fill, Send, Resend, Deliver, Inject, Alter, Take, Close, Abort, AddRow, Withdraw, Dump}
@@ -289,8 +292,7 @@ read_calm rows pair now s (Read d) h =
     choose P (is_closed s.phase) (unmoved s AtClosed) (arrive_judged rows pair now s d (judged_by rows pair now s d)) (λ t. h) (λ t. judged_calm rows pair now s d (judged_by rows pair now s d) h)))
 
 come_calm : (setup : Setup) (e : End) (w : World) (bytes : List ℕ) (s : EndState) → Calm s → Calm (come setup e w bytes s).state
-unfolding arrive
-come_calm setup e w bytes s h = read_calm (side w e).rows (pair_of setup e) (side w e).clock s (reading bytes) h
+come_calm setup e w bytes s h = subst (λ (a : Arrived). Calm a.state) (read_by_cases (side w e).rows (pair_of setup e) (side w e).clock s (reading bytes)) (read_calm (side w e).rows (pair_of setup e) (side w e).clock s (reading bytes) h)
 
 -- ---- the sides
 

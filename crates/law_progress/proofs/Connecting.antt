@@ -14,7 +14,7 @@ use Rattle.book_keys.specs.Plans.{has_sendable}
 use Rattle.book_endpoint.specs.declared.phase.Phase.{Phase}
 use Rattle.book_endpoint.specs.declared.phase.Phase.TheVariants.{Listen, SynSent, SynReceived, Established}
 use Rattle.book_endpoint.specs.States.{EndState, first, window, take_out, is_closed}
-use Rattle.book_endpoint.specs.Arrivals.{fits_window}
+use Rattle.book_endpoint.specs.Hearing.{fits_window}
 use Rattle.book_endpoint.specs.Emissions.{Draft, is_silent, is_sending, is_syn_sent, is_syn_received, sets, unsent, window_end, syn_draft, syn_ack_draft, data_draft, ack_draft, sends_data, fitting, most_bytes, emit}
 use Rattle.endpoint_steps.specs.Drafting.{to_emit, emitted}
 use Rattle.endpoint_steps.proofs.Drafting.{emit_by_drafts}

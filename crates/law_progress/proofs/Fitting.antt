@@ -20,10 +20,13 @@ use Rattle.book_endpoint.specs.declared.phase.Phase.TheVariants.{Listen, SynSent
 use Rattle.book_endpoint.specs.declared.arrival.Arrival.TheVariants.{Foreign, Checksum, Closed as AtClosed}
 use Rattle.book_endpoint.specs.States.{EndState, window, hears, passed_fin, is_closed, given_end, room, gives, give, close_in, abort, is_due, tick_in, beginning, started, own_mss, default_mss}
 use Rattle.book_endpoint.specs.Verdicts.{Judgement}
-use Rattle.book_endpoint.specs.Arrivals.{Moved, Arrived, owing, above, in_range, fits_window, rested, finish, past_fin, pass_fin, fin_of, heard_runs, hear_data, after_own_fin, acked_fin, windowed, acked, go_on, acknowledged, ordinary, peer_mss, syn_alone, syn_ack_alone, after_check, unmoved, arrive_judged, judged_by, from_peer, arrive_read, arrive}
+use Rattle.book_endpoint.specs.Arrivals.{Arrived, syn_alone, syn_ack_alone, unmoved, judged_by, from_peer, arrive}
+use Rattle.book_endpoint.specs.Hearing.{Moved, owing, above, in_range, fits_window, rested, finish, past_fin, pass_fin, fin_of, after_own_fin, acked_fin, windowed, acked, peer_mss}
+use Rattle.endpoint_steps.specs.Arriving.{heard_runs, hear_data, go_on, acknowledged, ordinary, after_check, arrive_judged, arrive_read}
 use Rattle.book_endpoint.specs.Emissions.{Draft, Emitted, Quiet, NoKey, is_sending, is_silent, is_syn_sent, is_syn_received, unsent, fin_sent, rst_draft, syn_draft, syn_ack_draft, data_draft, again_draft, fin_draft, fin_again_draft, ack_draft, sends_data, sends_fin, fitting, resends, is_blocked, most_bytes, blank, seal_known}
 use Rattle.endpoint_steps.specs.Drafting.{to_emit, unacknowledged, probe, to_resend, keyed, emitted}
 use Rattle.endpoint_steps.proofs.Drafting.{emit_by_drafts, resend_by_drafts}
+use Rattle.endpoint_steps.proofs.Arriving.{read_by_cases}
 use Rattle.book_link.specs.Outcomes.{Outcome, Idle, Nothing}
 use Rattle.book_link.specs.Worlds.{Setup, pair_of, Session, LinkSide, Happening, World, side}
 use Rattle.book_link.specs.Steps.{Act, put, sent, send, send_again, come, given, acted, act_on}
@@ -606,8 +609,8 @@ read_fit rows pair now s (Read d) sound whole h =
     choose P (is_closed s.phase) (unmoved s AtClosed) (arrive_judged rows pair now s d (judged_by rows pair now s d)) (λ t. h) (λ t. judged_fit rows pair now s d (judged_by rows pair now s d) sound whole h)))
 
 pub come_fit : (setup : Setup) (e : End) (w : World) (bytes : List ℕ) (s : EndState) → Sound s → Whole s → Fit s → Fit (come setup e w bytes s).state
-unfolding arrive
-come_fit setup e w bytes s sound whole h = read_fit (side w e).rows (pair_of setup e) (side w e).clock s (reading bytes) sound whole h
+come_fit setup e w bytes s sound whole h =
+    subst (λ (a : Arrived). Fit a.state) (read_by_cases (side w e).rows (pair_of setup e) (side w e).clock s (reading bytes)) (read_fit (side w e).rows (pair_of setup e) (side w e).clock s (reading bytes) sound whole h)
 
 -- ---- a session begins
 

@@ -14,7 +14,9 @@ use Rattle.book_endpoint.specs.declared.phase.Phase.{Phase}
 use Rattle.book_endpoint.specs.declared.phase.Phase.TheVariants.{Listen, SynSent, SynReceived, Established, TimeWait}
 use Rattle.book_endpoint.specs.declared.arrival.Arrival.TheVariants.{Taken, Unexpected, Window, Challenge, NoAck, BadAck}
 use Rattle.book_endpoint.specs.States.{EndState, window, hears}
-use Rattle.book_endpoint.specs.Arrivals.{Moved, answered, owing, above, fits_window, reset, rested, pass_fin, fin_of, records_fin, heard_runs, hear_data, after_own_fin, acked_fin, windowed, acked, go_on, acknowledged, ordinary, told_by_syn, syn_alone, syn_ack_alone, after_check}
+use Rattle.book_endpoint.specs.Arrivals.{syn_alone, syn_ack_alone}
+use Rattle.book_endpoint.specs.Hearing.{Moved, answered, owing, above, fits_window, rested, pass_fin, fin_of, records_fin, after_own_fin, acked_fin, windowed, acked, told_by_syn}
+use Rattle.endpoint_steps.specs.Arriving.{reset, heard_runs, hear_data, go_on, acknowledged, ordinary, after_check}
 use Rattle.book_endpoint.specs.Emissions.{Draft, Quiet, is_sending, is_silent, is_syn_sent, is_syn_received, unsent, rst_draft, syn_draft, syn_ack_draft, data_draft, fin_draft, ack_draft, window_end, sends_data, sends_fin, fitting, resends, is_blocked, sets, most_bytes, blank, seal_known, emit, resend}
 use Rattle.endpoint_steps.specs.Drafting.{to_emit, unacknowledged, probe, to_resend, keyed, emitted}
 use Rattle.endpoint_steps.proofs.Drafting.{emit_by_drafts, resend_by_drafts}

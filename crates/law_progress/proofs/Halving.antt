@@ -12,7 +12,8 @@ use Rattle.book_keys.specs.Plans.{has_sendable}
 use Rattle.book_endpoint.specs.declared.phase.Phase.TheVariants.{SynReceived, Established, LastAck, Closed}
 use Rattle.book_endpoint.specs.declared.arrival.Arrival.TheVariants.{Window, Challenge}
 use Rattle.book_endpoint.specs.States.{EndState, first, window, take_out, given_end, is_closed, hears}
-use Rattle.book_endpoint.specs.Arrivals.{Moved, answered, owing, fits_window, reset, ordinary, after_check}
+use Rattle.book_endpoint.specs.Hearing.{Moved, answered, owing, fits_window}
+use Rattle.endpoint_steps.specs.Arriving.{reset, ordinary, after_check}
 use Rattle.book_endpoint.specs.Emissions.{Draft, Emitted, Quiet, is_silent, is_sending, is_syn_received, sets, sends_data, sends_fin, syn_ack_draft, ack_draft, emit, resend}
 use Rattle.book_link.specs.Worlds.{other, Setup, pair_of, Session, World, side, is_known}
 use Rattle.book_link.specs.Runs.{run_from}

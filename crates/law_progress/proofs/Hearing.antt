@@ -9,7 +9,8 @@ use Rattle.book_segments.proofs.Fields.{lt_is, lt_not, some_is}
 use Rattle.book_endpoint.specs.declared.phase.Phase.{Phase}
 use Rattle.book_endpoint.specs.declared.phase.Phase.TheVariants.{Listen, SynSent, SynReceived, Established, FinWait1, FinWait2, CloseWait, Closing, LastAck, TimeWait, Closed}
 use Rattle.book_endpoint.specs.States.{EndState, first, window, hears}
-use Rattle.book_endpoint.specs.Arrivals.{Moved, answered, owing, above, in_range, fits_window, rested, finish, past_fin, pass_fin, fin_of, records_fin, heard_runs, hear_data, after_own_fin, acked_fin, windowed, acked, go_on, acknowledged, ordinary, after_check}
+use Rattle.book_endpoint.specs.Hearing.{Moved, answered, owing, above, in_range, fits_window, rested, finish, past_fin, pass_fin, fin_of, records_fin, after_own_fin, acked_fin, windowed, acked}
+use Rattle.endpoint_steps.specs.Arriving.{heard_runs, hear_data, go_on, acknowledged, ordinary, after_check}
 use Rattle.book_endpoint.specs.declared.arrival.Arrival.TheVariants.{Window, BadAck}
 use Rattle.law_link.proofs.Tests.{choose, by_bool}
 use Rattle.law_link.proofs.Stream.{fm_low, fm_high, fm_stop, not_some}

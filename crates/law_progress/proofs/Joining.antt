@@ -10,7 +10,8 @@ use Rattle.book_keys.specs.Rows.{Row}
 use Rattle.book_keys.specs.Coordination.{Sending, follow}
 use Rattle.book_keys.specs.Plans.{AlignedFrom, has_sendable}
 use Rattle.book_endpoint.specs.States.{EndState, take_out, is_closed}
-use Rattle.book_endpoint.specs.Arrivals.{heard, passes, after_check, arrive}
+use Rattle.book_endpoint.specs.Arrivals.{heard, passes, arrive}
+use Rattle.endpoint_steps.specs.Arriving.{after_check}
 use Rattle.book_endpoint.specs.Emissions.{Draft, Emitted, Quiet, Emits, sets, sealed, emit, resend}
 use Rattle.book_link.specs.declared.event.Event.{Event}
 use Rattle.book_link.specs.declared.event.Event.TheVariants.{Send, Resend, Deliver, Take}

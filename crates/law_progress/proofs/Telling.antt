@@ -18,10 +18,12 @@ use Rattle.book_endpoint.specs.declared.phase.Phase.TheVariants.{Listen, SynSent
 use Rattle.book_endpoint.specs.declared.arrival.Arrival.TheVariants.{Foreign, Checksum, Closed as AtClosed}
 use Rattle.book_endpoint.specs.States.{EndState, first, given_end, is_closed, close_in, abort, give, gives, room, is_due, tick_in, tick}
 use Rattle.book_endpoint.specs.Verdicts.{Finding, Judgement}
-use Rattle.book_endpoint.specs.Arrivals.{Arrived, unmoved, after_check, arrive_judged, judged_by, from_peer, arrive_read, arrive}
+use Rattle.book_endpoint.specs.Arrivals.{Arrived, unmoved, judged_by, from_peer, arrive}
+use Rattle.endpoint_steps.specs.Arriving.{after_check, arrive_judged, arrive_read}
 use Rattle.book_endpoint.specs.Emissions.{Draft, Emitted, Quiet, NoKey, is_sending, is_silent, is_syn_sent, is_syn_received, unsent, fin_sent, rst_draft, syn_draft, syn_ack_draft, data_draft, again_draft, fin_draft, fin_again_draft, ack_draft, sends_data, sends_fin, fitting, resends, is_blocked, sets, most_bytes, blank, sealed, seal_known}
 use Rattle.endpoint_steps.specs.Drafting.{to_emit, unacknowledged, probe, to_resend, keyed, emitted}
 use Rattle.endpoint_steps.proofs.Drafting.{emit_by_drafts, resend_by_drafts}
+use Rattle.endpoint_steps.proofs.Arriving.{read_by_cases}
 use Rattle.book_link.specs.Outcomes.{Outcome, Idle, Nothing, Done, Full, HasClosed}
 use Rattle.book_link.specs.Worlds.{other, Setup, pair_of, Session, LinkSide, Made, Came, Happening, Making, Coming, World, side, find, forgeries}
 use Rattle.book_link.specs.Steps.{Act, add, put, quietly, made_of, sent, send, send_again, came, come, took, given, acted, act_on, begin, ticked, with_clock, with_sessions}
@@ -350,8 +352,9 @@ read_told setup e w bytes s (Read d) reads fit passes =
 
 arrive_told : (setup : Setup) (e : End) (w : World) (bytes : List ℕ) (s : EndState) → Fit s → Passes (pair_of setup e) s bytes (arrive (side w e).rows (pair_of setup e) (side w e).clock s (reading bytes))
     → ActTold setup e s (came e w bytes s (arrive (side w e).rows (pair_of setup e) (side w e).clock s (reading bytes)))
-unfolding arrive
-arrive_told setup e w bytes s fit passes = read_told setup e w bytes s (reading bytes) refl fit passes
+arrive_told setup e w bytes s fit passes =
+    let same = read_by_cases (side w e).rows (pair_of setup e) (side w e).clock s (reading bytes) in
+    subst (λ (a : Arrived). ActTold setup e s (came e w bytes s a)) same (read_told setup e w bytes s (reading bytes) refl fit (subst (λ (a : Arrived). Passes (pair_of setup e) s bytes a) (sym same) passes))
 
 pub come_told : (setup : Setup) (e : End) (w : World) (bytes : List ℕ) (s : EndState) → AreBytes bytes → Sound s → Whole s → Fit s → ActTold setup e s (come setup e w bytes s)
 come_told setup e w bytes s all sound whole fit =

@@ -18,8 +18,11 @@ use Rattle.book_endpoint.specs.declared.phase.Phase.TheVariants.{LastAck, Closed
 use Rattle.book_endpoint.specs.declared.arrival.Arrival.TheVariants.{Foreign, Checksum, Closed as AtClosed}
 use Rattle.book_endpoint.specs.States.{EndState, window, ready, ready_at, ready_count, taking, take_out, given_end, is_closed, hears}
 use Rattle.book_endpoint.specs.Verdicts.{Finding, Key, key_of, same_master_key}
-use Rattle.book_endpoint.specs.Arrivals.{Arrived, unmoved, heard, passes, fits_window, after_check, arrive_judged, judged_by, from_peer, arrive_read, arrive}
+use Rattle.book_endpoint.specs.Arrivals.{Arrived, unmoved, heard, passes, judged_by, from_peer, arrive}
+use Rattle.book_endpoint.specs.Hearing.{fits_window}
+use Rattle.endpoint_steps.specs.Arriving.{after_check, arrive_judged, arrive_read}
 use Rattle.book_endpoint.specs.Emissions.{Draft, Emission, Emitted, Quiet, Emits, sets, sealed}
+use Rattle.endpoint_steps.proofs.Arriving.{read_by_cases}
 use Rattle.book_link.specs.declared.event.Event.{Event}
 use Rattle.book_link.specs.declared.event.Event.TheVariants.{Deliver, Take}
 use Rattle.book_link.specs.Outcomes.{Outcome, Sent}
@@ -133,14 +136,14 @@ in_window n (suc l) x w wide low high = grind (arith, nat_tests)
 
 pub arrives_so : (rows : List Row) (pair : Pair) (now : ℕ) (s : EndState) (bytes : List ℕ) (d : Segment) (p : Finding) → reading bytes ≡ Read d → from_peer pair d ≡ true → good d ≡ true → is_closed s.phase ≡ false → judged_by rows pair now s d ≡ Ok p
     → arrive rows pair now s (reading bytes) ≡ arrive_judged rows pair now s d (Ok p)
-unfolding arrive
 arrives_so rows pair now s bytes d p reads ours right awake verdict =
     let goal = arrive_judged rows pair now s d (Ok p) in
     let P : Arrived → Type 0 = λ r. r ≡ goal in
-    subst (λ (k : Reading). P (arrive_read rows pair now s k)) (sym reads)
+    subst P (read_by_cases rows pair now s (reading bytes))
+    (subst (λ (k : Reading). P (arrive_read rows pair now s k)) (sym reads)
     (choose P (not (from_peer pair d)) (unmoved s Foreign) _ (λ e. absurd (not_so (from_peer pair d) ours e)) (λ e1.
     choose P (not (good d)) (unmoved s Checksum) _ (λ e. absurd (not_so (good d) right e)) (λ e2.
-    choose P (is_closed s.phase) (unmoved s AtClosed) _ (λ e. absurd (cc)) (λ e3. ap (arrive_judged rows pair now s d) verdict))))
+    choose P (is_closed s.phase) (unmoved s AtClosed) _ (λ e. absurd (cc)) (λ e3. ap (arrive_judged rows pair now s d) verdict)))))
   where
     not_so : (b : Bool) → b ≡ true → not b ≡ true → ⊥
     not_so true e g = absurd (cc)

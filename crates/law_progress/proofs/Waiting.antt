@@ -15,11 +15,13 @@ use Rattle.book_endpoint.specs.declared.phase.Phase.TheVariants.{Listen, SynSent
 use Rattle.book_endpoint.specs.declared.arrival.Arrival.TheVariants.{Foreign, Checksum, Closed as AtClosed}
 use Rattle.book_endpoint.specs.States.{EndState, is_closed, room, gives, close_in, is_due, tick_in, connected, listening, started}
 use Rattle.book_endpoint.specs.Verdicts.{Judgement}
-use Rattle.book_endpoint.specs.Arrivals.{Arrived, unmoved, from_peer, arrive_judged, judged_by, arrive_read, arrive}
+use Rattle.book_endpoint.specs.Arrivals.{Arrived, unmoved, from_peer, judged_by, arrive}
+use Rattle.endpoint_steps.specs.Arriving.{arrive_judged, arrive_read}
 use Rattle.book_endpoint.specs.Emissions.{Draft, Emitted, Quiet, NoKey, Emits, is_sending, is_silent, is_syn_sent, is_syn_received, rst_draft, syn_draft, syn_ack_draft, data_draft, again_draft, fin_draft, fin_again_draft, ack_draft, sends_data, sends_fin, fitting, resends, is_blocked, most_bytes, seal_known, emit, resend, blank}
 use Rattle.endpoint_steps.specs.Drafting.{to_emit, unacknowledged, probe, to_resend, keyed, emitted}
 use Rattle.endpoint_steps.proofs.Drafting.{emit_by_drafts, resend_by_drafts}
 use Rattle.book_endpoint.specs.States.{given_end}
+use Rattle.endpoint_steps.proofs.Arriving.{read_by_cases}
 use Rattle.book_macs.specs.Contexts.{context_of}
 use Rattle.book_link.specs.Alterations.{has_place, altered}
 use Rattle.book_link.specs.declared.event.Event.{Event}
@@ -153,8 +155,7 @@ read_una rows pair now s (Read d) h =
     choose P (is_closed s.phase) (unmoved s AtClosed) (arrive_judged rows pair now s d (judged_by rows pair now s d)) (λ t. omega arith) (λ t. judged_una rows pair now s d (judged_by rows pair now s d) h)))
 
 come_una : (setup : Setup) (e : End) (w : World) (bytes : List ℕ) (s : EndState) → Calm s → s.una ≤ (come setup e w bytes s).state.una
-unfolding arrive
-come_una setup e w bytes s h = read_una (side w e).rows (pair_of setup e) (side w e).clock s (reading bytes) h
+come_una setup e w bytes s h = subst (λ (a : Arrived). s.una ≤ a.state.una) (read_by_cases (side w e).rows (pair_of setup e) (side w e).clock s (reading bytes)) (read_una (side w e).rows (pair_of setup e) (side w e).clock s (reading bytes) h)
 
 come_holds : (setup : Setup) (e : End) (w : World) (bytes : List ℕ) (s : EndState) → Calm s → Holds s (come setup e w bytes s).state
 come_holds setup e w bytes s h = record {

@@ -25,7 +25,10 @@ use Rattle.book_endpoint.specs.declared.verdict.Verdict.{Verdict}
 use Rattle.book_endpoint.specs.declared.verdict.Verdict.TheVariants.{BadMac, MacLength, NoContext, Range}
 use Rattle.book_endpoint.specs.States.{EndState, hears, number_limit, window}
 use Rattle.book_endpoint.specs.Verdicts.{Finding, Judgement, Known, found_with, judge, mac_of, segment_number, one_ao, require, row_taking}
-use Rattle.book_endpoint.specs.Arrivals.{acked, acked_fin, acknowledged, after_check, arrive, arrive_judged, go_on, hear_data, heard, heard_runs, judged_by, numbers_known, ordinary, windowed}
+use Rattle.book_endpoint.specs.Arrivals.{arrive, heard, judged_by, numbers_known}
+use Rattle.book_endpoint.specs.Hearing.{acked, acked_fin, windowed}
+use Rattle.endpoint_steps.specs.Arriving.{acknowledged, after_check, arrive_judged, arrive_read, go_on, hear_data, heard_runs, ordinary}
+use Rattle.endpoint_steps.proofs.Arriving.{read_by_cases}
 use Rattle.book_stack.specs.Stacks.{handed}
 use Rattle.law_stack.specs.Handed.{IsHandedWell, IsTakenAlike}
 
@@ -159,9 +162,11 @@ judged_same rows pair now s d c (Ok p) = rw (check_same pair s (heard rows pair 
 
 -- a checksum that is as right changes nothing
 arrive_same : (rows : List Row) (pair : Pair) (now : ℕ) (s : EndState) (d : Segment) (c : ℕ) → good (with_sum d c) ≡ good d → arrive rows pair now s (Read (with_sum d c)) ≡ arrive rows pair now s (Read d)
-unfolding arrive
 arrive_same rows pair now s d c same =
-    rw (same, judge_same rows pair (numbers_known s) now d c, judged_same rows pair now s d c (judged_by rows pair now s d)) refl
+    sym (read_by_cases rows pair now s (Read (with_sum d c))) ∙ read_same ∙ read_by_cases rows pair now s (Read d)
+  where
+    read_same : arrive_read rows pair now s (Read (with_sum d c)) ≡ arrive_read rows pair now s (Read d)
+    read_same = rw (same, judge_same rows pair (numbers_known s) now d c, judged_same rows pair now s d c (judged_by rows pair now s d)) refl
 
 -- ---- the datagram as it is handed out
 

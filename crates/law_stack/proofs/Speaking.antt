@@ -15,10 +15,13 @@ use Rattle.book_endpoint.specs.declared.phase.Phase.{Phase}
 use Rattle.book_endpoint.specs.declared.phase.Phase.TheVariants.{CloseWait, Closed, Closing, Established, FinWait1, FinWait2, LastAck, Listen, SynReceived, SynSent, TimeWait}
 use Rattle.book_endpoint.specs.States.{EndState, abort, abort_resets, close, close_in, given_end, hears, is_closed, is_due, tick, tick_in, window}
 use Rattle.book_endpoint.specs.Verdicts.{Judgement}
-use Rattle.book_endpoint.specs.Arrivals.{Arrived, Moved, above, acked, acked_fin, acknowledged, after_check, after_own_fin, answered, arrive, arrive_judged, arrive_read, fin_of, fits_window, from_peer, go_on, hear_data, heard, heard_runs, in_listen, in_syn_sent, judged_by, told_by_syn, ordinary, owing, pass_fin, past_fin, records_fin, reset, rested, syn_ack_alone, syn_alone, unmoved, windowed}
+use Rattle.book_endpoint.specs.Arrivals.{Arrived, arrive, from_peer, heard, judged_by, syn_ack_alone, syn_alone, unmoved}
+use Rattle.book_endpoint.specs.Hearing.{Moved, above, acked, acked_fin, after_own_fin, answered, fin_of, fits_window, told_by_syn, owing, pass_fin, past_fin, records_fin, rested, windowed}
+use Rattle.endpoint_steps.specs.Arriving.{acknowledged, after_check, arrive_judged, arrive_read, go_on, hear_data, heard_runs, in_listen, in_syn_sent, ordinary, reset}
 use Rattle.book_endpoint.specs.Emissions.{Draft, Emission, Quiet, NoKey, Emits, ack_draft, blank, data_draft, emit, fin_draft, fin_sent, fitting, is_silent, is_syn_received, is_syn_sent, most_bytes, resend, resends, rst_draft, seal_known, sealed, sends_data, sends_fin, syn_ack_draft, syn_draft, unsent, is_blocked, again_draft, fin_again_draft}
 use Rattle.endpoint_steps.specs.Drafting.{emitted, keyed, to_emit, to_resend, unacknowledged}
 use Rattle.endpoint_steps.proofs.Drafting.{emit_by_drafts, resend_by_drafts}
+use Rattle.endpoint_steps.proofs.Arriving.{read_by_cases}
 use Rattle.book_stack.specs.Watches.{is_heard}
 
 -- who may speak knows the peer's initial sequence number, nothing is acknowledged that wasn't sent, and a segment has room for bytes
@@ -281,8 +284,7 @@ read_well rows pair now s d h =
     pick false a b f g = g refl
 
 pub arrive_well : (rows : List Row) (pair : Pair) (now : ℕ) (s : EndState) (d : Segment) → Speaks s → ArrivedWell s (arrive rows pair now s (Read d))
-unfolding arrive
-arrive_well rows pair now s d h = read_well rows pair now s d h
+arrive_well rows pair now s d h = subst (λ (a : Arrived). ArrivedWell s a) (read_by_cases rows pair now s (Read d)) (read_well rows pair now s d h)
 
 -- ---- the calls that make no segment
 

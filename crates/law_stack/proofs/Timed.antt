@@ -15,7 +15,7 @@ use Rattle.book_endpoint.specs.Emissions.{emit, resend}
 use Rattle.book_cmd_node.specs.declared.node.Act.{Act}
 use Rattle.book_cmd_node.specs.declared.node.Act.TheVariants as act
 use Rattle.book_cmd_node.specs.declared.node.NodeEvent.TheVariants as event
-use Rattle.book_cmd_node.specs.NodeRuns.{DatagramAnswered, Called, Performed, NoRoom, ConnectionClosing, Held, NothingToSend, InUse, NodeFull, NodeOutcome, NodeState, NodeStep, NothingToResend, Transmitted, NoUsableKey, take_called, called, ends_ticked, held_end, made_called, most_ends, new_end, node_step, on_held, on_pair, same_pair, stays, without_end}
+use Rattle.book_cmd_node.specs.NodeRuns.{DatagramAnswered, Called, Performed, NoRoom, ConnectionClosing, node_offers, Held, NothingToSend, InUse, NodeFull, NodeOutcome, NodeState, NodeStep, NothingToResend, Transmitted, NoUsableKey, take_called, called, ends_ticked, held_end, made_called, most_ends, new_end, node_step, on_held, on_pair, same_pair, stays, without_end}
 use Rattle.book_segments.specs.Segments.{pair_reached}
 use Rattle.book_stack.specs.declared.alarm.Alarm.{Alarm}
 use Rattle.book_stack.specs.declared.front.Change.{Change}
@@ -324,7 +324,7 @@ keeps_held : (rows : List Row) (n : NodeState) (p q : Pair) (e : EndState) (a : 
 keeps_held rows n p q e (act.Open isn) was k = is_held_with p q e e n.ends was
 keeps_held rows n p q e (act.Listen isn) was k = is_held_with p q e e n.ends was
 keeps_held rows n p q e (act.Start isn peer) was k = is_held_with p q e e n.ends was
-keeps_held rows n p q e (act.Give piece) was k = is_held_with p q e (offered called ConnectionClosing NoRoom Performed piece e).state n.ends was
+keeps_held rows n p q e (act.Give piece) was k = is_held_with p q e (offered called node_offers piece e).state n.ends was
 keeps_held rows n p q e (act.Take count) was k = is_held_with p q e (take_called count e).state n.ends was
 keeps_held rows n p q e act.Send was k = is_held_with p q e (made_called e NothingToSend (emit rows p n.clock e)).state n.ends was
 keeps_held rows n p q e act.Resend was k = is_held_with p q e (made_called e NothingToResend (resend rows p n.clock e)).state n.ends was

@@ -20,7 +20,9 @@ use Rattle.book_endpoint.specs.declared.verdict.Verdict.TheVariants.{NoTuple, Ex
 use Rattle.book_endpoint.specs.Verdicts.{Finding, Judgement, key_of, mac_of, found_with, segment_number}
 use Rattle.book_endpoint.proofs.JudgeSteps.{judge_number, judge_context, judge_row, judge_ao, judge_by_steps}
 use Rattle.book_endpoint.specs.declared.arrival.Arrival.TheVariants.{Foreign, Checksum, Closed as AtClosed}
-use Rattle.book_endpoint.specs.Arrivals.{Arrived, unmoved, arrive_judged, number_expected, numbers_known, judged_by, from_peer, arrive_read, arrive}
+use Rattle.book_endpoint.specs.Arrivals.{Arrived, unmoved, number_expected, numbers_known, judged_by, from_peer, arrive}
+use Rattle.endpoint_steps.specs.Arriving.{arrive_judged, arrive_read}
+use Rattle.endpoint_steps.proofs.Arriving.{read_by_cases}
 use Rattle.ao_check.specs.Verdicts.{Names}
 use Rattle.tcp_endpoint.specs.Arriving.{TellsPassed}
 use Rattle.tcp_endpoint.specs.declared.arrival.Arrived.{Arrived as Told}
@@ -128,8 +130,7 @@ read_numbered rows pair now s (Read d) =
     verdict_numbered rows pair now s d (judged_by rows pair now s d) (judged_numbered rows pair now s d))))
 
 arrive_numbered : (rows : List Row) (pair : Pair) (now : ℕ) (s : EndState) (r : Reading) → IsNumbered (arrive rows pair now s r).passed
-unfolding arrive
-arrive_numbered rows pair now s r = read_numbered rows pair now s r
+arrive_numbered rows pair now s r = subst (λ (a : Arrived). IsNumbered a.passed) (read_by_cases rows pair now s r) (read_numbered rows pair now s r)
 
 put_history : (w : World) (e : End) (now : EndSide) (h : Option Happening) → (put w e now h).history ≡ add h w.history
 put_history w A now h = refl

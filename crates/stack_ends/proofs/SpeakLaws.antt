@@ -53,11 +53,11 @@ stood_if false true piece s e S = S
 stood_if false false piece s e S = S
 
 -- the end stands for what a node makes of it where a piece was given
-pub given_stands : (s : EndState) (piece : List ℕ) (e : Endpoint) → Stands e (offered piece s) → Stands e (states.offered node.called node.ConnectionClosing node.NoRoom node.Performed piece s).state
+pub given_stands : (s : EndState) (piece : List ℕ) (e : Endpoint) → Stands e (offered piece s) → Stands e (states.offered node.called node.node_offers piece s).state
 given_stands s piece e S = stood_if (not (gives s)) (nat_lt (room s) (length piece)) piece s e S
 
 -- what a node answers where a piece was given
-pub given_called : (s : EndState) (piece : List ℕ) (r : GiveAnswer) → r ≡ give_answer s piece → (states.offered node.called node.ConnectionClosing node.NoRoom node.Performed piece s).outcome ≡ given_as r
+pub given_called : (s : EndState) (piece : List ℕ) (r : GiveAnswer) → r ≡ give_answer s piece → (states.offered node.called node.node_offers piece s).outcome ≡ given_as r
 given_called s piece r e = given_if (not (gives s)) (nat_lt (room s) (length piece)) piece s r e
 
 -- ---- what is told

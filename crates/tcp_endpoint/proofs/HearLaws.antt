@@ -6,7 +6,8 @@ use Rattle.book_segments.specs.Segments.{Segment, has, FIN}
 use Rattle.book_endpoint.specs.declared.phase.Phase.{Phase}
 use Rattle.book_endpoint.specs.declared.phase.Phase.TheVariants.{Listen, SynSent, SynReceived, Established, FinWait1, FinWait2, CloseWait, Closing, LastAck, TimeWait, Closed}
 use Rattle.book_endpoint.specs.States as states
-use Rattle.book_endpoint.specs.Arrivals as book
+use Rattle.book_endpoint.specs.Hearing as hearing
+use Rattle.endpoint_steps.specs.Arriving as stages
 use Rattle.book_segments.specs.Received.{keep, first_missing, runs, below_limit}
 use Rattle.stream_buffers.specs.Kept.{Kept, IsKept, Shows, byte_at, grown, window, missing_then, runs_then}
 use Rattle.book_endpoint.specs.declared.arrival.Arrival.{Arrival}
@@ -20,7 +21,7 @@ use Rattle.tcp_endpoint.specs.Arriving.{Reaches}
 use Rattle.tcp_endpoint.proofs.ReadyLaws.{ready_from, window_is}
 use Rattle.tcp_endpoint.proofs.StreamLaws.{SameFrom, none_of, grown_clear, grown_same, missing_then_is, runs_then_is, records_same}
 
-pub reaches_of : {e : Endpoint} {a : Arrival} {m : book.Moved} (t : states.EndState) (b : Arrival) → m ≡ book.answered t b → Stands e t → a ≡ b → Reaches e a m
+pub reaches_of : {e : Endpoint} {a : Arrival} {m : hearing.Moved} (t : states.EndState) (b : Arrival) → m ≡ hearing.answered t b → Stands e t → a ≡ b → Reaches e a m
 reaches_of {e} {a} {m} t b q st an = subst (λ z. Reaches e a z) (sym q) (record { stands = st; answer_is = an })
 
 pub hearing_open : (p : Phase) → states.hears p ≡ true → before_fin p ≡ true
@@ -43,13 +44,13 @@ kept_map s d n = keep s.received (record { number = n; bytes = d.payload }) (rec
 -- a FIN is recorded
 abbrev pub recorded : states.EndState → Segment → ℕ → Bool
 recorded s d n =
-    has FIN d && book.in_range (n + length d.payload) s.expected (s.expected + states.window s)
+    has FIN d && hearing.in_range (n + length d.payload) s.expected (s.expected + states.window s)
     && (runs (kept_map s d n) false (n + length d.payload) (s.expected + states.window s - (n + length d.payload)) == 0)
 
 -- the state before the FIN is passed
 abbrev pub kept_state : states.EndState → Segment → ℕ → states.EndState
 kept_state s d n =
-    record s { received = kept_map s d n; fin = book.fin_of s.fin (recorded s d n) (n + length d.payload); ack_owed = true; expected = first_missing (kept_map s d n) s.expected (states.window s) }
+    record s { received = kept_map s d n; fin = hearing.fin_of s.fin (recorded s d n) (n + length d.payload); ack_owed = true; expected = first_missing (kept_map s d n) s.expected (states.window s) }
 
 -- the state after
 abbrev pub heard_state : states.EndState → Segment → ℕ → states.EndState
@@ -57,25 +58,25 @@ heard_state s d n =
     let t = kept_state s d n in
     record t { expected = past_or (is_at t.fin t.expected) t.expected; phase = phase_past (is_at t.fin t.expected) s.phase }
 
-passed : (t : states.EndState) (f : ℕ) (b : Bool) → (b ≡ true → f ≡ t.expected) → (if b then record t { expected = f + 1; phase = book.past_fin t.phase } else t) ≡ record t { expected = past_or b t.expected; phase = phase_past b t.phase }
-passed t f true h = let e = h refl in ap (λ z. record t { expected = z + 1; phase = book.past_fin t.phase }) e
+passed : (t : states.EndState) (f : ℕ) (b : Bool) → (b ≡ true → f ≡ t.expected) → (if b then record t { expected = f + 1; phase = hearing.past_fin t.phase } else t) ≡ record t { expected = past_or b t.expected; phase = phase_past b t.phase }
+passed t f true h = let e = h refl in ap (λ z. record t { expected = z + 1; phase = hearing.past_fin t.phase }) e
 passed t f false h = refl
 
 equal_of : (f x : ℕ) → (f == x) ≡ true → f ≡ x
 equal_of f x h = grind (arith, nat_tests)
 
-pass_is : (t : states.EndState) (fin : Option ℕ) → book.pass_fin t fin ≡ record t { expected = past_or (is_at fin t.expected) t.expected; phase = phase_past (is_at fin t.expected) t.phase }
+pass_is : (t : states.EndState) (fin : Option ℕ) → hearing.pass_fin t fin ≡ record t { expected = past_or (is_at fin t.expected) t.expected; phase = phase_past (is_at fin t.expected) t.phase }
 pass_is t None = refl
 pass_is t (Some f) = passed t f (f == t.expected) (equal_of f t.expected)
 
 pub data_is : (s : states.EndState) (d : Segment) (n now : ℕ) → nat_lt 64 (runs (kept_map s d n) false (first_missing (kept_map s d n) s.expected (states.window s)) (s.expected + states.window s - first_missing (kept_map s d n) s.expected (states.window s))) ≡ false
-    → book.hear_data s d n now true ≡ book.finish (heard_state s d n) now
+    → stages.hear_data s d n now true ≡ hearing.finish (heard_state s d n) now
 data_is s d n now test =
-    ap (λ b. book.heard_runs s (kept_map s d n) d n now b) test ∙ ap (λ z. book.finish z now) (pass_is (kept_state s d n) (kept_state s d n).fin)
+    ap (λ b. stages.heard_runs s (kept_map s d n) d n now b) test ∙ ap (λ z. hearing.finish z now) (pass_is (kept_state s d n) (kept_state s d n).fin)
 
 pub many_is : (s : states.EndState) (d : Segment) (n now : ℕ) → nat_lt 64 (runs (kept_map s d n) false (first_missing (kept_map s d n) s.expected (states.window s)) (s.expected + states.window s - first_missing (kept_map s d n) s.expected (states.window s))) ≡ true
-    → book.hear_data s d n now true ≡ book.answered (book.owing s) answers.TooManyRuns
-many_is s d n now test = ap (λ b. book.heard_runs s (kept_map s d n) d n now b) test
+    → stages.hear_data s d n now true ≡ hearing.answered (hearing.owing s) answers.TooManyRuns
+many_is s d n now test = ap (λ b. stages.heard_runs s (kept_map s d n) d n now b) test
 
 -- what holds of the buffer before
 pub record Before (e : Endpoint) (s : states.EndState) : Type 0 where
@@ -111,14 +112,14 @@ bytes_kept e s h open_too d n x fin q k shows =
     let same = grown_same e.reassembly s.received n s.expected (states.window s) d.payload fin s.fin b.same b.x b.w q in
     record { at = λ p le. shows.bytes p ∙ same.at p le }
 
-test_move : (fin finish : Bool) (f x y w v : ℕ) (kept : Bool) → fin ≡ finish → x ≡ y → w ≡ v → (fin && book.in_range f x (x + w) && not kept) ≡ (finish && book.in_range f y (y + v) && not kept)
+test_move : (fin finish : Bool) (f x y w v : ℕ) (kept : Bool) → fin ≡ finish → x ≡ y → w ≡ v → (fin && hearing.in_range f x (x + w) && not kept) ≡ (finish && hearing.in_range f y (y + v) && not kept)
 test_move fin finish f x y w v kept p q r = rw (p, q, r) refl
 
 pub recorded_is : (e : Endpoint) (s : states.EndState) → Stands e s → states.hears e.phase ≡ true → (d : Segment) (n missing : ℕ) (fin : Option ℕ) → fin ≡ s.fin → (k : Kept) → IsKept e.reassembly → IsKept k
     → Shows k e.reassembly.from missing (grown e.reassembly n d.payload fin)
     → (kept flag records : Bool) (x w : ℕ) → (IsTrue kept ↔ ((p : ℕ) × (n + length d.payload ≤ p) × IsSome (byte_at k p)))
     → flag ≡ has FIN d → x ≡ e.reassembly.expected → w ≡ window e.reassembly
-    → records ≡ (flag && book.in_range (n + length d.payload) x (x + w) && not kept)
+    → records ≡ (flag && hearing.in_range (n + length d.payload) x (x + w) && not kept)
     → records ≡ recorded s d n
 recorded_is e s h open_too d n missing fin q k old new shows kept flag records x w there a b c r =
     let before = before_is e s h open_too in
@@ -197,9 +198,9 @@ at_is (Some f) x h = ap Some (equal_of f x h)
 
 -- the FIN that is recorded, or the one that was
 pub record Fin (old fin : Option ℕ) (records : Bool) (at : ℕ) : Type 0 where
-  pub is : fin ≡ book.fin_of old records at
+  pub is : fin ≡ hearing.fin_of old records at
 
-fin_cases : (P : ℕ → Type 0) (old : Option ℕ) (records : Bool) (at : ℕ) → ((f : ℕ) → old ≡ Some f → P f) → (records ≡ true → P at) → (f : ℕ) → book.fin_of old records at ≡ Some f → P f
+fin_cases : (P : ℕ → Type 0) (old : Option ℕ) (records : Bool) (at : ℕ) → ((f : ℕ) → old ≡ Some f → P f) → (records ≡ true → P at) → (f : ℕ) → hearing.fin_of old records at ≡ Some f → P f
 fin_cases P (Some g) records at a b f e = a f e
 fin_cases P None true at a b f e = let q : at ≡ f = cc in subst P q (b refl)
 fin_cases P None false at a b f e = absurd (cc)
@@ -237,7 +238,7 @@ open_past false q y p x w e h o = sym o
 -- what holds of the numbers received, once payload and FIN are heard
 pub receives_past : (p q : Phase) (peer_isn : Option ℕ) (taken x y : ℕ) (heard : Bool) (old fin : Option ℕ) (k new : Kept) (records b : Bool) (at : ℕ)
     → states.hears p ≡ true → Receives p peer_isn taken x heard old k → heard ≡ true → IsKept k → IsKept new → new.from ≡ k.from
-    → fin ≡ book.fin_of old records at → (records ≡ true → (k.expected ≤ at) × (at < 2 ^ 63) × ((z : ℕ) → at ≤ z → byte_at new z ≡ None))
+    → fin ≡ hearing.fin_of old records at → (records ≡ true → (k.expected ≤ at) × (at < 2 ^ 63) × ((z : ℕ) → at ≤ z → byte_at new z ≡ None))
     → ((f z : ℕ) → old ≡ Some f → f ≤ z → byte_at new z ≡ None)
     → b ≡ is_at fin new.expected → q ≡ phase_past b p → y ≡ past_or b new.expected
     → Receives q peer_isn taken y true fin new
@@ -273,13 +274,13 @@ never : (b : Bool) → (true && b && not true) ≡ true → ⊥
 never true e = absurd (cc)
 never false e = absurd (cc)
 
-recorded_says : (flag kept records : Bool) (at x w : ℕ) → records ≡ (flag && book.in_range at x (x + w) && not kept) → records ≡ true → (flag ≡ true) × (x ≤ at) × (kept ≡ false)
-recorded_says true false records at x w e r = let t : book.in_range at x (x + w) ≡ true = within_of (book.in_range at x (x + w)) (sym e ∙ r) in (refl, grind (arith, nat_tests, t), refl)
-recorded_says true true records at x w e r = let t = never (book.in_range at x (x + w)) (sym e ∙ r) in absurd t
+recorded_says : (flag kept records : Bool) (at x w : ℕ) → records ≡ (flag && hearing.in_range at x (x + w) && not kept) → records ≡ true → (flag ≡ true) × (x ≤ at) × (kept ≡ false)
+recorded_says true false records at x w e r = let t : hearing.in_range at x (x + w) ≡ true = within_of (hearing.in_range at x (x + w)) (sym e ∙ r) in (refl, grind (arith, nat_tests, t), refl)
+recorded_says true true records at x w e r = let t = never (hearing.in_range at x (x + w)) (sym e ∙ r) in absurd t
 recorded_says false kept records at x w e r = absurd (cc)
 
 pub rec_is : (k new : Kept) (d : Segment) (n : ℕ) (kept flag records : Bool) (x w : ℕ) → (((p : ℕ) × (n + length d.payload ≤ p) × IsSome (byte_at new p)) → IsTrue kept) → flag ≡ has FIN d → x ≡ k.expected
-    → (has FIN d ≡ true → n + length d.payload < 2 ^ 63) → records ≡ (flag && book.in_range (n + length d.payload) x (x + w) && not kept)
+    → (has FIN d ≡ true → n + length d.payload < 2 ^ 63) → records ≡ (flag && hearing.in_range (n + length d.payload) x (x + w) && not kept)
     → records ≡ true → (k.expected ≤ n + length d.payload) × (n + length d.payload < 2 ^ 63) × ((z : ℕ) → n + length d.payload ≤ z → byte_at new z ≡ None)
 rec_is k new d n kept flag records x w back f e last test r =
     let says = recorded_says flag kept records (n + length d.payload) x w test r in
@@ -289,12 +290,12 @@ rec_is k new d n kept flag records x w back f e last test r =
 pub receives_heard : (e : Endpoint) (d : Segment) (n : ℕ) (q : Phase) (y : ℕ) (x : ℕ) (old fin : Option ℕ) (new : Kept) (records b : Bool)
     → states.hears e.phase ≡ true → is_some e.sequence.received ≡ true → IsKept e.reassembly → IsKept new
     → Shows new e.reassembly.from x (grown e.reassembly n d.payload old) → old ≡ fin_in e.sequence.received
-    → fin ≡ book.fin_of old records (n + length d.payload)
+    → fin ≡ hearing.fin_of old records (n + length d.payload)
     → (records ≡ true → (e.reassembly.expected ≤ n + length d.payload) × (n + length d.payload < 2 ^ 63) × ((z : ℕ) → n + length d.payload ≤ z → byte_at new z ≡ None))
     → b ≡ is_at fin new.expected → q ≡ phase_past b e.phase → y ≡ past_or b new.expected
     → Receives q e.peer_isn e.taken y true fin new
 receives_heard e d n q y x old fin new records b hears heard kept later shows o f rec pass phase over =
     receives_past e.phase q e.peer_isn e.taken (expected_in e.sequence.received) y (is_some e.sequence.received) (fin_in e.sequence.received) fin e.reassembly new records b (n + length d.payload)
-    hears e.receives heard kept later shows.from (f ∙ ap (λ z. book.fin_of z records (n + length d.payload)) o) rec
+    hears e.receives heard kept later shows.from (f ∙ ap (λ z. hearing.fin_of z records (n + length d.payload)) o) rec
     (λ g z t le. shows.bytes z ∙ grown_clear e.reassembly n d.payload old g z (o ∙ t) le (e.receives.clear g z t le))
     pass phase over

@@ -7,6 +7,7 @@ use Rattle.book_keys.specs.Rows.{Row}
 use Rattle.book_endpoint.specs.States as states
 use Rattle.book_endpoint.specs.Verdicts as v
 use Rattle.book_endpoint.specs.Arrivals as book
+use Rattle.endpoint_steps.specs.Arriving as stages
 use Rattle.ao_check.specs.Bonds.{Bond}
 use Rattle.ao_check.specs.Verdicts.{Names, Tells}
 use Rattle.book_endpoint.specs.declared.verdict.Passed.{Passed}
@@ -14,6 +15,7 @@ use Rattle.book_endpoint.specs.declared.verdict.Verdict.{Verdict}
 use Rattle.book_endpoint.specs.declared.verdict.Verdict.TheVariants as checked
 use Rattle.book_endpoint.specs.declared.arrival.Arrival.{Arrival}
 use Rattle.book_endpoint.specs.declared.arrival.Arrival.TheVariants as answers
+use Rattle.endpoint_steps.proofs.Arriving.{read_by_cases}
 use Rattle.tcp_endpoint.specs.declared.arrival.Arrived.{Arrived}
 use Rattle.tcp_endpoint.specs.declared.endpoint.Endpoint.{Endpoint}
 use Rattle.tcp_endpoint.specs.Numbers.{expected_in}
@@ -24,24 +26,24 @@ third : {X : Type 0} (a b c : Bool) (w x y z : X) → a ≡ true → b ≡ true 
 third a b c w x y z p q r = rw (p, q, r) refl
 
 judged : (rows : List Row) (pair : Pair) (now : ℕ) (s : states.EndState) (d : Segment) (w : v.Judgement) → book.from_peer pair d ≡ true → good d ≡ true → states.is_closed s.phase ≡ false → book.judged_by rows pair now s d ≡ w
-    → book.arrive rows pair now s (Read d) ≡ book.arrive_judged rows pair now s d w
-unfolding book.arrive
+    → book.arrive rows pair now s (Read d) ≡ stages.arrive_judged rows pair now s d w
 judged rows pair now s d w a b c e =
-    third (book.from_peer pair d) (good d) (states.is_closed s.phase) (book.unmoved s answers.Foreign) (book.unmoved s answers.Checksum) (book.unmoved s answers.Closed) (book.arrive_judged rows pair now s d (book.judged_by rows pair now s d)) a b c
-    ∙ ap (λ z. book.arrive_judged rows pair now s d z) e
+    sym (read_by_cases rows pair now s (Read d))
+    ∙ third (book.from_peer pair d) (good d) (states.is_closed s.phase) (book.unmoved s answers.Foreign) (book.unmoved s answers.Checksum) (book.unmoved s answers.Closed) (stages.arrive_judged rows pair now s d (book.judged_by rows pair now s d)) a b c
+    ∙ ap (λ z. stages.arrive_judged rows pair now s d z) e
 
 check_move : (pair : Pair) (rows : List Row) (s : states.EndState) (d : Segment) (now id key n number : ℕ) → id ≡ key → n ≡ number
-    → book.after_check pair s (book.heard rows pair now s id) d n now s.phase ≡ book.after_check pair s (book.heard rows pair now s key) d number now s.phase
+    → stages.after_check pair s (book.heard rows pair now s id) d n now s.phase ≡ stages.after_check pair s (book.heard rows pair now s key) d number now s.phase
 check_move pair rows s d now id key n number p q =
-    ap (λ z. book.after_check pair s (book.heard rows pair now s z) d n now s.phase) p ∙ ap (λ z. book.after_check pair s (book.heard rows pair now s key) d z now s.phase) q
+    ap (λ z. stages.after_check pair s (book.heard rows pair now s z) d n now s.phase) p ∙ ap (λ z. stages.after_check pair s (book.heard rows pair now s key) d z now s.phase) q
 
 pub arrives_pass : (rows : List Row) (pair : Pair) (now : ℕ) (s : states.EndState) (bytes : List ℕ) (d : Segment) (entry : v.Finding) (e : Endpoint) (a : Arrival) (p : Passed) (id n : ℕ)
     → reading bytes ≡ Read d → book.from_peer pair d ≡ true → good d ≡ true → states.is_closed s.phase ≡ false → book.judged_by rows pair now s d ≡ Ok entry → id ≡ entry.rnext_key_id → n ≡ entry.number
-    → Reaches e a (book.after_check pair s (book.heard rows pair now s id) d n now s.phase) → Names rows pair d p entry
+    → Reaches e a (stages.after_check pair s (book.heard rows pair now s id) d n now s.phase) → Names rows pair d p entry
     → Arrives rows pair (reading bytes) e (record { arrival = a; passed = Some p }) (book.arrive rows pair now s (reading bytes))
 arrives_pass rows pair now s bytes d entry e a p id n r peer right alive j i m reach names =
     let there = subst (λ z. Reaches e a z) (check_move pair rows s d now id entry.rnext_key_id n entry.number i m) reach in
-    let at : Arrives rows pair (Read d) e (record { arrival = a; passed = Some p }) (book.arrive_judged rows pair now s d (Ok entry)) = record { stands = there.stands; answer = there.answer_is; passed = names } in
+    let at : Arrives rows pair (Read d) e (record { arrival = a; passed = Some p }) (stages.arrive_judged rows pair now s d (Ok entry)) = record { stands = there.stands; answer = there.answer_is; passed = names } in
     subst (λ z. Arrives rows pair z e (record { arrival = a; passed = Some p }) (book.arrive rows pair now s z)) (sym r)
     (subst (λ z. Arrives rows pair (Read d) e (record { arrival = a; passed = Some p }) z) (sym (judged rows pair now s d (Ok entry) peer right alive j)) at)
 
@@ -50,7 +52,7 @@ refused_at : (rows : List Row) (pair : Pair) (now : ℕ) (s : states.EndState) (
     → Stands e s
     → Arrives rows pair (reading bytes) e (record { arrival = answers.Refused w; passed = None }) (book.arrive rows pair now s (reading bytes))
 refused_at rows pair now s bytes d e w r peer right alive j st =
-    let at : Arrives rows pair (Read d) e (record { arrival = answers.Refused w; passed = None }) (book.arrive_judged rows pair now s d (Err w)) = record { stands = st; answer = refl; passed = tt } in
+    let at : Arrives rows pair (Read d) e (record { arrival = answers.Refused w; passed = None }) (stages.arrive_judged rows pair now s d (Err w)) = record { stands = st; answer = refl; passed = tt } in
     subst (λ z. Arrives rows pair z e (record { arrival = answers.Refused w; passed = None }) (book.arrive rows pair now s z)) (sym r)
     (subst (λ z. Arrives rows pair (Read d) e (record { arrival = answers.Refused w; passed = None }) z) (sym (judged rows pair now s d (Err w) peer right alive j)) at)
 

@@ -7,7 +7,7 @@ use Rattle.std.specs.Int.{w64, FitsUnsigned}
 use Rattle.std.specs.Prelude.{nat_lt, nat_le, ◌==◌, ◌&&◌, ◌||◌, ◌↔◌, IsTrue, SomeIff, unsigned_abs, if◌then◌else◌, ℤ, pos, ◌+ℤ◌, ◌-ℤ◌, ◌<ℤ◌}
 use Rattle.book_segments.specs.Meant.{meant, IsNearest, Tells, IsAhead, IsInWindow}
 use Rattle.book_segments.proofs.Nearest.{nearest_some, nearest_told}
-use Rattle.book_endpoint.specs.Arrivals as book
+use Rattle.book_endpoint.specs.Hearing as hearing
 
 told_some : (m : Option ℕ) (n : ℕ) (z : ℤ) → m ≡ Some n → Tells m z → z ≡ pos n
 told_some m n z e t = subst (λ k. Tells k z) e t
@@ -65,21 +65,21 @@ and_true : (a b : Bool) → (a && b) ≡ true → (a ≡ true) × (b ≡ true)
 and_true true b e = (refl, e)
 and_true false b e = absurd (cc)
 
-inside : (m x y : ℕ) → x ≤ m → m < y → book.in_range m x y ≡ true
+inside : (m x y : ℕ) → x ≤ m → m < y → hearing.in_range m x y ≡ true
 inside m x y low high = let t : nat_le x m ≡ true = le-leb x m low in let u : nat_lt m y ≡ true = lt-ltb m y high in rw (t, u) refl
 
-low_of : (m x y : ℕ) → book.in_range m x y ≡ true → x ≤ m
+low_of : (m x y : ℕ) → hearing.in_range m x y ≡ true → x ≤ m
 low_of m x y t = leb-true x m (and_true (nat_le x m) (nat_lt m y) t).0
 
-high_of : (m x y : ℕ) → book.in_range m x y ≡ true → m < y
+high_of : (m x y : ℕ) → hearing.in_range m x y ≡ true → m < y
 high_of m x y t = ltb-true m y (and_true (nat_le x m) (nat_lt m y) t).1
 
 -- the test around the ring is the one by value
 pub window_test : (b : Bool) (q seq low lap x n j w : ℕ) → x ≡ lap * 4294967296 + low → seq < 2 ^ 32 → q ≡ (seq + j) % 4294967296 → j ≤ 65537 → w < 65536
-    → meant seq x ≡ Some n → (IsTrue b ↔ IsInWindow q low w) → b ≡ book.in_range (n + j) x (x + w)
+    → meant seq x ≡ Some n → (IsTrue b ↔ IsInWindow q low w) → b ≡ hearing.in_range (n + j) x (x + w)
 window_test b q seq low lap x n j w e hs eq hj hw m (to, from) =
     let near = meant_nearest seq x n hs m in
-    alike b (book.in_range (n + j) x (x + w))
+    alike b (hearing.in_range (n + j) x (x + w))
     (λ t. inside (n + j) x (x + w) (low_end q seq low lap x n j w e eq hj hw near (to t)) (high_end q seq low lap x n j w e eq hj hw near (to t)))
     (λ t. from (around q seq low lap x n j w e eq near (low_of (n + j) x (x + w) t) (high_of (n + j) x (x + w) t)))
 
@@ -96,8 +96,8 @@ expected_test seq low lap x n e hl hs m =
     alike (seq == low) (n == x) (λ t. test_of n x (same_low seq low lap x n e hl hs near (eq_of seq low t))) (λ t. test_of seq low (low_same seq low lap x n e hl hs near (eq_of n x t)))
 
 -- nothing lies in a window of 0
-nothing_within : (m x w : ℕ) → w ≡ 0 → book.in_range m x (x + w) ≡ false
-nothing_within m x w z = alike (book.in_range m x (x + w)) false (λ t. absurd (omega (arith, z, low_of m x (x + w) t, high_of m x (x + w) t))) (λ t. absurd (cc))
+nothing_within : (m x w : ℕ) → w ≡ 0 → hearing.in_range m x (x + w) ≡ false
+nothing_within m x w z = alike (hearing.in_range m x (x + w)) false (λ t. absurd (omega (arith, z, low_of m x (x + w) t, high_of m x (x + w) t))) (λ t. absurd (cc))
 
 neither : (a b : Bool) → a ≡ false → b ≡ false → (a || b) ≡ false
 neither a b p q = rw (p, q) refl
@@ -105,22 +105,22 @@ neither a b p q = rw (p, q) refl
 not_empty : (w : ℕ) → (w ≡ 0 → ⊥) → (w == 0) ≡ false
 not_empty w never = alike (w == 0) false (λ t. absurd (never (eq_of w 0 t))) (λ t. absurd (cc))
 
-fits_point : (b : Bool) (n m x w : ℕ) → (w == 0) ≡ false → m ≡ n → b ≡ book.in_range m x (x + w) → b ≡ (if w == 0 then n == x else book.in_range n x (x + w))
-fits_point b n m x w t e p = rw t (p ∙ ap (λ z. book.in_range z x (x + w)) e)
+fits_point : (b : Bool) (n m x w : ℕ) → (w == 0) ≡ false → m ≡ n → b ≡ hearing.in_range m x (x + w) → b ≡ (if w == 0 then n == x else hearing.in_range n x (x + w))
+fits_point b n m x w t e p = rw t (p ∙ ap (λ z. hearing.in_range z x (x + w)) e)
 
 -- a segment without numbers is acceptable where its number is in the window
-pub fits_none : (b : Bool) (n m l x w : ℕ) → l ≡ 0 → (w ≡ 0 → ⊥) → m ≡ n → b ≡ book.in_range m x (x + w) → b ≡ book.fits_window n l x w
-fits_none b n m l x w empty never e p = subst (λ (z : ℕ). b ≡ book.fits_window n z x w) (sym empty) (fits_point b n m x w (not_empty w never) e p)
+pub fits_none : (b : Bool) (n m l x w : ℕ) → l ≡ 0 → (w ≡ 0 → ⊥) → m ≡ n → b ≡ hearing.in_range m x (x + w) → b ≡ hearing.fits_window n l x w
+fits_none b n m l x w empty never e p = subst (λ (z : ℕ). b ≡ hearing.fits_window n z x w) (sym empty) (fits_point b n m x w (not_empty w never) e p)
 
-fits_by : (t a b : Bool) (n k x w : ℕ) → (w == 0) ≡ t → a ≡ book.in_range n x (x + w) → b ≡ book.in_range (n + k) x (x + w) → (a || b) ≡ (if t then false else (book.in_range n x (x + w) || book.in_range (n + k) x (x + w)))
+fits_by : (t a b : Bool) (n k x w : ℕ) → (w == 0) ≡ t → a ≡ hearing.in_range n x (x + w) → b ≡ hearing.in_range (n + k) x (x + w) → (a || b) ≡ (if t then false else (hearing.in_range n x (x + w) || hearing.in_range (n + k) x (x + w)))
 fits_by true a b n k x w z p q = neither a b (p ∙ nothing_within n x w (eq_of w 0 z)) (q ∙ nothing_within (n + k) x w (eq_of w 0 z))
 fits_by false a b n k x w z p q = rw (p, q) refl
 
 -- a segment with numbers is acceptable where its first or its last is in the window
-fits_some : (a b : Bool) (n m l x w : ℕ) → 0 < l → m ≡ n → a ≡ book.in_range m x (x + w) → b ≡ book.in_range (n + (l - 1)) x (x + w) → (a || b) ≡ book.fits_window n l x w
+fits_some : (a b : Bool) (n m l x w : ℕ) → 0 < l → m ≡ n → a ≡ hearing.in_range m x (x + w) → b ≡ hearing.in_range (n + (l - 1)) x (x + w) → (a || b) ≡ hearing.fits_window n l x w
 fits_some a b n m l x w h e p q =
     let whole : suc (l - 1) ≡ l = omega (arith, h) in
-    subst (λ (z : ℕ). (a || b) ≡ book.fits_window n z x w) whole (fits_by (w == 0) a b n (l - 1) x w refl (p ∙ ap (λ z. book.in_range z x (x + w)) e) q)
+    subst (λ (z : ℕ). (a || b) ≡ hearing.fits_window n z x w) whole (fits_by (w == 0) a b n (l - 1) x w refl (p ∙ ap (λ z. hearing.in_range z x (x + w)) e) q)
 
 or_first : (a b : Bool) → a ≡ true → a ≡ (a || b)
 or_first true b t = refl
@@ -130,9 +130,9 @@ or_second : (a b : Bool) → a ≡ false → b ≡ (a || b)
 or_second true b t = absurd (cc)
 or_second false b t = refl
 
-pub fits_first : (a : Bool) (n m l x w : ℕ) → 0 < l → m ≡ n → a ≡ book.in_range m x (x + w) → a ≡ true → a ≡ book.fits_window n l x w
+pub fits_first : (a : Bool) (n m l x w : ℕ) → 0 < l → m ≡ n → a ≡ hearing.in_range m x (x + w) → a ≡ true → a ≡ hearing.fits_window n l x w
 fits_first a n m l x w h e p t =
-    let last = book.in_range (n + (l - 1)) x (x + w) in or_first a last t ∙ fits_some a last n m l x w h e p refl
+    let last = hearing.in_range (n + (l - 1)) x (x + w) in or_first a last t ∙ fits_some a last n m l x w h e p refl
 
-pub fits_last : (a b : Bool) (n m l x w : ℕ) → 0 < l → m ≡ n → a ≡ book.in_range m x (x + w) → b ≡ book.in_range (n + (l - 1)) x (x + w) → a ≡ false → b ≡ book.fits_window n l x w
+pub fits_last : (a b : Bool) (n m l x w : ℕ) → 0 < l → m ≡ n → a ≡ hearing.in_range m x (x + w) → b ≡ hearing.in_range (n + (l - 1)) x (x + w) → a ≡ false → b ≡ hearing.fits_window n l x w
 fits_last a b n m l x w h e p q t = or_second a b t ∙ fits_some a b n m l x w h e p q

@@ -2,7 +2,7 @@
 use Rattle.std.proofs.Common.{◌≡◌, ℕ, zero, suc, ◌+◌, ◌-◌, ◌<◌, ◌≤◌, min, Bool, true, false, not, List, Option, Some, None, refl, sym, ap, ◌∙◌, arith, subst}
 use Rattle.std.specs.Prelude.{nat_lt, nat_le, ◌==◌, ◌&&◌, if◌then◌else◌, slice_get, is_some, IsSome, IsTrue}
 use Rattle.std.proofs.lemmas.Bool.Decides.{nat_tests}
-use Rattle.book_endpoint.specs.Arrivals as book
+use Rattle.book_endpoint.specs.Hearing as hearing
 use Rattle.book_segments.specs.Received.{keep, first_missing, runs, below_limit, first_known}
 use Rattle.stream_buffers.specs.Kept.{Kept, byte_at, grown, window, missing_then, runs_then}
 
@@ -130,9 +130,9 @@ some_found m o f x w from p s le a low high h far =
 -- a FIN is recorded where no byte is kept at or past it
 pub records_same : (fin : Bool) (f x w from : ℕ) (kept : Bool) (m o : ℕ → Option ℕ) → SameFrom from m o → from ≤ x
     → (IsTrue kept → (p : ℕ) × (f ≤ p) × IsSome (m p)) → (((p : ℕ) × (f ≤ p) × IsSome (m p)) → IsTrue kept) → ((p : ℕ) → x + w ≤ p → m p ≡ None)
-    → (fin && book.in_range f x (x + w) && not kept) ≡ (fin && book.in_range f x (x + w) && (runs o false f (x + w - f) == 0))
+    → (fin && hearing.in_range f x (x + w) && not kept) ≡ (fin && hearing.in_range f x (x + w) && (runs o false f (x + w - f) == 0))
 records_same fin f x w from kept m o s le there back far =
-    and_same fin (book.in_range f x (x + w)) (not kept) (runs o false f (x + w - f) == 0)
+    and_same fin (hearing.in_range f x (x + w)) (not kept) (runs o false f (x + w - f) == 0)
     (λ inside.
     let low : x ≤ f = grind (arith, nat_tests, inside) in
     let high : f < x + w = grind (arith, nat_tests, inside) in

@@ -9,6 +9,7 @@ use Rattle.book_endpoint.specs.declared.arrival.Arrival.{Arrival}
 use Rattle.book_endpoint.specs.declared.arrival.Arrival.TheVariants as answers
 use Rattle.book_endpoint.specs.Verdicts.{Finding}
 use Rattle.book_endpoint.specs.Arrivals as book
+use Rattle.book_endpoint.specs.Hearing as hearing
 use Rattle.ao_kdf.specs.declared.way.Way.TheVariants.{Inbound}
 use Rattle.ao_check.specs.Bonds.{Counted}
 use Rattle.ao_check.specs.Verdicts.{Names, is_judged, judging}
@@ -17,7 +18,7 @@ use Rattle.tcp_endpoint.specs.declared.endpoint.Endpoint.{Endpoint}
 use Rattle.tcp_endpoint.specs.Ends.{Stands}
 
 -- the end stands for the state that was reached, and the answer is that one
-pub record Reaches (e : Endpoint) (answer : Arrival) (m : book.Moved) : Type 0 where
+pub record Reaches (e : Endpoint) (answer : Arrival) (m : hearing.Moved) : Type 0 where
   pub stands : Stands e m.state
   pub answer_is : answer ≡ m.answer
 

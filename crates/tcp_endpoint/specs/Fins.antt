@@ -1,7 +1,7 @@
 -- The peer's FIN, where it is passed.
 use Rattle.std.specs.Prelude.{ℕ, ◌+◌, ◌==◌, Bool, true, false, Option, Some, None}
 use Rattle.book_endpoint.specs.declared.phase.Phase.{Phase}
-use Rattle.book_endpoint.specs.Arrivals.{past_fin}
+use Rattle.book_endpoint.specs.Hearing.{past_fin}
 
 -- a FIN stands at the number
 abbrev pub is_at : Option ℕ → ℕ → Bool

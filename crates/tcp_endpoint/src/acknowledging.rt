@@ -2,7 +2,7 @@
 ghost use Rattle.std.specs.Prelude.{◌≡◌, ◌<◌, ◌==◌, ◌&&◌, ◌||◌, nat_le, nat_lt, true, false, is_some};
 ghost use Rattle.wrap_seq.specs.Counter.{number};
 ghost use Rattle.book_endpoint.specs.States.{EndState};
-ghost use Rattle.book_endpoint.specs.Arrivals.{above, acked, acked_fin, windowed};
+ghost use Rattle.book_endpoint.specs.Hearing.{above, acked, acked_fin, windowed};
 ghost use Rattle.tcp_endpoint.specs.Halves.{waits};
 ghost use Rattle.tcp_endpoint.specs.Ends.{Stands};
 

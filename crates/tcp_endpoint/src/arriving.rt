@@ -7,6 +7,8 @@ ghost use Rattle.book_segments.specs.Segments.{has, FIN, SYN};
 ghost use Rattle.book_keys.specs.Rows.{Row};
 ghost use Rattle.book_endpoint.specs.States.{EndState, is_closed};
 ghost use Rattle.book_endpoint.specs.Arrivals as book;
+ghost use Rattle.book_endpoint.specs.Hearing as hearing;
+ghost use Rattle.endpoint_steps.specs.Arriving as stages;
 ghost use Rattle.ao_check.specs.Bonds.{Fits};
 ghost use Rattle.tcp_endpoint.specs.Halves.{waits};
 ghost use Rattle.tcp_endpoint.specs.Numbers.{expected_in};
@@ -34,7 +36,7 @@ fn carries(datagram: &Datagram<'_>) -> bool
 
 /// Whether a number that may be below 0 is above another.
 fn is_above(number: Option<u64>, bound: u64) -> bool
-    ensures { result ≡ book.above number bound }
+    ensures { result ≡ hearing.above number bound }
 {
     match number {
         Some(number) => bound < number,
@@ -76,7 +78,7 @@ impl Endpoint {
         requires known { is_some self.old.sequence.received ≡ true }
         requires range { InRange datagram.now number }
         requires now { now < 2 ^ 63 }
-        ensures reaches { (s : EndState) → Stands self.old s → Reaches self.new result (book.go_on s old_una datagram.now number now acknowledged) }
+        ensures reaches { (s : EndState) → Stands self.old s → Reaches self.new result (stages.go_on s old_una datagram.now number now acknowledged) }
         ensures bond { self.new.association ≡ self.old.association }
         ensures told { LeavesAll result → ⊥ }
         ensures pair { self.new.pair ≡ self.old.pair }
@@ -105,7 +107,7 @@ impl Endpoint {
         requires range { InRange datagram.now number }
         requires now { now < 2 ^ 63 }
         ensures reaches { (s : EndState) → Stands self.old s
-            → Reaches self.new result (book.acknowledged s datagram.now number now (meant datagram.now.acknowledgement s.una) s.phase) }
+            → Reaches self.new result (stages.acknowledged s datagram.now number now (meant datagram.now.acknowledgement s.una) s.phase) }
         ensures bond { self.new.association ≡ self.old.association }
         ensures told { LeavesAll result → ⊥ }
         ensures pair { self.new.pair ≡ self.old.pair }
@@ -154,7 +156,7 @@ impl Endpoint {
         requires range { InRange datagram.now number }
         requires now { now < 2 ^ 63 }
         ensures reaches { (s : EndState) → Stands self.old s
-            → Reaches self.new result (book.ordinary s (book.heard table.now.rows self.old.pair now s rnext) datagram.now number now) }
+            → Reaches self.new result (stages.ordinary s (book.heard table.now.rows self.old.pair now s rnext) datagram.now number now) }
         ensures told { LeavesAll result → ⊥ }
         ensures pair { self.new.pair ≡ self.old.pair }
         ensures fits { Fits table.now.rows self.old.association → Fits table.now.rows self.new.association }
@@ -200,7 +202,7 @@ impl Endpoint {
             → meant datagram.now.sequence (expected_in self.old.sequence.received) ≡ Some number }
         requires now { now < 2 ^ 63 }
         ensures reaches { (s : EndState) → Stands self.old s
-            → Reaches self.new result (book.after_check self.old.pair s
+            → Reaches self.new result (stages.after_check self.old.pair s
             (book.heard table.now.rows self.old.pair now s rnext) datagram.now number now s.phase) }
         ensures unchanged { LeavesAll result → self.new ≡ self.old }
         ensures pair { self.new.pair ≡ self.old.pair }
@@ -227,7 +229,7 @@ impl Endpoint {
 
     /// An ACK is owed, but not for a RST.
     fn owe_unless(&mut self, reset: bool)
-        ensures stands { (s : EndState) → Stands self.old s → Stands self.new (if reset then s else book.owing s) }
+        ensures stands { (s : EndState) → Stands self.old s → Stands self.new (if reset then s else hearing.owing s) }
         ensures bond { self.new.association ≡ self.old.association }
         ensures pair { self.new.pair ≡ self.old.pair }
     {

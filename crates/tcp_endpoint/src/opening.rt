@@ -4,6 +4,8 @@ ghost use Rattle.book_segments.specs.Bytes.{ring};
 ghost use Rattle.book_endpoint.specs.declared.phase.Phase.TheVariants.{Listen, SynSent};
 ghost use Rattle.book_endpoint.specs.States.{EndState};
 ghost use Rattle.book_endpoint.specs.Arrivals as book;
+ghost use Rattle.book_endpoint.specs.Hearing as hearing;
+ghost use Rattle.endpoint_steps.specs.Arriving as stages;
 ghost use Rattle.ao_check.specs.Bonds.{Fits};
 ghost use Rattle.tcp_endpoint.specs.Ends.{Stands};
 ghost use Rattle.tcp_endpoint.specs.Arriving.{Reaches, LeavesAll, is_computed};
@@ -23,7 +25,7 @@ const LEAST_MSS: u16 = 88;
 
 /// The peer's maximum segment size.
 fn peer_mss(pair: &Pair, datagram: &Datagram<'_>) -> u16
-    ensures { result ≡ book.peer_mss pair.now datagram.now }
+    ensures { result ≡ hearing.peer_mss pair.now datagram.now }
 {
     match datagram.options().mss() {
         Some(mss) => LEAST_MSS.max(mss),
@@ -63,7 +65,7 @@ impl Endpoint {
     ) -> Arrival
         requires { self.old.phase ≡ Listen }
         ensures reaches { (s : EndState) → Stands self.old s
-            → Reaches self.new result (book.after_check self.old.pair s
+            → Reaches self.new result (stages.after_check self.old.pair s
             (book.heard table.now.rows self.old.pair now s rnext) datagram.now datagram.now.sequence now Listen) }
         ensures unchanged { LeavesAll result → self.new ≡ self.old }
         ensures checked { is_computed result ≡ true }
@@ -101,7 +103,7 @@ impl Endpoint {
     ) -> Arrival
         requires { self.old.phase ≡ SynSent }
         ensures reaches { (s : EndState) → Stands self.old s
-            → Reaches self.new result (book.after_check self.old.pair s
+            → Reaches self.new result (stages.after_check self.old.pair s
             (book.heard table.now.rows self.old.pair now s rnext) datagram.now datagram.now.sequence now SynSent) }
         ensures unchanged { LeavesAll result → self.new ≡ self.old }
         ensures checked { is_computed result ≡ true }

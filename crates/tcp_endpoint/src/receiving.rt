@@ -4,7 +4,8 @@ ghost use Rattle.std.specs.Prelude.{nat_le, nat_lt, ℕ, Option, Some, None, tru
 ghost use Rattle.wrap_seq.specs.Counter.{number};
 ghost use Rattle.book_segments.specs.Segments.{has, FIN};
 ghost use Rattle.book_endpoint.specs.States.{EndState, hears};
-ghost use Rattle.book_endpoint.specs.Arrivals as book;
+ghost use Rattle.book_endpoint.specs.Hearing as hearing;
+ghost use Rattle.endpoint_steps.specs.Arriving as stages;
 ghost use Rattle.tcp_endpoint.specs.Numbers.{value_in};
 ghost use Rattle.tcp_endpoint.specs.Ends.{Stands};
 ghost use Rattle.tcp_endpoint.specs.Arriving.{Reaches, LeavesAll};
@@ -44,7 +45,7 @@ fn counter_in(value: Option<u64>) -> Option<Counter>
 
 /// The FIN that is recorded: the first stays.
 fn fin_then(fin: Option<u64>, records: bool, new: u64) -> Option<u64>
-    ensures { result ≡ book.fin_of fin records new }
+    ensures { result ≡ hearing.fin_of fin records new }
 {
     match fin {
         Some(fin) => Some(fin),
@@ -89,7 +90,7 @@ fn phase_past(passes: bool, phase: Phase) -> Phase
 /// past it.
 fn is_heard(fin: bool, at: u64, expected: u64, window: u64, kept: bool) -> bool
     requires { expected + window < 2 ^ 64 }
-    ensures { result ≡ (fin && book.in_range at expected (expected + window) && not kept) }
+    ensures { result ≡ (fin && hearing.in_range at expected (expected + window) && not kept) }
 {
     fin && expected <= at && at < expected + window && !kept
 }
@@ -98,7 +99,7 @@ impl Endpoint {
     /// Entering TIME-WAIT sets its deadline (RFC 9293, section 3.4.2).
     pub(crate) fn rest(&mut self, now: u64)
         requires { now < 2 ^ 63 }
-        ensures stands { (s : EndState) → Stands self.old s → Stands self.new (book.rested s now s.phase s.deadline) }
+        ensures stands { (s : EndState) → Stands self.old s → Stands self.new (hearing.rested s now s.phase s.deadline) }
         ensures bond { self.new.association ≡ self.old.association }
         ensures pair { self.new.pair ≡ self.old.pair }
     {
@@ -123,7 +124,7 @@ impl Endpoint {
         requires range { number + length datagram.now.payload ≤ 2 ^ 63 }
         requires last { has FIN datagram.now ≡ true → number + length datagram.now.payload < 2 ^ 63 }
         requires now { now < 2 ^ 63 }
-        ensures reaches { (s : EndState) → Stands self.old s → Reaches self.new result (book.hear_data s datagram.now number now true) }
+        ensures reaches { (s : EndState) → Stands self.old s → Reaches self.new result (stages.hear_data s datagram.now number now true) }
         ensures bond { self.new.association ≡ self.old.association }
         ensures told { LeavesAll result → ⊥ }
         ensures pair { self.new.pair ≡ self.old.pair }

@@ -3,7 +3,7 @@ ghost use Rattle.std.specs.Prelude.{◌≡◌, ◌+◌, ◌-◌, ◌≤◌, ◌<
 ghost use Rattle.wrap_seq.specs.Counter.{number as value_of};
 ghost use Rattle.book_segments.specs.Meant.{meant};
 ghost use Rattle.book_segments.specs.Segments.{has, SYN, segment_length};
-ghost use Rattle.book_endpoint.specs.Arrivals as book;
+ghost use Rattle.book_endpoint.specs.Hearing as hearing;
 
 use crate::flags::{FIN, SYN, has};
 use tcp_segment::Datagram;
@@ -20,7 +20,7 @@ fn length_of(datagram: &Datagram<'_>) -> u64
 
 /// Whether a number is from `low` to below `high`.
 fn is_within(number: u64, low: u64, high: u64) -> bool
-    ensures { result ≡ book.in_range number low high }
+    ensures { result ≡ hearing.in_range number low high }
 {
     low <= number && number < high
 }
@@ -29,7 +29,7 @@ fn is_within(number: u64, low: u64, high: u64) -> bool
 fn fits_by_value(number: u64, length: u64, expected: u64, window: u64) -> bool
     requires expected { expected + window < 2 ^ 64 }
     requires end { number + length < 2 ^ 64 }
-    ensures { result ≡ book.fits_window number length expected window }
+    ensures { result ≡ hearing.fits_window number length expected window }
 {
     if length == 0 {
         if window == 0 {
@@ -57,7 +57,7 @@ fn is_expected(sequence: u32, expected: Counter) -> bool
 /// ring decides it.
 fn is_in_window(sequence: u32, ahead: u32, expected: Counter, window: u16) -> bool
     requires { ahead ≤ 65537 }
-    ensures { (n : ℕ) → meant sequence (value_of expected) ≡ Some n → result ≡ book.in_range (n + ahead) (value_of expected) (value_of expected + window) }
+    ensures { (n : ℕ) → meant sequence (value_of expected) ≡ Some n → result ≡ hearing.in_range (n + ahead) (value_of expected) (value_of expected + window) }
 {
     in_window(
         sequence.wrapping_add(ahead),
@@ -70,7 +70,7 @@ fn is_in_window(sequence: u32, ahead: u32, expected: Counter, window: u16) -> bo
 /// section 3.4), around the ring.
 fn fits_around(sequence: u32, length: u32, expected: Counter, window: u16) -> bool
     requires { length ≤ 65537 }
-    ensures { (n : ℕ) → meant sequence (value_of expected) ≡ Some n → result ≡ book.fits_window n length (value_of expected) window }
+    ensures { (n : ℕ) → meant sequence (value_of expected) ≡ Some n → result ≡ hearing.fits_window n length (value_of expected) window }
 {
     if length == 0 {
         if window == 0 {
@@ -95,7 +95,7 @@ pub(crate) fn is_acceptable(
     requires near { has SYN datagram.now ≡ false → meant datagram.now.sequence (value_of expected) ≡ Some number }
     requires expected { value_of expected + window < 2 ^ 64 }
     requires end { number + segment_length datagram.now < 2 ^ 64 }
-    ensures { result ≡ book.fits_window number (segment_length datagram.now) (value_of expected) window }
+    ensures { result ≡ hearing.fits_window number (segment_length datagram.now) (value_of expected) window }
 {
     let length = length_of(datagram);
     if has(datagram, SYN) {

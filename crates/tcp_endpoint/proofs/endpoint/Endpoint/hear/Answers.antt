@@ -6,6 +6,7 @@ use Rattle.wrap_seq.specs.Counter.{number}
 use Rattle.ao_check.specs.Bonds.{Fits}
 use Rattle.book_endpoint.specs.declared.arrival.Arrival.TheVariants as answers
 use Rattle.book_endpoint.specs.Arrivals as book
+use Rattle.book_endpoint.specs.Hearing as hearing
 use Rattle.tcp_endpoint.specs.Ends.{Stands}
 use Rattle.tcp_endpoint.proofs.ReadyLaws.{window_is}
 use Rattle.tcp_endpoint.proofs.CostLaws.{moved_on}
@@ -22,9 +23,9 @@ returns-then-not-is_acceptable g c = record {
       let f = book.heard c.args.table.now.rows e.pair c.args.now s c.args.rnext in
       let wide = c.window-window.ensures ∙ sym (window_is e s h) in
       let test = sym (window_move n (segment_length d) (segment_length d) (number c.expected_in-expected.result) s.expected c.window-window.result _ refl (c.expected_in-expected.ensures ∙ h.expected) wide) ∙ sym c.if-not-is_acceptable.ensures in
-      reaches_of (if has RST d then s else book.owing s) answers.Window
+      reaches_of (if has RST d then s else hearing.owing s) answers.Window
       (known_is e.pair s f d n c.args.now s.phase false (ap Rattle.tcp_endpoint.specs.Halves.waits (sym h.phase) ∙ not_waiting e.phase c.in_default.not-Listen c.in_default.not-SynSent) test)
-      (subst (λ b. Stands c.owe_unless.new.self (if b then s else book.owing s)) c.has.ensures (c.owe_unless.ensures.stands s h))
+      (subst (λ b. Stands c.owe_unless.new.self (if b then s else hearing.owing s)) c.has.ensures (c.owe_unless.ensures.stands s h))
       refl;
   unchanged = λ b. absurd b;
   checked = refl;

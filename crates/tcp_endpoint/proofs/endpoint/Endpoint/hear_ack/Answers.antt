@@ -2,7 +2,7 @@ use Rattle.std.proofs.Common.{◌≡◌, refl, sym, ap, ◌∙◌, subst}
 use Rattle.book_segments.specs.Meant.{meant}
 use Rattle.wrap_seq.specs.Counter.{number}
 use Rattle.book_endpoint.specs.declared.phase.Phase.TheVariants.{Established}
-use Rattle.book_endpoint.specs.Arrivals as book
+use Rattle.book_endpoint.specs.Hearing as hearing
 use Rattle.tcp_endpoint.specs.Arriving.{Reaches}
 use Rattle.tcp_endpoint.proofs.AckLaws.{syn_acked}
 use Rattle.tcp_endpoint.proofs.endpoint.Endpoint.hear_ack.Goals as goal
@@ -13,7 +13,7 @@ returns-else-past-clause-reaches g c = λ s h.
     let k = c.acknowledge.ensures.stands s h in
     let is : a ≡ meant c.args.datagram.now.acknowledgement s.una =
     c.acknowledged_by-acknowledged.ensures ∙ ap (λ z. meant z (number c.args.self.now.sequence.una)) c.acknowledgement.ensures ∙ ap (λ z. meant c.args.datagram.now.acknowledgement z) h.una in
-    let go = c.go_on.ensures.reaches (record (book.acked s a) { phase = Established })
+    let go = c.go_on.ensures.reaches (record (hearing.acked s a) { phase = Established })
     (record {
       phase = refl;
       isn = k.isn;

@@ -2,7 +2,7 @@ use Rattle.std.proofs.Common.{◌≡◌, ℕ, ◌+◌, ◌≤◌, true, length, 
 use Rattle.std.specs.Prelude.{is_some}
 use Rattle.book_endpoint.specs.States as states
 use Rattle.book_endpoint.specs.declared.arrival.Arrival.TheVariants as answers
-use Rattle.book_endpoint.specs.Arrivals as book
+use Rattle.book_endpoint.specs.Hearing as hearing
 use Rattle.stream_buffers.specs.Kept.{byte_at, missing_then, grown}
 use Rattle.wrap_seq.specs.Counter.{number}
 use Rattle.tcp_endpoint.specs.Fins.{is_at, past_or}
@@ -17,7 +17,7 @@ returns-in-Err-clause-reaches g c = λ s h.
     let f0 : value_in c.in-Some.received.fin ≡ s.fin = subst (λ z. fin_in z ≡ s.fin) c.in-Some.is h.fin in
     let runs = runs_is e s h c.requires.hears c.args.datagram.now c.args.number c.value_in.result (c.value_in.ensures ∙ f0) c.expected-expected.ensures.sound in
     let many = rw c.payload-payload.ensures.value at c.in-Err.ensures.variant.1 in
-    reaches_of (book.owing s) answers.TooManyRuns (many_is s c.args.datagram.now c.args.number c.args.now (many_test _ _ runs many))
+    reaches_of (hearing.owing s) answers.TooManyRuns (many_is s c.args.datagram.now c.args.number c.args.now (many_test _ _ runs many))
     (record {
       phase = h.phase;
       isn = h.isn;
@@ -59,7 +59,7 @@ invariant_of-self-2 g c =
       receives =
           receives_heard e d n c.phase_past-self.result (number c.of.result) (missing_then e.reassembly (grown e.reassembly n d.payload c.value_in.result)) c.value_in.result (value_in c.counter_in.result) c.keep.new.self c.is_heard-records.result c.is_at-passes.result
           c.requires.hears heard c.expected-expected.ensures.sound c.expected-reached.ensures.sound (rw c.payload-payload.ensures.value at c.in-Ok.ensures.ok) (c.value_in.ensures ∙ old)
-          (c.counter_in.ensures ∙ fin ∙ ap (λ z. book.fin_of z c.is_heard-records.result (n + length d.payload)) (c.value_in-2.ensures ∙ sym c.value_in.ensures))
+          (c.counter_in.ensures ∙ fin ∙ ap (λ z. hearing.fin_of z c.is_heard-records.result (n + length d.payload)) (c.value_in-2.ensures ∙ sym c.value_in.ensures))
           (rec_is e.reassembly c.keep.new.self d n c.kept_from-kept.result c.has.result c.is_heard-records.result c.expected-expected.result c.from-window.result kept.1 c.has.ensures c.expected-expected.ensures.expected c.requires.last test)
           (past_move c.fin_then-fin.result (value_in c.counter_in.result) c.expected-reached.result c.keep.new.self.expected c.is_at-passes.result c.is_at-passes.ensures (sym c.counter_in.ensures) c.expected-reached.ensures.expected)
           c.phase_past-self.ensures
@@ -86,11 +86,11 @@ returns-clause-reaches g c = λ s h.
     let fin = rw c.payload-payload.ensures.value at c.fin_then-fin.ensures in
     let t = kept_state s d n in
     let u = heard_state s d n in
-    let fin_is : c.fin_then-fin.result ≡ t.fin = fin ∙ ap (λ z. book.fin_of z c.is_heard-records.result (n + length d.payload)) (c.value_in-2.ensures ∙ f0) ∙ ap (λ z. book.fin_of s.fin z (n + length d.payload)) records in
+    let fin_is : c.fin_then-fin.result ≡ t.fin = fin ∙ ap (λ z. hearing.fin_of z c.is_heard-records.result (n + length d.payload)) (c.value_in-2.ensures ∙ f0) ∙ ap (λ z. hearing.fin_of s.fin z (n + length d.payload)) records in
     let x_is : c.expected-reached.result ≡ t.expected = c.expected-reached.ensures.expected ∙ shows.expected ∙ missing_is e s h c.requires.hears d n c.value_in.result q old in
     let pass : c.is_at-passes.result ≡ is_at t.fin t.expected = past_move c.fin_then-fin.result t.fin c.expected-reached.result t.expected c.is_at-passes.result c.is_at-passes.ensures fin_is x_is in
     let bytes = bytes_kept e s h c.requires.hears d n missing c.value_in.result q c.keep.new.self shows in
-    reaches_of (book.rested u c.args.now u.phase u.deadline) answers.Taken (data_is s d n c.args.now (few_test _ _ runs (few refl)))
+    reaches_of (hearing.rested u c.args.now u.phase u.deadline) answers.Taken (data_is s d n c.args.now (few_test _ _ runs (few refl)))
     (c.rest.ensures.stands u (record {
       phase = phase_move c.is_at-passes.result (is_at t.fin t.expected) e.phase s.phase c.phase_past-self.result c.phase_past-self.ensures pass h.phase;
       isn = h.isn;

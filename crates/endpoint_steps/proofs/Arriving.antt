@@ -1,5 +1,5 @@
--- The book's steps of an arrival are the table of its cases.
-use Rattle.std.proofs.Common.{◌≡◌, ℕ, ◌+◌, ◌-◌, ◌%◌, ◌==◌, nat_lt, Bool, true, false, not, ◌&&◌, ◌||◌, List, length, Option, Some, None, Ok, Err, if◌then◌else◌, refl, ap, ◌∙◌}
+-- The table of the cases of an arrival is its steps.
+use Rattle.std.proofs.Common.{◌≡◌, ℕ, ◌+◌, ◌-◌, ◌%◌, ◌==◌, nat_lt, Bool, true, false, not, ◌&&◌, ◌||◌, List, length, Option, Some, None, Ok, Err, if◌then◌else◌, refl, sym, ap, ◌∙◌}
 use Rattle.book_base.specs.declared.address.Pair.{Pair}
 use Rattle.book_segments.specs.Meant.{meant}
 use Rattle.book_segments.specs.Bytes.{ring}
@@ -12,10 +12,9 @@ use Rattle.book_endpoint.specs.declared.phase.Phase.TheVariants.{Listen, SynSent
 use Rattle.book_endpoint.specs.Verdicts.{Finding, Judgement}
 use Rattle.book_endpoint.specs.States.{EndState, window, is_closed}
 use Rattle.book_endpoint.specs.Emissions.{is_syn_received}
-use Rattle.book_endpoint.specs.Arrivals.{Moved, Arrived, answered, passes, owing, above, fits_window, from_peer, heard, judged_by, syn_alone, syn_ack_alone}
-use Rattle.book_endpoint.specs.Arrivals.{acked, windowed, acked_fin, pass_fin, finish, fin_of, records_fin, heard_runs, hear_data, go_on, acknowledged, ordinary, after_check}
-use Rattle.book_endpoint.specs.Arrivals.{arrive_judged, arrive}
-use Rattle.law_endpoint.specs.Cases.{Admitted, past_handshake, hear_text, has_text, other_cases, cases_in, checked, arrival}
+use Rattle.book_endpoint.specs.Hearing.{Moved, answered, owing, above, fits_window, acked, windowed, acked_fin, pass_fin, finish, fin_of, records_fin}
+use Rattle.book_endpoint.specs.Arrivals.{Arrived, Admitted, most_runs, passes, from_peer, heard, judged_by, syn_alone, syn_ack_alone, past_handshake, hear_text, has_text, other_cases, cases_in, checked, arrive}
+use Rattle.endpoint_steps.specs.Arriving.{heard_runs, hear_data, go_on, acknowledged, ordinary, after_check, arrive_judged, arrive_read, arrive_by_steps}
 
 -- ---- text and FIN
 
@@ -41,7 +40,7 @@ text_is s d n now true =
     let high = s.expected + window s in
     let kept = keep s.received (record { number = n; bytes = d.payload }) (record { low = s.expected; high = below_limit s.fin high }) in
     let at = first_missing kept s.expected (window s) in
-    runs_are s kept d n now (nat_lt 64 (runs kept false at (high - at)))
+    runs_are s kept d n now (nat_lt most_runs (runs kept false at (high - at)))
 
 -- ---- what is acknowledged
 
@@ -167,8 +166,14 @@ read_is false true closed a b c x y e = refl
 read_is false false true a b c x y e = refl
 read_is false false false a b c x y e = e
 
-pub arrive_by_cases : (rows : List Row) (pair : Pair) (now : ℕ) (s : EndState) (r : Reading) → arrive rows pair now s r ≡ arrival rows pair now s r
+-- what is read is an arrival
+pub read_by_cases : (rows : List Row) (pair : Pair) (now : ℕ) (s : EndState) (r : Reading) → arrive_read rows pair now s r ≡ arrive rows pair now s r
 unfolding arrive
-arrive_by_cases rows pair now s (Unread fault) = refl
-arrive_by_cases rows pair now s (Read d) =
+read_by_cases rows pair now s (Unread fault) = refl
+read_by_cases rows pair now s (Read d) =
     read_is (not (from_peer pair d)) (not (good d)) (is_closed s.phase) _ _ _ _ _ (judged_is rows pair now s d (judged_by rows pair now s d))
+
+-- an arrival is what its steps say
+pub by_steps : (rows : List Row) (pair : Pair) (now : ℕ) (s : EndState) (r : Reading) → arrive rows pair now s r ≡ arrive_by_steps rows pair now s r
+unfolding arrive_by_steps
+by_steps rows pair now s r = sym (read_by_cases rows pair now s r)
