@@ -5,7 +5,8 @@ use Rattle.std.proofs.lemmas.Bool.{cases_lt}
 use Rattle.std.proofs.lemmas.List.{length-append, length-drop, length-take-le, take-append-drop, take-append-le, drop-append-le, drop-drop, take_all, take_at, drop_at, get_or-take}
 use Rattle.std.specs.Prelude.{slice_range, slice_index}
 use Rattle.book_bgp.specs.declared.bgp_fault.BgpFault.{BgpFault}
-use Rattle.book_bgp.specs.Messages.{Unfinished, message_front, header_fault, length_in, kind_in}
+use Rattle.book_base.specs.Fronts.{Ends}
+use Rattle.book_bgp.specs.Messages.{message_front, header_fault, length_in, kind_in}
 use Rattle.book_bgp.proofs.Headers.{sound}
 use Rattle.book_bgp.proofs.Fronts.{front_short, front_part, front_faulty, front_whole, unfinished}
 use Rattle.bgp_messages.specs.declared.reader.Found.TheVariants as found
@@ -48,7 +49,7 @@ header_same : (before piece now : List ℕ) (wanted used : ℕ) → Filled befor
 header_same before piece now wanted used f le = ap (take 19) (filled_rest before piece wanted now used f) ∙ take-append-le 19 now (drop used piece) le
 
 -- at a faulty header no more than its bytes were gathered
-faulty_length : (before piece now : List ℕ) (used : ℕ) (fault : BgpFault) → Filled before piece 19 now used → message_front before ≡ Unfinished → 19 ≤ length now → header_fault (take 19 now) ≡ Some fault → length now ≡ 19
+faulty_length : (before piece now : List ℕ) (used : ℕ) (fault : BgpFault) → Filled before piece 19 now used → message_front before ≡ Ends → 19 ≤ length now → header_fault (take 19 now) ≡ Some fault → length now ≡ 19
 faulty_length before piece now used fault f had le bad =
     let size = filled_length before piece 19 now used f in
     let within = f.used_is in
@@ -61,7 +62,7 @@ faulty_length before piece now used fault f had le bad =
           absurd (cc)
     ]
 
-pub gathers_fault : (before piece now : List ℕ) (used : ℕ) (fault : BgpFault) → Filled before piece 19 now used → message_front before ≡ Unfinished → 19 ≤ length now → header_fault (take 19 now) ≡ Some fault →
+pub gathers_fault : (before piece now : List ℕ) (used : ℕ) (fault : BgpFault) → Filled before piece 19 now used → message_front before ≡ Ends → 19 ≤ length now → header_fault (take 19 now) ≡ Some fault →
     Gathers before piece now (record { used = used; found = found.Fault fault })
 gathers_fault before piece now used fault f had le bad =
     let size = filled_length before piece 19 now used f in
@@ -81,7 +82,7 @@ gathers_fault before piece now used fault f had le bad =
 pub record Sound (before piece middle now : List ℕ) (len used more : ℕ) : Type 0 where
   pub header : Filled before piece 19 middle used
   pub body : Filled middle (drop used piece) len now more
-  pub had : message_front before ≡ Unfinished
+  pub had : message_front before ≡ Ends
   pub enough : 19 ≤ length middle
   pub none : header_fault (take 19 middle) ≡ None
   pub len_is : len ≡ length_in (take 19 middle)

@@ -2,9 +2,10 @@
 use Rattle.std.proofs.Common.{◌≡◌, ℕ, ◌+◌, min, true, List, [], ◌∷◌, ◌++◌, length, take, drop, Option, Some, None, refl, sym, ap, ◌∙◌, append_assoc, arith}
 use Rattle.std.proofs.lemmas.List.{length-drop, length-take, take-take, take-append-drop}
 use Rattle.book_bgp.specs.declared.bgp_fault.BgpFault.{BgpFault}
-use Rattle.book_bgp.specs.Messages.{MessageFront, Unfinished, FaultyHeader, LeadingMessage, message_front, message_length, messages, place_of, behind, fault_of, fault_in}
+use Rattle.book_base.specs.Fronts.{Front, Ends, Faulted, Leads}
+use Rattle.book_bgp.specs.Messages.{Message, message_front, message_length, messages, place_of, behind, fault_in}
 use Rattle.book_bgp.proofs.Fronts.{front_short, front_faulty, faulty}
-use Rattle.book_bgp.proofs.Streams.{none_before, none_after, one_before, place_none, behind_none, place_before, behind_before, messages_append, place_append, behind_append, leading_alone}
+use Rattle.book_bgp.proofs.Streams.{none_before, none_after, one_before, place_none, behind_none, place_before, behind_before, messages_append, place_append, behind_append, leading_alone, fault_of, fault_behind, fault_same}
 use Rattle.bgp_messages.specs.declared.reader.Found.TheVariants as found
 use Rattle.bgp_messages.specs.declared.reader.Fed.{Fed}
 use Rattle.bgp_messages.specs.declared.reader.State.{State}
@@ -18,15 +19,15 @@ record IsBare (bytes : List ℕ) (fault : Option BgpFault) : Type 0 where
   kept : behind bytes ≡ bytes
   ends : fault_in bytes ≡ fault
 
-bare : (bytes : List ℕ) (f : MessageFront) → message_front bytes ≡ f → messages bytes ≡ [] → IsBare bytes (fault_of f)
+bare : (bytes : List ℕ) (f : Front Message BgpFault) → message_front bytes ≡ f → messages bytes ≡ [] → IsBare bytes (fault_of f)
 bare bytes f is none =
     let kept = behind_none bytes none in
-    record { none = none; place = place_none bytes none; kept = kept; ends = rw (kept, is) refl }
+    record { none = none; place = place_none bytes none; kept = kept; ends = fault_behind bytes ∙ rw (kept, is) refl }
 
 -- a new reader stands for no byte
 pub new_stands : StandsFor new_reading []
 new_stands =
-    let b = bare [] Unfinished (front_short [] (omega arith)) (none_before [] (front_short [] (omega arith))) in
+    let b = bare [] Ends (front_short [] (omega arith)) (none_before [] (front_short [] (omega arith))) in
     record { place = rw b.place refl; unfinished = rw (b.ends, b.kept) refl; fault = sym b.ends }
 
 -- a reader without a fault stands for bytes, of which it keeps those behind the messages
@@ -39,17 +40,17 @@ open_for r bytes stands none =
     let sound : fault_in bytes ≡ None = sym stands.fault ∙ none in
     record { sound = sound; kept = sym (rw sound at stands.unfinished) }
 
-open_front : (f : MessageFront) → is_unfinished f ≡ true → f ≡ Unfinished
-open_front Unfinished is = refl
-open_front (FaultyHeader fault) is = absurd (cc)
-open_front (LeadingMessage m rest) is = absurd (cc)
+open_front : (f : Front Message BgpFault) → is_unfinished f ≡ true → f ≡ Ends
+open_front Ends is = refl
+open_front (Faulted fault) is = absurd (cc)
+open_front (Leads m rest) is = absurd (cc)
 
 -- a reader in the midst of a message, by what it gathered and its place
 pub record IsWithin (r : Reading) (gathered : List ℕ) (place : ℕ) : Type 0 where
   pub sound : r.fault ≡ None
   pub kept : r.unfinished ≡ gathered
   pub place_is : r.place ≡ place
-  pub front_is : message_front gathered ≡ Unfinished
+  pub front_is : message_front gathered ≡ Ends
 
 pub within_of : (r : Reading) (s : State) (gathered : List ℕ) (place : ℕ) → seen s gathered place ≡ r → is_kept s gathered ≡ true → r.message ≡ None → r.fault ≡ None → IsWithin r gathered place
 within_of r state.Unfinished gathered place is kept message fault =
@@ -81,9 +82,9 @@ reads_more r bytes gathered piece now place fed stands within g found_is =
     let by = rw found_is at g.by in
     let j = joined r bytes gathered (take used piece) now place stands within g.taken in
     let same = within.place_is in
-    let here : message_front now ≡ Unfinished = rw by.2 by.0 in
-    let b = bare now Unfinished here (none_before now here) in
-    let ends : fault_in (bytes ++ take used piece) ≡ None = rw j.kept b.ends in
+    let here : message_front now ≡ Ends = rw by.2 by.0 in
+    let b = bare now Ends here (none_before now here) in
+    let ends : fault_in (bytes ++ take used piece) ≡ None = fault_same (bytes ++ take used piece) now j.kept ∙ b.ends in
     let place_is = stands.place in let place_now = b.place in let place_sum = j.place in
     record {
       stands = record { place = omega arith; unfinished = rw (ends, j.kept, b.kept) refl; fault = sym ends };
@@ -102,9 +103,9 @@ reads_fault r bytes gathered piece now place fed fault stands within g found_is 
     let exact : take 19 now ≡ now = rw by.2 (take-take 19 19 (gathered ++ piece) (omega arith)) in
     let size : length now ≡ min 19 (length (gathered ++ piece)) = rw by.2 (length-take 19 (gathered ++ piece)) in
     let enough = f.enough in
-    let here : message_front now ≡ FaultyHeader fault = front_faulty now fault (omega arith) (rw exact (rw by.2 f.bad)) in
-    let b = bare now (FaultyHeader fault) here (none_after now fault here) in
-    let ends : fault_in (bytes ++ take used piece) ≡ Some fault = rw j.kept b.ends in
+    let here : message_front now ≡ Faulted fault = front_faulty now fault (omega arith) (rw exact (rw by.2 f.bad)) in
+    let b = bare now (Faulted fault) here (none_after now fault here) in
+    let ends : fault_in (bytes ++ take used piece) ≡ Some fault = fault_same (bytes ++ take used piece) now j.kept ∙ b.ends in
     let place_is = stands.place in let place_now = b.place in let place_sum = j.place in
     record {
       stands = record { place = omega arith; unfinished = rw (ends, j.kept, b.kept, exact) refl; fault = sym ends };
@@ -125,10 +126,10 @@ reads_message r bytes gathered piece now place later fed stands within g found_i
     let rest_size = length-drop 19 now in
     let enough = by.3 in
     let len : message_length (message_in now) ≡ length now = omega arith in
-    let here : message_front now ≡ LeadingMessage (message_in now) [] = leading_alone now tail (message_in now) by.0 (rw all at by.1) len in
-    let b = bare [] Unfinished (front_short [] (omega arith)) (none_before [] (front_short [] (omega arith))) in
+    let here : message_front now ≡ Leads (message_in now) [] = leading_alone now tail (message_in now) by.0 (rw all at by.1) len in
+    let b = bare [] Ends (front_short [] (omega arith)) (none_before [] (front_short [] (omega arith))) in
     let kept : behind (bytes ++ take used piece) ≡ [] = j.kept ∙ (behind_before now (message_in now) [] here ∙ b.kept) in
-    let ends : fault_in (bytes ++ take used piece) ≡ None = rw kept (ap fault_of (front_short [] (omega arith))) in
+    let ends : fault_in (bytes ++ take used piece) ≡ None = fault_behind (bytes ++ take used piece) ∙ rw kept (ap fault_of (front_short [] (omega arith))) in
     let one : messages now ≡ message_in now ∷ [] = one_before now (message_in now) [] here ∙ rw b.none refl in
     let place_now = place_before now (message_in now) [] here in
     let place_is = stands.place in let place_none = b.place in let place_sum = j.place in

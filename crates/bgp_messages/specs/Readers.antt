@@ -1,7 +1,8 @@
 -- A reader of the messages of a stream.
 use Rattle.std.specs.Prelude.{◌≡◌, ℕ, ◌+◌, ◌-◌, ◌<◌, ◌≤◌, min, nat_le, Bool, true, false, List, [], ◌∷◌, ◌++◌, length, take, drop, slice_index, Option, Some, None, IsSome}
 use Rattle.book_bgp.specs.declared.bgp_fault.BgpFault.{BgpFault}
-use Rattle.book_bgp.specs.Messages.{Message, MessageFront, Unfinished, FaultyHeader, LeadingMessage, message_front, header_length, message_length, messages, place_of, behind, fault_in}
+use Rattle.book_base.specs.Fronts.{Front, Ends, Faulted, Leads}
+use Rattle.book_bgp.specs.Messages.{Message, message_front, header_length, message_length, messages, place_of, behind, fault_in}
 use Rattle.bgp_messages.specs.declared.reader.Fed.{Fed}
 use Rattle.bgp_messages.specs.declared.reader.Found.{Found}
 use Rattle.bgp_messages.specs.declared.reader.Found.TheVariants as found
@@ -24,14 +25,14 @@ abbrev pub greatest_place : ℕ
 greatest_place = 18446744073709551615
 
 -- what a piece makes of a reader without a fault, by the front of its unfinished bytes with the piece
-abbrev pub fed_by : Reading → List ℕ → MessageFront → Fed × Reading
-fed_by r piece Unfinished =
+abbrev pub fed_by : Reading → List ℕ → Front Message BgpFault → Fed × Reading
+fed_by r piece Ends =
     (record { used = length piece; found = found.More }, record { unfinished = r.unfinished ++ piece; message = None; place = r.place; fault = None })
-fed_by r piece (FaultyHeader fault) = (
+fed_by r piece (Faulted fault) = (
   record { used = header_length - length r.unfinished; found = found.Fault fault },
   record { unfinished = take header_length (r.unfinished ++ piece); message = None; place = r.place; fault = Some fault },
 )
-fed_by r piece (LeadingMessage m rest) = (
+fed_by r piece (Leads m rest) = (
   record { used = length piece - length rest; found = found.Message },
   record { unfinished = []; message = Some m; place = min (r.place + message_length m) greatest_place; fault = None },
 )
@@ -77,10 +78,10 @@ seen state.Whole bytes place = record { unfinished = []; message = Some (message
 seen (state.Faulty fault) bytes place = record { unfinished = bytes; message = None; place = place; fault = Some fault }
 
 -- the front ends no message yet
-abbrev pub is_unfinished : MessageFront → Bool
-is_unfinished Unfinished = true
-is_unfinished (FaultyHeader fault) = false
-is_unfinished (LeadingMessage m rest) = false
+abbrev pub is_unfinished : Front Message BgpFault → Bool
+is_unfinished Ends = true
+is_unfinished (Faulted fault) = false
+is_unfinished (Leads m rest) = false
 
 -- the gathered bytes are what the state says, as far as later calls need it
 abbrev pub is_kept : State → List ℕ → Bool
@@ -90,11 +91,11 @@ is_kept (state.Faulty fault) bytes = true
 
 -- what was gathered of a piece, by what was found
 abbrev pub GathersBy : Found → List ℕ → List ℕ → List ℕ → ℕ → Type 0
-GathersBy found.More before piece now used = (message_front (before ++ piece) ≡ Unfinished) × (used ≡ length piece) × (now ≡ before ++ piece)
+GathersBy found.More before piece now used = (message_front (before ++ piece) ≡ Ends) × (used ≡ length piece) × (now ≡ before ++ piece)
 GathersBy found.Message before piece now used =
-    (rest : List ℕ) × (message_front (before ++ piece) ≡ LeadingMessage (message_in now) rest) × (used ≡ length piece - length rest) × (header_length ≤ length now) × (0 < used)
+    (rest : List ℕ) × (message_front (before ++ piece) ≡ Leads (message_in now) rest) × (used ≡ length piece - length rest) × (header_length ≤ length now) × (0 < used)
 GathersBy (found.Fault fault) before piece now used =
-    (message_front (before ++ piece) ≡ FaultyHeader fault) × (used ≡ header_length - length before) × (now ≡ take header_length (before ++ piece))
+    (message_front (before ++ piece) ≡ Faulted fault) × (used ≡ header_length - length before) × (now ≡ take header_length (before ++ piece))
 
 -- the same, and the taken bytes are those that were used
 pub record Gathers (before piece now : List ℕ) (fed : Fed) : Type 0 where

@@ -1,6 +1,7 @@
 //! A reader of messages.
 ghost use Rattle.std.specs.Prelude.{◌≡◌, ◌≤◌, ℕ, List, [], length, take, None, IfOk, IfSome, IsSome};
-ghost use Rattle.book_bgp.specs.Messages.{Unfinished, message_front};
+ghost use Rattle.book_base.specs.Fronts.{Ends};
+ghost use Rattle.book_bgp.specs.Messages.{message_front};
 ghost use Rattle.bgp_messages.specs.Readers.{new_reading, fed, StandsFor, Reads, IsUsed, Gathers};
 
 use crate::gathered::Gathered;
@@ -156,7 +157,7 @@ impl BgpReader {
 
 // Gathers bytes of the piece up to the end of a message or of a faulty header.
 fn gather(gathered: &mut Gathered, piece: &[u8]) -> Fed
-    requires { message_front gathered.old ≡ Unfinished }
+    requires { message_front gathered.old ≡ Ends }
     ensures { Gathers gathered.old piece.now gathered.new result }
 {
     let used = gathered.fill(piece, HEADER);

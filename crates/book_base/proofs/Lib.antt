@@ -1,4 +1,5 @@
 pub mod Examples
+pub mod FrontLaws
 pub mod LineLaws
 pub mod DecimalLaws
 pub mod HexadecimalLaws

@@ -1,6 +1,7 @@
 pub mod Addresses
 pub mod Algorithms
 pub mod Decimals
+pub mod Fronts
 pub mod Hexadecimal
 pub mod Lines
 pub mod Results

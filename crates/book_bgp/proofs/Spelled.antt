@@ -4,7 +4,9 @@ use Rattle.std.proofs.lemmas.List.{length-append, take-append-drop, drop-drop, t
 use Rattle.std.proofs.lemmas.List.Elements.{All-nil, All-cons, All-head, All-tail, All-drop}
 use Rattle.std.specs.Prelude.{slice_range, slice_index}
 use Rattle.std.specs.List.{All}
-use Rattle.book_bgp.specs.Messages.{Message, IsMessage, MessageFront, Unfinished, FaultyHeader, LeadingMessage, message_front, marker, length_in, is_kind, message_length, spell_message, spell_messages, messages, behind}
+use Rattle.book_bgp.specs.declared.bgp_fault.BgpFault.{BgpFault}
+use Rattle.book_base.specs.Fronts.{Front, Ends, Faulted, Leads}
+use Rattle.book_bgp.specs.Messages.{Message, IsMessage, message_front, marker, length_in, is_kind, message_length, spell_message, spell_messages, messages, behind}
 use Rattle.book_bgp.proofs.Headers.{IsSound, sound, sound_none}
 use Rattle.book_bgp.proofs.Fronts.{front_short, front_whole, leading}
 use Rattle.book_bgp.proofs.Streams.{leading_length, leading_rest, none_before, none_after, one_before, behind_none, behind_before}
@@ -26,7 +28,7 @@ header_front : (m : Message) (rest : List ℕ) → take 19 (spell_message m ++ r
 header_front m rest = refl
 
 -- a message that is spelled at the front is the front
-pub front_spelled : (m : Message) (rest : List ℕ) → IsMessage m → message_front (spell_message m ++ rest) ≡ LeadingMessage m rest
+pub front_spelled : (m : Message) (rest : List ℕ) → IsMessage m → message_front (spell_message m ++ rest) ≡ Leads m rest
 front_spelled m rest is =
     let len = header_length_in m in
     let size = length-append m.body rest in
@@ -60,7 +62,7 @@ record IsSpelled (bytes : List ℕ) (m : Message) (rest : List ℕ) : Type 0 whe
   is : IsMessage m
   spelled : bytes ≡ spell_message m ++ rest
 
-front_is_spelled : (bytes : List ℕ) (m : Message) (rest : List ℕ) → All IsByte bytes → message_front bytes ≡ LeadingMessage m rest → IsSpelled bytes m rest
+front_is_spelled : (bytes : List ℕ) (m : Message) (rest : List ℕ) → All IsByte bytes → message_front bytes ≡ Leads m rest → IsSpelled bytes m rest
 front_is_spelled bytes m rest bytes_are is =
     let l = leading bytes m rest is in
     let s = sound (take 19 bytes) l.sound in
@@ -93,10 +95,10 @@ pub record AreSpelled (bytes : List ℕ) : Type 0 where
 spelled_none : (bytes : List ℕ) → messages bytes ≡ [] → AreSpelled bytes
 spelled_none bytes none = record { are = rw none (All-nil IsMessage); spelled = rw (none, behind_none bytes none) refl }
 
-spelled_by : (f : MessageFront) (bytes : List ℕ) → message_front bytes ≡ f → All IsByte bytes → ((rest : List ℕ) → length rest < length bytes → All IsByte rest → AreSpelled rest) → AreSpelled bytes
-spelled_by Unfinished bytes is bytes_are rests = spelled_none bytes (none_before bytes is)
-spelled_by (FaultyHeader fault) bytes is bytes_are rests = spelled_none bytes (none_after bytes fault is)
-spelled_by (LeadingMessage m rest) bytes is bytes_are rests =
+spelled_by : (f : Front Message BgpFault) (bytes : List ℕ) → message_front bytes ≡ f → All IsByte bytes → ((rest : List ℕ) → length rest < length bytes → All IsByte rest → AreSpelled rest) → AreSpelled bytes
+spelled_by Ends bytes is bytes_are rests = spelled_none bytes (none_before bytes is)
+spelled_by (Faulted fault) bytes is bytes_are rests = spelled_none bytes (none_after bytes fault is)
+spelled_by (Leads m rest) bytes is bytes_are rests =
     let first = front_is_spelled bytes m rest bytes_are is in
     let split = leading_rest bytes m rest is in
     let size = split.0 in

@@ -1,14 +1,16 @@
 -- The messages of a stream of bytes.
-use Rattle.std.proofs.Common.{◌≡◌, ℕ, zero, suc, ◌+◌, ◌-◌, ◌<◌, ◌≤◌, List, [], ◌∷◌, ◌++◌, length, take, drop, Some, refl, sym, ap, ◌∙◌, append_assoc, arith}
+use Rattle.std.proofs.Common.{◌≡◌, ℕ, zero, suc, ◌+◌, ◌-◌, ◌<◌, ◌≤◌, List, [], ◌∷◌, ◌++◌, length, take, drop, Option, Some, None, refl, sym, ap, ◌∙◌, append_assoc, arith}
 use Rattle.std.proofs.lemmas.List.{length-append, length-drop, length-take, take-append-le, drop-append-le, drop-drop, append-nil, drop_all}
 use Rattle.std.specs.Prelude.{slice_range}
 use Rattle.book_bgp.specs.declared.bgp_fault.BgpFault.{BgpFault}
-use Rattle.book_bgp.specs.Messages.{Message, MessageFront, Unfinished, FaultyHeader, LeadingMessage, message_front, length_in, message_length, spell_message, spell_messages, messages_by, messages_from, messages, place_of, behind, fault_of, fault_in}
+use Rattle.book_base.specs.Fronts.{Front, Ends, Faulted, Leads, Fronted, fronted_by, fronted}
+use Rattle.book_base.proofs.FrontLaws.{Shrinks, fronted_step}
+use Rattle.book_bgp.specs.Messages.{Message, message_front, length_in, message_length, spell_message, spell_messages, messages, place_of, behind, fault_in}
 use Rattle.book_bgp.proofs.Headers.{sound}
 use Rattle.book_bgp.proofs.Fronts.{front_short, front_whole, front_faulty, leading, faulty}
 
 -- a message takes as many bytes as its header says
-pub leading_length : (bytes : List ℕ) (m : Message) (rest : List ℕ) → message_front bytes ≡ LeadingMessage m rest → message_length m ≡ length_in (take 19 bytes)
+pub leading_length : (bytes : List ℕ) (m : Message) (rest : List ℕ) → message_front bytes ≡ Leads m rest → message_length m ≡ length_in (take 19 bytes)
 leading_length bytes m rest is =
     let l = leading bytes m rest is in
     let least = (sound (take 19 bytes) l.sound).least in
@@ -19,7 +21,7 @@ leading_length bytes m rest is =
     omega arith
 
 -- what follows a message is shorter by its length
-pub leading_rest : (bytes : List ℕ) (m : Message) (rest : List ℕ) → message_front bytes ≡ LeadingMessage m rest → (length bytes ≡ message_length m + length rest) × (rest ≡ drop (message_length m) bytes)
+pub leading_rest : (bytes : List ℕ) (m : Message) (rest : List ℕ) → message_front bytes ≡ Leads m rest → (length bytes ≡ message_length m + length rest) × (rest ≡ drop (message_length m) bytes)
 leading_rest bytes m rest is =
     let l = leading bytes m rest is in
     let len = leading_length bytes m rest is in
@@ -29,7 +31,7 @@ leading_rest bytes m rest is =
     (omega arith, rw len l.behind)
 
 -- more bytes behind change nothing at the front
-pub leading_more : (bytes more : List ℕ) (m : Message) (rest : List ℕ) → message_front bytes ≡ LeadingMessage m rest → message_front (bytes ++ more) ≡ LeadingMessage m (rest ++ more)
+pub leading_more : (bytes more : List ℕ) (m : Message) (rest : List ℕ) → message_front bytes ≡ Leads m rest → message_front (bytes ++ more) ≡ Leads m (rest ++ more)
 leading_more bytes more m rest is =
     let l = leading bytes m rest is in
     let size = length-append bytes more in
@@ -42,56 +44,46 @@ leading_more bytes more m rest is =
     front_whole (bytes ++ more) (omega arith) (rw header l.sound) (rw header (omega arith))
     ∙ rw (header, body, behind, l.is, l.behind) refl
 
-pub faulty_more : (bytes more : List ℕ) (fault : BgpFault) → message_front bytes ≡ FaultyHeader fault → message_front (bytes ++ more) ≡ FaultyHeader fault
+pub faulty_more : (bytes more : List ℕ) (fault : BgpFault) → message_front bytes ≡ Faulted fault → message_front (bytes ++ more) ≡ Faulted fault
 faulty_more bytes more fault is =
     let f = faulty bytes fault is in
     let size = length-append bytes more in
     let enough = f.enough in
     front_faulty (bytes ++ more) fault (omega arith) (rw (take-append-le 19 bytes more enough) f.bad)
 
--- a bound on the number of messages that is large enough doesn't matter
-same_by : (f : MessageFront) (bytes : List ℕ) (one two : List ℕ → List Message) → message_front bytes ≡ f → ((rest : List ℕ) → length rest < length bytes → one rest ≡ two rest) →
-    messages_by f one ≡ messages_by f two
-same_by Unfinished bytes one two is same = refl
-same_by (FaultyHeader fault) bytes one two is same = refl
-same_by (LeadingMessage m rest) bytes one two is same =
-    let size = (leading_rest bytes m rest is).0 in
-    ap (λ ms. m ∷ ms) (same rest (omega arith))
+-- the messages and the fault of a stream, by its front
+shrinks : Shrinks message_front
+shrinks = record { shorter = λ bytes m rest is. let l = leading_rest bytes m rest is in let size = l.0 in omega arith }
 
-none_in : (n : ℕ) (bytes : List ℕ) → length bytes ≤ 0 → messages_from n bytes ≡ []
-none_in zero bytes le = refl
-none_in (suc n) bytes le = rw (front_short bytes (omega arith)) refl
+stream_step : (bytes : List ℕ) → fronted message_front bytes ≡ fronted_by (message_front bytes) (fronted message_front)
+stream_step bytes = fronted_step message_front shrinks bytes
 
-enough : (n k : ℕ) (bytes : List ℕ) → length bytes ≤ n → length bytes ≤ k → messages_from n bytes ≡ messages_from k bytes
-enough zero k bytes le1 le2 = sym (none_in k bytes le1)
-enough (suc n) zero bytes le1 le2 = none_in (suc n) bytes le2
-enough (suc n) (suc k) bytes le1 le2 =
-    same_by (message_front bytes) bytes (messages_from n) (messages_from k) refl (λ rest lt. enough n k rest (omega arith) (omega arith))
+stream_by : (bytes : List ℕ) (f : Front Message BgpFault) → message_front bytes ≡ f → fronted message_front bytes ≡ fronted_by f (fronted message_front)
+stream_by bytes f is = stream_step bytes ∙ ap (λ (g : Front Message BgpFault). fronted_by g (fronted message_front)) is
 
--- the messages of a stream, by its front
-pub messages_step : (bytes : List ℕ) → messages bytes ≡ messages_by (message_front bytes) messages
-unfolding messages
-messages_step bytes =
-    enough (length bytes) (suc (length bytes)) bytes (omega arith) (omega arith)
-    ∙ same_by (message_front bytes) bytes (messages_from (length bytes)) messages refl (λ rest lt. enough (length bytes) (length rest) rest (omega arith) (omega arith))
+abbrev items_of : Fronted Message BgpFault → List Message
+items_of x = x.items
 
 -- no message at the front
-pub none_before : (bytes : List ℕ) → message_front bytes ≡ Unfinished → messages bytes ≡ []
-none_before bytes is = rw (messages_step bytes, is) refl
+pub none_before : (bytes : List ℕ) → message_front bytes ≡ Ends → messages bytes ≡ []
+unfolding messages
+none_before bytes is = ap items_of (stream_by bytes Ends is)
 
-pub none_after : (bytes : List ℕ) (fault : BgpFault) → message_front bytes ≡ FaultyHeader fault → messages bytes ≡ []
-none_after bytes fault is = rw (messages_step bytes, is) refl
+pub none_after : (bytes : List ℕ) (fault : BgpFault) → message_front bytes ≡ Faulted fault → messages bytes ≡ []
+unfolding messages
+none_after bytes fault is = ap items_of (stream_by bytes (Faulted fault) is)
 
 -- a message at the front
-pub one_before : (bytes : List ℕ) (m : Message) (rest : List ℕ) → message_front bytes ≡ LeadingMessage m rest → messages bytes ≡ m ∷ messages rest
-one_before bytes m rest is = rw (messages_step bytes, is) refl
+pub one_before : (bytes : List ℕ) (m : Message) (rest : List ℕ) → message_front bytes ≡ Leads m rest → messages bytes ≡ m ∷ messages rest
+unfolding messages
+one_before bytes m rest is = ap items_of (stream_by bytes (Leads m rest) is)
 
-pub place_before : (bytes : List ℕ) (m : Message) (rest : List ℕ) → message_front bytes ≡ LeadingMessage m rest → place_of bytes ≡ message_length m + place_of rest
+pub place_before : (bytes : List ℕ) (m : Message) (rest : List ℕ) → message_front bytes ≡ Leads m rest → place_of bytes ≡ message_length m + place_of rest
 unfolding place_of
 place_before bytes m rest is =
     rw (one_before bytes m rest is) (let size = length-append (spell_message m) (spell_messages (messages rest)) in omega arith)
 
-pub behind_before : (bytes : List ℕ) (m : Message) (rest : List ℕ) → message_front bytes ≡ LeadingMessage m rest → behind bytes ≡ behind rest
+pub behind_before : (bytes : List ℕ) (m : Message) (rest : List ℕ) → message_front bytes ≡ Leads m rest → behind bytes ≡ behind rest
 unfolding behind
 behind_before bytes m rest is =
     let split = leading_rest bytes m rest is in
@@ -117,10 +109,10 @@ split_none bytes none =
       messages_more = λ more. rw (none, behind_none bytes none) refl;
     }
 
-split_by : (f : MessageFront) (bytes : List ℕ) → message_front bytes ≡ f → ((rest : List ℕ) → length rest < length bytes → IsSplit rest) → IsSplit bytes
-split_by Unfinished bytes is rests = split_none bytes (none_before bytes is)
-split_by (FaultyHeader fault) bytes is rests = split_none bytes (none_after bytes fault is)
-split_by (LeadingMessage m rest) bytes is rests =
+split_by : (f : Front Message BgpFault) (bytes : List ℕ) → message_front bytes ≡ f → ((rest : List ℕ) → length rest < length bytes → IsSplit rest) → IsSplit bytes
+split_by Ends bytes is rests = split_none bytes (none_before bytes is)
+split_by (Faulted fault) bytes is rests = split_none bytes (none_after bytes fault is)
+split_by (Leads m rest) bytes is rests =
     let split = leading_rest bytes m rest is in
     let size = split.0 in
     let others = rests rest (omega arith) in
@@ -161,24 +153,69 @@ behind_append bytes more =
     (sym (drop-drop (place_of (behind bytes ++ more)) (place_of bytes) (bytes ++ more))
     ∙ ap (λ xs. drop (place_of (behind bytes ++ more)) xs) (drop-append-le (place_of bytes) bytes more s.within))
 
-fault_front : (f : MessageFront) (fault : BgpFault) → fault_of f ≡ Some fault → f ≡ FaultyHeader fault
-fault_front Unfinished fault is = absurd (cc)
-fault_front (FaultyHeader one) fault is = cc
-fault_front (LeadingMessage m rest) fault is = absurd (cc)
+-- the fault of a front, where it is a faulty header
+abbrev pub fault_of : Front Message BgpFault → Option BgpFault
+fault_of Ends = None
+fault_of (Faulted fault) = Some fault
+fault_of (Leads m rest) = None
+
+abbrev fault_found : Fronted Message BgpFault → Option BgpFault
+fault_found x = x.fault
+
+fault_none : (bytes : List ℕ) → message_front bytes ≡ Ends → fault_in bytes ≡ None
+unfolding fault_in
+fault_none bytes is = ap fault_found (stream_by bytes Ends is)
+
+fault_here : (bytes : List ℕ) (fault : BgpFault) → message_front bytes ≡ Faulted fault → fault_in bytes ≡ Some fault
+unfolding fault_in
+fault_here bytes fault is = ap fault_found (stream_by bytes (Faulted fault) is)
+
+fault_before : (bytes : List ℕ) (m : Message) (rest : List ℕ) → message_front bytes ≡ Leads m rest → fault_in bytes ≡ fault_in rest
+unfolding fault_in
+fault_before bytes m rest is = ap fault_found (stream_by bytes (Leads m rest) is)
+
+behind_by : (f : Front Message BgpFault) (bytes : List ℕ) → message_front bytes ≡ f → ((rest : List ℕ) → length rest < length bytes → fault_in rest ≡ fault_of (message_front (behind rest)))
+    → fault_in bytes ≡ fault_of (message_front (behind bytes))
+behind_by Ends bytes is rests = rw (fault_none bytes is, behind_none bytes (none_before bytes is), is) refl
+behind_by (Faulted fault) bytes is rests = rw (fault_here bytes fault is, behind_none bytes (none_after bytes fault is), is) refl
+behind_by (Leads m rest) bytes is rests =
+    let size = (leading_rest bytes m rest is).0 in
+    rw (fault_before bytes m rest is, behind_before bytes m rest is) (rests rest (omega arith))
+
+behind_within : (n : ℕ) (bytes : List ℕ) → length bytes ≤ n → fault_in bytes ≡ fault_of (message_front (behind bytes))
+behind_within zero bytes le = behind_by (message_front bytes) bytes refl (λ rest lt. absurd (omega arith))
+behind_within (suc n) bytes le = behind_by (message_front bytes) bytes refl (λ rest lt. behind_within n rest (omega arith))
+
+-- the fault of a stream is that of the front behind its messages
+pub fault_behind : (bytes : List ℕ) → fault_in bytes ≡ fault_of (message_front (behind bytes))
+fault_behind bytes = behind_within (length bytes) bytes (omega arith)
+
+-- streams of which the same is behind have the same fault
+pub fault_same : (one two : List ℕ) → behind one ≡ behind two → fault_in one ≡ fault_in two
+fault_same one two is = fault_behind one ∙ (ap (λ (xs : List ℕ). fault_of (message_front xs)) is ∙ sym (fault_behind two))
+
+pub fault_front : (f : Front Message BgpFault) (fault : BgpFault) → fault_of f ≡ Some fault → f ≡ Faulted fault
+fault_front Ends fault is = absurd (cc)
+fault_front (Faulted one) fault is = cc
+fault_front (Leads m rest) fault is = absurd (cc)
+
+-- a faulty header is behind the messages
+pub fault_ends : (bytes : List ℕ) (fault : BgpFault) → fault_in bytes ≡ Some fault → message_front (behind bytes) ≡ Faulted fault
+fault_ends bytes fault is = fault_front (message_front (behind bytes)) fault (sym (fault_behind bytes) ∙ is)
 
 -- a fault ends the messages, whatever follows
 pub fault_messages : (bytes more : List ℕ) (fault : BgpFault) → fault_in bytes ≡ Some fault → messages (bytes ++ more) ≡ messages bytes
 fault_messages bytes more fault is =
-    let here = fault_front (message_front (behind bytes)) fault is in
+    let here = fault_ends bytes fault is in
     messages_append bytes more ∙ rw (none_after (behind bytes ++ more) fault (faulty_more (behind bytes) more fault here)) (append-nil (messages bytes))
 
 pub fault_stays : (bytes more : List ℕ) (fault : BgpFault) → fault_in bytes ≡ Some fault → fault_in (bytes ++ more) ≡ Some fault
 fault_stays bytes more fault is =
-    let here = faulty_more (behind bytes) more fault (fault_front (message_front (behind bytes)) fault is) in
-    rw (behind_append bytes more, behind_none (behind bytes ++ more) (none_after (behind bytes ++ more) fault here), here) refl
+    let here = faulty_more (behind bytes) more fault (fault_ends bytes fault is) in
+    fault_behind (bytes ++ more) ∙ rw (behind_append bytes more, behind_none (behind bytes ++ more) (none_after (behind bytes ++ more) fault here), here) refl
 
 -- the bytes of the message at the front, alone
-pub leading_alone : (bytes more : List ℕ) (m : Message) (rest : List ℕ) → message_front (bytes ++ more) ≡ LeadingMessage m rest → message_length m ≡ length bytes → message_front bytes ≡ LeadingMessage m []
+pub leading_alone : (bytes more : List ℕ) (m : Message) (rest : List ℕ) → message_front (bytes ++ more) ≡ Leads m rest → message_length m ≡ length bytes → message_front bytes ≡ Leads m []
 leading_alone bytes more m rest is exact =
     let l = leading (bytes ++ more) m rest is in
     let len : message_length m ≡ length_in (take 19 (bytes ++ more)) = leading_length (bytes ++ more) m rest is in

@@ -4,6 +4,7 @@ use Rattle.std.specs.Prelude.{ℕ, zero, suc, ◌+◌, ◌*◌, ◌/◌, ◌%◌
 use Rattle.std.specs.Prelude.{Bool, not, ◌&&◌, ◌||◌, IsTrue, Option, Some, None, if◌then◌else◌}
 use Rattle.std.specs.Prelude.{List, [], ◌∷◌, ◌++◌, length, take, drop, replicate}
 use Rattle.std.specs.Prelude.{slice_index, slice_range, bytes_eq}
+use Rattle.book_base.specs.Fronts.{Front, Ends, Faulted, Leads, fronted}
 use Rattle.book_bgp.specs.declared.bgp_fault.BgpFault.{BgpFault}
 use Rattle.book_bgp.specs.declared.bgp_fault.BgpFault.TheVariants.{Marker, Length, Kind}
 
@@ -103,51 +104,31 @@ header_fault header =
     else if not (fits_kind (kind_in header) (length_in header)) then Some Length
     else None
 
--- what stands at the front of a stream: bytes that end no message yet, a faulty header, or a
--- message and what follows it (RFC 4271, section 4)
-pub data MessageFront : Type 0 where
-  Unfinished : MessageFront
-  FaultyHeader : (fault : BgpFault) → MessageFront
-  LeadingMessage : (message : Message) (rest : List ℕ) → MessageFront
-
 -- the front of bytes that begin with a header, by the header's fault, type and length (RFC 4271,
 -- section 4.1)
-abbrev pub front_by : Option BgpFault → (kind size : ℕ) → List ℕ → MessageFront
-front_by (Some fault) kind len bytes = FaultyHeader fault
+abbrev pub front_by : Option BgpFault → (kind size : ℕ) → List ℕ → Front Message BgpFault
+front_by (Some fault) kind len bytes = Faulted fault
 front_by None kind len bytes =
-    if nat_lt (length bytes) len then Unfinished
-    else LeadingMessage (record { kind = kind; body = slice_range bytes header_length len })
+    if nat_lt (length bytes) len then Ends
+    else Leads (record { kind = kind; body = slice_range bytes header_length len })
     (drop len bytes)
 
 -- the front of bytes that begin with this header (RFC 4271, section 4.1)
-abbrev pub front_behind : (header bytes : List ℕ) → MessageFront
+abbrev pub front_behind : (header bytes : List ℕ) → Front Message BgpFault
 front_behind header bytes =
     front_by (header_fault header) (kind_in header) (length_in header) bytes
 
--- the front of a stream; a header is judged as soon as its 19 bytes are there (RFC 4271, section
--- 6.1)
-unfoldable pub message_front : List ℕ → MessageFront
+-- what stands at the front of a stream: bytes that end no message yet, a faulty header, or a
+-- message; a header is judged as soon as its 19 bytes are there (RFC 4271, sections 4 and 6.1)
+unfoldable pub message_front : List ℕ → Front Message BgpFault
 message_front bytes =
-    if nat_lt (length bytes) header_length then Unfinished
+    if nat_lt (length bytes) header_length then Ends
     else front_behind (take header_length bytes) bytes
-
--- the messages of a stream with this front, where those of what follows are handed in (RFC 4271,
--- section 4)
-abbrev pub messages_by : MessageFront → (List ℕ → List Message) → List Message
-messages_by Unfinished others = []
-messages_by (FaultyHeader fault) others = []
-messages_by (LeadingMessage m rest) others = m ∷ others rest
-
--- the messages from the front of a stream on, of which the first argument bounds the number (RFC
--- 4271, section 4)
-abbrev pub messages_from : ℕ → List ℕ → List Message
-messages_from zero bytes = []
-messages_from (suc n) bytes = messages_by (message_front bytes) (messages_from n)
 
 -- the messages that stand one after another from the front of a stream, as many as there are (RFC
 -- 4271, section 4)
 unfoldable pub messages : List ℕ → List Message
-messages bytes = messages_from (length bytes) bytes
+messages bytes = (fronted message_front bytes).items
 
 -- how many bytes the messages of a stream take (RFC 4271, section 4)
 unfoldable pub place_of : List ℕ → ℕ
@@ -157,12 +138,6 @@ place_of bytes = length (spell_messages (messages bytes))
 unfoldable pub behind : List ℕ → List ℕ
 behind bytes = drop (place_of bytes) bytes
 
--- the fault of a front, where it is a faulty header (RFC 4271, section 6.1)
-abbrev pub fault_of : MessageFront → Option BgpFault
-fault_of Unfinished = None
-fault_of (FaultyHeader fault) = Some fault
-fault_of (LeadingMessage m rest) = None
-
 -- the fault that ends the messages of a stream, where there is one (RFC 4271, section 6.1)
-abbrev pub fault_in : List ℕ → Option BgpFault
-fault_in bytes = fault_of (message_front (behind bytes))
+unfoldable pub fault_in : List ℕ → Option BgpFault
+fault_in bytes = (fronted message_front bytes).fault

@@ -2,9 +2,9 @@
 use Rattle.std.proofs.Common.{◌≡◌, inl, inr, ℕ, suc, ◌+◌, ◌^◌, ◌<◌, ◌≤◌, Bool, true, false, List, [], ◌∷◌, ◌++◌, length, length-append, None, refl, sym, ap, ◌∙◌, subst, arith, append_assoc, append-nil}
 use Rattle.book_base.specs.declared.end.End.{End}
 use Rattle.book_base.specs.declared.end.End.TheVariants.{A, B}
-use Rattle.book_bgp.specs.Messages.{fault_in, fault_of, message_front}
+use Rattle.book_bgp.specs.Messages.{fault_in, message_front}
 use Rattle.book_bgp.proofs.Fronts.{front_short}
-use Rattle.book_bgp.proofs.Streams.{behind_none, none_before}
+use Rattle.book_bgp.proofs.Streams.{behind_none, none_before, fault_of, fault_behind}
 use Rattle.bgp_messages.specs.Readers.{Reading, StandsFor, greatest_place, new_reading}
 use Rattle.bgp_messages.proofs.Standing.{new_stands}
 use Rattle.book_link.specs.declared.event.Event.{Event}
@@ -64,7 +64,7 @@ faults_at w B = let both = faults_both w in omega (arith, both)
 pub sound_start : fault_in [] ≡ None
 sound_start =
     let here = front_short [] (omega arith) in
-    ap (λ (l : List ℕ). fault_of (message_front l)) (behind_none [] (none_before [] here)) ∙ ap fault_of here
+    fault_behind [] ∙ (ap (λ (l : List ℕ). fault_of (message_front l)) (behind_none [] (none_before [] here)) ∙ ap fault_of here)
 
 -- ---- outcomes that are shown
 

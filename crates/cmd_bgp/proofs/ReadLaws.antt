@@ -5,9 +5,10 @@ use Rattle.std.proofs.lemmas.List.{take-append-le, take-append-drop, take_all}
 use Rattle.std.specs.Prelude.{IfSome, IsSome}
 use Rattle.book_lines.specs.Texts.{end_text, numbered_text}
 use Rattle.book_bgp.specs.declared.bgp_fault.BgpFault.{BgpFault}
-use Rattle.book_bgp.specs.Messages.{Message, MessageFront, Unfinished, FaultyHeader, LeadingMessage, message_front, message_length, messages, place_of as place_in, behind, fault_of, fault_in}
+use Rattle.book_base.specs.Fronts.{Front, Ends, Faulted, Leads}
+use Rattle.book_bgp.specs.Messages.{Message, message_front, message_length, messages, place_of as place_in, behind, fault_in}
 use Rattle.book_bgp.proofs.Fronts.{faulty, front_faulty}
-use Rattle.book_bgp.proofs.Streams.{faulty_more, none_after, behind_none, split_of, messages_append, behind_append, fault_messages, fault_stays}
+use Rattle.book_bgp.proofs.Streams.{faulty_more, none_after, behind_none, split_of, messages_append, behind_append, fault_of, fault_behind, fault_ends, fault_messages, fault_stays}
 use Rattle.bgp_messages.specs.declared.reader.Fed.{Fed}
 use Rattle.bgp_messages.specs.declared.reader.Found.TheVariants as found
 use Rattle.bgp_messages.specs.Readers.{Reading, StandsFor, Reads, IsUsed, listed, greatest_place, fed_by, fed_after, fed as fed_of}
@@ -23,10 +24,10 @@ pub record Completed (before : Option BgpFault) (now : Reading) : Type 0 where
   pub sound_before : before ≡ None
   pub sound : now.fault ≡ None
 
-completed_by : (r : Reading) (piece : List ℕ) (f : MessageFront) (x : Fed × Reading) → x ≡ fed_by r piece f → x.0.found ≡ found.Message → x.1.fault ≡ None
-completed_by r piece Unfinished x is m = absurd (let e = ap (λ (y : Fed × Reading). y.0.found) is in cc)
-completed_by r piece (FaultyHeader fault) x is m = absurd (let e = ap (λ (y : Fed × Reading). y.0.found) is in cc)
-completed_by r piece (LeadingMessage message rest) x is m = ap (λ (y : Fed × Reading). y.1.fault) is
+completed_by : (r : Reading) (piece : List ℕ) (f : Front Message BgpFault) (x : Fed × Reading) → x ≡ fed_by r piece f → x.0.found ≡ found.Message → x.1.fault ≡ None
+completed_by r piece Ends x is m = absurd (let e = ap (λ (y : Fed × Reading). y.0.found) is in cc)
+completed_by r piece (Faulted fault) x is m = absurd (let e = ap (λ (y : Fed × Reading). y.0.found) is in cc)
+completed_by r piece (Leads message rest) x is m = ap (λ (y : Fed × Reading). y.1.fault) is
 
 completed_after : (r : Reading) (piece : List ℕ) (o : Option BgpFault) (x : Fed × Reading) → x ≡ fed_after o r piece → x.0.found ≡ found.Message → Completed o x.1
 completed_after r piece None x is m = record { sound_before = refl; sound = completed_by r piece (message_front (r.unfinished ++ piece)) x is m }
@@ -41,10 +42,10 @@ pub record Continued (before : Option BgpFault) (now : Reading) : Type 0 where
   pub sound : now.fault ≡ None
   pub none : now.message ≡ None
 
-continued_by : (r : Reading) (piece : List ℕ) (f : MessageFront) (x : Fed × Reading) → x ≡ fed_by r piece f → x.0.found ≡ found.More → (x.1.fault ≡ None) × (x.1.message ≡ None)
-continued_by r piece Unfinished x is m = (ap (λ (y : Fed × Reading). y.1.fault) is, ap (λ (y : Fed × Reading). y.1.message) is)
-continued_by r piece (FaultyHeader fault) x is m = absurd (let e = ap (λ (y : Fed × Reading). y.0.found) is in cc)
-continued_by r piece (LeadingMessage message rest) x is m = absurd (let e = ap (λ (y : Fed × Reading). y.0.found) is in cc)
+continued_by : (r : Reading) (piece : List ℕ) (f : Front Message BgpFault) (x : Fed × Reading) → x ≡ fed_by r piece f → x.0.found ≡ found.More → (x.1.fault ≡ None) × (x.1.message ≡ None)
+continued_by r piece Ends x is m = (ap (λ (y : Fed × Reading). y.1.fault) is, ap (λ (y : Fed × Reading). y.1.message) is)
+continued_by r piece (Faulted fault) x is m = absurd (let e = ap (λ (y : Fed × Reading). y.0.found) is in cc)
+continued_by r piece (Leads message rest) x is m = absurd (let e = ap (λ (y : Fed × Reading). y.0.found) is in cc)
 
 continued_after : (r : Reading) (piece : List ℕ) (o : Option BgpFault) (x : Fed × Reading) → x ≡ fed_after o r piece → x.0.found ≡ found.More → Continued o x.1
 continued_after r piece None x is m =
@@ -58,22 +59,22 @@ continued r piece fed now is m = continued_after r piece r.fault (fed, now) is m
 pub record Stopped (r : Reading) (piece : List ℕ) (before : Option BgpFault) (used : ℕ) (fault : BgpFault) (now : Reading) : Type 0 where
   pub is : now.fault ≡ Some fault
   pub none : now.message ≡ None
-  pub how : ((before ≡ Some fault) × (used ≡ 0)) ⊎ ((before ≡ None) × (message_front (r.unfinished ++ piece) ≡ FaultyHeader fault) × (used ≡ 19 - length r.unfinished))
+  pub how : ((before ≡ Some fault) × (used ≡ 0)) ⊎ ((before ≡ None) × (message_front (r.unfinished ++ piece) ≡ Faulted fault) × (used ≡ 19 - length r.unfinished))
 
 the_fault : (f g : BgpFault) → found.Fault f ≡ found.Fault g → f ≡ g
 the_fault f g e = cc
 
-stopped_by : (r : Reading) (piece : List ℕ) (f : MessageFront) (fault : BgpFault) (x : Fed × Reading) → message_front (r.unfinished ++ piece) ≡ f → x ≡ fed_by r piece f → x.0.found ≡ found.Fault fault
+stopped_by : (r : Reading) (piece : List ℕ) (f : Front Message BgpFault) (fault : BgpFault) (x : Fed × Reading) → message_front (r.unfinished ++ piece) ≡ f → x ≡ fed_by r piece f → x.0.found ≡ found.Fault fault
     → Stopped r piece None x.0.used fault x.1
-stopped_by r piece Unfinished fault x at is m = absurd (let e = ap (λ (y : Fed × Reading). y.0.found) is in cc)
-stopped_by r piece (FaultyHeader found_now) fault x at is m =
+stopped_by r piece Ends fault x at is m = absurd (let e = ap (λ (y : Fed × Reading). y.0.found) is in cc)
+stopped_by r piece (Faulted found_now) fault x at is m =
     let same : found_now ≡ fault = the_fault found_now fault (sym (ap (λ (y : Fed × Reading). y.0.found) is) ∙ m) in
     record {
       is = ap (λ (y : Fed × Reading). y.1.fault) is ∙ ap (λ (g : BgpFault). Some g) same;
       none = ap (λ (y : Fed × Reading). y.1.message) is;
-      how = inr (refl, at ∙ ap (λ (g : BgpFault). FaultyHeader g) same, ap (λ (y : Fed × Reading). y.0.used) is);
+      how = inr (refl, at ∙ ap (λ (g : BgpFault). Faulted g) same, ap (λ (y : Fed × Reading). y.0.used) is);
     }
-stopped_by r piece (LeadingMessage message rest) fault x at is m = absurd (let e = ap (λ (y : Fed × Reading). y.0.found) is in cc)
+stopped_by r piece (Leads message rest) fault x at is m = absurd (let e = ap (λ (y : Fed × Reading). y.0.found) is in cc)
 
 stopped_after : (r : Reading) (piece : List ℕ) (o : Option BgpFault) (fault : BgpFault) (x : Fed × Reading) → r.fault ≡ o → x ≡ fed_after o r piece → x.0.found ≡ found.Fault fault
     → Stopped r piece o x.0.used fault x.1
@@ -92,11 +93,6 @@ stopped r piece fed now fault is m = stopped_after r piece r.fault fault (fed, n
 
 -- ---- a reader with a fault
 
-fault_front : (f : MessageFront) (fault : BgpFault) → fault_of f ≡ Some fault → f ≡ FaultyHeader fault
-fault_front Unfinished fault is = absurd (cc)
-fault_front (FaultyHeader one) fault is = cc
-fault_front (LeadingMessage m rest) fault is = absurd (cc)
-
 pub place_stays : (bytes more : List ℕ) (fault : BgpFault) → fault_in bytes ≡ Some fault → place_in (bytes ++ more) ≡ place_in bytes
 unfolding place_in
 place_stays bytes more fault is = rw (fault_messages bytes more fault is) refl
@@ -104,7 +100,7 @@ place_stays bytes more fault is = rw (fault_messages bytes more fault is) refl
 -- it stands for whatever more comes
 pub stands_more : (r : Reading) (bytes more : List ℕ) (fault : BgpFault) → StandsFor r bytes → fault_in bytes ≡ Some fault → StandsFor r (bytes ++ more)
 stands_more r bytes more fault h is =
-    let here : message_front (behind bytes) ≡ FaultyHeader fault = fault_front (message_front (behind bytes)) fault is in
+    let here : message_front (behind bytes) ≡ Faulted fault = fault_ends bytes fault is in
     let f = faulty (behind bytes) fault here in
     let later = fault_stays bytes more fault is in
     let kept : behind (bytes ++ more) ≡ behind bytes ++ more =
@@ -118,7 +114,7 @@ stands_more r bytes more fault h is =
     }
 
 -- what a sound reader keeps is shorter than a header that proves faulty with more
-short_kept : (r : Reading) (bytes piece : List ℕ) (fault : BgpFault) → StandsFor r bytes → r.fault ≡ None → message_front (r.unfinished ++ piece) ≡ FaultyHeader fault → length r.unfinished < 19
+short_kept : (r : Reading) (bytes piece : List ℕ) (fault : BgpFault) → StandsFor r bytes → r.fault ≡ None → message_front (r.unfinished ++ piece) ≡ Faulted fault → length r.unfinished < 19
 short_kept r bytes piece fault h none is =
     let sound : fault_in bytes ≡ None = sym h.fault ∙ none in
     let kept : r.unfinished ≡ behind bytes = rw sound at h.unfinished in
@@ -129,7 +125,7 @@ short_kept r bytes piece fault h none is =
           let same = take-append-le 19 r.unfinished piece le in
           let bad = front_faulty r.unfinished fault le (rw same at f.bad) in
           let found = ap fault_of (ap message_front (sym kept) ∙ bad) in
-          absurd (let both = sym sound ∙ found in cc)
+          absurd (let both = sym sound ∙ (fault_behind bytes ∙ found) in cc)
     ]
 
 -- ---- lines
@@ -285,7 +281,7 @@ had_fault p piece rest before after old r now bytes fault w h was stands =
     (fault_messages x rest fault was ∙ sym (append-nil (messages x))) (fault_stays x rest fault was ∙ sym was) (sym (append-nil after))))
 
 how_before : (r : Reading) (rest x : List ℕ) (used : ℕ) (fault : BgpFault) → StandsFor r x → used ≡ 0
-    → ((r.fault ≡ Some fault) × (used ≡ 0)) ⊎ ((r.fault ≡ None) × (message_front (r.unfinished ++ rest) ≡ FaultyHeader fault) × (used ≡ 19 - length r.unfinished)) → r.fault ≡ Some fault
+    → ((r.fault ≡ Some fault) × (used ≡ 0)) ⊎ ((r.fault ≡ None) × (message_front (r.unfinished ++ rest) ≡ Faulted fault) × (used ≡ 19 - length r.unfinished)) → r.fault ≡ Some fault
 how_before r rest x used fault h zero_used (inl (was, nothing)) = was
 how_before r rest x used fault h zero_used (inr (none, here, is)) =
     let short = short_kept r x rest fault h none here in absurd (omega (arith, short, is, zero_used))
@@ -304,7 +300,7 @@ reads_fault_again p piece rest before after old r now fed bytes fault w h exact 
     had_fault p piece rest before after old r now bytes fault w h (sym g.stands.fault ∙ was) stands
 
 how_after : (r : Reading) (rest : List ℕ) (used : ℕ) (fault : BgpFault) → 0 < used
-    → ((r.fault ≡ Some fault) × (used ≡ 0)) ⊎ ((r.fault ≡ None) × (message_front (r.unfinished ++ rest) ≡ FaultyHeader fault) × (used ≡ 19 - length r.unfinished)) → r.fault ≡ None
+    → ((r.fault ≡ Some fault) × (used ≡ 0)) ⊎ ((r.fault ≡ None) × (message_front (r.unfinished ++ rest) ≡ Faulted fault) × (used ≡ 19 - length r.unfinished)) → r.fault ≡ None
 how_after r rest used fault some_used (inl (was, nothing)) = absurd (omega (arith, nothing, some_used))
 how_after r rest used fault some_used (inr (none, here, is)) = none
 
