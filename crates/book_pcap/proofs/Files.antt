@@ -12,9 +12,10 @@ use Rattle.book_pcap.specs.declared.pcap_head.LinkType.TheVariants.{Ethernet, Ra
 use Rattle.book_pcap.specs.declared.pcap_head.Head.{Head}
 use Rattle.book_pcap.specs.declared.pcap_head.HeadFault.{HeadFault}
 use Rattle.book_pcap.specs.declared.pcap_head.HeadFault.TheVariants as head_fault
-use Rattle.book_pcap.specs.Packets.{two_at, four_at, magic, order_of, link_of, head_in, head_of, and_rest, opened, Kept, RecordFront, NoMoreRecords, Broken, Whole, record_at, Packet, Packets, FileFault, BadRecord, datagram_of, with_packet, packets_by, packets_in, packets_behind, packets_of}
-use Rattle.book_pcap.specs.PacketFiles.{link_number, IsHeader, IsRecord, AreRecords, IsBroken, IsFile, and_packet, with_datagrams}
-use Rattle.book_pcap.proofs.Captures.{record_none, record_short, record_over, record_part, record_whole, packets_step}
+use Rattle.book_base.specs.Fronts.{Front, Ends, Faulted, Leads}
+use Rattle.book_pcap.specs.Packets.{two_at, four_at, magic, order_of, link_of, head_in, head_of, and_rest, opened, Kept, RecordFault, Broken, record_at, Packet, Packets, FileFault, BadRecord, datagram_of, with_packet, with_datagrams, packets_in, packets_behind, packets_of}
+use Rattle.book_pcap.specs.PacketFiles.{link_number, IsHeader, IsRecord, AreRecords, IsBroken, IsFile}
+use Rattle.book_pcap.proofs.Captures.{record_none, record_short, record_over, record_part, record_whole, put, packets_by, packets_step}
 
 -- ---- numbers at a place
 
@@ -60,7 +61,7 @@ same_kept k seconds bytes e f =
     ap (λ (n : ℕ). record { seconds = n; bytes = bytes }) e ∙ ap (λ (b : List ℕ). record { seconds = k.seconds; bytes = b }) f
 
 -- a record at the front is read
-pub record_read : (order : ByteOrder) (k : Kept) (one rest : List ℕ) → IsRecord order k one → record_at order (one ++ rest) ≡ Whole k rest
+pub record_read : (order : ByteOrder) (k : Kept) (one rest : List ℕ) → IsRecord order k one → record_at order (one ++ rest) ≡ Leads k rest
 record_read order k one rest r =
     let long = r.whole in
     let most = r.most in
@@ -71,9 +72,9 @@ record_read order k one rest r =
     let kept : take (four_at order (one ++ rest) 8) (drop 16 (one ++ rest)) ≡ k.bytes = rw (len, split) (take_at k.bytes rest (length k.bytes) refl) in
     let others : drop (16 + four_at order (one ++ rest) 8) (one ++ rest) ≡ rest = drop_at one rest (16 + four_at order (one ++ rest) 8) (omega arith) in
     record_whole order (one ++ rest) (omega arith) (omega arith) (omega arith)
-    ∙ (ap (λ (x : Kept). Whole x (drop (16 + four_at order (one ++ rest) 8) (one ++ rest)))
+    ∙ (ap (λ (x : Kept). Leads x (drop (16 + four_at order (one ++ rest) 8) (one ++ rest)))
     (same_kept k (four_at order (one ++ rest) 0) (take (four_at order (one ++ rest) 8) (drop 16 (one ++ rest))) seen kept)
-    ∙ ap (λ (xs : List ℕ). Whole k xs) others)
+    ∙ ap (λ (xs : List ℕ). Leads k xs) others)
 
 -- what stands at the front, as the grammar has it
 record AtFront (order : ByteOrder) (text : List ℕ) (kept : Kept) (rest : List ℕ) : Type 0 where
@@ -82,16 +83,16 @@ record AtFront (order : ByteOrder) (text : List ℕ) (kept : Kept) (rest : List 
   parts : text ≡ one ++ rest
   shorter : length rest < length text
 
-abbrev Tells : ByteOrder → List ℕ → RecordFront → Type 0
-Tells order text NoMoreRecords = text ≡ []
-Tells order text Broken = 0 < length text
-Tells order text (Whole kept rest) = AtFront order text kept rest
+abbrev Tells : ByteOrder → List ℕ → Front Kept RecordFault → Type 0
+Tells order text Ends = text ≡ []
+Tells order text (Faulted Broken) = 0 < length text
+Tells order text (Leads kept rest) = AtFront order text kept rest
 
-record Told (order : ByteOrder) (text : List ℕ) (f : RecordFront) : Type 0 where
+record Told (order : ByteOrder) (text : List ℕ) (f : Front Kept RecordFault) : Type 0 where
   tells : Tells order text f
 
-told_as : (order : ByteOrder) (text : List ℕ) (f g : RecordFront) → g ≡ f → Told order text f → Told order text g
-told_as order text f g e t = subst (λ (x : RecordFront). Told order text x) (sym e) t
+told_as : (order : ByteOrder) (text : List ℕ) (f g : Front Kept RecordFault) → g ≡ f → Told order text f → Told order text g
+told_as order text f g e t = subst (λ (x : Front Kept RecordFault). Told order text x) (sym e) t
 
 told_whole : (order : ByteOrder) (text : List ℕ) → 16 ≤ length text → four_at order text 8 ≤ 262144 → 16 + four_at order text 8 ≤ length text → Told order text (record_at order text)
 told_whole order text long fits all =
@@ -106,7 +107,7 @@ told_whole order text long fits all =
     let cut : drop 16 one ≡ take (four_at order text 8) (drop 16 text) = take_drop (16 + four_at order text 8) (four_at order text 8) 16 text (omega arith) in
     let behind = length-drop 16 text in
     let kept_size : length (take (four_at order text 8) (drop 16 text)) ≡ four_at order text 8 = length-take-le (four_at order text 8) (drop 16 text) (omega arith) in
-    told_as order text (Whole (record { seconds = four_at order text 0; bytes = take (four_at order text 8) (drop 16 text) }) (drop (16 + four_at order text 8) text)) (record_at order text)
+    told_as order text (Leads (record { seconds = four_at order text 0; bytes = take (four_at order text 8) (drop 16 text) }) (drop (16 + four_at order text 8) text)) (record_at order text)
     (record_whole order text long fits all)
     (record {
       tells = record {
@@ -121,29 +122,29 @@ told : (order : ByteOrder) (text : List ℕ) → Told order text (record_at orde
 told order text = elim (cases_eq (length text) 0) [
   | inl none ↦
       let empty : text ≡ [] = nil_from_length text none in
-      told_as order text NoMoreRecords (record_at order text) (ap (record_at order) empty ∙ record_none order) (record { tells = empty })
+      told_as order text Ends (record_at order text) (ap (record_at order) empty ∙ record_none order) (record { tells = empty })
   | inr some ↦ elim (cases_lt (length text) 16) [
-    | inl short ↦ told_as order text Broken (record_at order text) (record_short order text (omega arith) short) (record { tells = omega arith })
+    | inl short ↦ told_as order text (Faulted Broken) (record_at order text) (record_short order text (omega arith) short) (record { tells = omega arith })
     | inr long ↦ elim (cases_lt 262144 (four_at order text 8)) [
-      | inl over ↦ told_as order text Broken (record_at order text) (record_over order text long over) (record { tells = omega arith })
+      | inl over ↦ told_as order text (Faulted Broken) (record_at order text) (record_over order text long over) (record { tells = omega arith })
       | inr fits ↦ elim (cases_lt (length text) (16 + four_at order text 8)) [
-        | inl part ↦ told_as order text Broken (record_at order text) (record_part order text long fits part) (record { tells = omega arith })
+        | inl part ↦ told_as order text (Faulted Broken) (record_at order text) (record_part order text long fits part) (record { tells = omega arith })
         | inr all ↦ told_whole order text long fits all
       ]
     ]
   ]
 ]
 
-broken : (order : ByteOrder) (text : List ℕ) → record_at order text ≡ Broken → 0 < length text → IsBroken order text
+broken : (order : ByteOrder) (text : List ℕ) → record_at order text ≡ Faulted Broken → 0 < length text → IsBroken order text
 broken order text e some = record {
   some = some;
   no_record = λ kept one rest is parts. let whole = record_read order kept one rest is in let same = ap (record_at order) parts in absurd (cc);
 }
 
-broken_by : (f : RecordFront) (order : ByteOrder) (text : List ℕ) → Told order text f → IsBroken order text → f ≡ Broken
-broken_by NoMoreRecords order text t b = let none = ap (λ (xs : List ℕ). length xs) t.tells in let some = b.some in absurd (omega arith)
-broken_by Broken order text t b = refl
-broken_by (Whole kept rest) order text t b = let w = t.tells in absurd (b.no_record kept w.one rest w.is w.parts)
+broken_by : (f : Front Kept RecordFault) (order : ByteOrder) (text : List ℕ) → Told order text f → IsBroken order text → f ≡ Faulted Broken
+broken_by Ends order text t b = let none = ap (λ (xs : List ℕ). length xs) t.tells in let some = b.some in absurd (omega arith)
+broken_by (Faulted Broken) order text t b = refl
+broken_by (Leads kept rest) order text t b = let w = t.tells in absurd (b.no_record kept w.one rest w.is w.parts)
 
 -- ---- records, and what follows them
 
@@ -155,10 +156,10 @@ record Split (order : ByteOrder) (text : List ℕ) : Type 0 where
   parts : text ≡ body ++ tail
   ends : (tail ≡ []) ⊎ IsBroken order tail
 
-split_by : (f : RecordFront) (order : ByteOrder) (text : List ℕ) → record_at order text ≡ f → Told order text f → ((rest : List ℕ) → length rest < length text → Split order rest) → Split order text
-split_by NoMoreRecords order text e t rests = record { kept = []; body = []; tail = []; are = refl; parts = t.tells; ends = inl refl }
-split_by Broken order text e t rests = record { kept = []; body = []; tail = text; are = refl; parts = refl; ends = inr (broken order text e t.tells) }
-split_by (Whole k rest) order text e t rests =
+split_by : (f : Front Kept RecordFault) (order : ByteOrder) (text : List ℕ) → record_at order text ≡ f → Told order text f → ((rest : List ℕ) → length rest < length text → Split order rest) → Split order text
+split_by Ends order text e t rests = record { kept = []; body = []; tail = []; are = refl; parts = t.tells; ends = inl refl }
+split_by (Faulted Broken) order text e t rests = record { kept = []; body = []; tail = text; are = refl; parts = refl; ends = inr (broken order text e t.tells) }
+split_by (Leads k rest) order text e t rests =
     let w = t.tells in
     let s = rests rest w.shorter in
     record {
@@ -179,11 +180,6 @@ split_within (suc n) order text le = split_by (record_at order text) order text 
 split : (order : ByteOrder) (text : List ℕ) → Split order text
 split order text = split_within (length text) order text (omega arith)
 
-put : (none : Bool) (p : Packet) (list : List Packet) (fault : Option FileFault) → (length p.datagram == 0) ≡ none
-    → with_packet p (record { list = list; fault = fault }) ≡ record { list = and_packet p list; fault = fault }
-put true p list fault e = rw e refl
-put false p list fault e = rw e refl
-
 through : (head : Head) (n : ℕ) (kept : List Kept) (body tail : List ℕ) (fault : Option FileFault) → AreRecords head.order kept body
     → packets_in head (n + length kept) tail ≡ record { list = []; fault = fault }
     → packets_in head n (body ++ tail) ≡ record { list = with_datagrams head.link n kept; fault = fault }
@@ -199,15 +195,15 @@ through head n (k ∷ ks) body tail fault are e =
     let rest = through head (n + 1) ks are.1 tail fault are.3 (ap (λ (m : ℕ). packets_in head m tail) (sym count) ∙ e) in
     ap (packets_in head n) parts
     ∙ (packets_step head n (are.0 ++ (are.1 ++ tail))
-    ∙ (ap (λ (f : RecordFront). packets_by head n f (packets_in head (n + 1))) (record_read head.order k are.0 (are.1 ++ tail) are.2)
+    ∙ (ap (λ (f : Front Kept RecordFault). packets_by head n f (packets_in head (n + 1))) (record_read head.order k are.0 (are.1 ++ tail) are.2)
     ∙ (ap (with_packet p) rest ∙ put (length p.datagram == 0) p (with_datagrams head.link (n + 1) ks) fault refl)))
 
 at_end : (head : Head) (n : ℕ) → packets_in head n [] ≡ record { list = []; fault = None }
-at_end head n = packets_step head n [] ∙ ap (λ (f : RecordFront). packets_by head n f (packets_in head (n + 1))) (record_none head.order)
+at_end head n = packets_step head n [] ∙ ap (λ (f : Front Kept RecordFault). packets_by head n f (packets_in head (n + 1))) (record_none head.order)
 
 at_broken : (head : Head) (n : ℕ) (tail : List ℕ) → IsBroken head.order tail → packets_in head n tail ≡ record { list = []; fault = Some (BadRecord n) }
 at_broken head n tail b =
-    packets_step head n tail ∙ ap (λ (f : RecordFront). packets_by head n f (packets_in head (n + 1))) (broken_by (record_at head.order tail) head.order tail (told head.order tail) b)
+    packets_step head n tail ∙ ap (λ (f : Front Kept RecordFault). packets_by head n f (packets_in head (n + 1))) (broken_by (record_at head.order tail) head.order tail (told head.order tail) b)
 
 -- ---- the header
 

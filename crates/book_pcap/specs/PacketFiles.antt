@@ -1,5 +1,5 @@
 -- Classic pcap files as a grammar: a header, and then records (libpcap, pcap-savefile). `IsFile` is
--- the file's top, and `with_datagrams` says which packets are judged.
+-- the file's top.
 use Rattle.std.specs.Prelude.{◌≡◌, ℕ, ◌+◌, ◌%◌, ◌==◌, ◌≤◌, ◌<◌, if◌then◌else◌}
 use Rattle.std.specs.Prelude.{List, [], ◌∷◌, ◌++◌, length, drop}
 use Rattle.book_pcap.specs.declared.pcap_head.ByteOrder.{ByteOrder}
@@ -52,14 +52,3 @@ pub record IsFile (head : Head) (kept : List Kept) (tail file : List ℕ) : Type
   pub header : IsHeader head front
   pub records : AreRecords head.order kept body
   pub parts : file ≡ front ++ (body ++ tail)
-
--- a packet in front of others; it is passed over where its datagram has no byte (own)
-abbrev pub and_packet : Packet → List Packet → List Packet
-and_packet p others = if length p.datagram == 0 then others else p ∷ others
-
--- the packets that have a datagram, of those that records keep, the first of number n (own)
-abbrev pub with_datagrams : LinkType → ℕ → List Kept → List Packet
-with_datagrams link n [] = []
-with_datagrams link n (k ∷ ks) =
-    and_packet (record { number = n; seconds = k.seconds; datagram = datagram_of link k.bytes })
-    (with_datagrams link (n + 1) ks)

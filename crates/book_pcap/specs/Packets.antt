@@ -1,8 +1,9 @@
 -- Classic pcap files: a header, and then packets in records (libpcap, pcap-savefile). `packets_of`
 -- is the file's top.
-use Rattle.std.specs.Prelude.{ℕ, zero, suc, ◌+◌, ◌*◌, ◌%◌, ◌==◌, ◌&&◌, ◌||◌, nat_lt, Bool}
+use Rattle.std.specs.Prelude.{ℕ, ◌+◌, ◌*◌, ◌%◌, ◌==◌, ◌&&◌, ◌||◌, nat_lt, Bool}
 use Rattle.std.specs.Prelude.{List, [], ◌∷◌, length, take, drop, slice_index, bytes_eq}
 use Rattle.std.specs.Prelude.{Option, Some, None, Result, Ok, Err, if◌then◌else◌}
+use Rattle.book_base.specs.Fronts.{Front, Ends, Faulted, Leads, fronted}
 use Rattle.book_pcap.specs.declared.pcap_head.ByteOrder.{ByteOrder}
 use Rattle.book_pcap.specs.declared.pcap_head.ByteOrder.TheVariants.{Big, Little}
 use Rattle.book_pcap.specs.declared.pcap_head.LinkType.{LinkType}
@@ -74,26 +75,24 @@ pub record Kept : Type 0 where
 abbrev pub most_kept : ℕ
 most_kept = 262144
 
--- what stands at the front of records: nothing, a record that isn't whole, or a record and what
--- follows it (pcap-savefile)
-pub data RecordFront : Type 0 where
-  NoMoreRecords Broken : RecordFront
-  Whole : (kept : Kept) (rest : List ℕ) → RecordFront
+-- what is wrong with a record: it isn't whole (pcap-savefile)
+pub data RecordFault : Type 0 where
+  Broken : RecordFault
 
 -- what stands at the front of records, where the first one has this kept length (pcap-savefile)
-abbrev pub record_by : ByteOrder → ℕ → List ℕ → RecordFront
+abbrev pub record_by : ByteOrder → ℕ → List ℕ → Front Kept RecordFault
 record_by order len text =
-    if nat_lt most_kept len then Broken
-    else if nat_lt (length text) (16 + len) then Broken
-    else Whole (record { seconds = four_at order text 0; bytes = take len (drop 16 text) })
+    if nat_lt most_kept len then Faulted Broken
+    else if nat_lt (length text) (16 + len) then Faulted Broken
+    else Leads (record { seconds = four_at order text 0; bytes = take len (drop 16 text) })
     (drop (16 + len) text)
 
 -- what stands at the front of records, each of seconds, microseconds, kept length and original
 -- length of four bytes each, and then the kept bytes (pcap-savefile)
-unfoldable pub record_at : ByteOrder → List ℕ → RecordFront
+unfoldable pub record_at : ByteOrder → List ℕ → Front Kept RecordFault
 record_at order text =
-    if length text == 0 then NoMoreRecords
-    else if nat_lt (length text) 16 then Broken
+    if length text == 0 then Ends
+    else if nat_lt (length text) 16 then Faulted Broken
     else record_by order (four_at order text 8) text
 
 -- bytes 12 and 13 of an Ethernet header say IPv4 or IPv6 (RFC 894; RFC 2464, section 3)
@@ -135,25 +134,30 @@ with_packet p others =
     if length p.datagram == 0 then others
     else record { list = p ∷ others.list; fault = others.fault }
 
--- the packets of records with this front, the first of number n, where those of what follows are
--- handed in (pcap-savefile)
-abbrev pub packets_by : Head → ℕ → RecordFront → (List ℕ → Packets) → Packets
-packets_by head n NoMoreRecords others = record { list = []; fault = None }
-packets_by head n Broken others = record { list = []; fault = Some (BadRecord n) }
-packets_by head n (Whole kept rest) others =
-    let datagram = datagram_of head.link kept.bytes in
-    with_packet (record { number = n; seconds = kept.seconds; datagram = datagram }) (others rest)
+-- a packet in front of others; it is passed over where its datagram has no byte (own)
+abbrev pub and_packet : Packet → List Packet → List Packet
+and_packet p others = if length p.datagram == 0 then others else p ∷ others
 
--- the packets of records, the first of number n, of which the first argument bounds how many there
--- are (pcap-savefile)
-abbrev pub packets_from : ℕ → Head → ℕ → List ℕ → Packets
-packets_from zero head n text = record { list = []; fault = None }
-packets_from (suc k) head n text =
-    packets_by head n (record_at head.order text) (packets_from k head (n + 1))
+-- the packets that have a datagram, of those that records keep, the first of number n (own)
+abbrev pub with_datagrams : LinkType → ℕ → List Kept → List Packet
+with_datagrams link n [] = []
+with_datagrams link n (k ∷ ks) =
+    and_packet (record { number = n; seconds = k.seconds; datagram = datagram_of link k.bytes })
+    (with_datagrams link (n + 1) ks)
 
--- the packets of records, the first of number n (pcap-savefile)
+-- the fault behind records, where the next one is of number n and has a fault (own)
+abbrev pub fault_at : ℕ → Option RecordFault → Option FileFault
+fault_at n None = None
+fault_at n (Some Broken) = Some (BadRecord n)
+
+-- the packets of records, the first of number n, and the fault behind them (pcap-savefile)
 unfoldable pub packets_in : Head → ℕ → List ℕ → Packets
-packets_in head n text = packets_from (length text) head n text
+packets_in head n text =
+    let records = fronted (record_at head.order) text in
+    record {
+      list = with_datagrams head.link n records.items;
+      fault = fault_at (n + length records.items) records.fault;
+    }
 
 -- the packets behind a header, or the header's fault (pcap-savefile)
 abbrev pub packets_behind : Result (Head × List ℕ) HeadFault → Packets

@@ -2,8 +2,8 @@
 ghost use Rattle.std.specs.Prelude.{◌≡◌, ℕ, ◌+◌, ◌<◌, List, [], length, Some, None};
 ghost use Rattle.std.specs.List.{All};
 ghost use Rattle.book_pcap.specs.declared.pcap_head.Head.{Head};
-ghost use Rattle.book_pcap.specs.Packets.{Kept, Packet, BadRecord, packets_of};
-ghost use Rattle.book_pcap.specs.PacketFiles.{IsFile, IsBroken, with_datagrams};
+ghost use Rattle.book_pcap.specs.Packets.{Kept, Packet, BadRecord, with_datagrams, packets_of};
+ghost use Rattle.book_pcap.specs.PacketFiles.{IsFile, IsBroken};
 
 /// A file has these packets and no fault exactly where it is a header and records that keep them; and
 /// these and a record that isn't whole exactly where it is a header, records that keep them, and bytes

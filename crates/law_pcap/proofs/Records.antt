@@ -1,5 +1,5 @@
 -- The lines of records have the packets' segments.
-use Rattle.std.proofs.Common.{◌≡◌, ℕ, zero, suc, ◌+◌, ◌<◌, ◌≤◌, if◌then◌else◌, Bool, true, false, List, [], ◌∷◌, ◌++◌, length, take, drop, map, None, Result, Ok, Err, refl, sym, ap, ◌∙◌, inl, inr, arith}
+use Rattle.std.proofs.Common.{◌≡◌, ℕ, zero, suc, ◌+◌, ◌<◌, ◌≤◌, ◌==◌, if◌then◌else◌, Bool, true, false, List, [], ◌∷◌, ◌++◌, length, take, drop, map, None, Result, Ok, Err, refl, sym, ap, ◌∙◌, inl, inr, arith}
 use Rattle.std.specs.List.{All}
 use Rattle.std.proofs.lemmas.Bool.{cases_lt, cases_eq, lt-ltb, le-ltb, ne_eqb}
 use Rattle.std.proofs.lemmas.List.{length-take, get_or_past}
@@ -13,11 +13,12 @@ use Rattle.book_pcap.specs.declared.pcap_head.LinkType.{LinkType}
 use Rattle.book_pcap.specs.declared.pcap_head.LinkType.TheVariants.{Ethernet, Raw}
 use Rattle.book_pcap.specs.declared.pcap_head.Head.{Head}
 use Rattle.book_pcap.specs.declared.pcap_head.HeadFault.{HeadFault}
-use Rattle.book_pcap.specs.Packets.{Kept, RecordFront, NoMoreRecords, Broken, Whole, four_at, record_at, Packets, is_ip, datagram_of, with_packet, packets_by, packets_from, packets_in, packets_behind, packets_of, opened, head_of, and_rest}
-use Rattle.book_pcap.proofs.Captures.{record_short, record_over, record_part, record_whole, record_none}
+use Rattle.book_base.specs.Fronts.{Front, Ends, Faulted, Leads, Fronted, fronted_by, fronted_within}
+use Rattle.book_pcap.specs.Packets.{Kept, RecordFault, Broken, four_at, record_at, Packet, Packets, is_ip, datagram_of, with_packet, with_datagrams, fault_at, packets_in, packets_behind, packets_of, opened, head_of, and_rest}
+use Rattle.book_pcap.proofs.Captures.{record_short, record_over, record_part, record_whole, record_none, put}
 use Rattle.book_cmd_check.specs.StoredPackets.{stored_packet}
 use Rattle.book_cmd_check.specs.StoredLines.{StoredInput, stored_from, stored_input}
-use Rattle.law_pcap.specs.LineForms.{packet_line, lines_by, lines_from, lines_behind, line_form}
+use Rattle.law_pcap.specs.LineForms.{packet_line, record_lines, lines_behind, line_form}
 use Rattle.law_pcap.proofs.Lines.{packet_line_plain, packet_line_back}
 
 abbrev pub IsByte : ℕ → Type 0
@@ -42,7 +43,7 @@ pub record IsWhole (kept : Kept) (behind : List ℕ) : Type 0 where
   pub rest : All IsByte behind
 
 whole_parts : (order : ByteOrder) (text : List ℕ) (kept : Kept) (rest : List ℕ) → All IsByte text →
-    Whole (record { seconds = four_at order text 0; bytes = take (four_at order text 8) (drop 16 text) }) (drop (16 + four_at order text 8) text) ≡ Whole kept rest → IsWhole kept rest
+    Leads (record { seconds = four_at order text 0; bytes = take (four_at order text 8) (drop 16 text) }) (drop (16 + four_at order text 8) text) ≡ Leads kept rest → IsWhole kept rest
 whole_parts order text kept rest all same =
     let kept_is : record { seconds = four_at order text 0; bytes = take (four_at order text 8) (drop 16 text) } ≡ kept = cc in
     let rest_is : drop (16 + four_at order text 8) text ≡ rest = cc in
@@ -52,14 +53,14 @@ whole_parts order text kept rest all same =
       rest = rw (← rest_is) (All-drop IsByte (16 + four_at order text 8) text all);
     }
 
-none_at : (order : ByteOrder) (text : List ℕ) → length text ≡ 0 → record_at order text ≡ NoMoreRecords
+none_at : (order : ByteOrder) (text : List ℕ) → length text ≡ 0 → record_at order text ≡ Ends
 none_at order [] none = record_none order
 none_at order (b ∷ bs) none = absurd (omega arith)
 
-whole_is : (order : ByteOrder) (text : List ℕ) (kept : Kept) (rest : List ℕ) → All IsByte text → record_at order text ≡ Whole kept rest → IsWhole kept rest
+whole_is : (order : ByteOrder) (text : List ℕ) (kept : Kept) (rest : List ℕ) → All IsByte text → record_at order text ≡ Leads kept rest → IsWhole kept rest
 whole_is order text kept rest all is =
     elim (cases_eq (length text) 0) [
-      | inl none ↦ let no : record_at order text ≡ NoMoreRecords = none_at order text none in let bad = sym no ∙ is in absurd (cc)
+      | inl none ↦ let no : record_at order text ≡ Ends = none_at order text none in let bad = sym no ∙ is in absurd (cc)
       | inr some ↦ elim (cases_lt (length text) 16) [
         | inl short ↦ let bad = sym (record_short order text (omega arith) short) ∙ is in absurd (cc)
         | inr long ↦ elim (cases_lt 262144 (four_at order text 8)) [
@@ -101,25 +102,37 @@ one_line n seconds [] text ps low is others =
 one_line n seconds (b ∷ bs) text ps low is others =
     rw (lines_of-line (packet_line seconds (b ∷ bs)) (packet_line_plain seconds (b ∷ bs) low (by_places (b ∷ bs) is.all)) text, packet_line_back n seconds (b ∷ bs) low is.few (by_places (b ∷ bs) is.all), others, ne_eqb (length (b ∷ bs)) 0 (λ e. omega arith)) refl
 
-by_front : (f : RecordFront) (head : Head) (n : ℕ) (text : List ℕ) (lines : List ℕ → List ℕ) (packets : List ℕ → Packets) → All IsByte text → record_at head.order text ≡ f →
-    ((rest : List ℕ) → All IsByte rest → stored_from (n + 1) (lines_of (lines rest)) ≡ shows (packets rest)) →
-    stored_from n (lines_of (lines_by head f lines)) ≡ shows (packets_by head n f packets)
-unfolding lines_of
-by_front NoMoreRecords head n text lines packets all is others = refl
-by_front Broken head n text lines packets all is others = refl
-by_front (Whole kept rest) head n text lines packets all is others =
-    let whole = whole_is head.order text kept rest all is in
-    one_line n kept.seconds (datagram_of head.link kept.bytes) (lines rest) (packets rest) whole.low (datagram_is head.link kept.bytes whole.bytes) (others rest whole.rest)
+-- the packets of these records, the first of number n
+abbrev shown_as : Head → ℕ → Fronted Kept RecordFault → Packets
+shown_as head n records = record { list = with_datagrams head.link n records.items; fault = fault_at (n + length records.items) records.fault }
 
-by_count : (k : ℕ) (head : Head) (n : ℕ) (text : List ℕ) → All IsByte text → stored_from n (lines_of (lines_from k head text)) ≡ shows (packets_from k head n text)
+-- their lines are read as those packets' segments
+abbrev AreShown : Head → ℕ → Fronted Kept RecordFault → Type 0
+AreShown head n records = stored_from n (lines_of (record_lines head.link records.items)) ≡ shows (shown_as head n records)
+
+by_front : (f : Front Kept RecordFault) (head : Head) (n : ℕ) (text : List ℕ) (others : List ℕ → Fronted Kept RecordFault) → All IsByte text → record_at head.order text ≡ f →
+    ((rest : List ℕ) → All IsByte rest → AreShown head (n + 1) (others rest)) → AreShown head n (fronted_by f others)
+unfolding lines_of
+by_front Ends head n text others all is shown = refl
+by_front (Faulted Broken) head n text others all is shown = refl
+by_front (Leads kept rest) head n text others all is shown =
+    let whole = whole_is head.order text kept rest all is in
+    let records = others rest in
+    let datagram = datagram_of head.link kept.bytes in
+    let p : Packet = record { number = n; seconds = kept.seconds; datagram = datagram } in
+    one_line n kept.seconds datagram (record_lines head.link records.items) (shown_as head (n + 1) records) whole.low (datagram_is head.link kept.bytes whole.bytes) (shown rest whole.rest)
+    ∙ ap shows (put (length datagram == 0) p (with_datagrams head.link (n + 1) records.items) (fault_at (n + 1 + length records.items) records.fault) refl)
+
+by_count : (k : ℕ) (head : Head) (n : ℕ) (text : List ℕ) → All IsByte text → AreShown head n (fronted_within (record_at head.order) k text)
 unfolding lines_of
 by_count zero head n text all = refl
-by_count (suc k) head n text all = by_front (record_at head.order text) head n text (lines_from k head) (packets_from k head (n + 1)) all refl (λ rest rest_all. by_count k head (n + 1) rest rest_all)
+by_count (suc k) head n text all =
+    by_front (record_at head.order text) head n text (fronted_within (record_at head.order) k) all refl (λ rest rest_all. by_count k head (n + 1) rest rest_all)
 
 behind : (r : Result (Head × List ℕ) HeadFault) → ((head : Head) (body : List ℕ) → r ≡ Ok (head, body) → All IsByte body) → stored_input (lines_behind r) ≡ shows (packets_behind r)
 unfolding stored_input packets_in lines_of
 behind (Err fault) all = refl
-behind (Ok body) all = by_count (length body.1) body.0 1 body.1 (all body.0 body.1 refl)
+behind (Ok body) all = by_count (suc (length body.1)) body.0 1 body.1 (all body.0 body.1 refl)
 
 rest_all : (r : Result Head HeadFault) (rest : List ℕ) (head : Head) (body : List ℕ) → All IsByte rest → and_rest r rest ≡ Ok (head, body) → All IsByte body
 rest_all (Ok found) rest head body all is =

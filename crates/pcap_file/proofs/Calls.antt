@@ -7,7 +7,8 @@ use Rattle.ao_base.specs.Buffered.{Buffered}
 use Rattle.ao_base.specs.Outside.{Side, Gave, Rose, IsAtEnd, told}
 use Rattle.ao_base.proofs.Sides.{gave_more, nothing_told}
 use Rattle.book_pcap.specs.declared.pcap_head.Head.{Head}
-use Rattle.book_pcap.specs.Packets.{Broken, Whole, record_at, datagram_of}
+use Rattle.book_base.specs.Fronts.{Faulted, Leads}
+use Rattle.book_pcap.specs.Packets.{RecordFault, Broken, record_at, datagram_of}
 use Rattle.pcap_file.specs.declared.records.Found.{Found}
 use Rattle.pcap_file.specs.declared.records.Opened.TheVariants as opening
 use Rattle.pcap_file.specs.declared.packets.PacketStep.TheVariants as step
@@ -77,7 +78,7 @@ module _ (handed count seconds : ℕ) (had : Option Head) (head : Head) (shown o
       let zero : length now.kept ≡ 0 = ap length none in
       record { gave = reached.gave; bytes = reached.bytes; taken = omega arith; counted = omega arith; bound = omega arith; answers = (stops, (head, _, reached.opens (told b.bytes), refl, body), end, none, omega arith) }
 
-  pub broken_step : record_at head.order (now.kept ++ told b.bytes) ≡ Broken → record_at head.order now.kept ≡ Broken →
+  pub broken_step : record_at head.order (now.kept ++ told b.bytes) ≡ Faulted Broken → record_at head.order now.kept ≡ Faulted Broken →
       Steps (reading handed count seconds had shown over before) (stopped (handed + header_length had) count (Some head) now) a b given (step.BadRecord (count + 1))
   broken_step broken kept_broken =
       let all : opened_from had (before.kept ++ given) ≡ Ok (head, now.kept) = rw (append-nil (before.kept ++ given), append-nil now.kept) at (reached.opens []) in
@@ -90,7 +91,7 @@ module _ (handed count seconds : ℕ) (had : Option Head) (head : Head) (shown o
       record { gave = reached.gave; bytes = reached.bytes; taken = omega arith; counted = omega arith; bound = omega arith; answers = (stops, rose) }
 
   pub packet_step : (secs len : ℕ) (datagram : List ℕ) → over ≡ false → 16 + len ≤ length now.kept → (handed + header_length had) + (16 + len) ≤ 268435456 →
-      record_at head.order (now.kept ++ told b.bytes) ≡ Whole (record { seconds = secs; bytes = take len (drop 16 now.kept) }) (drop (16 + len) now.kept ++ told b.bytes) →
+      record_at head.order (now.kept ++ told b.bytes) ≡ Leads (record { seconds = secs; bytes = take len (drop 16 now.kept) }) (drop (16 + len) now.kept ++ told b.bytes) →
       datagram ≡ datagram_of head.link (take len (drop 16 now.kept)) →
       Steps (reading handed count seconds had shown over before)
       (reading (handed + header_length had + (16 + len)) (count + 1) secs (Some head) true over (record { kept = drop (16 + len) now.kept; piece = datagram; size = now.size })) a b given step.Packet

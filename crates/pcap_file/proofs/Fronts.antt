@@ -6,7 +6,8 @@ use Rattle.std.proofs.Math.Seq.{take-append_seam, drop-append_seam}
 use Rattle.book_pcap.specs.declared.pcap_head.ByteOrder.{ByteOrder}
 use Rattle.book_pcap.specs.declared.pcap_head.Head.{Head}
 use Rattle.book_pcap.specs.declared.pcap_head.HeadFault.{HeadFault}
-use Rattle.book_pcap.specs.Packets.{Kept, NoMoreRecords, Whole, four_at, record_at, head_of, and_rest, opened}
+use Rattle.book_base.specs.Fronts.{Ends, Leads}
+use Rattle.book_pcap.specs.Packets.{Kept, four_at, record_at, head_of, and_rest, opened}
 use Rattle.book_pcap.proofs.Captures.{record_none, record_short, record_over, record_part, record_whole}
 use Rattle.pcap_file.specs.Reading.{opened_from}
 use Rattle.pcap_file.proofs.Parts.{four_in_front}
@@ -16,11 +17,11 @@ pub record RecordFront (order : ByteOrder) (text : List ℕ) (kept : Kept) (rest
   pub past : List ℕ
   pub split : text ≡ past ++ rest
   pub some : 16 ≤ length past
-  pub stays : (more : List ℕ) → record_at order (past ++ more) ≡ Whole kept more
+  pub stays : (more : List ℕ) → record_at order (past ++ more) ≡ Leads kept more
 
 -- a record of these bytes alone, in front of others
 module _ (order : ByteOrder) (past : List ℕ) (len : ℕ) (size : length past ≡ 16 + len) (len_is : four_at order past 8 ≡ len) (fits : len ≤ 262144) where
-  alone : (more : List ℕ) → record_at order (past ++ more) ≡ Whole (record { seconds = four_at order past 0; bytes = drop 16 past }) more
+  alone : (more : List ℕ) → record_at order (past ++ more) ≡ Leads (record { seconds = four_at order past 0; bytes = drop 16 past }) more
   alone more =
       let whole = length-append past more in
       let rest : length (drop 16 past) ≡ length past - 16 = length-drop 16 past in
@@ -34,7 +35,7 @@ module _ (order : ByteOrder) (past : List ℕ) (len : ℕ) (size : length past �
       rw (count, time, bytes, after) at (record_whole order (past ++ more) (omega arith) few all)
 
 whole_front : (order : ByteOrder) (text : List ℕ) (kept : Kept) (rest : List ℕ) → 16 ≤ length text → four_at order text 8 ≤ 262144 → 16 + four_at order text 8 ≤ length text →
-    record_at order text ≡ Whole kept rest → RecordFront order text kept rest
+    record_at order text ≡ Leads kept rest → RecordFront order text kept rest
 whole_front order text kept rest long fits all is =
     let len : ℕ = four_at order text 8 in
     let past : List ℕ = take (16 + len) text in
@@ -42,7 +43,7 @@ whole_front order text kept rest long fits all is =
     let split : past ++ behind ≡ text = take-append-drop (16 + len) text in
     let size : length past ≡ 16 + len = length-take-le (16 + len) text all in
     let len_is : four_at order past 8 ≡ len = sym (four_in_front order past behind 8 (omega arith)) ∙ ap (λ xs. four_at order xs 8) split in
-    let here : record_at order text ≡ Whole (record { seconds = four_at order past 0; bytes = drop 16 past }) behind =
+    let here : record_at order text ≡ Leads (record { seconds = four_at order past 0; bytes = drop 16 past }) behind =
     ap (record_at order) (sym split) ∙ alone order past len size len_is fits behind in
     let same = sym here ∙ is in
     let kept_is : record { seconds = four_at order past 0; bytes = drop 16 past } ≡ kept = cc in
@@ -51,14 +52,14 @@ whole_front order text kept rest long fits all is =
       past = past;
       split = sym split ∙ ap (λ xs. past ++ xs) rest_is;
       some = omega arith;
-      stays = λ more. alone order past len size len_is fits more ∙ ap (λ k. Whole k more) kept_is;
+      stays = λ more. alone order past len size len_is fits more ∙ ap (λ k. Leads k more) kept_is;
     }
 
-none_at : (order : ByteOrder) (text : List ℕ) → length text ≡ 0 → record_at order text ≡ NoMoreRecords
+none_at : (order : ByteOrder) (text : List ℕ) → length text ≡ 0 → record_at order text ≡ Ends
 none_at order text none = ap (record_at order) (nil_from_length text none) ∙ record_none order
 
 -- a whole record stays one
-pub record_front : (order : ByteOrder) (text : List ℕ) (kept : Kept) (rest : List ℕ) → record_at order text ≡ Whole kept rest → RecordFront order text kept rest
+pub record_front : (order : ByteOrder) (text : List ℕ) (kept : Kept) (rest : List ℕ) → record_at order text ≡ Leads kept rest → RecordFront order text kept rest
 record_front order text kept rest is =
     elim (cases_eq (length text) 0) [
       | inl none ↦ let bad = sym (none_at order text none) ∙ is in absurd (cc)

@@ -9,7 +9,8 @@ use Rattle.ao_base.specs.Outside.{Side, told}
 use Rattle.ao_base.proofs.Sides.{gave_none}
 use Rattle.book_pcap.specs.declared.pcap_head.ByteOrder.{ByteOrder}
 use Rattle.book_pcap.specs.declared.pcap_head.Head.{Head}
-use Rattle.book_pcap.specs.Packets.{Broken, NoMoreRecords, RecordFront, Kept, Whole, datagram_of, four_at, record_at}
+use Rattle.book_base.specs.Fronts.{Front, Ends, Faulted, Leads}
+use Rattle.book_pcap.specs.Packets.{RecordFault, Broken, Kept, datagram_of, four_at, record_at}
 use Rattle.book_pcap.proofs.Captures.{record_none, record_over, record_part, record_short, record_whole}
 use Rattle.pcap_file.specs.declared.packets.PacketStep.TheVariants as step
 use Rattle.pcap_file.specs.Reading.{IsByte, Steps, ends_within, is_ready, is_whole}
@@ -33,7 +34,7 @@ none_part order kept len enough is fits part = rw (record_part order kept enough
 
 -- it is all there, whatever follows
 pub stays_whole : (order : ByteOrder) (kept : List ℕ) (seconds len : ℕ) → 16 ≤ length kept → seconds ≡ four_at order kept 0 → len ≡ four_at order kept 8 → len ≤ 262144 → 16 + len ≤ length kept →
-    (left : List ℕ) → record_at order (kept ++ left) ≡ Whole (record { seconds = seconds; bytes = take len (drop 16 kept) }) (drop (16 + len) kept ++ left)
+    (left : List ℕ) → record_at order (kept ++ left) ≡ Leads (record { seconds = seconds; bytes = take len (drop 16 kept) }) (drop (16 + len) kept ++ left)
 stays_whole order kept seconds len enough seconds_is len_is le more left =
     let size = length-append kept left in
     let rest : length (drop 16 kept) ≡ length kept - 16 = length-drop 16 kept in
@@ -60,10 +61,10 @@ reached head buffer side fits = record {
   fits = fits;
 }
 
-by_front : (taken : ℕ) (front : RecordFront) → is_whole front ≡ false → ends_within taken front ≡ false
-by_front taken NoMoreRecords none = refl
-by_front taken Broken none = refl
-by_front taken (Whole packet rest) none = absurd (cc)
+by_front : (taken : ℕ) (front : Front Kept RecordFault) → is_whole front ≡ false → ends_within taken front ≡ false
+by_front taken Ends none = refl
+by_front taken (Faulted Broken) none = refl
+by_front taken (Leads packet rest) none = absurd (cc)
 
 -- no whole record is kept
 pub not_ready : (head : Head) (kept : List ℕ) (taken : ℕ) → is_whole (record_at head.order kept) ≡ false → is_ready (Some head) kept taken ≡ false
@@ -71,10 +72,10 @@ not_ready head kept taken none = by_front taken (record_at head.order kept) none
 
 -- a whole record is kept
 module _ (head : Head) (kept : List ℕ) (packet : Kept) (handed len : ℕ) (more : 16 + len ≤ length kept)
-    (stays : (left : List ℕ) → record_at head.order (kept ++ left) ≡ Whole packet (drop (16 + len) kept ++ left)) where
+    (stays : (left : List ℕ) → record_at head.order (kept ++ left) ≡ Leads packet (drop (16 + len) kept ++ left)) where
   ready_is : is_ready (Some head) kept (handed + length kept) ≡ nat_le (handed + (16 + len)) 268435456
   ready_is =
-      let here : record_at head.order kept ≡ Whole packet (drop (16 + len) kept) = rw (append-nil kept, append-nil (drop (16 + len) kept)) at (stays []) in
+      let here : record_at head.order kept ≡ Leads packet (drop (16 + len) kept) = rw (append-nil kept, append-nil (drop (16 + len) kept)) at (stays []) in
       let rest : length (drop (16 + len) kept) ≡ length kept - (16 + len) = length-drop (16 + len) kept in
       let past : handed + length kept - length (drop (16 + len) kept) ≡ handed + (16 + len) = omega arith in
       ap (ends_within (handed + length kept)) here ∙ ap (λ n. nat_le n 268435456) past
@@ -93,7 +94,7 @@ module _ (head : Head) (kept : List ℕ) (packet : Kept) (handed len : ℕ) (mor
       side side [] step.Packet
   kept_step had count seconds secs shown over buffer datagram side is same packet_is size fits going within datagram_is =
       let none : handed + 0 ≡ handed = omega arith in
-      let record_is : record_at head.order (buffer.kept ++ told side.bytes) ≡ Whole (record { seconds = secs; bytes = take len (drop 16 buffer.kept) }) (drop (16 + len) buffer.kept ++ told side.bytes) =
+      let record_is : record_at head.order (buffer.kept ++ told side.bytes) ≡ Leads (record { seconds = secs; bytes = take len (drop 16 buffer.kept) }) (drop (16 + len) buffer.kept ++ told side.bytes) =
       rw (same, ← packet_is) (stays (told side.bytes)) in
       let told_is : datagram ≡ datagram_of head.link (take len (drop 16 buffer.kept)) = rw same datagram_is in
       let all : 16 + len ≤ length buffer.kept = rw same more in

@@ -3,16 +3,17 @@ use Rattle.std.proofs.Common.{◌≡◌, ℕ, ◌+◌, List, [], ◌++◌, lengt
 use Rattle.std.proofs.lemmas.List.{length-append}
 use Rattle.ao_base.specs.Outside.{Side, told}
 use Rattle.ao_base.proofs.Sides.{told_given}
-use Rattle.book_pcap.specs.Packets.{RecordFront, NoMoreRecords, Broken, Whole, record_at, datagram_of}
+use Rattle.book_base.specs.Fronts.{Front, Ends, Faulted, Leads}
+use Rattle.book_pcap.specs.Packets.{Kept, RecordFault, Broken, record_at, datagram_of}
 use Rattle.book_pcap.proofs.Captures.{record_none, packets_step}
 use Rattle.pcap_file.specs.declared.packets.PacketStep.{PacketStep}
 use Rattle.pcap_file.specs.declared.packets.PacketStep.TheVariants.{Packet, End, Fault, TooLong, BadHead, BadRecord}
 use Rattle.pcap_file.specs.Reading.{Reading, Steps, step_at, wanted_step, IsOpen, Exactly, Walks, IsQuiet, IsPacketOrEnd}
 
-at_front : (count : ℕ) (front : RecordFront) → IsOpen (step_at count front)
-at_front count NoMoreRecords = tt
-at_front count Broken = tt
-at_front count (Whole packet rest) = tt
+at_front : (count : ℕ) (front : Front Kept RecordFault) → IsOpen (step_at count front)
+at_front count Ends = tt
+at_front count (Faulted Broken) = tt
+at_front count (Leads packet rest) = tt
 
 exact_step : (before now : Reading) (a b : Side) (given left : List ℕ) (step : PacketStep) → before.kept ++ left ≡ (before.kept ++ given) ++ told b.bytes →
     Steps before now a b given step → Exactly (wanted_step before left) step

@@ -5,7 +5,8 @@ use Rattle.ao_base.specs.Buffered.{Buffered}
 use Rattle.ao_base.specs.Outside.{Side, Gave, Rose, IsAtEnd, told}
 use Rattle.book_pcap.specs.declared.pcap_head.ByteOrder.{ByteOrder}
 use Rattle.book_pcap.specs.declared.pcap_head.Head.{Head}
-use Rattle.book_pcap.specs.Packets.{Broken, Whole, record_at}
+use Rattle.book_base.specs.Fronts.{Faulted, Leads}
+use Rattle.book_pcap.specs.Packets.{RecordFault, Broken, record_at}
 use Rattle.pcap_file.specs.declared.filling.Filled.{Filled}
 use Rattle.pcap_file.specs.declared.filling.Filled.TheVariants as filled
 use Rattle.pcap_file.specs.declared.records.Opened.{Opened}
@@ -53,9 +54,9 @@ pub record Opens (had : Option Head) (before now : Buffered) (source_before sour
 -- what reading a record gives, by what is kept
 abbrev pub IsFound : ByteOrder → List ℕ → Side → Side → Found → Type 0
 IsFound order kept source_before source_now (found.Whole seconds len) =
-    (record_at order (kept ++ told source_now.bytes) ≡ Whole (record { seconds = seconds; bytes = take len (drop 16 kept) }) (drop (16 + len) kept ++ told source_now.bytes)) × (16 + len ≤ length kept)
+    (record_at order (kept ++ told source_now.bytes) ≡ Leads (record { seconds = seconds; bytes = take len (drop 16 kept) }) (drop (16 + len) kept ++ told source_now.bytes)) × (16 + len ≤ length kept)
 IsFound order kept source_before source_now found.Done = (kept ≡ []) × IsAtEnd source_now
-IsFound order kept source_before source_now found.Broken = (record_at order (kept ++ told source_now.bytes) ≡ Broken) × (record_at order kept ≡ Broken)
+IsFound order kept source_before source_now found.Broken = (record_at order (kept ++ told source_now.bytes) ≡ Faulted Broken) × (record_at order kept ≡ Faulted Broken)
 IsFound order kept source_before source_now found.Fault = Rose source_before source_now
 
 -- reading a record

@@ -4,7 +4,8 @@ use Rattle.std.specs.List.{All}
 use Rattle.ao_base.specs.Outside.{Side, Gave, Rose, IsAtEnd, told}
 use Rattle.book_pcap.specs.declared.pcap_head.Head.{Head}
 use Rattle.book_pcap.specs.declared.pcap_head.HeadFault.{HeadFault}
-use Rattle.book_pcap.specs.Packets.{opened, Kept, RecordFront, NoMoreRecords, Broken, Whole, record_at, datagram_of, Packet, Packets, with_packet, packets_in, packets_of}
+use Rattle.book_base.specs.Fronts.{Front, Ends, Faulted, Leads}
+use Rattle.book_pcap.specs.Packets.{opened, Kept, RecordFault, Broken, record_at, datagram_of, Packet, Packets, with_packet, packets_in, packets_of}
 use Rattle.book_pcap.specs.Packets.{BadHead as head_refused, BadRecord as record_refused}
 use Rattle.pcap_file.specs.declared.packets.PacketStep.{PacketStep}
 use Rattle.pcap_file.specs.declared.packets.PacketStep.TheVariants as step
@@ -39,7 +40,7 @@ pub record Shows (before now : Reading) (source_now : Side) (text : List ℕ) : 
   pub body : List ℕ
   pub packet : Kept
   pub opens : opened_from before.head text ≡ Ok (head, body)
-  pub whole : record_at head.order body ≡ Whole packet (now.kept ++ told source_now.bytes)
+  pub whole : record_at head.order body ≡ Leads packet (now.kept ++ told source_now.bytes)
   pub known : now.head ≡ Some head
   pub shown : now.packet ≡ Some (record { number = before.count + 1; seconds = packet.seconds; datagram = datagram_of head.link packet.bytes })
   pub count : now.count ≡ before.count + 1
@@ -67,20 +68,20 @@ Answers before now source_before source_now given text step.TooLong = Stops befo
 Answers before now source_before source_now given text (step.BadHead fault) =
     Stops before now given × (before.head ≡ None) × (now.head ≡ None) × (opened_from before.head text ≡ Err fault) × (opened_from before.head (before.kept ++ given) ≡ Err fault)
 Answers before now source_before source_now given text (step.BadRecord n) =
-    Stops before now given × (n ≡ before.count + 1) × Opening before now text (λ head body. record_at head.order body ≡ Broken)
-    × Opening before now (before.kept ++ given) (λ head body. record_at head.order body ≡ Broken)
+    Stops before now given × (n ≡ before.count + 1) × Opening before now text (λ head body. record_at head.order body ≡ Faulted Broken)
+    × Opening before now (before.kept ++ given) (λ head body. record_at head.order body ≡ Faulted Broken)
 
 -- a whole record stands there
-abbrev pub is_whole : RecordFront → Bool
-is_whole NoMoreRecords = false
-is_whole Broken = false
-is_whole (Whole packet rest) = true
+abbrev pub is_whole : Front Kept RecordFault → Bool
+is_whole Ends = false
+is_whole (Faulted Broken) = false
+is_whole (Leads packet rest) = true
 
 -- a whole record stands there, and ends within the most bytes of a file, of which so many were taken
-abbrev pub ends_within : ℕ → RecordFront → Bool
-ends_within taken NoMoreRecords = false
-ends_within taken Broken = false
-ends_within taken (Whole packet rest) = nat_le (taken - length rest) 268435456
+abbrev pub ends_within : ℕ → Front Kept RecordFault → Bool
+ends_within taken Ends = false
+ends_within taken (Faulted Broken) = false
+ends_within taken (Leads packet rest) = nat_le (taken - length rest) 268435456
 
 -- the next packet needs no source: the header was read, and the next record is kept whole and ends
 -- within the most bytes of a file
@@ -106,10 +107,10 @@ pub record Steps (before now : Reading) (source_before source_now : Side) (given
   pub answers : Answers before now source_before source_now given ((before.kept ++ given) ++ told source_now.bytes) result
 
 -- the answer that the record at the front wants
-abbrev pub step_at : ℕ → RecordFront → PacketStep
-step_at count NoMoreRecords = step.End
-step_at count Broken = step.BadRecord (count + 1)
-step_at count (Whole packet rest) = step.Packet
+abbrev pub step_at : ℕ → Front Kept RecordFault → PacketStep
+step_at count Ends = step.End
+step_at count (Faulted Broken) = step.BadRecord (count + 1)
+step_at count (Leads packet rest) = step.Packet
 
 -- the answer that the header and what follows it want
 abbrev pub step_behind : ℕ → Result (Head × List ℕ) HeadFault → PacketStep
