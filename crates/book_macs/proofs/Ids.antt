@@ -5,9 +5,10 @@ use Rattle.std.proofs.lemmas.List.{length-replicate}
 use Rattle.book_base.specs.declared.address.Address.{Address}
 use Rattle.book_base.specs.declared.address.Address.TheVariants.{V4, V6}
 use Rattle.book_segments.specs.Sockets.{octets}
-use Rattle.book_segments.specs.Options.{Opt, Leading, option_front, by_front, options_from, options_of, of_kind, listed, Ao, One, ao_of, found, find_ao}
+use Rattle.book_segments.specs.Options.{Opt, option_front, options_of, of_kind, listed, Ao, One, ao_of, found, find_ao}
 use Rattle.book_segments.specs.Segments.{IpHeader, Ipv4, Ipv6, Segment, tcp_length}
 use Rattle.book_segments.specs.Spelling.{FitsIp, IsV4, IsV6}
+use Rattle.book_segments.proofs.OptionFronts.{Leading, by_front, walked, options_from}
 use Rattle.book_segments.proofs.Blanked.{blanked, length-blanked, blank_option, blanks, leading, take_exact, drop_exact}
 use Rattle.book_segments.proofs.Fields.{append_split}
 use Rattle.book_macs.specs.MacInput.{covered, mac_input}
@@ -62,10 +63,10 @@ length-rest (x ∷ y ∷ body) = omega arith
 ids_with : (area : List ℕ) (ao : Ao) → find_ao area ≡ One ao → HasIds (covered true area ao) ao
 unfolding find_ao options_of
 ids_with area ao e =
-    let list = listed (options_from (length area) 0 area) in
+    let list = listed (options_from (suc (length area)) 0 area) in
     let one = found_one (of_kind 29 list) (of_kind 19 list) ao e in
     let o = one.option in
-    let b = blanks (length area) 0 area o one.ours_is in
+    let b = blanks (suc (length area)) 0 area o one.ours_is in
     let m = length o.body - 2 in
     let two = b.two in
     let within = b.within in
@@ -75,14 +76,14 @@ ids_with area ao e =
     let area_is : covered true area ao ≡ blanked b.offset m area =
     covered_is ao.place (length ao.mac) area (omega arith) ∙ ap (λ i. blanked i (length ao.mac) area) place_is ∙ ap (λ i. blanked b.offset i area) mac_is in
     let long : length (blanked b.offset m area) ≡ length area = length-blanked b.offset m area (omega arith) in
-    let options_is : options_from (length (covered true area ao)) 0 (covered true area ao) ≡ options_from (length area) 0 (blanked b.offset m area) =
-    ap (λ (l : List ℕ). options_from (length l) 0 l) area_is ∙ ap (λ i. options_from i 0 (blanked b.offset m area)) long in
-    let ours : of_kind 29 (listed (options_from (length (covered true area ao)) 0 (covered true area ao))) ≡ blank_option o ∷ [] = ap (λ x. of_kind 29 (listed x)) options_is ∙ b.ao in
-    let md5 : of_kind 19 (listed (options_from (length (covered true area ao)) 0 (covered true area ao))) ≡ [] = ap (λ x. of_kind 19 (listed x)) options_is ∙ b.md5 ∙ one.md5_is in
+    let options_is : options_from (suc (length (covered true area ao))) 0 (covered true area ao) ≡ options_from (suc (length area)) 0 (blanked b.offset m area) =
+    ap (λ (l : List ℕ). options_from (suc (length l)) 0 l) area_is ∙ ap (λ i. options_from (suc i) 0 (blanked b.offset m area)) long in
+    let ours : of_kind 29 (listed (options_from (suc (length (covered true area ao))) 0 (covered true area ao))) ≡ blank_option o ∷ [] = ap (λ x. of_kind 29 (listed x)) options_is ∙ b.ao in
+    let md5 : of_kind 19 (listed (options_from (suc (length (covered true area ao))) 0 (covered true area ao))) ≡ [] = ap (λ x. of_kind 19 (listed x)) options_is ∙ b.md5 ∙ one.md5_is in
     let ids = ids_of o.body m two in
     record {
       other = ao_of (blank_option o);
-      option = ap (λ x. found x (of_kind 19 (listed (options_from (length (covered true area ao)) 0 (covered true area ao))))) ours ∙ ap (λ x. found (blank_option o ∷ []) x) md5;
+      option = ap (λ x. found x (of_kind 19 (listed (options_from (suc (length (covered true area ao))) 0 (covered true area ao))))) ours ∙ ap (λ x. found (blank_option o ∷ []) x) md5;
       key_id = ids.0 ∙ ap (λ (x : Ao). x.key_id) one.ao_is;
       rnext_key_id = ids.1 ∙ ap (λ (x : Ao). x.rnext_key_id) one.ao_is;
     }
@@ -100,7 +101,7 @@ ids_without m key_id rnext_key_id =
     let none : drop (4 + m - 2) body ≡ [] = ap (drop (4 + m - 2)) (sym (append-nil body)) ∙ drop_exact body [] (4 + m - 2) body_long in
     let front_is : option_front (29 ∷ (4 + m) ∷ body) ≡ Leading 29 body (4 + m) [] =
     leading 27 (4 + m) body low high ∙ ap (λ b. Leading 29 b (4 + m) (drop (4 + m - 2) body)) whole ∙ ap (λ l. Leading 29 body (4 + m) l) none in
-    ap (λ f. found (of_kind 29 (listed (by_front f 0 (options_from (length ((4 + m) ∷ body)))))) (of_kind 19 (listed (by_front f 0 (options_from (length ((4 + m) ∷ body))))))) front_is
+    ap (λ f. found (of_kind 29 (listed (by_front f 0 (walked (length (29 ∷ (4 + m) ∷ body)))))) (of_kind 19 (listed (by_front f 0 (walked (length (29 ∷ (4 + m) ∷ body))))))) front_is
 
 ids : (flag : Bool) (area : List ℕ) (ao : Ao) → find_ao area ≡ One ao → HasIds (covered flag area ao) ao
 ids true area ao e = ids_with area ao e

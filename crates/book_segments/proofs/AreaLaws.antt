@@ -1,10 +1,12 @@
 -- The options that are read are those of the grammar.
-use Rattle.std.proofs.Common.{◌≡◌, ℕ, zero, suc, ◌+◌, ◌-◌, ◌<◌, ◌≤◌, false, nat_lt, List, [], ◌∷◌, ◌++◌, length, take, drop, refl, sym, ap, subst, ◌∙◌, arith, inl, inr, append_assoc}
+use Rattle.std.proofs.Common.{◌≡◌, ℕ, zero, suc, ◌+◌, ◌-◌, ◌<◌, ◌≤◌, ◌⊎◌, false, nat_lt, List, [], ◌∷◌, ◌++◌, length, take, drop, refl, sym, ap, subst, ◌∙◌, arith, inl, inr, append_assoc}
 use Rattle.std.proofs.lemmas.List.{length-append, take-append-drop, length-take, take_at, drop_at, append-nil}
 use Rattle.std.proofs.lemmas.Bool.{cases_lt, le-ltb, lt-ltb}
 use Rattle.book_segments.specs.declared.fault.OptionFault.{OptionFault}
 use Rattle.book_segments.specs.declared.fault.OptionFault.TheVariants.{ShortLength, PastEnd}
-use Rattle.book_segments.specs.Options.{Opt, Options, Listed, Faulty, and_then, least, OptionFront, NoMore, Ending, TooShort, TooLong, Leading, option_front, options_at, options_of, listed, AreListed}
+use Rattle.book_base.specs.Fronts.{Front, Ends, Faulted, Leads}
+use Rattle.book_segments.proofs.OptionFronts.{Leading, Ending}
+use Rattle.book_segments.specs.Options.{Opt, Options, Listed, Faulty, and_then, least, Sized, LengthFault, TooShort, TooLong, option_front, options_at, options_of, listed, AreListed}
 use Rattle.book_segments.specs.Areas.{spell_option, spell_options, IsOpen, Open, ending, AreaAt, Area, Refused, FaultFrom, FaultAt}
 use Rattle.book_segments.proofs.Walks.{step, leads, goes, ending_at, nothing_at, short_at, long_at, not_short, not_long}
 
@@ -12,13 +14,24 @@ use Rattle.book_segments.proofs.Walks.{step, leads, goes, ending_at, nothing_at,
 abbrev opt : ℕ → ℕ → List ℕ → Opt
 opt p kind body = record { kind = kind; body = body; place = p }
 
+-- kind 0 stands at the front
+record IsEnding (o : Sized) (rest bs : List ℕ) : Type 0 where
+  tail : List ℕ
+  bytes : bs ≡ 0 ∷ tail
+  front : Leads o rest ≡ Ending
+
+-- another option stands at the front
+record IsSpelled (o : Sized) (rest bs : List ℕ) : Type 0 where
+  is_open : (p : ℕ) → IsOpen (opt p o.kind o.body)
+  bytes : (p : ℕ) → bs ≡ spell_option (opt p o.kind o.body) ++ rest
+  sized : (p : ℕ) → o.size ≡ length (spell_option (opt p o.kind o.body))
+
 -- what one step says of the bytes
-abbrev Tells : OptionFront → List ℕ → Type 0
-Tells NoMore bs = bs ≡ []
-Tells Ending bs = (tail : List ℕ) × (bs ≡ 0 ∷ tail)
-Tells TooShort bs = (q : ℕ) → Refused bs q (ShortLength q)
-Tells TooLong bs = (q : ℕ) → Refused bs q (PastEnd q)
-Tells (Leading kind body size rest) bs = ((p : ℕ) → IsOpen (opt p kind body)) × ((p : ℕ) → bs ≡ spell_option (opt p kind body) ++ rest) × ((p : ℕ) → size ≡ length (spell_option (opt p kind body)))
+abbrev Tells : Front Sized LengthFault → List ℕ → Type 0
+Tells Ends bs = bs ≡ []
+Tells (Faulted TooShort) bs = (q : ℕ) → Refused bs q (ShortLength q)
+Tells (Faulted TooLong) bs = (q : ℕ) → Refused bs q (PastEnd q)
+Tells (Leads o rest) bs = IsEnding o rest bs ⊎ IsSpelled o rest bs
 
 least_two : (k : ℕ) → 2 ≤ least k
 least_two k = grind arith
@@ -28,7 +41,11 @@ long_found k size rest lo hi =
     let two = least_two (suc (suc k)) in
     let n : 2 + length (take (size - 2) rest) ≡ size = omega (arith, length-take (size - 2) rest) in
     let big : nat_lt (suc (suc k)) 2 ≡ false = le-ltb _ _ (omega arith) in
-    (λ p. record { kind = omega arith; short = λ h. absurd (omega arith); long = λ _. omega arith }, λ p. rw (big, n, take-append-drop (size - 2) rest) refl, λ p. rw big (omega (arith, n)))
+    inr (record {
+      is_open = λ p. record { kind = omega arith; short = λ h. absurd (omega arith); long = λ _. omega arith };
+      bytes = λ p. rw (big, n, take-append-drop (size - 2) rest) refl;
+      sized = λ p. rw big (omega (arith, n));
+    })
 
 long_tells : (k size : ℕ) (rest : List ℕ) → Tells (option_front (suc (suc k) ∷ size ∷ rest)) (suc (suc k) ∷ size ∷ rest)
 long_tells k size rest = elim (cases_lt size (least (suc (suc k)))) [
@@ -41,8 +58,8 @@ long_tells k size rest = elim (cases_lt size (least (suc (suc k)))) [
 
 tells : (bs : List ℕ) → Tells (option_front bs) bs
 tells [] = refl
-tells (zero ∷ bs) = (bs, refl)
-tells (suc zero ∷ bs) = (λ p. record { kind = omega arith; short = λ _. refl; long = λ h. absurd (omega arith) }, λ p. refl, λ p. refl)
+tells (zero ∷ bs) = inl (record { tail = bs; bytes = refl; front = refl })
+tells (suc zero ∷ bs) = inr (record { is_open = λ p. record { kind = omega arith; short = λ _. refl; long = λ h. absurd (omega arith) }; bytes = λ p. refl; sized = λ p. refl })
 tells (suc (suc k) ∷ []) = λ q. (refl, omega arith)
 tells (suc (suc k) ∷ size ∷ rest) = long_tells k size rest
 
@@ -63,32 +80,36 @@ again o after h = sym (again_at o.place o.kind o.body after h)
 
 -- ---- what is read is of the grammar
 
-area_step : (s : OptionFront) (p : ℕ) (bs : List ℕ) → s ≡ option_front bs → Tells s bs → AreListed (options_at p bs)
+-- kind 0 ends the list
+ended : (p : ℕ) (bs : List ℕ) (o : Sized) (rest : List ℕ) → Leads o rest ≡ option_front bs → IsEnding o rest bs → options_at p bs ≡ Listed (ending p ∷ [])
+ended p bs o rest e t = ending_at p bs (sym t.front ∙ e)
+
+area_step : (s : Front Sized LengthFault) (p : ℕ) (bs : List ℕ) → s ≡ option_front bs → Tells s bs → AreListed (options_at p bs)
     → ((q : ℕ) (rest : List ℕ) → length rest < length bs → AreListed (options_at q rest) → (tail : List ℕ) × AreaAt q (listed (options_at q rest)) tail rest)
     → (tail : List ℕ) × AreaAt p (listed (options_at p bs)) tail bs
-area_step NoMore p bs e t l ih = let n : options_at p bs ≡ Listed [] = nothing_at p bs e in ([], rw n (inl (tt, refl, t)))
-area_step Ending p bs e t l ih =
-    let n : options_at p bs ≡ Listed (ending p ∷ []) = ending_at p bs e in
+area_step Ends p bs e t l ih = let n : options_at p bs ≡ Listed [] = nothing_at p bs e in ([], rw n (inl (tt, refl, t)))
+area_step (Faulted TooShort) p bs e t l ih = absurd (not_short p bs l e)
+area_step (Faulted TooLong) p bs e t l ih = absurd (not_long p bs l e)
+area_step (Leads o rest) p bs e (inl t) l ih =
+    let n : options_at p bs ≡ Listed (ending p ∷ []) = ended p bs o rest e t in
     let z : p ≡ p + length (spell_options []) = omega arith in
-    (t.0, rw n (inr ([], tt, ap (λ (q : ℕ). ending q ∷ []) z, t.1)))
-area_step TooShort p bs e t l ih = absurd (not_short p bs l e)
-area_step TooLong p bs e t l ih = absurd (not_long p bs l e)
-area_step (Leading kind body size rest) p bs e t l ih =
-    let g = goes p bs kind body size rest e l in
-    let o : Opt = opt p kind body in
-    let r = ih (p + size) rest (leads bs kind body size rest e).less g.behind in
-    let at : p + size ≡ p + length (spell_option o) = ap (λ (k : ℕ). p + k) (t.2 p) in
-    let L : List Opt = listed (options_at (p + size) rest) in (
+    (t.tail, rw n (inr ([], tt, ap (λ (q : ℕ). ending q ∷ []) z, t.bytes)))
+area_step (Leads s rest) p bs e (inr t) l ih =
+    let g = goes p bs s.kind s.body s.size rest e l in
+    let o : Opt = opt p s.kind s.body in
+    let r = ih (p + s.size) rest (leads bs s.kind s.body s.size rest e).less g.behind in
+    let at : p + s.size ≡ p + length (spell_option o) = ap (λ (k : ℕ). p + k) (t.sized p) in
+    let L : List Opt = listed (options_at (p + s.size) rest) in (
       r.0,
       subst (λ (list : List Opt). AreaAt p list r.0 bs) (sym g.list) (elim r.1 [
-        | inl a ↦ inl ((t.0 p, refl, subst (λ (q : ℕ). Open q L) at a.0), a.1, t.1 p ∙ ap (λ (x : List ℕ). spell_option o ++ x) a.2)
+        | inl a ↦ inl ((t.is_open p, refl, subst (λ (q : ℕ). Open q L) at a.0), a.1, t.bytes p ∙ ap (λ (x : List ℕ). spell_option o ++ x) a.2)
         | inr b ↦
-            let far : p + size + length (spell_options b.0) ≡ p + length (spell_option o ++ spell_options b.0) = omega (arith, at, length-append (spell_option o) (spell_options b.0)) in
+            let far : p + s.size + length (spell_options b.0) ≡ p + length (spell_option o ++ spell_options b.0) = omega (arith, at, length-append (spell_option o) (spell_options b.0)) in
             inr (
               o ∷ b.0,
-              (t.0 p, refl, subst (λ (q : ℕ). Open q b.0) at b.1),
+              (t.is_open p, refl, subst (λ (q : ℕ). Open q b.0) at b.1),
               ap (λ (x : List Opt). o ∷ x) (b.2 ∙ ap (λ (q : ℕ). b.0 ++ ending q ∷ []) far),
-              t.1 p ∙ (ap (λ (x : List ℕ). spell_option o ++ x) b.3 ∙ sym (append_assoc (spell_option o) (spell_options b.0) (0 ∷ r.0))),
+              t.bytes p ∙ (ap (λ (x : List ℕ). spell_option o ++ x) b.3 ∙ sym (append_assoc (spell_option o) (spell_options b.0) (0 ∷ r.0))),
             )
       ]),
     )
@@ -109,30 +130,30 @@ then_fault o (Faulty g) f e = e
 fault_is : (f g : OptionFault) → Faulty f ≡ Faulty g → f ≡ g
 fault_is f g e = cc
 
-fault_step : (s : OptionFront) (p : ℕ) (bs : List ℕ) (f : OptionFault) → s ≡ option_front bs → Tells s bs → options_at p bs ≡ Faulty f
+fault_step : (s : Front Sized LengthFault) (p : ℕ) (bs : List ℕ) (f : OptionFault) → s ≡ option_front bs → Tells s bs → options_at p bs ≡ Faulty f
     → ((q : ℕ) (rest : List ℕ) → length rest < length bs → options_at q rest ≡ Faulty f → FaultFrom q rest f)
     → FaultFrom p bs f
-fault_step NoMore p bs f e t l ih =
+fault_step Ends p bs f e t l ih =
     let is : Listed [] ≡ Faulty f = sym (nothing_at p bs e) ∙ l in
     absurd (cc)
-fault_step Ending p bs f e t l ih =
-    let is : Listed (ending p ∷ []) ≡ Faulty f = sym (ending_at p bs e) ∙ l in
-    absurd (cc)
-fault_step TooShort p bs f e t l ih =
+fault_step (Faulted TooShort) p bs f e t l ih =
     let is : ShortLength p ≡ f = fault_is (ShortLength p) f (sym (short_at p bs e) ∙ l) in
     let z : p ≡ p + length (spell_options []) = omega arith in
     ([], bs, tt, refl, subst (λ (q : ℕ). Refused bs q f) z (subst (λ (g : OptionFault). Refused bs p g) is (t p)))
-fault_step TooLong p bs f e t l ih =
+fault_step (Faulted TooLong) p bs f e t l ih =
     let is : PastEnd p ≡ f = fault_is (PastEnd p) f (sym (long_at p bs e) ∙ l) in
     let z : p ≡ p + length (spell_options []) = omega arith in
     ([], bs, tt, refl, subst (λ (q : ℕ). Refused bs q f) z (subst (λ (g : OptionFault). Refused bs p g) is (t p)))
-fault_step (Leading kind body size rest) p bs f e t l ih =
-    let o : Opt = opt p kind body in
-    let s : options_at p bs ≡ and_then o (options_at (p + size) rest) = step p bs (Leading kind body size rest) e in
-    let r = ih (p + size) rest (leads bs kind body size rest e).less (then_fault o (options_at (p + size) rest) f (sym s ∙ l)) in
-    let at : p + size ≡ p + length (spell_option o) = ap (λ (j : ℕ). p + j) (t.2 p) in
-    let far : p + size + length (spell_options r.0) ≡ p + length (spell_option o ++ spell_options r.0) = omega (arith, at, length-append (spell_option o) (spell_options r.0)) in
-    (o ∷ r.0, r.1, (t.0 p, refl, subst (λ (q : ℕ). Open q r.0) at r.2), t.1 p ∙ (ap (λ (x : List ℕ). spell_option o ++ x) r.3 ∙ sym (append_assoc (spell_option o) (spell_options r.0) r.1)), subst (λ (q : ℕ). Refused r.1 q f) far r.4)
+fault_step (Leads o rest) p bs f e (inl t) l ih =
+    let is : Listed (ending p ∷ []) ≡ Faulty f = sym (ended p bs o rest e t) ∙ l in
+    absurd (cc)
+fault_step (Leads i rest) p bs f e (inr t) l ih =
+    let o : Opt = opt p i.kind i.body in
+    let s : options_at p bs ≡ and_then o (options_at (p + i.size) rest) = step p bs (Leads i rest) e in
+    let r = ih (p + i.size) rest (leads bs i.kind i.body i.size rest e).less (then_fault o (options_at (p + i.size) rest) f (sym s ∙ l)) in
+    let at : p + i.size ≡ p + length (spell_option o) = ap (λ (j : ℕ). p + j) (t.sized p) in
+    let far : p + i.size + length (spell_options r.0) ≡ p + length (spell_option o ++ spell_options r.0) = omega (arith, at, length-append (spell_option o) (spell_options r.0)) in
+    (o ∷ r.0, r.1, (t.is_open p, refl, subst (λ (q : ℕ). Open q r.0) at r.2), t.bytes p ∙ (ap (λ (x : List ℕ). spell_option o ++ x) r.3 ∙ sym (append_assoc (spell_option o) (spell_options r.0) r.1)), subst (λ (q : ℕ). Refused r.1 q f) far r.4)
 
 fault_found : (n p : ℕ) (bs : List ℕ) (f : OptionFault) → length bs ≤ n → options_at p bs ≡ Faulty f → FaultFrom p bs f
 fault_found zero p bs f h l = fault_step (option_front bs) p bs f refl (tells bs) l (λ q rest lt m. absurd (omega arith))
@@ -182,7 +203,7 @@ refused_at (kind ∷ []) p (ShortLength q) r = absurd r
 refused_at (zero ∷ size ∷ body) p (ShortLength q) r = absurd (omega (arith, r.1))
 refused_at (suc zero ∷ size ∷ body) p (ShortLength q) r = absurd (omega (arith, r.1))
 refused_at (suc (suc k) ∷ size ∷ body) p (ShortLength q) r =
-    let f : TooShort ≡ option_front (suc (suc k) ∷ size ∷ body) = rw (lt-ltb _ _ r.2) refl in
+    let f : Faulted TooShort ≡ option_front (suc (suc k) ∷ size ∷ body) = rw (lt-ltb _ _ r.2) refl in
     short_at p (suc (suc k) ∷ size ∷ body) f ∙ ap (λ (j : ℕ). Faulty (ShortLength j)) (sym r.0)
 refused_at [] p (PastEnd q) r = absurd r
 refused_at (zero ∷ []) p (PastEnd q) r = absurd (omega (arith, r.1))
@@ -191,7 +212,7 @@ refused_at (suc (suc k) ∷ []) p (PastEnd q) r = long_at p (suc (suc k) ∷ [])
 refused_at (zero ∷ size ∷ body) p (PastEnd q) r = absurd (omega (arith, r.1))
 refused_at (suc zero ∷ size ∷ body) p (PastEnd q) r = absurd (omega (arith, r.1))
 refused_at (suc (suc k) ∷ size ∷ body) p (PastEnd q) r =
-    let f : TooLong ≡ option_front (suc (suc k) ∷ size ∷ body) = rw (le-ltb _ _ r.2, lt-ltb _ _ r.3) refl in
+    let f : Faulted TooLong ≡ option_front (suc (suc k) ∷ size ∷ body) = rw (le-ltb _ _ r.2, lt-ltb _ _ r.3) refl in
     long_at p (suc (suc k) ∷ size ∷ body) f ∙ ap (λ (j : ℕ). Faulty (PastEnd j)) (sym r.0)
 
 -- a fault that stands in the bytes is read

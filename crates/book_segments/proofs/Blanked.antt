@@ -2,7 +2,9 @@
 use Rattle.std.proofs.Common.{◌≡◌, ℕ, zero, suc, ◌+◌, ◌-◌, ◌≤◌, ◌==◌, nat_lt, Bool, true, false, List, [], ◌∷◌, ◌++◌, length, take, drop, replicate, if◌then◌else◌, refl, sym, ap, ◌∙◌, subst, arith, length-append, length-take, length-drop, append_assoc}
 use Rattle.std.proofs.lemmas.Bool.Decides.{nat_tests}
 use Rattle.std.proofs.lemmas.List.{length-replicate}
-use Rattle.book_segments.specs.Options.{Opt, Options, Listed, Faulty, and_then, least, OptionFront, TooShort, TooLong, Leading, option_front, by_front, options_from, of_kind, listed, AreListed}
+use Rattle.book_base.specs.Fronts.{Front, Faulted, Leads}
+use Rattle.book_segments.proofs.OptionFronts.{Leading, by_front, walked, options_from}
+use Rattle.book_segments.specs.Options.{Opt, Options, Listed, Faulty, and_then, least, Sized, LengthFault, TooShort, TooLong, option_front, of_kind, listed, AreListed}
 use Rattle.book_segments.proofs.Fields.{eqb_is, lt_not}
 
 -- the list with so many zeros from 4 past a place on
@@ -101,7 +103,7 @@ skipped a o os ns is old ao md5 =
     )
 
 -- by cases on a test
-by_test : (P : OptionFront → Type 0) (b : Bool) (t u : OptionFront) → (b ≡ true → P t) → (b ≡ false → P u) → P (if b then t else u)
+by_test : (P : Front Sized LengthFault → Type 0) (b : Bool) (t u : Front Sized LengthFault) → (b ≡ true → P t) → (b ≡ false → P u) → P (if b then t else u)
 by_test P true t u one two = one refl
 by_test P false t u one two = two refl
 
@@ -164,10 +166,10 @@ own_blanks k p n size rest o low high is e =
     ∙ ap (λ b. Leading kind b size (drop (size - 2) (body ++ left))) (take_exact body left (size - 2) body_size)
     ∙ ap (λ l. Leading kind body size l) (drop_exact body left (size - 2) body_size) in
     let all_is : listed (options_from (suc k) p (blanked 0 m (kind ∷ size ∷ rest))) ≡ new ∷ listed os =
-    ap (λ f. listed (by_front f p (options_from k))) front_is ∙ listed_then new os os_listed in
+    ap (λ f. listed (by_front f p (walked k))) front_is ∙ listed_then new os os_listed in
     let old_front : option_front (kind ∷ size ∷ rest) ≡ Leading kind (take (size - 2) rest) size left = leading n size rest low high in
     let old_is : listed (options_from (suc k) p (kind ∷ size ∷ rest)) ≡ a ∷ listed os =
-    ap (λ f. listed (by_front f p (options_from k))) old_front ∙ listed_then a os os_listed in
+    ap (λ f. listed (by_front f p (walked k))) old_front ∙ listed_then a os os_listed in
     let place_is : p ≡ o.place = ap (λ (x : Opt). x.place) lead.0 in
     let new_is : new ≡ blank_option o =
     ap (λ i. let x : Opt = record { kind = i; body = body; place = p } in x) kind_is ∙ ap (λ i. let x : Opt = record { kind = 29; body = body; place = i } in x) place_is in
@@ -216,8 +218,8 @@ later_blanks k p n size rest o low high is e h =
     leading n size new_rest low new_high
     ∙ ap (λ b. Leading kind b size (drop s new_rest)) (take-blanked s h.offset (s + h.offset) m rest refl)
     ∙ ap (λ l. Leading kind (take s rest) size l) (drop-blanked s h.offset (s + h.offset) m rest refl (omega arith)) in
-    let all_is : options_from (suc k) p (blanked at m (kind ∷ size ∷ rest)) ≡ and_then a ns = ap (λ f. by_front f p (options_from k)) front_is in
-    let old_is : options_from (suc k) p (kind ∷ size ∷ rest) ≡ and_then a os = ap (λ f. by_front f p (options_from k)) (leading n size rest low high) in
+    let all_is : options_from (suc k) p (blanked at m (kind ∷ size ∷ rest)) ≡ and_then a ns = ap (λ f. by_front f p (walked k)) front_is in
+    let old_is : options_from (suc k) p (kind ∷ size ∷ rest) ≡ and_then a os = ap (λ f. by_front f p (walked k)) (leading n size rest low high) in
     let both = skipped a (blank_option o) os ns is (then_listed a o os e) h.ao h.md5 in
     record {
       offset = at;
@@ -242,17 +244,18 @@ pad_blanks k p rest o e h =
 pub blanks : (k p : ℕ) (xs : List ℕ) (o : Opt) → of_kind 29 (listed (options_from k p xs)) ≡ o ∷ [] → Blanks k p xs o
 blanks zero p xs o e = absurd (cc)
 blanks (suc k) p [] o e = absurd (cc)
-blanks (suc k) p (zero ∷ rest) o e = absurd (cc)
+blanks (suc zero) p (zero ∷ rest) o e = absurd (cc)
+blanks (suc (suc k)) p (zero ∷ rest) o e = absurd (cc)
 blanks (suc k) p (suc zero ∷ rest) o e =
     pad_blanks k p rest o e (blanks k (p + 1) rest o (behind_29 (record { kind = 1; body = []; place = p }) o (options_from k (p + 1) rest) refl e))
 blanks (suc k) p (suc (suc n) ∷ []) o e = absurd (cc)
 blanks (suc k) p (suc (suc n) ∷ size ∷ rest) o e =
     let kind = suc (suc n) in
     let Goal = Blanks (suc k) p (kind ∷ size ∷ rest) o in
-    let P : OptionFront → Type 0 = λ f. of_kind 29 (listed (by_front f p (options_from k))) ≡ o ∷ [] → Goal in
+    let P : Front Sized LengthFault → Type 0 = λ f. of_kind 29 (listed (by_front f p (walked k))) ≡ o ∷ [] → Goal in
     let a : Opt = record { kind = kind; body = take (size - 2) rest; place = p } in
     let os = options_from k (p + size) (drop (size - 2) rest) in
-    by_test P (nat_lt size (least kind)) TooShort _ (λ t h. absurd (cc)) (λ low.
-    by_test P (nat_lt (length rest + 2) size) TooLong _ (λ t h. absurd (cc)) (λ high h.
+    by_test P (nat_lt size (least kind)) (Faulted TooShort) _ (λ t h. absurd (cc)) (λ low.
+    by_test P (nat_lt (length rest + 2) size) (Faulted TooLong) _ (λ t h. absurd (cc)) (λ high h.
     by_bool Goal (kind == 29) (λ is. own_blanks k p n size rest o low high is h)
     (λ is. later_blanks k p n size rest o low high is h (blanks k (p + size) (drop (size - 2) rest) o (behind_29 a o os is h))))) e

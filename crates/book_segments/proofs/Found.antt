@@ -1,7 +1,9 @@
 -- A TCP-AO option that is found lies in its area.
 use Rattle.std.proofs.Common.{◌≡◌, ℕ, zero, suc, ◌+◌, ◌-◌, ◌≤◌, ◌==◌, nat_lt, Bool, true, false, List, [], ◌∷◌, length, take, drop, if◌then◌else◌, refl, sym, subst, arith, length-take, length-drop}
 use Rattle.std.specs.List.{AllByRecursion}
-use Rattle.book_segments.specs.Options.{Opt, Options, Listed, Faulty, and_then, least, OptionFront, NoMore, Ending, TooShort, TooLong, Leading, option_front, by_front, options_from, options_of, of_kind, listed, Ao, One, ao_of, found, find_ao}
+use Rattle.book_base.specs.Fronts.{Front, Ends, Faulted, Leads}
+use Rattle.book_segments.proofs.OptionFronts.{Leading, by_front, walked, options_from}
+use Rattle.book_segments.specs.Options.{Opt, Options, Listed, Faulty, and_then, least, Sized, LengthFault, TooShort, TooLong, option_front, options_of, of_kind, listed, Ao, One, ao_of, found, find_ao}
 use Rattle.book_segments.proofs.Fields.{eqb_is, lt_not}
 
 -- an option of kind 29 has its two ids, and lies before this end
@@ -22,15 +24,13 @@ within-longer one two (o ∷ os) le h =
     ((λ is. let r = h.0 is in let low = r.1 in (r.0, omega arith)), within-longer one two os le h.1)
 
 -- what is known of what stands at the front of an area
-abbrev pub Bounds : OptionFront → List ℕ → Type 0
-Bounds (Leading kind body size rest) area = (size + length rest ≡ length area) × (kind ≡ 29 → (2 ≤ length body) × (2 + length body ≤ size))
-Bounds NoMore area = Unit {0}
-Bounds Ending area = Unit {0}
-Bounds TooShort area = Unit {0}
-Bounds TooLong area = Unit {0}
+abbrev pub Bounds : Front Sized LengthFault → List ℕ → Type 0
+Bounds (Leads o rest) area = (o.size + length rest ≤ length area) × (o.kind ≡ 29 → (2 ≤ length o.body) × (2 + length o.body ≤ o.size))
+Bounds Ends area = Unit {0}
+Bounds (Faulted fault) area = Unit {0}
 
 -- by cases on a test
-by_test : (P : OptionFront → Type 0) (b : Bool) (t u : OptionFront) → (b ≡ true → P t) → (b ≡ false → P u) → P (if b then t else u)
+by_test : (P : Front Sized LengthFault → Type 0) (b : Bool) (t u : Front Sized LengthFault) → (b ≡ true → P t) → (b ≡ false → P u) → P (if b then t else u)
 by_test P true t u one two = one refl
 by_test P false t u one two = two refl
 
@@ -50,28 +50,27 @@ long_bounds kind size rest low high =
 
 front_bounds : (area : List ℕ) → Bounds (option_front area) area
 front_bounds [] = tt
-front_bounds (zero ∷ rest) = tt
+front_bounds (zero ∷ rest) = (omega arith, λ (e : 0 ≡ 29). absurd (cc))
 front_bounds (suc zero ∷ rest) = (omega arith, λ (e : 1 ≡ 29). absurd (cc))
 front_bounds (suc (suc k) ∷ []) = tt
 front_bounds (suc (suc k) ∷ size ∷ rest) =
-    let P : OptionFront → Type 0 = λ f. Bounds f (suc (suc k) ∷ size ∷ rest) in
-    by_test P (nat_lt size (least (suc (suc k)))) TooShort _ (λ is. tt) (λ long.
-    by_test P (nat_lt (length rest + 2) size) TooLong _ (λ is. tt) (λ fits.
+    let P : Front Sized LengthFault → Type 0 = λ f. Bounds f (suc (suc k) ∷ size ∷ rest) in
+    by_test P (nat_lt size (least (suc (suc k)))) (Faulted TooShort) _ (λ is. tt) (λ long.
+    by_test P (nat_lt (length rest + 2) size) (Faulted TooLong) _ (λ is. tt) (λ fits.
     long_bounds (suc (suc k)) size rest (lt_not size (least (suc (suc k))) long) (lt_not (length rest + 2) size fits)))
 
-within_front : (f : OptionFront) (k p : ℕ) (area : List ℕ) → Bounds f area
+within_front : (f : Front Sized LengthFault) (k p : ℕ) (area : List ℕ) → Bounds f area
     → ((q : ℕ) (rest : List ℕ) → AllListed (Within (q + length rest)) (options_from k q rest))
-    → AllListed (Within (p + length area)) (by_front f p (options_from k))
-within_front NoMore k p area h others = tt
-within_front Ending k p area h others = ((λ (at : 0 ≡ 29). absurd (cc)), tt)
-within_front TooShort k p area h others = tt
-within_front TooLong k p area h others = tt
-within_front (Leading kind body size rest) k p area h others =
+    → AllListed (Within (p + length area)) (by_front f p (walked k))
+within_front Ends k p area h others = tt
+within_front (Faulted TooShort) k p area h others = tt
+within_front (Faulted TooLong) k p area h others = tt
+within_front (Leads o rest) k p area h others =
     let sizes = h.0 in
     let end = p + length area in
-    all_and (Within end) (record { kind = kind; body = body; place = p }) (options_from k (p + size) rest)
+    all_and (Within end) (record { kind = o.kind; body = o.body; place = p }) (options_from k (p + o.size) rest)
     (λ at. let r = h.1 at in let one = r.0 in let two = r.1 in (one, omega arith))
-    (within-longer (p + size + length rest) end (listed (options_from k (p + size) rest)) (omega arith) (others (p + size) rest))
+    (within-longer (p + o.size + length rest) end (listed (options_from k (p + o.size) rest)) (omega arith) (others (p + o.size) rest))
 
 pub all_within : (k p : ℕ) (area : List ℕ) → AllListed (Within (p + length area)) (options_from k p area)
 all_within zero p area = tt
@@ -107,6 +106,6 @@ found_one end (o ∷ []) [] ao h e =
 pub found_within : (area : List ℕ) (ao : Ao) → find_ao area ≡ One ao → ao.place + 4 + length ao.mac ≤ length area
 unfolding find_ao options_of
 found_within area ao e =
-    let list = listed (options_from (length area) 0 area) in
-    let all = within-longer (0 + length area) (length area) list (omega arith) (all_within (length area) 0 area) in
+    let list = listed (options_from (suc (length area)) 0 area) in
+    let all = within-longer (0 + length area) (length area) list (omega arith) (all_within (suc (length area)) 0 area) in
     found_one (length area) (of_kind 29 list) (of_kind 19 list) ao (all_of_kind 29 (length area) list refl all) e

@@ -11,3 +11,4 @@ pub mod Shapes
 pub mod SpellLaws
 pub mod SumLaws
 pub mod Walks
+pub mod OptionFronts

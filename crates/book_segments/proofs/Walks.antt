@@ -3,26 +3,27 @@ use Rattle.std.proofs.Common.{◌≡◌, ℕ, zero, suc, ◌+◌, ◌-◌, ◌<�
 use Rattle.std.specs.Prelude.{◌==◌}
 use Rattle.std.proofs.lemmas.Bool.{ltb-false}
 use Rattle.std.proofs.lemmas.List.{length-drop, length-take}
+use Rattle.book_base.specs.Fronts.{Front, Ends, Faulted, Leads, Fronted, fronted}
+use Rattle.book_base.proofs.FrontLaws.{Shrinks, fronted_step}
 use Rattle.book_segments.specs.declared.fault.OptionFault.{OptionFault}
 use Rattle.book_segments.specs.declared.fault.OptionFault.TheVariants.{ShortLength, PastEnd}
-use Rattle.book_segments.specs.Options.{Opt, Options, Listed, Faulty, and_then, least, OptionFront, NoMore, Ending, TooShort, TooLong, Leading, option_front, by_front, options_from, options_at, options_of, listed, AreListed, Plain, plains}
+use Rattle.book_segments.proofs.OptionFronts.{Leading, Ending, by_front}
+use Rattle.book_segments.specs.Options.{Opt, Options, Listed, Faulty, and_then, least, Sized, LengthFault, TooShort, TooLong, option_front, placed_from, options_at, options_of, listed, AreListed, Plain, plains}
 
 -- what is known of an option at the front of n bytes
-pub record Leads (kind : ℕ) (body : List ℕ) (size : ℕ) (rest : List ℕ) (n : ℕ) : Type 0 where
+pub record IsLeading (kind : ℕ) (body : List ℕ) (size : ℕ) (rest : List ℕ) (n : ℕ) : Type 0 where
   pub less : length rest < n
-  pub sizes : size + length rest ≡ n
+  pub sizes : size + length rest ≤ n
   pub ao : kind ≡ 29 → 2 ≤ length body
   pub positive : 0 < size
 
-abbrev pub IsLess : OptionFront → ℕ → Type 0
-IsLess (Leading kind body size rest) n = Leads kind body size rest n
-IsLess NoMore n = Unit {0}
-IsLess Ending n = Unit {0}
-IsLess TooShort n = Unit {0}
-IsLess TooLong n = Unit {0}
+abbrev pub IsLess : Front Sized LengthFault → ℕ → Type 0
+IsLess (Leads o rest) n = IsLeading o.kind o.body o.size rest n
+IsLess Ends n = Unit {0}
+IsLess (Faulted fault) n = Unit {0}
 
-abbrev long_front : Bool → Bool → ℕ → ℕ → List ℕ → OptionFront
-long_front short long kind size rest = cond short TooShort (cond long TooLong (Leading kind (take (size - 2) rest) size (drop (size - 2) rest)))
+abbrev long_front : Bool → Bool → ℕ → ℕ → List ℕ → Front Sized LengthFault
+long_front short long kind size rest = cond short (Faulted TooShort) (cond long (Faulted TooLong) (Leading kind (take (size - 2) rest) size (drop (size - 2) rest)))
 
 least_ao : (kind : ℕ) → kind ≡ 29 → least kind ≡ 4
 least_ao kind e = subst (λ (k : ℕ). least k ≡ 4) (sym e) refl
@@ -43,39 +44,23 @@ long_less false false kind size rest s l =
 
 pub less : (bs : List ℕ) → IsLess (option_front bs) (length bs)
 less [] = tt
-less (zero ∷ bs) = tt
+less (zero ∷ bs) = record { less = omega arith; sizes = omega arith; ao = λ e. absurd (omega arith); positive = omega arith }
 less (suc zero ∷ bs) = record { less = omega arith; sizes = omega arith; ao = λ e. absurd (omega arith); positive = omega arith }
 less (suc (suc k) ∷ []) = tt
 less (suc (suc k) ∷ size ∷ rest) =
     subst (λ (n : ℕ). IsLess (option_front (suc (suc k) ∷ size ∷ rest)) n) (omega arith) (long_less (nat_lt size (least (suc (suc k)))) (nat_lt (length rest + 2) size) (suc (suc k)) size rest refl refl)
 
-pub leads : (bs : List ℕ) (kind : ℕ) (body : List ℕ) (size : ℕ) (rest : List ℕ) → Leading kind body size rest ≡ option_front bs → Leads kind body size rest (length bs)
-leads bs kind body size rest e = subst (λ (f : OptionFront). IsLess f (length bs)) (sym e) (less bs)
+pub leads : (bs : List ℕ) (kind : ℕ) (body : List ℕ) (size : ℕ) (rest : List ℕ) → Leading kind body size rest ≡ option_front bs → IsLeading kind body size rest (length bs)
+leads bs kind body size rest e = subst (λ (f : Front Sized LengthFault). IsLess f (length bs)) (sym e) (less bs)
 
-same_by : (s : OptionFront) (bs : List ℕ) (p : ℕ) (f g : ℕ → List ℕ → Options) → s ≡ option_front bs → ((q : ℕ) (rest : List ℕ) → length rest < length bs → f q rest ≡ g q rest) → by_front s p f ≡ by_front s p g
-same_by NoMore bs p f g e h = refl
-same_by Ending bs p f g e h = refl
-same_by TooShort bs p f g e h = refl
-same_by TooLong bs p f g e h = refl
-same_by (Leading kind body size rest) bs p f g e h =
-    ap (λ (o : Options). and_then (record { kind = kind; body = body; place = p }) o) (h (p + size) rest (leads bs kind body size rest e).less)
-
--- more steps than bytes change nothing
-pub enough : (m n p : ℕ) (bs : List ℕ) → length bs ≤ m → length bs ≤ n → options_from m p bs ≡ options_from n p bs
-enough zero zero p bs hm hn = refl
-enough zero (suc n) p [] hm hn = refl
-enough zero (suc n) p (b ∷ bs) hm hn = absurd (omega arith)
-enough (suc m) zero p [] hm hn = refl
-enough (suc m) zero p (b ∷ bs) hm hn = absurd (omega arith)
-enough (suc m) (suc n) p bs hm hn = same_by (option_front bs) bs p (options_from m) (options_from n) refl (λ q rest lt. enough m n q rest (omega arith) (omega arith))
-
-at_all : (p : ℕ) (bs : List ℕ) → options_at p bs ≡ by_front (option_front bs) p options_at
-at_all p [] = refl
-at_all p (b ∷ bs) = same_by (option_front (b ∷ bs)) (b ∷ bs) p (options_from (length bs)) options_at refl (λ q rest lt. enough (length bs) (length rest) q rest (omega arith) (omega arith))
+shrinks : Shrinks option_front
+shrinks = record { shorter = λ bs o rest is. (leads bs o.kind o.body o.size rest (sym is)).less }
 
 -- one step
-pub step : (p : ℕ) (bs : List ℕ) (s : OptionFront) → s ≡ option_front bs → options_at p bs ≡ by_front s p options_at
-step p bs s e = rw e (at_all p bs)
+pub step : (p : ℕ) (bs : List ℕ) (s : Front Sized LengthFault) → s ≡ option_front bs → options_at p bs ≡ by_front s p (fronted option_front)
+step p bs s e =
+    let f = fronted option_front in
+    ap (λ (x : Fronted Sized LengthFault). placed_from p x.items x.fault) (fronted_step option_front shrinks bs) ∙ ap (λ (g : Front Sized LengthFault). by_front g p f) (sym e)
 
 pub of_is : (bs : List ℕ) → options_of bs ≡ options_at 0 bs
 unfolding options_of
@@ -126,17 +111,16 @@ erased_then o u (Listed a) (Faulty g) k m e = absurd (cc)
 erased_then o u (Faulty f) (Listed b) k m e = absurd (cc)
 erased_then o u (Faulty f) (Faulty g) k m e = refl
 
-erased_by : (s : OptionFront) (p q : ℕ) (f : ℕ → List ℕ → Options) → ((i j : ℕ) (rest : List ℕ) → erased (f i rest) ≡ erased (f j rest)) → erased (by_front s p f) ≡ erased (by_front s q f)
-erased_by NoMore p q f h = refl
-erased_by Ending p q f h = refl
-erased_by TooShort p q f h = refl
-erased_by TooLong p q f h = refl
-erased_by (Leading kind body size rest) p q f h =
-    erased_then (record { kind = kind; body = body; place = p }) (record { kind = kind; body = body; place = q }) (f (p + size) rest) (f (q + size) rest) refl refl (h (p + size) (q + size) rest)
+erased_from : (p q : ℕ) (os : List Sized) (fault : Option LengthFault) → erased (placed_from p os fault) ≡ erased (placed_from q os fault)
+erased_from p q [] None = refl
+erased_from p q [] (Some TooShort) = refl
+erased_from p q [] (Some TooLong) = refl
+erased_from p q (o ∷ os) fault =
+    erased_then (record { kind = o.kind; body = o.body; place = p }) (record { kind = o.kind; body = o.body; place = q }) (placed_from (p + o.size) os fault) (placed_from (q + o.size) os fault) refl refl
+    (erased_from (p + o.size) (q + o.size) os fault)
 
-erased_from : (n p q : ℕ) (bs : List ℕ) → erased (options_from n p bs) ≡ erased (options_from n q bs)
-erased_from zero p q bs = refl
-erased_from (suc n) p q bs = erased_by (option_front bs) p q (options_from n) (λ i j rest. erased_from n i j rest)
+erased_at : (p q : ℕ) (bs : List ℕ) → erased (options_at p bs) ≡ erased (options_at q bs)
+erased_at p q bs = erased_from p q (fronted option_front bs).items (fronted option_front bs).fault
 
 abbrev or_none : Option (List Plain) → List Plain
 or_none (Some list) = list
@@ -152,10 +136,10 @@ same_listed (Listed a) (Faulty g) e h = absurd (cc)
 same_listed (Faulty f) y e h = absurd h
 
 pub plains_at : (p q : ℕ) (bs : List ℕ) → plains (listed (options_at p bs)) ≡ plains (listed (options_at q bs))
-plains_at p q bs = plains_are (options_at p bs) ∙ ap or_none (erased_from (length bs) p q bs) ∙ sym (plains_are (options_at q bs))
+plains_at p q bs = plains_are (options_at p bs) ∙ ap or_none (erased_at p q bs) ∙ sym (plains_are (options_at q bs))
 
 pub listed_at : (p q : ℕ) (bs : List ℕ) → AreListed (options_at p bs) → AreListed (options_at q bs)
-listed_at p q bs h = same_listed (options_at p bs) (options_at q bs) (erased_from (length bs) p q bs) h
+listed_at p q bs h = same_listed (options_at p bs) (options_at q bs) (erased_at p q bs) h
 
 plains_then : (o : Opt) (x : Options) → AreListed x → plains (listed (and_then o x)) ≡ record { kind = o.kind; body = o.body } ∷ plains (listed x)
 plains_then o (Listed list) h = refl
@@ -192,17 +176,17 @@ leading_plains bs kind body size rest e h =
 pub ending_at : (p : ℕ) (bs : List ℕ) → Ending ≡ option_front bs → options_at p bs ≡ Listed (record { kind = 0; body = []; place = p } ∷ [])
 ending_at p bs e = step p bs Ending e
 
-pub nothing_at : (p : ℕ) (bs : List ℕ) → NoMore ≡ option_front bs → options_at p bs ≡ Listed []
-nothing_at p bs e = step p bs NoMore e
+pub nothing_at : (p : ℕ) (bs : List ℕ) → Ends ≡ option_front bs → options_at p bs ≡ Listed []
+nothing_at p bs e = step p bs Ends e
 
-pub short_at : (p : ℕ) (bs : List ℕ) → TooShort ≡ option_front bs → options_at p bs ≡ Faulty (ShortLength p)
-short_at p bs e = step p bs TooShort e
+pub short_at : (p : ℕ) (bs : List ℕ) → Faulted TooShort ≡ option_front bs → options_at p bs ≡ Faulty (ShortLength p)
+short_at p bs e = step p bs (Faulted TooShort) e
 
-pub long_at : (p : ℕ) (bs : List ℕ) → TooLong ≡ option_front bs → options_at p bs ≡ Faulty (PastEnd p)
-long_at p bs e = step p bs TooLong e
+pub long_at : (p : ℕ) (bs : List ℕ) → Faulted TooLong ≡ option_front bs → options_at p bs ≡ Faulty (PastEnd p)
+long_at p bs e = step p bs (Faulted TooLong) e
 
-pub not_short : (p : ℕ) (bs : List ℕ) → AreListed (options_at p bs) → TooShort ≡ option_front bs → ⊥
+pub not_short : (p : ℕ) (bs : List ℕ) → AreListed (options_at p bs) → Faulted TooShort ≡ option_front bs → ⊥
 not_short p bs h e = subst AreListed (short_at p bs e) h
 
-pub not_long : (p : ℕ) (bs : List ℕ) → AreListed (options_at p bs) → TooLong ≡ option_front bs → ⊥
+pub not_long : (p : ℕ) (bs : List ℕ) → AreListed (options_at p bs) → Faulted TooLong ≡ option_front bs → ⊥
 not_long p bs h e = subst AreListed (long_at p bs e) h

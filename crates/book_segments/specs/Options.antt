@@ -2,6 +2,7 @@
 -- `options_of` and `find_ao` are the file's tops.
 use Rattle.std.specs.Prelude.{ℕ, zero, suc, ◌+◌, ◌-◌, ◌*◌, ◌==◌, nat_lt, ◌&&◌, if◌then◌else◌}
 use Rattle.std.specs.Prelude.{List, [], ◌∷◌, length, take, drop, slice_index, Option, Some, None}
+use Rattle.book_base.specs.Fronts.{Front, Ends, Faulted, Leads, fronted}
 use Rattle.book_segments.specs.declared.fault.OptionFault.{OptionFault}
 use Rattle.book_segments.specs.declared.fault.OptionFault.TheVariants.{ShortLength, PastEnd}
 
@@ -26,42 +27,43 @@ and_then o (Faulty fault) = Faulty fault
 abbrev pub least : ℕ → ℕ
 least kind = if kind == 29 then 4 else 2
 
--- what stands at the front of an area: nothing, kind 0, a fault, or an option with its size and the
--- bytes behind it (RFC 9293, section 3.2)
-pub data OptionFront : Type 0 where
-  NoMore Ending TooShort TooLong : OptionFront
-  Leading : (kind : ℕ) (body : List ℕ) (size : ℕ) (rest : List ℕ) → OptionFront
+-- an option as it stands in an area: kind, body, and how many bytes it takes (RFC 9293, section
+-- 3.2)
+pub record Sized : Type 0 where
+  pub kind : ℕ
+  pub body : List ℕ
+  pub size : ℕ
 
--- kinds 0 and 1 are one byte; every other option has kind, length and body (RFC 9293, section 3.2)
-abbrev pub option_front : List ℕ → OptionFront
-option_front [] = NoMore
-option_front (zero ∷ rest) = Ending
-option_front (suc zero ∷ rest) = Leading 1 [] 1 rest
-option_front (suc (suc k) ∷ []) = TooLong
+-- what may be wrong with the length of an option (RFC 9293, section 3.2)
+pub data LengthFault : Type 0 where
+  TooShort TooLong : LengthFault
+
+-- what stands at the front of an area: kinds 0 and 1 are one byte, and behind kind 0 no option
+-- stands; every other option has kind, length and body (RFC 9293, section 3.2)
+abbrev pub option_front : List ℕ → Front Sized LengthFault
+option_front [] = Ends
+option_front (zero ∷ rest) = Leads (record { kind = 0; body = []; size = 1 }) []
+option_front (suc zero ∷ rest) = Leads (record { kind = 1; body = []; size = 1 }) rest
+option_front (suc (suc k) ∷ []) = Faulted TooLong
 option_front (suc (suc k) ∷ size ∷ rest) =
-    if nat_lt size (least (suc (suc k))) then TooShort
-    else if nat_lt (length rest + 2) size then TooLong
-    else Leading (suc (suc k)) (take (size - 2) rest) size (drop (size - 2) rest)
+    if nat_lt size (least (suc (suc k))) then Faulted TooShort
+    else if nat_lt (length rest + 2) size then Faulted TooLong
+    else Leads (record { kind = suc (suc k); body = take (size - 2) rest; size = size })
+    (drop (size - 2) rest)
 
--- the options from a place on, where this stands there, and those from a later place are handed in
--- (RFC 9293, section 3.2)
-abbrev pub by_front : OptionFront → ℕ → (ℕ → List ℕ → Options) → Options
-by_front NoMore p others = Listed []
-by_front Ending p others = Listed (record { kind = 0; body = []; place = p } ∷ [])
-by_front TooShort p others = Faulty (ShortLength p)
-by_front TooLong p others = Faulty (PastEnd p)
-by_front (Leading kind body size rest) p others =
-    and_then (record { kind = kind; body = body; place = p }) (others (p + size) rest)
-
--- the options of an area from a place on, of which the first argument bounds the number (RFC 9293,
--- section 3.2)
-abbrev pub options_from : (most place : ℕ) → List ℕ → Options
-options_from zero p area = Listed []
-options_from (suc k) p area = by_front (option_front area) p (options_from k)
+-- options one after another from a place on, and the fault behind them (RFC 9293, section 3.2)
+abbrev pub placed_from : ℕ → List Sized → Option LengthFault → Options
+placed_from p [] None = Listed []
+placed_from p [] (Some TooShort) = Faulty (ShortLength p)
+placed_from p [] (Some TooLong) = Faulty (PastEnd p)
+placed_from p (o ∷ os) fault =
+    and_then (record { kind = o.kind; body = o.body; place = p })
+    (placed_from (p + o.size) os fault)
 
 -- the options of an area that begins at a place (RFC 9293, section 3.2)
 abbrev pub options_at : ℕ → List ℕ → Options
-options_at p area = options_from (length area) p area
+options_at p area =
+    let found = fronted option_front area in placed_from p found.items found.fault
 
 -- the options of an area up to and with kind 0 (RFC 9293, section 3.2)
 unfoldable pub options_of : List ℕ → Options

@@ -2,8 +2,10 @@
 use Rattle.std.proofs.Common.{◌≡◌, ℕ, ◌+◌, ◌<◌, ◌≤◌, Bool, true, false, cond, List, [], ◌∷◌, Option, Some, None, length, refl, sym, ap, subst, ◌∙◌, arith, eq-eqb}
 use Rattle.std.specs.Prelude.{◌==◌, ◌&&◌, slice_index, ◌*◌, is_some}
 use Rattle.std.proofs.lemmas.Bool.{ne_eqb}
-use Rattle.book_segments.specs.Options.{Opt, Options, Plain, AreListed, Listed, Faulty, OptionFront, NoMore, Ending, TooShort, TooLong, Leading, option_front, options_at, options_of, listed, of_kind, plains, mss_among, Ao, AoFound, ao_of, found, find_ao}
+use Rattle.book_segments.specs.Options.{Opt, Options, Plain, AreListed, Listed, Faulty, option_front, options_at, options_of, listed, of_kind, plains, mss_among, Ao, AoFound, ao_of, found, find_ao}
 use Rattle.book_segments.specs.Options as book
+use Rattle.book_base.specs.Fronts.{Ends}
+use Rattle.book_segments.proofs.OptionFronts.{Leading, Ending}
 use Rattle.book_segments.proofs.Walks.{goes, leads, ending_at, nothing_at}
 use Rattle.tcp_options.specs.Views.{mss_or, IsFirst, IsAo, HitIs, hit_option, view_ao}
 use Rattle.book_segments.specs.declared.fault.OptionFault.{OptionFault}
@@ -54,7 +56,7 @@ none_at_end kind p bs k e =
     let o : Opt = record { kind = 0; body = []; place = p } in
     ap (λ (x : Options). of_kind kind (listed x)) (ending_at p bs e) ∙ kind_other kind o [] (λ z. omega arith)
 
-pub none_in_none : (kind p : ℕ) (bs : List ℕ) → NoMore ≡ option_front bs → of_kind kind (listed (options_at p bs)) ≡ []
+pub none_in_none : (kind p : ℕ) (bs : List ℕ) → Ends ≡ option_front bs → of_kind kind (listed (options_at p bs)) ≡ []
 none_in_none kind p bs e = ap (λ (x : Options). of_kind kind (listed x)) (nothing_at p bs e)
 
 pub kind_first : (kind place p : ℕ) (area bs : List ℕ) (h : Hit) (size : ℕ) → of_kind kind (listed (options_at p bs)) ≡ of_kind kind (listed (options_at place area)) → AreListed (options_at p bs) → p + length bs ≤ place + length area

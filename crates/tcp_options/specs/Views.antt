@@ -1,6 +1,7 @@
 -- The values of this crate as those of the definitions.
 use Rattle.std.specs.Prelude.{◌≡◌, ℕ, List, [], ◌∷◌, length, Option, Some, None, ◌==◌, ◌&&◌, slice_index, ◌+◌, ◌*◌, ◌≤◌, if◌then◌else◌}
-use Rattle.book_segments.specs.Options.{Plain, OptionFront, NoMore, Ending, TooShort, TooLong, Leading}
+use Rattle.book_base.specs.Fronts.{Front, Ends, Faulted, Leads}
+use Rattle.book_segments.specs.Options.{Plain, Sized, LengthFault, TooShort, TooLong}
 use Rattle.book_segments.specs.declared.fault.OptionFault.{OptionFault}
 use Rattle.book_segments.specs.Options as book
 use Rattle.tcp_options.specs.declared.iter.Opt.{Opt}
@@ -16,12 +17,12 @@ abbrev pub view_opt : Opt → Plain
 view_opt o = record { kind = o.kind; body = o.body.now }
 
 -- what was cut off
-abbrev pub view_cut : Cut → OptionFront
-view_cut cuts.NoMore = NoMore
-view_cut cuts.Ending = Ending
-view_cut cuts.TooShort = TooShort
-view_cut cuts.TooLong = TooLong
-view_cut (cuts.Leading o size rest) = Leading o.kind o.body.now size rest.now
+abbrev pub view_cut : Cut → Front Sized LengthFault
+view_cut cuts.NoMore = Ends
+view_cut cuts.Ending = Leads (record { kind = 0; body = []; size = 1 }) []
+view_cut cuts.TooShort = Faulted TooShort
+view_cut cuts.TooLong = Faulted TooLong
+view_cut (cuts.Leading o size rest) = Leads (record { kind = o.kind; body = o.body.now; size = size }) rest.now
 
 -- a fault, or none
 abbrev pub FaultIs : Option OptionFault → book.Options → Type 0
