@@ -6,6 +6,9 @@ use Rattle.tcp_options.proofs.options.Options.find_ao.Goals as goal
 pub first_of-requires-clause-listed : goal.first_of-requires-clause-listed
 first_of-requires-clause-listed c = listed_of c.self.inside.area.now c.self.invariant.0
 
+pub first_of-requires-3-clause-listed : goal.first_of-requires-3-clause-listed
+first_of-requires-3-clause-listed c = listed_of c.self.inside.area.now c.self.invariant.0
+
 pub returns-in_default : goal.returns-in_default
 returns-in_default c = absent_is c.self.inside.area.now c.in_default.ensures ∙ ap find_ao c.self.view_is
 
