@@ -46,7 +46,7 @@ heard_leaves s c owed answer = record { same = λ e. refl }
 text_leaves : (s t : EndState) (i : Admitted) → Leaves s (hear_text i t)
 text_leaves s t i =
     let end = t.expected + window t in
-    let kept = keep t.received i.number i.segment.payload t.expected (below_limit t.fin end) in
+    let kept = keep t.received (record { number = i.number; bytes = i.segment.payload }) (record { low = t.expected; high = below_limit t.fin end }) in
     let missing = first_missing kept t.expected (window t) in
     let fin_at = i.number + length i.segment.payload in
     let fin = fin_of t.fin (records_fin t kept i.segment fin_at) fin_at in
