@@ -7,8 +7,8 @@ use Rattle.book_link.specs.declared.event.Event.{Event}
 use Rattle.book_link.specs.declared.event.Event.TheVariants.{Clock, Connect, Listen, Start, Give, Fill, Send, Resend, Deliver, Inject, Alter, Take, Close, Abort, AddRow, Withdraw, Dump}
 use Rattle.book_cmd_link.specs.declared.script.Script.{Script}
 use Rattle.book_cmd_link.specs.declared.script.SharedKey.{SharedKey}
-use Rattle.link_script.specs.Printed.{event_words, key_lines, script_lines}
-use Rattle.link_script.specs.Scripts.{IsEvent, IsKey, IsScript}
+use Rattle.law_scripts.specs.Printed.{event_words, key_lines, script_lines}
+use Rattle.law_scripts.specs.Scripts.{IsEvent, IsKey, IsScript}
 use Rattle.link_world.specs.Events.{CanHappen}
 
 -- a file that is read without a key file names its key

@@ -15,8 +15,8 @@ use Rattle.book_answer.specs.Answers.{done, if_read, refusal, timed_over, too_ma
 use Rattle.book_cmd_timed.specs.TimedRuns.{most_events}
 use Rattle.book_cmd_timed.specs.TimedRuns.{expand, timed_script_of}
 use Rattle.text_lines.specs.Readings.{Fails}
-use Rattle.link_script.specs.Scripts.{IsEvent, IsRow}
-use Rattle.link_script.specs.Timed.{IsTimedEvent}
+use Rattle.law_scripts.specs.Scripts.{IsEvent, IsRow}
+use Rattle.law_scripts.specs.Timed.{IsTimedEvent}
 use Rattle.link_side.specs.Steps.{IsRowLine}
 use Rattle.link_world.specs.Events.{CanHappen}
 use Rattle.command_report.specs.Reporting.{Stopped, stop_of}

@@ -21,9 +21,9 @@ use Rattle.book_cmd_link.specs.declared.script.Script.{Script}
 use Rattle.book_cmd_link.specs.declared.script.SharedKey.{SharedKey}
 use Rattle.book_cmd_link.specs.LinkFiles.{shared_by}
 use Rattle.book_cmd_link.specs.LinkFiles.{are_two_of_a_family, script_of}
-use Rattle.link_script.specs.Printed.{event_words, key_lines, script_lines}
-use Rattle.link_script.specs.Scripts.{IsAddress, IsEvent, IsKey, IsScript, IsSocket}
-use Rattle.link_script.proofs.ScriptRanges.{script_of_ok}
+use Rattle.law_scripts.specs.Printed.{event_words, key_lines, script_lines}
+use Rattle.law_scripts.specs.Scripts.{IsAddress, IsEvent, IsKey, IsScript, IsSocket}
+use Rattle.law_scripts.proofs.ScriptRanges.{script_of_ok}
 use Rattle.law_headline.proofs.TableFits.{Fit, tables_fit}
 
 -- ---- events

@@ -14,8 +14,8 @@ use Rattle.book_cmd_timed.specs.declared.timed.TimedEvent.{TimedEvent}
 use Rattle.book_cmd_timed.specs.declared.timed.TimedEvent.TheVariants.{Plain, Wait}
 use Rattle.book_cmd_timed.specs.declared.timed.TimedScript.{TimedScript}
 use Rattle.book_cmd_timed.specs.TimedRuns.{Expanded, Progress, after_expiry, before, begins_timed, due, expand, expand_from, expiry, plain, reading_at, timed_event, timed_script_of, until, waited, watch_of}
-use Rattle.link_script.specs.Timed.{IsTimedEvent, IsTimedScript}
-use Rattle.link_script.proofs.TimedRanges.{timed_script_ok}
+use Rattle.law_scripts.specs.Timed.{IsTimedEvent, IsTimedScript}
+use Rattle.law_scripts.proofs.TimedRanges.{timed_script_ok}
 use Rattle.law_headline.proofs.InputLaws.{event_fits, fits}
 use Rattle.law_headline.proofs.TableFits.{tables_fit}
 

@@ -1,15 +1,4 @@
 pub mod NameLaws
 pub mod EventLoop
 pub mod TextParts
-pub mod PlainWords
-pub mod LinesBack
-pub mod WordsBack
-pub mod EventsBack
-pub mod PrintedLines
-pub mod ScriptBack
-pub mod WordRanges
-pub mod EventRanges
-pub mod ScriptRanges
 pub mod TimedWords
-pub mod TimedRanges
-pub mod Counts

@@ -4,7 +4,7 @@ use Rattle.std.proofs.lemmas.List.{take_more, map_push, append-nil}
 use Rattle.book_link.specs.declared.event.Event.{Event}
 use Rattle.book_cmd_link.specs.declared.script.Script.{Script}
 use Rattle.book_lines.specs.Texts.{line_text}
-use Rattle.link_script.specs.Printed.{event_words, lines_text, script_lines, title_words, socket_words, key_lines, text_of}
+use Rattle.law_scripts.specs.Printed.{event_words, lines_text, script_lines, title_words, socket_words, key_lines, text_of}
 use Rattle.std.specs.Prelude.{codes}
 
 pub lines_text-append : (xs ys : List (List (List ℕ))) → lines_text (xs ++ ys) ≡ lines_text xs ++ lines_text ys

@@ -13,7 +13,7 @@ use Rattle.book_cmd_timed.specs.declared.timed.TimedEvent.{TimedEvent}
 use Rattle.book_cmd_timed.specs.declared.timed.TimedEvent.TheVariants.{Plain}
 use Rattle.book_cmd_link.specs.LinkEvents.{link_event_of}
 use Rattle.book_cmd_timed.specs.TimedRuns.{plain_named, timed_event_of, wait_of}
-use Rattle.link_script.specs.Timed.{plain_of}
+use Rattle.law_scripts.specs.Timed.{plain_of}
 
 -- what a literal says by whether the word is it
 abbrev said : Bool → List (List ℕ) → Result (Taken (Unit {0})) LineKind

@@ -1,6 +1,3 @@
 pub mod Making
-pub mod Left
+pub mod Heads
 pub mod Names
-pub mod Printed
-pub mod Scripts
-pub mod Timed

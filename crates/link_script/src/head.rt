@@ -3,7 +3,8 @@ ghost use Rattle.std.specs.Prelude.{◌≡◌, [], ◌∷◌, codes, IfOk, IfErr
 ghost use Rattle.book_base.specs.declared.line_kind.LineKind.TheVariants as line_kind;
 ghost use Rattle.book_lines.specs.declared.text_fault.TextFault.TheVariants as fault;
 ghost use Rattle.book_cmd_link.specs.LinkFiles.{title_of, socket_of, are_two_of_a_family, peer_socket_of, line_in, link_head_in};
-ghost use Rattle.link_script.specs.Left.{leaves, said_head};
+ghost use Rattle.law_scripts.specs.Left.{leaves};
+ghost use Rattle.link_script.specs.Heads.{said_head};
 
 use book_base::{Address, LineKind, Socket};
 use book_lines::TextFault;

@@ -5,8 +5,8 @@ ghost use Rattle.book_base.specs.Hexadecimal.{hex_of};
 ghost use Rattle.book_lines.specs.Texts.{end_text, line_text};
 ghost use Rattle.book_cmd_link.specs.LinkFiles.{script_of};
 ghost use Rattle.link_script.specs.Names.{name_text};
-ghost use Rattle.link_script.specs.Scripts.{IsScript};
-ghost use Rattle.link_script.specs.Printed.{event_words, key_lines, lines_text, socket_words, text_of, title_words};
+ghost use Rattle.law_scripts.specs.Scripts.{IsScript};
+ghost use Rattle.law_scripts.specs.Printed.{event_words, key_lines, lines_text, socket_words, text_of, title_words};
 
 use super::name::Name;
 use super::row_texts::{chosen, push_row};
@@ -41,7 +41,7 @@ fn push_load(out: &mut Vec<u8>, name: Name, end: End, bytes: &Bytes) -> Result<(
 }
 
 /// The words of an event.
-#[tactic(auto, unfolding(crate::specs::Printed::event_words))]
+#[tactic(auto, unfolding(law_scripts::specs::Printed::event_words))]
 fn push_words(out: &mut Vec<u8>, event: &Event) -> Result<(), AllocError>
     ensures { OnOk result (out.new.items ++ 10 ∷ [] ≡ out.old.items ++ line_text (event_words event.now)) }
 {
@@ -96,14 +96,14 @@ fn push_event(out: &mut Vec<u8>, event: &Event) -> Result<(), AllocError>
     push_newline(out)
 }
 
-#[tactic(auto, unfolding(crate::specs::Printed::title_words))]
+#[tactic(auto, unfolding(law_scripts::specs::Printed::title_words))]
 fn push_title(out: &mut Vec<u8>) -> Result<(), AllocError>
     ensures { OnOk result (out.new.items ≡ out.old.items ++ line_text title_words) }
 {
     out.extend_from_slice(b"aotcp-link 1\n")
 }
 
-#[tactic(auto, unfolding(crate::specs::Printed::socket_words))]
+#[tactic(auto, unfolding(law_scripts::specs::Printed::socket_words))]
 fn push_socket_line(
     alloc: Global,
     out: &mut Vec<u8>,
@@ -117,7 +117,7 @@ fn push_socket_line(
     push_newline(out)
 }
 
-#[tactic(auto, unfolding(crate::specs::Printed::key_lines, crate::specs::Printed::lines_text))]
+#[tactic(auto, unfolding(law_scripts::specs::Printed::key_lines, law_scripts::specs::Printed::lines_text))]
 fn push_key(out: &mut Vec<u8>, shared: Option<&SharedKey>) -> Result<(), AllocError>
     ensures { OnOk result (out.new.items ≡ out.old.items ++ lines_text (key_lines (option_map (λ k. k.now) shared.entry))) }
 {
@@ -144,7 +144,7 @@ fn push_events(out: &mut Vec<u8>, events: &[Event]) -> Result<(), AllocError>
 ///
 /// The script is one that a link file can say: `IsScript` tells the ranges. The text is read again
 /// as this script, `with_keys` where it has no shared key. An error is want of memory.
-#[tactic(auto, unfolding(crate::specs::Printed::text_of, crate::specs::Printed::script_lines, crate::specs::Printed::lines_text))]
+#[tactic(auto, unfolding(law_scripts::specs::Printed::text_of, law_scripts::specs::Printed::script_lines, law_scripts::specs::Printed::lines_text))]
 pub fn print_script(alloc: Global, script: &Script) -> Result<Bytes, AllocError>
     requires { IsScript script.now }
     ensures text { IfOk result (λ text. text ≡ text_of script.now) }

@@ -5,8 +5,8 @@ ghost use Rattle.book_base.specs.declared.line_kind.LineKind.TheVariants as line
 ghost use Rattle.text_lines.specs.Readings.{Answers, Tells};
 ghost use Rattle.book_cmd_link.specs.LinkEvents.{link_event_of};
 ghost use Rattle.book_cmd_link.specs.LinkFiles.{event_at, events_of, is_shared, key_in, line_in, script_of, shared_key_of};
-ghost use Rattle.link_script.specs.Left.{leaves};
-ghost use Rattle.link_script.specs.Scripts.{IsScript};
+ghost use Rattle.law_scripts.specs.Left.{leaves};
+ghost use Rattle.law_scripts.specs.Scripts.{IsScript};
 
 use super::head::{next_line, read_head};
 use super::line_events::read_event;

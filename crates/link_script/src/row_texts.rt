@@ -1,7 +1,7 @@
 //! The words of a row, put behind one another.
 ghost use Rattle.std.specs.Prelude.{◌≡◌, ◌++◌, ◌∷◌, [], OnOk, decimal};
 ghost use Rattle.book_lines.specs.Texts.{spaced};
-ghost use Rattle.link_script.specs.Printed.{choice_text, direction_text, row_texts, use_texts};
+ghost use Rattle.law_scripts.specs.Printed.{choice_text, direction_text, row_texts, use_texts};
 
 use book_link::RowLine;
 use std::alloc::AllocError;
@@ -35,7 +35,7 @@ fn push_lifetime(out: &mut Vec<u8>, first: u64, last: u64) -> Result<(), AllocEr
 }
 
 /// How a row is used, and when, with a space in front of each word.
-#[tactic(auto, unfolding(crate::specs::Printed::use_texts))]
+#[tactic(auto, unfolding(law_scripts::specs::Printed::use_texts))]
 fn push_use(out: &mut Vec<u8>, row: &RowLine) -> Result<(), AllocError>
     ensures { OnOk result (out.new.items ≡ out.old.items ++ spaced (use_texts row.now)) }
 {
@@ -46,7 +46,7 @@ fn push_use(out: &mut Vec<u8>, row: &RowLine) -> Result<(), AllocError>
 }
 
 /// The words of a row, with a space in front of each.
-#[tactic(auto, unfolding(crate::specs::Printed::row_texts))]
+#[tactic(auto, unfolding(law_scripts::specs::Printed::row_texts))]
 pub(crate) fn push_row(out: &mut Vec<u8>, row: &RowLine) -> Result<(), AllocError>
     ensures { OnOk result (out.new.items ≡ out.old.items ++ spaced (row_texts row.now)) }
 {

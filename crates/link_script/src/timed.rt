@@ -3,7 +3,7 @@ ghost use Rattle.std.specs.Prelude.{◌≡◌, IfOk};
 ghost use Rattle.text_lines.specs.Readings.{Answers, Tells};
 ghost use Rattle.book_cmd_link.specs.LinkFiles.{event_at, events_of};
 ghost use Rattle.book_cmd_timed.specs.TimedRuns.{timed_event_of, timed_script_of, wait_of};
-ghost use Rattle.link_script.specs.Timed.{IsTimedScript, plain_of};
+ghost use Rattle.law_scripts.specs.Timed.{IsTimedScript, plain_of};
 
 use super::head::read_head;
 use super::line_events::read_event;

@@ -15,9 +15,9 @@ use Rattle.book_cmd_node.specs.declared.node.NodeEvent.{NodeEvent}
 use Rattle.book_cmd_node.specs.declared.node.NodeScript.{NodeScript}
 use Rattle.book_cmd_link.specs.LinkFiles.{Left, at_line, line_in, title_of}
 use Rattle.book_cmd_node.specs.NodeRuns.{own_address_of, node_event_of, node_events_of, node_script_in, node_script_of}
-use Rattle.text_lines.proofs.SaidLaws.{saying_length}
-use Rattle.link_script.specs.Scripts.{IsAddress}
-use Rattle.link_script.proofs.WordRanges.{bind_ok, address_ok}
+use Rattle.book_lines.proofs.SayingLaws.{saying_length}
+use Rattle.law_scripts.specs.Scripts.{IsAddress}
+use Rattle.law_scripts.proofs.WordRanges.{bind_ok, address_ok}
 use Rattle.node_script.specs.Scripts.{IsEvent, IsScript}
 use Rattle.node_script.proofs.EventRanges.{event_ok}
 

@@ -4,7 +4,7 @@ ghost use Rattle.book_base.specs.declared.line_kind.LineKind.TheVariants as line
 ghost use Rattle.book_lines.specs.declared.text_fault.TextFault.TheVariants as fault;
 ghost use Rattle.book_cmd_link.specs.LinkFiles.{line_in, title_of};
 ghost use Rattle.book_cmd_node.specs.NodeRuns.{own_address_of};
-ghost use Rattle.link_script.specs.Left.{leaves};
+ghost use Rattle.law_scripts.specs.Left.{leaves};
 
 use book_base::{Address, LineKind};
 use book_lines::TextFault;

@@ -1,10 +1,9 @@
--- What lines say, and how many they are.
-use Rattle.std.proofs.Common.{arith, ◌≡◌, ℕ, suc, ◌+◌, ◌≤◌, if◌then◌else◌, Bool, true, false, List, [], ◌∷◌, length, Result, Ok, Err, ap}
+-- What lines say.
+use Rattle.std.proofs.Common.{arith, ◌≡◌, ℕ, List, [], ◌∷◌, Result, Ok, Err, ap}
 use Rattle.book_base.specs.declared.line_kind.LineKind.{LineKind}
-use Rattle.book_base.specs.Lines.{words_of}
 use Rattle.book_lines.specs.declared.text_fault.TextFault.{TextFault}
 use Rattle.book_lines.specs.declared.text_fault.TextFault.TheVariants as fault
-use Rattle.book_lines.specs.Lines.{Line, saying_from, says_something}
+use Rattle.book_lines.specs.Lines.{Line}
 use Rattle.book_lines.specs.Said.{Said, at_number, said_by}
 use Rattle.book_base.specs.Results.{◌>>=◌}
 use Rattle.text_lines.specs.declared.refusal.Refusal.{Refusal}
@@ -38,13 +37,3 @@ pub said_few : {A : Type 0} (meaning : List (List ℕ) → Result A LineKind) (l
 unfolding said_by
 said_few meaning [] h = absurd (cc)
 said_few meaning (l ∷ ls) h = with_others_few (at_number l.number (meaning l.words)) l.number (said_by meaning ls) (numbered_few l.number (meaning l.words)) (said_few meaning ls) h
-
-one_says : (b : Bool) (l : Line) (ls : List Line) (m : ℕ) → length ls ≤ m → length (if b then l ∷ ls else ls) ≤ suc m
-one_says true l ls m h = omega arith
-one_says false l ls m h = omega arith
-
--- as many lines say something as there are, at most
-pub saying_length : (n : ℕ) (ls : List (List ℕ)) → length (saying_from n ls) ≤ length ls
-unfolding saying_from
-saying_length n [] = omega arith
-saying_length n (l ∷ ls) = one_says (says_something (words_of l)) (record { number = n; words = words_of l }) (saying_from (n + 1) ls) (length ls) (saying_length (n + 1) ls)

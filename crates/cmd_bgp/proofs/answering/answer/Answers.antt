@@ -1,4 +1,4 @@
-use Rattle.link_script.proofs.Counts.{few_events}
+use Rattle.law_scripts.proofs.Counts.{few_events}
 use Rattle.cmd_bgp.proofs.answering.answer.Goals as goal
 
 pub run_bgp-requires-clause-few : goal.run_bgp-requires-clause-few

@@ -1,6 +1,6 @@
 use Rattle.link_world.proofs.SetupLaws.{apart}
 use Rattle.cmd_link.proofs.ScriptLaws.{all_can_happen, key_lengths, names_key}
-use Rattle.link_script.proofs.Counts.{few_events}
+use Rattle.law_scripts.proofs.Counts.{few_events}
 use Rattle.cmd_link.proofs.link.answer_link.Goals as goal
 
 pub report_of-requires-clause-few : goal.report_of-requires-clause-few

@@ -2,7 +2,8 @@ use Rattle.std.proofs.Common.{arith}
 use Rattle.std.proofs.lemmas.Result.{err_from_is_err_and}
 use Rattle.book_base.specs.Lines.{lines_of}
 use Rattle.book_lines.specs.Lines.{saying_from}
-use Rattle.text_lines.proofs.SaidLaws.{same_problem, saying_length}
+use Rattle.book_lines.proofs.SayingLaws.{saying_length}
+use Rattle.text_lines.proofs.SaidLaws.{same_problem}
 use Rattle.cmd_show.proofs.VerifyLaws.{never_too_many}
 use Rattle.cmd_show.proofs.verifying.vectors.Goals as goal
 

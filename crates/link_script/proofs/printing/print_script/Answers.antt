@@ -1,6 +1,6 @@
 use Rattle.std.proofs.Common.{◌≡◌}
-use Rattle.link_script.specs.Printed.{text_of}
-use Rattle.link_script.proofs.ScriptBack.{script_of-text_of}
+use Rattle.law_scripts.specs.Printed.{text_of}
+use Rattle.law_scripts.proofs.ScriptBack.{script_of-text_of}
 use Rattle.link_script.proofs.TextParts.{whole_printed}
 use Rattle.link_script.proofs.printing.print_script.Goals as goal
 

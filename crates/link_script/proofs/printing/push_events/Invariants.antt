@@ -1,5 +1,5 @@
 use Rattle.std.proofs.Common.{◌≡◌, ◌++◌, map, take}
-use Rattle.link_script.specs.Printed.{event_words, lines_text}
+use Rattle.law_scripts.specs.Printed.{event_words, lines_text}
 use Rattle.link_script.proofs.printing.push_events.Given as goal
 
 abbrev pub invariant-loop-event : goal.invariant-loop-event

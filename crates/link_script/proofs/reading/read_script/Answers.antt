@@ -4,8 +4,8 @@ use Rattle.book_lines.specs.declared.text_fault.TextFault.{TextFault}
 use Rattle.book_cmd_link.specs.declared.script.Script.{Script}
 use Rattle.text_lines.specs.Readings.{Answers}
 use Rattle.book_cmd_link.specs.LinkFiles.{script_of}
-use Rattle.link_script.specs.Scripts.{IsScript}
-use Rattle.link_script.proofs.ScriptRanges.{script_of_ok}
+use Rattle.law_scripts.specs.Scripts.{IsScript}
+use Rattle.law_scripts.proofs.ScriptRanges.{script_of_ok}
 use Rattle.link_script.proofs.reading.read_script.Goals as goal
 
 of_the_grammar : (with_keys : Bool) (text : List ℕ) (r : Result Script TextFault) → Answers r (script_of with_keys text) →

@@ -3,8 +3,8 @@ use Rattle.book_lines.specs.declared.text_fault.TextFault.{TextFault}
 use Rattle.book_cmd_timed.specs.declared.timed.TimedScript.{TimedScript}
 use Rattle.text_lines.specs.Readings.{Answers}
 use Rattle.book_cmd_timed.specs.TimedRuns.{timed_script_of}
-use Rattle.link_script.specs.Timed.{IsTimedScript}
-use Rattle.link_script.proofs.TimedRanges.{timed_script_ok}
+use Rattle.law_scripts.specs.Timed.{IsTimedScript}
+use Rattle.law_scripts.proofs.TimedRanges.{timed_script_ok}
 use Rattle.link_script.proofs.timed.read_timed.Goals as goal
 
 of_the_grammar : (text : List ℕ) (r : Result TimedScript TextFault) → Answers r (timed_script_of text) → IfOk r IsTimedScript

@@ -1,4 +1,4 @@
-use Rattle.link_script.proofs.Counts.{few_events}
+use Rattle.law_scripts.proofs.Counts.{few_events}
 use Rattle.run_tests.proofs.of_cmd_bgp.run.Goals as goal
 
 pub run_bgp-requires-clause-few : goal.run_bgp-requires-clause-few

@@ -1,5 +1,5 @@
 use Rattle.cmd_link.proofs.ScriptLaws.{all_can_happen}
-use Rattle.link_script.proofs.Counts.{few_events}
+use Rattle.law_scripts.proofs.Counts.{few_events}
 use Rattle.scope_draw.proofs.answer.answer_draw_keys.Goals as goal
 
 pub report_of-requires-clause-few : goal.report_of-requires-clause-few

@@ -14,7 +14,7 @@ use Rattle.book_base.specs.Hexadecimal.{hex_of}
 use Rattle.book_base.specs.Lines.{is_blank, is_newline}
 use Rattle.book_base.proofs.HexadecimalLaws.{length-hex_of}
 use Rattle.book_base.proofs.LineLaws.{NoBlank, NoNewline, AllWords, spaced, decimal_plain}
-use Rattle.link_script.specs.Scripts.{IsAddress}
+use Rattle.law_scripts.specs.Scripts.{IsAddress}
 
 -- a word that stands on a line as it is
 abbrev pub IsWord : List ℕ → Type 0

@@ -6,8 +6,8 @@ use Rattle.book_base.proofs.LineLaws.{spaced, lines_of-line, words_of-spaced}
 use Rattle.book_lines.specs.Lines.{Line, says_something, saying_from}
 use Rattle.book_lines.specs.Texts.{line_text}
 use Rattle.book_lines.specs.Texts as texts
-use Rattle.link_script.specs.Printed.{lines_text}
-use Rattle.link_script.proofs.PlainWords.{AreWords, all_words, no_newline}
+use Rattle.law_scripts.specs.Printed.{lines_text}
+use Rattle.law_scripts.proofs.PlainWords.{AreWords, all_words, no_newline}
 
 -- a line that says something
 abbrev pub IsLine : List (List ℕ) → Type 0

@@ -11,10 +11,10 @@ use Rattle.book_link.specs.declared.event.Event.{Event}
 use Rattle.book_link.specs.declared.event.Event.TheVariants as event
 use Rattle.book_cmd_link.specs.LinkEvents.{greatest_isn, most_segments, event_of_end, event_of_number, link_event_of, event_named, start_of, give_of, fill_of, inject_of}
 use Rattle.book_cmd_link.specs.LinkEvents.{alter_of, add_of, dump_of}
-use Rattle.link_script.specs.Printed.{direction_text, event_words, fixing_text, flag_text, row_texts, use_texts}
-use Rattle.link_script.specs.Scripts.{IsEvent, IsRow, IsWithin}
-use Rattle.link_script.proofs.WordsBack.{end_back, algorithm_back, number_back, within_back, hex_back, some_hex_back, byte_back, fixing_back, flag_back}
-use Rattle.link_script.proofs.WordsBack.{direction_back}
+use Rattle.law_scripts.specs.Printed.{direction_text, event_words, fixing_text, flag_text, row_texts, use_texts}
+use Rattle.law_scripts.specs.Scripts.{IsEvent, IsRow, IsWithin}
+use Rattle.law_scripts.proofs.WordsBack.{end_back, algorithm_back, number_back, within_back, hex_back, some_hex_back, byte_back, fixing_back, flag_back}
+use Rattle.law_scripts.proofs.WordsBack.{direction_back}
 
 alone_back : (made : End → Event) (e : End) → event_of_end made (end_text e ∷ []) ≡ Ok (made e)
 unfolding nothing_in

@@ -18,11 +18,11 @@ use Rattle.book_cmd_timed.specs.declared.timed.TimedScript.{TimedScript}
 use Rattle.book_cmd_link.specs.LinkEvents.{event_named, link_event_of}
 use Rattle.book_cmd_link.specs.LinkFiles.{event_at, events_of, link_head_in, is_shared}
 use Rattle.book_cmd_timed.specs.TimedRuns.{plain_named, timed_event_of, timed_script_in, timed_script_of, wait_of}
-use Rattle.text_lines.proofs.SaidLaws.{saying_length}
-use Rattle.link_script.specs.Timed.{IsTimedEvent, IsTimedScript}
-use Rattle.link_script.proofs.WordRanges.{bind_ok, number_ok}
-use Rattle.link_script.proofs.EventRanges.{event_ok}
-use Rattle.link_script.proofs.ScriptRanges.{few_case, head_ok}
+use Rattle.book_lines.proofs.SayingLaws.{saying_length}
+use Rattle.law_scripts.specs.Timed.{IsTimedEvent, IsTimedScript}
+use Rattle.law_scripts.proofs.WordRanges.{bind_ok, number_ok}
+use Rattle.law_scripts.proofs.EventRanges.{event_ok}
+use Rattle.law_scripts.proofs.ScriptRanges.{few_case, head_ok}
 
 wait_ok : (ws : List (List ℕ)) (x : TimedEvent) → wait_of ws ≡ Ok x → IsTimedEvent x
 unfolding wait_of

@@ -13,7 +13,7 @@ use Rattle.book_cmd_link.specs.declared.script.SharedKey.{SharedKey}
 use Rattle.book_cmd_link.specs.declared.script.Script.{Script}
 use Rattle.book_cmd_link.specs.LinkEvents.{greatest_isn, most_segments}
 use Rattle.book_cmd_link.specs.LinkFiles.{are_two_of_a_family}
-use Rattle.link_script.specs.Printed.{script_lines}
+use Rattle.law_scripts.specs.Printed.{script_lines}
 
 -- from low to high bytes
 pub record AreBytes (low high : ℕ) (bytes : List ℕ) : Type 0 where

@@ -2,8 +2,8 @@
 use Rattle.std.proofs.Common.{◌≡◌, ◌+◌, ◌≤◌, ◌++◌, length, map, arith, length-append}
 use Rattle.std.proofs.lemmas.List.{length-map}
 use Rattle.book_cmd_link.specs.declared.script.Script.{Script}
-use Rattle.link_script.specs.Printed.{event_words, key_lines, script_lines}
-use Rattle.link_script.specs.Scripts.{IsScript}
+use Rattle.law_scripts.specs.Printed.{event_words, key_lines, script_lines}
+use Rattle.law_scripts.specs.Scripts.{IsScript}
 
 -- no more events than lines
 pub few_events : (s : Script) → IsScript s → length s.events ≤ 20000

@@ -10,9 +10,6 @@ use Rattle.book_link.specs.declared.event.Event.{Event}
 use Rattle.book_link.specs.declared.event.Event.TheVariants as event
 use Rattle.book_cmd_link.specs.declared.script.SharedKey.{SharedKey}
 use Rattle.book_cmd_link.specs.declared.script.Script.{Script}
-use Rattle.link_script.specs.declared.name.Name.{Name}
-use Rattle.link_script.specs.declared.name.Name.TheVariants as name
-use Rattle.link_script.specs.Names.{name_text}
 
 -- lines, one after another
 unfoldable pub lines_text : List (List (List ℕ)) → List ℕ
@@ -54,38 +51,38 @@ use_texts r =
 unfoldable pub row_texts : RowLine → List (List ℕ)
 row_texts r = decimal r.recv_id ∷ decimal r.send_id ∷ name_of r.algorithm ∷ hex_of r.master ∷ use_texts r
 
--- the words of an event of an end alone
-abbrev pub end_words : Name → End → List (List ℕ)
-end_words n e = name_text n ∷ end_text e ∷ []
+-- the words of an event of this name and of an end alone
+abbrev pub end_words : List ℕ → End → List (List ℕ)
+end_words name e = name ∷ end_text e ∷ []
 
--- the words of an event of an end and a number
-abbrev pub number_words : Name → End → ℕ → List (List ℕ)
-number_words n e number = name_text n ∷ end_text e ∷ decimal number ∷ []
+-- the words of an event of this name, of an end and a number
+abbrev pub number_words : List ℕ → End → ℕ → List (List ℕ)
+number_words name e number = name ∷ end_text e ∷ decimal number ∷ []
 
--- the words of an event of an end and bytes
-abbrev pub bytes_words : Name → End → List ℕ → List (List ℕ)
-bytes_words n e bytes = name_text n ∷ end_text e ∷ hex_of bytes ∷ []
+-- the words of an event of this name, of an end and bytes
+abbrev pub bytes_words : List ℕ → End → List ℕ → List (List ℕ)
+bytes_words name e bytes = name ∷ end_text e ∷ hex_of bytes ∷ []
 
 -- the words of an event, bytes in hexadecimal of lower case
 unfoldable pub event_words : Event → List (List ℕ)
-event_words (event.Clock e seconds) = number_words name.Clock e seconds
-event_words (event.Connect e isn) = number_words name.Open e isn
-event_words (event.Listen e isn) = number_words name.Listen e isn
-event_words (event.Start e own peer) = name_text name.Start ∷ end_text e ∷ decimal own ∷ decimal peer ∷ []
-event_words (event.Give e bytes) = bytes_words name.Give e bytes
-event_words (event.Fill e count byte) = name_text name.Fill ∷ end_text e ∷ decimal count ∷ hex_of (byte ∷ []) ∷ []
-event_words (event.Send e) = end_words name.Send e
-event_words (event.Resend e) = end_words name.Resend e
-event_words (event.Deliver e segment) = number_words name.Deliver e segment
-event_words (event.Inject e bytes) = bytes_words name.Inject e bytes
+event_words (event.Clock e seconds) = number_words (codes "clock") e seconds
+event_words (event.Connect e isn) = number_words (codes "open") e isn
+event_words (event.Listen e isn) = number_words (codes "listen") e isn
+event_words (event.Start e own peer) = codes "start" ∷ end_text e ∷ decimal own ∷ decimal peer ∷ []
+event_words (event.Give e bytes) = bytes_words (codes "give") e bytes
+event_words (event.Fill e count byte) = codes "fill" ∷ end_text e ∷ decimal count ∷ hex_of (byte ∷ []) ∷ []
+event_words (event.Send e) = end_words (codes "send") e
+event_words (event.Resend e) = end_words (codes "resend") e
+event_words (event.Deliver e segment) = number_words (codes "deliver") e segment
+event_words (event.Inject e bytes) = bytes_words (codes "inject") e bytes
 event_words (event.Alter e segment place mask fixing) =
-    name_text name.Alter ∷ end_text e ∷ decimal segment ∷ decimal place ∷ hex_of (mask ∷ []) ∷ fixing_text fixing ∷ []
-event_words (event.Take e count) = number_words name.Take e count
-event_words (event.Close e) = end_words name.Close e
-event_words (event.Abort e) = end_words name.Abort e
-event_words (event.AddRow e row) = name_text name.Add ∷ end_text e ∷ row_texts row
-event_words (event.Withdraw e row) = number_words name.Withdraw e row
-event_words (event.Dump segment) = name_text name.Dump ∷ decimal segment ∷ []
+    codes "alter" ∷ end_text e ∷ decimal segment ∷ decimal place ∷ hex_of (mask ∷ []) ∷ fixing_text fixing ∷ []
+event_words (event.Take e count) = number_words (codes "take") e count
+event_words (event.Close e) = end_words (codes "close") e
+event_words (event.Abort e) = end_words (codes "abort") e
+event_words (event.AddRow e row) = codes "add" ∷ end_text e ∷ row_texts row
+event_words (event.Withdraw e row) = number_words (codes "withdraw") e row
+event_words (event.Dump segment) = codes "dump" ∷ decimal segment ∷ []
 
 -- the words of the first line
 unfoldable pub title_words : List (List ℕ)

@@ -17,12 +17,12 @@ use Rattle.book_cmd_link.specs.declared.script.Script.{Script}
 use Rattle.book_cmd_link.specs.LinkEvents.{link_event_of}
 use Rattle.book_cmd_link.specs.LinkFiles.{Left, are_two_of_a_family, event_at, events_of, link_head_in, is_shared, key_in, line_in, peer_socket_of, script_in, script_of}
 use Rattle.book_cmd_link.specs.LinkFiles.{shared_key_of, socket_of, title_of}
-use Rattle.link_script.specs.Printed.{event_words, title_words, socket_words, key_lines, script_lines, lines_text, text_of}
-use Rattle.link_script.specs.Scripts.{IsEvent, IsKey, IsScript, IsSocket}
-use Rattle.link_script.proofs.LinesBack.{numbered_from, lines_of-printed, saying_from-printed, length-lines_of-printed}
-use Rattle.link_script.proofs.PrintedLines.{first_holds, rest_holds, are_lines}
-use Rattle.link_script.proofs.EventsBack.{event_back}
-use Rattle.link_script.proofs.WordsBack.{address_back, algorithm_back, number_back, hex_back}
+use Rattle.law_scripts.specs.Printed.{event_words, title_words, socket_words, key_lines, script_lines, lines_text, text_of}
+use Rattle.law_scripts.specs.Scripts.{IsEvent, IsKey, IsScript, IsSocket}
+use Rattle.law_scripts.proofs.LinesBack.{numbered_from, lines_of-printed, saying_from-printed, length-lines_of-printed}
+use Rattle.law_scripts.proofs.PrintedLines.{first_holds, rest_holds, are_lines}
+use Rattle.law_scripts.proofs.EventsBack.{event_back}
+use Rattle.law_scripts.proofs.WordsBack.{address_back, algorithm_back, number_back, hex_back}
 
 not_shared : (e : Event) → is_shared (event_words e) ≡ false
 unfolding is_shared event_words

@@ -15,15 +15,12 @@ use Rattle.book_link.specs.declared.event.Event.{Event}
 use Rattle.book_link.specs.declared.event.Event.TheVariants as event
 use Rattle.book_cmd_link.specs.declared.script.SharedKey.{SharedKey}
 use Rattle.book_cmd_link.specs.declared.script.Script.{Script}
-use Rattle.link_script.specs.declared.name.Name.{Name}
-use Rattle.link_script.specs.declared.name.Name.TheVariants as name
-use Rattle.link_script.specs.Names.{name_text}
-use Rattle.link_script.specs.Printed.{direction_text, event_words, fixing_text, flag_text, key_lines, row_texts, use_texts, script_lines, socket_words}
-use Rattle.link_script.specs.Printed.{title_words}
-use Rattle.link_script.specs.Scripts.{IsEvent, IsKey, IsRow, IsScript, IsSocket}
-use Rattle.link_script.proofs.LinesBack.{IsLine, AreLines, AreLines-append}
-use Rattle.link_script.proofs.PlainWords.{AreWords, IsWord, word_by_test, decimal_word, hex_word, address_word}
-use Rattle.link_script.proofs.WordsBack.{one_byte}
+use Rattle.law_scripts.specs.Printed.{direction_text, event_words, fixing_text, flag_text, key_lines, row_texts, use_texts, script_lines, socket_words}
+use Rattle.law_scripts.specs.Printed.{title_words}
+use Rattle.law_scripts.specs.Scripts.{IsEvent, IsKey, IsRow, IsScript, IsSocket}
+use Rattle.law_scripts.proofs.LinesBack.{IsLine, AreLines, AreLines-append}
+use Rattle.law_scripts.proofs.PlainWords.{AreWords, IsWord, word_by_test, decimal_word, hex_word, address_word}
+use Rattle.law_scripts.proofs.WordsBack.{one_byte}
 
 pub first_holds : {X : Type 0} (P : X → Type 0) (x : X) (xs : List X) → All P (x ∷ xs) → P x
 first_holds P x xs h = h zero x (omega arith)
@@ -57,39 +54,75 @@ algorithm_word HmacSha256 = word_by_test (codes "HMAC-SHA-256-128") (lit< tt) re
 byte_word : (b : ℕ) → b < 256 → IsWord (hex_of (b ∷ []))
 byte_word b small = let bytes = one_byte b small in hex_word (b ∷ []) (lit< tt) bytes.small
 
--- the word of a name stands on a line and begins no comment
-name_word : (n : Name) → IsWord (name_text n) × (is_comment (name_text n) ≡ false)
-name_word name.Clock = (word_by_test (codes "clock") (lit< tt) refl, refl)
-name_word name.Open = (word_by_test (codes "open") (lit< tt) refl, refl)
-name_word name.Listen = (word_by_test (codes "listen") (lit< tt) refl, refl)
-name_word name.Start = (word_by_test (codes "start") (lit< tt) refl, refl)
-name_word name.Give = (word_by_test (codes "give") (lit< tt) refl, refl)
-name_word name.Fill = (word_by_test (codes "fill") (lit< tt) refl, refl)
-name_word name.Send = (word_by_test (codes "send") (lit< tt) refl, refl)
-name_word name.Resend = (word_by_test (codes "resend") (lit< tt) refl, refl)
-name_word name.Deliver = (word_by_test (codes "deliver") (lit< tt) refl, refl)
-name_word name.Inject = (word_by_test (codes "inject") (lit< tt) refl, refl)
-name_word name.Alter = (word_by_test (codes "alter") (lit< tt) refl, refl)
-name_word name.Take = (word_by_test (codes "take") (lit< tt) refl, refl)
-name_word name.Close = (word_by_test (codes "close") (lit< tt) refl, refl)
-name_word name.Abort = (word_by_test (codes "abort") (lit< tt) refl, refl)
-name_word name.Add = (word_by_test (codes "add") (lit< tt) refl, refl)
-name_word name.Withdraw = (word_by_test (codes "withdraw") (lit< tt) refl, refl)
-name_word name.Dump = (word_by_test (codes "dump") (lit< tt) refl, refl)
+-- a word that stands on a line and begins no comment
+record IsName (name : List ℕ) : Type 0 where
+  pub word : IsWord name
+  pub no_comment : is_comment name ≡ false
 
 -- a line of a name and more words
-named_line : (n : Name) (ws : List (List ℕ)) → AreWords ws → IsLine (name_text n ∷ ws)
+named_line : {name : List ℕ} → IsName name → (ws : List (List ℕ)) → AreWords ws → IsLine (name ∷ ws)
 unfolding says_something
-named_line n ws h = let name = name_word n in ((name.0, h), rw name.1 refl)
+named_line n ws h = ((n.word, h), rw n.no_comment refl)
 
-alone_line : (n : Name) (e : End) → IsLine (name_text n ∷ end_text e ∷ [])
+alone_line : {name : List ℕ} → IsName name → (e : End) → IsLine (name ∷ end_text e ∷ [])
 alone_line n e = named_line n (end_text e ∷ []) (end_word e, tt)
 
-number_line : (n : Name) (e : End) (number : ℕ) → number < 2 ^ 64 → IsLine (name_text n ∷ end_text e ∷ decimal number ∷ [])
+number_line : {name : List ℕ} → IsName name → (e : End) (number : ℕ) → number < 2 ^ 64 → IsLine (name ∷ end_text e ∷ decimal number ∷ [])
 number_line n e number small = named_line n (end_text e ∷ decimal number ∷ []) (end_word e, (decimal_word number small, tt))
 
-bytes_line : (n : Name) (e : End) (bytes : List ℕ) → IsWord (hex_of bytes) → IsLine (name_text n ∷ end_text e ∷ hex_of bytes ∷ [])
+bytes_line : {name : List ℕ} → IsName name → (e : End) (bytes : List ℕ) → IsWord (hex_of bytes) → IsLine (name ∷ end_text e ∷ hex_of bytes ∷ [])
 bytes_line n e bytes word = named_line n (end_text e ∷ hex_of bytes ∷ []) (end_word e, (word, tt))
+
+clock_name : IsName (codes "clock")
+clock_name = record { word = word_by_test (codes "clock") (lit< tt) refl; no_comment = refl }
+
+open_name : IsName (codes "open")
+open_name = record { word = word_by_test (codes "open") (lit< tt) refl; no_comment = refl }
+
+listen_name : IsName (codes "listen")
+listen_name = record { word = word_by_test (codes "listen") (lit< tt) refl; no_comment = refl }
+
+start_name : IsName (codes "start")
+start_name = record { word = word_by_test (codes "start") (lit< tt) refl; no_comment = refl }
+
+give_name : IsName (codes "give")
+give_name = record { word = word_by_test (codes "give") (lit< tt) refl; no_comment = refl }
+
+fill_name : IsName (codes "fill")
+fill_name = record { word = word_by_test (codes "fill") (lit< tt) refl; no_comment = refl }
+
+send_name : IsName (codes "send")
+send_name = record { word = word_by_test (codes "send") (lit< tt) refl; no_comment = refl }
+
+resend_name : IsName (codes "resend")
+resend_name = record { word = word_by_test (codes "resend") (lit< tt) refl; no_comment = refl }
+
+deliver_name : IsName (codes "deliver")
+deliver_name = record { word = word_by_test (codes "deliver") (lit< tt) refl; no_comment = refl }
+
+inject_name : IsName (codes "inject")
+inject_name = record { word = word_by_test (codes "inject") (lit< tt) refl; no_comment = refl }
+
+alter_name : IsName (codes "alter")
+alter_name = record { word = word_by_test (codes "alter") (lit< tt) refl; no_comment = refl }
+
+take_name : IsName (codes "take")
+take_name = record { word = word_by_test (codes "take") (lit< tt) refl; no_comment = refl }
+
+close_name : IsName (codes "close")
+close_name = record { word = word_by_test (codes "close") (lit< tt) refl; no_comment = refl }
+
+abort_name : IsName (codes "abort")
+abort_name = record { word = word_by_test (codes "abort") (lit< tt) refl; no_comment = refl }
+
+add_name : IsName (codes "add")
+add_name = record { word = word_by_test (codes "add") (lit< tt) refl; no_comment = refl }
+
+withdraw_name : IsName (codes "withdraw")
+withdraw_name = record { word = word_by_test (codes "withdraw") (lit< tt) refl; no_comment = refl }
+
+dump_name : IsName (codes "dump")
+dump_name = record { word = word_by_test (codes "dump") (lit< tt) refl; no_comment = refl }
 
 row_words : (r : RowLine) → IsRow r → AreWords (row_texts r)
 unfolding row_texts use_texts
@@ -125,29 +158,29 @@ row_words r h =
 
 event_line : (e : Event) → IsEvent e → IsLine (event_words e)
 unfolding event_words
-event_line (event.Clock e seconds) h = number_line name.Clock e seconds (omega arith)
-event_line (event.Connect e isn) h = number_line name.Open e isn (omega arith)
-event_line (event.Listen e isn) h = number_line name.Listen e isn (omega arith)
+event_line (event.Clock e seconds) h = number_line clock_name e seconds (omega arith)
+event_line (event.Connect e isn) h = number_line open_name e isn (omega arith)
+event_line (event.Listen e isn) h = number_line listen_name e isn (omega arith)
 event_line (event.Start e own peer) h =
-    named_line name.Start (end_text e ∷ decimal own ∷ decimal peer ∷ [])
+    named_line start_name (end_text e ∷ decimal own ∷ decimal peer ∷ [])
     (end_word e, (decimal_word own (omega (arith, h.0)), (decimal_word peer (omega (arith, h.1)), tt)))
-event_line (event.Give e bytes) h = bytes_line name.Give e bytes (hex_word bytes h.0 h.1)
+event_line (event.Give e bytes) h = bytes_line give_name e bytes (hex_word bytes h.0 h.1)
 event_line (event.Fill e count byte) h =
-    named_line name.Fill (end_text e ∷ decimal count ∷ hex_of (byte ∷ []) ∷ [])
+    named_line fill_name (end_text e ∷ decimal count ∷ hex_of (byte ∷ []) ∷ [])
     (end_word e, (decimal_word count (omega (arith, h.0)), (byte_word byte h.1, tt)))
-event_line (event.Send e) h = alone_line name.Send e
-event_line (event.Resend e) h = alone_line name.Resend e
-event_line (event.Deliver e segment) h = number_line name.Deliver e segment (omega (arith, h.most))
-event_line (event.Inject e bytes) h = bytes_line name.Inject e bytes (hex_word bytes (omega (arith, h.least)) h.small)
+event_line (event.Send e) h = alone_line send_name e
+event_line (event.Resend e) h = alone_line resend_name e
+event_line (event.Deliver e segment) h = number_line deliver_name e segment (omega (arith, h.most))
+event_line (event.Inject e bytes) h = bytes_line inject_name e bytes (hex_word bytes (omega (arith, h.least)) h.small)
 event_line (event.Alter e segment place mask fixing) h =
-    named_line name.Alter (end_text e ∷ decimal segment ∷ decimal place ∷ hex_of (mask ∷ []) ∷ fixing_text fixing ∷ [])
+    named_line alter_name (end_text e ∷ decimal segment ∷ decimal place ∷ hex_of (mask ∷ []) ∷ fixing_text fixing ∷ [])
     (end_word e, (decimal_word segment (omega (arith, h.0.most)), (decimal_word place (omega (arith, h.1)), (byte_word mask h.2, (fixing_word fixing, tt)))))
-event_line (event.Take e count) h = number_line name.Take e count (omega arith)
-event_line (event.Close e) h = alone_line name.Close e
-event_line (event.Abort e) h = alone_line name.Abort e
-event_line (event.AddRow e row) h = named_line name.Add (end_text e ∷ row_texts row) (end_word e, row_words row h)
-event_line (event.Withdraw e row) h = number_line name.Withdraw e row (omega (arith, h.most))
-event_line (event.Dump segment) h = named_line name.Dump (decimal segment ∷ []) (decimal_word segment (omega (arith, h.most)), tt)
+event_line (event.Take e count) h = number_line take_name e count (omega arith)
+event_line (event.Close e) h = alone_line close_name e
+event_line (event.Abort e) h = alone_line abort_name e
+event_line (event.AddRow e row) h = named_line add_name (end_text e ∷ row_texts row) (end_word e, row_words row h)
+event_line (event.Withdraw e row) h = number_line withdraw_name e row (omega (arith, h.most))
+event_line (event.Dump segment) h = named_line dump_name (decimal segment ∷ []) (decimal_word segment (omega (arith, h.most)), tt)
 
 event_lines : (es : List Event) → All IsEvent es → AreLines (map event_words es)
 event_lines [] h = tt

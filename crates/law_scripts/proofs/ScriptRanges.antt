@@ -19,11 +19,11 @@ use Rattle.book_cmd_link.specs.declared.script.Script.{Script}
 use Rattle.book_cmd_link.specs.LinkEvents.{link_event_of}
 use Rattle.book_cmd_link.specs.LinkFiles.{Head, Left, are_two_of_a_family, at_line, event_at, events_of, link_head_in, is_shared, key_in, line_in, peer_socket_of}
 use Rattle.book_cmd_link.specs.LinkFiles.{script_in, script_of, shared_key_of, socket_of, title_of}
-use Rattle.text_lines.proofs.SaidLaws.{saying_length}
-use Rattle.link_script.specs.Printed.{event_words, key_lines, script_lines}
-use Rattle.link_script.specs.Scripts.{IsEvent, IsKey, IsScript, IsSocket}
-use Rattle.link_script.proofs.WordRanges.{bind_ok, address_ok, hex_ok, number_ok}
-use Rattle.link_script.proofs.EventRanges.{event_ok}
+use Rattle.book_lines.proofs.SayingLaws.{saying_length}
+use Rattle.law_scripts.specs.Printed.{event_words, key_lines, script_lines}
+use Rattle.law_scripts.specs.Scripts.{IsEvent, IsKey, IsScript, IsSocket}
+use Rattle.law_scripts.proofs.WordRanges.{bind_ok, address_ok, hex_ok, number_ok}
+use Rattle.law_scripts.proofs.EventRanges.{event_ok}
 
 socket_in_ok : (ws : List (List ℕ)) (t : Taken Socket) → socket_in ws ≡ Ok t → IsSocket t.value
 unfolding socket_in

@@ -16,7 +16,7 @@ use Rattle.book_base.specs.Hexadecimal.{bytes_of_hex}
 use Rattle.book_lines.specs.Words.{Taken, address_in, byte_in, first_of, hex_in, sized_hex_in, number_in, some_hex_in, if_within, word_as}
 use Rattle.book_base.specs.Results.{◌>>=◌, or_fault}
 use Rattle.book_lines.specs.Words.{word_in}
-use Rattle.link_script.specs.Scripts.{AreBytes, IsAddress, IsWithin}
+use Rattle.law_scripts.specs.Scripts.{AreBytes, IsAddress, IsWithin}
 
 -- the first of two readings was good, and so was the second
 pub bind_ok : {A B F : Type 0} (r : Result A F) (f : A → Result B F) (y : B) → (r >>= f) ≡ Ok y → (x : A) × (r ≡ Ok x) × (f x ≡ Ok y)

@@ -19,8 +19,8 @@ use Rattle.book_lines.specs.Words.{word_in, word_as, choice_of, choice_in, end_o
 use Rattle.book_lines.specs.Words.{some_hex_in, byte_in}
 use Rattle.book_lines.specs.Texts.{end_text}
 use Rattle.book_cmd_link.specs.LinkEvents.{ways_of}
-use Rattle.link_script.specs.Printed.{choice_text, direction_text, fixing_text, flag_text}
-use Rattle.link_script.specs.Scripts.{AreBytes, IsAddress, IsWithin}
+use Rattle.law_scripts.specs.Printed.{choice_text, direction_text, fixing_text, flag_text}
+use Rattle.law_scripts.specs.Scripts.{AreBytes, IsAddress, IsWithin}
 
 end_of-end_text : (e : End) → end_of (end_text e) ≡ Some e
 unfolding end_of

@@ -8,7 +8,7 @@ use Rattle.book_cmd_timed.specs.declared.timed.TimedEvent.TheVariants.{Plain, Wa
 use Rattle.book_cmd_timed.specs.declared.timed.TimedScript.{TimedScript}
 use Rattle.book_cmd_link.specs.LinkEvents.{link_event_of}
 use Rattle.book_cmd_link.specs.LinkFiles.{are_two_of_a_family}
-use Rattle.link_script.specs.Scripts.{IsEvent, IsSocket, IsWithin}
+use Rattle.law_scripts.specs.Scripts.{IsEvent, IsSocket, IsWithin}
 
 -- the plain event of a line, as one of a link with waits
 abbrev pub plain_of : List (List ℕ) → Result TimedEvent LineKind

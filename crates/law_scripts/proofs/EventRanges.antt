@@ -11,8 +11,8 @@ use Rattle.book_link.specs.declared.event.Event.{Event}
 use Rattle.book_link.specs.declared.event.Event.TheVariants as event
 use Rattle.book_cmd_link.specs.LinkEvents.{greatest_isn, most_segments, event_of_end, event_of_number, start_of, give_of, fill_of, inject_of, alter_of, ways_of}
 use Rattle.book_cmd_link.specs.LinkEvents.{add_of, dump_of, event_named, link_event_of}
-use Rattle.link_script.specs.Scripts.{IsEvent, IsWithin}
-use Rattle.link_script.proofs.WordRanges.{bind_ok, number_ok, hex_ok, some_hex_ok, byte_ok}
+use Rattle.law_scripts.specs.Scripts.{IsEvent, IsWithin}
+use Rattle.law_scripts.proofs.WordRanges.{bind_ok, number_ok, hex_ok, some_hex_ok, byte_ok}
 
 alone_ok : (made : End → Event) (ws : List (List ℕ)) (x : Event) → ((e : End) → IsEvent (made e)) → event_of_end made ws ≡ Ok x → IsEvent x
 alone_ok made ws x ranged h =

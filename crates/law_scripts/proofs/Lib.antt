@@ -1,0 +1,11 @@
+pub mod PlainWords
+pub mod LinesBack
+pub mod WordsBack
+pub mod EventsBack
+pub mod PrintedLines
+pub mod ScriptBack
+pub mod WordRanges
+pub mod EventRanges
+pub mod ScriptRanges
+pub mod TimedRanges
+pub mod Counts
