@@ -1,4 +1,3 @@
 pub mod ActLaws
-pub mod HoldLaws
 pub mod StepLaws
 pub mod RunLaws

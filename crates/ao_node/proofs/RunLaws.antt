@@ -6,7 +6,8 @@ use Rattle.book_lines.specs.Texts.{numbered_text}
 use Rattle.book_cmd_node.specs.declared.node.NodeEvent.{NodeEvent}
 use Rattle.book_cmd_node.specs.NodeRuns.{NodeState, NodeOutcome, most_ends, no_ends, node_step, node_from, outcomes, node_outcomes_from, outcome_lines, node_text, node_texts}
 use Rattle.node_ends.specs.Held.{Holding}
-use Rattle.ao_node.specs.Nodes.{HoldsAs, StandsNode, Reaches}
+use Rattle.node_ends.specs.Standing.{HoldsAs}
+use Rattle.ao_node.specs.Nodes.{StandsNode, Reaches}
 use Rattle.ao_node.specs.Telling.{Tells}
 use Rattle.ao_node.specs.declared.told.Told.{Told}
 

@@ -25,11 +25,13 @@ use Rattle.node_ends.specs.Arrivals.{Comes, ComesTo}
 use Rattle.node_ends.specs.Held.{Holding, end_at, ends, holds, refusal, Adds, Begins, FitsAll, IsRefused, Removes, Ticks}
 use Rattle.node_ends.specs.Lending.{written}
 use Rattle.node_ends.proofs.MapLaws.{written_finds, written_count}
-use Rattle.ao_node.specs.Acting.{Follows, HasActed, act_on}
-use Rattle.ao_node.specs.Nodes.{StandsFor, StandsAt, StandsNode, Reaches, IsBegun, called_at, told_of}
+use Rattle.node_ends.specs.Acting.{act_on}
+use Rattle.ao_node.specs.Acting.{Follows, HasActed}
+use Rattle.node_ends.specs.Standing.{StandsFor, StandsAt}
+use Rattle.ao_node.specs.Nodes.{StandsNode, Reaches, IsBegun, called_at, told_of}
 use Rattle.ao_node.specs.declared.told.Told.{Told}
 use Rattle.ao_node.specs.declared.told.Told.TheVariants as tells
-use Rattle.ao_node.proofs.HoldLaws.{put_holds, drop_holds, add_holds, tick_holds}
+use Rattle.node_ends.proofs.HoldLaws.{put_holds, drop_holds, add_holds, tick_holds}
 
 -- an end that stands for nothing, or a state
 at_none : (rows : List Row) (p : Pair) (o : Option Endpoint) (m : Option EndState) → StandsAt rows p o m → o ≡ None → m ≡ None

@@ -2,10 +2,8 @@
 use Rattle.std.specs.Prelude.{ℕ, List}
 use Rattle.book_base.specs.declared.address.Pair.{Pair}
 use Rattle.book_keys.specs.Rows.{Row}
-use Rattle.book_endpoint.specs.States.{EndState, offered, close, abort}
-use Rattle.book_endpoint.specs.Emissions.{emit, resend}
+use Rattle.book_endpoint.specs.States.{EndState}
 use Rattle.book_cmd_node.specs.declared.node.Act.{Act}
-use Rattle.book_cmd_node.specs.declared.node.Act.TheVariants as act
 use Rattle.book_cmd_node.specs.NodeRuns as book
 use Rattle.tcp_endpoint.specs.declared.endpoint.Endpoint.{Endpoint}
 use Rattle.tcp_endpoint.specs.declared.emission.Emission.{Emission}
@@ -15,6 +13,7 @@ use Rattle.tcp_endpoint.specs.declared.emission.Resent.TheVariants as resents
 use Rattle.tcp_endpoint.specs.declared.giving.GiveAnswer.{GiveAnswer}
 use Rattle.tcp_endpoint.specs.declared.giving.GiveAnswer.TheVariants as given
 use Rattle.tcp_endpoint.specs.Ends.{Stands}
+use Rattle.node_ends.specs.Acting.{act_on}
 use Rattle.ao_node.specs.declared.told.Told.{Told}
 use Rattle.ao_node.specs.declared.told.Told.TheVariants as tells
 use Rattle.ao_node.specs.Telling.{Tells}
@@ -41,16 +40,6 @@ told_again resents.Nothing = tells.Nothing
 pub record Follows (e : Endpoint) (room : List ℕ) (told : Told) (c : book.Called) : Type 0 where
   pub stands : Stands e c.state
   pub tells : Tells room told c.outcome
-
--- what a call of an end that is held makes of its state, and what it answers; the other acts are no calls
-abbrev pub act_on : List Row → Pair → ℕ → EndState → Act → book.Called
-act_on rows pair now s (act.Give piece) = offered book.called book.node_offers piece s
-act_on rows pair now s (act.Take count) = book.take_called count s
-act_on rows pair now s act.Send = book.made_called s book.NothingToSend (emit rows pair now s)
-act_on rows pair now s act.Resend = book.made_called s book.NothingToResend (resend rows pair now s)
-act_on rows pair now s act.Close = book.called (close s) book.Performed
-act_on rows pair now s act.Abort = book.called (abort s) book.Performed
-act_on rows pair now s _ = book.called s book.InUse
 
 -- the end stands for what the call makes of its state
 abbrev pub HasActed : List Row → Pair → ℕ → EndState → Act → Endpoint → List ℕ → Told → Type 0

@@ -10,7 +10,7 @@ use Rattle.book_stack.specs.Alarms.{without_alarm, without_pair}
 use Rattle.book_stack.specs.Calls.{CallAnswer, At, Told, makes_an_end, kept}
 use Rattle.book_stack.specs.Stacks.{StackState}
 use Rattle.book_stack.specs.Turns.{called_at}
-use Rattle.ao_node.specs.Acting.{act_on}
+use Rattle.node_ends.specs.Acting.{act_on}
 use Rattle.stack_ends.specs.Calling.{Asking, CallsAt, acting}
 use Rattle.stack_ends.specs.Standing as below
 use Rattle.stack_ends.specs.Standing.{Removed, most_of}

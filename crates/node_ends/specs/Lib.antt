@@ -2,3 +2,5 @@ pub mod Arrivals
 pub mod Held
 pub mod Keys
 pub mod Lending
+pub mod Acting
+pub mod Standing

@@ -22,8 +22,8 @@ use Rattle.node_ends.specs.Arrivals.{Comes, ComesTo, HearsAt}
 use Rattle.node_ends.specs.Held.{Holding, end_at, ends, holds, refusal, Adds, Begins, IsRefused, Removes, Ticks}
 use Rattle.node_ends.specs.Lending.{written}
 use Rattle.node_ends.proofs.MapLaws.{written_finds, written_count}
-use Rattle.ao_node.specs.Nodes.{StandsFor, StandsAt, HoldsAs}
-use Rattle.ao_node.proofs.HoldLaws.{put_holds, drop_holds, add_holds, tick_holds, held_alike}
+use Rattle.node_ends.specs.Standing.{StandsFor, StandsAt, HoldsAs}
+use Rattle.node_ends.proofs.HoldLaws.{put_holds, drop_holds, add_holds, tick_holds, held_alike}
 use Rattle.stack_ends.specs.declared.ends.Ends.{Ends}
 use Rattle.stack_ends.specs.Calling.{Asking, CallsAt}
 use Rattle.stack_ends.specs.Meeting.{Meets, MeetsPair, MeetsRead}

@@ -11,7 +11,7 @@ use Rattle.book_cmd_node.specs.NodeRuns.{NodeState, held_end}
 use Rattle.tcp_endpoint.specs.declared.endpoint.Endpoint.{Endpoint}
 use Rattle.tcp_endpoint.specs.Ends.{FitsEnd}
 use Rattle.node_ends.specs.Held.{Holding, FitsAll, end_at}
-use Rattle.ao_node.specs.Nodes.{StandsAt}
+use Rattle.node_ends.specs.Standing.{StandsAt}
 use Rattle.stack_ends.specs.declared.ends.Ends.{Ends}
 use Rattle.stack_ends.specs.Rows.{RowAdded, RowWithdrawn}
 use Rattle.stack_ends.specs.Standing.{Stands}

@@ -9,7 +9,7 @@ use Rattle.tcp_endpoint.specs.declared.giving.GiveAnswer.{GiveAnswer}
 use Rattle.tcp_endpoint.specs.declared.giving.GiveAnswer.TheVariants as given
 use Rattle.book_stack.specs.Turns.{change_by}
 use Rattle.book_stack.specs.Watches.{awaits}
-use Rattle.ao_node.specs.Acting.{act_on}
+use Rattle.node_ends.specs.Acting.{act_on}
 use Rattle.stack_ends.specs.declared.calling.Taken.{Taken}
 use Rattle.stack_ends.specs.declared.ends.Ends.{Ends}
 use Rattle.stack_ends.specs.declared.speaking.Spoken.{Spoken}
