@@ -2,9 +2,9 @@
 use ao_base::{ReadProblem, ReadSource, WriteSink, read_all, write_all};
 use clap::{Arg, ArgAction, ArgMatches, Command};
 use command_report::{Report, Stop};
+use key_faults::push_key_fault;
 use key_table::{TableFault, Tables, read_tables};
 use scope_draw::{answer_draw, answer_draw_keys};
-use scope_faults::push_key_fault;
 use std::alloc::{AllocError, Global};
 use std::fs::File;
 use text_lines::print_fault;

@@ -2,7 +2,7 @@
 use ao_base::{ReadProblem, ReadSource, WriteSink, read_all, write_all};
 use book_base::Bytes;
 use clap::{Arg, ArgAction, ArgMatches, Command};
-use scope_faults::push_key_fault;
+use key_faults::push_key_fault;
 use scope_lines::push_fault;
 use scope_sessions::{SessionsHalt, write_sessions};
 use std::alloc::{AllocError, Global};

@@ -1,4 +1,4 @@
-//! The text of a refused key file, as each word of the second program tells it.
+//! The text of a refused key file, as both programs tell it.
 #![tactic(auto)]
 
 mod key_fault;
