@@ -5,8 +5,9 @@
 
 A name counts as named by another crate where code there has `CRATE::NAME` or imports it in `use CRATE::{..}`, or where a contract, a
 definition or a proof there cites `Rattle.CRATE.specs.declared.` up to that name. Left out are laws, which are there to be read (they take
-no argument), and what a document names as `CRATE::NAME`. A type may be needed all the same, where the signature of an export has it: such a
-line says so. Prints a line for each name, and how many there are; it fails nothing."""
+no argument), and what a document names as `CRATE::NAME`. A type that an export has in its signature is needed all the same, and so is one
+of the crate itself that stands in a field of an exported type, in the name of a type, or as a bound: each of these has a line that says
+where. Prints a line for each other name, and how many there are; fails if there are any."""
 import os
 import re
 import sys
@@ -72,12 +73,25 @@ def used_names(text, crate):
     return found
 
 
+def places(name, code, elsewhere):
+    """Where code of a crate needs a type: a signature, or, for one that isn't from elsewhere, a field, a name of a type or a bound."""
+    if not name[0].isupper() or name.isupper():
+        return ""
+    within = sorted(set(re.findall(r"^\s*pub fn (\w+)[^{]*\b%s\b[^{]*\{" % name, code, re.M)))
+    if within:
+        return f"in the signature of {', '.join(within[:4])}"
+    if elsewhere:
+        return ""
+    kinds = [("in a field", r"^    pub \w+: [^\n]*\b%s\b"), ("behind another name", r"^pub type [^;]*=[^;]*\b%s\b"), ("as a bound", r"^impl<[^{]*: %s\b")]
+    return next((kind for kind, form in kinds if re.search(form % name, code, re.M)), "")
+
+
 def main(crates):
     every = sorted(it for it in os.listdir(f"{TOP}/crates") if os.path.isfile(f"{TOP}/crates/{it}/src/lib.rt"))
     programs = sorted(it for it in os.listdir(f"{TOP}/crates") if os.path.isfile(f"{TOP}/crates/{it}/src/main.rt"))
     texts = {it: "\n".join(map(text_of, files(it))) for it in every + programs}
     documents = "\n".join(text_of(f"{TOP}/docs/{it}") for it in sorted(os.listdir(f"{TOP}/docs")) if it.endswith(".md"))
-    count = 0
+    needed, bare = 0, []
     for crate in crates or every:
         names = exports(crate)
         used = set()
@@ -91,12 +105,17 @@ def main(crates):
         for name, path in sorted(names.items()):
             if name in used:
                 continue
-            count += 1
-            within = re.findall(r"^\s*pub fn (\w+)[^{]*\b%s\b[^{]*\{" % name, code, re.M)
-            mark = f" (in the signature of {', '.join(sorted(set(within))[:4])})" if within and name[0].isupper() else ""
-            print(f"{crate}::{name} from {path}{mark}")
-    print(f"exports that no other crate names: {count}")
+            where = places(name, code, "::" in path and path.split("::")[0] in texts)
+            if where:
+                needed += 1
+                print(f"{crate}::{name} is needed {where}")
+            else:
+                bare.append(f"{crate}::{name} from {path}")
+    for line in bare:
+        print(line)
+    print(f"exports that no other crate names: {needed} needed, {len(bare)} not")
+    return 1 if bare else 0
 
 
 if __name__ == "__main__":
-    main(sys.argv[1:])
+    sys.exit(main(sys.argv[1:]))

@@ -14,5 +14,5 @@ mod laws;
 mod screen;
 
 pub use association::Association;
-pub use book_endpoint::{Passed, Verdict};
+pub use book_endpoint::Verdict;
 pub use laws::{fits_once_added, fits_once_withdrawn, signed_passes};

@@ -10,8 +10,7 @@ mod lines;
 mod run;
 mod told;
 
-pub use book_cmd_node::{Act, NodeEvent, NodeScript};
-pub use book_lines::TextFault;
-pub use node_ends::{Node, NodeArrival, NodeRefusal};
+pub use book_cmd_node::NodeScript;
+pub use node_ends::Node;
 pub use node_script::read_node;
 pub use run::run_node;

@@ -15,7 +15,7 @@ pub(crate) const SECTION_HEADER: u32 = 0x0a0d_0d0a;
 const BYTE_ORDER_MAGIC: u32 = 0x1a2b_3c4d;
 
 /// The fewest bytes of a block: its type, and its total length twice.
-pub const LEAST_IN_BLOCK: usize = 12;
+pub(crate) const LEAST_IN_BLOCK: usize = 12;
 
 /// The most bytes that a block may have.
 pub const MOST_IN_BLOCK: usize = 16_777_216;

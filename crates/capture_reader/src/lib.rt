@@ -17,16 +17,15 @@ mod pcap_files;
 mod sizes;
 mod times;
 
-pub use blocks::{Block, LEAST_IN_BLOCK, MOST_IN_BLOCK, read_block};
+pub use blocks::{Block, MOST_IN_BLOCK, read_block};
 pub use book_captures::{
     BlockFault, BodyFault, CaptureFault, Cause, Extent, Format, Header, Interface, IpVersion,
-    LinkType, PcapHead, PcapHeadFault, RecordFault, Resolution, Skipped, TimeOffset,
-    TimeResolution,
+    LinkType, PcapHead, PcapHeadFault, RecordFault, Skipped, TimeOffset, TimeResolution,
 };
 pub use contents::{Plain, Stamped, read_enhanced, read_interface, read_old, read_simple};
 pub use frames::{FoundDatagram, find_datagram};
 pub use numbered::link_type;
 pub use parts::{FoundFrame, FoundPart, MOST_INTERFACES, PartSays, read_part};
-pub use pcap_files::{MOST_KEPT, PCAP_HEAD, RECORD_HEAD, Record, read_pcap_head, read_record};
+pub use pcap_files::{PCAP_HEAD, Record, read_pcap_head, read_record};
 pub use sizes::{FileFront, part_head, part_size, read_front, short_part};
 pub use times::nanoseconds;

@@ -11,10 +11,10 @@ use book_pcap::ByteOrder;
 pub const PCAP_HEAD: usize = 24;
 
 /// How many bytes of a record stand before its kept bytes (libpcap, pcap-savefile).
-pub const RECORD_HEAD: usize = 16;
+pub(crate) const RECORD_HEAD: usize = 16;
 
 /// The most bytes that a record may keep (libpcap).
-pub const MOST_KEPT: usize = 262_144;
+pub(crate) const MOST_KEPT: usize = 262_144;
 
 /// A packet as a capture keeps it.
 #[derive(Clone, Copy, Debug)]

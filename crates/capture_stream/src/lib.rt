@@ -10,6 +10,6 @@ mod interfaces;
 mod reader;
 
 pub use capture_reader::{
-    BlockFault, BodyFault, CaptureFault, Cause, Extent, Header, PcapHeadFault, RecordFault, Skipped,
+    BlockFault, BodyFault, CaptureFault, Cause, Header, PcapHeadFault, RecordFault, Skipped,
 };
 pub use reader::{CaptureHalt, CaptureReader, CaptureStep};

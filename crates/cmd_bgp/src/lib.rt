@@ -11,6 +11,4 @@ mod running;
 
 pub use answering::answer;
 pub use laws::messages_come_in_order;
-pub use lines::Place;
-pub use reading::read_piece;
 pub use running::{BgpRun, run_bgp};

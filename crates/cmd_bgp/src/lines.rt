@@ -13,7 +13,7 @@ use text_lines::{push_end, push_field, push_newline, push_number, push_text};
 
 /// Where the lines of a take are from.
 #[derive(Clone, Copy, Debug, PartialEq, Eq)]
-pub struct Place {
+pub(crate) struct Place {
     /// The number of the event, from 1.
     pub number: u32,
     pub end: End,

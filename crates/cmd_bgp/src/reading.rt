@@ -12,7 +12,7 @@ const HEADER: usize = 19;
 
 /// Has the reader take a whole piece of its stream, and puts a line for each message that it
 /// completes behind `out`, and one for a fault that it reaches; answers whether it reached one.
-pub fn read_piece(
+pub(crate) fn read_piece(
     reader: &mut BgpReader,
     piece: &[u8],
     place: &Place,

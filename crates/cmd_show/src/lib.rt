@@ -14,7 +14,5 @@ mod vector;
 mod vector_words;
 mod verifying;
 
-pub use book_cmd_show::Verified;
-pub use book_lines::TextFault;
-pub use showing::{answer_show, show};
-pub use verifying::{answer_vectors, vectors};
+pub use showing::answer_show;
+pub use verifying::answer_vectors;

@@ -65,7 +65,7 @@ fn push_lines(alloc: Global, out: &mut Vec<u8>, lines: &mut SayingLines) -> Resu
 /// text has more than 20,000 lines; else `Line` is the first faulty line, counted from 1 among all
 /// lines, with the kind of its first faulty word. `Memory` only for want of memory.
 #[tactic(auto, unfolding(book_cmd_show::specs::Show::show_of, book_lines::specs::Said::said_in))]
-pub fn show(alloc: Global, text: &[u8]) -> Result<Bytes, TextFault>
+pub(crate) fn show(alloc: Global, text: &[u8]) -> Result<Bytes, TextFault>
     ensures text { Answers result (show_of text.now) }
     ensures too_many { IsErrOf result TextFault.TooManyLines ↔ (most_lines < length (lines_of text.now)) }
 {

@@ -124,7 +124,7 @@ fn one_more(totals: Totals, vector: &Vector) -> Totals
 /// 20,000 lines; else `Line` is the first faulty line, counted from 1 among all lines, with the kind
 /// of its first faulty word. `Memory` only for want of memory.
 #[tactic(auto, unfolding(book_cmd_show::specs::Verified::vectors_of, book_lines::specs::Said::said_in))]
-pub fn vectors(alloc: Global, text: &[u8]) -> Result<Verified, TextFault>
+pub(crate) fn vectors(alloc: Global, text: &[u8]) -> Result<Verified, TextFault>
     ensures text { Answers result (vectors_of text.now) }
     ensures too_many { IsErrOf result TextFault.TooManyLines ↔ (most_lines < length (lines_of text.now)) }
 {

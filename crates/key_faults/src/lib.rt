@@ -4,4 +4,4 @@
 mod key_fault;
 
 pub use key_fault::push_key_fault;
-pub use key_table::{Column, TableFault};
+pub use key_table::TableFault;

@@ -12,7 +12,7 @@ use text_lines::{LineWords, Saying, SayingLines};
 
 /// The sockets of a link's two ends, whose addresses differ and are of one family.
 #[derive(Drop)]
-pub struct Head {
+pub(crate) struct Head {
     pub a: Socket,
     pub b: Socket,
 }
@@ -116,7 +116,7 @@ fn peer_line(lines: &mut SayingLines, missing: u32, a: &Socket) -> Result<Socket
 /// `Line` is the first faulty one of them, with the kind `Header`; one that is missing has the
 /// number `missing`, that after all lines. No more is said of the lines that are left after a fault.
 #[tactic(auto, unfolding(book_cmd_link::specs::LinkFiles::link_head_in))]
-pub fn read_head(lines: &mut SayingLines, missing: u32) -> Result<Head, TextFault>
+pub(crate) fn read_head(lines: &mut SayingLines, missing: u32) -> Result<Head, TextFault>
     ensures { leaves (said_head result) lines.new ≡ link_head_in missing lines.old }
 {
     title_line(lines, missing)?;

@@ -15,8 +15,6 @@ mod timed;
 pub use book_cmd_link::Script;
 pub use book_cmd_timed::TimedScript;
 pub use book_lines::TextFault;
-pub use head::{Head, read_head};
-pub use line_events::read_event;
 pub use printing::print_script;
 pub use reading::read_script;
 pub use timed::read_timed;

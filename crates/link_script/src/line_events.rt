@@ -150,7 +150,7 @@ fn named(alloc: Global, name: Name, words: &mut LineWords) -> Result<Event, Refu
 /// hexadecimal, and `Range` where a number or a length is out of its range. `Memory` only for want
 /// of memory. No more is said of the words that are left.
 #[tactic(auto, unfolding(book_cmd_link::specs::LinkEvents::link_event_of), using(crate::proofs::NameLaws::named_or_not))]
-pub fn read_event(alloc: Global, words: &mut LineWords) -> Result<Event, Refusal>
+pub(crate) fn read_event(alloc: Global, words: &mut LineWords) -> Result<Event, Refusal>
     ensures { Tells result (link_event_of words.old) }
 {
     match Name::read(words.word()?) {

@@ -5,6 +5,6 @@ mod fault;
 mod line;
 mod write;
 
-pub use capture_stream::{BlockFault, BodyFault, CaptureFault, Cause, PcapHeadFault, RecordFault};
+pub use capture_stream::{CaptureFault, Cause, RecordFault};
 pub use fault::push_fault;
 pub use write::{LinesHalt, write_lines};

@@ -31,10 +31,9 @@ mod taking;
 mod windows;
 
 pub use arrival::Arrived;
-pub use book_endpoint::{Arrival, Passed, Phase, Verdict};
+pub use book_endpoint::{Arrival, Phase};
 pub use emission::{Emission, Made, Resent};
 pub use endpoint::Endpoint;
 pub use giving::GiveAnswer;
-pub use key_coordination::Sending;
 pub use laws::{end_fits_once_added, end_fits_once_withdrawn};
 pub use sequence::{Received, SequenceState};
