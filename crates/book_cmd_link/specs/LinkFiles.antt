@@ -5,8 +5,8 @@ use Rattle.std.specs.Str.{bytes_eq}
 use Rattle.book_base.specs.declared.address.Address.{Address}
 use Rattle.book_base.specs.declared.address.Address.TheVariants.{V4, V6}
 use Rattle.book_base.specs.declared.address.Socket.{Socket}
-use Rattle.book_base.specs.declared.line_kind.LineKind.{LineKind}
-use Rattle.book_base.specs.declared.line_kind.LineKind.TheVariants as kind
+use Rattle.book_lines.specs.declared.line_kind.LineKind.{LineKind}
+use Rattle.book_lines.specs.declared.line_kind.LineKind.TheVariants as kind
 use Rattle.book_base.specs.Lines.{lines_of}
 use Rattle.book_keys.specs.MasterKeys.{longest_master_key}
 use Rattle.book_keys.specs.Rows.{Table}

@@ -1,7 +1,7 @@
 -- The text that `show` writes. Our own format. Its top is `show_of`.
 use Rattle.std.specs.Prelude.{ℕ, List, [], ◌∷◌, codes, Result, Ok}
 use Rattle.std.specs.List.{flat_map}
-use Rattle.book_base.specs.declared.line_kind.LineKind.{LineKind}
+use Rattle.book_lines.specs.declared.line_kind.LineKind.{LineKind}
 use Rattle.book_segments.specs.Faults.{fault_text}
 use Rattle.book_segments.specs.Segments.{Reading, Bad, Read, reading}
 use Rattle.book_lines.specs.declared.text_fault.TextFault.{TextFault}

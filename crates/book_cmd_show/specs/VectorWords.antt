@@ -2,8 +2,8 @@
 use Rattle.std.specs.Prelude.{ℕ, ◌||◌, ◌==◌, if◌then◌else◌, Bool, List, [], length, codes, Option}
 use Rattle.std.specs.Prelude.{Some, Result, Ok, Err}
 use Rattle.std.specs.Str.{bytes_eq}
-use Rattle.book_base.specs.declared.line_kind.LineKind.{LineKind}
-use Rattle.book_base.specs.declared.line_kind.LineKind.TheVariants.{Hex, Range}
+use Rattle.book_lines.specs.declared.line_kind.LineKind.{LineKind}
+use Rattle.book_lines.specs.declared.line_kind.LineKind.TheVariants.{Hex, Range}
 use Rattle.book_base.specs.Hexadecimal.{bytes_of_hex}
 use Rattle.book_lines.specs.Words.{Taken, word_as, choice_in, hex_in}
 use Rattle.book_base.specs.Results.{◌>>=◌}

@@ -7,7 +7,7 @@ use Rattle.std.specs.Option.{option_or}
 use Rattle.std.specs.Str.{bytes_eq}
 use Rattle.book_base.specs.declared.end.End.{End}
 use Rattle.book_base.specs.declared.end.End.TheVariants.{A, B}
-use Rattle.book_base.specs.declared.line_kind.LineKind.{LineKind}
+use Rattle.book_lines.specs.declared.line_kind.LineKind.{LineKind}
 use Rattle.book_keys.specs.Lifetimes.{greatest_time}
 use Rattle.book_lines.specs.declared.text_fault.TextFault.{TextFault}
 use Rattle.book_lines.specs.Lines.{Line, saying_lines}

@@ -1,6 +1,6 @@
 -- What the lines of an input say, or its first faulty line. Our own format. Its top is `said_in`.
 use Rattle.std.specs.Prelude.{ℕ, nat_lt, if◌then◌else◌, List, [], ◌∷◌, length, Result, Ok, Err}
-use Rattle.book_base.specs.declared.line_kind.LineKind.{LineKind}
+use Rattle.book_lines.specs.declared.line_kind.LineKind.{LineKind}
 use Rattle.book_base.specs.Lines.{lines_of}
 use Rattle.book_lines.specs.declared.text_fault.TextFault.{TextFault}
 use Rattle.book_lines.specs.declared.text_fault.TextFault.TheVariants as fault

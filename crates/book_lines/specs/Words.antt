@@ -9,8 +9,8 @@ use Rattle.book_base.specs.declared.address.Socket.{Socket}
 use Rattle.book_base.specs.declared.algorithm.Algorithm.{Algorithm}
 use Rattle.book_base.specs.declared.end.End.{End}
 use Rattle.book_base.specs.declared.end.End.TheVariants.{A, B}
-use Rattle.book_base.specs.declared.line_kind.LineKind.{LineKind}
-use Rattle.book_base.specs.declared.line_kind.LineKind.TheVariants.{Word, Number, Hex, Range}
+use Rattle.book_lines.specs.declared.line_kind.LineKind.{LineKind}
+use Rattle.book_lines.specs.declared.line_kind.LineKind.TheVariants.{Word, Number, Hex, Range}
 use Rattle.book_base.specs.Addresses.{address_of}
 use Rattle.book_base.specs.Algorithms.{algorithm_of}
 use Rattle.book_base.specs.Decimals.{decimal_of}

@@ -2,7 +2,7 @@
 ghost use Rattle.std.specs.Prelude.{◌≡◌};
 ghost use Rattle.book_lines.specs.declared.text_fault.TextFault.TheVariants.{Memory};
 
-use book_base::LineKind;
+use crate::line_kind::LineKind;
 use std::alloc::{AllocError, AllocFailed};
 use thiserror::Error;
 

@@ -3,8 +3,8 @@ use Rattle.std.specs.Prelude.{ℕ, List, if◌then◌else◌, Result, Ok, Err}
 use Rattle.book_base.specs.declared.address.Address.{Address}
 use Rattle.book_base.specs.declared.address.Pair.{Pair}
 use Rattle.book_base.specs.declared.address.Socket.{Socket}
-use Rattle.book_base.specs.declared.line_kind.LineKind.{LineKind}
-use Rattle.book_base.specs.declared.line_kind.LineKind.TheVariants.{Word, Range}
+use Rattle.book_lines.specs.declared.line_kind.LineKind.{LineKind}
+use Rattle.book_lines.specs.declared.line_kind.LineKind.TheVariants.{Word, Range}
 use Rattle.book_base.specs.Results.{◌>>=◌}
 use Rattle.book_cmd_link.specs.LinkFiles.{are_two_of_a_family}
 use Rattle.book_lines.specs.Words.{Taken, word_as, number_in, nothing_in}

@@ -5,7 +5,8 @@ ghost use Rattle.book_lines.specs.Lines.{is_comment, says_something};
 ghost use Rattle.book_cmd_check.specs.StoredLines.{stored_line, stored_of};
 ghost use Rattle.capture_check.specs.Lines.{IsRead, IsStoredAs};
 
-use book_base::{Bytes, LineKind};
+use book_base::Bytes;
+use book_lines::LineKind;
 use book_keys::LATEST;
 use std::alloc::Global;
 use text_lines::{LineWords, Refusal};

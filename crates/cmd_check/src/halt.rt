@@ -1,5 +1,5 @@
 //! Why a check ends before its input does.
-use book_base::LineKind;
+use book_lines::LineKind;
 use book_pcap::HeadFault;
 
 /// Why stored segments weren't judged to the end of the input.

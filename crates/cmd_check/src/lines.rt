@@ -8,7 +8,7 @@ use crate::halt::Halt;
 use crate::judge::Judge;
 use crate::writing::write_lines;
 use ao_base::{LineReader, LineStep, Sink, Source, Steps};
-use book_base::LineKind;
+use book_lines::LineKind;
 use capture_check::{LineProblem, Stored, read_line};
 use key_table::Tables;
 use std::alloc::Global;

@@ -3,7 +3,8 @@ ghost use Rattle.std.specs.Prelude.{◌≡◌};
 ghost use Rattle.text_lines.specs.Readings.{gives};
 ghost use Rattle.book_cmd_keys.specs.LintTexts.{address_beside, lint_pair_of};
 
-use book_base::{Address, LineKind, Pair, Socket};
+use book_base::{Address, Pair, Socket};
+use book_lines::LineKind;
 use text_lines::LineWords;
 
 /// An address of the first one's family that differs from it; `Range` for another address.

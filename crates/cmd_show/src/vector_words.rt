@@ -5,7 +5,8 @@ ghost use Rattle.text_lines.specs.Readings.{gives, Tells};
 ghost use Rattle.book_cmd_show.specs.VectorWords.{message_in, context_in, covering_in};
 
 use crate::array::array_of;
-use book_base::{Bytes, LineKind};
+use book_base::Bytes;
+use book_lines::LineKind;
 use std::alloc::Global;
 use text_lines::{LineWords, Refusal};
 

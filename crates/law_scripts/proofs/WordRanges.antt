@@ -8,8 +8,8 @@ use Rattle.hex.specs.declared.error.FromHexError.{FromHexError}
 use Rattle.hex.proofs.HexLemmas.{decode_of-ok}
 use Rattle.book_base.specs.declared.address.Address.{Address}
 use Rattle.book_base.specs.declared.address.Address.TheVariants.{V4, V6}
-use Rattle.book_base.specs.declared.line_kind.LineKind.{LineKind}
-use Rattle.book_base.specs.declared.line_kind.LineKind.TheVariants.{Range}
+use Rattle.book_lines.specs.declared.line_kind.LineKind.{LineKind}
+use Rattle.book_lines.specs.declared.line_kind.LineKind.TheVariants.{Range}
 use Rattle.book_base.specs.Addresses.{address_of, between_dots, below_256, dotted_of, four, has_leading_zero, octet_of}
 use Rattle.book_base.specs.Decimals.{decimal_of}
 use Rattle.book_base.specs.Hexadecimal.{bytes_of_hex}

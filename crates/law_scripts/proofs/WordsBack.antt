@@ -8,7 +8,7 @@ use Rattle.book_base.specs.declared.algorithm.Algorithm.{Algorithm}
 use Rattle.book_base.specs.declared.algorithm.Algorithm.TheVariants.{HmacSha1, AesCmac, HmacSha256}
 use Rattle.book_base.specs.declared.end.End.{End}
 use Rattle.book_base.specs.declared.end.End.TheVariants.{A, B}
-use Rattle.book_base.specs.declared.line_kind.LineKind.TheVariants.{Word}
+use Rattle.book_lines.specs.declared.line_kind.LineKind.TheVariants.{Word}
 use Rattle.book_base.specs.Addresses.{address_text}
 use Rattle.book_base.specs.Algorithms.{name_of}
 use Rattle.book_base.specs.Hexadecimal.{hex_of}

@@ -1,6 +1,6 @@
 -- The scripts that a link file with waits can say. Our own format.
 use Rattle.std.specs.Prelude.{◌≡◌, ◌+◌, ℕ, ◌≤◌, true, List, length, Result, Ok, All}
-use Rattle.book_base.specs.declared.line_kind.LineKind.{LineKind}
+use Rattle.book_lines.specs.declared.line_kind.LineKind.{LineKind}
 use Rattle.book_lines.specs.Lines.{most_lines}
 use Rattle.book_base.specs.Results.{◌>>=◌}
 use Rattle.book_cmd_timed.specs.declared.timed.TimedEvent.{TimedEvent}

@@ -2,7 +2,7 @@
 use Rattle.std.proofs.Common.{◌≡◌, ℕ, true, false, List, [], ◌∷◌, Option, Some, None, MatchOption, Err, refl, ap, lit<, All}
 use Rattle.std.specs.Str.{bytes_eq}
 use Rattle.std.proofs.lemmas.Slice.Eq.{bytes_eq-Decides}
-use Rattle.book_base.specs.declared.line_kind.LineKind.TheVariants.{Word}
+use Rattle.book_lines.specs.declared.line_kind.LineKind.TheVariants.{Word}
 use Rattle.book_cmd_link.specs.LinkEvents.{event_named}
 use Rattle.link_script.specs.declared.name.Name.{Name}
 use Rattle.link_script.specs.declared.name.Name.TheVariants as name

@@ -1,8 +1,8 @@
 -- A line whose first word is `wait`, and one whose first word isn't.
 use Rattle.std.proofs.Common.{◌≡◌, ℕ, cond, Bool, true, false, List, [], ◌∷◌, codes, Option, Some, None, Result, Ok, Err, refl, sym, ap}
 use Rattle.std.specs.Str.{bytes_eq}
-use Rattle.book_base.specs.declared.line_kind.LineKind.{LineKind}
-use Rattle.book_base.specs.declared.line_kind.LineKind.TheVariants.{Word}
+use Rattle.book_lines.specs.declared.line_kind.LineKind.{LineKind}
+use Rattle.book_lines.specs.declared.line_kind.LineKind.TheVariants.{Word}
 use Rattle.book_lines.specs.Words.{Taken, literal_in, word_in}
 use Rattle.book_base.specs.Results.{◌>>=◌, or_fault}
 use Rattle.text_lines.specs.Readings.{Tells}

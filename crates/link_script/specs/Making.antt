@@ -1,7 +1,7 @@
 -- What a call makes of words, beside what they say.
 use Rattle.std.specs.Prelude.{◌≡◌, ℕ, Option, Some, None, Result, Ok, Err}
 use Rattle.book_base.specs.declared.end.End.{End}
-use Rattle.book_base.specs.declared.line_kind.LineKind.{LineKind}
+use Rattle.book_lines.specs.declared.line_kind.LineKind.{LineKind}
 use Rattle.book_link.specs.declared.event.Event.{Event}
 use Rattle.book_cmd_link.specs.LinkEvents as book
 use Rattle.link_script.specs.declared.row_lines.Ways.{Ways}

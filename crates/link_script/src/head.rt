@@ -1,13 +1,13 @@
 //! The lines in front of a link file: its title and the sockets of its two ends.
 ghost use Rattle.std.specs.Prelude.{◌≡◌, [], ◌∷◌, codes, IfOk, IfErr};
-ghost use Rattle.book_base.specs.declared.line_kind.LineKind.TheVariants as line_kind;
+ghost use Rattle.book_lines.specs.declared.line_kind.LineKind.TheVariants as line_kind;
 ghost use Rattle.book_lines.specs.declared.text_fault.TextFault.TheVariants as fault;
 ghost use Rattle.book_cmd_link.specs.LinkFiles.{title_of, socket_of, are_two_of_a_family, peer_socket_of, line_in, link_head_in};
 ghost use Rattle.law_scripts.specs.Left.{leaves};
 ghost use Rattle.link_script.specs.Heads.{said_head};
 
-use book_base::{Address, LineKind, Socket};
-use book_lines::TextFault;
+use book_base::{Address, Socket};
+use book_lines::{LineKind, TextFault};
 use text_lines::{LineWords, Saying, SayingLines};
 
 /// The sockets of a link's two ends, whose addresses differ and are of one family.

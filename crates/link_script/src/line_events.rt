@@ -9,7 +9,8 @@ ghost use Rattle.link_script.specs.Names.{name_text};
 
 use super::name::Name;
 use super::row_lines::add;
-use book_base::{End, LineKind};
+use book_base::End;
+use book_lines::LineKind;
 use book_keys::LATEST;
 use book_link::Event;
 use std::alloc::Global;

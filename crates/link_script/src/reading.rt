@@ -1,7 +1,7 @@
 //! A link file, read from its first line to its last.
 ghost use Rattle.std.specs.Prelude.{◌≡◌, IfOk};
 ghost use Rattle.std.specs.Option.{is_none};
-ghost use Rattle.book_base.specs.declared.line_kind.LineKind.TheVariants as line_kind;
+ghost use Rattle.book_lines.specs.declared.line_kind.LineKind.TheVariants as line_kind;
 ghost use Rattle.text_lines.specs.Readings.{Answers, Tells};
 ghost use Rattle.book_cmd_link.specs.LinkEvents.{link_event_of};
 ghost use Rattle.book_cmd_link.specs.LinkFiles.{event_at, events_of, is_shared, key_in, line_in, script_of, shared_key_of};
@@ -10,9 +10,8 @@ ghost use Rattle.law_scripts.specs.Scripts.{IsScript};
 
 use super::head::{next_line, read_head};
 use super::line_events::read_event;
-use book_base::LineKind;
+use book_lines::{LineKind, TextFault};
 use book_cmd_link::{Script, SharedKey};
-use book_lines::TextFault;
 use book_link::{Event, Events};
 use std::alloc::Global;
 use text_lines::{LineWords, Refusal, Saying, SayingLines, count_lines};

@@ -1,12 +1,12 @@
 //! The line that adds a row to a table.
 ghost use Rattle.std.specs.Prelude.{◌≡◌};
-ghost use Rattle.book_base.specs.declared.line_kind.LineKind.TheVariants as line_kind;
+ghost use Rattle.book_lines.specs.declared.line_kind.LineKind.TheVariants as line_kind;
 ghost use Rattle.book_lines.specs.Words.{number_in, word_as};
 ghost use Rattle.text_lines.specs.Readings.{gives, Tells};
 ghost use Rattle.book_cmd_link.specs.LinkEvents.{add_of, ways_of};
 ghost use Rattle.link_script.specs.Making.{named_ways, said_ways};
 
-use book_base::LineKind;
+use book_lines::LineKind;
 use book_keys::LATEST;
 use book_link::{Event, RowLine};
 use std::alloc::Global;

@@ -3,8 +3,8 @@ use Rattle.std.proofs.Common.{◌≡◌, ℕ, ◌≤◌, cond, Bool, true, false
 use Rattle.std.specs.Str.{bytes_eq}
 use Rattle.book_base.specs.declared.address.Address.{Address}
 use Rattle.book_base.specs.declared.address.Pair.{Pair}
-use Rattle.book_base.specs.declared.line_kind.LineKind.{LineKind}
-use Rattle.book_base.specs.declared.line_kind.LineKind.TheVariants.{Range}
+use Rattle.book_lines.specs.declared.line_kind.LineKind.{LineKind}
+use Rattle.book_lines.specs.declared.line_kind.LineKind.TheVariants.{Range}
 use Rattle.book_keys.specs.Lifetimes.{greatest_time}
 use Rattle.book_lines.specs.Words.{Taken, word_in, nothing_in, address_in, number_in, sized_hex_in, some_hex_in}
 use Rattle.book_base.specs.Results.{◌>>=◌}

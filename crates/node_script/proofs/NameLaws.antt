@@ -3,7 +3,7 @@ use Rattle.std.proofs.Common.{◌≡◌, ℕ, true, false, List, [], ◌∷◌, 
 use Rattle.std.specs.Str.{bytes_eq}
 use Rattle.std.proofs.lemmas.Slice.Eq.{bytes_eq-Decides}
 use Rattle.book_base.specs.declared.address.Address.{Address}
-use Rattle.book_base.specs.declared.line_kind.LineKind.TheVariants.{Word}
+use Rattle.book_lines.specs.declared.line_kind.LineKind.TheVariants.{Word}
 use Rattle.book_cmd_node.specs.NodeRuns.{node_event_named}
 use Rattle.node_script.specs.declared.name.Name.{Name}
 use Rattle.node_script.specs.declared.name.Name.TheVariants as name

@@ -1,13 +1,13 @@
 //! The lines in front of a node's file: its title and the node's address.
 ghost use Rattle.std.specs.Prelude.{◌≡◌, [], ◌∷◌, codes, IfOk, IfErr};
-ghost use Rattle.book_base.specs.declared.line_kind.LineKind.TheVariants as line_kind;
+ghost use Rattle.book_lines.specs.declared.line_kind.LineKind.TheVariants as line_kind;
 ghost use Rattle.book_lines.specs.declared.text_fault.TextFault.TheVariants as fault;
 ghost use Rattle.book_cmd_link.specs.LinkFiles.{line_in, title_of};
 ghost use Rattle.book_cmd_node.specs.NodeRuns.{own_address_of};
 ghost use Rattle.law_scripts.specs.Left.{leaves};
 
-use book_base::{Address, LineKind};
-use book_lines::TextFault;
+use book_base::Address;
+use book_lines::{LineKind, TextFault};
 use text_lines::{LineWords, Saying, SayingLines};
 
 /// The next line that says something; where it is missing, a fault of the head at the number after

@@ -8,7 +8,8 @@ ghost use Rattle.book_cmd_node.specs.NodeRuns.{act_alone, act_give, act_number, 
 ghost use Rattle.node_script.specs.Names.{name_text};
 
 use crate::name::Name;
-use book_base::{Address, LineKind, Pair, Socket};
+use book_base::{Address, Pair, Socket};
+use book_lines::LineKind;
 use book_cmd_node::{Act, NodeEvent};
 use book_keys::LATEST;
 use std::alloc::Global;

@@ -3,7 +3,8 @@ ghost use Rattle.std.specs.Prelude.{◌≡◌};
 ghost use Rattle.text_lines.specs.Readings.{gives};
 ghost use Rattle.book_scope_plan.specs.Connections.{plan_pair_of, usual_address_beside, usual_address_in, usual_socket_in};
 
-use book_base::{Address, LineKind, Pair, Socket};
+use book_base::{Address, Pair, Socket};
+use book_lines::LineKind;
 use scope_texts::read_address;
 use text_lines::LineWords;
 

@@ -4,8 +4,8 @@ ghost use Rattle.book_lines.specs.Faults.{input_fault_text, kind_text};
 ghost use Rattle.book_lines.specs.Texts.{line_text, spaced};
 
 use crate::writing::{push_newline, push_number, push_text};
-use book_base::{Bytes, LineKind};
-use book_lines::TextFault;
+use book_base::Bytes;
+use book_lines::{LineKind, TextFault};
 use std::alloc::{AllocError, Global};
 
 fn kind_name(kind: LineKind) -> &'static [u8]

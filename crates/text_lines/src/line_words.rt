@@ -6,7 +6,8 @@ ghost use Rattle.text_lines.specs.Readings.{gives, Tells};
 
 use crate::refusal::Refusal;
 use ao_base::{HexProblem, next_word, read_address, read_decimal, read_hex};
-use book_base::{Address, Algorithm, Bytes, End, LineKind, Socket};
+use book_base::{Address, Algorithm, Bytes, End, Socket};
+use book_lines::LineKind;
 use std::alloc::Global;
 use std::marker::Model;
 

@@ -3,8 +3,7 @@ ghost use Rattle.std.specs.Prelude.{◌≡◌};
 ghost use Rattle.text_lines.specs.declared.refusal.Refusal.TheVariants as refusal;
 ghost use Rattle.text_lines.specs.Readings.{fault_at};
 
-use book_base::LineKind;
-use book_lines::TextFault;
+use book_lines::{LineKind, TextFault};
 use std::alloc::AllocError;
 use thiserror::Error;
 
