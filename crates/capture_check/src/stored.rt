@@ -6,8 +6,8 @@ ghost use Rattle.book_cmd_check.specs.StoredLines.{stored_line, stored_of};
 ghost use Rattle.capture_check.specs.Lines.{IsRead, IsStoredAs};
 
 use book_base::Bytes;
-use book_lines::LineKind;
 use book_keys::LATEST;
+use book_lines::LineKind;
 use std::alloc::Global;
 use text_lines::{LineWords, Refusal};
 

@@ -1,6 +1,6 @@
 -- A script with waits that a text says is one of the grammar.
 use Rattle.std.proofs.Common.{◌≡◌, ℕ, zero, suc, ◌+◌, ◌≤◌, cond, nat_lt, Bool, true, false, List, [], ◌∷◌, length, codes}
-use Rattle.std.proofs.Common.{Result, Ok, Err, refl, ap, ◌∙◌, arith, All}
+use Rattle.std.proofs.Common.{Result, Ok, Err, refl, arith, All}
 use Rattle.std.specs.Str.{bytes_eq}
 use Rattle.std.proofs.lemmas.Bool.{ltb-false}
 use Rattle.book_lines.specs.declared.line_kind.LineKind.{LineKind}

@@ -10,8 +10,8 @@ ghost use Rattle.law_scripts.specs.Scripts.{IsScript};
 
 use super::head::{next_line, read_head};
 use super::line_events::read_event;
-use book_lines::{LineKind, TextFault};
 use book_cmd_link::{Script, SharedKey};
+use book_lines::{LineKind, TextFault};
 use book_link::{Event, Events};
 use std::alloc::Global;
 use text_lines::{LineWords, Refusal, Saying, SayingLines, count_lines};

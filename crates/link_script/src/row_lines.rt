@@ -6,8 +6,8 @@ ghost use Rattle.text_lines.specs.Readings.{gives, Tells};
 ghost use Rattle.book_cmd_link.specs.LinkEvents.{add_of, ways_of};
 ghost use Rattle.link_script.specs.Making.{named_ways, said_ways};
 
-use book_lines::LineKind;
 use book_keys::LATEST;
+use book_lines::LineKind;
 use book_link::{Event, RowLine};
 use std::alloc::Global;
 use text_lines::{LineWords, Refusal};

@@ -9,9 +9,9 @@ ghost use Rattle.node_script.specs.Names.{name_text};
 
 use crate::name::Name;
 use book_base::{Address, Pair, Socket};
-use book_lines::LineKind;
 use book_cmd_node::{Act, NodeEvent};
 use book_keys::LATEST;
+use book_lines::LineKind;
 use std::alloc::Global;
 use text_lines::{LineWords, Refusal};
 
