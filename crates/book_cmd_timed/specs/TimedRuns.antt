@@ -78,9 +78,13 @@ abbrev pub with_watch : Progress → End → Watch → Progress
 with_watch p A w = record p { a = w }
 with_watch p B w = record p { b = w }
 
+-- milliseconds in whole seconds, rounded up (own)
+abbrev pub whole_seconds : ℕ → ℕ
+whole_seconds millis = (millis + 999) / 1000
+
 -- the timer runs anew: its value in seconds, rounded up, after the reading (RFC 6298, section 5)
 abbrev pub started_anew : ℕ → Watch → Watch
-started_anew reading w = record w { deadline = Some (reading + (w.timer.value + 999) / 1000) }
+started_anew reading w = record w { deadline = Some (reading + whole_seconds w.timer.value) }
 
 -- the timer doesn't run, and nothing is timed (RFC 6298, section 5.2)
 abbrev pub stopped : Watch → Watch
@@ -200,6 +204,10 @@ abbrev pub due : ℕ → Option ℕ → Option ℕ
 due reading None = None
 due reading (Some d) = Some (max d (reading + 1))
 
+-- when the timer of an end of a link expires next (own)
+abbrev pub due_at : Progress → End → Option ℕ
+due_at p e = due (reading_at p e) (watch_of p e).deadline
+
 -- the timer expired: its value is doubled, and it runs anew (RFC 6298, sections 5.5 and 5.6)
 abbrev pub after_expiry : End → Progress → Progress
 after_expiry e p =
@@ -211,23 +219,29 @@ after_expiry e p =
 abbrev pub expiry : End → ℕ → List Event
 expiry e d = event.Clock e d ∷ event.Resend e ∷ []
 
+-- an expiry at this reading, and what follows it (RFC 6298, sections 5.4 to 5.6)
+abbrev pub expired_then : Setup → End → Progress → (Progress → Expanded) → ℕ → Expanded
+expired_then setup e p others d =
+    let sent_again = plain setup (plain setup p (event.Clock e d)) (event.Resend e) in
+    before (expiry e d) (others (after_expiry e sent_again))
+
+-- what happens up to a reading: the expiry, where one is due by then, or else the rest (own)
+abbrev pub by_expiry : Option ℕ → (to : ℕ) → (ℕ → Expanded) → Expanded → Expanded
+by_expiry None to expires others = others
+by_expiry (Some d) to expires others = if nat_lt to d then others else expires d
+
 -- a wait up to this reading: the timer's expiries, while they come before it; the first argument
 -- bounds their number (RFC 6298, section 5, and own)
-abbrev pub waited : ℕ → Setup → End → ℕ → Progress → Option ℕ → Expanded
-waited zero setup e to p next = until setup e to p
-waited (suc n) setup e to p None = until setup e to p
-waited (suc n) setup e to p (Some d) =
-    if nat_lt to d then until setup e to p
-    else let sent_again = plain setup (plain setup p (event.Clock e d)) (event.Resend e) in
-    let q = after_expiry e sent_again in
-    before (expiry e d) (waited n setup e to q (due (reading_at q e) (watch_of q e).deadline))
+abbrev pub waited : (most : ℕ) → Setup → End → (to : ℕ) → Progress → Expanded
+waited zero setup e to p = until setup e to p
+waited (suc n) setup e to p =
+    by_expiry (due_at p e) to (expired_then setup e p (waited n setup e to)) (until setup e to p)
 
 -- an event of a timed link; a wait of so many seconds ends at the greatest time at last (own)
 abbrev pub timed_event : Setup → Progress → TimedEvent → Expanded
 timed_event setup p (Plain event) = record { events = event ∷ []; progress = plain setup p event }
 timed_event setup p (Wait e count) =
     waited (count + 1) setup e (min (reading_at p e + count) greatest_time) p
-    (due (reading_at p e) (watch_of p e).deadline)
 
 -- the events of a timed link as plain events (own)
 abbrev pub expand_from : Setup → Progress → List TimedEvent → Expanded
@@ -244,11 +258,15 @@ begins_timed setup = record { world = empty setup; a = new_watch; b = new_watch 
 unfoldable pub expand : Setup → List TimedEvent → Expanded
 expand setup events = expand_from setup (begins_timed setup) events
 
+-- the most seconds of a wait (own)
+abbrev pub longest_wait : ℕ
+longest_wait = 3600
+
 -- the event `wait END COUNT` (own)
 unfoldable pub wait_of : List (List ℕ) → Result TimedEvent LineKind
 wait_of ws = do
   e ← end_in ws
-  count ← number_in 1 3600 e.rest
+  count ← number_in 1 longest_wait e.rest
   none ← nothing_in count.rest
   Ok (Wait e.value count.value)
 

@@ -16,7 +16,7 @@ use Rattle.book_link.specs.Alterations.{has_place, altered}
 use Rattle.book_link.specs.Outcomes as outcome
 use Rattle.book_link.specs.RowLines.{added_row}
 use Rattle.book_link.specs.Runs.{empty, run, run_from}
-use Rattle.book_link.specs.Steps.{Act, Stepped, act_on, add, alter, begin, came, come, deliver, given, on_live, put, quietly, send, send_again, sent, step, took, add_row, withdraw}
+use Rattle.book_link.specs.Steps.{Act, Stepped, act_on, add, alter, begin, came, come, deliver, given, on_live, put, quietly, send, send_again, sent, step, took, add_row, withdraw, view_of}
 use Rattle.book_link.specs.Worlds.{Setup, Session, Made, World, Happening, Making, Coming, find, pair_of, segment_named, side}
 use Rattle.book_draw.specs.Arrows.{Arrow, Leaves, Reaches, arrow_of, arrows, happened}
 use Rattle.book_draw.specs.declared.rung.Brought.{Brought}
@@ -125,28 +125,28 @@ module _ (w : World) where
   row_withdrawn A (Some rows) = refl
   row_withdrawn B (Some rows) = refl
 
-  made : (e : End) (d : Deed) (again : Bool) (s : EndState) (without : outcome.Outcome) (em : Emitted) → of_rung (Some (making_rung e d again without)) ≡ []
-      → of_rung (Some (making_rung e d again (sent e w s without em).outcome)) ≡ of_happening (sent e w s without em).happened
-  made e d again s without Quiet none = none
-  made e d again s without NoKey none = refl
-  made e d again s without (Emits out) none = refl
+  made : (setup : Setup) (e : End) (d : Deed) (again : Bool) (s : EndState) (without : outcome.Outcome) (em : Emitted) → of_rung (Some (making_rung e d again without)) ≡ []
+      → of_rung (Some (making_rung e d again (sent (view_of setup w e) s without em).outcome)) ≡ of_happening (sent (view_of setup w e) s without em).happened
+  made setup e d again s without Quiet none = none
+  made setup e d again s without NoKey none = refl
+  made setup e d again s without (Emits out) none = refl
 
-  reached : (setup : Setup) (e : End) (d : Deed) (what : Brought) (bytes : List ℕ) → Leaves_by (λ o. Some (coming_rung e d what o)) (on_live w e (come setup e w bytes))
-  reached setup e d what bytes = acts e (side w e).sessions (come setup e w bytes) (λ o. Some (coming_rung e d what o)) refl (λ s. refl)
+  reached : (setup : Setup) (e : End) (d : Deed) (what : Brought) (bytes : List ℕ) → Leaves_by (λ o. Some (coming_rung e d what o)) (on_live w e (come bytes (view_of setup w e)))
+  reached setup e d what bytes = acts e (side w e).sessions (come bytes (view_of setup w e)) (λ o. Some (coming_rung e d what o)) refl (λ s. refl)
 
-  delivered : (setup : Setup) (e : End) (d : Deed) (what : Brought) (m : Option Made) → Leaves_by (λ o. Some (coming_rung e d what o)) (deliver setup e w m)
-  delivered setup e d what None = stays (λ o. Some (coming_rung e d what o)) (deliver setup e w None) refl refl
+  delivered : (setup : Setup) (e : End) (d : Deed) (what : Brought) (m : Option Made) → Leaves_by (λ o. Some (coming_rung e d what o)) (deliver setup w e m)
+  delivered setup e d what None = stays (λ o. Some (coming_rung e d what o)) (deliver setup w e None) refl refl
   delivered setup e d what (Some m) = reached setup e d what m.bytes
 
   placed : (setup : Setup) (e : End) (d : Deed) (what : Brought) (bytes : List ℕ) (b : Bool) →
-      Leaves_by (λ o. Some (coming_rung e d what o)) (if b then on_live w e (come setup e w bytes) else record { world = w; outcome = outcome.NoPlace })
+      Leaves_by (λ o. Some (coming_rung e d what o)) (if b then on_live w e (come bytes (view_of setup w e)) else record { world = w; outcome = outcome.NoPlace })
   placed setup e d what bytes true = reached setup e d what bytes
   placed setup e d what bytes false = stays (λ o. Some (coming_rung e d what o)) (record { world = w; outcome = outcome.NoPlace }) refl refl
 
   changed : (setup : Setup) (e : End) (d : Deed) (what : Brought) (place mask : ℕ) (fix : Bool) (m : Option Made) →
-      Leaves_by (λ o. Some (coming_rung e d what o)) (alter setup e w place mask fix m)
-  changed setup e d what place mask fix None = stays (λ o. Some (coming_rung e d what o)) (alter setup e w place mask fix None) refl refl
-  changed setup e d what place mask fix (Some m) = placed setup e d what (altered m.bytes place mask fix) (has_place m.bytes place)
+      Leaves_by (λ o. Some (coming_rung e d what o)) (alter setup w e (record { place = place; mask = mask; fix = fix }) m)
+  changed setup e d what place mask fix None = stays (λ o. Some (coming_rung e d what o)) (alter setup w e (record { place = place; mask = mask; fix = fix }) None) refl refl
+  changed setup e d what place mask fix (Some m) = placed setup e d what (altered m.bytes (record { place = place; mask = mask; fix = fix })) (has_place m.bytes place)
 
   clock_set : (e : End) (n : ℕ) (setup : Setup) → (step setup w (event.Clock e n)).world.history ≡ w.history
   clock_set A n setup = refl
@@ -161,8 +161,8 @@ module _ (w : World) where
   each setup (event.Give e bytes) = calls e (deed.Give (length bytes)) (step setup w (event.Give e bytes)) (quiet e (side w e).sessions (given bytes) (λ s. piece (not (gives s)) (nat_lt (room s) (length bytes)) s (give bytes s)))
   each setup (event.Fill e count byte) = calls e (deed.Give count) (step setup w (event.Fill e count byte))
       (quiet e (side w e).sessions (given (replicate count byte)) (λ s. piece (not (gives s)) (nat_lt (room s) (length (replicate count byte))) s (give (replicate count byte) s)))
-  each setup (event.Send e) = acts e (side w e).sessions (send setup e w) (rung_of (event.Send e)) refl (λ s. made e _ false s outcome.Idle _ refl)
-  each setup (event.Resend e) = acts e (side w e).sessions (send_again setup e w) (rung_of (event.Resend e)) refl (λ s. made e _ true s outcome.Nothing _ refl)
+  each setup (event.Send e) = acts e (side w e).sessions (send (view_of setup w e)) (rung_of (event.Send e)) refl (λ s. made setup e _ false s outcome.Idle _ refl)
+  each setup (event.Resend e) = acts e (side w e).sessions (send_again (view_of setup w e)) (rung_of (event.Resend e)) refl (λ s. made setup e _ true s outcome.Nothing _ refl)
   each setup (event.Deliver e n) = delivered setup e _ _ (segment_named n w.history)
   each setup (event.Inject e bytes) = reached setup e _ _ bytes
   each setup (event.Alter e n place mask fix) = changed setup e _ _ place mask fix (segment_named n w.history)

@@ -15,9 +15,15 @@ has_place bytes place = nat_lt (place_in bytes place) (length bytes)
 abbrev pub masked : List ℕ → (place mask : ℕ) → List ℕ
 masked bytes i mask = slice_set bytes i (bit_xor (slice_index bytes i) mask)
 
--- a copy whose byte at a place, counted from the TCP header, is xored with a mask; with fix the
--- TCP checksum is then set right (own)
-unfoldable pub altered : List ℕ → (place mask : ℕ) → Bool → List ℕ
-altered bytes place mask fix =
-    let copy = masked bytes (place_in bytes place) mask in
-    if fix then with_right_checksum copy else copy
+-- what is altered in a copy: the byte at a place, counted from the TCP header, is xored with a mask;
+-- with fix the TCP checksum is then set right (own)
+pub record Alteration : Type 0 where
+  pub place : ℕ
+  pub mask : ℕ
+  pub fix : Bool
+
+-- a copy that is altered so (own)
+unfoldable pub altered : List ℕ → Alteration → List ℕ
+altered bytes change =
+    let copy = masked bytes (place_in bytes change.place) change.mask in
+    if change.fix then with_right_checksum copy else copy

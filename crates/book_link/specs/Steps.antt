@@ -1,6 +1,7 @@
 -- What each event does to a link. Its top is `step`.
 use Rattle.std.specs.Prelude.{ℕ, suc, nat_lt, Bool, false, not, ◌||◌, List, [], ◌∷◌, length}
 use Rattle.std.specs.Prelude.{replicate, Option, Some, None, if◌then◌else◌}
+use Rattle.book_base.specs.declared.address.Pair.{Pair}
 use Rattle.book_base.specs.declared.end.End.{End}
 use Rattle.book_base.specs.declared.end.End.TheVariants.{A, B}
 use Rattle.book_segments.specs.Segments.{reading, spell}
@@ -10,7 +11,7 @@ use Rattle.book_endpoint.specs.States.{EndState, connected, listening, started, 
 use Rattle.book_endpoint.specs.States.{take_out, at_end, close, abort, tick}
 use Rattle.book_endpoint.specs.Arrivals.{Arrived, arrive}
 use Rattle.book_endpoint.specs.Emissions.{Emission, Emitted, Quiet, NoKey, Emits, emit, resend}
-use Rattle.book_link.specs.Alterations.{has_place, altered}
+use Rattle.book_link.specs.Alterations.{Alteration, has_place, altered}
 use Rattle.book_link.specs.declared.event.Event.{Event}
 use Rattle.book_link.specs.declared.event.Event.TheVariants.{Clock, Connect, Listen, Start, Give}
 use Rattle.book_link.specs.declared.event.Event.TheVariants.{Fill, Send, Resend, Deliver, Inject}
@@ -105,46 +106,69 @@ begin_new w e s = begin w e s (find (side w e).sessions s.isn)
 abbrev pub given : List ℕ → EndState → Act
 given piece s = offered quietly (record { closed = HasClosed; full = Full; done = Done }) piece s
 
--- the entry of a segment in the history: each gets the next number from 1 (own)
-abbrev pub made_of : End → World → EndState → Emission → Made
-made_of e w s out = record {
-  name = suc (segments w.history);
-  maker = e;
-  isn = s.isn;
+-- what an end has in view when it acts: which of the two it is, its pair, its clock, its table as it
+-- is now, and the name that the next segment gets, the numbers from 1 on; nothing of the other end
+-- (own)
+pub record View : Type 0 where
+  pub at : End
+  pub pair : Pair
+  pub clock : ℕ
+  pub rows : List Row
+  pub next_name : ℕ
+
+-- what an end has in view in a world (own)
+abbrev pub view_of : Setup → World → End → View
+view_of setup w e = record {
+  at = e;
+  pair = pair_of setup e;
   clock = (side w e).clock;
   rows = (side w e).rows;
+  next_name = suc (segments w.history);
+}
+
+-- an action of the live session of an end, by what the end has in view (own)
+abbrev pub acts : Setup → World → End → (View → EndState → Act) → Stepped
+acts setup w e action = on_live w e (action (view_of setup w e))
+
+-- the entry of a segment in the history (own)
+abbrev pub made_of : View → EndState → Emission → Made
+made_of v s out = record {
+  name = v.next_name;
+  maker = v.at;
+  isn = s.isn;
+  clock = v.clock;
+  rows = v.rows;
   emission = out;
   bytes = spell out.segment;
 }
 
--- what comes of a call that makes a segment, or none: then the outcome is the word for nothing to
--- send, or that no key may be used (own)
-abbrev pub sent : End → World → EndState → Outcome → Emitted → Act
-sent e w s without Quiet = quietly s without
-sent e w s without NoKey = quietly s WithoutKey
-sent e w s without (Emits out) =
-    let made = made_of e w s out in
+-- what comes of a call that makes a segment, or none: then the outcome is the word for no segment,
+-- or that no key may be used (own)
+abbrev pub sent : View → EndState → (no_segment : Outcome) → Emitted → Act
+sent v s no_segment Quiet = quietly s no_segment
+sent v s no_segment NoKey = quietly s WithoutKey
+sent v s no_segment (Emits out) =
+    let made = made_of v s out in
     record { state = out.state; shown = false; happened = Some (Making made); outcome = Sent made }
 
 -- the live session sends what is due (RFC 9293, section 3.8, and own)
-abbrev pub send : Setup → End → World → EndState → Act
-send setup e w s = sent e w s Idle (emit (side w e).rows (pair_of setup e) (side w e).clock s)
+abbrev pub send : View → EndState → Act
+send v s = sent v s Idle (emit v.rows v.pair v.clock s)
 
 -- the live session sends again the oldest of what isn't acknowledged (RFC 9293, section 3.8.1,
 -- and own)
-abbrev pub send_again : Setup → End → World → EndState → Act
-send_again setup e w s =
-    sent e w s Nothing (resend (side w e).rows (pair_of setup e) (side w e).clock s)
+abbrev pub send_again : View → EndState → Act
+send_again v s = sent v s Nothing (resend v.rows v.pair v.clock s)
 
 -- what comes of an arrival, with its entry in the history (own)
-abbrev pub came : End → World → List ℕ → EndState → Arrived → Act
-came e w bytes s r = record {
+abbrev pub came : List ℕ → View → EndState → Arrived → Act
+came bytes v s r = record {
   state = r.state;
   shown = false;
   happened = Some (Coming (record {
-    at = e;
+    at = v.at;
     isn = s.isn;
-    clock = (side w e).clock;
+    clock = v.clock;
     bytes = bytes;
     answer = r.answer;
     passed = r.passed;
@@ -153,9 +177,8 @@ came e w bytes s r = record {
 }
 
 -- a datagram comes to the live session (RFC 9293, section 3.10.7, and own)
-abbrev pub come : Setup → End → World → List ℕ → EndState → Act
-come setup e w bytes s =
-    came e w bytes s (arrive (side w e).rows (pair_of setup e) (side w e).clock s (reading bytes))
+abbrev pub come : List ℕ → View → EndState → Act
+come bytes v s = came bytes v s (arrive v.rows v.pair v.clock s (reading bytes))
 
 -- at most so many bytes are taken of the live session's stream (own)
 abbrev pub took : ℕ → EndState → Act
@@ -169,21 +192,28 @@ took count s =
     }
 
 -- a segment is delivered as it was made (own)
-abbrev pub deliver : Setup → End → World → Option Made → Stepped
-deliver setup e w None = record { world = w; outcome = NoSegment }
-deliver setup e w (Some m) = on_live w e (come setup e w m.bytes)
+abbrev pub deliver : Setup → World → End → Option Made → Stepped
+deliver setup w e None = record { world = w; outcome = NoSegment }
+deliver setup w e (Some m) = acts setup w e (come m.bytes)
 
--- a copy of a segment is delivered with one byte altered (own)
-abbrev pub alter : Setup → End → World → (place mask : ℕ) → Bool → Option Made → Stepped
-alter setup e w place mask fix None = record { world = w; outcome = NoSegment }
-alter setup e w place mask fix (Some m) =
-    if has_place m.bytes place then on_live w e (come setup e w (altered m.bytes place mask fix))
+-- a copy of a segment is delivered, altered in one byte (own)
+abbrev pub alter : Setup → World → End → Alteration → Option Made → Stepped
+alter setup w e change None = record { world = w; outcome = NoSegment }
+alter setup w e change (Some m) =
+    if has_place m.bytes change.place then acts setup w e (come (altered m.bytes change))
     else record { world = w; outcome = NoPlace }
 
 -- the bytes of a segment, as an outcome (own)
 abbrev pub image_of : Option Made → Outcome
 image_of None = NoSegment
 image_of (Some m) = Image m.bytes
+
+-- the clock of an end is set (own)
+abbrev pub set_clock : World → End → (seconds : ℕ) → Stepped
+set_clock w e seconds = record {
+  world = put w e (with_clock (side w e) seconds) None;
+  outcome = Done;
+}
 
 -- a row is added to an end's table, or refused (own)
 abbrev pub add_row : World → End → Adding → Stepped
@@ -204,21 +234,19 @@ withdraw w e (Some rows) = record {
 
 -- the world after an event, and the event's outcome: an action for each kind of event (own)
 abbrev pub step : Setup → World → Event → Stepped
-step setup w (Clock e seconds) = record {
-  world = put w e (with_clock (side w e) seconds) None;
-  outcome = Done;
-}
+step setup w (Clock e seconds) = set_clock w e seconds
 step setup w (Connect e isn) = begin_new w e (connected (pair_of setup e) isn)
 step setup w (Listen e isn) = begin_new w e (listening (pair_of setup e) isn)
 step setup w (Start e isn peer) = begin_new w e (started (pair_of setup e) isn peer)
 step setup w (Give e piece) = on_live w e (given piece)
 step setup w (Fill e count byte) = on_live w e (given (replicate count byte))
-step setup w (Send e) = on_live w e (send setup e w)
-step setup w (Resend e) = on_live w e (send_again setup e w)
-step setup w (Deliver e name) = deliver setup e w (segment_named name w.history)
-step setup w (Inject e bytes) = on_live w e (come setup e w bytes)
+step setup w (Send e) = acts setup w e send
+step setup w (Resend e) = acts setup w e send_again
+step setup w (Deliver e name) = deliver setup w e (segment_named name w.history)
+step setup w (Inject e bytes) = acts setup w e (come bytes)
 step setup w (Alter e name place mask fix) =
-    alter setup e w place mask fix (segment_named name w.history)
+    let change : Alteration = record { place = place; mask = mask; fix = fix } in
+    alter setup w e change (segment_named name w.history)
 step setup w (Take e count) = on_live w e (took count)
 step setup w (Close e) = on_live w e (λ s. quietly (close s) Done)
 step setup w (Abort e) = on_live w e (λ s. quietly (abort s) Done)

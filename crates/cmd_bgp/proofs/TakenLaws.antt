@@ -31,7 +31,7 @@ use Rattle.book_link.specs.declared.event.Event.TheVariants.{Clock, Connect, Lis
 use Rattle.book_link.specs.Outcomes.{Outcome, Done, Took, IsnUsed, NoSession, Full, HasClosed, Idle, Nothing}
 use Rattle.book_link.specs.RowLines.{added_row}
 use Rattle.book_link.specs.Worlds.{Setup, pair_of, Session, LinkSide, Made, Happening, World, other, side, find, segment_named}
-use Rattle.book_link.specs.Steps.{Stepped, Act, put, with_sessions, with_table, acted, act_on, on_live, quietly, ticked, with_clock, begin, given, sent, send, send_again, come, took, deliver, alter, add_row, withdraw, step}
+use Rattle.book_link.specs.Steps.{View, Stepped, Act, put, with_sessions, with_table, acted, act_on, on_live, quietly, ticked, with_clock, begin, given, sent, send, send_again, come, took, deliver, alter, add_row, withdraw, step, view_of}
 use Rattle.law_link.proofs.Tests.{choose}
 use Rattle.cmd_bgp.specs.Streams.{streams_of, streams}
 
@@ -109,24 +109,24 @@ emitted_same : (pair : Pair) (s : EndState) (draft : ℕ → Option Draft) (o : 
 emitted_same pair s draft None h = choose (EmittedSame s) (is_some (draft 0)) NoKey Quiet (λ t. tt) (λ t. tt)
 emitted_same pair s draft (Some sending) h = let most = most_bytes pair s sending in keyed_same pair s sending (draft most) (h most)
 
-sent_same : (e : End) (w : World) (s : EndState) (without : Outcome) (x : Emitted) → EmittedSame s x → Same s (sent e w s without x)
-sent_same e w s without Quiet h = refl
-sent_same e w s without NoKey h = refl
-sent_same e w s without (Emits x) h = h
+sent_same : (v : View) (s : EndState) (without : Outcome) (x : Emitted) → EmittedSame s x → Same s (sent v s without x)
+sent_same v s without Quiet h = refl
+sent_same v s without NoKey h = refl
+sent_same v s without (Emits x) h = h
 
-send_same : (setup : Setup) (e : End) (w : World) (s : EndState) → Same s (send setup e w s)
+send_same : (setup : Setup) (e : End) (w : World) (s : EndState) → Same s (send (view_of setup w e) s)
 send_same setup e w s =
     let pair = pair_of setup e in
     let o = choose_row s.current (side w e).rows pair (side w e).clock in
-    subst (λ (x : Emitted). Same s (sent e w s Idle x)) (sym (emit_by_drafts (side w e).rows (pair_of setup e) (side w e).clock s))
-    (sent_same e w s Idle (emitted pair s (to_emit s) o) (emitted_same pair s (to_emit s) o (λ most. to_emit_same s most)))
+    subst (λ (x : Emitted). Same s (sent (view_of setup w e) s Idle x)) (sym (emit_by_drafts (side w e).rows (pair_of setup e) (side w e).clock s))
+    (sent_same (view_of setup w e) s Idle (emitted pair s (to_emit s) o) (emitted_same pair s (to_emit s) o (λ most. to_emit_same s most)))
 
-send_again_same : (setup : Setup) (e : End) (w : World) (s : EndState) → Same s (send_again setup e w s)
+send_again_same : (setup : Setup) (e : End) (w : World) (s : EndState) → Same s (send_again (view_of setup w e) s)
 send_again_same setup e w s =
     let pair = pair_of setup e in
     let o = choose_row s.current (side w e).rows pair (side w e).clock in
-    subst (λ (x : Emitted). Same s (sent e w s Nothing x)) (sym (resend_by_drafts (side w e).rows (pair_of setup e) (side w e).clock s))
-    (sent_same e w s Nothing (emitted pair s (to_resend s) o) (emitted_same pair s (to_resend s) o (λ most. to_resend_same s most)))
+    subst (λ (x : Emitted). Same s (sent (view_of setup w e) s Nothing x)) (sym (resend_by_drafts (side w e).rows (pair_of setup e) (side w e).clock s))
+    (sent_same (view_of setup w e) s Nothing (emitted pair s (to_resend s) o) (emitted_same pair s (to_resend s) o (λ most. to_resend_same s most)))
 
 -- ---- arrivals
 
@@ -231,7 +231,7 @@ read_same rows pair now s (Read d) =
     choose (ArrivedSame s) (not (good d)) (unmoved s Checksum) _ (λ u. refl) (λ u.
     choose (ArrivedSame s) (is_closed s.phase) (unmoved s AtClosed) _ (λ v. refl) (λ v. judged_same rows pair now s d (judged_by rows pair now s d))))
 
-come_same : (setup : Setup) (e : End) (w : World) (bytes : List ℕ) (s : EndState) → Same s (come setup e w bytes s)
+come_same : (setup : Setup) (e : End) (w : World) (bytes : List ℕ) (s : EndState) → Same s (come bytes (view_of setup w e) s)
 come_same setup e w bytes s = subst (λ (a : Arrived). ArrivedSame s a) (read_by_cases (side w e).rows (pair_of setup e) (side w e).clock s (reading bytes)) (read_same (side w e).rows (pair_of setup e) (side w e).clock s (reading bytes))
 
 -- ---- the ends
@@ -260,16 +260,16 @@ ticked_same : (now : ℕ) (sessions : List Session) → streams_of (ticked now s
 ticked_same now [] = refl
 ticked_same now (s ∷ rest) = ap (λ (t : List ℕ). t ∷ streams_of rest) (tick_same s.state now s.state.phase)
 
-deliver_same : (setup : Setup) (e : End) (w : World) (o : Option Made) → AllSame w (deliver setup e w o).world
+deliver_same : (setup : Setup) (e : End) (w : World) (o : Option Made) → AllSame w (deliver setup w e o).world
 deliver_same setup e w None = λ f. refl
-deliver_same setup e w (Some m) = live_same w e (come setup e w m.bytes) (λ s. come_same setup e w m.bytes s)
+deliver_same setup e w (Some m) = live_same w e (come m.bytes (view_of setup w e)) (λ s. come_same setup e w m.bytes s)
 
-alter_same : (setup : Setup) (e : End) (w : World) (place mask : ℕ) (fix : Bool) (o : Option Made) → AllSame w (alter setup e w place mask fix o).world
+alter_same : (setup : Setup) (e : End) (w : World) (place mask : ℕ) (fix : Bool) (o : Option Made) → AllSame w (alter setup w e (record { place = place; mask = mask; fix = fix }) o).world
 alter_same setup e w place mask fix None = λ f. refl
 alter_same setup e w place mask fix (Some m) =
-    let bytes = altered m.bytes place mask fix in
-    choose (λ (x : Stepped). AllSame w x.world) (has_place m.bytes place) (on_live w e (come setup e w bytes)) _
-    (λ t. live_same w e (come setup e w bytes) (λ s. come_same setup e w bytes s)) (λ t. λ f. refl)
+    let bytes = altered m.bytes (record { place = place; mask = mask; fix = fix }) in
+    choose (λ (x : Stepped). AllSame w x.world) (has_place m.bytes place) (on_live w e (come bytes (view_of setup w e))) _
+    (λ t. live_same w e (come bytes (view_of setup w e)) (λ s. come_same setup e w bytes s)) (λ t. λ f. refl)
 
 add_row_same : (w : World) (e : End) (a : Adding) → AllSame w (add_row w e a).world
 add_row_same w e (AddedAs number rows) = put_same w e (with_table (side w e) rows) None refl
@@ -363,10 +363,10 @@ changes setup w (Await e isn) = begin_streams w e (listening (pair_of setup e) i
 changes setup w (Start e isn peer) = begin_streams w e (started (pair_of setup e) isn peer) (find (side w e).sessions isn) refl
 changes setup w (Give e piece) = live_same w e (given piece) (λ s. given_same piece s)
 changes setup w (Fill e count byte) = live_same w e (given (replicate count byte)) (λ s. given_same (replicate count byte) s)
-changes setup w (Send e) = live_same w e (send setup e w) (λ s. send_same setup e w s)
-changes setup w (Resend e) = live_same w e (send_again setup e w) (λ s. send_again_same setup e w s)
+changes setup w (Send e) = live_same w e (send (view_of setup w e)) (λ s. send_same setup e w s)
+changes setup w (Resend e) = live_same w e (send_again (view_of setup w e)) (λ s. send_again_same setup e w s)
 changes setup w (Deliver e name) = deliver_same setup e w (segment_named name w.history)
-changes setup w (Inject e bytes) = live_same w e (come setup e w bytes) (λ s. come_same setup e w bytes s)
+changes setup w (Inject e bytes) = live_same w e (come bytes (view_of setup w e)) (λ s. come_same setup e w bytes s)
 changes setup w (Alter e name place mask fix) = alter_same setup e w place mask fix (segment_named name w.history)
 changes setup w (Take e count) = take_streams w e count (side w e).sessions refl
 changes setup w (Close e) = live_same w e (λ s. quietly (close s) Done) (λ s. close_same s s.phase)

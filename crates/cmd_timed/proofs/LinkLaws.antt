@@ -25,7 +25,7 @@ use Rattle.cmd_timed.specs.declared.unfinished.Unfinished.{Unfinished}
 use Rattle.cmd_timed.specs.declared.unfinished.Unfinished.TheVariants as unfinished
 use Rattle.cmd_timed.specs.declared.watch.Watch.{Watch}
 use Rattle.cmd_timed.specs.Changes.{changed}
-use Rattle.cmd_timed.specs.Links.{Does, Makes, Stands, due_at, expands, expires, happens, progress, steps, untils, up_to, waits}
+use Rattle.cmd_timed.specs.Links.{Does, Makes, Stands, expands, expires, happens, progress, steps, untils, up_to, waits}
 use Rattle.cmd_timed.specs.Watches.{expired_at, front_seen, seen}
 use Rattle.cmd_timed.proofs.Expansions.{Same, all_left, chained, last_call, nothing, one_more}
 
@@ -221,34 +221,37 @@ early_by : (b : Bool) (d at : ℕ) → cond b None (Some d) ≡ Some at → (b �
 early_by true d at h = absurd (cc h)
 early_by false d at h = (refl, cc h)
 
-waited_none : (n : ℕ) (setup : Setup) (e : End) (to : ℕ) (p : book.Progress) (next : Option ℕ) → up_to to next ≡ None
-    → book.waited n setup e to p next ≡ book.until setup e to p
-waited_none zero setup e to p next h = refl
-waited_none (suc n) setup e to p None h = refl
-waited_none (suc n) setup e to p (Some d) h = rw (late_by (nat_lt to d) d h) refl
+none_due : (to : ℕ) (expires : ℕ → book.Expanded) (others : book.Expanded) (next : Option ℕ) → up_to to next ≡ None → book.by_expiry next to expires others ≡ others
+none_due to expires others None h = refl
+none_due to expires others (Some d) h = rw (late_by (nat_lt to d) d h) refl
 
-waited_some : (n : ℕ) (setup : Setup) (e : End) (to at : ℕ) (p : book.Progress) (next : Option ℕ) → up_to to next ≡ Some at
-    → book.waited (suc n) setup e to p next ≡ chained (expires e at) (waits n e to) setup p
-waited_some n setup e to at p None h = absurd (cc h)
-waited_some n setup e to at p (Some d) h =
-    let s = early_by (nat_lt to d) d at h in
-    rw s.0 (ap (λ (k : ℕ). chained (expires e k) (waits n e to) setup p) s.1)
+some_due : (to at : ℕ) (expires : ℕ → book.Expanded) (others : book.Expanded) (next : Option ℕ) → up_to to next ≡ Some at → book.by_expiry next to expires others ≡ expires at
+some_due to at expires others None h = absurd (cc h)
+some_due to at expires others (Some d) h = let s = early_by (nat_lt to d) d at h in rw s.0 (ap expires s.1)
+
+waited_none : (n : ℕ) (setup : Setup) (e : End) (to : ℕ) (p : book.Progress) → up_to to (book.due_at p e) ≡ None → book.waited n setup e to p ≡ book.until setup e to p
+waited_none zero setup e to p h = refl
+waited_none (suc n) setup e to p h = none_due to (book.expired_then setup e p (book.waited n setup e to)) (book.until setup e to p) (book.due_at p e) h
+
+waited_some : (n : ℕ) (setup : Setup) (e : End) (to at : ℕ) (p : book.Progress) → up_to to (book.due_at p e) ≡ Some at
+    → book.waited (suc n) setup e to p ≡ chained (expires e at) (waits n e to) setup p
+waited_some n setup e to at p h = some_due to at (book.expired_then setup e p (book.waited n setup e to)) (book.until setup e to p) (book.due_at p e) h
 
 -- when the end's timer expires next, whatever events the link stands for
 pub record Due (l : Link) (e : End) (to : ℕ) (next : Option ℕ) : Type 0 where
-  pub time : (setup : Setup) (past : List Event) → StandsFor l.world setup past → next ≡ up_to to (due_at (progress l setup past) e)
+  pub time : (setup : Setup) (past : List Event) → StandsFor l.world setup past → next ≡ up_to to (book.due_at (progress l setup past) e)
 
 -- the timer doesn't expire any more, or not often enough
 pub waits_no_more : (l : Link) (n : ℕ) (e : End) (to : ℕ) → Due l e to None → Same (waits n e to) (untils e to) l
 waits_no_more l n e to d = record {
   same = λ setup past h.
-      waited_none n setup e to (progress l setup past) (due_at (progress l setup past) e) (sym (d.time setup past h.world_is));
+      waited_none n setup e to (progress l setup past) (sym (d.time setup past h.world_is));
 }
 
 pub waits_none : (l : Link) (n : ℕ) (e : End) (to : ℕ) → n ≡ 0 → Same (waits n e to) (untils e to) l
 waits_none l n e to none = record {
   same = λ setup past h.
-      ap (λ (k : ℕ). book.waited k setup e to (progress l setup past) (due_at (progress l setup past) e)) none;
+      ap (λ (k : ℕ). book.waited k setup e to (progress l setup past)) none;
 }
 
 -- the timer expires once more
@@ -256,7 +259,7 @@ pub waits_once_more : (l : Link) (m n : ℕ) (e : End) (to at : ℕ) → m ≡ s
 waits_once_more l m n e to at one d = record {
   same = λ setup past h.
       let p = progress l setup past in
-      ap (λ (k : ℕ). book.waited k setup e to p (due_at p e)) one ∙ waited_some n setup e to at p (due_at p e) (sym (d.time setup past h.world_is));
+      ap (λ (k : ℕ). book.waited k setup e to p) one ∙ waited_some n setup e to at p (sym (d.time setup past h.world_is));
 }
 
 -- a wait up to this reading
@@ -267,7 +270,7 @@ happens_waiting l e count reading to r is = record {
       let p = progress l setup past in
       let same : min (book.reading_at p e + count) greatest_time ≡ to =
       sym (is ∙ ap (λ (k : ℕ). min (k + count) greatest_time) (r.reads setup past h.world_is)) in
-      ap (λ (k : ℕ). book.waited (count + 1) setup e k p (due_at p e)) same;
+      ap (λ (k : ℕ). book.waited (count + 1) setup e k p) same;
 }
 
 -- one event more, and those behind it

@@ -7,7 +7,7 @@ use Rattle.book_link.specs.Runs.{run}
 use Rattle.book_link.specs.Worlds.{Setup}
 use Rattle.book_cmd_timed.specs.declared.timed.TimedEvent.{TimedEvent}
 use Rattle.book_cmd_timed.specs.TimedRuns.{most_events}
-use Rattle.book_cmd_timed.specs.TimedRuns.{Expanded, Progress, after_expiry, due, expand_from, expiry, plain, reading_at, timed_event, until, waited, watch_of}
+use Rattle.book_cmd_timed.specs.TimedRuns.{Expanded, Progress, after_expiry, expand_from, expiry, plain, timed_event, until, waited}
 use Rattle.link_world.specs.Standing.{StandsFor}
 use Rattle.cmd_timed.specs.declared.link.Link.{Link}
 use Rattle.cmd_timed.specs.declared.unfinished.Unfinished.{Unfinished}
@@ -54,10 +54,6 @@ untils e to setup p = until setup e to p
 abbrev pub expires : End → ℕ → Makes
 expires e d setup p = record { events = expiry e d; progress = after_expiry e (plain setup (plain setup p (event.Clock e d)) (event.Resend e)) }
 
--- when the end's timer expires next
-abbrev pub due_at : Progress → End → Option ℕ
-due_at p e = due (reading_at p e) (watch_of p e).deadline
-
 -- the same, where it is at this reading at the latest
 abbrev pub up_to : ℕ → Option ℕ → Option ℕ
 up_to to None = None
@@ -65,7 +61,7 @@ up_to to (Some d) = if nat_lt to d then None else Some d
 
 -- the end waits up to a reading, with at most so many expiries
 abbrev pub waits : ℕ → End → ℕ → Makes
-waits most e to setup p = waited most setup e to p (due_at p e)
+waits most e to setup p = waited most setup e to p
 
 -- an event of a link with timers
 abbrev pub happens : TimedEvent → Makes

@@ -1,13 +1,13 @@
 //! A link and the timers of its two ends.
 ghost use Rattle.std.specs.Prelude.{◌≡◌, ◌<◌, ◌≤◌, IfSome, List, Ok, OnOk, Some, length};
-ghost use Rattle.book_cmd_timed.specs.TimedRuns.{most_events};
+ghost use Rattle.book_cmd_timed.specs.TimedRuns.{due_at, most_events};
 ghost use Rattle.book_cmd_timed.specs.TimedRuns.{end_of_event as end_at};
 ghost use Rattle.book_keys.specs.Lifetimes.{greatest_time};
 ghost use Rattle.book_link.specs.declared.event.Event.{Event as OneEvent};
 ghost use Rattle.book_link.specs.Worlds.{Setup as Plan};
 ghost use Rattle.link_world.specs.Events.{CanHappen};
 ghost use Rattle.link_world.specs.Standing.{StandsFor, steps_taken};
-ghost use Rattle.cmd_timed.specs.Links.{Does, due_at, expires, progress, steps, untils, up_to};
+ghost use Rattle.cmd_timed.specs.Links.{Does, expires, progress, steps, untils, up_to};
 
 use crate::change::{Change, end_of, is_again, is_begin, is_done, is_sent};
 use crate::unfinished::Unfinished;

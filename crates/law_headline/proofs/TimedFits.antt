@@ -13,7 +13,7 @@ use Rattle.book_link.specs.Worlds.{Setup, setup_of}
 use Rattle.book_cmd_timed.specs.declared.timed.TimedEvent.{TimedEvent}
 use Rattle.book_cmd_timed.specs.declared.timed.TimedEvent.TheVariants.{Plain, Wait}
 use Rattle.book_cmd_timed.specs.declared.timed.TimedScript.{TimedScript}
-use Rattle.book_cmd_timed.specs.TimedRuns.{Expanded, Progress, after_expiry, before, begins_timed, due, expand, expand_from, expiry, plain, reading_at, timed_event, timed_script_of, until, waited, watch_of}
+use Rattle.book_cmd_timed.specs.TimedRuns.{Expanded, Progress, after_expiry, before, begins_timed, by_expiry, due_at, expand, expand_from, expired_then, expiry, plain, reading_at, timed_event, timed_script_of, until, waited}
 use Rattle.law_scripts.specs.Timed.{IsTimedEvent, IsTimedScript}
 use Rattle.law_scripts.proofs.TimedRanges.{timed_script_ok}
 use Rattle.law_headline.proofs.InputLaws.{event_fits, fits}
@@ -36,21 +36,25 @@ until_fits setup e to p low =
     either (reading_at p e == to) (record { events = []; progress = p }) (record { events = Clock e to ∷ []; progress = plain setup p (Clock e to) })
     (λ is. tt) (λ is. (low, tt))
 
--- a wait's clocks go no further than its end
-waited_fits : (n : ℕ) (setup : Setup) (e : End) (to : ℕ) (p : Progress) (next : Option ℕ) → to ≤ greatest_time → Fitting (waited n setup e to p next)
-waited_fits zero setup e to p next low = until_fits setup e to p low
-waited_fits (suc n) setup e to p None low = until_fits setup e to p low
-waited_fits (suc n) setup e to p (Some d) low =
+-- an expiry that comes in time fits, with what follows it
+expiry_fits : (setup : Setup) (e : End) (to : ℕ) (p : Progress) (others : Progress → Expanded) (next : Option ℕ) → to ≤ greatest_time → ((q : Progress) → Fitting (others q))
+    → Fitting (by_expiry next to (expired_then setup e p others) (until setup e to p))
+expiry_fits setup e to p others None low rest = until_fits setup e to p low
+expiry_fits setup e to p others (Some d) low rest =
     let q = after_expiry e (plain setup (plain setup p (Clock e d)) (Resend e)) in
-    let next = due (reading_at q e) (watch_of q e).deadline in
-    either (nat_lt to d) (until setup e to p) (before (expiry e d) (waited n setup e to q next)) (λ is. until_fits setup e to p low)
-    (λ is. let early : d ≤ to = ltb-false to d is in (omega (arith, early, low), (tt, waited_fits n setup e to q next low)))
+    either (nat_lt to d) (until setup e to p) (before (expiry e d) (others q)) (λ is. until_fits setup e to p low)
+    (λ is. let early : d ≤ to = ltb-false to d is in (omega (arith, early, low), (tt, rest q)))
+
+-- a wait's clocks go no further than its end
+waited_fits : (n : ℕ) (setup : Setup) (e : End) (to : ℕ) (p : Progress) → to ≤ greatest_time → Fitting (waited n setup e to p)
+waited_fits zero setup e to p low = until_fits setup e to p low
+waited_fits (suc n) setup e to p low = expiry_fits setup e to p (waited n setup e to) (due_at p e) low (λ q. waited_fits n setup e to q low)
 
 event_fits_timed : (setup : Setup) (p : Progress) (x : TimedEvent) → IsTimedEvent x → Fitting (timed_event setup p x)
 event_fits_timed setup p (Plain event) is = (event_fits event is, tt)
 event_fits_timed setup p (Wait e count) is =
     let to = min (reading_at p e + count) greatest_time in
-    waited_fits (count + 1) setup e to p (due (reading_at p e) (watch_of p e).deadline) (omega arith)
+    waited_fits (count + 1) setup e to p (omega arith)
 
 all_fit : (setup : Setup) (p : Progress) (xs : List TimedEvent) → All IsTimedEvent xs → Fitting (expand_from setup p xs)
 all_fit setup p [] all = tt

@@ -149,7 +149,7 @@ summed b h =
     let tb = dropped b (ip_length b) h in
     join (take (ip_length b) b) _ (taken b (ip_length b) h) (join (take 16 t) _ (taken t 16 tb) (two (complement_of (pseudo_in b (with_sum t 0))) (drop 18 t) (dropped t 18 tb)))
 
-pub altered_bytes : (b : List ℕ) (place mask : ℕ) (fix : Bool) → mask < 256 → Byted b → Byted (altered b place mask fix)
+pub altered_bytes : (b : List ℕ) (place mask : ℕ) (fix : Bool) → mask < 256 → Byted b → Byted (altered b (record { place = place; mask = mask; fix = fix }))
 unfolding altered
 altered_bytes b place mask fix low h =
     let copy = masked_bytes b (place_in b place) mask low h in

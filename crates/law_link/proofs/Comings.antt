@@ -18,7 +18,7 @@ use Rattle.book_link.specs.declared.event.Event.{Event}
 use Rattle.book_link.specs.declared.event.Event.TheVariants.{Clock, Connect, Listen as Await, Start, Give, Fill, Send, Resend, Deliver, Inject, Alter, Take, Close, Abort, AddRow, Withdraw, Dump}
 use Rattle.book_link.specs.Outcomes.{Outcome, Idle, Nothing, HasClosed, Full, Done, NoPlace}
 use Rattle.book_link.specs.Worlds.{Setup, pair_of, Session, LinkSide, Made, Came, Happening, Making, Coming, World, side, live, segment_named}
-use Rattle.book_link.specs.Steps.{Act, add, put, with_table, with_clock, act_on, on_live, quietly, begin, given, sent, send, send_again, come, took, deliver, alter, add_row, withdraw, step}
+use Rattle.book_link.specs.Steps.{View, Act, add, put, with_table, with_clock, act_on, on_live, quietly, begin, given, sent, send, send_again, come, took, deliver, alter, add_row, withdraw, step, view_of}
 use Rattle.law_link.specs.Laws.{SetupFits, EventFits}
 use Rattle.law_link.proofs.Invariant.{Inv}
 use Rattle.law_link.proofs.Running.{named_bytes}
@@ -52,10 +52,10 @@ live_quiet : (w : World) (e : End) (sessions : List Session) (call : EndState �
 live_quiet w e [] call r never is = longer (Coming r) w.history is
 live_quiet w e (s ∷ rest) call r never is = not_coming (call s.state).happened w.history r (never s.state) (sym (put_history w e _ (call s.state).happened) ∙ is)
 
-sent_quiet : (e : End) (w : World) (s : EndState) (without : Outcome) (o : Emitted) → NotComing (sent e w s without o).happened
-sent_quiet e w s without Quiet = tt
-sent_quiet e w s without NoKey = tt
-sent_quiet e w s without (Emits out) = tt
+sent_quiet : (v : View) (s : EndState) (without : Outcome) (o : Emitted) → NotComing (sent v s without o).happened
+sent_quiet v s without Quiet = tt
+sent_quiet v s without NoKey = tt
+sent_quiet v s without (Emits out) = tt
 
 given_quiet : (piece : List ℕ) (s : EndState) → NotComing (given piece s).happened
 given_quiet piece s =
@@ -82,7 +82,7 @@ came_is : (k r : Came) (past : List Happening) → Coming k ∷ past ≡ Coming 
 came_is k r past e = cc
 
 come_came : (setup : Setup) (w : World) (e : End) (sessions : List Session) (bytes : List ℕ) (r : Came) → (side w e).sessions ≡ sessions → AreBytes bytes
-    → (act_on w e sessions (come setup e w bytes)).world.history ≡ Coming r ∷ w.history → CameBy setup w r
+    → (act_on w e sessions (come bytes (view_of setup w e))).world.history ≡ Coming r ∷ w.history → CameBy setup w r
 come_came setup w e [] bytes r is all came = absurd (longer (Coming r) w.history came)
 come_came setup w e (s ∷ rest) bytes r is all came =
     let a = arrive (side w e).rows (pair_of setup e) (side w e).clock s.state (reading bytes) in
@@ -91,18 +91,18 @@ come_came setup w e (s ∷ rest) bytes r is all came =
     (record { session = s; lives = ap live is; bytes = all; answer = refl; passed = refl })
 
 module _ (setup : Setup) (fits : SetupFits setup) where
-  deliver_came : (w : World) (e : End) (o : Option Made) (r : Came) → ((m : Made) → o ≡ Some m → AreBytes m.bytes) → (deliver setup e w o).world.history ≡ Coming r ∷ w.history → CameBy setup w r
+  deliver_came : (w : World) (e : End) (o : Option Made) (r : Came) → ((m : Made) → o ≡ Some m → AreBytes m.bytes) → (deliver setup w e o).world.history ≡ Coming r ∷ w.history → CameBy setup w r
   deliver_came w e None r all is = absurd (longer (Coming r) w.history is)
   deliver_came w e (Some m) r all is = come_came setup w e (side w e).sessions m.bytes r refl (all m refl) is
 
   alter_if : (w : World) (e : End) (place mask : ℕ) (fix : Bool) (m : Made) (r : Came) (b : Bool) → mask < 256 → AreBytes m.bytes
-      → (if b then on_live w e (come setup e w (altered m.bytes place mask fix)) else record { world = w; outcome = NoPlace }).world.history ≡ Coming r ∷ w.history → CameBy setup w r
+      → (if b then on_live w e (come (altered m.bytes (record { place = place; mask = mask; fix = fix })) (view_of setup w e)) else record { world = w; outcome = NoPlace }).world.history ≡ Coming r ∷ w.history → CameBy setup w r
   alter_if w e place mask fix m r true low all is =
-      come_came setup w e (side w e).sessions (altered m.bytes place mask fix) r refl (altered_bytes m.bytes place mask fix low (record { at = all })).at is
+      come_came setup w e (side w e).sessions (altered m.bytes (record { place = place; mask = mask; fix = fix })) r refl (altered_bytes m.bytes place mask fix low (record { at = all })).at is
   alter_if w e place mask fix m r false low all is = absurd (longer (Coming r) w.history is)
 
   alter_came : (w : World) (e : End) (place mask : ℕ) (fix : Bool) (o : Option Made) (r : Came) → mask < 256 → ((m : Made) → o ≡ Some m → AreBytes m.bytes)
-      → (alter setup e w place mask fix o).world.history ≡ Coming r ∷ w.history → CameBy setup w r
+      → (alter setup w e (record { place = place; mask = mask; fix = fix }) o).world.history ≡ Coming r ∷ w.history → CameBy setup w r
   alter_came w e place mask fix None r low all is = absurd (longer (Coming r) w.history is)
   alter_came w e place mask fix (Some m) r low all is = alter_if w e place mask fix m r (has_place m.bytes place) low (all m refl) is
 
@@ -113,8 +113,8 @@ module _ (setup : Setup) (fits : SetupFits setup) where
   came_by w (Start e isn peer) r f inv is = absurd (begin_quiet w e _ _ r is)
   came_by w (Give e piece) r f inv is = absurd (live_quiet w e (side w e).sessions (given piece) r (given_quiet piece) is)
   came_by w (Fill e count byte) r f inv is = absurd (live_quiet w e (side w e).sessions (given (replicate count byte)) r (given_quiet (replicate count byte)) is)
-  came_by w (Send e) r f inv is = absurd (live_quiet w e (side w e).sessions (send setup e w) r (λ s. sent_quiet e w s Idle (emit (side w e).rows (pair_of setup e) (side w e).clock s)) is)
-  came_by w (Resend e) r f inv is = absurd (live_quiet w e (side w e).sessions (send_again setup e w) r (λ s. sent_quiet e w s Nothing (resend (side w e).rows (pair_of setup e) (side w e).clock s)) is)
+  came_by w (Send e) r f inv is = absurd (live_quiet w e (side w e).sessions (send (view_of setup w e)) r (λ s. sent_quiet (view_of setup w e) s Idle (emit (side w e).rows (pair_of setup e) (side w e).clock s)) is)
+  came_by w (Resend e) r f inv is = absurd (live_quiet w e (side w e).sessions (send_again (view_of setup w e)) r (λ s. sent_quiet (view_of setup w e) s Nothing (resend (side w e).rows (pair_of setup e) (side w e).clock s)) is)
   came_by w (Deliver e name) r f inv is = deliver_came w e (segment_named name w.history) r (λ m named. named_bytes setup fits w name m inv named) is
   came_by w (Inject e bytes) r f inv is = come_came setup w e (side w e).sessions bytes r refl f is
   came_by w (Alter e name place mask fix) r f inv is = alter_came w e place mask fix (segment_named name w.history) r f (λ m named. named_bytes setup fits w name m inv named) is

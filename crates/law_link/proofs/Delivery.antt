@@ -16,7 +16,7 @@ use Rattle.book_link.specs.declared.event.Event.{Event}
 use Rattle.book_link.specs.declared.event.Event.TheVariants.{Clock, Connect, Listen as Await, Start, Give, Fill, Send, Resend, Deliver, Inject, Alter, Take, Close, Abort, AddRow, Withdraw, Dump}
 use Rattle.law_link.specs.Laws.{SetupFits, EventFits}
 use Rattle.book_link.specs.Worlds.{other, Setup, pair_of, Session, LinkSide, Made, World, side, find, segment_named}
-use Rattle.book_link.specs.Steps.{Stepped, Act, put, with_sessions, with_table, ticked, with_clock, acted, act_on, begin, on_live, come, deliver, alter, add_row, withdraw, step}
+use Rattle.book_link.specs.Steps.{Stepped, Act, put, with_sessions, with_table, ticked, with_clock, acted, act_on, begin, on_live, come, deliver, alter, add_row, withdraw, step, view_of}
 use Rattle.book_link.specs.Runs.{empty, run_from, run}
 use Rattle.law_link.proofs.Invariant.{AllSound, AllWhole, Inv}
 use Rattle.law_link.proofs.Sessions.{both, grows_refl, grows_head, grows_new}
@@ -72,19 +72,19 @@ module _ (setup : Setup) (fits : SetupFits setup) where
       (λ none all. (record { bytes = λ p b r. let z = empty p in absurd (cc); fins = λ f r. absurd (cc); sent = λ p b r. let z = empty p in absurd (cc); gone = λ f r. absurd (cc) }, all))
       (λ none few all. (inl low, all))
 
-  arrive_heard : (w : World) (e : End) (bytes : List ℕ) → AreBytes bytes → Inv setup w → Heard w → Heard (on_live w e (come setup e w bytes)).world
-  arrive_heard w e bytes all inv h = act_heard w e (side w e).sessions (come setup e w bytes) refl inv (λ s a b. come_ok setup fits e w bytes s all a b) h
+  arrive_heard : (w : World) (e : End) (bytes : List ℕ) → AreBytes bytes → Inv setup w → Heard w → Heard (on_live w e (come bytes (view_of setup w e))).world
+  arrive_heard w e bytes all inv h = act_heard w e (side w e).sessions (come bytes (view_of setup w e)) refl inv (λ s a b. come_ok setup fits e w bytes s all a b) h
 
-  deliver_heard : (w : World) (e : End) (o : Option Made) → ((m : Made) → o ≡ Some m → AreBytes m.bytes) → Inv setup w → Heard w → Heard (deliver setup e w o).world
+  deliver_heard : (w : World) (e : End) (o : Option Made) → ((m : Made) → o ≡ Some m → AreBytes m.bytes) → Inv setup w → Heard w → Heard (deliver setup w e o).world
   deliver_heard w e None all inv h = h
   deliver_heard w e (Some m) all inv h = arrive_heard w e m.bytes (all m refl) inv h
 
   alter_heard : (w : World) (e : End) (place mask : ℕ) (fix : Bool) (o : Option Made) → mask < 256 → ((m : Made) → o ≡ Some m → AreBytes m.bytes) → Inv setup w → Heard w
-      → Heard (alter setup e w place mask fix o).world
+      → Heard (alter setup w e (record { place = place; mask = mask; fix = fix }) o).world
   alter_heard w e place mask fix None low all inv h = h
   alter_heard w e place mask fix (Some m) low all inv h =
       choose (λ (x : Stepped). Heard x.world) (has_place m.bytes place) _ _
-      (λ t. arrive_heard w e (altered m.bytes place mask fix) (altered_bytes m.bytes place mask fix low (record { at = all m refl })).at inv h) (λ t. h)
+      (λ t. arrive_heard w e (altered m.bytes (record { place = place; mask = mask; fix = fix })) (altered_bytes m.bytes place mask fix low (record { at = all m refl })).at inv h) (λ t. h)
 
   add_heard : (w : World) (e : End) (o : Adding) → Heard w → Heard (add_row w e o).world
   add_heard w e (AddedAs n rows) h = quiet_heard w e (with_table (side w e) rows) refl h

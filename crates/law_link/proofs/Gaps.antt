@@ -15,13 +15,13 @@ use Rattle.endpoint_steps.proofs.Drafting.{emit_by_drafts, resend_by_drafts}
 use Rattle.book_link.specs.Outcomes.{Outcome, WithoutKey, Idle, Nothing}
 use Rattle.book_link.specs.declared.event.Event.TheVariants.{Send, Resend}
 use Rattle.book_link.specs.Worlds.{Setup, pair_of, Session, World, side}
-use Rattle.book_link.specs.Steps.{Act, sent, send, send_again, act_on, step}
+use Rattle.book_link.specs.Steps.{View, Act, sent, send, send_again, act_on, step, view_of}
 use Rattle.law_link.specs.Laws.{IsCovered}
 
-sent_keyless : (e : End) (w : World) (s : EndState) (without : Outcome) (o : Emitted) → without ≢ WithoutKey → (sent e w s without o).outcome ≡ WithoutKey → o ≡ NoKey
-sent_keyless e w s without Quiet apart is = absurd (apart is)
-sent_keyless e w s without NoKey apart is = refl
-sent_keyless e w s without (Emits out) apart is = absurd (cc)
+sent_keyless : (v : View) (s : EndState) (without : Outcome) (o : Emitted) → without ≢ WithoutKey → (sent v s without o).outcome ≡ WithoutKey → o ≡ NoKey
+sent_keyless v s without Quiet apart is = absurd (apart is)
+sent_keyless v s without NoKey apart is = refl
+sent_keyless v s without (Emits out) apart is = absurd (cc)
 
 known_keyless : (pair : Pair) (s : EndState) (out : Draft) (sending : Sending) (o : Option (List ℕ)) → seal_known pair s out sending o ≡ NoKey → ⊥
 known_keyless pair s out sending None is = absurd (cc)
@@ -56,6 +56,6 @@ never_keyless setup w e c =
     let now = (side w e).clock in
     let yes = covered_now setup w e c in
     let clash : (s : EndState) → choose s.current rows pair now ≡ None → ⊥ = λ s none. let no = choose_none s.current rows pair now none in absurd (cc) in (
-      live_keyless w e (side w e).sessions (send setup e w) (λ s is. clash s (emit_keyless rows pair now s (sent_keyless e w s Idle (emit rows pair now s) (λ f. absurd (cc)) is))),
-      live_keyless w e (side w e).sessions (send_again setup e w) (λ s is. clash s (resend_keyless rows pair now s (sent_keyless e w s Nothing (resend rows pair now s) (λ f. absurd (cc)) is))),
+      live_keyless w e (side w e).sessions (send (view_of setup w e)) (λ s is. clash s (emit_keyless rows pair now s (sent_keyless (view_of setup w e) s Idle (emit rows pair now s) (λ f. absurd (cc)) is))),
+      live_keyless w e (side w e).sessions (send_again (view_of setup w e)) (λ s is. clash s (resend_keyless rows pair now s (sent_keyless (view_of setup w e) s Nothing (resend rows pair now s) (λ f. absurd (cc)) is))),
     )

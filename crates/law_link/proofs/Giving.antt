@@ -17,7 +17,7 @@ use Rattle.book_link.specs.declared.event.Event.TheVariants.{Clock, Connect, Lis
 use Rattle.book_link.specs.Outcomes.{Outcome, Done, Full, HasClosed, Idle, Nothing}
 use Rattle.book_link.specs.RowLines.{added_row}
 use Rattle.book_link.specs.Runs.{empty, run_from, run}
-use Rattle.book_link.specs.Steps.{Stepped, Act, quietly, put, with_clock, with_table, with_sessions, ticked, acted, act_on, on_live, begin, given, sent, took, come, deliver, alter, add_row, withdraw, step}
+use Rattle.book_link.specs.Steps.{View, Stepped, Act, quietly, put, with_clock, with_table, with_sessions, ticked, acted, act_on, on_live, begin, given, sent, took, come, deliver, alter, add_row, withdraw, step, view_of}
 use Rattle.book_link.specs.Worlds.{Setup, pair_of, Session, LinkSide, Made, Happening, World, side, find, segment_named}
 use Rattle.law_link.specs.Headline.{GivesFew, few_events}
 use Rattle.law_link.proofs.GivenStays.{Emitting, arrive_given, emit_emitting, resend_emitting}
@@ -55,13 +55,13 @@ piece_gives piece s =
     choose P (nat_lt (room s) (length piece)) (quietly s Full) (quietly (give piece s) Done) (λ full. same_gives s (quietly s Full) refl)
     (λ fits. let low = lt_not (room s) (length piece) fits in let longer = length-append s.given piece in omega arith))
 
-sent_gives : (e : End) (w : World) (s : EndState) (without : Outcome) (x : Emitted) → Emitting s x → GivesSome s (sent e w s without x)
-sent_gives e w s without Quiet same = same_gives s (sent e w s without Quiet) refl
-sent_gives e w s without NoKey same = same_gives s (sent e w s without NoKey) refl
-sent_gives e w s without (Emits out) same = same_gives s (sent e w s without (Emits out)) same
+sent_gives : (v : View) (s : EndState) (without : Outcome) (x : Emitted) → Emitting s x → GivesSome s (sent v s without x)
+sent_gives v s without Quiet same = same_gives s (sent v s without Quiet) refl
+sent_gives v s without NoKey same = same_gives s (sent v s without NoKey) refl
+sent_gives v s without (Emits out) same = same_gives s (sent v s without (Emits out)) same
 
-come_gives : (setup : Setup) (e : End) (w : World) (bytes : List ℕ) (s : EndState) → GivesSome s (come setup e w bytes s)
-come_gives setup e w bytes s = same_gives s (come setup e w bytes s) (arrive_given (side w e).rows (pair_of setup e) (side w e).clock s (reading bytes))
+come_gives : (setup : Setup) (e : End) (w : World) (bytes : List ℕ) (s : EndState) → GivesSome s (come bytes (view_of setup w e) s)
+come_gives setup e w bytes s = same_gives s (come bytes (view_of setup w e) s) (arrive_given (side w e).rows (pair_of setup e) (side w e).clock s (reading bytes))
 
 close_gives : (s : EndState) (phase : Phase) → GivesSome s (quietly (close_in phase s) Done)
 close_gives s Listening = same_gives s (quietly (close_in Listening s) Done) refl
@@ -100,15 +100,15 @@ begin_most n w e s None none h =
     let long : length s.given ≡ 0 = ap length none in
     put_most n w e (with_sessions (side w e) (record { state = s; end_shown = false } ∷ (side w e).sessions)) None (omega arith, stays n w h e) h
 
-deliver_most : (n : ℕ) (setup : Setup) (w : World) (e : End) (o : Option Made) → EachAtMost n w → EachAtMost (n + 65535) (deliver setup e w o).world
+deliver_most : (n : ℕ) (setup : Setup) (w : World) (e : End) (o : Option Made) → EachAtMost n w → EachAtMost (n + 65535) (deliver setup w e o).world
 deliver_most n setup w e None h = stays n w h
-deliver_most n setup w e (Some m) h = live_most n w e (come setup e w m.bytes) (come_gives setup e w m.bytes) h
+deliver_most n setup w e (Some m) h = live_most n w e (come m.bytes (view_of setup w e)) (come_gives setup e w m.bytes) h
 
-alter_most : (n : ℕ) (setup : Setup) (w : World) (e : End) (place mask : ℕ) (fix : Bool) (o : Option Made) → EachAtMost n w → EachAtMost (n + 65535) (alter setup e w place mask fix o).world
+alter_most : (n : ℕ) (setup : Setup) (w : World) (e : End) (place mask : ℕ) (fix : Bool) (o : Option Made) → EachAtMost n w → EachAtMost (n + 65535) (alter setup w e (record { place = place; mask = mask; fix = fix }) o).world
 alter_most n setup w e place mask fix None h = stays n w h
 alter_most n setup w e place mask fix (Some m) h =
-    choose (λ (x : Stepped). EachAtMost (n + 65535) x.world) (has_place m.bytes place) (on_live w e (come setup e w (altered m.bytes place mask fix))) _
-    (λ t. live_most n w e (come setup e w (altered m.bytes place mask fix)) (come_gives setup e w (altered m.bytes place mask fix)) h) (λ t. stays n w h)
+    choose (λ (x : Stepped). EachAtMost (n + 65535) x.world) (has_place m.bytes place) (on_live w e (come (altered m.bytes (record { place = place; mask = mask; fix = fix })) (view_of setup w e))) _
+    (λ t. live_most n w e (come (altered m.bytes (record { place = place; mask = mask; fix = fix })) (view_of setup w e)) (come_gives setup e w (altered m.bytes (record { place = place; mask = mask; fix = fix }))) h) (λ t. stays n w h)
 
 row_most : (n : ℕ) (w : World) (e : End) (o : Adding) → EachAtMost n w → EachAtMost (n + 65535) (add_row w e o).world
 row_most n w e (AddedAs k rows) h = put_most n w e (with_table (side w e) rows) None (stays n w h e) h
@@ -126,8 +126,8 @@ step_most n setup w (Listen e isn) h = begin_most n w e (listening (pair_of setu
 step_most n setup w (Start e isn peer) h = begin_most n w e (started (pair_of setup e) isn peer) (find (side w e).sessions isn) refl h
 step_most n setup w (Give e piece) h = live_most n w e _ (piece_gives piece) h
 step_most n setup w (Fill e count byte) h = live_most n w e _ (piece_gives (replicate count byte)) h
-step_most n setup w (Send e) h = live_most n w e _ (λ s. sent_gives e w s Idle (emit (side w e).rows (pair_of setup e) (side w e).clock s) (emit_emitting (side w e).rows (pair_of setup e) (side w e).clock s)) h
-step_most n setup w (Resend e) h = live_most n w e _ (λ s. sent_gives e w s Nothing (resend (side w e).rows (pair_of setup e) (side w e).clock s) (resend_emitting (side w e).rows (pair_of setup e) (side w e).clock s)) h
+step_most n setup w (Send e) h = live_most n w e _ (λ s. sent_gives (view_of setup w e) s Idle (emit (side w e).rows (pair_of setup e) (side w e).clock s) (emit_emitting (side w e).rows (pair_of setup e) (side w e).clock s)) h
+step_most n setup w (Resend e) h = live_most n w e _ (λ s. sent_gives (view_of setup w e) s Nothing (resend (side w e).rows (pair_of setup e) (side w e).clock s) (resend_emitting (side w e).rows (pair_of setup e) (side w e).clock s)) h
 step_most n setup w (Deliver e name) h = deliver_most n setup w e (segment_named name w.history) h
 step_most n setup w (Inject e bytes) h = live_most n w e _ (come_gives setup e w bytes) h
 step_most n setup w (Alter e name place mask fix) h = alter_most n setup w e place mask fix (segment_named name w.history) h

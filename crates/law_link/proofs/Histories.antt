@@ -13,7 +13,7 @@ use Rattle.book_link.specs.Reports.{outcome_line, lines_from, summary, report}
 use Rattle.book_link.specs.RowLines.{added_row}
 use Rattle.book_link.specs.Runs.{empty, run_from, run, outcomes_from}
 use Rattle.book_link.specs.Worlds.{Setup, pair_of, Session, LinkSide, Made, Happening, World, side, find, segment_named}
-use Rattle.book_link.specs.Steps.{Stepped, Act, put, with_clock, with_table, act_on, on_live, begin, come, deliver, alter, add_row, withdraw, step}
+use Rattle.book_link.specs.Steps.{Stepped, Act, put, with_clock, with_table, act_on, on_live, begin, come, deliver, alter, add_row, withdraw, step, view_of}
 use Rattle.law_link.proofs.Tests.{choose}
 
 -- ---- a run in two parts
@@ -91,15 +91,15 @@ begin_adds : (w : World) (e : End) (s : EndState) (o : Option Session) → Adds 
 begin_adds w e s (Some used) = adds_none w
 begin_adds w e s None = put_adds w e _ None
 
-deliver_adds : (setup : Setup) (w : World) (e : End) (o : Option Made) → Adds w (deliver setup e w o).world
+deliver_adds : (setup : Setup) (w : World) (e : End) (o : Option Made) → Adds w (deliver setup w e o).world
 deliver_adds setup w e None = adds_none w
-deliver_adds setup w e (Some m) = live_adds w e (come setup e w m.bytes)
+deliver_adds setup w e (Some m) = live_adds w e (come m.bytes (view_of setup w e))
 
-alter_adds : (setup : Setup) (w : World) (e : End) (place mask : ℕ) (fix : Bool) (o : Option Made) → Adds w (alter setup e w place mask fix o).world
+alter_adds : (setup : Setup) (w : World) (e : End) (place mask : ℕ) (fix : Bool) (o : Option Made) → Adds w (alter setup w e (record { place = place; mask = mask; fix = fix }) o).world
 alter_adds setup w e place mask fix None = adds_none w
 alter_adds setup w e place mask fix (Some m) =
-    choose (λ (x : Stepped). Adds w x.world) (has_place m.bytes place) (on_live w e (come setup e w (altered m.bytes place mask fix))) _
-    (λ t. live_adds w e (come setup e w (altered m.bytes place mask fix))) (λ t. adds_none w)
+    choose (λ (x : Stepped). Adds w x.world) (has_place m.bytes place) (on_live w e (come (altered m.bytes (record { place = place; mask = mask; fix = fix })) (view_of setup w e))) _
+    (λ t. live_adds w e (come (altered m.bytes (record { place = place; mask = mask; fix = fix })) (view_of setup w e))) (λ t. adds_none w)
 
 row_adds : (w : World) (e : End) (o : Adding) → Adds w (add_row w e o).world
 row_adds w e (AddedAs n rows) = put_adds w e (with_table (side w e) rows) None

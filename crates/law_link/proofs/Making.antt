@@ -16,7 +16,7 @@ use Rattle.law_link.proofs.Carrying.{Carries, MayCarry, emit_carries, resend_car
 use Rattle.law_link.proofs.Drafts.{DraftOk, MayDraft, most_low, emit_ok, resend_ok}
 use Rattle.book_link.specs.Outcomes.{Outcome, Idle, Nothing, WithoutKey}
 use Rattle.book_link.specs.Worlds.{Setup, pair_of, World, side}
-use Rattle.book_link.specs.Steps.{quietly, sent, send, send_again}
+use Rattle.book_link.specs.Steps.{quietly, sent, send, send_again, view_of}
 use Rattle.law_link.specs.Laws.{RowFits}
 use Rattle.law_link.proofs.Keeping.{same_gained, ActOk}
 use Rattle.law_link.proofs.Calls.{still_ok}
@@ -27,7 +27,7 @@ module _ (setup : Setup) (e : End) (w : World) (rows_fit : AllByRecursion RowFit
 
   sealed_ok : (without : Outcome) (out : Draft) (sending : Sending) (o : Option (List ℕ)) → DraftOk s out → Carries s out
       → choose_row s.current (side w e).rows (pair_of setup e) (side w e).clock ≡ Some sending
-      → context_of (blank (pair_of setup e) s out sending) (Some s.isn) s.peer_isn ≡ o → ActOk setup e s (sent e w s without (seal_known (pair_of setup e) s out sending o))
+      → context_of (blank (pair_of setup e) s out sending) (Some s.isn) s.peer_isn ≡ o → ActOk setup e s (sent (view_of setup w e) s without (seal_known (pair_of setup e) s out sending o))
   sealed_ok without out sending None ok carry picked known = quiet_ok without
   sealed_ok without out sending (Some c) ok carry picked known =
       record {
@@ -60,26 +60,26 @@ module _ (setup : Setup) (e : End) (w : World) (rows_fit : AllByRecursion RowFit
       }
 
   keyed_ok : (without : Outcome) (sending : Sending) (o : Option Draft) → MayDraft s o → MayCarry s o → choose_row s.current (side w e).rows (pair_of setup e) (side w e).clock ≡ Some sending
-      → ActOk setup e s (sent e w s without (keyed (pair_of setup e) s sending o))
+      → ActOk setup e s (sent (view_of setup w e) s without (keyed (pair_of setup e) s sending o))
   keyed_ok without sending None ok carry picked = quiet_ok without
   keyed_ok without sending (Some out) ok carry picked = sealed_ok without out sending (context_of (blank (pair_of setup e) s out sending) (Some s.isn) s.peer_isn) ok carry picked refl
 
   emitted_ok : (without : Outcome) (draft : ℕ → Option Draft) (o : Option Sending) → ((most : ℕ) → most ≤ 1460 → MayDraft s (draft most)) → ((most : ℕ) → MayCarry s (draft most))
-      → choose_row s.current (side w e).rows (pair_of setup e) (side w e).clock ≡ o → ActOk setup e s (sent e w s without (emitted (pair_of setup e) s draft o))
+      → choose_row s.current (side w e).rows (pair_of setup e) (side w e).clock ≡ o → ActOk setup e s (sent (view_of setup w e) s without (emitted (pair_of setup e) s draft o))
   emitted_ok without draft None ok carry picked =
-      choose (λ (x : Emitted). ActOk setup e s (sent e w s without x)) (is_some (draft 0)) NoKey Quiet (λ t. quiet_ok WithoutKey) (λ t. quiet_ok without)
+      choose (λ (x : Emitted). ActOk setup e s (sent (view_of setup w e) s without x)) (is_some (draft 0)) NoKey Quiet (λ t. quiet_ok WithoutKey) (λ t. quiet_ok without)
   emitted_ok without draft (Some sending) ok carry picked =
       let most = most_bytes (pair_of setup e) s sending in
       keyed_ok without sending (draft most) (ok most (most_low (pair_of setup e) s sending)) (carry most) picked
 
-  pub send_ok : ActOk setup e s (send setup e w s)
+  pub send_ok : ActOk setup e s (send (view_of setup w e) s)
   send_ok =
-      subst (λ (x : Emitted). ActOk setup e s (sent e w s Idle x)) (sym (emit_by_drafts (side w e).rows (pair_of setup e) (side w e).clock s))
+      subst (λ (x : Emitted). ActOk setup e s (sent (view_of setup w e) s Idle x)) (sym (emit_by_drafts (side w e).rows (pair_of setup e) (side w e).clock s))
       (emitted_ok Idle (to_emit s) (choose_row s.current (side w e).rows (pair_of setup e) (side w e).clock)
       (λ most low. emit_ok s most low sound) (λ most. emit_carries s most whole) refl)
 
-  pub resend_act_ok : ActOk setup e s (send_again setup e w s)
+  pub resend_act_ok : ActOk setup e s (send_again (view_of setup w e) s)
   resend_act_ok =
-      subst (λ (x : Emitted). ActOk setup e s (sent e w s Nothing x)) (sym (resend_by_drafts (side w e).rows (pair_of setup e) (side w e).clock s))
+      subst (λ (x : Emitted). ActOk setup e s (sent (view_of setup w e) s Nothing x)) (sym (resend_by_drafts (side w e).rows (pair_of setup e) (side w e).clock s))
       (emitted_ok Nothing (to_resend s) (choose_row s.current (side w e).rows (pair_of setup e) (side w e).clock)
       (λ most low. resend_ok s most low sound) (λ most. resend_carries s most whole) refl)

@@ -12,7 +12,7 @@ use Rattle.book_link.specs.declared.event.Event.{Event}
 use Rattle.book_link.specs.declared.event.Event.TheVariants.{Clock, Connect, Listen, Start, Give, Fill, Send, Resend, Deliver, Inject, Alter, Take, Close, Abort, AddRow, Withdraw, Dump}
 use Rattle.book_link.specs.RowLines.{added_row}
 use Rattle.book_link.specs.Runs.{empty, run_from, run}
-use Rattle.book_link.specs.Steps.{Stepped, Act, put, with_clock, with_table, with_sessions, acted, act_on, on_live, begin, come, deliver, alter, add_row, withdraw, step}
+use Rattle.book_link.specs.Steps.{Stepped, Act, put, with_clock, with_table, with_sessions, acted, act_on, on_live, begin, come, deliver, alter, add_row, withdraw, step, view_of}
 use Rattle.book_link.specs.Worlds.{Setup, pair_of, Session, LinkSide, Made, Happening, World, side, find, segment_named}
 use Rattle.law_link.specs.Laws.{SetupFits, EventFits}
 use Rattle.law_link.specs.Sessions.{OnlyGrow}
@@ -75,19 +75,19 @@ withdraw_grow w e None = still w
 withdraw_grow w e (Some rows) = rows_grow w e rows
 
 module _ (setup : Setup) (fits : SetupFits setup) where
-  arrival_grow : (w : World) (e : End) (bytes : List ℕ) → AreBytes bytes → Inv setup w → BothGrow w (on_live w e (come setup e w bytes)).world
-  arrival_grow w e bytes all inv = act_grow setup w e (side w e).sessions (come setup e w bytes) refl inv (λ s a b. come_ok setup fits e w bytes s all a b)
+  arrival_grow : (w : World) (e : End) (bytes : List ℕ) → AreBytes bytes → Inv setup w → BothGrow w (on_live w e (come bytes (view_of setup w e))).world
+  arrival_grow w e bytes all inv = act_grow setup w e (side w e).sessions (come bytes (view_of setup w e)) refl inv (λ s a b. come_ok setup fits e w bytes s all a b)
 
-  deliver_grow : (w : World) (e : End) (o : Option Made) → ((m : Made) → o ≡ Some m → AreBytes m.bytes) → Inv setup w → BothGrow w (deliver setup e w o).world
+  deliver_grow : (w : World) (e : End) (o : Option Made) → ((m : Made) → o ≡ Some m → AreBytes m.bytes) → Inv setup w → BothGrow w (deliver setup w e o).world
   deliver_grow w e None all inv = still w
   deliver_grow w e (Some m) all inv = arrival_grow w e m.bytes (all m refl) inv
 
   alter_grow : (w : World) (e : End) (place mask : ℕ) (fix : Bool) (o : Option Made) → mask < 256 → ((m : Made) → o ≡ Some m → AreBytes m.bytes) → Inv setup w
-      → BothGrow w (alter setup e w place mask fix o).world
+      → BothGrow w (alter setup w e (record { place = place; mask = mask; fix = fix }) o).world
   alter_grow w e place mask fix None low all inv = still w
   alter_grow w e place mask fix (Some m) low all inv =
       choose (λ (x : Stepped). BothGrow w x.world) (has_place m.bytes place) _ _
-      (λ t. arrival_grow w e (altered m.bytes place mask fix) (altered_bytes m.bytes place mask fix low (record { at = all m refl })).at inv) (λ t. still w)
+      (λ t. arrival_grow w e (altered m.bytes (record { place = place; mask = mask; fix = fix })) (altered_bytes m.bytes place mask fix low (record { at = all m refl })).at inv) (λ t. still w)
 
   pub step_grow : (w : World) (event : Event) → EventFits event → Inv setup w → BothGrow w (step setup w event).world
   step_grow w (Clock e seconds) f inv = put_grow w e (with_clock (side w e) seconds) None (ticked_grows seconds (side w e).sessions)

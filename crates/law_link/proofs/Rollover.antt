@@ -37,7 +37,7 @@ use Rattle.law_link.proofs.Drafts.{DraftOk}
 use Rattle.law_link.proofs.Written.{area_ao, same_input, same_context}
 use Rattle.book_link.specs.declared.event.Event.TheVariants.{Deliver}
 use Rattle.book_link.specs.Worlds.{other, Setup, pair_of, Session, Made, World, side, find, live, is_known, addressed}
-use Rattle.book_link.specs.Steps.{Act, act_on, come, deliver, step}
+use Rattle.book_link.specs.Steps.{Act, act_on, come, deliver, step, view_of}
 use Rattle.law_link.specs.Laws.{SetupFits, IsNear, RollsOver, IsHeard, IsAdmitted, TablesFit}
 use Rattle.law_link.proofs.Invariant.{live_sound, Inv, mac_in, row_in, wired}
 use Rattle.law_link.proofs.Running.{named_ok}
@@ -286,5 +286,5 @@ rolls_over setup fits tables w e name m inv c =
     let r = c.receiver in
     let f = finds_made setup fits tables w e name m inv c in
     let answer = judges_heard rows pair now r.state m.emission.segment m.emission.sending m.emission.context m.emission.number m.emission.input f.judges (live_sound (side w e).sessions r c.lives (inv.sound e)) c.awake f.right in
-    let admitted : IsAdmitted (come setup e w m.bytes r.state).outcome = arrive_heard rows pair now r.state m.bytes m.emission.segment f.reads answer in
-    subst (λ (o : Option Made). IsAdmitted (deliver setup e w o).outcome) (sym c.made) (live_admitted w e (side w e).sessions (come setup e w m.bytes) r c.lives admitted)
+    let admitted : IsAdmitted (come m.bytes (view_of setup w e) r.state).outcome = arrive_heard rows pair now r.state m.bytes m.emission.segment f.reads answer in
+    subst (λ (o : Option Made). IsAdmitted (deliver setup w e o).outcome) (sym c.made) (live_admitted w e (side w e).sessions (come m.bytes (view_of setup w e)) r c.lives admitted)

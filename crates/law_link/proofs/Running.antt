@@ -30,7 +30,7 @@ use Rattle.book_link.specs.Alterations.{has_place, altered}
 use Rattle.book_link.specs.declared.event.Event.{Event}
 use Rattle.book_link.specs.declared.event.Event.TheVariants.{Clock, Connect, Listen as Await, Start, Give, Fill, Send, Resend, Deliver, Inject, Alter, Take, Close, Abort, AddRow, Withdraw, Dump}
 use Rattle.book_link.specs.Worlds.{Setup, pair_of, Session, Made, Came, Happening, Making, Coming, World, side, find, segment_named}
-use Rattle.book_link.specs.Steps.{Stepped, with_sessions, with_table, ticked, with_clock, begin, on_live, come, deliver, alter, add_row, withdraw, step}
+use Rattle.book_link.specs.Steps.{Stepped, with_sessions, with_table, ticked, with_clock, begin, on_live, come, deliver, alter, add_row, withdraw, step, view_of}
 use Rattle.book_link.specs.Runs.{empty, run_from, run}
 use Rattle.law_link.specs.Laws.{RowFits, SetupFits, EventFits}
 use Rattle.law_link.proofs.Invariant.{MadeOk, AllMadeOk, AllSound, AllWhole, AllShown, Distinct, Inv, Grows, wired}
@@ -172,7 +172,7 @@ module _ (setup : Setup) (fits : SetupFits setup) where
             inr (⊎_elim (λ (z : r.state.una ≤ r.state.isn + 1). inl z) (λ (z : BringsAck g.segment r.state.una). inr (g.segment, p.number, has_passed, z)) y)) gains.acks;
       }) ok.gained
 
-  pub come_ok : (e : End) (w : World) (bytes : List ℕ) (s : EndState) → AreBytes bytes → Sound s → Whole s → ActOk setup e s (come setup e w bytes s)
+  pub come_ok : (e : End) (w : World) (bytes : List ℕ) (s : EndState) → AreBytes bytes → Sound s → Whole s → ActOk setup e s (come bytes (view_of setup w e) s)
   come_ok e w bytes s all h whole =
       let a = arrive (side w e).rows (pair_of setup e) (side w e).clock s (reading bytes) in
       let r = arrive_ok (side w e).rows (pair_of setup e) (side w e).clock s bytes all h whole in
@@ -200,19 +200,19 @@ module _ (setup : Setup) (fits : SetupFits setup) where
   pub named_bytes : (w : World) (name : ℕ) (m : Made) → Inv setup w → segment_named name w.history ≡ Some m → AreBytes m.bytes
   named_bytes w name m inv e = let ok = named_ok w name w.history m inv.made e in (wired setup ok.session.state m ok.by fits).bytes
 
-  arrives : (w : World) (e : End) (bytes : List ℕ) → AreBytes bytes → Inv setup w → Inv setup (on_live w e (come setup e w bytes)).world
-  arrives w e bytes all inv = act_keeps setup w e (side w e).sessions (come setup e w bytes) refl inv (λ s h k. come_ok e w bytes s all h k)
+  arrives : (w : World) (e : End) (bytes : List ℕ) → AreBytes bytes → Inv setup w → Inv setup (on_live w e (come bytes (view_of setup w e))).world
+  arrives w e bytes all inv = act_keeps setup w e (side w e).sessions (come bytes (view_of setup w e)) refl inv (λ s h k. come_ok e w bytes s all h k)
 
-  deliver_keeps : (w : World) (e : End) (o : Option Made) → ((m : Made) → o ≡ Some m → AreBytes m.bytes) → Inv setup w → Inv setup (deliver setup e w o).world
+  deliver_keeps : (w : World) (e : End) (o : Option Made) → ((m : Made) → o ≡ Some m → AreBytes m.bytes) → Inv setup w → Inv setup (deliver setup w e o).world
   deliver_keeps w e None all inv = inv
   deliver_keeps w e (Some m) all inv = arrives w e m.bytes (all m refl) inv
 
   alter_keeps : (w : World) (e : End) (place mask : ℕ) (fix : Bool) (o : Option Made) → mask < 256 → ((m : Made) → o ≡ Some m → AreBytes m.bytes) → Inv setup w
-      → Inv setup (alter setup e w place mask fix o).world
+      → Inv setup (alter setup w e (record { place = place; mask = mask; fix = fix }) o).world
   alter_keeps w e place mask fix None low all inv = inv
   alter_keeps w e place mask fix (Some m) low all inv =
       choose (λ (x : Stepped). Inv setup x.world) (has_place m.bytes place) _ _
-      (λ t. arrives w e (altered m.bytes place mask fix) (altered_bytes m.bytes place mask fix low (record { at = all m refl })).at inv) (λ t. inv)
+      (λ t. arrives w e (altered m.bytes (record { place = place; mask = mask; fix = fix })) (altered_bytes m.bytes place mask fix low (record { at = all m refl })).at inv) (λ t. inv)
 
   add_keeps : (w : World) (e : End) (row : Row) (o : Adding) → adding (side w e).rows row ≡ o → RowFits row → Inv setup w → Inv setup (add_row w e o).world
   add_keeps w e row TooMany is f inv = inv

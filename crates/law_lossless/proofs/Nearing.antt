@@ -10,7 +10,7 @@ use Rattle.book_link.specs.declared.event.Event.{Event}
 use Rattle.book_link.specs.declared.event.Event.TheVariants.{Deliver}
 use Rattle.book_link.specs.Outcomes.{Outcome, Sent}
 use Rattle.book_link.specs.Worlds.{other, Setup, pair_of, Session, Made, Making, World, side, live, segment_named}
-use Rattle.book_link.specs.Steps.{Stepped, Act, add, acted, on_live, quietly, made_of, sent, come, deliver, step}
+use Rattle.book_link.specs.Steps.{Stepped, Act, add, acted, on_live, quietly, made_of, sent, come, deliver, step, view_of}
 use Rattle.book_link.specs.Runs.{run_from}
 use Rattle.law_link.specs.Laws.{SetupFits, EventFits}
 use Rattle.law_link.proofs.Invariant.{wired}
@@ -36,12 +36,12 @@ module _ (setup : Setup) (fits : SetupFits setup) (w : World) (lead lag : ℕ) (
       let acts = (act_live w x call a (far_lives setup w lead lag y a b two)).0 in
       acts.lives two.up.session two.up.lives y ∙ ap (λ (s : Session). Some s) (instead_other y (acted a (call a.state)) two.up.session ∙ two.near)
 
-  pub near_quiet : (ev : Event) (without : Outcome) (f : EndState → Emitted) → delivering y without ≡ [] → step setup w ev ≡ on_live w (other y) (λ (s : EndState). sent (other y) w s without (f s)) → f a.state ≡ Quiet
+  pub near_quiet : (ev : Event) (without : Outcome) (f : EndState → Emitted) → delivering y without ≡ [] → step setup w ev ≡ on_live w (other y) (λ (s : EndState). sent (view_of setup w (other y)) s without (f s)) → f a.state ≡ Quiet
       → (k : Session) → live (side (run_from setup w (ev ∷ delivering y (step setup w ev).outcome)) y).sessions ≡ Some k → k ≡ b
   near_quiet ev without f nothing is quiet k lives =
       let x = other y in
-      let call = λ (s : EndState). sent x w s without (f s) in
-      let act_is : call a.state ≡ quietly a.state without = ap (sent x w a.state without) quiet in
+      let call = λ (s : EndState). sent (view_of setup w x) s without (f s) in
+      let act_is : call a.state ≡ quietly a.state without = ap (sent (view_of setup w x) a.state without) quiet in
       let w2 = (on_live w x call).world in
       let outcome : (on_live w x call).outcome ≡ without = (act_live w x call a (far_lives setup w lead lag y a b two)).1 ∙ ap (λ (m : Act). m.outcome) act_is in
       let v_is : w2 ≡ run_from setup w (ev ∷ delivering y (step setup w ev).outcome) =
@@ -49,15 +49,15 @@ module _ (setup : Setup) (fits : SetupFits setup) (w : World) (lead lag : ℕ) (
       let old : live (side (run_from setup w (ev ∷ delivering y (step setup w ev).outcome)) y).sessions ≡ Some b = subst (λ (m : World). live (side m y).sessions ≡ Some b) v_is (near_stays call) in
       some_is k b (sym lives ∙ old)
 
-  pub near_made : (ev : Event) (without : Outcome) (f : EndState → Emitted) → EventFits ev → step setup w ev ≡ on_live w (other y) (λ (s : EndState). sent (other y) w s without (f s)) → (m : Makes (pair_of setup (other y)) a.state (f a.state))
+  pub near_made : (ev : Event) (without : Outcome) (f : EndState → Emitted) → EventFits ev → step setup w ev ≡ on_live w (other y) (λ (s : EndState). sent (view_of setup w (other y)) s without (f s)) → (m : Makes (pair_of setup (other y)) a.state (f a.state))
       → (k : Session) → live (side (run_from setup w (ev ∷ delivering y (step setup w ev).outcome)) y).sessions ≡ Some k → IsTold b.state k.state (window a.state)
   near_made ev without f ev_fits is m k lives =
       let x = other y in
       let em = sealed (pair_of setup x) a.state m.out m.sending m.context in
-      let act = sent x w a.state without (Emits em) in
-      let made = made_of x w a.state em in
-      let call = λ (s : EndState). sent x w s without (f s) in
-      let act_is : call a.state ≡ act = ap (sent x w a.state without) m.is in
+      let act = sent (view_of setup w x) a.state without (Emits em) in
+      let made = made_of (view_of setup w x) a.state em in
+      let call = λ (s : EndState). sent (view_of setup w x) s without (f s) in
+      let act_is : call a.state ≡ act = ap (sent (view_of setup w x) a.state without) m.is in
       let w2 = (on_live w x call).world in
       let live_act = act_live w x call a (far_lives setup w lead lag y a b two) in
       let outcome : (on_live w x call).outcome ≡ Sent made = live_act.1 ∙ ap (λ (k : Act). k.outcome) act_is in
@@ -69,8 +69,8 @@ module _ (setup : Setup) (fits : SetupFits setup) (w : World) (lead lag : ℕ) (
       let v = (step setup w2 (Deliver y made.name)).world in
       let v_is : v ≡ run_from setup w (ev ∷ delivering y (step setup w ev).outcome) =
       ap (λ (o : Outcome). run_from setup w2 (delivering y o)) (sym outcome) ∙ ap (λ (k : Stepped). run_from setup k.world (delivering y k.outcome)) (sym is) in
-      let hear = come setup y w2 made.bytes in
-      let come_is : (on_live w2 y hear).world ≡ v = ap (λ (o : Option Made). (deliver setup y w2 o).world) (sym named) in
+      let hear = come made.bytes (view_of setup w2 y) in
+      let come_is : (on_live w2 y hear).world ≡ v = ap (λ (o : Option Made). (deliver setup w2 y o).world) (sym named) in
       let u = acted b (hear b.state) in
       let sessions = instead x (acted a (call a.state)) two.up.session in
       let heard = (act_live w2 y hear b (near_stays call)).0 in

@@ -12,7 +12,7 @@ use Rattle.book_endpoint.specs.Emissions.{Emission, Emitted, Quiet, NoKey, Emits
 use Rattle.book_link.specs.declared.event.Event.TheVariants.{Deliver, Send, Take}
 use Rattle.book_link.specs.Outcomes.{Outcome, Sent, Idle, WithoutKey}
 use Rattle.book_link.specs.Worlds.{other, Setup, pair_of, Session, Made, Happening, Making, World, side, live, segment_named}
-use Rattle.book_link.specs.Steps.{Act, add, acted, on_live, made_of, sent, come, took, deliver, step}
+use Rattle.book_link.specs.Steps.{Act, add, acted, on_live, made_of, sent, come, took, deliver, step, view_of}
 use Rattle.book_link.specs.Runs.{run_from}
 use Rattle.book_stack.specs.Calls.{At, Input, Output, CallAnswer, Hands, Rests, call}
 use Rattle.book_stack.specs.Stacks.{StackState, handed}
@@ -101,7 +101,7 @@ module _ (setup : Setup) (fits : SetupFits setup) (now : ℕ) where
     makes = emit (side w e).rows (pair_of setup e) (side w e).clock (ses e).state
 
     abbrev sends : EndState → Act
-    sends u = sent e w u Idle (emit (side w e).rows (pair_of setup e) (side w e).clock u)
+    sends u = sent (view_of setup w e) u Idle (emit (side w e).rows (pair_of setup e) (side w e).clock u)
 
     abbrev w3 : World
     w3 = (step setup w (Send e)).world
@@ -119,7 +119,7 @@ module _ (setup : Setup) (fits : SetupFits setup) (now : ℕ) where
     live_act : Acted w e (acted (ses e) (sends (ses e).state)) (sends (ses e).state).happened (on_live w e sends).world × ((on_live w e sends).outcome ≡ (sends (ses e).state).outcome)
     live_act = act_live w e sends (ses e) (h.lives e)
 
-    state_so : (r : Emitted) → state_of (ses e).state r ≡ (sent e w (ses e).state Idle r).state
+    state_so : (r : Emitted) → state_of (ses e).state r ≡ (sent (view_of setup w e) (ses e).state Idle r).state
     state_so Quiet = refl
     state_so NoKey = refl
     state_so (Emits em) = refl
@@ -144,10 +144,10 @@ module _ (setup : Setup) (fits : SetupFits setup) (now : ℕ) where
     loud : (em : Emission) → makes ≡ Emits em → Goes
     loud em is =
         let y = other e in
-        let made = made_of e w (ses e).state em in
+        let made = made_of (view_of setup w e) (ses e).state em in
         let s3 = called_stack e (Output now) s in
         let ses3 = instead e (acted (ses e) (sends (ses e).state)) ses in
-        let act_is : sends (ses e).state ≡ sent e w (ses e).state Idle (Emits em) = ap (sent e w (ses e).state Idle) is in
+        let act_is : sends (ses e).state ≡ sent (view_of setup w e) (ses e).state Idle (Emits em) = ap (sent (view_of setup w e) (ses e).state Idle) is in
         let outcome : (step setup w (Send e)).outcome ≡ Sent made = live_act.1 ∙ ap (λ (k : Act). k.outcome) act_is in
         let history : w3.history ≡ Making made ∷ w.history = live_act.0.history ∙ ap (λ (k : Act). add k.happened w.history) act_is in
         let named : segment_named made.name w3.history ≡ Some made = ap (segment_named made.name) history ∙ named_last made w.history in
@@ -155,11 +155,11 @@ module _ (setup : Setup) (fits : SetupFits setup) (now : ℕ) where
         let wire = wired setup ok.session.state made ok.by fits in
         let d = em.segment in
         let w4 = (step setup w3 (Deliver y made.name)).world in
-        let come_is : (on_live w3 y (come setup y w3 made.bytes)).world ≡ w4 = ap (λ (o : Option Made). (deliver setup y w3 o).world) (sym named) in
+        let come_is : (on_live w3 y (come made.bytes (view_of setup w3 y))).world ≡ w4 = ap (λ (o : Option Made). (deliver setup w3 y o).world) (sym named) in
         let w_is : w4 ≡ v = ap (λ (o : Outcome). run_from setup w3 (delivering y o)) (sym outcome) in
         let u = ses3 y in
-        let heard = acted u (come setup y w3 made.bytes u.state) in
-        let acts = subst (Acted w3 y heard (come setup y w3 made.bytes u.state).happened) come_is (act_live w3 y (come setup y w3 made.bytes) u (mirrors3.lives y)).0 in
+        let heard = acted u (come made.bytes (view_of setup w3 y) u.state) in
+        let acts = subst (Acted w3 y heard (come made.bytes (view_of setup w3 y) u.state).happened) come_is (act_live w3 y (come made.bytes (view_of setup w3 y)) u (mirrors3.lives y)).0 in
         let k = mirrors3.has y in
         let t = stack_at s3 y in
         let bytes = spell (handed d) in
@@ -174,7 +174,7 @@ module _ (setup : Setup) (fits : SetupFits setup) (now : ℕ) where
         ap (λ (r : Reading). (arrive rows (pair_of setup y) clock u.state r).state) (sym well.read) ∙ ap (λ (x : Arrived). x.state) (taken_alike d wire.fits rows (pair_of setup y) clock u.state) in
         let facts4 = facts_step setup fits w3 (Deliver y made.name) tt facts3 in
         let all : Mirrors setup w4 now (with_stack s3 y (call (Input (record { now = now; bytes = bytes })) t).stack) (instead y heard ses3) =
-        mirrors_act w3 w4 s3 ses3 y heard (come setup y w3 made.bytes u.state).happened (call (Input (record { now = now; bytes = bytes })) t).stack mirrors3 acts facts4
+        mirrors_act w3 w4 s3 ses3 y heard (come made.bytes (view_of setup w3 y) u.state).happened (call (Input (record { now = now; bytes = bytes })) t).stack mirrors3 acts facts4
         (subst (Has now (pair_of setup y) rows clock (call (Input (record { now = now; bytes = bytes })) t).stack) same came) in
         let answers : (call (Output now) (stack_at s e)).answer ≡ Hands em = asked.0 ∙ ap answer_of is in
         let s_is : with_stack s3 y (call (Input (record { now = now; bytes = bytes })) t).stack ≡ spoken = sym (ap (λ (a : CallAnswer). comes_to now y a s3) answers) in
@@ -184,8 +184,8 @@ module _ (setup : Setup) (fits : SetupFits setup) (now : ℕ) where
     goes = by_case makes refl
       where
         by_case : (r : Emitted) → makes ≡ r → Goes
-        by_case Quiet is = silent Idle Rests (ap (λ (r : Emitted). (sent e w (ses e).state Idle r).outcome) is) refl (asked.0 ∙ ap answer_of is) refl
-        by_case NoKey is = silent WithoutKey Rests (ap (λ (r : Emitted). (sent e w (ses e).state Idle r).outcome) is) refl (asked.0 ∙ ap answer_of is) refl
+        by_case Quiet is = silent Idle Rests (ap (λ (r : Emitted). (sent (view_of setup w e) (ses e).state Idle r).outcome) is) refl (asked.0 ∙ ap answer_of is) refl
+        by_case NoKey is = silent WithoutKey Rests (ap (λ (r : Emitted). (sent (view_of setup w e) (ses e).state Idle r).outcome) is) refl (asked.0 ∙ ap answer_of is) refl
         by_case (Emits em) is = loud em is
 
   speak_world : (w : World) (e : End) → let w2 = (step setup (step setup w (Take e 65535)).world (Take (other e) 65535)).world in run_from setup w (speaking setup w e) ≡ run_from setup w2 (Send e ∷ delivering (other e) (step setup w2 (Send e)).outcome)

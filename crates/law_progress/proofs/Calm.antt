@@ -32,7 +32,7 @@ use Rattle.book_link.specs.declared.event.Event.TheVariants.{Clock, Connect, Lis
 use Rattle.book_link.specs.Outcomes.{Outcome, Idle, Nothing}
 use Rattle.book_link.specs.RowLines.{added_row}
 use Rattle.book_link.specs.Worlds.{Setup, pair_of, Session, Made, LinkSide, Happening, World, side, find, segment_named}
-use Rattle.book_link.specs.Steps.{Act, Stepped, put, with_sessions, with_table, ticked, with_clock, begin, sent, send, send_again, come, given, acted, act_on, on_live, deliver, alter, add_row, withdraw, step}
+use Rattle.book_link.specs.Steps.{View, Act, Stepped, put, with_sessions, with_table, ticked, with_clock, begin, sent, send, send_again, come, given, acted, act_on, on_live, deliver, alter, add_row, withdraw, step, view_of}
 use Rattle.law_link.proofs.Drafts.{sends_data_says, sends_fin_says}
 use Rattle.law_link.proofs.Moves.{following}
 use Rattle.law_link.proofs.Sessions.{both}
@@ -164,28 +164,28 @@ resend_calm s most h =
     choose P (nat_lt 0 (unsent s)) (Some (data_draft s 1)) _ (λ g. data_calm s 1 on) (λ g. choose P s.closing (Some (fin_draft s)) None (λ c. fin_calm s on) (λ c. tt)))
     (λ t. tt))))
 
-module _ (e : End) (w : World) (pair : Pair) (s : EndState) (without : Outcome) (h : Calm s) where
-  sealed_calm : (out : Draft) (sending : Sending) (o : Option (List ℕ)) → Calm out.state → Calm (sent e w s without (seal_known pair s out sending o)).state
+module _ (v : View) (pair : Pair) (s : EndState) (without : Outcome) (h : Calm s) where
+  sealed_calm : (out : Draft) (sending : Sending) (o : Option (List ℕ)) → Calm out.state → Calm (sent v s without (seal_known pair s out sending o)).state
   sealed_calm out sending None f = h
   sealed_calm out sending (Some c) f = f
 
-  keyed_calm : (sending : Sending) (o : Option Draft) → MayCalm o → Calm (sent e w s without (keyed pair s sending o)).state
+  keyed_calm : (sending : Sending) (o : Option Draft) → MayCalm o → Calm (sent v s without (keyed pair s sending o)).state
   keyed_calm sending None f = h
   keyed_calm sending (Some out) f = sealed_calm out sending (context_of (blank pair s out sending) (Some s.isn) s.peer_isn) f
 
-  emitted_calm : (draft : ℕ → Option Draft) (o : Option Sending) → ((most : ℕ) → MayCalm (draft most)) → Calm (sent e w s without (emitted pair s draft o)).state
-  emitted_calm draft None f = choose (λ (x : Emitted). Calm (sent e w s without x).state) (is_some (draft 0)) NoKey Quiet (λ t. h) (λ t. h)
+  emitted_calm : (draft : ℕ → Option Draft) (o : Option Sending) → ((most : ℕ) → MayCalm (draft most)) → Calm (sent v s without (emitted pair s draft o)).state
+  emitted_calm draft None f = choose (λ (x : Emitted). Calm (sent v s without x).state) (is_some (draft 0)) NoKey Quiet (λ t. h) (λ t. h)
   emitted_calm draft (Some sending) f = keyed_calm sending (draft (most_bytes pair s sending)) (f (most_bytes pair s sending))
 
-send_calm : (setup : Setup) (e : End) (w : World) (s : EndState) → Calm s → Calm (send setup e w s).state
+send_calm : (setup : Setup) (e : End) (w : World) (s : EndState) → Calm s → Calm (send (view_of setup w e) s).state
 send_calm setup e w s h =
-    subst (λ (x : Emitted). Calm (sent e w s Idle x).state) (sym (emit_by_drafts (side w e).rows (pair_of setup e) (side w e).clock s))
-    (emitted_calm e w (pair_of setup e) s Idle h (to_emit s) (choose_row s.current (side w e).rows (pair_of setup e) (side w e).clock) (λ most. emit_calm s most h))
+    subst (λ (x : Emitted). Calm (sent (view_of setup w e) s Idle x).state) (sym (emit_by_drafts (side w e).rows (pair_of setup e) (side w e).clock s))
+    (emitted_calm (view_of setup w e) (pair_of setup e) s Idle h (to_emit s) (choose_row s.current (side w e).rows (pair_of setup e) (side w e).clock) (λ most. emit_calm s most h))
 
-again_calm : (setup : Setup) (e : End) (w : World) (s : EndState) → Calm s → Calm (send_again setup e w s).state
+again_calm : (setup : Setup) (e : End) (w : World) (s : EndState) → Calm s → Calm (send_again (view_of setup w e) s).state
 again_calm setup e w s h =
-    subst (λ (x : Emitted). Calm (sent e w s Nothing x).state) (sym (resend_by_drafts (side w e).rows (pair_of setup e) (side w e).clock s))
-    (emitted_calm e w (pair_of setup e) s Nothing h (to_resend s) (choose_row s.current (side w e).rows (pair_of setup e) (side w e).clock) (λ most. resend_calm s most h))
+    subst (λ (x : Emitted). Calm (sent (view_of setup w e) s Nothing x).state) (sym (resend_by_drafts (side w e).rows (pair_of setup e) (side w e).clock s))
+    (emitted_calm (view_of setup w e) (pair_of setup e) s Nothing h (to_resend s) (choose_row s.current (side w e).rows (pair_of setup e) (side w e).clock) (λ most. resend_calm s most h))
 
 -- ---- the calls
 
@@ -291,7 +291,7 @@ read_calm rows pair now s (Read d) h =
     choose P (not (good d)) (unmoved s Checksum) _ (λ t. h) (λ t.
     choose P (is_closed s.phase) (unmoved s AtClosed) (arrive_judged rows pair now s d (judged_by rows pair now s d)) (λ t. h) (λ t. judged_calm rows pair now s d (judged_by rows pair now s d) h)))
 
-come_calm : (setup : Setup) (e : End) (w : World) (bytes : List ℕ) (s : EndState) → Calm s → Calm (come setup e w bytes s).state
+come_calm : (setup : Setup) (e : End) (w : World) (bytes : List ℕ) (s : EndState) → Calm s → Calm (come bytes (view_of setup w e) s).state
 come_calm setup e w bytes s h = subst (λ (a : Arrived). Calm a.state) (read_by_cases (side w e).rows (pair_of setup e) (side w e).clock s (reading bytes)) (read_calm (side w e).rows (pair_of setup e) (side w e).clock s (reading bytes) h)
 
 -- ---- the sides
@@ -315,17 +315,17 @@ module _ (setup : Setup) where
   begin_calm w e s (Some used) new h = h
   begin_calm w e s None new h = put_calm w e (with_sessions (side w e) (record { state = s; end_shown = false } ∷ (side w e).sessions)) None (new, h e) h
 
-  arrival_calm : (w : World) (e : End) (bytes : List ℕ) → AllCalms w → AllCalms (on_live w e (come setup e w bytes)).world
-  arrival_calm w e bytes h = act_calm w e (side w e).sessions (come setup e w bytes) refl (λ s calm. come_calm setup e w bytes s calm) h
+  arrival_calm : (w : World) (e : End) (bytes : List ℕ) → AllCalms w → AllCalms (on_live w e (come bytes (view_of setup w e))).world
+  arrival_calm w e bytes h = act_calm w e (side w e).sessions (come bytes (view_of setup w e)) refl (λ s calm. come_calm setup e w bytes s calm) h
 
-  deliver_calm : (w : World) (e : End) (o : Option Made) → AllCalms w → AllCalms (deliver setup e w o).world
+  deliver_calm : (w : World) (e : End) (o : Option Made) → AllCalms w → AllCalms (deliver setup w e o).world
   deliver_calm w e None h = h
   deliver_calm w e (Some m) h = arrival_calm w e m.bytes h
 
-  alter_calm : (w : World) (e : End) (place mask : ℕ) (fix : Bool) (o : Option Made) → AllCalms w → AllCalms (alter setup e w place mask fix o).world
+  alter_calm : (w : World) (e : End) (place mask : ℕ) (fix : Bool) (o : Option Made) → AllCalms w → AllCalms (alter setup w e (record { place = place; mask = mask; fix = fix }) o).world
   alter_calm w e place mask fix None h = h
   alter_calm w e place mask fix (Some m) h =
-      choose (λ (x : Stepped). AllCalms x.world) (has_place m.bytes place) _ _ (λ t. arrival_calm w e (altered m.bytes place mask fix) h) (λ t. h)
+      choose (λ (x : Stepped). AllCalms x.world) (has_place m.bytes place) _ _ (λ t. arrival_calm w e (altered m.bytes (record { place = place; mask = mask; fix = fix })) h) (λ t. h)
 
   add_calm : (w : World) (e : End) (o : Adding) → AllCalms w → AllCalms (add_row w e o).world
   add_calm w e (AddedAs n rows) h = put_calm w e (with_table (side w e) rows) None (h e) h

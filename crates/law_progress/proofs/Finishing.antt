@@ -20,7 +20,7 @@ use Rattle.book_link.specs.declared.event.Event.{Event}
 use Rattle.book_link.specs.declared.event.Event.TheVariants.{Send, Resend, Deliver, Take}
 use Rattle.book_link.specs.Outcomes.{Outcome, Sent, Idle, Nothing, WithoutKey}
 use Rattle.book_link.specs.Worlds.{other, Setup, pair_of, Session, Made, Happening, Making, World, side, live, forgeries, segment_named}
-use Rattle.book_link.specs.Steps.{Stepped, Act, add, acted, on_live, quietly, made_of, sent, came, come, took, deliver, step}
+use Rattle.book_link.specs.Steps.{Stepped, Act, add, acted, on_live, quietly, made_of, sent, came, come, took, deliver, step, view_of}
 use Rattle.book_link.specs.Runs.{run_from}
 use Rattle.law_link.specs.Laws.{SetupFits, EventFits}
 use Rattle.law_link.proofs.Tests.{choose, eqb_refl}
@@ -265,12 +265,12 @@ module _ (setup : Setup) (fits : SetupFits setup) where
   over_take w old y = (over_taken w old y).0
 
   -- nothing is made
-  over_quiet : (w : World) (old : Finished setup w) (x : End) (ev : Event) (without o : Outcome) (f : EndState → Emitted) → EventFits ev → step setup w ev ≡ on_live w x (λ (s : EndState). sent x w s without (f s))
-      → sent x w (old.session x).state without (f (old.session x).state) ≡ quietly (old.session x).state o → StillOver setup w (step setup w ev).world old × ((step setup w ev).outcome ≡ o)
+  over_quiet : (w : World) (old : Finished setup w) (x : End) (ev : Event) (without o : Outcome) (f : EndState → Emitted) → EventFits ev → step setup w ev ≡ on_live w x (λ (s : EndState). sent (view_of setup w x) s without (f s))
+      → sent (view_of setup w x) (old.session x).state without (f (old.session x).state) ≡ quietly (old.session x).state o → StillOver setup w (step setup w ev).world old × ((step setup w ev).outcome ≡ o)
   over_quiet w old x ev without o f ev_fits is quiet =
       let s = old.session x in
       let act = quietly s.state o in
-      let call = λ (k : EndState). sent x w k without (f k) in
+      let call = λ (k : EndState). sent (view_of setup w x) k without (f k) in
       let facts : Facts setup (on_live w x call).world = subst (λ (k : Stepped). Facts setup k.world) is (facts_step setup fits w ev ev_fits old.facts) in
       let r = (over_act setup w old x call act quiet (leaves_refl s.state) old.unforged facts
       (keep_at (λ k. k.state.phase ≡ Closed) x (acted s act) old.session old.shut (λ h. h) old.closed)
@@ -280,7 +280,7 @@ module _ (setup : Setup) (fits : SetupFits setup) where
 
   -- the open end makes something, or nothing, and the closed one doesn't hear it
   over_open : (w : World) (old : Finished setup w) (x : End) → other x ≡ old.shut → (ev : Event) (without : Outcome) (f : EndState → Emitted) → EventFits ev → ((y : End) → delivering y without ≡ [])
-      → step setup w ev ≡ on_live w x (λ (s : EndState). sent x w s without (f s)) → LeavesIf (old.session x).state (f (old.session x).state)
+      → step setup w ev ≡ on_live w x (λ (s : EndState). sent (view_of setup w x) s without (f s)) → LeavesIf (old.session x).state (f (old.session x).state)
       → StillOver setup w (run_from setup w (ev ∷ delivering (other x) (step setup w ev).outcome)) old
   over_open w old x far ev without f ev_fits nothing is leaves = by_case (f (old.session x).state) refl leaves
     where
@@ -288,14 +288,14 @@ module _ (setup : Setup) (fits : SetupFits setup) where
       none_of o r empty = subst (λ (l : List Event). StillOver setup w (run_from setup (step setup w ev).world l) old) (sym (ap (delivering (other x)) r.1 ∙ empty)) r.0
 
       by_case : (r : Emitted) → f (old.session x).state ≡ r → LeavesIf (old.session x).state r → StillOver setup w (run_from setup w (ev ∷ delivering (other x) (step setup w ev).outcome)) old
-      by_case Quiet e h = none_of without (over_quiet w old x ev without without f ev_fits is (ap (sent x w (old.session x).state without) e)) (nothing (other x))
-      by_case NoKey e h = none_of WithoutKey (over_quiet w old x ev without WithoutKey f ev_fits is (ap (sent x w (old.session x).state without) e)) refl
+      by_case Quiet e h = none_of without (over_quiet w old x ev without without f ev_fits is (ap (sent (view_of setup w x) (old.session x).state without) e)) (nothing (other x))
+      by_case NoKey e h = none_of WithoutKey (over_quiet w old x ev without WithoutKey f ev_fits is (ap (sent (view_of setup w x) (old.session x).state without) e)) refl
       by_case (Emits em) e h =
           let s = old.session x in
-          let act = sent x w s.state without (Emits em) in
-          let made = made_of x w s.state em in
-          let call = λ (k : EndState). sent x w k without (f k) in
-          let act_is : call s.state ≡ act = ap (sent x w s.state without) e in
+          let act = sent (view_of setup w x) s.state without (Emits em) in
+          let made = made_of (view_of setup w x) s.state em in
+          let call = λ (k : EndState). sent (view_of setup w x) k without (f k) in
+          let act_is : call s.state ≡ act = ap (sent (view_of setup w x) s.state without) e in
           let facts : Facts setup (on_live w x call).world = subst (λ (k : Stepped). Facts setup k.world) is (facts_step setup fits w ev ev_fits old.facts) in
           let at : instead x (acted s act) old.session old.shut ≡ old.session old.shut = subst (λ (c : End). instead x (acted s act) old.session c ≡ old.session c) far (instead_there x (acted s act) old.session) in
           let one = (over_act setup w old x call act act_is h old.unforged facts (ap (λ (k : Session). k.state.phase) at ∙ old.closed) (ap (λ (k : Session). k.state.rst_owed) at ∙ old.unowed)).0 in
@@ -310,13 +310,13 @@ module _ (setup : Setup) (fits : SetupFits setup) where
           let unowed : (now.session c).state.rst_owed ≡ false = subst (λ (k : End). (now.session k).state.rst_owed ≡ false) one.shut now.unowed in
           let t = now.session c in
           let answer = closed_arrives (side w2 c).rows (pair_of setup c) (side w2 c).clock t.state (reading made.bytes) (ap is_closed closed) in
-          let act2 = came c w2 made.bytes t.state (unmoved t.state answer.0) in
+          let act2 = came made.bytes (view_of setup w2 c) t.state (unmoved t.state answer.0) in
           let v = (step setup w2 (Deliver c made.name)).world in
-          let v_is : (on_live w2 c (come setup c w2 made.bytes)).world ≡ v = ap (λ (o : Option Made). (deliver setup c w2 o).world) (sym named) in
+          let v_is : (on_live w2 c (come made.bytes (view_of setup w2 c))).world ≡ v = ap (λ (o : Option Made). (deliver setup w2 c o).world) (sym named) in
           let facts2 = facts_step setup fits w2 (Deliver c made.name) tt now.facts in
           let clean = now.unforged in
           let none2 : forgeries (add act2.happened w2.history) ≡ 0 = omega arith in
-          let two = (over_act setup w2 now c (come setup c w2 made.bytes) act2 (ap (came c w2 made.bytes t.state) answer.1) (leaves_refl t.state) none2 (subst (Facts setup) (sym v_is) facts2)
+          let two = (over_act setup w2 now c (come made.bytes (view_of setup w2 c)) act2 (ap (came made.bytes (view_of setup w2 c) t.state) answer.1) (leaves_refl t.state) none2 (subst (Facts setup) (sym v_is) facts2)
           (keep_at (λ k. k.state.phase ≡ Closed) c (acted t act2) now.session now.shut (λ h. h) now.closed)
           (keep_at (λ k. k.state.rst_owed ≡ false) c (acted t act2) now.session now.shut (λ h. h) now.unowed)).0 in
           let both = still_then setup w w2 v old one (subst (λ (k : World). StillOver setup w2 k now) v_is two) in
@@ -326,13 +326,13 @@ module _ (setup : Setup) (fits : SetupFits setup) where
 
   -- a turn leaves it so
   over_by : (w : World) (old : Finished setup w) (x : End) (ev : Event) (without : Outcome) (f : EndState → Emitted) → EventFits ev → ((y : End) → delivering y without ≡ [])
-      → step setup w ev ≡ on_live w x (λ (s : EndState). sent x w s without (f s)) → LeavesIf (old.session x).state (f (old.session x).state)
+      → step setup w ev ≡ on_live w x (λ (s : EndState). sent (view_of setup w x) s without (f s)) → LeavesIf (old.session x).state (f (old.session x).state)
       → ((old.session x).state.phase ≡ Closed → (old.session x).state.rst_owed ≡ false → f (old.session x).state ≡ Quiet)
       → StillOver setup w (run_from setup w (ev ∷ delivering (other x) (step setup w ev).outcome)) old
   over_by w old x ev without f ev_fits nothing is leaves quiet =
       ⊎_elim
       (λ (same : x ≡ old.shut).
-      let r = over_quiet w old x ev without without f ev_fits is (ap (sent x w (old.session x).state without) (quiet (subst (λ (c : End). (old.session c).state.phase ≡ Closed) (sym same) old.closed) (subst (λ (c : End). (old.session c).state.rst_owed ≡ false) (sym same) old.unowed))) in
+      let r = over_quiet w old x ev without without f ev_fits is (ap (sent (view_of setup w x) (old.session x).state without) (quiet (subst (λ (c : End). (old.session c).state.phase ≡ Closed) (sym same) old.closed) (subst (λ (c : End). (old.session c).state.rst_owed ≡ false) (sym same) old.unowed))) in
       subst (λ (l : List Event). StillOver setup w (run_from setup (step setup w ev).world l) old) (sym (ap (delivering (other x)) r.1 ∙ nothing (other x))) r.0)
       (λ (far : other x ≡ old.shut). over_open w old x far ev without f ev_fits nothing is leaves)
       (which_end x old.shut)

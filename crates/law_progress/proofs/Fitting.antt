@@ -29,7 +29,7 @@ use Rattle.endpoint_steps.proofs.Drafting.{emit_by_drafts, resend_by_drafts}
 use Rattle.endpoint_steps.proofs.Arriving.{read_by_cases}
 use Rattle.book_link.specs.Outcomes.{Outcome, Idle, Nothing}
 use Rattle.book_link.specs.Worlds.{Setup, pair_of, Session, LinkSide, Happening, World, side}
-use Rattle.book_link.specs.Steps.{Act, put, sent, send, send_again, come, given, acted, act_on}
+use Rattle.book_link.specs.Steps.{View, Act, put, sent, send, send_again, come, given, acted, act_on, view_of}
 use Rattle.law_link.proofs.Tests.{choose, not_true, not_false}
 use Rattle.law_link.proofs.Phases.{waits, fin_made, own_ok, past_ok, hears_speaks}
 use Rattle.law_link.proofs.Sound.{Sound}
@@ -281,28 +281,28 @@ resend_fit s most h =
     (λ g. let none = lt_not 0 (unsent s) g in choose P s.closing (Some (fin_draft s)) None (λ c. fin_fit s on (omega arith) h) (λ c. tt)))
     (λ t. tt))))
 
-module _ (e : End) (w : World) (pair : Pair) (s : EndState) (without : Outcome) (h : Fit s) where
-  sealed_fit : (out : Draft) (sending : Sending) (o : Option (List ℕ)) → Fit out.state → Fit (sent e w s without (seal_known pair s out sending o)).state
+module _ (v : View) (pair : Pair) (s : EndState) (without : Outcome) (h : Fit s) where
+  sealed_fit : (out : Draft) (sending : Sending) (o : Option (List ℕ)) → Fit out.state → Fit (sent v s without (seal_known pair s out sending o)).state
   sealed_fit out sending None f = h
   sealed_fit out sending (Some c) f = f
 
-  keyed_fit : (sending : Sending) (o : Option Draft) → MayFit o → Fit (sent e w s without (keyed pair s sending o)).state
+  keyed_fit : (sending : Sending) (o : Option Draft) → MayFit o → Fit (sent v s without (keyed pair s sending o)).state
   keyed_fit sending None f = h
   keyed_fit sending (Some out) f = sealed_fit out sending (context_of (blank pair s out sending) (Some s.isn) s.peer_isn) f
 
-  emitted_fit : (draft : ℕ → Option Draft) (o : Option Sending) → ((most : ℕ) → MayFit (draft most)) → Fit (sent e w s without (emitted pair s draft o)).state
-  emitted_fit draft None f = choose (λ (x : Emitted). Fit (sent e w s without x).state) (is_some (draft 0)) NoKey Quiet (λ t. h) (λ t. h)
+  emitted_fit : (draft : ℕ → Option Draft) (o : Option Sending) → ((most : ℕ) → MayFit (draft most)) → Fit (sent v s without (emitted pair s draft o)).state
+  emitted_fit draft None f = choose (λ (x : Emitted). Fit (sent v s without x).state) (is_some (draft 0)) NoKey Quiet (λ t. h) (λ t. h)
   emitted_fit draft (Some sending) f = keyed_fit sending (draft (most_bytes pair s sending)) (f (most_bytes pair s sending))
 
-pub send_fit : (setup : Setup) (e : End) (w : World) (s : EndState) → Fit s → Fit (send setup e w s).state
+pub send_fit : (setup : Setup) (e : End) (w : World) (s : EndState) → Fit s → Fit (send (view_of setup w e) s).state
 send_fit setup e w s h =
-    subst (λ (x : Emitted). Fit (sent e w s Idle x).state) (sym (emit_by_drafts (side w e).rows (pair_of setup e) (side w e).clock s))
-    (emitted_fit e w (pair_of setup e) s Idle h (to_emit s) (choose_row s.current (side w e).rows (pair_of setup e) (side w e).clock) (λ most. emit_fit s most h))
+    subst (λ (x : Emitted). Fit (sent (view_of setup w e) s Idle x).state) (sym (emit_by_drafts (side w e).rows (pair_of setup e) (side w e).clock s))
+    (emitted_fit (view_of setup w e) (pair_of setup e) s Idle h (to_emit s) (choose_row s.current (side w e).rows (pair_of setup e) (side w e).clock) (λ most. emit_fit s most h))
 
-pub again_fit : (setup : Setup) (e : End) (w : World) (s : EndState) → Fit s → Fit (send_again setup e w s).state
+pub again_fit : (setup : Setup) (e : End) (w : World) (s : EndState) → Fit s → Fit (send_again (view_of setup w e) s).state
 again_fit setup e w s h =
-    subst (λ (x : Emitted). Fit (sent e w s Nothing x).state) (sym (resend_by_drafts (side w e).rows (pair_of setup e) (side w e).clock s))
-    (emitted_fit e w (pair_of setup e) s Nothing h (to_resend s) (choose_row s.current (side w e).rows (pair_of setup e) (side w e).clock) (λ most. resend_fit s most h))
+    subst (λ (x : Emitted). Fit (sent (view_of setup w e) s Nothing x).state) (sym (resend_by_drafts (side w e).rows (pair_of setup e) (side w e).clock s))
+    (emitted_fit (view_of setup w e) (pair_of setup e) s Nothing h (to_resend s) (choose_row s.current (side w e).rows (pair_of setup e) (side w e).clock) (λ most. resend_fit s most h))
 
 -- ---- the calls
 
@@ -608,7 +608,7 @@ read_fit rows pair now s (Read d) sound whole h =
     choose P (not (good d)) (unmoved s Checksum) _ (λ t. h) (λ t.
     choose P (is_closed s.phase) (unmoved s AtClosed) (arrive_judged rows pair now s d (judged_by rows pair now s d)) (λ t. h) (λ t. judged_fit rows pair now s d (judged_by rows pair now s d) sound whole h)))
 
-pub come_fit : (setup : Setup) (e : End) (w : World) (bytes : List ℕ) (s : EndState) → Sound s → Whole s → Fit s → Fit (come setup e w bytes s).state
+pub come_fit : (setup : Setup) (e : End) (w : World) (bytes : List ℕ) (s : EndState) → Sound s → Whole s → Fit s → Fit (come bytes (view_of setup w e) s).state
 come_fit setup e w bytes s sound whole h =
     subst (λ (a : Arrived). Fit a.state) (read_by_cases (side w e).rows (pair_of setup e) (side w e).clock s (reading bytes)) (read_fit (side w e).rows (pair_of setup e) (side w e).clock s (reading bytes) sound whole h)
 

@@ -17,7 +17,7 @@ use Rattle.book_link.specs.declared.event.Event.{Event}
 use Rattle.book_link.specs.declared.event.Event.TheVariants.{Send, Resend, Deliver, Take}
 use Rattle.book_link.specs.Outcomes.{Outcome, Sent, Idle, Nothing}
 use Rattle.book_link.specs.Worlds.{other, Setup, pair_of, Session, Made, Happening, World, side, find, live, is_known, addressed, forged, forgeries, segment_named}
-use Rattle.book_link.specs.Steps.{Stepped, Act, add, acted, on_live, quietly, made_of, sent, came, come, took, deliver, step}
+use Rattle.book_link.specs.Steps.{Stepped, Act, add, acted, on_live, quietly, made_of, sent, came, come, took, deliver, step, view_of}
 use Rattle.book_link.specs.Runs.{run_from}
 use Rattle.law_link.specs.Headline.{GivesFew}
 use Rattle.law_link.specs.Laws.{SetupFits, EventFits, IsNear, RollsOver}
@@ -158,16 +158,16 @@ comes setup fits w lead lag y a b m r just awake to near =
     let s = b.state in
     let moved = after_check pair s (heard rows pair now s p.rnext_key_id) d p.number now s.phase in
     let arrived : arrive rows pair now s (reading m.bytes) ≡ passes s p moved = arrives_so rows pair now s m.bytes d p found.reads j.ours found.right awake j.verdict in
-    let act = came y w m.bytes s (passes s p moved) in
+    let act = came m.bytes (view_of setup w y) s (passes s p moved) in
     let none : forgeries (add act.happened w.history) ≡ 0 =
     (let z = unforged_now y p m just.past just.maker j.key j.context j.message in
     let all : forged y (Some p) w.history ≡ 0 = ap (forged y (Some p)) just.history ∙ z in
     let before_none = r.keyed.unforged in omega arith) in
     let v = (step setup w (Deliver y m.name)).world in
-    let v_is : (on_live w y (come setup y w m.bytes)).world ≡ v = ap (λ (o : Option Made). (deliver setup y w o).world) (sym named) in
+    let v_is : (on_live w y (come m.bytes (view_of setup w y))).world ≡ v = ap (λ (o : Option Made). (deliver setup w y o).world) (sym named) in
     let facts = facts_step setup fits w (Deliver y m.name) tt r.facts in
     let facts_now = subst (Facts setup) (sym v_is) facts in
-    let done = ready_near setup w lead lag y a b r (come setup y w m.bytes) act (ap (came y w m.bytes s) arrived) none facts_now in
+    let done = ready_near setup w lead lag y a b r (come m.bytes (view_of setup w y)) act (ap (came m.bytes (view_of setup w y) s) arrived) none facts_now in
     record {
       after = acted b act;
       current = follow s.current rows pair p.rnext_key_id now;
@@ -236,7 +236,7 @@ module _ (setup : Setup) (fits : SetupFits setup) (w : World) (lead lag : ℕ) (
 
   made : (ev : Event) (without : Outcome) (f : EndState → Emitted) (P : Draft → Type 0) → EventFits ev
       → let w1 = (step setup w (Take y 65535)).world in
-      step setup w1 ev ≡ on_live w1 (other y) (λ (s : EndState). sent (other y) w1 s without (f s))
+      step setup w1 ev ≡ on_live w1 (other y) (λ (s : EndState). sent (view_of setup w1 (other y)) s without (f s))
       → SealsAs (pair_of setup (other y)) a.state P (f a.state) → is_closed b.state.phase ≡ false → ((out : Draft) → P out → Fits a.state b.state out)
       → Turned setup w (run_from setup w (Take y 65535 ∷ ev ∷ delivering y (step setup w1 ev).outcome)) lead lag y a.state (take_out 65535 b.state) P
   made ev without f P ev_fits is m awake may =
@@ -245,10 +245,10 @@ module _ (setup : Setup) (fits : SetupFits setup) (w : World) (lead lag : ℕ) (
       let one = taken.0 in
       let b1 = all_taken b in
       let em = sealed (pair_of setup x) a.state m.out m.sending m.context in
-      let act = sent x w1 a.state without (Emits em) in
-      let entry = made_of x w1 a.state em in
-      let call = λ (s : EndState). sent x w1 s without (f s) in
-      let act_is : call a.state ≡ act = ap (sent x w1 a.state without) m.is in
+      let act = sent (view_of setup w1 x) a.state without (Emits em) in
+      let entry = made_of (view_of setup w1 x) a.state em in
+      let call = λ (s : EndState). sent (view_of setup w1 x) s without (f s) in
+      let act_is : call a.state ≡ act = ap (sent (view_of setup w1 x) a.state without) m.is in
       let w2 = (on_live w1 x call).world in
       let facts2 : Facts setup w2 = subst (λ (k : Stepped). Facts setup k.world) is (facts_step setup fits w1 ev ev_fits one.facts) in
       let two = ready_far setup w1 lead lag y a b1 one call act act_is one.keyed.unforged facts2 in
@@ -295,7 +295,7 @@ module _ (setup : Setup) (fits : SetupFits setup) (w : World) (lead lag : ℕ) (
 
   rested : (ev : Event) (without : Outcome) (f : EndState → Emitted) → EventFits ev → delivering y without ≡ []
       → let w1 = (step setup w (Take y 65535)).world in
-      step setup w1 ev ≡ on_live w1 (other y) (λ (s : EndState). sent (other y) w1 s without (f s)) → f a.state ≡ Quiet
+      step setup w1 ev ≡ on_live w1 (other y) (λ (s : EndState). sent (view_of setup w1 (other y)) s without (f s)) → f a.state ≡ Quiet
       → Rested setup w (run_from setup w (Take y 65535 ∷ ev ∷ delivering y (step setup w1 ev).outcome)) lead lag y a.state (take_out 65535 b.state)
   rested ev without f ev_fits nothing is quiet =
       let w1 = (step setup w (Take y 65535)).world in
@@ -303,8 +303,8 @@ module _ (setup : Setup) (fits : SetupFits setup) (w : World) (lead lag : ℕ) (
       let one = taken.0 in
       let b1 = all_taken b in
       let act = quietly a.state without in
-      let call = λ (s : EndState). sent x w1 s without (f s) in
-      let act_is : call a.state ≡ act = ap (sent x w1 a.state without) quiet in
+      let call = λ (s : EndState). sent (view_of setup w1 x) s without (f s) in
+      let act_is : call a.state ≡ act = ap (sent (view_of setup w1 x) a.state without) quiet in
       let w2 = (on_live w1 x call).world in
       let facts2 : Facts setup w2 = subst (λ (k : Stepped). Facts setup k.world) is (facts_step setup fits w1 ev ev_fits one.facts) in
       let two = ready_far setup w1 lead lag y a b1 one call act act_is one.keyed.unforged facts2 in

@@ -12,7 +12,7 @@ use Rattle.book_link.specs.RowLines.{added_row}
 use Rattle.book_link.specs.declared.event.Event.{Event}
 use Rattle.book_link.specs.declared.event.Event.TheVariants.{Clock, Connect, Listen as Await, Start, Give, Fill, Send, Resend, Deliver, Inject, Alter, Take, Close, Abort, AddRow, Withdraw, Dump}
 use Rattle.book_link.specs.Worlds.{other, Setup, pair_of, Session, Made, World, side, find, segment_named}
-use Rattle.book_link.specs.Steps.{Stepped, with_sessions, with_table, ticked, with_clock, begin, on_live, come, deliver, alter, add_row, withdraw, step}
+use Rattle.book_link.specs.Steps.{Stepped, with_sessions, with_table, ticked, with_clock, begin, on_live, come, deliver, alter, add_row, withdraw, step, view_of}
 use Rattle.book_link.specs.Runs.{empty, run_from, run}
 use Rattle.law_link.specs.Laws.{SetupFits, TablesFit, EventFits}
 use Rattle.law_link.proofs.Tests.{choose}
@@ -37,17 +37,17 @@ module _ (setup : Setup) where
   begin_fit w e s (Some used) new h = h
   begin_fit w e s None new h = put_fit w e (with_sessions (side w e) (record { state = s; end_shown = false } ∷ (side w e).sessions)) None (new, h e) h
 
-  arrival_fit : (w : World) (e : End) (bytes : List ℕ) → Inv setup w → AllFits w → AllFits (on_live w e (come setup e w bytes)).world
-  arrival_fit w e bytes inv h = act_fit setup w e (side w e).sessions (come setup e w bytes) refl inv (λ s sound whole fit. come_fit setup e w bytes s sound whole fit) h
+  arrival_fit : (w : World) (e : End) (bytes : List ℕ) → Inv setup w → AllFits w → AllFits (on_live w e (come bytes (view_of setup w e))).world
+  arrival_fit w e bytes inv h = act_fit setup w e (side w e).sessions (come bytes (view_of setup w e)) refl inv (λ s sound whole fit. come_fit setup e w bytes s sound whole fit) h
 
-  deliver_fit : (w : World) (e : End) (o : Option Made) → Inv setup w → AllFits w → AllFits (deliver setup e w o).world
+  deliver_fit : (w : World) (e : End) (o : Option Made) → Inv setup w → AllFits w → AllFits (deliver setup w e o).world
   deliver_fit w e None inv h = h
   deliver_fit w e (Some m) inv h = arrival_fit w e m.bytes inv h
 
-  alter_fit : (w : World) (e : End) (place mask : ℕ) (fix : Bool) (o : Option Made) → Inv setup w → AllFits w → AllFits (alter setup e w place mask fix o).world
+  alter_fit : (w : World) (e : End) (place mask : ℕ) (fix : Bool) (o : Option Made) → Inv setup w → AllFits w → AllFits (alter setup w e (record { place = place; mask = mask; fix = fix }) o).world
   alter_fit w e place mask fix None inv h = h
   alter_fit w e place mask fix (Some m) inv h =
-      choose (λ (x : Stepped). AllFits x.world) (has_place m.bytes place) _ _ (λ t. arrival_fit w e (altered m.bytes place mask fix) inv h) (λ t. h)
+      choose (λ (x : Stepped). AllFits x.world) (has_place m.bytes place) _ _ (λ t. arrival_fit w e (altered m.bytes (record { place = place; mask = mask; fix = fix })) inv h) (λ t. h)
 
   add_fit : (w : World) (e : End) (o : Adding) → AllFits w → AllFits (add_row w e o).world
   add_fit w e (AddedAs n rows) h = put_fit w e (with_table (side w e) rows) None (h e) h
@@ -78,19 +78,19 @@ module _ (setup : Setup) where
   fit_step w (Dump name) inv h = h
 
 module _ (setup : Setup) (fits : SetupFits setup) where
-  arrival_telling : (w : World) (e : End) (bytes : List ℕ) → AreBytes bytes → Facts setup w → Telling (on_live w e (come setup e w bytes)).world
+  arrival_telling : (w : World) (e : End) (bytes : List ℕ) → AreBytes bytes → Facts setup w → Telling (on_live w e (come bytes (view_of setup w e))).world
   arrival_telling w e bytes all h =
-      act_telling setup fits w e (side w e).sessions (come setup e w bytes) refl h.inv h.heard h.fit (λ s a b c. come_ok setup fits e w bytes s all a b) (λ s a b c. come_told setup e w bytes s all a b c) h.telling
+      act_telling setup fits w e (side w e).sessions (come bytes (view_of setup w e)) refl h.inv h.heard h.fit (λ s a b c. come_ok setup fits e w bytes s all a b) (λ s a b c. come_told setup e w bytes s all a b c) h.telling
 
-  deliver_telling : (w : World) (e : End) (o : Option Made) → ((m : Made) → o ≡ Some m → AreBytes m.bytes) → Facts setup w → Telling (deliver setup e w o).world
+  deliver_telling : (w : World) (e : End) (o : Option Made) → ((m : Made) → o ≡ Some m → AreBytes m.bytes) → Facts setup w → Telling (deliver setup w e o).world
   deliver_telling w e None all h = h.telling
   deliver_telling w e (Some m) all h = arrival_telling w e m.bytes (all m refl) h
 
-  alter_telling : (w : World) (e : End) (place mask : ℕ) (fix : Bool) (o : Option Made) → mask < 256 → ((m : Made) → o ≡ Some m → AreBytes m.bytes) → Facts setup w → Telling (alter setup e w place mask fix o).world
+  alter_telling : (w : World) (e : End) (place mask : ℕ) (fix : Bool) (o : Option Made) → mask < 256 → ((m : Made) → o ≡ Some m → AreBytes m.bytes) → Facts setup w → Telling (alter setup w e (record { place = place; mask = mask; fix = fix }) o).world
   alter_telling w e place mask fix None low all h = h.telling
   alter_telling w e place mask fix (Some m) low all h =
       choose (λ (x : Stepped). Telling x.world) (has_place m.bytes place) _ _
-      (λ t. arrival_telling w e (altered m.bytes place mask fix) (altered_bytes m.bytes place mask fix low (record { at = all m refl })).at h) (λ t. h.telling)
+      (λ t. arrival_telling w e (altered m.bytes (record { place = place; mask = mask; fix = fix })) (altered_bytes m.bytes place mask fix low (record { at = all m refl })).at h) (λ t. h.telling)
 
   add_telling : (w : World) (e : End) (o : Adding) → Telling w → Telling (add_row w e o).world
   add_telling w e (AddedAs n rows) h = quiet_telling w e (with_table (side w e) rows) refl h

@@ -26,7 +26,7 @@ use Rattle.endpoint_steps.proofs.Drafting.{emit_by_drafts, resend_by_drafts}
 use Rattle.endpoint_steps.proofs.Arriving.{read_by_cases}
 use Rattle.book_link.specs.Outcomes.{Outcome, Idle, Nothing, Done, Full, HasClosed}
 use Rattle.book_link.specs.Worlds.{other, Setup, pair_of, Session, LinkSide, Made, Came, Happening, Making, Coming, World, side, find, forgeries}
-use Rattle.book_link.specs.Steps.{Act, add, put, quietly, made_of, sent, send, send_again, came, come, took, given, acted, act_on, begin, ticked, with_clock, with_sessions}
+use Rattle.book_link.specs.Steps.{Act, add, put, quietly, made_of, sent, send, send_again, came, come, took, given, acted, act_on, begin, ticked, with_clock, with_sessions, view_of}
 use Rattle.law_link.specs.Headline.{GivesFew}
 use Rattle.law_link.specs.Laws.{SetupFits, IsAmong}
 use Rattle.law_link.proofs.Tests.{choose, by_bool}
@@ -255,11 +255,11 @@ made_same : (m n : Made) → Some (Making m) ≡ Some (Making n) → m ≡ n
 made_same m n e = cc
 
 module _ (setup : Setup) (e : End) (w : World) (s : EndState) (without : Outcome) where
-  sealed_told : (pair : Pair) (out : Draft) (sending : Sending) (o : Option (List ℕ)) → DraftTold s out → ActTold setup e s (sent e w s without (seal_known pair s out sending o))
+  sealed_told : (pair : Pair) (out : Draft) (sending : Sending) (o : Option (List ℕ)) → DraftTold s out → ActTold setup e s (sent (view_of setup w e) s without (seal_known pair s out sending o))
   sealed_told pair out sending None h = still_told setup e s s false without (λ g. g) (λ g. g) refl refl
   sealed_told pair out sending (Some c) h =
       let em = sealed pair s out sending c in
-      let made = made_of e w s em in
+      let made = made_of (view_of setup w e) s em in
       let una = h.una in
       let expected = h.expected in
       record {
@@ -272,28 +272,28 @@ module _ (setup : Setup) (e : End) (w : World) (s : EndState) (without : Outcome
             (λ fin. (h.made fin, λ a told. let low = ack_low (sets out.flags ACK) s.expected a told in omega arith));
       }
 
-  keyed_told : (pair : Pair) (sending : Sending) (o : Option Draft) → MayTell s o → ActTold setup e s (sent e w s without (keyed pair s sending o))
+  keyed_told : (pair : Pair) (sending : Sending) (o : Option Draft) → MayTell s o → ActTold setup e s (sent (view_of setup w e) s without (keyed pair s sending o))
   keyed_told pair sending None h = still_told setup e s s false without (λ g. g) (λ g. g) refl refl
   keyed_told pair sending (Some out) h = sealed_told pair out sending (context_of (blank pair s out sending) (Some s.isn) s.peer_isn) h
 
-  emitted_told : (pair : Pair) (draft : ℕ → Option Draft) (o : Option Sending) → ((m : ℕ) → MayTell s (draft m)) → ActTold setup e s (sent e w s without (emitted pair s draft o))
+  emitted_told : (pair : Pair) (draft : ℕ → Option Draft) (o : Option Sending) → ((m : ℕ) → MayTell s (draft m)) → ActTold setup e s (sent (view_of setup w e) s without (emitted pair s draft o))
   emitted_told pair draft None h =
-      choose (λ (x : Emitted). ActTold setup e s (sent e w s without x)) (is_some (draft 0)) NoKey Quiet (λ t. still_told setup e s s false _ (λ g. g) (λ g. g) refl refl) (λ t. still_told setup e s s false without (λ g. g) (λ g. g) refl refl)
+      choose (λ (x : Emitted). ActTold setup e s (sent (view_of setup w e) s without x)) (is_some (draft 0)) NoKey Quiet (λ t. still_told setup e s s false _ (λ g. g) (λ g. g) refl refl) (λ t. still_told setup e s s false without (λ g. g) (λ g. g) refl refl)
   emitted_told pair draft (Some sending) h = keyed_told pair sending (draft (most_bytes pair s sending)) (h (most_bytes pair s sending))
 
-pub send_told : (setup : Setup) (e : End) (w : World) (s : EndState) → ActTold setup e s (send setup e w s)
+pub send_told : (setup : Setup) (e : End) (w : World) (s : EndState) → ActTold setup e s (send (view_of setup w e) s)
 send_told setup e w s =
-    subst (λ (x : Emitted). ActTold setup e s (sent e w s Idle x)) (sym (emit_by_drafts (side w e).rows (pair_of setup e) (side w e).clock s))
+    subst (λ (x : Emitted). ActTold setup e s (sent (view_of setup w e) s Idle x)) (sym (emit_by_drafts (side w e).rows (pair_of setup e) (side w e).clock s))
     (emitted_told setup e w s Idle (pair_of setup e) (to_emit s) (choose_row s.current (side w e).rows (pair_of setup e) (side w e).clock) (λ m. emit_told s m))
 
-pub again_told : (setup : Setup) (e : End) (w : World) (s : EndState) → Sound s → ActTold setup e s (send_again setup e w s)
+pub again_told : (setup : Setup) (e : End) (w : World) (s : EndState) → Sound s → ActTold setup e s (send_again (view_of setup w e) s)
 again_told setup e w s sound =
-    subst (λ (x : Emitted). ActTold setup e s (sent e w s Nothing x)) (sym (resend_by_drafts (side w e).rows (pair_of setup e) (side w e).clock s))
+    subst (λ (x : Emitted). ActTold setup e s (sent (view_of setup w e) s Nothing x)) (sym (resend_by_drafts (side w e).rows (pair_of setup e) (side w e).clock s))
     (emitted_told setup e w s Nothing (pair_of setup e) (to_resend s) (choose_row s.current (side w e).rows (pair_of setup e) (side w e).clock) (λ m. resend_told s m sound))
 
 -- ---- an arrival
 
-unmoved_told : (setup : Setup) (e : End) (w : World) (bytes : List ℕ) (s : EndState) (r : Arrived) → r.state ≡ s → ActTold setup e s (came e w bytes s r)
+unmoved_told : (setup : Setup) (e : End) (w : World) (bytes : List ℕ) (s : EndState) (r : Arrived) → r.state ≡ s → ActTold setup e s (came bytes (view_of setup w e) s r)
 unmoved_told setup e w bytes s r same =
     record {
       gone = λ g. ap (λ (t : EndState). fin_gone t.phase) same ∙ g;
@@ -311,7 +311,7 @@ abbrev Passes : Pair → EndState → List ℕ → Arrived → Type 0
 Passes pair s bytes r = (p : Finding) → r.passed ≡ Some p → Passing pair s bytes p
 
 judged_told : (setup : Setup) (e : End) (w : World) (bytes : List ℕ) (s : EndState) (d : Segment) (j : Judgement) → reading bytes ≡ Read d → Fit s
-    → Passes (pair_of setup e) s bytes (arrive_judged (side w e).rows (pair_of setup e) (side w e).clock s d j) → ActTold setup e s (came e w bytes s (arrive_judged (side w e).rows (pair_of setup e) (side w e).clock s d j))
+    → Passes (pair_of setup e) s bytes (arrive_judged (side w e).rows (pair_of setup e) (side w e).clock s d j) → ActTold setup e s (came bytes (view_of setup w e) s (arrive_judged (side w e).rows (pair_of setup e) (side w e).clock s d j))
 judged_told setup e w bytes s d (Err why) reads fit passes = unmoved_told setup e w bytes s (arrive_judged (side w e).rows (pair_of setup e) (side w e).clock s d (Err why)) refl
 judged_told setup e w bytes s d (Ok p) reads fit passes =
     let rows = (side w e).rows in
@@ -334,7 +334,7 @@ judged_told setup e w bytes s d (Ok p) reads fit passes =
     }
 
 read_told : (setup : Setup) (e : End) (w : World) (bytes : List ℕ) (s : EndState) (r : Reading) → reading bytes ≡ r → Fit s → Passes (pair_of setup e) s bytes (arrive_read (side w e).rows (pair_of setup e) (side w e).clock s r)
-    → ActTold setup e s (came e w bytes s (arrive_read (side w e).rows (pair_of setup e) (side w e).clock s r))
+    → ActTold setup e s (came bytes (view_of setup w e) s (arrive_read (side w e).rows (pair_of setup e) (side w e).clock s r))
 read_told setup e w bytes s (Unread fault) reads fit passes = unmoved_told setup e w bytes s (arrive_read (side w e).rows (pair_of setup e) (side w e).clock s (Unread fault)) refl
 read_told setup e w bytes s (Read d) reads fit passes =
     let rows = (side w e).rows in
@@ -344,19 +344,19 @@ read_told setup e w bytes s (Read d) reads fit passes =
     by_tests (from_peer pair d) (good d) (is_closed s.phase) passes
   where
     by_tests : (a b c : Bool) → Passes (pair_of setup e) s bytes (if not a then unmoved s Foreign else (if not b then unmoved s Checksum else (if c then unmoved s AtClosed else arrive_judged (side w e).rows (pair_of setup e) (side w e).clock s d (judged_by (side w e).rows (pair_of setup e) (side w e).clock s d))))
-        → ActTold setup e s (came e w bytes s (if not a then unmoved s Foreign else (if not b then unmoved s Checksum else (if c then unmoved s AtClosed else arrive_judged (side w e).rows (pair_of setup e) (side w e).clock s d (judged_by (side w e).rows (pair_of setup e) (side w e).clock s d)))))
+        → ActTold setup e s (came bytes (view_of setup w e) s (if not a then unmoved s Foreign else (if not b then unmoved s Checksum else (if c then unmoved s AtClosed else arrive_judged (side w e).rows (pair_of setup e) (side w e).clock s d (judged_by (side w e).rows (pair_of setup e) (side w e).clock s d)))))
     by_tests false b c passes = unmoved_told setup e w bytes s (unmoved s Foreign) refl
     by_tests true false c passes = unmoved_told setup e w bytes s (unmoved s Checksum) refl
     by_tests true true true passes = unmoved_told setup e w bytes s (unmoved s AtClosed) refl
     by_tests true true false passes = judged_told setup e w bytes s d (judged_by (side w e).rows (pair_of setup e) (side w e).clock s d) reads fit passes
 
 arrive_told : (setup : Setup) (e : End) (w : World) (bytes : List ℕ) (s : EndState) → Fit s → Passes (pair_of setup e) s bytes (arrive (side w e).rows (pair_of setup e) (side w e).clock s (reading bytes))
-    → ActTold setup e s (came e w bytes s (arrive (side w e).rows (pair_of setup e) (side w e).clock s (reading bytes)))
+    → ActTold setup e s (came bytes (view_of setup w e) s (arrive (side w e).rows (pair_of setup e) (side w e).clock s (reading bytes)))
 arrive_told setup e w bytes s fit passes =
     let same = read_by_cases (side w e).rows (pair_of setup e) (side w e).clock s (reading bytes) in
-    subst (λ (a : Arrived). ActTold setup e s (came e w bytes s a)) same (read_told setup e w bytes s (reading bytes) refl fit (subst (λ (a : Arrived). Passes (pair_of setup e) s bytes a) (sym same) passes))
+    subst (λ (a : Arrived). ActTold setup e s (came bytes (view_of setup w e) s a)) same (read_told setup e w bytes s (reading bytes) refl fit (subst (λ (a : Arrived). Passes (pair_of setup e) s bytes a) (sym same) passes))
 
-pub come_told : (setup : Setup) (e : End) (w : World) (bytes : List ℕ) (s : EndState) → AreBytes bytes → Sound s → Whole s → Fit s → ActTold setup e s (come setup e w bytes s)
+pub come_told : (setup : Setup) (e : End) (w : World) (bytes : List ℕ) (s : EndState) → AreBytes bytes → Sound s → Whole s → Fit s → ActTold setup e s (come bytes (view_of setup w e) s)
 come_told setup e w bytes s all sound whole fit =
     arrive_told setup e w bytes s fit (arrive_ok (side w e).rows (pair_of setup e) (side w e).clock s bytes all sound whole).passing
 

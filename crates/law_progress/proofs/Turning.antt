@@ -27,7 +27,7 @@ use Rattle.book_link.specs.declared.event.Event.{Event}
 use Rattle.book_link.specs.declared.event.Event.TheVariants.{Deliver, Take}
 use Rattle.book_link.specs.Outcomes.{Outcome, Sent}
 use Rattle.book_link.specs.Worlds.{other, same_end, Setup, pair_of, Session, Made, Happening, Making, World, side, find, live, is_known, accounts_for, was_made, forged, forgeries, segment_named}
-use Rattle.book_link.specs.Steps.{Stepped, Act, add, acted, on_live, quietly, made_of, sent, came, come, took, deliver, step}
+use Rattle.book_link.specs.Steps.{Stepped, Act, add, acted, on_live, quietly, made_of, sent, came, come, took, deliver, step, view_of}
 use Rattle.book_link.specs.Runs.{run_from}
 use Rattle.law_link.specs.Headline.{GivesFew}
 use Rattle.law_link.specs.Laws.{SetupFits, EventFits, IsNear, RollsOver}
@@ -251,7 +251,7 @@ come_two setup fits w lead lag y a b m before out two just of near_number x end_
     let s = b.state in
     let moved = after_check pair s (heard rows pair now s p.rnext_key_id) d p.number now s.phase in
     let arrived : arrive rows pair now s (reading m.bytes) ≡ passes s p moved = arrives_so rows pair now s m.bytes d p found.reads j.ours found.right awake j.verdict in
-    let act = came y w m.bytes s (passes s p moved) in
+    let act = came m.bytes (view_of setup w y) s (passes s p moved) in
     let acknowledged : d.acknowledgement ≡ a.state.expected % ring =
     ap (λ (e : Segment). e.acknowledgement) segment ∙ ack_on (sets out.flags ACK) (before.expected % ring) of.flags.ack ∙ ap (λ (k : ℕ). k % ring) x in
     let low = near.sent in
@@ -289,16 +289,16 @@ come_two setup fits w lead lag y a b m before out two just of near_number x end_
     let all : forged y (Some p) w.history ≡ 0 = ap (forged y (Some p)) just.history ∙ z in
     let before_none = two.up.unforged in omega arith) in
     let v = (step setup w (Deliver y m.name)).world in
-    let v_is : (on_live w y (come setup y w m.bytes)).world ≡ v = ap (λ (o : Option Made). (deliver setup y w o).world) (sym named) in
+    let v_is : (on_live w y (come m.bytes (view_of setup w y))).world ≡ v = ap (λ (o : Option Made). (deliver setup w y o).world) (sym named) in
     let facts = facts_step setup fits w (Deliver y m.name) tt two.facts in
     let facts_now = subst (Facts setup) (sym v_is) facts in
-    let acts = subst (λ (k : Act). Acted w y (acted b k) k.happened (on_live w y (come setup y w m.bytes)).world) (ap (came y w m.bytes s) arrived) (act_live w y (come setup y w m.bytes) b (near_lives setup w lead lag y a b two)).0 in
+    let acts = subst (λ (k : Act). Acted w y (acted b k) k.happened (on_live w y (come m.bytes (view_of setup w y))).world) (ap (came m.bytes (view_of setup w y) s) arrived) (act_live w y (come m.bytes (view_of setup w y)) b (near_lives setup w lead lag y a b two)).0 in
     let expected_up = effect.up in
     let same_end : given_end moved.state ≡ given_end s = ap (λ (f : Frame). f.isn + 1 + length f.given) effect.frame_is in
     let same_all : all_end moved.state ≡ all_end s = ap (λ (f : Frame). f.isn + 1 + length f.given + bit_of f.closing) effect.frame_is in
     ⊎_elim
     (λ (opened_now : is_open moved.state.phase ≡ true).
-    let done = two_near setup w lead lag y a b two (come setup y w m.bytes) act (ap (came y w m.bytes s) arrived) (stays_by s moved.state opened_now effect.frame_is) none facts_now in
+    let done = two_near setup w lead lag y a b two (come m.bytes (view_of setup w y)) act (ap (came m.bytes (view_of setup w y) s) arrived) (stays_by s moved.state opened_now effect.frame_is) none facts_now in
     let all : CameTo setup w lead lag y a b m out before = record {
       after = acted b act;
       two = subst (λ (k : World). Two setup k lead lag y a (acted b act)) v_is done;
@@ -324,7 +324,7 @@ come_two setup fits w lead lag y a b m before out two just of near_number x end_
     let u = acted b act in
     let old = two.up.session in
     let isn_same : moved.state.isn ≡ s.isn = ap (λ (f : Frame). f.isn) effect.frame_is in
-    let over : Finished setup (on_live w y (come setup y w m.bytes)).world = record {
+    let over : Finished setup (on_live w y (come m.bytes (view_of setup w y))).world = record {
       facts = facts_now;
       unforged = ap forgeries acts.history ∙ none;
       session = instead y u old;
@@ -340,7 +340,7 @@ come_two setup fits w lead lag y a b m before out two just of near_number x end_
       closed = ap (λ (k : Session). k.state.phase) (instead_here y u old) ∙ o.2;
       unowed = ap (λ (k : Session). k.state.rst_owed) (instead_here y u old) ∙ ap (λ (f : Frame). f.rst_owed) effect.frame_is ∙ near.up.rst;
     } in
-    let gone : Gone setup (on_live w y (come setup y w m.bytes)).world y a.state b.state = record {
+    let gone : Gone setup (on_live w y (come m.bytes (view_of setup w y))).world y a.state b.state = record {
       over = over;
       far = subst (λ (k : Session). IsSame a.state k.state) (sym (instead_there y u old ∙ two.far)) (record { isn = refl; given = refl; closing = refl });
       near = subst (λ (k : Session). IsSame b.state k.state) (sym (instead_here y u old)) (record { isn = isn_same; given = ap (λ (f : Frame). f.given) effect.frame_is; closing = ap (λ (f : Frame). f.closing) effect.frame_is });
@@ -415,7 +415,7 @@ module _ (setup : Setup) (fits : SetupFits setup) (w : World) (lead lag : ℕ) (
 
   pub turn_made : (ev : Event) (without : Outcome) (f : EndState → Emitted) → EventFits ev
       → let w1 = (step setup w (Take y 65535)).world in
-      step setup w1 ev ≡ on_live w1 (other y) (λ (s : EndState). sent (other y) w1 s without (f s)) → (m : Makes (pair_of setup (other y)) a.state (f a.state))
+      step setup w1 ev ≡ on_live w1 (other y) (λ (s : EndState). sent (view_of setup w1 (other y)) s without (f s)) → (m : Makes (pair_of setup (other y)) a.state (f a.state))
       → AfterMade setup (run_from setup w (Take y 65535 ∷ ev ∷ delivering y (step setup w1 ev).outcome)) lead lag y a.state b.state m.out.number (takes m.out) m.out.state.next ⊎ Gone setup (run_from setup w (Take y 65535 ∷ ev ∷ delivering y (step setup w1 ev).outcome)) y a.state b.state
   turn_made ev without f ev_fits is m =
       let w1 = (step setup w (Take y 65535)).world in
@@ -425,10 +425,10 @@ module _ (setup : Setup) (fits : SetupFits setup) (w : World) (lead lag : ℕ) (
       let near1 = near_ends setup w1 lead lag y a b1 one in
       let far1 = far_ends setup w1 lead lag y a b1 one in
       let em = sealed (pair_of setup x) a.state m.out m.sending m.context in
-      let act = sent x w1 a.state without (Emits em) in
-      let made = made_of x w1 a.state em in
-      let call = λ (s : EndState). sent x w1 s without (f s) in
-      let act_is : call a.state ≡ act = ap (sent x w1 a.state without) m.is in
+      let act = sent (view_of setup w1 x) a.state without (Emits em) in
+      let made = made_of (view_of setup w1 x) a.state em in
+      let call = λ (s : EndState). sent (view_of setup w1 x) s without (f s) in
+      let act_is : call a.state ≡ act = ap (sent (view_of setup w1 x) a.state without) m.is in
       let w2 = (on_live w1 x call).world in
       let same : rest act.state ≡ rest a.state = m.same in
       let facts2 : Facts setup w2 = subst (λ (k : Stepped). Facts setup k.world) is (facts_step setup fits w1 ev ev_fits one.facts) in
@@ -490,7 +490,7 @@ module _ (setup : Setup) (fits : SetupFits setup) (w : World) (lead lag : ℕ) (
 
   pub turn_quiet : (ev : Event) (without : Outcome) (f : EndState → Emitted) → EventFits ev → delivering y without ≡ []
       → let w1 = (step setup w (Take y 65535)).world in
-      step setup w1 ev ≡ on_live w1 (other y) (λ (s : EndState). sent (other y) w1 s without (f s)) → f a.state ≡ Quiet
+      step setup w1 ev ≡ on_live w1 (other y) (λ (s : EndState). sent (view_of setup w1 (other y)) s without (f s)) → f a.state ≡ Quiet
       → AfterQuiet setup (run_from setup w (Take y 65535 ∷ ev ∷ delivering y (step setup w1 ev).outcome)) lead lag y a.state b.state
   turn_quiet ev without f ev_fits nothing is quiet =
       let w1 = (step setup w (Take y 65535)).world in
@@ -499,8 +499,8 @@ module _ (setup : Setup) (fits : SetupFits setup) (w : World) (lead lag : ℕ) (
       let b1 = all_taken b in
       let act = quietly a.state without in
       let far1 = far_ends setup w1 lead lag y a b1 one in
-      let call = λ (s : EndState). sent x w1 s without (f s) in
-      let act_is : call a.state ≡ act = ap (sent x w1 a.state without) quiet in
+      let call = λ (s : EndState). sent (view_of setup w1 x) s without (f s) in
+      let act_is : call a.state ≡ act = ap (sent (view_of setup w1 x) a.state without) quiet in
       let w2 = (on_live w1 x call).world in
       let facts2 : Facts setup w2 = subst (λ (k : Stepped). Facts setup k.world) is (facts_step setup fits w1 ev ev_fits one.facts) in
       let two2 = two_far setup w1 lead lag y a b1 one call act act_is (stays_rest a.state a.state far1.up.phase refl) one.up.unforged facts2 in

@@ -29,7 +29,7 @@ use Rattle.book_link.specs.declared.event.Event.TheVariants as event
 use Rattle.book_link.specs.Outcomes.{Outcome, Idle, Nothing}
 use Rattle.book_link.specs.RowLines.{added_row}
 use Rattle.book_link.specs.Runs.{empty}
-use Rattle.book_link.specs.Steps.{Act, Stepped, acted, act_on, on_live, begin, given, sent, send, send_again, come, took, deliver, alter, add_row, withdraw, ticked, step}
+use Rattle.book_link.specs.Steps.{View, Act, Stepped, acted, act_on, on_live, begin, given, sent, send, send_again, come, took, deliver, alter, add_row, withdraw, ticked, step, view_of}
 use Rattle.book_link.specs.Worlds.{other, Setup, pair_of, Session, Made, World, side, find, live, segment_named}
 use Rattle.law_link.proofs.Phases.{waits}
 use Rattle.law_link.proofs.Sessions.{both}
@@ -39,7 +39,7 @@ use Rattle.book_segments.proofs.Fields.{and_tells}
 use Rattle.book_cmd_timed.specs.declared.timed.TimedEvent.{TimedEvent}
 use Rattle.book_cmd_timed.specs.declared.timed.TimedEvent.TheVariants.{Plain, Wait}
 use Rattle.std.specs.Option.{option_or}
-use Rattle.book_cmd_timed.specs.TimedRuns.{Watch, new_watch, SendFront, front_of, front_at, Progress, watch_of, with_watch, started_anew, stopped, sampled_by, watch_by, is_again, is_done, is_sent, plain, Expanded, before, reading_at, until, due, after_expiry, expiry, waited, timed_event, expand_from, begins_timed, expand}
+use Rattle.book_cmd_timed.specs.TimedRuns.{Watch, new_watch, SendFront, front_of, front_at, Progress, watch_of, with_watch, started_anew, stopped, sampled_by, watch_by, is_again, is_done, is_sent, plain, Expanded, before, reading_at, until, due, after_expiry, expiry, waited, timed_event, expand_from, begins_timed, expand, by_expiry, due_at, expired_then}
 use Rattle.law_progress.specs.Waits.{WaitsResend}
 use Rattle.law_progress.proofs.Calm.{Calm, AllCalm, AllCalms, is_before, calm_step}
 use Rattle.law_progress.proofs.Finishing.{LeavesIf, closed_arrives, emits_leave, resends_leave}
@@ -89,36 +89,36 @@ resend_shut s most shut =
     (λ t. let on = (and_tells (is_sending s.phase) (s.una == s.next) (and_tells (is_sending s.phase && (s.una == s.next)) (s.send_window == 0) t).0).0 in absurd (sending_open s.phase on shut))
     (λ t. tt))))
 
-module _ (e : End) (w : World) (pair : Pair) (s : EndState) (without : Outcome) (shut : is_closed s.phase ≡ true) where
-  sealed_shut : (out : Draft) (sending : Sending) (o : Option (List ℕ)) → is_closed out.state.phase ≡ true → is_closed (sent e w s without (seal_known pair s out sending o)).state.phase ≡ true
+module _ (v : View) (pair : Pair) (s : EndState) (without : Outcome) (shut : is_closed s.phase ≡ true) where
+  sealed_shut : (out : Draft) (sending : Sending) (o : Option (List ℕ)) → is_closed out.state.phase ≡ true → is_closed (sent v s without (seal_known pair s out sending o)).state.phase ≡ true
   sealed_shut out sending None f = shut
   sealed_shut out sending (Some c) f = f
 
-  keyed_shut : (sending : Sending) (o : Option Draft) → MayShut o → is_closed (sent e w s without (keyed pair s sending o)).state.phase ≡ true
+  keyed_shut : (sending : Sending) (o : Option Draft) → MayShut o → is_closed (sent v s without (keyed pair s sending o)).state.phase ≡ true
   keyed_shut sending None f = shut
   keyed_shut sending (Some out) f = sealed_shut out sending (context_of (blank pair s out sending) (Some s.isn) s.peer_isn) f
 
-  emitted_shut : (draft : ℕ → Option Draft) (o : Option Sending) → ((most : ℕ) → MayShut (draft most)) → is_closed (sent e w s without (emitted pair s draft o)).state.phase ≡ true
-  emitted_shut draft None f = choose (λ (x : Emitted). is_closed (sent e w s without x).state.phase ≡ true) (is_some (draft 0)) NoKey Quiet (λ t. shut) (λ t. shut)
+  emitted_shut : (draft : ℕ → Option Draft) (o : Option Sending) → ((most : ℕ) → MayShut (draft most)) → is_closed (sent v s without (emitted pair s draft o)).state.phase ≡ true
+  emitted_shut draft None f = choose (λ (x : Emitted). is_closed (sent v s without x).state.phase ≡ true) (is_some (draft 0)) NoKey Quiet (λ t. shut) (λ t. shut)
   emitted_shut draft (Some sending) f = keyed_shut sending (draft (most_bytes pair s sending)) (f (most_bytes pair s sending))
 
-sent_una : (e : End) (w : World) (s : EndState) (without : Outcome) (r : Emitted) → LeavesIf s r → s.una ≤ (sent e w s without r).state.una
-sent_una e w s without Quiet h = omega arith
-sent_una e w s without NoKey h = omega arith
-sent_una e w s without (Emits out) h = let una = h.una in omega arith
+sent_una : (v : View) (s : EndState) (without : Outcome) (r : Emitted) → LeavesIf s r → s.una ≤ (sent v s without r).state.una
+sent_una v s without Quiet h = omega arith
+sent_una v s without NoKey h = omega arith
+sent_una v s without (Emits out) h = let una = h.una in omega arith
 
-send_holds : (setup : Setup) (e : End) (w : World) (s : EndState) → Holds s (send setup e w s).state
+send_holds : (setup : Setup) (e : End) (w : World) (s : EndState) → Holds s (send (view_of setup w e) s).state
 send_holds setup e w s = record {
-  una = sent_una e w s Idle (emit (side w e).rows (pair_of setup e) (side w e).clock s) (emits_leave (side w e).rows (pair_of setup e) (side w e).clock s);
-  shut = λ shut. subst (λ (x : Emitted). is_closed (sent e w s Idle x).state.phase ≡ true) (sym (emit_by_drafts (side w e).rows (pair_of setup e) (side w e).clock s))
-      (emitted_shut e w (pair_of setup e) s Idle shut (to_emit s) (choose_row s.current (side w e).rows (pair_of setup e) (side w e).clock) (λ most. emit_shut s most shut));
+  una = sent_una (view_of setup w e) s Idle (emit (side w e).rows (pair_of setup e) (side w e).clock s) (emits_leave (side w e).rows (pair_of setup e) (side w e).clock s);
+  shut = λ shut. subst (λ (x : Emitted). is_closed (sent (view_of setup w e) s Idle x).state.phase ≡ true) (sym (emit_by_drafts (side w e).rows (pair_of setup e) (side w e).clock s))
+      (emitted_shut (view_of setup w e) (pair_of setup e) s Idle shut (to_emit s) (choose_row s.current (side w e).rows (pair_of setup e) (side w e).clock) (λ most. emit_shut s most shut));
 }
 
-again_holds : (setup : Setup) (e : End) (w : World) (s : EndState) → Holds s (send_again setup e w s).state
+again_holds : (setup : Setup) (e : End) (w : World) (s : EndState) → Holds s (send_again (view_of setup w e) s).state
 again_holds setup e w s = record {
-  una = sent_una e w s Nothing (resend (side w e).rows (pair_of setup e) (side w e).clock s) (resends_leave (side w e).rows (pair_of setup e) (side w e).clock s);
-  shut = λ shut. subst (λ (x : Emitted). is_closed (sent e w s Nothing x).state.phase ≡ true) (sym (resend_by_drafts (side w e).rows (pair_of setup e) (side w e).clock s))
-      (emitted_shut e w (pair_of setup e) s Nothing shut (to_resend s) (choose_row s.current (side w e).rows (pair_of setup e) (side w e).clock) (λ most. resend_shut s most shut));
+  una = sent_una (view_of setup w e) s Nothing (resend (side w e).rows (pair_of setup e) (side w e).clock s) (resends_leave (side w e).rows (pair_of setup e) (side w e).clock s);
+  shut = λ shut. subst (λ (x : Emitted). is_closed (sent (view_of setup w e) s Nothing x).state.phase ≡ true) (sym (resend_by_drafts (side w e).rows (pair_of setup e) (side w e).clock s))
+      (emitted_shut (view_of setup w e) (pair_of setup e) s Nothing shut (to_resend s) (choose_row s.current (side w e).rows (pair_of setup e) (side w e).clock) (λ most. resend_shut s most shut));
 }
 
 given_holds : (piece : List ℕ) (s : EndState) → Holds s (given piece s).state
@@ -154,10 +154,10 @@ read_una rows pair now s (Read d) h =
     choose P (not (good d)) (unmoved s Checksum) _ (λ t. omega arith) (λ t.
     choose P (is_closed s.phase) (unmoved s AtClosed) (arrive_judged rows pair now s d (judged_by rows pair now s d)) (λ t. omega arith) (λ t. judged_una rows pair now s d (judged_by rows pair now s d) h)))
 
-come_una : (setup : Setup) (e : End) (w : World) (bytes : List ℕ) (s : EndState) → Calm s → s.una ≤ (come setup e w bytes s).state.una
+come_una : (setup : Setup) (e : End) (w : World) (bytes : List ℕ) (s : EndState) → Calm s → s.una ≤ (come bytes (view_of setup w e) s).state.una
 come_una setup e w bytes s h = subst (λ (a : Arrived). s.una ≤ a.state.una) (read_by_cases (side w e).rows (pair_of setup e) (side w e).clock s (reading bytes)) (read_una (side w e).rows (pair_of setup e) (side w e).clock s (reading bytes) h)
 
-come_holds : (setup : Setup) (e : End) (w : World) (bytes : List ℕ) (s : EndState) → Calm s → Holds s (come setup e w bytes s).state
+come_holds : (setup : Setup) (e : End) (w : World) (bytes : List ℕ) (s : EndState) → Calm s → Holds s (come bytes (view_of setup w e) s).state
 come_holds setup e w bytes s h = record {
   una = come_una setup e w bytes s h;
   shut = λ shut. ap (λ (r : Arrived). is_closed r.state.phase) (closed_arrives (side w e).rows (pair_of setup e) (side w e).clock s (reading bytes) shut).1 ∙ shut;
@@ -194,14 +194,14 @@ module _ (setup : Setup) (w : World) (calm : AllCalms w) where
   on_steps : (e : End) (call : EndState → Act) → ((s : EndState) → Calm s → Holds s (call s).state) → Steps_on w (on_live w e call).world e
   on_steps e call holds = act_steps w e (side w e).sessions call refl (calm e) holds
 
-  deliver_steps : (e : End) (o : Option Made) → Steps_on w (deliver setup e w o).world e
+  deliver_steps : (e : End) (o : Option Made) → Steps_on w (deliver setup w e o).world e
   deliver_steps e None = still w e
-  deliver_steps e (Some m) = on_steps e (come setup e w m.bytes) (come_holds setup e w m.bytes)
+  deliver_steps e (Some m) = on_steps e (come m.bytes (view_of setup w e)) (come_holds setup e w m.bytes)
 
-  alter_steps : (e : End) (place mask : ℕ) (fix : Bool) (o : Option Made) → Steps_on w (alter setup e w place mask fix o).world e
+  alter_steps : (e : End) (place mask : ℕ) (fix : Bool) (o : Option Made) → Steps_on w (alter setup w e (record { place = place; mask = mask; fix = fix }) o).world e
   alter_steps e place mask fix None = still w e
   alter_steps e place mask fix (Some m) =
-      choose (λ (x : Stepped). Steps_on w x.world e) (has_place m.bytes place) _ _ (λ t. on_steps e (come setup e w (altered m.bytes place mask fix)) (come_holds setup e w (altered m.bytes place mask fix))) (λ t. still w e)
+      choose (λ (x : Stepped). Steps_on w x.world e) (has_place m.bytes place) _ _ (λ t. on_steps e (come (altered m.bytes (record { place = place; mask = mask; fix = fix })) (view_of setup w e)) (come_holds setup e w (altered m.bytes (record { place = place; mask = mask; fix = fix })))) (λ t. still w e)
 
   add_steps : (e : End) (o : Adding) → Steps_on w (add_row w e o).world e
   add_steps A (AddedAs n rows) = record { there = refl; here = goes_refl (live w.a.sessions) }
@@ -346,10 +346,10 @@ module _ (setup : Setup) where
   plain_watched p (event.Start e isn peer) h = begin_watched setup p (event.Start e isn peer) e (started (pair_of setup e) isn peer) (find (side p.world e).sessions isn) (side (step setup p.world (event.Start e isn peer)).world e).clock h (calm_step setup p.world (event.Start e isn peer) h.calm) refl
   plain_watched p (event.Give e piece) h = by_event p (event.Give e piece) e h (on_steps setup p.world h.calm e (given piece) (λ s c. given_holds piece s))
   plain_watched p (event.Fill e count byte) h = by_event p (event.Fill e count byte) e h (on_steps setup p.world h.calm e (given (replicate count byte)) (λ s c. given_holds (replicate count byte) s))
-  plain_watched p (event.Send e) h = by_event p (event.Send e) e h (on_steps setup p.world h.calm e (send setup e p.world) (λ s c. send_holds setup e p.world s))
-  plain_watched p (event.Resend e) h = by_event p (event.Resend e) e h (on_steps setup p.world h.calm e (send_again setup e p.world) (λ s c. again_holds setup e p.world s))
+  plain_watched p (event.Send e) h = by_event p (event.Send e) e h (on_steps setup p.world h.calm e (send (view_of setup p.world e)) (λ s c. send_holds setup e p.world s))
+  plain_watched p (event.Resend e) h = by_event p (event.Resend e) e h (on_steps setup p.world h.calm e (send_again (view_of setup p.world e)) (λ s c. again_holds setup e p.world s))
   plain_watched p (event.Deliver e n) h = by_event p (event.Deliver e n) e h (deliver_steps setup p.world h.calm e (segment_named n p.world.history))
-  plain_watched p (event.Inject e bytes) h = by_event p (event.Inject e bytes) e h (on_steps setup p.world h.calm e (come setup e p.world bytes) (come_holds setup e p.world bytes))
+  plain_watched p (event.Inject e bytes) h = by_event p (event.Inject e bytes) e h (on_steps setup p.world h.calm e (come bytes (view_of setup p.world e)) (come_holds setup e p.world bytes))
   plain_watched p (event.Alter e n place mask fix) h = by_event p (event.Alter e n place mask fix) e h (alter_steps setup p.world h.calm e place mask fix (segment_named n p.world.history))
   plain_watched p (event.Take e count) h = by_event p (event.Take e count) e h (on_steps setup p.world h.calm e (took count) (λ s c. record { una = omega arith; shut = λ g. g }))
   plain_watched p (event.Close e) h = by_event p (event.Close e) e h (on_steps setup p.world h.calm e _ (λ s c. close_holds s s.phase))
@@ -365,31 +365,39 @@ module _ (setup : Setup) where
   expired_watched : (e : End) (p : Progress) → IsWatched p → IsWatched (after_expiry e p)
   expired_watched e p h = with_watched p p.world e _ h h.calm refl (λ f is low. (_, refl))
 
-  waited_watched : (n : ℕ) (e : End) (to : ℕ) (p : Progress) (next : Option ℕ) → IsWatched p → IsWatched (waited n setup e to p next).progress
-  waited_watched zero e to p next h = until_watched e to p h
-  waited_watched (suc n) e to p None h = until_watched e to p h
-  waited_watched (suc n) e to p (Some d) h =
+  expiry_watched : (e : End) (to : ℕ) (p : Progress) (others : Progress → Expanded) (next : Option ℕ) → IsWatched p → ((q : Progress) → IsWatched q → IsWatched (others q).progress)
+      → IsWatched (by_expiry next to (expired_then setup e p others) (until setup e to p)).progress
+  expiry_watched e to p others None h rest = until_watched e to p h
+  expiry_watched e to p others (Some d) h rest =
       let r = plain setup (plain setup p (event.Clock e d)) (event.Resend e) in
       let q = after_expiry e r in
-      let rest = waited n setup e to q (due (reading_at q e) (watch_of q e).deadline) in
-      choose (λ (x : Expanded). IsWatched x.progress) (nat_lt to d) (until setup e to p) (before (expiry e d) rest) (λ t. until_watched e to p h)
-      (λ t. waited_watched n e to q (due (reading_at q e) (watch_of q e).deadline) (expired_watched e r (plain_watched (plain setup p (event.Clock e d)) (event.Resend e) (plain_watched p (event.Clock e d) h))))
+      choose (λ (x : Expanded). IsWatched x.progress) (nat_lt to d) (until setup e to p) (before (expiry e d) (others q)) (λ t. until_watched e to p h)
+      (λ t. rest q (expired_watched e r (plain_watched (plain setup p (event.Clock e d)) (event.Resend e) (plain_watched p (event.Clock e d) h))))
+
+  waited_watched : (n : ℕ) (e : End) (to : ℕ) (p : Progress) → IsWatched p → IsWatched (waited n setup e to p).progress
+  waited_watched zero e to p h = until_watched e to p h
+  waited_watched (suc n) e to p h = expiry_watched e to p (waited n setup e to) (due_at p e) h (λ q watched. waited_watched n e to q watched)
 
   timed_watched : (p : Progress) (ev : TimedEvent) → IsWatched p → IsWatched (timed_event setup p ev).progress
   timed_watched p (Plain ev) h = plain_watched p ev h
-  timed_watched p (Wait e count) h = waited_watched (count + 1) e (min (reading_at p e + count) greatest_time) p (due (reading_at p e) (watch_of p e).deadline) h
+  timed_watched p (Wait e count) h = waited_watched (count + 1) e (min (reading_at p e + count) greatest_time) p h
 
   expand_watched : (p : Progress) (events : List TimedEvent) → IsWatched p → IsWatched (expand_from setup p events).progress
   expand_watched p [] h = h
   expand_watched p (ev ∷ events) h = expand_watched (timed_event setup p ev).progress events (timed_watched p ev h)
 
-  waited_again : (n : ℕ) (e : End) (to : ℕ) (p : Progress) (d : ℕ) → 1 ≤ n → d ≤ to → (rest : List Event) × ((waited n setup e to p (Some d)).events ≡ event.Clock e d ∷ event.Resend e ∷ rest)
-  waited_again zero e to p d some low = absurd (omega arith)
-  waited_again (suc n) e to p d some low =
+  expiry_again : (e : End) (to : ℕ) (p : Progress) (others : Progress → Expanded) (d : ℕ) → d ≤ to
+      → (rest : List Event) × ((by_expiry (Some d) to (expired_then setup e p others) (until setup e to p)).events ≡ event.Clock e d ∷ event.Resend e ∷ rest)
+  expiry_again e to p others d low =
       let q = after_expiry e (plain setup (plain setup p (event.Clock e d)) (event.Resend e)) in
-      let rest = waited n setup e to q (due (reading_at q e) (watch_of q e).deadline) in
-      choose (λ (x : Expanded). (rest : List Event) × (x.events ≡ event.Clock e d ∷ event.Resend e ∷ rest)) (nat_lt to d) (until setup e to p) (before (expiry e d) rest)
-      (λ t. let over = lt_is to d t in absurd (omega arith)) (λ t. (rest.events, refl))
+      choose (λ (x : Expanded). (rest : List Event) × (x.events ≡ event.Clock e d ∷ event.Resend e ∷ rest)) (nat_lt to d) (until setup e to p) (before (expiry e d) (others q))
+      (λ t. let over = lt_is to d t in absurd (omega arith)) (λ t. ((others q).events, refl))
+
+  waited_again : (n : ℕ) (e : End) (to : ℕ) (p : Progress) (d : ℕ) → 1 ≤ n → d ≤ to → due_at p e ≡ Some d → (rest : List Event) × ((waited n setup e to p).events ≡ event.Clock e d ∷ event.Resend e ∷ rest)
+  waited_again zero e to p d some low at = absurd (omega arith)
+  waited_again (suc n) e to p d some low at =
+      subst (λ (o : Option ℕ). (rest : List Event) × ((by_expiry o to (expired_then setup e p (waited n setup e to)) (until setup e to p)).events ≡ event.Clock e d ∷ event.Resend e ∷ rest)) (sym at)
+      (expiry_again e to p (waited n setup e to) d low)
 
   pub waits_resend : (events : List TimedEvent) → WaitsResend setup (expand setup events).progress
   unfolding expand
@@ -402,10 +410,9 @@ module _ (setup : Setup) where
       let h = expand_watched (begins_timed setup) events begun in
       let k = h.watched e f is low in
       let d = max k.0 (reading_at p e + 1) in
-      let at : due (reading_at p e) (watch_of p e).deadline ≡ Some d = ap (due (reading_at p e)) k.1 in (
+      let at : due_at p e ≡ Some d = ap (due (reading_at p e)) k.1 in (
         d,
         at,
         λ count reach.
-            subst (λ (o : Option ℕ). (rest : List Event) × ((waited (count + 1) setup e (min (reading_at p e + count) greatest_time) p o).events ≡ event.Clock e d ∷ event.Resend e ∷ rest)) (sym at)
-            (waited_again (count + 1) e (min (reading_at p e + count) greatest_time) p d (omega arith) reach),
+            waited_again (count + 1) e (min (reading_at p e + count) greatest_time) p d (omega arith) reach at,
       )

@@ -7,7 +7,7 @@ use Rattle.book_link.specs.declared.event.Event.{Event}
 use Rattle.book_link.specs.declared.event.Event.TheVariants.{Clock, Resend}
 use Rattle.book_link.specs.Worlds.{Setup}
 use Rattle.book_cmd_timed.specs.declared.timed.TimedEvent.TheVariants.{Wait}
-use Rattle.book_cmd_timed.specs.TimedRuns.{SendFront, front_at, Progress, watch_of, reading_at, due}
+use Rattle.book_cmd_timed.specs.TimedRuns.{SendFront, front_at, Progress, reading_at, due_at}
 use Rattle.book_cmd_timed.specs.TimedRuns.{timed_event}
 
 -- so many seconds from now reach to this reading (own)
@@ -26,5 +26,5 @@ BeginsAgain setup p e count d =
 abbrev pub WaitsResend : Setup → Progress → Type 0
 WaitsResend setup p =
     (e : End) (f : SendFront) → front_at p.world e ≡ Some f → f.una < f.next
-    → (d : ℕ) × (due (reading_at p e) (watch_of p e).deadline ≡ Some d)
+    → (d : ℕ) × (due_at p e ≡ Some d)
     × ((count : ℕ) → Reaches p e count d → BeginsAgain setup p e count d)

@@ -8,7 +8,7 @@ use Rattle.book_endpoint.specs.Arrivals as arrivals
 use Rattle.book_endpoint.specs.Emissions.{Emitted, Quiet, NoKey, Emits}
 use Rattle.book_endpoint.specs.States.{EndState}
 use Rattle.book_link.specs.Outcomes.{NoSession}
-use Rattle.book_link.specs.Steps.{Act, Stepped, act_on, acted, came, come, made_of, on_live, put, sent, step, with_sessions}
+use Rattle.book_link.specs.Steps.{View, Act, Stepped, act_on, acted, came, come, made_of, on_live, put, sent, step, with_sessions, view_of}
 use Rattle.book_link.specs.Worlds.{Setup, pair_of, Session, World, LinkSide as EndSide, other, side as side_of}
 use Rattle.link_side.specs.declared.sessions.Ended.{Ended}
 use Rattle.link_side.specs.declared.sessions.Live.{Live}
@@ -39,20 +39,20 @@ stands_after d d' m l l' k act h now clock rows dropped same stands hidden =
     }
 
 -- what is told where the session's call makes this
-tells_sent : (w : World) (again : Bool) (e : End) (d : Side) (m : EndSide) (s : EndState) (before out : List ℕ) (a : Emission) (b : Emitted)
+tells_sent : (setup : Setup) (w : World) (again : Bool) (e : End) (d : Side) (m : EndSide) (s : EndState) (before out : List ℕ) (a : Emission) (b : Emitted)
     → (side_of w e).clock ≡ d.clock → (side_of w e).rows ≡ d.table.rows → made_by again d.table.rows d.pair d.clock s ≡ b → AnswersAs before out a b
-    → TellsSent w (record { world = put w e m (sent e w s (quiet again) b).happened; outcome = (sent e w s (quiet again) b).outcome })
+    → TellsSent w (record { world = put w e m (sent (view_of setup w e) s (quiet again) b).happened; outcome = (sent (view_of setup w e) s (quiet again) b).outcome })
     again e d before out (Some a)
-tells_sent w again e d m s before out emissions.Idle Quiet clock rows is h = record { outcome_is = refl; history = put_history w e m None; buffer = h }
-tells_sent w again e d m s before out emissions.Idle NoKey clock rows is h = absurd h
-tells_sent w again e d m s before out emissions.Idle (Emits x) clock rows is h = absurd h
-tells_sent w again e d m s before out emissions.NoKey Quiet clock rows is h = absurd h
-tells_sent w again e d m s before out emissions.NoKey NoKey clock rows is h = record { outcome_is = refl; history = put_history w e m None; buffer = h }
-tells_sent w again e d m s before out emissions.NoKey (Emits x) clock rows is h = absurd h
-tells_sent w again e d m s before out (emissions.Segment n) Quiet clock rows is h = absurd h
-tells_sent w again e d m s before out (emissions.Segment n) NoKey clock rows is h = absurd h
-tells_sent w again e d m s before out (emissions.Segment n) (Emits x) clock rows is h = (
-  made_of e w s x,
+tells_sent setup w again e d m s before out emissions.Idle Quiet clock rows is h = record { outcome_is = refl; history = put_history w e m None; buffer = h }
+tells_sent setup w again e d m s before out emissions.Idle NoKey clock rows is h = absurd h
+tells_sent setup w again e d m s before out emissions.Idle (Emits x) clock rows is h = absurd h
+tells_sent setup w again e d m s before out emissions.NoKey Quiet clock rows is h = absurd h
+tells_sent setup w again e d m s before out emissions.NoKey NoKey clock rows is h = record { outcome_is = refl; history = put_history w e m None; buffer = h }
+tells_sent setup w again e d m s before out emissions.NoKey (Emits x) clock rows is h = absurd h
+tells_sent setup w again e d m s before out (emissions.Segment n) Quiet clock rows is h = absurd h
+tells_sent setup w again e d m s before out (emissions.Segment n) NoKey clock rows is h = absurd h
+tells_sent setup w again e d m s before out (emissions.Segment n) (Emits x) clock rows is h = (
+  made_of (view_of setup w e) s x,
   refl,
   put_history w e m _,
   record {
@@ -68,20 +68,20 @@ tells_sent w again e d m s before out (emissions.Segment n) (Emits x) clock rows
   },
 )
 
-state_sent : (w : World) (again : Bool) (e : End) (s : EndState) (b : Emitted) → (sent e w s (quiet again) b).state ≡ state_after s b
-state_sent w again e s Quiet = refl
-state_sent w again e s NoKey = refl
-state_sent w again e s (Emits x) = refl
+state_sent : (v : View) (again : Bool) (s : EndState) (b : Emitted) → (sent v s (quiet again) b).state ≡ state_after s b
+state_sent v again s Quiet = refl
+state_sent v again s NoKey = refl
+state_sent v again s (Emits x) = refl
 
-hidden_sent : (w : World) (again : Bool) (e : End) (s : EndState) (b : Emitted) → (sent e w s (quiet again) b).shown ≡ false
-hidden_sent w again e s Quiet = refl
-hidden_sent w again e s NoKey = refl
-hidden_sent w again e s (Emits x) = refl
+hidden_sent : (v : View) (again : Bool) (s : EndState) (b : Emitted) → (sent v s (quiet again) b).shown ≡ false
+hidden_sent v again s Quiet = refl
+hidden_sent v again s NoKey = refl
+hidden_sent v again s (Emits x) = refl
 
 -- the step of a send is a call on the live session
 step_sends : (setup : Setup) (w : World) (again : Bool) (e : End) (t : Session) (older : List Session) → (side_of w e).sessions ≡ t ∷ older
     → step setup w (sending again e)
-    ≡ act_on w e (t ∷ older) (λ s. sent e w s (quiet again) (made_by again (side_of w e).rows (pair_of setup e) (side_of w e).clock s))
+    ≡ act_on w e (t ∷ older) (λ s. sent (view_of setup w e) s (quiet again) (made_by again (side_of w e).rows (pair_of setup e) (side_of w e).clock s))
 step_sends setup w true e t older is = rw is refl
 step_sends setup w false e t older is = rw is refl
 
@@ -108,13 +108,13 @@ has_sent setup w again e d d' l l' before out a p bound pair h was now pairs clo
     let g : EmitsAs s l'.endpoint before out a b = emits_at _ _ _ _ _ _ again s l' before out a (sym h.rows) (bound ∙ sym pair) (sym h.clock) (emits s k.stands) in
     let is : made_by again d'.table.rows d'.pair d'.clock s ≡ b =
     made_at _ _ _ _ _ _ again s (rows ∙ sym h.rows) (pairs ∙ sym pair) (clock ∙ sym h.clock) in
-    let act = sent e w s (quiet again) b in
+    let act = sent (view_of setup w e) s (quiet again) b in
     let m = with_sessions (side_of w e) (acted k.session act ∷ k.older) in
     rw (step_sends setup w again e k.session k.older k.are) (record {
       stands = rw (put_at w e m act.happened) (stands_after d d' (side_of w e) l l' k act h now clock rows dropped same
-          (subst (λ x. Stands l'.endpoint x) (sym (state_sent w again e s b)) g.stands) (hidden_sent w again e s b));
+          (subst (λ x. Stands l'.endpoint x) (sym (state_sent (view_of setup w e) again s b)) g.stands) (hidden_sent (view_of setup w e) again s b));
       others = put_other w e m act.happened;
-      tells = tells_sent w again e d' m s before out a b (h.clock ∙ sym clock) (h.rows ∙ sym rows) is g.answer_is;
+      tells = tells_sent setup w again e d' m s before out a b (h.clock ∙ sym clock) (h.rows ∙ sym rows) is g.answer_is;
     })
 
 arrives_at : (rows seen rows' : List Row) (p from p' : Pair) (n n' : ℕ) (s : EndState) (r : Reading) (l : Live) (a : Arrived) → rows ≡ seen → p ≡ from
@@ -128,7 +128,7 @@ pub has_come : (setup : Setup) (w : World) (e : End) (bytes : List ℕ) (d d' : 
     → d'.table ≡ d.table → d'.dropped.items ≡ d.dropped.items → l'.end_shown ≡ l.end_shown
     → ((s : EndState) → Stands l.endpoint s
     → Arrives d.table.rows p (reading bytes) l'.endpoint a (arrivals.arrive d.table.rows p d.clock s (reading bytes)))
-    → HasCome w (on_live w e (come setup e w bytes)) e d' bytes (Some a)
+    → HasCome w (on_live w e (come bytes (view_of setup w e))) e d' bytes (Some a)
 has_come setup w e bytes d d' l l' a p bound pair h was now pairs clock table dropped same arrives =
     let k = live_is d (side_of w e) l was h in
     let s = k.session.state in
@@ -136,7 +136,7 @@ has_come setup w e bytes d d' l l' a p bound pair h was now pairs clock table dr
     let rows = ap (λ t. t.rows) table in
     let g : Arrives d'.table.rows d'.pair (reading bytes) l'.endpoint a r =
     arrives_at _ _ _ _ _ _ _ _ s (reading bytes) l' a (sym rows) (bound ∙ sym pairs) (sym h.rows) (bound ∙ sym pair) (sym h.clock) (arrives s k.stands) in
-    let act = came e w bytes s r in
+    let act = came bytes (view_of setup w e) s r in
     let m = with_sessions (side_of w e) (acted k.session act ∷ k.older) in
     rw k.are (record {
       stands = rw (put_at w e m act.happened) (stands_after d d' (side_of w e) l l' k act h now clock rows dropped same g.stands refl);

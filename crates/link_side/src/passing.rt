@@ -4,7 +4,7 @@ ghost use Rattle.book_base.specs.declared.end.End.{End};
 ghost use Rattle.book_endpoint.specs.States.{EndState};
 ghost use Rattle.book_keys.specs.Lifetimes.{greatest_time};
 ghost use Rattle.book_keys.specs.Rows.{Row};
-ghost use Rattle.book_link.specs.Steps.{come, on_live, step};
+ghost use Rattle.book_link.specs.Steps.{come, on_live, step, view_of};
 ghost use Rattle.book_link.specs.Worlds.{Setup, World, pair_of, side as side_of};
 ghost use Rattle.link_side.specs.Passing.{emission_of, HasCome, HasSent, length_sent, made_by, sending};
 ghost use Rattle.link_side.specs.Sides.{StandsSide};
@@ -100,7 +100,7 @@ impl Side {
     pub fn come<L: Ledger>(&mut self, bytes: &[u8], steps: &mut Steps<L>) -> Option<Arrived>
         ensures pair { self.new.pair ≡ self.old.pair }
         ensures come { (setup : Setup) (w : World) (e : End) → pair_of setup e ≡ self.old.pair → StandsSide self.old (side_of w e)
-            → HasCome w (on_live w e (come setup e w bytes.now)) e self.new bytes.now result }
+            → HasCome w (on_live w e (come bytes.now (view_of setup w e))) e self.new bytes.now result }
         ensures steps { steps.new ≤ steps.old + 66 }
     {
         match &mut self.live {

@@ -40,13 +40,13 @@ copy_plain b copy header behind place mask e p is h =
 
 -- the copy once it was fixed
 pub copy_fixed : (b copy : List ℕ) (header behind place mask : ℕ) (fix : Bool) → header ≡ ip_length b → behind ≡ place → copy ≡ masked b (header + behind) mask
-    → fix ≡ true → with_right_checksum copy ≡ altered b place mask fix
+    → fix ≡ true → with_right_checksum copy ≡ altered b (record { place = place; mask = mask; fix = fix })
 unfolding altered
 copy_fixed b copy header behind place mask fix e p is on =
     rw on (ap with_right_checksum (masked_in b copy header behind place mask e p is))
 
 -- the copy that stays
 pub copy_left : (b copy : List ℕ) (header behind place mask : ℕ) (fix : Bool) → header ≡ ip_length b → behind ≡ place → copy ≡ masked b (header + behind) mask
-    → fix ≡ false → copy ≡ altered b place mask fix
+    → fix ≡ false → copy ≡ altered b (record { place = place; mask = mask; fix = fix })
 unfolding altered
 copy_left b copy header behind place mask fix e p is off = rw off (masked_in b copy header behind place mask e p is)

@@ -98,15 +98,15 @@ counted e before after old new s answered o pair made most received stands is =
 pub delivered : (e : End) (name : ℕ) (bytes : List ℕ) (setup : Setup) (w : World) (m : Made) → segment_named name w.history ≡ Some m → m.bytes ≡ bytes
     → by_bytes e bytes setup w ≡ by_event (Deliver e name) setup w
 delivered e name bytes setup w m is same =
-    ap (λ (b : List ℕ). by_bytes e b setup w) (sym same) ∙ ap (deliver setup e w) (sym is)
+    ap (λ (b : List ℕ). by_bytes e b setup w) (sym same) ∙ ap (deliver setup w e) (sym is)
 
 pub undelivered : (e : End) (name : ℕ) (setup : Setup) (w : World) → segment_named name w.history ≡ None
     → by_event (Deliver e name) setup w ≡ record { world = w; outcome = book.NoSegment }
-undelivered e name setup w is = ap (deliver setup e w) is
+undelivered e name setup w is = ap (deliver setup w e) is
 
 pub unaltered : (e : End) (name place mask : ℕ) (fix : Bool) (setup : Setup) (w : World) → segment_named name w.history ≡ None
     → by_event (Alter e name place mask fix) setup w ≡ record { world = w; outcome = book.NoSegment }
-unaltered e name place mask fix setup w is = ap (alter setup e w place mask fix) is
+unaltered e name place mask fix setup w is = ap (alter setup w e (record { place = place; mask = mask; fix = fix })) is
 
 altered_if : (b : Bool) (x y : Stepped) → b ≡ true → (if b then x else y) ≡ x
 altered_if true x y e = refl
@@ -118,13 +118,13 @@ else_if false x y e = refl
 
 -- a copy of a segment that is kept comes
 pub altered_comes : (e : End) (name place mask : ℕ) (fix : Bool) (bytes copy : List ℕ) (setup : Setup) (w : World) (m : Made)
-    → segment_named name w.history ≡ Some m → m.bytes ≡ bytes → has_place bytes place ≡ true → copy ≡ altered bytes place mask fix
+    → segment_named name w.history ≡ Some m → m.bytes ≡ bytes → has_place bytes place ≡ true → copy ≡ altered bytes (record { place = place; mask = mask; fix = fix })
     → by_bytes e copy setup w ≡ by_event (Alter e name place mask fix) setup w
 altered_comes e name place mask fix bytes copy setup w m is same there is_copy =
     let own : has_place m.bytes place ≡ true = ap (λ (b : List ℕ). has_place b place) same ∙ there in
-    ap (λ (b : List ℕ). by_bytes e b setup w) (is_copy ∙ ap (λ (b : List ℕ). altered b place mask fix) (sym same))
-    ∙ sym (altered_if (has_place m.bytes place) (by_bytes e (altered m.bytes place mask fix) setup w) (record { world = w; outcome = book.NoPlace }) own)
-    ∙ ap (alter setup e w place mask fix) (sym is)
+    ap (λ (b : List ℕ). by_bytes e b setup w) (is_copy ∙ ap (λ (b : List ℕ). altered b (record { place = place; mask = mask; fix = fix })) (sym same))
+    ∙ sym (altered_if (has_place m.bytes place) (by_bytes e (altered m.bytes (record { place = place; mask = mask; fix = fix })) setup w) (record { world = w; outcome = book.NoPlace }) own)
+    ∙ ap (alter setup w e (record { place = place; mask = mask; fix = fix })) (sym is)
 
 -- the place is past its bytes
 pub misplaced : (e : End) (name place mask : ℕ) (fix : Bool) (bytes : List ℕ) (setup : Setup) (w : World) (m : Made)
@@ -132,8 +132,8 @@ pub misplaced : (e : End) (name place mask : ℕ) (fix : Bool) (bytes : List ℕ
     → by_event (Alter e name place mask fix) setup w ≡ record { world = w; outcome = book.NoPlace }
 misplaced e name place mask fix bytes setup w m is same past =
     let own : has_place m.bytes place ≡ false = ap (λ (b : List ℕ). has_place b place) same ∙ past in
-    ap (alter setup e w place mask fix) is
-    ∙ else_if (has_place m.bytes place) (by_bytes e (altered m.bytes place mask fix) setup w) (record { world = w; outcome = book.NoPlace }) own
+    ap (alter setup w e (record { place = place; mask = mask; fix = fix })) is
+    ∙ else_if (has_place m.bytes place) (by_bytes e (altered m.bytes (record { place = place; mask = mask; fix = fix })) setup w) (record { world = w; outcome = book.NoPlace }) own
 
 -- the IP header of a segment that is kept has no options
 pub plain_entry : (k : Entry) (m : Made) → IsEntry k m → HasPlainHeader k.bytes

@@ -26,7 +26,7 @@ use Rattle.endpoint_steps.proofs.Arriving.{read_by_cases}
 use Rattle.ao_check.specs.Verdicts.{Names}
 use Rattle.tcp_endpoint.specs.Arriving.{TellsPassed}
 use Rattle.tcp_endpoint.specs.declared.arrival.Arrived.{Arrived as Told}
-use Rattle.book_link.specs.Steps.{Act, act_on, add, come, on_live, put}
+use Rattle.book_link.specs.Steps.{Act, act_on, add, come, on_live, put, view_of}
 use Rattle.book_link.specs.Worlds.{Setup, pair_of, Session, LinkSide as EndSide, Came, Happening, Making, Coming, World, side}
 use Rattle.law_link.proofs.Tests.{choose}
 use Rattle.link_side.specs.declared.side.Side.{Side}
@@ -141,16 +141,16 @@ came_or c (Coming d ∷ past) = d
 came_or c _ = c
 
 came_by : (setup : Setup) (w : World) (e : End) (bytes : List ℕ) (c : Came) (sessions : List Session)
-    → (act_on w e sessions (come setup e w bytes)).world.history ≡ Coming c ∷ w.history → IsNumbered c.passed
+    → (act_on w e sessions (come bytes (view_of setup w e))).world.history ≡ Coming c ∷ w.history → IsNumbered c.passed
 came_by setup w e bytes c [] is = absurd (let size = ap length is in omega (arith, size))
 came_by setup w e bytes c (s ∷ rest) is =
-    let act : Act = come setup e w bytes s.state in
+    let act : Act = come bytes (view_of setup w e) s.state in
     let there = sym (put_history w e _ act.happened) ∙ is in
     subst (λ (d : Came). IsNumbered d.passed) (ap (came_or c) there) (arrive_numbered (side w e).rows (pair_of setup e) (side w e).clock s.state (reading bytes))
 
 -- what passed of bytes that came to an end is under a row, and rows are numbered from 1
 pub came_numbered : (setup : Setup) (w : World) (e : End) (bytes : List ℕ) (c : Came)
-    → (on_live w e (come setup e w bytes)).world.history ≡ Coming c ∷ w.history → IsNumbered c.passed
+    → (on_live w e (come bytes (view_of setup w e))).world.history ≡ Coming c ∷ w.history → IsNumbered c.passed
 came_numbered setup w e bytes c is = came_by setup w e bytes c (side w e).sessions is
 
 -- the row with this number is there

@@ -12,7 +12,7 @@ use Rattle.book_link.specs.declared.event.Event.{Event}
 use Rattle.book_link.specs.declared.event.Event.TheVariants.{Clock, Connect, Listen, Start, Give, Fill, Send, Resend, Deliver, Inject, Alter, Take, Close, Abort, AddRow, Withdraw, Dump}
 use Rattle.book_link.specs.Outcomes as book
 use Rattle.book_link.specs.RowLines.{added_row}
-use Rattle.book_link.specs.Steps.{Act, act_on, add_row, begin, come, deliver, alter, given, image_of, on_live, quietly, send, send_again, sent, step, took, withdraw}
+use Rattle.book_link.specs.Steps.{View, Act, act_on, add_row, begin, come, deliver, alter, given, image_of, on_live, quietly, send, send_again, sent, step, took, withdraw, view_of}
 use Rattle.book_link.specs.Worlds.{Setup, World, Session, Made, pair_of, side, find, segment_named}
 use Rattle.link_report.specs.declared.outcome.Outcome.{Outcome}
 use Rattle.link_report.specs.declared.outcome.Outcome.TheVariants as outcome
@@ -67,24 +67,24 @@ begun_none : (w : World) (e : End) (s : EndState) (o : Option Session) → carri
 begun_none w e s None = refl
 begun_none w e s (Some used) = refl
 
-sent_none : (e : End) (w : World) (s : EndState) (without : book.Outcome) (r : Emitted) → carried without ≡ [] → carried (sent e w s without r).outcome ≡ []
-sent_none e w s without Quiet h = h
-sent_none e w s without NoKey h = refl
-sent_none e w s without (Emits out) h = refl
+sent_none : (v : View) (s : EndState) (without : book.Outcome) (r : Emitted) → carried without ≡ [] → carried (sent v s without r).outcome ≡ []
+sent_none v s without Quiet h = h
+sent_none v s without NoKey h = refl
+sent_none v s without (Emits out) h = refl
 
-come_none : (setup : Setup) (w : World) (e : End) (bytes : List ℕ) → carried (on_live w e (come setup e w bytes)).outcome ≡ []
-come_none setup w e bytes = on_sessions w e (side w e).sessions (come setup e w bytes) (λ s. refl)
+come_none : (setup : Setup) (w : World) (e : End) (bytes : List ℕ) → carried (on_live w e (come bytes (view_of setup w e))).outcome ≡ []
+come_none setup w e bytes = on_sessions w e (side w e).sessions (come bytes (view_of setup w e)) (λ s. refl)
 
-delivered_none : (setup : Setup) (w : World) (e : End) (o : Option Made) → carried (deliver setup e w o).outcome ≡ []
+delivered_none : (setup : Setup) (w : World) (e : End) (o : Option Made) → carried (deliver setup w e o).outcome ≡ []
 delivered_none setup w e None = refl
 delivered_none setup w e (Some m) = come_none setup w e m.bytes
 
 placed_none : (setup : Setup) (w : World) (e : End) (m : Made) (place mask : ℕ) (fix b : Bool)
-    → carried (if b then on_live w e (come setup e w (altered m.bytes place mask fix)) else record { world = w; outcome = book.NoPlace }).outcome ≡ []
-placed_none setup w e m place mask fix true = come_none setup w e (altered m.bytes place mask fix)
+    → carried (if b then on_live w e (come (altered m.bytes (record { place = place; mask = mask; fix = fix })) (view_of setup w e)) else record { world = w; outcome = book.NoPlace }).outcome ≡ []
+placed_none setup w e m place mask fix true = come_none setup w e (altered m.bytes (record { place = place; mask = mask; fix = fix }))
 placed_none setup w e m place mask fix false = refl
 
-altered_none : (setup : Setup) (w : World) (e : End) (place mask : ℕ) (fix : Bool) (o : Option Made) → carried (alter setup e w place mask fix o).outcome ≡ []
+altered_none : (setup : Setup) (w : World) (e : End) (place mask : ℕ) (fix : Bool) (o : Option Made) → carried (alter setup w e (record { place = place; mask = mask; fix = fix }) o).outcome ≡ []
 altered_none setup w e place mask fix None = refl
 altered_none setup w e place mask fix (Some m) = placed_none setup w e m place mask fix (has_place m.bytes place)
 
@@ -120,11 +120,11 @@ step_fits setup w (Start e isn peer) = let s = started (pair_of setup e) isn pee
 step_fits setup w (Give e piece) = fits_none _ 0 (on_sessions w e (side w e).sessions (given piece) (given_none piece))
 step_fits setup w (Fill e count byte) = fits_none _ 0 (on_sessions w e (side w e).sessions (given (replicate count byte)) (given_none (replicate count byte)))
 step_fits setup w (Send e) =
-    fits_none _ 0 (on_sessions w e (side w e).sessions (send setup e w)
-    (λ s. sent_none e w s book.Idle (emit (side w e).rows (pair_of setup e) (side w e).clock s) refl))
+    fits_none _ 0 (on_sessions w e (side w e).sessions (send (view_of setup w e))
+    (λ s. sent_none (view_of setup w e) s book.Idle (emit (side w e).rows (pair_of setup e) (side w e).clock s) refl))
 step_fits setup w (Resend e) =
-    fits_none _ 0 (on_sessions w e (side w e).sessions (send_again setup e w)
-    (λ s. sent_none e w s book.Nothing (resend (side w e).rows (pair_of setup e) (side w e).clock s) refl))
+    fits_none _ 0 (on_sessions w e (side w e).sessions (send_again (view_of setup w e))
+    (λ s. sent_none (view_of setup w e) s book.Nothing (resend (side w e).rows (pair_of setup e) (side w e).clock s) refl))
 step_fits setup w (Deliver e name) = fits_none _ 0 (delivered_none setup w e (segment_named name w.history))
 step_fits setup w (Inject e bytes) = fits_none _ 0 (come_none setup w e bytes)
 step_fits setup w (Alter e name place mask fix) = fits_none _ 0 (altered_none setup w e place mask fix (segment_named name w.history))

@@ -3,7 +3,7 @@ use Rattle.std.specs.Prelude.{◌≡◌, ℕ, ◌≤◌, ◌+◌, List, Result, 
 use Rattle.std.specs.declared.alloc.AllocError.{AllocError}
 use Rattle.book_base.specs.declared.end.End.{End}
 use Rattle.book_link.specs.declared.event.Event.{Event}
-use Rattle.book_link.specs.Steps.{Stepped, come, on_live, step}
+use Rattle.book_link.specs.Steps.{Stepped, come, on_live, step, view_of}
 use Rattle.book_link.specs.Worlds.{Setup, World, LinkSide as EndSide, Happening, other, side as side_of}
 use Rattle.link_log.specs.declared.log.Log.{Log}
 use Rattle.link_log.specs.Logs.{StandsLog, forgery_count, made_count}
@@ -19,7 +19,7 @@ by_event event setup w = step setup w event
 
 -- the step by which bytes come to an end
 abbrev pub by_bytes : End → List ℕ → Setup → World → Stepped
-by_bytes e bytes setup w = on_live w e (come setup e w bytes)
+by_bytes e bytes setup w = on_live w e (come bytes (view_of setup w e))
 
 -- the side and the log stand for the end and for the history after the step, the other end is as it was, and the outcome is the step's
 pub record Follows (w : World) (after : Stepped) (e : End) (d : Side) (log : Log) (told : Outcome) : Type 0 where

@@ -38,7 +38,8 @@ pub(crate) fn altered(
 ) -> Result<Option<Vec<u8>>, AllocError>
     requires { HasPlainHeader bytes.now }
     ensures some { IfOk result (λ c. is_some c ≡ has_place bytes.now place) }
-    ensures copy { IfOk result (λ c. IfSome c (λ v. v.items ≡ altered_so bytes.now place mask fix)) }
+    ensures copy { IfOk result (λ c. IfSome c (λ v.
+        v.items ≡ altered_so bytes.now (record { place = place; mask = mask; fix = fix }))) }
 {
     let at = header_length(bytes) + usize::from(place);
     if at >= bytes.len() {
