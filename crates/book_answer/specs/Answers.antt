@@ -198,11 +198,19 @@ answer_over command.Node tables input = if_read (node_over tables) (node_script_
 abbrev pub most_keys : ℕ
 most_keys = 1048576
 
+-- the most bytes of a capture that is checked: 2^28 (own)
+abbrev pub most_capture : ℕ
+most_capture = 268435456
+
+-- the most bytes of any other input: 2^25 (own)
+abbrev pub most_text : ℕ
+most_text = 33554432
+
 -- the most bytes of a command's input (own)
 abbrev pub most_input : Command → ℕ
-most_input command.Check = 268435456
-most_input command.CheckPcap = 268435456
-most_input _ = 33554432
+most_input command.Check = most_capture
+most_input command.CheckPcap = most_capture
+most_input _ = most_text
 
 -- the text of a pcap file that is too long: that of its header's fault, where it has one (own)
 abbrev pub long_file_text : Result (Head × List ℕ) HeadFault → List ℕ

@@ -43,11 +43,15 @@ keys_of time = do
   t ← time_of time
   Some (command.Keys t)
 
+-- the most events of a storm that are drawn (own)
+abbrev pub most_drawn : ℕ
+most_drawn = 10000
+
 -- the command `storm SEED COUNT` (own)
 abbrev pub storm_of : (seed count : List ℕ) → Option Command
 storm_of seed count = do
   s ← decimal_of seed
-  n ← decimal_up_to 10000 count
+  n ← decimal_up_to most_drawn count
   Some (command.Storm s n)
 
 -- the command of three words (own)

@@ -9,17 +9,19 @@ use Rattle.book_keys.specs.Lifetimes.{greatest_time}
 use Rattle.book_lines.specs.Lines.{says_something}
 use Rattle.book_lines.specs.Words.{number_in, sized_hex_in, nothing_in}
 use Rattle.book_base.specs.Results.{◌>>=◌}
+use Rattle.book_pcap.specs.Packets.{longest_datagram}
 use Rattle.book_cmd_check.specs.Captures.{Stored}
 
 -- the most bytes of a line of an input of stored segments (own)
 abbrev pub most_line : ℕ
 most_line = 131200
 
--- the stored segment that words say: a time, and 1 to 65,575 bytes in hexadecimal (own)
+-- the stored segment that words say: a time, and a datagram in hexadecimal, not empty and no longer
+-- than the longest (own)
 abbrev pub stored_of : ℕ → List (List ℕ) → Result Stored LineKind
 stored_of n ws = do
   time ← number_in 0 greatest_time ws
-  bytes ← sized_hex_in 1 65575 time.rest
+  bytes ← sized_hex_in 1 longest_datagram time.rest
   none ← nothing_in bytes.rest
   Ok (record { number = n; time = time.value; bytes = bytes.value })
 

@@ -11,6 +11,7 @@ use Rattle.book_keys.specs.Rows.{row_limit}
 use Rattle.book_lines.specs.Words.{Taken, word_in, word_as, nothing_in, choice_in, end_in}
 use Rattle.book_lines.specs.Words.{algorithm_in, number_in, sized_hex_in, some_hex_in, byte_in}
 use Rattle.book_base.specs.Results.{◌>>=◌}
+use Rattle.book_pcap.specs.Packets.{longest_datagram}
 use Rattle.book_link.specs.declared.event.Event.{Event}
 use Rattle.book_link.specs.declared.event.Event.TheVariants as event
 
@@ -21,6 +22,14 @@ greatest_isn = 4294967295
 -- the most segments that a link makes (own)
 abbrev pub most_segments : ℕ
 most_segments = 20000
+
+-- the most bytes that an event gives again and again, or takes (own)
+abbrev pub most_at_once : ℕ
+most_at_once = 65535
+
+-- the furthest place of a byte that an event alters, from the TCP header on (own)
+abbrev pub furthest_place : ℕ
+furthest_place = 65535
 
 -- an event of an end alone: `send END`, `resend END`, `close END`, `abort END` (own)
 abbrev pub event_of_end : (End → Event) → List (List ℕ) → Result Event LineKind
@@ -60,16 +69,16 @@ give_of ws = do
 unfoldable pub fill_of : List (List ℕ) → Result Event LineKind
 fill_of ws = do
   e ← end_in ws
-  count ← number_in 0 65535 e.rest
+  count ← number_in 0 most_at_once e.rest
   byte ← byte_in count.rest
   none ← nothing_in byte.rest
   Ok (event.Fill e.value count.value byte.value)
 
--- the event `inject END HEX`, of 1 to 65,575 bytes (own)
+-- the event `inject END HEX`, of at least one byte and at most the longest datagram (own)
 unfoldable pub inject_of : List (List ℕ) → Result Event LineKind
 inject_of ws = do
   e ← end_in ws
-  bytes ← sized_hex_in 1 65575 e.rest
+  bytes ← sized_hex_in 1 longest_datagram e.rest
   none ← nothing_in bytes.rest
   Ok (event.Inject e.value bytes.value)
 
@@ -78,7 +87,7 @@ unfoldable pub alter_of : List (List ℕ) → Result Event LineKind
 alter_of ws = do
   e ← end_in ws
   segment ← number_in 1 most_segments e.rest
-  place ← number_in 0 65535 segment.rest
+  place ← number_in 0 furthest_place segment.rest
   mask ← byte_in place.rest
   fixing ← choice_in (codes "keep") (codes "fix") mask.rest
   none ← nothing_in fixing.rest
@@ -149,7 +158,7 @@ event_named name ws =
     else if bytes_eq name (codes "deliver") then event_of_number event.Deliver 1 most_segments ws
     else if bytes_eq name (codes "inject") then inject_of ws
     else if bytes_eq name (codes "alter") then alter_of ws
-    else if bytes_eq name (codes "take") then event_of_number event.Take 0 65535 ws
+    else if bytes_eq name (codes "take") then event_of_number event.Take 0 most_at_once ws
     else if bytes_eq name (codes "close") then event_of_end event.Close ws
     else if bytes_eq name (codes "abort") then event_of_end event.Abort ws
     else if bytes_eq name (codes "add") then add_of ws

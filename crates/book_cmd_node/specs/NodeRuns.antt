@@ -32,9 +32,10 @@ use Rattle.book_cmd_node.specs.declared.node.Act.TheVariants as act
 use Rattle.book_cmd_node.specs.declared.node.NodeEvent.{NodeEvent}
 use Rattle.book_cmd_node.specs.declared.node.NodeEvent.TheVariants as event
 use Rattle.book_cmd_node.specs.declared.node.NodeScript.{NodeScript}
-use Rattle.book_cmd_link.specs.LinkEvents.{greatest_isn}
+use Rattle.book_cmd_link.specs.LinkEvents.{greatest_isn, most_at_once}
 use Rattle.book_cmd_link.specs.LinkFiles.{line_in, title_of, are_two_of_a_family, missing_in}
 use Rattle.book_segments.specs.Segments.{pair_reached}
+use Rattle.book_pcap.specs.Packets.{longest_datagram}
 
 -- an end that a node holds, under the pair of its connection (own)
 pub record Held : Type 0 where
@@ -302,10 +303,10 @@ clock_of ws = do
   none ← nothing_in seconds.rest
   Ok (event.Clock seconds.value)
 
--- the event `inject HEX`, of 1 to 65,575 bytes (own)
+-- the event `inject HEX`, of at least one byte and at most the longest datagram (own)
 abbrev pub node_inject_of : List (List ℕ) → Result NodeEvent LineKind
 node_inject_of ws = do
-  bytes ← sized_hex_in 1 65575 ws
+  bytes ← sized_hex_in 1 longest_datagram ws
   none ← nothing_in bytes.rest
   Ok (event.Inject bytes.value)
 
@@ -318,7 +319,7 @@ node_event_named own name ws =
     else if bytes_eq name (codes "listen") then act_number act.Listen greatest_isn own ws
     else if bytes_eq name (codes "start") then act_start own ws
     else if bytes_eq name (codes "give") then act_give own ws
-    else if bytes_eq name (codes "take") then act_number act.Take 65535 own ws
+    else if bytes_eq name (codes "take") then act_number act.Take most_at_once own ws
     else if bytes_eq name (codes "send") then act_alone act.Send own ws
     else if bytes_eq name (codes "resend") then act_alone act.Resend own ws
     else if bytes_eq name (codes "close") then act_alone act.Close own ws

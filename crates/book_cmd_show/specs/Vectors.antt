@@ -11,6 +11,7 @@ use Rattle.book_base.specs.Algorithms.{mac_length_of}
 use Rattle.book_segments.specs.Bytes.{ring}
 use Rattle.book_segments.specs.Options.{Ao, AoFound, One, find_ao}
 use Rattle.book_segments.specs.Segments.{Segment, Reading, Bad, Read, reading}
+use Rattle.book_keys.specs.MasterKeys.{longest_master_key}
 use Rattle.book_macs.specs.Ciphers.{aes, cmac, prf}
 use Rattle.book_macs.specs.Contexts.{context}
 use Rattle.book_macs.specs.Hmac.{hmac}
@@ -48,11 +49,15 @@ keyed_vector algorithm ws = do
   k ← keyed_of ws
   Ok (record { computed = algorithm k.key k.message; expected = k.expected })
 
+-- how many bytes a key of AES-128 has, and a block (FIPS 197, section 5)
+abbrev pub aes_length : ℕ
+aes_length = 16
+
 -- the test vector `KEY MESSAGE OUT` of AES-CMAC, with a key of 16 bytes (RFC 4493, section 2.4,
 -- and own)
 unfoldable pub cmac_vector : List (List ℕ) → Result Vector LineKind
 cmac_vector ws = do
-  key ← sized_hex_in 16 16 ws
+  key ← sized_hex_in aes_length aes_length ws
   message ← message_in key.rest
   out ← hex_in message.rest
   none ← nothing_in out.rest
@@ -62,8 +67,8 @@ cmac_vector ws = do
 -- section 5.1, and own)
 unfoldable pub aes_vector : List (List ℕ) → Result Vector LineKind
 aes_vector ws = do
-  key ← sized_hex_in 16 16 ws
-  block ← sized_hex_in 16 16 key.rest
+  key ← sized_hex_in aes_length aes_length ws
+  block ← sized_hex_in aes_length aes_length key.rest
   out ← hex_in block.rest
   none ← nothing_in out.rest
   Ok (record { computed = aes key.value block.value; expected = out.value })
@@ -73,7 +78,7 @@ aes_vector ws = do
 unfoldable pub kdf_vector : List (List ℕ) → Result Vector LineKind
 kdf_vector ws = do
   algorithm ← algorithm_in ws
-  master ← sized_hex_in 1 255 algorithm.rest
+  master ← sized_hex_in 1 longest_master_key algorithm.rest
   context ← context_in master.rest
   out ← hex_in context.rest
   none ← nothing_in out.rest
@@ -148,7 +153,7 @@ making_in algorithm ws = do
 unfoldable pub segment_vector : List (List ℕ) → Result Vector LineKind
 segment_vector ws = do
   algorithm ← algorithm_in ws
-  master ← sized_hex_in 1 255 algorithm.rest
+  master ← sized_hex_in 1 longest_master_key algorithm.rest
   making ← making_in algorithm.value master.rest
   bytes ← hex_in making.rest
   signed ← or_fault (signed_of algorithm.value bytes.value) Range
