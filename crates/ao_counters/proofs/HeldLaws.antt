@@ -154,7 +154,7 @@ module _ (rows : List Row) (m : NodeState) (n : StackCounts) (K : Keeps m n) whe
   other_acts p act.Abort none = K
   other_acts p act.Remove none = K
 
-  pair_acts : (p : Pair) (a : Act) (o : Option EndState) → held_end p m.ends ≡ o → let step = on_pair most_ends rows m p a o in Keeps step.node (act_counted step.outcome p a n)
+  pair_acts : (p : Pair) (a : Act) (o : Option EndState) → held_end p m.ends ≡ o → let step = on_pair most_ends rows m (record { pair = p; act = a }) o in Keeps step.node (act_counted step.outcome p a n)
   pair_acts p a None is = other_acts p a is
   pair_acts p a (Some s) is = held_acts p s a is
 

@@ -151,10 +151,10 @@ begun_reaches rows h after clock n p room told r s step S refused same added beg
 -- ---- an end is dropped
 
 pub removed_reaches : (rows : List Row) (h after : Holding) (clock : ℕ) (n : NodeState) (p : Pair) (room : List ℕ) → StandsNode rows h clock n → holds h p ≡ true → Removes h after p
-    → Reaches rows after clock room tells.Done (book.on_pair most_ends rows n p act.Remove (held_end p n.ends))
+    → Reaches rows after clock room tells.Done (book.on_pair most_ends rows n (record { pair = p; act = act.Remove }) (held_end p n.ends))
 removed_reaches rows h after clock n p room S is R = at (end_at h p) refl is
   where
-    at : (o : Option Endpoint) → end_at h p ≡ o → is_some o ≡ true → Reaches rows after clock room tells.Done (book.on_pair most_ends rows n p act.Remove (held_end p n.ends))
+    at : (o : Option Endpoint) → end_at h p ≡ o → is_some o ≡ true → Reaches rows after clock room tells.Done (book.on_pair most_ends rows n (record { pair = p; act = act.Remove }) (held_end p n.ends))
     at None e i = absurd (cc)
     at (Some x) e i =
         let k = at_some rows p (end_at h p) (held_end p n.ends) x (S.holds.each p) e in
@@ -170,10 +170,10 @@ removed_reaches rows h after clock n p room S is R = at (end_at h p) refl is
         })
 
 pub unremoved_reaches : (rows : List Row) (h after : Holding) (clock : ℕ) (n : NodeState) (p : Pair) (room : List ℕ) → StandsNode rows h clock n → holds h p ≡ false → after ≡ h
-    → Reaches rows after clock room tells.NoConnection (book.on_pair most_ends rows n p act.Remove (held_end p n.ends))
+    → Reaches rows after clock room tells.NoConnection (book.on_pair most_ends rows n (record { pair = p; act = act.Remove }) (held_end p n.ends))
 unremoved_reaches rows h after clock n p room S is same = at (end_at h p) refl is
   where
-    at : (o : Option Endpoint) → end_at h p ≡ o → is_some o ≡ false → Reaches rows after clock room tells.NoConnection (book.on_pair most_ends rows n p act.Remove (held_end p n.ends))
+    at : (o : Option Endpoint) → end_at h p ≡ o → is_some o ≡ false → Reaches rows after clock room tells.NoConnection (book.on_pair most_ends rows n (record { pair = p; act = act.Remove }) (held_end p n.ends))
     at (Some x) e i = absurd (cc)
     at None e i = rw (at_none rows p (end_at h p) (held_end p n.ends) (S.holds.each p) e, same) (record { stands = S; tells = refl })
 
@@ -231,7 +231,7 @@ IsCall (act.Start isn peer) = ⊥
 IsCall act.Remove = ⊥
 IsCall _ = ⊤
 
-called_is : (rows : List Row) (n : NodeState) (p : Pair) (a : Act) (o : Option EndState) → IsCall a → called_at rows n p a o ≡ book.on_pair most_ends rows n p a o
+called_is : (rows : List Row) (n : NodeState) (p : Pair) (a : Act) (o : Option EndState) → IsCall a → called_at rows n p a o ≡ book.on_pair most_ends rows n (record { pair = p; act = a }) o
 called_is rows n p (act.Give piece) None h = refl
 called_is rows n p (act.Give piece) (Some s) h = refl
 called_is rows n p (act.Take count) None h = refl
@@ -251,6 +251,6 @@ called_is rows n p act.Remove o h = absurd h
 
 pub call_reaches : {E : Type 0} (r : Result Told E) (rows : List Row) (h after : Holding) (clock : ℕ) (p : Pair) (a : Act) (room : List ℕ) → IsCall a
     → IfOk r (λ told. (n : NodeState) → StandsNode rows h clock n → Reaches rows after clock room told (called_at rows n p a (held_end p n.ends)))
-    → IfOk r (λ told. (n : NodeState) → StandsNode rows h clock n → Reaches rows after clock room told (book.on_pair most_ends rows n p a (held_end p n.ends)))
+    → IfOk r (λ told. (n : NodeState) → StandsNode rows h clock n → Reaches rows after clock room told (book.on_pair most_ends rows n (record { pair = p; act = a }) (held_end p n.ends)))
 call_reaches (Ok told) rows h after clock p a room is reached = λ n S. rw (← called_is rows n p a (held_end p n.ends) is) (reached n S)
 call_reaches (Err e) rows h after clock p a room is reached = reached

@@ -42,7 +42,7 @@ did_held p a s step = asking (kept p a step.outcome (stepped s step)) (event.On 
 
 -- the pair is held
 held_so : (p : Pair) (a : Act) (s : StackState) (e : EndState) → held_end p s.node.ends ≡ Some e → call (At p a) s ≡ did_held p a s (on_held s.rows s.node p e a)
-held_so p a s e is = at_known p a s (Some e) is ∙ ap (λ (o : Option EndState). did_held p a s (on_pair most_ends s.rows s.node p a o)) is
+held_so p a s e is = at_known p a s (Some e) is ∙ ap (λ (o : Option EndState). did_held p a s (on_pair most_ends s.rows s.node (record { pair = p; act = a }) o)) is
 
 -- the end of a pair that is held is called, with this answer
 pub did_called : (p : Pair) (a : Act) (s : StackState) (e : EndState) (o : NodeOutcome) → held_end p s.node.ends ≡ Some e
@@ -79,7 +79,7 @@ new_step s p t = record { node = with_new s.node (held p t); outcome = node.Perf
 pub did_full : (p : Pair) (a : Act) (s : StackState) → held_end p s.node.ends ≡ None → makes_an_end a ≡ true → s.most ≤ length s.node.ends → call (At p a) s ≡ unasked s (Told node.NodeFull)
 did_full p a s none makes more =
     let full : nat_le s.most (length s.node.ends) ≡ true = grind (arith, nat_tests) in
-    begun_so p a s none makes ∙ ap (λ (b : Bool). if b then unasked s (Told node.NodeFull) else did_new p a s (on_pair most_ends s.rows s.node p a (held_end p s.node.ends))) full
+    begun_so p a s none makes ∙ ap (λ (b : Bool). if b then unasked s (Told node.NodeFull) else did_new p a s (on_pair most_ends s.rows s.node (record { pair = p; act = a }) (held_end p s.node.ends))) full
 
 -- a new end begins
 pub did_begin : (p : Pair) (a : Act) (s : StackState) (t : EndState) → held_end p s.node.ends ≡ None → makes_an_end a ≡ true → on_other most_ends s.node p a ≡ new_end most_ends s.node p t
@@ -88,8 +88,8 @@ did_begin p a s t none makes plain less few =
     let room : nat_le s.most (length s.node.ends) ≡ false = grind (arith, nat_tests) in
     let place : nat_le most_ends (length s.node.ends) ≡ false = grind (arith, nat_tests) in
     begun_so p a s none makes
-    ∙ ap (λ (b : Bool). if b then unasked s (Told node.NodeFull) else did_new p a s (on_pair most_ends s.rows s.node p a (held_end p s.node.ends))) room
-    ∙ ap (λ (o : Option EndState). did_new p a s (on_pair most_ends s.rows s.node p a o)) none
+    ∙ ap (λ (b : Bool). if b then unasked s (Told node.NodeFull) else did_new p a s (on_pair most_ends s.rows s.node (record { pair = p; act = a }) (held_end p s.node.ends))) room
+    ∙ ap (λ (o : Option EndState). did_new p a s (on_pair most_ends s.rows s.node (record { pair = p; act = a }) o)) none
     ∙ ap (did_new p a s) plain
     ∙ ap (λ (b : Bool). did_new p a s (if b then node.stays s.node node.NodeFull else new_step s p t)) place
 

@@ -168,10 +168,15 @@ on_other most n pair act.Close = stays n NoConnection
 on_other most n pair act.Abort = stays n NoConnection
 on_other most n pair act.Remove = stays n NoConnection
 
+-- an act on a pair (own)
+pub record PairAct : Type 0 where
+  pub pair : Pair
+  pub act : Act
+
 -- an act on a pair, whose end is held or isn't (own)
-abbrev pub on_pair : ℕ → List Row → NodeState → Pair → Act → Option EndState → NodeStep
-on_pair most rows n pair a None = on_other most n pair a
-on_pair most rows n pair a (Some s) = on_held rows n pair s a
+abbrev pub on_pair : ℕ → List Row → NodeState → PairAct → Option EndState → NodeStep
+on_pair most rows n call None = on_other most n call.pair call.act
+on_pair most rows n call (Some s) = on_held rows n call.pair s call.act
 
 -- a datagram arrives at the end of a pair, where one is held (RFC 9293, section 3.10.7, and own)
 abbrev pub arrived_at : List Row → NodeState → Pair → Reading → Option EndState → NodeStep
@@ -193,7 +198,8 @@ node_step most rows n (event.Clock seconds) = record {
   outcome = Performed;
 }
 node_step most rows n (event.Inject bytes) = injected rows n (reading bytes)
-node_step most rows n (event.On pair a) = on_pair most rows n pair a (held_end pair n.ends)
+node_step most rows n (event.On pair a) =
+    on_pair most rows n (record { pair = pair; act = a }) (held_end pair n.ends)
 
 -- a node as it begins: the clock 0, and no end (own)
 abbrev pub no_ends : NodeState

@@ -94,8 +94,8 @@ held_alone rows p n s act.Close o e = after_call_alone p n s (act_on rows p n.cl
 held_alone rows p n s act.Abort o e = after_call_alone p n s (act_on rows p n.clock s act.Abort) e
 
 pair_alone : (most : ℕ) (rows : List Row) (p : Pair) (n : NodeState) (a : Act) (o : Option EndState) → nat_le most 0 ≡ false → IsOnce p n.ends → held_end p n.ends ≡ o
-    → is_placed (on_pair most rows n p a o).outcome ≡ true
-    → on_pair most rows (record { clock = n.clock; ends = only p o }) p a o ≡ lone p (on_pair most rows n p a o)
+    → is_placed (on_pair most rows n (record { pair = p; act = a }) o).outcome ≡ true
+    → on_pair most rows (record { clock = n.clock; ends = only p o }) (record { pair = p; act = a }) o ≡ lone p (on_pair most rows n (record { pair = p; act = a }) o)
 pair_alone most rows p n a None m once e f = other_alone most p n a m e f
 pair_alone most rows p n a (Some s) m once e f = held_alone rows p n s a once e
 
@@ -134,7 +134,7 @@ new_end_other most p q n s e = at (nat_le most (length n.ends))
     at true = refl
     at false = rw (end_pushed_other p q s n.ends e) refl
 
-pair_other : (most : ℕ) (rows : List Row) (p q : Pair) (n : NodeState) (a : Act) (o : Option EndState) → same_pair q p ≡ false → alone p (on_pair most rows n q a o).node ≡ alone p n
+pair_other : (most : ℕ) (rows : List Row) (p q : Pair) (n : NodeState) (a : Act) (o : Option EndState) → same_pair q p ≡ false → alone p (on_pair most rows n (record { pair = q; act = a }) o).node ≡ alone p n
 pair_other most rows p q n (act.Open isn) None e = new_end_other most p q n (connected q isn) e
 pair_other most rows p q n (act.Listen isn) None e = new_end_other most p q n (listening q isn) e
 pair_other most rows p q n (act.Start isn peer) None e = new_end_other most p q n (started q isn peer) e
@@ -180,7 +180,7 @@ arrived_once rows p q n r None once = once
 arrived_once rows p q n r (Some s) once = once_with p q (arrive rows q n.clock s r).state n.ends once
 
 pair_once : (most : ℕ) (rows : List Row) (p q : Pair) (n : NodeState) (a : Act) (o : Option EndState) → held_end q n.ends ≡ o → IsOnce p n.ends
-    → IsOnce p (on_pair most rows n q a o).node.ends
+    → IsOnce p (on_pair most rows n (record { pair = q; act = a }) o).node.ends
 pair_once most rows p q n (act.Open isn) None e once = new_end_once most p q n (connected q isn) e once
 pair_once most rows p q n (act.Listen isn) None e once = new_end_once most p q n (listening q isn) e once
 pair_once most rows p q n (act.Start isn peer) None e once = new_end_once most p q n (started q isn peer) e once

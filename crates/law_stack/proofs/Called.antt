@@ -92,7 +92,7 @@ begun_plain pair a s place = at (nat_le s.most (length s.node.ends)) refl
 
 -- the step of an act on a pair that isn't held
 step_other : (rows : List Row) (n : NodeState) (pair : Pair) (a : Act) → held_end pair n.ends ≡ None → node_step most_ends rows n (event.On pair a) ≡ on_other most_ends n pair a
-step_other rows n pair a e = ap (on_pair most_ends rows n pair a) e
+step_other rows n pair a e = ap (on_pair most_ends rows n (record { pair = pair; act = a })) e
 
 -- an event at a connection that isn't there
 nothing_done : (s : StackState) (e : NodeEvent) → node_step most_ends s.rows s.node e ≡ stays s.node NoConnection → Follows s s (e ∷ []) (NoConnection ∷ [])

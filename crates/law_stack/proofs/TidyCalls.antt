@@ -135,16 +135,16 @@ silent_speaks : (e : EndState) → is_silent e.phase ≡ true → e.rst_owed ≡
 silent_speaks e silent quiet same room = record { known = λ k. absurd (cc); resets = λ r. absurd (cc); ahead = omega (arith, same); room = room }
 
 other_tidy : (p : Pair) (a : Act) (s : StackState) → s.most ≤ most_ends → held_end p s.node.ends ≡ None → Tidy s → Tidy (at_other p a s).stack
-other_tidy p (act.Open isn) s fits none h = begun_tidy p (act.Open isn) (connected p isn) s fits (ap (on_pair most_ends s.rows s.node p (act.Open isn)) none) (silent_speaks (connected p isn) refl refl refl (default_room p.local.address)) none h
-other_tidy p (act.Listen isn) s fits none h = begun_tidy p (act.Listen isn) (listening p isn) s fits (ap (on_pair most_ends s.rows s.node p (act.Listen isn)) none) (silent_speaks (listening p isn) refl refl refl (default_room p.local.address)) none h
+other_tidy p (act.Open isn) s fits none h = begun_tidy p (act.Open isn) (connected p isn) s fits (ap (on_pair most_ends s.rows s.node (record { pair = p; act = (act.Open isn) })) none) (silent_speaks (connected p isn) refl refl refl (default_room p.local.address)) none h
+other_tidy p (act.Listen isn) s fits none h = begun_tidy p (act.Listen isn) (listening p isn) s fits (ap (on_pair most_ends s.rows s.node (record { pair = p; act = (act.Listen isn) })) none) (silent_speaks (listening p isn) refl refl refl (default_room p.local.address)) none h
 other_tidy p (act.Start isn peer) s fits none h =
-    begun_tidy p (act.Start isn peer) (started p isn peer) s fits (ap (on_pair most_ends s.rows s.node p (act.Start isn peer)) none) (record { known = λ k. refl; resets = λ r. refl; ahead = omega arith; room = own_room p.local.address }) none h
+    begun_tidy p (act.Start isn peer) (started p isn peer) s fits (ap (on_pair most_ends s.rows s.node (record { pair = p; act = (act.Start isn peer) })) none) (record { known = λ k. refl; resets = λ r. refl; ahead = omega arith; room = own_room p.local.address }) none h
 other_tidy p a s fits none h = h
 
 pair_tidy : (p : Pair) (a : Act) (s : StackState) (o : Option EndState) → s.most ≤ most_ends → held_end p s.node.ends ≡ o → Tidy s → Tidy (at_pair p a s o).stack
 pair_tidy p a s None fits is h = other_tidy p a s fits is h
 pair_tidy p a s (Some e) fits is h =
-    let step : node_step most_ends s.rows s.node (event.On p a) ≡ on_held s.rows s.node p e a = ap (on_pair most_ends s.rows s.node p a) is in
+    let step : node_step most_ends s.rows s.node (event.On p a) ≡ on_held s.rows s.node p e a = ap (on_pair most_ends s.rows s.node (record { pair = p; act = a })) is in
     subst (λ (x : NodeStep). Tidy (kept p a x.outcome (stepped s x))) (sym step) (held_tidy p a e s is h)
 
 -- ---- bytes come

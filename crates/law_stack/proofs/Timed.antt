@@ -415,15 +415,15 @@ begun_rings p a s keeps h = at (nat_le s.most (length s.node.ends))
         record { sorted = h.sorted; queue = same_line (pairs_of s.alarms) s.node.ends step.node.ends keeps h.queue; same = h.same; on = h.on }
 
 other_rings : (p : Pair) (a : Act) (s : StackState) → held_end p s.node.ends ≡ None → Rings s → Rings (at_other p a s).stack
-other_rings p (act.Open isn) s none h = begun_rings p (act.Open isn) s (λ q there. ap (holds q) (ap (on_pair most_ends s.rows s.node p (act.Open isn)) none) ∙ new_keeps most_ends s.node p (connected p isn) q there) h
-other_rings p (act.Listen isn) s none h = begun_rings p (act.Listen isn) s (λ q there. ap (holds q) (ap (on_pair most_ends s.rows s.node p (act.Listen isn)) none) ∙ new_keeps most_ends s.node p (listening p isn) q there) h
-other_rings p (act.Start isn peer) s none h = begun_rings p (act.Start isn peer) s (λ q there. ap (holds q) (ap (on_pair most_ends s.rows s.node p (act.Start isn peer)) none) ∙ new_keeps most_ends s.node p (started p isn peer) q there) h
+other_rings p (act.Open isn) s none h = begun_rings p (act.Open isn) s (λ q there. ap (holds q) (ap (on_pair most_ends s.rows s.node (record { pair = p; act = (act.Open isn) })) none) ∙ new_keeps most_ends s.node p (connected p isn) q there) h
+other_rings p (act.Listen isn) s none h = begun_rings p (act.Listen isn) s (λ q there. ap (holds q) (ap (on_pair most_ends s.rows s.node (record { pair = p; act = (act.Listen isn) })) none) ∙ new_keeps most_ends s.node p (listening p isn) q there) h
+other_rings p (act.Start isn peer) s none h = begun_rings p (act.Start isn peer) s (λ q there. ap (holds q) (ap (on_pair most_ends s.rows s.node (record { pair = p; act = (act.Start isn peer) })) none) ∙ new_keeps most_ends s.node p (started p isn peer) q there) h
 other_rings p a s none h = h
 
 pair_rings : (p : Pair) (a : Act) (s : StackState) (o : Option EndState) → held_end p s.node.ends ≡ o → Rings s → Rings (at_pair p a s o).stack
 pair_rings p a s None is h = other_rings p a s is h
 pair_rings p a s (Some e) is h =
-    let step : node_step most_ends s.rows s.node (event.On p a) ≡ on_held s.rows s.node p e a = ap (on_pair most_ends s.rows s.node p a) is in
+    let step : node_step most_ends s.rows s.node (event.On p a) ≡ on_held s.rows s.node p e a = ap (on_pair most_ends s.rows s.node (record { pair = p; act = a })) is in
     subst (λ (x : NodeStep). Rings (kept p a x.outcome (stepped s x))) (sym step) (held_rings p a e s is h)
 
 heard_rings : (now : ℕ) (p : Pair) (answer : Arrival) (e : EndState) (c : Called) (s : StackState) → held_end p s.node.ends ≡ Some e → length s.node.ends ≤ s.most → Rings s

@@ -77,7 +77,7 @@ follows_one s t e step is rows most node placed = record {
 
 -- the step of an act on an end that is held
 pub step_held : (rows : List Row) (n : NodeState) (pair : Pair) (a : Act) (x : EndState) → held_end pair n.ends ≡ Some x → node_step most_ends rows n (event.On pair a) ≡ on_held rows n pair x a
-step_held rows n pair a x e = ap (on_pair most_ends rows n pair a) e
+step_held rows n pair a x e = ap (on_pair most_ends rows n (record { pair = pair; act = a })) e
 
 pub passing_plain : (s : StackState) → IsPlainTurn s (passing s)
 passing_plain s = record { rows = refl; most = refl; placed = λ fits. refl; node = refl; told = refl }

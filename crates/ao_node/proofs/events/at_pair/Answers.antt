@@ -11,7 +11,7 @@ returns-in-Open-clause-reached g c =
     IfOk-weaker c.begun.result _ _
     (λ told begins n S.
     rw c.in-Open.is (begun_reaches c.args.table.now.rows c.args.node.now c.connect.new.self c.args.clock n c.args.pair.now c.args.room.now told c.connect.result
-    (connected c.args.pair.now c.in-Open.isn) (on_pair most_ends c.args.table.now.rows n c.args.pair.now (act.Open c.in-Open.isn)) S
+    (connected c.args.pair.now c.in-Open.isn) (on_pair most_ends c.args.table.now.rows n (record { pair = c.args.pair.now; act = (act.Open c.in-Open.isn) })) S
     c.connect.ensures.refused c.connect.ensures.unchanged c.connect.ensures.added begins refl (λ t. refl)))
     c.begun.ensures
 
@@ -20,7 +20,7 @@ returns-in-Listen-clause-reached g c =
     IfOk-weaker c.begun-in-Listen.result _ _
     (λ told begins n S.
     rw c.in-Listen.is (begun_reaches c.args.table.now.rows c.args.node.now c.listen.new.self c.args.clock n c.args.pair.now c.args.room.now told c.listen.result
-    (listening c.args.pair.now c.in-Listen.isn) (on_pair most_ends c.args.table.now.rows n c.args.pair.now (act.Listen c.in-Listen.isn)) S
+    (listening c.args.pair.now c.in-Listen.isn) (on_pair most_ends c.args.table.now.rows n (record { pair = c.args.pair.now; act = (act.Listen c.in-Listen.isn) })) S
     c.listen.ensures.refused c.listen.ensures.unchanged c.listen.ensures.added begins refl (λ t. refl)))
     c.begun-in-Listen.ensures
 
@@ -29,7 +29,7 @@ returns-in-Start-clause-reached g c =
     IfOk-weaker c.begun-in-Start.result _ _
     (λ told begins n S.
     rw c.in-Start.is (begun_reaches c.args.table.now.rows c.args.node.now c.start.new.self c.args.clock n c.args.pair.now c.args.room.now told c.start.result
-    (started c.args.pair.now c.in-Start.isn c.in-Start.peer) (on_pair most_ends c.args.table.now.rows n c.args.pair.now (act.Start c.in-Start.isn c.in-Start.peer)) S
+    (started c.args.pair.now c.in-Start.isn c.in-Start.peer) (on_pair most_ends c.args.table.now.rows n (record { pair = c.args.pair.now; act = (act.Start c.in-Start.isn c.in-Start.peer) })) S
     c.start.ensures.refused c.start.ensures.unchanged c.start.ensures.added begins refl (λ t. refl)))
     c.begun-in-Start.ensures
 
