@@ -7,6 +7,10 @@ use Rattle.book_base.specs.Decimals.{decimal_of}
 use Rattle.book_base.specs.Hexadecimal.{bytes_of_hex, hex_of}
 use Rattle.book_base.specs.Lines.{onto_first}
 
+-- the greatest port (RFC 9293, section 3.1)
+abbrev pub greatest_port : ℕ
+greatest_port = 0xffff
+
 -- a dot (own)
 abbrev pub is_dot : ℕ → Bool
 is_dot byte = byte == 46

@@ -37,12 +37,12 @@ resolution_told (Some value) = resolution_of (slice_index value 0)
 
 -- the number of eight bytes at the front (own)
 abbrev pub eight_at : ByteOrder → List ℕ → ℕ
-eight_at Big b = four_at Big b 0 * 4294967296 + four_at Big b 4
-eight_at Little b = four_at Little b 0 + four_at Little b 4 * 4294967296
+eight_at Big b = four_at Big b 0 * 0x100000000 + four_at Big b 4
+eight_at Little b = four_at Little b 0 + four_at Little b 4 * 0x100000000
 
 -- a number of 64 bits that may be negative, in two's complement (own)
 abbrev pub offset_of : ℕ → TimeOffset
-offset_of n = if nat_lt n 9223372036854775808 then Later n else Earlier (18446744073709551616 - n)
+offset_of n = if nat_lt n 0x8000000000000000 then Later n else Earlier (0x10000000000000000 - n)
 
 -- the offset of times that the value of if_tsoffset tells; none where there is no such option
 -- (pcapng, section 4.2)
@@ -67,8 +67,8 @@ units (Binary n) = 2 ^ n
 -- a time in nanoseconds, moved by an offset in seconds; one before 1970 is 1970, and one that 64
 -- bits don't hold is the last that they do (own)
 abbrev pub moved_time : TimeOffset → ℕ → ℕ
-moved_time (Later seconds) time = min (time + seconds * 1000000000) 18446744073709551615
-moved_time (Earlier seconds) time = min (time - seconds * 1000000000) 18446744073709551615
+moved_time (Later seconds) time = min (time + seconds * 1000000000) 0xffffffffffffffff
+moved_time (Earlier seconds) time = min (time - seconds * 1000000000) 0xffffffffffffffff
 
 -- so many units of time in nanoseconds; a time that 64 bits don't hold is the last that they do
 -- (own)
@@ -90,7 +90,7 @@ stamped_in order interface body = if nat_lt (length body) 20 then Err fault.Shor
     else if nat_lt (length body) (20 + four_at order body 12) then Err fault.Short
     else Ok (record {
       interface = interface;
-      count = four_at order body 4 * 4294967296 + four_at order body 8;
+      count = four_at order body 4 * 0x100000000 + four_at order body 8;
       original = four_at order body 16;
       bytes = take (four_at order body 12) (drop 20 body);
     })

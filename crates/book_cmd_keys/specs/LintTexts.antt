@@ -17,6 +17,7 @@ use Rattle.book_lines.specs.Words.{Taken, address_in, number_in, socket_in, noth
 use Rattle.book_base.specs.Results.{◌>>=◌}
 use Rattle.book_keys.specs.declared.plan.Plan.{Plan}
 use Rattle.book_cmd_link.specs.LinkFiles.{are_two_of_a_family}
+use Rattle.book_base.specs.Addresses.{greatest_port}
 
 -- the next word as an address of this one's family that differs from it (own)
 abbrev pub address_beside : Address → List (List ℕ) → Result (Taken Address) LineKind
@@ -30,7 +31,7 @@ unfoldable pub lint_pair_of : List (List ℕ) → Result Pair LineKind
 lint_pair_of ws = do
   a ← socket_in ws
   b ← address_beside a.value.address a.rest
-  port ← number_in 0 65535 b.rest
+  port ← number_in 0 greatest_port b.rest
   none ← nothing_in port.rest
   Ok (record { local = a.value; remote = record { address = b.value; port = port.value } })
 

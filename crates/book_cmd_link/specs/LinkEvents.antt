@@ -7,7 +7,7 @@ use Rattle.book_lines.specs.declared.line_kind.LineKind.{LineKind}
 use Rattle.book_lines.specs.declared.line_kind.LineKind.TheVariants.{Word, Range}
 use Rattle.book_keys.specs.Lifetimes.{greatest_time}
 use Rattle.book_keys.specs.MasterKeys.{longest_master_key}
-use Rattle.book_keys.specs.Rows.{row_limit}
+use Rattle.book_keys.specs.Rows.{row_limit, greatest_key_id}
 use Rattle.book_lines.specs.Words.{Taken, word_in, word_as, nothing_in, choice_in, end_in}
 use Rattle.book_lines.specs.Words.{algorithm_in, number_in, sized_hex_in, some_hex_in, byte_in}
 use Rattle.book_base.specs.Results.{◌>>=◌}
@@ -112,8 +112,8 @@ ways_of w =
 unfoldable pub add_of : List (List ℕ) → Result Event LineKind
 add_of ws = do
   e ← end_in ws
-  recv_id ← number_in 0 255 e.rest
-  send_id ← number_in 0 255 recv_id.rest
+  recv_id ← number_in 0 greatest_key_id e.rest
+  send_id ← number_in 0 greatest_key_id recv_id.rest
   algorithm ← algorithm_in send_id.rest
   master ← sized_hex_in 1 longest_master_key algorithm.rest
   apart ← choice_in (codes "no-options") (codes "options") master.rest

@@ -36,6 +36,7 @@ use Rattle.book_cmd_link.specs.LinkEvents.{greatest_isn, most_at_once}
 use Rattle.book_cmd_link.specs.LinkFiles.{line_in, title_of, are_two_of_a_family, missing_in}
 use Rattle.book_segments.specs.Segments.{pair_reached}
 use Rattle.book_pcap.specs.Packets.{longest_datagram}
+use Rattle.book_base.specs.Addresses.{greatest_port}
 
 -- an end that a node holds, under the pair of its connection (own)
 pub record Held : Type 0 where
@@ -258,10 +259,10 @@ node_text rows events = outcome_lines 1 (outcomes rows events)
 -- (own)
 abbrev pub pair_in : Address → List (List ℕ) → Result (Taken Pair) LineKind
 pair_in own ws = do
-  local ← number_in 0 65535 ws
+  local ← number_in 0 greatest_port ws
   address ← address_in local.rest
   far ← (if are_two_of_a_family own address.value then Ok address.value else Err kind.Range)
-  port ← number_in 0 65535 address.rest
+  port ← number_in 0 greatest_port address.rest
   Ok (record {
     value = record {
       local = record { address = own; port = local.value };

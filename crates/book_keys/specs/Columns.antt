@@ -10,7 +10,7 @@ use Rattle.toml.specs.Data.{Members, no_members, member, get_member, as_str}
 use Rattle.book_base.specs.declared.address.Address.{Address}
 use Rattle.book_base.specs.declared.algorithm.Algorithm.{Algorithm}
 use Rattle.book_base.specs.declared.algorithm.Algorithm.TheVariants.{HmacSha1, AesCmac, HmacSha256}
-use Rattle.book_base.specs.Addresses.{address_of}
+use Rattle.book_base.specs.Addresses.{address_of, greatest_port}
 use Rattle.book_base.specs.Algorithms.{name_of}
 use Rattle.book_base.specs.Decimals.{decimal_of}
 use Rattle.book_base.specs.Hexadecimal.{bytes_of_hex}
@@ -19,7 +19,7 @@ use Rattle.book_keys.specs.declared.direction.Direction.TheVariants.{Receive, Se
 use Rattle.book_keys.specs.declared.lifetime.Lifetime.{Lifetime}
 use Rattle.book_keys.specs.Lifetimes.{greatest_time}
 use Rattle.book_keys.specs.MasterKeys.{is_master_key}
-use Rattle.book_keys.specs.Rows.{Row, peer_limit}
+use Rattle.book_keys.specs.Rows.{Row, peer_limit, greatest_key_id}
 use Rattle.book_keys.specs.declared.fault.Column.{Column}
 use Rattle.book_keys.specs.declared.fault.Column.TheVariants as column
 use Rattle.book_keys.specs.declared.fault.TableFault.{TableFault}
@@ -66,7 +66,7 @@ up_to most (Some n) = if nat_le n most then Some n else None
 
 -- the id that a text writes: a decimal from 0 to 255 (RFC 5925, section 3.1)
 abbrev pub id_of_text : List ℕ → Option ℕ
-id_of_text text = up_to 255 (decimal_of text)
+id_of_text text = up_to greatest_key_id (decimal_of text)
 
 -- the ids of row r of node n: AdminKeyName, LocalKeyName (RecvID), PeerKeyName (SendID) (RFC 7210,
 -- section 2)
@@ -210,7 +210,7 @@ accepting_end = record { name = codes "AcceptLifetimeEnd"; column = column.Accep
 -- the port that a value writes, a decimal from 0 to 65535, or any port where it is absent (own)
 abbrev pub port_of : Option Data → Option (Option ℕ)
 port_of None = Some None
-port_of (Some d) = option_map Some (up_to 65535 (option_and_then decimal_of (as_str d)))
+port_of (Some d) = option_map Some (up_to greatest_port (option_and_then decimal_of (as_str d)))
 
 -- the terms of row r of node n: Direction and the two lifetimes (RFC 7210, section 2)
 unfoldable pub terms_of : (node row : ℕ) → Members → Result Terms TableFault

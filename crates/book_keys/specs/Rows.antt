@@ -11,6 +11,10 @@ use Rattle.book_keys.specs.declared.direction.Direction.TheVariants.{Receive, Se
 use Rattle.book_keys.specs.declared.lifetime.Lifetime.{Lifetime}
 use Rattle.book_keys.specs.Lifetimes.{contains}
 
+-- the greatest KeyID (RFC 5925, section 2.2)
+abbrev pub greatest_key_id : ℕ
+greatest_key_id = 0xff
+
 -- how many nodes a key file has at most (own)
 abbrev pub node_limit : ℕ
 node_limit = 16

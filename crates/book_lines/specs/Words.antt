@@ -11,7 +11,7 @@ use Rattle.book_base.specs.declared.end.End.{End}
 use Rattle.book_base.specs.declared.end.End.TheVariants.{A, B}
 use Rattle.book_lines.specs.declared.line_kind.LineKind.{LineKind}
 use Rattle.book_lines.specs.declared.line_kind.LineKind.TheVariants.{Word, Number, Hex, Range}
-use Rattle.book_base.specs.Addresses.{address_of}
+use Rattle.book_base.specs.Addresses.{address_of, greatest_port}
 use Rattle.book_base.specs.Algorithms.{algorithm_of}
 use Rattle.book_base.specs.Decimals.{decimal_of}
 use Rattle.book_base.specs.Hexadecimal.{bytes_of_hex}
@@ -88,7 +88,7 @@ number_in low high ws = do
 unfoldable pub socket_in : List (List ℕ) → Result (Taken Socket) LineKind
 socket_in ws = do
   address ← address_in ws
-  port ← number_in 0 65535 address.rest
+  port ← number_in 0 greatest_port address.rest
   Ok (record { value = record { address = address.value; port = port.value }; rest = port.rest })
 
 -- the next word as bytes in hexadecimal (own)

@@ -9,6 +9,7 @@ use Rattle.book_base.specs.Results.{◌>>=◌}
 use Rattle.book_cmd_link.specs.LinkFiles.{are_two_of_a_family}
 use Rattle.book_lines.specs.Words.{Taken, word_as, number_in, nothing_in}
 use Rattle.book_scope_texts.specs.Addresses.{usual_address_of}
+use Rattle.book_base.specs.Addresses.{greatest_port}
 
 -- the next word as an address in its usual form (RFC 4291, section 2.2, and own)
 unfoldable pub usual_address_in : List (List ℕ) → Result (Taken Address) LineKind
@@ -18,7 +19,7 @@ usual_address_in ws = word_as usual_address_of Word ws
 unfoldable pub usual_socket_in : List (List ℕ) → Result (Taken Socket) LineKind
 usual_socket_in ws = do
   address ← usual_address_in ws
-  port ← number_in 0 65535 address.rest
+  port ← number_in 0 greatest_port address.rest
   Ok (record { value = record { address = address.value; port = port.value }; rest = port.rest })
 
 -- the next word as an address of this one's family that differs from it (own)
@@ -33,6 +34,6 @@ unfoldable pub plan_pair_of : List (List ℕ) → Result Pair LineKind
 plan_pair_of ws = do
   a ← usual_socket_in ws
   b ← usual_address_beside a.value.address a.rest
-  port ← number_in 0 65535 b.rest
+  port ← number_in 0 greatest_port b.rest
   none ← nothing_in port.rest
   Ok (record { local = a.value; remote = record { address = b.value; port = port.value } })

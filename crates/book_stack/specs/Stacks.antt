@@ -91,4 +91,4 @@ knocks d held = syn_alone d && good d && is_free held
 -- a segment as it is handed out: a checksum of 0000 as ffff, the same number in one's complement,
 -- since there are receivers that take 0000 for a wrong MAC (own)
 abbrev pub handed : Segment → Segment
-handed d = with_sum d (if d.checksum == 0 then 65535 else d.checksum)
+handed d = with_sum d (if d.checksum == 0 then 0xffff else d.checksum)
