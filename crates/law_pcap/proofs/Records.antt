@@ -43,7 +43,7 @@ pub record IsWhole (kept : Kept) (behind : List ℕ) : Type 0 where
   pub rest : All IsByte behind
 
 whole_parts : (order : ByteOrder) (text : List ℕ) (kept : Kept) (rest : List ℕ) → All IsByte text →
-    Leads (record { seconds = four_at order text 0; bytes = take (four_at order text 8) (drop 16 text) }) (drop (16 + four_at order text 8) text) ≡ Leads kept rest → IsWhole kept rest
+    ◌≡◌ {A = Front Kept RecordFault} (Leads (record { seconds = four_at order text 0; bytes = take (four_at order text 8) (drop 16 text) }) (drop (16 + four_at order text 8) text)) (Leads kept rest) → IsWhole kept rest
 whole_parts order text kept rest all same =
     let kept_is : record { seconds = four_at order text 0; bytes = take (four_at order text 8) (drop 16 text) } ≡ kept = cc in
     let rest_is : drop (16 + four_at order text 8) text ≡ rest = cc in
