@@ -5,7 +5,7 @@ ghost use Rattle.book_cmd_node.specs.declared.node.Act.TheVariants as act;
 ghost use Rattle.book_counters.specs.Counters.{StackCounts, no_stack_counts};
 ghost use Rattle.book_stack.specs.Calls.{At};
 ghost use Rattle.book_stack.specs.Stacks.{StackState, empty_stack};
-ghost use Rattle.tcp_segment.specs.Writing.{IsOneFamily};
+ghost use Rattle.book_base.specs.Addresses.{IsOneFamily};
 ghost use Rattle.ao_counters.specs.Answering.{BeginsAs};
 ghost use Rattle.ao_counters.specs.Standing.{Stands};
 

@@ -1,7 +1,7 @@
 //! The events of a node.
 ghost use Rattle.std.specs.Prelude.{◌≡◌, ◌≤◌, length, IfOk};
 ghost use Rattle.book_keys.specs.Lifetimes.{greatest_time};
-ghost use Rattle.tcp_segment.specs.Writing.{IsOneFamily};
+ghost use Rattle.book_base.specs.Addresses.{IsOneFamily};
 ghost use Rattle.book_cmd_node.specs.NodeRuns.{NodeState, most_ends, node_step, on_pair, held_end};
 ghost use Rattle.node_script.specs.Scripts.{IsEvent};
 ghost use Rattle.book_base.specs.declared.address.Address.{Address as OneAddress};

@@ -11,7 +11,7 @@ use Rattle.book_stack.specs.declared.alarm.Alarm.{Alarm}
 use Rattle.book_stack.specs.Alarms.{lined, with_alarm, without_alarm, without_pair}
 use Rattle.book_stack.specs.Stacks.{StackState, touched, watched, forgotten}
 use Rattle.book_stack.specs.Watches as book
-use Rattle.tcp_segment.specs.Writing.{IsOneFamily}
+use Rattle.book_base.specs.Addresses.{IsOneFamily}
 use Rattle.stack_ends.specs.declared.ends.Ends.{Ends}
 use Rattle.stack_ends.specs.Standing as ends
 use Rattle.stack_ends.specs.Standing.{most_of, with_new}

@@ -4,7 +4,7 @@ use Rattle.book_base.specs.declared.address.Pair.{Pair}
 use Rattle.book_cmd_node.specs.NodeRuns.{held_end, most_ends}
 use Rattle.book_stack.specs.Stacks.{StackState}
 use Rattle.book_stack.specs.Watches as book
-use Rattle.tcp_segment.specs.Writing.{IsOneFamily}
+use Rattle.book_base.specs.Addresses.{IsOneFamily}
 use Rattle.stack_ends.specs.Standing.{most_of}
 use Rattle.stack_ends.specs.Standing as below
 use Rattle.stack_timers.specs.declared.watch.Watch.{Watch}

@@ -4,7 +4,7 @@ ghost use Rattle.book_cmd_node.specs.NodeRuns.{most_ends};
 ghost use Rattle.book_cmd_node.specs.declared.node.Act.TheVariants as act;
 ghost use Rattle.book_stack.specs.Calls.{At};
 ghost use Rattle.book_stack.specs.Stacks.{StackState, empty_stack, touched};
-ghost use Rattle.tcp_segment.specs.Writing.{IsOneFamily};
+ghost use Rattle.book_base.specs.Addresses.{IsOneFamily};
 ghost use Rattle.ao_stack.specs.Answering.{BeginsAs};
 ghost use Rattle.ao_stack.specs.Standing.{Stands, TakesBack};
 

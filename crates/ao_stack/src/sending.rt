@@ -4,7 +4,7 @@ ghost use Rattle.book_cmd_node.specs.NodeRuns.{NodeOutcome, held_end};
 ghost use Rattle.book_stack.specs.Calls.{Output, call};
 ghost use Rattle.book_stack.specs.Stacks.{StackState, watched};
 ghost use Rattle.book_stack.specs.Turns.{ask, asked_pair, output_at, segment_in, turns, wake, woken_pair};
-ghost use Rattle.tcp_segment.specs.Writing.{IsOneFamily};
+ghost use Rattle.book_base.specs.Addresses.{IsOneFamily};
 ghost use Rattle.stack_ends.specs.Saying.{Leaves, SaysAs};
 ghost use Rattle.stack_timers.specs.Watching.{latest};
 ghost use Rattle.ao_stack.specs.Answering.{Follows, IsHanded};

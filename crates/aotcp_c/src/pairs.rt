@@ -1,6 +1,6 @@
 //! Addresses and pairs of sockets, from a C program and to one.
 ghost use Rattle.std.specs.Prelude.{◌≡◌, IfSome};
-ghost use Rattle.tcp_segment.specs.Writing.{IsOneFamily};
+ghost use Rattle.book_base.specs.Addresses.{IsOneFamily};
 ghost use Rattle.aotcp_c.specs.Shapes.{address_of, bytes_of, family_of, four, no_pair, pair_of, padded, told_pair};
 
 use crate::shapes::{CAddress, CPair};

@@ -1,5 +1,6 @@
--- Addresses as text (own).
-use Rattle.std.specs.Prelude.{ℕ, ◌==◌, nat_lt, Bool, false, cond, List, [], ◌∷◌, ◌++◌, length}
+-- Addresses as text, and their families (own).
+use Rattle.std.specs.Prelude.{◌≡◌, ℕ, ◌==◌, nat_lt, Bool, true, false, cond}
+use Rattle.std.specs.Prelude.{List, [], ◌∷◌, ◌++◌, length}
 use Rattle.std.specs.Prelude.{Option, Some, None, option_map, decimal}
 use Rattle.book_base.specs.declared.address.Address.{Address}
 use Rattle.book_base.specs.declared.address.Address.TheVariants.{V4, V6}
@@ -10,6 +11,17 @@ use Rattle.book_base.specs.Lines.{onto_first}
 -- the greatest port (RFC 9293, section 3.1)
 abbrev pub greatest_port : ℕ
 greatest_port = 0xffff
+
+-- both addresses are of one family, IPv4 or IPv6 (RFC 791, section 3.1; RFC 8200, section 3)
+abbrev pub same_family : (one other : Address) → Bool
+same_family (V4 one) (V4 two) = true
+same_family (V4 one) (V6 two) = false
+same_family (V6 one) (V4 two) = false
+same_family (V6 one) (V6 two) = true
+
+-- both addresses are of one family (own)
+abbrev pub IsOneFamily : (one other : Address) → Type 0
+IsOneFamily one two = same_family one two ≡ true
 
 -- a dot (own)
 abbrev pub is_dot : ℕ → Bool

@@ -1,5 +1,5 @@
 //! A node of fewer ends than that of a command has.
-ghost use Rattle.tcp_segment.specs.Writing.{IsOneFamily};
+ghost use Rattle.book_base.specs.Addresses.{IsOneFamily};
 
 use book_base::{Address, Pair, Socket};
 use key_table::Table;

@@ -4,7 +4,7 @@ ghost use Rattle.std.specs.Option.{ForSome};
 ghost use Rattle.book_keys.specs.Lifetimes.{greatest_time};
 ghost use Rattle.book_link.specs.Worlds.{LinkSide as EndSide, find};
 ghost use Rattle.tcp_endpoint.specs.Ends.{FitsEnd};
-ghost use Rattle.tcp_endpoint.specs.Halves.{same_family};
+ghost use Rattle.book_base.specs.Addresses.{IsOneFamily};
 
 use crate::sessions::{Ended, Live, has_isn};
 use book_base::Pair;
@@ -20,7 +20,7 @@ pub struct Side {
     pub(crate) table: Table,
     pub(crate) live: Option<Live>,
     pub(crate) dropped: Vec<Ended>,
-    ghost family: { same_family pair.local.address pair.remote.address ≡ true },
+    ghost family: { IsOneFamily pair.local.address pair.remote.address },
     ghost time: { clock ≤ greatest_time },
     ghost bound: { ForSome live (λ l. l.endpoint.pair ≡ pair) },
     ghost fits: { ForSome live (λ l. FitsEnd table.rows l.endpoint) },
@@ -31,7 +31,7 @@ impl Side {
 
     /// An end without a session, its clock at 0. The two addresses are of one family.
     pub fn new(alloc: Global, pair: Pair, table: Table) -> Side
-        requires family { same_family pair.local.address pair.remote.address ≡ true }
+        requires family { IsOneFamily pair.local.address pair.remote.address }
         ensures stands { StandsSide result (record { clock = 0; rows = table.rows; sessions = [] }) }
         ensures pair { result.pair ≡ pair }
     {

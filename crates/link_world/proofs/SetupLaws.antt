@@ -13,7 +13,7 @@ use Rattle.book_keys.specs.Plans.{rows_at, rows_of_table}
 use Rattle.book_keys.specs.Rows.{Table, has_address}
 use Rattle.key_table.specs.Lending.{place_of}
 use Rattle.book_cmd_link.specs.LinkFiles.{are_two_of_a_family}
-use Rattle.tcp_endpoint.specs.Halves.{same_family}
+use Rattle.book_base.specs.Addresses.{same_family}
 
 -- ---- the addresses
 

@@ -6,7 +6,7 @@ ghost use Rattle.book_segments.specs.Segments.{reading};
 ghost use Rattle.book_keys.specs.Lifetimes.{greatest_time};
 ghost use Rattle.book_endpoint.specs.States.{connected, listening, started};
 ghost use Rattle.book_cmd_node.specs.NodeRuns.{most_ends};
-ghost use Rattle.tcp_segment.specs.Writing.{IsOneFamily};
+ghost use Rattle.book_base.specs.Addresses.{IsOneFamily};
 ghost use Rattle.tcp_endpoint.specs.declared.endpoint.Endpoint.{Endpoint as OneEnd};
 ghost use Rattle.node_ends.specs.Arrivals.{Comes};
 ghost use Rattle.node_ends.specs.Held.{Adds, Begins, FitsAll, IsRefused, Removes, Ticks, end_at, holds, refusal};

@@ -12,7 +12,7 @@ use Rattle.book_endpoint.specs.Emissions.{Draft, Emits, sets, sealed, made_under
 use Rattle.key_coordination.specs.declared.choice.Sending.{Sending as Told}
 use Rattle.tcp_segment.specs.declared.writing.Head.{Head}
 use Rattle.tcp_segment.specs.Drafts.{DatagramMut, Drafted}
-use Rattle.tcp_segment.specs.Writing.{drafted, header_length, OneFamily, IsFinished}
+use Rattle.tcp_segment.specs.Writing.{drafted, header_length, AreSized, IsFinished}
 use Rattle.ao_kdf.specs.Cache.{Cache}
 use Rattle.ao_kdf.specs.declared.way.Way.TheVariants.{Outbound}
 use Rattle.ao_check.specs.Bonds.{Bond, Counted}
@@ -66,7 +66,7 @@ emits_so o a rows sending pair h r s draft chosen p context l i copied e =
 pub written_so : (o : Outgoing) (a : Bond) (rows : List Row) (sending : Told) (pair : Pair) (h : Head) (r : Row)
     (s : EndState) (draft : Draft) (chosen : Sending) (p context code before after : List ℕ) (count : ℕ)
     → IsLaid o rows sending pair h r → IsOf o a rows sending s draft chosen → p ≡ bytes_in o.payload
-    → OneFamily h.source.address h.destination.address
+    → AreSized h.source.address h.destination.address
     → length code ≡ h.mac_length → count ≡ header_length h + length p
     → HasCode h p r context (value_of o.number) code
     → IsFinished h code p (drop count before) after

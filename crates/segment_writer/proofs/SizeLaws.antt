@@ -14,7 +14,8 @@ use Rattle.book_keys.specs.Rows.{Row}
 use Rattle.key_coordination.specs.declared.choice.Sending.{Sending as Told}
 use Rattle.tcp_segment.specs.declared.writing.Head.{Head}
 use Rattle.tcp_segment.specs.Drafts.{DatagramMut, Drafted}
-use Rattle.tcp_segment.specs.Writing.{drafted, ip_size, header_length, OneFamily, IsOneFamily, IsHead, IsFinished}
+use Rattle.book_base.specs.Addresses.{IsOneFamily}
+use Rattle.tcp_segment.specs.Writing.{drafted, ip_size, header_length, AreSized, IsHead, IsFinished}
 use Rattle.tcp_segment.proofs.WriteLaws.{parts, before, before_long}
 use Rattle.segment_writer.specs.declared.outgoing.Outgoing.{Outgoing}
 use Rattle.segment_writer.specs.Heads.{head_of, size_of}
@@ -91,7 +92,7 @@ unfolding spell tcp_bytes header
 same_zero d z = same_ip d.ip d (checksum_of d) (tcp_bytes d 0) ∙ ap (λ (c : ℕ). spell_as d.ip d (tcp_bytes d c)) (sym z)
 
 -- the bytes of a segment that is finished
-pub finished_long : (h : Head) (code payload : List ℕ) → OneFamily h.source.address h.destination.address → length code ≡ h.mac_length
+pub finished_long : (h : Head) (code payload : List ℕ) → AreSized h.source.address h.destination.address → length code ≡ h.mac_length
     → length (spell (finished (drafted h code payload))) ≡ header_length h + length payload
 finished_long h code payload family long =
     let d : Segment = drafted h code payload in

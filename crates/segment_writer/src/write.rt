@@ -7,7 +7,7 @@ ghost use Rattle.book_endpoint.specs.Emissions.{Draft, Emits, made_under, sealed
 ghost use Rattle.book_endpoint.specs.States.{EndState};
 ghost use Rattle.book_segments.specs.Segments.{SYN};
 ghost use Rattle.book_macs.specs.Contexts.{bytes_of};
-ghost use Rattle.tcp_segment.specs.Writing.{IsOneFamily};
+ghost use Rattle.book_base.specs.Addresses.{IsOneFamily};
 ghost use Rattle.ao_kdf.specs.declared.way.Way.TheVariants.{Outbound};
 ghost use Rattle.ao_check.specs.Bonds.{Counted, Fits};
 ghost use Rattle.wrap_seq.specs.Counter.{number as value_of};

@@ -4,7 +4,7 @@ ghost use Rattle.book_keys.specs.Lifetimes.{greatest_time};
 ghost use Rattle.book_keys.specs.Rows.{Row};
 ghost use Rattle.book_endpoint.specs.States.{connected, listening};
 ghost use Rattle.book_cmd_node.specs.NodeRuns.{NodeState, most_ends, no_ends, ends_ticked, held_end};
-ghost use Rattle.tcp_segment.specs.Writing.{IsOneFamily};
+ghost use Rattle.book_base.specs.Addresses.{IsOneFamily};
 ghost use Rattle.stack_ends.specs.Standing.{Stands, Begun, Removed, most_of};
 
 use crate::ends::Ends;

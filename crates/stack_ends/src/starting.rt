@@ -3,7 +3,7 @@ ghost use Rattle.std.specs.Prelude.{◌≡◌, List};
 ghost use Rattle.book_keys.specs.Rows.{Row};
 ghost use Rattle.book_endpoint.specs.States.{started};
 ghost use Rattle.book_cmd_node.specs.NodeRuns.{NodeState};
-ghost use Rattle.tcp_segment.specs.Writing.{IsOneFamily};
+ghost use Rattle.book_base.specs.Addresses.{IsOneFamily};
 ghost use Rattle.stack_ends.specs.Standing.{Stands, Begun, most_of};
 
 use crate::ends::Ends;

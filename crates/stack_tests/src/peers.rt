@@ -1,7 +1,7 @@
 //! Two stacks at the ends of a way, and what each does at a moment.
 ghost use Rattle.std.specs.Prelude.{◌≡◌, ◌≤◌, length};
 ghost use Rattle.stack_timers.specs.Watching.{latest};
-ghost use Rattle.tcp_segment.specs.Writing.{IsOneFamily};
+ghost use Rattle.book_base.specs.Addresses.{IsOneFamily};
 
 use crate::way::{LATEST, Way};
 use ao_stack::{Heard, Stack};

@@ -7,6 +7,5 @@ pub mod PhaseLaws
 pub mod JudgeLaws
 pub mod PassLaws
 pub mod CostLaws
-pub mod FamilyLaws
 pub mod FitLaws
 pub mod MakeLaws

@@ -1,8 +1,7 @@
 -- What holds of every end: of its bond, of the RST that it owes, of the numbers that it sends, of those that it receives.
 use Rattle.std.specs.Prelude.{◌≡◌, ℕ, ◌+◌, ◌^◌, ◌<◌, ◌≤◌, max, Bool, true, false, Option, Some, None, is_some}
-use Rattle.book_base.specs.declared.address.Address.{Address}
-use Rattle.book_base.specs.declared.address.Address.TheVariants.{V4, V6}
 use Rattle.book_base.specs.declared.address.Pair.{Pair}
+use Rattle.book_base.specs.Addresses.{IsOneFamily}
 use Rattle.book_segments.specs.Received.{below_limit}
 use Rattle.book_endpoint.specs.declared.phase.Phase.{Phase}
 use Rattle.book_endpoint.specs.declared.phase.Phase.TheVariants.{Listen, SynSent, Established, FinWait1, FinWait2, CloseWait, Closing, LastAck, TimeWait, Closed}
@@ -62,19 +61,13 @@ before_fin TimeWait = false
 before_fin Closed = false
 before_fin _ = true
 
--- both addresses are of one family
-abbrev pub same_family : Address → Address → Bool
-same_family (V4 one) (V4 two) = true
-same_family (V6 one) (V6 two) = true
-same_family _ _ = false
-
 -- the association is that of this end, with room for the keys of 64 rows, and both addresses are of one family
 pub record Bound (a : Bond) (sockets : Pair) (isn : ℕ) (peer_isn : Option ℕ) : Type 0 where
   pub pair : a.pair ≡ sockets
   pub own : a.own ≡ isn
   pub peer : a.peer ≡ peer_isn
   pub room : a.keys.rows ≡ 64
-  pub family : same_family sockets.local.address sockets.remote.address ≡ true
+  pub family : IsOneFamily sockets.local.address sockets.remote.address
 
 -- a RST is owed only where the peer's initial sequence number is known
 pub record Owes (rst_owed : Bool) (peer_isn : Option ℕ) : Type 0 where

@@ -1,7 +1,7 @@
 //! How an end begins.
 ghost use Rattle.std.specs.Prelude.{◌≡◌, true, IfOk};
 ghost use Rattle.book_endpoint.specs.States.{beginning, connected, listening, started, default_mss};
-ghost use Rattle.tcp_segment.specs.Writing.{IsOneFamily};
+ghost use Rattle.book_base.specs.Addresses.{IsOneFamily};
 ghost use Rattle.tcp_endpoint.specs.Halves.{waits};
 ghost use Rattle.tcp_endpoint.specs.Ends.{Stands, FitsEnd};
 
@@ -30,7 +30,6 @@ pub(crate) fn default_mss(address: &Address) -> u16
 }
 
 /// An end before it knows of its peer.
-#[tactic(auto, using(crate::proofs::FamilyLaws::family_told))]
 fn begin(
     alloc: Global,
     table: &Table,
@@ -110,7 +109,6 @@ impl Endpoint {
 
     /// A session whose two initial sequence numbers are known, without a handshake (own). All else is
     /// as for `connect`.
-    #[tactic(auto, using(crate::proofs::FamilyLaws::family_told))]
     pub fn start(
         alloc: Global,
         table: &Table,

@@ -19,7 +19,7 @@ use Rattle.book_segments.proofs.Again.{IsAgain, again}
 use Rattle.tcp_segment.specs.declared.writing.Head.{Head}
 use Rattle.tcp_segment.specs.Places.{IsRead}
 use Rattle.tcp_segment.specs.Sums.{complement_at, checksum_over, IsSet}
-use Rattle.tcp_segment.specs.Writing.{written_ip, ip_start, tcp_start, ip_size, mss_length, option_heads, drafted, OneFamily, HeadFits, HoldsDraft, IsFinished}
+use Rattle.tcp_segment.specs.Writing.{written_ip, ip_start, tcp_start, ip_size, mss_length, option_heads, drafted, AreSized, HeadFits, HoldsDraft, IsFinished}
 use Rattle.tcp_segment.proofs.ReadLaws.{addresses_are}
 use Rattle.tcp_segment.proofs.WriteLaws.{spell_start, start_long, before, parts, heads_long, mss_long, regroup3}
 
@@ -76,14 +76,14 @@ bytes_right a b h = subst AreBytes (drop_at a b (length a) refl) (bytes_drop (a 
 
 -- ---- a draft fits
 
-v4_both : (bytes : List ℕ) (a c : Address) → a ≡ V4 bytes → OneFamily a c → AreBytes (octets a) → AreBytes (octets c) → IsV4 a × IsV4 c
-v4_both bytes (V4 one) (V4 two) e f h k = ((f.0, h), (f.1, k))
-v4_both bytes (V4 one) (V6 two) e f h k = absurd f
+v4_both : (bytes : List ℕ) (a c : Address) → a ≡ V4 bytes → AreSized a c → AreBytes (octets a) → AreBytes (octets c) → IsV4 a × IsV4 c
+v4_both bytes (V4 one) (V4 two) e f h k = ((f.1, h), (f.2, k))
+v4_both bytes (V4 one) (V6 two) e f h k = let apart = f.0 in absurd (cc)
 v4_both bytes (V6 one) c e f h k = absurd (cc)
 
-v6_both : (bytes : List ℕ) (a c : Address) → a ≡ V6 bytes → OneFamily a c → AreBytes (octets a) → AreBytes (octets c) → IsV6 a × IsV6 c
-v6_both bytes (V6 one) (V6 two) e f h k = ((f.0, h), (f.1, k))
-v6_both bytes (V6 one) (V4 two) e f h k = absurd f
+v6_both : (bytes : List ℕ) (a c : Address) → a ≡ V6 bytes → AreSized a c → AreBytes (octets a) → AreBytes (octets c) → IsV6 a × IsV6 c
+v6_both bytes (V6 one) (V6 two) e f h k = ((f.1, h), (f.2, k))
+v6_both bytes (V6 one) (V4 two) e f h k = let apart = f.0 in absurd (cc)
 v6_both bytes (V4 one) c e f h k = absurd (cc)
 
 header_right : (bytes : List ℕ) (h : Head) (size : ℕ) (d : Segment) → d.source ≡ h.source → d.destination ≡ h.destination → tcp_length d ≡ size → sums (spell_as (written_ip h size (V4 bytes)) d []) ≡ true
@@ -100,7 +100,7 @@ header_right bytes h size d es ed e =
     ap sums start ∙ is_right (ip_start h size (V4 bytes) ++ (S ++ (D ++ []))) (omega (arith, n, p)) (rw n (complement_completes words p))
 
 written_fits : (a : Address) (h : Head) (size : ℕ) (d : Segment) → d.ip ≡ written_ip h size a → d.source ≡ h.source → d.destination ≡ h.destination → d.source.address ≡ a
-    → OneFamily d.source.address d.destination.address → AreBytes (octets d.source.address) → AreBytes (octets d.destination.address) → tcp_length d ≡ size → size < 65000 → FitsIp (written_ip h size a) d
+    → AreSized d.source.address d.destination.address → AreBytes (octets d.source.address) → AreBytes (octets d.destination.address) → tcp_length d ≡ size → size < 65000 → FitsIp (written_ip h size a) d
 written_fits (V4 bytes) h size d ei es ed ea f hs hd e small =
     let v = v4_both bytes d.source.address d.destination.address ea f hs hd in
     record {
@@ -196,7 +196,7 @@ ip_then_tcp h mac payload t =
     let size : ℕ = 20 + length d.area + length payload in
     spell_start h.source.address h size d t refl ∙ join_ip (ip_start h size h.source.address) (octets h.source.address) (octets h.destination.address) t
 
-ip_part_long : (h : Head) (mac payload : List ℕ) → OneFamily h.source.address h.destination.address → length (ip_part h mac payload) ≡ ip_size h.source.address
+ip_part_long : (h : Head) (mac payload : List ℕ) → AreSized h.source.address h.destination.address → length (ip_part h mac payload) ≡ ip_size h.source.address
 ip_part_long h mac payload f =
     let size : ℕ = 20 + length (drafted h mac payload).area + length payload in
     let start : List ℕ = ip_start h size h.source.address in

@@ -15,15 +15,9 @@ use Rattle.book_segments.proofs.Folding.{complement_by}
 use Rattle.book_segments.proofs.SumLaws.{words_append, spell_with}
 use Rattle.tcp_segment.specs.declared.writing.Head.{Head}
 use Rattle.tcp_segment.specs.Sums.{complement_at}
-use Rattle.tcp_segment.specs.Writing.{written_ip, ip_start, tcp_start, ip_size, mss_length, option_heads, mac_place, drafted, OneFamily, IsOneFamily, IsSized, HoldsDraft, IsFinished}
+use Rattle.tcp_segment.specs.Writing.{written_ip, ip_start, tcp_start, ip_size, mss_length, option_heads, mac_place, drafted, AreSized, HoldsDraft, IsFinished}
 
 -- ---- addresses
-
-pub one_family : (a c : Address) → IsOneFamily a c → IsSized a → IsSized c → OneFamily a c
-one_family (V4 one) (V4 two) f h k = (h, k)
-one_family (V4 one) (V6 two) f h k = absurd f
-one_family (V6 one) (V4 two) f h k = absurd f
-one_family (V6 one) (V6 two) f h k = (h, k)
 
 even_words : (a : Address) (ys : List ℕ) → IsSized a → words_sum (octets a ++ ys) ≡ words_sum (octets a) + words_sum ys
 even_words (V4 bytes) ys h = words_append 2 bytes ys (omega arith)
@@ -86,12 +80,12 @@ parts h c mac payload =
     ∙ (ap (λ (l : List ℕ). ip_start h (20 + (length heads + length mac) + length payload) h.source.address ++ (octets h.source.address ++ (octets h.destination.address ++ l))) (tcp_parts h c mac payload)
     ∙ regroup (ip_start h (20 + (length heads + length mac) + length payload) h.source.address) (octets h.source.address) (octets h.destination.address) (tcp_start h c (length heads + length mac)) heads (mac ++ payload))))
 
-pub start_long : (a c : Address) (h : Head) (n : ℕ) → OneFamily a c → length (ip_start h n a) + (length (octets a) + length (octets c)) ≡ ip_size a
+pub start_long : (a c : Address) (h : Head) (n : ℕ) → AreSized a c → length (ip_start h n a) + (length (octets a) + length (octets c)) ≡ ip_size a
 unfolding put2
-start_long (V4 one) (V4 two) h n f = omega (arith, f.0, f.1)
-start_long (V4 one) (V6 two) h n f = absurd f
-start_long (V6 one) (V4 two) h n f = absurd f
-start_long (V6 one) (V6 two) h n f = omega (arith, f.0, f.1)
+start_long (V4 one) (V4 two) h n f = omega (arith, f.1, f.2)
+start_long (V4 one) (V6 two) h n f = let apart = f.0 in absurd (cc)
+start_long (V6 one) (V4 two) h n f = let apart = f.0 in absurd (cc)
+start_long (V6 one) (V6 two) h n f = omega (arith, f.1, f.2)
 
 pub tcp_start_long : (h : Head) (c n : ℕ) → length (tcp_start h c n) ≡ 20
 unfolding put2 put4
@@ -109,7 +103,7 @@ mss_cases (Some m) = inr refl
 pub heads_long : (h : Head) (m : ℕ) → length (option_heads h m) ≡ 4 + mss_length h.mss
 heads_long h m = omega (arith, length-append (mss_option h.mss) (29 ∷ (4 + m) ∷ h.key_id ∷ h.rnext ∷ []), mss_long h.mss)
 
-pub before_long : (h : Head) (c m p : ℕ) → OneFamily h.source.address h.destination.address → length (before h c m p) ≡ mac_place h
+pub before_long : (h : Head) (c m p : ℕ) → AreSized h.source.address h.destination.address → length (before h c m p) ≡ mac_place h
 before_long h c m p f =
     let heads : List ℕ = option_heads h m in
     let area : ℕ = length heads + m in

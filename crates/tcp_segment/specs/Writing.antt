@@ -2,6 +2,7 @@
 use Rattle.std.specs.Prelude.{◌≡◌, ℕ, ◌+◌, ◌*◌, ◌<◌, ◌≤◌, ◌⊎◌, List, [], ◌∷◌, ◌++◌, length, Option, Some, None}
 use Rattle.book_base.specs.declared.address.Address.{Address}
 use Rattle.book_base.specs.declared.address.Address.TheVariants.{V4, V6}
+use Rattle.book_base.specs.Addresses.{IsOneFamily}
 use Rattle.book_segments.specs.Bytes.{put2, put4, ring}
 use Rattle.book_segments.specs.Segments.{IpHeader, Segment, complement_of, spell, reading, Read}
 use Rattle.book_segments.specs.Spelling.{Fits, Good, with_sum, finished}
@@ -49,24 +50,14 @@ mac_place h = ip_size h.source.address + 24 + mss_length h.mss
 abbrev pub header_length : Head → ℕ
 header_length h = mac_place h + h.mac_length
 
--- both addresses are of one family, and have its length
-abbrev pub OneFamily : Address → Address → Type 0
-OneFamily (V4 one) (V4 two) = (length one ≡ 4) × (length two ≡ 4)
-OneFamily (V4 one) (V6 two) = ⊥
-OneFamily (V6 one) (V4 two) = ⊥
-OneFamily (V6 one) (V6 two) = (length one ≡ 16) × (length two ≡ 16)
-
--- both addresses are of one family
-abbrev pub IsOneFamily : Address → Address → Type 0
-IsOneFamily (V4 one) (V4 two) = Unit {0}
-IsOneFamily (V4 one) (V6 two) = ⊥
-IsOneFamily (V6 one) (V4 two) = ⊥
-IsOneFamily (V6 one) (V6 two) = Unit {0}
-
 -- an address has its family's length
 abbrev pub IsSized : Address → Type 0
 IsSized (V4 bytes) = length bytes ≡ 4
 IsSized (V6 bytes) = length bytes ≡ 16
+
+-- both addresses are of one family, and have its length
+abbrev pub AreSized : Address → Address → Type 0
+AreSized one two = IsOneFamily one two × IsSized one × IsSized two
 
 -- what a caller keeps: one family, a MAC of 12 or 16 bytes, at most 1,500 bytes in all
 pub record IsHead (h : Head) (payload_len : ℕ) : Type 0 where
@@ -86,7 +77,7 @@ pub record HasNumbers (h : Head) : Type 0 where
 
 -- the fields of a head fit their places
 pub record HeadFits (h : Head) : Type 0 where
-  pub family : OneFamily h.source.address h.destination.address
+  pub family : AreSized h.source.address h.destination.address
   pub numbers : HasNumbers h
   pub mac : (h.mac_length ≡ 12) ⊎ (h.mac_length ≡ 16)
 

@@ -2,8 +2,8 @@ use Rattle.std.proofs.Common.{◌≡◌, ℕ, List, ◌+◌, ◌-◌, ◌++◌, 
 use Rattle.std.proofs.lemmas.List.{length-replicate}
 use Rattle.book_segments.specs.Sockets.{octets}
 use Rattle.book_segments.specs.Segments.{spell}
-use Rattle.tcp_segment.specs.Writing.{drafted, header_length, option_heads, mss_length, ip_start, tcp_start, ip_size}
-use Rattle.tcp_segment.proofs.WriteLaws.{one_family, mss_cases, heads_long, before, six_writes, laid_out, start_long, tcp_start_long}
+use Rattle.tcp_segment.specs.Writing.{AreSized, drafted, header_length, option_heads, mss_length, ip_start, tcp_start, ip_size}
+use Rattle.tcp_segment.proofs.WriteLaws.{mss_cases, heads_long, before, six_writes, laid_out, start_long, tcp_start_long}
 use Rattle.tcp_segment.proofs.writing.lay_out.Goals as goal
 
 pub overflow_cast-area_length : goal.overflow_cast-area_length
@@ -27,7 +27,7 @@ returns c =
     let D : List ℕ = octets h.destination.address in
     let start : List ℕ = ip_start h (20 + area + p) h.source.address in
     let tcp : List ℕ = tcp_start h 0 area in
-    let family = one_family h.source.address h.destination.address c.requires.head.family c.octets_of.ensures.sized c.octets_of-2.ensures.sized in
+    let family : AreSized h.source.address h.destination.address = (c.requires.head.family, c.octets_of.ensures.sized, c.octets_of-2.ensures.sized) in
     let eh = c.ip_length_of-header.ensures in
     let en = c.heads_length_of.ensures in
     let lh : length heads ≡ 4 + mss_length h.mss = heads_long h m in
