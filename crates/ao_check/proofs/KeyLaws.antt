@@ -14,7 +14,7 @@ use Rattle.ao_kdf.specs.declared.way.Way.{Way}
 use Rattle.ao_kdf.specs.declared.way.Way.TheVariants.{Inbound, Outbound}
 use Rattle.ao_kdf.specs.Cache.{Cache, kept, keeping, IsRight, steps_for}
 use Rattle.ao_kdf.proofs.CacheLaws.{kept-keeping, kept-stays}
-use Rattle.tcp_segment.specs.declared.writing.Head.{Head}
+use Rattle.tcp_segment.specs.declared.spelling.Head.{Head}
 use Rattle.tcp_segment.specs.Drafts.{DatagramMut}
 use Rattle.ao_mac.specs.Sealed.{IsSealed}
 use Rattle.ao_check.specs.Bonds.{Bond, key_for, Fits, keys_after, steps_of, Counted}

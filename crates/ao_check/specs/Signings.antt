@@ -7,7 +7,7 @@ use Rattle.book_keys.specs.Choices.{Numbered, accept_row}
 use Rattle.book_endpoint.specs.Verdicts.{segment_number}
 use Rattle.book_base.specs.Algorithms.{mac_length_of}
 use Rattle.book_keys.specs.Rows.{Row}
-use Rattle.tcp_segment.specs.declared.writing.Head.{Head}
+use Rattle.tcp_segment.specs.declared.spelling.Head.{Head}
 use Rattle.book_segments.specs.Options.{Ao}
 use Rattle.tcp_segment.specs.Writing.{drafted, mss_length}
 use Rattle.tcp_segment.specs.Drafts.{DatagramMut, Drafted}

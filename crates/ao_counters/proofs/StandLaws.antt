@@ -25,21 +25,21 @@ use Rattle.book_stack.specs.Calls.{Add, At, Call, CallAnswer, Incoming, Input, O
 use Rattle.book_stack.specs.Stacks.{StackState, handed}
 use Rattle.law_node.proofs.Pairs.{same_pair_is, same_pair-refl}
 use Rattle.tcp_endpoint.specs.declared.arrival.Arrived.{Arrived}
-use Rattle.tcp_endpoint.specs.declared.giving.GiveAnswer.{GiveAnswer}
-use Rattle.tcp_endpoint.specs.declared.giving.GiveAnswer.TheVariants as given
+use Rattle.tcp_endpoint.specs.declared.send.GiveAnswer.{GiveAnswer}
+use Rattle.tcp_endpoint.specs.declared.send.GiveAnswer.TheVariants as given
 use Rattle.node_ends.specs.declared.answer.NodeArrival.TheVariants as arrivals
 use Rattle.node_ends.specs.declared.answer.NodeRefusal.{NodeRefusal}
 use Rattle.node_ends.specs.declared.answer.NodeRefusal.TheVariants as refusals
-use Rattle.stack_ends.specs.declared.calling.Taken.{Taken}
+use Rattle.stack_ends.specs.declared.calls.Taken.{Taken}
 use Rattle.ao_stack.specs.Answering as below
 use Rattle.ao_stack.specs.Answering.{IsAdded, IsBegun, IsDone, IsGiven, IsHanded, IsHeard, IsTaken, Reaches}
 use Rattle.ao_stack.specs.Standing as stack
 use Rattle.ao_stack.specs.Turning.{MadeLast, act_of}
-use Rattle.ao_stack.specs.declared.arriving.Heard.TheVariants as heard
+use Rattle.ao_stack.specs.declared.input.Heard.TheVariants as heard
 use Rattle.ao_stack.specs.declared.outgoing.Outgoing.{Outgoing}
 use Rattle.ao_stack.specs.declared.outgoing.Sending.{Sending}
 use Rattle.ao_counters.specs.declared.counted_stack.CountedStack.{CountedStack}
-use Rattle.ao_counters.specs.declared.counting.Happened.TheVariants as happened
+use Rattle.ao_counters.specs.declared.counts.Happened.TheVariants as happened
 use Rattle.ao_counters.specs.Answering.{AddsAs, BeginsAs, Follows}
 use Rattle.ao_counters.specs.Happening.{changed_by}
 use Rattle.ao_counters.specs.Standing.{Stands}

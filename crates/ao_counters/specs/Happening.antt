@@ -4,8 +4,8 @@ use Rattle.book_counters.specs.declared.tally.Tally.{Tally}
 use Rattle.book_counters.specs.Counters.{arrival_counted, sending_counted, tallied}
 use Rattle.book_counters.specs.KeyIds.{key_ids_heard, key_ids_sent}
 use Rattle.ao_stack.specs.Turning.{act_of}
-use Rattle.ao_counters.specs.declared.counting.Happened.{Happened}
-use Rattle.ao_counters.specs.declared.counting.Happened.TheVariants as happened
+use Rattle.ao_counters.specs.declared.counts.Happened.{Happened}
+use Rattle.ao_counters.specs.declared.counts.Happened.TheVariants as happened
 
 -- the counters of the node once this happened at a connection (own)
 abbrev pub counted_by : Happened → Counters → Counters

@@ -3,7 +3,7 @@ ghost use Rattle.std.specs.Prelude.{◌≡◌, option_map};
 ghost use Rattle.ao_counters.specs.Happening.{changed_by, counted_by};
 ghost use Rattle.ao_counters.specs.Tallying.{Becomes, tally_at};
 
-use crate::counting::{Happened, counted};
+use crate::counts::{Happened, counted};
 use crate::tallies::Tallies;
 use ao_stack::Stack;
 use book_base::Pair;

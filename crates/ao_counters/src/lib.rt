@@ -3,15 +3,15 @@
 //! it are those of `book_counters`.
 #![tactic(auto)]
 
-mod arriving;
-mod beginning;
-mod calling;
+mod calls;
 mod counted_stack;
-mod counting;
+mod counts;
+mod input;
 mod key_ids;
-mod looking;
+mod open;
+mod output;
 mod rows;
-mod sending;
+mod status;
 mod tallies;
 
 pub use book_counters::{Counters, KeyIds, KeyIdsSeen, Tally};

@@ -4,7 +4,7 @@ ghost use Rattle.book_counters.specs.Counters.{no_tally};
 ghost use Rattle.ao_counters.specs.Happening.{changed_by};
 ghost use Rattle.ao_counters.specs.Tallying.{Becomes, tally_at};
 
-use crate::counting::{Happened, changed, no_tally};
+use crate::counts::{Happened, changed, no_tally};
 use book_base::Pair;
 use book_counters::Tally;
 use stack_timers::{Key, key_of};

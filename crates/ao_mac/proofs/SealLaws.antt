@@ -9,7 +9,7 @@ use Rattle.book_segments.specs.Options.{Ao, AoFound, One, find_ao}
 use Rattle.book_segments.specs.Segments.{Segment, pseudo_of, pseudo, header}
 use Rattle.book_macs.specs.Keys.{mac}
 use Rattle.book_macs.specs.MacInput.{covered, mac_input}
-use Rattle.tcp_segment.specs.declared.writing.Head.{Head}
+use Rattle.tcp_segment.specs.declared.spelling.Head.{Head}
 use Rattle.tcp_segment.specs.Drafts.{DatagramMut, Drafted}
 use Rattle.tcp_segment.specs.Writing.{written_ip, mss_length, option_heads, drafted}
 use Rattle.tcp_segment.proofs.DraftLaws.{drafted_ao}

@@ -1,7 +1,7 @@
 -- A draft whose MAC was put in.
 use Rattle.std.specs.Prelude.{ℕ, Bool, List}
 use Rattle.book_base.specs.declared.algorithm.Algorithm.{Algorithm}
-use Rattle.tcp_segment.specs.declared.writing.Head.{Head}
+use Rattle.tcp_segment.specs.declared.spelling.Head.{Head}
 use Rattle.tcp_segment.specs.Drafts.{DatagramMut, Drafted}
 use Rattle.tcp_segment.specs.Writing.{drafted}
 use Rattle.ao_mac.specs.Macs.{IsMacOf}

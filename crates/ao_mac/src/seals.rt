@@ -2,7 +2,7 @@
 ghost use Rattle.std.specs.Prelude.{◌≡◌, ◌+◌, ℕ, List, length};
 ghost use Rattle.book_base.specs.Algorithms.{mac_length_of};
 ghost use Rattle.tcp_segment.specs.Drafts.{Drafted};
-ghost use Rattle.tcp_segment.specs.declared.writing.Head.{Head};
+ghost use Rattle.tcp_segment.specs.declared.spelling.Head.{Head};
 ghost use Rattle.book_base.specs.declared.algorithm.Algorithm.TheVariants.{AesCmac};
 ghost use Rattle.ao_mac.specs.Sealed.{IsSealed};
 

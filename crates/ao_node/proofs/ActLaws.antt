@@ -13,8 +13,8 @@ use Rattle.tcp_endpoint.specs.declared.emission.Made.{Made}
 use Rattle.tcp_endpoint.specs.declared.emission.Resent.{Resent}
 use Rattle.tcp_endpoint.specs.declared.emission.Resent.TheVariants as resents
 use Rattle.tcp_endpoint.specs.declared.endpoint.Endpoint.{Endpoint}
-use Rattle.tcp_endpoint.specs.declared.giving.GiveAnswer.{GiveAnswer}
-use Rattle.tcp_endpoint.specs.declared.giving.GiveAnswer.TheVariants as given
+use Rattle.tcp_endpoint.specs.declared.send.GiveAnswer.{GiveAnswer}
+use Rattle.tcp_endpoint.specs.declared.send.GiveAnswer.TheVariants as given
 use Rattle.tcp_endpoint.specs.Answers.{give_answer, offered}
 use Rattle.tcp_endpoint.specs.Emitting.{IsMade, Emits as EmitsAs, Resends as ResendsAs}
 use Rattle.tcp_endpoint.specs.Ends.{Stands}

@@ -10,8 +10,8 @@ use Rattle.tcp_endpoint.specs.declared.emission.Emission.{Emission}
 use Rattle.tcp_endpoint.specs.declared.emission.Emission.TheVariants as emissions
 use Rattle.tcp_endpoint.specs.declared.emission.Resent.{Resent}
 use Rattle.tcp_endpoint.specs.declared.emission.Resent.TheVariants as resents
-use Rattle.tcp_endpoint.specs.declared.giving.GiveAnswer.{GiveAnswer}
-use Rattle.tcp_endpoint.specs.declared.giving.GiveAnswer.TheVariants as given
+use Rattle.tcp_endpoint.specs.declared.send.GiveAnswer.{GiveAnswer}
+use Rattle.tcp_endpoint.specs.declared.send.GiveAnswer.TheVariants as given
 use Rattle.tcp_endpoint.specs.Ends.{Stands}
 use Rattle.node_ends.specs.Acting.{act_on}
 use Rattle.ao_node.specs.declared.told.Told.{Told}

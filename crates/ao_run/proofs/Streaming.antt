@@ -4,8 +4,8 @@ use Rattle.ao_base.specs.Outside.{Side, Gave}
 use Rattle.ao_base.proofs.Sides.{gave_none, took_none}
 use Rattle.book_keys.specs.Rows.{Table}
 use Rattle.cmd_check.specs.Checked.{Checks as Judges}
-use Rattle.cmd_check.specs.declared.answering.Form.{Form}
-use Rattle.cmd_check.specs.declared.answering.Form.TheVariants as form
+use Rattle.cmd_check.specs.declared.answers.Form.{Form}
+use Rattle.cmd_check.specs.declared.answers.Form.TheVariants as form
 use Rattle.cmd_check.specs.declared.halt.Halt.{Halt}
 use Rattle.cmd_check.specs.declared.halt.Halt.TheVariants as halt
 use Rattle.book_answer.specs.declared.command.Command.{Command}

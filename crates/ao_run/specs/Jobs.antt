@@ -3,8 +3,8 @@ use Rattle.std.specs.Prelude.{List, Option, Some, None}
 use Rattle.book_keys.specs.Rows.{Table}
 use Rattle.book_answer.specs.declared.command.Command.{Command}
 use Rattle.book_answer.specs.declared.command.Command.TheVariants as command
-use Rattle.cmd_check.specs.declared.answering.Form.{Form}
-use Rattle.cmd_check.specs.declared.answering.Form.TheVariants as form
+use Rattle.cmd_check.specs.declared.answers.Form.{Form}
+use Rattle.cmd_check.specs.declared.answers.Form.TheVariants as form
 use Rattle.ao_run.specs.declared.job.Job.{Job}
 use Rattle.ao_run.specs.declared.job.Job.TheVariants as job
 use Rattle.ao_run.specs.declared.job.Whole.{Whole}

@@ -25,8 +25,8 @@ use Rattle.stack_ends.specs.declared.ends.Ends.{Ends}
 use Rattle.stack_ends.specs.Meeting.{Meets, MeetsPair, MeetsRead}
 use Rattle.stack_ends.specs.Standing.{most_of}
 use Rattle.ao_stack.specs.declared.stack.Stack.{Stack}
-use Rattle.ao_stack.specs.declared.arriving.Heard.{Heard}
-use Rattle.ao_stack.specs.declared.arriving.Heard.TheVariants as heards
+use Rattle.ao_stack.specs.declared.input.Heard.{Heard}
+use Rattle.ao_stack.specs.declared.input.Heard.TheVariants as heards
 use Rattle.ao_stack.specs.Answering.{Does, Follows, IsHeard, IsTold}
 use Rattle.ao_stack.specs.Passing.{PassesAs, TellsFound, found_by}
 use Rattle.ao_stack.specs.Standing.{Stands}

@@ -13,7 +13,7 @@ use Rattle.book_stack.specs.declared.front.Change.{Change}
 use Rattle.book_stack.specs.Stacks.{StackState, touched, watched}
 use Rattle.book_stack.specs.Turns.{passing, ask, asked_first, asked_line, asked_pair, asked_watch, called_at, change_by, repeated_by, segment_in, spoken_by, wake, woken_first, woken_pair, woken_watch}
 use Rattle.book_stack.specs.Watches.{ConnectionWatch, awaits}
-use Rattle.stack_ends.specs.declared.speaking.Spoken.{Spoken}
+use Rattle.stack_ends.specs.declared.send.Spoken.{Spoken}
 use Rattle.stack_ends.specs.Calling.{Tells}
 use Rattle.stack_timers.specs.Places.{behind_first, first_of, left_due, taken_due}
 use Rattle.ao_stack.specs.declared.stack.Stack.{Stack}

@@ -13,9 +13,9 @@ use Rattle.book_cmd_node.specs.NodeRuns.{NodeOutcome, made_called}
 use Rattle.book_stack.specs.Stacks.{StackState, handed}
 use Rattle.book_stack.specs.Turns.{asked_line, asked_watch, segment_in, woken_watch}
 use Rattle.book_stack.specs.Watches.{ConnectionWatch}
-use Rattle.stack_ends.specs.declared.speaking.Says.{Says}
-use Rattle.stack_ends.specs.declared.speaking.Says.TheVariants as says
-use Rattle.stack_ends.specs.declared.speaking.Spoken.{Spoken}
+use Rattle.stack_ends.specs.declared.send.Says.{Says}
+use Rattle.stack_ends.specs.declared.send.Says.TheVariants as says
+use Rattle.stack_ends.specs.declared.send.Spoken.{Spoken}
 use Rattle.stack_ends.specs.Saying.{SaysAs}
 use Rattle.ao_stack.specs.Handing.{IsFrom, IsFromIf}
 use Rattle.ao_stack.specs.Telling.{asked_saying, asked_turn, woken_by}

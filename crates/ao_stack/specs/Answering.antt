@@ -13,16 +13,16 @@ use Rattle.book_cmd_node.specs.NodeRuns as node
 use Rattle.book_stack.specs.Calls as book
 use Rattle.book_stack.specs.Calls.{CallAnswer, Call, call}
 use Rattle.book_stack.specs.Stacks.{StackState, handed}
-use Rattle.tcp_endpoint.specs.declared.giving.GiveAnswer.{GiveAnswer}
+use Rattle.tcp_endpoint.specs.declared.send.GiveAnswer.{GiveAnswer}
 use Rattle.node_ends.specs.declared.answer.NodeArrival.{NodeArrival}
 use Rattle.node_ends.specs.declared.answer.NodeArrival.TheVariants as arrivals
 use Rattle.node_ends.specs.declared.answer.NodeRefusal.{NodeRefusal}
 use Rattle.node_ends.specs.declared.answer.NodeRefusal.TheVariants as refusals
-use Rattle.stack_ends.specs.declared.calling.Taken.{Taken}
+use Rattle.stack_ends.specs.declared.calls.Taken.{Taken}
 use Rattle.stack_ends.specs.Calling.{given_as}
 use Rattle.ao_stack.specs.declared.stack.Stack.{Stack}
-use Rattle.ao_stack.specs.declared.arriving.Heard.{Heard}
-use Rattle.ao_stack.specs.declared.arriving.Heard.TheVariants as heard
+use Rattle.ao_stack.specs.declared.input.Heard.{Heard}
+use Rattle.ao_stack.specs.declared.input.Heard.TheVariants as heard
 use Rattle.ao_stack.specs.Standing.{Stands}
 
 -- the stack stands for what a call leaves, and that call's answer is so (own)

@@ -10,8 +10,8 @@ use Rattle.book_stack.specs.Stacks.{StackState}
 use Rattle.tcp_endpoint.specs.Arriving.{TellsPassed}
 use Rattle.node_ends.specs.declared.answer.NodeArrival.{NodeArrival}
 use Rattle.node_ends.specs.declared.answer.NodeArrival.TheVariants as arrivals
-use Rattle.ao_stack.specs.declared.arriving.Heard.{Heard}
-use Rattle.ao_stack.specs.declared.arriving.Heard.TheVariants as heard
+use Rattle.ao_stack.specs.declared.input.Heard.{Heard}
+use Rattle.ao_stack.specs.declared.input.Heard.TheVariants as heard
 
 -- what the check of an end of the pair, where one is held, finds of a segment that passes it (RFC
 -- 5925, section 7.5)

@@ -4,9 +4,9 @@ use Rattle.book_base.specs.declared.address.Pair.{Pair}
 use Rattle.book_endpoint.specs.declared.phase.Phase.{Phase}
 use Rattle.book_stack.specs.Stacks.{StackState, touched}
 use Rattle.book_stack.specs.Watches.{ConnectionWatch, at_rest, expired_at, after_sending, timer_stopped}
-use Rattle.stack_ends.specs.declared.speaking.Says.{Says}
-use Rattle.stack_ends.specs.declared.speaking.Says.TheVariants as says
-use Rattle.stack_ends.specs.declared.speaking.Spoken.{Spoken}
+use Rattle.stack_ends.specs.declared.send.Says.{Says}
+use Rattle.stack_ends.specs.declared.send.Says.TheVariants as says
+use Rattle.stack_ends.specs.declared.send.Spoken.{Spoken}
 
 -- the timer of an end that was asked for its next segment, by what it said (own)
 abbrev pub asked_saying : ℕ → Spoken → Says → ConnectionWatch → ConnectionWatch

@@ -3,17 +3,17 @@
 //! of the definitions of `book_stack`.
 #![tactic(auto)]
 
-mod arriving;
-mod beginning;
-mod calling;
-mod handing;
-mod looking;
+mod calls;
+mod checksum;
+mod input;
+mod open;
 mod outgoing;
+mod output;
 mod rows;
-mod sending;
 mod stack;
-mod timing;
+mod status;
+mod timers;
 
-pub use arriving::Heard;
+pub use input::Heard;
 pub use outgoing::{Outgoing, Sending};
 pub use stack::Stack;

@@ -9,11 +9,11 @@ use Rattle.book_stack.specs.Calls as book
 use Rattle.book_stack.specs.Calls.{Call, CallAnswer, call}
 use Rattle.book_stack.specs.Stacks.{StackState}
 use Rattle.book_stack.specs.Watches.{end_front}
-use Rattle.tcp_endpoint.specs.declared.giving.GiveAnswer.{GiveAnswer}
-use Rattle.tcp_endpoint.specs.declared.giving.GiveAnswer.TheVariants as given
+use Rattle.tcp_endpoint.specs.declared.send.GiveAnswer.{GiveAnswer}
+use Rattle.tcp_endpoint.specs.declared.send.GiveAnswer.TheVariants as given
 use Rattle.node_ends.specs.declared.answer.NodeRefusal.{NodeRefusal}
 use Rattle.node_ends.specs.declared.answer.NodeRefusal.TheVariants as refusals
-use Rattle.stack_ends.specs.declared.calling.Taken.{Taken}
+use Rattle.stack_ends.specs.declared.calls.Taken.{Taken}
 use Rattle.ao_stack.specs.Answering.{HasTaken, IsBegun, IsDone, IsGiven, IsHanded, IsTaken, IsWithdrawn}
 use Rattle.ao_counters.specs.declared.counted_stack.CountedStack.{CountedStack}
 use Rattle.ao_counters.specs.Answering.{BeginsAs, Follows}

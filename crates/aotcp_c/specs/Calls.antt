@@ -22,7 +22,7 @@ use Rattle.book_stack.specs.Stacks.{StackState, empty_stack, handed, timed_out}
 use Rattle.book_stack.specs.Turns.{clocked}
 use Rattle.book_stack.specs.Watches.{end_front}
 use Rattle.stack_timers.specs.Watching.{latest}
-use Rattle.ao_stack.specs.declared.arriving.Heard.{Heard}
+use Rattle.ao_stack.specs.declared.input.Heard.{Heard}
 use Rattle.ao_stack.specs.Answering.{IsHeard}
 use Rattle.ao_stack.specs.Passing.{PassesAs}
 use Rattle.ao_counters.specs.declared.counted_stack.CountedStack.{CountedStack}

@@ -9,8 +9,8 @@ use Rattle.book_endpoint.specs.declared.verdict.Passed.{Passed}
 use Rattle.book_stack.specs.declared.front.Front.{Front}
 use Rattle.node_ends.specs.declared.answer.NodeArrival.{NodeArrival}
 use Rattle.node_ends.specs.declared.answer.NodeArrival.TheVariants as told
-use Rattle.ao_stack.specs.declared.arriving.Heard.{Heard}
-use Rattle.ao_stack.specs.declared.arriving.Heard.TheVariants as heard
+use Rattle.ao_stack.specs.declared.input.Heard.{Heard}
+use Rattle.ao_stack.specs.declared.input.Heard.TheVariants as heard
 use Rattle.aotcp_c.specs.declared.shapes.CAddress.{CAddress}
 use Rattle.aotcp_c.specs.declared.shapes.CPair.{CPair}
 use Rattle.aotcp_c.specs.declared.shapes.CFault.{CFault}

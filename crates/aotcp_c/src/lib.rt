@@ -3,21 +3,21 @@
 //! tested, and answered by a code. `include/aotcp.h` declares them.
 #![tactic(auto)]
 
-mod beginning;
-mod calling;
+mod answers;
+mod calls;
 mod codes;
-mod counting;
+mod counters;
+mod datagrams;
 mod faults;
-mod filed;
 mod handle;
-mod hearing;
-mod looking;
-mod moving;
+mod key_file;
 mod numbers;
-mod opening;
+mod open;
 mod pairs;
+mod receive;
 mod rows;
-mod running;
 mod shapes;
+mod stacks;
+mod status;
 #[cfg(test)]
 mod tests;

@@ -1,8 +1,8 @@
 //! A handle from nothing to nothing.
 use crate::codes::{FAULT, NO_STACK};
 use crate::handle::Handle;
-use crate::opening::{aotcp_free, aotcp_new};
 use crate::shapes::{CAddress, CFault};
+use crate::stacks::{aotcp_free, aotcp_new};
 use std::test::Fail;
 
 #[test]

@@ -12,7 +12,7 @@ ghost use Rattle.capture_check.specs.Flows.{rows_of};
 use crate::answer::CheckLine;
 use crate::ends::{Ends, is_same_socket};
 use crate::flows::Flows;
-use crate::hearing::{fix, hear_later, judge_alone};
+use crate::judgement::{fix, hear_later, judge_alone};
 use crate::segment::{acknowledged_isn, has_ack, has_syn};
 use ao_base::Steps;
 use ao_check::Verdict;

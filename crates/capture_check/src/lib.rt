@@ -11,7 +11,7 @@ mod checker;
 mod ends;
 mod flow;
 mod flows;
-mod hearing;
+mod judgement;
 mod segment;
 mod stored;
 mod text;

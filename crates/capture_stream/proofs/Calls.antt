@@ -20,9 +20,9 @@ use Rattle.capture_reader.specs.declared.sizes.FileFront.{FileFront}
 use Rattle.capture_reader.specs.FoundParts.{seen_part, seen_said}
 use Rattle.capture_reader.specs.Sizes.{needed, head_length}
 use Rattle.capture_reader.proofs.FrontParts.{part_fronts, opened_stays, opened_needs}
-use Rattle.capture_stream.specs.declared.finding.Opened.TheVariants as opening
-use Rattle.capture_stream.specs.declared.finding.Found.{Found}
-use Rattle.capture_stream.specs.declared.finding.Found.TheVariants as found
+use Rattle.capture_stream.specs.declared.fronts.Opened.TheVariants as opening
+use Rattle.capture_stream.specs.declared.fronts.Found.{Found}
+use Rattle.capture_stream.specs.declared.fronts.Found.TheVariants as found
 use Rattle.capture_stream.specs.declared.reader.CaptureHalt.{CaptureHalt}
 use Rattle.capture_stream.specs.declared.reader.CaptureHalt.TheVariants as halt
 use Rattle.capture_stream.specs.declared.reader.CaptureStep.{CaptureStep}

@@ -12,9 +12,9 @@ use Rattle.capture_reader.specs.declared.parts.FoundPart.{FoundPart}
 use Rattle.capture_reader.specs.declared.sizes.FileFront.{FileFront}
 use Rattle.capture_reader.specs.FoundParts.{seen_part, IsPartWithin}
 use Rattle.capture_reader.proofs.FrontParts.{part_fronts}
-use Rattle.capture_stream.specs.declared.finding.Opened.TheVariants as opening
-use Rattle.capture_stream.specs.declared.finding.Found.{Found}
-use Rattle.capture_stream.specs.declared.finding.Found.TheVariants as found
+use Rattle.capture_stream.specs.declared.fronts.Opened.TheVariants as opening
+use Rattle.capture_stream.specs.declared.fronts.Found.{Found}
+use Rattle.capture_stream.specs.declared.fronts.Found.TheVariants as found
 use Rattle.capture_stream.specs.declared.reader.CaptureHalt.TheVariants as halt
 use Rattle.capture_stream.specs.declared.reader.CaptureStep.TheVariants as step
 use Rattle.capture_stream.specs.Finding.{place_of, Opens, Finds}

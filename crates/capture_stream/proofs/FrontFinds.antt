@@ -11,10 +11,10 @@ use Rattle.book_captures.specs.declared.capture_parts.Format.{Format}
 use Rattle.book_captures.specs.Parts.{OpenedFile, capture_opened}
 use Rattle.capture_reader.specs.declared.sizes.FileFront.{FileFront}
 use Rattle.capture_reader.proofs.FrontParts.{unopened_stays}
-use Rattle.capture_stream.specs.declared.filling.Filled.{Filled}
-use Rattle.capture_stream.specs.declared.filling.Filled.TheVariants as filled
-use Rattle.capture_stream.specs.declared.finding.Opened.{Opened}
-use Rattle.capture_stream.specs.declared.finding.Opened.TheVariants as opening
+use Rattle.capture_stream.specs.declared.refill.Filled.{Filled}
+use Rattle.capture_stream.specs.declared.refill.Filled.TheVariants as filled
+use Rattle.capture_stream.specs.declared.fronts.Opened.{Opened}
+use Rattle.capture_stream.specs.declared.fronts.Opened.TheVariants as opening
 use Rattle.capture_stream.specs.Finding.{IsByte, Fills, IsOpenedHere, Opens}
 
 -- where the front was passed before

@@ -16,10 +16,10 @@ use Rattle.capture_reader.specs.declared.parts.FoundPart.{FoundPart}
 use Rattle.capture_reader.specs.FoundParts.{seen_part, IsPartWithin}
 use Rattle.capture_reader.specs.Sizes.{head_length, short_of, told_size}
 use Rattle.capture_reader.proofs.FrontParts.{front_short, front_refused, front_less, front_faulty, size_stays}
-use Rattle.capture_stream.specs.declared.filling.Filled.{Filled}
-use Rattle.capture_stream.specs.declared.filling.Filled.TheVariants as filled
-use Rattle.capture_stream.specs.declared.finding.Found.{Found}
-use Rattle.capture_stream.specs.declared.finding.Found.TheVariants as found
+use Rattle.capture_stream.specs.declared.refill.Filled.{Filled}
+use Rattle.capture_stream.specs.declared.refill.Filled.TheVariants as filled
+use Rattle.capture_stream.specs.declared.fronts.Found.{Found}
+use Rattle.capture_stream.specs.declared.fronts.Found.TheVariants as found
 use Rattle.capture_stream.specs.Finding.{IsByte, Fills, IsFound, Finds}
 
 -- one filling finds this

@@ -10,12 +10,12 @@ use Rattle.book_captures.specs.Parts.{FilePlace, OpenedFile, capture_opened, par
 use Rattle.capture_reader.specs.declared.sizes.FileFront.{FileFront}
 use Rattle.capture_reader.specs.FoundParts.{seen_part, IsPartWithin}
 use Rattle.capture_reader.specs.Sizes.{seen_front, needed}
-use Rattle.capture_stream.specs.declared.filling.Filled.{Filled}
-use Rattle.capture_stream.specs.declared.filling.Filled.TheVariants as filled
-use Rattle.capture_stream.specs.declared.finding.Opened.{Opened}
-use Rattle.capture_stream.specs.declared.finding.Opened.TheVariants as opening
-use Rattle.capture_stream.specs.declared.finding.Found.{Found}
-use Rattle.capture_stream.specs.declared.finding.Found.TheVariants as found
+use Rattle.capture_stream.specs.declared.refill.Filled.{Filled}
+use Rattle.capture_stream.specs.declared.refill.Filled.TheVariants as filled
+use Rattle.capture_stream.specs.declared.fronts.Opened.{Opened}
+use Rattle.capture_stream.specs.declared.fronts.Opened.TheVariants as opening
+use Rattle.capture_stream.specs.declared.fronts.Found.{Found}
+use Rattle.capture_stream.specs.declared.fronts.Found.TheVariants as found
 
 -- a byte
 abbrev pub IsByte : ℕ → Type 0

@@ -4,10 +4,10 @@
 //! that `book_captures` defines.
 #![tactic(auto)]
 
-mod filling;
-mod finding;
+mod fronts;
 mod interfaces;
 mod reader;
+mod refill;
 
 pub use capture_reader::{
     BlockFault, BodyFault, CaptureFault, Cause, Header, PcapHeadFault, RecordFault, Skipped,

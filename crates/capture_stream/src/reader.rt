@@ -7,7 +7,7 @@ ghost use Rattle.capture_reader.specs.FoundParts.{seen_part, IsPartWithin};
 ghost use Rattle.capture_stream.specs.Reading.{new_reading, Steps, Walks};
 ghost use Rattle.capture_stream.specs.Taking.{interfaces_at, step_by, taken};
 
-use crate::finding::{Found, Opened, find_part, open};
+use crate::fronts::{Found, Opened, find_part, open};
 use crate::interfaces::Interfaces;
 use ao_base::{Buffer, Source};
 use book_captures::{CaptureFault, Cause, Format};

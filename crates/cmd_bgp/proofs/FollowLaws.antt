@@ -21,7 +21,7 @@ use Rattle.link_report.specs.Outcomes.{Shows}
 use Rattle.cmd_bgp.specs.declared.lines.Place.{Place}
 use Rattle.cmd_bgp.specs.Places.{place_of}
 use Rattle.cmd_bgp.specs.Follows.{Follows, IsHeard, is_done, reader_at, renewed, taken_in, turn_of}
-use Rattle.cmd_bgp.specs.declared.running.Turn.TheVariants as turn
+use Rattle.cmd_bgp.specs.declared.runs.Turn.TheVariants as turn
 use Rattle.cmd_bgp.specs.Streams.{streams_of, streams, newest}
 use Rattle.cmd_bgp.proofs.TakenLaws.{AllSame, Begins, Takes, changes}
 

@@ -11,8 +11,8 @@ use Rattle.book_cmd_bgp.specs.BgpRuns.{bgp_faults, bgp_lines_from, is_faulty, ta
 use Rattle.bgp_messages.specs.Readers.{Reading, StandsFor, new_reading}
 use Rattle.link_report.specs.declared.outcome.Outcome.{Outcome}
 use Rattle.link_report.specs.declared.outcome.Outcome.TheVariants as outcome
-use Rattle.cmd_bgp.specs.declared.running.Turn.{Turn}
-use Rattle.cmd_bgp.specs.declared.running.Turn.TheVariants as turn
+use Rattle.cmd_bgp.specs.declared.runs.Turn.{Turn}
+use Rattle.cmd_bgp.specs.declared.runs.Turn.TheVariants as turn
 use Rattle.cmd_bgp.specs.declared.lines.Place.{Place}
 use Rattle.cmd_bgp.specs.Places.{place_of}
 use Rattle.cmd_bgp.specs.Streams.{streams, newest}

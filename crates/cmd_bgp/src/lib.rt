@@ -3,12 +3,12 @@
 //! messages of every run.
 #![tactic(auto)]
 
-mod answering;
+mod answers;
 mod laws;
 mod lines;
-mod reading;
-mod running;
+mod pieces;
+mod runs;
 
-pub use answering::answer;
+pub use answers::answer;
 pub use laws::messages_come_in_order;
-pub use running::{BgpRun, run_bgp};
+pub use runs::{BgpRun, run_bgp};

@@ -3,8 +3,8 @@
 use Rattle.std.specs.Prelude.{ℕ, Bool, List, Result}
 use Rattle.ao_base.specs.Outside.{Side}
 use Rattle.book_keys.specs.Rows.{Table}
-use Rattle.cmd_check.specs.declared.answering.Form.{Form}
-use Rattle.cmd_check.specs.declared.answering.Form.TheVariants as form
+use Rattle.cmd_check.specs.declared.answers.Form.{Form}
+use Rattle.cmd_check.specs.declared.answers.Form.TheVariants as form
 use Rattle.cmd_check.specs.declared.halt.Halt.{Halt}
 use Rattle.cmd_check.specs.CheckedLines.{Checks as ChecksLines}
 use Rattle.cmd_check.specs.CheckedPackets.{Checks as ChecksPackets}

@@ -3,12 +3,12 @@
 //! than its reader keeps.
 #![tactic(auto)]
 
-mod answering;
+mod answers;
 mod halt;
 mod judge;
 mod lines;
 mod packets;
-mod writing;
+mod writer;
 
-pub use answering::{Form, answer};
+pub use answers::{Form, answer};
 pub use halt::Halt;

@@ -6,7 +6,7 @@ ghost use Rattle.cmd_check.specs.Judging.{HasHeard};
 
 use crate::halt::Halt;
 use crate::judge::Judge;
-use crate::writing::write_lines;
+use crate::writer::write_lines;
 use ao_base::{LineReader, LineStep, Sink, Source, Steps};
 use book_lines::LineKind;
 use capture_check::{LineProblem, Stored, read_line};

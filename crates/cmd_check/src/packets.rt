@@ -7,7 +7,7 @@ ghost use Rattle.cmd_check.specs.CheckedPackets.{Checks, JudgesPacket, Moves};
 
 use crate::halt::Halt;
 use crate::judge::Judge;
-use crate::writing::{run_out, write_lines};
+use crate::writer::{run_out, write_lines};
 use ao_base::{Failed, Sink, Source, Steps};
 use key_table::Tables;
 use pcap_file::{PacketStep, Packets};

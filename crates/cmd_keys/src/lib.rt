@@ -6,7 +6,7 @@
 mod connection;
 mod judged;
 mod keys;
-mod linting;
+mod lint;
 
 pub use keys::answer_keys;
-pub use linting::answer_lint;
+pub use lint::answer_lint;

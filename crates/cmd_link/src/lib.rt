@@ -6,7 +6,7 @@
 mod draw;
 mod event;
 mod link;
-mod running;
+mod storm_run;
 
 pub use link::{answer_link, answer_link_keys};
-pub use running::answer_storm;
+pub use storm_run::answer_storm;

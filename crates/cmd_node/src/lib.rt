@@ -2,6 +2,6 @@
 //! format.
 #![tactic(auto)]
 
-mod answering;
+mod answers;
 
-pub use answering::answer;
+pub use answers::answer;

@@ -3,7 +3,7 @@ use Rattle.std.specs.Prelude.{ℕ, ◌+◌, List, ◌++◌, length, count_by, Re
 use Rattle.std.specs.List.{flat_map}
 use Rattle.book_lines.specs.declared.text_fault.TextFault.{TextFault}
 use Rattle.book_lines.specs.Said.{Said}
-use Rattle.cmd_show.specs.declared.verifying.Totals.{Totals}
+use Rattle.cmd_show.specs.declared.vector_lines.Totals.{Totals}
 use Rattle.book_cmd_show.specs.Show.{shown_line}
 use Rattle.book_cmd_show.specs.Vectors.{Vector}
 use Rattle.book_cmd_show.specs.Verified.{differs, verdict_line}

@@ -8,11 +8,11 @@
 mod array;
 mod datagram_text;
 mod keys;
-mod showing;
+mod shown_lines;
 mod signed;
 mod vector;
+mod vector_lines;
 mod vector_words;
-mod verifying;
 
-pub use showing::answer_show;
-pub use verifying::answer_vectors;
+pub use shown_lines::answer_show;
+pub use vector_lines::answer_vectors;

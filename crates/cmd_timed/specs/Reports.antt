@@ -7,8 +7,8 @@ use Rattle.book_link.specs.Worlds.{Setup, forgeries}
 use Rattle.book_cmd_timed.specs.declared.timed.TimedEvent.{TimedEvent}
 use Rattle.book_cmd_timed.specs.TimedRuns.{most_events}
 use Rattle.book_cmd_timed.specs.TimedRuns.{Expanded, expand}
-use Rattle.cmd_timed.specs.declared.running.TimedRun.{TimedRun}
-use Rattle.cmd_timed.specs.declared.running.TimedRun.TheVariants.{Report, TooMany}
+use Rattle.cmd_timed.specs.declared.runs.TimedRun.{TimedRun}
+use Rattle.cmd_timed.specs.declared.runs.TimedRun.TheVariants.{Report, TooMany}
 
 -- the report of the plain run and its forgeries, and the timers that are left
 pub record IsReport (setup : Setup) (x : Expanded) (a b : Timer) (text : List ℕ) (count : ℕ) : Type 0 where

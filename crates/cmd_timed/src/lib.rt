@@ -2,13 +2,13 @@
 //! that it leaves, and the whole answer to a link file with waits.
 #![tactic(auto)]
 
-mod answering;
+mod answers;
 mod change;
-mod expanding;
+mod expansion;
 mod link;
-mod running;
+mod runs;
 mod unfinished;
 mod watch;
 
-pub use answering::answer;
-pub use running::{TimedRun, run_timed};
+pub use answers::answer;
+pub use runs::{TimedRun, run_timed};

@@ -3,6 +3,6 @@
 #![tactic(auto)]
 
 mod outcomes;
-mod running;
+mod runs;
 
-pub use running::rungs_of;
+pub use runs::rungs_of;

@@ -37,7 +37,7 @@ hear_data s d n now false = finish s now
 hear_data s d n now true =
     let high = s.expected + window s in
     let kept = keep s.received (record { number = n; bytes = d.payload })
-        (record { low = s.expected; high = below_limit s.fin high }) in
+    (record { low = s.expected; high = below_limit s.fin high }) in
     let at = first_missing kept s.expected (window s) in
     heard_runs s kept d n now (nat_lt most_runs (runs kept false at (high - at)))
 

@@ -3,7 +3,7 @@ use Rattle.std.specs.Prelude.{◌≡◌, ℕ, Bool, List, Result, Ok, Err}
 use Rattle.ao_base.specs.Outside.{Side}
 use Rattle.book_keys.specs.Nodes.{tables_of}
 use Rattle.book_keys.specs.Rows.{Table}
-use Rattle.cmd_check.specs.declared.answering.Form.TheVariants.{Pcap}
+use Rattle.cmd_check.specs.declared.answers.Form.TheVariants.{Pcap}
 use Rattle.cmd_check.specs.declared.halt.Halt.{Halt}
 use Rattle.cmd_check.specs.Checked.{Checks}
 use Rattle.kernel_captures.specs.declared.captured.Unchecked.{Unchecked}

@@ -4,15 +4,15 @@
 #![tactic(auto)]
 
 mod alike;
-mod finding;
 mod gaps;
 mod margin;
+mod plan_findings;
 mod tables;
 mod turns;
 mod way;
 
 pub use alike::differences;
 pub use book_plans::{Differences, Finding, Margin, Role, Turn};
-pub use finding::{findings, wanted_accepting, widened};
 pub use margin::{lag_margin, lead_margin};
+pub use plan_findings::{findings, wanted_accepting, widened};
 pub use turns::calendar;

@@ -45,9 +45,9 @@ pub fn is_met()
 /// other listens, and each of the three segments comes as it is made.
 pub fn a_handshake_leads_in_step()
     ensures { (up : IsUp storm_setup
-            (run storm_setup (Connect A 4294960000 ∷ Listen B 4000000000 ∷ Send A ∷ Deliver B 1
-                ∷ Send B ∷ Deliver A 2 ∷ Send A ∷ Deliver B 3 ∷ [])) 0 0)
+        (run storm_setup (Connect A 4294960000 ∷ Listen B 4000000000 ∷ Send A ∷ Deliver B 1
+        ∷ Send B ∷ Deliver A 2 ∷ Send A ∷ Deliver B 3 ∷ [])) 0 0)
         × AreInStep storm_setup
-            (run storm_setup (Connect A 4294960000 ∷ Listen B 4000000000 ∷ Send A ∷ Deliver B 1
-                ∷ Send B ∷ Deliver A 2 ∷ Send A ∷ Deliver B 3 ∷ [])) 0 0 up }
+        (run storm_setup (Connect A 4294960000 ∷ Listen B 4000000000 ∷ Send A ∷ Deliver B 1
+        ∷ Send B ∷ Deliver A 2 ∷ Send A ∷ Deliver B 3 ∷ [])) 0 0 up }
 {}

@@ -3,7 +3,7 @@
 #![tactic(auto)]
 
 mod arrival;
-mod copying;
+mod copies;
 mod outcome;
 mod summary;
 

@@ -7,7 +7,7 @@ ghost use Rattle.law_scripts.specs.Timed.{IsTimedScript, plain_of};
 
 use super::head::read_head;
 use super::line_events::read_event;
-use super::reading::is_shared;
+use super::reader::is_shared;
 use book_cmd_timed::{TimedEvent, TimedEvents, TimedScript};
 use book_lines::{LineKind, TextFault};
 use std::alloc::Global;

@@ -8,8 +8,8 @@ use Rattle.book_link.specs.Steps.{Act, given, quietly, took}
 use Rattle.link_side.specs.declared.sessions.Live.{Live}
 use Rattle.link_side.specs.Outcomes.{answer_given, outcome_of}
 use Rattle.link_side.proofs.ActLaws.{Acts}
-use Rattle.tcp_endpoint.specs.declared.giving.GiveAnswer.{GiveAnswer}
-use Rattle.tcp_endpoint.specs.declared.giving.GiveAnswer.TheVariants as given_as
+use Rattle.tcp_endpoint.specs.declared.send.GiveAnswer.{GiveAnswer}
+use Rattle.tcp_endpoint.specs.declared.send.GiveAnswer.TheVariants as given_as
 use Rattle.tcp_endpoint.specs.Answers.{give_answer, offered}
 use Rattle.tcp_endpoint.specs.Ends.{Stands}
 

@@ -1,8 +1,8 @@
 -- What the answers of an end stand for.
 use Rattle.std.specs.Prelude.{◌≡◌}
 use Rattle.book_link.specs.Outcomes as book
-use Rattle.tcp_endpoint.specs.declared.giving.GiveAnswer.{GiveAnswer}
-use Rattle.tcp_endpoint.specs.declared.giving.GiveAnswer.TheVariants as given
+use Rattle.tcp_endpoint.specs.declared.send.GiveAnswer.{GiveAnswer}
+use Rattle.tcp_endpoint.specs.declared.send.GiveAnswer.TheVariants as given
 use Rattle.link_side.specs.declared.answer.Answer.{Answer}
 use Rattle.link_side.specs.declared.answer.Answer.TheVariants as answer
 

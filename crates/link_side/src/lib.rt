@@ -7,8 +7,8 @@
 
 mod acts;
 mod answer;
-mod beginning;
-mod passing;
+mod open;
+mod segments;
 mod sessions;
 mod side;
 mod table;

@@ -23,7 +23,7 @@ use Rattle.link_report.specs.declared.outcome.Outcome.{Outcome}
 use Rattle.link_report.specs.Outcomes.{Shows}
 use Rattle.link_side.specs.declared.side.Side.{Side}
 use Rattle.link_side.specs.Passing.{HasCome}
-use Rattle.link_world.specs.declared.coming.Answered.{Answered}
+use Rattle.link_world.specs.declared.arrivals.Answered.{Answered}
 use Rattle.link_world.specs.Following.{HasStepped, by_bytes, by_event}
 use Rattle.link_world.specs.Links.{AreOfEnd, StandsAt}
 use Rattle.link_world.specs.Passing.{Counts, EntersAs, HasReceived, outcome_come}

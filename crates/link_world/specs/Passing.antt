@@ -12,7 +12,7 @@ use Rattle.link_report.specs.declared.outcome.Outcome.TheVariants as outcome
 use Rattle.link_report.specs.Outcomes.{Shows}
 use Rattle.link_side.specs.declared.side.Side.{Side}
 use Rattle.link_side.specs.Sides.{StandsSide}
-use Rattle.link_world.specs.declared.coming.Answered.{Answered}
+use Rattle.link_world.specs.declared.arrivals.Answered.{Answered}
 
 -- what a log is told of what passed: the row of that number, the number in the stream and the context
 abbrev pub EntersAs : List Row → Option Passed → Option Entrance → Type 0

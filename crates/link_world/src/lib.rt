@@ -4,17 +4,17 @@
 //! what it stood for.
 #![tactic(auto)]
 
-mod acting;
-mod coming;
-mod copying;
-mod fitting;
+mod acts;
+mod arrivals;
+mod copies;
+mod events;
 mod front;
-mod happening;
-mod looking;
+mod ranges;
 mod room;
-mod sending;
+mod send;
 mod setup;
-mod showing;
+mod status;
+mod texts;
 mod world;
 
 pub use front::Front;

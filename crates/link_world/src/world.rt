@@ -15,8 +15,8 @@ ghost use Rattle.link_report.specs.Outcomes.{AreShown, Shows};
 ghost use Rattle.link_world.specs.Events.{CanHappen};
 ghost use Rattle.link_world.specs.Links.{AreOfLink};
 
-use crate::fitting::{see_event, see_rows, see_sockets};
-use crate::happening::happen;
+use crate::events::happen;
+use crate::ranges::{see_event, see_rows, see_sockets};
 use crate::room::room_for;
 use crate::setup::{Setup, take_table};
 use book_base::Pair;

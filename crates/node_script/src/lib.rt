@@ -5,8 +5,8 @@
 mod head;
 mod line_events;
 mod name;
-mod reading;
+mod reader;
 
 pub use book_cmd_node::NodeScript;
 pub use book_lines::TextFault;
-pub use reading::read_node;
+pub use reader::read_node;

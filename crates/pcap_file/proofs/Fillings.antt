@@ -7,7 +7,7 @@ use Rattle.std.specs.List.{All}
 use Rattle.ao_base.specs.Buffered.{Buffered, TakesMore}
 use Rattle.ao_base.specs.Outside.{Side}
 use Rattle.ao_base.proofs.Sides.{gave_more, rose_after}
-use Rattle.pcap_file.specs.declared.filling.Filled.TheVariants.{Ended, Enough, Fault}
+use Rattle.pcap_file.specs.declared.refill.Filled.TheVariants.{Ended, Enough, Fault}
 use Rattle.pcap_file.specs.Parts.{Filling, Fills}
 use Rattle.pcap_file.specs.Reading.{IsByte}
 

@@ -15,7 +15,7 @@ use Rattle.book_pcap.specs.declared.pcap_head.Head.{Head}
 use Rattle.book_pcap.specs.declared.pcap_head.HeadFault.{HeadFault}
 use Rattle.book_pcap.specs.Packets.{head_of, four_at, datagram_of}
 use Rattle.book_pcap.proofs.Captures.{record_short, record_over, record_part, record_whole}
-use Rattle.pcap_file.specs.declared.filling.Filled.TheVariants as filled
+use Rattle.pcap_file.specs.declared.refill.Filled.TheVariants as filled
 use Rattle.pcap_file.specs.declared.records.Found.TheVariants as found
 use Rattle.pcap_file.specs.declared.records.Opened.TheVariants as opening
 use Rattle.pcap_file.specs.Parts.{Fills, Opens, Finds}

@@ -7,8 +7,8 @@ use Rattle.book_pcap.specs.declared.pcap_head.ByteOrder.{ByteOrder}
 use Rattle.book_pcap.specs.declared.pcap_head.Head.{Head}
 use Rattle.book_base.specs.Fronts.{Faulted, Leads}
 use Rattle.book_pcap.specs.Packets.{RecordFault, Broken, record_at}
-use Rattle.pcap_file.specs.declared.filling.Filled.{Filled}
-use Rattle.pcap_file.specs.declared.filling.Filled.TheVariants as filled
+use Rattle.pcap_file.specs.declared.refill.Filled.{Filled}
+use Rattle.pcap_file.specs.declared.refill.Filled.TheVariants as filled
 use Rattle.pcap_file.specs.declared.records.Opened.{Opened}
 use Rattle.pcap_file.specs.declared.records.Opened.TheVariants as opening
 use Rattle.pcap_file.specs.declared.records.Found.{Found}

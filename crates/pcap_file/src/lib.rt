@@ -4,11 +4,11 @@
 //! `book_pcap` defines them.
 #![tactic(auto)]
 
-mod filling;
 mod head;
 mod numbers;
 mod packets;
 mod records;
+mod refill;
 
 pub use book_pcap::HeadFault;
 pub use packets::{PacketStep, Packets};

@@ -6,9 +6,9 @@ ghost use Rattle.book_pcap.specs.Packets.{datagram_of, is_ip, record_at};
 ghost use Rattle.pcap_file.specs.Parts.{Opens, Finds};
 ghost use Rattle.pcap_file.specs.Reading.{is_whole};
 
-use crate::filling::{Filled, fill};
 use crate::head::{HEAD, read_head};
 use crate::numbers::four;
+use crate::refill::{Filled, fill};
 use ao_base::{Buffer, Cut, Source};
 use book_pcap::{ByteOrder, Head, HeadFault, LinkType};
 

@@ -4,7 +4,7 @@ ghost use Rattle.std.specs.List.{flat_map};
 ghost use Rattle.book_lines.specs.Texts.{spaced};
 ghost use Rattle.book_sessions.specs.KeyLines.{asking_texts, key_line, key_lines, keys_lines, last_texts, may_go_text};
 
-use crate::lasting::{asking, is_wanted, last_carrying};
+use crate::last_use::{asking, is_wanted, last_carrying};
 use crate::session_texts::{push_host, push_time};
 use book_sessions::KeyUse;
 use key_table::{Row, Table, Tables};

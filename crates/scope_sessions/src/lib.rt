@@ -5,7 +5,7 @@
 mod count;
 mod heard;
 mod key_texts;
-mod lasting;
+mod last_use;
 mod passed_texts;
 mod session_texts;
 mod table_text;

@@ -4,9 +4,9 @@
 mod address;
 mod duration;
 mod instant;
-mod reading;
+mod instant_words;
 
 pub use address::{push_address, read_address};
 pub use duration::read_duration;
 pub use instant::{push_instant, push_key_time};
-pub use reading::read_instant;
+pub use instant_words::read_instant;

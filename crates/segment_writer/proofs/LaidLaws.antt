@@ -10,7 +10,7 @@ use Rattle.book_keys.specs.Coordination.{Sending}
 use Rattle.book_endpoint.specs.States.{EndState}
 use Rattle.book_endpoint.specs.Emissions.{Draft, Emits, sets, sealed, made_under}
 use Rattle.key_coordination.specs.declared.choice.Sending.{Sending as Told}
-use Rattle.tcp_segment.specs.declared.writing.Head.{Head}
+use Rattle.tcp_segment.specs.declared.spelling.Head.{Head}
 use Rattle.tcp_segment.specs.Drafts.{DatagramMut, Drafted}
 use Rattle.tcp_segment.specs.Writing.{drafted, header_length, AreSized, IsFinished}
 use Rattle.ao_kdf.specs.Cache.{Cache}

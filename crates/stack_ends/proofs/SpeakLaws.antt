@@ -13,13 +13,13 @@ use Rattle.tcp_endpoint.specs.declared.emission.Made.{Made}
 use Rattle.tcp_endpoint.specs.declared.emission.Resent.{Resent}
 use Rattle.tcp_endpoint.specs.declared.emission.Resent.TheVariants as resents
 use Rattle.tcp_endpoint.specs.declared.endpoint.Endpoint.{Endpoint}
-use Rattle.tcp_endpoint.specs.declared.giving.GiveAnswer.{GiveAnswer}
-use Rattle.tcp_endpoint.specs.declared.giving.GiveAnswer.TheVariants as given
+use Rattle.tcp_endpoint.specs.declared.send.GiveAnswer.{GiveAnswer}
+use Rattle.tcp_endpoint.specs.declared.send.GiveAnswer.TheVariants as given
 use Rattle.tcp_endpoint.specs.Answers.{give_answer, offered}
 use Rattle.tcp_endpoint.specs.Emitting.{IsMade, Emits as EmitsAs, MakesNone, Resends as ResendsAs, ResendsNone, state_after}
 use Rattle.tcp_endpoint.specs.Ends.{Stands}
 use Rattle.book_stack.specs.Watches.{awaits, end_front}
-use Rattle.stack_ends.specs.declared.speaking.Spoken.{Spoken}
+use Rattle.stack_ends.specs.declared.send.Spoken.{Spoken}
 use Rattle.stack_ends.specs.Calling.{given_as}
 use Rattle.stack_ends.specs.Saying.{Leaves, Speaks, said, said_again}
 

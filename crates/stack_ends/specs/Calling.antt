@@ -5,14 +5,14 @@ use Rattle.book_keys.specs.Rows.{Row}
 use Rattle.book_endpoint.specs.States.{EndState}
 use Rattle.book_cmd_node.specs.declared.node.Act.{Act}
 use Rattle.book_cmd_node.specs.NodeRuns as runs
-use Rattle.tcp_endpoint.specs.declared.giving.GiveAnswer.{GiveAnswer}
-use Rattle.tcp_endpoint.specs.declared.giving.GiveAnswer.TheVariants as given
+use Rattle.tcp_endpoint.specs.declared.send.GiveAnswer.{GiveAnswer}
+use Rattle.tcp_endpoint.specs.declared.send.GiveAnswer.TheVariants as given
 use Rattle.book_stack.specs.Turns.{change_by}
 use Rattle.book_stack.specs.Watches.{awaits}
 use Rattle.node_ends.specs.Acting.{act_on}
-use Rattle.stack_ends.specs.declared.calling.Taken.{Taken}
+use Rattle.stack_ends.specs.declared.calls.Taken.{Taken}
 use Rattle.stack_ends.specs.declared.ends.Ends.{Ends}
-use Rattle.stack_ends.specs.declared.speaking.Spoken.{Spoken}
+use Rattle.stack_ends.specs.declared.send.Spoken.{Spoken}
 use Rattle.stack_ends.specs.Saying.{SaysAs}
 use Rattle.stack_ends.specs.Standing.{Stands}
 

@@ -11,9 +11,9 @@ use Rattle.tcp_endpoint.specs.declared.endpoint.Endpoint.{Endpoint}
 use Rattle.tcp_endpoint.specs.Ends.{Stands}
 use Rattle.book_stack.specs.Turns.{change_by}
 use Rattle.book_stack.specs.Watches.{awaits}
-use Rattle.stack_ends.specs.declared.speaking.Says.{Says}
-use Rattle.stack_ends.specs.declared.speaking.Says.TheVariants as says
-use Rattle.stack_ends.specs.declared.speaking.Spoken.{Spoken}
+use Rattle.stack_ends.specs.declared.send.Says.{Says}
+use Rattle.stack_ends.specs.declared.send.Says.TheVariants as says
+use Rattle.stack_ends.specs.declared.send.Spoken.{Spoken}
 
 -- what is said where a segment was made, or wasn't (own)
 abbrev pub said : Emission → Says

@@ -2,15 +2,15 @@
 //! plain node.
 #![tactic(auto)]
 
-mod arriving;
-mod beginning;
-mod calling;
+mod arrival;
+mod calls;
 mod ends;
-mod looking;
+mod open;
 mod rows;
-mod speaking;
-mod starting;
+mod send;
+mod start;
+mod status;
 
-pub use calling::Taken;
+pub use calls::Taken;
 pub use ends::Ends;
-pub use speaking::{Says, Spoken};
+pub use send::{Says, Spoken};

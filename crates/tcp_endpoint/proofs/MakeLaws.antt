@@ -21,8 +21,8 @@ use Rattle.book_endpoint.specs.Emissions as book
 use Rattle.endpoint_steps.specs.Drafting as steps
 use Rattle.endpoint_steps.proofs.Drafting.{emit_by_drafts, resend_by_drafts}
 use Rattle.tcp_endpoint.specs.declared.endpoint.Endpoint.{Endpoint}
-use Rattle.tcp_endpoint.specs.declared.planning.Plan.{Plan}
-use Rattle.tcp_endpoint.specs.declared.planning.Plan.TheVariants as plans
+use Rattle.tcp_endpoint.specs.declared.plans.Plan.{Plan}
+use Rattle.tcp_endpoint.specs.declared.plans.Plan.TheVariants as plans
 use Rattle.tcp_endpoint.specs.declared.emission.Made.{Made}
 use Rattle.tcp_endpoint.specs.declared.emission.Emission.TheVariants as emissions
 use Rattle.tcp_endpoint.specs.declared.emission.Resent.TheVariants as resents

@@ -1,8 +1,8 @@
 -- What the calls answer that make no segment.
 use Rattle.std.specs.Prelude.{ℕ, List, ⊤}
 use Rattle.book_endpoint.specs.States as book
-use Rattle.tcp_endpoint.specs.declared.giving.GiveAnswer.{GiveAnswer}
-use Rattle.tcp_endpoint.specs.declared.giving.GiveAnswer.TheVariants as answers
+use Rattle.tcp_endpoint.specs.declared.send.GiveAnswer.{GiveAnswer}
+use Rattle.tcp_endpoint.specs.declared.send.GiveAnswer.TheVariants as answers
 
 -- what is said of a piece
 abbrev pub offer_answers : book.Offers GiveAnswer

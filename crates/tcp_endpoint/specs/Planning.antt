@@ -5,9 +5,9 @@ use Rattle.book_segments.specs.Segments.{FIN, SYN, RST, PSH, ACK}
 use Rattle.book_endpoint.specs.States.{EndState}
 use Rattle.book_endpoint.specs.Emissions as book
 use Rattle.tcp_endpoint.specs.declared.endpoint.Endpoint.{Endpoint}
-use Rattle.tcp_endpoint.specs.declared.outlining.Outline.{Outline}
-use Rattle.tcp_endpoint.specs.declared.planning.Plan.{Plan}
-use Rattle.tcp_endpoint.specs.declared.planning.Plan.TheVariants as plans
+use Rattle.tcp_endpoint.specs.declared.outlines.Outline.{Outline}
+use Rattle.tcp_endpoint.specs.declared.plans.Plan.{Plan}
+use Rattle.tcp_endpoint.specs.declared.plans.Plan.TheVariants as plans
 
 -- the draft that is planned, with at most so many bytes
 abbrev pub draft_of : EndState → ℕ → Plan → book.Draft

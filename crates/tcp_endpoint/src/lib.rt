@@ -6,34 +6,34 @@
 //! taken when an end is made.
 #![tactic(auto)]
 
-mod acknowledging;
+mod acknowledgement;
+mod after_segment;
 mod arrival;
 mod arrive;
-mod arriving;
-mod beginning;
-mod carrying;
-mod closing;
+mod close;
 mod emission;
-mod emitting;
 mod endpoint;
 mod flags;
-mod giving;
+mod handshake;
 mod laws;
-mod looking;
-mod making;
-mod opening;
-mod outlining;
+mod open;
+mod outlines;
 mod phases;
-mod planning;
-mod receiving;
+mod planned_segment;
+mod plans;
+mod receive;
+mod segment_arrives;
+mod segment_text;
+mod send;
 mod sequence;
-mod taking;
+mod status;
+mod transmission;
 mod windows;
 
 pub use arrival::Arrived;
 pub use book_endpoint::{Arrival, Phase};
 pub use emission::{Emission, Made, Resent};
 pub use endpoint::Endpoint;
-pub use giving::GiveAnswer;
 pub use laws::{end_fits_once_added, end_fits_once_withdrawn};
+pub use send::GiveAnswer;
 pub use sequence::{Received, SequenceState};

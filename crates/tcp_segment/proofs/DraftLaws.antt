@@ -16,7 +16,7 @@ use Rattle.book_segments.proofs.Folding.{complement_by}
 use Rattle.book_segments.proofs.SumLaws.{words_pseudo, complement_completes, complement_fits, is_right, spell_with, fits_with, finished_fits, finished_good}
 use Rattle.book_segments.proofs.SpellLaws.{finished_again}
 use Rattle.book_segments.proofs.Again.{IsAgain, again}
-use Rattle.tcp_segment.specs.declared.writing.Head.{Head}
+use Rattle.tcp_segment.specs.declared.spelling.Head.{Head}
 use Rattle.tcp_segment.specs.Places.{IsRead}
 use Rattle.tcp_segment.specs.Sums.{complement_at, checksum_over, IsSet}
 use Rattle.tcp_segment.specs.Writing.{written_ip, ip_start, tcp_start, ip_size, mss_length, option_heads, drafted, AreSized, HeadFits, HoldsDraft, IsFinished}

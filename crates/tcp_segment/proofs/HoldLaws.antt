@@ -12,7 +12,7 @@ use Rattle.book_segments.specs.Options.{Ao, AoFound, Absent, One, Two, WithMd5, 
 use Rattle.book_segments.specs.Segments.{first_fault, fields, spell}
 use Rattle.book_segments.specs.Spelling.{AreBytes, with_sum}
 use Rattle.book_segments.proofs.Read.{spelled_by}
-use Rattle.tcp_segment.specs.declared.writing.Head.{Head}
+use Rattle.tcp_segment.specs.declared.spelling.Head.{Head}
 use Rattle.tcp_segment.specs.Places.{IsRead}
 use Rattle.tcp_segment.specs.Sums.{IsSet}
 use Rattle.tcp_segment.specs.Writing.{drafted, HoldsDraft, IsFront}

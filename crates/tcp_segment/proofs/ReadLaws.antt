@@ -16,7 +16,7 @@ use Rattle.book_segments.proofs.ByteLaws.{two_back, four_back, part_at}
 use Rattle.book_segments.proofs.Folding.{sums_by}
 use Rattle.book_segments.proofs.SumLaws.{words_pseudo}
 use Rattle.book_segments.proofs.Read.{spelled_by}
-use Rattle.tcp_segment.specs.declared.reading.Places.{Places}
+use Rattle.tcp_segment.specs.declared.faults.Places.{Places}
 use Rattle.tcp_segment.specs.Places.{header_end, Placed, IsRead}
 
 -- ---- after the nine tests

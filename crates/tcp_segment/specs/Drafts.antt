@@ -3,7 +3,7 @@ use Rattle.std.specs.Prelude.{ℕ, List}
 use Rattle.std.specs.Borrow.{MutBor}
 use Rattle.lent_bytes.specs.contracts.RefMutSliceU8Room.TheImpl.{ghosts}
 use Rattle.tcp_segment.specs.declared.draft.Draft.{Draft}
-use Rattle.tcp_segment.specs.declared.writing.Head.{Head}
+use Rattle.tcp_segment.specs.declared.spelling.Head.{Head}
 use Rattle.tcp_segment.specs.Writing.{HoldsDraft}
 
 -- a draft in a caller's slice

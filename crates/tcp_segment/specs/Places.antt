@@ -2,7 +2,7 @@
 use Rattle.std.specs.Prelude.{◌≡◌, ℕ, ◌+◌, ◌*◌, ◌/◌, ◌%◌, ◌==◌, ◌≤◌, List, ◌++◌, length, drop, slice_index, slice_range, if◌then◌else◌}
 use Rattle.book_segments.specs.Segments.{two_octets_at, fields, spell, tcp_bytes, tcp_length}
 use Rattle.book_segments.specs.Spelling.{Fits}
-use Rattle.tcp_segment.specs.declared.reading.Places.{Places}
+use Rattle.tcp_segment.specs.declared.faults.Places.{Places}
 
 -- the length of the IP header, as its fields say (RFC 791, section 3.1; RFC 8200, section 3)
 abbrev pub header_end : List ℕ → ℕ

@@ -7,7 +7,7 @@ use Rattle.book_segments.specs.Bytes.{put2, put4, ring}
 use Rattle.book_segments.specs.Segments.{IpHeader, Segment, complement_of, spell, reading, Read}
 use Rattle.book_segments.specs.Spelling.{Fits, Good, with_sum, finished}
 use Rattle.tcp_segment.specs.Written.{area_heads, written_area, ip_words, ip_as, written}
-use Rattle.tcp_segment.specs.declared.writing.Head.{Head}
+use Rattle.tcp_segment.specs.declared.spelling.Head.{Head}
 
 -- the length of the option of the maximum segment size
 abbrev pub mss_length : Option ℕ → ℕ

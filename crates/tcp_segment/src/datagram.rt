@@ -5,7 +5,7 @@ ghost use Rattle.book_segments.specs.Segments.{Segment, reading, Read, Bad, firs
 ghost use Rattle.book_segments.specs.Spelling.{AreBytes, Fits, Spells};
 ghost use Rattle.tcp_segment.specs.Places.{IsRead};
 
-use crate::reading::{Places, places_in};
+use crate::faults::{Places, places_in};
 use crate::sums::{address_sum, four, two, words_modulo};
 use book_base::{Address, Socket};
 use book_segments::DatagramFault;

@@ -4,7 +4,7 @@ ghost use Rattle.std.specs.Borrow.{sem};
 ghost use Rattle.tcp_segment.specs.Writing.{IsFront};
 
 use crate::datagram::{Datagram, datagram_at};
-use crate::reading::Places;
+use crate::faults::Places;
 use crate::sums::set_checksum;
 use lent_bytes::Room;
 
@@ -29,7 +29,7 @@ pub type DatagramMut<'a> = Draft<&'a mut [u8]>;
 impl<'a> Draft<&'a mut [u8]> {
     ghost use Rattle.book_segments.specs.Options.{Ao, One, find_ao};
     ghost use Rattle.book_segments.specs.Spelling.{Fits};
-    ghost use Rattle.tcp_segment.specs.declared.writing.Head.{Head};
+    ghost use Rattle.tcp_segment.specs.declared.spelling.Head.{Head};
     ghost use Rattle.tcp_segment.specs.Writing.{drafted, IsFinished};
     ghost use Rattle.tcp_segment.specs.Drafts.{Drafted};
 

@@ -1,6 +1,6 @@
 //! The law above drafts.
 ghost use Rattle.std.specs.Prelude.{◌≡◌, ℕ, List, length};
-ghost use Rattle.tcp_segment.specs.declared.writing.Head.{Head};
+ghost use Rattle.tcp_segment.specs.declared.spelling.Head.{Head};
 ghost use Rattle.tcp_segment.specs.Drafts.{DatagramMut, Drafted};
 ghost use Rattle.tcp_segment.specs.Lending.{with_payload, with_mac};
 

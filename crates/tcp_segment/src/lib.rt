@@ -7,15 +7,15 @@
 
 mod datagram;
 mod draft;
+mod faults;
 mod laws;
 mod parts;
-mod reading;
+mod spelling;
 mod sums;
-mod writing;
 
 pub use book_segments::DatagramFault;
 pub use datagram::{Datagram, read_datagram};
 pub use draft::{DatagramMut, Draft};
 pub use laws::parts_put_in_are_kept;
+pub use spelling::{Head, write_datagram};
 pub use sums::fix_checksum;
-pub use writing::{Head, write_datagram};

@@ -3,7 +3,7 @@ ghost use Rattle.std.specs.Prelude.{◌≡◌, ◌++◌, ◌∷◌, [], OnOk, If
 ghost use Rattle.book_lines.specs.Faults.{input_fault_text, kind_text};
 ghost use Rattle.book_lines.specs.Texts.{line_text, spaced};
 
-use crate::writing::{push_newline, push_number, push_text};
+use crate::texts::{push_newline, push_number, push_text};
 use book_base::Bytes;
 use book_lines::{LineKind, TextFault};
 use std::alloc::{AllocError, Global};

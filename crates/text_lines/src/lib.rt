@@ -7,14 +7,14 @@ mod fault;
 mod line_words;
 mod lines;
 mod refusal;
-mod saying;
-mod writing;
+mod said_lines;
+mod texts;
 
 pub use fault::print_fault;
 pub use line_words::LineWords;
 pub use lines::count_lines;
 pub use refusal::Refusal;
-pub use saying::{Saying, SayingLines};
-pub use writing::{
+pub use said_lines::{Saying, SayingLines};
+pub use texts::{
     push_bytes, push_end, push_field, push_newline, push_number, push_socket, push_text,
 };

@@ -7,14 +7,14 @@
 mod changes;
 mod choices;
 mod front;
-mod passing;
+mod passes;
 mod recipe;
 mod right;
 mod suspect;
 mod texts;
 
 pub use choices::{MacChoices, right_choices};
-pub use passing::would_pass;
+pub use passes::would_pass;
 pub use recipe::{Recipe, mac_made, recipe_by};
 pub use right::{key_made, right_recipe, suspect_context};
 pub use suspect::{BothTables, Suspect};

@@ -1,7 +1,7 @@
 use Rattle.std.proofs.Common.{[], refl}
 use Rattle.std.proofs.lemmas.Result.{err_from_is_err_and}
 use Rattle.book_answer.specs.declared.command.Command.TheVariants as commands
-use Rattle.cmd_check.specs.declared.answering.Form.TheVariants as form
+use Rattle.cmd_check.specs.declared.answers.Form.TheVariants as form
 use Rattle.ao_run.specs.declared.job.Job.TheVariants as job
 use Rattle.ao_run.specs.declared.job.Whole.TheVariants as whole
 use Rattle.ao_run.proofs.JobLaws.{keyed_prepared, keyless, plain_prepared}

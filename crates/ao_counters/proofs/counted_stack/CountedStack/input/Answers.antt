@@ -4,7 +4,7 @@ use Rattle.book_stack.specs.Calls.{Incoming, Input}
 use Rattle.book_stack.specs.Turns.{clocked}
 use Rattle.node_ends.specs.declared.answer.NodeArrival.{NodeArrival}
 use Rattle.node_ends.specs.declared.answer.NodeArrival.TheVariants.{At}
-use Rattle.ao_stack.specs.declared.arriving.Heard.TheVariants as heard
+use Rattle.ao_stack.specs.declared.input.Heard.TheVariants as heard
 use Rattle.ao_stack.specs.declared.stack.Stack.{Stack}
 use Rattle.ao_stack.specs.Answering.{Follows, IsHeard}
 use Rattle.ao_stack.specs.Passing.{PassesAs}

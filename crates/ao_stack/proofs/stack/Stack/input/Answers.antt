@@ -6,7 +6,7 @@ use Rattle.book_segments.specs.Segments.{pair_reached}
 use Rattle.book_stack.specs.Calls.{Incoming}
 use Rattle.book_stack.specs.Turns.{clocked}
 use Rattle.node_ends.specs.declared.answer.NodeArrival.TheVariants as arrivals
-use Rattle.ao_stack.specs.declared.arriving.Heard.TheVariants as heards
+use Rattle.ao_stack.specs.declared.input.Heard.TheVariants as heards
 use Rattle.ao_stack.proofs.ArriveLaws.{came_bad, inputs, read_found}
 use Rattle.ao_stack.proofs.stack.Stack.input.Goals as goal
 

@@ -1,0 +1,50 @@
+//! A datagram comes.
+ghost use Rattle.std.specs.Prelude.{◌≤◌};
+ghost use Rattle.book_counters.specs.Counters.{StackCounts};
+ghost use Rattle.book_segments.specs.Segments.{reading};
+ghost use Rattle.book_stack.specs.Calls.{Input};
+ghost use Rattle.book_stack.specs.Stacks.{StackState};
+ghost use Rattle.book_stack.specs.Turns.{clocked};
+ghost use Rattle.stack_timers.specs.Watching.{latest};
+ghost use Rattle.ao_stack.specs.Answering.{IsHeard};
+ghost use Rattle.ao_stack.specs.Passing.{PassesAs};
+ghost use Rattle.ao_counters.specs.Answering.{Follows};
+ghost use Rattle.ao_counters.specs.Standing.{Stands};
+
+use crate::counted_stack::CountedStack;
+use crate::counts::{Happened, arrived, knocked, stray};
+use crate::key_ids::ids_in;
+use ao_stack::Heard;
+use book_endpoint::Arrival;
+use node_ends::NodeArrival;
+
+impl CountedStack {
+    /// A datagram comes at `now`, in milliseconds since 1970 and at most the last one of the year 9999: to
+    /// the end of its pair (RFC 9293, section 3.10.7), which is told, or it knocks. It is counted, and the
+    /// key ids of a segment that passed the check are kept. All else is as for `ao_stack::Stack`.
+    pub fn input(&mut self, now: u64, bytes: &[u8]) -> Heard
+        requires time { now ≤ latest }
+        ensures told { (s : StackState) (n : StackCounts) → Stands self.old s n
+            → Follows self.new (Input (record { now = now; bytes = bytes.now })) s n (IsHeard (reading bytes.now) result) }
+        ensures passed { (s : StackState) (n : StackCounts) → Stands self.old s n → PassesAs (clocked now s).stack (reading bytes.now) result }
+    {
+        match self.stack.input(now, bytes) {
+            Heard::Knocks(pair) => {
+                self.node = knocked(self.node);
+                Heard::Knocks(pair)
+            }
+            Heard::Told(NodeArrival::NoConnection) => {
+                self.node = stray(self.node);
+                Heard::Told(NodeArrival::NoConnection)
+            }
+            Heard::Told(NodeArrival::Bad(fault)) => {
+                self.node = arrived(self.node, Arrival::Bad(fault));
+                Heard::Told(NodeArrival::Bad(fault))
+            }
+            Heard::Told(NodeArrival::At(pair, answer)) => {
+                self.count(&pair, Happened::Heard(answer.arrival, ids_in(bytes)));
+                Heard::Told(NodeArrival::At(pair, answer))
+            }
+        }
+    }
+}

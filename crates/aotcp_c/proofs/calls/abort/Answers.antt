@@ -1,0 +1,7 @@
+use Rattle.book_cmd_node.specs.declared.node.Act.TheVariants as act
+use Rattle.book_stack.specs.Calls.{At}
+use Rattle.aotcp_c.proofs.AnswerLaws.{done_answers}
+use Rattle.aotcp_c.proofs.calls.abort.Goals as goal
+
+pub returns-in-Some : goal.returns-in-Some
+returns-in-Some c = λ s n stands. rw (← c.pair_of.ensures.told, c.in-Some.is) (done_answers c.abort.new.self (At c.in-Some.pair act.Abort) s n c.abort.result c.done_code.result c.done_code.ensures (c.abort.ensures s n stands))

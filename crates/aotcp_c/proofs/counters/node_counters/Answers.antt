@@ -1,0 +1,11 @@
+use Rattle.std.proofs.Common.{refl, ap, ◌∙◌}
+use Rattle.book_counters.specs.declared.counters.Counters.{Counters}
+use Rattle.book_counters.specs.KeyIds.{no_key_ids}
+use Rattle.aotcp_c.specs.Counting.{told_counters}
+use Rattle.aotcp_c.proofs.counters.node_counters.Goals as goal
+
+pub returns : goal.returns
+returns c = λ s n stands. record {
+  is = refl;
+  counted = c.told_counters.ensures ∙ ap (λ (k : Counters). told_counters k no_key_ids) (c.node_counters.ensures s n stands);
+}

@@ -1,7 +1,0 @@
-use Rattle.std.proofs.Common.{take}
-use Rattle.link_world.specs.Standing.{setup_of}
-use Rattle.draw_rungs.proofs.RungLaws.{Drawing}
-use Rattle.draw_rungs.proofs.running.rungs_of.Given as goal
-
-abbrev pub invariant-loop-event : goal.invariant-loop-event
-invariant-loop-event l = Drawing l.world (setup_of l.fn.setup) (take l.event-index l.events) l.event-index l.rungs.items

@@ -1,5 +1,0 @@
-use Rattle.link_world.proofs.WorldLaws.{rows_fit}
-use Rattle.link_world.proofs.fitting.see_rows.Goals as goal
-
-pub returns : goal.returns
-returns c = rows_fit c.args.table.now.rows c.entries-rows.ensures.fit

@@ -1,0 +1,159 @@
+//! The events by which a datagram comes to an end.
+ghost use Rattle.std.specs.Prelude.{◌≡◌, ◌<◌, ◌≤◌, ◌+◌, List, length, Ok};
+ghost use Rattle.std.specs.Option.{ForSome};
+ghost use Rattle.book_link.specs.declared.event.Event.TheVariants.{Alter, Deliver};
+ghost use Rattle.book_link.specs.Worlds.{Happening, Setup, World};
+ghost use Rattle.link_log.specs.Logs.{StandsLog, forgery_count, made_count};
+ghost use Rattle.link_world.specs.Following.{Acts, by_bytes, by_event};
+ghost use Rattle.link_world.specs.Links.{AreOfEnd, StandsAt};
+ghost use Rattle.link_world.specs.Passing.{Counts, EntersAs, HasReceived, outcome_come};
+
+use crate::copies::altered;
+use ao_base::Steps;
+use book_base::End;
+use book_endpoint::{Arrival, Passed};
+use key_table::Table;
+use link_log::{Entrance, Log};
+use link_report::Outcome;
+use link_side::Side;
+use std::alloc::{AllocError, Global};
+use std::marker::Brand;
+use std::sync::ledger::{Blank, Ledger};
+
+/// What is altered in a copy of a segment: the byte at this place, counted from the TCP header, is
+/// xored with this mask; with `fix` the TCP checksum is then set right.
+#[derive(Clone, Copy)]
+pub(crate) struct Change {
+    pub(crate) place: u16,
+    pub(crate) mask: u8,
+    pub(crate) fix: bool,
+}
+
+/// The answer to a datagram that came, and whether it is a forgery.
+#[derive(Clone, Copy)]
+pub(crate) struct Answered {
+    pub(crate) arrival: Arrival,
+    pub(crate) forged: bool,
+}
+
+/// What passed, with the row that it passed under; none where nothing passed.
+fn entrance(table: &Table, passed: Option<Passed>) -> Option<Entrance<'_>>
+    requires low { ForSome passed (λ p. 1 ≤ p.row) }
+    requires high { ForSome passed (λ p. p.row ≤ length table.now.rows) }
+    ensures { EntersAs table.now.rows passed result }
+{
+    match passed {
+        None => None,
+        Some(passed) => Some(Entrance {
+            row: table.row(passed.row),
+            number: passed.number,
+            context: passed.context,
+        }),
+    }
+}
+
+/// Bytes come to the live session of the end, a copy of the segment of this name if there is one; none
+/// where there is no session.
+fn come<L: Ledger>(
+    blank: Blank,
+    side: &mut Side,
+    log: &Log,
+    at: End,
+    name: Option<u32>,
+    bytes: &[u8],
+) -> Option<Answered>
+    requires name { blank.name ≡ L.name }
+    requires parts { blank.parts ≡ L.parts }
+    requires part { 0 < blank.parts }
+    requires at { ∥ AreOfEnd at side.old log.now ∥₁ }
+    ensures pair { side.new.pair ≡ side.old.pair }
+    ensures received { (setup : Setup) (w : World) → StandsAt at side.old log.now setup w → HasReceived w (by_bytes at bytes.now setup w) at side.new result }
+{
+    let mut steps = Steps::<L>::new(blank);
+    match side.come(bytes, &mut steps) {
+        None => None,
+        Some(arrived) => {
+            let entered = entrance(side.table(), arrived.passed);
+            let forged = log.is_forged(at, name, bytes, entered);
+            Some(Answered {
+                arrival: arrived.arrival,
+                forged,
+            })
+        }
+    }
+}
+
+/// Takes notice of what came, if there was a session, and tells the outcome.
+fn count(log: &mut Log, answered: Option<Answered>) -> Outcome
+    requires { forgery_count log.old < 4294967295 }
+    ensures made { made_count log.new ≡ made_count log.old }
+    ensures most { forgery_count log.new ≤ forgery_count log.old + 1 }
+    ensures stands { (history after : List Happening) → StandsLog log.old history → Counts answered history after → StandsLog log.new after }
+    ensures outcome { result ≡ outcome_come answered }
+{
+    match answered {
+        None => Outcome::NoSession,
+        Some(came) => {
+            log.count(came.forged);
+            Outcome::Arrival(came.arrival)
+        }
+    }
+}
+
+/// A datagram comes to the end, a copy of the segment of this name if there is one.
+pub(crate) fn inject(
+    side: &mut Side,
+    log: &mut Log,
+    at: End,
+    name: Option<u32>,
+    bytes: &[u8],
+) -> Outcome
+    requires at { ∥ AreOfEnd at side.old log.old ∥₁ }
+    requires forged { forgery_count log.old < 4294967295 }
+    ensures { Acts at side.old side.new log.old log.new (by_bytes at bytes.now) (Ok result) }
+{
+    let answered = come::<Brand>(Blank::new(1), side, log, at, name, bytes);
+    count(log, answered)
+}
+
+/// The segment of this name comes to the end as it was made; its bytes are lent by the log.
+pub(crate) fn deliver(side: &mut Side, log: &mut Log, at: End, name: u32) -> Outcome
+    requires at { ∥ AreOfEnd at side.old log.old ∥₁ }
+    requires forged { forgery_count log.old < 4294967295 }
+    ensures { Acts at side.old side.new log.old log.new (by_event (Deliver at name)) (Ok result) }
+{
+    match log.segment(name) {
+        None => Outcome::NoSegment,
+        Some(entry) => {
+            let bytes = entry.bytes.as_slice();
+            let answered = come::<Brand>(Blank::new(1), side, log, at, Some(name), bytes);
+            count(log, answered)
+        }
+    }
+}
+
+/// An altered copy of the segment of this name comes to the end.
+pub(crate) fn alter(
+    side: &mut Side,
+    log: &mut Log,
+    alloc: Global,
+    at: End,
+    name: u32,
+    change: Change,
+) -> Result<Outcome, AllocError>
+    requires at { ∥ AreOfEnd at side.old log.old ∥₁ }
+    requires forged { forgery_count log.old < 4294967295 }
+    ensures { Acts at side.old side.new log.old log.new (by_event (Alter at name change.place change.mask change.fix)) result }
+{
+    match log.segment(name) {
+        None => Ok(Outcome::NoSegment),
+        Some(entry) => {
+            let bytes = entry.bytes.as_slice();
+            let copy = altered(alloc, bytes, change.place, change.mask, change.fix)?;
+            match copy {
+                None => Ok(Outcome::NoPlace),
+                Some(copy) => Ok(inject(side, log, at, Some(name), copy.as_slice())),
+            }
+        }
+    }
+}

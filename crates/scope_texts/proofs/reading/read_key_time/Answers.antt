@@ -1,5 +1,0 @@
-use Rattle.scope_texts.proofs.ReadingLaws.{no_time}
-use Rattle.scope_texts.proofs.reading.read_key_time.Goals as goal
-
-pub returns-in-Err : goal.returns-in-Err
-returns-in-Err c = no_time c.args.text.now c.in-Err.ensures.cases.0
