@@ -8,8 +8,8 @@ use Rattle.ao_base.specs.declared.reader.LineStep.{LineStep}
 use Rattle.ao_base.specs.declared.reader.LineStep.TheVariants.{Line, End, Fault, TooLong, LongLine}
 use Rattle.ao_base.specs.declared.search.Found.TheVariants as found
 use Rattle.ao_base.specs.Buffered.{Buffered}
-use Rattle.ao_base.specs.Finding.{Finds}
-use Rattle.ao_base.specs.Reading.{Reading, Advances, IsQuiet, IsLineOrEnd}
+use Rattle.ao_base.specs.Found.{Finds}
+use Rattle.ao_base.specs.Reads.{Reading, Advances, IsQuiet, IsLineOrEnd}
 use Rattle.ao_base.proofs.Slices.{part_front}
 use Rattle.ao_base.proofs.Newlines.{cut_of, long_and_none, long_line, longer, plain_front, within, first_of, past_within}
 

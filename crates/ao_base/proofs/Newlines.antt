@@ -13,7 +13,7 @@ use Rattle.ao_base.specs.Outside.{Side, IsAtEnd, told}
 use Rattle.book_base.proofs.LineLaws.{lines_step, one_more}
 use Rattle.ao_base.proofs.CutLaws.{first_or_length}
 use Rattle.ao_base.proofs.Sides.{nothing_told}
-use Rattle.ao_base.specs.Reading.{IsCut, IsFirstLine, IsLong, IsPlain, NoneLong}
+use Rattle.ao_base.specs.Reads.{IsCut, IsFirstLine, IsLong, IsPlain, NoneLong}
 
 -- how many bytes stand before the first newline
 pub within : (xs : List ℕ) → position_or_len is_newline xs ≤ length xs

@@ -7,7 +7,7 @@ use Rattle.ao_base.specs.Buffered.{Buffered, TakesMore}
 use Rattle.book_base.specs.Lines.{is_newline}
 use Rattle.ao_base.specs.Outside.{Side}
 use Rattle.ao_base.proofs.Sides.{gave_more, rose_after}
-use Rattle.ao_base.specs.Finding.{Finds, Searching}
+use Rattle.ao_base.specs.Found.{Finds, Searching}
 use Rattle.ao_base.specs.declared.search.Found.TheVariants.{Line, End, Fault}
 
 module _ (before middle now : Buffered) (first between last : Side) (given more : List ℕ) (seen : ℕ)

@@ -5,7 +5,7 @@ use Rattle.book_base.specs.Lines.{lines_of}
 use Rattle.ao_base.specs.Outside.{Side}
 use Rattle.ao_base.specs.declared.reader.LineStep.{LineStep}
 use Rattle.ao_base.specs.declared.reader.LineStep.TheVariants.{Line, End}
-use Rattle.ao_base.specs.Reading.{Reading, Advances, IsCut, IsPlain, Shows, Stops}
+use Rattle.ao_base.specs.Reads.{Reading, Advances, IsCut, IsPlain, Shows, Stops}
 use Rattle.ao_base.proofs.Newlines.{line_alone, line_first}
 
 -- the reader took these bytes in all and showed these lines: they are the lines of the bytes in front of those that it keeps, whatever follows, unless the last one has no newline

@@ -1,7 +1,7 @@
 pub mod Buffered
 pub mod Cuts
-pub mod Finding
+pub mod Found
 pub mod InMemory
 pub mod Outside
 pub mod ReadAll
-pub mod Reading
+pub mod Reads

@@ -1,7 +1,7 @@
 //! Lines of a source, one after another.
 ghost use Rattle.std.specs.Prelude.{◌≡◌, ℕ, ◌+◌, ◌≤◌, true, false, List, [], length, IfOk, IsSome, Some, None};
 ghost use Rattle.ao_base.specs.Outside.{Side};
-ghost use Rattle.ao_base.specs.Reading.{Reading, Advances, IsQuiet, IsLineOrEnd};
+ghost use Rattle.ao_base.specs.Reads.{Reading, Advances, IsQuiet, IsLineOrEnd};
 
 use crate::buffer::Buffer;
 use crate::lines::past_line;
@@ -44,7 +44,7 @@ pub struct LineReader {
 
 impl Model for LineReader {
     ghost use Rattle.std.specs.Prelude.{◌≡◌, ◌+◌, ◌≤◌, cond, Some, None, length};
-    ghost use Rattle.ao_base.specs.Reading.{Reading};
+    ghost use Rattle.ao_base.specs.Reads.{Reading};
 
     ghost Value = { Reading };
 

@@ -4,7 +4,7 @@ ghost use Rattle.std.specs.List.{position_or_len};
 ghost use Rattle.ao_base.specs.Buffered.{Buffered};
 ghost use Rattle.book_base.specs.Lines.{is_newline};
 ghost use Rattle.ao_base.specs.Outside.{Side};
-ghost use Rattle.ao_base.specs.Finding.{Finds};
+ghost use Rattle.ao_base.specs.Found.{Finds};
 
 use crate::buffer::Buffer;
 use crate::outside::Source;

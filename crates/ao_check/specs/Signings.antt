@@ -9,7 +9,7 @@ use Rattle.book_base.specs.Algorithms.{mac_length_of}
 use Rattle.book_keys.specs.Rows.{Row}
 use Rattle.tcp_segment.specs.declared.spelling.Head.{Head}
 use Rattle.book_segments.specs.Options.{Ao}
-use Rattle.tcp_segment.specs.Writing.{drafted, mss_length}
+use Rattle.tcp_segment.specs.Layout.{drafted, mss_length}
 use Rattle.tcp_segment.specs.Drafts.{DatagramMut, Drafted}
 use Rattle.ao_check.specs.Bonds.{Bond}
 use Rattle.ao_check.specs.Contexts.{IsPlanned}

@@ -9,7 +9,7 @@ ghost use Rattle.book_keys.specs.Rows.{Row};
 ghost use Rattle.book_keys.specs.Coordination.{choose, current_after, follow};
 ghost use Rattle.book_endpoint.specs.Verdicts.{judge};
 ghost use Rattle.tcp_segment.specs.declared.spelling.Head.{Head};
-ghost use Rattle.tcp_segment.specs.Writing.{drafted};
+ghost use Rattle.tcp_segment.specs.Layout.{drafted};
 ghost use Rattle.tcp_segment.specs.Drafts.{Drafted};
 ghost use Rattle.ao_mac.specs.Sealed.{IsSealed};
 ghost use Rattle.book_macs.specs.Contexts.{bytes_of};

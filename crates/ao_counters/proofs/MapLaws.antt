@@ -10,7 +10,7 @@ use Rattle.law_node.proofs.Pairs.{same_pair_is}
 use Rattle.stack_timers.specs.declared.key.Key.{Key}
 use Rattle.stack_timers.specs.Keys.{by_key, key_of}
 use Rattle.stack_timers.proofs.MapLaws.{key_finds, set_finds}
-use Rattle.ao_counters.specs.Tallying.{Becomes, Tallying, tally_at}
+use Rattle.ao_counters.specs.Tallies.{Becomes, Tallying, tally_at}
 
 -- tallies with these entries
 abbrev pub of_entries : List (Key × Tally) → Tallying

@@ -31,19 +31,19 @@ use Rattle.node_ends.specs.declared.answer.NodeArrival.TheVariants as arrivals
 use Rattle.node_ends.specs.declared.answer.NodeRefusal.{NodeRefusal}
 use Rattle.node_ends.specs.declared.answer.NodeRefusal.TheVariants as refusals
 use Rattle.stack_ends.specs.declared.calls.Taken.{Taken}
-use Rattle.ao_stack.specs.Answering as below
-use Rattle.ao_stack.specs.Answering.{IsAdded, IsBegun, IsDone, IsGiven, IsHanded, IsHeard, IsTaken, Reaches}
-use Rattle.ao_stack.specs.Standing as stack
-use Rattle.ao_stack.specs.Turning.{MadeLast, act_of}
+use Rattle.ao_stack.specs.Answers as below
+use Rattle.ao_stack.specs.Answers.{IsAdded, IsBegun, IsDone, IsGiven, IsHanded, IsHeard, IsTaken, Reaches}
+use Rattle.ao_stack.specs.Stands as stack
+use Rattle.ao_stack.specs.Turns.{MadeLast, act_of}
 use Rattle.ao_stack.specs.declared.input.Heard.TheVariants as heard
 use Rattle.ao_stack.specs.declared.outgoing.Outgoing.{Outgoing}
 use Rattle.ao_stack.specs.declared.outgoing.Sending.{Sending}
 use Rattle.ao_counters.specs.declared.counted_stack.CountedStack.{CountedStack}
 use Rattle.ao_counters.specs.declared.counts.Happened.TheVariants as happened
-use Rattle.ao_counters.specs.Answering.{AddsAs, BeginsAs, Follows}
-use Rattle.ao_counters.specs.Happening.{changed_by}
-use Rattle.ao_counters.specs.Standing.{Stands}
-use Rattle.ao_counters.specs.Tallying.{Becomes, Tallying, tally_at}
+use Rattle.ao_counters.specs.Answers.{AddsAs, BeginsAs, Follows}
+use Rattle.ao_counters.specs.Counts.{changed_by}
+use Rattle.ao_counters.specs.Stands.{Stands}
+use Rattle.ao_counters.specs.Tallies.{Becomes, Tallying, tally_at}
 use Rattle.ao_counters.proofs.CallLaws.{add_counts, at_counts, input_knocks, input_told}
 use Rattle.ao_counters.proofs.HeldLaws.{call_held}
 use Rattle.ao_counters.proofs.TurnLaws.{output_hands, output_rests}

@@ -15,7 +15,7 @@ use Rattle.book_stack.specs.declared.alarm.Alarm.{Alarm}
 use Rattle.book_stack.specs.Calls.{Hands, Output, Rests, call, handed_out}
 use Rattle.book_stack.specs.Stacks.{StackState}
 use Rattle.book_stack.specs.Turns.{Turn, ask, asked_first, asked_pair, clocked, output_at, passing, segment_in, then_turn, turns, wake, woken_first, woken_pair}
-use Rattle.ao_stack.specs.Turning.{last_event}
+use Rattle.ao_stack.specs.Turns.{last_event}
 use Rattle.ao_stack.proofs.LastLaws.{last_behind}
 
 -- a turn that hands nothing out counts nothing; else it counts the segment of its last event

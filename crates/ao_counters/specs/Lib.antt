@@ -1,4 +1,4 @@
-pub mod Answering
-pub mod Happening
-pub mod Standing
-pub mod Tallying
+pub mod Answers
+pub mod Counts
+pub mod Stands
+pub mod Tallies

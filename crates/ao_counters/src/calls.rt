@@ -4,9 +4,9 @@ ghost use Rattle.book_cmd_node.specs.declared.node.Act.TheVariants as act;
 ghost use Rattle.book_counters.specs.Counters.{StackCounts};
 ghost use Rattle.book_stack.specs.Calls.{At};
 ghost use Rattle.book_stack.specs.Stacks.{StackState};
-ghost use Rattle.ao_stack.specs.Answering.{IsDone, IsGiven, IsTaken};
-ghost use Rattle.ao_counters.specs.Answering.{Follows};
-ghost use Rattle.ao_counters.specs.Standing.{Stands};
+ghost use Rattle.ao_stack.specs.Answers.{IsDone, IsGiven, IsTaken};
+ghost use Rattle.ao_counters.specs.Answers.{Follows};
+ghost use Rattle.ao_counters.specs.Stands.{Stands};
 
 use crate::counted_stack::CountedStack;
 use book_base::Pair;

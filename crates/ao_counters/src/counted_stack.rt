@@ -1,7 +1,7 @@
 //! A stack that counts.
 ghost use Rattle.std.specs.Prelude.{◌≡◌, option_map};
-ghost use Rattle.ao_counters.specs.Happening.{changed_by, counted_by};
-ghost use Rattle.ao_counters.specs.Tallying.{Becomes, tally_at};
+ghost use Rattle.ao_counters.specs.Counts.{changed_by, counted_by};
+ghost use Rattle.ao_counters.specs.Tallies.{Becomes, tally_at};
 
 use crate::counts::{Happened, counted};
 use crate::tallies::Tallies;

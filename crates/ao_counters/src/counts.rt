@@ -1,8 +1,8 @@
 //! What happened adds to counters and tallies.
 ghost use Rattle.std.specs.Prelude.{◌≡◌};
 ghost use Rattle.book_counters.specs.Counters.{arrival_counted, knock_counted, next_count, no_counters, no_tally, refusal_counted, sending_counted, stray_counted};
-ghost use Rattle.ao_counters.specs.Happening.{changed_by, counted_by};
-ghost use Rattle.ao_stack.specs.Turning.{act_of};
+ghost use Rattle.ao_counters.specs.Counts.{changed_by, counted_by};
+ghost use Rattle.ao_stack.specs.Turns.{act_of};
 
 use crate::key_ids;
 use ao_stack::Sending;

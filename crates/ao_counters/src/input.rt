@@ -5,11 +5,11 @@ ghost use Rattle.book_segments.specs.Segments.{reading};
 ghost use Rattle.book_stack.specs.Calls.{Input};
 ghost use Rattle.book_stack.specs.Stacks.{StackState};
 ghost use Rattle.book_stack.specs.Turns.{clocked};
-ghost use Rattle.stack_timers.specs.Watching.{latest};
-ghost use Rattle.ao_stack.specs.Answering.{IsHeard};
-ghost use Rattle.ao_stack.specs.Passing.{PassesAs};
-ghost use Rattle.ao_counters.specs.Answering.{Follows};
-ghost use Rattle.ao_counters.specs.Standing.{Stands};
+ghost use Rattle.stack_timers.specs.Watches.{latest};
+ghost use Rattle.ao_stack.specs.Answers.{IsHeard};
+ghost use Rattle.ao_stack.specs.Passed.{PassesAs};
+ghost use Rattle.ao_counters.specs.Answers.{Follows};
+ghost use Rattle.ao_counters.specs.Stands.{Stands};
 
 use crate::counted_stack::CountedStack;
 use crate::counts::{Happened, arrived, knocked, stray};

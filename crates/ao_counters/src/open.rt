@@ -6,8 +6,8 @@ ghost use Rattle.book_counters.specs.Counters.{StackCounts, no_stack_counts};
 ghost use Rattle.book_stack.specs.Calls.{At};
 ghost use Rattle.book_stack.specs.Stacks.{StackState, empty_stack};
 ghost use Rattle.book_base.specs.Addresses.{IsOneFamily};
-ghost use Rattle.ao_counters.specs.Answering.{BeginsAs};
-ghost use Rattle.ao_counters.specs.Standing.{Stands};
+ghost use Rattle.ao_counters.specs.Answers.{BeginsAs};
+ghost use Rattle.ao_counters.specs.Stands.{Stands};
 
 use crate::counted_stack::CountedStack;
 use crate::counts::no_counters;

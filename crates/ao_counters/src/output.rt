@@ -3,11 +3,11 @@ ghost use Rattle.std.specs.Prelude.{◌≡◌, ◌≤◌, None, length};
 ghost use Rattle.book_counters.specs.Counters.{StackCounts};
 ghost use Rattle.book_stack.specs.Calls.{Output, call};
 ghost use Rattle.book_stack.specs.Stacks.{StackState};
-ghost use Rattle.stack_timers.specs.Watching.{latest};
-ghost use Rattle.ao_stack.specs.Answering.{IsHanded};
-ghost use Rattle.ao_stack.specs.Turning.{MadeLast, length_of};
-ghost use Rattle.ao_counters.specs.Answering.{Follows};
-ghost use Rattle.ao_counters.specs.Standing.{Stands};
+ghost use Rattle.stack_timers.specs.Watches.{latest};
+ghost use Rattle.ao_stack.specs.Answers.{IsHanded};
+ghost use Rattle.ao_stack.specs.Turns.{MadeLast, length_of};
+ghost use Rattle.ao_counters.specs.Answers.{Follows};
+ghost use Rattle.ao_counters.specs.Stands.{Stands};
 
 use crate::counted_stack::CountedStack;
 use crate::counts::Happened;

@@ -4,9 +4,9 @@ ghost use Rattle.book_counters.specs.Counters.{StackCounts};
 ghost use Rattle.book_keys.specs.Lifetimes.{greatest_time};
 ghost use Rattle.book_stack.specs.Calls.{Withdraw};
 ghost use Rattle.book_stack.specs.Stacks.{StackState};
-ghost use Rattle.ao_stack.specs.Answering.{IsWithdrawn};
-ghost use Rattle.ao_counters.specs.Answering.{AddsAs, Follows};
-ghost use Rattle.ao_counters.specs.Standing.{Stands};
+ghost use Rattle.ao_stack.specs.Answers.{IsWithdrawn};
+ghost use Rattle.ao_counters.specs.Answers.{AddsAs, Follows};
+ghost use Rattle.ao_counters.specs.Stands.{Stands};
 
 use crate::counted_stack::CountedStack;
 use book_keys::{AddRefusal, NewRow, NoRow};

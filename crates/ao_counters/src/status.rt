@@ -4,7 +4,7 @@ ghost use Rattle.book_cmd_node.specs.NodeRuns.{held_end};
 ghost use Rattle.book_counters.specs.Counters.{StackCounts};
 ghost use Rattle.book_stack.specs.Stacks.{StackState, next_deadline, timed_out};
 ghost use Rattle.book_stack.specs.Watches.{end_front};
-ghost use Rattle.ao_counters.specs.Standing.{Stands};
+ghost use Rattle.ao_counters.specs.Stands.{Stands};
 
 use crate::counted_stack::CountedStack;
 use book_base::Pair;

@@ -1,8 +1,8 @@
 //! The tallies of all connections.
 ghost use Rattle.std.specs.Prelude.{◌≡◌, [], true, Some, None, OnOk, OnErr, is_some, option_map};
 ghost use Rattle.book_counters.specs.Counters.{no_tally};
-ghost use Rattle.ao_counters.specs.Happening.{changed_by};
-ghost use Rattle.ao_counters.specs.Tallying.{Becomes, tally_at};
+ghost use Rattle.ao_counters.specs.Counts.{changed_by};
+ghost use Rattle.ao_counters.specs.Tallies.{Becomes, tally_at};
 
 use crate::counts::{Happened, changed, no_tally};
 use book_base::Pair;
@@ -19,7 +19,7 @@ pub(crate) struct Tallies {
 }
 
 impl Model for Tallies {
-    ghost use Rattle.ao_counters.specs.Tallying.{Tallying};
+    ghost use Rattle.ao_counters.specs.Tallies.{Tallying};
 
     ghost Value = { Tallying };
 

@@ -11,7 +11,7 @@ use Rattle.book_macs.specs.Keys.{mac}
 use Rattle.book_macs.specs.MacInput.{covered, mac_input}
 use Rattle.tcp_segment.specs.declared.spelling.Head.{Head}
 use Rattle.tcp_segment.specs.Drafts.{DatagramMut, Drafted}
-use Rattle.tcp_segment.specs.Writing.{written_ip, mss_length, option_heads, drafted}
+use Rattle.tcp_segment.specs.Layout.{written_ip, mss_length, option_heads, drafted}
 use Rattle.tcp_segment.proofs.DraftLaws.{drafted_ao}
 use Rattle.tcp_segment.proofs.WriteLaws.{heads_long, area_long}
 use Rattle.ao_mac.specs.Macs.{IsMacOf}

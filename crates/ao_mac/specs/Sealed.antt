@@ -3,7 +3,7 @@ use Rattle.std.specs.Prelude.{ℕ, Bool, List}
 use Rattle.book_base.specs.declared.algorithm.Algorithm.{Algorithm}
 use Rattle.tcp_segment.specs.declared.spelling.Head.{Head}
 use Rattle.tcp_segment.specs.Drafts.{DatagramMut, Drafted}
-use Rattle.tcp_segment.specs.Writing.{drafted}
+use Rattle.tcp_segment.specs.Layout.{drafted}
 use Rattle.ao_mac.specs.Macs.{IsMacOf}
 
 -- the buffer holds the same head, payload and rest with a MAC, which is that of the segment as it was and as it is (RFC 5925, section 5.1)

@@ -16,10 +16,10 @@ use Rattle.tcp_endpoint.specs.declared.endpoint.Endpoint.{Endpoint}
 use Rattle.tcp_endpoint.specs.declared.send.GiveAnswer.{GiveAnswer}
 use Rattle.tcp_endpoint.specs.declared.send.GiveAnswer.TheVariants as given
 use Rattle.tcp_endpoint.specs.Answers.{give_answer, offered}
-use Rattle.tcp_endpoint.specs.Emitting.{IsMade, Emits as EmitsAs, Resends as ResendsAs}
+use Rattle.tcp_endpoint.specs.Emissions.{IsMade, Emits as EmitsAs, Resends as ResendsAs}
 use Rattle.tcp_endpoint.specs.Ends.{Stands}
-use Rattle.ao_node.specs.Acting.{Follows, told_given, told_made, told_again}
-use Rattle.ao_node.specs.Telling.{TellsMade}
+use Rattle.ao_node.specs.Calls.{Follows, told_given, told_made, told_again}
+use Rattle.ao_node.specs.Told.{TellsMade}
 use Rattle.ao_node.specs.declared.told.Told.TheVariants as tells
 
 -- ---- giving

@@ -6,9 +6,9 @@ use Rattle.book_lines.specs.Texts.{numbered_text}
 use Rattle.book_cmd_node.specs.declared.node.NodeEvent.{NodeEvent}
 use Rattle.book_cmd_node.specs.NodeRuns.{NodeState, NodeOutcome, most_ends, no_ends, node_step, node_from, outcomes, node_outcomes_from, outcome_lines, node_text, node_texts}
 use Rattle.node_ends.specs.Held.{Holding}
-use Rattle.node_ends.specs.Standing.{HoldsAs}
+use Rattle.node_ends.specs.Stands.{HoldsAs}
 use Rattle.ao_node.specs.Nodes.{StandsNode, Reaches}
-use Rattle.ao_node.specs.Telling.{Tells}
+use Rattle.ao_node.specs.Told.{Tells}
 use Rattle.ao_node.specs.declared.told.Told.{Told}
 
 -- the node stands for one from which the events that are left give the rest of the text, and the node at the end

@@ -16,18 +16,18 @@ use Rattle.book_segments.specs.Segments.{pair_reached}
 use Rattle.law_node.proofs.Pairs.{same_pair_is}
 use Rattle.law_node.proofs.Held.{held, once_with, once_without, once_ticked, once_pushed}
 use Rattle.tcp_endpoint.specs.declared.endpoint.Endpoint.{Endpoint}
-use Rattle.tcp_endpoint.specs.Arriving.{Arrives}
+use Rattle.tcp_endpoint.specs.Arrivals.{Arrives}
 use Rattle.tcp_endpoint.specs.Ends.{FitsEnd, Stands}
 use Rattle.node_ends.specs.declared.answer.NodeArrival.{NodeArrival}
 use Rattle.node_ends.specs.declared.answer.NodeRefusal.{NodeRefusal}
 use Rattle.node_ends.specs.declared.answer.NodeRefusal.TheVariants as refusals
 use Rattle.node_ends.specs.Arrivals.{Comes, ComesTo}
 use Rattle.node_ends.specs.Held.{Holding, end_at, ends, holds, refusal, Adds, Begins, FitsAll, IsRefused, Removes, Ticks}
-use Rattle.node_ends.specs.Lending.{written}
+use Rattle.node_ends.specs.Loans.{written}
 use Rattle.node_ends.proofs.MapLaws.{written_finds, written_count}
-use Rattle.node_ends.specs.Acting.{act_on}
-use Rattle.ao_node.specs.Acting.{Follows, HasActed}
-use Rattle.node_ends.specs.Standing.{StandsFor, StandsAt}
+use Rattle.node_ends.specs.Calls.{act_on}
+use Rattle.ao_node.specs.Calls.{Follows, HasActed}
+use Rattle.node_ends.specs.Stands.{StandsFor, StandsAt}
 use Rattle.ao_node.specs.Nodes.{StandsNode, Reaches, IsBegun, called_at, told_of}
 use Rattle.ao_node.specs.declared.told.Told.{Told}
 use Rattle.ao_node.specs.declared.told.Told.TheVariants as tells

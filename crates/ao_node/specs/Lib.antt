@@ -1,3 +1,3 @@
-pub mod Acting
+pub mod Calls
 pub mod Nodes
-pub mod Telling
+pub mod Told

@@ -12,11 +12,11 @@ use Rattle.node_ends.specs.declared.answer.NodeArrival.TheVariants as arrivals
 use Rattle.node_ends.specs.declared.answer.NodeRefusal.{NodeRefusal}
 use Rattle.node_ends.specs.declared.answer.NodeRefusal.TheVariants as refusals
 use Rattle.node_ends.specs.Held.{Holding}
-use Rattle.node_ends.specs.Acting.{act_on}
-use Rattle.node_ends.specs.Standing.{HoldsAs}
+use Rattle.node_ends.specs.Calls.{act_on}
+use Rattle.node_ends.specs.Stands.{HoldsAs}
 use Rattle.ao_node.specs.declared.told.Told.{Told}
 use Rattle.ao_node.specs.declared.told.Told.TheVariants as tells
-use Rattle.ao_node.specs.Telling.{Tells}
+use Rattle.ao_node.specs.Told.{Tells}
 
 -- a node with its clock stands for a node of the definitions, which holds no pair twice
 pub record StandsNode (rows : List Row) (h : Holding) (clock : ℕ) (n : NodeState) : Type 0 where

@@ -4,8 +4,8 @@ ghost use Rattle.book_keys.specs.Rows.{Row};
 ghost use Rattle.book_endpoint.specs.States.{EndState};
 ghost use Rattle.tcp_endpoint.specs.Ends.{Stands, FitsEnd};
 ghost use Rattle.book_cmd_node.specs.NodeRuns.{take_called};
-ghost use Rattle.ao_node.specs.Acting.{Follows, HasActed, told_given, told_made, told_again};
-ghost use Rattle.ao_node.specs.Telling.{length_told};
+ghost use Rattle.ao_node.specs.Calls.{Follows, HasActed, told_given, told_made, told_again};
+ghost use Rattle.ao_node.specs.Told.{length_told};
 
 use crate::told::Told;
 use ao_base::Steps;

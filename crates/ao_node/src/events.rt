@@ -8,7 +8,7 @@ ghost use Rattle.book_base.specs.declared.address.Address.{Address as OneAddress
 ghost use Rattle.node_ends.specs.Held.{FitsAll};
 ghost use Rattle.ao_node.specs.Nodes.{called_at, told_of};
 ghost use Rattle.ao_node.specs.Nodes.{IsBegun, Reaches, StandsNode};
-ghost use Rattle.ao_node.specs.Telling.{length_told};
+ghost use Rattle.ao_node.specs.Told.{length_told};
 
 use crate::acts::act_on;
 use crate::told::Told;

@@ -5,7 +5,7 @@ ghost use Rattle.book_endpoint.specs.Emissions.{Emission};
 ghost use Rattle.book_lines.specs.Texts.{numbered_text, spaced};
 ghost use Rattle.book_link.specs.Reports.{flags_text};
 ghost use Rattle.book_cmd_node.specs.NodeRuns.{NodeOutcome, node_texts, node_sent_texts};
-ghost use Rattle.ao_node.specs.Telling.{Tells, TellsMade, length_told};
+ghost use Rattle.ao_node.specs.Told.{Tells, TellsMade, length_told};
 
 use crate::told::Told;
 use ao_base::push_decimal;

@@ -4,7 +4,7 @@ ghost use Rattle.book_base.specs.declared.address.Pair.{Pair as OnePair};
 ghost use Rattle.book_cmd_node.specs.NodeRuns.{most_ends, no_ends, node_from, node_text};
 ghost use Rattle.law_node.specs.Alone.{Alone};
 ghost use Rattle.node_script.specs.Scripts.{IsScript};
-ghost use Rattle.node_ends.specs.Standing.{HoldsAs};
+ghost use Rattle.node_ends.specs.Stands.{HoldsAs};
 
 use crate::events::step;
 use crate::lines::push_told;

@@ -8,7 +8,7 @@ use Rattle.book_keys.specs.Rows.{Table}
 use Rattle.book_pcap.specs.Packets.{BadHead, BadRecord, FileFault, Packet, Packets, packets_of}
 use Rattle.cmd_check.proofs.RunLaws.{run_longer}
 use Rattle.cmd_check.specs.CheckedPackets.{Breaks, Ends, Finishes, Refuses, segments_of, written_of}
-use Rattle.pcap_file.specs.Reading.{packets_at}
+use Rattle.pcap_file.specs.Reads.{packets_at}
 use Rattle.cmd_check.specs.declared.halt.Halt.{Halt}
 use Rattle.cmd_check.specs.declared.halt.Halt.TheVariants as halt
 use Rattle.book_answer.specs.declared.command.Command.TheVariants.{CheckPcap}

@@ -2,7 +2,7 @@
 ghost use Rattle.std.specs.Prelude.{◌≡◌};
 ghost use Rattle.book_lines.specs.Faults.{input_fault_text};
 ghost use Rattle.book_answer.specs.Answers.{Answer, refusal};
-ghost use Rattle.command_report.specs.Reporting.{Stopped as NoReport};
+ghost use Rattle.command_report.specs.Reports.{Stopped as NoReport};
 ghost use Rattle.ao_run.specs.Stops.{IsHalted, Stopped, status_of, text_of};
 ghost use Rattle.ao_run.specs.declared.stop.Stop.TheVariants.{Memory};
 

@@ -10,14 +10,14 @@ use Rattle.book_stack.specs.Alarms.{without_alarm, without_pair}
 use Rattle.book_stack.specs.Calls.{CallAnswer, At, Told, makes_an_end, kept}
 use Rattle.book_stack.specs.Stacks.{StackState}
 use Rattle.book_stack.specs.Turns.{called_at}
-use Rattle.node_ends.specs.Acting.{act_on}
-use Rattle.stack_ends.specs.Calling.{Asking, CallsAt, acting}
-use Rattle.stack_ends.specs.Standing as below
-use Rattle.stack_ends.specs.Standing.{Removed, most_of}
-use Rattle.stack_timers.specs.Timing.{Drops}
+use Rattle.node_ends.specs.Calls.{act_on}
+use Rattle.stack_ends.specs.Calls.{Asking, CallsAt, acting}
+use Rattle.stack_ends.specs.Stands as below
+use Rattle.stack_ends.specs.Stands.{Removed, most_of}
+use Rattle.stack_timers.specs.Timers.{Drops}
 use Rattle.ao_stack.specs.declared.stack.Stack.{Stack}
-use Rattle.ao_stack.specs.Answering.{Follows, IsDone}
-use Rattle.ao_stack.specs.Standing.{Stands}
+use Rattle.ao_stack.specs.Answers.{Follows, IsDone}
+use Rattle.ao_stack.specs.Stands.{Stands}
 use Rattle.ao_stack.proofs.CallLaws.{follows, not_held, did_called, did_remove}
 use Rattle.ao_stack.proofs.StandLaws.{moved, some_with, dropped}
 

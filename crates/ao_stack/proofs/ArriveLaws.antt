@@ -20,16 +20,16 @@ use Rattle.book_stack.specs.Watches.{arrived, end_front, is_heard}
 use Rattle.tcp_endpoint.specs.declared.arrival.Arrived.{Arrived}
 use Rattle.node_ends.specs.declared.answer.NodeArrival.{NodeArrival}
 use Rattle.node_ends.specs.declared.answer.NodeArrival.TheVariants as arrivals
-use Rattle.tcp_endpoint.specs.Arriving.{TellsPassed}
+use Rattle.tcp_endpoint.specs.Arrivals.{TellsPassed}
 use Rattle.stack_ends.specs.declared.ends.Ends.{Ends}
-use Rattle.stack_ends.specs.Meeting.{Meets, MeetsPair, MeetsRead}
-use Rattle.stack_ends.specs.Standing.{most_of}
+use Rattle.stack_ends.specs.Arrivals.{Meets, MeetsPair, MeetsRead}
+use Rattle.stack_ends.specs.Stands.{most_of}
 use Rattle.ao_stack.specs.declared.stack.Stack.{Stack}
 use Rattle.ao_stack.specs.declared.input.Heard.{Heard}
 use Rattle.ao_stack.specs.declared.input.Heard.TheVariants as heards
-use Rattle.ao_stack.specs.Answering.{Does, Follows, IsHeard, IsTold}
-use Rattle.ao_stack.specs.Passing.{PassesAs, TellsFound, found_by}
-use Rattle.ao_stack.specs.Standing.{Stands}
+use Rattle.ao_stack.specs.Answers.{Does, Follows, IsHeard, IsTold}
+use Rattle.ao_stack.specs.Passed.{PassesAs, TellsFound, found_by}
+use Rattle.ao_stack.specs.Stands.{Stands}
 use Rattle.ao_stack.proofs.CallLaws.{follows}
 use Rattle.ao_stack.proofs.StandLaws.{moved, some_with}
 

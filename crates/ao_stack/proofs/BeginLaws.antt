@@ -16,13 +16,13 @@ use Rattle.book_base.specs.Addresses.{IsOneFamily}
 use Rattle.node_ends.specs.declared.answer.NodeRefusal.{NodeRefusal}
 use Rattle.node_ends.specs.declared.answer.NodeRefusal.TheVariants as refusals
 use Rattle.stack_ends.specs.declared.ends.Ends.{Ends}
-use Rattle.stack_ends.specs.Standing as ends
-use Rattle.stack_ends.specs.Standing.{most_of, with_new}
+use Rattle.stack_ends.specs.Stands as ends
+use Rattle.stack_ends.specs.Stands.{most_of, with_new}
 use Rattle.stack_timers.specs.Places.{Alarmed, Lined}
-use Rattle.stack_timers.specs.Timing.{Timing, KeepsNew, watch_at}
+use Rattle.stack_timers.specs.Timers.{Timing, KeepsNew, watch_at}
 use Rattle.ao_stack.specs.declared.stack.Stack.{Stack}
-use Rattle.ao_stack.specs.Answering.{BeginsAs, Follows, IsBegun}
-use Rattle.ao_stack.specs.Standing.{Stands, TakesBack, WatchIs}
+use Rattle.ao_stack.specs.Answers.{BeginsAs, Follows, IsBegun}
+use Rattle.ao_stack.specs.Stands.{Stands, TakesBack, WatchIs}
 use Rattle.ao_stack.proofs.CallLaws.{follows, did_begin, did_full, did_in_use}
 use Rattle.ao_stack.proofs.StandLaws.{began, taken_back}
 

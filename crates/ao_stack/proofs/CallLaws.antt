@@ -13,11 +13,11 @@ use Rattle.law_node.proofs.Held.{held}
 use Rattle.book_stack.specs.Calls.{CallAnswer, Call, At, Did, Told, asking, at_pair, makes_an_end, begun, call, kept, stepped, unasked}
 use Rattle.book_stack.specs.Stacks.{StackState, forgotten, touched}
 use Rattle.book_stack.specs.Turns.{called_at, clocked}
-use Rattle.node_ends.specs.Acting.{act_on}
-use Rattle.stack_ends.specs.Standing.{with_new}
+use Rattle.node_ends.specs.Calls.{act_on}
+use Rattle.stack_ends.specs.Stands.{with_new}
 use Rattle.ao_stack.specs.declared.stack.Stack.{Stack}
-use Rattle.ao_stack.specs.Answering.{Follows}
-use Rattle.ao_stack.specs.Standing.{Stands}
+use Rattle.ao_stack.specs.Answers.{Follows}
+use Rattle.ao_stack.specs.Stands.{Stands}
 use Rattle.ao_stack.proofs.StandLaws.{with_same}
 
 -- a stack follows a call that does this

@@ -13,8 +13,8 @@ use Rattle.book_segments.specs.Spelling.{with_sum}
 use Rattle.book_endpoint.specs.Emissions.{written_ip}
 use Rattle.book_stack.specs.Stacks.{handed}
 use Rattle.book_base.specs.Addresses.{IsOneFamily}
-use Rattle.tcp_segment.specs.Writing.{IsSized}
-use Rattle.ao_stack.specs.Handing.{IsFrom, sum_handed, sum_place}
+use Rattle.tcp_segment.specs.Layout.{IsSized}
+use Rattle.ao_stack.specs.Checksums.{IsFrom, sum_handed, sum_place}
 
 -- ---- what stands at a place of a list
 

@@ -8,12 +8,12 @@ use Rattle.book_keys.specs.Rows.{Row}
 use Rattle.book_keys.specs.Tables.{Adding, AddedAs, OverlapsRow, TooMany, adding, row_of_new, withdrawn}
 use Rattle.book_stack.specs.Calls.{Add, Withdraw, added, call, withdrew}
 use Rattle.book_stack.specs.Stacks.{StackState}
-use Rattle.stack_ends.specs.Standing.{most_of}
-use Rattle.stack_ends.specs.Standing as ends
+use Rattle.stack_ends.specs.Stands.{most_of}
+use Rattle.stack_ends.specs.Stands as ends
 use Rattle.stack_ends.specs.Rows.{RowAdded, RowWithdrawn}
 use Rattle.ao_stack.specs.declared.stack.Stack.{Stack}
-use Rattle.ao_stack.specs.Answering.{AddsAs, Follows, IsAdded, IsWithdrawn}
-use Rattle.ao_stack.specs.Standing.{Stands}
+use Rattle.ao_stack.specs.Answers.{AddsAs, Follows, IsAdded, IsWithdrawn}
+use Rattle.ao_stack.specs.Stands.{Stands}
 use Rattle.ao_stack.proofs.CallLaws.{follows}
 use Rattle.ao_stack.proofs.StandLaws.{under}
 

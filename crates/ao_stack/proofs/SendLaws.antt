@@ -14,12 +14,12 @@ use Rattle.book_stack.specs.Stacks.{StackState, touched, watched}
 use Rattle.book_stack.specs.Turns.{passing, ask, asked_first, asked_line, asked_pair, asked_watch, called_at, change_by, repeated_by, segment_in, spoken_by, wake, woken_first, woken_pair, woken_watch}
 use Rattle.book_stack.specs.Watches.{ConnectionWatch, awaits}
 use Rattle.stack_ends.specs.declared.send.Spoken.{Spoken}
-use Rattle.stack_ends.specs.Calling.{Tells}
+use Rattle.stack_ends.specs.Calls.{Tells}
 use Rattle.stack_timers.specs.Places.{behind_first, first_of, left_due, taken_due}
 use Rattle.ao_stack.specs.declared.stack.Stack.{Stack}
-use Rattle.ao_stack.specs.Standing.{Stands}
-use Rattle.ao_stack.specs.Telling.{asked_by, asked_turn, woken_by}
-use Rattle.ao_stack.specs.Turning.{IsBy, Makes, MadeLast, Turns, act_of}
+use Rattle.ao_stack.specs.Stands.{Stands}
+use Rattle.ao_stack.specs.Timers.{asked_by, asked_turn, woken_by}
+use Rattle.ao_stack.specs.Turns.{IsBy, Makes, MadeLast, Turns, act_of}
 use Rattle.ao_stack.specs.declared.outgoing.Outgoing.{Outgoing}
 use Rattle.ao_stack.specs.declared.outgoing.Sending.{Sending}
 use Rattle.ao_stack.specs.declared.outgoing.Sending.TheVariants as sending

@@ -13,16 +13,16 @@ use Rattle.book_stack.specs.Stacks.{StackState, touched, watched, forgotten}
 use Rattle.book_stack.specs.Watches as book
 use Rattle.book_base.specs.Addresses.{IsOneFamily}
 use Rattle.stack_ends.specs.declared.ends.Ends.{Ends}
-use Rattle.stack_ends.specs.Standing as ends
-use Rattle.stack_ends.specs.Standing.{most_of, with_new}
+use Rattle.stack_ends.specs.Stands as ends
+use Rattle.stack_ends.specs.Stands.{most_of, with_new}
 use Rattle.stack_timers.specs.declared.watch.Watch.{Watch}
-use Rattle.stack_timers.specs.Lending.{written}
+use Rattle.stack_timers.specs.Loans.{written}
 use Rattle.stack_timers.specs.Places.{Alarmed, Lined}
-use Rattle.stack_timers.specs.Timing.{Timing, KeepsNew, Drops, watch_at}
-use Rattle.stack_timers.specs.Watching.{seen}
+use Rattle.stack_timers.specs.Timers.{Timing, KeepsNew, Drops, watch_at}
+use Rattle.stack_timers.specs.Watches.{seen}
 use Rattle.stack_timers.proofs.MapLaws.{written_finds}
 use Rattle.ao_stack.specs.declared.stack.Stack.{Stack}
-use Rattle.ao_stack.specs.Standing.{Stands, WatchIs}
+use Rattle.ao_stack.specs.Stands.{Stands, WatchIs}
 
 -- ---- which pairs are held
 

@@ -16,10 +16,10 @@ use Rattle.book_stack.specs.Watches.{ConnectionWatch}
 use Rattle.stack_ends.specs.declared.send.Says.{Says}
 use Rattle.stack_ends.specs.declared.send.Says.TheVariants as says
 use Rattle.stack_ends.specs.declared.send.Spoken.{Spoken}
-use Rattle.stack_ends.specs.Saying.{SaysAs}
-use Rattle.ao_stack.specs.Handing.{IsFrom, IsFromIf}
-use Rattle.ao_stack.specs.Telling.{asked_saying, asked_turn, woken_by}
-use Rattle.ao_stack.specs.Turning.{Makes}
+use Rattle.stack_ends.specs.Said.{SaysAs}
+use Rattle.ao_stack.specs.Checksums.{IsFrom, IsFromIf}
+use Rattle.ao_stack.specs.Timers.{asked_saying, asked_turn, woken_by}
+use Rattle.ao_stack.specs.Turns.{Makes}
 use Rattle.ao_stack.specs.declared.outgoing.Outgoing.{Outgoing}
 use Rattle.ao_stack.specs.declared.outgoing.Sending.{Sending as Kind}
 

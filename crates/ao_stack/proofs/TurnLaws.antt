@@ -9,9 +9,9 @@ use Rattle.book_stack.specs.Calls.{Did, Output, call, turn_ended, handed_out}
 use Rattle.book_stack.specs.Stacks.{StackState}
 use Rattle.book_stack.specs.Turns.{Turn, clocked, output_at, passing, then_turn, turns}
 use Rattle.ao_stack.specs.declared.stack.Stack.{Stack}
-use Rattle.ao_stack.specs.Answering.{Follows, IsHanded}
-use Rattle.ao_stack.specs.Standing.{Stands}
-use Rattle.ao_stack.specs.Turning.{HandsAs, MadeLast, Stays, Turns, length_of}
+use Rattle.ao_stack.specs.Answers.{Follows, IsHanded}
+use Rattle.ao_stack.specs.Stands.{Stands}
+use Rattle.ao_stack.specs.Turns.{HandsAs, MadeLast, Stays, Turns, length_of}
 use Rattle.ao_stack.specs.declared.outgoing.Outgoing.{Outgoing}
 use Rattle.ao_stack.proofs.CallLaws.{follows}
 use Rattle.ao_stack.proofs.LastLaws.{last_behind}

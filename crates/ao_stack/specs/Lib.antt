@@ -1,6 +1,6 @@
-pub mod Answering
-pub mod Handing
-pub mod Passing
-pub mod Standing
-pub mod Telling
-pub mod Turning
+pub mod Answers
+pub mod Checksums
+pub mod Passed
+pub mod Stands
+pub mod Timers
+pub mod Turns

@@ -3,9 +3,9 @@ ghost use Rattle.std.specs.Prelude.{ℕ, List, length};
 ghost use Rattle.book_cmd_node.specs.declared.node.Act.TheVariants as act;
 ghost use Rattle.book_stack.specs.Calls.{At, kept};
 ghost use Rattle.book_stack.specs.Stacks.{StackState};
-ghost use Rattle.stack_ends.specs.Calling.{given_as};
-ghost use Rattle.ao_stack.specs.Answering.{Follows, IsDone, IsGiven, IsTaken};
-ghost use Rattle.ao_stack.specs.Standing.{Stands};
+ghost use Rattle.stack_ends.specs.Calls.{given_as};
+ghost use Rattle.ao_stack.specs.Answers.{Follows, IsDone, IsGiven, IsTaken};
+ghost use Rattle.ao_stack.specs.Stands.{Stands};
 
 use crate::stack::Stack;
 use book_base::Pair;

@@ -4,8 +4,8 @@ ghost use Rattle.book_segments.specs.Bytes.{put2};
 ghost use Rattle.book_segments.specs.Segments.{Segment, spell};
 ghost use Rattle.book_stack.specs.Stacks.{handed};
 ghost use Rattle.book_base.specs.Addresses.{IsOneFamily};
-ghost use Rattle.tcp_segment.specs.Writing.{IsSized};
-ghost use Rattle.ao_stack.specs.Handing.{IsFrom, sum_handed, sum_place};
+ghost use Rattle.tcp_segment.specs.Layout.{IsSized};
+ghost use Rattle.ao_stack.specs.Checksums.{IsFrom, sum_handed, sum_place};
 
 use book_base::{Address, Pair};
 

@@ -10,12 +10,12 @@ ghost use Rattle.book_stack.specs.Calls.{Input, after_segment_heard, heard_pair,
 ghost use Rattle.book_stack.specs.Stacks.{StackState, is_free, is_over, knocks};
 ghost use Rattle.book_stack.specs.Turns.{clocked};
 ghost use Rattle.book_stack.specs.Watches.{end_front};
-ghost use Rattle.stack_timers.specs.Watching.{latest};
+ghost use Rattle.stack_timers.specs.Watches.{latest};
 ghost use Rattle.node_ends.specs.declared.answer.NodeArrival.TheVariants.{At};
 ghost use Rattle.tcp_endpoint.specs.declared.arrival.Arrived.{Arrived as OneArrived};
-ghost use Rattle.ao_stack.specs.Answering.{Does, Follows, IsHeard, IsTold};
-ghost use Rattle.ao_stack.specs.Passing.{PassesAs, TellsFound};
-ghost use Rattle.ao_stack.specs.Standing.{Stands};
+ghost use Rattle.ao_stack.specs.Answers.{Does, Follows, IsHeard, IsTold};
+ghost use Rattle.ao_stack.specs.Passed.{PassesAs, TellsFound};
+ghost use Rattle.ao_stack.specs.Stands.{Stands};
 
 use crate::stack::Stack;
 use ao_base::Steps;

@@ -5,8 +5,8 @@ ghost use Rattle.book_cmd_node.specs.declared.node.Act.TheVariants as act;
 ghost use Rattle.book_stack.specs.Calls.{At};
 ghost use Rattle.book_stack.specs.Stacks.{StackState, empty_stack, touched};
 ghost use Rattle.book_base.specs.Addresses.{IsOneFamily};
-ghost use Rattle.ao_stack.specs.Answering.{BeginsAs};
-ghost use Rattle.ao_stack.specs.Standing.{Stands, TakesBack};
+ghost use Rattle.ao_stack.specs.Answers.{BeginsAs};
+ghost use Rattle.ao_stack.specs.Stands.{Stands, TakesBack};
 
 use crate::stack::Stack;
 use book_base::Pair;

@@ -3,8 +3,8 @@ ghost use Rattle.std.specs.Prelude.{◌≤◌};
 ghost use Rattle.book_keys.specs.Lifetimes.{greatest_time};
 ghost use Rattle.book_stack.specs.Calls.{Withdraw};
 ghost use Rattle.book_stack.specs.Stacks.{StackState};
-ghost use Rattle.ao_stack.specs.Answering.{AddsAs, Follows, IsWithdrawn};
-ghost use Rattle.ao_stack.specs.Standing.{Stands};
+ghost use Rattle.ao_stack.specs.Answers.{AddsAs, Follows, IsWithdrawn};
+ghost use Rattle.ao_stack.specs.Stands.{Stands};
 
 use crate::stack::Stack;
 use book_keys::{AddRefusal, NewRow, NoRow};

@@ -2,8 +2,8 @@
 ghost use Rattle.std.specs.Prelude.{◌≤◌};
 ghost use Rattle.book_stack.specs.Stacks.{StackState, touched};
 ghost use Rattle.book_stack.specs.Turns.{clocked};
-ghost use Rattle.stack_timers.specs.Watching.{latest};
-ghost use Rattle.ao_stack.specs.Standing.{Stands};
+ghost use Rattle.stack_timers.specs.Watches.{latest};
+ghost use Rattle.ao_stack.specs.Stands.{Stands};
 
 use book_base::Pair;
 use stack_ends::Ends;

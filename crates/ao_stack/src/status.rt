@@ -3,7 +3,7 @@ ghost use Rattle.std.specs.Prelude.{◌≡◌, is_some, option_map};
 ghost use Rattle.book_cmd_node.specs.NodeRuns.{held_end};
 ghost use Rattle.book_stack.specs.Stacks.{StackState, next_deadline, timed_out};
 ghost use Rattle.book_stack.specs.Watches.{end_front};
-ghost use Rattle.ao_stack.specs.Standing.{Stands};
+ghost use Rattle.ao_stack.specs.Stands.{Stands};
 
 use crate::stack::Stack;
 use book_base::Pair;

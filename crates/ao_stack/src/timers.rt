@@ -3,9 +3,9 @@ ghost use Rattle.std.specs.Prelude.{◌≡◌, ◌≤◌, true, is_some};
 ghost use Rattle.book_cmd_node.specs.NodeRuns.{held_end};
 ghost use Rattle.book_stack.specs.Stacks.{StackState, watched};
 ghost use Rattle.book_stack.specs.Watches.{arrived};
-ghost use Rattle.stack_timers.specs.Watching.{latest, seen};
-ghost use Rattle.ao_stack.specs.Standing.{Stands};
-ghost use Rattle.ao_stack.specs.Telling.{asked_by, woken_by};
+ghost use Rattle.stack_timers.specs.Watches.{latest, seen};
+ghost use Rattle.ao_stack.specs.Stands.{Stands};
+ghost use Rattle.ao_stack.specs.Timers.{asked_by, woken_by};
 
 use crate::stack::Stack;
 use book_base::Pair;

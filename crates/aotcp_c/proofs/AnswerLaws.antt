@@ -14,15 +14,15 @@ use Rattle.tcp_endpoint.specs.declared.send.GiveAnswer.TheVariants as given
 use Rattle.node_ends.specs.declared.answer.NodeRefusal.{NodeRefusal}
 use Rattle.node_ends.specs.declared.answer.NodeRefusal.TheVariants as refusals
 use Rattle.stack_ends.specs.declared.calls.Taken.{Taken}
-use Rattle.ao_stack.specs.Answering.{HasTaken, IsBegun, IsDone, IsGiven, IsHanded, IsTaken, IsWithdrawn}
+use Rattle.ao_stack.specs.Answers.{HasTaken, IsBegun, IsDone, IsGiven, IsHanded, IsTaken, IsWithdrawn}
 use Rattle.ao_counters.specs.declared.counted_stack.CountedStack.{CountedStack}
-use Rattle.ao_counters.specs.Answering.{BeginsAs, Follows}
+use Rattle.ao_counters.specs.Answers.{BeginsAs, Follows}
 use Rattle.aotcp_c.specs.declared.shapes.CState.{CState}
 use Rattle.aotcp_c.specs.declared.shapes.CTaken.{CTaken}
 use Rattle.aotcp_c.specs.declared.shapes.CCounters.{CCounters}
-use Rattle.ao_counters.specs.Standing.{Stands}
+use Rattle.ao_counters.specs.Stands.{Stands}
 use Rattle.aotcp_c.specs.Calls.{Answers, IsIn, IsRead, IsStateOf, OnStack, Tells, Tries}
-use Rattle.aotcp_c.specs.Counting.{TellsNode}
+use Rattle.aotcp_c.specs.Counters.{TellsNode}
 use Rattle.aotcp_c.specs.Codes.{begun_code, code_of, done_code, given_code, withdrawn_code}
 use Rattle.aotcp_c.specs.Shapes.{state_of}
 

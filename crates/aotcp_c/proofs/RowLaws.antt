@@ -7,10 +7,10 @@ use Rattle.book_counters.specs.Counters.{StackCounts}
 use Rattle.book_stack.specs.Calls as book
 use Rattle.book_stack.specs.Calls.{CallAnswer, call}
 use Rattle.book_stack.specs.Stacks.{StackState}
-use Rattle.ao_stack.specs.Answering.{IsAdded}
+use Rattle.ao_stack.specs.Answers.{IsAdded}
 use Rattle.ao_counters.specs.declared.counted_stack.CountedStack.{CountedStack}
-use Rattle.ao_counters.specs.Answering.{AddsAs, Follows}
-use Rattle.ao_counters.specs.Standing.{Stands}
+use Rattle.ao_counters.specs.Answers.{AddsAs, Follows}
+use Rattle.ao_counters.specs.Stands.{Stands}
 use Rattle.aotcp_c.specs.Calls.{IsNumber}
 use Rattle.aotcp_c.specs.Codes.{added_code, code_of, no_memory}
 use Rattle.aotcp_c.specs.RowShapes.{number_in}

@@ -4,7 +4,7 @@ use Rattle.std.specs.Prelude.{is_some}
 use Rattle.book_endpoint.specs.States.{EndState}
 use Rattle.book_counters.specs.declared.tally.Tally.{Tally}
 use Rattle.aotcp_c.specs.declared.shapes.CCounters.{CCounters}
-use Rattle.aotcp_c.specs.Counting.{IsTallyOf, SaysHeld, told_counters}
+use Rattle.aotcp_c.specs.Counters.{IsTallyOf, SaysHeld, told_counters}
 
 -- what is told with this code
 abbrev pub Tells : Option Tally → Option EndState → CCounters → ℤ → Type 0

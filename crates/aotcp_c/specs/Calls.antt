@@ -21,13 +21,13 @@ use Rattle.book_stack.specs.Calls.{Call, CallAnswer, Incoming}
 use Rattle.book_stack.specs.Stacks.{StackState, empty_stack, handed, timed_out}
 use Rattle.book_stack.specs.Turns.{clocked}
 use Rattle.book_stack.specs.Watches.{end_front}
-use Rattle.stack_timers.specs.Watching.{latest}
+use Rattle.stack_timers.specs.Watches.{latest}
 use Rattle.ao_stack.specs.declared.input.Heard.{Heard}
-use Rattle.ao_stack.specs.Answering.{IsHeard}
-use Rattle.ao_stack.specs.Passing.{PassesAs}
+use Rattle.ao_stack.specs.Answers.{IsHeard}
+use Rattle.ao_stack.specs.Passed.{PassesAs}
 use Rattle.ao_counters.specs.declared.counted_stack.CountedStack.{CountedStack}
-use Rattle.ao_counters.specs.Answering.{Follows}
-use Rattle.ao_counters.specs.Standing.{Stands}
+use Rattle.ao_counters.specs.Answers.{Follows}
+use Rattle.ao_counters.specs.Stands.{Stands}
 use Rattle.aotcp_c.specs.declared.shapes.CFault.{CFault}
 use Rattle.aotcp_c.specs.declared.shapes.CHeard.{CHeard}
 use Rattle.aotcp_c.specs.declared.shapes.CRow.{CRow}

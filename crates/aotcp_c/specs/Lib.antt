@@ -4,4 +4,4 @@ pub mod Codes
 pub mod Shapes
 pub mod RowShapes
 pub mod Calls
-pub mod Counting
+pub mod Counters

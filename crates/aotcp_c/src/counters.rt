@@ -2,10 +2,10 @@
 ghost use Rattle.std.specs.Prelude.{◌≡◌};
 ghost use Rattle.book_counters.specs.Counters.{StackCounts};
 ghost use Rattle.book_stack.specs.Stacks.{StackState};
-ghost use Rattle.ao_counters.specs.Standing.{Stands};
+ghost use Rattle.ao_counters.specs.Stands.{Stands};
 ghost use Rattle.aotcp_c.specs.Calls.{OnStack};
 ghost use Rattle.aotcp_c.specs.Codes.{ok};
-ghost use Rattle.aotcp_c.specs.Counting.{IsTally, told_counters, told_ids, TellsNode};
+ghost use Rattle.aotcp_c.specs.Counters.{IsTally, told_counters, told_ids, TellsNode};
 ghost use Rattle.aotcp_c.specs.Held.{content};
 ghost use Rattle.aotcp_c.specs.Shapes.{pair_of};
 

@@ -5,7 +5,7 @@ ghost use Rattle.book_keys.specs.MasterKeys.{is_master_key};
 ghost use Rattle.book_stack.specs.Calls.{Withdraw};
 ghost use Rattle.book_counters.specs.Counters.{StackCounts};
 ghost use Rattle.book_stack.specs.Stacks.{StackState};
-ghost use Rattle.ao_counters.specs.Standing.{Stands};
+ghost use Rattle.ao_counters.specs.Stands.{Stands};
 ghost use Rattle.aotcp_c.specs.Calls.{Adds, Answers, OnStack};
 ghost use Rattle.aotcp_c.specs.Held.{content};
 ghost use Rattle.aotcp_c.specs.RowShapes.{IsRow, algorithm_number, direction_number, is_lifetime, is_row, number_in};

@@ -4,7 +4,7 @@ ghost use Rattle.book_cmd_node.specs.NodeRuns.{most_ends};
 ghost use Rattle.book_keys.specs.Plans.{rows_at};
 ghost use Rattle.book_counters.specs.Counters.{no_stack_counts};
 ghost use Rattle.book_stack.specs.Stacks.{empty_stack};
-ghost use Rattle.ao_counters.specs.Standing.{Stands};
+ghost use Rattle.ao_counters.specs.Stands.{Stands};
 ghost use Rattle.aotcp_c.specs.Calls.{IsFaulty, Opens};
 ghost use Rattle.aotcp_c.specs.Codes.{bad_keys, no_stack, ok};
 ghost use Rattle.aotcp_c.specs.Held.{content};

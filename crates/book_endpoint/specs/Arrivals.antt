@@ -6,7 +6,7 @@ use Rattle.std.specs.Prelude.{◌||◌, List, length, Option, Some, None, Ok, Er
 use Rattle.book_base.specs.declared.address.Pair.{Pair}
 use Rattle.book_segments.specs.Bytes.{ring}
 use Rattle.book_segments.specs.Meant.{meant}
-use Rattle.book_segments.specs.Received.{keep, first_missing, runs, below_limit}
+use Rattle.book_segments.specs.Received.{Piece, keep, first_missing, runs, below_limit}
 use Rattle.book_segments.specs.Sockets.{same_socket}
 use Rattle.book_segments.specs.Segments.{Segment, Reading, Read, Bad as Unread, good, has, FIN, SYN}
 use Rattle.book_segments.specs.Segments.{RST, ACK, segment_length}
@@ -132,7 +132,7 @@ abbrev pub hear_text : Admitted → EndState → Moved
 hear_text i s =
     let d = i.segment in
     let end = s.expected + window s in
-    let text = record { number = i.number; bytes = d.payload } in
+    let text : Piece = record { number = i.number; bytes = d.payload } in
     let kept = keep s.received text (record { low = s.expected; high = below_limit s.fin end }) in
     let missing = first_missing kept s.expected (window s) in
     let fin_at = i.number + length d.payload in

@@ -11,7 +11,7 @@ use Rattle.ao_kdf.specs.declared.way.Way.{Way}
 use Rattle.ao_kdf.specs.declared.way.Way.TheVariants.{Inbound}
 use Rattle.ao_check.specs.Bonds.{Bond, Fits, Counted, key_for}
 use Rattle.ao_check.specs.Verdicts.{judging}
-use Rattle.capture_check.specs.Hearing.{AloneCounts}
+use Rattle.capture_check.specs.Judgements.{AloneCounts}
 
 no_key : (o : Option Row) (way : Way) (pair : Pair) (own : ℕ) (peer : Option ℕ) (k : List ℕ) → peer ≡ None → key_for o way pair own peer ≡ Some k → ⊥
 no_key None way pair own peer k p e = absurd (cc)

@@ -25,8 +25,8 @@ use Rattle.capture_check.specs.Answers.{IsJudged, is_pass}
 use Rattle.capture_check.specs.Ends.{is_low}
 use Rattle.capture_check.specs.Flows.{rows_of, way, both, flow_from, counter_of, new_flow, new_flows, IsFlow, shown}
 use Rattle.wrap_seq.specs.Counter.{number}
-use Rattle.capture_check.specs.Checking.{found, IsSound, told, StandsFor, Hears, Isns, isns, KeepsKeys}
-use Rattle.capture_check.specs.Hearing.{Puts, key_at, from_low, Alone, Fixed, TooMany, Fixes, has_isns, fixing, DoesFix}
+use Rattle.capture_check.specs.Checkers.{found, IsSound, told, StandsFor, Hears, Isns, isns, KeepsKeys}
+use Rattle.capture_check.specs.Judgements.{Puts, key_at, from_low, Alone, Fixed, TooMany, Fixes, has_isns, fixing, DoesFix}
 use Rattle.capture_check.proofs.EndsLaws.{low_turned}
 use Rattle.capture_check.proofs.PutLaws.{stands_put, sound_put}
 use Rattle.capture_check.proofs.KeepLaws.{keys_same, keys_renewed}

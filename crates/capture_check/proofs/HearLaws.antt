@@ -9,7 +9,7 @@ use Rattle.book_cmd_check.specs.Captures.{Connection, hear, hear_at}
 use Rattle.capture_check.specs.declared.answer.CheckLine.TheVariants as line
 use Rattle.capture_check.specs.declared.ends.Ends.{Ends}
 use Rattle.capture_check.specs.declared.flows.Flows.{Flows}
-use Rattle.capture_check.specs.Checking.{StandsFor, Hears}
+use Rattle.capture_check.specs.Checkers.{StandsFor, Hears}
 
 pub unreadable : (tables : List Table) (es : List (Ends × Flows)) (held : List Connection) (time : ℕ) (bytes : List ℕ) (fault : DatagramFault) → StandsFor es held → reading bytes ≡ Bad fault
     → Hears es (line.Bad fault) (hear tables held time bytes)

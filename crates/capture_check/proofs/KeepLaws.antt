@@ -10,8 +10,8 @@ use Rattle.capture_check.specs.declared.flow.Flow.{Flow}
 use Rattle.capture_check.specs.declared.flows.Flows.{Flows}
 use Rattle.capture_check.specs.Ends.{key_of}
 use Rattle.capture_check.specs.Flows.{flow_from}
-use Rattle.capture_check.specs.Checking.{found, key_in, Isns, isns, KeepsKeys}
-use Rattle.capture_check.specs.Hearing.{Puts}
+use Rattle.capture_check.specs.Checkers.{found, key_in, Isns, isns, KeepsKeys}
+use Rattle.capture_check.specs.Judgements.{Puts}
 use Rattle.capture_check.proofs.EndsLaws.{key_turned}
 use Rattle.capture_check.proofs.PutLaws.{AtPut, Same, Turned, Other, found_put, same_turned}
 

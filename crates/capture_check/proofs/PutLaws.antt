@@ -11,8 +11,8 @@ use Rattle.capture_check.specs.declared.ends.Ends.{Ends}
 use Rattle.capture_check.specs.declared.flows.Flows.{Flows}
 use Rattle.capture_check.specs.Ends.{by_ends, key_of}
 use Rattle.capture_check.specs.Flows.{flow_from, shown, IsFlow}
-use Rattle.capture_check.specs.Checking.{found, IsSound, known, told, StandsFor}
-use Rattle.capture_check.specs.Hearing.{Puts}
+use Rattle.capture_check.specs.Checkers.{found, IsSound, known, told, StandsFor}
+use Rattle.capture_check.specs.Judgements.{Puts}
 use Rattle.capture_check.proofs.EndsLaws.{same_socket_is, same_socket-refl, ends_tied, ends_told, both_told, key_turned}
 use Rattle.capture_check.proofs.HeldLaws.{joined, joined_told, joined_turned, joined-refl, find_put, find_others, length_put}
 

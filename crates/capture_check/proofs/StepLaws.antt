@@ -25,8 +25,8 @@ use Rattle.capture_check.specs.declared.flows.Flows.{Flows}
 use Rattle.capture_check.specs.Answers.{IsJudged, is_pass}
 use Rattle.capture_check.specs.Ends.{key_of}
 use Rattle.capture_check.specs.Flows.{rows_in, rows_of, flow_from, IsFlow, side_of, shown, judged_on, expected_after, FlowHears}
-use Rattle.capture_check.specs.Checking.{found, IsSound, told, StandsFor, Hears, key_in, KeepsKeys, Derives}
-use Rattle.capture_check.specs.Hearing.{Puts, key_at, from_low, FlowsHear, OfKnown, OfUnknown, HearsLater}
+use Rattle.capture_check.specs.Checkers.{found, IsSound, told, StandsFor, Hears, key_in, KeepsKeys, Derives}
+use Rattle.capture_check.specs.Judgements.{Puts, key_at, from_low, FlowsHear, OfKnown, OfUnknown, HearsLater}
 use Rattle.capture_check.proofs.EndsLaws.{low_turned, key_turned}
 use Rattle.capture_check.proofs.PutLaws.{put_found, same_turned, stands_put, stands_same, sound_put}
 use Rattle.capture_check.proofs.KeepLaws.{keys_same, keys_heard}

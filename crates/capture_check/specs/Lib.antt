@@ -1,6 +1,6 @@
 pub mod Answers
-pub mod Checking
+pub mod Checkers
 pub mod Ends
 pub mod Flows
-pub mod Hearing
+pub mod Judgements
 pub mod Lines

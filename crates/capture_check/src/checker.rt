@@ -5,7 +5,7 @@ ghost use Rattle.book_segments.specs.Segments.{Segment, Read, reading, has, SYN}
 ghost use Rattle.book_segments.specs.Sockets.{same_socket};
 ghost use Rattle.book_keys.specs.Rows.{has_address};
 ghost use Rattle.book_cmd_check.specs.Captures.{Connection, hear, hear_at};
-ghost use Rattle.capture_check.specs.Checking.{IsSound, StandsFor, Hears, KeepsKeys, Derives};
+ghost use Rattle.capture_check.specs.Checkers.{IsSound, StandsFor, Hears, KeepsKeys, Derives};
 ghost use Rattle.capture_check.specs.Answers.{is_computed, is_pass};
 ghost use Rattle.capture_check.specs.Flows.{rows_of};
 
@@ -32,7 +32,7 @@ pub struct Checker {
 }
 
 impl Model for Checker {
-    ghost use Rattle.capture_check.specs.Checking.{Checking, IsSound};
+    ghost use Rattle.capture_check.specs.Checkers.{Checking, IsSound};
 
     ghost Value = { Checking };
 

@@ -3,7 +3,7 @@ ghost use Rattle.std.specs.Prelude.{◌≡◌, ◌≤◌, ◌^◌, Some, IfOk, n
 ghost use Rattle.wrap_seq.specs.Counter.{number};
 ghost use Rattle.ao_check.specs.Bonds.{Fits};
 ghost use Rattle.capture_check.specs.Flows.{new_flows, rows_of, flow_from, way};
-ghost use Rattle.capture_check.specs.Hearing.{FlowsHear, has_isns};
+ghost use Rattle.capture_check.specs.Judgements.{FlowsHear, has_isns};
 
 use crate::ends::is_low;
 use crate::flow::Flow;

@@ -5,8 +5,8 @@ ghost use Rattle.book_keys.specs.Rows.{has_address};
 ghost use Rattle.book_segments.specs.Sockets.{same_socket};
 ghost use Rattle.std.specs.Prelude.{false};
 ghost use Rattle.ao_check.specs.Verdicts.{is_judged};
-ghost use Rattle.capture_check.specs.Checking.{found, IsSound};
-ghost use Rattle.capture_check.specs.Hearing.{Alone, AloneCounts, HearsLater, fixing, DoesFix, key_at};
+ghost use Rattle.capture_check.specs.Checkers.{found, IsSound};
+ghost use Rattle.capture_check.specs.Judgements.{Alone, AloneCounts, HearsLater, fixing, DoesFix, key_at};
 
 use crate::ends::{Ends, ends_of};
 use crate::flows::Flows;

@@ -27,9 +27,9 @@ use Rattle.capture_stream.specs.declared.reader.CaptureHalt.{CaptureHalt}
 use Rattle.capture_stream.specs.declared.reader.CaptureHalt.TheVariants as halt
 use Rattle.capture_stream.specs.declared.reader.CaptureStep.{CaptureStep}
 use Rattle.capture_stream.specs.declared.reader.CaptureStep.TheVariants as step
-use Rattle.capture_stream.specs.Finding.{IsByte, place_of, opened_from, IsShown, Opens, Finds}
-use Rattle.capture_stream.specs.Reading.{Reading, behind_header, to_come_by, to_come, packet_shown, passed_by, ShowsPacket, ShowsNone, Passes, Stops, only_fault, Answers, Steps}
-use Rattle.capture_stream.specs.Taking.{step_by, taken}
+use Rattle.capture_stream.specs.Fronts.{IsByte, place_of, opened_from, IsShown, Opens, Finds}
+use Rattle.capture_stream.specs.Reads.{Reading, behind_header, to_come_by, to_come, packet_shown, passed_by, ShowsPacket, ShowsNone, Passes, Stops, only_fault, Answers, Steps}
+use Rattle.capture_stream.specs.Passes.{step_by, taken}
 
 -- a file goes on so, whatever stands behind the bytes that show it
 goes_on_so : (had : Option Format) (interfaces : List Interface) (format : Format) (size : ℕ) (a b more : List ℕ)

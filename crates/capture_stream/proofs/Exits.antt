@@ -17,9 +17,9 @@ use Rattle.capture_stream.specs.declared.fronts.Found.{Found}
 use Rattle.capture_stream.specs.declared.fronts.Found.TheVariants as found
 use Rattle.capture_stream.specs.declared.reader.CaptureHalt.TheVariants as halt
 use Rattle.capture_stream.specs.declared.reader.CaptureStep.TheVariants as step
-use Rattle.capture_stream.specs.Finding.{place_of, Opens, Finds}
-use Rattle.capture_stream.specs.Reading.{Reading, to_come, only_fault, Stops, Steps}
-use Rattle.capture_stream.specs.Taking.{step_by, taken}
+use Rattle.capture_stream.specs.Fronts.{place_of, Opens, Finds}
+use Rattle.capture_stream.specs.Reads.{Reading, to_come, only_fault, Stops, Steps}
+use Rattle.capture_stream.specs.Passes.{step_by, taken}
 use Rattle.capture_stream.proofs.Calls.{Reached, reach, middle_reading, least_head, whole_passes, none_ends, faulty_ends, answers_part}
 
 -- the reader behind a call that stopped it

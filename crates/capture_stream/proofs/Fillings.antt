@@ -8,8 +8,8 @@ use Rattle.ao_base.specs.Buffered.{Buffered, TakesMore}
 use Rattle.ao_base.specs.Outside.{Side}
 use Rattle.ao_base.proofs.Sides.{gave_more, rose_after}
 use Rattle.capture_stream.specs.declared.refill.Filled.TheVariants.{Ended, Enough, Fault}
-use Rattle.capture_stream.specs.Finding.{Filling, Fills}
-use Rattle.capture_stream.specs.Finding.{IsByte}
+use Rattle.capture_stream.specs.Fronts.{Filling, Fills}
+use Rattle.capture_stream.specs.Fronts.{IsByte}
 
 -- all bytes that are kept are bytes, and so those that were given
 given_bytes : (kept given all : List ℕ) → all ≡ kept ++ given → All IsByte all → All IsByte given

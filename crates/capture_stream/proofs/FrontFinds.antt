@@ -15,7 +15,7 @@ use Rattle.capture_stream.specs.declared.refill.Filled.{Filled}
 use Rattle.capture_stream.specs.declared.refill.Filled.TheVariants as filled
 use Rattle.capture_stream.specs.declared.fronts.Opened.{Opened}
 use Rattle.capture_stream.specs.declared.fronts.Opened.TheVariants as opening
-use Rattle.capture_stream.specs.Finding.{IsByte, Fills, IsOpenedHere, Opens}
+use Rattle.capture_stream.specs.Fronts.{IsByte, Fills, IsOpenedHere, Opens}
 
 -- where the front was passed before
 pub opened_before : (format : Format) (interfaces : List Interface) (buffer : Buffered) (a : Side) → length buffer.kept ≤ buffer.size

@@ -20,7 +20,7 @@ use Rattle.capture_stream.specs.declared.refill.Filled.{Filled}
 use Rattle.capture_stream.specs.declared.refill.Filled.TheVariants as filled
 use Rattle.capture_stream.specs.declared.fronts.Found.{Found}
 use Rattle.capture_stream.specs.declared.fronts.Found.TheVariants as found
-use Rattle.capture_stream.specs.Finding.{IsByte, Fills, IsFound, Finds}
+use Rattle.capture_stream.specs.Fronts.{IsByte, Fills, IsFound, Finds}
 
 -- one filling finds this
 finds_by : (format : Format) (interfaces : List Interface) (wanted : ℕ) (before now : Buffered) (a b : Side) (given : List ℕ) (how : Filled) (result : Found)

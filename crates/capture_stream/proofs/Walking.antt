@@ -9,7 +9,7 @@ use Rattle.capture_stream.specs.declared.reader.CaptureHalt.{CaptureHalt}
 use Rattle.capture_stream.specs.declared.reader.CaptureHalt.TheVariants as halt
 use Rattle.capture_stream.specs.declared.reader.CaptureStep.{CaptureStep}
 use Rattle.capture_stream.specs.declared.reader.CaptureStep.TheVariants as step
-use Rattle.capture_stream.specs.Reading.{Reading, to_come, left_to_come, packet_shown, ShowsPacket, Passes, Steps, Walks}
+use Rattle.capture_stream.specs.Reads.{Reading, to_come, left_to_come, packet_shown, ShowsPacket, Passes, Steps, Walks}
 
 passes_on : (before now : Reading) (text left left_now : List ℕ) (said : PartSaid) → before.kept ++ left ≡ text ++ left_now → Passes before now text said
     → left_to_come before left ≡ with_said said before.counts.packets (left_to_come now left_now)

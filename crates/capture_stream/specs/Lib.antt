@@ -1,3 +1,3 @@
-pub mod Finding
-pub mod Reading
-pub mod Taking
+pub mod Fronts
+pub mod Reads
+pub mod Passes

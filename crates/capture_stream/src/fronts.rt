@@ -2,7 +2,7 @@
 ghost use Rattle.std.specs.Prelude.{◌≡◌, ◌==◌, if◌then◌else◌, ℕ, ◌≤◌, List, [], length, None};
 ghost use Rattle.ao_base.specs.Outside.{Side};
 ghost use Rattle.capture_reader.specs.Sizes.{short_of};
-ghost use Rattle.capture_stream.specs.Finding.{IsOpenedHere, Opens, Finds};
+ghost use Rattle.capture_stream.specs.Fronts.{IsOpenedHere, Opens, Finds};
 
 use crate::refill::{Filled, fill};
 use ao_base::{Buffer, Source};

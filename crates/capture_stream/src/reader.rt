@@ -4,8 +4,8 @@ ghost use Rattle.ao_base.specs.Outside.{Side, told};
 ghost use Rattle.book_captures.specs.Captures.{frame_datagram};
 ghost use Rattle.capture_reader.specs.Found.{Gives, seen};
 ghost use Rattle.capture_reader.specs.FoundParts.{seen_part, IsPartWithin};
-ghost use Rattle.capture_stream.specs.Reading.{new_reading, Steps, Walks};
-ghost use Rattle.capture_stream.specs.Taking.{interfaces_at, step_by, taken};
+ghost use Rattle.capture_stream.specs.Reads.{new_reading, Steps, Walks};
+ghost use Rattle.capture_stream.specs.Passes.{interfaces_at, step_by, taken};
 
 use crate::fronts::{Found, Opened, find_part, open};
 use crate::interfaces::Interfaces;
@@ -66,8 +66,8 @@ pub struct CaptureReader {
 
 impl Model for CaptureReader {
     ghost use Rattle.std.specs.Prelude.{◌≡◌, ◌+◌, ◌≤◌, [], cond, Some, None};
-    ghost use Rattle.capture_stream.specs.Finding.{place_of};
-    ghost use Rattle.capture_stream.specs.Reading.{Reading};
+    ghost use Rattle.capture_stream.specs.Fronts.{place_of};
+    ghost use Rattle.capture_stream.specs.Reads.{Reading};
 
     ghost Value = { Reading };
 

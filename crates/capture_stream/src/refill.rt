@@ -2,7 +2,7 @@
 ghost use Rattle.std.specs.Prelude.{◌≡◌, ℕ, ◌≤◌, List, length};
 ghost use Rattle.std.specs.List.{All};
 ghost use Rattle.ao_base.specs.Outside.{Side};
-ghost use Rattle.capture_stream.specs.Finding.{IsByte, Fills};
+ghost use Rattle.capture_stream.specs.Fronts.{IsByte, Fills};
 
 use ao_base::{Buffer, Source};
 

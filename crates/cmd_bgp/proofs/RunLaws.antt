@@ -5,7 +5,7 @@ use Rattle.bgp_messages.specs.Readers.{Reading}
 use Rattle.book_link.specs.declared.event.Event.{Event}
 use Rattle.book_link.specs.Worlds.{Setup}
 use Rattle.link_world.specs.declared.world.World.{World}
-use Rattle.link_world.specs.Standing.{StandsFor, steps_taken}
+use Rattle.link_world.specs.Stands.{StandsFor, steps_taken}
 use Rattle.cmd_bgp.specs.Follows.{Follows}
 
 -- after so many events: the world stands for them, the readers follow them, and no take told more than one fault

@@ -2,7 +2,7 @@
 ghost use Rattle.std.specs.Prelude.{true};
 ghost use Rattle.book_answer.specs.Answers.{bgp_over, if_read};
 ghost use Rattle.book_cmd_link.specs.LinkFiles.{script_of};
-ghost use Rattle.command_report.specs.Reporting.{Reports};
+ghost use Rattle.command_report.specs.Reports.{Reports};
 
 use crate::runs::run_bgp;
 use bgp_messages::BgpReader;

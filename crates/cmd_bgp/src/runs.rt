@@ -7,7 +7,7 @@ ghost use Rattle.book_link.specs.declared.event.Event.{Event as One};
 ghost use Rattle.book_link.specs.Runs.{run};
 ghost use Rattle.book_link.specs.Worlds.{Setup as Link, forgeries, live, side};
 ghost use Rattle.link_world.specs.Events.{CanHappen};
-ghost use Rattle.link_world.specs.Standing.{StandsFor as WorldStands, setup_of, steps_taken};
+ghost use Rattle.link_world.specs.Stands.{StandsFor as WorldStands, setup_of, steps_taken};
 ghost use Rattle.cmd_bgp.specs.Follows.{Follows, IsHeard, is_done, renewed, taken_in, turn_of};
 ghost use Rattle.cmd_bgp.specs.Reads.{count_of};
 ghost use Rattle.cmd_bgp.specs.Tellings.{TellsRun};

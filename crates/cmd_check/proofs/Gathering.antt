@@ -8,7 +8,7 @@ use Rattle.ao_base.proofs.Sides.{rose_after, took_more, took_none}
 use Rattle.book_keys.specs.Rows.{Table}
 use Rattle.book_pcap.specs.Packets.{Packet, packets_of}
 use Rattle.book_cmd_check.specs.Captures.{capture_run}
-use Rattle.pcap_file.specs.Reading.{and_packet}
+use Rattle.pcap_file.specs.Reads.{and_packet}
 use Rattle.cmd_check.specs.CheckedPackets.{Breaks, HasRead, Wait, written_of}
 use Rattle.cmd_check.specs.Gatherings.{BreaksLines, Written}
 

@@ -9,12 +9,12 @@ use Rattle.ao_base.proofs.Sides.{gave_more, gave_none, rose_after, took_none}
 use Rattle.book_keys.specs.Rows.{Table}
 use Rattle.ao_base.specs.declared.reader.LineStep.{LineStep}
 use Rattle.ao_base.specs.declared.reader.LineStep.TheVariants as step
-use Rattle.ao_base.specs.Reading.{Advances, IsLong, Reading, Stops as StopsReading}
+use Rattle.ao_base.specs.Reads.{Advances, IsLong, Reading, Stops as StopsReading}
 use Rattle.ao_base.proofs.Newlines.{longer}
 use Rattle.ao_base.proofs.Showing.{HasShown, shown_none, shown_still}
 use Rattle.book_cmd_check.specs.StoredLines.{StoredInput, stored_from, stored_input, stored_line}
 use Rattle.cmd_check.specs.CheckedLines.{Checks, HasRead, Stops, segments_of, written_of}
-use Rattle.cmd_check.specs.Judging.{HasHeard, Judging}
+use Rattle.cmd_check.specs.Judges.{HasHeard, Judging}
 use Rattle.cmd_check.specs.declared.halt.Halt.TheVariants as halt
 use Rattle.cmd_check.proofs.RunLaws.{input_is, line_refused, run_none}
 

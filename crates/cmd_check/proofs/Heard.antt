@@ -6,8 +6,8 @@ use Rattle.book_keys.specs.Rows.{Table}
 use Rattle.book_pcap.specs.Packets.{Packet}
 use Rattle.book_cmd_check.specs.StoredPackets.{stored_packet}
 use Rattle.book_cmd_check.specs.Captures.{Stored, capture_run}
-use Rattle.pcap_file.specs.Reading.{and_packet}
-use Rattle.cmd_check.specs.Judging.{Gathers, HasHeard, Judging, line_after}
+use Rattle.pcap_file.specs.Reads.{and_packet}
+use Rattle.cmd_check.specs.Judges.{Gathers, HasHeard, Judging, line_after}
 use Rattle.cmd_check.proofs.RunLaws.{run_more}
 use Rattle.cmd_check.specs.CheckedPackets.{JudgedPacket, JudgesPacket, written_of}
 

@@ -5,8 +5,8 @@ use Rattle.book_lines.specs.Texts.{numbered_text}
 use Rattle.book_cmd_check.specs.Captures.{Connection, Saying, Stored, has_refusal, hear, is_pass, saying_texts}
 use Rattle.capture_check.specs.declared.answer.CheckLine.{CheckLine}
 use Rattle.capture_check.specs.Answers.{Says}
-use Rattle.capture_check.specs.Checking.{Hears, StandsFor}
-use Rattle.cmd_check.specs.Judging.{Gathers, HasHeard, Judging, held_after, line_after}
+use Rattle.capture_check.specs.Checkers.{Hears, StandsFor}
+use Rattle.cmd_check.specs.Judges.{Gathers, HasHeard, Judging, held_after, line_after}
 use Rattle.cmd_check.proofs.RunLaws.{held_more, refusal_more, saying_after}
 
 -- nothing was heard yet

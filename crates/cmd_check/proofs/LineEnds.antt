@@ -7,12 +7,12 @@ use Rattle.ao_base.specs.Outside.{Side, Gave, WasWritten, IsAtEnd}
 use Rattle.ao_base.proofs.Sides.{gave_more, rose_after, took_more}
 use Rattle.book_keys.specs.Rows.{Table}
 use Rattle.ao_base.specs.declared.reader.LineStep.TheVariants as step
-use Rattle.ao_base.specs.Reading.{Advances, IsCut, Reading, Shows}
+use Rattle.ao_base.specs.Reads.{Advances, IsCut, Reading, Shows}
 use Rattle.ao_base.proofs.Showing.{HasShown, shown_more}
 use Rattle.book_cmd_check.specs.StoredLines.{StoredInput, stored_from, stored_input, stored_line}
 use Rattle.cmd_check.specs.CheckedLines.{BreaksLine, Checks, HasRead, JudgedLine, JudgesLine, segments_of, written_of}
 use Rattle.cmd_check.specs.declared.halt.Halt.{Halt}
-use Rattle.cmd_check.specs.Judging.{Judging}
+use Rattle.cmd_check.specs.Judges.{Judging}
 use Rattle.cmd_check.specs.declared.halt.Halt.TheVariants as halt
 use Rattle.cmd_check.proofs.Goings.{Going, either, has_read, lines_then, no_lines}
 use Rattle.cmd_check.proofs.RunLaws.{input_is, line_refused}

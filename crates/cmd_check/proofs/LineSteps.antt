@@ -7,7 +7,7 @@ use Rattle.book_cmd_check.specs.Captures.{Stored, capture_run}
 use Rattle.book_cmd_check.specs.StoredLines.{stored_from, stored_line}
 use Rattle.cmd_check.specs.CheckedLines.{BreaksLine, JudgedLine, segments_of}
 use Rattle.cmd_check.specs.Gatherings.{BreaksLines, Written}
-use Rattle.cmd_check.specs.Judging.{Gathers, HasHeard, Judging, line_after}
+use Rattle.cmd_check.specs.Judges.{Gathers, HasHeard, Judging, line_after}
 use Rattle.cmd_check.proofs.RunLaws.{line_added, run_more}
 
 -- a line without a segment

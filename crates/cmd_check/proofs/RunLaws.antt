@@ -10,7 +10,7 @@ use Rattle.book_lines.specs.Texts.{numbered_text}
 use Rattle.book_cmd_check.specs.Captures.{Connection, Saying, Stored, capture_run, has_refusal, hear, is_pass, lines_of_sayings, saying_texts, sayings_from}
 use Rattle.book_cmd_check.specs.StoredLines.{StoredInput, with_stored, by_line, stored_from, stored_input, stored_line}
 use Rattle.cmd_check.specs.CheckedLines.{segments_of}
-use Rattle.cmd_check.specs.Judging.{held_after, line_after}
+use Rattle.cmd_check.specs.Judges.{held_after, line_after}
 
 -- what is said of a segment behind these
 abbrev pub saying_after : List Table → List Connection → List Stored → Stored → Saying

@@ -7,7 +7,7 @@ use Rattle.ao_base.specs.Outside.{Side, Gave, WasWritten, Rose, IsAtEnd}
 use Rattle.book_keys.specs.Rows.{Table}
 use Rattle.book_cmd_check.specs.Captures.{Stored, capture_run, has_refusal}
 use Rattle.book_cmd_check.specs.StoredLines.{stored_from, stored_input, stored_line}
-use Rattle.cmd_check.specs.Judging.{HasHeard, Judging}
+use Rattle.cmd_check.specs.Judges.{HasHeard, Judging}
 use Rattle.cmd_check.specs.declared.halt.Halt.{Halt}
 use Rattle.cmd_check.specs.declared.halt.Halt.TheVariants.{Line, Head, Record, TooLong, Read, Write}
 use Rattle.cmd_check.specs.declared.halt.Halt.TheVariants.{Memory}

@@ -2,4 +2,4 @@ pub mod Checked
 pub mod CheckedLines
 pub mod CheckedPackets
 pub mod Gatherings
-pub mod Judging
+pub mod Judges

@@ -1,7 +1,7 @@
 //! A judge of stored segments, which says a line of each.
 ghost use Rattle.std.specs.Prelude.{◌≡◌, ◌≤◌, ◌+◌, [], List, IfOk};
 ghost use Rattle.book_cmd_check.specs.Captures.{Stored};
-ghost use Rattle.cmd_check.specs.Judging.{Gathers, HasHeard};
+ghost use Rattle.cmd_check.specs.Judges.{Gathers, HasHeard};
 
 use ao_base::Steps;
 use capture_check::{Checker, push_check_line};
@@ -20,7 +20,7 @@ pub(crate) struct Judge {
 }
 
 impl Model for Judge {
-    ghost use Rattle.cmd_check.specs.Judging.{Judging};
+    ghost use Rattle.cmd_check.specs.Judges.{Judging};
 
     ghost Value = { Judging };
 

@@ -2,7 +2,7 @@
 ghost use Rattle.std.specs.Prelude.{◌≡◌, ◌+◌, ◌<◌, ℕ, List, [], None, length};
 ghost use Rattle.book_cmd_check.specs.StoredLines.{stored_from};
 ghost use Rattle.cmd_check.specs.CheckedLines.{Checks, JudgesLine, segments_of};
-ghost use Rattle.cmd_check.specs.Judging.{HasHeard};
+ghost use Rattle.cmd_check.specs.Judges.{HasHeard};
 
 use crate::halt::Halt;
 use crate::judge::Judge;

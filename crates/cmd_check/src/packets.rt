@@ -2,7 +2,7 @@
 ghost use Rattle.std.specs.Prelude.{◌≡◌, ◌<◌, ℕ, List, IsSome, Some, false, map};
 ghost use Rattle.book_pcap.specs.Packets.{Packet};
 ghost use Rattle.book_cmd_check.specs.StoredPackets.{stored_packet};
-ghost use Rattle.cmd_check.specs.Judging.{HasHeard};
+ghost use Rattle.cmd_check.specs.Judges.{HasHeard};
 ghost use Rattle.cmd_check.specs.CheckedPackets.{Checks, JudgesPacket, Moves};
 
 use crate::halt::Halt;

@@ -10,7 +10,7 @@ use Rattle.text_lines.specs.Readings.{Fails}
 use Rattle.book_keys.specs.declared.plan.Plan.{Plan}
 use Rattle.book_answer.specs.Answers.{done, if_read, linted}
 use Rattle.book_cmd_keys.specs.LintTexts.{lint_pair_of, has_misfit, lint_text}
-use Rattle.command_report.specs.Reporting.{Stopped, stop_of}
+use Rattle.command_report.specs.Reports.{Stopped, stop_of}
 use Rattle.command_report.proofs.Reporting.{fails_stops}
 use Rattle.cmd_keys.specs.declared.judged.Judged.{Judged}
 use Rattle.cmd_keys.specs.Judgements.{judgements}

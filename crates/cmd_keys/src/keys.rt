@@ -5,7 +5,7 @@ ghost use Rattle.book_keys.specs.Lifetimes.{contains};
 ghost use Rattle.book_keys.specs.Rows.{receives, sends};
 ghost use Rattle.book_cmd_keys.specs.KeyTexts.{direction_text, yes_or_no, row_line, row_lines, node_lines, keys_text};
 ghost use Rattle.book_answer.specs.Answers.{done};
-ghost use Rattle.command_report.specs.Reporting.{Reports};
+ghost use Rattle.command_report.specs.Reports.{Reports};
 ghost use Rattle.cmd_keys.specs.RowTexts.{state_texts, term_texts};
 
 use ao_base::print_address;

@@ -7,7 +7,7 @@ ghost use Rattle.book_lines.specs.Texts.{end_text, numbered_text, spaced};
 ghost use Rattle.text_lines.specs.Readings.{Answers};
 ghost use Rattle.book_cmd_keys.specs.LintTexts.{lint_pair_of, is_aligned, lint_texts};
 ghost use Rattle.book_answer.specs.Answers.{if_read, linted};
-ghost use Rattle.command_report.specs.Reporting.{Reports};
+ghost use Rattle.command_report.specs.Reports.{Reports};
 ghost use Rattle.cmd_keys.specs.Judgements.{judged_from, judgements};
 
 use crate::connection::read_connection;

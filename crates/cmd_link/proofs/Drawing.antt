@@ -9,7 +9,7 @@ use Rattle.book_link.specs.Storm.{draw, drawn, drawn_end, event_by, event_of, ev
 use Rattle.book_link.specs.Worlds.{Made, Setup, World, segment_named, segments}
 use Rattle.link_world.specs.Events.{CanHappen}
 use Rattle.link_world.specs.declared.world.World.{World as Link}
-use Rattle.link_world.specs.Standing.{StandsFor}
+use Rattle.link_world.specs.Stands.{StandsFor}
 
 -- a link stands for the storm so far, and so many events from this state on are its rest
 pub record Storming (link : Link) (seed count state left : ℕ) : Type 0 where

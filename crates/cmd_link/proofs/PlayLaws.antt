@@ -4,7 +4,7 @@ use Rattle.std.proofs.lemmas.List.{take_more}
 use Rattle.book_link.specs.declared.event.Event.{Event}
 use Rattle.book_link.specs.Worlds.{Setup}
 use Rattle.link_world.specs.declared.world.World.{World}
-use Rattle.link_world.specs.Standing.{StandsFor, steps_taken}
+use Rattle.link_world.specs.Stands.{StandsFor, steps_taken}
 
 -- what stands for the first events stands for one more after its step
 pub one_more : (before after : World) (setup : Setup) (es : List Event) (i : ℕ) (e : Event) → i < length es → e ≡ get_or es i e

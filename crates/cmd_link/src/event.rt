@@ -4,7 +4,7 @@ ghost use Rattle.book_link.specs.declared.event.Event.{Event as Happening};
 ghost use Rattle.book_link.specs.Runs.{run};
 ghost use Rattle.book_link.specs.Storm.{drawn_end, event_by, event_of, last_delivered, one_delivered};
 ghost use Rattle.book_link.specs.Worlds.{Setup as Link, other, segment_named, segments};
-ghost use Rattle.link_world.specs.Standing.{StandsFor};
+ghost use Rattle.link_world.specs.Stands.{StandsFor};
 
 use book_base::End;
 use book_link::Event;

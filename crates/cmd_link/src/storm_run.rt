@@ -2,8 +2,8 @@
 ghost use Rattle.std.specs.Prelude.{◌≡◌, ◌≤◌, IfOk, []};
 ghost use Rattle.book_answer.specs.Answers.{stormed};
 ghost use Rattle.book_link.specs.Storm.{storm_events, storm_setup, storm_starts};
-ghost use Rattle.command_report.specs.Reporting.{Reports};
-ghost use Rattle.link_world.specs.Standing.{StandsFor, steps_taken};
+ghost use Rattle.command_report.specs.Reports.{Reports};
+ghost use Rattle.link_world.specs.Stands.{StandsFor, steps_taken};
 
 use crate::draw::{draw, drawn};
 use crate::event::event_of;

@@ -7,7 +7,7 @@ ghost use Rattle.book_cmd_node.specs.NodeRuns.{node_script_of, node_text};
 ghost use Rattle.law_node.specs.Alone.{Alone};
 ghost use Rattle.node_script.specs.Scripts.{IsScript};
 ghost use Rattle.book_answer.specs.Answers.{if_read, node_over};
-ghost use Rattle.command_report.specs.Reporting.{Reports};
+ghost use Rattle.command_report.specs.Reports.{Reports};
 
 use ao_node::{Node, NodeScript, read_node, run_node};
 use book_base::Bytes;

@@ -5,7 +5,7 @@ ghost use Rattle.book_lines.specs.Lines.{most_lines};
 ghost use Rattle.book_lines.specs.Said.{at_number, said_by};
 ghost use Rattle.text_lines.specs.Readings.{Answers, Tells};
 ghost use Rattle.book_answer.specs.Answers.{done, if_read};
-ghost use Rattle.command_report.specs.Reporting.{Reports};
+ghost use Rattle.command_report.specs.Reports.{Reports};
 ghost use Rattle.cmd_show.specs.Loops.{shown_after, shown_from};
 ghost use Rattle.book_cmd_show.specs.Show.{bytes_of_line, show_of, shown_line};
 

@@ -6,7 +6,7 @@ ghost use Rattle.book_lines.specs.Said.{at_number, said_by};
 ghost use Rattle.book_lines.specs.Texts.{spaced};
 ghost use Rattle.text_lines.specs.Readings.{Answers};
 ghost use Rattle.book_answer.specs.Answers.{if_read, verified};
-ghost use Rattle.command_report.specs.Reporting.{Reports};
+ghost use Rattle.command_report.specs.Reports.{Reports};
 ghost use Rattle.cmd_show.specs.Loops.{no_sums, sums_after, sums_from};
 ghost use Rattle.book_cmd_show.specs.Vectors.{vector_of};
 ghost use Rattle.book_cmd_show.specs.Verified.{agrees, totals_line, vectors_of, verdict_line, verdict_texts};

@@ -19,7 +19,7 @@ use Rattle.law_scripts.specs.Scripts.{IsEvent, IsRow}
 use Rattle.law_scripts.specs.Timed.{IsTimedEvent}
 use Rattle.link_side.specs.Steps.{IsRowLine}
 use Rattle.link_world.specs.Events.{CanHappen}
-use Rattle.command_report.specs.Reporting.{Stopped, stop_of}
+use Rattle.command_report.specs.Reports.{Stopped, stop_of}
 use Rattle.command_report.proofs.Reporting.{fails_stops}
 use Rattle.cmd_timed.specs.Answers.{timed_answer}
 use Rattle.cmd_timed.specs.Events.{CanPass}

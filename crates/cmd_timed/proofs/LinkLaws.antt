@@ -18,7 +18,7 @@ use Rattle.book_cmd_timed.specs.TimedRuns as book
 use Rattle.link_report.specs.declared.outcome.Outcome.{Outcome as ToldOutcome}
 use Rattle.link_report.specs.Outcomes.{AreShown}
 use Rattle.link_world.specs.declared.world.World.{World}
-use Rattle.link_world.specs.Standing.{StandsFor}
+use Rattle.link_world.specs.Stands.{StandsFor}
 use Rattle.cmd_timed.specs.declared.change.Change.{Change}
 use Rattle.cmd_timed.specs.declared.link.Link.{Link}
 use Rattle.cmd_timed.specs.declared.unfinished.Unfinished.{Unfinished}

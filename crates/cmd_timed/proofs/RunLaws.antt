@@ -6,7 +6,7 @@ use Rattle.book_link.specs.Worlds.{Setup, forgeries}
 use Rattle.book_cmd_timed.specs.declared.timed.TimedEvent.{TimedEvent}
 use Rattle.book_cmd_timed.specs.TimedRuns.{most_events}
 use Rattle.book_cmd_timed.specs.TimedRuns.{Progress, begins_timed, expand, expand_from, new_watch}
-use Rattle.link_world.specs.Standing.{StandsFor}
+use Rattle.link_world.specs.Stands.{StandsFor}
 use Rattle.cmd_timed.specs.declared.link.Link.{Link}
 use Rattle.cmd_timed.specs.declared.unfinished.Unfinished.TheVariants as unfinished
 use Rattle.cmd_timed.specs.Links.{Does, Reaches, Stands, expands, progress}

@@ -8,7 +8,7 @@ use Rattle.book_link.specs.Worlds.{Setup}
 use Rattle.book_cmd_timed.specs.declared.timed.TimedEvent.{TimedEvent}
 use Rattle.book_cmd_timed.specs.TimedRuns.{most_events}
 use Rattle.book_cmd_timed.specs.TimedRuns.{Expanded, Progress, after_expiry, expand_from, expiry, plain, timed_event, until, waited}
-use Rattle.link_world.specs.Standing.{StandsFor}
+use Rattle.link_world.specs.Stands.{StandsFor}
 use Rattle.cmd_timed.specs.declared.link.Link.{Link}
 use Rattle.cmd_timed.specs.declared.unfinished.Unfinished.{Unfinished}
 use Rattle.cmd_timed.specs.declared.unfinished.Unfinished.TheVariants as unfinished

@@ -1,5 +1,5 @@
 //! The whole answer to a link file with waits.
-ghost use Rattle.command_report.specs.Reporting.{Reports};
+ghost use Rattle.command_report.specs.Reports.{Reports};
 ghost use Rattle.cmd_timed.specs.Answers.{timed_answer};
 
 use crate::runs::{TimedRun, run_timed};

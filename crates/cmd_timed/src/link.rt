@@ -6,7 +6,7 @@ ghost use Rattle.book_keys.specs.Lifetimes.{greatest_time};
 ghost use Rattle.book_link.specs.declared.event.Event.{Event as OneEvent};
 ghost use Rattle.book_link.specs.Worlds.{Setup as Plan};
 ghost use Rattle.link_world.specs.Events.{CanHappen};
-ghost use Rattle.link_world.specs.Standing.{StandsFor, steps_taken};
+ghost use Rattle.link_world.specs.Stands.{StandsFor, steps_taken};
 ghost use Rattle.cmd_timed.specs.Links.{Does, expires, progress, steps, untils, up_to};
 
 use crate::change::{Change, end_of, is_again, is_begin, is_done, is_sent};

@@ -5,7 +5,7 @@ use Rattle.book_lines.specs.declared.text_fault.TextFault.TheVariants as fault
 use Rattle.text_lines.specs.Readings.{Fails}
 use Rattle.book_answer.specs.Answers.{Answer, if_read}
 use Rattle.command_report.specs.declared.stop.Stop.TheVariants.{Input}
-use Rattle.command_report.specs.Reporting.{Stopped, stop_of}
+use Rattle.command_report.specs.Reports.{Stopped, stop_of}
 
 -- a command whose input isn't read makes no report
 pub fails_stops : {A : Type 0} (made : A → Answer) (said : Result A TextFault) (e : TextFault)

@@ -1,6 +1,6 @@
 //! A command that made no report.
 ghost use Rattle.std.specs.Prelude.{◌≡◌};
-ghost use Rattle.command_report.specs.Reporting.{stop_of};
+ghost use Rattle.command_report.specs.Reports.{stop_of};
 ghost use Rattle.command_report.specs.declared.stop.Stop.TheVariants.{Memory};
 
 use book_lines::TextFault;

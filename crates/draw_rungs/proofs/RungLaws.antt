@@ -10,7 +10,7 @@ use Rattle.book_link.specs.Runs.{empty, run, run_from}
 use Rattle.book_link.specs.Steps.{step}
 use Rattle.book_link.specs.Worlds.{Setup, World as Link}
 use Rattle.link_world.specs.declared.world.World.{World}
-use Rattle.link_world.specs.Standing.{StandsFor, steps_taken}
+use Rattle.link_world.specs.Stands.{StandsFor, steps_taken}
 
 -- the run of one more event
 pub one_more : (setup : Setup) (w : Link) (events : List Event) (e : Event) → run_from setup w (events ++ e ∷ []) ≡ (step setup (run_from setup w events) e).world

@@ -7,7 +7,7 @@ ghost use Rattle.book_link.specs.declared.event.Event.{Event as Happening};
 ghost use Rattle.book_link.specs.Runs.{run};
 ghost use Rattle.book_link.specs.Worlds.{Setup as Link};
 ghost use Rattle.link_world.specs.Events.{CanHappen};
-ghost use Rattle.link_world.specs.Standing.{StandsFor, setup_of, steps_taken};
+ghost use Rattle.link_world.specs.Stands.{StandsFor, setup_of, steps_taken};
 
 use crate::outcomes::{rung_of, turned};
 use book_base::End;

@@ -1,7 +1,7 @@
 -- Rows by their numbers, added and withdrawn.
 use Rattle.std.proofs.Common.{◌≡◌, ◌<◌, ◌≤◌, ℕ, zero, suc, ◌+◌, ◌-◌, ◌==◌, Bool, true, false, List, [], ◌∷◌, length, Option, Some, None, if◌then◌else◌, refl, ap, ◌∙◌, subst, arith, nat_lt, get_or}
 use Rattle.std.specs.Prelude.{slice_set, slice_get, is_some}
-use Rattle.key_table.specs.Lending.{place_of}
+use Rattle.key_table.specs.Loans.{place_of}
 use Rattle.std.specs.List.{find}
 use Rattle.book_base.specs.declared.address.Address.{Address}
 use Rattle.std.proofs.lemmas.Bool.Decides.{nat_tests}

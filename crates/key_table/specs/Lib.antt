@@ -1,5 +1,5 @@
-pub mod Fitting
-pub mod Lending
+pub mod Ranges
+pub mod Loans
 pub mod Pairs
 pub mod Seen
 pub mod Wants

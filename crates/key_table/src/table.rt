@@ -7,7 +7,7 @@ ghost use Rattle.book_keys.specs.Coordination.{numbered};
 ghost use Rattle.book_keys.specs.Lookups.{number_of, accept_of};
 ghost use Rattle.book_keys.specs.Tables.{adding, withdrawn, row_of_new, Addition, Withdrawn};
 ghost use Rattle.book_keys.specs.Choices.{latest, lowest, later, send_row, next_row, named_send, has_id};
-ghost use Rattle.key_table.specs.Fitting.{FitsColumns};
+ghost use Rattle.key_table.specs.Ranges.{FitsColumns};
 ghost use Rattle.key_table.specs.Wants.{usable, usable_as, wanted_start};
 ghost use Rattle.key_table.specs.Seen.{seen};
 
@@ -31,7 +31,7 @@ impl Model for Table {
     ghost use Rattle.std.specs.Prelude.{◌≤◌, length};
     ghost use Rattle.std.specs.List.{AllByRecursion};
     ghost use Rattle.book_keys.specs.Rows.{Table as Sheet};
-    ghost use Rattle.key_table.specs.Fitting.{FitsColumns};
+    ghost use Rattle.key_table.specs.Ranges.{FitsColumns};
 
     ghost Value = { Sheet };
 

@@ -8,7 +8,7 @@ ghost use Rattle.book_keys.specs.Shared.{shared_row, shared_tables};
 ghost use Rattle.std.specs.Borrow.{sem};
 ghost use Rattle.std.specs.Option.{option_copied_mut};
 ghost use Rattle.std.specs.Prelude.{slice_get};
-ghost use Rattle.key_table.specs.Lending.{LendsAt, place_of};
+ghost use Rattle.key_table.specs.Loans.{LendsAt, place_of};
 
 use crate::master_key::MasterKey;
 use crate::row::{Row, is_same_address, see_columns};

@@ -1,3 +1,3 @@
-pub mod Making
+pub mod Made
 pub mod Heads
 pub mod Names

@@ -4,7 +4,7 @@ ghost use Rattle.book_base.specs.declared.end.End.{End as OneEnd};
 ghost use Rattle.book_link.specs.declared.event.Event.{Event as OneEvent};
 ghost use Rattle.text_lines.specs.Readings.{Tells};
 ghost use Rattle.book_cmd_link.specs.LinkEvents.{event_of_end, event_of_number, start_of, give_of, fill_of, inject_of, alter_of, dump_of, event_named, link_event_of};
-ghost use Rattle.link_script.specs.Making.{MakesOfEnd, MakesOfNumber};
+ghost use Rattle.link_script.specs.Made.{MakesOfEnd, MakesOfNumber};
 ghost use Rattle.link_script.specs.Names.{name_text};
 
 use super::name::Name;

@@ -4,7 +4,7 @@ ghost use Rattle.book_lines.specs.declared.line_kind.LineKind.TheVariants as lin
 ghost use Rattle.book_lines.specs.Words.{number_in, word_as};
 ghost use Rattle.text_lines.specs.Readings.{gives, Tells};
 ghost use Rattle.book_cmd_link.specs.LinkEvents.{add_of, ways_of};
-ghost use Rattle.link_script.specs.Making.{named_ways, said_ways};
+ghost use Rattle.link_script.specs.Made.{named_ways, said_ways};
 
 use book_keys::LATEST;
 use book_lines::LineKind;

@@ -13,17 +13,17 @@ use Rattle.book_link.specs.Worlds.{Setup, pair_of, Session, World, LinkSide as E
 use Rattle.link_side.specs.declared.sessions.Ended.{Ended}
 use Rattle.link_side.specs.declared.sessions.Live.{Live}
 use Rattle.link_side.specs.declared.side.Side.{Side}
-use Rattle.link_side.specs.Passing.{emission_of, HasCome, HasSent, IsCome, made_by, quiet, sending, TellsCome, TellsSent}
+use Rattle.link_side.specs.Segments.{emission_of, HasCome, HasSent, IsCome, made_by, quiet, sending, TellsCome, TellsSent}
 use Rattle.link_side.specs.Sides.{StandsSide}
 use Rattle.link_side.proofs.ActLaws.{IsLive, live_is, none_is, put_at, put_history, put_other}
 use Rattle.link_side.proofs.OfferLaws.{not_shown}
-use Rattle.tcp_endpoint.specs.Arriving.{Arrives}
+use Rattle.tcp_endpoint.specs.Arrivals.{Arrives}
 use Rattle.tcp_endpoint.specs.declared.arrival.Arrived.{Arrived}
 use Rattle.tcp_endpoint.specs.declared.emission.Emission.{Emission}
 use Rattle.tcp_endpoint.specs.declared.emission.Emission.TheVariants as emissions
 use Rattle.tcp_endpoint.specs.declared.emission.Resent.{Resent}
 use Rattle.tcp_endpoint.specs.declared.emission.Resent.TheVariants as resents
-use Rattle.tcp_endpoint.specs.Emitting.{AnswersAs, AnswersAgainAs, Emits as EmitsAs, Resends as ResendsAs, state_after}
+use Rattle.tcp_endpoint.specs.Emissions.{AnswersAs, AnswersAgainAs, Emits as EmitsAs, Resends as ResendsAs, state_after}
 use Rattle.tcp_endpoint.specs.Ends.{Stands}
 
 -- a side whose live session is in another state

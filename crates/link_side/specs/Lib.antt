@@ -1,4 +1,4 @@
 pub mod Outcomes
-pub mod Passing
+pub mod Segments
 pub mod Sides
 pub mod Steps

@@ -6,9 +6,9 @@ ghost use Rattle.book_keys.specs.Lifetimes.{greatest_time};
 ghost use Rattle.book_keys.specs.Rows.{Row};
 ghost use Rattle.book_link.specs.Steps.{come, on_live, step, view_of};
 ghost use Rattle.book_link.specs.Worlds.{Setup, World, pair_of, side as side_of};
-ghost use Rattle.link_side.specs.Passing.{emission_of, HasCome, HasSent, length_sent, made_by, sending};
+ghost use Rattle.link_side.specs.Segments.{emission_of, HasCome, HasSent, length_sent, made_by, sending};
 ghost use Rattle.link_side.specs.Sides.{StandsSide};
-ghost use Rattle.tcp_endpoint.specs.Emitting.{Emits};
+ghost use Rattle.tcp_endpoint.specs.Emissions.{Emits};
 ghost use Rattle.tcp_endpoint.specs.Ends.{FitsEnd, Stands};
 
 use crate::side::Side;

@@ -15,7 +15,7 @@ use Rattle.link_side.specs.declared.side.Side.{Side}
 use Rattle.link_side.specs.Outcomes.{outcome_of}
 use Rattle.link_side.specs.Sides.{StandsSide}
 use Rattle.link_side.specs.Steps.{Steps}
-use Rattle.link_world.specs.Following.{Follows, HasStepped, Stays, by_event}
+use Rattle.link_world.specs.Changes.{Follows, HasStepped, Stays, by_event}
 use Rattle.link_world.specs.Links.{StandsAt}
 
 -- an event at an end by which nothing is made and nothing comes

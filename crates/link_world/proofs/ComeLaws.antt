@@ -7,7 +7,7 @@ use Rattle.tcp_segment.specs.Sums.{HasPlainHeader}
 use Rattle.book_keys.specs.Rows.{Row}
 use Rattle.book_endpoint.specs.declared.verdict.Passed.{Passed}
 use Rattle.book_endpoint.specs.Verdicts.{Finding}
-use Rattle.tcp_endpoint.specs.Arriving.{TellsPassed}
+use Rattle.tcp_endpoint.specs.Arrivals.{TellsPassed}
 use Rattle.tcp_endpoint.specs.declared.arrival.Arrived.{Arrived}
 use Rattle.book_link.specs.Alterations.{altered, has_place}
 use Rattle.book_link.specs.declared.event.Event.TheVariants.{Alter, Deliver}
@@ -22,11 +22,11 @@ use Rattle.link_log.specs.Logs.{StandsLog, forgery_count, made_count}
 use Rattle.link_report.specs.declared.outcome.Outcome.{Outcome}
 use Rattle.link_report.specs.Outcomes.{Shows}
 use Rattle.link_side.specs.declared.side.Side.{Side}
-use Rattle.link_side.specs.Passing.{HasCome}
+use Rattle.link_side.specs.Segments.{HasCome}
 use Rattle.link_world.specs.declared.arrivals.Answered.{Answered}
-use Rattle.link_world.specs.Following.{HasStepped, by_bytes, by_event}
+use Rattle.link_world.specs.Changes.{HasStepped, by_bytes, by_event}
 use Rattle.link_world.specs.Links.{AreOfEnd, StandsAt}
-use Rattle.link_world.specs.Passing.{Counts, EntersAs, HasReceived, outcome_come}
+use Rattle.link_world.specs.Arrivals.{Counts, EntersAs, HasReceived, outcome_come}
 use Rattle.link_world.proofs.EntranceLaws.{IsRow, came_numbered, comes_passed, comes_unpassed, told_row}
 
 -- ---- what passed

@@ -24,13 +24,13 @@ use Rattle.book_endpoint.specs.Arrivals.{Arrived, unmoved, number_expected, numb
 use Rattle.endpoint_steps.specs.Arriving.{arrive_judged, arrive_read}
 use Rattle.endpoint_steps.proofs.Arriving.{read_by_cases}
 use Rattle.ao_check.specs.Verdicts.{Names}
-use Rattle.tcp_endpoint.specs.Arriving.{TellsPassed}
+use Rattle.tcp_endpoint.specs.Arrivals.{TellsPassed}
 use Rattle.tcp_endpoint.specs.declared.arrival.Arrived.{Arrived as Told}
 use Rattle.book_link.specs.Steps.{Act, act_on, add, come, on_live, put, view_of}
 use Rattle.book_link.specs.Worlds.{Setup, pair_of, Session, LinkSide as EndSide, Came, Happening, Making, Coming, World, side}
 use Rattle.law_link.proofs.Tests.{choose}
 use Rattle.link_side.specs.declared.side.Side.{Side}
-use Rattle.link_side.specs.Passing.{IsCome}
+use Rattle.link_side.specs.Segments.{IsCome}
 use Rattle.link_log.specs.declared.entry.Entrance.{Entrance}
 use Rattle.link_log.specs.Entries.{ComesAs, PassesUnder}
 

@@ -15,12 +15,12 @@ use Rattle.link_report.specs.declared.outcome.Outcome.{Outcome}
 use Rattle.link_report.specs.declared.outcome.Outcome.TheVariants as outcome
 use Rattle.link_report.specs.Outcomes.{Shows, TellsMade}
 use Rattle.link_side.specs.declared.side.Side.{Side}
-use Rattle.link_side.specs.Passing.{HasSent, IsQuiet, IsSent, sending}
+use Rattle.link_side.specs.Segments.{HasSent, IsQuiet, IsSent, sending}
 use Rattle.link_side.specs.Sides.{StandsSide}
 use Rattle.tcp_endpoint.specs.declared.emission.Emission.{Emission}
 use Rattle.tcp_endpoint.specs.declared.emission.Emission.TheVariants as emissions
 use Rattle.tcp_endpoint.specs.declared.emission.Made.{Made as Told}
-use Rattle.link_world.specs.Following.{HasStepped, Stays, by_event}
+use Rattle.link_world.specs.Changes.{HasStepped, Stays, by_event}
 use Rattle.link_world.specs.Links.{AreOfEnd, StandsAt}
 use Rattle.link_world.proofs.WholeLaws.{HasRow, sent_made, sent_row}
 

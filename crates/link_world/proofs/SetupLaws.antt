@@ -11,7 +11,7 @@ use Rattle.book_segments.specs.Sockets.{same_address}
 use Rattle.book_segments.proofs.Fields.{same_bytes_tells}
 use Rattle.book_keys.specs.Plans.{rows_at, rows_of_table}
 use Rattle.book_keys.specs.Rows.{Table, has_address}
-use Rattle.key_table.specs.Lending.{place_of}
+use Rattle.key_table.specs.Loans.{place_of}
 use Rattle.book_cmd_link.specs.LinkFiles.{are_two_of_a_family}
 use Rattle.book_base.specs.Addresses.{same_family}
 

@@ -33,7 +33,7 @@ use Rattle.book_link.specs.Worlds.{Made, World}
 use Rattle.law_link.proofs.Tests.{by_bool, choose}
 use Rattle.law_link.proofs.Written.{area_ao, same_input}
 use Rattle.link_side.specs.declared.side.Side.{Side}
-use Rattle.link_side.specs.Passing.{made_by, IsSent}
+use Rattle.link_side.specs.Segments.{made_by, IsSent}
 use Rattle.link_log.specs.Entries.{IsMade, IsWhole}
 
 -- ---- what is emitted

@@ -7,7 +7,7 @@ use Rattle.book_base.specs.declared.address.Address.TheVariants.{V4, V6}
 use Rattle.book_base.specs.declared.end.End.{End}
 use Rattle.book_base.specs.declared.end.End.TheVariants.{A, B}
 use Rattle.book_keys.specs.Rows.{Row}
-use Rattle.key_table.specs.Fitting.{FitsColumns}
+use Rattle.key_table.specs.Ranges.{FitsColumns}
 use Rattle.book_cmd_link.specs.LinkFiles.{are_two_of_a_family}
 use Rattle.book_link.specs.declared.event.Event.{Event}
 use Rattle.book_link.specs.Outcomes as book
@@ -22,10 +22,10 @@ use Rattle.link_side.specs.declared.side.Side.{Side}
 use Rattle.link_side.specs.Sides.{StandsSide}
 use Rattle.link_world.specs.declared.world.World.{World}
 use Rattle.law_link.specs.Laws.{EventFits, AddressesFit, RowFits, SetupFits}
-use Rattle.link_world.specs.Fitting.{IsPlace, SocketsFit}
-use Rattle.link_world.specs.Following.{Acts, Happens, Moves, Rests, by_event}
+use Rattle.link_world.specs.Ranges.{IsPlace, SocketsFit}
+use Rattle.link_world.specs.Changes.{Acts, Happens, Moves, Rests, by_event}
 use Rattle.link_world.specs.Links.{AreOfEnd, AreOfLink, StandsAt, StandsLink}
-use Rattle.link_world.specs.Standing.{StandsFor}
+use Rattle.link_world.specs.Stands.{StandsFor}
 use Rattle.link_world.proofs.RunLaws.{outcomes_more, run_more}
 
 -- what holds holds where there was an error

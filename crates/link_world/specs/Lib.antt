@@ -1,7 +1,7 @@
 pub mod Events
-pub mod Fitting
-pub mod Following
+pub mod Ranges
+pub mod Changes
 pub mod Fronts
 pub mod Links
-pub mod Passing
-pub mod Standing
+pub mod Arrivals
+pub mod Stands

@@ -4,9 +4,9 @@ ghost use Rattle.std.specs.Option.{ForSome};
 ghost use Rattle.book_link.specs.declared.event.Event.TheVariants.{Alter, Deliver};
 ghost use Rattle.book_link.specs.Worlds.{Happening, Setup, World};
 ghost use Rattle.link_log.specs.Logs.{StandsLog, forgery_count, made_count};
-ghost use Rattle.link_world.specs.Following.{Acts, by_bytes, by_event};
+ghost use Rattle.link_world.specs.Changes.{Acts, by_bytes, by_event};
 ghost use Rattle.link_world.specs.Links.{AreOfEnd, StandsAt};
-ghost use Rattle.link_world.specs.Passing.{Counts, EntersAs, HasReceived, outcome_come};
+ghost use Rattle.link_world.specs.Arrivals.{Counts, EntersAs, HasReceived, outcome_come};
 
 use crate::copies::altered;
 use ao_base::Steps;

@@ -3,7 +3,7 @@ ghost use Rattle.std.specs.Prelude.{◌≡◌, ◌<◌, IsTrue, Ok, Err};
 ghost use Rattle.book_link.specs.Steps.{step};
 ghost use Rattle.link_log.specs.Logs.{forgery_count, made_count};
 ghost use Rattle.link_world.specs.Events.{CanHappen, end_of};
-ghost use Rattle.link_world.specs.Following.{Acts, Happens, by_event};
+ghost use Rattle.link_world.specs.Changes.{Acts, Happens, by_event};
 ghost use Rattle.link_world.specs.Links.{AreOfEnd, AreOfLink};
 
 use crate::acts::told;

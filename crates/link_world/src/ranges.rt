@@ -7,7 +7,7 @@ ghost use Rattle.book_segments.specs.Spelling.{AreBytes};
 ghost use Rattle.law_link.specs.Laws.{EventFits, RowFits};
 ghost use Rattle.book_link.specs.RowLines.{added_row};
 ghost use Rattle.link_world.specs.Events.{CanHappen};
-ghost use Rattle.link_world.specs.Fitting.{IsPlace, SocketsFit};
+ghost use Rattle.link_world.specs.Ranges.{IsPlace, SocketsFit};
 
 use book_base::{Address, Socket};
 use book_link::{Event, RowLine};

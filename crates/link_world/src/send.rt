@@ -5,9 +5,9 @@ ghost use Rattle.link_log.specs.Logs.{made_count};
 ghost use Rattle.book_link.specs.Steps.{step};
 ghost use Rattle.book_link.specs.Worlds.{Setup, World, pair_of, side as side_of};
 ghost use Rattle.link_report.specs.Outcomes.{Shows};
-ghost use Rattle.link_side.specs.Passing.{HasSent, length_sent, quiet, sending};
+ghost use Rattle.link_side.specs.Segments.{HasSent, length_sent, quiet, sending};
 ghost use Rattle.link_side.specs.Sides.{StandsSide};
-ghost use Rattle.link_world.specs.Following.{Acts, by_event};
+ghost use Rattle.link_world.specs.Changes.{Acts, by_event};
 ghost use Rattle.link_world.specs.Links.{AreOfEnd};
 
 use ao_base::Steps;

@@ -17,7 +17,7 @@ use link_side::Side;
 use tcp_endpoint::{Endpoint, Phase};
 
 impl World {
-    ghost use Rattle.link_world.specs.Standing.{StandsFor, segments_made};
+    ghost use Rattle.link_world.specs.Stands.{StandsFor, segments_made};
 
     /// One of the two ends.
     pub(crate) fn side(&self, end: End) -> &Side

@@ -28,7 +28,7 @@ pub(crate) fn dump(log: &Log, alloc: Global, name: u32) -> Result<Outcome, Alloc
 }
 
 impl World {
-    ghost use Rattle.link_world.specs.Standing.{StandsFor};
+    ghost use Rattle.link_world.specs.Stands.{StandsFor};
 
     /// The summary: a line for each session of each end, and the counts of segments and forgeries.
     pub fn summary(&self, alloc: Global) -> Result<Bytes, AllocError>

@@ -40,7 +40,7 @@ pub struct World {
 }
 
 impl World {
-    ghost use Rattle.link_world.specs.Standing.{StandsFor, setup_of, steps_taken};
+    ghost use Rattle.link_world.specs.Stands.{StandsFor, setup_of, steps_taken};
 
     /// A link on which nothing happened yet: both clocks are 0, there is no session and no segment. Its
     /// two addresses differ and are of one family.

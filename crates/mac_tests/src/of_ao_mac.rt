@@ -3,7 +3,7 @@
 ghost use Rattle.std.specs.Prelude.{◌≡◌, ◌<◌, ◌≤◌, length, IfSome};
 ghost use Rattle.book_base.specs.Algorithms.{mac_length_of};
 ghost use Rattle.book_macs.specs.Keys.{key_length};
-ghost use Rattle.tcp_segment.specs.Writing.{IsHead};
+ghost use Rattle.tcp_segment.specs.Layout.{IsHead};
 ghost use Rattle.ao_mac.specs.Macs.{HasAo};
 
 mod segments;

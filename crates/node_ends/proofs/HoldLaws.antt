@@ -10,7 +10,7 @@ use Rattle.law_node.proofs.Pairs.{same_pair_is}
 use Rattle.law_node.proofs.Held.{held, IsOnce, end_with_same, end_with_other, end_without_other, end_ticked, end_pushed_other, end_pushed_same}
 use Rattle.tcp_endpoint.specs.declared.endpoint.Endpoint.{Endpoint}
 use Rattle.node_ends.specs.Held.{Holding, end_at, ends, holds, Adds, Removes, Ticks, TicksAt}
-use Rattle.node_ends.specs.Standing.{StandsFor, StandsAt, HoldsAs}
+use Rattle.node_ends.specs.Stands.{StandsFor, StandsAt, HoldsAs}
 
 -- ---- how many are held
 

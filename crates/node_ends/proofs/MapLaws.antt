@@ -23,7 +23,7 @@ use Rattle.node_ends.specs.declared.key.Place.TheVariants.{V4, V6}
 use Rattle.node_ends.specs.contracts.key.KeyOrd.TheImpl.Laws as key_laws
 use Rattle.node_ends.specs.Held.{Holding, end_at, ends, holds}
 use Rattle.node_ends.specs.Keys.{placed, place_of, key_of, by_place, by_key}
-use Rattle.node_ends.specs.Lending.{written}
+use Rattle.node_ends.specs.Loans.{written}
 
 -- ---- the order tells keys apart
 

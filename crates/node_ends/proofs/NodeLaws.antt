@@ -16,7 +16,7 @@ use Rattle.node_ends.specs.declared.key.Key.{Key}
 use Rattle.node_ends.specs.Arrivals.{Comes, Hears}
 use Rattle.node_ends.specs.Held.{Holding, end_at, ends, holds, Adds, Removes, TicksAt, TicksEnd}
 use Rattle.node_ends.specs.Keys.{by_key, key_of}
-use Rattle.node_ends.specs.Lending.{written}
+use Rattle.node_ends.specs.Loans.{written}
 use Rattle.node_ends.proofs.MapLaws.{key_finds, written_finds, written_count}
 
 -- a node with these entries

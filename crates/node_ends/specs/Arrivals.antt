@@ -9,7 +9,7 @@ use Rattle.book_cmd_node.specs.NodeRuns.{same_pair}
 use Rattle.book_segments.specs.Segments.{pair_reached}
 use Rattle.tcp_endpoint.specs.declared.arrival.Arrived.{Arrived}
 use Rattle.tcp_endpoint.specs.declared.endpoint.Endpoint.{Endpoint}
-use Rattle.tcp_endpoint.specs.Arriving.{Arrives, IsBeforeCheck, LeavesAll}
+use Rattle.tcp_endpoint.specs.Arrivals.{Arrives, IsBeforeCheck, LeavesAll}
 use Rattle.tcp_endpoint.specs.Ends.{Stands, FitsEnd, IsUnmoved}
 use Rattle.node_ends.specs.declared.answer.NodeArrival.{NodeArrival}
 use Rattle.node_ends.specs.declared.answer.NodeArrival.TheVariants as answers

@@ -1,6 +1,6 @@
 pub mod Arrivals
 pub mod Held
 pub mod Keys
-pub mod Lending
-pub mod Acting
-pub mod Standing
+pub mod Loans
+pub mod Calls
+pub mod Stands

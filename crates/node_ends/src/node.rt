@@ -10,7 +10,7 @@ ghost use Rattle.book_base.specs.Addresses.{IsOneFamily};
 ghost use Rattle.tcp_endpoint.specs.declared.endpoint.Endpoint.{Endpoint as OneEnd};
 ghost use Rattle.node_ends.specs.Arrivals.{Comes};
 ghost use Rattle.node_ends.specs.Held.{Adds, Begins, FitsAll, IsRefused, Removes, Ticks, end_at, holds, refusal};
-ghost use Rattle.node_ends.specs.Lending.{LendsEnd};
+ghost use Rattle.node_ends.specs.Loans.{LendsEnd};
 
 use crate::answer::{NodeArrival, NodeRefusal};
 use crate::key::{Key, key_of};

@@ -9,7 +9,7 @@ use Rattle.ao_base.specs.Outside.{Side}
 use Rattle.ao_base.proofs.Sides.{gave_more, rose_after}
 use Rattle.pcap_file.specs.declared.refill.Filled.TheVariants.{Ended, Enough, Fault}
 use Rattle.pcap_file.specs.Parts.{Filling, Fills}
-use Rattle.pcap_file.specs.Reading.{IsByte}
+use Rattle.pcap_file.specs.Reads.{IsByte}
 
 -- all bytes that are kept are bytes, and so those that were given
 given_bytes : (kept given all : List ℕ) → all ≡ kept ++ given → All IsByte all → All IsByte given

@@ -9,7 +9,7 @@ use Rattle.book_pcap.specs.declared.pcap_head.HeadFault.{HeadFault}
 use Rattle.book_base.specs.Fronts.{Ends, Leads}
 use Rattle.book_pcap.specs.Packets.{Kept, four_at, record_at, head_of, and_rest, opened}
 use Rattle.book_pcap.proofs.Captures.{record_none, record_short, record_over, record_part, record_whole}
-use Rattle.pcap_file.specs.Reading.{opened_from}
+use Rattle.pcap_file.specs.Reads.{opened_from}
 use Rattle.pcap_file.proofs.Parts.{four_in_front}
 
 -- a record and what follows it

@@ -8,7 +8,7 @@ use Rattle.book_pcap.specs.Packets.{BadHead as head_refused, BadRecord as record
 use Rattle.book_pcap.proofs.Captures.{record_none, packets_step}
 use Rattle.pcap_file.specs.declared.packets.PacketStep.{PacketStep}
 use Rattle.pcap_file.specs.declared.packets.PacketStep.TheVariants.{Packet, End, Fault, TooLong, BadHead, BadRecord}
-use Rattle.pcap_file.specs.Reading.{Reading, Steps, Shows, GoesOn, packets_at, opened_from}
+use Rattle.pcap_file.specs.Reads.{Reading, Steps, Shows, GoesOn, packets_at, opened_from}
 use Rattle.pcap_file.proofs.Fronts.{RecordFront, HeadFront, record_front, head_front}
 
 shows_on : (before now : Reading) (b : Side) (text : List ℕ) (shows : Shows before now b (text ++ told b.bytes)) → HeadFront before.head (text ++ told b.bytes) shows.head shows.body →

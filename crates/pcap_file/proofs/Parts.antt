@@ -19,7 +19,7 @@ use Rattle.pcap_file.specs.declared.refill.Filled.TheVariants as filled
 use Rattle.pcap_file.specs.declared.records.Found.TheVariants as found
 use Rattle.pcap_file.specs.declared.records.Opened.TheVariants as opening
 use Rattle.pcap_file.specs.Parts.{Fills, Opens, Finds}
-use Rattle.pcap_file.specs.Reading.{IsByte, opened_from}
+use Rattle.pcap_file.specs.Reads.{IsByte, opened_from}
 
 -- a header whose bytes are all kept
 head_ready : (text left : List ℕ) (head : Head) → 24 ≤ length text → Ok head ≡ head_of (take 24 text) → opened_from None (text ++ left) ≡ Ok (head, drop 24 text ++ left)

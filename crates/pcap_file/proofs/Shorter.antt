@@ -9,7 +9,7 @@ use Rattle.book_base.specs.Fronts.{Front, Ends, Faulted, Leads}
 use Rattle.book_pcap.specs.Packets.{RecordFault, Broken, Kept, packets_in, record_at}
 use Rattle.book_pcap.proofs.Captures.{packets_step}
 use Rattle.pcap_file.specs.declared.packets.PacketStep.TheVariants.{Packet}
-use Rattle.pcap_file.specs.Reading.{Reading, Steps, opened_from, packets_after, packets_at}
+use Rattle.pcap_file.specs.Reads.{Reading, Steps, opened_from, packets_after, packets_at}
 use Rattle.pcap_file.proofs.Fronts.{head_front, record_front}
 
 -- with more bytes behind a record is the same

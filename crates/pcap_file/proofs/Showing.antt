@@ -9,7 +9,7 @@ use Rattle.book_pcap.specs.declared.pcap_head.HeadFault.{HeadFault}
 use Rattle.book_pcap.specs.Packets.{FileFault, Packet, Packets, opened, with_packet, packets_behind, packets_of}
 use Rattle.book_pcap.proofs.Captures.{record_none, packets_step}
 use Rattle.pcap_file.specs.declared.packets.PacketStep.TheVariants as step
-use Rattle.pcap_file.specs.Reading.{Reading, GoesOn, Steps, and_packet, in_front, packets_after, packets_at}
+use Rattle.pcap_file.specs.Reads.{Reading, GoesOn, Steps, and_packet, in_front, packets_after, packets_at}
 use Rattle.pcap_file.proofs.Shorter.{none_shorter}
 
 -- the reader took these bytes in all and showed these packets, besides those without a datagram: they are the packets of the bytes in front of those that it keeps, whatever follows, and no part of these bytes has more of them

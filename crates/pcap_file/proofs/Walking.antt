@@ -8,7 +8,7 @@ use Rattle.book_pcap.specs.Packets.{Kept, RecordFault, Broken, record_at, datagr
 use Rattle.book_pcap.proofs.Captures.{record_none, packets_step}
 use Rattle.pcap_file.specs.declared.packets.PacketStep.{PacketStep}
 use Rattle.pcap_file.specs.declared.packets.PacketStep.TheVariants.{Packet, End, Fault, TooLong, BadHead, BadRecord}
-use Rattle.pcap_file.specs.Reading.{Reading, Steps, step_at, wanted_step, IsOpen, Exactly, Walks, IsQuiet, IsPacketOrEnd}
+use Rattle.pcap_file.specs.Reads.{Reading, Steps, step_at, wanted_step, IsOpen, Exactly, Walks, IsQuiet, IsPacketOrEnd}
 
 at_front : (count : ℕ) (front : Front Kept RecordFault) → IsOpen (step_at count front)
 at_front count Ends = tt

@@ -13,7 +13,7 @@ use Rattle.pcap_file.specs.declared.records.Opened.{Opened}
 use Rattle.pcap_file.specs.declared.records.Opened.TheVariants as opening
 use Rattle.pcap_file.specs.declared.records.Found.{Found}
 use Rattle.pcap_file.specs.declared.records.Found.TheVariants as found
-use Rattle.pcap_file.specs.Reading.{IsByte, opened_from, header_length}
+use Rattle.pcap_file.specs.Reads.{IsByte, opened_from, header_length}
 
 -- as many as wanted, or all to the end
 abbrev pub IsFilled : ℕ → List ℕ → Side → Side → Filled → Type 0

@@ -2,7 +2,7 @@
 ghost use Rattle.std.specs.Prelude.{◌≡◌, ◌++◌, ℕ, true, false, List, [], IfOk, IsSome, IfSome, Some, None};
 ghost use Rattle.ao_base.specs.Outside.{Side, told};
 ghost use Rattle.pcap_file.specs.declared.packets.PacketStep.TheVariants.{Packet};
-ghost use Rattle.pcap_file.specs.Reading.{Reading, Steps, GoesOn, has_whole, header_length, wanted_step, Exactly, Walks, IsQuiet, IsPacketOrEnd};
+ghost use Rattle.pcap_file.specs.Reads.{Reading, Steps, GoesOn, has_whole, header_length, wanted_step, Exactly, Walks, IsQuiet, IsPacketOrEnd};
 
 use crate::head::HEAD;
 use crate::records::{
@@ -51,7 +51,7 @@ pub struct Packets {
 
 impl Model for Packets {
     ghost use Rattle.std.specs.Prelude.{◌≡◌, ◌+◌, ◌*◌, ◌≤◌, cond, Some, None, length};
-    ghost use Rattle.pcap_file.specs.Reading.{Reading, header_length};
+    ghost use Rattle.pcap_file.specs.Reads.{Reading, header_length};
 
     ghost Value = { Reading };
 

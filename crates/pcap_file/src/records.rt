@@ -4,7 +4,7 @@ ghost use Rattle.ao_base.specs.Outside.{Side};
 ghost use Rattle.book_base.specs.Fronts.{Leads};
 ghost use Rattle.book_pcap.specs.Packets.{datagram_of, is_ip, record_at};
 ghost use Rattle.pcap_file.specs.Parts.{Opens, Finds};
-ghost use Rattle.pcap_file.specs.Reading.{is_whole};
+ghost use Rattle.pcap_file.specs.Reads.{is_whole};
 
 use crate::head::{HEAD, read_head};
 use crate::numbers::four;

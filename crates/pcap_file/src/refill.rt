@@ -3,7 +3,7 @@ ghost use Rattle.std.specs.Prelude.{◌≡◌, ℕ, ◌≤◌, List, length};
 ghost use Rattle.std.specs.List.{All};
 ghost use Rattle.ao_base.specs.Outside.{Side};
 ghost use Rattle.pcap_file.specs.Parts.{Fills};
-ghost use Rattle.pcap_file.specs.Reading.{IsByte};
+ghost use Rattle.pcap_file.specs.Reads.{IsByte};
 
 use ao_base::{Buffer, Source};
 

@@ -13,7 +13,7 @@ use Rattle.capture_reader.specs.declared.frames.FoundDatagram.{FoundDatagram}
 use Rattle.capture_reader.specs.Found.{Gives, seen}
 use Rattle.scope_lines.specs.declared.write.LineHalt.{LineHalt}
 use Rattle.scope_lines.specs.declared.write.LineHalt.TheVariants as line_halt
-use Rattle.scope_lines.specs.Writing.{WritesBytes, WritesPacket, found_in}
+use Rattle.scope_lines.specs.Writes.{WritesBytes, WritesPacket, found_in}
 
 -- a slice of a slice's end
 pub end_taken : (n at : ℕ) (xs : List ℕ) → at ≤ length xs → n ≡ min 65575 (length (take (length xs - at) (drop at xs))) → take n (take (length xs - at) (drop at xs)) ≡ take 65575 (drop at xs)

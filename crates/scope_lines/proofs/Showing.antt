@@ -5,8 +5,8 @@ use Rattle.book_captures.specs.declared.capture_parts.CaptureFault.{CaptureFault
 use Rattle.book_captures.specs.declared.capture_parts.Cause.{Cause}
 use Rattle.book_captures.specs.Parts.{PartSaid, Shows, Describes, Neither, OpenedFile, capture_opened}
 use Rattle.book_captures.specs.Captures.{CapturePacket, Capture, PartCounts, with_said, capture_at, capture_behind, capture_of}
-use Rattle.capture_stream.specs.Reading.{Reading, new_reading, to_come, to_come_by, packet_shown, passed_by, ShowsNone, Passes}
-use Rattle.scope_lines.specs.Writing.{HasRead, shown_before}
+use Rattle.capture_stream.specs.Reads.{Reading, new_reading, to_come, to_come_by, packet_shown, passed_by, ShowsNone, Passes}
+use Rattle.scope_lines.specs.Writes.{HasRead, shown_before}
 
 -- the packet that is shown, if one is
 abbrev pub listed : Option CapturePacket → List CapturePacket

@@ -13,11 +13,11 @@ use Rattle.book_captures.specs.Captures.{CapturePacket, capture_of}
 use Rattle.book_scope.specs.PacketLines.{packet_line, packet_lines}
 use Rattle.capture_stream.specs.declared.reader.CaptureStep.TheVariants as step
 use Rattle.capture_stream.specs.declared.reader.CaptureHalt.TheVariants as stream_halt
-use Rattle.capture_stream.specs.Finding.{IsByte}
-use Rattle.capture_stream.specs.Reading.{Reading, new_reading, ShowsNone, Passes, Steps}
+use Rattle.capture_stream.specs.Fronts.{IsByte}
+use Rattle.capture_stream.specs.Reads.{Reading, new_reading, ShowsNone, Passes, Steps}
 use Rattle.scope_lines.specs.declared.write.LinesHalt.TheVariants as halt
 use Rattle.scope_lines.specs.declared.write.LineHalt.TheVariants as line_halt
-use Rattle.scope_lines.specs.Writing.{Breaks, Writes, WritesPacket}
+use Rattle.scope_lines.specs.Writes.{Breaks, Writes, WritesPacket}
 use Rattle.scope_lines.proofs.Showing.{HasShown, listed, none_listed, one_listed, read_before, read_now, shown_all, shown_more, shown_none}
 
 -- between two parts: these bytes were given, these packets shown, and their lines written

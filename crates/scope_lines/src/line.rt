@@ -3,7 +3,7 @@ ghost use Rattle.std.specs.Prelude.{◌≡◌, ◌/◌, ◌++◌, ◌∷◌, [],
 ghost use Rattle.book_base.specs.Hexadecimal.{hex_of};
 ghost use Rattle.book_pcap.specs.Packets.{longest_datagram};
 ghost use Rattle.book_scope.specs.PacketLines.{header_text, reason_text, remark, line_by, packet_line};
-ghost use Rattle.scope_lines.specs.Writing.{found_in};
+ghost use Rattle.scope_lines.specs.Writes.{found_in};
 
 use ao_base::{push_decimal, push_hex};
 use capture_reader::FoundDatagram;

@@ -1,7 +1,7 @@
 //! The lines of a capture, each written before the next packet is read.
 ghost use Rattle.std.specs.Prelude.{◌≡◌, ℕ, List, IsSome};
 ghost use Rattle.ao_base.specs.Outside.{Side};
-ghost use Rattle.scope_lines.specs.Writing.{Writes, WritesBytes, WritesPacket};
+ghost use Rattle.scope_lines.specs.Writes.{Writes, WritesBytes, WritesPacket};
 
 use crate::line::print_line;
 use ao_base::{Failed, Sink, Source, write_all};

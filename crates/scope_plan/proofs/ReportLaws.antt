@@ -11,7 +11,7 @@ use Rattle.book_keys.specs.declared.plan.Plan.{Plan}
 use Rattle.book_answer.specs.Answers.{done, if_read}
 use Rattle.book_scope_plan.specs.Connections.{plan_pair_of}
 use Rattle.book_scope_plan.specs.PlanTexts.{has_wrong_plan, plans_text}
-use Rattle.command_report.specs.Reporting.{Stopped, stop_of}
+use Rattle.command_report.specs.Reports.{Stopped, stop_of}
 use Rattle.command_report.proofs.Reporting.{fails_stops}
 use Rattle.scope_plan.specs.declared.planned.Planned.{Planned}
 use Rattle.scope_plan.specs.Plannings.{planned_answer, plannings}

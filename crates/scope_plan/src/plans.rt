@@ -6,7 +6,7 @@ ghost use Rattle.book_lines.specs.Said.{at_number, said_by, said_in};
 ghost use Rattle.text_lines.specs.Readings.{Answers};
 ghost use Rattle.book_scope_plan.specs.Connections.{plan_pair_of};
 ghost use Rattle.book_answer.specs.Answers.{if_read};
-ghost use Rattle.command_report.specs.Reporting.{Reports};
+ghost use Rattle.command_report.specs.Reports.{Reports};
 ghost use Rattle.scope_plan.specs.Plannings.{planned_answer, planned_from, plannings};
 
 use crate::connection::read_connection;

@@ -15,10 +15,10 @@ use Rattle.book_sessions.specs.Sessions.{SessionTable, and_counted, outcome_of, 
 use Rattle.book_sessions.specs.KeyLines.{last_of, later_of}
 use Rattle.capture_check.specs.declared.ends.Ends.{Ends}
 use Rattle.capture_check.specs.declared.flows.Flows.{Flows}
-use Rattle.capture_check.specs.Checking.{StandsFor}
+use Rattle.capture_check.specs.Checkers.{StandsFor}
 use Rattle.capture_reader.specs.declared.frames.FoundDatagram.{FoundDatagram}
 use Rattle.capture_reader.specs.Found.{Gives, seen}
-use Rattle.scope_lines.specs.Writing.{found_in}
+use Rattle.scope_lines.specs.Writes.{found_in}
 use Rattle.scope_sessions.specs.Counting.{CountsPacket, CountsStored}
 
 -- a packet that is passed over

@@ -12,7 +12,7 @@ use Rattle.book_keys.specs.Reading.{Fails}
 use Rattle.book_keys.specs.Rows.{Table}
 use Rattle.book_sessions.specs.Sessions.{SessionTable}
 use Rattle.book_sessions.specs.SessionTexts.{has_amiss, sessions_text}
-use Rattle.capture_stream.specs.Reading.{new_reading}
+use Rattle.capture_stream.specs.Reads.{new_reading}
 use Rattle.scope_lines.proofs.Showing.{read_now, shown_none}
 use Rattle.scope_sessions.specs.declared.count.Counted.{Counted}
 use Rattle.scope_sessions.specs.declared.count.CountHalt.TheVariants as count_halt

@@ -12,7 +12,7 @@ use Rattle.book_sessions.specs.Sessions.{SessionTable, is_use_of, same_reason, s
 use Rattle.book_sessions.specs.Sessions.{sessions_from, counted_by, stored_of_packet}
 use Rattle.capture_check.specs.declared.ends.Ends.{Ends}
 use Rattle.capture_check.specs.declared.flows.Flows.{Flows}
-use Rattle.capture_check.specs.Checking.{StandsFor}
+use Rattle.capture_check.specs.Checkers.{StandsFor}
 use Rattle.scope_sessions.specs.declared.tally.Tally.{Tally}
 
 -- the table that a tally is

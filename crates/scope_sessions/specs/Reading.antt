@@ -6,9 +6,9 @@ use Rattle.book_captures.specs.declared.capture_parts.CaptureFault.{CaptureFault
 use Rattle.book_captures.specs.Captures.{CapturePacket, capture_of}
 use Rattle.book_keys.specs.Rows.{Table}
 use Rattle.book_sessions.specs.Sessions.{sessions_of}
-use Rattle.capture_stream.specs.Finding.{IsByte}
-use Rattle.capture_stream.specs.Reading.{most_read}
-use Rattle.scope_lines.specs.Writing.{HasRead}
+use Rattle.capture_stream.specs.Fronts.{IsByte}
+use Rattle.capture_stream.specs.Reads.{most_read}
+use Rattle.scope_lines.specs.Writes.{HasRead}
 use Rattle.scope_sessions.specs.declared.count.Counted.{Counted}
 use Rattle.scope_sessions.specs.declared.count.CountHalt.{CountHalt}
 use Rattle.scope_sessions.specs.declared.count.CountHalt.TheVariants as halt

@@ -10,9 +10,9 @@ use Rattle.book_keys.specs.Rows.{Table}
 use Rattle.book_keys.specs.Nodes.{tables_of}
 use Rattle.book_sessions.specs.Sessions.{SessionTable, sessions_of}
 use Rattle.book_sessions.specs.SessionTexts.{has_amiss, sessions_text}
-use Rattle.capture_stream.specs.Finding.{IsByte}
-use Rattle.capture_stream.specs.Reading.{most_read}
-use Rattle.scope_lines.specs.Writing.{HasRead}
+use Rattle.capture_stream.specs.Fronts.{IsByte}
+use Rattle.capture_stream.specs.Reads.{most_read}
+use Rattle.scope_lines.specs.Writes.{HasRead}
 use Rattle.scope_sessions.specs.declared.count.Counted.{Counted}
 use Rattle.scope_sessions.specs.declared.write.SessionsHalt.{SessionsHalt}
 use Rattle.scope_sessions.specs.declared.write.SessionsHalt.TheVariants as halt

@@ -5,8 +5,8 @@ ghost use Rattle.book_captures.specs.Captures.{CapturePacket};
 ghost use Rattle.book_cmd_check.specs.Captures.{Connection};
 ghost use Rattle.book_pcap.specs.Packets.{longest_datagram};
 ghost use Rattle.book_sessions.specs.Sessions.{stored_by};
-ghost use Rattle.capture_check.specs.Checking.{StandsFor};
-ghost use Rattle.scope_lines.specs.Writing.{found_in};
+ghost use Rattle.capture_check.specs.Checkers.{StandsFor};
+ghost use Rattle.scope_lines.specs.Writes.{found_in};
 ghost use Rattle.scope_sessions.specs.Counting.{CountsPacket, CountsStored, table_of};
 ghost use Rattle.scope_sessions.specs.Reading.{Counts};
 

@@ -6,7 +6,7 @@ ghost use Rattle.book_cmd_check.specs.Captures.{Connection, Judged, Saying, hear
 ghost use Rattle.book_endpoint.specs.Verdicts.{Judgement};
 ghost use Rattle.book_sessions.specs.Sessions.{ids_found, outcome_of, seen_by, seen_segment};
 ghost use Rattle.capture_check.specs.Answers.{IsJudged, Says};
-ghost use Rattle.capture_check.specs.Checking.{StandsFor};
+ghost use Rattle.capture_check.specs.Checkers.{StandsFor};
 
 use ao_base::Steps;
 use book_endpoint::Verdict;

@@ -10,7 +10,7 @@ use Rattle.book_keys.specs.Coordination.{Sending}
 use Rattle.book_endpoint.specs.States.{EndState, own_mss}
 use Rattle.book_endpoint.specs.Emissions.{Draft, sets, ao_place, written, written_ip as book_ip, written_area as book_area}
 use Rattle.tcp_segment.specs.declared.spelling.Head.{Head}
-use Rattle.tcp_segment.specs.Writing.{drafted, mss_length, option_heads, written_ip}
+use Rattle.tcp_segment.specs.Layout.{drafted, mss_length, option_heads, written_ip}
 use Rattle.segment_writer.specs.Heads.{head_for}
 
 -- the maximum segment size, by whether SYN is set

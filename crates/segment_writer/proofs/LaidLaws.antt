@@ -12,7 +12,7 @@ use Rattle.book_endpoint.specs.Emissions.{Draft, Emits, sets, sealed, made_under
 use Rattle.key_coordination.specs.declared.choice.Sending.{Sending as Told}
 use Rattle.tcp_segment.specs.declared.spelling.Head.{Head}
 use Rattle.tcp_segment.specs.Drafts.{DatagramMut, Drafted}
-use Rattle.tcp_segment.specs.Writing.{drafted, header_length, AreSized, IsFinished}
+use Rattle.tcp_segment.specs.Layout.{drafted, header_length, AreSized, IsFinished}
 use Rattle.ao_kdf.specs.Cache.{Cache}
 use Rattle.ao_kdf.specs.declared.way.Way.TheVariants.{Outbound}
 use Rattle.ao_check.specs.Bonds.{Bond, Counted}

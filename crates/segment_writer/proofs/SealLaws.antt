@@ -15,7 +15,7 @@ use Rattle.book_keys.specs.Coordination.{Sending}
 use Rattle.book_endpoint.specs.States.{EndState}
 use Rattle.book_endpoint.specs.Emissions.{Draft, Emits, written, no_mac, blank, own_ao, seal_of, sealed, seal_known, made_under}
 use Rattle.tcp_segment.specs.declared.spelling.Head.{Head}
-use Rattle.tcp_segment.specs.Writing.{drafted, IsFinished}
+use Rattle.tcp_segment.specs.Layout.{drafted, IsFinished}
 use Rattle.tcp_segment.proofs.DraftLaws.{drafted_ao}
 use Rattle.ao_mac.specs.Macs.{IsMacOf}
 use Rattle.segment_writer.specs.Drafts.{IsWritten}

@@ -15,7 +15,7 @@ use Rattle.key_coordination.specs.declared.choice.Sending.{Sending as Told}
 use Rattle.tcp_segment.specs.declared.spelling.Head.{Head}
 use Rattle.tcp_segment.specs.Drafts.{DatagramMut, Drafted}
 use Rattle.book_base.specs.Addresses.{IsOneFamily}
-use Rattle.tcp_segment.specs.Writing.{drafted, ip_size, header_length, AreSized, IsHead, IsFinished}
+use Rattle.tcp_segment.specs.Layout.{drafted, ip_size, header_length, AreSized, IsHead, IsFinished}
 use Rattle.tcp_segment.proofs.WriteLaws.{parts, before, before_long}
 use Rattle.segment_writer.specs.declared.outgoing.Outgoing.{Outgoing}
 use Rattle.segment_writer.specs.Heads.{head_of, size_of}

@@ -12,7 +12,7 @@ use Rattle.book_endpoint.specs.States.{EndState, own_mss}
 use Rattle.book_endpoint.specs.Emissions.{Draft, sets, told_window, ao_place}
 use Rattle.key_coordination.specs.declared.choice.Sending.{Sending}
 use Rattle.tcp_segment.specs.declared.spelling.Head.{Head}
-use Rattle.tcp_segment.specs.Writing.{ip_size}
+use Rattle.tcp_segment.specs.Layout.{ip_size}
 use Rattle.segment_writer.specs.declared.outgoing.Outgoing.{Outgoing}
 
 -- the maximum segment size, which is told with SYN alone (RFC 9293, section 3.7.1)

@@ -5,7 +5,7 @@ ghost use Rattle.book_base.specs.Algorithms.{mac_length_of};
 ghost use Rattle.book_keys.specs.Coordination.{Sending};
 ghost use Rattle.book_endpoint.specs.Emissions.{Draft, written};
 ghost use Rattle.book_endpoint.specs.States.{EndState};
-ghost use Rattle.tcp_segment.specs.Writing.{drafted};
+ghost use Rattle.tcp_segment.specs.Layout.{drafted};
 ghost use Rattle.segment_writer.specs.Heads.{head_for};
 
 /// What is laid out of the head of a draft, a MAC of its row's length and its payload is the segment

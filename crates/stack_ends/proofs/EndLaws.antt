@@ -12,7 +12,7 @@ use Rattle.book_segments.specs.Segments.{pair_reached}
 use Rattle.law_node.proofs.Held.{held, once_with, once_without, once_ticked, once_pushed}
 use Rattle.tcp_endpoint.specs.declared.endpoint.Endpoint.{Endpoint}
 use Rattle.tcp_endpoint.specs.Ends.{FitsEnd, Stands as EndStands}
-use Rattle.tcp_endpoint.specs.Arriving.{Arrives}
+use Rattle.tcp_endpoint.specs.Arrivals.{Arrives}
 use Rattle.tcp_endpoint.specs.declared.arrival.Arrived.{Arrived}
 use Rattle.node_ends.specs.declared.answer.NodeArrival.{NodeArrival}
 use Rattle.node_ends.specs.declared.answer.NodeArrival.TheVariants as answers
@@ -20,14 +20,14 @@ use Rattle.node_ends.specs.declared.answer.NodeRefusal.{NodeRefusal}
 use Rattle.node_ends.specs.declared.answer.NodeRefusal.TheVariants as refusals
 use Rattle.node_ends.specs.Arrivals.{Comes, ComesTo, HearsAt}
 use Rattle.node_ends.specs.Held.{Holding, end_at, ends, holds, refusal, Adds, Begins, IsRefused, Removes, Ticks}
-use Rattle.node_ends.specs.Lending.{written}
+use Rattle.node_ends.specs.Loans.{written}
 use Rattle.node_ends.proofs.MapLaws.{written_finds, written_count}
-use Rattle.node_ends.specs.Standing.{StandsFor, StandsAt, HoldsAs}
+use Rattle.node_ends.specs.Stands.{StandsFor, StandsAt, HoldsAs}
 use Rattle.node_ends.proofs.HoldLaws.{put_holds, drop_holds, add_holds, tick_holds, held_alike}
 use Rattle.stack_ends.specs.declared.ends.Ends.{Ends}
-use Rattle.stack_ends.specs.Calling.{Asking, CallsAt}
-use Rattle.stack_ends.specs.Meeting.{Meets, MeetsPair, MeetsRead}
-use Rattle.stack_ends.specs.Standing.{Stands, Begun, Removed, most_of, with_new}
+use Rattle.stack_ends.specs.Calls.{Asking, CallsAt}
+use Rattle.stack_ends.specs.Arrivals.{Meets, MeetsPair, MeetsRead}
+use Rattle.stack_ends.specs.Stands.{Stands, Begun, Removed, most_of, with_new}
 
 -- a new end leaves how many there may be
 pub opened_most : {A : Type 0} (before after : Holding) (p : Pair) (B : Endpoint → Type 0) (r : Result A NodeRefusal) → OnErr r (after ≡ before)

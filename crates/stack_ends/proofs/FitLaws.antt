@@ -14,7 +14,7 @@ use Rattle.node_ends.specs.declared.answer.NodeArrival.{NodeArrival}
 use Rattle.node_ends.specs.declared.answer.NodeRefusal.{NodeRefusal}
 use Rattle.node_ends.specs.Arrivals.{Comes, ComesTo}
 use Rattle.node_ends.specs.Held.{Holding, end_at, Adds, Begins, FitsAll, Removes, Ticks, TicksAt}
-use Rattle.node_ends.specs.Lending.{written}
+use Rattle.node_ends.specs.Loans.{written}
 use Rattle.node_ends.proofs.MapLaws.{written_finds}
 
 pub fits_put : (rows : List Row) (before after : Holding) (p : Pair) (f : Endpoint) → FitsAll rows before

@@ -11,10 +11,10 @@ use Rattle.book_cmd_node.specs.NodeRuns.{NodeState, held_end}
 use Rattle.tcp_endpoint.specs.declared.endpoint.Endpoint.{Endpoint}
 use Rattle.tcp_endpoint.specs.Ends.{FitsEnd}
 use Rattle.node_ends.specs.Held.{Holding, FitsAll, end_at}
-use Rattle.node_ends.specs.Standing.{StandsAt}
+use Rattle.node_ends.specs.Stands.{StandsAt}
 use Rattle.stack_ends.specs.declared.ends.Ends.{Ends}
 use Rattle.stack_ends.specs.Rows.{RowAdded, RowWithdrawn}
-use Rattle.stack_ends.specs.Standing.{Stands}
+use Rattle.stack_ends.specs.Stands.{Stands}
 
 -- tables that fit an end go on fitting once a row is added
 abbrev AddingFits : Type 0

@@ -16,12 +16,12 @@ use Rattle.tcp_endpoint.specs.declared.endpoint.Endpoint.{Endpoint}
 use Rattle.tcp_endpoint.specs.declared.send.GiveAnswer.{GiveAnswer}
 use Rattle.tcp_endpoint.specs.declared.send.GiveAnswer.TheVariants as given
 use Rattle.tcp_endpoint.specs.Answers.{give_answer, offered}
-use Rattle.tcp_endpoint.specs.Emitting.{IsMade, Emits as EmitsAs, MakesNone, Resends as ResendsAs, ResendsNone, state_after}
+use Rattle.tcp_endpoint.specs.Emissions.{IsMade, Emits as EmitsAs, MakesNone, Resends as ResendsAs, ResendsNone, state_after}
 use Rattle.tcp_endpoint.specs.Ends.{Stands}
 use Rattle.book_stack.specs.Watches.{awaits, end_front}
 use Rattle.stack_ends.specs.declared.send.Spoken.{Spoken}
-use Rattle.stack_ends.specs.Calling.{given_as}
-use Rattle.stack_ends.specs.Saying.{Leaves, Speaks, said, said_again}
+use Rattle.stack_ends.specs.Calls.{given_as}
+use Rattle.stack_ends.specs.Said.{Leaves, Speaks, said, said_again}
 
 -- ---- whether more may be given
 

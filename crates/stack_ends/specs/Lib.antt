@@ -1,5 +1,5 @@
-pub mod Calling
-pub mod Meeting
+pub mod Calls
+pub mod Arrivals
 pub mod Rows
-pub mod Saying
-pub mod Standing
+pub mod Said
+pub mod Stands

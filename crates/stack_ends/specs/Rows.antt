@@ -7,7 +7,7 @@ use Rattle.book_keys.specs.declared.new_row.AddRefusal.TheVariants as refused
 use Rattle.book_keys.specs.declared.new_row.NoRow.{NoRow}
 use Rattle.book_cmd_node.specs.NodeRuns.{NodeState}
 use Rattle.stack_ends.specs.declared.ends.Ends.{Ends}
-use Rattle.stack_ends.specs.Standing.{Stands}
+use Rattle.stack_ends.specs.Stands.{Stands}
 
 -- a row was added, and all ends go on under the rows with it; or why not (own)
 abbrev pub RowAdded : Ends → NodeState → List Row → Result ℕ AddRefusal → Adding → Type 0

@@ -3,8 +3,8 @@ ghost use Rattle.std.specs.Prelude.{◌≡◌, ◌≤◌, ◌+◌, List};
 ghost use Rattle.book_keys.specs.Rows.{Row};
 ghost use Rattle.book_segments.specs.Segments.{reading};
 ghost use Rattle.book_cmd_node.specs.NodeRuns.{NodeState};
-ghost use Rattle.stack_ends.specs.Meeting.{Meets};
-ghost use Rattle.stack_ends.specs.Standing.{Stands, most_of};
+ghost use Rattle.stack_ends.specs.Arrivals.{Meets};
+ghost use Rattle.stack_ends.specs.Stands.{Stands, most_of};
 
 use crate::ends::Ends;
 use ao_base::Steps;

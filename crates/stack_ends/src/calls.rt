@@ -5,9 +5,9 @@ ghost use Rattle.tcp_endpoint.specs.Ends.{FitsEnd, Stands as EndStands};
 ghost use Rattle.book_keys.specs.Rows.{Row};
 ghost use Rattle.book_cmd_node.specs.declared.node.Act.TheVariants as act;
 ghost use Rattle.book_cmd_node.specs.NodeRuns.{NodeState, held_end};
-ghost use Rattle.stack_ends.specs.Calling.{Asking, CallsAt, Gives, IsDone, Takes, Tells, acting};
-ghost use Rattle.stack_ends.specs.Saying.{LeavesIf};
-ghost use Rattle.stack_ends.specs.Standing.{Stands, most_of};
+ghost use Rattle.stack_ends.specs.Calls.{Asking, CallsAt, Gives, IsDone, Takes, Tells, acting};
+ghost use Rattle.stack_ends.specs.Said.{LeavesIf};
+ghost use Rattle.stack_ends.specs.Stands.{Stands, most_of};
 
 use crate::ends::Ends;
 use crate::send::{Spoken, repeat, speak};

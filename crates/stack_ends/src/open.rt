@@ -5,7 +5,7 @@ ghost use Rattle.book_keys.specs.Rows.{Row};
 ghost use Rattle.book_endpoint.specs.States.{connected, listening};
 ghost use Rattle.book_cmd_node.specs.NodeRuns.{NodeState, most_ends, no_ends, ends_ticked, held_end};
 ghost use Rattle.book_base.specs.Addresses.{IsOneFamily};
-ghost use Rattle.stack_ends.specs.Standing.{Stands, Begun, Removed, most_of};
+ghost use Rattle.stack_ends.specs.Stands.{Stands, Begun, Removed, most_of};
 
 use crate::ends::Ends;
 use book_base::Pair;

@@ -5,7 +5,7 @@ ghost use Rattle.book_keys.specs.Rows.{Row};
 ghost use Rattle.book_keys.specs.Tables.{adding, row_of_new, withdrawn};
 ghost use Rattle.book_cmd_node.specs.NodeRuns.{NodeState};
 ghost use Rattle.stack_ends.specs.Rows.{RowAdded, RowWithdrawn};
-ghost use Rattle.stack_ends.specs.Standing.{Stands, most_of};
+ghost use Rattle.stack_ends.specs.Stands.{Stands, most_of};
 
 use crate::ends::Ends;
 use book_keys::{AddRefusal, NewRow, NoRow};

@@ -4,10 +4,10 @@ ghost use Rattle.book_keys.specs.Rows.{Row};
 ghost use Rattle.book_endpoint.specs.States.{EndState, gives};
 ghost use Rattle.book_endpoint.specs.Emissions.{unsent};
 ghost use Rattle.book_cmd_node.specs.declared.node.Act.TheVariants as act;
-ghost use Rattle.node_ends.specs.Acting.{act_on};
+ghost use Rattle.node_ends.specs.Calls.{act_on};
 ghost use Rattle.tcp_endpoint.specs.Ends.{Stands, FitsEnd};
 ghost use Rattle.book_stack.specs.Watches.{awaits, end_front};
-ghost use Rattle.stack_ends.specs.Saying.{Leaves, Speaks, said, said_again};
+ghost use Rattle.stack_ends.specs.Said.{Leaves, Speaks, said, said_again};
 
 use ao_base::Steps;
 use book_endpoint::Phase;

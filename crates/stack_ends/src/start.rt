@@ -4,7 +4,7 @@ ghost use Rattle.book_keys.specs.Rows.{Row};
 ghost use Rattle.book_endpoint.specs.States.{started};
 ghost use Rattle.book_cmd_node.specs.NodeRuns.{NodeState};
 ghost use Rattle.book_base.specs.Addresses.{IsOneFamily};
-ghost use Rattle.stack_ends.specs.Standing.{Stands, Begun, most_of};
+ghost use Rattle.stack_ends.specs.Stands.{Stands, Begun, most_of};
 
 use crate::ends::Ends;
 use book_base::Pair;

@@ -3,7 +3,7 @@ ghost use Rattle.std.specs.Prelude.{◌≡◌, List, option_map};
 ghost use Rattle.book_keys.specs.Rows.{Row};
 ghost use Rattle.book_cmd_node.specs.NodeRuns.{NodeState, held_end};
 ghost use Rattle.book_stack.specs.Watches.{end_front};
-ghost use Rattle.stack_ends.specs.Standing.{Stands};
+ghost use Rattle.stack_ends.specs.Stands.{Stands};
 
 use crate::ends::Ends;
 use crate::send::front_of;

@@ -1,6 +1,6 @@
 //! Two stacks talk over a way that loses, repeats and reorders; a SYN is lost; a SYN knocks.
 ghost use Rattle.std.specs.Prelude.{◌≤◌};
-ghost use Rattle.stack_timers.specs.Watching.{latest};
+ghost use Rattle.stack_timers.specs.Watches.{latest};
 
 use crate::peers::{
     client, client_pair, deliver, drain, is_closed, next_moment, output, server, server_pair,

@@ -1,6 +1,6 @@
 //! Two stacks at the ends of a way, and what each does at a moment.
 ghost use Rattle.std.specs.Prelude.{◌≡◌, ◌≤◌, length};
-ghost use Rattle.stack_timers.specs.Watching.{latest};
+ghost use Rattle.stack_timers.specs.Watches.{latest};
 ghost use Rattle.book_base.specs.Addresses.{IsOneFamily};
 
 use crate::way::{LATEST, Way};

@@ -1,6 +1,6 @@
 //! A way between two stacks that loses, repeats and reorders what is sent, as a seed says.
 ghost use Rattle.std.specs.Prelude.{◌≤◌, ◌<◌, IfSome, length};
-ghost use Rattle.stack_timers.specs.Watching.{latest};
+ghost use Rattle.stack_timers.specs.Watches.{latest};
 
 use std::alloc::{AllocError, Global};
 

@@ -20,8 +20,8 @@ use Rattle.stack_timers.specs.declared.key.Key.{Key}
 use Rattle.stack_timers.specs.declared.key.Place.{Place}
 use Rattle.stack_timers.specs.declared.key.Place.TheVariants.{V4, V6}
 use Rattle.stack_timers.specs.contracts.key.KeyOrd.TheImpl.Laws as key_laws
-use Rattle.stack_timers.specs.Timing.{Timing, watch_at}
-use Rattle.stack_timers.specs.Lending.{written}
+use Rattle.stack_timers.specs.Timers.{Timing, watch_at}
+use Rattle.stack_timers.specs.Loans.{written}
 use Rattle.stack_timers.specs.Keys.{placed, place_of, key_of, by_place, by_key}
 
 -- ---- the order tells keys apart

@@ -8,8 +8,8 @@ use Rattle.book_stack.specs.Watches.{new_connection_watch}
 use Rattle.stack_timers.specs.declared.key.Key.{Key}
 use Rattle.stack_timers.specs.declared.watch.Watch.{Watch}
 use Rattle.stack_timers.specs.Keys.{by_key, key_of}
-use Rattle.stack_timers.specs.Timing.{Timing, KeepsNew, Drops}
-use Rattle.stack_timers.specs.Watching.{seen}
+use Rattle.stack_timers.specs.Timers.{Timing, KeepsNew, Drops}
+use Rattle.stack_timers.specs.Watches.{seen}
 use Rattle.stack_timers.proofs.MapLaws.{key_finds}
 
 -- timers with these entries

@@ -1,5 +1,5 @@
 pub mod Keys
-pub mod Lending
+pub mod Loans
 pub mod Places
-pub mod Timing
-pub mod Watching
+pub mod Timers
+pub mod Watches

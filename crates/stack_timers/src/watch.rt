@@ -1,7 +1,7 @@
 //! The timer of a connection.
 ghost use Rattle.std.specs.Prelude.{◌≡◌, ◌≤◌};
 ghost use Rattle.book_stack.specs.Watches as book;
-ghost use Rattle.stack_timers.specs.Watching.{latest, seen};
+ghost use Rattle.stack_timers.specs.Watches.{latest, seen};
 
 use book_endpoint::{Arrival, Phase};
 use book_stack::{Change, Front, Timed};

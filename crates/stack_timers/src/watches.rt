@@ -2,8 +2,8 @@
 ghost use Rattle.std.specs.Prelude.{◌≡◌, [], OnOk, OnErr, option_map};
 ghost use Rattle.std.specs.Borrow.{sem};
 ghost use Rattle.std.specs.Option.{option_copied_mut};
-ghost use Rattle.stack_timers.specs.Lending.{LendsWatch};
-ghost use Rattle.stack_timers.specs.Timing.{KeepsNew, Drops, watch_at};
+ghost use Rattle.stack_timers.specs.Loans.{LendsWatch};
+ghost use Rattle.stack_timers.specs.Timers.{KeepsNew, Drops, watch_at};
 
 use crate::key::{Key, key_of};
 use crate::watch::Watch;
@@ -19,7 +19,7 @@ pub struct Watches {
 }
 
 impl Model for Watches {
-    ghost use Rattle.stack_timers.specs.Timing.{Timing};
+    ghost use Rattle.stack_timers.specs.Timers.{Timing};
 
     ghost Value = { Timing };
 

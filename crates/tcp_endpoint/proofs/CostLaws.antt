@@ -14,7 +14,7 @@ use Rattle.ao_check.specs.Bonds.{Counted}
 use Rattle.ao_check.specs.Verdicts.{is_judged, judging}
 use Rattle.tcp_endpoint.specs.declared.arrival.Arrived.{Arrived}
 use Rattle.tcp_endpoint.specs.declared.endpoint.Endpoint.{Endpoint}
-use Rattle.tcp_endpoint.specs.Arriving.{Costs, IsBeforeCheck, LeavesAll, is_computed}
+use Rattle.tcp_endpoint.specs.Arrivals.{Costs, IsBeforeCheck, LeavesAll, is_computed}
 
 -- an answer after which more than the kept keys may have changed comes behind the MAC
 pub moved_on : (a : Arrival) → (LeavesAll a → ⊥) → is_computed a ≡ true

@@ -17,7 +17,7 @@ use Rattle.tcp_endpoint.specs.Halves.{Sends, Receives, fin_gone, fin_made, is_op
 use Rattle.tcp_endpoint.specs.Numbers.{expected_in, fin_in}
 use Rattle.tcp_endpoint.specs.Fins.{is_at, past_or, phase_past}
 use Rattle.tcp_endpoint.specs.Ends.{Stands}
-use Rattle.tcp_endpoint.specs.Arriving.{Reaches}
+use Rattle.tcp_endpoint.specs.Arrivals.{Reaches}
 use Rattle.tcp_endpoint.proofs.ReadyLaws.{ready_from, window_is}
 use Rattle.tcp_endpoint.proofs.StreamLaws.{SameFrom, none_of, grown_clear, grown_same, missing_then_is, runs_then_is, records_same}
 

@@ -15,7 +15,7 @@ use Rattle.key_coordination.specs.Sendings.{told}
 use Rattle.key_coordination.proofs.ChoosingLaws.{choose_in}
 use Rattle.ao_check.specs.Bonds.{Bond}
 use Rattle.ao_check.proofs.KeyLaws.{got}
-use Rattle.tcp_segment.specs.Writing.{ip_size}
+use Rattle.tcp_segment.specs.Layout.{ip_size}
 use Rattle.book_endpoint.specs.States.{EndState, own_mss}
 use Rattle.book_endpoint.specs.Emissions as book
 use Rattle.endpoint_steps.specs.Drafting as steps
@@ -27,8 +27,8 @@ use Rattle.tcp_endpoint.specs.declared.emission.Made.{Made}
 use Rattle.tcp_endpoint.specs.declared.emission.Emission.TheVariants as emissions
 use Rattle.tcp_endpoint.specs.declared.emission.Resent.TheVariants as resents
 use Rattle.tcp_endpoint.specs.Ends.{Stands}
-use Rattle.tcp_endpoint.specs.Emitting.{Emits, Makes, Resends}
-use Rattle.tcp_endpoint.specs.Planning.{draft_of, flags_of}
+use Rattle.tcp_endpoint.specs.Emissions.{Emits, Makes, Resends}
+use Rattle.tcp_endpoint.specs.Plans.{draft_of, flags_of}
 
 -- ---- the row that was chosen
 

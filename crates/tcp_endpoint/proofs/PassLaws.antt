@@ -20,7 +20,7 @@ use Rattle.tcp_endpoint.specs.declared.arrival.Arrived.{Arrived}
 use Rattle.tcp_endpoint.specs.declared.endpoint.Endpoint.{Endpoint}
 use Rattle.tcp_endpoint.specs.Numbers.{expected_in}
 use Rattle.tcp_endpoint.specs.Ends.{Stands}
-use Rattle.tcp_endpoint.specs.Arriving.{Reaches, Arrives, rnext_of, rnext_in}
+use Rattle.tcp_endpoint.specs.Arrivals.{Reaches, Arrives, rnext_of, rnext_in}
 
 third : {X : Type 0} (a b c : Bool) (w x y z : X) → a ≡ true → b ≡ true → c ≡ false → (if not a then w else (if not b then x else (if c then y else z))) ≡ z
 third a b c w x y z p q r = rw (p, q, r) refl

@@ -2,7 +2,7 @@ pub mod Numbers
 pub mod Halves
 pub mod Ends
 pub mod Answers
-pub mod Arriving
+pub mod Arrivals
 pub mod Fins
-pub mod Planning
-pub mod Emitting
+pub mod Plans
+pub mod Emissions

@@ -2,7 +2,7 @@
 ghost use Rattle.std.specs.Prelude.{◌≡◌, ℕ};
 ghost use Rattle.book_endpoint.specs.States.{EndState};
 ghost use Rattle.tcp_endpoint.specs.Ends.{Stands};
-ghost use Rattle.tcp_endpoint.specs.Planning.{draft_of, IsCarried, IsCounted, IsWithin};
+ghost use Rattle.tcp_endpoint.specs.Plans.{draft_of, IsCarried, IsCounted, IsWithin};
 
 use crate::endpoint::Endpoint;
 use crate::plans::Plan;

@@ -10,7 +10,7 @@ ghost use Rattle.book_keys.specs.Lifetimes.{greatest_time};
 ghost use Rattle.ao_check.specs.Verdicts.{IsExpected};
 ghost use Rattle.tcp_endpoint.specs.Numbers.{expected_in};
 ghost use Rattle.tcp_endpoint.specs.Ends.{Stands, FitsEnd, IsUnmoved};
-ghost use Rattle.tcp_endpoint.specs.Arriving.{Arrives, Costs, IsBeforeCheck, LeavesAll, rnext_of};
+ghost use Rattle.tcp_endpoint.specs.Arrivals.{Arrives, Costs, IsBeforeCheck, LeavesAll, rnext_of};
 
 use crate::arrival::Arrived;
 use crate::endpoint::Endpoint;

@@ -8,7 +8,7 @@ ghost use Rattle.book_endpoint.specs.Hearing as hearing;
 ghost use Rattle.endpoint_steps.specs.Arriving as stages;
 ghost use Rattle.ao_check.specs.Bonds.{Fits};
 ghost use Rattle.tcp_endpoint.specs.Ends.{Stands};
-ghost use Rattle.tcp_endpoint.specs.Arriving.{Reaches, LeavesAll, is_computed};
+ghost use Rattle.tcp_endpoint.specs.Arrivals.{Reaches, LeavesAll, is_computed};
 
 use crate::endpoint::Endpoint;
 use crate::flags::{ACK, FIN, RST, SYN, has};

@@ -6,7 +6,7 @@ ghost use Rattle.book_endpoint.specs.States.{EndState, own_mss};
 ghost use Rattle.book_endpoint.specs.Emissions.{sets};
 ghost use Rattle.wrap_seq.specs.Counter.{number};
 ghost use Rattle.tcp_endpoint.specs.Ends.{Stands};
-ghost use Rattle.tcp_endpoint.specs.Planning.{draft_of, flags_of, IsCarried, IsCounted, IsOutlineOf, IsWithin};
+ghost use Rattle.tcp_endpoint.specs.Plans.{draft_of, flags_of, IsCarried, IsCounted, IsOutlineOf, IsWithin};
 
 use crate::endpoint::Endpoint;
 use crate::flags::{ACK, FIN, PSH, RST, SYN};

@@ -7,8 +7,8 @@ ghost use Rattle.book_endpoint.specs.States.{EndState};
 ghost use Rattle.book_endpoint.specs.Emissions as book;
 ghost use Rattle.tcp_endpoint.specs.Numbers.{expected_in};
 ghost use Rattle.tcp_endpoint.specs.Ends.{Stands, FitsEnd};
-ghost use Rattle.tcp_endpoint.specs.Planning.{draft_of, flags_of, IsCarried};
-ghost use Rattle.tcp_endpoint.specs.Emitting.{MakeCosts, Makes};
+ghost use Rattle.tcp_endpoint.specs.Plans.{draft_of, flags_of, IsCarried};
+ghost use Rattle.tcp_endpoint.specs.Emissions.{MakeCosts, Makes};
 
 use crate::emission::Made;
 use crate::endpoint::Endpoint;

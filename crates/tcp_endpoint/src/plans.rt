@@ -5,7 +5,7 @@ ghost use Rattle.book_endpoint.specs.States.{EndState};
 ghost use Rattle.book_endpoint.specs.Emissions as book;
 ghost use Rattle.endpoint_steps.specs.Drafting as steps;
 ghost use Rattle.tcp_endpoint.specs.Ends.{Stands};
-ghost use Rattle.tcp_endpoint.specs.Planning.{PlansAs, IsCarried};
+ghost use Rattle.tcp_endpoint.specs.Plans.{PlansAs, IsCarried};
 
 use crate::endpoint::Endpoint;
 use crate::phases::{is_sending, is_silent, is_syn_received, is_syn_sent, resends};

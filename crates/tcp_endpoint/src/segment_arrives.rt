@@ -13,7 +13,7 @@ ghost use Rattle.ao_check.specs.Bonds.{Fits};
 ghost use Rattle.tcp_endpoint.specs.Halves.{waits};
 ghost use Rattle.tcp_endpoint.specs.Numbers.{expected_in};
 ghost use Rattle.tcp_endpoint.specs.Ends.{Stands};
-ghost use Rattle.tcp_endpoint.specs.Arriving.{Reaches, InRange, LeavesAll, is_computed};
+ghost use Rattle.tcp_endpoint.specs.Arrivals.{Reaches, InRange, LeavesAll, is_computed};
 
 use crate::endpoint::Endpoint;
 use crate::flags::{ACK, FIN, RST, SYN, has};

@@ -8,7 +8,7 @@ ghost use Rattle.book_endpoint.specs.Hearing as hearing;
 ghost use Rattle.endpoint_steps.specs.Arriving as stages;
 ghost use Rattle.tcp_endpoint.specs.Numbers.{value_in};
 ghost use Rattle.tcp_endpoint.specs.Ends.{Stands};
-ghost use Rattle.tcp_endpoint.specs.Arriving.{Reaches, LeavesAll};
+ghost use Rattle.tcp_endpoint.specs.Arrivals.{Reaches, LeavesAll};
 ghost use Rattle.tcp_endpoint.specs.Fins.{is_at, past_or, phase_past};
 
 use crate::endpoint::Endpoint;

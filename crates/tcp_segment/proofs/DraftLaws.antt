@@ -19,7 +19,7 @@ use Rattle.book_segments.proofs.Again.{IsAgain, again}
 use Rattle.tcp_segment.specs.declared.spelling.Head.{Head}
 use Rattle.tcp_segment.specs.Places.{IsRead}
 use Rattle.tcp_segment.specs.Sums.{complement_at, checksum_over, IsSet}
-use Rattle.tcp_segment.specs.Writing.{written_ip, ip_start, tcp_start, ip_size, mss_length, option_heads, drafted, AreSized, HeadFits, HoldsDraft, IsFinished}
+use Rattle.tcp_segment.specs.Layout.{written_ip, ip_start, tcp_start, ip_size, mss_length, option_heads, drafted, AreSized, HeadFits, HoldsDraft, IsFinished}
 use Rattle.tcp_segment.proofs.ReadLaws.{addresses_are}
 use Rattle.tcp_segment.proofs.WriteLaws.{spell_start, start_long, before, parts, heads_long, mss_long, regroup3}
 

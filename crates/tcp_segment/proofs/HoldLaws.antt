@@ -15,7 +15,7 @@ use Rattle.book_segments.proofs.Read.{spelled_by}
 use Rattle.tcp_segment.specs.declared.spelling.Head.{Head}
 use Rattle.tcp_segment.specs.Places.{IsRead}
 use Rattle.tcp_segment.specs.Sums.{IsSet}
-use Rattle.tcp_segment.specs.Writing.{drafted, HoldsDraft, IsFront}
+use Rattle.tcp_segment.specs.Layout.{drafted, HoldsDraft, IsFront}
 use Rattle.tcp_segment.proofs.DraftLaws.{Lies, lies, draft_unfaulted, draft_read, draft_ao, summed}
 use Rattle.tcp_segment.proofs.WriteLaws.{before, before_long, parts, regroup3}
 

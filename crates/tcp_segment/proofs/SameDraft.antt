@@ -4,7 +4,7 @@ use Rattle.std.specs.Coded.{le_prop}
 use mathlib.Core.Logic.{∥∥₁_prop}
 use Rattle.lent_bytes.specs.declared.Room.{Ghosts}
 use Rattle.tcp_segment.specs.declared.draft.Draft.{Draft}
-use Rattle.tcp_segment.specs.Writing.{IsFront}
+use Rattle.tcp_segment.specs.Layout.{IsFront}
 
 pub same_draft : {B : Type 0} (g : Ghosts B) (out : B) (header mac payload len : ℕ) (o p : mac ≤ payload) (e f : payload ≤ len) (r s : len ≤ length (g.bytes out))
     (t u : ∥ IsFront (take mac (g.bytes out)) header mac payload len ∥₁)

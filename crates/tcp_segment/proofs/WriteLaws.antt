@@ -15,7 +15,7 @@ use Rattle.book_segments.proofs.Folding.{complement_by}
 use Rattle.book_segments.proofs.SumLaws.{words_append, spell_with}
 use Rattle.tcp_segment.specs.declared.spelling.Head.{Head}
 use Rattle.tcp_segment.specs.Sums.{complement_at}
-use Rattle.tcp_segment.specs.Writing.{written_ip, ip_start, tcp_start, ip_size, mss_length, option_heads, mac_place, drafted, AreSized, HoldsDraft, IsFinished}
+use Rattle.tcp_segment.specs.Layout.{written_ip, ip_start, tcp_start, ip_size, mss_length, option_heads, mac_place, drafted, AreSized, IsSized, HoldsDraft, IsFinished}
 
 -- ---- addresses
 

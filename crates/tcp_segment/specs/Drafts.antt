@@ -4,7 +4,7 @@ use Rattle.std.specs.Borrow.{MutBor}
 use Rattle.lent_bytes.specs.contracts.RefMutSliceU8Room.TheImpl.{ghosts}
 use Rattle.tcp_segment.specs.declared.draft.Draft.{Draft}
 use Rattle.tcp_segment.specs.declared.spelling.Head.{Head}
-use Rattle.tcp_segment.specs.Writing.{HoldsDraft}
+use Rattle.tcp_segment.specs.Layout.{HoldsDraft}
 
 -- a draft in a caller's slice
 abbrev pub DatagramMut : Type 0

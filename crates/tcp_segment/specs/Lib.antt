@@ -1,7 +1,7 @@
 pub mod Drafts
-pub mod Lending
+pub mod Loans
 pub mod Parts
 pub mod Places
 pub mod Sums
-pub mod Writing
+pub mod Layout
 pub mod Written

@@ -1,7 +1,7 @@
 //! A datagram that is being written.
 ghost use Rattle.std.specs.Prelude.{◌≡◌, ◌-◌, ◌≤◌, List, ℕ, length, take, drop};
 ghost use Rattle.std.specs.Borrow.{sem};
-ghost use Rattle.tcp_segment.specs.Writing.{IsFront};
+ghost use Rattle.tcp_segment.specs.Layout.{IsFront};
 
 use crate::datagram::{Datagram, datagram_at};
 use crate::faults::Places;
@@ -30,7 +30,7 @@ impl<'a> Draft<&'a mut [u8]> {
     ghost use Rattle.book_segments.specs.Options.{Ao, One, find_ao};
     ghost use Rattle.book_segments.specs.Spelling.{Fits};
     ghost use Rattle.tcp_segment.specs.declared.spelling.Head.{Head};
-    ghost use Rattle.tcp_segment.specs.Writing.{drafted, IsFinished};
+    ghost use Rattle.tcp_segment.specs.Layout.{drafted, IsFinished};
     ghost use Rattle.tcp_segment.specs.Drafts.{Drafted};
 
     /// How many bytes the datagram has.
@@ -72,7 +72,7 @@ impl<'a> Draft<&'a mut [u8]> {
 }
 
 impl<B: Room> Draft<B> {
-    ghost use Rattle.tcp_segment.specs.Lending.{LendsPayload, LendsMac};
+    ghost use Rattle.tcp_segment.specs.Loans.{LendsPayload, LendsMac};
 
     /// The payload, for writing.
     pub fn payload_mut(&mut self) -> &mut [u8]

@@ -2,7 +2,7 @@
 ghost use Rattle.std.specs.Prelude.{◌≡◌, ℕ, List, length};
 ghost use Rattle.tcp_segment.specs.declared.spelling.Head.{Head};
 ghost use Rattle.tcp_segment.specs.Drafts.{DatagramMut, Drafted};
-ghost use Rattle.tcp_segment.specs.Lending.{with_payload, with_mac};
+ghost use Rattle.tcp_segment.specs.Loans.{with_payload, with_mac};
 
 /// What is put into the payload of a draft, in its whole length, is the payload of the datagram that
 /// `finish` leaves, and what is put into its MAC is the MAC; head and the other part stay. So the

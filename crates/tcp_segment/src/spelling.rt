@@ -4,7 +4,7 @@ ghost use Rattle.book_segments.specs.Bytes.{put2};
 ghost use Rattle.book_segments.specs.Sockets.{octets};
 ghost use Rattle.book_segments.specs.Segments.{complement_of};
 ghost use Rattle.tcp_segment.specs.Written.{ip_words};
-ghost use Rattle.tcp_segment.specs.Writing.{ip_start, ip_size, tcp_start, mss_length, option_heads, header_length, IsSized, HasNumbers, IsHead, HoldsDraft};
+ghost use Rattle.tcp_segment.specs.Layout.{ip_start, ip_size, tcp_start, mss_length, option_heads, header_length, IsSized, HasNumbers, IsHead, HoldsDraft};
 ghost use Rattle.tcp_segment.specs.Drafts.{Drafted};
 
 use crate::draft::{DatagramMut, Draft};

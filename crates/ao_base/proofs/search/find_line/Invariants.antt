@@ -1,5 +1,5 @@
 use Rattle.std.proofs.Common.{ℕ, ◌-◌, List, length}
-use Rattle.ao_base.specs.Finding.{Searching}
+use Rattle.ao_base.specs.Found.{Searching}
 use Rattle.ao_base.proofs.search.find_line.Given as goal
 
 abbrev pub invariant-takes : goal.invariant-takes

@@ -1,6 +1,6 @@
 use Rattle.std.proofs.Common.{◌≡◌, ◌-◌, ℕ, List, length, drop, ap, ◌∙◌, rules, arith}
 use Rattle.std.proofs.lemmas.List.{length-take, length-drop}
-use Rattle.tcp_segment.specs.Lending.{with_mac}
+use Rattle.tcp_segment.specs.Loans.{with_mac}
 use Rattle.tcp_segment.proofs.WriteLaws.{mac_set}
 use Rattle.ao_mac.proofs.SealLaws.{sealed}
 use Rattle.ao_mac.proofs.seals.seal.Goals as goal

@@ -1,6 +1,6 @@
 use Rattle.std.proofs.Common.{subst}
 use Rattle.stack_ends.specs.declared.send.Says.{Says}
-use Rattle.stack_ends.specs.Saying.{Leaves, SaysAs}
+use Rattle.stack_ends.specs.Said.{Leaves, SaysAs}
 use Rattle.ao_stack.proofs.TellLaws.{made_none, made_segment, said_no_key, said_nothing}
 use Rattle.ao_stack.proofs.output.made.Goals as goal
 

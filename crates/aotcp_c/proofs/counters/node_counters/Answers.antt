@@ -1,7 +1,7 @@
 use Rattle.std.proofs.Common.{refl, ap, ◌∙◌}
 use Rattle.book_counters.specs.declared.counters.Counters.{Counters}
 use Rattle.book_counters.specs.KeyIds.{no_key_ids}
-use Rattle.aotcp_c.specs.Counting.{told_counters}
+use Rattle.aotcp_c.specs.Counters.{told_counters}
 use Rattle.aotcp_c.proofs.counters.node_counters.Goals as goal
 
 pub returns : goal.returns

@@ -1,6 +1,6 @@
 use Rattle.std.proofs.Common.{arith}
 use Rattle.std.proofs.lemmas.List.Elements.{All-from_get_or}
-use Rattle.capture_stream.specs.Finding.{IsByte}
+use Rattle.capture_stream.specs.Fronts.{IsByte}
 use Rattle.capture_stream.proofs.refill.count.Goals as goal
 
 pub returns-clause-bytes : goal.returns-clause-bytes

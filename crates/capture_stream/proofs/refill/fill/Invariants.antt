@@ -1,5 +1,5 @@
 use Rattle.std.proofs.Common.{ℕ, ◌-◌, List, length}
-use Rattle.capture_stream.specs.Finding.{Filling}
+use Rattle.capture_stream.specs.Fronts.{Filling}
 use Rattle.capture_stream.proofs.refill.fill.Given as goal
 
 abbrev pub invariant-takes : goal.invariant-takes

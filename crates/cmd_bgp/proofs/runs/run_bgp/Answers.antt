@@ -1,5 +1,5 @@
 use Rattle.std.proofs.Common.{refl, arith, ◌∙◌}
-use Rattle.link_world.specs.Standing.{setup_of}
+use Rattle.link_world.specs.Stands.{setup_of}
 use Rattle.cmd_bgp.proofs.FollowLaws.{reader_a, reader_b, starts, whole_text}
 use Rattle.cmd_bgp.proofs.RunLaws.{followed, one_more, stood}
 use Rattle.cmd_bgp.proofs.TellLaws.{tells_run}

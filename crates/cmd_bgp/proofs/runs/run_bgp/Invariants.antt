@@ -1,4 +1,4 @@
-use Rattle.link_world.specs.Standing.{setup_of}
+use Rattle.link_world.specs.Stands.{setup_of}
 use Rattle.cmd_bgp.proofs.RunLaws.{Reached}
 use Rattle.cmd_bgp.proofs.runs.run_bgp.Given as goal
 

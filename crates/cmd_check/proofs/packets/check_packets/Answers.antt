@@ -1,5 +1,5 @@
 use Rattle.std.proofs.Common.{[], ◌++◌}
-use Rattle.pcap_file.specs.Reading.{and_packet}
+use Rattle.pcap_file.specs.Reads.{and_packet}
 use Rattle.cmd_check.proofs.Walk.{between_more, between_new, between_smaller, ends_done, ends_head, ends_long, ends_none, ends_read, ends_record, ends_stuck, ends_without}
 use Rattle.cmd_check.proofs.packets.check_packets.Goals as goal
 

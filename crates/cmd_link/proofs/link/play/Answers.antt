@@ -1,4 +1,4 @@
-use Rattle.link_world.specs.Standing.{setup_of}
+use Rattle.link_world.specs.Stands.{setup_of}
 use Rattle.cmd_link.proofs.PlayLaws.{one_more}
 use Rattle.cmd_link.proofs.link.play.Goals as goal
 

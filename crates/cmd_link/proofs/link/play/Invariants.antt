@@ -1,5 +1,5 @@
 use Rattle.std.proofs.Common.{◌≡◌, take}
-use Rattle.link_world.specs.Standing.{StandsFor, setup_of, steps_taken}
+use Rattle.link_world.specs.Stands.{StandsFor, setup_of, steps_taken}
 use Rattle.cmd_link.proofs.link.play.Given as goal
 
 abbrev pub invariant-loop-event : goal.invariant-loop-event

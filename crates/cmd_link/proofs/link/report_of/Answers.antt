@@ -1,5 +1,5 @@
 use Rattle.std.proofs.Common.{refl}
-use Rattle.link_world.specs.Standing.{setup_of}
+use Rattle.link_world.specs.Stands.{setup_of}
 use Rattle.cmd_link.proofs.link.report_of.Goals as goal
 
 pub returns : goal.returns

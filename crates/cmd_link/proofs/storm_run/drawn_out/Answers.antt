@@ -1,7 +1,7 @@
 use Rattle.std.proofs.Common.{◌≡◌, suc, ◌+◌, ◌-◌, arith}
 use Rattle.book_link.specs.Runs.{run}
 use Rattle.book_link.specs.Storm.{storm_setup}
-use Rattle.link_world.specs.Standing.{steps_taken}
+use Rattle.link_world.specs.Stands.{steps_taken}
 use Rattle.cmd_link.proofs.Drawing.{begins, can_happen, ends, goes_on}
 use Rattle.cmd_link.proofs.storm_run.drawn_out.Goals as goal
 

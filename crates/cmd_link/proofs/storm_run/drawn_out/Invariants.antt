@@ -1,5 +1,5 @@
 use Rattle.std.proofs.Common.{◌≡◌, ◌+◌, ◌-◌}
-use Rattle.link_world.specs.Standing.{steps_taken}
+use Rattle.link_world.specs.Stands.{steps_taken}
 use Rattle.cmd_link.proofs.Drawing.{Storming}
 use Rattle.cmd_link.proofs.storm_run.drawn_out.Given as goal
 

@@ -1,4 +1,4 @@
-use Rattle.link_world.specs.Standing.{setup_of}
+use Rattle.link_world.specs.Stands.{setup_of}
 use Rattle.cmd_timed.specs.declared.link.Link.{Link}
 use Rattle.cmd_timed.proofs.RunLaws.{begins, ran, reported, ran_too_far}
 use Rattle.cmd_timed.proofs.runs.run_timed.Goals as goal

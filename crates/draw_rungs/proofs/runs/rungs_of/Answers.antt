@@ -1,4 +1,4 @@
-use Rattle.link_world.specs.Standing.{setup_of}
+use Rattle.link_world.specs.Stands.{setup_of}
 use Rattle.draw_rungs.proofs.RungLaws.{all_drawn, one_drawn}
 use Rattle.draw_rungs.proofs.runs.rungs_of.Goals as goal
 

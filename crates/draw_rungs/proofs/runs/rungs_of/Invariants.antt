@@ -1,5 +1,5 @@
 use Rattle.std.proofs.Common.{take}
-use Rattle.link_world.specs.Standing.{setup_of}
+use Rattle.link_world.specs.Stands.{setup_of}
 use Rattle.draw_rungs.proofs.RungLaws.{Drawing}
 use Rattle.draw_rungs.proofs.runs.rungs_of.Given as goal
 

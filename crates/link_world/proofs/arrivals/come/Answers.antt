@@ -2,7 +2,7 @@ use Rattle.std.proofs.Common.{◌≤◌, length, sym, subst}
 use Rattle.std.specs.Coded.{le_prop}
 use mathlib.Core.Logic.{∥∥₁_elim}
 use Rattle.book_keys.specs.Rows.{Table}
-use Rattle.link_world.specs.Passing.{EntersAs}
+use Rattle.link_world.specs.Arrivals.{EntersAs}
 use Rattle.link_world.proofs.ComeLaws.{received_some, row_there}
 use Rattle.link_world.proofs.arrivals.come.Goals as goal
 

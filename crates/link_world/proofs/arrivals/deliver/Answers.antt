@@ -2,7 +2,7 @@ use Rattle.std.proofs.Common.{refl, sym, ◌∙◌}
 use Rattle.book_link.specs.declared.event.Event.TheVariants.{Deliver}
 use Rattle.book_link.specs.Outcomes as book
 use Rattle.link_report.specs.declared.outcome.Outcome.TheVariants as outcome
-use Rattle.link_world.specs.Following.{by_bytes, by_event}
+use Rattle.link_world.specs.Changes.{by_bytes, by_event}
 use Rattle.link_world.proofs.ActLaws.{restated, still}
 use Rattle.link_world.proofs.ComeLaws.{counted, delivered, undelivered}
 use Rattle.link_world.proofs.arrivals.deliver.Goals as goal

@@ -1,4 +1,4 @@
-use Rattle.link_world.specs.Following.{by_bytes}
+use Rattle.link_world.specs.Changes.{by_bytes}
 use Rattle.link_world.proofs.ComeLaws.{counted}
 use Rattle.link_world.proofs.arrivals.inject.Goals as goal
 

@@ -1,7 +1,7 @@
 use Rattle.std.proofs.Common.{sym, ◌∙◌}
 use mathlib.Core.Logic.{∥∥₁_map}
 use Rattle.link_world.specs.Events.{end_of}
-use Rattle.link_world.specs.Following.{by_event}
+use Rattle.link_world.specs.Changes.{by_event}
 use Rattle.link_world.proofs.WorldLaws.{end_a, end_b, happens_a, happens_b}
 use Rattle.link_world.proofs.events.happen.Goals as goal
 

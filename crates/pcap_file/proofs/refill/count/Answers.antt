@@ -1,6 +1,6 @@
 use Rattle.std.proofs.Common.{arith}
 use Rattle.std.proofs.lemmas.List.Elements.{All-from_get_or}
-use Rattle.pcap_file.specs.Reading.{IsByte}
+use Rattle.pcap_file.specs.Reads.{IsByte}
 use Rattle.pcap_file.proofs.refill.count.Goals as goal
 
 pub returns-clause-bytes : goal.returns-clause-bytes

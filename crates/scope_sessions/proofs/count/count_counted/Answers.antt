@@ -1,5 +1,5 @@
 use Rattle.std.proofs.Common.{[], ◌++◌, Some, None, refl, ap}
-use Rattle.capture_check.specs.Checking.{Checking}
+use Rattle.capture_check.specs.Checkers.{Checking}
 use Rattle.scope_lines.proofs.Showing.{listed}
 use Rattle.scope_sessions.specs.Counting.{table_of}
 use Rattle.scope_sessions.proofs.Walk.{between_block, between_counted, between_new, between_smaller, ends_broken, ends_done, ends_long, ends_memory, ends_none, ends_read}

@@ -2,7 +2,7 @@ use Rattle.std.proofs.Common.{rules, ◌≡◌, ◌≤◌, ℕ, List, length, sy
 use Rattle.book_base.specs.Algorithms.{mac_length_of}
 use Rattle.book_macs.specs.Contexts.{bytes_of}
 use Rattle.book_keys.specs.Rows.{Row}
-use Rattle.tcp_segment.specs.Lending.{with_payload}
+use Rattle.tcp_segment.specs.Loans.{with_payload}
 use Rattle.tcp_segment.proofs.WriteLaws.{payload_set}
 use Rattle.segment_writer.specs.Heads.{head_of, size_of}
 use Rattle.segment_writer.proofs.LaidLaws.{IsLaid, emits_so, written_so, is_ready, is_counted, is_here}

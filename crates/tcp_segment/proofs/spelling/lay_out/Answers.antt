@@ -2,7 +2,7 @@ use Rattle.std.proofs.Common.{◌≡◌, ℕ, List, ◌+◌, ◌-◌, ◌++◌, 
 use Rattle.std.proofs.lemmas.List.{length-replicate}
 use Rattle.book_segments.specs.Sockets.{octets}
 use Rattle.book_segments.specs.Segments.{spell}
-use Rattle.tcp_segment.specs.Writing.{AreSized, drafted, header_length, option_heads, mss_length, ip_start, tcp_start, ip_size}
+use Rattle.tcp_segment.specs.Layout.{AreSized, drafted, header_length, option_heads, mss_length, ip_start, tcp_start, ip_size}
 use Rattle.tcp_segment.proofs.WriteLaws.{mss_cases, heads_long, before, six_writes, laid_out, start_long, tcp_start_long}
 use Rattle.tcp_segment.proofs.spelling.lay_out.Goals as goal
 

@@ -1,7 +1,7 @@
 use Rattle.std.proofs.Common.{refl}
 use Rattle.book_cmd_node.specs.declared.node.Act.TheVariants as act
 use Rattle.book_stack.specs.Calls.{At}
-use Rattle.ao_stack.specs.Answering.{IsGiven}
+use Rattle.ao_stack.specs.Answers.{IsGiven}
 use Rattle.ao_counters.specs.declared.counted_stack.CountedStack.{CountedStack}
 use Rattle.ao_counters.proofs.StandLaws.{given_counts, plainly}
 use Rattle.ao_counters.proofs.counted_stack.CountedStack.give.Goals as goal

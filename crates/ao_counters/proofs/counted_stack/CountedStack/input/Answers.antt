@@ -6,8 +6,8 @@ use Rattle.node_ends.specs.declared.answer.NodeArrival.{NodeArrival}
 use Rattle.node_ends.specs.declared.answer.NodeArrival.TheVariants.{At}
 use Rattle.ao_stack.specs.declared.input.Heard.TheVariants as heard
 use Rattle.ao_stack.specs.declared.stack.Stack.{Stack}
-use Rattle.ao_stack.specs.Answering.{Follows, IsHeard}
-use Rattle.ao_stack.specs.Passing.{PassesAs}
+use Rattle.ao_stack.specs.Answers.{Follows, IsHeard}
+use Rattle.ao_stack.specs.Passed.{PassesAs}
 use Rattle.ao_counters.specs.declared.counted_stack.CountedStack.{CountedStack}
 use Rattle.ao_counters.proofs.StandLaws.{bad_so, knocks_so, stray_so, told_so}
 use Rattle.ao_counters.proofs.counted_stack.CountedStack.input.Goals as goal

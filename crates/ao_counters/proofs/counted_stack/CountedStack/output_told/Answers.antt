@@ -1,6 +1,6 @@
 use Rattle.std.proofs.Common.{Some, refl, sym, subst}
 use Rattle.book_stack.specs.Calls.{Output}
-use Rattle.ao_stack.specs.Answering.{Follows, IsHanded}
+use Rattle.ao_stack.specs.Answers.{Follows, IsHanded}
 use Rattle.ao_stack.specs.declared.stack.Stack.{Stack}
 use Rattle.ao_counters.specs.declared.counted_stack.CountedStack.{CountedStack}
 use Rattle.ao_counters.proofs.StandLaws.{hands_so, rests_so}

@@ -2,7 +2,7 @@ use Rattle.std.proofs.Common.{Bool, false, refl, subst}
 use Rattle.book_cmd_node.specs.declared.node.Act.TheVariants as act
 use Rattle.book_cmd_node.specs.NodeRuns.{NoConnection}
 use Rattle.book_stack.specs.Calls.{At}
-use Rattle.ao_stack.specs.Answering.{Follows, IsDone}
+use Rattle.ao_stack.specs.Answers.{Follows, IsDone}
 use Rattle.ao_counters.specs.declared.counted_stack.CountedStack.{CountedStack}
 use Rattle.ao_counters.proofs.CallLaws.{at_counts}
 use Rattle.ao_counters.proofs.StandLaws.{dropped_so, plainly}

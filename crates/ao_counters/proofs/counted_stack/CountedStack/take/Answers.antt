@@ -1,7 +1,7 @@
 use Rattle.std.proofs.Common.{length, refl}
 use Rattle.book_cmd_node.specs.declared.node.Act.TheVariants as act
 use Rattle.book_stack.specs.Calls.{At}
-use Rattle.ao_stack.specs.Answering.{IsTaken}
+use Rattle.ao_stack.specs.Answers.{IsTaken}
 use Rattle.ao_counters.specs.declared.counted_stack.CountedStack.{CountedStack}
 use Rattle.ao_counters.proofs.StandLaws.{plainly, taken_counts}
 use Rattle.ao_counters.proofs.counted_stack.CountedStack.take.Goals as goal

@@ -1,6 +1,6 @@
 use Rattle.std.proofs.Common.{refl}
 use Rattle.book_stack.specs.Calls.{Withdraw}
-use Rattle.ao_stack.specs.Answering.{IsWithdrawn}
+use Rattle.ao_stack.specs.Answers.{IsWithdrawn}
 use Rattle.ao_counters.specs.declared.counted_stack.CountedStack.{CountedStack}
 use Rattle.ao_counters.proofs.CallLaws.{withdraw_counts}
 use Rattle.ao_counters.proofs.StandLaws.{plainly}

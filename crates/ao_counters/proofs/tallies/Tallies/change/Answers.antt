@@ -1,5 +1,5 @@
 use Rattle.std.proofs.Common.{None, []}
-use Rattle.ao_counters.specs.Happening.{changed_by}
+use Rattle.ao_counters.specs.Counts.{changed_by}
 use Rattle.ao_counters.proofs.MapLaws.{found_at, none_changed, some_changed}
 use Rattle.ao_counters.proofs.tallies.Tallies.change.Goals as goal
 use Rattle.ao_counters.proofs.tallies.Tallies.change.Goals.{in-None, in-Some}

@@ -1,8 +1,8 @@
 use Rattle.std.proofs.Common.{refl}
 use Rattle.book_cmd_node.specs.declared.node.Act.TheVariants as act
 use Rattle.book_cmd_node.specs.NodeRuns.{Performed}
-use Rattle.stack_ends.specs.Calling as calling
-use Rattle.ao_stack.specs.Answering.{IsDone}
+use Rattle.stack_ends.specs.Calls as calling
+use Rattle.ao_stack.specs.Answers.{IsDone}
 use Rattle.std.specs.Prelude.{true, false}
 use Rattle.ao_stack.specs.declared.stack.Stack.{Stack}
 use Rattle.ao_stack.proofs.ActLaws.{call_follows, has_called, not_called}

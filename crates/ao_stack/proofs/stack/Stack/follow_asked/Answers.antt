@@ -1,8 +1,8 @@
 use Rattle.std.proofs.Common.{sym, subst}
 use Rattle.book_stack.specs.Stacks.{watched}
 use Rattle.stack_ends.specs.declared.send.Says.{Says}
-use Rattle.ao_stack.specs.Standing.{Stands}
-use Rattle.ao_stack.specs.Telling.{asked_by, asked_turn}
+use Rattle.ao_stack.specs.Stands.{Stands}
+use Rattle.ao_stack.specs.Timers.{asked_by, asked_turn}
 use Rattle.ao_stack.proofs.stack.Stack.follow_asked.Goals as goal
 
 pub returns-in-Segment : goal.returns-in-Segment

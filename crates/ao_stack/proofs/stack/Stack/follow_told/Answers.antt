@@ -2,7 +2,7 @@ use Rattle.std.proofs.Common.{sym, subst, ◌∙◌}
 use Rattle.book_endpoint.specs.declared.arrival.Arrival.{Arrival}
 use Rattle.book_stack.specs.Calls.{after_segment_heard}
 use Rattle.book_stack.specs.Watches.{end_front}
-use Rattle.ao_stack.specs.Standing.{Stands}
+use Rattle.ao_stack.specs.Stands.{Stands}
 use Rattle.ao_stack.proofs.ArriveLaws.{told_same}
 use Rattle.ao_stack.proofs.stack.Stack.follow_told.Goals as goal
 

@@ -1,7 +1,7 @@
 use Rattle.std.proofs.Common.{refl}
 use Rattle.book_cmd_node.specs.declared.node.Act.TheVariants as act
-use Rattle.stack_ends.specs.Calling.{Gives, given_as}
-use Rattle.ao_stack.specs.Answering.{IsGiven}
+use Rattle.stack_ends.specs.Calls.{Gives, given_as}
+use Rattle.ao_stack.specs.Answers.{IsGiven}
 use Rattle.std.specs.Prelude.{Some, None}
 use Rattle.ao_stack.specs.declared.stack.Stack.{Stack}
 use Rattle.ao_stack.proofs.ActLaws.{call_follows, has_called, not_called}

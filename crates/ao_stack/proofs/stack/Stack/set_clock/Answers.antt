@@ -2,7 +2,7 @@ use Rattle.std.proofs.Common.{refl, sym, subst, ◌∙◌, ◌/◌}
 use Rattle.book_cmd_node.specs.NodeRuns.{NodeState, ends_ticked}
 use Rattle.book_stack.specs.Stacks.{StackState}
 use Rattle.ao_stack.specs.declared.stack.Stack.{Stack}
-use Rattle.ao_stack.specs.Standing.{Stands}
+use Rattle.ao_stack.specs.Stands.{Stands}
 use Rattle.ao_stack.proofs.CallLaws.{clock_goes}
 use Rattle.ao_stack.proofs.StandLaws.{moved, some_ticked}
 use Rattle.ao_stack.proofs.stack.Stack.set_clock.Goals as goal

@@ -1,8 +1,8 @@
 use Rattle.std.proofs.Common.{refl, length}
 use Rattle.book_cmd_node.specs.declared.node.Act.TheVariants as act
 use Rattle.book_cmd_node.specs.NodeRuns.{Delivered}
-use Rattle.stack_ends.specs.Calling.{Takes}
-use Rattle.ao_stack.specs.Answering.{IsTaken}
+use Rattle.stack_ends.specs.Calls.{Takes}
+use Rattle.ao_stack.specs.Answers.{IsTaken}
 use Rattle.std.specs.Prelude.{Some, None}
 use Rattle.ao_stack.specs.declared.stack.Stack.{Stack}
 use Rattle.ao_stack.proofs.ActLaws.{call_follows, has_called, not_called}

@@ -1,5 +1,5 @@
 use Rattle.std.proofs.Common.{refl}
-use Rattle.ao_stack.specs.Telling.{asked_by}
+use Rattle.ao_stack.specs.Timers.{asked_by}
 use Rattle.ao_stack.proofs.StandLaws.{retimed, timer_missed}
 use Rattle.ao_stack.proofs.stack.Stack.time_asked.Goals as goal
 

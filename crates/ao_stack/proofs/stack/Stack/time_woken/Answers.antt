@@ -1,5 +1,5 @@
 use Rattle.std.proofs.Common.{refl}
-use Rattle.ao_stack.specs.Telling.{woken_by}
+use Rattle.ao_stack.specs.Timers.{woken_by}
 use Rattle.ao_stack.proofs.StandLaws.{retimed, timer_missed}
 use Rattle.ao_stack.proofs.stack.Stack.time_woken.Goals as goal
 

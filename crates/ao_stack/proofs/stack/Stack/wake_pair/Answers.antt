@@ -1,7 +1,7 @@
 use Rattle.std.proofs.Common.{refl}
 use Rattle.book_cmd_node.specs.declared.node.Act.TheVariants as act
 use Rattle.book_stack.specs.Turns.{called_at, repeated_by}
-use Rattle.stack_ends.specs.Calling.{Tells}
+use Rattle.stack_ends.specs.Calls.{Tells}
 use Rattle.ao_stack.specs.declared.stack.Stack.{Stack}
 use Rattle.ao_stack.proofs.ActLaws.{has_called, missed}
 use Rattle.ao_stack.proofs.SendLaws.{woken_so, woken_none, held_after, held_before}

@@ -1,6 +1,6 @@
 use Rattle.std.proofs.Common.{sym, ◌∙◌, subst, IfOk}
 use Rattle.book_cmd_check.specs.Captures.{Heard}
-use Rattle.capture_check.specs.Checking.{Hears}
+use Rattle.capture_check.specs.Checkers.{Hears}
 use Rattle.capture_check.proofs.HearLaws.{unreadable, no_node, one_socket, readable}
 use Rattle.capture_check.proofs.checker.Checker.next.Goals as goal
 

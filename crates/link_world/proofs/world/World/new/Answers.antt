@@ -5,7 +5,7 @@ use Rattle.book_link.specs.Runs.{empty}
 use Rattle.link_report.specs.declared.outcome.Outcome.{Outcome}
 use Rattle.link_report.specs.Outcomes.{AreShown}
 use Rattle.link_side.specs.Sides.{StandsSide}
-use Rattle.link_world.specs.Standing.{setup_of}
+use Rattle.link_world.specs.Stands.{setup_of}
 use Rattle.link_world.proofs.SetupLaws.{apart}
 use Rattle.std.specs.List.{AllByRecursion}
 use Rattle.law_link.specs.Laws.{RowFits}

@@ -4,7 +4,7 @@ use Rattle.book_base.specs.declared.address.Socket.{Socket}
 use Rattle.book_segments.specs.Segments.{pair_reached}
 use Rattle.node_ends.specs.declared.answer.NodeArrival.TheVariants as answers
 use Rattle.node_ends.specs.Held.{end_at}
-use Rattle.node_ends.specs.Lending.{written}
+use Rattle.node_ends.specs.Loans.{written}
 use Rattle.node_ends.proofs.NodeLaws.{comes_none, comes_some, found_at, of_entries, set_writes}
 use Rattle.node_ends.proofs.node.Node.arrive.Goals as goal
 use Rattle.node_ends.proofs.node.Node.arrive.Goals.{in-None, in-Some}

@@ -1,6 +1,6 @@
 use Rattle.std.proofs.Common.{◌≡◌, ◌++◌, ap, ◌∙◌, arith}
 use Rattle.ao_base.proofs.Sides.{rose_after}
-use Rattle.pcap_file.specs.Reading.{header_length}
+use Rattle.pcap_file.specs.Reads.{header_length}
 use Rattle.pcap_file.proofs.Calls.{reach, long_step, end_step, broken_step, fault_step, packet_step}
 use Rattle.pcap_file.proofs.Parts.{cut_part}
 use Rattle.pcap_file.proofs.packets.Packets.advance.Goals as goal

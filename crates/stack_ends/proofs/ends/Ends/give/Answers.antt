@@ -1,7 +1,7 @@
 use Rattle.std.proofs.Common.{sym, refl}
 use Rattle.book_cmd_node.specs.declared.node.Act.TheVariants as act
 use Rattle.stack_ends.proofs.SpeakLaws.{given_called, given_stands}
-use Rattle.stack_ends.specs.Calling.{Gives, acting}
+use Rattle.stack_ends.specs.Calls.{Gives, acting}
 use Rattle.stack_ends.proofs.EndLaws.{called}
 use Rattle.stack_ends.proofs.FitLaws.{fits_written}
 use Rattle.stack_ends.proofs.ends.Ends.give.Goals as goal

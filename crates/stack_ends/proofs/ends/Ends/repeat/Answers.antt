@@ -1,6 +1,6 @@
 use Rattle.std.proofs.Common.{sym, refl}
 use Rattle.book_cmd_node.specs.declared.node.Act.TheVariants as act
-use Rattle.stack_ends.specs.Calling.{Tells, acting}
+use Rattle.stack_ends.specs.Calls.{Tells, acting}
 use Rattle.stack_ends.proofs.EndLaws.{called}
 use Rattle.stack_ends.proofs.FitLaws.{fits_written}
 use Rattle.stack_ends.proofs.ends.Ends.repeat.Goals as goal

@@ -2,7 +2,7 @@ use Rattle.std.proofs.Common.{Bool, length, ap, sym, refl}
 use Rattle.book_cmd_node.specs.declared.node.Act.TheVariants as act
 use Rattle.book_endpoint.specs.States.{taking}
 use Rattle.book_cmd_node.specs.NodeRuns.{Delivered}
-use Rattle.stack_ends.specs.Calling.{Takes, acting}
+use Rattle.stack_ends.specs.Calls.{Takes, acting}
 use Rattle.stack_ends.proofs.EndLaws.{called}
 use Rattle.stack_ends.proofs.FitLaws.{fits_written}
 use Rattle.stack_ends.proofs.ends.Ends.take.Goals as goal

@@ -1,7 +1,7 @@
 use Rattle.std.proofs.Common.{Some, refl, sym, ap, ◌∙◌}
 use Rattle.book_endpoint.specs.Emissions as book
 use Rattle.book_keys.specs.Coordination.{choose, current_after}
-use Rattle.tcp_endpoint.specs.Planning.{draft_of}
+use Rattle.tcp_endpoint.specs.Plans.{draft_of}
 use Rattle.tcp_endpoint.proofs.MakeLaws.{picked, chosen_same, none_chosen, keyed_same, with_row, emit_none, emit_keyless, emit_some, emits_made, emits_quiet, emits_keyless}
 use Rattle.tcp_endpoint.proofs.endpoint.Endpoint.emit.Goals as goal
 

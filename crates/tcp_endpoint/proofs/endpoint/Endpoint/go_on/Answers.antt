@@ -2,7 +2,7 @@ use Rattle.std.proofs.Common.{◌≡◌, true, sym, ap, ◌∙◌, subst}
 use Rattle.book_endpoint.specs.States.{hears}
 use Rattle.book_endpoint.specs.Hearing as hearing
 use Rattle.endpoint_steps.specs.Arriving as stages
-use Rattle.tcp_endpoint.specs.Arriving.{Reaches}
+use Rattle.tcp_endpoint.specs.Arrivals.{Reaches}
 use Rattle.tcp_endpoint.proofs.AckLaws.{both_true}
 use Rattle.tcp_endpoint.proofs.endpoint.Endpoint.go_on.Goals as goal
 

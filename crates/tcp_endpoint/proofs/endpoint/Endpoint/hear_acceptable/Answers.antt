@@ -1,6 +1,6 @@
 use Rattle.std.proofs.Common.{sym, subst}
 use Rattle.book_endpoint.specs.Arrivals as book
-use Rattle.tcp_endpoint.specs.Arriving.{Reaches}
+use Rattle.tcp_endpoint.specs.Arrivals.{Reaches}
 use Rattle.tcp_endpoint.proofs.AckLaws.{ordinary_ack, current_heard}
 use Rattle.tcp_endpoint.proofs.endpoint.Endpoint.hear_acceptable.Goals as goal
 

@@ -3,7 +3,7 @@ use Rattle.book_segments.specs.Meant.{meant}
 use Rattle.wrap_seq.specs.Counter.{number}
 use Rattle.book_endpoint.specs.declared.phase.Phase.TheVariants.{Established}
 use Rattle.book_endpoint.specs.Hearing as hearing
-use Rattle.tcp_endpoint.specs.Arriving.{Reaches}
+use Rattle.tcp_endpoint.specs.Arrivals.{Reaches}
 use Rattle.tcp_endpoint.proofs.AckLaws.{syn_acked}
 use Rattle.tcp_endpoint.proofs.endpoint.Endpoint.hear_ack.Goals as goal
 

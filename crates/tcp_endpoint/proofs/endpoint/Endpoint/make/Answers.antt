@@ -4,12 +4,12 @@ use Rattle.book_base.specs.Algorithms.{mac_length_of}
 use Rattle.book_segments.specs.Bytes.{ring}
 use Rattle.book_macs.specs.Contexts.{bytes_of}
 use Rattle.book_keys.specs.Rows.{Row}
-use Rattle.tcp_segment.specs.Writing.{ip_size}
+use Rattle.tcp_segment.specs.Layout.{ip_size}
 use Rattle.book_endpoint.specs.States.{own_mss}
 use Rattle.book_endpoint.specs.Emissions as book
 use Rattle.ao_check.proofs.KeyLaws.{same_row}
 use Rattle.segment_writer.specs.Drafts.{IsOf}
-use Rattle.tcp_endpoint.specs.Planning.{draft_of, IsCounted, IsOutlineOf}
+use Rattle.tcp_endpoint.specs.Plans.{draft_of, IsCounted, IsOutlineOf}
 use Rattle.tcp_endpoint.proofs.ReadyLaws.{window_is}
 use Rattle.tcp_endpoint.proofs.MakeLaws.{draft_flags, draft_current, stands_with, ack_same, payload_same, size_small}
 use Rattle.tcp_endpoint.proofs.endpoint.Endpoint.make.Goals as goal

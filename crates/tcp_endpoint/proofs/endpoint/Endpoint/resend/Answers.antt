@@ -1,7 +1,7 @@
 use Rattle.std.proofs.Common.{Some, refl, sym, ap, ◌∙◌}
 use Rattle.book_endpoint.specs.Emissions as book
 use Rattle.book_keys.specs.Coordination.{choose, current_after}
-use Rattle.tcp_endpoint.specs.Planning.{draft_of}
+use Rattle.tcp_endpoint.specs.Plans.{draft_of}
 use Rattle.tcp_endpoint.proofs.MakeLaws.{picked, chosen_same, none_chosen, keyed_same, with_row, resend_none, resend_keyless, resend_some, resends_made, resends_quiet, resends_keyless}
 use Rattle.tcp_endpoint.proofs.endpoint.Endpoint.resend.Goals as goal
 

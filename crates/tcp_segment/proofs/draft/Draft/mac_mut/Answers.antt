@@ -1,6 +1,6 @@
 use Rattle.std.proofs.Common.{refl}
 use Rattle.tcp_segment.proofs.SameDraft.{same_draft}
-use Rattle.tcp_segment.specs.Lending.{with_mac}
+use Rattle.tcp_segment.specs.Loans.{with_mac}
 use Rattle.tcp_segment.proofs.draft.Draft.mac_mut.Goals as goal
 
 pub invariant_of-self-lent : goal.invariant_of-self-lent

@@ -9,12 +9,12 @@ use Rattle.tcp_endpoint.specs.declared.send.GiveAnswer.{GiveAnswer}
 use Rattle.tcp_endpoint.specs.declared.send.GiveAnswer.TheVariants as given
 use Rattle.book_stack.specs.Turns.{change_by}
 use Rattle.book_stack.specs.Watches.{awaits}
-use Rattle.node_ends.specs.Acting.{act_on}
+use Rattle.node_ends.specs.Calls.{act_on}
 use Rattle.stack_ends.specs.declared.calls.Taken.{Taken}
 use Rattle.stack_ends.specs.declared.ends.Ends.{Ends}
 use Rattle.stack_ends.specs.declared.send.Spoken.{Spoken}
-use Rattle.stack_ends.specs.Saying.{SaysAs}
-use Rattle.stack_ends.specs.Standing.{Stands}
+use Rattle.stack_ends.specs.Said.{SaysAs}
+use Rattle.stack_ends.specs.Stands.{Stands}
 
 -- what is asked of the end of a pair, at a node under rows (own)
 pub record Asking : Type 0 where

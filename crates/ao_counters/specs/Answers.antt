@@ -8,9 +8,9 @@ use Rattle.book_stack.specs.Calls.{Add, Call, CallAnswer, call}
 use Rattle.book_stack.specs.Stacks.{StackState}
 use Rattle.node_ends.specs.declared.answer.NodeRefusal.{NodeRefusal}
 use Rattle.node_ends.specs.declared.answer.NodeRefusal.TheVariants as refusals
-use Rattle.ao_stack.specs.Answering.{IsAdded, IsBegun}
+use Rattle.ao_stack.specs.Answers.{IsAdded, IsBegun}
 use Rattle.ao_counters.specs.declared.counted_stack.CountedStack.{CountedStack}
-use Rattle.ao_counters.specs.Standing.{Stands}
+use Rattle.ao_counters.specs.Stands.{Stands}
 
 -- the stack stands for what a call leaves, with the counters after it, and that call's answer is so
 -- (own)

@@ -19,11 +19,11 @@ use Rattle.node_ends.specs.declared.answer.NodeArrival.TheVariants as arrivals
 use Rattle.node_ends.specs.declared.answer.NodeRefusal.{NodeRefusal}
 use Rattle.node_ends.specs.declared.answer.NodeRefusal.TheVariants as refusals
 use Rattle.stack_ends.specs.declared.calls.Taken.{Taken}
-use Rattle.stack_ends.specs.Calling.{given_as}
+use Rattle.stack_ends.specs.Calls.{given_as}
 use Rattle.ao_stack.specs.declared.stack.Stack.{Stack}
 use Rattle.ao_stack.specs.declared.input.Heard.{Heard}
 use Rattle.ao_stack.specs.declared.input.Heard.TheVariants as heard
-use Rattle.ao_stack.specs.Standing.{Stands}
+use Rattle.ao_stack.specs.Stands.{Stands}
 
 -- the stack stands for what a call leaves, and that call's answer is so (own)
 pub record Follows (k : Stack) (c : Call) (s : StackState) (IsSo : CallAnswer → Type 0) : Type 0 where

@@ -7,7 +7,7 @@ use Rattle.book_cmd_node.specs.NodeRuns.{same_pair}
 use Rattle.stack_timers.specs.declared.watch.Watch.{Watch}
 use Rattle.stack_timers.specs.declared.key.Key.{Key}
 use Rattle.stack_timers.specs.Keys.{by_key, key_of}
-use Rattle.stack_timers.specs.Watching.{seen}
+use Rattle.stack_timers.specs.Watches.{seen}
 use Rattle.book_stack.specs.Watches.{new_connection_watch}
 
 -- timers by the keys of their pairs (own)

@@ -13,14 +13,14 @@ use Rattle.book_link.specs.Steps.{Stepped}
 use Rattle.book_link.specs.Worlds.{Made as BookMade, Came, Happening, Making, Coming, World, segments, other, side as side_of}
 use Rattle.link_side.specs.declared.side.Side.{Side}
 use Rattle.link_side.specs.Sides.{StandsSide}
-use Rattle.tcp_endpoint.specs.Arriving.{TellsPassed}
+use Rattle.tcp_endpoint.specs.Arrivals.{TellsPassed}
 use Rattle.tcp_endpoint.specs.declared.arrival.Arrived.{Arrived}
 use Rattle.tcp_endpoint.specs.declared.emission.Emission.{Emission}
 use Rattle.tcp_endpoint.specs.declared.emission.Emission.TheVariants as emissions
 use Rattle.tcp_endpoint.specs.declared.emission.Made.{Made}
 use Rattle.tcp_endpoint.specs.declared.emission.Resent.{Resent}
 use Rattle.tcp_endpoint.specs.declared.emission.Resent.TheVariants as resents
-use Rattle.tcp_endpoint.specs.Emitting.{IsMade}
+use Rattle.tcp_endpoint.specs.Emissions.{IsMade}
 
 -- the event by which an end sends, or sends again
 abbrev pub sending : Bool → End → Event

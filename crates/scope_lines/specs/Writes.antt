@@ -9,8 +9,8 @@ use Rattle.capture_reader.specs.declared.frames.FoundDatagram.{FoundDatagram}
 use Rattle.capture_reader.specs.Found.{seen}
 use Rattle.book_captures.specs.Captures.{CapturePacket, Capture, capture_of}
 use Rattle.book_scope.specs.PacketLines.{packet_line, packet_lines}
-use Rattle.capture_stream.specs.Finding.{IsByte}
-use Rattle.capture_stream.specs.Reading.{Reading, most_read, most_buffered, to_come}
+use Rattle.capture_stream.specs.Fronts.{IsByte}
+use Rattle.capture_stream.specs.Reads.{Reading, most_read, most_buffered, to_come}
 use Rattle.scope_lines.specs.declared.write.LinesHalt.{LinesHalt}
 use Rattle.scope_lines.specs.declared.write.LinesHalt.TheVariants as halt
 use Rattle.scope_lines.specs.declared.write.LineHalt.{LineHalt}

@@ -13,7 +13,7 @@ use Rattle.ao_stack.specs.declared.outgoing.Outgoing.{Outgoing}
 use Rattle.ao_stack.specs.declared.outgoing.Sending.{Sending}
 use Rattle.ao_stack.specs.declared.outgoing.Sending.TheVariants as sending
 use Rattle.ao_stack.specs.declared.stack.Stack.{Stack}
-use Rattle.ao_stack.specs.Standing.{Stands}
+use Rattle.ao_stack.specs.Stands.{Stands}
 
 -- the length of a datagram that is handed out (own)
 abbrev pub length_of : Option Outgoing → Option ℕ

@@ -13,10 +13,10 @@ use Rattle.tcp_endpoint.specs.declared.emission.Resent.TheVariants as resents
 use Rattle.tcp_endpoint.specs.declared.send.GiveAnswer.{GiveAnswer}
 use Rattle.tcp_endpoint.specs.declared.send.GiveAnswer.TheVariants as given
 use Rattle.tcp_endpoint.specs.Ends.{Stands}
-use Rattle.node_ends.specs.Acting.{act_on}
+use Rattle.node_ends.specs.Calls.{act_on}
 use Rattle.ao_node.specs.declared.told.Told.{Told}
 use Rattle.ao_node.specs.declared.told.Told.TheVariants as tells
-use Rattle.ao_node.specs.Telling.{Tells}
+use Rattle.ao_node.specs.Told.{Tells}
 
 -- the answer where a piece was given, or wasn't
 abbrev pub told_given : GiveAnswer → Told

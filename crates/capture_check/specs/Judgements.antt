@@ -11,7 +11,7 @@ use Rattle.book_segments.specs.Segments.{pair_reached}
 use Rattle.ao_check.specs.Verdicts.{Tells, judging}
 use Rattle.capture_check.specs.declared.ends.Ends.{Ends}
 use Rattle.capture_check.specs.declared.flows.Flows.{Flows}
-use Rattle.capture_check.specs.Checking.{found}
+use Rattle.capture_check.specs.Checkers.{found}
 use Rattle.capture_check.specs.Ends.{by_ends, is_low, key_of}
 use Rattle.capture_check.specs.Flows.{way, FlowHears, new_flows}
 

@@ -3,7 +3,7 @@ use Rattle.book_counters.specs.declared.counters.Counters.{Counters}
 use Rattle.book_counters.specs.declared.tally.Tally.{Tally}
 use Rattle.book_counters.specs.Counters.{arrival_counted, sending_counted, tallied}
 use Rattle.book_counters.specs.KeyIds.{key_ids_heard, key_ids_sent}
-use Rattle.ao_stack.specs.Turning.{act_of}
+use Rattle.ao_stack.specs.Turns.{act_of}
 use Rattle.ao_counters.specs.declared.counts.Happened.{Happened}
 use Rattle.ao_counters.specs.declared.counts.Happened.TheVariants as happened
 

@@ -7,7 +7,7 @@ use Rattle.book_endpoint.specs.Arrivals.{arrive}
 use Rattle.book_endpoint.specs.Verdicts.{Finding}
 use Rattle.book_cmd_node.specs.NodeRuns.{held_end}
 use Rattle.book_stack.specs.Stacks.{StackState}
-use Rattle.tcp_endpoint.specs.Arriving.{TellsPassed}
+use Rattle.tcp_endpoint.specs.Arrivals.{TellsPassed}
 use Rattle.node_ends.specs.declared.answer.NodeArrival.{NodeArrival}
 use Rattle.node_ends.specs.declared.answer.NodeArrival.TheVariants as arrivals
 use Rattle.ao_stack.specs.declared.input.Heard.{Heard}

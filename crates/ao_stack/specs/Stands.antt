@@ -5,11 +5,11 @@ use Rattle.book_cmd_node.specs.NodeRuns.{held_end, most_ends}
 use Rattle.book_stack.specs.Stacks.{StackState}
 use Rattle.book_stack.specs.Watches as book
 use Rattle.book_base.specs.Addresses.{IsOneFamily}
-use Rattle.stack_ends.specs.Standing.{most_of}
-use Rattle.stack_ends.specs.Standing as below
+use Rattle.stack_ends.specs.Stands.{most_of}
+use Rattle.stack_ends.specs.Stands as below
 use Rattle.stack_timers.specs.declared.watch.Watch.{Watch}
-use Rattle.stack_timers.specs.Timing.{Drops, watch_at}
-use Rattle.stack_timers.specs.Watching.{seen}
+use Rattle.stack_timers.specs.Timers.{Drops, watch_at}
+use Rattle.stack_timers.specs.Watches.{seen}
 use Rattle.ao_stack.specs.declared.stack.Stack.{Stack}
 
 -- what is kept of the timer of a connection stands for it: a new one where nothing is (own)

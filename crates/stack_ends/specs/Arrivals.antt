@@ -9,10 +9,10 @@ use Rattle.book_cmd_node.specs.NodeRuns.{NodeState, DatagramAnswered, after_call
 use Rattle.book_segments.specs.Segments.{pair_reached}
 use Rattle.node_ends.specs.declared.answer.NodeArrival.{NodeArrival}
 use Rattle.node_ends.specs.declared.answer.NodeArrival.TheVariants as answers
-use Rattle.tcp_endpoint.specs.Arriving.{TellsPassed}
+use Rattle.tcp_endpoint.specs.Arrivals.{TellsPassed}
 use Rattle.tcp_endpoint.specs.declared.arrival.Arrived.{Arrived}
 use Rattle.stack_ends.specs.declared.ends.Ends.{Ends}
-use Rattle.stack_ends.specs.Standing.{Stands}
+use Rattle.stack_ends.specs.Stands.{Stands}
 
 -- a segment comes to the end of a pair, where it is held, and what is told of a segment that passed
 -- is what was found of it (RFC 9293, section 3.10.7)

@@ -3,7 +3,7 @@ use Rattle.std.specs.Prelude.{◌≡◌, ℕ, Bool, List, [], ◌∷◌, ◌++�
 use Rattle.book_keys.specs.Rows.{Table}
 use Rattle.book_lines.specs.Texts.{numbered_text}
 use Rattle.book_cmd_check.specs.Captures.{Connection, Stored, has_refusal, hear, saying_texts}
-use Rattle.capture_check.specs.Checking.{Checking, StandsFor}
+use Rattle.capture_check.specs.Checkers.{Checking, StandsFor}
 
 -- a judge is: what its checker knows, and whether a segment was no pass (own)
 pub record Judging : Type 0 where

@@ -4,9 +4,9 @@ use Rattle.book_base.specs.declared.address.Pair.{Pair}
 use Rattle.book_cmd_node.specs.NodeRuns.{held_end}
 use Rattle.book_counters.specs.Counters.{StackCounts}
 use Rattle.book_stack.specs.Stacks.{StackState}
-use Rattle.ao_stack.specs.Standing as below
+use Rattle.ao_stack.specs.Stands as below
 use Rattle.ao_counters.specs.declared.counted_stack.CountedStack.{CountedStack}
-use Rattle.ao_counters.specs.Tallying.{tally_at}
+use Rattle.ao_counters.specs.Tallies.{tally_at}
 
 -- the stack stands for the state, and its counters are these; each pair that is held has a tally, and
 -- no other (own)

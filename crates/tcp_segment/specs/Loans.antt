@@ -8,7 +8,7 @@ use Rattle.lent_bytes.specs.declared.Room.{Ghosts}
 use Rattle.lent_bytes.proofs.PutLaws.{length-put, take-put}
 use Rattle.tcp_segment.specs.declared.draft.Draft.{Draft}
 use Rattle.tcp_segment.specs.contracts.draft.Draft.{the_row}
-use Rattle.tcp_segment.specs.Writing.{IsFront}
+use Rattle.tcp_segment.specs.Layout.{IsFront}
 
 module _ {B : Type 0} {g : Ghosts B} (d : Draft B g) (w : List ℕ) where
   -- the draft with these bytes in place of its payload

@@ -7,7 +7,7 @@ use Rattle.capture_reader.specs.declared.parts.PartSays.{PartSays}
 use Rattle.capture_reader.specs.declared.parts.PartSays.TheVariants as says
 use Rattle.capture_stream.specs.declared.reader.CaptureStep.{CaptureStep}
 use Rattle.capture_stream.specs.declared.reader.CaptureStep.TheVariants as step
-use Rattle.capture_stream.specs.Reading.{Reading, packet_shown, passed_by}
+use Rattle.capture_stream.specs.Reads.{Reading, packet_shown, passed_by}
 
 -- the interfaces of the section in which a reader stands
 abbrev pub interfaces_at : Option FilePlace → List Interface

@@ -8,7 +8,7 @@ use Rattle.stack_timers.specs.declared.watch.Watch.{Watch}
 use Rattle.stack_timers.specs.contracts.watch.Watch.{the_row as watch_row}
 use Rattle.stack_timers.specs.contracts.watches.Watches.{the_row}
 use Rattle.stack_timers.specs.Keys.{by_key, key_of}
-use Rattle.stack_timers.specs.Timing.{Timing}
+use Rattle.stack_timers.specs.Timers.{Timing}
 
 -- the timers with this one in the place of the pair's (own)
 abbrev pub written : Pair → Timing → Watch → Timing
