@@ -27,7 +27,7 @@ use Rattle.book_keys.specs.Nodes.{node_name_of, node_address_of, unused, rows_of
 use Rattle.book_scope_keys.specs.declared.finding.KeyFinding.{KeyFinding}
 use Rattle.book_scope_keys.specs.declared.finding.KeyPlace.{KeyPlace}
 use Rattle.book_scope_keys.specs.FieldTexts.{finding_at, finding_unless}
-use Rattle.book_scope_keys.specs.RowFindings.{keys_in, key_finding, unknown_findings, column_unless, id_findings, name_findings, peer_finding, each_peer_finding, peers_findings, protocol_findings, is_algorithm_with, alg_id_findings, algorithm_findings, secret_findings, time_findings, order_findings, lifetime_findings, term_findings, port_findings, column_findings, row_findings}
+use Rattle.book_scope_keys.specs.RowFindings.{keys_in, key_finding, unknown_findings, KeyField, field_at, field_unless, id_findings, name_findings, peer_finding, each_peer_finding, peers_findings, protocol_findings, is_algorithm_with, alg_id_findings, algorithm_findings, secret_findings, time_findings, order_findings, lifetime_findings, term_findings, port_findings, column_findings, row_findings}
 use Rattle.book_scope_keys.specs.FileFindings.{key_place, file_place, table_named, bare_table, new_name, new_address, node_name_findings, node_address_findings, rows_findings_from, rows_findings, node_keys, node_called, node_fields_findings, node_findings, names_with, addresses_with, nodes_findings_from, nodes_findings, field_findings, refused_findings, first_or_further, document_findings, key_findings}
 
 -- ---- reading that went on
@@ -64,9 +64,9 @@ none_and fs gs e f = rw (e, f) refl
 unless_clean : (good : Bool) (p : KeyPlace) (field said : List ℕ) → good ≡ true → finding_unless good p field said ≡ []
 unless_clean good p field said h = rw h refl
 
-clean : (good : Bool) (p : KeyPlace) (key : List ℕ) (ms : Members) (hint wanted : List ℕ) → good ≡ true → column_unless good p key ms hint wanted ≡ []
-unfolding column_unless
-clean good p key ms hint wanted h = rw h refl
+clean : (good : Bool) (f : KeyField) (hint wanted : List ℕ) → good ≡ true → field_unless good f hint wanted ≡ []
+unfolding field_unless
+clean good f hint wanted h = rw h refl
 
 known_clean : (known : List (List ℕ)) (p : KeyPlace) (ms : Members) → only known ms ≡ true → unknown_findings known p (keys_in ms) ≡ []
 unfolding key_finding
@@ -80,7 +80,7 @@ known_clean known p (member key d ms) h =
 module _ (p : KeyPlace) (n r : ℕ) (ms : Members) where
   id_clean : (key : List ℕ) (c : Column) (x : ℕ) → or_fault (option_and_then id_of_text (text_of key ms)) (fault.Field n r c) ≡ Ok x → id_findings p key ms ≡ []
   unfolding id_findings
-  id_clean key c x h = clean _ _ _ _ _ _ (is_there _ _ x h)
+  id_clean key c x h = clean _ _ _ _ (is_there _ _ x h)
 
   names_clean : (ids : Ids) → ids_of n r ms ≡ Ok ids → name_findings p ms ≡ []
   unfolding ids_of name_findings
@@ -88,7 +88,7 @@ module _ (p : KeyPlace) (n r : ℕ) (ms : Members) where
       let a = then_ok (must (is_admin (text_of (codes "AdminKeyName") ms)) (fault.Field n r column.AdminKeyName)) _ ids h in
       let b = then_ok (or_fault (option_and_then id_of_text (text_of (codes "LocalKeyName") ms)) (fault.Field n r column.LocalKeyName)) _ ids a.2 in
       let c = then_ok (or_fault (option_and_then id_of_text (text_of (codes "PeerKeyName") ms)) (fault.Field n r column.PeerKeyName)) _ ids b.2 in
-      none_and _ _ (clean _ _ _ _ _ _ (must_true _ _ a.0 a.1))
+      none_and _ _ (clean _ _ _ _ (must_true _ _ a.0 a.1))
       (none_and _ _ (id_clean (codes "LocalKeyName") column.LocalKeyName b.0 b.1) (id_clean (codes "PeerKeyName") column.PeerKeyName c.0 c.1))
 
   each_peer_clean : (i : ℕ) (ds : Items) (ps : List (Option Address)) → each (peer_at n r) i ds ≡ Ok ps → each_peer_finding p ds ≡ []
@@ -117,19 +117,19 @@ module _ (p : KeyPlace) (n r : ℕ) (ms : Members) where
   protocol_clean b h =
       let a = then_ok (must (is_absent_or (codes "all") (get_member (codes "Interfaces") ms)) (fault.Field n r column.Interfaces)) _ b h in
       let c = then_ok (must (is_word (codes "TCP-AO") (text_of (codes "Protocol") ms)) (fault.Field n r column.Protocol)) _ b a.2 in
-      none_and _ _ (clean _ _ _ _ _ _ (must_true _ _ a.0 a.1))
-      (none_and _ _ (clean _ _ _ _ _ _ (must_true _ _ c.0 c.1)) (clean _ _ _ _ _ _ (is_there _ _ b c.2)))
+      none_and _ _ (clean _ _ _ _ (must_true _ _ a.0 a.1))
+      (none_and _ _ (clean _ _ _ _ (must_true _ _ c.0 c.1)) (clean _ _ _ _ (is_there _ _ b c.2)))
 
   alg_id_clean : (kdf : Option Algorithm) (k : Algorithm) → kdf ≡ Some k → is_word (name_of k) (text_of (codes "AlgID") ms) ≡ true → alg_id_findings p kdf ms ≡ []
   unfolding alg_id_findings
-  alg_id_clean kdf k e h = rw e (clean _ _ _ _ _ _ h)
+  alg_id_clean kdf k e h = rw e (clean _ _ _ _ h)
 
   algorithm_clean : (k : Algorithm) → algorithm_at n r ms ≡ Ok k → algorithm_findings p ms ≡ []
   unfolding algorithm_at algorithm_findings
   algorithm_clean k h =
       let a = then_ok (or_fault (option_and_then kdf_of (text_of (codes "KDF") ms)) (fault.Field n r column.Kdf)) _ k h in
       let b = then_ok (must (is_word (name_of a.0) (text_of (codes "AlgID") ms)) (fault.Field n r column.AlgId)) _ k a.2 in
-      none_and _ _ (clean _ _ _ _ _ _ (is_there _ _ a.0 a.1))
+      none_and _ _ (clean _ _ _ _ (is_there _ _ a.0 a.1))
       (alg_id_clean (option_and_then kdf_of (text_of (codes "KDF") ms)) a.0 (some_of _ _ a.0 a.1) (must_true _ _ b.0 b.1))
 
   secret_clean : (o : Option Data) (m : List ℕ) → master_of n r (option_and_then as_str o) ≡ Ok m → secret_findings p o ≡ []
@@ -147,15 +147,15 @@ module _ (p : KeyPlace) (n r : ℕ) (ms : Members) where
 
   time_clean : (absent : ℕ) (key : List ℕ) (c : Column) (x : ℕ) → or_fault (time_or absent (get_member key ms)) (fault.Field n r c) ≡ Ok x → time_findings p absent key ms ≡ []
   unfolding time_findings
-  time_clean absent key c x h = clean _ _ _ _ _ _ (is_there _ _ x h)
+  time_clean absent key c x h = clean _ _ _ _ (is_there _ _ x h)
 
   in_order : (b : Bool) (l made : Lifetime) (c : Column) → cond b (Err (fault.Field n r c)) (Ok made) ≡ Ok l → not b ≡ true
   in_order true l made c h = absurd (cc)
   in_order false l made c h = refl
 
-  order_clean : (start end : List ℕ) (one other : Option ℕ) (first last : ℕ) → one ≡ Some first → other ≡ Some last → not (ltb last first) ≡ true → order_findings p start end ms one other ≡ []
+  order_clean : (start : List ℕ) (end : KeyField) (one other : Option ℕ) (first last : ℕ) → one ≡ Some first → other ≡ Some last → not (ltb last first) ≡ true → order_findings end start one other ≡ []
   unfolding order_findings
-  order_clean start end one other first last e f h = rw (e, f) (clean _ _ _ _ _ _ h)
+  order_clean start end one other first last e f h = rw (e, f) (clean _ _ _ _ h)
 
   lifetime_clean : (start end : TimeCell) (l : Lifetime) → lifetime_of n r start end ms ≡ Ok l → lifetime_findings p start.name end.name ms ≡ []
   unfolding lifetime_of lifetime_findings
@@ -163,7 +163,7 @@ module _ (p : KeyPlace) (n r : ℕ) (ms : Members) where
       let a = then_ok (or_fault (time_or 0 (get_member start.name ms)) (fault.Field n r start.column)) _ l h in
       let b = then_ok (or_fault (time_or greatest_time (get_member end.name ms)) (fault.Field n r end.column)) _ l a.2 in
       none_and _ _ (time_clean 0 start.name start.column a.0 a.1) (none_and _ _ (time_clean greatest_time end.name end.column b.0 b.1)
-      (order_clean start.name end.name _ _ a.0 b.0 (some_of _ _ a.0 a.1) (some_of _ _ b.0 b.1) (in_order (ltb b.0 a.0) l (record { first = a.0; last = b.0 }) end.column b.2)))
+      (order_clean start.name (field_at p end.name ms) _ _ a.0 b.0 (some_of _ _ a.0 a.1) (some_of _ _ b.0 b.1) (in_order (ltb b.0 a.0) l (record { first = a.0; last = b.0 }) end.column b.2)))
 
   terms_clean : (t : Terms) → terms_of n r ms ≡ Ok t → term_findings p ms ≡ []
   unfolding terms_of term_findings
@@ -171,12 +171,12 @@ module _ (p : KeyPlace) (n r : ℕ) (ms : Members) where
       let a = then_ok (or_fault (option_and_then direction_of (text_of (codes "Direction") ms)) (fault.Field n r column.Direction)) _ t h in
       let b = then_ok (lifetime_of n r sending_start sending_end ms) _ t a.2 in
       let c = then_ok (lifetime_of n r accepting_start accepting_end ms) _ t b.2 in
-      none_and _ _ (clean _ _ _ _ _ _ (is_there _ _ a.0 a.1))
+      none_and _ _ (clean _ _ _ _ (is_there _ _ a.0 a.1))
       (none_and _ _ (lifetime_clean sending_start sending_end b.0 b.1) (lifetime_clean accepting_start accepting_end c.0 c.1))
 
   port_clean : (key : List ℕ) (c : Column) (x : Option ℕ) → or_fault (port_of (get_member key ms)) (fault.Field n r c) ≡ Ok x → port_findings p key ms ≡ []
   unfolding port_findings
-  port_clean key c x h = clean _ _ _ _ _ _ (is_there _ _ x h)
+  port_clean key c x h = clean _ _ _ _ (is_there _ _ x h)
 
   ports_clean : (t : Ports) → ports_of n r ms ≡ Ok t → port_findings p (codes "LocalPort") ms ++ port_findings p (codes "PeerPort") ms ≡ []
   unfolding ports_of
@@ -272,11 +272,11 @@ record Clean (n : ℕ) (seen : List Table) (t : Table) (d : Data) : Type 0 where
 
 name_clean : (p : KeyPlace) (names : List (List ℕ)) (ms : Members) → is_some (new_name names ms) ≡ true → node_name_findings p names ms ≡ []
 unfolding node_name_findings
-name_clean p names ms h = clean _ _ _ _ _ _ h
+name_clean p names ms h = clean _ _ _ _ h
 
 address_clean : (p : KeyPlace) (seen : List Address) (ms : Members) → is_some (new_address seen ms) ≡ true → node_address_findings p seen ms ≡ []
 unfolding node_address_findings
-address_clean p seen ms h = clean _ _ _ _ _ _ h
+address_clean p seen ms h = clean _ _ _ _ h
 
 names_next : (seen : List Table) (ms : Members) (t : Table) → new_name (names_of seen) ms ≡ Some t.name → names_with (names_of seen) (table ms) ≡ names_of (seen ++ t ∷ [])
 names_next seen ms t e = ap (λ (o : Option (List ℕ)). names_of seen ++ option_to_list o) e ∙ sym (map-append (λ (x : Table). x.name) seen (t ∷ []))

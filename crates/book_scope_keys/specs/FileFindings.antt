@@ -17,8 +17,8 @@ use Rattle.book_scope_keys.specs.declared.finding.KeyFinding.{KeyFinding}
 use Rattle.book_scope_keys.specs.declared.finding.KeyPlace.{KeyPlace}
 use Rattle.book_scope_keys.specs.FieldTexts.{field_said, finding_at, text_shown}
 use Rattle.book_scope_keys.specs.Places.{key_finding_line, place_text, text_place}
-use Rattle.book_scope_keys.specs.RowFindings.{keys_in, unknown_findings, column_unless, count_said}
-use Rattle.book_scope_keys.specs.RowFindings.{row_findings}
+use Rattle.book_scope_keys.specs.RowFindings.{keys_in, unknown_findings, field_at, field_unless}
+use Rattle.book_scope_keys.specs.RowFindings.{count_said, row_findings}
 
 -- a place of a key file (own)
 abbrev pub key_place : (node row : ℕ) → (name : List ℕ) → KeyPlace
@@ -54,13 +54,13 @@ used_hint used = if used then codes ", which an earlier node has" else []
 -- the name of a node (own)
 unfoldable pub node_name_findings : KeyPlace → (names : List (List ℕ)) → Members → List KeyFinding
 node_name_findings p names ms =
-    column_unless (is_some (new_name names ms)) p (codes "name") ms
+    field_unless (is_some (new_name names ms)) (field_at p (codes "name") ms)
     (used_hint (is_some (new_name [] ms))) (codes "a text of 1 to 64 printed bytes without a space")
 
 -- the address of a node (own)
 unfoldable pub node_address_findings : KeyPlace → List Address → Members → List KeyFinding
 node_address_findings p seen ms =
-    column_unless (is_some (new_address seen ms)) p (codes "address") ms
+    field_unless (is_some (new_address seen ms)) (field_at p (codes "address") ms)
     (used_hint (is_some (new_address [] ms)))
     (codes "a text, an address, 192.0.2.1 or 32 hexadecimal digits")
 

@@ -41,12 +41,21 @@ abbrev pub unknown_findings :
     (known : List (List ℕ)) → KeyPlace → (keys : List (List ℕ)) → List KeyFinding
 unknown_findings known p keys = flat_map (key_finding known p) keys
 
--- nothing is found at a key of a table where its field is as it should be, and else its value, a
--- hint and what is wanted (own)
-unfoldable pub column_unless :
-    Bool → KeyPlace → (key : List ℕ) → Members → (hint wanted : List ℕ) → List KeyFinding
-column_unless good p key ms hint wanted =
-    finding_unless good p key (field_said (get_member key ms) hint wanted)
+-- a field of a table: the table's place, and its key and value, if it has one (own)
+pub record KeyField : Type 0 where
+  pub place : KeyPlace
+  pub key : List ℕ
+  pub value : Option Data
+
+-- the field at a key of a table (own)
+abbrev pub field_at : KeyPlace → (key : List ℕ) → Members → KeyField
+field_at p key ms = record { place = p; key = key; value = get_member key ms }
+
+-- nothing is found at a field that is as it should be, and else its value, a hint and what is
+-- wanted (own)
+unfoldable pub field_unless : Bool → KeyField → (hint wanted : List ℕ) → List KeyFinding
+field_unless good f hint wanted =
+    finding_unless good f.place f.key (field_said f.value hint wanted)
 
 -- what is wanted of a KeyID (RFC 5925, section 3.1)
 abbrev pub id_wanted : List ℕ
@@ -55,13 +64,14 @@ id_wanted = codes "a KeyID, a text from \"0\" to \"255\""
 -- a KeyID of a row: LocalKeyName or PeerKeyName (RFC 7210, section 2)
 unfoldable pub id_findings : KeyPlace → (key : List ℕ) → Members → List KeyFinding
 id_findings p key ms =
-    column_unless (is_some (option_and_then id_of_text (text_of key ms))) p key ms [] id_wanted
+    field_unless (is_some (option_and_then id_of_text (text_of key ms))) (field_at p key ms) []
+    id_wanted
 
 -- AdminKeyName, LocalKeyName and PeerKeyName (RFC 7210, section 2)
 unfoldable pub name_findings : KeyPlace → Members → List KeyFinding
 name_findings p ms =
-    column_unless (is_admin (text_of (codes "AdminKeyName") ms)) p (codes "AdminKeyName") ms []
-    (codes "a text of 1 to 255 bytes")
+    field_unless (is_admin (text_of (codes "AdminKeyName") ms))
+    (field_at p (codes "AdminKeyName") ms) [] (codes "a text of 1 to 255 bytes")
     ++ (id_findings p (codes "LocalKeyName") ms ++ id_findings p (codes "PeerKeyName") ms)
 
 -- what is wanted of Peers (RFC 7210, section 2; the limit is own)
@@ -93,13 +103,13 @@ peers_findings p d = finding_at p (codes "Peers") (field_said d [] peers_wanted)
 -- Interfaces, Protocol and ProtocolSpecificInfo (RFC 7210, section 2)
 unfoldable pub protocol_findings : KeyPlace → Members → List KeyFinding
 protocol_findings p ms =
-    column_unless (is_absent_or (codes "all") (get_member (codes "Interfaces") ms)) p
-    (codes "Interfaces") ms [] (codes "\"all\", or no such field")
-    ++ (column_unless (is_word (codes "TCP-AO") (text_of (codes "Protocol") ms)) p
-    (codes "Protocol") ms [] (codes "\"TCP-AO\"")
-    ++ column_unless
-    (is_some (option_and_then options_flag_of (text_of (codes "ProtocolSpecificInfo") ms))) p
-    (codes "ProtocolSpecificInfo") ms [] (codes "\"options\" or \"no-options\""))
+    field_unless (is_absent_or (codes "all") (get_member (codes "Interfaces") ms))
+    (field_at p (codes "Interfaces") ms) [] (codes "\"all\", or no such field")
+    ++ (field_unless (is_word (codes "TCP-AO") (text_of (codes "Protocol") ms))
+    (field_at p (codes "Protocol") ms) [] (codes "\"TCP-AO\"")
+    ++ field_unless
+    (is_some (option_and_then options_flag_of (text_of (codes "ProtocolSpecificInfo") ms)))
+    (field_at p (codes "ProtocolSpecificInfo") ms) [] (codes "\"options\" or \"no-options\""))
 
 -- AlgID names the algorithm to which the key derivation function belongs, or any where that isn't
 -- known (RFC 7210, section 2)
@@ -115,14 +125,14 @@ algorithm_wanted (Some kdf) = codes "\"" ++ (name_of kdf ++ codes "\", which goe
 -- AlgID, by what KDF names (RFC 7210, section 2)
 unfoldable pub alg_id_findings : KeyPlace → Option Algorithm → Members → List KeyFinding
 alg_id_findings p kdf ms =
-    column_unless (is_algorithm_with kdf (text_of (codes "AlgID") ms)) p (codes "AlgID") ms []
-    (algorithm_wanted kdf)
+    field_unless (is_algorithm_with kdf (text_of (codes "AlgID") ms))
+    (field_at p (codes "AlgID") ms) [] (algorithm_wanted kdf)
 
 -- KDF and AlgID (RFC 7210, section 2)
 unfoldable pub algorithm_findings : KeyPlace → Members → List KeyFinding
 algorithm_findings p ms =
-    column_unless (is_some (option_and_then kdf_of (text_of (codes "KDF") ms))) p
-    (codes "KDF") ms [] (codes "\"HMAC-SHA-1\", \"AES-128-CMAC\" or \"HMAC-SHA-256\"")
+    field_unless (is_some (option_and_then kdf_of (text_of (codes "KDF") ms)))
+    (field_at p (codes "KDF") ms) [] (codes "\"HMAC-SHA-1\", \"AES-128-CMAC\" or \"HMAC-SHA-256\"")
     ++ alg_id_findings p (option_and_then kdf_of (text_of (codes "KDF") ms)) ms
 
 -- what is wanted of Key (RFC 7210, section 2; the bounds are own)
@@ -147,38 +157,39 @@ time_hint_of _ = []
 -- a time of a row, by what stands for an absent one (RFC 7210, section 2)
 unfoldable pub time_findings : KeyPlace → (absent : ℕ) → (key : List ℕ) → Members → List KeyFinding
 time_findings p absent key ms =
-    column_unless (is_some (time_or absent (get_member key ms))) p key ms
+    field_unless (is_some (time_or absent (get_member key ms))) (field_at p key ms)
     (time_hint_of (get_member key ms))
     (codes "a time from 1970 on, \"YYYYMMDDhhmmssZ\", or no such field")
 
--- an end of a lifetime before its start (RFC 7210, section 2)
+-- an end of a lifetime before its start, by the field of the end and the key of the start (RFC
+-- 7210, section 2)
 unfoldable pub order_findings :
-    KeyPlace → (start end : List ℕ) → Members → (first last : Option ℕ) → List KeyFinding
-order_findings p start end ms (Some first) (Some last) =
-    column_unless (not (nat_lt last first)) p end ms (codes ", before " ++ start)
+    (end : KeyField) → (start : List ℕ) → (first last : Option ℕ) → List KeyFinding
+order_findings end start (Some first) (Some last) =
+    field_unless (not (nat_lt last first)) end (codes ", before " ++ start)
     (codes "a time that isn't before " ++ start)
-order_findings p start end ms _ _ = []
+order_findings end start _ _ = []
 
 -- a lifetime of a row, by the keys of its start and end (RFC 7210, section 2)
 unfoldable pub lifetime_findings : KeyPlace → (start end : List ℕ) → Members → List KeyFinding
 lifetime_findings p start end ms =
     time_findings p 0 start ms
     ++ (time_findings p greatest_time end ms
-    ++ order_findings p start end ms (time_or 0 (get_member start ms))
+    ++ order_findings (field_at p end ms) start (time_or 0 (get_member start ms))
     (time_or greatest_time (get_member end ms)))
 
 -- Direction and the two lifetimes (RFC 7210, section 2)
 unfoldable pub term_findings : KeyPlace → Members → List KeyFinding
 term_findings p ms =
-    column_unless (is_some (option_and_then direction_of (text_of (codes "Direction") ms))) p
-    (codes "Direction") ms [] (codes "\"in\", \"out\", \"both\" or \"disabled\"")
+    field_unless (is_some (option_and_then direction_of (text_of (codes "Direction") ms)))
+    (field_at p (codes "Direction") ms) [] (codes "\"in\", \"out\", \"both\" or \"disabled\"")
     ++ (lifetime_findings p (codes "SendLifetimeStart") (codes "SendLifetimeEnd") ms
     ++ lifetime_findings p (codes "AcceptLifetimeStart") (codes "AcceptLifetimeEnd") ms)
 
 -- a port of a row (own)
 unfoldable pub port_findings : KeyPlace → (key : List ℕ) → Members → List KeyFinding
 port_findings p key ms =
-    column_unless (is_some (port_of (get_member key ms))) p key ms []
+    field_unless (is_some (port_of (get_member key ms))) (field_at p key ms) []
     (codes "a text from \"0\" to \"65535\", or no such field")
 
 -- what is found in the columns of a row, in their order (RFC 7210, section 2, in this profile)
