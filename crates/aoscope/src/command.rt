@@ -1,5 +1,5 @@
 //! The words that the program knows, with a page of help for each.
-use crate::{draw, plan, sessions};
+use crate::{draw, echo, plan, sessions};
 use clap::Command;
 use std::alloc::{AllocError, Global};
 
@@ -27,6 +27,7 @@ pub(crate) fn command<'a>(alloc: Global) -> Result<Command<'a>, AllocError> {
     let sessions = sessions::command(alloc)?;
     let plan = plan::command(alloc)?;
     let draw = draw::command(alloc)?;
+    let echo = echo::command(alloc)?;
     Command::new(alloc, "aoscope")
         .version("0.1.0")
         .about(ABOUT)
@@ -36,5 +37,6 @@ pub(crate) fn command<'a>(alloc: Global) -> Result<Command<'a>, AllocError> {
         .subcommand(lines)?
         .subcommand(sessions)?
         .subcommand(plan)?
-        .subcommand(draw)
+        .subcommand(draw)?
+        .subcommand(echo)
 }

@@ -3,6 +3,8 @@
 
 mod command;
 mod draw;
+mod echo;
+mod inputs;
 mod plan;
 mod sessions;
 mod told;
@@ -42,6 +44,7 @@ fn run(rt: &HostRuntime, matches: &ArgMatches<'_>) -> u8 {
         Some(("sessions", matches)) => sessions::run(rt, matches),
         Some(("plan", matches)) => plan::run(rt, matches),
         Some(("draw", matches)) => draw::run(rt, matches),
+        Some(("echo", matches)) => echo::run(rt, matches),
         _ => tell(rt, Told::Memory),
     }
 }

@@ -8,5 +8,5 @@ mod event;
 mod link;
 mod storm_run;
 
-pub use link::{answer_link, answer_link_keys};
+pub use link::{answer_link, answer_link_keys, report_of};
 pub use storm_run::answer_storm;

@@ -29,8 +29,9 @@ fn play(alloc: Global, setup: Setup, events: &[Event]) -> Result<World, AllocErr
     Ok(world)
 }
 
-/// The report of the run of these events, in which a forgery is amiss.
-fn report_of(alloc: Global, setup: Setup, events: &[Event]) -> Result<Report, AllocError>
+/// The report of the run of these events, at most 20,000, in which a forgery is amiss: clocks are set to
+/// LATEST at most, and rows that are added are those of a link file. An error only for want of memory.
+pub fn report_of(alloc: Global, setup: Setup, events: &[Event]) -> Result<Report, AllocError>
     requires family { are_two_of_a_family setup.a.address setup.b.address ≡ true }
     requires events { All CanHappen events.now }
     requires few { length events.now ≤ 20000 }

@@ -1,0 +1,89 @@
+//! The answer of `echo`.
+ghost use Rattle.std.specs.Prelude.{◌≡◌, ◌≤◌, IfOk, length, true, false};
+ghost use Rattle.std.specs.List.{All};
+ghost use Rattle.book_answer.specs.Answers.{done, if_read, reported};
+ghost use Rattle.book_cmd_link.specs.LinkFiles.{are_two_of_a_family, script_of};
+ghost use Rattle.command_report.specs.Reporting.{Reports};
+ghost use Rattle.link_world.specs.Events.{CanHappen};
+ghost use Rattle.link_world.specs.Standing.{setup_of};
+ghost use Rattle.scope_echo.specs.Forms.{echoed, echoed_by_shared, echoed_over};
+
+use crate::echo::print_echo;
+use book_link::Event;
+use cmd_link::report_of;
+use command_report::{Report, Stop};
+use key_table::Tables;
+use link_script::{Script, read_script};
+use link_world::Setup;
+use std::alloc::{AllocError, Global};
+
+/// The report of the run of these events, with their lines in the text; what is amiss in the report is so
+/// here.
+fn echo_report(
+    alloc: Global,
+    with_keys: bool,
+    text: &[u8],
+    setup: Setup,
+    events: &[Event],
+) -> Result<Report, AllocError>
+    requires family { are_two_of_a_family setup.a.address setup.b.address ≡ true }
+    requires events { All CanHappen events.now }
+    requires few { length events.now ≤ 20000 }
+    ensures { IfOk result (λ r. echoed with_keys text.now events.now (reported (setup_of setup) events.now) ≡ done r.is_amiss r.text) }
+{
+    let report = report_of(alloc, setup, events)?;
+    let text = print_echo(alloc, with_keys, text, events, report.text.as_slice())?;
+    Ok(Report {
+        text,
+        is_amiss: report.is_amiss,
+    })
+}
+
+/// The answer of `echo`: the report of a link file that names the key that both ends share, with the lines
+/// of its events. What is amiss in the report is so here.
+///
+/// `Ok` exactly where the input is such a link file; its faults are those of `link_script::read_script`.
+/// `Memory` only for want of memory.
+#[tactic(auto, using(command_report::proofs::Reporting::fails_stops))]
+pub fn answer_echo(alloc: Global, input: &[u8]) -> Result<Report, Stop>
+    ensures { Reports result (if_read (echoed_by_shared input.now) (script_of false input.now)) }
+{
+    let script = read_script(alloc, false, input)?;
+    let Script {
+        a,
+        b,
+        shared,
+        events,
+    } = script;
+    let Some(key) = shared else { unreachable!() };
+    let tables = Tables::shared(alloc, a.address, b.address, key.alg, key.master.as_slice())?;
+    let report = echo_report(
+        alloc,
+        false,
+        input,
+        Setup { tables, a, b },
+        events.as_slice(),
+    )?;
+    Ok(report)
+}
+
+/// The answer of `echo KEYS`: the report of a link file over the tables of a key file, with the lines of
+/// its events. What is amiss in the report is so here.
+///
+/// `Ok` exactly where the input is a link file that names no key; its faults are those of
+/// `link_script::read_script`. `Memory` only for want of memory.
+#[tactic(auto, using(command_report::proofs::Reporting::fails_stops))]
+pub fn answer_echo_keys(alloc: Global, tables: Tables, input: &[u8]) -> Result<Report, Stop>
+    ensures { Reports result (if_read (echoed_over tables input.now) (script_of true input.now)) }
+{
+    let script = read_script(alloc, true, input)?;
+    let Script { a, b, events, .. } = script;
+    let report = echo_report(
+        alloc,
+        true,
+        input,
+        Setup { tables, a, b },
+        events.as_slice(),
+    )?;
+    Ok(report)
+}
