@@ -12,7 +12,7 @@ use Rattle.book_plans.specs.Margins.{AreOrdered, IsMargin, SaysAlignedAtLead, Sa
 use Rattle.book_plans.proofs.FindingLaws.{none_exactly}
 use Rattle.book_plans.proofs.MarginLaws.{lead_judged, lag_judged}
 use Rattle.book_scope_plan.specs.CalendarTexts.{calendar_text}
-use Rattle.book_scope_plan.specs.PlanTexts.{aligned_line, connection_line, connection_text, findings_text, has_none, is_good_plan, node_with, nodes_text, plan_findings}
+use Rattle.book_scope_plan.specs.PlanTexts.{aligned_line, connection_line, connection_text, facing, findings_text, has_none, is_good_plan, node_with, nodes_text, plan_findings}
 
 none_from : (fs : List Finding) → has_none fs ≡ true → fs ≡ []
 none_from [] h = refl
@@ -65,7 +65,7 @@ module _ (tables : List Table) (plan : Plan) (pair : Pair) where
   good_text a b at_a at_b good =
       ap (λ o. connection_line pair ++ nodes_text o (node_with tables pair.remote.address) tables plan pair) at_a
       ∙ ap (λ o. connection_line pair ++ nodes_text (Some a) o tables plan pair) at_b
-      ∙ ap (λ fs. connection_line pair ++ (calendar_text a b (calendar_of tables pair plan.from plan.to) ++ findings_text a b tables pair plan fs)) (good_findings good)
+      ∙ ap (λ fs. connection_line pair ++ (calendar_text a b (calendar_of tables pair plan.from plan.to) ++ findings_text (facing a b pair) tables plan fs)) (good_findings good)
 
   pub good_lead : AreOrdered (rows_at tables pair.local.address) → AreOrdered (rows_at tables pair.remote.address) → is_good_plan tables plan pair ≡ true
       → IsMargin (SaysAlignedAtLead tables pair plan.lag plan.from plan.to) (lead_margin_of tables pair plan.lag)

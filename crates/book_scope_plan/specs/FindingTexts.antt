@@ -2,6 +2,8 @@
 use Rattle.std.specs.Prelude.{ℕ, ◌+◌, ◌-◌, ◌==◌, min, nat_lt, Bool, true, false, List, [], ◌∷◌}
 use Rattle.std.specs.Prelude.{◌++◌, codes, decimal, Option, Some, None}
 use Rattle.book_base.specs.declared.address.Pair.{Pair}
+use Rattle.book_base.specs.declared.end.End.{End}
+use Rattle.book_base.specs.declared.end.End.TheVariants.{A, B}
 use Rattle.book_base.specs.Algorithms.{name_of}
 use Rattle.book_keys.specs.declared.lifetime.Lifetime.{Lifetime}
 use Rattle.book_keys.specs.Plans.{mirrored}
@@ -13,7 +15,19 @@ use Rattle.book_plans.specs.Differences.{differences, is_alike}
 use Rattle.book_plans.specs.Findings.{wanted_accepting}
 use Rattle.book_keys.specs.declared.plan.Plan.{Plan}
 use Rattle.book_scope_texts.specs.Instants.{instant_text, key_time_text}
-use Rattle.book_scope_plan.specs.CalendarTexts.{side_of, row_numbered}
+use Rattle.book_scope_plan.specs.CalendarTexts.{row_numbered}
+
+-- a connection as one of its ends sees it: the table of its node, that of the other end's, and the
+-- pair (own)
+pub record Facing : Type 0 where
+  pub node : Table
+  pub other : Table
+  pub pair : Pair
+
+-- a connection as this end sees it, which is given as end a does (own)
+abbrev pub facing_at : End → Facing → Facing
+facing_at A f = f
+facing_at B f = record { node = f.other; other = f.node; pair = mirrored f.pair }
 
 -- one for what holds, and none for what doesn't (own)
 abbrev pub one_if : Bool → ℕ
@@ -42,9 +56,9 @@ text_if false text = []
 unfoldable pub row_name : (name : List ℕ) → ℕ → List ℕ
 row_name name n = name ++ (codes " row " ++ decimal n)
 
--- a row of the other end differs in a column (own)
-unfoldable pub difference_head : (name : List ℕ) → ℕ → List ℕ
-difference_head name n = codes "    " ++ (row_name name n ++ codes " differs in ")
+-- a row of the other end, of this name, differs in a column (own)
+unfoldable pub difference_head : (row : List ℕ) → List ℕ
+difference_head row = codes "    " ++ (row ++ codes " differs in ")
 
 -- the two KeyIDs (RFC 5925, section 3.1)
 unfoldable pub ids_text : (sending other : Row) → List ℕ
@@ -77,36 +91,33 @@ connection_words = codes "Peers, LocalPort or PeerPort: it isn't for this connec
 unfoldable pub short_words : List ℕ
 short_words = codes " takes it for long enough\n"
 
--- the lines of the columns that make up the key in which a row of the other end, of this name and
--- number, differs from one that accepts what a row sends (RFC 7210, section 2, and own)
-unfoldable pub key_column_lines :
-    (name : List ℕ) → ℕ → (sending other : Row) → Differences → List ℕ
-key_column_lines name n r o d =
-    text_if d.key_id (difference_head name n ++ ids_text r o)
-    ++ (text_if d.master (difference_head name n ++ key_words)
-    ++ text_if d.algorithm (difference_head name n ++ algorithms_text r o))
+-- the lines of the columns that make up the key in which a row of the other end, of this name,
+-- differs from one that accepts what a row sends (RFC 7210, section 2, and own)
+unfoldable pub key_column_lines : (row : List ℕ) → (sending other : Row) → Differences → List ℕ
+key_column_lines row r o d =
+    text_if d.key_id (difference_head row ++ ids_text r o)
+    ++ (text_if d.master (difference_head row ++ key_words)
+    ++ text_if d.algorithm (difference_head row ++ algorithms_text r o))
 
 -- the lines of the columns that say what for (RFC 7210, section 2, and own)
-unfoldable pub use_column_lines : (name : List ℕ) → ℕ → Differences → List ℕ
-use_column_lines name n d =
-    text_if d.options (difference_head name n ++ options_words)
-    ++ (text_if d.direction (difference_head name n ++ direction_words)
-    ++ text_if d.connection (difference_head name n ++ connection_words))
+unfoldable pub use_column_lines : (row : List ℕ) → Differences → List ℕ
+use_column_lines row d =
+    text_if d.options (difference_head row ++ options_words)
+    ++ (text_if d.direction (difference_head row ++ direction_words)
+    ++ text_if d.connection (difference_head row ++ connection_words))
 
 -- the lines of all columns in which it differs (RFC 7210, section 2, and own)
-unfoldable pub difference_lines :
-    (name : List ℕ) → ℕ → (sending other : Row) → Differences → List ℕ
-difference_lines name n r o d = key_column_lines name n r o d ++ use_column_lines name n d
+unfoldable pub difference_lines : (row : List ℕ) → (sending other : Row) → Differences → List ℕ
+difference_lines row r o d = key_column_lines row r o d ++ use_column_lines row d
 
 -- the lines of the rows of the other end that differ in so many columns, the first row having
 -- number n (own)
-abbrev pub nearest_lines :
-    (name : List ℕ) → Pair → Row → (count first : ℕ) → (others : List Row) → List ℕ
-nearest_lines name pair r count n [] = []
-nearest_lines name pair r count n (o ∷ os) =
-    text_if (difference_count (differences pair r o) == count)
-    (difference_lines name n r o (differences pair r o))
-    ++ nearest_lines name pair r count (n + 1) os
+abbrev pub nearest_lines : Facing → Row → (count first : ℕ) → (others : List Row) → List ℕ
+nearest_lines f r count n [] = []
+nearest_lines f r count n (o ∷ os) =
+    text_if (difference_count (differences f.pair r o) == count)
+    (difference_lines (row_name f.other.name n) r o (differences f.pair r o))
+    ++ nearest_lines f r count (n + 1) os
 
 -- a row of a node accepts (own)
 unfoldable pub accepting_row : (name : List ℕ) → ℕ → List ℕ
@@ -127,76 +138,70 @@ unfoldable pub wanted_text : (left : ℕ) → (word : List ℕ) → (wanted : �
 wanted_text left word wanted = decimal left ++ (word ++ (decimal wanted ++ codes " wanted; set "))
 
 -- what a column of a row is to be set to, at least or at most (RFC 7210, section 2, and own)
-unfoldable pub set_text : (column name : List ℕ) → (number time : ℕ) → (word : List ℕ) → List ℕ
-set_text column name n time word =
-    column ++ (codes " of " ++ (row_name name n ++ (codes " to " ++ (key_time_text time ++ word))))
+unfoldable pub set_text : (column row : List ℕ) → (time : ℕ) → (word : List ℕ) → List ℕ
+set_text column row time word =
+    column ++ (codes " of " ++ (row ++ (codes " to " ++ (key_time_text time ++ word))))
 
--- the line of a row of the other end that begins to accept too late (own)
-unfoldable pub early_line :
-    (node other : List ℕ) → (lead number : ℕ) → (sending other : Row) → (wanted : ℕ) → List ℕ
-early_line node name lead n r o wanted =
-    accepts_text name n (codes " from ") o.accepting.first
-    ++ (sends_text node (codes " from ") r.sending.first
-    ++ (wanted_text (r.sending.first - o.accepting.first) (codes " s before, ") lead
-    ++ set_text (codes "AcceptLifetimeStart") name n wanted (codes " or earlier\n")))
+-- when a row of the other end is to accept what a row sends (own)
+abbrev pub planned_accepting : Plan → Row → Lifetime
+planned_accepting plan r = wanted_accepting plan.lead plan.lag r
 
--- the line of a row of the other end that ends to accept too early (own)
-unfoldable pub late_line :
-    (node other : List ℕ) → (lag number : ℕ) → (sending other : Row) → (wanted : ℕ) → List ℕ
-late_line node name lag n r o wanted =
-    accepts_text name n (codes " until ") o.accepting.last
-    ++ (sends_text node (codes " until ") r.sending.last
-    ++ (wanted_text (o.accepting.last - r.sending.last) (codes " s after, ") lag
-    ++ set_text (codes "AcceptLifetimeEnd") name n wanted (codes " or later\n")))
+-- the line of a row of the other end, of this number, that begins to accept too late (own)
+unfoldable pub early_line : Facing → Plan → ℕ → (sending other : Row) → List ℕ
+early_line f plan n r o =
+    accepts_text f.other.name n (codes " from ") o.accepting.first
+    ++ (sends_text f.node.name (codes " from ") r.sending.first
+    ++ (wanted_text (r.sending.first - o.accepting.first) (codes " s before, ") plan.lead
+    ++ set_text (codes "AcceptLifetimeStart") (row_name f.other.name n)
+    (planned_accepting plan r).first (codes " or earlier\n")))
+
+-- the line of a row of the other end, of this number, that ends to accept too early (own)
+unfoldable pub late_line : Facing → Plan → ℕ → (sending other : Row) → List ℕ
+late_line f plan n r o =
+    accepts_text f.other.name n (codes " until ") o.accepting.last
+    ++ (sends_text f.node.name (codes " until ") r.sending.last
+    ++ (wanted_text (o.accepting.last - r.sending.last) (codes " s after, ") plan.lag
+    ++ set_text (codes "AcceptLifetimeEnd") (row_name f.other.name n)
+    (planned_accepting plan r).last (codes " or later\n")))
 
 -- what a row of the other end that accepts what a row sends lacks of the lifetime that is wanted
 -- (RFC 7210, section 2, and own)
-unfoldable pub lifetime_lines :
-    (node other : List ℕ) → Plan → ℕ → (sending other : Row) → Lifetime → List ℕ
-lifetime_lines node name plan n r o wanted =
-    text_if (nat_lt wanted.first o.accepting.first)
-    (early_line node name plan.lead n r o wanted.first)
-    ++ text_if (nat_lt o.accepting.last wanted.last)
-    (late_line node name plan.lag n r o wanted.last)
+unfoldable pub lifetime_lines : Facing → Plan → ℕ → (sending other : Row) → List ℕ
+lifetime_lines f plan n r o =
+    text_if (nat_lt (planned_accepting plan r).first o.accepting.first) (early_line f plan n r o)
+    ++ text_if (nat_lt o.accepting.last (planned_accepting plan r).last) (late_line f plan n r o)
 
 -- the lines of the rows of the other end that accept what a row sends, the first having number n
 -- (own)
-abbrev pub accepting_lines :
-    (node other : List ℕ) → Pair → Plan → Row → (first : ℕ) → (others : List Row) → List ℕ
-accepting_lines node name pair plan r n [] = []
-accepting_lines node name pair plan r n (o ∷ os) =
-    text_if (is_alike (differences pair r o))
-    (lifetime_lines node name plan n r o (wanted_accepting plan.lead plan.lag r))
-    ++ accepting_lines node name pair plan r (n + 1) os
+abbrev pub accepting_lines : Facing → Plan → Row → (first : ℕ) → (others : List Row) → List ℕ
+accepting_lines f plan r n [] = []
+accepting_lines f plan r n (o ∷ os) =
+    text_if (is_alike (differences f.pair r o)) (lifetime_lines f plan n r o)
+    ++ accepting_lines f plan r (n + 1) os
 
 -- with which id a row sends (RFC 5925, section 3.1)
 unfoldable pub sent_id_text : Row → List ℕ
 sent_id_text r = codes " (sends KeyID " ++ (decimal r.send_id ++ codes "): no row of ")
 
--- the line of a row that isn't met at the other end (own)
-unfoldable pub unmet_line : (node other : List ℕ) → ℕ → Row → (words : List ℕ) → List ℕ
-unmet_line node name n r words =
-    codes "  WRONG " ++ (row_name node n ++ (sent_id_text r ++ (name ++ words)))
+-- the line of a row, of this number, that isn't met at the other end (own)
+unfoldable pub unmet_line : Facing → ℕ → Row → (words : List ℕ) → List ℕ
+unmet_line f n r words =
+    codes "  WRONG " ++ (row_name f.node.name n ++ (sent_id_text r ++ (f.other.name ++ words)))
 
 -- what is said of a row that no row of the other end accepts: in which columns the nearest rows
 -- differ (own)
-abbrev pub refused_text : (node other : Table) → Pair → ℕ → Option Row → List ℕ
-refused_text node other pair n None = []
-refused_text node other pair n (Some r) =
-    unmet_line node.name other.name n r (codes " takes it\n")
-    ++ nearest_lines other.name pair r (fewest pair r 7 other.rows) 1 other.rows
+abbrev pub refused_text : Facing → ℕ → Option Row → List ℕ
+refused_text f n None = []
+refused_text f n (Some r) =
+    unmet_line f n r (codes " takes it\n")
+    ++ nearest_lines f r (fewest f.pair r 7 f.other.rows) 1 f.other.rows
 
--- the lines of a row that no row of the other end accepts for long enough: when those accept that
--- do (own)
-unfoldable pub short_lines : (node other : Table) → Pair → Plan → ℕ → Row → List ℕ
-short_lines node other pair plan n r =
-    unmet_line node.name other.name n r short_words
-    ++ accepting_lines node.name other.name pair plan r 1 other.rows
-
--- what is said of a row that no row of the other end accepts for long enough (own)
-abbrev pub short_text : (node other : Table) → Pair → Plan → ℕ → Option Row → List ℕ
-short_text node other pair plan n None = []
-short_text node other pair plan n (Some r) = short_lines node other pair plan n r
+-- what is said of a row that no row of the other end accepts for long enough: when those accept
+-- that do (own)
+abbrev pub short_text : Facing → Plan → ℕ → Option Row → List ℕ
+short_text f plan n None = []
+short_text f plan n (Some r) =
+    unmet_line f n r short_words ++ accepting_lines f plan r 1 f.other.rows
 
 -- the seconds from one to another, both included; 2^64 - 1 of them stand for more (own)
 abbrev pub seconds_between : (first last : ℕ) → ℕ
@@ -216,12 +221,10 @@ gap_text name first last =
     codes "  WRONG " ++ (name ++ (codes " has no row to send with from "
     ++ (times_text first last ++ seconds_text first last)))
 
--- what is said of a finding on the tables of two ends (own)
-abbrev pub finding_text : (a b : Table) → Pair → Plan → Finding → List ℕ
-finding_text a b pair plan (finding.NoPeerRow end n) =
-    refused_text (side_of end a b) (side_of end b a) (side_of end pair (mirrored pair)) n
-    (row_numbered (side_of end a b).rows n)
-finding_text a b pair plan (finding.ShortAccept end n) =
-    short_text (side_of end a b) (side_of end b a) (side_of end pair (mirrored pair)) plan n
-    (row_numbered (side_of end a b).rows n)
-finding_text a b pair plan (finding.Gap end first last) = gap_text (side_of end a b).name first last
+-- what is said of a finding on a connection, which is given as end a sees it (own)
+abbrev pub finding_text : Facing → Plan → Finding → List ℕ
+finding_text f plan (finding.NoPeerRow end n) =
+    refused_text (facing_at end f) n (row_numbered (facing_at end f).node.rows n)
+finding_text f plan (finding.ShortAccept end n) =
+    short_text (facing_at end f) plan n (row_numbered (facing_at end f).node.rows n)
+finding_text f plan (finding.Gap end first last) = gap_text (facing_at end f).node.name first last

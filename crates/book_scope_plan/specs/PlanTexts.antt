@@ -17,7 +17,7 @@ use Rattle.book_plans.specs.Findings.{findings_of}
 use Rattle.book_plans.specs.Margins.{lead_margin_of, lag_margin_of}
 use Rattle.book_scope_texts.specs.Addresses.{usual_address_text}
 use Rattle.book_scope_plan.specs.CalendarTexts.{calendar_text}
-use Rattle.book_scope_plan.specs.FindingTexts.{finding_text}
+use Rattle.book_scope_plan.specs.FindingTexts.{Facing, finding_text}
 
 -- an address and a port (own)
 unfoldable pub usual_socket_text : Socket → List ℕ
@@ -41,21 +41,26 @@ aligned_line lead lag =
     codes "  aligned; the plan holds for " ++ (margin_text (codes "LEAD") lead
     ++ (codes " and " ++ (margin_text (codes "LAG") lag ++ 10 ∷ [])))
 
--- what is said of all findings, or that there is none (own)
-abbrev pub findings_text : (a b : Table) → List Table → Pair → Plan → List Finding → List ℕ
-findings_text a b tables pair plan [] =
-    aligned_line (lead_margin_of tables pair plan.lag) (lag_margin_of tables pair plan.lead)
-findings_text a b tables pair plan (f ∷ fs) = flat_map (finding_text a b pair plan) (f ∷ fs)
+-- what is said of all findings on a connection, as end a sees it, or that there is none (own)
+abbrev pub findings_text : Facing → List Table → Plan → List Finding → List ℕ
+findings_text ends tables plan [] =
+    aligned_line (lead_margin_of tables ends.pair plan.lag)
+    (lag_margin_of tables ends.pair plan.lead)
+findings_text ends tables plan (f ∷ fs) = flat_map (finding_text ends plan) (f ∷ fs)
 
 -- all findings on a connection (own)
 abbrev pub plan_findings : List Table → Plan → Pair → List Finding
 plan_findings tables plan pair = findings_of tables pair plan.lead plan.lag plan.from plan.to
 
--- what is said of a connection whose ends have these tables (own)
-abbrev pub both_text : (a b : Table) → List Table → Plan → Pair → List ℕ
-both_text a b tables plan pair =
-    calendar_text a b (calendar_of tables pair plan.from plan.to)
-    ++ findings_text a b tables pair plan (plan_findings tables plan pair)
+-- a connection between nodes of these tables, as end a sees it (own)
+abbrev pub facing : (a b : Table) → Pair → Facing
+facing a b pair = record { node = a; other = b; pair = pair }
+
+-- what is said of a connection whose ends have tables, as end a sees it (own)
+abbrev pub both_text : Facing → List Table → Plan → List ℕ
+both_text ends tables plan =
+    calendar_text ends.node ends.other (calendar_of tables ends.pair plan.from plan.to)
+    ++ findings_text ends tables plan (plan_findings tables plan ends.pair)
 
 -- that no node has the address, where none has (own)
 abbrev pub missing_text : Option Table → Address → List ℕ
@@ -69,7 +74,7 @@ node_with tables address = find (has_address address) tables
 
 -- what is said of a connection by the nodes of its ends (own)
 abbrev pub nodes_text : (a b : Option Table) → List Table → Plan → Pair → List ℕ
-nodes_text (Some a) (Some b) tables plan pair = both_text a b tables plan pair
+nodes_text (Some a) (Some b) tables plan pair = both_text (facing a b pair) tables plan
 nodes_text a b tables plan pair =
     missing_text a pair.local.address ++ missing_text b pair.remote.address
 

@@ -3,9 +3,9 @@ ghost use Rattle.std.specs.Prelude.{◌≡◌, ◌≤◌, IfOk, length, true, fa
 ghost use Rattle.std.specs.List.{All};
 ghost use Rattle.book_answer.specs.Answers.{done, if_read, reported};
 ghost use Rattle.book_cmd_link.specs.LinkFiles.{are_two_of_a_family, script_of};
-ghost use Rattle.command_report.specs.Reporting.{Reports};
+ghost use Rattle.command_report.specs.Reports.{Reports};
 ghost use Rattle.link_world.specs.Events.{CanHappen};
-ghost use Rattle.link_world.specs.Standing.{setup_of};
+ghost use Rattle.link_world.specs.Stands.{setup_of};
 ghost use Rattle.scope_echo.specs.Forms.{echoed, echoed_by_shared, echoed_over};
 
 use crate::echo::print_echo;

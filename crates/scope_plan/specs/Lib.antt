@@ -1,1 +1,2 @@
+pub mod Facings
 pub mod Plannings

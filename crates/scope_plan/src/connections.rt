@@ -1,10 +1,11 @@
 //! What is said of a connection.
 ghost use Rattle.std.specs.Prelude.{◌≡◌, ◌++◌, OnOk, IfOk, option_map};
 ghost use Rattle.book_plans.specs.Margins.{lead_margin_of, lag_margin_of};
-ghost use Rattle.book_scope_plan.specs.PlanTexts.{aligned_line, both_text, connection_line, connection_text, findings_text, has_none, is_good_plan, margin_text, missing_text, node_with, nodes_text, plan_findings, usual_socket_text};
+ghost use Rattle.book_scope_plan.specs.PlanTexts.{aligned_line, both_text, connection_line, connection_text, facing, findings_text, has_none, is_good_plan, margin_text, missing_text, node_with, nodes_text, plan_findings, usual_socket_text};
+ghost use Rattle.scope_plan.specs.Facings.{facing_of};
 
 use crate::calendar::push_calendar;
-use crate::ends::Ends;
+use crate::ends::{Ends, Facing};
 use crate::findings::push_findings;
 use ao_base::push_decimal;
 use book_base::{Address, Pair, Socket};
@@ -86,21 +87,20 @@ fn has_none(findings: &[Finding]) -> bool
 /// What is said of all findings, or that there is none.
 fn push_judgement(
     out: &mut Vec<u8>,
-    ends: &Ends,
+    facing: &Facing,
     tables: &Tables,
-    pair: &Pair,
     plan: &Plan,
     findings: &[Finding],
 ) -> Result<(), AllocError>
-    ensures { OnOk result (out.new.items ≡ out.old.items ++ findings_text ends.now.a.now ends.now.b.now tables.now pair.now plan.now findings.now) }
+    ensures { OnOk result (out.new.items ≡ out.old.items ++ findings_text (facing_of facing.now) tables.now plan.now findings.now) }
 {
     match findings {
         [] => {
-            let lead = lead_margin(tables, pair, plan.lag);
-            let lag = lag_margin(tables, pair, plan.lead);
+            let lead = lead_margin(tables, &facing.pair, plan.lag);
+            let lag = lag_margin(tables, &facing.pair, plan.lead);
             push_aligned(out, lead, lag)
         }
-        [_, ..] => push_findings(out, ends, pair, plan, findings),
+        [_, ..] => push_findings(out, facing, plan, findings),
     }
 }
 
@@ -113,13 +113,13 @@ fn push_both(
     plan: &Plan,
     pair: &Pair,
 ) -> Result<bool, AllocError>
-    ensures text { OnOk result (out.new.items ≡ out.old.items ++ both_text ends.now.a.now ends.now.b.now tables.now plan.now pair.now) }
+    ensures text { OnOk result (out.new.items ≡ out.old.items ++ both_text (facing ends.now.a.now ends.now.b.now pair.now) tables.now plan.now) }
     ensures good { IfOk result (λ good. good ≡ has_none (plan_findings tables.now plan.now pair.now)) }
 {
     let turns = calendar(alloc, tables, pair, plan.from, plan.to)?;
     push_calendar(alloc, out, ends, turns.as_slice())?;
     let findings = findings(alloc, tables, pair, plan.lead, plan.lag, plan.from, plan.to)?;
-    push_judgement(out, ends, tables, pair, plan, findings.as_slice())?;
+    push_judgement(out, &ends.facing(pair), tables, plan, findings.as_slice())?;
     Ok(has_none(findings.as_slice()))
 }
 

@@ -1,14 +1,16 @@
 //! In which columns rows of the other end differ from one that accepts what a row sends.
-ghost use Rattle.std.specs.Prelude.{◌≡◌, ◌==◌, ◌++◌, ◌≤◌, OnOk, decimal};
+ghost use Rattle.std.specs.Prelude.{◌≡◌, ◌==◌, ◌++◌, ◌≤◌, IfOk, OnOk, decimal};
 ghost use Rattle.book_base.specs.Algorithms.{name_of};
 ghost use Rattle.book_plans.specs.Differences.{differences};
 ghost use Rattle.book_scope_plan.specs.FindingTexts.{algorithms_text, connection_words, difference_count, difference_head, difference_lines, direction_words, fewest, ids_text, key_column_lines, key_words, nearest_lines, one_if, options_words, row_name, text_if, use_column_lines};
+ghost use Rattle.scope_plan.specs.Facings.{facing_of};
 
+use crate::ends::Facing;
 use ao_base::push_decimal;
 use book_base::Pair;
 use key_plan::{Differences, differences};
-use key_table::{Row, Table};
-use std::alloc::AllocError;
+use key_table::Row;
+use std::alloc::{AllocError, Global};
 
 fn one_if(holds: bool) -> u8
     ensures value { result ≡ one_if holds }
@@ -53,12 +55,21 @@ pub(crate) fn push_row_name(out: &mut Vec<u8>, name: &[u8], number: u8) -> Resul
     push_decimal(out, u64::from(number))
 }
 
+/// The same as a text of its own.
+pub(crate) fn row_name(alloc: Global, name: &[u8], number: u8) -> Result<Vec<u8>, AllocError>
+    ensures { IfOk result (λ text. text.items ≡ row_name name.now number) }
+{
+    let mut text = Vec::new(alloc);
+    push_row_name(&mut text, name, number)?;
+    Ok(text)
+}
+
 /// A row of the other end differs in a column.
-fn push_head(out: &mut Vec<u8>, name: &[u8], number: u8) -> Result<(), AllocError>
-    ensures { OnOk result (out.new.items ≡ out.old.items ++ difference_head name.now number) }
+fn push_head(out: &mut Vec<u8>, name: &[u8]) -> Result<(), AllocError>
+    ensures { OnOk result (out.new.items ≡ out.old.items ++ difference_head name.now) }
 {
     out.extend_from_slice(b"    ")?;
-    push_row_name(out, name, number)?;
+    out.extend_from_slice(name)?;
     out.extend_from_slice(b" differs in ")?;
     Ok(())
 }
@@ -103,19 +114,13 @@ fn push_algorithms(out: &mut Vec<u8>, row: &Row, other: &Row) -> Result<(), Allo
     Ok(())
 }
 
-fn push_if(
-    out: &mut Vec<u8>,
-    holds: bool,
-    name: &[u8],
-    number: u8,
-    words: &[u8],
-) -> Result<(), AllocError>
-    ensures { OnOk result (out.new.items ≡ out.old.items ++ text_if holds (difference_head name.now number ++ words.now)) }
+fn push_if(out: &mut Vec<u8>, holds: bool, name: &[u8], words: &[u8]) -> Result<(), AllocError>
+    ensures { OnOk result (out.new.items ≡ out.old.items ++ text_if holds (difference_head name.now ++ words.now)) }
 {
     if !holds {
         return Ok(());
     }
-    push_head(out, name, number)?;
+    push_head(out, name)?;
     out.extend_from_slice(words)
 }
 
@@ -123,16 +128,15 @@ fn push_ids_if(
     out: &mut Vec<u8>,
     holds: bool,
     name: &[u8],
-    number: u8,
     row: &Row,
     other: &Row,
 ) -> Result<(), AllocError>
-    ensures { OnOk result (out.new.items ≡ out.old.items ++ text_if holds (difference_head name.now number ++ ids_text row.now other.now)) }
+    ensures { OnOk result (out.new.items ≡ out.old.items ++ text_if holds (difference_head name.now ++ ids_text row.now other.now)) }
 {
     if !holds {
         return Ok(());
     }
-    push_head(out, name, number)?;
+    push_head(out, name)?;
     push_ids(out, row, other)
 }
 
@@ -140,16 +144,15 @@ fn push_algorithms_if(
     out: &mut Vec<u8>,
     holds: bool,
     name: &[u8],
-    number: u8,
     row: &Row,
     other: &Row,
 ) -> Result<(), AllocError>
-    ensures { OnOk result (out.new.items ≡ out.old.items ++ text_if holds (difference_head name.now number ++ algorithms_text row.now other.now)) }
+    ensures { OnOk result (out.new.items ≡ out.old.items ++ text_if holds (difference_head name.now ++ algorithms_text row.now other.now)) }
 {
     if !holds {
         return Ok(());
     }
-    push_head(out, name, number)?;
+    push_head(out, name)?;
     push_algorithms(out, row, other)
 }
 
@@ -190,31 +193,25 @@ fn connection_words() -> &'static [u8]
 fn push_key_lines(
     out: &mut Vec<u8>,
     name: &[u8],
-    number: u8,
     row: &Row,
     other: &Row,
     d: &Differences,
 ) -> Result<(), AllocError>
-    ensures { OnOk result (out.new.items ≡ out.old.items ++ key_column_lines name.now number row.now other.now d.now) }
+    ensures { OnOk result (out.new.items ≡ out.old.items ++ key_column_lines name.now row.now other.now d.now) }
 {
-    push_ids_if(out, d.key_id, name, number, row, other)?;
-    push_if(out, d.master, name, number, key_words())?;
-    push_algorithms_if(out, d.algorithm, name, number, row, other)
+    push_ids_if(out, d.key_id, name, row, other)?;
+    push_if(out, d.master, name, key_words())?;
+    push_algorithms_if(out, d.algorithm, name, row, other)
 }
 
 /// The lines of the columns that say what for.
 #[tactic(auto, unfolding(book_scope_plan::specs::FindingTexts::use_column_lines))]
-fn push_use_lines(
-    out: &mut Vec<u8>,
-    name: &[u8],
-    number: u8,
-    d: &Differences,
-) -> Result<(), AllocError>
-    ensures { OnOk result (out.new.items ≡ out.old.items ++ use_column_lines name.now number d.now) }
+fn push_use_lines(out: &mut Vec<u8>, name: &[u8], d: &Differences) -> Result<(), AllocError>
+    ensures { OnOk result (out.new.items ≡ out.old.items ++ use_column_lines name.now d.now) }
 {
-    push_if(out, d.options, name, number, options_words())?;
-    push_if(out, d.direction, name, number, direction_words())?;
-    push_if(out, d.connection, name, number, connection_words())
+    push_if(out, d.options, name, options_words())?;
+    push_if(out, d.direction, name, direction_words())?;
+    push_if(out, d.connection, name, connection_words())
 }
 
 /// The lines of the columns in which a row of the other end differs.
@@ -222,32 +219,31 @@ fn push_use_lines(
 fn push_differences(
     out: &mut Vec<u8>,
     name: &[u8],
-    number: u8,
     row: &Row,
     other: &Row,
     d: &Differences,
 ) -> Result<(), AllocError>
-    ensures { OnOk result (out.new.items ≡ out.old.items ++ difference_lines name.now number row.now other.now d.now) }
+    ensures { OnOk result (out.new.items ≡ out.old.items ++ difference_lines name.now row.now other.now d.now) }
 {
-    push_key_lines(out, name, number, row, other, d)?;
-    push_use_lines(out, name, number, d)
+    push_key_lines(out, name, row, other, d)?;
+    push_use_lines(out, name, d)
 }
 
-/// The lines of a row, where it differs in so many columns.
+/// The lines of a row of this number, where it differs in so many columns.
 fn push_near(
     out: &mut Vec<u8>,
-    name: &[u8],
-    number: u8,
+    facing: &Facing,
     row: &Row,
-    other: &Row,
-    pair: &Pair,
     count: u8,
+    number: u8,
+    other: &Row,
 ) -> Result<(), AllocError>
-    ensures { OnOk result (out.new.items ≡ out.old.items ++ text_if (difference_count (differences pair.now row.now other.now) == count) (difference_lines name.now number row.now other.now (differences pair.now row.now other.now))) }
+    ensures { OnOk result (out.new.items ≡ out.old.items ++ text_if (difference_count (differences facing.now.pair row.now other.now) == count) (difference_lines (row_name facing.now.other.now.name number) row.now other.now (differences facing.now.pair row.now other.now))) }
 {
-    let d = differences(pair, row, other);
+    let d = differences(&facing.pair, row, other);
     if difference_count(&d) == count {
-        push_differences(out, name, number, row, other, &d)
+        let name = row_name(*out.allocator(), facing.other.name(), number)?;
+        push_differences(out, name.as_slice(), row, other, &d)
     } else {
         Ok(())
     }
@@ -256,18 +252,17 @@ fn push_near(
 /// The lines of the rows of the other end that differ in so many columns.
 pub(crate) fn push_nearest(
     out: &mut Vec<u8>,
-    table: &Table,
-    pair: &Pair,
+    facing: &Facing,
     row: &Row,
     count: u8,
 ) -> Result<(), AllocError>
-    ensures { OnOk result (out.new.items ≡ out.old.items ++ nearest_lines table.now.name pair.now row.now count 1 table.now.rows) }
+    ensures { OnOk result (out.new.items ≡ out.old.items ++ nearest_lines (facing_of facing.now) row.now count 1 facing.now.other.now.rows) }
 {
     // It tells that a table has at most 64 rows, so that each number fits.
-    let _count = table.rows();
-    let rows = table.entries();
+    let _count = facing.other.rows();
+    let rows = facing.other.entries();
     for (i, other) in rows.iter().enumerate() {
-        push_near(out, table.name(), (i + 1) as u8, row, other, pair, count)?;
+        push_near(out, facing, row, count, (i + 1) as u8, other)?;
     }
     Ok(())
 }

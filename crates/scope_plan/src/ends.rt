@@ -1,7 +1,9 @@
 //! The two ends of a connection.
 ghost use Rattle.std.specs.Prelude.{◌≡◌, option_map};
-ghost use Rattle.book_keys.specs.Plans.{mirrored};
 ghost use Rattle.book_scope_plan.specs.CalendarTexts.{row_numbered, side_of};
+ghost use Rattle.book_scope_plan.specs.FindingTexts.{facing_at};
+ghost use Rattle.book_scope_plan.specs.PlanTexts.{facing};
+ghost use Rattle.scope_plan.specs.Facings.{facing_of};
 
 use book_base::{End, Pair};
 use key_table::{Row, Table};
@@ -24,27 +26,42 @@ impl<'a> Ends<'a> {
         }
     }
 
-    /// The table of the other end.
-    pub(crate) fn beyond(&self, end: End) -> &'a Table
-        ensures { result.now ≡ side_of end self.now.b.now self.now.a.now }
+    /// The connection as end A sees it.
+    pub(crate) fn facing(&self, pair: &Pair) -> Facing<'a>
+        ensures { facing_of result ≡ facing self.now.a.now self.now.b.now pair.now }
     {
-        match end {
-            End::A => self.b,
-            End::B => self.a,
+        Facing {
+            node: self.a,
+            other: self.b,
+            pair: *pair,
         }
     }
 }
 
-/// The connection as an end sees it, which is given as end A does.
-pub(crate) fn pair_at(end: End, pair: &Pair) -> Pair
-    ensures { result ≡ side_of end pair.now (mirrored pair.now) }
-{
-    match end {
-        End::A => *pair,
-        End::B => Pair {
-            local: pair.remote,
-            remote: pair.local,
-        },
+/// A connection as one of its ends sees it: the table of its node, that of the other end's, and the pair.
+#[derive(Clone, Copy)]
+pub(crate) struct Facing<'a> {
+    pub(crate) node: &'a Table,
+    pub(crate) other: &'a Table,
+    pub(crate) pair: Pair,
+}
+
+impl<'a> Facing<'a> {
+    /// The connection as this end sees it, which is given as end A does.
+    pub(crate) fn at(&self, end: End) -> Facing<'a>
+        ensures { facing_of result ≡ facing_at end (facing_of self.now) }
+    {
+        match end {
+            End::A => *self,
+            End::B => Facing {
+                node: self.other,
+                other: self.node,
+                pair: Pair {
+                    local: self.pair.remote,
+                    remote: self.pair.local,
+                },
+            },
+        }
     }
 }
 

@@ -1,16 +1,16 @@
 //! What is said of each finding.
 ghost use Rattle.std.specs.Prelude.{◌≡◌, ◌++◌, OnOk, flat_map};
 ghost use Rattle.book_scope_plan.specs.CalendarTexts.{row_numbered};
-ghost use Rattle.book_scope_plan.specs.FindingTexts.{finding_text, gap_text, refused_text, seconds_between, seconds_text, sent_id_text, short_lines, short_text, short_words, times_text, unmet_line};
+ghost use Rattle.book_scope_plan.specs.FindingTexts.{finding_text, gap_text, refused_text, seconds_between, seconds_text, sent_id_text, short_text, short_words, times_text, unmet_line};
+ghost use Rattle.scope_plan.specs.Facings.{facing_of};
 
 use crate::differences::{fewest, push_nearest, push_row_name, push_sent};
-use crate::ends::{Ends, pair_at, row_numbered};
+use crate::ends::{Facing, row_numbered};
 use crate::lifetimes::push_short;
 use ao_base::push_decimal;
-use book_base::Pair;
 use book_cmd_keys::Plan;
 use key_plan::Finding;
-use key_table::{Row, Table};
+use key_table::Row;
 use scope_texts::push_instant;
 use std::alloc::AllocError;
 
@@ -28,35 +28,29 @@ fn push_sent_id(out: &mut Vec<u8>, row: &Row) -> Result<(), AllocError>
 #[tactic(auto, unfolding(book_scope_plan::specs::FindingTexts::unmet_line))]
 fn push_unmet(
     out: &mut Vec<u8>,
-    node: &[u8],
-    name: &[u8],
+    facing: &Facing,
     number: u8,
     row: &Row,
     words: &[u8],
 ) -> Result<(), AllocError>
-    ensures { OnOk result (out.new.items ≡ out.old.items ++ unmet_line node.now name.now number row.now words.now) }
+    ensures { OnOk result (out.new.items ≡ out.old.items ++ unmet_line (facing_of facing.now) number row.now words.now) }
 {
     out.extend_from_slice(b"  WRONG ")?;
-    push_row_name(out, node, number)?;
+    push_row_name(out, facing.node.name(), number)?;
     push_sent_id(out, row)?;
-    out.extend_from_slice(name)?;
+    out.extend_from_slice(facing.other.name())?;
     out.extend_from_slice(words)
 }
 
 /// A row that no row of the other end accepts.
-fn push_refused(
-    out: &mut Vec<u8>,
-    node: &Table,
-    other: &Table,
-    pair: &Pair,
-    number: u8,
-) -> Result<(), AllocError>
-    ensures { OnOk result (out.new.items ≡ out.old.items ++ refused_text node.now other.now pair.now number (row_numbered node.now.rows number)) }
+fn push_refused(out: &mut Vec<u8>, facing: &Facing, number: u8) -> Result<(), AllocError>
+    ensures { OnOk result (out.new.items ≡ out.old.items ++ refused_text (facing_of facing.now) number (row_numbered facing.now.node.now.rows number)) }
 {
-    match row_numbered(node, number) {
+    match row_numbered(facing.node, number) {
         Some(row) => {
-            push_unmet(out, node.name(), other.name(), number, row, b" takes it\n")?;
-            push_nearest(out, other, pair, row, fewest(pair, row, other.entries()))
+            push_unmet(out, facing, number, row, b" takes it\n")?;
+            let count = fewest(&facing.pair, row, facing.other.entries());
+            push_nearest(out, facing, row, count)
         }
         None => Ok(()),
     }
@@ -70,36 +64,20 @@ fn short_words() -> &'static [u8]
     b" takes it for long enough\n"
 }
 
-/// The lines of a row that no row of the other end accepts for long enough.
-#[tactic(auto, unfolding(book_scope_plan::specs::FindingTexts::short_lines))]
-fn push_short_lines(
-    out: &mut Vec<u8>,
-    node: &Table,
-    other: &Table,
-    pair: &Pair,
-    plan: &Plan,
-    number: u8,
-    row: &Row,
-) -> Result<(), AllocError>
-    ensures { OnOk result (out.new.items ≡ out.old.items ++ short_lines node.now other.now pair.now plan.now number row.now) }
-{
-    push_unmet(out, node.name(), other.name(), number, row, short_words())?;
-    push_short(out, node.name(), other, pair, plan, row)
-}
-
 /// A row that no row of the other end accepts for long enough.
 fn push_too_short(
     out: &mut Vec<u8>,
-    node: &Table,
-    other: &Table,
-    pair: &Pair,
+    facing: &Facing,
     plan: &Plan,
     number: u8,
 ) -> Result<(), AllocError>
-    ensures { OnOk result (out.new.items ≡ out.old.items ++ short_text node.now other.now pair.now plan.now number (row_numbered node.now.rows number)) }
+    ensures { OnOk result (out.new.items ≡ out.old.items ++ short_text (facing_of facing.now) plan.now number (row_numbered facing.now.node.now.rows number)) }
 {
-    match row_numbered(node, number) {
-        Some(row) => push_short_lines(out, node, other, pair, plan, number, row),
+    match row_numbered(facing.node, number) {
+        Some(row) => {
+            push_unmet(out, facing, number, row, short_words())?;
+            push_short(out, facing, plan, row)
+        }
         None => Ok(()),
     }
 }
@@ -147,45 +125,33 @@ fn push_gap(out: &mut Vec<u8>, name: &[u8], first: u64, last: u64) -> Result<(),
 /// What is said of a finding.
 fn push_finding(
     out: &mut Vec<u8>,
-    ends: &Ends,
-    pair: &Pair,
+    facing: &Facing,
     plan: &Plan,
     finding: Finding,
 ) -> Result<(), AllocError>
-    ensures { OnOk result (out.new.items ≡ out.old.items ++ finding_text ends.now.a.now ends.now.b.now pair.now plan.now finding) }
+    ensures { OnOk result (out.new.items ≡ out.old.items ++ finding_text (facing_of facing.now) plan.now finding) }
 {
     match finding {
-        Finding::NoPeerRow(end, number) => push_refused(
-            out,
-            ends.table(end),
-            ends.beyond(end),
-            &pair_at(end, pair),
-            number,
-        ),
-        Finding::ShortAccept(end, number) => push_too_short(
-            out,
-            ends.table(end),
-            ends.beyond(end),
-            &pair_at(end, pair),
-            plan,
-            number,
-        ),
-        Finding::Gap(end, first, last) => push_gap(out, ends.table(end).name(), first, last),
+        Finding::NoPeerRow(end, number) => push_refused(out, &facing.at(end), number),
+        Finding::ShortAccept(end, number) => push_too_short(out, &facing.at(end), plan, number),
+        Finding::Gap(end, first, last) => {
+            let at = facing.at(end);
+            push_gap(out, at.node.name(), first, last)
+        }
     }
 }
 
 /// What is said of each finding, in order.
 pub(crate) fn push_findings(
     out: &mut Vec<u8>,
-    ends: &Ends,
-    pair: &Pair,
+    facing: &Facing,
     plan: &Plan,
     findings: &[Finding],
 ) -> Result<(), AllocError>
-    ensures { OnOk result (out.new.items ≡ out.old.items ++ flat_map (finding_text ends.now.a.now ends.now.b.now pair.now plan.now) findings.now) }
+    ensures { OnOk result (out.new.items ≡ out.old.items ++ flat_map (finding_text (facing_of facing.now) plan.now) findings.now) }
 {
     for finding in findings {
-        push_finding(out, ends, pair, plan, *finding)?;
+        push_finding(out, facing, plan, *finding)?;
     }
     Ok(())
 }

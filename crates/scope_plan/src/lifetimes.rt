@@ -1,15 +1,15 @@
 //! What rows of the other end lack of the lifetime that is wanted of them.
-ghost use Rattle.std.specs.Prelude.{◌≡◌, ◌++◌, OnOk, decimal};
+ghost use Rattle.std.specs.Prelude.{◌≡◌, ◌++◌, OnOk, codes, decimal};
 ghost use Rattle.book_plans.specs.Differences.{differences, is_alike};
-ghost use Rattle.book_plans.specs.Findings.{wanted_accepting};
-ghost use Rattle.book_scope_plan.specs.FindingTexts.{accepting_lines, accepting_row, accepts_text, early_line, late_line, lifetime_lines, sends_text, set_text, text_if, wanted_text};
+ghost use Rattle.book_scope_plan.specs.FindingTexts.{accepting_lines, accepting_row, accepts_text, early_line, late_line, lifetime_lines, planned_accepting, row_name, sends_text, set_text, text_if, wanted_text};
+ghost use Rattle.scope_plan.specs.Facings.{facing_of};
 
-use crate::differences::push_row_name;
+use crate::differences::row_name;
+use crate::ends::Facing;
 use ao_base::push_decimal;
-use book_base::Pair;
 use book_cmd_keys::Plan;
 use key_plan::{differences, wanted_accepting};
-use key_table::{Lifetime, Row, Table};
+use key_table::{Lifetime, Row};
 use scope_texts::{push_instant, push_key_time};
 use std::alloc::AllocError;
 
@@ -70,99 +70,121 @@ fn push_wanted(out: &mut Vec<u8>, left: u64, word: &[u8], wanted: u64) -> Result
 fn push_set(
     out: &mut Vec<u8>,
     column: &[u8],
-    name: &[u8],
-    number: u8,
+    row: &[u8],
     time: u64,
     word: &[u8],
 ) -> Result<(), AllocError>
-    ensures { OnOk result (out.new.items ≡ out.old.items ++ set_text column.now name.now number time word.now) }
+    ensures { OnOk result (out.new.items ≡ out.old.items ++ set_text column.now row.now time word.now) }
 {
     out.extend_from_slice(column)?;
     out.extend_from_slice(b" of ")?;
-    push_row_name(out, name, number)?;
+    out.extend_from_slice(row)?;
     out.extend_from_slice(b" to ")?;
     push_key_time(out, time)?;
     out.extend_from_slice(word)
+}
+
+/// When a row of the other end is to accept what the row sends.
+fn planned_accepting(plan: &Plan, row: &Row) -> Lifetime
+    ensures { result ≡ planned_accepting plan.now row.now }
+{
+    wanted_accepting(row, plan.lead, plan.lag)
+}
+
+/// The time before which a row of the other end is to begin to accept.
+fn push_start(out: &mut Vec<u8>, name: &[u8], number: u8, wanted: u64) -> Result<(), AllocError>
+    ensures { OnOk result (out.new.items ≡ out.old.items ++ set_text (codes "AcceptLifetimeStart") (row_name name.now number) wanted (codes " or earlier\n")) }
+{
+    let row = row_name(*out.allocator(), name, number)?;
+    push_set(
+        out,
+        b"AcceptLifetimeStart",
+        row.as_slice(),
+        wanted,
+        b" or earlier\n",
+    )
+}
+
+/// The time after which a row of the other end is to end to accept.
+fn push_end(out: &mut Vec<u8>, name: &[u8], number: u8, wanted: u64) -> Result<(), AllocError>
+    ensures { OnOk result (out.new.items ≡ out.old.items ++ set_text (codes "AcceptLifetimeEnd") (row_name name.now number) wanted (codes " or later\n")) }
+{
+    let row = row_name(*out.allocator(), name, number)?;
+    push_set(
+        out,
+        b"AcceptLifetimeEnd",
+        row.as_slice(),
+        wanted,
+        b" or later\n",
+    )
 }
 
 /// The line of a row of the other end that begins to accept too late.
 #[tactic(auto, unfolding(book_scope_plan::specs::FindingTexts::early_line))]
 fn push_early(
     out: &mut Vec<u8>,
-    node: &[u8],
-    name: &[u8],
-    lead: u64,
+    facing: &Facing,
+    plan: &Plan,
     number: u8,
     row: &Row,
     other: &Row,
-    wanted: u64,
 ) -> Result<(), AllocError>
-    ensures { OnOk result (out.new.items ≡ out.old.items ++ early_line node.now name.now lead number row.now other.now wanted) }
+    ensures { OnOk result (out.new.items ≡ out.old.items ++ early_line (facing_of facing.now) plan.now number row.now other.now) }
 {
+    let name = facing.other.name();
     let sent = row.sending().first;
     let accepted = other.accepting().first;
     push_accepts(out, name, number, b" from ", accepted)?;
-    push_sends(out, node, b" from ", sent)?;
-    push_wanted(out, sent.saturating_sub(accepted), b" s before, ", lead)?;
-    push_set(
+    push_sends(out, facing.node.name(), b" from ", sent)?;
+    push_wanted(
         out,
-        b"AcceptLifetimeStart",
-        name,
-        number,
-        wanted,
-        b" or earlier\n",
-    )
+        sent.saturating_sub(accepted),
+        b" s before, ",
+        plan.lead,
+    )?;
+    push_start(out, name, number, planned_accepting(plan, row).first)
 }
 
 /// The line of a row of the other end that ends to accept too early.
 #[tactic(auto, unfolding(book_scope_plan::specs::FindingTexts::late_line))]
 fn push_late(
     out: &mut Vec<u8>,
-    node: &[u8],
-    name: &[u8],
-    lag: u64,
+    facing: &Facing,
+    plan: &Plan,
     number: u8,
     row: &Row,
     other: &Row,
-    wanted: u64,
 ) -> Result<(), AllocError>
-    ensures { OnOk result (out.new.items ≡ out.old.items ++ late_line node.now name.now lag number row.now other.now wanted) }
+    ensures { OnOk result (out.new.items ≡ out.old.items ++ late_line (facing_of facing.now) plan.now number row.now other.now) }
 {
+    let name = facing.other.name();
     let sent = row.sending().last;
     let accepted = other.accepting().last;
     push_accepts(out, name, number, b" until ", accepted)?;
-    push_sends(out, node, b" until ", sent)?;
-    push_wanted(out, accepted.saturating_sub(sent), b" s after, ", lag)?;
-    push_set(
-        out,
-        b"AcceptLifetimeEnd",
-        name,
-        number,
-        wanted,
-        b" or later\n",
-    )
+    push_sends(out, facing.node.name(), b" until ", sent)?;
+    push_wanted(out, accepted.saturating_sub(sent), b" s after, ", plan.lag)?;
+    push_end(out, name, number, planned_accepting(plan, row).last)
 }
 
 /// What a row of the other end lacks of the lifetime that is wanted.
 #[tactic(auto, unfolding(book_scope_plan::specs::FindingTexts::lifetime_lines))]
 fn push_lifetime(
     out: &mut Vec<u8>,
-    node: &[u8],
-    name: &[u8],
+    facing: &Facing,
     plan: &Plan,
     number: u8,
     row: &Row,
     other: &Row,
-    wanted: Lifetime,
 ) -> Result<(), AllocError>
-    ensures { OnOk result (out.new.items ≡ out.old.items ++ lifetime_lines node.now name.now plan.now number row.now other.now wanted) }
+    ensures { OnOk result (out.new.items ≡ out.old.items ++ lifetime_lines (facing_of facing.now) plan.now number row.now other.now) }
 {
     let accepting = other.accepting();
+    let wanted = planned_accepting(plan, row);
     if wanted.first < accepting.first {
-        push_early(out, node, name, plan.lead, number, row, other, wanted.first)?;
+        push_early(out, facing, plan, number, row, other)?;
     }
     if accepting.last < wanted.last {
-        push_late(out, node, name, plan.lag, number, row, other, wanted.last)?;
+        push_late(out, facing, plan, number, row, other)?;
     }
     Ok(())
 }
@@ -170,49 +192,35 @@ fn push_lifetime(
 /// The lines of a row of the other end, where it accepts what a row sends.
 fn push_accepting(
     out: &mut Vec<u8>,
-    node: &[u8],
-    name: &[u8],
-    pair: &Pair,
+    facing: &Facing,
     plan: &Plan,
     row: &Row,
     number: u8,
     other: &Row,
 ) -> Result<(), AllocError>
-    ensures { OnOk result (out.new.items ≡ out.old.items ++ text_if (is_alike (differences pair.now row.now other.now)) (lifetime_lines node.now name.now plan.now number row.now other.now (wanted_accepting plan.now.lead plan.now.lag row.now))) }
+    ensures { OnOk result (out.new.items ≡ out.old.items ++ text_if (is_alike (differences facing.now.pair row.now other.now)) (lifetime_lines (facing_of facing.now) plan.now number row.now other.now)) }
 {
-    let d = differences(pair, row, other);
+    let d = differences(&facing.pair, row, other);
     if !d.is_none() {
         return Ok(());
     }
-    let wanted = wanted_accepting(row, plan.lead, plan.lag);
-    push_lifetime(out, node, name, plan, number, row, other, wanted)
+    push_lifetime(out, facing, plan, number, row, other)
 }
 
 /// The lines of the rows of the other end that accept what a row sends.
 pub(crate) fn push_short(
     out: &mut Vec<u8>,
-    node: &[u8],
-    table: &Table,
-    pair: &Pair,
+    facing: &Facing,
     plan: &Plan,
     row: &Row,
 ) -> Result<(), AllocError>
-    ensures { OnOk result (out.new.items ≡ out.old.items ++ accepting_lines node.now table.now.name pair.now plan.now row.now 1 table.now.rows) }
+    ensures { OnOk result (out.new.items ≡ out.old.items ++ accepting_lines (facing_of facing.now) plan.now row.now 1 facing.now.other.now.rows) }
 {
     // It tells that a table has at most 64 rows, so that each number fits.
-    let _count = table.rows();
-    let rows = table.entries();
+    let _count = facing.other.rows();
+    let rows = facing.other.entries();
     for (i, other) in rows.iter().enumerate() {
-        push_accepting(
-            out,
-            node,
-            table.name(),
-            pair,
-            plan,
-            row,
-            (i + 1) as u8,
-            other,
-        )?;
+        push_accepting(out, facing, plan, row, (i + 1) as u8, other)?;
     }
     Ok(())
 }
