@@ -10,6 +10,8 @@ use Rattle.book_endpoint.specs.Verdicts.{Judgement}
 use Rattle.book_cmd_check.specs.Captures.{Stored, Connection, Heard, joins, with_connection, fixed, same_isns, most_connections, connection_between, hear_syn_ack, hear_later, hear_judged, judge_stored, hear_at, hear_read, hear, sayings_from}
 use Rattle.book_segments.specs.Segments.{pair_reached}
 use Rattle.book_cmd_check.specs.Connections.{connections_after, IsMap}
+use Rattle.book_cmd_check.specs.declared.given.GivenIsns.{GivenIsns}
+use Rattle.book_cmd_check.specs.Handshakes.{and_given, begun, given_after, held_between, with_begun}
 
 -- ---- which sockets a connection joins
 
@@ -171,6 +173,22 @@ after_map tables held (s ∷ rest) m = after_map tables (hear tables held s.time
 
 pub stays_map : (tables : List Table) (stored : List Stored) → IsMap (connections_after tables [] stored)
 stays_map tables stored = (after_map tables [] stored map_nil).is
+
+kept_map : (kept : Bool) (one two : List Connection) → IsMapOf one → IsMapOf two → IsMapOf (if kept then one else two)
+kept_map true one two a b = a
+kept_map false one two a b = b
+
+begun_map : (c : Connection) (known : Option Connection) (held : List Connection) → IsMapOf held → IsMapOf (with_begun c known held)
+begun_map c (Some k) held m = kept_map (same_isns k c) held (with_connection c held) m (with_map c held m)
+begun_map c None held m = kept_map (nat_le most_connections (length held)) held (with_connection c held) m (with_map c held m)
+
+given_map : (held : List Connection) (gs : List GivenIsns) → IsMapOf held → IsMapOf (given_after held gs)
+given_map held [] m = m
+given_map held (g ∷ gs) m = given_map (and_given g held) gs
+    (kept_map (same_socket g.one g.other) held (with_begun (begun g) (held_between g held) held) m (begun_map (begun g) (held_between g held) held m))
+
+pub stays_map_given : (tables : List Table) (given : List GivenIsns) (stored : List Stored) → IsMap (connections_after tables (given_after [] given) stored)
+stays_map_given tables given stored = (after_map tables (given_after [] given) stored (given_map [] given map_nil)).is
 
 judged_from : (tables : List Table) (held : List Connection) (before after : List Stored)
     → sayings_from tables held (before ++ after) ≡ sayings_from tables held before ++ sayings_from tables (connections_after tables held before) after

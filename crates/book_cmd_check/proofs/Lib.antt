@@ -1,1 +1,2 @@
 pub mod ConnectionLaws
+pub mod HandshakeLaws

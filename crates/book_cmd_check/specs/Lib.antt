@@ -1,4 +1,5 @@
 pub mod Captures
 pub mod Connections
+pub mod Handshakes
 pub mod StoredLines
 pub mod StoredPackets

@@ -1,7 +1,10 @@
 //! What `check` reads and writes: stored datagrams, in the order in which they came, and what is said of
-//! each. Definitions; the empty function carries a theorem about them. Our own format.
+//! each; and what connections are known whose handshake isn't stored. Definitions, with the plain type that
+//! code shares with them; the empty functions carry theorems about them. Our own format.
 #![tactic(auto)]
 
+mod given;
 mod laws;
 
-pub use laws::connections_are_a_map;
+pub use given::GivenIsns;
+pub use laws::{connections_are_a_map, given_isns_are_those_of_a_handshake};

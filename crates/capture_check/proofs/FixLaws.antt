@@ -1,7 +1,7 @@
 -- What a checker answers to a segment with SYN, and what it knows afterwards, is what the definitions say.
 use Rattle.std.proofs.Common.{◌≡◌, ◌+◌, ◌<◌, ◌^◌, ℕ, Bool, true, false, not, List, length, Option, Some, None, refl, sym, ap, ◌∙◌, subst, arith, Ok, Err}
 use Rattle.std.proofs.lemmas.Bool.Decides.{nat_tests}
-use Rattle.std.specs.Prelude.{◌==◌, ◌&&◌, nat_le, if◌then◌else◌}
+use Rattle.std.specs.Prelude.{◌==◌, ◌&&◌, ◌||◌, is_some, nat_le, nat_lt, if◌then◌else◌}
 use Rattle.book_base.specs.declared.address.Pair.{Pair}
 use Rattle.book_base.specs.declared.address.Socket.{Socket}
 use Rattle.book_segments.specs.Segments.{Segment, has, good, SYN, ACK}
@@ -10,6 +10,8 @@ use Rattle.book_segments.proofs.Fields.{some_is}
 use Rattle.book_keys.specs.Rows.{Row, Table}
 use Rattle.book_endpoint.specs.declared.verdict.Verdict.{Verdict}
 use Rattle.book_endpoint.specs.Verdicts.{Judgement, judge}
+use Rattle.book_cmd_check.specs.declared.given.GivenIsns.{GivenIsns}
+use Rattle.book_cmd_check.specs.Handshakes.{and_given, begun, has_room, held_between, with_begun}
 use Rattle.book_cmd_check.specs.Captures.{Connection, Heard, acknowledged_isn, connection_between, fixed, hear_judged, hear_later, hear_syn_ack, judge_stored, most_connections, same_isns, with_connection}
 use Rattle.book_segments.specs.Segments.{pair_reached}
 use Rattle.ao_kdf.specs.declared.way.Way.TheVariants.{Inbound}
@@ -22,11 +24,11 @@ use Rattle.capture_check.specs.declared.ends.Ends.{Ends}
 use Rattle.capture_check.specs.declared.flow.Flow.{Flow}
 use Rattle.capture_check.specs.declared.flows.Flows.{Flows}
 use Rattle.capture_check.specs.Answers.{IsJudged, is_pass}
-use Rattle.capture_check.specs.Ends.{is_low}
+use Rattle.capture_check.specs.Ends.{is_low, key_of}
 use Rattle.capture_check.specs.Flows.{rows_of, way, both, flow_from, counter_of, new_flow, new_flows, IsFlow, shown}
 use Rattle.wrap_seq.specs.Counter.{number}
 use Rattle.capture_check.specs.Checkers.{found, IsSound, told, StandsFor, Hears, Isns, isns, KeepsKeys}
-use Rattle.capture_check.specs.Judgements.{Puts, key_at, from_low, Alone, Fixed, TooMany, Fixes, has_isns, fixing, DoesFix}
+use Rattle.capture_check.specs.Judgements.{Puts, key_at, from_low, Alone, Fixed, TooMany, Fixes, has_isns, isns_of, given_flows, fixing_given, fixing, DoesFix}
 use Rattle.capture_check.proofs.EndsLaws.{low_turned}
 use Rattle.capture_check.proofs.PutLaws.{stands_put, sound_put}
 use Rattle.capture_check.proofs.KeepLaws.{keys_same, keys_renewed}
@@ -52,10 +54,10 @@ new_second tables s t i j ne =
 stands_at : (n : ℕ) → number (counter_of n) ≡ n
 stands_at n = omega arith
 
-shown_new : (tables : List Table) (d : Segment) → same_socket d.source d.destination ≡ false
-    → shown d.source d.destination (new_flows tables d.source d.destination d.sequence (acknowledged_isn d)) ≡ fixed d
-shown_new tables d ne =
-    rw (new_first tables d.source d.destination d.sequence (acknowledged_isn d), new_second tables d.source d.destination d.sequence (acknowledged_isn d) ne, stands_at (d.sequence + 1), stands_at (acknowledged_isn d + 1)) refl
+shown_new : (tables : List Table) (g : GivenIsns) → same_socket g.one g.other ≡ false
+    → shown g.one g.other (given_flows tables g) ≡ begun g
+shown_new tables g ne =
+    rw (new_first tables g.one g.other g.one_isn g.other_isn, new_second tables g.one g.other g.one_isn g.other_isn ne, stands_at (g.one_isn + 1), stands_at (g.other_isn + 1)) refl
 
 new_sound : (tables : List Table) (s t : Socket) (i j : ℕ) → i < 2 ^ 32 → IsFlow tables s t (new_flow tables s t i j) (new_flow tables t s j i)
 new_sound tables s t i j small =
@@ -73,9 +75,9 @@ new_sound tables s t i j small =
 -- ---- a connection is fixed
 
 -- both ways have the initial sequence numbers exactly where the connection has them
-same_numbers : (d : Segment) (h : Flows) → same_socket d.source d.destination ≡ false
-    → same_isns (shown d.source d.destination h) (fixed d) ≡ has_isns (from_low d) h d.sequence (acknowledged_isn d)
-same_numbers d h ne = ap (λ (v : Bool). ((flow_from d.source d.destination h).isn == d.sequence) && ((way v h).isn == acknowledged_isn d)) (low_turned d.source d.destination ne)
+same_numbers : (g : GivenIsns) (h : Flows) → same_socket g.one g.other ≡ false
+    → same_isns (shown g.one g.other h) (begun g) ≡ has_isns (is_low g.one g.other) h g.one_isn g.other_isn
+same_numbers g h ne = ap (λ (v : Bool). ((flow_from g.one g.other h).isn == g.one_isn) && ((way v h).isn == g.other_isn)) (low_turned g.one g.other ne)
 
 -- what is answered: the verdict, or that there is no room
 abbrev pub fixed_line : Bool → Verdict → Bool → CheckLine
@@ -87,7 +89,7 @@ hears_fixed : (tables : List Table) (before after : List (Ends × Flows)) (held 
     → DoesFix (fixing tables d o (length before)) before after (key_at d) result
     → Hears after (fixed_line result v (good d)) (hear_syn_ack held d p (told d.source d.destination o))
 hears_fixed tables before after held d v p (Some h) result S ne f is D =
-    at (has_isns (from_low d) h d.sequence (acknowledged_isn d)) (same_numbers d h ne) D
+    at (has_isns (from_low d) h d.sequence (acknowledged_isn d)) (same_numbers (isns_of d) h ne) D
   where
     new : Flows
     new = new_flows tables d.source d.destination d.sequence (acknowledged_isn d)
@@ -98,7 +100,7 @@ hears_fixed tables before after held d v p (Some h) result S ne f is D =
     at true e (same, yes_it_is) = rw (yes_it_is, e) (record { says = (p, refl, is); stands = rw same S })
     at false e (puts, yes_it_is) =
         let stands = stands_put before after held d.source d.destination (new_flows tables d.source d.destination d.sequence (acknowledged_isn d)) S puts ne in
-        rw (yes_it_is, e) (record { says = (p, refl, is); stands = subst (λ (c : Connection). StandsFor after (with_connection c held)) (shown_new tables d ne) stands })
+        rw (yes_it_is, e) (record { says = (p, refl, is); stands = subst (λ (c : Connection). StandsFor after (with_connection c held)) (shown_new tables (isns_of d) ne) stands })
 hears_fixed tables before after held d v p None result S ne f is D =
     at (nat_le most_connections (length before)) (ap (nat_le most_connections) (sym S.count)) D
   where
@@ -108,32 +110,82 @@ hears_fixed tables before after held d v p None result S ne f is D =
     at true e (same, no_it_isnt) = rw (no_it_isnt, e) (record { says = refl; stands = rw same S })
     at false e (puts, yes_it_is) =
         let stands = stands_put before after held d.source d.destination (new_flows tables d.source d.destination d.sequence (acknowledged_isn d)) S puts ne in
-        rw (yes_it_is, e) (record { says = (p, refl, is); stands = subst (λ (c : Connection). StandsFor after (with_connection c held)) (shown_new tables d ne) stands })
+        rw (yes_it_is, e) (record { says = (p, refl, is); stands = subst (λ (c : Connection). StandsFor after (with_connection c held)) (shown_new tables (isns_of d) ne) stands })
 
-sound_fixed : (tables : List Table) (before after : List (Ends × Flows)) (d : Segment) (o : Option Flows) (result : Bool) → IsSound tables before → same_socket d.source d.destination ≡ false
-    → d.sequence < 2 ^ 32 → DoesFix (fixing tables d o (length before)) before after (key_at d) result → IsSound tables after
-sound_fixed tables before after d o result T ne small D = at o D
+-- a connection that begins stands for the given one
+stands_by : (tables : List Table) (before after : List (Ends × Flows)) (held : List Connection) (g : GivenIsns) (o : Option Flows) (result : Bool)
+    → StandsFor before held → same_socket g.one g.other ≡ false
+    → DoesFix (fixing_given tables g o (length before)) before after (key_of g.one g.other) result
+    → StandsFor after (with_begun (begun g) (told g.one g.other o) held)
+stands_by tables before after held g (Some h) result S ne D = at (has_isns (is_low g.one g.other) h g.one_isn g.other_isn) (same_numbers g h ne) D
   where
-    new_put : Puts before after (key_at d) (new_flows tables d.source d.destination d.sequence (acknowledged_isn d)) → IsSound tables after
+    at : (b : Bool) → same_isns (shown g.one g.other h) (begun g) ≡ b → DoesFix (if b then Fixed else Fixes (given_flows tables g)) before after (key_of g.one g.other) result
+        → StandsFor after (with_begun (begun g) (Some (shown g.one g.other h)) held)
+    at true e (same, room) = rw (e, same) S
+    at false e (puts, room) =
+        rw e (subst (λ (c : Connection). StandsFor after (with_connection c held)) (shown_new tables g ne) (stands_put before after held g.one g.other (given_flows tables g) S puts ne))
+stands_by tables before after held g None result S ne D = at (nat_le most_connections (length before)) (ap (nat_le most_connections) (sym S.count)) D
+  where
+    at : (b : Bool) → nat_le most_connections (length held) ≡ b → DoesFix (if b then TooMany else Fixes (given_flows tables g)) before after (key_of g.one g.other) result
+        → StandsFor after (with_begun (begun g) None held)
+    at true e (same, room) = rw (e, same) S
+    at false e (puts, room) =
+        rw e (subst (λ (c : Connection). StandsFor after (with_connection c held)) (shown_new tables g ne) (stands_put before after held g.one g.other (given_flows tables g) S puts ne))
+
+pub stands_given : (tables : List Table) (before after : List (Ends × Flows)) (held : List Connection) (g : GivenIsns) (result : Bool)
+    → StandsFor before held → same_socket g.one g.other ≡ false
+    → DoesFix (fixing_given tables g (found before (key_of g.one g.other)) (length before)) before after (key_of g.one g.other) result
+    → StandsFor after (and_given g held)
+stands_given tables before after held g result S ne D =
+    let is = S.same g.one g.other ne in
+    rw (ne, ← is) (stands_by tables before after held g (found before (key_of g.one g.other)) result S ne D)
+
+-- there was room exactly where the answer says so
+room_by : (tables : List Table) (before after : List (Ends × Flows)) (held : List Connection) (g : GivenIsns) (o : Option Flows) (result : Bool) → length before ≡ length held
+    → DoesFix (fixing_given tables g o (length before)) before after (key_of g.one g.other) result → result ≡ (is_some (told g.one g.other o) || nat_lt (length held) most_connections)
+room_by tables before after held g (Some h) result count D = at (has_isns (is_low g.one g.other) h g.one_isn g.other_isn) D
+  where
+    at : (b : Bool) → DoesFix (if b then Fixed else Fixes (given_flows tables g)) before after (key_of g.one g.other) result → result ≡ true
+    at true x = x.1
+    at false x = x.1
+room_by tables before after held g None result count D = rw (← count) (at (nat_le most_connections (length before)) refl D)
+  where
+    at : (b : Bool) → nat_le most_connections (length before) ≡ b → DoesFix (if b then TooMany else Fixes (given_flows tables g)) before after (key_of g.one g.other) result
+        → result ≡ nat_lt (length before) most_connections
+    at true e x = x.1 ∙ grind (arith, nat_tests)
+    at false e x = x.1 ∙ grind (arith, nat_tests)
+
+pub room_given : (tables : List Table) (before after : List (Ends × Flows)) (held : List Connection) (g : GivenIsns) (result : Bool)
+    → StandsFor before held → same_socket g.one g.other ≡ false
+    → DoesFix (fixing_given tables g (found before (key_of g.one g.other)) (length before)) before after (key_of g.one g.other) result → result ≡ has_room g held
+room_given tables before after held g result S ne D =
+    let is = S.same g.one g.other ne in
+    rw (ne, ← is) (room_by tables before after held g (found before (key_of g.one g.other)) result S.count D)
+
+pub sound_fixed : (tables : List Table) (before after : List (Ends × Flows)) (g : GivenIsns) (o : Option Flows) (result : Bool) → IsSound tables before → same_socket g.one g.other ≡ false
+    → g.one_isn < 2 ^ 32 → g.other_isn < 2 ^ 32 → DoesFix (fixing_given tables g o (length before)) before after (key_of g.one g.other) result → IsSound tables after
+sound_fixed tables before after g o result T ne small less D = at o D
+  where
+    new_put : Puts before after (key_of g.one g.other) (given_flows tables g) → IsSound tables after
     new_put P =
-        let s = d.source in
-        let t = d.destination in
-        let i = d.sequence in
-        let j = acknowledged_isn d in
+        let s = g.one in
+        let t = g.other in
+        let i = g.one_isn in
+        let j = g.other_isn in
         sound_put tables before after s t (new_flows tables s t i j) T P ne
         (rw (new_first tables s t i j, new_second tables s t i j ne) (new_sound tables s t i j small))
-        (rw (new_first tables s t i j, new_second tables s t i j ne) (new_sound tables t s j i (omega arith)))
+        (rw (new_first tables s t i j, new_second tables s t i j ne) (new_sound tables t s j i less))
 
-    old_known : (b : Bool) → DoesFix (if b then Fixed else Fixes (new_flows tables d.source d.destination d.sequence (acknowledged_isn d))) before after (key_at d) result → IsSound tables after
+    old_known : (b : Bool) → DoesFix (if b then Fixed else Fixes (given_flows tables g)) before after (key_of g.one g.other) result → IsSound tables after
     old_known true x = rw x.0 T
     old_known false x = new_put x.0
 
-    not_known : (b : Bool) → DoesFix (if b then TooMany else Fixes (new_flows tables d.source d.destination d.sequence (acknowledged_isn d))) before after (key_at d) result → IsSound tables after
+    not_known : (b : Bool) → DoesFix (if b then TooMany else Fixes (given_flows tables g)) before after (key_of g.one g.other) result → IsSound tables after
     not_known true x = rw x.0 T
     not_known false x = new_put x.0
 
-    at : (o : Option Flows) → DoesFix (fixing tables d o (length before)) before after (key_at d) result → IsSound tables after
-    at (Some h) x = old_known (has_isns (from_low d) h d.sequence (acknowledged_isn d)) x
+    at : (o : Option Flows) → DoesFix (fixing_given tables g o (length before)) before after (key_of g.one g.other) result → IsSound tables after
+    at (Some h) x = old_known (has_isns (is_low g.one g.other) h g.one_isn g.other_isn) x
     at None x = not_known (nat_le most_connections (length before)) x
 
 numbers_told : (x y m n : ℕ) → ◌≡◌ {A = Option Isns} (Some (record { one = x; two = y })) (Some (record { one = m; two = n })) → ((x == m) && (y == n)) ≡ true
@@ -145,17 +197,17 @@ numbers_told x y m n e =
     let b : (n == n) ≡ true = grind (arith, nat_tests) in
     rw (p, q, a, b) refl
 
-keys_fixed : (tables : List Table) (before after : List (Ends × Flows)) (d : Segment) (o : Option Flows) (result : Bool) → same_socket d.source d.destination ≡ false
-    → found before (key_at d) ≡ o → DoesFix (fixing tables d o (length before)) before after (key_at d) result → KeepsKeys before after
-keys_fixed tables before after d o result ne f D = at o f D
+pub keys_fixed : (tables : List Table) (before after : List (Ends × Flows)) (g : GivenIsns) (o : Option Flows) (result : Bool) → same_socket g.one g.other ≡ false
+    → found before (key_of g.one g.other) ≡ o → DoesFix (fixing_given tables g o (length before)) before after (key_of g.one g.other) result → KeepsKeys before after
+keys_fixed tables before after g o result ne f D = at o f D
   where
-    renewed : Puts before after (key_at d) (new_flows tables d.source d.destination d.sequence (acknowledged_isn d))
-        → (isns before d.source d.destination ≡ Some (record { one = d.sequence; two = acknowledged_isn d }) → ⊥) → KeepsKeys before after
+    renewed : Puts before after (key_of g.one g.other) (given_flows tables g)
+        → (isns before g.one g.other ≡ Some (record { one = g.one_isn; two = g.other_isn }) → ⊥) → KeepsKeys before after
     renewed P differ =
-        let s = d.source in
-        let t = d.destination in
-        let i = d.sequence in
-        let j = acknowledged_isn d in
+        let s = g.one in
+        let t = g.other in
+        let i = g.one_isn in
+        let j = g.other_isn in
         keys_renewed before after s t (new_flows tables s t i j) P ne
         (record {
           differ = rw (new_first tables s t i j, new_second tables s t i j ne) differ;
@@ -163,23 +215,23 @@ keys_fixed tables before after d o result ne f D = at o f D
           other = λ n. rw (new_second tables s t i j ne) (kept-empty (length (rows_of tables s)) n Inbound);
         })
 
-    old_known : (h : Flows) (b : Bool) → found before (key_at d) ≡ Some h → has_isns (from_low d) h d.sequence (acknowledged_isn d) ≡ b
-        → DoesFix (if b then Fixed else Fixes (new_flows tables d.source d.destination d.sequence (acknowledged_isn d))) before after (key_at d) result → KeepsKeys before after
+    old_known : (h : Flows) (b : Bool) → found before (key_of g.one g.other) ≡ Some h → has_isns (is_low g.one g.other) h g.one_isn g.other_isn ≡ b
+        → DoesFix (if b then Fixed else Fixes (given_flows tables g)) before after (key_of g.one g.other) result → KeepsKeys before after
     old_known h true e b x = keys_same before after x.0
     old_known h false e b x =
         renewed x.0 (λ is.
-        let here : ◌≡◌ {A = Option Isns} (Some (record { one = (flow_from d.source d.destination h).isn; two = (flow_from d.destination d.source h).isn })) (Some (record { one = d.sequence; two = acknowledged_isn d })) = rw e at is in
-        let yes_they_are = numbers_told (flow_from d.source d.destination h).isn (flow_from d.destination d.source h).isn d.sequence (acknowledged_isn d) here in
-        let no_they_arent = same_numbers d h ne ∙ b in
+        let here : ◌≡◌ {A = Option Isns} (Some (record { one = (flow_from g.one g.other h).isn; two = (flow_from g.other g.one h).isn })) (Some (record { one = g.one_isn; two = g.other_isn })) = rw e at is in
+        let yes_they_are = numbers_told (flow_from g.one g.other h).isn (flow_from g.other g.one h).isn g.one_isn g.other_isn here in
+        let no_they_arent = same_numbers g h ne ∙ b in
         absurd (cc))
 
-    not_known : (b : Bool) → found before (key_at d) ≡ None
-        → DoesFix (if b then TooMany else Fixes (new_flows tables d.source d.destination d.sequence (acknowledged_isn d))) before after (key_at d) result → KeepsKeys before after
+    not_known : (b : Bool) → found before (key_of g.one g.other) ≡ None
+        → DoesFix (if b then TooMany else Fixes (given_flows tables g)) before after (key_of g.one g.other) result → KeepsKeys before after
     not_known true e x = keys_same before after x.0
-    not_known false e x = renewed x.0 (λ is. let here : ◌≡◌ {A = Option Isns} None (Some (record { one = d.sequence; two = acknowledged_isn d })) = rw e at is in absurd (cc))
+    not_known false e x = renewed x.0 (λ is. let here : ◌≡◌ {A = Option Isns} None (Some (record { one = g.one_isn; two = g.other_isn })) = rw e at is in absurd (cc))
 
-    at : (o : Option Flows) → found before (key_at d) ≡ o → DoesFix (fixing tables d o (length before)) before after (key_at d) result → KeepsKeys before after
-    at (Some h) e x = old_known h (has_isns (from_low d) h d.sequence (acknowledged_isn d)) e refl x
+    at : (o : Option Flows) → found before (key_of g.one g.other) ≡ o → DoesFix (fixing_given tables g o (length before)) before after (key_of g.one g.other) result → KeepsKeys before after
+    at (Some h) e x = old_known h (has_isns (is_low g.one g.other) h g.one_isn g.other_isn) e refl x
     at None e x = not_known (nat_le most_connections (length before)) e x
 
 -- ---- the answer to a segment with SYN
@@ -252,6 +304,6 @@ first tables rows before after now own d v result T ne syn ack e A pass small D 
           let known_so = subst (λ (k : Option Connection). Hears after (fixed_line result v (good d)) (hear_syn_ack held d j k)) (sym (met before held d o S ne refl)) done in
           subst (λ (i : Judgement). Hears after (fixed_line result v (good d)) (hear_judged held d (connection_between d held) i)) (judged_first rows now own d (connection_between d held) syn e)
           (heard_fixed after held d (connection_between d held) v j (fixed_line result v (good d)) syn ack pass is known_so);
-      sound = sound_fixed tables before after d (found before (key_at d)) result T ne small D;
-      keys = keys_fixed tables before after d (found before (key_at d)) result ne refl D;
+      sound = sound_fixed tables before after (isns_of d) (found before (key_at d)) result T ne small (omega arith) D;
+      keys = keys_fixed tables before after (isns_of d) (found before (key_at d)) result ne refl D;
     }

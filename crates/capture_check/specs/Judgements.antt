@@ -6,6 +6,7 @@ use Rattle.book_segments.specs.Segments.{Segment, has, SYN}
 use Rattle.book_keys.specs.Rows.{Row, Table}
 use Rattle.book_endpoint.specs.declared.verdict.Verdict.{Verdict}
 use Rattle.book_endpoint.specs.Verdicts.{judge}
+use Rattle.book_cmd_check.specs.declared.given.GivenIsns.{GivenIsns}
 use Rattle.book_cmd_check.specs.Captures.{acknowledged_isn, most_connections}
 use Rattle.book_segments.specs.Segments.{pair_reached}
 use Rattle.ao_check.specs.Verdicts.{Tells, judging}
@@ -70,12 +71,24 @@ pub data Fixing : Type 0 where
 abbrev pub has_isns : Bool → Flows → ℕ → ℕ → Bool
 has_isns low h isn other = ((way low h).isn == isn) && ((way (not low) h).isn == other)
 
+-- the initial sequence numbers that a SYN with ACK tells
+abbrev pub isns_of : Segment → GivenIsns
+isns_of d = record { one = d.source; one_isn = d.sequence; other = d.destination; other_isn = acknowledged_isn d }
+
+-- both ways as they begin with given initial sequence numbers
+abbrev pub given_flows : List Table → GivenIsns → Flows
+given_flows tables g = new_flows tables g.one g.other g.one_isn g.other_isn
+
 -- the initial sequence numbers are fixed already, or too many connections are held, or they are fixed now
+abbrev pub fixing_given : List Table → GivenIsns → Option Flows → ℕ → Fixing
+fixing_given tables g (Some h) count =
+    if has_isns (is_low g.one g.other) h g.one_isn g.other_isn then Fixed else Fixes (given_flows tables g)
+fixing_given tables g None count =
+    if nat_le most_connections count then TooMany else Fixes (given_flows tables g)
+
+-- the same of those that a SYN with ACK tells
 abbrev pub fixing : List Table → Segment → Option Flows → ℕ → Fixing
-fixing tables d (Some h) count =
-    if has_isns (from_low d) h d.sequence (acknowledged_isn d) then Fixed else Fixes (new_flows tables d.source d.destination d.sequence (acknowledged_isn d))
-fixing tables d None count =
-    if nat_le most_connections count then TooMany else Fixes (new_flows tables d.source d.destination d.sequence (acknowledged_isn d))
+fixing tables d known count = fixing_given tables (isns_of d) known count
 
 -- what was to be done was done; the answer says whether there was room
 abbrev pub DoesFix : Fixing → List (Ends × Flows) → List (Ends × Flows) → Ends → Bool → Type 0

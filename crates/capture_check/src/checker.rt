@@ -1,10 +1,11 @@
 //! A checker of stored segments.
-ghost use Rattle.std.specs.Prelude.{◌≡◌, ◌≤◌, ◌+◌, ℕ, [], false, true, List, IfOk, OnErr, Some};
+ghost use Rattle.std.specs.Prelude.{◌≡◌, ◌≤◌, ◌+◌, ℕ, [], false, true, List, IfOk, OnErr, OnOk, Some};
 ghost use Rattle.std.specs.List.{find};
 ghost use Rattle.book_segments.specs.Segments.{Segment, Read, reading, has, SYN};
 ghost use Rattle.book_segments.specs.Sockets.{same_socket};
 ghost use Rattle.book_keys.specs.Rows.{has_address};
 ghost use Rattle.book_cmd_check.specs.Captures.{Connection, hear, hear_at};
+ghost use Rattle.book_cmd_check.specs.Handshakes.{and_given, has_room};
 ghost use Rattle.capture_check.specs.Checkers.{IsSound, StandsFor, Hears, KeepsKeys, Derives};
 ghost use Rattle.capture_check.specs.Answers.{is_computed, is_pass};
 ghost use Rattle.capture_check.specs.Flows.{rows_of};
@@ -12,10 +13,11 @@ ghost use Rattle.capture_check.specs.Flows.{rows_of};
 use crate::answer::CheckLine;
 use crate::ends::{Ends, is_same_socket};
 use crate::flows::Flows;
-use crate::judgement::{fix, hear_later, judge_alone};
+use crate::judgement::{fix, fix_given, hear_later, judge_alone};
 use crate::segment::{acknowledged_isn, has_ack, has_syn};
 use ao_base::Steps;
 use ao_check::Verdict;
+use book_cmd_check::GivenIsns;
 use key_table::{Table, Tables};
 use std::alloc::{AllocError, Global};
 use std::collections::BTreeMap;
@@ -116,6 +118,29 @@ fn is_pass(verdict: &Verdict) -> bool
     matches!(verdict, Verdict::Pass(_))
 }
 
+/// Takes it that a handshake with these initial sequence numbers passed; whether there was room.
+fn hold(
+    connections: &mut BTreeMap<Ends, Flows>,
+    alloc: Global,
+    tables: &Tables,
+    given: GivenIsns,
+) -> Result<bool, AllocError>
+    requires sound { IsSound tables.now connections.old.entries }
+    ensures stands { (held : List Connection) → StandsFor connections.old.entries held → OnOk result (StandsFor connections.new.entries (and_given given held)) }
+    ensures room { (held : List Connection) → StandsFor connections.old.entries held → IfOk result (λ room. room ≡ has_room given held) }
+    ensures unchanged { OnErr result (connections.new.entries ≡ connections.old.entries) }
+    ensures sound { IsSound tables.now connections.new.entries }
+    ensures keys { KeepsKeys connections.old.entries connections.new.entries }
+{
+    if is_same_socket(given.one, given.other) {
+        return Ok(true);
+    }
+    match fix_given(connections, alloc, tables, given) {
+        Ok(room) => Ok(room),
+        Err(error) => Err(error),
+    }
+}
+
 impl Checker {
     /// A checker that knows no connection.
     pub fn new(alloc: Global, tables: Tables) -> Result<Checker, AllocError>
@@ -126,6 +151,28 @@ impl Checker {
             tables,
             connections: BTreeMap::new(alloc),
         })
+    }
+
+    /// The tables of all nodes.
+    pub fn tables(&self) -> &Tables
+        ensures { result.now ≡ self.now.tables }
+    {
+        &self.tables
+    }
+
+    /// Takes it that a handshake with these initial sequence numbers passed: the connections that the
+    /// checker knows afterwards are those of the definition, whatever connections it knew. False exactly
+    /// where there is no room: the connection isn't known and 65,536 others are; then, and after want of
+    /// memory, the checker is as it was. Kept keys are dropped exactly where the initial sequence numbers
+    /// of their connection are fixed anew.
+    pub fn hold(&mut self, alloc: Global, given: GivenIsns) -> Result<bool, AllocError>
+        ensures stands { (held : List Connection) → StandsFor self.old.entries held → OnOk result (StandsFor self.new.entries (and_given given held)) }
+        ensures room { (held : List Connection) → StandsFor self.old.entries held → IfOk result (λ room. room ≡ has_room given held) }
+        ensures tables { self.new.tables ≡ self.old.tables }
+        ensures unchanged { OnErr result (self.new ≡ self.old) }
+        ensures keys { KeepsKeys self.old.entries self.new.entries }
+    {
+        hold(&mut self.connections, alloc, &self.tables, given)
     }
 
     /// What is said of the bytes that were stored at a time, in seconds since 1970: the answer, and

@@ -6,13 +6,15 @@ ghost use Rattle.book_segments.specs.Sockets.{same_socket};
 ghost use Rattle.std.specs.Prelude.{false};
 ghost use Rattle.ao_check.specs.Verdicts.{is_judged};
 ghost use Rattle.capture_check.specs.Checkers.{found, IsSound};
-ghost use Rattle.capture_check.specs.Judgements.{Alone, AloneCounts, HearsLater, fixing, DoesFix, key_at};
+ghost use Rattle.capture_check.specs.Judgements.{Alone, AloneCounts, HearsLater, DoesFix, fixing, fixing_given, isns_of, key_at};
+ghost use Rattle.capture_check.specs.Ends.{key_of};
 
 use crate::ends::{Ends, ends_of};
 use crate::flows::Flows;
 use crate::segment::{acknowledged_isn, pair_at};
 use ao_base::Steps;
 use ao_check::{Association, Verdict};
+use book_cmd_check::GivenIsns;
 use key_table::{Table, Tables};
 use std::alloc::{AllocError, Global};
 use std::collections::BTreeMap;
@@ -68,6 +70,57 @@ pub(crate) fn hear_later<L: Ledger>(
     }
 }
 
+/// Fixes both initial sequence numbers of a connection, unless they are fixed already. False exactly
+/// where the connection isn't known and 65,536 others are; then, and after want of memory, nothing has
+/// changed.
+pub(crate) fn fix_given(
+    connections: &mut BTreeMap<Ends, Flows>,
+    alloc: Global,
+    tables: &Tables,
+    given: GivenIsns,
+) -> Result<bool, AllocError>
+    ensures fixed { IfOk result (λ b. DoesFix (fixing_given tables.now given (found connections.old.entries (key_of given.one given.other)) (length connections.old.entries)) connections.old.entries connections.new.entries (key_of given.one given.other) b) }
+    ensures unchanged { OnErr result (connections.new.entries ≡ connections.old.entries) }
+{
+    let (low, ends) = ends_of(given.one, given.other);
+    match connections.get(&ends) {
+        Some(flows) => {
+            if flows.has_isns(low, given.one_isn, given.other_isn) {
+                return Ok(true);
+            }
+        }
+        None => {
+            if connections.len() >= MOST {
+                return Ok(false);
+            }
+        }
+    }
+    let flows = Flows::new(
+        alloc,
+        tables,
+        given.one,
+        given.other,
+        given.one_isn,
+        given.other_isn,
+    )?;
+    match connections.insert(ends, flows) {
+        Ok(_) => Ok(true),
+        Err(_) => Err(AllocError),
+    }
+}
+
+/// The initial sequence numbers that a SYN with ACK tells.
+fn isns_of(datagram: &Datagram<'_>) -> GivenIsns
+    ensures { result ≡ isns_of datagram.now }
+{
+    GivenIsns {
+        one: datagram.source(),
+        one_isn: datagram.sequence(),
+        other: datagram.destination(),
+        other_isn: acknowledged_isn(datagram),
+    }
+}
+
 /// A SYN with ACK passed: it fixes both initial sequence numbers of its connection, unless they are
 /// fixed already. False exactly where the connection isn't known and 65,536 others are; then, and
 /// after want of memory, nothing has changed.
@@ -81,26 +134,5 @@ pub(crate) fn fix(
     ensures unchanged { OnErr result (connections.new.entries ≡ connections.old.entries) }
     ensures sequence { datagram.now.sequence < 2 ^ 32 }
 {
-    let source = datagram.source();
-    let destination = datagram.destination();
-    let (low, ends) = ends_of(source, destination);
-    let isn = datagram.sequence();
-    let other = acknowledged_isn(datagram);
-    match connections.get(&ends) {
-        Some(flows) => {
-            if flows.has_isns(low, isn, other) {
-                return Ok(true);
-            }
-        }
-        None => {
-            if connections.len() >= MOST {
-                return Ok(false);
-            }
-        }
-    }
-    let flows = Flows::new(alloc, tables, source, destination, isn, other)?;
-    match connections.insert(ends, flows) {
-        Ok(_) => Ok(true),
-        Err(_) => Err(AllocError),
-    }
+    fix_given(connections, alloc, tables, isns_of(datagram))
 }

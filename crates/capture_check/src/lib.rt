@@ -17,6 +17,7 @@ mod stored;
 mod text;
 
 pub use answer::CheckLine;
+pub use book_cmd_check::GivenIsns;
 pub use checker::Checker;
 pub use stored::{LineProblem, Stored, read_line};
 pub use text::push_check_line;
