@@ -2,25 +2,13 @@
 use Rattle.std.specs.Prelude.{ℕ, List, if◌then◌else◌, Result, Ok, Err}
 use Rattle.book_base.specs.declared.address.Address.{Address}
 use Rattle.book_base.specs.declared.address.Pair.{Pair}
-use Rattle.book_base.specs.declared.address.Socket.{Socket}
 use Rattle.book_lines.specs.declared.line_kind.LineKind.{LineKind}
-use Rattle.book_lines.specs.declared.line_kind.LineKind.TheVariants.{Word, Range}
+use Rattle.book_lines.specs.declared.line_kind.LineKind.TheVariants.{Range}
 use Rattle.book_base.specs.Results.{◌>>=◌}
 use Rattle.book_cmd_link.specs.LinkFiles.{are_two_of_a_family}
-use Rattle.book_lines.specs.Words.{Taken, word_as, number_in, nothing_in}
-use Rattle.book_scope_texts.specs.Addresses.{usual_address_of}
+use Rattle.book_lines.specs.Words.{Taken, number_in, nothing_in}
+use Rattle.book_scope_texts.specs.AddressWords.{usual_address_in, usual_socket_in}
 use Rattle.book_base.specs.Addresses.{greatest_port}
-
--- the next word as an address in its usual form (RFC 4291, section 2.2, and own)
-unfoldable pub usual_address_in : List (List ℕ) → Result (Taken Address) LineKind
-usual_address_in ws = word_as usual_address_of Word ws
-
--- the next two words as an address in its usual form, and a port of two bytes (own)
-unfoldable pub usual_socket_in : List (List ℕ) → Result (Taken Socket) LineKind
-usual_socket_in ws = do
-  address ← usual_address_in ws
-  port ← number_in 0 greatest_port address.rest
-  Ok (record { value = record { address = address.value; port = port.value }; rest = port.rest })
 
 -- the next word as an address of this one's family that differs from it (own)
 abbrev pub usual_address_beside : Address → List (List ℕ) → Result (Taken Address) LineKind

@@ -1,3 +1,4 @@
 pub mod Addresses
 pub mod Instants
 pub mod Durations
+pub mod AddressWords

@@ -1,36 +1,18 @@
 //! The connection of a line: the sockets of its two ends, with addresses in their usual form.
 ghost use Rattle.std.specs.Prelude.{◌≡◌};
 ghost use Rattle.text_lines.specs.Readings.{gives};
-ghost use Rattle.book_scope_plan.specs.Connections.{plan_pair_of, usual_address_beside, usual_address_in, usual_socket_in};
+ghost use Rattle.book_scope_plan.specs.Connections.{plan_pair_of, usual_address_beside};
 
 use book_base::{Address, Pair, Socket};
 use book_lines::LineKind;
-use scope_texts::read_address;
+use scope_texts::{read_address_word, read_socket_words};
 use text_lines::LineWords;
-
-/// An address; `Word` for another word.
-#[tactic(auto, unfolding(book_scope_plan::specs::Connections::usual_address_in))]
-fn usual_address(words: &mut LineWords) -> Result<Address, LineKind>
-    ensures { gives result words.new ≡ usual_address_in words.old }
-{
-    read_address(words.word()?).ok_or(LineKind::Word)
-}
-
-/// An address and a port.
-#[tactic(auto, unfolding(book_scope_plan::specs::Connections::usual_socket_in))]
-fn usual_socket(words: &mut LineWords) -> Result<Socket, LineKind>
-    ensures { gives result words.new ≡ usual_socket_in words.old }
-{
-    let address = usual_address(words)?;
-    let port = words.short()?;
-    Ok(Socket { address, port })
-}
 
 /// An address of the first one's family that differs from it; `Range` for another address.
 fn usual_address_beside(a: &Address, words: &mut LineWords) -> Result<Address, LineKind>
     ensures { gives result words.new ≡ usual_address_beside a.now words.old }
 {
-    let b = usual_address(words)?;
+    let b = read_address_word(words)?;
     match (a, &b) {
         (Address::V4(one), Address::V4(other)) if one != other => Ok(b),
         (Address::V6(one), Address::V6(other)) if one != other => Ok(b),
@@ -43,7 +25,7 @@ fn usual_address_beside(a: &Address, words: &mut LineWords) -> Result<Address, L
 pub(crate) fn read_connection(words: &mut LineWords) -> Result<Pair, LineKind>
     ensures { result ≡ plan_pair_of words.old }
 {
-    let local = usual_socket(words)?;
+    let local = read_socket_words(words)?;
     let address = usual_address_beside(&local.address, words)?;
     let port = words.short()?;
     words.nothing()?;
