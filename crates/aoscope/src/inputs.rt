@@ -2,8 +2,8 @@
 use ao_base::{ReadProblem, ReadSource, WriteSink, read_all, write_all};
 use book_base::Bytes;
 use command_report::{Report, Stop};
-use key_table::{TableFault, Tables, read_tables};
 use key_faults::push_key_fault;
+use key_table::{TableFault, Tables, read_tables};
 use std::alloc::{AllocError, Global};
 use std::fs::File;
 use text_lines::print_fault;

@@ -11,7 +11,7 @@ use Rattle.book_cmd_check.specs.Captures.{Stored, Connection, Heard, joins, with
 use Rattle.book_segments.specs.Segments.{pair_reached}
 use Rattle.book_cmd_check.specs.Connections.{connections_after, IsMap}
 use Rattle.book_cmd_check.specs.declared.given.GivenIsns.{GivenIsns}
-use Rattle.book_cmd_check.specs.Handshakes.{and_given, begun, given_after, held_between, with_begun}
+use Rattle.book_cmd_check.specs.Handshakes.{and_given, given_connection, given_after, held_between, with_begun}
 
 -- ---- which sockets a connection joins
 
@@ -185,7 +185,7 @@ begun_map c None held m = kept_map (nat_le most_connections (length held)) held 
 given_map : (held : List Connection) (gs : List GivenIsns) → IsMapOf held → IsMapOf (given_after held gs)
 given_map held [] m = m
 given_map held (g ∷ gs) m = given_map (and_given g held) gs
-    (kept_map (same_socket g.one g.other) held (with_begun (begun g) (held_between g held) held) m (begun_map (begun g) (held_between g held) held m))
+    (kept_map (same_socket g.one g.other) held (with_begun (given_connection g) (held_between g held) held) m (begun_map (given_connection g) (held_between g held) held m))
 
 pub stays_map_given : (tables : List Table) (given : List GivenIsns) (stored : List Stored) → IsMap (connections_after tables (given_after [] given) stored)
 stays_map_given tables given stored = (after_map tables (given_after [] given) stored (given_map [] given map_nil)).is

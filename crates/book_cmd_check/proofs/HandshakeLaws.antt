@@ -7,7 +7,7 @@ use Rattle.book_keys.specs.Rows.{Table, has_address}
 use Rattle.book_endpoint.specs.Verdicts.{Judgement}
 use Rattle.book_cmd_check.specs.declared.given.GivenIsns.{GivenIsns}
 use Rattle.book_cmd_check.specs.Captures.{Connection, Heard, acknowledged_isn, connection_between, fixed, hear, hear_at, hear_judged, hear_later, hear_read, hear_syn_ack, is_pass, judge_stored, most_connections, same_isns, with_connection, Judged, TooManyConnections, UnknownNode}
-use Rattle.book_cmd_check.specs.Handshakes.{EndsHandshake, and_given, begun, with_begun}
+use Rattle.book_cmd_check.specs.Handshakes.{EndsHandshake, and_given, given_connection, with_begun}
 
 -- what a SYN with ACK tells
 abbrev told_by : Segment → GivenIsns
@@ -24,12 +24,12 @@ full_fixed true held d j pass = refl
 full_fixed false held d j pass = refl
 
 fixed_alike : (held : List Connection) (d : Segment) (j : Judgement) (known : Option Connection) → is_pass (hear_syn_ack held d j known).saying ≡ true
-    → (hear_syn_ack held d j known).connections ≡ with_begun (begun (told_by d)) known held
+    → (hear_syn_ack held d j known).connections ≡ with_begun (given_connection (told_by d)) known held
 fixed_alike held d j (Some c) pass = refl
 fixed_alike held d j None pass = full_fixed (nat_le most_connections (length held)) held d j pass
 
 judged_alike : (held : List Connection) (d : Segment) (known : Option Connection) (j : Judgement) → has SYN d ≡ true → has ACK d ≡ true
-    → is_pass (hear_judged held d known j).saying ≡ true → (hear_judged held d known j).connections ≡ with_begun (begun (told_by d)) known held
+    → is_pass (hear_judged held d known j).saying ≡ true → (hear_judged held d known j).connections ≡ with_begun (given_connection (told_by d)) known held
 judged_alike held d known (Err why) one two pass = absurd (cc)
 judged_alike held d known (Ok p) one two pass =
     let is : hear_judged held d known (Ok p) ≡ hear_syn_ack held d (Ok p) known = rw (one, two) refl in
@@ -38,9 +38,9 @@ judged_alike held d known (Ok p) one two pass =
 abbrev heard_same : Bool → List Connection → Heard → Heard
 heard_same same held heard = if same then record { connections = held; saying = UnknownNode } else heard
 
-same_alike : (same : Bool) (held : List Connection) (d : Segment) (heard : Heard) → (is_pass heard.saying ≡ true → heard.connections ≡ with_begun (begun (told_by d)) (connection_between d held) held)
+same_alike : (same : Bool) (held : List Connection) (d : Segment) (heard : Heard) → (is_pass heard.saying ≡ true → heard.connections ≡ with_begun (given_connection (told_by d)) (connection_between d held) held)
     → is_pass (heard_same same held heard).saying ≡ true
-    → (heard_same same held heard).connections ≡ (if same then held else with_begun (begun (told_by d)) (connection_between d held) held)
+    → (heard_same same held heard).connections ≡ (if same then held else with_begun (given_connection (told_by d)) (connection_between d held) held)
 same_alike true held d heard others pass = refl
 same_alike false held d heard others pass = others pass
 

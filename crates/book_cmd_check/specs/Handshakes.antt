@@ -11,8 +11,8 @@ use Rattle.book_cmd_check.specs.Captures.{same_isns, seen_from, with_connection}
 
 -- the connection that a handshake with these initial sequence numbers fixes: of each side the
 -- number behind its SYN is expected (RFC 9293, section 3.5)
-abbrev pub begun : GivenIsns → Connection
-begun g = record {
+abbrev pub given_connection : GivenIsns → Connection
+given_connection g = record {
   one = record { socket = g.one; isn = g.one_isn; expected = g.one_isn + 1 };
   two = record { socket = g.other; isn = g.other_isn; expected = g.other_isn + 1 };
 }
@@ -32,7 +32,8 @@ with_begun c None held =
 -- socket and itself (RFC 9293, section 3.5, and own)
 abbrev pub and_given : GivenIsns → List Connection → List Connection
 and_given g held =
-    if same_socket g.one g.other then held else with_begun (begun g) (held_between g held) held
+    if same_socket g.one g.other then held
+    else with_begun (given_connection g) (held_between g held) held
 
 -- the connections after such handshakes, one after another (own)
 abbrev pub given_after : List Connection → List GivenIsns → List Connection

@@ -144,10 +144,10 @@ made_of v s out = record {
 
 -- what comes of a call that makes a segment, or none: then the outcome is the word for no segment,
 -- or that no key may be used (own)
-abbrev pub sent : View → EndState → (no_segment : Outcome) → Emitted → Act
-sent v s no_segment Quiet = quietly s no_segment
-sent v s no_segment NoKey = quietly s WithoutKey
-sent v s no_segment (Emits out) =
+abbrev pub sent : View → EndState → (nothing_sent : Outcome) → Emitted → Act
+sent v s nothing_sent Quiet = quietly s nothing_sent
+sent v s nothing_sent NoKey = quietly s WithoutKey
+sent v s nothing_sent (Emits out) =
     let made = made_of v s out in
     record { state = out.state; shown = false; happened = Some (Making made); outcome = Sent made }
 

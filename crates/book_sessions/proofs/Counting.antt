@@ -6,6 +6,8 @@ use Rattle.book_segments.specs.declared.fault.DatagramFault.{DatagramFault}
 use Rattle.book_segments.specs.Segments.{Reading, Read, Bad, reading}
 use Rattle.book_keys.specs.Rows.{Table}
 use Rattle.book_cmd_check.specs.Captures.{Stored, Connection, hear, hear_read, sayings_from}
+use Rattle.book_cmd_check.specs.declared.given.GivenIsns.{GivenIsns}
+use Rattle.book_cmd_check.specs.Handshakes.{given_after}
 use Rattle.book_captures.specs.Captures.{CapturePacket}
 use Rattle.book_sessions.specs.declared.outcome.SegmentOutcome.{SegmentOutcome}
 use Rattle.book_sessions.specs.declared.outcome.PassedOver.{PassedOver}
@@ -133,9 +135,9 @@ module _ (o : SegmentOutcome) (tables : List Table) where
   from_counted [] held t = omega arith
   from_counted (p ∷ ps) held t = step_counted (stored_of_packet p) ps (λ connections now. from_counted ps connections now) held t
 
-pub verdicts_counted : (tables : List Table) (packets : List CapturePacket) (o : SegmentOutcome) → counted o (sessions_of tables packets).uses ≡ said_times o (sayings_from tables [] (all_stored packets))
+pub verdicts_counted : (tables : List Table) (given : List GivenIsns) (packets : List CapturePacket) (o : SegmentOutcome) → counted o (sessions_of tables given packets).uses ≡ said_times o (sayings_from tables (given_after [] given) (all_stored packets))
 unfolding sessions_of
-verdicts_counted tables packets o = from_counted o tables packets [] no_sessions ∙ zero_first (said_times o (sayings_from tables [] (all_stored packets)))
+verdicts_counted tables given packets o = from_counted o tables packets (given_after [] given) no_sessions ∙ zero_first (said_times o (sayings_from tables (given_after [] given) (all_stored packets)))
 
 one_later : (a b n : ℕ) → a ≡ 1 + b → a + n ≡ b + (1 + n)
 one_later a b n e = omega arith
@@ -155,6 +157,6 @@ module _ (tables : List Table) where
       let size : 1 + length ps ≡ length (p ∷ ps) = omega arith in
       step_all (stored_of_packet p) ps (λ connections now. from_all ps connections now) held t ∙ ap (λ n. all_of t + n) size
 
-pub packets_counted : (tables : List Table) (packets : List CapturePacket) → all_counted (sessions_of tables packets).uses + all_passed (sessions_of tables packets).passed ≡ length packets
+pub packets_counted : (tables : List Table) (given : List GivenIsns) (packets : List CapturePacket) → all_counted (sessions_of tables given packets).uses + all_passed (sessions_of tables given packets).passed ≡ length packets
 unfolding sessions_of
-packets_counted tables packets = from_all tables packets [] no_sessions ∙ zero_first (length packets)
+packets_counted tables given packets = from_all tables packets (given_after [] given) no_sessions ∙ zero_first (length packets)

@@ -9,6 +9,8 @@ use Rattle.book_segments.specs.Segments.{reading}
 use Rattle.book_keys.specs.Rows.{Table}
 use Rattle.book_keys.proofs.OverlapLaws.{same_address-true}
 use Rattle.book_cmd_check.specs.Captures.{Stored, Connection, hear}
+use Rattle.book_cmd_check.specs.declared.given.GivenIsns.{GivenIsns}
+use Rattle.book_cmd_check.specs.Handshakes.{given_after}
 use Rattle.book_captures.specs.Captures.{CapturePacket}
 use Rattle.book_sessions.specs.declared.outcome.PassedOver.{PassedOver}
 use Rattle.book_sessions.specs.declared.uses.SeenSegment.{SeenSegment}
@@ -101,6 +103,6 @@ module _ (k : SeenSegment) where
 zero_first : (n : ℕ) → 0 + n ≡ n
 zero_first n = omega arith
 
-pub directions_counted : (tables : List Table) (packets : List CapturePacket) (s : SeenSegment) → like_counted s (sessions_of tables packets).uses ≡ like_times s (segments_seen tables [] (all_stored packets))
+pub directions_counted : (tables : List Table) (given : List GivenIsns) (packets : List CapturePacket) (s : SeenSegment) → like_counted s (sessions_of tables given packets).uses ≡ like_times s (segments_seen tables (given_after [] given) (all_stored packets))
 unfolding sessions_of
-directions_counted tables packets s = from_kind s tables packets [] no_sessions ∙ zero_first (like_times s (segments_seen tables [] (all_stored packets)))
+directions_counted tables given packets s = from_kind s tables packets (given_after [] given) no_sessions ∙ zero_first (like_times s (segments_seen tables (given_after [] given) (all_stored packets)))

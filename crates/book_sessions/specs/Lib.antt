@@ -1,4 +1,5 @@
 pub mod Counts
+pub mod GivenLines
 pub mod KeyLines
 pub mod OutcomeTexts
 pub mod SessionTexts

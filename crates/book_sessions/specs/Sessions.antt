@@ -12,6 +12,8 @@ use Rattle.book_segments.specs.Segments.{Segment, Reading, Read, Bad, reading, h
 use Rattle.book_keys.specs.Rows.{Table}
 use Rattle.book_cmd_check.specs.Captures.{Stored, Connection, Saying, Unreadable, UnknownNode}
 use Rattle.book_cmd_check.specs.Captures.{Judged, TooManyConnections, hear}
+use Rattle.book_cmd_check.specs.declared.given.GivenIsns.{GivenIsns}
+use Rattle.book_cmd_check.specs.Handshakes.{given_after}
 use Rattle.book_captures.specs.declared.reasons.Skipped.{Skipped}
 use Rattle.book_captures.specs.Frames.{Datagram}
 use Rattle.book_captures.specs.Captures.{CapturePacket, frame_datagram}
@@ -201,6 +203,9 @@ sessions_from tables held t (p ∷ ps) = counted_by tables held t (stored_of_pac
 abbrev pub no_sessions : SessionTable
 no_sessions = record { sessions = 0; uses = []; passed = [] }
 
--- the sessions of these packets, judged by the tables (own)
-unfoldable pub sessions_of : List Table → List CapturePacket → SessionTable
-sessions_of tables packets = sessions_from tables [] no_sessions packets
+-- the sessions of these packets, judged by the tables as behind handshakes with the given initial
+-- sequence numbers (own)
+unfoldable pub sessions_of :
+    List Table → (given : List GivenIsns) → List CapturePacket → SessionTable
+sessions_of tables given packets =
+    sessions_from tables (given_after [] given) no_sessions packets

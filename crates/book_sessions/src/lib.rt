@@ -7,6 +7,7 @@ mod laws;
 mod outcome;
 mod uses;
 
+pub use book_cmd_check::GivenIsns;
 pub use laws::counts_are_those_of_the_verdicts;
 pub use outcome::{PassedOver, SegmentOutcome};
 pub use uses::{KeyIds, KeyUse, PassedCount, SeenSegment};

@@ -11,7 +11,7 @@ use Rattle.book_keys.specs.Rows.{Row, Table}
 use Rattle.book_endpoint.specs.declared.verdict.Verdict.{Verdict}
 use Rattle.book_endpoint.specs.Verdicts.{Judgement, judge}
 use Rattle.book_cmd_check.specs.declared.given.GivenIsns.{GivenIsns}
-use Rattle.book_cmd_check.specs.Handshakes.{and_given, begun, has_room, held_between, with_begun}
+use Rattle.book_cmd_check.specs.Handshakes.{and_given, given_connection, has_room, held_between, with_begun}
 use Rattle.book_cmd_check.specs.Captures.{Connection, Heard, acknowledged_isn, connection_between, fixed, hear_judged, hear_later, hear_syn_ack, judge_stored, most_connections, same_isns, with_connection}
 use Rattle.book_segments.specs.Segments.{pair_reached}
 use Rattle.ao_kdf.specs.declared.way.Way.TheVariants.{Inbound}
@@ -55,7 +55,7 @@ stands_at : (n : ℕ) → number (counter_of n) ≡ n
 stands_at n = omega arith
 
 shown_new : (tables : List Table) (g : GivenIsns) → same_socket g.one g.other ≡ false
-    → shown g.one g.other (given_flows tables g) ≡ begun g
+    → shown g.one g.other (given_flows tables g) ≡ given_connection g
 shown_new tables g ne =
     rw (new_first tables g.one g.other g.one_isn g.other_isn, new_second tables g.one g.other g.one_isn g.other_isn ne, stands_at (g.one_isn + 1), stands_at (g.other_isn + 1)) refl
 
@@ -76,7 +76,7 @@ new_sound tables s t i j small =
 
 -- both ways have the initial sequence numbers exactly where the connection has them
 same_numbers : (g : GivenIsns) (h : Flows) → same_socket g.one g.other ≡ false
-    → same_isns (shown g.one g.other h) (begun g) ≡ has_isns (is_low g.one g.other) h g.one_isn g.other_isn
+    → same_isns (shown g.one g.other h) (given_connection g) ≡ has_isns (is_low g.one g.other) h g.one_isn g.other_isn
 same_numbers g h ne = ap (λ (v : Bool). ((flow_from g.one g.other h).isn == g.one_isn) && ((way v h).isn == g.other_isn)) (low_turned g.one g.other ne)
 
 -- what is answered: the verdict, or that there is no room
@@ -116,18 +116,18 @@ hears_fixed tables before after held d v p None result S ne f is D =
 stands_by : (tables : List Table) (before after : List (Ends × Flows)) (held : List Connection) (g : GivenIsns) (o : Option Flows) (result : Bool)
     → StandsFor before held → same_socket g.one g.other ≡ false
     → DoesFix (fixing_given tables g o (length before)) before after (key_of g.one g.other) result
-    → StandsFor after (with_begun (begun g) (told g.one g.other o) held)
+    → StandsFor after (with_begun (given_connection g) (told g.one g.other o) held)
 stands_by tables before after held g (Some h) result S ne D = at (has_isns (is_low g.one g.other) h g.one_isn g.other_isn) (same_numbers g h ne) D
   where
-    at : (b : Bool) → same_isns (shown g.one g.other h) (begun g) ≡ b → DoesFix (if b then Fixed else Fixes (given_flows tables g)) before after (key_of g.one g.other) result
-        → StandsFor after (with_begun (begun g) (Some (shown g.one g.other h)) held)
+    at : (b : Bool) → same_isns (shown g.one g.other h) (given_connection g) ≡ b → DoesFix (if b then Fixed else Fixes (given_flows tables g)) before after (key_of g.one g.other) result
+        → StandsFor after (with_begun (given_connection g) (Some (shown g.one g.other h)) held)
     at true e (same, room) = rw (e, same) S
     at false e (puts, room) =
         rw e (subst (λ (c : Connection). StandsFor after (with_connection c held)) (shown_new tables g ne) (stands_put before after held g.one g.other (given_flows tables g) S puts ne))
 stands_by tables before after held g None result S ne D = at (nat_le most_connections (length before)) (ap (nat_le most_connections) (sym S.count)) D
   where
     at : (b : Bool) → nat_le most_connections (length held) ≡ b → DoesFix (if b then TooMany else Fixes (given_flows tables g)) before after (key_of g.one g.other) result
-        → StandsFor after (with_begun (begun g) None held)
+        → StandsFor after (with_begun (given_connection g) None held)
     at true e (same, room) = rw (e, same) S
     at false e (puts, room) =
         rw e (subst (λ (c : Connection). StandsFor after (with_connection c held)) (shown_new tables g ne) (stands_put before after held g.one g.other (given_flows tables g) S puts ne))
