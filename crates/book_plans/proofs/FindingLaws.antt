@@ -12,6 +12,7 @@ use Rattle.book_plans.specs.declared.finding.Finding.TheVariants as finding
 use Rattle.book_plans.specs.Findings.{IsFirstSpan, AreLongest, finding_by, with_finding, unmet_findings, Span, lengthened, failing_spans, gap_finding, gap_findings, findings, first_answer, wanted_accepting, widened, accepting_in}
 use Rattle.book_plans.specs.Margins.{IsOrdered}
 use Rattle.book_segments.proofs.Fields.{eqb_is}
+use Rattle.book_keys.specs.declared.plan.Plan.{Plan}
 use Rattle.book_keys.specs.declared.lifetime.Lifetime.{Lifetime}
 use Rattle.book_keys.specs.declared.lint.LintAnswer.{LintAnswer}
 use Rattle.book_keys.specs.declared.lint.LintAnswer.TheVariants as answer
@@ -97,10 +98,13 @@ last_answer (finding.NoPeerRow end n ∷ fs) = refl
 last_answer (finding.ShortAccept end n ∷ fs) = refl
 last_answer (finding.Gap end from to ∷ fs) = refl
 
-pub first_is_lint : (a b : List Row) (pair : Pair) (lead lag low high : ℕ)
-    → first_answer (findings a b pair lead lag low high) ≡ lint_rows a b pair (record { lead = lead; lag = lag; from = low; to = high })
+pub first_is_lint : (a b : List Row) (pair : Pair) (plan : Plan) → first_answer (findings a b pair plan) ≡ lint_rows a b pair plan
 unfolding findings lint_rows first_misaligned
-first_is_lint a b pair lead lag low high =
+first_is_lint a b pair plan =
+    let lead = plan.lead in
+    let lag = plan.lag in
+    let low = plan.from in
+    let high = plan.to in
     let one = unmet_findings (unmet_reason b pair lead lag) A 1 a in
     let two = unmet_findings (unmet_reason a (mirrored pair) lead lag) B 1 b in
     let three = gap_findings A a pair low high in
@@ -120,11 +124,11 @@ none_is_aligned (finding.NoPeerRow end n ∷ fs) = (λ e. absurd (cc), λ e. abs
 none_is_aligned (finding.ShortAccept end n ∷ fs) = (λ e. absurd (cc), λ e. absurd (cc))
 none_is_aligned (finding.Gap end from to ∷ fs) = (λ e. absurd (cc), λ e. absurd (cc))
 
-pub none_exactly : (a b : List Row) (pair : Pair) (lead lag low high : ℕ)
-    → (findings a b pair lead lag low high ≡ []) ↔ (lint_rows a b pair (record { lead = lead; lag = lag; from = low; to = high }) ≡ answer.Aligned)
-none_exactly a b pair lead lag low high =
-    let fs = findings a b pair lead lag low high in
-    let same = first_is_lint a b pair lead lag low high in
+pub none_exactly : (a b : List Row) (pair : Pair) (plan : Plan)
+    → (findings a b pair plan ≡ []) ↔ (lint_rows a b pair plan ≡ answer.Aligned)
+none_exactly a b pair plan =
+    let fs = findings a b pair plan in
+    let same = first_is_lint a b pair plan in
     (λ e. sym same ∙ (none_is_aligned fs).0 e, λ e. (none_is_aligned fs).1 (same ∙ e))
 
 -- ---- what an accept lifetime is to be

@@ -5,6 +5,7 @@ use Rattle.std.specs.List.{list_any, AllByRecursion}
 use Rattle.book_base.specs.declared.address.Pair.{Pair}
 use Rattle.std.proofs.lemmas.Bool.{eqb-false, leb-false}
 use Rattle.book_segments.proofs.Fields.{and_tells, eqb_is, le_is}
+use Rattle.book_keys.specs.declared.plan.Plan.{Plan}
 use Rattle.book_keys.specs.declared.lifetime.Lifetime.{Lifetime}
 use Rattle.book_keys.specs.declared.lint.LintAnswer.TheVariants as answer
 use Rattle.book_keys.specs.Lifetimes.{greatest_time, contains}
@@ -277,28 +278,28 @@ lag_greatest a b pair lead at_a at_b = is_margin (AlignedAtLag a b pair lead) (l
 
 -- ---- the judgement
 
-pub lead_judged : (tables : List Table) (pair : Pair) (lead lag low high : ℕ)
+pub lead_judged : (tables : List Table) (pair : Pair) (plan : Plan)
     → AreOrdered (rows_at tables pair.local.address) → AreOrdered (rows_at tables pair.remote.address)
-    → lint_of tables pair (record { lead = lead; lag = lag; from = low; to = high }) ≡ answer.Aligned
-    → IsMargin (SaysAlignedAtLead tables pair lag low high) (lead_margin_of tables pair lag)
-lead_judged tables pair lead lag low high at_a at_b says =
+    → lint_of tables pair plan ≡ answer.Aligned
+    → IsMargin (SaysAlignedAtLead tables pair plan) (lead_margin_of tables pair plan.lag)
+lead_judged tables pair plan at_a at_b says =
     let a = rows_at tables pair.local.address in
     let b = rows_at tables pair.remote.address in
-    let gaps = (lint_aligned a b pair (record { lead = lead; lag = lag; from = low; to = high })).0 says in
-    is_margin (SaysAlignedAtLead tables pair lag low high) (lead_margin_of tables pair lag) (λ n. (
-      λ w. (lint_aligned a b pair (record { lead = n; lag = lag; from = low; to = high })).1 ((lead_aligned a b pair n lag at_a at_b).0 w, gaps.1, gaps.2),
-      λ s. (lead_aligned a b pair n lag at_a at_b).1 ((lint_aligned a b pair (record { lead = n; lag = lag; from = low; to = high })).0 s).0,
+    let gaps = (lint_aligned a b pair plan).0 says in
+    is_margin (SaysAlignedAtLead tables pair plan) (lead_margin_of tables pair plan.lag) (λ n. (
+      λ w. (lint_aligned a b pair (record plan { lead = n })).1 ((lead_aligned a b pair n plan.lag at_a at_b).0 w, gaps.1, gaps.2),
+      λ s. (lead_aligned a b pair n plan.lag at_a at_b).1 ((lint_aligned a b pair (record plan { lead = n })).0 s).0,
     ))
 
-pub lag_judged : (tables : List Table) (pair : Pair) (lead lag low high : ℕ)
+pub lag_judged : (tables : List Table) (pair : Pair) (plan : Plan)
     → AreOrdered (rows_at tables pair.local.address) → AreOrdered (rows_at tables pair.remote.address)
-    → lint_of tables pair (record { lead = lead; lag = lag; from = low; to = high }) ≡ answer.Aligned
-    → IsMargin (SaysAlignedAtLag tables pair lead low high) (lag_margin_of tables pair lead)
-lag_judged tables pair lead lag low high at_a at_b says =
+    → lint_of tables pair plan ≡ answer.Aligned
+    → IsMargin (SaysAlignedAtLag tables pair plan) (lag_margin_of tables pair plan.lead)
+lag_judged tables pair plan at_a at_b says =
     let a = rows_at tables pair.local.address in
     let b = rows_at tables pair.remote.address in
-    let gaps = (lint_aligned a b pair (record { lead = lead; lag = lag; from = low; to = high })).0 says in
-    is_margin (SaysAlignedAtLag tables pair lead low high) (lag_margin_of tables pair lead) (λ n. (
-      λ w. (lint_aligned a b pair (record { lead = lead; lag = n; from = low; to = high })).1 ((lag_aligned a b pair lead n at_a at_b).0 w, gaps.1, gaps.2),
-      λ s. (lag_aligned a b pair lead n at_a at_b).1 ((lint_aligned a b pair (record { lead = lead; lag = n; from = low; to = high })).0 s).0,
+    let gaps = (lint_aligned a b pair plan).0 says in
+    is_margin (SaysAlignedAtLag tables pair plan) (lag_margin_of tables pair plan.lead) (λ n. (
+      λ w. (lint_aligned a b pair (record plan { lag = n })).1 ((lag_aligned a b pair plan.lead n at_a at_b).0 w, gaps.1, gaps.2),
+      λ s. (lag_aligned a b pair plan.lead n at_a at_b).1 ((lint_aligned a b pair (record plan { lag = n })).0 s).0,
     ))

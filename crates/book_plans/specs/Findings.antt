@@ -8,6 +8,7 @@ use Rattle.book_base.specs.declared.end.End.{End}
 use Rattle.book_base.specs.declared.end.End.TheVariants.{A, B}
 use Rattle.book_plans.specs.declared.finding.Finding.{Finding}
 use Rattle.book_plans.specs.declared.finding.Finding.TheVariants as finding
+use Rattle.book_keys.specs.declared.plan.Plan.{Plan}
 use Rattle.book_keys.specs.declared.lifetime.Lifetime.{Lifetime}
 use Rattle.book_keys.specs.declared.lint.LintAnswer.{LintAnswer}
 use Rattle.book_keys.specs.declared.lint.LintAnswer.TheVariants as answer
@@ -78,19 +79,19 @@ abbrev pub gap_findings : End → List Row → Pair → (low high : ℕ) → Lis
 gap_findings end rows pair low high =
     map (gap_finding end) (failing_spans (has_sendable rows pair) low (high + 1 - low))
 
--- all findings: the rows of a that aren't met, those of b, the gaps of a, those of b (own)
-unfoldable pub findings : (a_rows b_rows : List Row) → Pair → (lead lag low high : ℕ) → List Finding
-findings a b pair lead lag low high =
-    unmet_findings (unmet_reason b pair lead lag) A 1 a
-    ++ (unmet_findings (unmet_reason a (mirrored pair) lead lag) B 1 b
-    ++ (gap_findings A a pair low high
-    ++ gap_findings B b (mirrored pair) low high))
+-- all that doesn't hold of a plan: the rows of a that aren't met, those of b, the gaps of a, those of
+-- b (own)
+unfoldable pub findings : (a_rows b_rows : List Row) → Pair → Plan → List Finding
+findings a b pair plan =
+    unmet_findings (unmet_reason b pair plan.lead plan.lag) A 1 a
+    ++ (unmet_findings (unmet_reason a (mirrored pair) plan.lead plan.lag) B 1 b
+    ++ (gap_findings A a pair plan.from plan.to
+    ++ gap_findings B b (mirrored pair) plan.from plan.to))
 
 -- all findings on a connection by the tables of a key file (own)
-abbrev pub findings_of : List Table → Pair → (lead lag low high : ℕ) → List Finding
-findings_of tables pair lead lag low high =
-    findings (rows_at tables pair.local.address) (rows_at tables pair.remote.address) pair lead lag
-    low high
+abbrev pub findings_of : List Table → Pair → Plan → List Finding
+findings_of tables pair plan =
+    findings (rows_at tables pair.local.address) (rows_at tables pair.remote.address) pair plan
 
 -- what the judgement says of the first finding (own)
 abbrev pub first_answer : List Finding → LintAnswer

@@ -8,6 +8,7 @@ use Rattle.book_plans.specs.declared.margin.Margin.{Margin}
 use Rattle.book_plans.specs.declared.margin.Margin.TheVariants.{UpTo, Any}
 use Rattle.book_keys.specs.Lifetimes.{greatest_time}
 use Rattle.book_keys.specs.declared.lint.LintAnswer.TheVariants as answer
+use Rattle.book_keys.specs.declared.plan.Plan.{Plan}
 use Rattle.book_keys.specs.Plans.{mirrored, accepts_throughout, Aligned, rows_at, lint_of}
 use Rattle.book_keys.specs.Rows.{Row, Table, sends_for}
 
@@ -134,12 +135,12 @@ AlignedAtLead a b pair lag lead = Aligned a b pair lead lag
 abbrev pub AlignedAtLag : (a_rows b_rows : List Row) → Pair → (lead lag : ℕ) → Type 0
 AlignedAtLag a b pair lead lag = Aligned a b pair lead lag
 
--- at this lag the judgement is that a connection is aligned with the lead (own)
-abbrev pub SaysAlignedAtLead : List Table → Pair → (lag low high lead : ℕ) → Type 0
-SaysAlignedAtLead tables pair lag low high lead =
-    lint_of tables pair (record { lead = lead; lag = lag; from = low; to = high }) ≡ answer.Aligned
+-- the judgement is that a connection is aligned by a plan, but with this lead (own)
+abbrev pub SaysAlignedAtLead : List Table → Pair → Plan → (lead : ℕ) → Type 0
+SaysAlignedAtLead tables pair plan lead =
+    lint_of tables pair (record plan { lead = lead }) ≡ answer.Aligned
 
--- at this lead the judgement is that a connection is aligned with the lag (own)
-abbrev pub SaysAlignedAtLag : List Table → Pair → (lead low high lag : ℕ) → Type 0
-SaysAlignedAtLag tables pair lead low high lag =
-    lint_of tables pair (record { lead = lead; lag = lag; from = low; to = high }) ≡ answer.Aligned
+-- the judgement is that a connection is aligned by a plan, but with this lag (own)
+abbrev pub SaysAlignedAtLag : List Table → Pair → Plan → (lag : ℕ) → Type 0
+SaysAlignedAtLag tables pair plan lag =
+    lint_of tables pair (record plan { lag = lag }) ≡ answer.Aligned

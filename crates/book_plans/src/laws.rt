@@ -3,6 +3,7 @@ ghost use Rattle.std.specs.Prelude.{◌≡◌, ◌↔◌, ◌+◌, ℕ, Bool, Li
 ghost use Rattle.book_base.specs.declared.address.Address.{Address};
 ghost use Rattle.book_base.specs.declared.address.Pair.{Pair};
 ghost use Rattle.book_keys.specs.declared.lint.LintAnswer.TheVariants as answer;
+ghost use Rattle.book_keys.specs.declared.plan.Plan.{Plan};
 ghost use Rattle.book_keys.specs.Plans.{accepts_from, outlasts, lint_of, lint_rows, rows_at};
 ghost use Rattle.book_keys.specs.Nodes.{tables_of};
 ghost use Rattle.book_keys.specs.Rows.{Row, Table};
@@ -23,14 +24,14 @@ pub fn margins_are_greatest()
 /// Where the judgement on a connection is `Aligned`, it stays so exactly for the leads within the one
 /// margin, with all else as it is, and exactly for the lags within the other.
 pub fn lint_holds_within_margins()
-    ensures lead { (tables : List Table) (pair : Pair) (lead lag low high : ℕ)
+    ensures lead { (tables : List Table) (pair : Pair) (plan : Plan)
         → AreOrdered (rows_at tables pair.local.address) → AreOrdered (rows_at tables pair.remote.address)
-        → lint_of tables pair (record { lead = lead; lag = lag; from = low; to = high }) ≡ answer.Aligned
-        → IsMargin (SaysAlignedAtLead tables pair lag low high) (lead_margin_of tables pair lag) }
-    ensures lag { (tables : List Table) (pair : Pair) (lead lag low high : ℕ)
+        → lint_of tables pair plan ≡ answer.Aligned
+        → IsMargin (SaysAlignedAtLead tables pair plan) (lead_margin_of tables pair plan.lag) }
+    ensures lag { (tables : List Table) (pair : Pair) (plan : Plan)
         → AreOrdered (rows_at tables pair.local.address) → AreOrdered (rows_at tables pair.remote.address)
-        → lint_of tables pair (record { lead = lead; lag = lag; from = low; to = high }) ≡ answer.Aligned
-        → IsMargin (SaysAlignedAtLag tables pair lead low high) (lag_margin_of tables pair lead) }
+        → lint_of tables pair plan ≡ answer.Aligned
+        → IsMargin (SaysAlignedAtLag tables pair plan) (lag_margin_of tables pair plan.lead) }
 {}
 
 /// A row of the other end accepts what a row sends, at whatever time, exactly where it differs in no
@@ -42,12 +43,10 @@ pub fn alike_rows_accept()
 /// There is no finding exactly where the judgement is `Aligned`, and of the findings the first is what
 /// it says.
 pub fn findings_are_of_lint()
-    ensures first { (a b : List Row) (pair : Pair) (lead lag low high : ℕ)
-        → first_answer (findings a b pair lead lag low high)
-        ≡ lint_rows a b pair (record { lead = lead; lag = lag; from = low; to = high }) }
-    ensures none { (a b : List Row) (pair : Pair) (lead lag low high : ℕ)
-        → (findings a b pair lead lag low high ≡ [])
-        ↔ (lint_rows a b pair (record { lead = lead; lag = lag; from = low; to = high }) ≡ answer.Aligned) }
+    ensures first { (a b : List Row) (pair : Pair) (plan : Plan)
+        → first_answer (findings a b pair plan) ≡ lint_rows a b pair plan }
+    ensures none { (a b : List Row) (pair : Pair) (plan : Plan)
+        → (findings a b pair plan ≡ []) ↔ (lint_rows a b pair plan ≡ answer.Aligned) }
 {}
 
 /// A row that accepts for as long as before, and as long as another row wants, accepts throughout what

@@ -35,7 +35,7 @@ module _ (tables : List Table) (plan : Plan) (pair : Pair) where
   is_aligned = lint_of tables pair plan ≡ answer.Aligned
 
   abbrev exactly : (plan_findings tables plan pair ≡ []) ↔ is_aligned
-  exactly = none_exactly (rows_at tables pair.local.address) (rows_at tables pair.remote.address) pair plan.lead plan.lag plan.from plan.to
+  exactly = none_exactly (rows_at tables pair.local.address) (rows_at tables pair.remote.address) pair plan
 
   pub good_findings : is_good_plan tables plan pair ≡ true → plan_findings tables plan pair ≡ []
   unfolding is_good_plan
@@ -68,9 +68,9 @@ module _ (tables : List Table) (plan : Plan) (pair : Pair) where
       ∙ ap (λ fs. connection_line pair ++ (calendar_text a b (calendar_of tables pair plan.from plan.to) ++ findings_text (facing a b pair) tables plan fs)) (good_findings good)
 
   pub good_lead : AreOrdered (rows_at tables pair.local.address) → AreOrdered (rows_at tables pair.remote.address) → is_good_plan tables plan pair ≡ true
-      → IsMargin (SaysAlignedAtLead tables pair plan.lag plan.from plan.to) (lead_margin_of tables pair plan.lag)
-  good_lead one two good = lead_judged tables pair plan.lead plan.lag plan.from plan.to one two (good_aligned good)
+      → IsMargin (SaysAlignedAtLead tables pair plan) (lead_margin_of tables pair plan.lag)
+  good_lead one two good = lead_judged tables pair plan one two (good_aligned good)
 
   pub good_lag : AreOrdered (rows_at tables pair.local.address) → AreOrdered (rows_at tables pair.remote.address) → is_good_plan tables plan pair ≡ true
-      → IsMargin (SaysAlignedAtLag tables pair plan.lead plan.from plan.to) (lag_margin_of tables pair plan.lead)
-  good_lag one two good = lag_judged tables pair plan.lead plan.lag plan.from plan.to one two (good_aligned good)
+      → IsMargin (SaysAlignedAtLag tables pair plan) (lag_margin_of tables pair plan.lead)
+  good_lag one two good = lag_judged tables pair plan one two (good_aligned good)

@@ -50,7 +50,7 @@ findings_text ends tables plan (f ∷ fs) = flat_map (finding_text ends plan) (f
 
 -- all findings on a connection (own)
 abbrev pub plan_findings : List Table → Plan → Pair → List Finding
-plan_findings tables plan pair = findings_of tables pair plan.lead plan.lag plan.from plan.to
+plan_findings tables plan pair = findings_of tables pair plan
 
 -- a connection between nodes of these tables, as end a sees it (own)
 abbrev pub facing : (a b : Table) → Pair → Facing

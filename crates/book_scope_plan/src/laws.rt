@@ -29,8 +29,8 @@ pub fn good_plans_say_aligned()
         ++ aligned_line (lead_margin_of tables pair plan.lag) (lag_margin_of tables pair plan.lead)) }
     ensures lead { (tables : List Table) (plan : Plan) (pair : Pair)
         → AreOrdered (rows_at tables pair.local.address) → AreOrdered (rows_at tables pair.remote.address) → is_good_plan tables plan pair ≡ true
-        → IsMargin (SaysAlignedAtLead tables pair plan.lag plan.from plan.to) (lead_margin_of tables pair plan.lag) }
+        → IsMargin (SaysAlignedAtLead tables pair plan) (lead_margin_of tables pair plan.lag) }
     ensures lag { (tables : List Table) (plan : Plan) (pair : Pair)
         → AreOrdered (rows_at tables pair.local.address) → AreOrdered (rows_at tables pair.remote.address) → is_good_plan tables plan pair ≡ true
-        → IsMargin (SaysAlignedAtLag tables pair plan.lead plan.from plan.to) (lag_margin_of tables pair plan.lead) }
+        → IsMargin (SaysAlignedAtLag tables pair plan) (lag_margin_of tables pair plan.lead) }
 {}

@@ -98,7 +98,8 @@ fn findings_of_both(
 ) -> Result<Vec<Finding>, AllocError>
     requires rows { length there.now.rows.now ≤ 64 }
     requires others { length there.now.others.now ≤ 64 }
-    ensures { IfOk result (λ v. v.items ≡ findings there.now.rows.now there.now.others.now there.now.pair there.now.lead there.now.lag from to) }
+    ensures { IfOk result (λ v. v.items ≡ findings there.now.rows.now there.now.others.now there.now.pair
+        (record { lead = there.now.lead; lag = there.now.lag; from = from; to = to })) }
 {
     let back = there.back();
     let mut findings = Vec::new(alloc);
@@ -141,7 +142,7 @@ pub fn findings(
     from: u64,
     to: u64,
 ) -> Result<Vec<Finding>, AllocError>
-    ensures value { IfOk result (λ v. v.items ≡ findings_of tables.now pair.now lead lag from to) }
+    ensures value { IfOk result (λ v. v.items ≡ findings_of tables.now pair.now (record { lead = lead; lag = lag; from = from; to = to })) }
     ensures first { IfOk result (λ v. first_answer v.items ≡ lint_of tables.now pair.now (record { lead = lead; lag = lag; from = from; to = to })) }
     ensures none { IfOk result (λ v. (v.items ≡ []) ↔ (lint_of tables.now pair.now (record { lead = lead; lag = lag; from = from; to = to }) ≡ answer.Aligned)) }
 {

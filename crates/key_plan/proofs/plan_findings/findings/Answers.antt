@@ -16,9 +16,9 @@ returns-clause-first c =
     let same : lint_rows a b pair plan ≡ lint_of c.args.tables.now pair plan =
     rw (c.rows_at.ensures.value, c.rows_at-2.ensures.value) refl in
     IfOk-weaker c.findings_of_both.result
-    (λ v. v.items ≡ findings a b pair c.args.lead c.args.lag c.args.from c.args.to)
+    (λ v. v.items ≡ findings a b pair plan)
     (λ v. first_answer v.items ≡ lint_of c.args.tables.now pair plan)
-    (λ v e. ap first_answer e ∙ first_is_lint a b pair c.args.lead c.args.lag c.args.from c.args.to ∙ same)
+    (λ v e. ap first_answer e ∙ first_is_lint a b pair plan ∙ same)
     c.findings_of_both.ensures
 
 pub returns-clause-none : goal.returns-clause-none
@@ -29,9 +29,9 @@ returns-clause-none c =
     let plan : Plan = record { lead = c.args.lead; lag = c.args.lag; from = c.args.from; to = c.args.to } in
     let same : lint_rows a b pair plan ≡ lint_of c.args.tables.now pair plan =
     rw (c.rows_at.ensures.value, c.rows_at-2.ensures.value) refl in
-    let law = none_exactly a b pair c.args.lead c.args.lag c.args.from c.args.to in
+    let law = none_exactly a b pair plan in
     IfOk-weaker c.findings_of_both.result
-    (λ v. v.items ≡ findings a b pair c.args.lead c.args.lag c.args.from c.args.to)
+    (λ v. v.items ≡ findings a b pair plan)
     (λ v. (v.items ≡ []) ↔ (lint_of c.args.tables.now pair plan ≡ answer.Aligned))
     (λ v e. (λ n. sym same ∙ law.0 (sym e ∙ n), λ s. e ∙ law.1 (same ∙ s)))
     c.findings_of_both.ensures
