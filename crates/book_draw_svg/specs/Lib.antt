@@ -1,0 +1,3 @@
+pub mod Pictures
+pub mod Placements
+pub mod Tags
