@@ -21,24 +21,27 @@ abbrev pub is_id : Option ℕ → ℕ → Bool
 is_id None id = false
 is_id (Some one) id = one == id
 
--- the row is for what goes between the node's socket and the other one, and this id is its own: of
--- the node's address, the id, and the row's (RFC 7210, section 2)
-abbrev pub is_of_row : Table → Row → (own other : Socket) → (found : Option ℕ) → (id : ℕ) → Bool
-is_of_row t r own other found id =
-    same_address own.address t.address
-    && (matches r (record { local = own; remote = other }) && is_id found id)
+-- what goes between the node's socket and the other one (own)
+abbrev pub between : (own other : Socket) → Pair
+between own other = record { local = own; remote = other }
+
+-- the row is for what goes between the two sockets, the first of which is the node's, and this id
+-- is its own: of the node's address, the id, and the row's (RFC 7210, section 2)
+abbrev pub is_of_row : Table → Row → Pair → (found : Option ℕ) → (id : ℕ) → Bool
+is_of_row t r pair found id =
+    same_address pair.local.address t.address && (matches r pair && is_id found id)
 
 -- the segments carry the KeyID of the row of this node: they were sent by it, or sent to it (RFC
 -- 5925, section 6.1)
 abbrev pub carries_row : Table → Row → KeyUse → Bool
-carries_row t r u = is_of_row t r u.source u.destination u.key_id r.send_id
-    || is_of_row t r u.destination u.source u.key_id r.recv_id
+carries_row t r u = is_of_row t r (between u.source u.destination) u.key_id r.send_id
+    || is_of_row t r (between u.destination u.source) u.key_id r.recv_id
 
 -- the last of the segments asks for the row of this node: it asks to be sent with it, or the other
 -- end asks it to send with it (RFC 5925, section 7.1)
 abbrev pub asks_for_row : Table → Row → KeyUse → Bool
-asks_for_row t r u = is_of_row t r u.source u.destination u.asked r.recv_id
-    || is_of_row t r u.destination u.source u.asked r.send_id
+asks_for_row t r u = is_of_row t r (between u.source u.destination) u.asked r.recv_id
+    || is_of_row t r (between u.destination u.source) u.asked r.send_id
 
 -- of what goes the same way, these are with another KeyID, verified, and later (own)
 abbrev pub overtakes : (later earlier : KeyUse) → Bool

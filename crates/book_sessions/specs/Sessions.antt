@@ -69,7 +69,7 @@ seen_by time (Bad fault) (Ok said) = Err (passed.Faulty fault)
 seen_by time (Read d) (Ok said) = Ok (seen_segment time d said)
 
 -- both are none, or the same number (own)
-abbrev pub same_id : Option ℕ → Option ℕ → Bool
+abbrev pub same_id : (one other : Option ℕ) → Bool
 same_id None None = true
 same_id (Some a) (Some b) = a == b
 same_id a b = false

@@ -2,7 +2,7 @@
 ghost use Rattle.std.specs.Prelude.{◌≡◌, not, Some, if◌then◌else◌};
 ghost use Rattle.std.specs.List.{find, list_any};
 ghost use Rattle.book_segments.specs.Sockets.{same_address, same_socket};
-ghost use Rattle.book_sessions.specs.KeyLines.{asks_for_row, asks_row_still, carries_row, is_current, is_id, is_of_row, is_wanted, last_of, later_of, overtakes, uses_row_still};
+ghost use Rattle.book_sessions.specs.KeyLines.{asks_for_row, asks_row_still, between, carries_row, is_current, is_id, is_of_row, is_wanted, last_of, later_of, overtakes, uses_row_still};
 
 use crate::words::{is_same_id, is_verified};
 use book_base::{Address, Pair, Socket};
@@ -30,22 +30,22 @@ fn is_id(found: Option<u8>, id: u8) -> bool
     }
 }
 
-// Whether the row is for what goes between the node's socket and the other one, and this id is its own.
-fn is_of_row(
-    table: &Table,
-    row: &Row,
-    own: Socket,
-    other: Socket,
-    found: Option<u8>,
-    id: u8,
-) -> bool
-    ensures { result ≡ is_of_row table.now row.now own other found id }
+// What goes between the node's socket and the other one.
+fn between(own: Socket, other: Socket) -> Pair
+    ensures { result ≡ between own other }
 {
-    let pair = Pair {
+    Pair {
         local: own,
         remote: other,
-    };
-    is_same_address(own.address, table.address()) && (row.matches(&pair) && is_id(found, id))
+    }
+}
+
+// Whether the row is for what goes between the two sockets, the first of which is the node's, and this id
+// is its own.
+fn is_of_row(table: &Table, row: &Row, pair: Pair, found: Option<u8>, id: u8) -> bool
+    ensures { result ≡ is_of_row table.now row.now pair found id }
+{
+    is_same_address(pair.local.address, table.address()) && (row.matches(&pair) && is_id(found, id))
 }
 
 fn carries_row(table: &Table, row: &Row, one: &KeyUse) -> bool
@@ -54,15 +54,13 @@ fn carries_row(table: &Table, row: &Row, one: &KeyUse) -> bool
     is_of_row(
         table,
         row,
-        one.source,
-        one.destination,
+        between(one.source, one.destination),
         one.key_id,
         row.send_id(),
     ) || is_of_row(
         table,
         row,
-        one.destination,
-        one.source,
+        between(one.destination, one.source),
         one.key_id,
         row.recv_id(),
     )
@@ -74,15 +72,13 @@ fn asks_for_row(table: &Table, row: &Row, one: &KeyUse) -> bool
     is_of_row(
         table,
         row,
-        one.source,
-        one.destination,
+        between(one.source, one.destination),
         one.asked,
         row.recv_id(),
     ) || is_of_row(
         table,
         row,
-        one.destination,
-        one.source,
+        between(one.destination, one.source),
         one.asked,
         row.send_id(),
     )
