@@ -4,12 +4,16 @@ use book_base::Bytes;
 use clap::{Arg, ArgAction, ArgMatches, Command};
 use key_faults::push_key_fault;
 use scope_lines::push_fault;
-use scope_sessions::{SessionsHalt, write_sessions};
+use scope_sessions::{LineKind, SessionsHalt, write_sessions};
 use std::alloc::{AllocError, Global};
 use std::fs::File;
+use text_lines::{push_newline, push_number, push_text};
 
 /// The most bytes of a key file.
 const MOST_KEYS: u64 = 1_048_576;
+
+/// The most bytes of a file of initial sequence numbers.
+const MOST_ISNS: u64 = 4_194_304;
 
 const ABOUT: &str =
     "Says of each session of a capture who used which key, and of each key whether it may go";
@@ -21,10 +25,16 @@ are verified, and for those that aren't, by the reason. Of each key of the file 
 whether a peer asks for it, and whether it may go: whether no direction of a session uses it still or asks \
 for it.
 
-Status 0: all segments are verified; 1: one isn't, or a packet that can't be read may be one; 3: keys; the \
-others as above.
+FILE gives the initial sequence numbers of sessions that began before the capture: each line is ADDRESS PORT ISN \
+ADDRESS PORT ISN, each number behind the socket that chose it; an empty line and one \
+that begins with # say nothing. The capture is judged as if these sessions' handshakes stood in front of it, one \
+after another.
 
-    aoscope sessions KEYS < CAPTURE";
+Status 0: all segments are verified; 1: one isn't, or a packet that can't be read may be one; 3: keys; 4: \
+also FILE; the others as above.
+
+    aoscope sessions KEYS < CAPTURE
+    aoscope sessions KEYS --isn FILE < CAPTURE";
 
 /// The word with its page of help.
 pub(crate) fn command<'a>(alloc: Global) -> Result<Command<'a>, AllocError> {
@@ -32,15 +42,23 @@ pub(crate) fn command<'a>(alloc: Global) -> Result<Command<'a>, AllocError> {
         .required(true)
         .help("The key file")
         .action(ArgAction::Set);
+    let isn = Arg::new(alloc, "isn")
+        .long("isn")
+        .value_name("FILE")
+        .help("Initial sequence numbers of sessions that began before the capture")
+        .action(ArgAction::Set);
     Command::new(alloc, "sessions")
         .about(ABOUT)
         .after_help(AFTER)
-        .arg(keys)
+        .arg(keys)?
+        .arg(isn)
 }
 
 fn status(halt: SessionsHalt) -> u8 {
     match halt {
         SessionsHalt::Keys(_) => 3,
+        SessionsHalt::IsnLine(_, _) => 4,
+        SessionsHalt::TooManyIsns => 4,
         SessionsHalt::Broken(_) => 4,
         SessionsHalt::TooLong => 4,
         SessionsHalt::Read => 5,
@@ -49,10 +67,31 @@ fn status(halt: SessionsHalt) -> u8 {
     }
 }
 
+fn kind_name(kind: LineKind) -> &'static [u8] {
+    match kind {
+        LineKind::Word => b"word",
+        LineKind::Number => b"number",
+        LineKind::Hex => b"hex",
+        LineKind::Range => b"range",
+        LineKind::Header => b"header",
+        LineKind::Shared => b"shared",
+    }
+}
+
+/// Puts which given line is faulty, and the kind of its first faulty word, behind `line`.
+fn push_isn_line(line: &mut Vec<u8>, number: u32, kind: LineKind) -> Result<(), AllocError> {
+    line.extend_from_slice(b"isn: line")?;
+    push_number(line, u64::from(number))?;
+    push_text(line, kind_name(kind))?;
+    push_newline(line)
+}
+
 /// Puts why the program ends early behind `line`.
 fn push_halt(line: &mut Vec<u8>, halt: SessionsHalt) -> Result<(), AllocError> {
     match halt {
         SessionsHalt::Keys(fault) => push_key_fault(line, fault),
+        SessionsHalt::IsnLine(number, kind) => push_isn_line(line, number, kind),
+        SessionsHalt::TooManyIsns => line.extend_from_slice(b"isn: too many lines\n"),
         SessionsHalt::Broken(fault) => push_fault(line, fault),
         SessionsHalt::TooLong => line.extend_from_slice(b"input: too long\n"),
         SessionsHalt::Read => line.extend_from_slice(b"read fault\n"),
@@ -72,28 +111,43 @@ fn tell(rt: &HostRuntime, halt: SessionsHalt) -> u8 {
     status(halt)
 }
 
-fn read_keys(rt: &HostRuntime, path: &str) -> Result<Bytes, ReadProblem> {
+/// A file of at most so many bytes.
+fn read_file(rt: &HostRuntime, path: &str, most: u64) -> Result<Bytes, ReadProblem> {
     match File::open(rt, path) {
-        Ok(file) => read_all(rt.alloc(), &mut ReadSource::new(file), MOST_KEYS),
+        Ok(file) => read_all(rt.alloc(), &mut ReadSource::new(file), most),
         Err(_) => Err(ReadProblem::Fault),
     }
 }
 
+/// The lines of the file of initial sequence numbers; without one there are none.
+fn read_isns(rt: &HostRuntime, path: Option<&str>) -> Result<Bytes, ReadProblem> {
+    match path {
+        Some(path) => read_file(rt, path, MOST_ISNS),
+        None => Ok(Bytes::from_vec(Vec::new(rt.alloc()))),
+    }
+}
+
 /// Writes the table of the capture on standard input.
-fn write(rt: &HostRuntime, keys: &[u8]) -> u8 {
+fn write(rt: &HostRuntime, keys: &[u8], isns: &[u8]) -> u8 {
     let mut input = ReadSource::new(rt.stdin());
     let mut out = WriteSink::new(rt.stdout());
-    match write_sessions(rt.alloc(), keys, &mut input, &mut out) {
+    match write_sessions(rt.alloc(), keys, isns, &mut input, &mut out) {
         Ok(false) => 0,
         Ok(true) => 1,
         Err(halt) => tell(rt, halt),
     }
 }
 
-/// A key file of too many bytes.
-fn tell_long_keys(rt: &HostRuntime) -> u8 {
-    let _ = write_all(&mut WriteSink::new(rt.stderr()), b"keys: too long\n");
-    3
+/// A file isn't read; `long` and `status` are of one of too many bytes.
+fn tell_unread(rt: &HostRuntime, problem: ReadProblem, long: &[u8], status: u8) -> u8 {
+    match problem {
+        ReadProblem::Memory => tell(rt, SessionsHalt::Memory),
+        ReadProblem::Fault => tell(rt, SessionsHalt::Read),
+        ReadProblem::TooLong => {
+            let _ = write_all(&mut WriteSink::new(rt.stderr()), long);
+            status
+        }
+    }
 }
 
 /// What the word asks for.
@@ -102,10 +156,12 @@ pub(crate) fn run(rt: &HostRuntime, matches: &ArgMatches<'_>) -> u8 {
         Some(path) => path,
         None => return tell(rt, SessionsHalt::Memory),
     };
-    match read_keys(rt, path) {
-        Ok(keys) => write(rt, keys.as_slice()),
-        Err(ReadProblem::Memory) => tell(rt, SessionsHalt::Memory),
-        Err(ReadProblem::Fault) => tell(rt, SessionsHalt::Read),
-        Err(ReadProblem::TooLong) => tell_long_keys(rt),
+    let keys = match read_file(rt, path, MOST_KEYS) {
+        Ok(keys) => keys,
+        Err(problem) => return tell_unread(rt, problem, b"keys: too long\n", 3),
+    };
+    match read_isns(rt, matches.get_str("isn")) {
+        Ok(isns) => write(rt, keys.as_slice(), isns.as_slice()),
+        Err(problem) => tell_unread(rt, problem, b"isn: too long\n", 4),
     }
 }

@@ -7,13 +7,13 @@ use Rattle.book_draw.proofs.Happens.{all_arrows}
 use Rattle.book_draw.specs.Arrows.{arrows, happened}
 use Rattle.book_draw.specs.declared.rung.Rung.{Rung}
 use Rattle.book_draw.specs.Rungs.{rungs}
-use Rattle.book_draw_svg.specs.Placements.{placed_from, rung_of_placed, rungs_placed}
+use Rattle.book_draw_svg.specs.Placements.{placements_from, rung_of_placed, rungs_placed}
 use Rattle.book_draw_svg.specs.Tags.{escaped, escaped_byte, is_plain}
 use Rattle.book_link.specs.declared.event.Event.{Event}
 use Rattle.book_link.specs.Runs.{run}
 use Rattle.book_link.specs.Worlds.{Setup}
 
-from_placed : (all earlier rs : List Rung) → map rung_of_placed (placed_from all earlier rs) ≡ rs
+from_placed : (all earlier rs : List Rung) → map rung_of_placed (placements_from all earlier rs) ≡ rs
 from_placed all earlier [] = refl
 from_placed all earlier (r ∷ rs) = ap (λ (l : List Rung). r ∷ l) (from_placed all (r ∷ earlier) rs)
 

@@ -82,13 +82,13 @@ placed_at all earlier r = record {
 }
 
 -- rungs in their places, behind earlier ones, the newest first (own)
-abbrev pub placed_from : (all earlier later : List Rung) → List Placed
-placed_from all earlier [] = []
-placed_from all earlier (r ∷ rs) = placed_at all earlier r ∷ placed_from all (r ∷ earlier) rs
+abbrev pub placements_from : (all earlier later : List Rung) → List Placed
+placements_from all earlier [] = []
+placements_from all earlier (r ∷ rs) = placed_at all earlier r ∷ placements_from all (r ∷ earlier) rs
 
 -- all rungs in their places (own)
 abbrev pub rungs_placed : List Rung → List Placed
-rungs_placed rs = placed_from rs [] rs
+rungs_placed rs = placements_from rs [] rs
 
 -- the rung of a place (own)
 abbrev pub rung_of_placed : Placed → Rung

@@ -1,5 +1,7 @@
 pub mod Counting
 pub mod Ends
+pub mod GivenLaws
+pub mod HoldLaws
 pub mod KeyWords
 pub mod Placing
 pub mod Walk

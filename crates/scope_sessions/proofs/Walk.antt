@@ -8,7 +8,9 @@ use Rattle.ao_base.proofs.Sides.{gave_more, gave_none, rose_after}
 use Rattle.book_captures.specs.declared.capture_parts.CaptureFault.{CaptureFault}
 use Rattle.book_captures.specs.Parts.{PartSaid}
 use Rattle.book_captures.specs.Captures.{CapturePacket, capture_of}
+use Rattle.book_cmd_check.specs.declared.given.GivenIsns.{GivenIsns}
 use Rattle.book_cmd_check.specs.Captures.{Connection}
+use Rattle.book_cmd_check.specs.Handshakes.{given_after}
 use Rattle.book_keys.specs.Rows.{Table}
 use Rattle.book_sessions.specs.Sessions.{SessionTable, no_sessions, sessions_from, sessions_of}
 use Rattle.capture_check.specs.Checkers.{Checking, StandsFor}
@@ -23,68 +25,68 @@ use Rattle.scope_sessions.specs.Counting.{CountsPacket, table_of}
 use Rattle.scope_sessions.specs.Reading.{Counts}
 
 -- these packets were counted: whatever packets follow
-pub record HasHeard (tables : List Table) (checking : Checking) (table : SessionTable) (shown : List CapturePacket) : Type 0 where
+pub record HasHeard (tables : List Table) (isns : List GivenIsns) (checking : Checking) (table : SessionTable) (shown : List CapturePacket) : Type 0 where
   pub held : List Connection
   pub same : checking.tables ≡ tables
   pub stands : StandsFor checking.entries held
-  pub comes : (ps : List CapturePacket) → sessions_from tables [] no_sessions (shown ++ ps) ≡ sessions_from tables held table ps
+  pub comes : (ps : List CapturePacket) → sessions_from tables (given_after [] isns) no_sessions (shown ++ ps) ≡ sessions_from tables held table ps
 
 -- between two parts: these bytes were given, these packets shown and counted
-pub record Between (tables : List Table) (reader : Reading) (checking : Checking) (table : SessionTable) (given : List ℕ) (shown : List CapturePacket) (source_before source_now : Side) : Type 0 where
+pub record Between (tables : List Table) (isns : List GivenIsns) (reader : Reading) (checking : Checking) (table : SessionTable) (given : List ℕ) (shown : List CapturePacket) (source_before source_now : Side) : Type 0 where
   pub gave : Gave given source_before source_now
   pub bytes : All IsByte given
   pub shows : HasShown reader given shown
   pub within : reader.counts.bytes ≤ 9223372036854775808
   pub going : reader.over ≡ false
-  pub heard : HasHeard tables checking table shown
+  pub heard : HasHeard tables isns checking table shown
 
 pub all_none : All IsByte []
 all_none = All-from_get_or IsByte [] 0 (λ i within. absurd (omega arith))
 
 -- before the first part
-pub between_new : (tables : List Table) (reader : Reading) (checking : Checking) (table : SessionTable) (source : Side) → reader ≡ new_reading → checking.tables ≡ tables → StandsFor checking.entries [] → table ≡ no_sessions →
-    Between tables reader checking table [] [] source source
-between_new tables reader checking table source is same stands none = rw (is, none) (record {
+pub between_new : (tables : List Table) (isns : List GivenIsns) (reader : Reading) (checking : Checking) (table : SessionTable) (source : Side) → reader ≡ new_reading → checking.tables ≡ tables → StandsFor checking.entries (given_after [] isns) → table ≡ no_sessions →
+    Between tables isns reader checking table [] [] source source
+between_new tables isns reader checking table source is same stands none = rw (is, none) (record {
   gave = gave_none source;
   bytes = all_none;
   shows = shown_none;
   within = omega arith;
   going = refl;
-  heard = record { held = []; same = same; stands = stands; comes = λ ps. refl };
+  heard = record { held = given_after [] isns; same = same; stands = stands; comes = λ ps. refl };
 })
 
 -- memory ran out before the first part
-pub ends_none : (tables : List Table) (source : Side) → Counts tables [] source source (Err halt.Memory)
-ends_none tables source = record {
+pub ends_none : (tables : List Table) (isns : List GivenIsns) (source : Side) → Counts tables isns [] source source (Err halt.Memory)
+ends_none tables isns source = record {
   gave = gave_none source;
   bytes = all_none;
   ends = record { read = []; has_read = read_now new_reading [] [] shown_none };
 }
 
 -- no packet more
-heard_none : (tables : List Table) (checking : Checking) (table : SessionTable) (shown : List CapturePacket) (packet : Option CapturePacket) → listed packet ≡ [] → HasHeard tables checking table shown → HasHeard tables checking table (shown ++ listed packet)
-heard_none tables checking table shown packet none heard =
+heard_none : (tables : List Table) (isns : List GivenIsns) (checking : Checking) (table : SessionTable) (shown : List CapturePacket) (packet : Option CapturePacket) → listed packet ≡ [] → HasHeard tables isns checking table shown → HasHeard tables isns checking table (shown ++ listed packet)
+heard_none tables isns checking table shown packet none heard =
     let same : shown ++ listed packet ≡ shown = ap (λ (ps : List CapturePacket). shown ++ ps) none ∙ append-nil shown in
     rw same heard
 
 -- a packet more
-heard_one : (tables : List Table) (before now : Checking) (table table_now : SessionTable) (shown : List CapturePacket) (packet : Option CapturePacket) (p : CapturePacket) → packet ≡ Some p → now.tables ≡ before.tables →
-    (heard : HasHeard tables before table shown) → CountsPacket tables heard.held now.entries table table_now p → HasHeard tables now table_now (shown ++ listed packet)
-heard_one tables before now table table_now shown packet p is same heard counted = rw is (record {
+heard_one : (tables : List Table) (isns : List GivenIsns) (before now : Checking) (table table_now : SessionTable) (shown : List CapturePacket) (packet : Option CapturePacket) (p : CapturePacket) → packet ≡ Some p → now.tables ≡ before.tables →
+    (heard : HasHeard tables isns before table shown) → CountsPacket tables heard.held now.entries table table_now p → HasHeard tables isns now table_now (shown ++ listed packet)
+heard_one tables isns before now table table_now shown packet p is same heard counted = rw is (record {
   held = counted.held_now;
   same = same ∙ heard.same;
   stands = counted.stands;
-  comes = λ ps. ap (sessions_from tables [] no_sessions) (append_assoc shown (p ∷ []) ps)
+  comes = λ ps. ap (sessions_from tables (given_after [] isns) no_sessions) (append_assoc shown (p ∷ []) ps)
       ∙ (heard.comes (p ∷ ps) ∙ counted.counts (λ connections later. sessions_from tables connections later ps));
 })
 
 -- what is counted is the table of the packets
-heard_all : (tables : List Table) (checking : Checking) (table : SessionTable) (shown : List CapturePacket) → HasHeard tables checking table shown → table ≡ sessions_of tables shown
+heard_all : (tables : List Table) (isns : List GivenIsns) (checking : Checking) (table : SessionTable) (shown : List CapturePacket) → HasHeard tables isns checking table shown → table ≡ sessions_of tables isns shown
 unfolding sessions_of
-heard_all tables checking table shown heard =
-    sym (ap (sessions_from tables [] no_sessions) (sym (append-nil shown)) ∙ heard.comes [])
+heard_all tables isns checking table shown heard =
+    sym (ap (sessions_from tables (given_after [] isns) no_sessions) (sym (append-nil shown)) ∙ heard.comes [])
 
-module _ (tables : List Table) (before : Reading) (checking : Checking) (table : SessionTable) (given next : List ℕ) (shown : List CapturePacket) (a b c : Side) (between : Between tables before checking table given shown a b) where
+module _ (tables : List Table) (isns : List GivenIsns) (before : Reading) (checking : Checking) (table : SessionTable) (given next : List ℕ) (shown : List CapturePacket) (a b c : Side) (between : Between tables isns before checking table given shown a b) where
   gave_all : Gave next b c → Gave (given ++ next) a c
   gave_all gave = gave_more given next a b c between.gave gave
 
@@ -92,14 +94,15 @@ module _ (tables : List Table) (before : Reading) (checking : Checking) (table :
   bytes_all bytes = All-append IsByte given next between.bytes bytes
 
   -- the capture's end
-  pub ends_done : (now : Reading) (counted : Counted) → table_of counted.tally ≡ table → counted.fault ≡ None → Steps before now b c next (Ok step.End) → Counts tables (given ++ next) a c (Ok counted)
-  ends_done now counted is none steps =
+  pub ends_done : (now : Reading) (counted : Counted) → counted.checker ≡ checking → table_of counted.tally ≡ table → counted.fault ≡ None → Steps before now b c next (Ok step.End) → Counts tables isns (given ++ next) a c (Ok counted)
+  ends_done now counted by is none steps =
       let all : capture_of (given ++ next) ≡ record { packets = shown; passed = before.passed; fault = None } = shown_all before given next shown between.shows None (steps.answers.2) in
       record {
         gave = gave_all steps.gave;
         bytes = bytes_all steps.bytes;
         ends = record {
-          table_is = rw all (is ∙ heard_all tables checking table shown between.heard);
+          tables_are = ap (λ (k : Checking). k.tables) by ∙ between.heard.same;
+          table_is = rw all (is ∙ heard_all tables isns checking table shown between.heard);
           fault_is = none ∙ sym (ap (λ c. c.fault) all);
           whole = rw none (steps.answers.1);
           has_read = rw all (read_before before given next shown between.shows);
@@ -107,8 +110,8 @@ module _ (tables : List Table) (before : Reading) (checking : Checking) (table :
       }
 
   -- a fault of the capture
-  pub ends_broken : (now : Reading) (fault : CaptureFault) (counted : Counted) → table_of counted.tally ≡ table → counted.fault ≡ Some fault → Steps before now b c next (Err (stream_halt.Broken fault)) → Counts tables (given ++ next) a c (Ok counted)
-  ends_broken now fault counted is some steps =
+  pub ends_broken : (now : Reading) (fault : CaptureFault) (counted : Counted) → counted.checker ≡ checking → table_of counted.tally ≡ table → counted.fault ≡ Some fault → Steps before now b c next (Err (stream_halt.Broken fault)) → Counts tables isns (given ++ next) a c (Ok counted)
+  ends_broken now fault counted by is some steps =
       let left = told c.bytes in
       let all : capture_of (given ++ next) ≡ record { packets = shown; passed = before.passed; fault = Some fault } = shown_all before given next shown between.shows (Some fault) (steps.answers.1) in
       let group : (before.kept ++ next) ++ left ≡ before.kept ++ (next ++ left) = append_assoc before.kept next left in
@@ -119,7 +122,8 @@ module _ (tables : List Table) (before : Reading) (checking : Checking) (table :
         gave = gave_all steps.gave;
         bytes = bytes_all steps.bytes;
         ends = record {
-          table_is = rw all (is ∙ heard_all tables checking table shown between.heard);
+          tables_are = ap (λ (k : Checking). k.tables) by ∙ between.heard.same;
+          table_is = rw all (is ∙ heard_all tables isns checking table shown between.heard);
           fault_is = some ∙ sym (ap (λ c. c.fault) all);
           whole = rw some whole;
           has_read = rw all (read_before before given next shown between.shows);
@@ -127,7 +131,7 @@ module _ (tables : List Table) (before : Reading) (checking : Checking) (table :
       }
 
   -- a read that failed
-  pub ends_read : (now : Reading) → Steps before now b c next (Err stream_halt.Read) → Counts tables (given ++ next) a c (Err halt.Read)
+  pub ends_read : (now : Reading) → Steps before now b c next (Err stream_halt.Read) → Counts tables isns (given ++ next) a c (Err halt.Read)
   ends_read now steps = record {
     gave = gave_all steps.gave;
     bytes = bytes_all steps.bytes;
@@ -138,7 +142,7 @@ module _ (tables : List Table) (before : Reading) (checking : Checking) (table :
   }
 
   -- more bytes than any file has
-  pub ends_long : (now : Reading) → Steps before now b c next (Err stream_halt.TooLong) → Counts tables (given ++ next) a c (Err halt.TooLong)
+  pub ends_long : (now : Reading) → Steps before now b c next (Err stream_halt.TooLong) → Counts tables isns (given ++ next) a c (Err halt.TooLong)
   ends_long now steps =
       let split : length (given ++ next) ≡ length (between.shows.front ++ (before.kept ++ next)) =
       ap length (ap (λ xs. xs ++ next) between.shows.split ∙ append_assoc between.shows.front before.kept next) in
@@ -160,7 +164,7 @@ module _ (tables : List Table) (before : Reading) (checking : Checking) (table :
         let most = passes.within in
         omega arith
 
-    between_listed : (checking_now : Checking) (table_now : SessionTable) → HasHeard tables checking_now table_now (shown ++ listed now.packet) → Between tables now checking_now table_now (given ++ next) (shown ++ listed now.packet) a c
+    between_listed : (checking_now : Checking) (table_now : SessionTable) → HasHeard tables isns checking_now table_now (shown ++ listed now.packet) → Between tables isns now checking_now table_now (given ++ next) (shown ++ listed now.packet) a c
     between_listed checking_now table_now heard = record {
       gave = gave_all gave;
       bytes = bytes_all bytes;
@@ -171,19 +175,19 @@ module _ (tables : List Table) (before : Reading) (checking : Checking) (table :
     }
 
     -- which showed no packet
-    pub between_block : ShowsNone said → Between tables now checking table (given ++ next) (shown ++ listed now.packet) a c
+    pub between_block : ShowsNone said → Between tables isns now checking table (given ++ next) (shown ++ listed now.packet) a c
     between_block none = between_listed checking table
-        (heard_none tables checking table shown now.packet (ap listed passes.shown ∙ none_listed said before.counts.packets none) between.heard)
+        (heard_none tables isns checking table shown now.packet (ap listed passes.shown ∙ none_listed said before.counts.packets none) between.heard)
 
     -- which showed a packet, that was counted
     pub between_packet : (checking_now : Checking) (table_now : SessionTable) (p : CapturePacket) → now.packet ≡ Some p → checking_now.tables ≡ checking.tables → CountsPacket tables between.heard.held checking_now.entries table table_now p
-        → Between tables now checking_now table_now (given ++ next) (shown ++ listed now.packet) a c
+        → Between tables isns now checking_now table_now (given ++ next) (shown ++ listed now.packet) a c
     between_packet checking_now table_now p is same counted =
-        between_listed checking_now table_now (heard_one tables checking checking_now table table_now shown now.packet p is same between.heard counted)
+        between_listed checking_now table_now (heard_one tables isns checking checking_now table table_now shown now.packet p is same between.heard counted)
 
     counted_by_packet : (checking_now : Checking) (table_now : SessionTable) (packet : Option CapturePacket) → now.packet ≡ packet → IsSome packet → checking_now.tables ≡ checking.tables
         → ((p : CapturePacket) → now.packet ≡ Some p → CountsPacket checking.tables between.heard.held checking_now.entries table table_now p)
-        → Between tables now checking_now table_now (given ++ next) (shown ++ listed now.packet) a c
+        → Between tables isns now checking_now table_now (given ++ next) (shown ++ listed now.packet) a c
     counted_by_packet checking_now table_now None is some same counts = let bad : false ≡ true = some in absurd (cc)
     counted_by_packet checking_now table_now (Some p) is some same counts =
         between_packet checking_now table_now p is same (rw between.heard.same at (counts p is))
@@ -191,11 +195,11 @@ module _ (tables : List Table) (before : Reading) (checking : Checking) (table :
     -- the same, whatever it is
     pub between_counted : (checking_now : Checking) (table_now : SessionTable) → IsSome now.packet → checking_now.tables ≡ checking.tables
         → ((p : CapturePacket) → now.packet ≡ Some p → CountsPacket checking.tables between.heard.held checking_now.entries table table_now p)
-        → Between tables now checking_now table_now (given ++ next) (shown ++ listed now.packet) a c
+        → Between tables isns now checking_now table_now (given ++ next) (shown ++ listed now.packet) a c
     between_counted checking_now table_now some same counts = counted_by_packet checking_now table_now now.packet refl some same counts
 
     -- memory ran out for it
-    pub ends_memory : Counts tables (given ++ next) a c (Err halt.Memory)
+    pub ends_memory : Counts tables isns (given ++ next) a c (Err halt.Memory)
     ends_memory = record {
       gave = gave_all gave;
       bytes = bytes_all bytes;

@@ -4,6 +4,7 @@ use Rattle.std.specs.List.{All}
 use Rattle.ao_base.specs.Outside.{Side, Gave, Rose, IsAtEnd, told}
 use Rattle.book_captures.specs.declared.capture_parts.CaptureFault.{CaptureFault}
 use Rattle.book_captures.specs.Captures.{CapturePacket, capture_of}
+use Rattle.book_cmd_check.specs.declared.given.GivenIsns.{GivenIsns}
 use Rattle.book_keys.specs.Rows.{Table}
 use Rattle.book_sessions.specs.Sessions.{sessions_of}
 use Rattle.capture_stream.specs.Fronts.{IsByte}
@@ -21,8 +22,9 @@ IsWhole given source_now None = IsAtEnd source_now
 IsWhole given source_now (Some fault) = capture_of (given ++ told source_now.bytes) ≡ capture_of given
 
 -- all packets of the capture were counted
-pub record HasCounted (tables : List Table) (given : List ℕ) (source_now : Side) (counted : Counted) : Type 0 where
-  pub table_is : table_of counted.tally ≡ sessions_of tables (capture_of given).packets
+pub record HasCounted (tables : List Table) (isns : List GivenIsns) (given : List ℕ) (source_now : Side) (counted : Counted) : Type 0 where
+  pub tables_are : counted.checker.tables ≡ tables
+  pub table_is : table_of counted.tally ≡ sessions_of tables isns (capture_of given).packets
   pub fault_is : counted.fault ≡ (capture_of given).fault
   pub whole : IsWhole given source_now counted.fault
   pub has_read : HasRead given (capture_of given).packets
@@ -33,14 +35,14 @@ pub record Stops (given : List ℕ) : Type 0 where
   pub has_read : HasRead given read
 
 -- how each end comes
-abbrev pub CountEnds : List Table → List ℕ → (source_before source_now : Side) → Result Counted CountHalt → Type 0
-CountEnds tables given source_before source_now (Ok counted) = HasCounted tables given source_now counted
-CountEnds tables given source_before source_now (Err halt.TooLong) = (most_read < length given) × Stops given
-CountEnds tables given source_before source_now (Err halt.Read) = Rose source_before source_now × Stops given
-CountEnds tables given source_before source_now (Err halt.Memory) = Stops given
+abbrev pub CountEnds : List Table → List GivenIsns → List ℕ → (source_before source_now : Side) → Result Counted CountHalt → Type 0
+CountEnds tables isns given source_before source_now (Ok counted) = HasCounted tables isns given source_now counted
+CountEnds tables isns given source_before source_now (Err halt.TooLong) = (most_read < length given) × Stops given
+CountEnds tables isns given source_before source_now (Err halt.Read) = Rose source_before source_now × Stops given
+CountEnds tables isns given source_before source_now (Err halt.Memory) = Stops given
 
 -- the packets of a capture are counted, of which the source gave these bytes
-pub record Counts (tables : List Table) (given : List ℕ) (source_before source_now : Side) (result : Result Counted CountHalt) : Type 0 where
+pub record Counts (tables : List Table) (isns : List GivenIsns) (given : List ℕ) (source_before source_now : Side) (result : Result Counted CountHalt) : Type 0 where
   pub gave : Gave given source_before source_now
   pub bytes : All IsByte given
-  pub ends : CountEnds tables given source_before source_now result
+  pub ends : CountEnds tables isns given source_before source_now result

@@ -11,9 +11,10 @@ ghost use Rattle.scope_sessions.specs.Counting.{CountsPacket, CountsStored, tabl
 ghost use Rattle.scope_sessions.specs.Reading.{Counts};
 
 use crate::heard::hear;
+use crate::holding::checker_of;
 use crate::tally::Tally;
 use ao_base::{Source, Steps};
-use book_sessions::PassedOver;
+use book_sessions::{GivenIsns, PassedOver};
 use capture_check::Checker;
 use capture_reader::FoundDatagram;
 use capture_stream::{CaptureFault, CaptureHalt, CaptureReader, CaptureStep, Skipped};
@@ -39,9 +40,11 @@ pub(crate) enum CountHalt {
     Memory,
 }
 
-/// The packets of a capture, counted, and the fault that the capture has behind them, if it has one.
+/// The packets of a capture, counted; the fault that the capture has behind them, if it has one; and the
+/// checker that judged them, with its tables.
 #[derive(Drop)]
 pub(crate) struct Counted {
+    pub(crate) checker: Checker,
     pub(crate) tally: Tally,
     pub(crate) fault: Option<CaptureFault>,
 }
@@ -133,20 +136,21 @@ fn count_packet<L: Ledger>(
 fn count_counted<L: Ledger, I: Source>(
     alloc: Global,
     tables: Tables,
+    isns: &[GivenIsns],
     input: &mut I,
     blank: Blank,
 ) -> Result<Counted, CountHalt>
     requires name { blank.name ≡ L.name }
     requires parts { blank.parts ≡ L.parts }
     requires part { 0 < blank.parts }
-    ensures { (given : List ℕ) × Counts tables given (I.side input.old) (I.side input.new) result }
+    ensures { (given : List ℕ) × Counts tables isns.now given (I.side input.old) (I.side input.new) result }
 {
     let mut steps = Steps::<L>::new(blank);
     let mut reader = match CaptureReader::new(alloc) {
         Ok(reader) => reader,
         Err(_) => return Err(CountHalt::Memory),
     };
-    let mut checker = match Checker::new(alloc, tables) {
+    let mut checker = match checker_of(alloc, tables, isns) {
         Ok(checker) => checker,
         Err(_) => return Err(CountHalt::Memory),
     };
@@ -155,11 +159,18 @@ fn count_counted<L: Ledger, I: Source>(
         match reader.next(input) {
             Ok(CaptureStep::Packet) => {}
             Ok(CaptureStep::Block) => continue 'parts,
-            Ok(CaptureStep::End) => return Ok(Counted { tally, fault: None }),
+            Ok(CaptureStep::End) => {
+                return Ok(Counted {
+                    checker,
+                    tally,
+                    fault: None,
+                });
+            }
             Err(CaptureHalt::Read) => return Err(CountHalt::Read),
             Err(CaptureHalt::TooLong) => return Err(CountHalt::TooLong),
             Err(CaptureHalt::Broken(fault)) => {
                 return Ok(Counted {
+                    checker,
                     tally,
                     fault: Some(fault),
                 });
@@ -172,15 +183,17 @@ fn count_counted<L: Ledger, I: Source>(
     }
 }
 
-/// Counts the packets of a capture, judged by the tables, up to its end or its fault. Read only where
+/// Counts the packets of a capture, judged by the tables as behind handshakes with the given initial
+/// sequence numbers, up to its end or its fault. Read only where
 /// the source's count of faults rose; TooLong only where it gave more than 2^63 bytes; and Memory for
 /// want of memory, or where 2^64 - 1 packets of one kind are counted.
 pub(crate) fn count_capture<I: Source>(
     alloc: Global,
     tables: Tables,
+    isns: &[GivenIsns],
     input: &mut I,
 ) -> Result<Counted, CountHalt>
-    ensures { (given : List ℕ) × Counts tables given (I.side input.old) (I.side input.new) result }
+    ensures { (given : List ℕ) × Counts tables isns.now given (I.side input.old) (I.side input.new) result }
 {
-    count_counted::<Brand, I>(alloc, tables, input, Blank::new(1))
+    count_counted::<Brand, I>(alloc, tables, isns, input, Blank::new(1))
 }

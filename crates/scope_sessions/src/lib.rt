@@ -4,6 +4,8 @@
 
 mod count;
 mod heard;
+mod holding;
+mod isns;
 mod key_texts;
 mod last_use;
 mod passed_texts;
@@ -13,6 +15,7 @@ mod tally;
 mod words;
 mod write;
 
+pub use book_lines::LineKind;
 pub use book_sessions::{PassedOver, SegmentOutcome};
 pub use capture_stream::{BlockFault, BodyFault, CaptureFault, Cause, PcapHeadFault, RecordFault};
 pub use key_table::TableFault;

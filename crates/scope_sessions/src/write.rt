@@ -1,13 +1,15 @@
 //! A capture's table of sessions, written when the capture is read.
 ghost use Rattle.std.specs.Prelude.{◌≡◌, ℕ, List};
 ghost use Rattle.ao_base.specs.Outside.{Side};
-ghost use Rattle.scope_sessions.specs.Writing.{halt_of, Writes, WritesCounted};
+ghost use Rattle.scope_sessions.specs.Writing.{halt_of, halt_of_lines, Writes, WritesCounted};
 
 use crate::count::{CountHalt, Counted, count_capture};
+use crate::isns::read_given;
 use crate::table_text::{has_amiss, push_table};
 use ao_base::{Failed, Sink, Source, write_all};
+use book_lines::{LineKind, TextFault};
 use capture_stream::CaptureFault;
-use key_table::{TableFault, Tables, read_tables};
+use key_table::{TableFault, read_tables};
 use std::alloc::Global;
 
 /// Why not the table of a whole capture was written.
@@ -15,6 +17,11 @@ use std::alloc::Global;
 pub enum SessionsHalt {
     /// The key file is refused.
     Keys(TableFault),
+    /// The given line of this number, counted from 1 among all lines, is faulty; with the kind of its
+    /// first faulty word.
+    IsnLine(u32, LineKind),
+    /// More than 20,000 lines are given.
+    TooManyIsns,
     /// The capture is faulty here. The table of the packets in front was written.
     Broken(CaptureFault),
     /// The source gave more than 2^63 bytes.
@@ -43,17 +50,26 @@ fn halt_of(fault: TableFault) -> SessionsHalt
     }
 }
 
+fn halt_of_lines(fault: TextFault) -> SessionsHalt
+    ensures { result ≡ halt_of_lines fault }
+{
+    match fault {
+        TextFault::Memory => SessionsHalt::Memory,
+        TextFault::TooManyLines => SessionsHalt::TooManyIsns,
+        TextFault::Line(number, kind) => SessionsHalt::IsnLine(number, kind),
+    }
+}
+
 // Writes the table of what was counted.
 fn write_counted<O: Sink>(
     alloc: Global,
-    tables: &Tables,
     counted: &Counted,
     out: &mut O,
 ) -> Result<bool, SessionsHalt>
-    ensures { WritesCounted tables.now counted.now (O.side out.old) (O.side out.new) result }
+    ensures { WritesCounted counted.now (O.side out.old) (O.side out.new) result }
 {
     let mut text = Vec::new(alloc);
-    match push_table(&mut text, tables, &counted.tally) {
+    match push_table(&mut text, counted.checker.tables(), &counted.tally) {
         Ok(()) => {}
         Err(_) => return Err(SessionsHalt::Memory),
     }
@@ -67,33 +83,39 @@ fn write_counted<O: Sink>(
     }
 }
 
-/// Writes the table of the sessions of a capture, judged by the tables of a key file, and of each key of
-/// these tables who used it last and whether anyone asks for it. Ok at the capture's end, and whether
-/// anything is amiss: a segment that isn't verified, or a packet that is passed over and may be one.
+/// Writes the table of the sessions of a capture, judged by the tables of a key file as behind handshakes
+/// with the initial sequence numbers that lines give, and of each key of these tables who used it last and
+/// whether anyone asks for it. Ok at the capture's end, and whether anything is amiss: a segment that isn't
+/// verified, or a packet that is passed over and may be one.
 ///
-/// Keys comes exactly where the key file is refused, and nothing was read. Broken comes where the capture
-/// has this fault, with the table of the packets in front of it written; Read only where the source's count
-/// of faults rose; TooLong only where it gave more than 2^63 bytes; Write only where the sink's count of
-/// faults rose, with a front part of the table written; and Memory for want of memory, or where 2^64 - 1
-/// packets of one kind are counted. With Read, TooLong and Memory nothing was written.
+/// Each given line that says something is `ADDRESS PORT ISN ADDRESS PORT ISN`: two sockets of one version of
+/// IP that differ, with addresses in their usual form, each with its initial sequence number.
+///
+/// Keys comes exactly where the key file is refused, IsnLine and TooManyIsns exactly where it isn't and the
+/// given lines are, and nothing was read. Broken comes where the capture has this fault, with the table of
+/// the packets in front of it written; Read only where the source's count of faults rose; TooLong only where
+/// it gave more than 2^63 bytes; Write only where the sink's count of faults rose, with a front part of the
+/// table written; and Memory for want of memory, or where 2^64 - 1 packets of one kind are counted. With
+/// Read, TooLong and Memory nothing was written.
 pub fn write_sessions<I: Source, O: Sink>(
     alloc: Global,
     keys: &[u8],
+    isns: &[u8],
     input: &mut I,
     out: &mut O,
 ) -> Result<bool, SessionsHalt>
-    ensures { (given : List ℕ) × Writes keys.now given (I.side input.old) (I.side input.new) (O.side out.old) (O.side out.new) result }
+    ensures { (given : List ℕ) × Writes keys.now isns.now given (I.side input.old) (I.side input.new) (O.side out.old) (O.side out.new) result }
 {
     let tables = match read_tables(alloc, keys) {
         Ok(tables) => tables,
         Err(fault) => return Err(halt_of(fault)),
     };
-    let judged_by = match read_tables(alloc, keys) {
-        Ok(tables) => tables,
-        Err(_) => return Err(SessionsHalt::Memory),
+    let given = match read_given(alloc, isns) {
+        Ok(given) => given,
+        Err(fault) => return Err(halt_of_lines(fault)),
     };
-    match count_capture(alloc, judged_by, input) {
-        Ok(counted) => write_counted(alloc, &tables, &counted, out),
+    match count_capture(alloc, tables, given.as_slice(), input) {
+        Ok(counted) => write_counted(alloc, &counted, out),
         Err(CountHalt::TooLong) => Err(SessionsHalt::TooLong),
         Err(CountHalt::Read) => Err(SessionsHalt::Read),
         Err(CountHalt::Memory) => Err(SessionsHalt::Memory),

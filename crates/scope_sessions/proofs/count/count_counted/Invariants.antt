@@ -6,7 +6,7 @@ use Rattle.scope_sessions.proofs.count.count_counted.Given as goal
 
 abbrev pub invariant-parts : goal.invariant-parts
 invariant-parts g l =
-    (given : List ℕ) × (shown : List CapturePacket) × Between l.fn.tables l.reader l.checker (table_of l.tally) given shown (g.I.Source.side l.fn.input) (g.I.Source.side l.input)
+    (given : List ℕ) × (shown : List CapturePacket) × Between l.fn.tables l.isns l.reader l.checker (table_of l.tally) given shown (g.I.Source.side l.fn.input) (g.I.Source.side l.input)
 
 abbrev pub decreases-parts : goal.decreases-parts
 decreases-parts g l = 9223372036854775808 - l.reader.counts.bytes
