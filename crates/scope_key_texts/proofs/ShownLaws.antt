@@ -1,0 +1,12 @@
+-- The first bytes of a text, and two texts put behind others.
+use Rattle.std.proofs.Common.{◌≡◌, ℕ, List, ◌++◌, Result, Ok, Err, length, min, take, ap, ◌∙◌, if◌then◌else◌, append_assoc}
+use Rattle.std.specs.Prelude.{OnOk, is_ok}
+use Rattle.std.proofs.lemmas.List.{take_min}
+
+pub first_bytes : (text : List ℕ) → take (min 64 (length text)) text ≡ take 64 text
+first_bytes text = take_min 64 text
+
+-- two texts, one after the other, unless memory ran out for the second
+pub two_behind : {A B : Type 0} (r : Result A B) (old before after one other : List ℕ) → before ≡ old ++ one → after ≡ (if is_ok r then before ++ other else before) → OnOk r (after ≡ old ++ (one ++ other))
+two_behind (Ok u) old before after one other first second = second ∙ (ap (λ xs. xs ++ other) first ∙ append_assoc old one other)
+two_behind (Err e) old before after one other first second = tt

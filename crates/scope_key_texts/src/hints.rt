@@ -1,0 +1,171 @@
+//! Why a value is none that is wanted.
+ghost use Rattle.std.specs.Prelude.{◌≡◌, ◌+◌, ◌≤◌, ◌++◌, ◌&&◌, IsTrue, OnOk, length};
+ghost use Rattle.std.specs.List.{list_all};
+ghost use Rattle.book_keys.specs.Times.{two_digits_at};
+ghost use Rattle.book_scope_keys.specs.Hints.{date_hint, digits_at, has_digits_at, has_time_form, is_hex_digit, part_hint, range_hint, secret_hint, shown_secret, time_hint};
+
+use ao_base::push_decimal;
+use std::alloc::AllocError;
+
+fn is_hex_digit(byte: u8) -> bool
+    ensures { result ≡ is_hex_digit byte }
+{
+    (byte >= b'0' && byte <= b'9')
+        || ((byte >= b'A' && byte <= b'F') || (byte >= b'a' && byte <= b'f'))
+}
+
+fn are_hex_digits(text: &[u8]) -> bool
+    ensures { result ≡ list_all is_hex_digit text.now }
+{
+    text.iter().all(|byte| is_hex_digit(*byte))
+}
+
+/// Puts behind `out` why a text is no master key.
+#[tactic(auto, unfolding(book_scope_keys::specs::Hints::secret_hint))]
+fn push_secret_hint(out: &mut Vec<u8>, text: &[u8]) -> Result<(), AllocError>
+    ensures { OnOk result (out.new.items ≡ out.old.items ++ secret_hint text.now) }
+{
+    if !are_hex_digits(text) {
+        return out.extend_from_slice(
+            b", not all hexadecimal (which is printf %s SECRET | xxd -p -c 256)",
+        );
+    }
+    if text.len() % 2 == 1 {
+        return out.extend_from_slice(b", an odd number of digits");
+    }
+    Ok(())
+}
+
+/// Puts behind `out` what is shown of a key, which is a secret: how long it is, and why it is none. Where
+/// memory runs out a part of it may stand there.
+#[tactic(auto, unfolding(book_scope_keys::specs::Hints::shown_secret))]
+pub fn push_shown_secret(out: &mut Vec<u8>, text: &[u8]) -> Result<(), AllocError>
+    ensures { OnOk result (out.new.items ≡ out.old.items ++ shown_secret text.now) }
+{
+    out.extend_from_slice(b"a text of ")?;
+    push_decimal(out, text.len() as u64)?;
+    out.extend_from_slice(b" bytes")?;
+    push_secret_hint(out, text)
+}
+
+/// The number that two digits from an index on write.
+#[tactic(auto, unfolding(book_keys::specs::Times::two_digits_at))]
+fn two_digits(text: &[u8], at: usize) -> Option<u8>
+    requires { at + 2 ≤ length text.now }
+    ensures { result ≡ two_digits_at text.now at }
+{
+    let tens = text[at];
+    let ones = text[at + 1];
+    if tens >= b'0' && tens <= b'9' && ones >= b'0' && ones <= b'9' {
+        Some(10 * (tens - b'0') + (ones - b'0'))
+    } else {
+        None
+    }
+}
+
+fn digits_at(text: &[u8], at: usize) -> u8
+    requires { at + 2 ≤ length text.now }
+    ensures { result ≡ digits_at text.now at }
+{
+    two_digits(text, at).unwrap_or(0)
+}
+
+fn has_digits_at(text: &[u8], at: usize) -> bool
+    requires { at + 2 ≤ length text.now }
+    ensures { result ≡ has_digits_at text.now at }
+{
+    two_digits(text, at).is_some()
+}
+
+fn has_date(text: &[u8]) -> bool
+    requires { length text.now ≡ 15 }
+    ensures { result ≡ (has_digits_at text.now 0 && (has_digits_at text.now 2 && has_digits_at text.now 4)) }
+{
+    has_digits_at(text, 0) && (has_digits_at(text, 2) && has_digits_at(text, 4))
+}
+
+fn has_day_and_hour(text: &[u8]) -> bool
+    requires { length text.now ≡ 15 }
+    ensures { result ≡ (has_digits_at text.now 6 && has_digits_at text.now 8) }
+{
+    has_digits_at(text, 6) && has_digits_at(text, 8)
+}
+
+fn has_minute_and_second(text: &[u8]) -> bool
+    requires { length text.now ≡ 15 }
+    ensures { result ≡ (has_digits_at text.now 10 && has_digits_at text.now 12) }
+{
+    has_digits_at(text, 10) && has_digits_at(text, 12)
+}
+
+/// Whether a text has the form of a time, 14 digits and Z.
+#[tactic(auto, unfolding(book_scope_keys::specs::Hints::has_time_form))]
+fn has_time_form(text: &[u8]) -> bool
+    ensures form { result ≡ has_time_form text.now }
+    ensures length { IsTrue result → length text.now ≡ 15 }
+{
+    if text.len() == 15 && text[14] == b'Z' {
+        has_date(text) && (has_day_and_hour(text) && has_minute_and_second(text))
+    } else {
+        false
+    }
+}
+
+#[tactic(auto, unfolding(book_scope_keys::specs::Hints::part_hint))]
+fn push_part(out: &mut Vec<u8>, part: &[u8], number: u64) -> Result<(), AllocError>
+    ensures { OnOk result (out.new.items ≡ out.old.items ++ part_hint part.now number) }
+{
+    out.extend_from_slice(b", ")?;
+    out.extend_from_slice(part)?;
+    out.extend_from_slice(b" ")?;
+    push_decimal(out, number)
+}
+
+#[tactic(auto, unfolding(book_scope_keys::specs::Hints::date_hint))]
+fn push_date_hint(out: &mut Vec<u8>, year: u64, month: u64, day: u64) -> Result<(), AllocError>
+    ensures { OnOk result (out.new.items ≡ out.old.items ++ date_hint year month day) }
+{
+    if year < 1970 {
+        push_part(out, b"year", year)
+    } else if 1 <= month && month <= 12 {
+        push_part(out, b"day", day)
+    } else {
+        push_part(out, b"month", month)
+    }
+}
+
+/// Puts behind `out` which part of 14 digits that are no time is out of its range.
+#[tactic(auto, unfolding(book_scope_keys::specs::Hints::range_hint, book_scope_keys::specs::Hints::clock_hint))]
+fn push_range_hint(out: &mut Vec<u8>, text: &[u8]) -> Result<(), AllocError>
+    requires { length text.now ≡ 15 }
+    ensures { OnOk result (out.new.items ≡ out.old.items ++ range_hint text.now) }
+{
+    let hour = u64::from(digits_at(text, 8));
+    let minute = u64::from(digits_at(text, 10));
+    let second = u64::from(digits_at(text, 12));
+    if hour > 23 {
+        return push_part(out, b"hour", hour);
+    }
+    if minute > 59 {
+        return push_part(out, b"minute", minute);
+    }
+    if second > 59 {
+        return push_part(out, b"second", second);
+    }
+    let year = 100 * u64::from(digits_at(text, 0)) + u64::from(digits_at(text, 2));
+    let month = u64::from(digits_at(text, 4));
+    push_date_hint(out, year, month, u64::from(digits_at(text, 6)))
+}
+
+/// Puts behind `out` why a text is no time, where it has the form of one: a part of it that is out of its
+/// range. Where memory runs out a part of that may stand there.
+#[tactic(auto, unfolding(book_scope_keys::specs::Hints::time_hint))]
+pub fn push_time_hint(out: &mut Vec<u8>, text: &[u8]) -> Result<(), AllocError>
+    ensures { OnOk result (out.new.items ≡ out.old.items ++ time_hint text.now) }
+{
+    if has_time_form(text) {
+        push_range_hint(out, text)
+    } else {
+        Ok(())
+    }
+}

@@ -1,0 +1,16 @@
+//! What is said of a key file to the person who writes it: values as they are shown, hints, the known word
+//! that is meant by an unknown one, and the places of the file's fields.
+#![tactic(auto)]
+
+mod hints;
+mod places;
+mod said;
+mod shown;
+mod spots;
+mod suggestions;
+
+pub use hints::{push_shown_secret, push_time_hint};
+pub use places::{push_finding_line, push_place, text_place};
+pub use said::{finding_at, push_field_said};
+pub use shown::{push_shown_text, push_shown_value};
+pub use suggestions::meant_word;
