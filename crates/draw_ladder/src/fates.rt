@@ -89,7 +89,7 @@ impl Seen {
     }
 
     /// Whether the segment of this number came.
-    pub(crate) fn has_come(&self, name: u32) -> bool
+    pub fn has_come(&self, name: u32) -> bool
         ensures { (rs : List Step) → Saw self.now rs → result ≡ has_come name rs }
     {
         match self.marks.get(name as usize) {
