@@ -1,5 +1,6 @@
 //! The word `draw`: the run of a link file as a ladder.
 use ao_base::{ReadProblem, ReadSource, WriteSink, read_all, write_all};
+use book_draw_svg::Form;
 use clap::{Arg, ArgAction, ArgMatches, Command};
 use command_report::{Report, Stop};
 use key_faults::push_key_fault;
@@ -26,9 +27,14 @@ as soon as it is made is one line; else its arrow leaves in one line and comes i
 it came before (again) and whether one that was made later came before it (late). A stroke of ~ is of a copy that \
 was altered, and one of = of a datagram that was injected.
 
+With --svg it is a picture that a browser shows: a row for each of these, an arrow from where a segment is made to \
+where it comes, in a colour for each KeyID; a segment that is lost, one that comes again, one that was altered and \
+one that was injected have strokes of their own, and each arrow has a title with all that is written beside it.
+
 Status 0: done; 3: keys; the others as above.
 
-    aoscope draw KEYS < LINKFILE";
+    aoscope draw KEYS < LINKFILE
+    aoscope draw --svg KEYS < LINKFILE > PICTURE.svg";
 
 /// Why the program ends early.
 #[derive(Debug, Drop)]
@@ -54,10 +60,15 @@ pub(crate) fn command<'a>(alloc: Global) -> Result<Command<'a>, AllocError> {
         .required(false)
         .help("The key file")
         .action(ArgAction::Set);
+    let svg = Arg::new(alloc, "svg")
+        .long("svg")
+        .help("Draw a picture in SVG")
+        .action(ArgAction::SetTrue);
     Command::new(alloc, "draw")
         .about(ABOUT)
         .after_help(AFTER)
-        .arg(keys)
+        .arg(keys)?
+        .arg(svg)
 }
 
 fn status(halt: &Halt) -> u8 {
@@ -131,6 +142,14 @@ fn tables(rt: &HostRuntime, matches: &ArgMatches<'_>) -> Result<Option<Tables>, 
     }
 }
 
+fn form_of(matches: &ArgMatches<'_>) -> Form {
+    if matches.get_flag("svg") {
+        Form::Svg
+    } else {
+        Form::Text
+    }
+}
+
 fn report(rt: &HostRuntime, matches: &ArgMatches<'_>) -> Result<Report, Halt> {
     let tables = tables(rt, matches)?;
     let input = match read_all(rt.alloc(), &mut ReadSource::new(rt.stdin()), MOST_INPUT) {
@@ -139,9 +158,10 @@ fn report(rt: &HostRuntime, matches: &ArgMatches<'_>) -> Result<Report, Halt> {
         Err(ReadProblem::Fault) => return Err(Halt::Read),
         Err(ReadProblem::TooLong) => return Err(Halt::TooLong),
     };
+    let form = form_of(matches);
     let answer = match tables {
-        Some(tables) => answer_draw_keys(rt.alloc(), tables, input.as_slice()),
-        None => answer_draw(rt.alloc(), input.as_slice()),
+        Some(tables) => answer_draw_keys(rt.alloc(), form, tables, input.as_slice()),
+        None => answer_draw(rt.alloc(), form, input.as_slice()),
     };
     match answer {
         Ok(report) => Ok(report),

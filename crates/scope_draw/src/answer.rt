@@ -8,38 +8,46 @@ ghost use Rattle.link_world.specs.Events.{CanHappen};
 ghost use Rattle.link_world.specs.Stands.{setup_of};
 ghost use Rattle.scope_draw.specs.Forms.{drawing, drawn, drawn_by_shared};
 
+use book_draw_svg::Form;
 use book_link::Event;
 use command_report::{Report, Stop};
-use draw_ladder::print_ladder;
 use draw_rungs::rungs_of;
+use draw_svg::draw_rungs_as;
 use key_table::Tables;
 use link_script::{Script, read_script};
 use link_world::Setup;
 use std::alloc::{AllocError, Global};
 
-/// The ladder of the run of these events.
-fn report_of(alloc: Global, setup: Setup, events: &[Event]) -> Result<Report, AllocError>
+/// The ladder of the run of these events, in the form.
+#[tactic(auto, using(crate::proofs::Counts::few_rungs))]
+fn report_of(
+    alloc: Global,
+    form: Form,
+    setup: Setup,
+    events: &[Event],
+) -> Result<Report, AllocError>
     requires family { are_two_of_a_family setup.a.address setup.b.address ≡ true }
     requires events { All CanHappen events.now }
     requires few { length events.now ≤ 20000 }
-    ensures { IfOk result (λ r. drawing (setup_of setup) events.now ≡ done r.is_amiss r.text) }
+    ensures { IfOk result (λ r. drawing form (setup_of setup) events.now ≡ done r.is_amiss r.text) }
 {
     let rungs = rungs_of(alloc, setup, events)?;
-    let text = print_ladder(alloc, rungs.as_slice())?;
+    let text = draw_rungs_as(alloc, form, rungs.as_slice())?;
     Ok(Report {
         text,
         is_amiss: false,
     })
 }
 
-/// The answer of `draw`: the ladder of the run of a link file that names the key that both ends share.
+/// The answer of `draw`: the ladder of the run of a link file that names the key that both ends share, as
+/// text or as a picture in SVG.
 /// Nothing in it is amiss.
 ///
 /// `Ok` exactly where the input is such a link file; its faults are those of `link_script::read_script`.
 /// `Memory` only for want of memory.
 #[tactic(auto, using(command_report::proofs::Reporting::fails_stops))]
-pub fn answer_draw(alloc: Global, input: &[u8]) -> Result<Report, Stop>
-    ensures { Reports result (if_read drawn_by_shared (script_of false input.now)) }
+pub fn answer_draw(alloc: Global, form: Form, input: &[u8]) -> Result<Report, Stop>
+    ensures { Reports result (if_read (drawn_by_shared form) (script_of false input.now)) }
 {
     let script = read_script(alloc, false, input)?;
     let Script {
@@ -50,21 +58,26 @@ pub fn answer_draw(alloc: Global, input: &[u8]) -> Result<Report, Stop>
     } = script;
     let Some(key) = shared else { unreachable!() };
     let tables = Tables::shared(alloc, a.address, b.address, key.alg, key.master.as_slice())?;
-    let report = report_of(alloc, Setup { tables, a, b }, events.as_slice())?;
+    let report = report_of(alloc, form, Setup { tables, a, b }, events.as_slice())?;
     Ok(report)
 }
 
-/// The answer of `draw KEYS`: the ladder of the run of a link file over the tables of a key file. Nothing
-/// in it is amiss.
+/// The answer of `draw KEYS`: the ladder of the run of a link file over the tables of a key file, as text
+/// or as a picture in SVG. Nothing in it is amiss.
 ///
 /// `Ok` exactly where the input is a link file that names no key; its faults are those of
 /// `link_script::read_script`. `Memory` only for want of memory.
 #[tactic(auto, using(command_report::proofs::Reporting::fails_stops))]
-pub fn answer_draw_keys(alloc: Global, tables: Tables, input: &[u8]) -> Result<Report, Stop>
-    ensures { Reports result (if_read (drawn tables) (script_of true input.now)) }
+pub fn answer_draw_keys(
+    alloc: Global,
+    form: Form,
+    tables: Tables,
+    input: &[u8],
+) -> Result<Report, Stop>
+    ensures { Reports result (if_read (drawn form tables) (script_of true input.now)) }
 {
     let script = read_script(alloc, true, input)?;
     let Script { a, b, events, .. } = script;
-    let report = report_of(alloc, Setup { tables, a, b }, events.as_slice())?;
+    let report = report_of(alloc, form, Setup { tables, a, b }, events.as_slice())?;
     Ok(report)
 }
