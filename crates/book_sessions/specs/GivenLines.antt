@@ -5,8 +5,8 @@ use Rattle.std.specs.Prelude.{Result, Ok, Err}
 use Rattle.book_base.specs.declared.address.Address.{Address}
 use Rattle.book_base.specs.declared.address.Address.TheVariants.{V4, V6}
 use Rattle.book_base.specs.declared.address.Socket.{Socket}
-use Rattle.book_base.specs.declared.line_kind.LineKind.{LineKind}
-use Rattle.book_base.specs.declared.line_kind.LineKind.TheVariants.{Range}
+use Rattle.book_lines.specs.declared.line_kind.LineKind.{LineKind}
+use Rattle.book_lines.specs.declared.line_kind.LineKind.TheVariants.{Range}
 use Rattle.book_base.specs.Results.{◌>>=◌}
 use Rattle.book_segments.specs.Sockets.{same_socket}
 use Rattle.book_lines.specs.declared.text_fault.TextFault.{TextFault}

@@ -16,7 +16,4 @@ mod words;
 mod write;
 
 pub use book_lines::LineKind;
-pub use book_sessions::{PassedOver, SegmentOutcome};
-pub use capture_stream::{BlockFault, BodyFault, CaptureFault, Cause, PcapHeadFault, RecordFault};
-pub use key_table::TableFault;
 pub use write::{SessionsHalt, write_sessions};

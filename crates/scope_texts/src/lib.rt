@@ -7,7 +7,7 @@ mod instant;
 mod instant_words;
 mod socket;
 
-pub use address::{push_address, read_address};
+pub use address::push_address;
 pub use duration::read_duration;
 pub use instant::{push_instant, push_key_time};
 pub use instant_words::read_instant;

@@ -18,4 +18,4 @@ pub use passes::would_pass;
 pub use recipe::{Recipe, mac_made, recipe_by};
 pub use right::{key_made, right_recipe, suspect_context};
 pub use suspect::{BothTables, Suspect};
-pub use texts::{push_options_text, push_passing};
+pub use texts::push_passing;
