@@ -123,8 +123,8 @@ front_long : (pair : Pair) (size : ℕ) (d : Segment) (one two : Address) → Is
 unfolding ip_front put2 put4
 front_long pair size d (V4 a) (V4 b) f s t p q = rw (p, q) (let k = length-append a (b ++ []) in let m : length (b ++ []) ≡ length b + 0 = length-append b [] in omega arith)
 front_long pair size d (V6 a) (V6 b) f s t p q = rw (p, q) (let k = length-append a b in omega arith)
-front_long pair size d (V4 a) (V6 b) f s t p q = absurd f
-front_long pair size d (V6 a) (V4 b) f s t p q = absurd f
+front_long pair size d (V4 a) (V6 b) f s t p q = let apart = f in absurd (cc)
+front_long pair size d (V6 a) (V4 b) f s t p q = let apart = f in absurd (cc)
 
 tcp_long : (d : Segment) → length (tcp_front d) ≡ 16
 unfolding tcp_front put2 put4

@@ -104,6 +104,18 @@ fn push_judgement(
     }
 }
 
+/// All that doesn't hold of the plan.
+fn findings_by(
+    alloc: Global,
+    tables: &Tables,
+    pair: &Pair,
+    plan: &Plan,
+) -> Result<Vec<Finding>, AllocError>
+    ensures { IfOk result (λ v. v.items ≡ plan_findings tables.now plan.now pair.now) }
+{
+    findings(alloc, tables, pair, plan.lead, plan.lag, plan.from, plan.to)
+}
+
 /// What is said of a connection whose ends have tables; whether there is no finding.
 fn push_both(
     alloc: Global,
@@ -118,7 +130,7 @@ fn push_both(
 {
     let turns = calendar(alloc, tables, pair, plan.from, plan.to)?;
     push_calendar(alloc, out, ends, turns.as_slice())?;
-    let findings = findings(alloc, tables, pair, plan.lead, plan.lag, plan.from, plan.to)?;
+    let findings = findings_by(alloc, tables, pair, plan)?;
     push_judgement(out, &ends.facing(pair), tables, plan, findings.as_slice())?;
     Ok(has_none(findings.as_slice()))
 }
