@@ -1,0 +1,21 @@
+-- The JSON has an entry for each session, and one for each row of a node.
+use Rattle.std.proofs.Common.{◌≡◌, ℕ, zero, suc, ◌+◌, List, [], ◌∷◌, ◌++◌, length, map, refl, arith}
+use Rattle.book_sessions.specs.declared.uses.KeyUse.{KeyUse}
+use Rattle.book_keys.specs.Rows.{Row, Table}
+use Rattle.book_sessions_json.specs.SessionJson.{numbers_to, rows_json, session_json}
+
+module _ {A : Type 0} (f : ℕ → A) where
+  one_more : (xs : List ℕ) (n : ℕ) → length (map f (xs ++ n ∷ [])) ≡ length (map f xs) + 1
+  one_more [] n = refl
+  one_more (x ∷ xs) n = let others = one_more xs n in omega arith
+
+  numbers_length : (n : ℕ) → length (map f (numbers_to n)) ≡ n
+  numbers_length zero = refl
+  numbers_length (suc n) = let others = numbers_length n in let last = one_more (numbers_to n) (suc n) in omega arith
+
+pub sessions_length : (uses : List KeyUse) (n : ℕ) → length (map (session_json uses) (numbers_to n)) ≡ n
+sessions_length uses n = numbers_length (session_json uses) n
+
+pub rows_length : (uses : List KeyUse) (t : Table) (n : ℕ) (rows : List Row) → length (rows_json uses t n rows) ≡ length rows
+rows_length uses t n [] = refl
+rows_length uses t n (r ∷ rs) = let others = rows_length uses t (suc n) rs in omega arith
