@@ -4,8 +4,8 @@ use book_cmd_keys::Plan;
 use clap::{Arg, ArgAction, ArgMatches, Command};
 use command_report::{Report, Stop};
 use key_faults::push_key_fault;
-use key_table::{TableFault, Tables, read_tables};
-use scope_plan::answer_plan;
+use key_table::TableFault;
+use scope_plan::{KeyFile, answer_plan, read_key_file};
 use scope_texts::{read_duration, read_instant};
 use std::alloc::{AllocError, Global};
 use std::fs::File;
@@ -165,7 +165,7 @@ fn plan_of(matches: &ArgMatches<'_>) -> Result<Plan, Halt> {
     })
 }
 
-fn tables_at(rt: &HostRuntime, path: &str) -> Result<Tables, Halt> {
+fn key_file_at(rt: &HostRuntime, path: &str) -> Result<KeyFile, Halt> {
     let file = match File::open(rt, path) {
         Ok(file) => file,
         Err(_) => return Err(Halt::Read),
@@ -176,8 +176,8 @@ fn tables_at(rt: &HostRuntime, path: &str) -> Result<Tables, Halt> {
         Err(ReadProblem::Fault) => return Err(Halt::Read),
         Err(ReadProblem::TooLong) => return Err(Halt::KeysTooLong),
     };
-    match read_tables(rt.alloc(), text.as_slice()) {
-        Ok(tables) => Ok(tables),
+    match read_key_file(rt.alloc(), text.as_slice()) {
+        Ok(keys) => Ok(keys),
         Err(fault) => Err(Halt::Keys(fault)),
     }
 }
@@ -188,14 +188,14 @@ fn report(rt: &HostRuntime, matches: &ArgMatches<'_>) -> Result<Report, Halt> {
         Some(path) => path,
         None => return Err(Halt::Memory),
     };
-    let tables = tables_at(rt, path)?;
+    let keys = key_file_at(rt, path)?;
     let input = match read_all(rt.alloc(), &mut ReadSource::new(rt.stdin()), MOST_INPUT) {
         Ok(input) => input,
         Err(ReadProblem::Memory) => return Err(Halt::Memory),
         Err(ReadProblem::Fault) => return Err(Halt::Read),
         Err(ReadProblem::TooLong) => return Err(Halt::TooLong),
     };
-    match answer_plan(rt.alloc(), &tables, plan, input.as_slice()) {
+    match answer_plan(rt.alloc(), &keys, plan, input.as_slice()) {
         Ok(report) => Ok(report),
         Err(stop) => Err(Halt::Stopped(stop)),
     }

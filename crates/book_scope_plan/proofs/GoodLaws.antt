@@ -11,6 +11,7 @@ use Rattle.book_plans.specs.Calendar.{calendar_of}
 use Rattle.book_plans.specs.Margins.{AreOrdered, IsMargin, SaysAlignedAtLead, SaysAlignedAtLag, lead_margin_of, lag_margin_of}
 use Rattle.book_plans.proofs.FindingLaws.{none_exactly}
 use Rattle.book_plans.proofs.MarginLaws.{lead_judged, lag_judged}
+use Rattle.book_scope_plan.specs.AdminNames.{KeyFile}
 use Rattle.book_scope_plan.specs.CalendarTexts.{calendar_text}
 use Rattle.book_scope_plan.specs.PlanTexts.{aligned_line, connection_line, connection_text, facing, findings_text, has_none, is_good_plan, node_with, nodes_text, plan_findings}
 
@@ -56,17 +57,6 @@ module _ (tables : List Table) (plan : Plan) (pair : Pair) where
     (λ all. and_all _ _ _ all.0 all.1 (to_none (plan_findings tables plan pair) (exactly.1 all.2))),
   )
 
-  pub good_text : (a b : Table) → node_with tables pair.local.address ≡ Some a → node_with tables pair.remote.address ≡ Some b
-      → is_good_plan tables plan pair ≡ true
-      → connection_text tables plan pair
-      ≡ connection_line pair ++ (calendar_text a b (calendar_of tables pair plan.from plan.to)
-      ++ aligned_line (lead_margin_of tables pair plan.lag) (lag_margin_of tables pair plan.lead))
-  unfolding connection_text
-  good_text a b at_a at_b good =
-      ap (λ o. connection_line pair ++ nodes_text o (node_with tables pair.remote.address) tables plan pair) at_a
-      ∙ ap (λ o. connection_line pair ++ nodes_text (Some a) o tables plan pair) at_b
-      ∙ ap (λ fs. connection_line pair ++ (calendar_text a b (calendar_of tables pair plan.from plan.to) ++ findings_text (facing a b pair) tables plan fs)) (good_findings good)
-
   pub good_lead : AreOrdered (rows_at tables pair.local.address) → AreOrdered (rows_at tables pair.remote.address) → is_good_plan tables plan pair ≡ true
       → IsMargin (SaysAlignedAtLead tables pair plan) (lead_margin_of tables pair plan.lag)
   good_lead one two good = lead_judged tables pair plan one two (good_aligned good)
@@ -74,3 +64,15 @@ module _ (tables : List Table) (plan : Plan) (pair : Pair) where
   pub good_lag : AreOrdered (rows_at tables pair.local.address) → AreOrdered (rows_at tables pair.remote.address) → is_good_plan tables plan pair ≡ true
       → IsMargin (SaysAlignedAtLag tables pair plan) (lag_margin_of tables pair plan.lead)
   good_lag one two good = lag_judged tables pair plan one two (good_aligned good)
+
+pub good_text : (keys : KeyFile) (plan : Plan) (pair : Pair) (a b : Table)
+    → node_with keys.tables pair.local.address ≡ Some a → node_with keys.tables pair.remote.address ≡ Some b
+    → is_good_plan keys.tables plan pair ≡ true
+    → connection_text keys plan pair
+    ≡ connection_line pair ++ (calendar_text a b (calendar_of keys.tables pair plan.from plan.to)
+    ++ aligned_line (lead_margin_of keys.tables pair plan.lag) (lag_margin_of keys.tables pair plan.lead))
+unfolding connection_text
+good_text keys plan pair a b at_a at_b good =
+    ap (λ o. connection_line pair ++ nodes_text o (node_with keys.tables pair.remote.address) keys plan pair) at_a
+    ∙ ap (λ o. connection_line pair ++ nodes_text (Some a) o keys plan pair) at_b
+    ∙ ap (λ fs. connection_line pair ++ (calendar_text a b (calendar_of keys.tables pair plan.from plan.to) ++ findings_text (facing keys a b pair) keys.tables plan fs)) (good_findings keys.tables plan pair good)

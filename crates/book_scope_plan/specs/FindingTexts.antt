@@ -14,12 +14,16 @@ use Rattle.book_plans.specs.declared.finding.Finding.TheVariants as finding
 use Rattle.book_plans.specs.Differences.{differences, is_alike}
 use Rattle.book_plans.specs.Findings.{wanted_accepting}
 use Rattle.book_keys.specs.declared.plan.Plan.{Plan}
+use Rattle.book_scope_keys.specs.FieldTexts.{text_shown}
 use Rattle.book_scope_texts.specs.Instants.{instant_text, key_time_text}
+use Rattle.book_scope_plan.specs.AdminNames.{admin_name}
 use Rattle.book_scope_plan.specs.CalendarTexts.{row_numbered}
+use Rattle.toml.specs.Data.{Members}
 
--- a connection as one of its ends sees it: the table of its node, that of the other end's, and the
--- pair (own)
+-- a connection as one of its ends sees it: the document that the key file is, the table of its
+-- node, that of the other end's, and the pair (own)
 pub record Facing : Type 0 where
+  pub document : Members
   pub node : Table
   pub other : Table
   pub pair : Pair
@@ -27,7 +31,12 @@ pub record Facing : Type 0 where
 -- a connection as this end sees it, which is given as end a does (own)
 abbrev pub facing_at : End → Facing → Facing
 facing_at A f = f
-facing_at B f = record { node = f.other; other = f.node; pair = mirrored f.pair }
+facing_at B f = record {
+  document = f.document;
+  node = f.other;
+  other = f.node;
+  pair = mirrored f.pair;
+}
 
 -- one for what holds, and none for what doesn't (own)
 abbrev pub one_if : Bool → ℕ
@@ -52,9 +61,15 @@ abbrev pub text_if : Bool → List ℕ → List ℕ
 text_if true text = text
 text_if false text = []
 
--- the name of a node, and the number of a row (own)
-unfoldable pub row_name : (name : List ℕ) → ℕ → List ℕ
-row_name name n = name ++ (codes " row " ++ decimal n)
+-- the AdminKeyName of a row as it is shown (RFC 7210, section 2, and own)
+unfoldable pub admin_text : Option (List ℕ) → List ℕ
+admin_text None = []
+admin_text (Some text) = codes " (" ++ (text_shown text ++ codes ")")
+
+-- the name of a node, the number of a row, and what the document calls it (own)
+unfoldable pub row_name : Members → (name : List ℕ) → ℕ → List ℕ
+row_name document name n =
+    name ++ (codes " row " ++ (decimal n ++ admin_text (admin_name document name n)))
 
 -- a row of the other end, of this name, differs in a column (own)
 unfoldable pub difference_head : (row : List ℕ) → List ℕ
@@ -116,7 +131,7 @@ abbrev pub nearest_lines : Facing → Row → (count first : ℕ) → (others : 
 nearest_lines f r count n [] = []
 nearest_lines f r count n (o ∷ os) =
     text_if (difference_count (differences f.pair r o) == count)
-    (difference_lines (row_name f.other.name n) r o (differences f.pair r o))
+    (difference_lines (row_name f.document f.other.name n) r o (differences f.pair r o))
     ++ nearest_lines f r count (n + 1) os
 
 -- a row of a node accepts (own)
@@ -152,7 +167,7 @@ early_line f plan n r o =
     accepts_text f.other.name n (codes " from ") o.accepting.first
     ++ (sends_text f.node.name (codes " from ") r.sending.first
     ++ (wanted_text (r.sending.first - o.accepting.first) (codes " s before, ") plan.lead
-    ++ set_text (codes "AcceptLifetimeStart") (row_name f.other.name n)
+    ++ set_text (codes "AcceptLifetimeStart") (row_name f.document f.other.name n)
     (planned_accepting plan r).first (codes " or earlier\n")))
 
 -- the line of a row of the other end, of this number, that ends to accept too early (own)
@@ -161,7 +176,7 @@ late_line f plan n r o =
     accepts_text f.other.name n (codes " until ") o.accepting.last
     ++ (sends_text f.node.name (codes " until ") r.sending.last
     ++ (wanted_text (o.accepting.last - r.sending.last) (codes " s after, ") plan.lag
-    ++ set_text (codes "AcceptLifetimeEnd") (row_name f.other.name n)
+    ++ set_text (codes "AcceptLifetimeEnd") (row_name f.document f.other.name n)
     (planned_accepting plan r).last (codes " or later\n")))
 
 -- what a row of the other end that accepts what a row sends lacks of the lifetime that is wanted
@@ -186,7 +201,7 @@ sent_id_text r = codes " (sends KeyID " ++ (decimal r.send_id ++ codes "): no ro
 -- the line of a row, of this number, that isn't met at the other end (own)
 unfoldable pub unmet_line : Facing → ℕ → Row → (words : List ℕ) → List ℕ
 unmet_line f n r words =
-    codes "  WRONG " ++ (row_name f.node.name n ++ (sent_id_text r ++ (f.other.name ++ words)))
+    codes "  WRONG " ++ (row_name f.document f.node.name n ++ (sent_id_text r ++ (f.other.name ++ words)))
 
 -- what is said of a row that no row of the other end accepts: in which columns the nearest rows
 -- differ (own)

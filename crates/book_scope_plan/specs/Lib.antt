@@ -1,4 +1,5 @@
 pub mod Connections
+pub mod AdminNames
 pub mod CalendarTexts
 pub mod FindingTexts
 pub mod PlanTexts

@@ -16,6 +16,7 @@ use Rattle.book_plans.specs.Calendar.{calendar_of}
 use Rattle.book_plans.specs.Findings.{findings_of}
 use Rattle.book_plans.specs.Margins.{lead_margin_of, lag_margin_of}
 use Rattle.book_scope_texts.specs.Addresses.{usual_address_text}
+use Rattle.book_scope_plan.specs.AdminNames.{KeyFile}
 use Rattle.book_scope_plan.specs.CalendarTexts.{calendar_text}
 use Rattle.book_scope_plan.specs.FindingTexts.{Facing, finding_text}
 
@@ -53,8 +54,8 @@ abbrev pub plan_findings : List Table → Plan → Pair → List Finding
 plan_findings tables plan pair = findings_of tables pair plan
 
 -- a connection between nodes of these tables, as end a sees it (own)
-abbrev pub facing : (a b : Table) → Pair → Facing
-facing a b pair = record { node = a; other = b; pair = pair }
+abbrev pub facing : KeyFile → (a b : Table) → Pair → Facing
+facing keys a b pair = record { document = keys.document; node = a; other = b; pair = pair }
 
 -- what is said of a connection whose ends have tables, as end a sees it (own)
 abbrev pub both_text : Facing → List Table → Plan → List ℕ
@@ -73,17 +74,17 @@ abbrev pub node_with : List Table → Address → Option Table
 node_with tables address = find (has_address address) tables
 
 -- what is said of a connection by the nodes of its ends (own)
-abbrev pub nodes_text : (a b : Option Table) → List Table → Plan → Pair → List ℕ
-nodes_text (Some a) (Some b) tables plan pair = both_text (facing a b pair) tables plan
-nodes_text a b tables plan pair =
+abbrev pub nodes_text : (a b : Option Table) → KeyFile → Plan → Pair → List ℕ
+nodes_text (Some a) (Some b) keys plan pair = both_text (facing keys a b pair) keys.tables plan
+nodes_text a b keys plan pair =
     missing_text a pair.local.address ++ missing_text b pair.remote.address
 
 -- what is said of a connection (own)
-unfoldable pub connection_text : List Table → Plan → Pair → List ℕ
-connection_text tables plan pair =
+unfoldable pub connection_text : KeyFile → Plan → Pair → List ℕ
+connection_text keys plan pair =
     connection_line pair
-    ++ nodes_text (node_with tables pair.local.address) (node_with tables pair.remote.address)
-    tables plan pair
+    ++ nodes_text (node_with keys.tables pair.local.address)
+    (node_with keys.tables pair.remote.address) keys plan pair
 
 -- there are none (own)
 abbrev pub has_none : List Finding → Bool
@@ -99,8 +100,8 @@ is_good_plan tables plan pair =
     && has_none (plan_findings tables plan pair)
 
 -- what is said of the connections, one after another (own)
-unfoldable pub plans_text : List Table → Plan → List (Said Pair) → List ℕ
-plans_text tables plan said = flat_map (λ s. connection_text tables plan s.value) said
+unfoldable pub plans_text : KeyFile → Plan → List (Said Pair) → List ℕ
+plans_text keys plan said = flat_map (λ s. connection_text keys plan s.value) said
 
 -- something is wrong with the plan of some connection (own)
 abbrev pub has_wrong_plan : List Table → Plan → List (Said Pair) → Bool

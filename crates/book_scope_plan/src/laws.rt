@@ -7,6 +7,7 @@ ghost use Rattle.book_keys.specs.Plans.{lint_of, rows_at};
 ghost use Rattle.book_keys.specs.Rows.{Table};
 ghost use Rattle.book_plans.specs.Calendar.{calendar_of};
 ghost use Rattle.book_plans.specs.Margins.{AreOrdered, IsMargin, SaysAlignedAtLead, SaysAlignedAtLag, lead_margin_of, lag_margin_of};
+ghost use Rattle.book_scope_plan.specs.AdminNames.{KeyFile};
 ghost use Rattle.book_scope_plan.specs.CalendarTexts.{calendar_text};
 ghost use Rattle.book_scope_plan.specs.PlanTexts.{aligned_line, connection_line, connection_text, is_good_plan, node_with};
 
@@ -22,11 +23,12 @@ pub fn aligned_plans_are_of_lint()
 /// with the margins of lead and lag; by the tables of a key file these are greatest: with a lead within
 /// the one, and with a lag within the other, the judgement stays `Aligned`, and with no more.
 pub fn good_plans_say_aligned()
-    ensures text { (tables : List Table) (plan : Plan) (pair : Pair) (a b : Table)
-        → node_with tables pair.local.address ≡ Some a → node_with tables pair.remote.address ≡ Some b → is_good_plan tables plan pair ≡ true
-        → connection_text tables plan pair
-        ≡ connection_line pair ++ (calendar_text a b (calendar_of tables pair plan.from plan.to)
-        ++ aligned_line (lead_margin_of tables pair plan.lag) (lag_margin_of tables pair plan.lead)) }
+    ensures text { (keys : KeyFile) (plan : Plan) (pair : Pair) (a b : Table)
+        → node_with keys.tables pair.local.address ≡ Some a → node_with keys.tables pair.remote.address ≡ Some b
+        → is_good_plan keys.tables plan pair ≡ true
+        → connection_text keys plan pair
+        ≡ connection_line pair ++ (calendar_text a b (calendar_of keys.tables pair plan.from plan.to)
+        ++ aligned_line (lead_margin_of keys.tables pair plan.lag) (lag_margin_of keys.tables pair plan.lead)) }
     ensures lead { (tables : List Table) (plan : Plan) (pair : Pair)
         → AreOrdered (rows_at tables pair.local.address) → AreOrdered (rows_at tables pair.remote.address) → is_good_plan tables plan pair ≡ true
         → IsMargin (SaysAlignedAtLead tables pair plan) (lead_margin_of tables pair plan.lag) }

@@ -1,3 +1,4 @@
+mod NodeLaws
 mod Parts
 mod PlannedLaws
 pub mod ReportLaws

@@ -3,7 +3,7 @@ use Rattle.std.proofs.Common.{◌≡◌, ℕ, Bool, true, false, not, ◌||◌, 
 use Rattle.std.proofs.lemmas.List.{append-nil}
 use Rattle.std.specs.List.{flat_map}
 use Rattle.book_base.specs.declared.address.Pair.{Pair}
-use Rattle.book_keys.specs.Rows.{Table}
+use Rattle.book_scope_plan.specs.AdminNames.{KeyFile}
 use Rattle.book_lines.specs.declared.text_fault.TextFault.{TextFault}
 use Rattle.book_lines.specs.declared.text_fault.TextFault.TheVariants as fault
 use Rattle.book_lines.specs.Lines.{Line}
@@ -33,22 +33,22 @@ or_false false = refl
 abbrev said_at : Line → Pair → Said Pair
 said_at l pair = record { number = l.number; value = pair }
 
-module _ (tables : List Table) (plan : Plan) where
+module _ (keys : KeyFile) (plan : Plan) where
   -- something is wrong with the connection of this line
   abbrev is_wrong : Said Pair → Bool
-  is_wrong s = not (is_good_plan tables plan s.value)
+  is_wrong s = not (is_good_plan keys.tables plan s.value)
 
   -- the answer so far, and then the connections of the lines
   abbrev from_lines : List ℕ → Bool → List Line → Result Planned TextFault
-  from_lines out wrong ls = planned_from tables plan out wrong (said_by plan_pair_of ls)
+  from_lines out wrong ls = planned_from keys plan out wrong (said_by plan_pair_of ls)
 
   one_planned : (before out : List ℕ) (wrong now : Bool) (s : Said Pair) (others : Result (List (Said Pair)) TextFault)
-      → out ≡ before ++ connection_text tables plan s.value → now ≡ (wrong || is_wrong s)
-      → planned_from tables plan out now others ≡ planned_from tables plan before wrong (others >>= λ o. Ok (s ∷ o))
+      → out ≡ before ++ connection_text keys plan s.value → now ≡ (wrong || is_wrong s)
+      → planned_from keys plan out now others ≡ planned_from keys plan before wrong (others >>= λ o. Ok (s ∷ o))
   unfolding plans_text
   one_planned before out wrong now s (Ok said) text also =
-      same_answer _ _ _ _ (rw text (append_assoc before (connection_text tables plan s.value) (flat_map (λ (t : Said Pair). connection_text tables plan t.value) said)))
-      (rw also (or_grouped wrong (is_wrong s) (has_wrong_plan tables plan said)))
+      same_answer _ _ _ _ (rw text (append_assoc before (connection_text keys plan s.value) (flat_map (λ (t : Said Pair). connection_text keys plan t.value) said)))
+      (rw also (or_grouped wrong (is_wrong s) (has_wrong_plan keys.tables plan said)))
   one_planned before out wrong now s (Err e) text also = refl
 
   module _ (before : List ℕ) (wrong : Bool) (l : Line) (ls lines : List Line) (whole : Result Planned TextFault)
@@ -57,7 +57,7 @@ module _ (tables : List Table) (plan : Plan) where
     step = sym (ap (λ x. from_lines before wrong x) next) ∙ so_far
 
     pub line_planned : (pair : Pair) (out : List ℕ) (now : Bool) → Ok pair ≡ at_number l.number (plan_pair_of l.words)
-        → out ≡ before ++ connection_text tables plan pair → now ≡ (wrong || is_wrong (said_at l pair)) → from_lines out now ls ≡ whole
+        → out ≡ before ++ connection_text keys plan pair → now ≡ (wrong || is_wrong (said_at l pair)) → from_lines out now ls ≡ whole
     unfolding said_by
     line_planned pair out now h text also =
         one_planned before out wrong now (said_at l pair) (said_by plan_pair_of ls) text also ∙ (rw (sym h) at step)
@@ -74,7 +74,7 @@ module _ (tables : List Table) (plan : Plan) where
   lines_planned out wrong lines whole none so_far = sym (rw none at so_far) ∙ same_answer _ _ _ _ (append-nil out) (or_false wrong)
 
   planned_few : (said : Result (List (Said Pair)) TextFault) → (said ≡ Err fault.TooManyLines → ⊥)
-      → Fails fault.TooManyLines (planned_from tables plan [] false said) → ⊥
+      → Fails fault.TooManyLines (planned_from keys plan [] false said) → ⊥
   planned_few (Ok said) few h = absurd (cc h)
   planned_few (Err e) few h = few (same_fault e fault.TooManyLines h)
 

@@ -1,7 +1,7 @@
 -- What is said of connections as the answer.
 use Rattle.std.proofs.Common.{◌≡◌, ℕ, List, Result, Ok, Err, ap}
 use Rattle.book_base.specs.declared.address.Pair.{Pair}
-use Rattle.book_keys.specs.Rows.{Table}
+use Rattle.book_scope_plan.specs.AdminNames.{KeyFile}
 use Rattle.book_lines.specs.declared.text_fault.TextFault.{TextFault}
 use Rattle.book_lines.specs.declared.text_fault.TextFault.TheVariants as text_fault
 use Rattle.book_lines.specs.Said.{Said, said_in}
@@ -16,34 +16,34 @@ use Rattle.command_report.proofs.Reporting.{fails_stops}
 use Rattle.scope_plan.specs.declared.planned.Planned.{Planned}
 use Rattle.scope_plan.specs.Plannings.{planned_answer, plannings}
 
-abbrev planning : List Table → Plan → Result (List (Said Pair)) TextFault → Result Planned TextFault
-planning tables plan r = r >>= λ said. Ok (record { text = plans_text tables plan said; has_wrong = has_wrong_plan tables plan said })
+abbrev planning : KeyFile → Plan → Result (List (Said Pair)) TextFault → Result Planned TextFault
+planning keys plan r = r >>= λ said. Ok (record { text = plans_text keys plan said; has_wrong = has_wrong_plan keys.tables plan said })
 
-made_of : (tables : List Table) (plan : Plan) (r : Result (List (Said Pair)) TextFault) (j : Planned) → planning tables plan r ≡ Ok j →
-    if_read (planned_answer tables plan) r ≡ done j.has_wrong j.text
-made_of tables plan (Err e) j is = absurd (cc)
-made_of tables plan (Ok said) j is =
-    let same : record { text = plans_text tables plan said; has_wrong = has_wrong_plan tables plan said } ≡ j = cc in
+made_of : (keys : KeyFile) (plan : Plan) (r : Result (List (Said Pair)) TextFault) (j : Planned) → planning keys plan r ≡ Ok j →
+    if_read (planned_answer keys plan) r ≡ done j.has_wrong j.text
+made_of keys plan (Err e) j is = absurd (cc)
+made_of keys plan (Ok said) j is =
+    let same : record { text = plans_text keys plan said; has_wrong = has_wrong_plan keys.tables plan said } ≡ j = cc in
     ap (λ (x : Planned). done x.has_wrong x.text) same
 
 -- what is said is the answer
-pub planned_reports : (tables : List Table) (plan : Plan) (text : List ℕ) (j : Planned) → plannings tables plan text ≡ Ok j →
-    if_read (planned_answer tables plan) (said_in plan_pair_of text) ≡ done j.has_wrong j.text
+pub planned_reports : (keys : KeyFile) (plan : Plan) (text : List ℕ) (j : Planned) → plannings keys plan text ≡ Ok j →
+    if_read (planned_answer keys plan) (said_in plan_pair_of text) ≡ done j.has_wrong j.text
 unfolding plannings
-planned_reports tables plan text j is = made_of tables plan (said_in plan_pair_of text) j is
+planned_reports keys plan text j is = made_of keys plan (said_in plan_pair_of text) j is
 
-fault_of : (tables : List Table) (plan : Plan) (r : Result (List (Said Pair)) TextFault) (e : TextFault) → planning tables plan r ≡ Err e → r ≡ Err e
-fault_of tables plan (Err f) e is = let same : f ≡ e = cc in ap (λ (x : TextFault). Err x) same
-fault_of tables plan (Ok said) e is = absurd (cc)
+fault_of : (keys : KeyFile) (plan : Plan) (r : Result (List (Said Pair)) TextFault) (e : TextFault) → planning keys plan r ≡ Err e → r ≡ Err e
+fault_of keys plan (Err f) e is = let same : f ≡ e = cc in ap (λ (x : TextFault). Err x) same
+fault_of keys plan (Ok said) e is = absurd (cc)
 
-fails : (tables : List Table) (plan : Plan) (r : Result (List (Said Pair)) TextFault) (e : TextFault) → Fails e (planning tables plan r) → Fails e r
-fails tables plan r text_fault.Memory f = tt
-fails tables plan r text_fault.TooManyLines f = fault_of tables plan r text_fault.TooManyLines f
-fails tables plan r (text_fault.Line n kind) f = fault_of tables plan r (text_fault.Line n kind) f
+fails : (keys : KeyFile) (plan : Plan) (r : Result (List (Said Pair)) TextFault) (e : TextFault) → Fails e (planning keys plan r) → Fails e r
+fails keys plan r text_fault.Memory f = tt
+fails keys plan r text_fault.TooManyLines f = fault_of keys plan r text_fault.TooManyLines f
+fails keys plan r (text_fault.Line n kind) f = fault_of keys plan r (text_fault.Line n kind) f
 
 -- a text that isn't read has no report
-pub refused_reports : (tables : List Table) (plan : Plan) (text : List ℕ) (e : TextFault) → Fails e (plannings tables plan text) →
-    Stopped (stop_of e) (if_read (planned_answer tables plan) (said_in plan_pair_of text))
+pub refused_reports : (keys : KeyFile) (plan : Plan) (text : List ℕ) (e : TextFault) → Fails e (plannings keys plan text) →
+    Stopped (stop_of e) (if_read (planned_answer keys plan) (said_in plan_pair_of text))
 unfolding plannings
-refused_reports tables plan text e f =
-    fails_stops (planned_answer tables plan) (said_in plan_pair_of text) e (fails tables plan (said_in plan_pair_of text) e f)
+refused_reports keys plan text e f =
+    fails_stops (planned_answer keys plan) (said_in plan_pair_of text) e (fails keys plan (said_in plan_pair_of text) e f)

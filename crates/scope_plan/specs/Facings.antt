@@ -1,7 +1,13 @@
 -- A connection as one of its ends sees it, as the book has it.
+use Rattle.toml.specs.View.{table_view}
 use Rattle.book_scope_plan.specs.FindingTexts as book
 use Rattle.scope_plan.specs.declared.ends.Facing.{Facing}
 
 -- the book's form of what the code holds
 abbrev pub facing_of : Facing → book.Facing
-facing_of f = record { node = f.node.now; other = f.other.now; pair = f.pair }
+facing_of f = record {
+  document = table_view f.document.now;
+  node = f.node.now;
+  other = f.other.now;
+  pair = f.pair;
+}

@@ -1,2 +1,3 @@
 pub mod Facings
+pub mod KeyFiles
 pub mod Plannings

@@ -3,10 +3,12 @@ ghost use Rattle.std.specs.Prelude.{◌≡◌, ◌++◌, OnOk, IfOk, option_map}
 ghost use Rattle.book_plans.specs.Margins.{lead_margin_of, lag_margin_of};
 ghost use Rattle.book_scope_plan.specs.PlanTexts.{aligned_line, both_text, connection_line, connection_text, facing, findings_text, has_none, is_good_plan, margin_text, missing_text, node_with, nodes_text, plan_findings, usual_socket_text};
 ghost use Rattle.scope_plan.specs.Facings.{facing_of};
+ghost use Rattle.scope_plan.specs.KeyFiles.{key_file_of};
 
 use crate::calendar::push_calendar;
 use crate::ends::{Ends, Facing};
 use crate::findings::push_findings;
+use crate::key_file::KeyFile;
 use ao_base::push_decimal;
 use book_base::{Address, Pair, Socket};
 use book_cmd_keys::Plan;
@@ -121,17 +123,24 @@ fn push_both(
     alloc: Global,
     out: &mut Vec<u8>,
     ends: &Ends,
-    tables: &Tables,
+    keys: &KeyFile,
     plan: &Plan,
     pair: &Pair,
 ) -> Result<bool, AllocError>
-    ensures text { OnOk result (out.new.items ≡ out.old.items ++ both_text (facing ends.now.a.now ends.now.b.now pair.now) tables.now plan.now) }
-    ensures good { IfOk result (λ good. good ≡ has_none (plan_findings tables.now plan.now pair.now)) }
+    ensures text { OnOk result (out.new.items ≡ out.old.items ++ both_text (facing (key_file_of keys.now) ends.now.a.now ends.now.b.now pair.now) keys.now.tables plan.now) }
+    ensures good { IfOk result (λ good. good ≡ has_none (plan_findings keys.now.tables plan.now pair.now)) }
 {
+    let tables = &keys.tables;
     let turns = calendar(alloc, tables, pair, plan.from, plan.to)?;
     push_calendar(alloc, out, ends, turns.as_slice())?;
     let findings = findings_by(alloc, tables, pair, plan)?;
-    push_judgement(out, &ends.facing(pair), tables, plan, findings.as_slice())?;
+    push_judgement(
+        out,
+        &ends.facing(keys, pair),
+        tables,
+        plan,
+        findings.as_slice(),
+    )?;
     Ok(has_none(findings.as_slice()))
 }
 
@@ -159,18 +168,18 @@ fn push_missing(
 pub(crate) fn push_connection(
     alloc: Global,
     out: &mut Vec<u8>,
-    tables: &Tables,
+    keys: &KeyFile,
     plan: &Plan,
     pair: &Pair,
 ) -> Result<bool, AllocError>
-    ensures text { OnOk result (out.new.items ≡ out.old.items ++ connection_text tables.now plan.now pair.now) }
-    ensures good { IfOk result (λ good. good ≡ is_good_plan tables.now plan.now pair.now) }
+    ensures text { OnOk result (out.new.items ≡ out.old.items ++ connection_text (key_file_of keys.now) plan.now pair.now) }
+    ensures good { IfOk result (λ good. good ≡ is_good_plan keys.now.tables plan.now pair.now) }
 {
     push_connection_line(out, pair)?;
-    let a = tables.table(&pair.local.address);
-    let b = tables.table(&pair.remote.address);
+    let a = keys.tables.table(&pair.local.address);
+    let b = keys.tables.table(&pair.remote.address);
     match (a, b) {
-        (Some(a), Some(b)) => push_both(alloc, out, &Ends { a, b }, tables, plan, pair),
+        (Some(a), Some(b)) => push_both(alloc, out, &Ends { a, b }, keys, plan, pair),
         _ => {
             push_missing(out, a, &pair.local.address)?;
             push_missing(out, b, &pair.remote.address)?;

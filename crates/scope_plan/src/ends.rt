@@ -4,7 +4,9 @@ ghost use Rattle.book_scope_plan.specs.CalendarTexts.{row_numbered, side_of};
 ghost use Rattle.book_scope_plan.specs.FindingTexts.{facing_at};
 ghost use Rattle.book_scope_plan.specs.PlanTexts.{facing};
 ghost use Rattle.scope_plan.specs.Facings.{facing_of};
+ghost use Rattle.scope_plan.specs.KeyFiles.{key_file_of};
 
+use crate::key_file::KeyFile;
 use book_base::{End, Pair};
 use key_table::{Row, Table};
 
@@ -27,10 +29,11 @@ impl<'a> Ends<'a> {
     }
 
     /// The connection as end A sees it.
-    pub(crate) fn facing(&self, pair: &Pair) -> Facing<'a>
-        ensures { facing_of result ≡ facing self.now.a.now self.now.b.now pair.now }
+    pub(crate) fn facing(&self, keys: &'a KeyFile, pair: &Pair) -> Facing<'a>
+        ensures { facing_of result ≡ facing (key_file_of keys.now) self.now.a.now self.now.b.now pair.now }
     {
         Facing {
+            document: &keys.document,
             node: self.a,
             other: self.b,
             pair: *pair,
@@ -38,9 +41,11 @@ impl<'a> Ends<'a> {
     }
 }
 
-/// A connection as one of its ends sees it: the table of its node, that of the other end's, and the pair.
+/// A connection as one of its ends sees it: the document that the key file is, the table of its node, that
+/// of the other end's, and the pair.
 #[derive(Clone, Copy)]
 pub(crate) struct Facing<'a> {
+    pub(crate) document: &'a toml::Table,
     pub(crate) node: &'a Table,
     pub(crate) other: &'a Table,
     pub(crate) pair: Pair,
@@ -54,6 +59,7 @@ impl<'a> Facing<'a> {
         match end {
             End::A => *self,
             End::B => Facing {
+                document: self.document,
                 node: self.other,
                 other: self.node,
                 pair: Pair {

@@ -36,7 +36,7 @@ fn push_unmet(
     ensures { OnOk result (out.new.items ≡ out.old.items ++ unmet_line (facing_of facing.now) number row.now words.now) }
 {
     out.extend_from_slice(b"  WRONG ")?;
-    push_row_name(out, facing.node.name(), number)?;
+    push_row_name(out, facing.document, facing.node.name(), number)?;
     push_sent_id(out, row)?;
     out.extend_from_slice(facing.other.name())?;
     out.extend_from_slice(words)

@@ -8,9 +8,12 @@ mod connections;
 mod differences;
 mod ends;
 mod findings;
+mod key_file;
 mod lifetimes;
+mod names;
 mod planned;
 mod plans;
 mod told;
 
+pub use key_file::{KeyFile, read_key_file};
 pub use plans::answer_plan;

@@ -1,5 +1,6 @@
 //! What rows of the other end lack of the lifetime that is wanted of them.
 ghost use Rattle.std.specs.Prelude.{◌≡◌, ◌++◌, OnOk, codes, decimal};
+ghost use Rattle.toml.specs.View.{table_view};
 ghost use Rattle.book_plans.specs.Differences.{differences, is_alike};
 ghost use Rattle.book_scope_plan.specs.FindingTexts.{accepting_lines, accepting_row, accepts_text, early_line, late_line, lifetime_lines, planned_accepting, row_name, sends_text, set_text, text_if, wanted_text};
 ghost use Rattle.scope_plan.specs.Facings.{facing_of};
@@ -92,10 +93,15 @@ fn planned_accepting(plan: &Plan, row: &Row) -> Lifetime
 }
 
 /// The time before which a row of the other end is to begin to accept.
-fn push_start(out: &mut Vec<u8>, name: &[u8], number: u8, wanted: u64) -> Result<(), AllocError>
-    ensures { OnOk result (out.new.items ≡ out.old.items ++ set_text (codes "AcceptLifetimeStart") (row_name name.now number) wanted (codes " or earlier\n")) }
+fn push_start(out: &mut Vec<u8>, facing: &Facing, number: u8, wanted: u64) -> Result<(), AllocError>
+    ensures { OnOk result (out.new.items ≡ out.old.items ++ set_text (codes "AcceptLifetimeStart") (row_name (table_view facing.now.document.now) facing.now.other.now.name number) wanted (codes " or earlier\n")) }
 {
-    let row = row_name(*out.allocator(), name, number)?;
+    let row = row_name(
+        *out.allocator(),
+        facing.document,
+        facing.other.name(),
+        number,
+    )?;
     push_set(
         out,
         b"AcceptLifetimeStart",
@@ -106,10 +112,15 @@ fn push_start(out: &mut Vec<u8>, name: &[u8], number: u8, wanted: u64) -> Result
 }
 
 /// The time after which a row of the other end is to end to accept.
-fn push_end(out: &mut Vec<u8>, name: &[u8], number: u8, wanted: u64) -> Result<(), AllocError>
-    ensures { OnOk result (out.new.items ≡ out.old.items ++ set_text (codes "AcceptLifetimeEnd") (row_name name.now number) wanted (codes " or later\n")) }
+fn push_end(out: &mut Vec<u8>, facing: &Facing, number: u8, wanted: u64) -> Result<(), AllocError>
+    ensures { OnOk result (out.new.items ≡ out.old.items ++ set_text (codes "AcceptLifetimeEnd") (row_name (table_view facing.now.document.now) facing.now.other.now.name number) wanted (codes " or later\n")) }
 {
-    let row = row_name(*out.allocator(), name, number)?;
+    let row = row_name(
+        *out.allocator(),
+        facing.document,
+        facing.other.name(),
+        number,
+    )?;
     push_set(
         out,
         b"AcceptLifetimeEnd",
@@ -142,7 +153,7 @@ fn push_early(
         b" s before, ",
         plan.lead,
     )?;
-    push_start(out, name, number, planned_accepting(plan, row).first)
+    push_start(out, facing, number, planned_accepting(plan, row).first)
 }
 
 /// The line of a row of the other end that ends to accept too early.
@@ -163,7 +174,7 @@ fn push_late(
     push_accepts(out, name, number, b" until ", accepted)?;
     push_sends(out, facing.node.name(), b" until ", sent)?;
     push_wanted(out, accepted.saturating_sub(sent), b" s after, ", plan.lag)?;
-    push_end(out, name, number, planned_accepting(plan, row).last)
+    push_end(out, facing, number, planned_accepting(plan, row).last)
 }
 
 /// What a row of the other end lacks of the lifetime that is wanted.

@@ -7,16 +7,17 @@ ghost use Rattle.text_lines.specs.Readings.{Answers};
 ghost use Rattle.book_scope_plan.specs.Connections.{plan_pair_of};
 ghost use Rattle.book_answer.specs.Answers.{if_read};
 ghost use Rattle.command_report.specs.Reports.{Reports};
+ghost use Rattle.scope_plan.specs.KeyFiles.{key_file_of};
 ghost use Rattle.scope_plan.specs.Plannings.{planned_answer, planned_from, plannings};
 
 use crate::connection::read_connection;
 use crate::connections::push_connection;
+use crate::key_file::KeyFile;
 use crate::planned::Planned;
 use book_base::{Bytes, Pair};
 use book_cmd_keys::Plan;
 use book_lines::TextFault;
 use command_report::{Report, Stop};
-use key_table::Tables;
 use std::alloc::Global;
 use text_lines::{Saying, SayingLines, count_lines};
 
@@ -33,17 +34,17 @@ fn connection_in(mut line: Saying) -> Result<Pair, TextFault>
 /// What is said of each connection of the lines that are left.
 fn plan_lines(
     alloc: Global,
-    tables: &Tables,
+    keys: &KeyFile,
     plan: &Plan,
     mut lines: SayingLines,
 ) -> Result<Planned, TextFault>
-    ensures { Answers result (planned_from tables.now plan.now [] false (said_by plan_pair_of lines.entry)) }
+    ensures { Answers result (planned_from (key_file_of keys.now) plan.now [] false (said_by plan_pair_of lines.entry)) }
 {
     let mut out = Vec::new(alloc);
     let mut has_wrong = false;
     while let Some(line) = lines.next() {
         let pair = connection_in(line)?;
-        let is_good = push_connection(alloc, &mut out, tables, plan, &pair)?;
+        let is_good = push_connection(alloc, &mut out, keys, plan, &pair)?;
         has_wrong |= !is_good;
     }
     Ok(Planned {
@@ -56,15 +57,15 @@ fn plan_lines(
 #[tactic(auto, unfolding(crate::specs::Plannings::plannings, book_lines::specs::Said::said_in))]
 fn plan_input(
     alloc: Global,
-    tables: &Tables,
+    keys: &KeyFile,
     plan: &Plan,
     input: &[u8],
 ) -> Result<Planned, TextFault>
-    ensures text { Answers result (plannings tables.now plan.now input.now) }
+    ensures text { Answers result (plannings (key_file_of keys.now) plan.now input.now) }
     ensures too_many { IsErrOf result TextFault.TooManyLines ↔ (most_lines < length (lines_of input.now)) }
 {
     let _count = count_lines(input)?;
-    plan_lines(alloc, tables, plan, SayingLines::new(input))
+    plan_lines(alloc, keys, plan, SayingLines::new(input))
 }
 
 /// The answer of `plan`: for each connection of the input, a line `ADDRESS PORT ADDRESS PORT` with
@@ -73,7 +74,8 @@ fn plan_input(
 /// - each time after `from` until `to` at which a row begins or ends to be accepted or sent with, or begins
 ///   to be asked for, in order, with the name of the node, or those of both where both turn alike;
 /// - each finding of `key_plan::findings` for the plan's lead and lag, in order, with the columns in which
-///   the nearest rows differ, or what a lifetime is to be set to;
+///   the nearest rows differ, or what a lifetime is to be set to; behind the number of a row stands what the
+///   operator calls it, its AdminKeyName;
 /// - or, where there is none, `aligned` with the greatest lead and lag for which it stays so.
 ///
 /// Of a connection with an address that no node has it is only said so. A finding or such an address is
@@ -85,11 +87,11 @@ fn plan_input(
 /// over 65,535 and for a second address that is the first one or of the other family. `Memory` only for
 /// want of memory.
 #[tactic(auto, using(crate::proofs::ReportLaws::planned_reports, crate::proofs::ReportLaws::refused_reports))]
-pub fn answer_plan(alloc: Global, tables: &Tables, plan: Plan, input: &[u8]) -> Result<Report, Stop>
-    ensures answer { Reports result (if_read (planned_answer tables.now plan) (said_in plan_pair_of input.now)) }
+pub fn answer_plan(alloc: Global, keys: &KeyFile, plan: Plan, input: &[u8]) -> Result<Report, Stop>
+    ensures answer { Reports result (if_read (planned_answer (key_file_of keys.now) plan) (said_in plan_pair_of input.now)) }
     ensures too_many { IsErrOf result (Stop.Input TextFault.TooManyLines) ↔ (most_lines < length (lines_of input.now)) }
 {
-    let planned = plan_input(alloc, tables, &plan, input)?;
+    let planned = plan_input(alloc, keys, &plan, input)?;
     Ok(Report {
         text: planned.text,
         is_amiss: planned.has_wrong,

@@ -1,13 +1,14 @@
 use Rattle.std.proofs.Common.{◌≡◌, [], false, length}
 use Rattle.book_lines.specs.Said.{said_by}
 use Rattle.book_scope_plan.specs.Connections.{plan_pair_of}
+use Rattle.scope_plan.specs.KeyFiles.{key_file_of}
 use Rattle.scope_plan.specs.Plannings.{planned_from}
 use Rattle.scope_plan.proofs.plans.plan_lines.Given as goal
 
 abbrev pub invariant-loop-line : goal.invariant-loop-line
 invariant-loop-line l =
-    planned_from l.tables l.plan l.out.items l.has_wrong (said_by plan_pair_of l.lines)
-    ≡ planned_from l.tables l.plan [] false (said_by plan_pair_of l.fn.lines)
+    planned_from (key_file_of l.keys) l.plan l.out.items l.has_wrong (said_by plan_pair_of l.lines)
+    ≡ planned_from (key_file_of l.keys) l.plan [] false (said_by plan_pair_of l.fn.lines)
 
 abbrev pub decreases-loop-line : goal.decreases-loop-line
 decreases-loop-line l = length l.lines
