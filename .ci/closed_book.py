@@ -19,7 +19,7 @@ OUTSIDE = ["ao_base/specs/Outside.antt", "ao_run/specs/Runs.antt", "ao_run/specs
            "law_link/specs/Headline.antt", "law_link/specs/Laws.antt", "law_link/specs/Sessions.antt",
            "law_progress/specs/Progress.antt", "law_node/specs/Alone.antt",
            "cmd_bgp/specs/Tellings.antt", "law_pcap/specs/LineForms.antt", "cmd_check/specs/CheckedLines.antt",
-           "cmd_check/specs/CheckedPackets.antt", "cmd_check/src/halt.rt", "pcap_file/specs/Reading.antt"]
+           "cmd_check/specs/CheckedPackets.antt", "cmd_check/src/halt.rt", "pcap_file/specs/Reads.antt"]
 ENTRY = ("ao_run", "src/top.rt", "run")
 ANSWER = ("book_answer/specs/Answers.antt", "answer")
 MOST_LINES = 3800

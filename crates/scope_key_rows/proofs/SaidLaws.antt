@@ -1,0 +1,10 @@
+-- Texts put behind others, one after the other.
+use Rattle.std.proofs.Common.{◌≡◌, ℕ, List, ◌++◌, Result, Ok, Err, ap, ◌∙◌, if◌then◌else◌, append_assoc}
+use Rattle.std.specs.Prelude.{OnOk, is_ok}
+
+-- four texts, unless memory ran out for the last
+pub four_behind : {A B : Type 0} (r : Result A B) (old first second third after w x y z : List ℕ) → first ≡ old ++ w → second ≡ first ++ x → third ≡ second ++ y →
+    after ≡ (if is_ok r then third ++ z else third) → OnOk r (after ≡ old ++ (w ++ (x ++ (y ++ z))))
+four_behind (Ok u) old first second third after w x y z one two three four =
+    four ∙ (rw (three, two, one) (simp append_assoc))
+four_behind (Err e) old first second third after w x y z one two three four = tt

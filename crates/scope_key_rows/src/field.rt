@@ -1,0 +1,65 @@
+//! The findings of fields.
+ghost use Rattle.std.specs.Prelude.{◌≡◌, ◌++◌, ◌∷◌, [], OnOk};
+ghost use Rattle.toml.specs.View.{table_view};
+ghost use Rattle.book_scope_keys.specs.FieldTexts.{finding_at};
+ghost use Rattle.book_scope_keys.specs.RowFindings.{field_at, field_unless};
+ghost use Rattle.scope_key_rows.specs.Fields.{field_of};
+
+use crate::values::member_at;
+use book_scope_keys::{KeyFinding, KeyPlace};
+use scope_key_texts::push_field_said;
+use std::alloc::AllocError;
+use toml::{Table, Value};
+
+/// A field of a table: the table's place, its key, and its value, if it has one.
+#[derive(Clone, Copy)]
+pub struct Field<'a> {
+    pub(crate) place: &'a KeyPlace,
+    pub(crate) key: &'a str,
+    pub(crate) value: Option<&'a Value>,
+}
+
+/// The field at a key of a table.
+pub fn field_at<'a>(place: &'a KeyPlace, key: &'a str, table: &'a Table) -> Field<'a>
+    ensures { field_of result ≡ field_at place.now key.now (table_view table.now) }
+{
+    Field {
+        place,
+        key,
+        value: member_at(table, key),
+    }
+}
+
+/// Puts what is found at a place behind the findings. An error only for want of memory.
+pub fn push_finding(
+    findings: &mut Vec<KeyFinding>,
+    place: &KeyPlace,
+    field: &[u8],
+    said: &[u8],
+) -> Result<(), AllocError>
+    ensures { OnOk result (findings.new.items ≡ findings.old.items ++ finding_at place.now field.now said.now ∷ []) }
+{
+    let finding = scope_key_texts::finding_at(*findings.allocator(), place, field, said)?;
+    findings.push(finding)?;
+    Ok(())
+}
+
+/// Puts what is found at a field that isn't good behind the findings: its value, a hint, and what is wanted.
+/// An error only for want of memory.
+#[tactic(auto, unfolding(book_scope_keys::specs::RowFindings::field_unless))]
+pub fn push_unless(
+    findings: &mut Vec<KeyFinding>,
+    is_good: bool,
+    field: Field<'_>,
+    hint: &[u8],
+    wanted: &[u8],
+) -> Result<(), AllocError>
+    ensures { OnOk result (findings.new.items ≡ findings.old.items ++ field_unless is_good (field_of field.entry) hint.now wanted.now) }
+{
+    if is_good {
+        return Ok(());
+    }
+    let mut said = Vec::new(*findings.allocator());
+    push_field_said(&mut said, field.value, hint, wanted)?;
+    push_finding(findings, field.place, field.key.as_bytes(), said.as_slice())
+}
