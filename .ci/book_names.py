@@ -1,12 +1,12 @@
 #!/usr/bin/env python3
 """The names, the sources and the arguments of the book: which names have more than one definition in it, which definitions' comments name
-no source, and, with --arguments, which functions have more than five arguments or neighbouring arguments of one plain type. The book
+no source, and which functions have more than five arguments or neighbouring arguments of one plain type. The book
 here is all crates of definitions: each crate whose name begins with `book_`.
 A definition is what a file of specs/ defines by a name of its own: functions, types and the constructors of its types; the fields
 of a record belong to it, and are none. An operator that `do` blocks are written over, `◌>>=◌`, has one for each type of what is read. A
 source is an RFC or another standard with the section, or *own* in brackets. Plain types are numbers, truth values, and lists and
 options of those; arguments that the signature names (`(low high : ℕ)`) count as told apart.
-Prints the lists and how long they are; fails on nothing, but with --strict where one of the first two isn't empty."""
+Prints the lists and how long they are; fails on nothing, but with --strict where one of them isn't empty."""
 import pathlib
 import re
 import sys
@@ -78,6 +78,7 @@ def unlike(found):
 
 
 def tell_arguments(found):
+    """Prints the functions whose arguments a reader can't keep apart; whether there is none."""
     many = sorted(((len(args), place, name) for place, name, args in found if len(args) > MOST_ARGUMENTS), reverse=True)
     alike = sorted(((max(map(len, unlike(args))), place, name, unlike(args)) for place, name, args in found if unlike(args)), key=lambda it: (-it[0], *it[1:3]))
     for count, place, name in many:
@@ -85,6 +86,7 @@ def tell_arguments(found):
     for _, place, name, runs in alike:
         print(f"arguments of one type: {place}: {name}: {'; '.join(', '.join(run) for run in runs)}")
     print(f"functions with more than {MOST_ARGUMENTS} arguments: {len(many)}; with neighbouring arguments of one plain type and no names: {len(alike)}")
+    return not many and not alike
 
 
 def main(words):
@@ -101,10 +103,9 @@ def main(words):
         print(f"defined {len(places)} times: {name}: {', '.join(places)}")
     for one in without:
         print(f"names no source: {one}")
-    if "--arguments" in words:
-        tell_arguments(found)
+    told_apart = tell_arguments(found)
     print(f"names of the book with more than one definition: {len(several)}; definitions that name no source: {len(without)}")
-    return 1 if "--strict" in words and (several or without) else 0
+    return 1 if "--strict" in words and (several or without or not told_apart) else 0
 
 
 sys.exit(main(sys.argv[1:]))
