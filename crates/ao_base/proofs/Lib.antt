@@ -4,6 +4,7 @@ pub mod InMemoryLaws
 pub mod Pieces
 pub mod ReadingOn
 pub mod BufferLaws
+mod Fillings
 pub mod Sides
 pub mod Slices
 pub mod Calls

@@ -1,5 +1,6 @@
 pub mod Buffered
 pub mod Cuts
+pub mod Fillings
 pub mod Found
 pub mod InMemory
 pub mod Outside

@@ -38,7 +38,7 @@ use Rattle.law_headline.proofs.StormFits.{storm_fits, storm_tables, events_fit a
 use Rattle.law_headline.proofs.Through.{storm_through}
 use Rattle.law_link.specs.Laws.{TablesFit}
 use Rattle.law_node.proofs.Runs.{each_alone}
-use Rattle.pcap_file.specs.Reads.{IsByte}
+use Rattle.book_base.specs.Hexadecimal.{IsByte}
 use Rattle.law_pcap.specs.LineForms.{line_form}
 use Rattle.law_pcap.proofs.Judged.{answers_alike}
 use Rattle.law_pcap.proofs.Records.{line_form_shows}

@@ -4,6 +4,7 @@ use Rattle.std.proofs.lemmas.List.{length-append, take-append-drop, drop-drop, t
 use Rattle.std.proofs.lemmas.List.Elements.{All-nil, All-cons, All-head, All-tail, All-drop}
 use Rattle.std.specs.Prelude.{slice_range, slice_index}
 use Rattle.std.specs.List.{All}
+use Rattle.book_base.specs.Hexadecimal.{IsByte}
 use Rattle.book_bgp.specs.declared.bgp_fault.BgpFault.{BgpFault}
 use Rattle.book_base.specs.Fronts.{Front, Ends, Faulted, Leads}
 use Rattle.book_bgp.specs.Messages.{Message, IsMessage, message_front, marker, length_in, is_kind, message_length, spell_message, spell_messages, messages, behind}
@@ -45,10 +46,6 @@ messages_spelled (m ∷ ms) rest are =
     rw append_assoc (
     one_before (spell_message m ++ (spell_messages ms ++ rest)) m (spell_messages ms ++ rest) (front_spelled m (spell_messages ms ++ rest) (All-head IsMessage m ms are))
     ∙ ap (λ xs. m ∷ xs) (messages_spelled ms rest (All-tail IsMessage m ms are)))
-
--- numbers below 256
-abbrev pub IsByte : ℕ → Type 0
-IsByte b = b < 256
 
 -- bytes from the 17th on
 tail_is : (bytes : List ℕ) → 19 ≤ length bytes → drop 16 bytes ≡ slice_index bytes 16 ∷ slice_index bytes 17 ∷ slice_index bytes 18 ∷ drop 19 bytes

@@ -16,7 +16,7 @@ use Rattle.book_lines.specs.Texts.{numbered_text, end_text}
 use Rattle.book_lines.specs.Words.{Taken, address_in, number_in, socket_in, nothing_in}
 use Rattle.book_base.specs.Results.{◌>>=◌}
 use Rattle.book_keys.specs.declared.plan.Plan.{Plan}
-use Rattle.book_cmd_link.specs.LinkFiles.{are_two_of_a_family}
+use Rattle.book_segments.specs.Sockets.{are_two_of_a_family}
 use Rattle.book_base.specs.Addresses.{greatest_port}
 
 -- the next word as an address of this one's family that differs from it (own)

@@ -17,7 +17,7 @@ use Rattle.book_link.specs.declared.event.Event.TheVariants as event
 
 -- the greatest initial sequence number (RFC 9293, section 3.4.1)
 abbrev pub greatest_isn : ℕ
-greatest_isn = 4294967295
+greatest_isn = 0xffffffff
 
 -- the most segments that a link makes (own)
 abbrev pub most_segments : ℕ

@@ -1,13 +1,12 @@
 -- The script that a link file is, or its first fault. Our own format. Its top is `script_of`.
-use Rattle.std.specs.Prelude.{ℕ, ◌+◌, not, Bool, true, false, List, [], ◌∷◌, length, codes, Option}
+use Rattle.std.specs.Prelude.{ℕ, ◌+◌, Bool, true, false, List, [], ◌∷◌, length, codes, Option}
 use Rattle.std.specs.Prelude.{Some, None, Result, Ok, Err, if◌then◌else◌}
 use Rattle.std.specs.Str.{bytes_eq}
-use Rattle.book_base.specs.declared.address.Address.{Address}
-use Rattle.book_base.specs.declared.address.Address.TheVariants.{V4, V6}
 use Rattle.book_base.specs.declared.address.Socket.{Socket}
 use Rattle.book_lines.specs.declared.line_kind.LineKind.{LineKind}
 use Rattle.book_lines.specs.declared.line_kind.LineKind.TheVariants as kind
 use Rattle.book_base.specs.Lines.{lines_of}
+use Rattle.book_segments.specs.Sockets.{are_two_of_a_family}
 use Rattle.book_keys.specs.MasterKeys.{longest_master_key}
 use Rattle.book_keys.specs.Rows.{Table}
 use Rattle.book_keys.specs.Shared.{shared_tables}
@@ -41,12 +40,6 @@ socket_of end ws = do
   socket ← socket_in name.rest
   none ← nothing_in socket.rest
   Ok socket.value
-
--- two addresses are of one family and differ (own)
-abbrev pub are_two_of_a_family : (one other : Address) → Bool
-are_two_of_a_family (V4 x) (V4 y) = not (bytes_eq x y)
-are_two_of_a_family (V6 x) (V6 y) = not (bytes_eq x y)
-are_two_of_a_family _ _ = false
 
 -- the line `b ADDRESS PORT`, beside the socket of a (own)
 unfoldable pub peer_socket_of : Socket → List (List ℕ) → Result Socket LineKind

@@ -9,7 +9,7 @@ use Rattle.book_base.specs.declared.address.Pair.{Pair}
 use Rattle.book_lines.specs.declared.line_kind.LineKind.{LineKind}
 use Rattle.book_lines.specs.declared.line_kind.LineKind.TheVariants as kind
 use Rattle.book_base.specs.Hexadecimal.{hex_of}
-use Rattle.book_segments.specs.Sockets.{same_socket}
+use Rattle.book_segments.specs.Sockets.{same_socket, are_two_of_a_family}
 use Rattle.book_segments.specs.Segments.{Reading, Read, Bad as Unread, reading, spell}
 use Rattle.book_keys.specs.Lifetimes.{greatest_time}
 use Rattle.book_keys.specs.Rows.{Row}
@@ -33,7 +33,7 @@ use Rattle.book_cmd_node.specs.declared.node.NodeEvent.{NodeEvent}
 use Rattle.book_cmd_node.specs.declared.node.NodeEvent.TheVariants as event
 use Rattle.book_cmd_node.specs.declared.node.NodeScript.{NodeScript}
 use Rattle.book_cmd_link.specs.LinkEvents.{greatest_isn, most_at_once}
-use Rattle.book_cmd_link.specs.LinkFiles.{line_in, title_of, are_two_of_a_family, missing_in}
+use Rattle.book_cmd_link.specs.LinkFiles.{line_in, title_of, missing_in}
 use Rattle.book_segments.specs.Segments.{pair_reached}
 use Rattle.book_pcap.specs.Packets.{longest_datagram}
 use Rattle.book_base.specs.Addresses.{greatest_port}

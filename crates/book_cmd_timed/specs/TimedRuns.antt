@@ -16,11 +16,11 @@ use Rattle.book_lines.specs.Words.{word_in, end_in, number_in, nothing_in}
 use Rattle.book_base.specs.Results.{◌>>=◌}
 use Rattle.book_timers.specs.declared.timer.Timer.{Timer}
 use Rattle.book_timers.specs.Timers.{new_timer, sampled, expired}
-use Rattle.book_endpoint.specs.States.{EndState, is_closed}
 use Rattle.book_link.specs.declared.event.Event.{Event}
 use Rattle.book_link.specs.declared.event.Event.TheVariants as event
 use Rattle.book_link.specs.Outcomes.{Outcome, Done, Sent}
-use Rattle.book_link.specs.Worlds.{Setup, Session, World, side, live}
+use Rattle.book_link.specs.SendFronts.{SendFront, front_at}
+use Rattle.book_link.specs.Worlds.{Setup, World, side}
 use Rattle.book_link.specs.Steps.{Stepped, step}
 use Rattle.book_link.specs.Runs.{empty}
 use Rattle.book_cmd_timed.specs.declared.timed.TimedEvent.{TimedEvent}
@@ -44,23 +44,6 @@ pub record Watch : Type 0 where
 -- the timer of a new session (RFC 6298, section 2.1)
 abbrev pub new_watch : Watch
 new_watch = record { timer = new_timer; deadline = None; timed = None }
-
--- how far an end has sent: the oldest number that isn't acknowledged, and the one to send next
--- (RFC 9293, section 3.3.1: SND.UNA and SND.NXT)
-pub record SendFront : Type 0 where
-  pub una : ℕ
-  pub next : ℕ
-
--- the front of a session that isn't closed (own)
-abbrev pub front_of : Option Session → Option SendFront
-front_of None = None
-front_of (Some s) =
-    if is_closed s.state.phase then None
-    else Some (record { una = s.state.una; next = s.state.next })
-
--- the front of an end's live session (own)
-abbrev pub front_at : World → End → Option SendFront
-front_at w e = front_of (live (side w e).sessions)
 
 -- a link and the timers of its two ends (own)
 pub record Progress : Type 0 where

@@ -9,9 +9,9 @@ use Rattle.book_base.specs.declared.address.Pair.{Pair}
 use Rattle.book_base.specs.Algorithms.{mac_length_of}
 use Rattle.book_segments.specs.Bytes.{put2, ring}
 use Rattle.book_segments.specs.Sockets.{octets}
-use Rattle.book_segments.specs.Options.{Ao}
+use Rattle.book_segments.specs.Options.{Ao, ao_kind, mss_kind}
 use Rattle.book_segments.specs.Segments.{IpHeader, Ipv4, Ipv6, Segment, complement_of, FIN, SYN}
-use Rattle.book_segments.specs.Segments.{RST, PSH, ACK}
+use Rattle.book_segments.specs.Segments.{RST, PSH, ACK, ipv4_header_length, tcp_header_length}
 use Rattle.book_segments.specs.Spelling.{finished}
 use Rattle.book_macs.specs.Contexts.{context_of}
 use Rattle.book_macs.specs.MacInput.{mac_input}
@@ -238,29 +238,34 @@ ao_length sending = 4 + mac_length_of sending.row.algorithm
 abbrev pub most_bytes : Pair → EndState → Sending → ℕ
 most_bytes pair s sending = min (own_mss pair.local.address) s.mss - ao_length sending
 
+-- The time to live, or hop limit, of the written form (RFC 1700, "IP time to live
+-- parameter").
+abbrev pub hop_limit : ℕ
+hop_limit = 64
+
 -- The IPv4 header of the written form with its checksum zero: service 0, identification 0, don't
--- fragment, TTL 64, TCP (RFC 791, section 3.1; the values: own).
+-- fragment, TCP (RFC 791, section 3.1; the values: own).
 abbrev pub ip_words : Pair → ℕ → List ℕ
 ip_words pair total =
-    0x45 ∷ 0 ∷ put2 total (0 ∷ 0 ∷ 0x40 ∷ 0 ∷ 64 ∷ 6 ∷ 0 ∷ 0
+    0x45 ∷ 0 ∷ put2 total (0 ∷ 0 ∷ 0x40 ∷ 0 ∷ hop_limit ∷ 6 ∷ 0 ∷ 0
     ∷ octets pair.local.address ++ octets pair.remote.address)
 
 -- The IP header of the written form over so many TCP bytes (RFC 791, section 3.1; RFC 8200, section
 -- 3; the values: own).
 abbrev pub written_ip : Pair → ℕ → Address → IpHeader
 written_ip pair size (V4 bytes) =
-    Ipv4 0 0 1 64 (complement_of (ip_words pair (20 + size))) []
-written_ip pair size (V6 bytes) = Ipv6 0 64
+    Ipv4 0 0 1 hop_limit (complement_of (ip_words pair (ipv4_header_length + size))) []
+written_ip pair size (V6 bytes) = Ipv6 0 hop_limit
 
--- The TCP-AO option, kind 29, with this MAC (RFC 5925, section 2.2).
+-- The TCP-AO option with this MAC (RFC 5925, section 2.2).
 abbrev pub written_ao : Sending → List ℕ → List ℕ
-written_ao sending m = 29 ∷ (4 + length m) ∷ sending.key_id ∷ sending.rnext_key_id ∷ m
+written_ao sending m = ao_kind ∷ (4 + length m) ∷ sending.key_id ∷ sending.rnext_key_id ∷ m
 
--- The option area of the written form: with SYN the maximum segment size, kind 2 of length 4, and
--- then TCP-AO (RFC 9293, section 3.2; RFC 5925, section 2.2; the order: own).
+-- The option area of the written form: with SYN the maximum segment size, of length 4, and then
+-- TCP-AO (RFC 9293, section 3.2; RFC 5925, section 2.2; the order: own).
 abbrev pub written_area : Pair → Bool → Sending → List ℕ → List ℕ
 written_area pair true sending m =
-    2 ∷ 4 ∷ put2 (own_mss pair.local.address) (written_ao sending m)
+    mss_kind ∷ 4 ∷ put2 (own_mss pair.local.address) (written_ao sending m)
 written_area pair false sending m = written_ao sending m
 
 -- How many bytes of the written option area stand before TCP-AO: with SYN those of the maximum
@@ -279,7 +284,7 @@ told_window s flags =
 -- The segment of a draft with this MAC, its checksum still 0 (RFC 9293, section 3.1).
 abbrev pub written : Pair → EndState → Draft → Sending → List ℕ → Segment
 written pair s out sending m = record {
-  ip = written_ip pair (24 + length m + ao_place (sets out.flags SYN) + length out.payload)
+  ip = written_ip pair (tcp_header_length + 4 + length m + ao_place (sets out.flags SYN) + length out.payload)
       pair.local.address;
   source = pair.local;
   destination = pair.remote;

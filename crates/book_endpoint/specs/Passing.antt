@@ -5,7 +5,8 @@ use Rattle.std.specs.Prelude.{Some}
 use Rattle.book_base.specs.declared.address.Pair.{Pair}
 use Rattle.book_base.specs.Algorithms.{mac_length_of}
 use Rattle.book_segments.specs.Meant.{meant}
-use Rattle.book_segments.specs.Options.{Opt, Ao, ao_of, of_kind, options_of, listed}
+use Rattle.book_segments.specs.Options.{Opt, Ao, ao_kind, md5_kind, ao_of}
+use Rattle.book_segments.specs.Options.{of_kind, options_of, listed}
 use Rattle.book_segments.specs.Segments.{Segment, has, SYN, segment_length}
 use Rattle.book_macs.specs.Contexts.{context_of}
 use Rattle.book_keys.specs.Rows.{Row}
@@ -30,8 +31,8 @@ pub record Passes (rows : List Row) (pair : Pair) (known : Known) (now : ℕ) (d
   pub option : Opt  -- its one TCP-AO option
   pub ao : Ao  -- the fields of that option
   pub row : Numbered  -- the row under which it passes
-  pub one_option : options_in 29 d ≡ option ∷ []
-  pub no_md5 : options_in 19 d ≡ []
+  pub one_option : options_in ao_kind d ≡ option ∷ []
+  pub no_md5 : options_in md5_kind d ≡ []
   pub its_fields : ao ≡ ao_of option
   pub acceptable_row : IsLowest (acceptable_as pair ao.key_id now) rows row
   pub mac_length : length ao.mac ≡ mac_length_of row.row.algorithm

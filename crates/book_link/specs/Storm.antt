@@ -1,6 +1,6 @@
 -- A large run that is made from a number. Our own format. Its top is `storm_events`.
 use Rattle.std.specs.Prelude.{ℕ, zero, suc, ◌+◌, ◌*◌, ◌/◌, ◌%◌, ◌==◌, List, [], ◌∷◌, ◌++◌}
-use Rattle.std.specs.Prelude.{replicate, bit_xor, Option, Some, None, if◌then◌else◌}
+use Rattle.std.specs.Prelude.{◌^◌, replicate, bit_xor, Option, Some, None, if◌then◌else◌}
 use Rattle.book_base.specs.declared.address.Address.TheVariants.{V4}
 use Rattle.book_base.specs.declared.algorithm.Algorithm.TheVariants.{HmacSha1}
 use Rattle.book_base.specs.declared.end.End.{End}
@@ -15,7 +15,7 @@ use Rattle.book_link.specs.Runs.{empty, run_from}
 
 -- how many words of 64 bits there are, 2^64 (own)
 abbrev pub words_of_64 : ℕ
-words_of_64 = 18446744073709551616
+words_of_64 = 2 ^ 64
 
 -- the state after a draw (SplitMix64)
 abbrev pub drawn : ℕ → ℕ
@@ -30,7 +30,7 @@ unfoldable pub draw : ℕ → ℕ
 draw state =
     let y = xor_shifted state 0x40000000 0xbf58476d1ce4e5b9 in
     let z = xor_shifted y 0x8000000 0x94d049bb133111eb in
-    bit_xor z (z / 2147483648)
+    bit_xor z (z / 2 ^ 31)
 
 -- the end that a draw names: an even number is for end a (own)
 abbrev pub drawn_end : ℕ → End

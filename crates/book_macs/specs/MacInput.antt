@@ -2,7 +2,7 @@
 use Rattle.std.specs.Prelude.{ℕ, ◌+◌, ◌/◌, Bool, true, false}
 use Rattle.std.specs.Prelude.{List, ◌∷◌, ◌++◌, length, take, drop, replicate}
 use Rattle.book_segments.specs.Bytes.{put4, ring}
-use Rattle.book_segments.specs.Options.{Ao}
+use Rattle.book_segments.specs.Options.{Ao, ao_kind}
 use Rattle.book_segments.specs.Segments.{Segment, pseudo, header}
 
 -- the options that the MAC covers: the whole option area with the MAC zero, or the TCP-AO option
@@ -12,7 +12,7 @@ covered true area ao =
     take (ao.place + 4) area
     ++ (replicate (length ao.mac) 0 ++ drop (ao.place + 4 + length ao.mac) area)
 covered false area ao =
-    29 ∷ (4 + length ao.mac) ∷ ao.key_id ∷ ao.rnext_key_id ∷ replicate (length ao.mac) 0
+    ao_kind ∷ (4 + length ao.mac) ∷ ao.key_id ∷ ao.rnext_key_id ∷ replicate (length ao.mac) 0
 
 -- the input of the MAC: the sequence number extension, the pseudo-header, the TCP header with
 -- checksum zero, the options that are covered, and the payload (RFC 5925, section 5.1)

@@ -5,6 +5,7 @@ use Rattle.std.specs.List.{All}
 use Rattle.std.proofs.lemmas.List.Elements.{All-take}
 use Rattle.std.proofs.lemmas.Bool.{cases_lt, cases_eq, le-ltb, ltb-false, eq-eqb, ne_eqb, eqb-true, and_parts}
 use Rattle.std.proofs.lemmas.List.{length-append, length-drop, length-take-le, take-append-drop, take_at, drop_at, nil_from_length, drop-append-le}
+use Rattle.book_base.specs.Hexadecimal.{IsByte}
 use Rattle.book_pcap.specs.declared.pcap_head.ByteOrder.{ByteOrder}
 use Rattle.book_pcap.specs.declared.pcap_head.ByteOrder.TheVariants.{Big, Little}
 use Rattle.book_pcap.specs.declared.pcap_head.LinkType.{LinkType}
@@ -206,9 +207,6 @@ at_broken head n tail b =
     packets_step head n tail ∙ ap (λ (f : Front Kept RecordFault). packets_by head n f (packets_in head (n + 1))) (broken_by (record_at head.order tail) head.order tail (told head.order tail) b)
 
 -- ---- the header
-
-abbrev IsByte : ℕ → Type 0
-IsByte b = b < 256
 
 order_read : (order : ByteOrder) (front : List ℕ) → All IsByte front → length front ≡ 24 → four_at order front 0 ≡ magic → order_of front ≡ Some order
 order_read Big front bytes long e = rw (eq-eqb (four_at Big front 0) magic e) refl

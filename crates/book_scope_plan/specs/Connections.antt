@@ -5,7 +5,7 @@ use Rattle.book_base.specs.declared.address.Pair.{Pair}
 use Rattle.book_lines.specs.declared.line_kind.LineKind.{LineKind}
 use Rattle.book_lines.specs.declared.line_kind.LineKind.TheVariants.{Range}
 use Rattle.book_base.specs.Results.{◌>>=◌}
-use Rattle.book_cmd_link.specs.LinkFiles.{are_two_of_a_family}
+use Rattle.book_segments.specs.Sockets.{are_two_of_a_family}
 use Rattle.book_lines.specs.Words.{Taken, number_in, nothing_in}
 use Rattle.book_scope_texts.specs.AddressWords.{usual_address_in, usual_socket_in}
 use Rattle.book_base.specs.Addresses.{greatest_port}

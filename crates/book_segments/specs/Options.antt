@@ -22,10 +22,22 @@ abbrev pub and_then : Opt → Options → Options
 and_then o (Listed list) = Listed (o ∷ list)
 and_then o (Faulty fault) = Faulty fault
 
+-- the option kind of the maximum segment size (RFC 9293, section 3.2)
+abbrev pub mss_kind : ℕ
+mss_kind = 2
+
+-- the option kind of TCP MD5 (RFC 2385, section 3.0)
+abbrev pub md5_kind : ℕ
+md5_kind = 19
+
+-- the option kind of TCP-AO (RFC 5925, section 2.2)
+abbrev pub ao_kind : ℕ
+ao_kind = 29
+
 -- the least length that an option of this kind may give (RFC 9293, section 3.2; RFC 5925, section
 -- 2.2)
 abbrev pub least : ℕ → ℕ
-least kind = if kind == 29 then 4 else 2
+least kind = if kind == ao_kind then 4 else 2
 
 -- an option as it stands in an area: kind, body, and how many bytes it takes (RFC 9293, section
 -- 3.2)
@@ -94,12 +106,12 @@ abbrev pub AreListed : Options → Type 0
 AreListed (Listed list) = Unit {0}
 AreListed (Faulty fault) = ⊥
 
--- the maximum segment size, which the first option of kind 2 with a body of two bytes gives (RFC
+-- the maximum segment size, which its first option with a body of two bytes gives (RFC
 -- 9293, section 3.2)
 abbrev pub mss_among : List Opt → Option ℕ
 mss_among [] = None
 mss_among (o ∷ os) =
-    if (o.kind == 2) && (length o.body == 2)
+    if (o.kind == mss_kind) && (length o.body == 2)
     then Some (slice_index o.body 0 * 256 + slice_index o.body 1)
     else mss_among os
 
@@ -118,7 +130,7 @@ pub data AoFound : Type 0 where
   One : (ao : Ao) → AoFound
   Two WithMd5 : AoFound
 
--- the fields of an option of kind 29 (RFC 5925, section 2.2)
+-- the fields of a TCP-AO option (RFC 5925, section 2.2)
 abbrev pub ao_of : Opt → Ao
 ao_of o = record {
   key_id = slice_index o.body 0;
@@ -127,7 +139,7 @@ ao_of o = record {
   place = o.place;
 }
 
--- what the options of kind 29 and those of kind 19 say together (RFC 5925, section 2.2)
+-- what the options of TCP-AO and those of TCP MD5 say together (RFC 5925, section 2.2)
 abbrev pub found : (ao md5 : List Opt) → AoFound
 found [] md5 = Absent
 found (o ∷ p ∷ os) md5 = Two
@@ -139,4 +151,4 @@ found (o ∷ []) (m ∷ ms) = WithMd5
 unfoldable pub find_ao : List ℕ → AoFound
 find_ao area =
     let list = listed (options_of area) in
-    found (of_kind 29 list) (of_kind 19 list)
+    found (of_kind ao_kind list) (of_kind md5_kind list)

@@ -53,9 +53,21 @@ sums bytes = folded (words_sum bytes) == 0xffff
 unfoldable pub complement_of : List ℕ → ℕ
 complement_of bytes = 0xffff - folded (words_sum bytes)
 
+-- the length of a TCP header without options (RFC 9293, section 3.1)
+abbrev pub tcp_header_length : ℕ
+tcp_header_length = 20
+
+-- the length of an IPv4 header without options (RFC 791, section 3.1)
+abbrev pub ipv4_header_length : ℕ
+ipv4_header_length = 20
+
+-- the length of an IPv6 header (RFC 8200, section 3)
+abbrev pub ipv6_header_length : ℕ
+ipv6_header_length = 40
+
 -- the length of the TCP header with its options and the payload (RFC 9293, section 3.1)
 abbrev pub tcp_length : Segment → ℕ
-tcp_length d = 20 + length d.area + length d.payload
+tcp_length d = tcp_header_length + length d.area + length d.payload
 
 -- the pseudo-header of a datagram with this IP header, and then the rest (RFC 9293, section 3.1;
 -- RFC 8200, section 8.1)
@@ -94,7 +106,7 @@ good d = sums (pseudo d (tcp_bytes d d.checksum))
 abbrev pub spell_as : IpHeader → Segment → List ℕ → List ℕ
 spell_as (Ipv4 service identification flags ttl checksum options) d tcp =
     (0x45 + length options / 4) ∷ service
-    ∷ put2 (20 + length options + tcp_length d) (put2 identification
+    ∷ put2 (ipv4_header_length + length options + tcp_length d) (put2 identification
     ((0x40 * flags) ∷ 0 ∷ ttl ∷ 6 ∷ put2 checksum (octets d.source.address
     ++ (octets d.destination.address ++ (options ++ tcp)))))
 spell_as (Ipv6 class_flow hops) d tcp =
@@ -165,19 +177,19 @@ option_fault (Faulty fault) = Some (BadOption fault)
 abbrev pub tcp_fault : List ℕ → Option DatagramFault
 tcp_fault t =
     let size = 4 * (slice_index t 12 / 16) in
-    refuse (nat_lt (length t) 20) DataOffset
-    (refuse (nat_lt size 20) DataOffset
+    refuse (nat_lt (length t) tcp_header_length) DataOffset
+    (refuse (nat_lt size tcp_header_length) DataOffset
     (refuse (nat_lt (length t) size) DataOffset
-    (option_fault (options_of (slice_range t 20 size)))))
+    (option_fault (options_of (slice_range t tcp_header_length size)))))
 
 -- the tests of a datagram over IPv4, in order (RFC 791, section 3.1)
 abbrev pub v4_fault : List ℕ → Option DatagramFault
 v4_fault b =
     let size = 4 * (slice_index b 0 % 16) in
     let total = two_octets_at b 2 in
-    refuse (nat_lt (length b) 20) Truncated
+    refuse (nat_lt (length b) ipv4_header_length) Truncated
     (refuse (nat_lt (length b) total) Truncated
-    (refuse (nat_lt size 20) HeaderLength
+    (refuse (nat_lt size ipv4_header_length) HeaderLength
     (refuse (nat_lt total size) HeaderLength
     (refuse (not (sums (take size b))) HeaderChecksum
     (refuse (not (two_octets_at b 6 % 0x4000 == 0)) Fragment
@@ -194,11 +206,11 @@ abbrev pub v6_fault : List ℕ → Option DatagramFault
 v6_fault b =
     let size = two_octets_at b 4 in
     let next = slice_index b 6 in
-    refuse (nat_lt (length b) 40) Truncated
-    (refuse (nat_lt (length b) (40 + size)) Truncated
+    refuse (nat_lt (length b) ipv6_header_length) Truncated
+    (refuse (nat_lt (length b) (ipv6_header_length + size)) Truncated
     (refuse (not ((next == 6) || is_extension next)) NotTcp
     (refuse (is_extension next) ExtensionHeader
-    (tcp_fault (slice_range b 40 (40 + size))))))
+    (tcp_fault (slice_range b ipv6_header_length (ipv6_header_length + size))))))
 
 -- the first of the nine tests of a datagram that holds (RFC 791, section 3.1; RFC 8200, section 3)
 unfoldable pub first_fault : List ℕ → Option DatagramFault
@@ -223,7 +235,7 @@ tcp_fields ip source destination t =
       window = two_octets_at t 14;
       checksum = two_octets_at t 16;
       urgent = two_octets_at t 18;
-      area = slice_range t 20 size;
+      area = slice_range t tcp_header_length size;
       payload = drop size t;
     }
 
@@ -232,14 +244,16 @@ abbrev pub v4_fields : List ℕ → Segment
 v4_fields b =
     let size = 4 * (slice_index b 0 % 16) in
     tcp_fields (Ipv4 (slice_index b 1) (two_octets_at b 4) (slice_index b 6 / 0x40)
-    (slice_index b 8) (two_octets_at b 10) (slice_range b 20 size))
+    (slice_index b 8) (two_octets_at b 10)
+    (slice_range b ipv4_header_length size))
     (V4 (slice_range b 12 16)) (V4 (slice_range b 16 20)) (slice_range b size (two_octets_at b 2))
 
 -- the fields of a datagram over IPv6 (RFC 8200, section 3)
 abbrev pub v6_fields : List ℕ → Segment
 v6_fields b =
     tcp_fields (Ipv6 (four_octets_at b 0 % 0x10000000) (slice_index b 7))
-    (V6 (slice_range b 8 24)) (V6 (slice_range b 24 40)) (slice_range b 40 (40 + two_octets_at b 4))
+    (V6 (slice_range b 8 24)) (V6 (slice_range b 24 40)) 
+    (slice_range b ipv6_header_length (ipv6_header_length + two_octets_at b 4))
 
 -- the fields of a datagram, each at its place (RFC 791, section 3.1; RFC 8200, section 3)
 unfoldable pub fields : List ℕ → Segment

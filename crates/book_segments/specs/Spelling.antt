@@ -9,6 +9,7 @@ use Rattle.book_segments.specs.Bytes.{put2, put4, ring}
 use Rattle.book_segments.specs.Options.{AreListed, options_of}
 use Rattle.book_segments.specs.Segments.{IpHeader, Ipv4, Ipv6, Segment, sums, complement_of}
 use Rattle.book_segments.specs.Segments.{checksum_of, good, spell_as, spell, tcp_length}
+use Rattle.book_segments.specs.Segments.{ipv4_header_length, ipv6_header_length}
 
 -- all numbers of a list are bytes: below 256 (own)
 abbrev pub AreBytes : List ℕ → Type 0
@@ -43,7 +44,7 @@ pub record FitsV4 (d : Segment) (service identification flags ttl checksum : ℕ
   pub options_fit : IsArea options
   pub source : IsV4 d.source.address
   pub destination : IsV4 d.destination.address
-  pub total : 20 + length options + tcp_length d < 0x10000
+  pub total : ipv4_header_length + length options + tcp_length d < 0x10000
   pub right : sums (spell_as d.ip d []) ≡ true
 
 -- the fields of an IPv6 header fit their places (RFC 8200, section 3)
@@ -101,7 +102,7 @@ with_checksum t checksum = take 16 t ++ put2 checksum (drop 18 t)
 -- the length of the IP header of a datagram's bytes, where it has no options (RFC 791, section 3.1;
 -- RFC 8200, section 3)
 abbrev pub ip_length : List ℕ → ℕ
-ip_length b = if slice_index b 0 / 16 == 4 then 20 else 40
+ip_length b = if slice_index b 0 / 16 == 4 then ipv4_header_length else ipv6_header_length
 
 -- both addresses in a datagram's bytes (RFC 791, section 3.1; RFC 8200, section 3)
 abbrev pub addresses_in : List ℕ → List ℕ
@@ -112,8 +113,9 @@ addresses_in b =
 -- 9293, section 3.1; RFC 8200, section 8.1)
 abbrev pub pseudo_in : (datagram rest : List ℕ) → List ℕ
 pseudo_in b rest =
-    if slice_index b 0 / 16 == 4 then addresses_in b ++ (0 ∷ 6 ∷ put2 (length b - 20) rest)
-    else addresses_in b ++ put4 (length b - 40) (0 ∷ 0 ∷ 0 ∷ 6 ∷ rest)
+    if slice_index b 0 / 16 == 4
+    then addresses_in b ++ (0 ∷ 6 ∷ put2 (length b - ipv4_header_length) rest)
+    else addresses_in b ++ put4 (length b - ipv6_header_length) (0 ∷ 0 ∷ 0 ∷ 6 ∷ rest)
 
 -- a datagram's bytes with the TCP checksum set right, whatever else they hold (RFC 9293, section
 -- 3.1)

@@ -9,6 +9,7 @@ use Rattle.book_endpoint.specs.declared.phase.Phase.{Phase}
 use Rattle.book_endpoint.specs.declared.phase.Phase.TheVariants.{SynSent, SynReceived, Established, FinWait1, CloseWait, Closing, LastAck, TimeWait}
 use Rattle.book_endpoint.specs.States.{EndState}
 use Rattle.book_endpoint.specs.Emissions.{unsent}
+use Rattle.book_endpoint.specs.Hearing.{segment_lifetime}
 use Rattle.book_stack.specs.declared.front.Change.{Change}
 use Rattle.book_stack.specs.declared.front.Front.{Front}
 use Rattle.book_stack.specs.declared.front.Timed.{Timed}
@@ -75,7 +76,7 @@ after_handshake c w = if w.syn_again && is_opening c.before.phase && not (is_ope
 
 -- where TIME-WAIT that is entered now ends: twice 120 seconds on (RFC 9293, section 3.4.2)
 abbrev pub time_wait_end : ℕ → ℕ
-time_wait_end now = 1000 * (now / 1000 + 240)
+time_wait_end now = 1000 * (now / 1000 + 2 * segment_lifetime)
 
 -- TIME-WAIT was entered (own)
 abbrev pub rests_now : ℕ → Change → ConnectionWatch → ConnectionWatch

@@ -27,7 +27,8 @@ use Rattle.capture_stream.specs.declared.reader.CaptureHalt.{CaptureHalt}
 use Rattle.capture_stream.specs.declared.reader.CaptureHalt.TheVariants as halt
 use Rattle.capture_stream.specs.declared.reader.CaptureStep.{CaptureStep}
 use Rattle.capture_stream.specs.declared.reader.CaptureStep.TheVariants as step
-use Rattle.capture_stream.specs.Fronts.{IsByte, place_of, opened_from, IsShown, Opens, Finds}
+use Rattle.book_base.specs.Hexadecimal.{IsByte}
+use Rattle.capture_stream.specs.Fronts.{place_of, opened_from, IsShown, Opens, Finds}
 use Rattle.capture_stream.specs.Reads.{Reading, behind_header, to_come_by, to_come, packet_shown, passed_by, ShowsPacket, ShowsNone, Passes, Stops, only_fault, Answers, Steps}
 use Rattle.capture_stream.specs.Passes.{step_by, taken}
 

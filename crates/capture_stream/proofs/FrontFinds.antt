@@ -11,11 +11,13 @@ use Rattle.book_captures.specs.declared.capture_parts.Format.{Format}
 use Rattle.book_captures.specs.Parts.{OpenedFile, capture_opened}
 use Rattle.capture_reader.specs.declared.sizes.FileFront.{FileFront}
 use Rattle.capture_reader.proofs.FrontParts.{unopened_stays}
-use Rattle.capture_stream.specs.declared.refill.Filled.{Filled}
-use Rattle.capture_stream.specs.declared.refill.Filled.TheVariants as filled
+use Rattle.ao_base.specs.declared.refill.Filled.{Filled}
+use Rattle.ao_base.specs.declared.refill.Filled.TheVariants as filled
 use Rattle.capture_stream.specs.declared.fronts.Opened.{Opened}
 use Rattle.capture_stream.specs.declared.fronts.Opened.TheVariants as opening
-use Rattle.capture_stream.specs.Fronts.{IsByte, Fills, IsOpenedHere, Opens}
+use Rattle.book_base.specs.Hexadecimal.{IsByte}
+use Rattle.ao_base.specs.Fillings.{Fills}
+use Rattle.capture_stream.specs.Fronts.{IsOpenedHere, Opens}
 
 -- where the front was passed before
 pub opened_before : (format : Format) (interfaces : List Interface) (buffer : Buffered) (a : Side) → length buffer.kept ≤ buffer.size

@@ -1,6 +1,5 @@
 pub mod Calls
 pub mod Exits
-pub mod Fillings
 pub mod FrontFinds
 pub mod PartFinds
 pub mod Walking

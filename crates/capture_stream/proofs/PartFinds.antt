@@ -16,11 +16,13 @@ use Rattle.capture_reader.specs.declared.parts.FoundPart.{FoundPart}
 use Rattle.capture_reader.specs.FoundParts.{seen_part, IsPartWithin}
 use Rattle.capture_reader.specs.Sizes.{head_length, short_of, told_size}
 use Rattle.capture_reader.proofs.FrontParts.{front_short, front_refused, front_less, front_faulty, size_stays}
-use Rattle.capture_stream.specs.declared.refill.Filled.{Filled}
-use Rattle.capture_stream.specs.declared.refill.Filled.TheVariants as filled
+use Rattle.ao_base.specs.declared.refill.Filled.{Filled}
+use Rattle.ao_base.specs.declared.refill.Filled.TheVariants as filled
 use Rattle.capture_stream.specs.declared.fronts.Found.{Found}
 use Rattle.capture_stream.specs.declared.fronts.Found.TheVariants as found
-use Rattle.capture_stream.specs.Fronts.{IsByte, Fills, IsFound, Finds}
+use Rattle.book_base.specs.Hexadecimal.{IsByte}
+use Rattle.ao_base.specs.Fillings.{Fills}
+use Rattle.capture_stream.specs.Fronts.{IsFound, Finds}
 
 -- one filling finds this
 finds_by : (format : Format) (interfaces : List Interface) (wanted : ℕ) (before now : Buffered) (a b : Side) (given : List ℕ) (how : Filled) (result : Found)

@@ -1,6 +1,7 @@
 -- What reading a front and a part does to a buffer (own).
 use Rattle.std.specs.Prelude.{◌≡◌, ℕ, ◌+◌, ◌<◌, ◌≤◌, List, [], ◌++◌, length, drop, Option, Some, None, Result, Ok, Err}
 use Rattle.std.specs.List.{All}
+use Rattle.book_base.specs.Hexadecimal.{IsByte}
 use Rattle.ao_base.specs.Buffered.{Buffered}
 use Rattle.ao_base.specs.Outside.{Side, Gave, Rose, IsAtEnd, told}
 use Rattle.book_captures.specs.declared.block_parts.Interface.{Interface}
@@ -10,38 +11,10 @@ use Rattle.book_captures.specs.Parts.{FilePlace, OpenedFile, capture_opened, par
 use Rattle.capture_reader.specs.declared.sizes.FileFront.{FileFront}
 use Rattle.capture_reader.specs.FoundParts.{seen_part, IsPartWithin}
 use Rattle.capture_reader.specs.Sizes.{seen_front, needed}
-use Rattle.capture_stream.specs.declared.refill.Filled.{Filled}
-use Rattle.capture_stream.specs.declared.refill.Filled.TheVariants as filled
 use Rattle.capture_stream.specs.declared.fronts.Opened.{Opened}
 use Rattle.capture_stream.specs.declared.fronts.Opened.TheVariants as opening
 use Rattle.capture_stream.specs.declared.fronts.Found.{Found}
 use Rattle.capture_stream.specs.declared.fronts.Found.TheVariants as found
-
--- a byte
-abbrev pub IsByte : ℕ → Type 0
-IsByte b = b < 256
-
--- as many as wanted, or all to the end
-abbrev pub IsFilled : ℕ → List ℕ → Side → Side → Filled → Type 0
-IsFilled wanted kept source_before source_now filled.Enough = wanted ≤ length kept
-IsFilled wanted kept source_before source_now filled.Ended =
-    (length kept < wanted) × IsAtEnd source_now
-IsFilled wanted kept source_before source_now filled.Fault = Rose source_before source_now
-
--- taking so far
-pub record Filling (before now : Buffered) (source_before source_now : Side) (given : List ℕ) : Type 0 where
-  pub gave : Gave given source_before source_now
-  pub kept : now.kept ≡ before.kept ++ given
-  pub size : now.size ≡ before.size
-
--- taking until enough bytes are kept
-pub record Fills (wanted : ℕ) (before now : Buffered) (source_before source_now : Side) (given : List ℕ) (result : Filled) : Type 0 where
-  pub gave : Gave given source_before source_now
-  pub bytes : All IsByte given
-  pub kept : now.kept ≡ before.kept ++ given
-  pub size : now.size ≡ before.size
-  pub fits : length now.kept ≤ now.size
-  pub fills : IsFilled wanted now.kept source_before source_now result
 
 -- where a reader stands in this format, if behind the front, and with these interfaces
 abbrev pub place_of : Option Format → List Interface → Option FilePlace

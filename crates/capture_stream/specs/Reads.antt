@@ -6,7 +6,8 @@ use Rattle.book_captures.specs.declared.capture_parts.CaptureFault.{CaptureFault
 use Rattle.book_captures.specs.declared.capture_parts.Cause.{Cause}
 use Rattle.book_captures.specs.Parts.{PartSaid, Shows, Describes, Neither, FilePlace, OpenedFile}
 use Rattle.book_captures.specs.Captures.{CapturePacket, Capture, PartCounts, with_said, ended, capture_at}
-use Rattle.capture_stream.specs.Fronts.{IsByte, opened_from}
+use Rattle.book_base.specs.Hexadecimal.{IsByte}
+use Rattle.capture_stream.specs.Fronts.{opened_from}
 use Rattle.capture_stream.specs.declared.reader.CaptureStep.{CaptureStep}
 use Rattle.capture_stream.specs.declared.reader.CaptureStep.TheVariants as step
 use Rattle.capture_stream.specs.declared.reader.CaptureHalt.{CaptureHalt}

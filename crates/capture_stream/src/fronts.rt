@@ -4,8 +4,7 @@ ghost use Rattle.ao_base.specs.Outside.{Side};
 ghost use Rattle.capture_reader.specs.Sizes.{short_of};
 ghost use Rattle.capture_stream.specs.Fronts.{IsOpenedHere, Opens, Finds};
 
-use crate::refill::{Filled, fill};
-use ao_base::{Buffer, Source};
+use ao_base::{Buffer, Filled, Source, fill};
 use book_captures::{Cause, Format, Interface};
 use capture_reader::{
     FileFront, FoundPart, PCAP_HEAD, part_head, part_size, read_front, read_part, short_part,

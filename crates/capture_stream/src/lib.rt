@@ -7,7 +7,6 @@
 mod fronts;
 mod interfaces;
 mod reader;
-mod refill;
 
 pub use capture_reader::{
     BlockFault, BodyFault, CaptureFault, Cause, Header, PcapHeadFault, RecordFault, Skipped,

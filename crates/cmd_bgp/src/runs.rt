@@ -2,7 +2,7 @@
 ghost use Rattle.std.specs.Prelude.{◌≡◌, ℕ, suc, ◌+◌, ◌<◌, ◌≤◌, true, All, List, [], ◌∷◌, ◌++◌, IfOk, OnOk, length};
 ghost use Rattle.bgp_messages.specs.Readers.{StandsFor, new_reading, greatest_place};
 ghost use Rattle.book_cmd_bgp.specs.BgpRuns.{bgp_faults, bgp_text, taken_by};
-ghost use Rattle.book_cmd_link.specs.LinkFiles.{are_two_of_a_family};
+ghost use Rattle.book_segments.specs.Sockets.{are_two_of_a_family};
 ghost use Rattle.book_link.specs.declared.event.Event.{Event as One};
 ghost use Rattle.book_link.specs.Runs.{run};
 ghost use Rattle.book_link.specs.Worlds.{Setup as Link, forgeries, live, side};

@@ -12,7 +12,8 @@ use Rattle.book_pcap.specs.Packets.{BadHead, BadRecord, FileFault, Packet, opene
 use Rattle.book_cmd_check.specs.StoredPackets.{stored_packet}
 use Rattle.pcap_file.specs.declared.packets.PacketStep.{PacketStep}
 use Rattle.pcap_file.specs.declared.packets.PacketStep.TheVariants as step
-use Rattle.pcap_file.specs.Reads.{IsByte, Reading, Steps, GoesOn, Stops as PcapStops, and_packet, header_length, in_front, packets_at, passed}
+use Rattle.book_base.specs.Hexadecimal.{IsByte}
+use Rattle.pcap_file.specs.Reads.{Reading, Steps, GoesOn, Stops as PcapStops, and_packet, header_length, in_front, packets_at, passed}
 use Rattle.pcap_file.proofs.Going.{head_told, record_told}
 use Rattle.pcap_file.proofs.Shorter.{head_more}
 use Rattle.pcap_file.proofs.Showing.{HasShown, none_in_front, shown_all, shown_alone, shown_more, shown_none}

@@ -9,7 +9,8 @@ use Rattle.book_cmd_check.specs.StoredPackets.{stored_packet}
 use Rattle.book_cmd_check.specs.Captures.{Stored, capture_run, has_refusal}
 use Rattle.pcap_file.specs.declared.packets.PacketStep.{PacketStep}
 use Rattle.pcap_file.specs.declared.packets.PacketStep.TheVariants as step
-use Rattle.pcap_file.specs.Reads.{GoesOn, IsByte, Reading, Steps, and_packet, in_front, packets_at}
+use Rattle.book_base.specs.Hexadecimal.{IsByte}
+use Rattle.pcap_file.specs.Reads.{GoesOn, Reading, Steps, and_packet, in_front, packets_at}
 use Rattle.cmd_check.specs.Judges.{HasHeard, Judging}
 use Rattle.cmd_check.specs.declared.halt.Halt.{Halt}
 use Rattle.cmd_check.specs.declared.halt.Halt.TheVariants.{Line, Head, Record, TooLong, Read, Write}

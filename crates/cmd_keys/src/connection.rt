@@ -3,6 +3,7 @@ ghost use Rattle.std.specs.Prelude.{◌≡◌};
 ghost use Rattle.text_lines.specs.Readings.{gives};
 ghost use Rattle.book_cmd_keys.specs.LintTexts.{address_beside, lint_pair_of};
 
+use ao_base::are_two_of_a_family;
 use book_base::{Address, Pair, Socket};
 use book_lines::LineKind;
 use text_lines::LineWords;
@@ -12,10 +13,10 @@ fn address_beside(a: &Address, words: &mut LineWords) -> Result<Address, LineKin
     ensures { gives result words.new ≡ address_beside a.now words.old }
 {
     let b = words.address()?;
-    match (a, &b) {
-        (Address::V4(one), Address::V4(other)) if one != other => Ok(b),
-        (Address::V6(one), Address::V6(other)) if one != other => Ok(b),
-        _ => Err(LineKind::Range),
+    if are_two_of_a_family(a, &b) {
+        Ok(b)
+    } else {
+        Err(LineKind::Range)
     }
 }
 

@@ -15,6 +15,7 @@ use Rattle.book_cmd_timed.specs.declared.timed.TimedEvent.{TimedEvent}
 use Rattle.book_cmd_timed.specs.declared.timed.TimedEvent.TheVariants.{Wait}
 use Rattle.book_cmd_timed.specs.TimedRuns.{most_events}
 use Rattle.book_cmd_timed.specs.TimedRuns as book
+use Rattle.book_link.specs.SendFronts.{SendFront, front_at}
 use Rattle.link_report.specs.declared.outcome.Outcome.{Outcome as ToldOutcome}
 use Rattle.link_report.specs.Outcomes.{AreShown}
 use Rattle.link_world.specs.declared.world.World.{World}
@@ -59,10 +60,10 @@ pub record Tells (c : Change) (setup : Setup) (past : List Event) (x : Event) (e
   pub again : c.again ≡ book.is_again x
   pub sent : c.sent ≡ book.is_sent (step setup (run setup past) x).outcome
   pub reading : c.reading ≡ (side (run setup (past ++ x ∷ [])) e).clock
-  pub old : front_seen c.old ≡ book.front_at (run setup past) e
-  pub new : front_seen c.new ≡ book.front_at (run setup (past ++ x ∷ [])) e
+  pub old : front_seen c.old ≡ front_at (run setup past) e
+  pub new : front_seen c.new ≡ front_at (run setup (past ++ x ∷ [])) e
 
-change_by : (begins done again sent begins' done' again' sent' : Bool) (r r' : ℕ) (old new old' new' : Option book.SendFront) (w : book.Watch)
+change_by : (begins done again sent begins' done' again' sent' : Bool) (r r' : ℕ) (old new old' new' : Option SendFront) (w : book.Watch)
     → begins ≡ begins' → done ≡ done' → again ≡ again' → sent ≡ sent' → r ≡ r' → old ≡ old' → new ≡ new'
     → (let now : book.Watch = book.watch_by r again old new w in
     cond (begins && done) book.new_watch (cond (again && sent) (record now { timed = None }) now))
@@ -75,7 +76,7 @@ change_is : (c : Change) (setup : Setup) (past : List Event) (x : Event) (e : En
 change_is c setup past x e w t =
     let more = run_more setup past x in
     change_by c.begins c.done c.again c.sent _ _ _ _ c.reading _ (front_seen c.old) (front_seen c.new) _ _ w t.begins t.done t.again t.sent
-    (t.reading ∙ ap (λ (v : BookWorld). (side v e).clock) more) t.old (t.new ∙ ap (λ (v : BookWorld). book.front_at v e) more)
+    (t.reading ∙ ap (λ (v : BookWorld). (side v e).clock) more) t.old (t.new ∙ ap (λ (v : BookWorld). front_at v e) more)
 
 -- the link after an event of an end
 abbrev pub after_at : Link → World → End → Watch → Link

@@ -2,6 +2,7 @@
 use Rattle.std.specs.Prelude.{ℕ, nat_lt, Bool, Option, Some, None, option_map, if◌then◌else◌}
 use Rattle.std.specs.Option.{option_or}
 use Rattle.book_cmd_timed.specs.TimedRuns as book
+use Rattle.book_link.specs.SendFronts.{SendFront}
 use Rattle.link_world.specs.declared.front.Front.{Front}
 use Rattle.link_world.specs.Fronts.{front_of}
 use Rattle.book_timers.specs.Timers.{expired}
@@ -17,17 +18,17 @@ abbrev pub seen : Watch → book.Watch
 seen w = record { timer = w.timer; deadline = w.deadline; timed = option_map timed_of w.sending }
 
 -- a front that may be missing, as the definitions have it
-abbrev pub front_seen : Option Front → Option book.SendFront
+abbrev pub front_seen : Option Front → Option SendFront
 front_seen f = option_map front_of f
 
 -- an acknowledgement of new data (RFC 6298, sections 3, 5.2 and 5.3)
-abbrev pub acknowledged_at : ℕ → book.SendFront → book.Watch → book.Watch
+abbrev pub acknowledged_at : ℕ → SendFront → book.Watch → book.Watch
 acknowledged_at reading f w =
     let sample = book.sampled_by f.una reading w w.timed in
     if nat_lt f.una f.next then book.started_anew reading sample else book.stopped sample
 
 -- new numbers were sent, which are timed unless others are, or they were sent before (RFC 6298, sections 3 and 5.1)
-abbrev pub sent_more : ℕ → book.SendFront → (again : Bool) → book.Watch → book.Watch
+abbrev pub sent_more : ℕ → SendFront → (again : Bool) → book.Watch → book.Watch
 sent_more reading f again w =
     let sending = if again then None else Some (record { number = f.next; reading = reading }) in
     record w { deadline = option_or w.deadline (book.started_anew reading w).deadline; timed = option_or w.timed sending }

@@ -1,6 +1,6 @@
 //! The run of a link with timers.
 ghost use Rattle.std.specs.Prelude.{◌≡◌, All, IfOk, true};
-ghost use Rattle.book_cmd_link.specs.LinkFiles.{are_two_of_a_family};
+ghost use Rattle.book_segments.specs.Sockets.{are_two_of_a_family};
 ghost use Rattle.link_world.specs.Stands.{setup_of};
 ghost use Rattle.cmd_timed.specs.Events.{CanPass};
 ghost use Rattle.cmd_timed.specs.Reports.{Reports};

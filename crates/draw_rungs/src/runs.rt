@@ -1,7 +1,7 @@
 //! The rungs of a run.
 ghost use Rattle.std.specs.Prelude.{◌≡◌, ◌<◌, ◌≤◌, ◌+◌, ◌++◌, ◌∷◌, [], IfOk, OnOk, List, length, true};
 ghost use Rattle.std.specs.List.{All};
-ghost use Rattle.book_cmd_link.specs.LinkFiles.{are_two_of_a_family};
+ghost use Rattle.book_segments.specs.Sockets.{are_two_of_a_family};
 ghost use Rattle.book_draw.specs.Rungs.{ahead, phase_at, rungs, rungs_at};
 ghost use Rattle.book_link.specs.declared.event.Event.{Event as Happening};
 ghost use Rattle.book_link.specs.Runs.{run};

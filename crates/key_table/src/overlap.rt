@@ -6,8 +6,9 @@ ghost use Rattle.book_keys.specs.Overlaps.{peer_meets, peers_meet, ports_meet, l
 ghost use Rattle.book_keys.specs.Nodes.{overlap_in};
 ghost use Rattle.key_table.specs.Pairs.{two_of};
 
-use crate::row::{Row, is_receiving, is_same_address, is_sending};
+use crate::row::{Row, is_receiving, is_sending};
 use crate::table::Table;
+use ao_base::is_same_address;
 use book_base::Address;
 use book_keys::{Lifetime, TableFault};
 

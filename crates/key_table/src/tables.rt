@@ -11,8 +11,9 @@ ghost use Rattle.std.specs.Prelude.{slice_get};
 ghost use Rattle.key_table.specs.Loans.{LendsAt, place_of};
 
 use crate::master_key::MasterKey;
-use crate::row::{Row, is_same_address, see_columns};
+use crate::row::{Row, see_columns};
 use crate::table::Table;
+use ao_base::is_same_address;
 use book_base::{Address, Algorithm};
 use book_keys::{Direction, LATEST, Lifetime};
 use std::alloc::{AllocError, Global};

@@ -20,7 +20,8 @@ use Rattle.book_link.specs.Worlds.{first_rows, setup_of}
 use Rattle.book_cmd_link.specs.declared.script.Script.{Script}
 use Rattle.book_cmd_link.specs.declared.script.SharedKey.{SharedKey}
 use Rattle.book_cmd_link.specs.LinkFiles.{shared_by}
-use Rattle.book_cmd_link.specs.LinkFiles.{are_two_of_a_family, script_of}
+use Rattle.book_cmd_link.specs.LinkFiles.{script_of}
+use Rattle.book_segments.specs.Sockets.{are_two_of_a_family}
 use Rattle.law_scripts.specs.Printed.{event_words, key_lines, script_lines}
 use Rattle.law_scripts.specs.Scripts.{IsAddress, IsEvent, IsKey, IsScript, IsSocket}
 use Rattle.law_scripts.proofs.ScriptRanges.{script_of_ok}

@@ -12,7 +12,7 @@ use Rattle.book_captures.specs.Frames.{Layer, innermost, is_ip_protocol, version
 use Rattle.book_captures.specs.Captures.{datagram_by, frame_datagram}
 use Rattle.capture_reader.proofs.Ends.{Ends, innermost_ends}
 use Rattle.capture_reader.proofs.Finding.{no_layer, no_version, datagram_found}
-use Rattle.law_lines.specs.SeenPackets.{IsByte}
+use Rattle.book_base.specs.Hexadecimal.{IsByte}
 
 -- a datagram, with what stands behind it, has a byte and is bytes
 pub record IsFound (d : Datagram) : Type 0 where

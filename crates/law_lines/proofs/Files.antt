@@ -18,7 +18,8 @@ use Rattle.book_captures.specs.WholeFiles.{packets_kept}
 use Rattle.book_captures.proofs.PcapCaptures.{whole_is_read}
 use Rattle.book_scope.specs.PacketLines.{packet_lines}
 use Rattle.book_sessions.specs.Sessions.{all_stored}
-use Rattle.law_lines.specs.SeenPackets.{IsByte, IsSeen, AreSeen}
+use Rattle.book_base.specs.Hexadecimal.{IsByte}
+use Rattle.law_lines.specs.SeenPackets.{IsSeen, AreSeen}
 use Rattle.law_lines.proofs.Lines.{by_places, lines_judged}
 
 four_low : (order : ByteOrder) (text : List ℕ) (i : ℕ) → IsBytes text → four_at order text i < 4294967296

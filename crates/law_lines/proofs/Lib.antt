@@ -2,4 +2,3 @@ pub mod Datagrams
 pub mod Files
 pub mod Lines
 pub mod Reasons
-pub mod StoredWords

@@ -21,10 +21,11 @@ use Rattle.book_captures.specs.Captures.{CapturePacket, frame_datagram}
 use Rattle.book_scope.specs.PacketLines.{header_text, reason_text, remark, judged_bytes, line_by, packet_line, packet_lines}
 use Rattle.book_sessions.specs.declared.outcome.PassedOver.{PassedOver}
 use Rattle.book_sessions.specs.Sessions.{stored_by, stored_of_packet, stored_before, all_stored}
-use Rattle.law_lines.specs.SeenPackets.{IsByte, IsSeen, AreSeen}
+use Rattle.book_base.specs.Hexadecimal.{IsByte}
+use Rattle.law_lines.specs.SeenPackets.{IsSeen, AreSeen}
 use Rattle.law_lines.proofs.Datagrams.{IsFound, is_found}
 use Rattle.law_lines.proofs.Reasons.{link_number}
-use Rattle.law_lines.proofs.StoredWords.{stored_back, stored_plain}
+use Rattle.law_pcap.proofs.StoredWords.{stored_back, stored_plain}
 
 -- ---- no newline stands within a line
 

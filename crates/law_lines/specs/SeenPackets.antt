@@ -1,11 +1,8 @@
 -- The packets of a capture as files have them (own).
 use Rattle.std.specs.Prelude.{◌≡◌, ℕ, ◌+◌, ◌<◌, List, [], ◌∷◌, Some}
 use Rattle.std.specs.List.{All}
+use Rattle.book_base.specs.Hexadecimal.{IsByte}
 use Rattle.book_captures.specs.Captures.{CapturePacket}
-
--- a byte
-abbrev pub IsByte : ℕ → Type 0
-IsByte b = b < 256
 
 -- a packet of a file: its number, that of its link type and its time in nanoseconds have 64 bits, and
 -- its frame is bytes (own)

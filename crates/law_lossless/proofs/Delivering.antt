@@ -21,7 +21,7 @@ use Rattle.law_lossless.specs.Lossless.{conversation, Round, speakers, IsInStep,
 use Rattle.law_lossless.proofs.Speaking.{Step}
 use Rattle.law_lossless.proofs.Conversing.{said, said_round, round_of, same_all, over_said, over_as, Rounded, one_round, Talked, talks}
 use Rattle.law_lossless.proofs.Staying.{Keeping, keeps}
-use Rattle.law_lossless.proofs.Taking.{Settled, takes_all}
+use Rattle.law_progress.proofs.Taking.{Settled, takes_all}
 
 step_of : (s t : EndState) → IsInStep s t → Step s t
 step_of s t h =

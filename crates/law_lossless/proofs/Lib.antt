@@ -4,7 +4,6 @@ pub mod Nearing
 pub mod Speaking
 pub mod Conversing
 pub mod Staying
-pub mod Taking
 pub mod Delivering
 pub mod Beginning
 pub mod Handshaking

@@ -1,3 +1,4 @@
+pub mod StoredWords
 mod Lines
 pub mod Records
 pub mod Judged

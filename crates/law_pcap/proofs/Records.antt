@@ -4,6 +4,7 @@ use Rattle.std.specs.List.{All}
 use Rattle.std.proofs.lemmas.Bool.{cases_lt, cases_eq, lt-ltb, le-ltb, ne_eqb}
 use Rattle.std.proofs.lemmas.List.{length-take, get_or_past}
 use Rattle.std.proofs.lemmas.List.Elements.{All-take, All-drop, All-get_or, All-nil}
+use Rattle.book_base.specs.Hexadecimal.{IsByte}
 use Rattle.hex.specs.Hex.{IsBytes}
 use Rattle.book_base.specs.Lines.{lines_of}
 use Rattle.book_base.proofs.LineLaws.{lines_of-line}
@@ -20,9 +21,6 @@ use Rattle.book_cmd_check.specs.StoredPackets.{stored_packet}
 use Rattle.book_cmd_check.specs.StoredLines.{StoredInput, stored_from, stored_input}
 use Rattle.law_pcap.specs.LineForms.{packet_line, record_lines, lines_behind, line_form}
 use Rattle.law_pcap.proofs.Lines.{packet_line_plain, packet_line_back}
-
-abbrev pub IsByte : ℕ → Type 0
-IsByte b = b < 256
 
 -- bytes by their places
 by_places : (xs : List ℕ) → All IsByte xs → IsBytes xs

@@ -7,7 +7,8 @@ use Rattle.book_link.specs.declared.event.Event.{Event}
 use Rattle.book_link.specs.declared.event.Event.TheVariants.{Clock, Resend}
 use Rattle.book_link.specs.Worlds.{Setup}
 use Rattle.book_cmd_timed.specs.declared.timed.TimedEvent.TheVariants.{Wait}
-use Rattle.book_cmd_timed.specs.TimedRuns.{SendFront, front_at, Progress, reading_at, due_at}
+use Rattle.book_link.specs.SendFronts.{SendFront, front_at}
+use Rattle.book_cmd_timed.specs.TimedRuns.{Progress, reading_at, due_at}
 use Rattle.book_cmd_timed.specs.TimedRuns.{timed_event}
 
 -- so many seconds from now reach to this reading (own)

@@ -15,7 +15,8 @@ use Rattle.book_link.specs.declared.event.Event.TheVariants as event
 use Rattle.book_cmd_link.specs.declared.script.SharedKey.{SharedKey}
 use Rattle.book_cmd_link.specs.declared.script.Script.{Script}
 use Rattle.book_cmd_link.specs.LinkEvents.{link_event_of}
-use Rattle.book_cmd_link.specs.LinkFiles.{Left, are_two_of_a_family, event_at, events_of, link_head_in, is_shared, key_in, line_in, peer_socket_of, script_in, script_of}
+use Rattle.book_cmd_link.specs.LinkFiles.{Left, event_at, events_of, link_head_in, is_shared, key_in, line_in, peer_socket_of, script_in, script_of}
+use Rattle.book_segments.specs.Sockets.{are_two_of_a_family}
 use Rattle.book_cmd_link.specs.LinkFiles.{shared_key_of, socket_of, title_of}
 use Rattle.law_scripts.specs.Printed.{event_words, title_words, socket_words, key_lines, script_lines, lines_text, text_of}
 use Rattle.law_scripts.specs.Scripts.{IsEvent, IsKey, IsScript, IsSocket}

@@ -17,7 +17,8 @@ use Rattle.book_link.specs.declared.event.Event.{Event}
 use Rattle.book_cmd_link.specs.declared.script.SharedKey.{SharedKey}
 use Rattle.book_cmd_link.specs.declared.script.Script.{Script}
 use Rattle.book_cmd_link.specs.LinkEvents.{link_event_of}
-use Rattle.book_cmd_link.specs.LinkFiles.{Head, Left, are_two_of_a_family, at_line, event_at, events_of, link_head_in, is_shared, key_in, line_in, peer_socket_of}
+use Rattle.book_cmd_link.specs.LinkFiles.{Head, Left, at_line, event_at, events_of, link_head_in, is_shared, key_in, line_in, peer_socket_of}
+use Rattle.book_segments.specs.Sockets.{are_two_of_a_family}
 use Rattle.book_cmd_link.specs.LinkFiles.{script_in, script_of, shared_key_of, socket_of, title_of}
 use Rattle.book_lines.proofs.SayingLaws.{saying_length}
 use Rattle.law_scripts.specs.Printed.{event_words, key_lines, script_lines}

@@ -7,7 +7,7 @@ use Rattle.book_cmd_timed.specs.declared.timed.TimedEvent.{TimedEvent}
 use Rattle.book_cmd_timed.specs.declared.timed.TimedEvent.TheVariants.{Plain, Wait}
 use Rattle.book_cmd_timed.specs.declared.timed.TimedScript.{TimedScript}
 use Rattle.book_cmd_link.specs.LinkEvents.{link_event_of}
-use Rattle.book_cmd_link.specs.LinkFiles.{are_two_of_a_family}
+use Rattle.book_segments.specs.Sockets.{are_two_of_a_family}
 use Rattle.law_scripts.specs.Scripts.{IsEvent, IsSocket, IsWithin}
 
 -- the plain event of a line, as one of a link with waits

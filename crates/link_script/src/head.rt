@@ -2,11 +2,12 @@
 ghost use Rattle.std.specs.Prelude.{◌≡◌, [], ◌∷◌, codes, IfOk, IfErr};
 ghost use Rattle.book_lines.specs.declared.line_kind.LineKind.TheVariants as line_kind;
 ghost use Rattle.book_lines.specs.declared.text_fault.TextFault.TheVariants as fault;
-ghost use Rattle.book_cmd_link.specs.LinkFiles.{title_of, socket_of, are_two_of_a_family, peer_socket_of, line_in, link_head_in};
+ghost use Rattle.book_cmd_link.specs.LinkFiles.{title_of, socket_of, peer_socket_of, line_in, link_head_in};
 ghost use Rattle.law_scripts.specs.Left.{leaves};
 ghost use Rattle.link_script.specs.Heads.{said_head};
 
-use book_base::{Address, Socket};
+use ao_base::are_two_of_a_family;
+use book_base::Socket;
 use book_lines::{LineKind, TextFault};
 use text_lines::{LineWords, Saying, SayingLines};
 
@@ -52,23 +53,12 @@ fn socket(name: &[u8], words: &mut LineWords) -> Result<Socket, LineKind>
     Ok(socket)
 }
 
-/// Whether the two addresses differ and are of one family.
-fn are_two(a: &Address, b: &Address) -> bool
-    ensures { result ≡ are_two_of_a_family a.now b.now }
-{
-    match (a, b) {
-        (Address::V4(a), Address::V4(b)) => a.as_slice() != b.as_slice(),
-        (Address::V6(a), Address::V6(b)) => a.as_slice() != b.as_slice(),
-        _ => false,
-    }
-}
-
 #[tactic(auto, unfolding(book_cmd_link::specs::LinkFiles::peer_socket_of))]
 fn peer(a: &Socket, words: &mut LineWords) -> Result<Socket, LineKind>
     ensures { result ≡ peer_socket_of a.now words.old }
 {
     let b = socket(b"b", words)?;
-    if are_two(&a.address, &b.address) {
+    if are_two_of_a_family(&a.address, &b.address) {
         Ok(b)
     } else {
         Err(LineKind::Word)

@@ -2,27 +2,20 @@
 use Rattle.std.proofs.Common.{◌≡◌, ℕ, ◌+◌, Bool, true, false, not, List, [], ◌∷◌, Option, Some, None, if◌then◌else◌, refl, sym, ap, ◌∙◌, add-one}
 use Rattle.std.specs.List.{find}
 use Rattle.std.specs.Prelude.{slice_set}
-use Rattle.std.specs.Str.{bytes_eq}
-use Rattle.std.proofs.lemmas.Slice.Eq.{bytes_eq-Decides}
 use Rattle.book_base.specs.declared.address.Address.{Address}
 use Rattle.book_base.specs.declared.address.Address.TheVariants.{V4, V6}
-use Rattle.book_segments.specs.Bytes.{same_bytes}
-use Rattle.book_segments.specs.Sockets.{same_address}
-use Rattle.book_segments.proofs.Fields.{same_bytes_tells}
+use Rattle.book_segments.specs.Sockets.{are_two_of_a_family, same_address}
+use Rattle.book_segments.proofs.Fields.{and_tells, same_bytes_tells}
 use Rattle.book_keys.specs.Plans.{rows_at, rows_of_table}
 use Rattle.book_keys.specs.Rows.{Table, has_address}
 use Rattle.key_table.specs.Loans.{place_of}
-use Rattle.book_cmd_link.specs.LinkFiles.{are_two_of_a_family}
 use Rattle.book_base.specs.Addresses.{same_family}
 
 -- ---- the addresses
 
 -- addresses that differ within a family are of one
 pub family_is : (a b : Address) → are_two_of_a_family a b ≡ true → same_family a b ≡ true
-family_is (V4 a) (V4 b) e = refl
-family_is (V6 a) (V6 b) e = refl
-family_is (V4 a) (V6 b) e = absurd (cc)
-family_is (V6 a) (V4 b) e = absurd (cc)
+family_is a b e = (and_tells (same_family a b) (not (same_address a b)) e).0
 
 turned : (one two : Address) → same_family one two ≡ true → same_family two one ≡ true
 turned (V4 a) (V4 b) e = refl
@@ -34,18 +27,13 @@ turned (V6 a) (V4 b) e = absurd (cc)
 pub family_back : (a b : Address) → are_two_of_a_family a b ≡ true → same_family b a ≡ true
 family_back a b e = turned a b (family_is a b e)
 
-differing : (t : Bool) (xs ys : List ℕ) → not (bytes_eq xs ys) ≡ true → same_bytes xs ys ≡ t → t ≡ false
-differing false xs ys e same = refl
-differing true xs ys e same =
-    let equal : bytes_eq xs ys ≡ true = (bytes_eq-Decides xs ys).1 (same_bytes_tells xs ys same) in
-    let other : not true ≡ true = ap not (sym equal) ∙ e in absurd (cc)
-
 -- addresses of a family that differ aren't the same
 pub apart : (a b : Address) → are_two_of_a_family a b ≡ true → same_address a b ≡ false
-apart (V4 a) (V4 b) e = differing (same_bytes a b) a b e refl
-apart (V6 a) (V6 b) e = differing (same_bytes a b) a b e refl
-apart (V4 a) (V6 b) e = absurd (cc)
-apart (V6 a) (V4 b) e = absurd (cc)
+apart a b e = sym (not-not (same_address a b)) ∙ ap not (and_tells (same_family a b) (not (same_address a b)) e).1
+  where
+    not-not : (t : Bool) → not (not t) ≡ t
+    not-not true = refl
+    not-not false = refl
 
 -- ---- the tables
 

@@ -8,7 +8,7 @@ use Rattle.book_base.specs.declared.end.End.{End}
 use Rattle.book_base.specs.declared.end.End.TheVariants.{A, B}
 use Rattle.book_keys.specs.Rows.{Row}
 use Rattle.key_table.specs.Ranges.{FitsColumns}
-use Rattle.book_cmd_link.specs.LinkFiles.{are_two_of_a_family}
+use Rattle.book_segments.specs.Sockets.{are_two_of_a_family}
 use Rattle.book_link.specs.declared.event.Event.{Event}
 use Rattle.book_link.specs.Outcomes as book
 use Rattle.book_link.specs.Runs.{begins, empty, outcomes_from, run}

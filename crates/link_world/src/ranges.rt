@@ -2,7 +2,7 @@
 //! anything when it runs.
 ghost use Rattle.std.specs.Prelude.{◌≡◌, ◌<◌, true};
 ghost use Rattle.std.specs.List.{AllByRecursion};
-ghost use Rattle.book_cmd_link.specs.LinkFiles.{are_two_of_a_family};
+ghost use Rattle.book_segments.specs.Sockets.{are_two_of_a_family};
 ghost use Rattle.book_segments.specs.Spelling.{AreBytes};
 ghost use Rattle.law_link.specs.Laws.{EventFits, RowFits};
 ghost use Rattle.book_link.specs.RowLines.{added_row};

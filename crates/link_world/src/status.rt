@@ -1,9 +1,9 @@
 //! Looking at a link.
 ghost use Rattle.std.specs.Prelude.{◌≡◌, ◌≤◌, List, length, None, Some, MatchOption, option_map};
 ghost use Rattle.book_keys.specs.Lifetimes.{greatest_time};
-ghost use Rattle.book_cmd_timed.specs.TimedRuns.{front_at};
 ghost use Rattle.book_link.specs.declared.event.Event.{Event as Happening};
 ghost use Rattle.book_link.specs.Runs.{run};
+ghost use Rattle.book_link.specs.SendFronts.{front_at};
 ghost use Rattle.book_link.specs.Worlds.{Session, Setup as Link, forgeries, live, segment_named, segments, side};
 ghost use Rattle.link_log.specs.Logs.{MadeBy};
 ghost use Rattle.link_side.specs.Sides.{StandsSide};

@@ -1,7 +1,7 @@
 //! A link between two ends.
 ghost use Rattle.std.specs.Prelude.{◌≡◌, ◌<◌, ◌≤◌, ◌+◌, ◌^◌, IfOk, List, OnOk, OnErr, true, [], ◌∷◌, ◌++◌, length};
 ghost use Rattle.book_base.specs.declared.end.End.TheVariants.{A, B};
-ghost use Rattle.book_cmd_link.specs.LinkFiles.{are_two_of_a_family};
+ghost use Rattle.book_segments.specs.Sockets.{are_two_of_a_family};
 ghost use Rattle.book_link.specs.declared.event.Event.{Event as Happening};
 ghost use Rattle.book_link.specs.Steps.{step};
 ghost use Rattle.book_link.specs.Runs.{empty, outcomes_from, run};

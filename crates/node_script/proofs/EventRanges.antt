@@ -13,7 +13,7 @@ use Rattle.book_cmd_node.specs.declared.node.Act.TheVariants as act
 use Rattle.book_cmd_node.specs.declared.node.NodeEvent.{NodeEvent}
 use Rattle.book_cmd_node.specs.declared.node.NodeEvent.TheVariants as event
 use Rattle.book_cmd_link.specs.LinkEvents.{greatest_isn}
-use Rattle.book_cmd_link.specs.LinkFiles.{are_two_of_a_family}
+use Rattle.book_segments.specs.Sockets.{are_two_of_a_family}
 use Rattle.book_cmd_node.specs.NodeRuns.{pair_in, act_alone, act_number, act_start, act_give, clock_of, node_inject_of, node_event_named, node_event_of}
 use Rattle.law_scripts.proofs.WordRanges.{bind_ok, address_ok, number_ok, hex_ok, some_hex_ok}
 use Rattle.node_script.specs.Scripts.{IsAct, IsEvent, IsPair}

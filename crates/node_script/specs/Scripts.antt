@@ -11,7 +11,7 @@ use Rattle.book_cmd_node.specs.declared.node.NodeEvent.{NodeEvent}
 use Rattle.book_cmd_node.specs.declared.node.NodeEvent.TheVariants as event
 use Rattle.book_cmd_node.specs.declared.node.NodeScript.{NodeScript}
 use Rattle.book_cmd_link.specs.LinkEvents.{greatest_isn}
-use Rattle.book_cmd_link.specs.LinkFiles.{are_two_of_a_family}
+use Rattle.book_segments.specs.Sockets.{are_two_of_a_family}
 use Rattle.law_scripts.specs.Scripts.{AreBytes, IsAddress, IsSocket}
 
 -- a connection of the node: the node's address here, another one of its family there

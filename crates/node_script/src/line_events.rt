@@ -3,11 +3,11 @@ ghost use Rattle.std.specs.Prelude.{◌≡◌};
 ghost use Rattle.text_lines.specs.Readings.{Tells, gives};
 ghost use Rattle.book_cmd_node.specs.declared.node.Act.TheVariants as acts;
 ghost use Rattle.book_cmd_link.specs.LinkEvents.{greatest_isn};
-ghost use Rattle.book_cmd_link.specs.LinkFiles.{are_two_of_a_family};
 ghost use Rattle.book_cmd_node.specs.NodeRuns.{act_alone, act_give, act_number, act_start, clock_of, node_inject_of, node_event_named, node_event_of, pair_in};
 ghost use Rattle.node_script.specs.Names.{name_text};
 
 use crate::name::Name;
+use ao_base::are_two_of_a_family;
 use book_base::{Address, Pair, Socket};
 use book_cmd_node::{Act, NodeEvent};
 use book_keys::LATEST;
@@ -18,24 +18,13 @@ use text_lines::{LineWords, Refusal};
 /// The longest datagram: the 40 bytes of an IPv6 header and 65,535 bytes (RFC 8200, section 3).
 const MOST_DATAGRAM: usize = 65_575;
 
-/// Whether the two addresses differ and are of one family.
-fn are_two(own: &Address, far: &Address) -> bool
-    ensures { result ≡ are_two_of_a_family own.now far.now }
-{
-    match (own, far) {
-        (Address::V4(own), Address::V4(far)) => own.as_slice() != far.as_slice(),
-        (Address::V6(own), Address::V6(far)) => own.as_slice() != far.as_slice(),
-        _ => false,
-    }
-}
-
 /// The sockets of a connection: the port at the node, and the other end's address and port.
 fn pair(own: &Address, words: &mut LineWords) -> Result<Pair, LineKind>
     ensures { gives result words.new ≡ pair_in own.now words.old }
 {
     let local = words.short()?;
     let address = words.address()?;
-    if !are_two(own, &address) {
+    if !are_two_of_a_family(own, &address) {
         return Err(LineKind::Range);
     }
     let port = words.short()?;

@@ -13,7 +13,8 @@ use Rattle.pcap_file.specs.declared.records.Found.{Found}
 use Rattle.pcap_file.specs.declared.records.Opened.TheVariants as opening
 use Rattle.pcap_file.specs.declared.packets.PacketStep.TheVariants as step
 use Rattle.pcap_file.specs.Parts.{Opens, Finds}
-use Rattle.pcap_file.specs.Reads.{IsByte, Reading, opened_from, header_length, Stops, Steps}
+use Rattle.book_base.specs.Hexadecimal.{IsByte}
+use Rattle.pcap_file.specs.Reads.{Reading, opened_from, header_length, Stops, Steps}
 
 -- past the header and at a record
 pub record Reached (had : Option Head) (head : Head) (before now : Buffered) (a b : Side) (given : List ℕ) : Type 0 where

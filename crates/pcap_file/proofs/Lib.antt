@@ -1,5 +1,4 @@
 pub mod Calls
-pub mod Fillings
 pub mod Parts
 pub mod Walking
 mod Fronts

@@ -15,11 +15,13 @@ use Rattle.book_pcap.specs.declared.pcap_head.Head.{Head}
 use Rattle.book_pcap.specs.declared.pcap_head.HeadFault.{HeadFault}
 use Rattle.book_pcap.specs.Packets.{head_of, four_at, datagram_of}
 use Rattle.book_pcap.proofs.Captures.{record_short, record_over, record_part, record_whole}
-use Rattle.pcap_file.specs.declared.refill.Filled.TheVariants as filled
+use Rattle.ao_base.specs.declared.refill.Filled.TheVariants as filled
 use Rattle.pcap_file.specs.declared.records.Found.TheVariants as found
 use Rattle.pcap_file.specs.declared.records.Opened.TheVariants as opening
-use Rattle.pcap_file.specs.Parts.{Fills, Opens, Finds}
-use Rattle.pcap_file.specs.Reads.{IsByte, opened_from}
+use Rattle.ao_base.specs.Fillings.{Fills}
+use Rattle.pcap_file.specs.Parts.{Opens, Finds}
+use Rattle.book_base.specs.Hexadecimal.{IsByte}
+use Rattle.pcap_file.specs.Reads.{opened_from}
 
 -- a header whose bytes are all kept
 head_ready : (text left : List ℕ) (head : Head) → 24 ≤ length text → Ok head ≡ head_of (take 24 text) → opened_from None (text ++ left) ≡ Ok (head, drop 24 text ++ left)

@@ -13,7 +13,8 @@ use Rattle.book_base.specs.Fronts.{Front, Ends, Faulted, Leads}
 use Rattle.book_pcap.specs.Packets.{RecordFault, Broken, Kept, datagram_of, four_at, record_at}
 use Rattle.book_pcap.proofs.Captures.{record_none, record_over, record_part, record_short, record_whole}
 use Rattle.pcap_file.specs.declared.packets.PacketStep.TheVariants as step
-use Rattle.pcap_file.specs.Reads.{IsByte, Steps, ends_within, is_ready, is_whole}
+use Rattle.book_base.specs.Hexadecimal.{IsByte}
+use Rattle.pcap_file.specs.Reads.{Steps, ends_within, is_ready, is_whole}
 use Rattle.pcap_file.proofs.Calls.{Reached, packet_step, reading}
 use Rattle.pcap_file.proofs.Parts.{four_in_front}
 

@@ -7,34 +7,12 @@ use Rattle.book_pcap.specs.declared.pcap_head.ByteOrder.{ByteOrder}
 use Rattle.book_pcap.specs.declared.pcap_head.Head.{Head}
 use Rattle.book_base.specs.Fronts.{Faulted, Leads}
 use Rattle.book_pcap.specs.Packets.{RecordFault, Broken, record_at}
-use Rattle.pcap_file.specs.declared.refill.Filled.{Filled}
-use Rattle.pcap_file.specs.declared.refill.Filled.TheVariants as filled
 use Rattle.pcap_file.specs.declared.records.Opened.{Opened}
 use Rattle.pcap_file.specs.declared.records.Opened.TheVariants as opening
 use Rattle.pcap_file.specs.declared.records.Found.{Found}
 use Rattle.pcap_file.specs.declared.records.Found.TheVariants as found
-use Rattle.pcap_file.specs.Reads.{IsByte, opened_from, header_length}
-
--- as many as wanted, or all to the end
-abbrev pub IsFilled : ℕ → List ℕ → Side → Side → Filled → Type 0
-IsFilled wanted kept source_before source_now filled.Enough = wanted ≤ length kept
-IsFilled wanted kept source_before source_now filled.Ended = (length kept < wanted) × IsAtEnd source_now
-IsFilled wanted kept source_before source_now filled.Fault = Rose source_before source_now
-
--- taking so far
-pub record Filling (before now : Buffered) (source_before source_now : Side) (given : List ℕ) : Type 0 where
-  pub gave : Gave given source_before source_now
-  pub kept : now.kept ≡ before.kept ++ given
-  pub size : now.size ≡ before.size
-
--- taking until enough bytes are kept
-pub record Fills (wanted : ℕ) (before now : Buffered) (source_before source_now : Side) (given : List ℕ) (result : Filled) : Type 0 where
-  pub gave : Gave given source_before source_now
-  pub bytes : All IsByte given
-  pub kept : now.kept ≡ before.kept ++ given
-  pub size : now.size ≡ before.size
-  pub fits : length now.kept ≤ now.size
-  pub fills : IsFilled wanted now.kept source_before source_now result
+use Rattle.book_base.specs.Hexadecimal.{IsByte}
+use Rattle.pcap_file.specs.Reads.{opened_from, header_length}
 
 -- what reading the header gives, by what was kept and given
 abbrev pub IsOpened : Option Head → List ℕ → Buffered → Side → Side → Opened → Type 0

@@ -1,6 +1,7 @@
 -- What one call of a reader of packets does (own).
 use Rattle.std.specs.Prelude.{◌≡◌, ℕ, ◌+◌, ◌-◌, ◌<◌, ◌≤◌, ◌==◌, if◌then◌else◌, Bool, true, false, nat_le, List, [], ◌∷◌, ◌++◌, length, drop, Option, Some, None, Result, Ok, Err}
 use Rattle.std.specs.List.{All}
+use Rattle.book_base.specs.Hexadecimal.{IsByte}
 use Rattle.ao_base.specs.Outside.{Side, Gave, Rose, IsAtEnd, told}
 use Rattle.book_pcap.specs.declared.pcap_head.Head.{Head}
 use Rattle.book_pcap.specs.declared.pcap_head.HeadFault.{HeadFault}
@@ -92,10 +93,6 @@ is_ready (Some head) kept taken = ends_within taken (record_at head.order kept)
 -- the next packet of this reader needs no source (own)
 abbrev pub has_whole : Reading → Bool
 has_whole reading = is_ready reading.head reading.kept reading.taken
-
--- a byte
-abbrev pub IsByte : ℕ → Type 0
-IsByte b = b < 256
 
 -- one call of `next`, in which the source gave these bytes
 pub record Steps (before now : Reading) (source_before source_now : Side) (given : List ℕ) (result : PacketStep) : Type 0 where

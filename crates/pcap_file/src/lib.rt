@@ -8,7 +8,6 @@ mod head;
 mod numbers;
 mod packets;
 mod records;
-mod refill;
 
 pub use book_pcap::HeadFault;
 pub use packets::{PacketStep, Packets};

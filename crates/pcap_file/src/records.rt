@@ -8,8 +8,7 @@ ghost use Rattle.pcap_file.specs.Reads.{is_whole};
 
 use crate::head::{HEAD, read_head};
 use crate::numbers::four;
-use crate::refill::{Filled, fill};
-use ao_base::{Buffer, Cut, Source};
+use ao_base::{Buffer, Cut, Filled, Source, fill};
 use book_pcap::{ByteOrder, Head, HeadFault, LinkType};
 
 /// How many bytes of a record stand before its kept bytes (pcap-savefile).

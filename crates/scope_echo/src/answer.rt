@@ -2,7 +2,8 @@
 ghost use Rattle.std.specs.Prelude.{◌≡◌, ◌≤◌, IfOk, length, true, false};
 ghost use Rattle.std.specs.List.{All};
 ghost use Rattle.book_answer.specs.Answers.{done, if_read, reported};
-ghost use Rattle.book_cmd_link.specs.LinkFiles.{are_two_of_a_family, script_of};
+ghost use Rattle.book_cmd_link.specs.LinkFiles.{script_of};
+ghost use Rattle.book_segments.specs.Sockets.{are_two_of_a_family};
 ghost use Rattle.command_report.specs.Reports.{Reports};
 ghost use Rattle.link_world.specs.Events.{CanHappen};
 ghost use Rattle.link_world.specs.Stands.{setup_of};

@@ -13,7 +13,7 @@ use Rattle.book_captures.specs.Captures.{CapturePacket, capture_of}
 use Rattle.book_scope.specs.PacketLines.{packet_line, packet_lines}
 use Rattle.capture_stream.specs.declared.reader.CaptureStep.TheVariants as step
 use Rattle.capture_stream.specs.declared.reader.CaptureHalt.TheVariants as stream_halt
-use Rattle.capture_stream.specs.Fronts.{IsByte}
+use Rattle.book_base.specs.Hexadecimal.{IsByte}
 use Rattle.capture_stream.specs.Reads.{Reading, new_reading, ShowsNone, Passes, Steps}
 use Rattle.scope_lines.specs.declared.write.LinesHalt.TheVariants as halt
 use Rattle.scope_lines.specs.declared.write.LineHalt.TheVariants as line_halt

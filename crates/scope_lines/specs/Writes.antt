@@ -9,7 +9,7 @@ use Rattle.capture_reader.specs.declared.frames.FoundDatagram.{FoundDatagram}
 use Rattle.capture_reader.specs.Found.{seen}
 use Rattle.book_captures.specs.Captures.{CapturePacket, Capture, capture_of}
 use Rattle.book_scope.specs.PacketLines.{packet_line, packet_lines}
-use Rattle.capture_stream.specs.Fronts.{IsByte}
+use Rattle.book_base.specs.Hexadecimal.{IsByte}
 use Rattle.capture_stream.specs.Reads.{Reading, most_read, most_buffered, to_come}
 use Rattle.scope_lines.specs.declared.write.LinesHalt.{LinesHalt}
 use Rattle.scope_lines.specs.declared.write.LinesHalt.TheVariants as halt

@@ -3,6 +3,7 @@ ghost use Rattle.std.specs.Prelude.{◌≡◌};
 ghost use Rattle.text_lines.specs.Readings.{gives};
 ghost use Rattle.book_scope_plan.specs.Connections.{plan_pair_of, usual_address_beside};
 
+use ao_base::are_two_of_a_family;
 use book_base::{Address, Pair, Socket};
 use book_lines::LineKind;
 use scope_texts::{read_address_word, read_socket_words};
@@ -13,10 +14,10 @@ fn usual_address_beside(a: &Address, words: &mut LineWords) -> Result<Address, L
     ensures { gives result words.new ≡ usual_address_beside a.now words.old }
 {
     let b = read_address_word(words)?;
-    match (a, &b) {
-        (Address::V4(one), Address::V4(other)) if one != other => Ok(b),
-        (Address::V6(one), Address::V6(other)) if one != other => Ok(b),
-        _ => Err(LineKind::Range),
+    if are_two_of_a_family(a, &b) {
+        Ok(b)
+    } else {
+        Err(LineKind::Range)
     }
 }
 

@@ -16,7 +16,7 @@ use Rattle.book_sessions.specs.Sessions.{SessionTable, no_sessions, sessions_fro
 use Rattle.capture_check.specs.Checkers.{Checking, StandsFor}
 use Rattle.capture_stream.specs.declared.reader.CaptureStep.TheVariants as step
 use Rattle.capture_stream.specs.declared.reader.CaptureHalt.TheVariants as stream_halt
-use Rattle.capture_stream.specs.Fronts.{IsByte}
+use Rattle.book_base.specs.Hexadecimal.{IsByte}
 use Rattle.capture_stream.specs.Reads.{Reading, new_reading, ShowsNone, Passes, Steps}
 use Rattle.scope_lines.proofs.Showing.{HasShown, listed, none_listed, read_before, read_now, shown_all, shown_more, shown_none}
 use Rattle.scope_sessions.specs.declared.count.Counted.{Counted}

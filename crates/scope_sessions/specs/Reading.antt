@@ -7,7 +7,7 @@ use Rattle.book_captures.specs.Captures.{CapturePacket, capture_of}
 use Rattle.book_cmd_check.specs.declared.given.GivenIsns.{GivenIsns}
 use Rattle.book_keys.specs.Rows.{Table}
 use Rattle.book_sessions.specs.Sessions.{sessions_of}
-use Rattle.capture_stream.specs.Fronts.{IsByte}
+use Rattle.book_base.specs.Hexadecimal.{IsByte}
 use Rattle.capture_stream.specs.Reads.{most_read}
 use Rattle.scope_lines.specs.Writes.{HasRead}
 use Rattle.scope_sessions.specs.declared.count.Counted.{Counted}

@@ -14,7 +14,7 @@ use Rattle.book_keys.specs.Nodes.{tables_of}
 use Rattle.book_sessions.specs.GivenLines.{given_isns_of}
 use Rattle.book_sessions.specs.Sessions.{SessionTable, sessions_of}
 use Rattle.book_sessions.specs.SessionTexts.{has_amiss, sessions_text}
-use Rattle.capture_stream.specs.Fronts.{IsByte}
+use Rattle.book_base.specs.Hexadecimal.{IsByte}
 use Rattle.capture_stream.specs.Reads.{most_read}
 use Rattle.scope_lines.specs.Writes.{HasRead}
 use Rattle.scope_sessions.specs.declared.count.Counted.{Counted}

@@ -1,8 +1,8 @@
 use Rattle.std.proofs.Common.{[], ◌++◌, refl, sym}
 use Rattle.std.proofs.lemmas.List.{append-nil}
 use Rattle.ao_base.proofs.Sides.{gave_none}
-use Rattle.capture_stream.proofs.Fillings.{fill_on, fill_enough, fill_failed, fill_ended}
-use Rattle.capture_stream.proofs.refill.fill.Goals as goal
+use Rattle.ao_base.proofs.Fillings.{fill_on, fill_enough, fill_failed, fill_ended}
+use Rattle.ao_base.proofs.refill.fill.Goals as goal
 
 pub takes-init : goal.takes-init
 takes-init g c = ([], record { gave = gave_none _; kept = sym (append-nil _); size = refl })

@@ -5,11 +5,11 @@ use Rattle.std.proofs.lemmas.List.Elements.{All-drop}
 use Rattle.std.proofs.Math.Seq.{drop-append_seam}
 use Rattle.std.specs.List.{All}
 use Rattle.ao_base.specs.Buffered.{Buffered, TakesMore}
+use Rattle.book_base.specs.Hexadecimal.{IsByte}
 use Rattle.ao_base.specs.Outside.{Side}
 use Rattle.ao_base.proofs.Sides.{gave_more, rose_after}
-use Rattle.pcap_file.specs.declared.refill.Filled.TheVariants.{Ended, Enough, Fault}
-use Rattle.pcap_file.specs.Parts.{Filling, Fills}
-use Rattle.pcap_file.specs.Reads.{IsByte}
+use Rattle.ao_base.specs.declared.refill.Filled.TheVariants.{Ended, Enough, Fault}
+use Rattle.ao_base.specs.Fillings.{Filling, Fills}
 
 -- all bytes that are kept are bytes, and so those that were given
 given_bytes : (kept given all : List ℕ) → all ≡ kept ++ given → All IsByte all → All IsByte given

@@ -1,9 +1,0 @@
-use Rattle.std.proofs.Common.{ℕ, ◌-◌, List, length}
-use Rattle.pcap_file.specs.Parts.{Filling}
-use Rattle.pcap_file.proofs.refill.fill.Given as goal
-
-abbrev pub invariant-takes : goal.invariant-takes
-invariant-takes g l = (given : List ℕ) × Filling l.fn.buffer l.buffer (g.S.Source.side l.fn.src) (g.S.Source.side l.src) given
-
-abbrev pub decreases-takes : goal.decreases-takes
-decreases-takes g l = l.buffer.size - length l.buffer.kept
