@@ -1,10 +1,12 @@
 #!/usr/bin/env python3
 """Whether the book is closed, and short: every definition that a clause of `ao_run::run` cites, directly or through others, stands
 in a crate of the book, with the plain types that it cites, or in the list of what may stand outside; and the definitions that
-`answer` reaches are at most 3,700 lines, without comments, blank lines and imports, of which none has more than 100 columns. Names
-each definition that stands elsewhere and each line that is too wide, and fails; prints how many definitions and lines there are, and
-with --list the reading list: each file of the book that the clauses reach, with its lines."""
+`answer` reaches are at most 3,800 lines, without comments, blank lines and imports. No line of a `book_*` crate's definitions has more
+than 100 columns, comments and imports too. Names each definition that stands elsewhere and each line that is too wide, and fails; prints
+how many definitions and lines there are, and with --list the reading list: each file of the book that the clauses reach, with its
+lines."""
 import os
+import pathlib
 import re
 import sys
 
@@ -127,7 +129,15 @@ def lines_of_answer():
     found = {ANSWER: None, **reached(names_of(file), definitions(read(file))[name], file)}
     bodies = {(target, definitions(read(target)).get(wanted)) for target, wanted in found if target.endswith(".antt")}
     lines = [(target, line) for target, body in sorted(it for it in bodies if it[1]) for line in body.split("\n")]
-    return len({it for it in bodies if it[1]}), len(lines), [it for it in lines if len(it[1]) > COLUMNS]
+    return len({it for it in bodies if it[1]}), len(lines)
+
+
+def wide_lines():
+    """The lines of all definitions of books that are too wide, with their files."""
+    for path in sorted(pathlib.Path(TOP, "crates").glob("book_*/specs/**/*.antt")):
+        for line in path.read_text(encoding="utf-8").splitlines():
+            if len(line) > COLUMNS:
+                yield path.relative_to(TOP), line
 
 
 def main(words):
@@ -147,10 +157,11 @@ def main(words):
             outside.setdefault(target, set()).add(f"{wanted} (cited by {where})")
     for target in sorted(outside):
         print(f"outside the book: {target}: {', '.join(sorted(outside[target]))}")
-    count, lines, wide = lines_of_answer()
+    count, lines = lines_of_answer()
+    wide = list(wide_lines())
     for target, line in wide:
         print(f"more than {COLUMNS} columns: {target}: {line}")
-    print(f"`answer` reaches {count} definitions: {lines} lines of at most {MOST_LINES}, {len(wide)} of them with more than {COLUMNS} columns")
+    print(f"`answer` reaches {count} definitions: {lines} lines of at most {MOST_LINES}; {len(wide)} lines of the books have more than {COLUMNS} columns")
     return 1 if outside or wide or lines > MOST_LINES else 0
 
 

@@ -1,5 +1,6 @@
 -- The blocks of a pcapng file (draft-ietf-opsawg-pcapng).
-use Rattle.std.specs.Prelude.{◌≡◌, ℕ, ◌-◌, ◌%◌, ◌==◌, ◌≤◌, nat_lt, List, drop, length, slice_range, Option, Some, None, Result, Ok, Err, if◌then◌else◌}
+use Rattle.std.specs.Prelude.{◌≡◌, ℕ, ◌-◌, ◌%◌, ◌==◌, ◌≤◌, nat_lt, List, drop, length, slice_range}
+use Rattle.std.specs.Prelude.{Option, Some, None, Result, Ok, Err, if◌then◌else◌}
 use Rattle.book_base.specs.Results.{◌>>=◌, or_fault}
 use Rattle.book_pcap.specs.declared.pcap_head.ByteOrder.{ByteOrder}
 use Rattle.book_pcap.specs.declared.pcap_head.ByteOrder.TheVariants.{Big, Little}

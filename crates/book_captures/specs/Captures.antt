@@ -1,12 +1,14 @@
 -- A capture, of either format: its packets, and how it ends.
-use Rattle.std.specs.Prelude.{ℕ, zero, suc, ◌+◌, ◌==◌, List, [], ◌∷◌, length, drop, Option, Some, None, Result, Ok, Err, if◌then◌else◌}
+use Rattle.std.specs.Prelude.{ℕ, zero, suc, ◌+◌, ◌==◌, List, [], ◌∷◌, length, drop, Option, Some}
+use Rattle.std.specs.Prelude.{None, Result, Ok, Err, if◌then◌else◌}
 use Rattle.book_captures.specs.declared.capture_parts.CaptureFault.{CaptureFault}
 use Rattle.book_captures.specs.declared.capture_parts.Cause.{Cause}
 use Rattle.book_captures.specs.declared.link_type.LinkType.{LinkType}
 use Rattle.book_captures.specs.declared.reasons.Skipped.{Skipped}
 use Rattle.book_captures.specs.declared.reasons.Skipped.TheVariants.{UnknownLink}
 use Rattle.book_captures.specs.Frames.{link_type, Datagram, datagram_in}
-use Rattle.book_captures.specs.Parts.{Frame, PartSaid, Shows, Describes, Neither, FilePlace, Part, part_at, behind_part, OpenedFile, capture_opened}
+use Rattle.book_captures.specs.Parts.{Frame, PartSaid, Shows, Describes, Neither, FilePlace, Part}
+use Rattle.book_captures.specs.Parts.{part_at, behind_part, OpenedFile, capture_opened}
 
 -- the datagram of a packet with this link type, or why the packet is passed over (own)
 abbrev pub datagram_by : Option LinkType → Frame → Result Datagram Skipped

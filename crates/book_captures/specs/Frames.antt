@@ -1,16 +1,22 @@
 -- The datagram in a frame: behind the link's header, tags, a session's header and a stack of
 -- labels.
-use Rattle.std.specs.Prelude.{ℕ, ◌+◌, ◌-◌, ◌*◌, ◌/◌, ◌%◌, ◌==◌, nat_lt, Bool, true, false, List, ◌∷◌, length, take, drop, slice_index, Option, Some, None, Result, Ok, Err, if◌then◌else◌}
+use Rattle.std.specs.Prelude.{ℕ, ◌+◌, ◌-◌, ◌*◌, ◌/◌, ◌%◌, ◌==◌, nat_lt, Bool, true, false, List}
+use Rattle.std.specs.Prelude.{◌∷◌, length, take, drop, slice_index, Option, Some, None, Result, Ok}
+use Rattle.std.specs.Prelude.{Err, if◌then◌else◌}
 use Rattle.book_base.specs.Results.{◌>>=◌}
 use Rattle.book_pcap.specs.declared.pcap_head.ByteOrder.TheVariants.{Big, Little}
 use Rattle.book_pcap.specs.Packets.{two_at, four_at}
 use Rattle.book_captures.specs.declared.link_type.LinkType.{LinkType}
-use Rattle.book_captures.specs.declared.link_type.LinkType.TheVariants.{Ethernet, RawIp, RawIpv4, RawIpv6, LinuxCooked, LinuxCookedV2, BsdLoopback}
+use Rattle.book_captures.specs.declared.link_type.LinkType.TheVariants.{Ethernet, RawIp, RawIpv4}
+use Rattle.book_captures.specs.declared.link_type.LinkType.TheVariants.{RawIpv6, LinuxCooked}
+use Rattle.book_captures.specs.declared.link_type.LinkType.TheVariants.{LinuxCookedV2, BsdLoopback}
 use Rattle.book_captures.specs.declared.link_type.Protocol.{Protocol}
-use Rattle.book_captures.specs.declared.link_type.Protocol.TheVariants.{Ip, Ipv4, Ipv6, Tag, Session, Labels, Other}
+use Rattle.book_captures.specs.declared.link_type.Protocol.TheVariants.{Ip, Ipv4, Ipv6, Tag}
+use Rattle.book_captures.specs.declared.link_type.Protocol.TheVariants.{Session, Labels, Other}
 use Rattle.book_captures.specs.declared.reasons.Header.TheVariants as header
 use Rattle.book_captures.specs.declared.reasons.Skipped.{Skipped}
-use Rattle.book_captures.specs.declared.reasons.Skipped.TheVariants.{NotIp, Version, NotSession, Short, Cut}
+use Rattle.book_captures.specs.declared.reasons.Skipped.TheVariants.{NotIp, Version, NotSession}
+use Rattle.book_captures.specs.declared.reasons.Skipped.TheVariants.{Short, Cut}
 use Rattle.book_captures.specs.declared.datagram_parts.IpVersion.{IpVersion}
 use Rattle.book_captures.specs.declared.datagram_parts.IpVersion.TheVariants.{V4, V6}
 use Rattle.book_captures.specs.declared.datagram_parts.Extent.{Extent}
@@ -91,8 +97,12 @@ protocol_in RawIpv6 frame = Ipv6
 
 -- what follows the header of the link (own)
 unfoldable pub behind_link : LinkType → List ℕ → Result Layer Skipped
-behind_link link frame = if nat_lt (length frame) (link_header_length link) then Err (Short header.Link)
-    else Ok (record { protocol = protocol_in link frame; body = drop (link_header_length link) frame })
+behind_link link frame =
+    if nat_lt (length frame) (link_header_length link) then Err (Short header.Link)
+    else Ok (record {
+      protocol = protocol_in link frame;
+      body = drop (link_header_length link) frame;
+    })
 
 -- what follows any number of tags: each has two bytes of control information, and then the
 -- EtherType of what follows it (IEEE 802.1Q, 9.6)

@@ -1,5 +1,6 @@
 -- A part of a capture: a record of a classic pcap file, or a block of a pcapng file.
-use Rattle.std.specs.Prelude.{ℕ, ◌+◌, ◌==◌, nat_lt, Bool, List, [], ◌∷◌, ◌++◌, length, slice_get, Option, Some, None, Result, Ok, Err, if◌then◌else◌}
+use Rattle.std.specs.Prelude.{ℕ, ◌+◌, ◌==◌, nat_lt, Bool, List, [], ◌∷◌, ◌++◌, length, slice_get}
+use Rattle.std.specs.Prelude.{Option, Some, None, Result, Ok, Err, if◌then◌else◌}
 use Rattle.book_base.specs.Results.{◌>>=◌, or_fault}
 use Rattle.book_pcap.specs.declared.pcap_head.ByteOrder.TheVariants.{Big}
 use Rattle.book_pcap.specs.Packets.{two_at, four_at}
@@ -17,7 +18,8 @@ use Rattle.book_captures.specs.declared.pcap_head.RecordFault.{RecordFault}
 use Rattle.book_captures.specs.PcapFiles.{KeptPacket, pcap_head, pcap_record_at}
 use Rattle.book_captures.specs.Blocks.{Block, section_header, block_at}
 use Rattle.book_captures.specs.PcapngFiles.{block_length}
-use Rattle.book_captures.specs.BlockContents.{interface_in, stamp_time, Stamped, enhanced_in, old_in, Unstamped, simple_in}
+use Rattle.book_captures.specs.BlockContents.{interface_in, stamp_time, Stamped, enhanced_in}
+use Rattle.book_captures.specs.BlockContents.{old_in, Unstamped, simple_in}
 
 -- a packet as a capture keeps it: when it was seen, in nanoseconds since 1970, where that is kept;
 -- the number of its link type; how many bytes it had; and those that the snapshot left (own)

@@ -1,5 +1,6 @@
 -- A pcapng file as its blocks, one after another (draft-ietf-opsawg-pcapng).
-use Rattle.std.specs.Prelude.{◌≡◌, ℕ, zero, suc, ◌+◌, ◌<◌, ◌==◌, List, [], ◌∷◌, ◌++◌, length, Option, Some, None, Result, Ok, Err, if◌then◌else◌}
+use Rattle.std.specs.Prelude.{◌≡◌, ℕ, zero, suc, ◌+◌, ◌<◌, ◌==◌, List, [], ◌∷◌, ◌++◌, length}
+use Rattle.std.specs.Prelude.{Option, Some, None, Result, Ok, Err, if◌then◌else◌}
 use Rattle.book_pcap.specs.declared.pcap_head.ByteOrder.{ByteOrder}
 use Rattle.book_captures.specs.declared.block_parts.BlockFault.{BlockFault}
 use Rattle.book_captures.specs.Blocks.{Block, block_at, IsBlock}

@@ -8,7 +8,8 @@ use Rattle.book_captures.specs.PcapFiles.{KeptPacket}
 use Rattle.book_captures.specs.Blocks.{Block}
 use Rattle.book_captures.specs.PcapngFiles.{BrokenBlock, Blocks}
 use Rattle.book_captures.specs.Parts.{block_said, said_part, interfaces_behind}
-use Rattle.book_captures.specs.Captures.{CapturePacket, Capture, PartCounts, further, ended, broken, capture_by}
+use Rattle.book_captures.specs.Captures.{CapturePacket, Capture, PartCounts, further, ended, broken}
+use Rattle.book_captures.specs.Captures.{capture_by}
 
 -- the packets that records keep, the first of number n (own)
 abbrev pub packets_kept : PcapHead → ℕ → List KeptPacket → List CapturePacket

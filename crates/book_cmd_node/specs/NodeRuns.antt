@@ -22,7 +22,8 @@ use Rattle.book_lines.specs.Words.{some_hex_in, nothing_in}
 use Rattle.book_base.specs.Results.{◌>>=◌}
 use Rattle.book_endpoint.specs.declared.arrival.Arrival.{Arrival}
 use Rattle.book_endpoint.specs.declared.arrival.Arrival.TheVariants.{Bad}
-use Rattle.book_endpoint.specs.States.{EndState, connected, listening, started, Offers, offered, taking}
+use Rattle.book_endpoint.specs.States.{EndState, connected, listening, started, Offers, offered}
+use Rattle.book_endpoint.specs.States.{taking}
 use Rattle.book_endpoint.specs.States.{take_out, at_end, close, abort, tick}
 use Rattle.book_endpoint.specs.Arrivals.{arrive}
 use Rattle.book_endpoint.specs.Emissions.{Emission, Emitted, Quiet, NoKey, Emits, emit, resend}

@@ -1,6 +1,7 @@
 -- What is counted of a stack: of its node, and of each of its connections, with the key ids that it
 -- saw last (own). Its top is `counts_after`.
-use Rattle.std.specs.Prelude.{ℕ, ◌+◌, min, List, [], ◌∷◌, Option, Some, None, option_map, if◌then◌else◌}
+use Rattle.std.specs.Prelude.{ℕ, ◌+◌, min, List, [], ◌∷◌, Option, Some, None, option_map}
+use Rattle.std.specs.Prelude.{if◌then◌else◌}
 use Rattle.book_base.specs.declared.address.Pair.{Pair}
 use Rattle.book_segments.specs.Segments.{Reading, Read, Bad as Unread, pair_reached, reading}
 use Rattle.book_endpoint.specs.declared.arrival.Arrival.{Arrival}
@@ -11,13 +12,15 @@ use Rattle.book_cmd_node.specs.declared.node.Act.{Act}
 use Rattle.book_cmd_node.specs.declared.node.Act.TheVariants as act
 use Rattle.book_cmd_node.specs.declared.node.NodeEvent.{NodeEvent}
 use Rattle.book_cmd_node.specs.declared.node.NodeEvent.TheVariants as event
-use Rattle.book_cmd_node.specs.NodeRuns.{NodeOutcome, Performed, NoConnection, Transmitted, DatagramAnswered, same_pair}
+use Rattle.book_cmd_node.specs.NodeRuns.{NodeOutcome, Performed, NoConnection, Transmitted}
+use Rattle.book_cmd_node.specs.NodeRuns.{DatagramAnswered, same_pair}
 use Rattle.book_stack.specs.Calls.{Call, CallAnswer, Did, Knocks, call}
 use Rattle.book_stack.specs.Stacks.{StackState}
 use Rattle.book_counters.specs.declared.counters.Counters.{Counters}
 use Rattle.book_counters.specs.declared.key_ids.KeyIdsSeen.{KeyIdsSeen}
 use Rattle.book_counters.specs.declared.tally.Tally.{Tally}
-use Rattle.book_counters.specs.KeyIds.{key_ids_heard, key_ids_made, key_ids_read, key_ids_sent, no_key_ids}
+use Rattle.book_counters.specs.KeyIds.{key_ids_heard, key_ids_made, key_ids_read, key_ids_sent}
+use Rattle.book_counters.specs.KeyIds.{no_key_ids}
 
 -- one more, up to the greatest number of 64 bits (own)
 abbrev pub next_count : ℕ → ℕ

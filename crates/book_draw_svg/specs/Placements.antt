@@ -28,7 +28,8 @@ start_in n row (Came e what answer) = None
 start_in n row (Call e d reply) = None
 start_in n row (Turned e phase) = None
 
--- where the arrow of the segment of this number begins, by the earlier rungs, the newest first (own)
+-- where the arrow of the segment of this number begins, by the earlier rungs, the newest first
+-- (own)
 abbrev pub arrow_start : (number : ℕ) → (earlier : List Rung) → Option Start
 arrow_start n [] = None
 arrow_start n (r ∷ rs) = option_or (start_in n (length rs) r) (arrow_start n rs)
@@ -84,7 +85,8 @@ placed_at all earlier r = record {
 -- rungs in their places, behind earlier ones, the newest first (own)
 abbrev pub placements_from : (all earlier later : List Rung) → List Placed
 placements_from all earlier [] = []
-placements_from all earlier (r ∷ rs) = placed_at all earlier r ∷ placements_from all (r ∷ earlier) rs
+placements_from all earlier (r ∷ rs) =
+    placed_at all earlier r ∷ placements_from all (r ∷ earlier) rs
 
 -- all rungs in their places (own)
 abbrev pub rungs_placed : List Rung → List Placed

@@ -1,5 +1,5 @@
--- What an arriving datagram does to an end, as one table of cases, each a guard and what follows from
--- it, in the order in which they are tried (RFC 9293, section 3.10.7, in a profile). Its top:
+-- What an arriving datagram does to an end, as one table of cases, each a guard and what follows
+-- from it, in the order in which they are tried (RFC 9293, section 3.10.7, in a profile). Its top:
 -- `arrive`.
 use Rattle.std.specs.Prelude.{ℕ, ◌+◌, ◌-◌, ◌%◌, ◌==◌, nat_lt, Bool, true, false, not, ◌&&◌}
 use Rattle.std.specs.Prelude.{◌||◌, List, length, Option, Some, None, Ok, Err, if◌then◌else◌}
@@ -98,8 +98,8 @@ acknowledges_syn i =
     nat_lt i.before.isn i.before.next
     && (i.segment.acknowledgement == (i.before.isn + 1) % ring)
 
--- The acknowledgement is of something that was sent: in SYN-RECEIVED above SND.UNA, in each phase not
--- above SND.NXT (RFC 9293, section 3.10.7.4, "check the ACK field").
+-- The acknowledgement is of something that was sent: in SYN-RECEIVED above SND.UNA, in each phase
+-- not above SND.NXT (RFC 9293, section 3.10.7.4, "check the ACK field").
 abbrev pub acknowledges_sent : Admitted → Bool
 acknowledges_sent i =
     (above (acknowledges i) i.after.una || not (is_syn_received i.after.phase))
@@ -123,11 +123,12 @@ acknowledged_state i =
 abbrev pub most_runs : ℕ
 most_runs = 64
 
--- Text and FIN are heard by an end: the bytes in the window, and before a FIN that is recorded, that
--- aren't kept yet are kept, unless too many separate runs would arise; a FIN is recorded where it is
--- in the window, none is recorded yet, and no byte at its number or past it is kept; RCV.NXT moves
--- to the first byte that is missing, and past the FIN where it comes to it (RFC 9293, section 3.10.7.4, "process the segment text" and "check the FIN bit"; the
--- limit of runs, and which FIN is recorded: own).
+-- Text and FIN are heard by an end: the bytes in the window, and before a FIN that is recorded,
+-- that aren't kept yet are kept, unless too many separate runs would arise; a FIN is recorded where
+-- it is in the window, none is recorded yet, and no byte at its number or past it is kept; RCV.NXT
+-- moves to the first byte that is missing, and past the FIN where it comes to it (RFC 9293, section
+-- 3.10.7.4, "process the segment text" and "check the FIN bit"; the limit of runs, and which FIN is
+-- recorded: own).
 abbrev pub hear_text : Admitted → EndState → Moved
 hear_text i s =
     let d = i.segment in
@@ -153,8 +154,8 @@ listen_cases pair i =
     if not (syn_alone i.segment) then answered i.before Unexpected
     else answered (record told { phase = SynReceived }) Taken
 
--- In SYN-SENT: a SYN with the ACK of the own SYN is heard, with another it is a bad one, and all else
--- is unexpected (RFC 9293, section 3.10.7.3).
+-- In SYN-SENT: a SYN with the ACK of the own SYN is heard, with another it is a bad one, and all
+-- else is unexpected (RFC 9293, section 3.10.7.3).
 abbrev pub syn_sent_cases : Pair → Admitted → Moved
 syn_sent_cases pair i =
     let told = told_by_syn pair i.after i.segment i.number in
@@ -168,10 +169,10 @@ syn_sent_cases pair i =
       ack_owed = true;
     }) Taken
 
--- In all other phases, in this order: out of the window, a RST at RCV.NXT, a RST elsewhere, a SYN, no
--- ACK, a bad ACK, of which no ACK is owed in SYN-RECEIVED; then what is acknowledged is taken, and
--- text and FIN are heard (RFC 9293, section 3.10.7.4). The RNextKeyID of a segment that is out of
--- the window, and of a RST, isn't heard (own).
+-- In all other phases, in this order: out of the window, a RST at RCV.NXT, a RST elsewhere, a SYN,
+-- no ACK, a bad ACK, of which no ACK is owed in SYN-RECEIVED; then what is acknowledged is taken,
+-- and text and FIN are heard (RFC 9293, section 3.10.7.4). The RNextKeyID of a segment that is out
+-- of the window, and of a RST, isn't heard (own).
 abbrev pub other_cases : Admitted → Moved
 other_cases i =
     let d = i.segment in
@@ -202,8 +203,8 @@ checked s onward (Err why) = unmoved s (Refused why)
 checked s onward (Ok p) = passes s p (onward p)
 
 -- An arrival, in this order: no datagram, other sockets, a wrong checksum, a closed end, what the
--- check says, and then the phase (RFC 9293, sections 3.1 and 3.10.7; RFC 5925, section 7.5; the order:
--- own).
+-- check says, and then the phase (RFC 9293, sections 3.1 and 3.10.7; RFC 5925, section 7.5; the
+-- order: own).
 unfoldable pub arrive : List Row → Pair → ℕ → EndState → Reading → Arrived
 arrive rows pair now s (Unread fault) = unmoved s (Bad fault)  -- RFC 9293, section 3.1
 arrive rows pair now s (Read d) =

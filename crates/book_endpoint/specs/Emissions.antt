@@ -9,7 +9,7 @@ use Rattle.book_base.specs.declared.address.Pair.{Pair}
 use Rattle.book_base.specs.Algorithms.{mac_length_of}
 use Rattle.book_segments.specs.Bytes.{put2, ring}
 use Rattle.book_segments.specs.Sockets.{octets}
-use Rattle.book_segments.specs.Options.{Ao, ao_kind, mss_kind}
+use Rattle.book_segments.specs.Options.{Ao, ao_kind, ao_head_length, mss_kind}
 use Rattle.book_segments.specs.Segments.{IpHeader, Ipv4, Ipv6, Segment, complement_of, FIN, SYN}
 use Rattle.book_segments.specs.Segments.{RST, PSH, ACK, ipv4_header_length, tcp_header_length}
 use Rattle.book_segments.specs.Spelling.{finished}
@@ -162,8 +162,8 @@ sends_fin s =
 abbrev pub fitting : EndState → ℕ → ℕ
 fitting s most = min (unsent s) (min (window_end s - s.next) most)
 
--- What is due to be sent next, the first of these: RST, SYN, SYN with ACK, data, FIN, ACK (RFC 9293,
--- section 3.10; the order: own).
+-- What is due to be sent next, the first of these: RST, SYN, SYN with ACK, data, FIN, ACK (RFC
+-- 9293, section 3.10; the order: own).
 unfoldable pub due_next : EndState → Option Due
 due_next s =
     if s.rst_owed then Some Rst
@@ -238,8 +238,7 @@ ao_length sending = 4 + mac_length_of sending.row.algorithm
 abbrev pub most_bytes : Pair → EndState → Sending → ℕ
 most_bytes pair s sending = min (own_mss pair.local.address) s.mss - ao_length sending
 
--- The time to live, or hop limit, of the written form (RFC 1700, "IP time to live
--- parameter").
+-- The time to live, or hop limit, of the written form (RFC 1122, section 3.2.1.7; the value: own).
 abbrev pub hop_limit : ℕ
 hop_limit = 64
 
@@ -259,7 +258,8 @@ written_ip pair size (V6 bytes) = Ipv6 0 hop_limit
 
 -- The TCP-AO option with this MAC (RFC 5925, section 2.2).
 abbrev pub written_ao : Sending → List ℕ → List ℕ
-written_ao sending m = ao_kind ∷ (4 + length m) ∷ sending.key_id ∷ sending.rnext_key_id ∷ m
+written_ao sending m =
+    ao_kind ∷ (ao_head_length + length m) ∷ sending.key_id ∷ sending.rnext_key_id ∷ m
 
 -- The option area of the written form: with SYN the maximum segment size, of length 4, and then
 -- TCP-AO (RFC 9293, section 3.2; RFC 5925, section 2.2; the order: own).
@@ -284,7 +284,9 @@ told_window s flags =
 -- The segment of a draft with this MAC, its checksum still 0 (RFC 9293, section 3.1).
 abbrev pub written : Pair → EndState → Draft → Sending → List ℕ → Segment
 written pair s out sending m = record {
-  ip = written_ip pair (tcp_header_length + 4 + length m + ao_place (sets out.flags SYN) + length out.payload)
+  ip = written_ip pair
+      (tcp_header_length + ao_head_length + length m + ao_place (sets out.flags SYN)
+          + length out.payload)
       pair.local.address;
   source = pair.local;
   destination = pair.remote;

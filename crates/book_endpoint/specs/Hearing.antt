@@ -1,5 +1,5 @@
--- What an end hears of a segment that passed: its number against the window, its acknowledgement and
--- window, its FIN, and what a SYN tells (RFC 9293, section 3.10.7): the words of the table of
+-- What an end hears of a segment that passed: its number against the window, its acknowledgement
+-- and window, its FIN, and what a SYN tells (RFC 9293, section 3.10.7): the words of the table of
 -- arrivals.
 use Rattle.std.specs.Prelude.{ℕ, zero, suc, ◌+◌, ◌-◌, ◌*◌, ◌==◌, max, nat_lt, nat_le, Bool, true}
 use Rattle.std.specs.Prelude.{false, ◌&&◌, ◌||◌, length, Option, Some, None, unwrap_or}

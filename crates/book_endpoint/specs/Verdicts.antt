@@ -79,8 +79,8 @@ one_ao Two = Err TwoAo
 one_ao FoundMd5 = Err WithMd5
 one_ao (One ao) = Ok ao
 
--- The row that takes segments with this KeyID now; where none does now, whether one does at some time
--- (RFC 5925, section 7.5).
+-- The row that takes segments with this KeyID now; where none does now, whether one does at some
+-- time (RFC 5925, section 7.5).
 abbrev pub row_taking : List Row → Pair → (key_id now : ℕ) → Result Numbered Verdict
 row_taking rows pair key_id now =
     or_fault (accept_row rows pair key_id now)
@@ -91,14 +91,14 @@ abbrev pub require : Bool → Verdict → Result (Unit {0}) Verdict
 require true why = Ok tt
 require false why = Err why
 
--- The number of a segment: with SYN its sequence, else what that means near the number expected (RFC
--- 5925, section 6.2).
+-- The number of a segment: with SYN its sequence, else what that means near the number expected
+-- (RFC 5925, section 6.2).
 abbrev pub segment_number : Segment → Option ℕ → Option ℕ
 segment_number d None = Some d.sequence
 segment_number d (Some expected) = if has SYN d then Some d.sequence else meant d.sequence expected
 
--- The first of nine refusals that holds, else a pass, at this time (RFC 5925, section 7.5; the MAC's
--- length: RFC 5926, section 3.2; the context: RFC 5925, section 5.2; the range: own).
+-- The first of nine refusals that holds, else a pass, at this time (RFC 5925, section 7.5; the
+-- MAC's length: RFC 5926, section 3.2; the context: RFC 5925, section 5.2; the range: own).
 unfoldable pub judge : List Row → Pair → Known → ℕ → Segment → Judgement
 judge rows pair known now d = do
   ao ← one_ao (find_ao d.area)  -- NoAo, TwoAo, WithMd5

@@ -1,7 +1,8 @@
 -- What is written of an input that isn't read. Our own format. Its top is `input_fault_text`.
 use Rattle.std.specs.Prelude.{ℕ, List, [], ◌∷◌, codes, decimal}
 use Rattle.book_lines.specs.declared.line_kind.LineKind.{LineKind}
-use Rattle.book_lines.specs.declared.line_kind.LineKind.TheVariants.{Word, Number, Hex, Range, Header}
+use Rattle.book_lines.specs.declared.line_kind.LineKind.TheVariants.{Word, Number, Hex, Range}
+use Rattle.book_lines.specs.declared.line_kind.LineKind.TheVariants.{Header}
 use Rattle.book_lines.specs.declared.line_kind.LineKind.TheVariants.{Shared}
 use Rattle.book_lines.specs.declared.text_fault.TextFault.{TextFault}
 use Rattle.book_lines.specs.declared.text_fault.TextFault.TheVariants as fault

@@ -15,8 +15,8 @@ has_place bytes place = nat_lt (place_in bytes place) (length bytes)
 abbrev pub masked : List ℕ → (place mask : ℕ) → List ℕ
 masked bytes i mask = slice_set bytes i (bit_xor (slice_index bytes i) mask)
 
--- what is altered in a copy: the byte at a place, counted from the TCP header, is xored with a mask;
--- with fix the TCP checksum is then set right (own)
+-- what is altered in a copy: the byte at a place, counted from the TCP header, is xored with a
+-- mask; with fix the TCP checksum is then set right (own)
 pub record Alteration : Type 0 where
   pub place : ℕ
   pub mask : ℕ

@@ -79,8 +79,8 @@ abbrev pub gap_findings : End → List Row → Pair → (low high : ℕ) → Lis
 gap_findings end rows pair low high =
     map (gap_finding end) (failing_spans (has_sendable rows pair) low (high + 1 - low))
 
--- all that doesn't hold of a plan: the rows of a that aren't met, those of b, the gaps of a, those of
--- b (own)
+-- all that doesn't hold of a plan: the rows of a that aren't met, those of b, the gaps of a, those
+-- of b (own)
 unfoldable pub findings : (a_rows b_rows : List Row) → Pair → Plan → List Finding
 findings a b pair plan =
     unmet_findings (unmet_reason b pair plan.lead plan.lag) A 1 a

@@ -1,12 +1,14 @@
 -- A capture as lines of stored segments, one for each packet. Our own format.
-use Rattle.std.specs.Prelude.{ℕ, ◌/◌, List, [], ◌∷◌, ◌++◌, take, codes, decimal, Option, Some, None, Result, Ok, Err}
+use Rattle.std.specs.Prelude.{ℕ, ◌/◌, List, [], ◌∷◌, ◌++◌, take, codes, decimal, Option, Some, None}
+use Rattle.std.specs.Prelude.{Result, Ok, Err}
 use Rattle.std.specs.List.{flat_map}
 use Rattle.book_base.specs.Hexadecimal.{hex_of}
 use Rattle.book_pcap.specs.Packets.{longest_datagram}
 use Rattle.book_captures.specs.declared.reasons.Header.{Header}
 use Rattle.book_captures.specs.declared.reasons.Header.TheVariants as header
 use Rattle.book_captures.specs.declared.reasons.Skipped.{Skipped}
-use Rattle.book_captures.specs.declared.reasons.Skipped.TheVariants.{UnknownLink, NotIp, Version, NotSession, Short, Cut}
+use Rattle.book_captures.specs.declared.reasons.Skipped.TheVariants.{UnknownLink, NotIp, Version}
+use Rattle.book_captures.specs.declared.reasons.Skipped.TheVariants.{NotSession, Short, Cut}
 use Rattle.book_captures.specs.Frames.{Datagram}
 use Rattle.book_captures.specs.Captures.{CapturePacket, frame_datagram}
 

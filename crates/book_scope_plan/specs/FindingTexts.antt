@@ -201,7 +201,8 @@ sent_id_text r = codes " (sends KeyID " ++ (decimal r.send_id ++ codes "): no ro
 -- the line of a row, of this number, that isn't met at the other end (own)
 unfoldable pub unmet_line : Facing → ℕ → Row → (words : List ℕ) → List ℕ
 unmet_line f n r words =
-    codes "  WRONG " ++ (row_name f.document f.node.name n ++ (sent_id_text r ++ (f.other.name ++ words)))
+    codes "  WRONG "
+    ++ (row_name f.document f.node.name n ++ (sent_id_text r ++ (f.other.name ++ words)))
 
 -- what is said of a row that no row of the other end accepts: in which columns the nearest rows
 -- differ (own)

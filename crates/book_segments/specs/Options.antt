@@ -34,10 +34,15 @@ md5_kind = 19
 abbrev pub ao_kind : ℕ
 ao_kind = 29
 
+-- the length of a TCP-AO option less its MAC: kind, length, KeyID and RNextKeyID (RFC 5925,
+-- section 2.2)
+abbrev pub ao_head_length : ℕ
+ao_head_length = 4
+
 -- the least length that an option of this kind may give (RFC 9293, section 3.2; RFC 5925, section
 -- 2.2)
 abbrev pub least : ℕ → ℕ
-least kind = if kind == ao_kind then 4 else 2
+least kind = if kind == ao_kind then ao_head_length else 2
 
 -- an option as it stands in an area: kind, body, and how many bytes it takes (RFC 9293, section
 -- 3.2)

@@ -1,5 +1,6 @@
 -- The deadlines that a stack keeps, the earliest first, and its line of ends (own).
-use Rattle.std.specs.Prelude.{ℕ, nat_lt, nat_le, length, Bool, false, ◌||◌, List, [], ◌∷◌, ◌++◌, Option, Some, None, if◌then◌else◌}
+use Rattle.std.specs.Prelude.{ℕ, nat_lt, nat_le, length, Bool, false, ◌||◌, List, [], ◌∷◌, ◌++◌}
+use Rattle.std.specs.Prelude.{Option, Some, None, if◌then◌else◌}
 use Rattle.book_base.specs.declared.address.Pair.{Pair}
 use Rattle.book_stack.specs.declared.alarm.Alarm.{Alarm}
 use Rattle.book_cmd_node.specs.NodeRuns.{same_pair}

@@ -1,5 +1,6 @@
 -- The calls of a stack: what each answers and leaves, and the plain events that it makes (own).
-use Rattle.std.specs.Prelude.{ℕ, nat_le, Bool, true, false, List, [], ◌∷◌, ◌++◌, length, Option, Some, None, if◌then◌else◌}
+use Rattle.std.specs.Prelude.{ℕ, nat_le, Bool, true, false, List, [], ◌∷◌, ◌++◌, length, Option}
+use Rattle.std.specs.Prelude.{Some, None, if◌then◌else◌}
 use Rattle.book_base.specs.declared.address.Pair.{Pair}
 use Rattle.book_segments.specs.Segments.{Segment, Reading, Read, Bad as Unread, reading}
 use Rattle.book_keys.specs.declared.new_row.NewRow.{NewRow}
@@ -14,7 +15,9 @@ use Rattle.book_cmd_node.specs.declared.node.Act.{Act}
 use Rattle.book_cmd_node.specs.declared.node.Act.TheVariants as act
 use Rattle.book_cmd_node.specs.declared.node.NodeEvent.{NodeEvent}
 use Rattle.book_cmd_node.specs.declared.node.NodeEvent.TheVariants as event
-use Rattle.book_cmd_node.specs.NodeRuns.{NodeOutcome, DatagramAnswered, NoRoom, ConnectionClosing, InUse, NodeFull, NoConnection, NodeStep, called, held_end, most_ends, node_step}
+use Rattle.book_cmd_node.specs.NodeRuns.{NodeOutcome, DatagramAnswered, NoRoom, ConnectionClosing}
+use Rattle.book_cmd_node.specs.NodeRuns.{InUse, NodeFull, NoConnection, NodeStep, called, held_end}
+use Rattle.book_cmd_node.specs.NodeRuns.{most_ends, node_step}
 use Rattle.book_segments.specs.Segments.{pair_reached}
 use Rattle.book_stack.specs.declared.front.Change.{Change}
 use Rattle.book_stack.specs.Watches.{arrived, is_heard}
@@ -96,7 +99,8 @@ begun pair a s = if nat_le s.most (length s.node.ends) then unasked s (Told Node
 
 -- a call at a pair that isn't held (own)
 abbrev pub at_other : Pair → Act → StackState → Did
-at_other pair a s = if makes_an_end a then begun pair a s else asking s (event.On pair a) NoConnection
+at_other pair a s =
+    if makes_an_end a then begun pair a s else asking s (event.On pair a) NoConnection
 
 -- a call at a pair (own)
 abbrev pub at_pair : Pair → Act → StackState → Option EndState → Did
@@ -128,7 +132,8 @@ met coming d s held = if knocks d held then unasked s (Knocks (pair_reached d))
 
 -- bytes come (own)
 abbrev pub bytes_received : Incoming → Reading → StackState → Did
-bytes_received coming (Unread fault) s = asking s (event.Inject coming.bytes) (DatagramAnswered (Bad fault))
+bytes_received coming (Unread fault) s =
+    asking s (event.Inject coming.bytes) (DatagramAnswered (Bad fault))
 bytes_received coming (Read d) s = met coming d s (held_end (pair_reached d) s.node.ends)
 
 -- the call after a turn (own)
@@ -167,7 +172,8 @@ withdrew s (Some rows) = unasked (record s { rows = rows }) Withdraws
 -- what a call does (own)
 unfoldable pub call : Call → StackState → Did
 call (At pair a) s = at_pair pair a s (held_end pair s.node.ends)
-call (Input coming) s = after_turn (clocked coming.now s) (bytes_received coming (reading coming.bytes))
+call (Input coming) s =
+    after_turn (clocked coming.now s) (bytes_received coming (reading coming.bytes))
 call (Output now) s = turn_ended (output_at now s)
 call (Add row) s = added s (adding s.rows (row_of_new row))
 call (Withdraw n) s = withdrew s (withdrawn s.rows n)

@@ -1,6 +1,7 @@
 -- Which datagram a stack hands out next: what ends have to send, each in its turn, and then what a
 -- timer sends again (own).
-use Rattle.std.specs.Prelude.{ℕ, zero, suc, ◌/◌, ◌==◌, nat_le, Bool, List, [], ◌∷◌, ◌++◌, length, Option, Some, None, is_some, if◌then◌else◌}
+use Rattle.std.specs.Prelude.{ℕ, zero, suc, ◌/◌, ◌==◌, nat_le, Bool, List, [], ◌∷◌, ◌++◌, length}
+use Rattle.std.specs.Prelude.{Option, Some, None, is_some, if◌then◌else◌}
 use Rattle.book_base.specs.declared.address.Pair.{Pair}
 use Rattle.book_endpoint.specs.declared.phase.Phase.{Phase}
 use Rattle.book_endpoint.specs.States.{EndState}
@@ -8,10 +9,13 @@ use Rattle.book_endpoint.specs.Emissions.{Emission, emit, resend}
 use Rattle.book_cmd_node.specs.declared.node.NodeEvent.{NodeEvent}
 use Rattle.book_cmd_node.specs.declared.node.NodeEvent.TheVariants as event
 use Rattle.book_cmd_node.specs.declared.node.Act.TheVariants as act
-use Rattle.book_cmd_node.specs.NodeRuns.{NodeOutcome, Performed, Transmitted, NoUsableKey, Called, NothingToSend, NothingToResend, after_call, made_called, held_end, ends_ticked}
+use Rattle.book_cmd_node.specs.NodeRuns.{NodeOutcome, Performed, Transmitted, NoUsableKey, Called}
+use Rattle.book_cmd_node.specs.NodeRuns.{NothingToSend, NothingToResend, after_call, made_called}
+use Rattle.book_cmd_node.specs.NodeRuns.{held_end, ends_ticked}
 use Rattle.book_stack.specs.declared.alarm.Alarm.{Alarm}
 use Rattle.book_stack.specs.declared.front.Change.{Change}
-use Rattle.book_stack.specs.Watches.{ConnectionWatch, at_rest, awaits, expired_at, end_front, after_sending, timer_stopped}
+use Rattle.book_stack.specs.Watches.{ConnectionWatch, at_rest, awaits, expired_at, end_front}
+use Rattle.book_stack.specs.Watches.{after_sending, timer_stopped}
 use Rattle.book_stack.specs.Stacks.{StackState, touched, watched}
 
 -- what a turn leaves: the stack, the plain events that it made with their answers, and the segment

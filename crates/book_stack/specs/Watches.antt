@@ -1,12 +1,16 @@
--- The retransmission timer of a connection, and what it is told of the connection (RFC 6298, sections
--- 3 and 5). Times are in milliseconds since 1970.
-use Rattle.std.specs.Prelude.{ℕ, ◌+◌, ◌-◌, ◌*◌, ◌/◌, nat_lt, nat_le, Bool, true, false, not, ◌&&◌, ◌||◌, Option, Some, None, is_some, if◌then◌else◌}
+-- The retransmission timer of a connection, and what it is told of the connection (RFC 6298,
+-- sections 3 and 5). Times are in milliseconds since 1970.
+use Rattle.std.specs.Prelude.{ℕ, ◌+◌, ◌-◌, ◌*◌, ◌/◌, nat_lt, nat_le, Bool, true, false, not, ◌&&◌}
+use Rattle.std.specs.Prelude.{◌||◌, Option, Some, None, is_some, if◌then◌else◌}
 use Rattle.book_timers.specs.declared.timer.Timer.{Timer}
 use Rattle.book_timers.specs.Timers.{new_timer, expired}
 use Rattle.book_endpoint.specs.declared.arrival.Arrival.{Arrival}
-use Rattle.book_endpoint.specs.declared.arrival.Arrival.TheVariants.{Bad, Foreign, Checksum, Closed as AtClosed, Refused}
+use Rattle.book_endpoint.specs.declared.arrival.Arrival.TheVariants.{Bad, Foreign, Checksum}
+use Rattle.book_endpoint.specs.declared.arrival.Arrival.TheVariants.{Closed as AtClosed, Refused}
 use Rattle.book_endpoint.specs.declared.phase.Phase.{Phase}
-use Rattle.book_endpoint.specs.declared.phase.Phase.TheVariants.{SynSent, SynReceived, Established, FinWait1, CloseWait, Closing, LastAck, TimeWait}
+use Rattle.book_endpoint.specs.declared.phase.Phase.TheVariants.{SynSent, SynReceived, Established}
+use Rattle.book_endpoint.specs.declared.phase.Phase.TheVariants.{FinWait1, CloseWait, Closing}
+use Rattle.book_endpoint.specs.declared.phase.Phase.TheVariants.{LastAck, TimeWait}
 use Rattle.book_endpoint.specs.States.{EndState}
 use Rattle.book_endpoint.specs.Emissions.{unsent}
 use Rattle.book_endpoint.specs.Hearing.{segment_lifetime}
@@ -68,8 +72,8 @@ abbrev pub is_time_wait : Phase → Bool
 is_time_wait TimeWait = true
 is_time_wait _ = false
 
--- the handshake was completed after the SYN was sent again: the value is three seconds at least (RFC
--- 6298, section 5.7)
+-- the handshake was completed after the SYN was sent again: the value is three seconds at least
+-- (RFC 6298, section 5.7)
 abbrev pub after_handshake : Change → ConnectionWatch → ConnectionWatch
 after_handshake c w = if w.syn_again && is_opening c.before.phase && not (is_opening c.after.phase)
     then record w { timer = slowed w.timer; syn_again = false } else w
@@ -99,7 +103,8 @@ hearing now answer w = if is_heard answer then record w { heard = now } else w
 -- the timer after an arrival (RFC 6298, sections 3, 5.2, 5.3 and 5.7)
 abbrev pub arrived : ℕ → Arrival → Change → ConnectionWatch → ConnectionWatch
 arrived now answer c w = let v = after_handshake c (hearing now answer w) in
-    rests_now now c (if nat_lt c.before.una c.after.una then after_acknowledgement now c.after v else v)
+    rests_now now c
+    (if nat_lt c.before.una c.after.una then after_acknowledgement now c.after v else v)
 
 -- the timer runs from now on, and the peer is waited for, unless it runs already (RFC 6298, section
 -- 5.1)
@@ -135,14 +140,14 @@ awaits_in phase s = false
 abbrev pub awaits : EndState → Bool
 awaits s = awaits_in s.phase s
 
--- the timer of an end that has nothing to send, in this phase: it runs exactly where something would be
--- sent again (own)
+-- the timer of an end that has nothing to send, in this phase: it runs exactly where something
+-- would be sent again (own)
 abbrev pub at_rest : ℕ → Phase → Bool → ConnectionWatch → ConnectionWatch
 at_rest now phase true w = running now w w.deadline
 at_rest now phase false w = if is_time_wait phase then w else timer_stopped w
 
--- the timer expired: its value is doubled, it runs anew, and nothing is timed (RFC 6298, sections 3,
--- 5.5 and 5.6)
+-- the timer expired: its value is doubled, it runs anew, and nothing is timed (RFC 6298, sections
+-- 3, 5.5 and 5.6)
 abbrev pub expired_at : ℕ → Phase → ConnectionWatch → ConnectionWatch
 expired_at now phase w = timer_started now (record w
     { timer = expired w.timer; timed = None; syn_again = w.syn_again || is_opening phase })

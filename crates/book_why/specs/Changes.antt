@@ -1,5 +1,5 @@
--- Single changes of how the MAC of a segment is made, each by its name in one table, and under which
--- of them it would be right (own). Its tops: `changed`, `all_changes` and `would_pass`.
+-- Single changes of how the MAC of a segment is made, each by its name in one table, and under
+-- which of them it would be right (own). Its tops: `changed`, `all_changes` and `would_pass`.
 use Rattle.std.specs.Prelude.{ℕ, ◌+◌, ◌-◌, nat_le, Bool, false, not}
 use Rattle.std.specs.Prelude.{List, [], ◌∷◌, ◌++◌, length, replicate, filter, map}
 use Rattle.std.specs.Prelude.{Option, Some, None, slice_index_or, if◌then◌else◌}

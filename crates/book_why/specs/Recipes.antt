@@ -46,8 +46,8 @@ mac_made r =
     part_of r.part r.taken
     (untruncated r.algorithm (key_made r.algorithm r.master r.derivation) r.input)
 
--- a segment whose MAC is in question: its number, the initial sequence numbers of its source and its
--- destination, and the row under which it is judged (RFC 5925, section 7.5)
+-- a segment whose MAC is in question: its number, the initial sequence numbers of its source and
+-- its destination, and the row under which it is judged (RFC 5925, section 7.5)
 pub record Suspect : Type 0 where
   pub segment : Segment
   pub ao : Ao
