@@ -1,9 +1,8 @@
-//! The command that the words name, and the word that names its key file.
-ghost use Rattle.std.specs.Prelude.{◌≡◌, option_map, true};
+//! The command that the words name.
+ghost use Rattle.std.specs.Prelude.{◌≡◌, true};
 ghost use Rattle.book_keys.specs.Times.{time_of};
 ghost use Rattle.book_answer.specs.Commands.{alone_of, command_of, keys_of, lint_command, pcap_of, reads_keys, storm_of, three_of, decimal_up_to, with_keys_of};
 ghost use Rattle.ao_run.specs.Gathered.{is_ready};
-ghost use Rattle.ao_run.specs.KeyFiles.{key_word, second, third};
 
 use ao_base::read_decimal;
 use book_answer::Command;
@@ -155,7 +154,7 @@ pub(crate) fn named(words: &Words) -> Option<Command>
 }
 
 /// Whether the command reads the key file.
-fn reads_keys(command: Command) -> bool
+pub(crate) fn reads_keys(command: Command) -> bool
     ensures { result ≡ reads_keys command }
 {
     match command {
@@ -164,41 +163,5 @@ fn reads_keys(command: Command) -> bool
         Command::Vectors => false,
         Command::Storm(_, _) => false,
         _ => true,
-    }
-}
-
-fn second(words: &Words) -> Option<&[u8]>
-    ensures { option_map (λ w. w.now) result ≡ second words.now }
-{
-    match words.as_slice() {
-        [_name, word, ..] => Some(word.as_slice()),
-        _ => None,
-    }
-}
-
-fn third(words: &Words) -> Option<&[u8]>
-    ensures { option_map (λ w. w.now) result ≡ third words.now }
-{
-    match words.as_slice() {
-        [_name, _option, word, ..] => Some(word.as_slice()),
-        _ => None,
-    }
-}
-
-/// The word that names the key file; None exactly where the words ask for none, or are in no form of
-/// a command.
-pub fn key_file(words: &Words) -> Option<&[u8]>
-    ensures { option_map (λ w. w.now) result ≡ key_word words.now }
-{
-    match named(words) {
-        Some(Command::CheckPcap) => third(words),
-        Some(command) => {
-            if reads_keys(command) {
-                second(words)
-            } else {
-                None
-            }
-        }
-        None => None,
     }
 }

@@ -3,6 +3,7 @@
 //! answer comes with which status, what was read and written, and what holds of every link.
 #![tactic(auto)]
 
+mod asked;
 mod command;
 mod gather;
 mod job;
@@ -13,5 +14,5 @@ mod stream;
 mod told;
 mod top;
 
-pub use command::key_file;
+pub use asked::Asked;
 pub use top::run;

@@ -6,7 +6,7 @@ ghost use Rattle.ao_run.specs.Jobs.{job_command, job_tables, whole_command, whol
 ghost use Rattle.ao_run.specs.Obeys.{Sides};
 ghost use Rattle.ao_run.specs.Runs.{Runs};
 
-use crate::command::named;
+use crate::asked::Asked;
 use crate::gather::gather;
 use crate::job::{Job, Whole, prepare};
 use crate::stop::Stop;
@@ -112,11 +112,30 @@ pub fn run<K: Source, I: Source, O: Sink, E: Sink>(
         (record { keys = K.side keys.new; input = I.side input.new; out = O.side out.new; err = E.side err.new })
         result }
 {
-    match act(alloc, named(words), keys, input, out) {
-        Ok(status) => status,
-        Err(stop) => {
-            let _ = write_all(err, stop.text());
-            stop.status()
+    Asked::read(words).run(alloc, keys, input, out, err)
+}
+
+impl<'a> Asked<'a> {
+    /// Does what the words say, as [`run`], without reading them again.
+    pub fn run<K: Source, I: Source, O: Sink, E: Sink>(
+        &self,
+        alloc: Global,
+        keys: &mut K,
+        input: &mut I,
+        out: &mut O,
+        err: &mut E,
+    ) -> u8
+        ensures { (k : List ℕ) × (i : List ℕ) × Runs self.now k i
+            (record { keys = K.side keys.old; input = I.side input.old; out = O.side out.old; err = E.side err.old })
+            (record { keys = K.side keys.new; input = I.side input.new; out = O.side out.new; err = E.side err.new })
+            result }
+    {
+        match act(alloc, self.command(), keys, input, out) {
+            Ok(status) => status,
+            Err(stop) => {
+                let _ = write_all(err, stop.text());
+                stop.status()
+            }
         }
     }
 }

@@ -7,7 +7,7 @@ mod own_text;
 mod tests;
 
 use ao_base::{Failed, QuietSource, ReadSource, Source, WriteSink, write_all};
-use ao_run::{key_file, run};
+use ao_run::Asked;
 use book_base::{Bytes, Words};
 use own_text::OwnText;
 use std::fs::File;
@@ -53,23 +53,24 @@ fn open(rt: &HostRuntime, path: &[u8]) -> io::Result<File> {
 }
 
 /// The top call over this key file and the standard streams.
-fn run_over<K: Source>(rt: &HostRuntime, words: &Words, keys: &mut K) -> u8 {
+fn run_over<K: Source>(rt: &HostRuntime, asked: &Asked<'_>, keys: &mut K) -> u8 {
     let mut input = ReadSource::new(rt.stdin());
     let mut out = WriteSink::new(rt.stdout());
     let mut err = WriteSink::new(rt.stderr());
-    run(rt.alloc(), words, keys, &mut input, &mut out, &mut err)
+    asked.run(rt.alloc(), keys, &mut input, &mut out, &mut err)
 }
 
 /// The top call; words that ask for no key file have an empty one.
 fn run_words(rt: &HostRuntime, words: &Words) -> u8 {
-    match key_file(words) {
+    let asked = Asked::read(words);
+    match asked.key_file() {
         None => {
             let none = Bytes::from_vec(Vec::new(rt.alloc()));
-            run_over(rt, words, &mut QuietSource::new(none))
+            run_over(rt, &asked, &mut QuietSource::new(none))
         }
         Some(path) => match open(rt, path) {
-            Ok(file) => run_over(rt, words, &mut ReadSource::new(file)),
-            Err(_) => run_over(rt, words, &mut ReadSource::new(Unopened)),
+            Ok(file) => run_over(rt, &asked, &mut ReadSource::new(file)),
+            Err(_) => run_over(rt, &asked, &mut ReadSource::new(Unopened)),
         },
     }
 }
