@@ -23,6 +23,7 @@ use Rattle.law_node.proofs.Pairs.{same_pair_is}
 use Rattle.law_node.proofs.Held.{IsOnce, held, end_pushed_other, end_pushed_same, end_ticked, end_without_other, once_pushed, once_ticked, once_with, once_without}
 use Rattle.law_stack.proofs.Called.{call_steps}
 use Rattle.law_stack.proofs.Tidy.{is_held_with}
+use Rattle.ao_stack.proofs.StandLaws.{some_mapped}
 
 -- each pair that is held has a tally, and no other; no pair is held twice
 record Keeps (m : NodeState) (n : StackCounts) : Type 0 where
@@ -33,10 +34,6 @@ record Keeps (m : NodeState) (n : StackCounts) : Type 0 where
 
 abbrev either : Bool → Option Tally → Option Tally → Option Tally
 either b one other = if b then one else other
-
-some_mapped : {A B : Type 0} (f : A → B) (o : Option A) → is_some (option_map f o) ≡ is_some o
-some_mapped f None = refl
-some_mapped f (Some x) = refl
 
 -- what is changed of a pair is there as before
 some_changed : (p q : Pair) (f : Tally → Tally) (n : StackCounts) → is_some (if same_pair p q then option_map f (n.pairs q) else n.pairs q) ≡ is_some (n.pairs q)

@@ -12,6 +12,7 @@ use Rattle.book_segments.specs.Spelling.{FitsIp, Fits, IsV4, IsV6}
 use Rattle.book_segments.proofs.Fields.{put2_law, put4_law, append_split, two_law, header_law}
 use Rattle.book_macs.specs.MacInput.{covered, mac_input}
 use Rattle.ao_mac.proofs.Parts.{pseudo-append, header-append, header-zero}
+use Rattle.book_macs.proofs.Ids.{v4_long, v6_long}
 
 -- ---- answers
 
@@ -63,15 +64,6 @@ header_back h k d e hd ke is =
     take_rest h 18 ∙ (ap (drop 18) hd ∙ (back_of d d.checksum ∙ (ap (drop 18) is ∙ (sym (back_of e e.checksum) ∙ (ap (drop 18) (sym ke) ∙ sym (take_rest k 18))))))
 
 -- ---- pseudo-headers
-
--- the bytes of an address of either family
-v4_long : (a : Address) → IsV4 a → length (octets a) ≡ 4
-v4_long (V4 bytes) h = h.0
-v4_long (V6 bytes) h = absurd h
-
-v6_long : (a : Address) → IsV6 a → length (octets a) ≡ 16
-v6_long (V4 bytes) h = absurd h
-v6_long (V6 bytes) h = h.0
 
 v4_same : (a b : Address) → IsV4 a → IsV4 b → octets a ≡ octets b → a ≡ b
 v4_same (V4 x) (V4 y) h k e = ap V4 e

@@ -54,7 +54,7 @@ pub pseudo-v6 : (d : Segment) (a b : List ℕ) → FitsIp d.ip d → d.source.ad
 unfolding pseudo
 pseudo-v6 d a b f one two = pseudo_of-v6 d.ip d a b f one two
 
-drop_rest : (n : ℕ) (xs : List ℕ) → take (length xs - n) (drop n xs) ≡ drop n xs
+pub drop_rest : (n : ℕ) (xs : List ℕ) → take (length xs - n) (drop n xs) ≡ drop n xs
 drop_rest n xs = let l = length-drop n xs in take_all (length xs - n) (drop n xs) (omega arith)
 
 -- the header with its checksum zero, in three pieces

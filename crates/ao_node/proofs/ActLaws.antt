@@ -75,17 +75,6 @@ resent_follows s e before after (resents.Segment m) (Emits x) h = record { stand
 
 -- ---- taking
 
--- a buffer of this length whose bytes were written anew
-written : (size : ℕ) (out rest : List ℕ) → length out ≡ size → take size (out ++ rest) ≡ out
-written size out rest long = ap (λ k. take k (out ++ rest)) (sym long) ∙ take-append_seam out rest
-
--- what is left of the buffer are the bytes that were taken
-pub taken_bytes : (count n size : ℕ) (s : EndState) (old out rest cut bytes : List ℕ) → length out ≡ size → n ≡ length (taking count s)
-    → out ≡ taking count s ++ drop n old → cut ≡ take n (take size (out ++ rest)) → bytes ≡ cut → bytes ≡ taking count s
-taken_bytes count n size s old out rest cut bytes whole long taken left are =
-    let seam : take (length (taking count s)) (taking count s ++ drop n old) ≡ taking count s = take-append_seam (taking count s) (drop n old) in
-    are ∙ left ∙ ap (take n) (written size out rest whole) ∙ ap (take n) taken ∙ ap (λ k. take k (taking count s ++ drop n old)) long ∙ seam
-
 -- bytes are taken
 pub took_follows : (count : ℕ) (s : EndState) (e : Endpoint) (room bytes : List ℕ) (shown : Bool) → bytes ≡ taking count s → shown ≡ at_end (take_out count s)
     → Stands e (take_out count s) → Follows e room (tells.Took bytes shown) (book.take_called count s)

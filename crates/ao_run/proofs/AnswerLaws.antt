@@ -21,11 +21,7 @@ use Rattle.book_cmd_show.specs.Verified.{vectors_of}
 use Rattle.book_lines.specs.Said.{said_in}
 use Rattle.ao_run.specs.Gathered.{answer_in}
 use Rattle.ao_run.specs.Obeys.{asks_keys, asks_input, most_of, writes_along}
-
--- a test is one or the other
-pub either : (b : Bool) → (b ≡ true) ⊎ (b ≡ false)
-either true = inl refl
-either false = inr refl
+use Rattle.book_base.proofs.TestLaws.{either}
 
 -- the answer of a command that reads no key file
 pub unkeyed : (c : Command) (keys input : List ℕ) → reads_keys c ≡ false → answer_of (Some c) keys input ≡ answer_in c [] input

@@ -11,7 +11,8 @@ use Rattle.book_answer.specs.Commands.{command_of, reads_input, reads_keys}
 use Rattle.ao_run.specs.Completes.{Completes, IsCalm, Tells}
 use Rattle.ao_run.specs.Gathered.{answer_in}
 use Rattle.ao_run.specs.Obeys.{Along, IsWritten, NotBegun, Obeys, Sides, Unread, asks_input, asks_keys, most_of, text_of, writes_along}
-use Rattle.ao_run.proofs.AnswerLaws.{either, keyed, long_keys, long_refused, not_two, over_tables, same_answer, three_whatever, unkeyed, within_plain}
+use Rattle.ao_run.proofs.AnswerLaws.{keyed, long_keys, long_refused, not_two, over_tables, same_answer, three_whatever, unkeyed, within_plain}
+use Rattle.book_base.proofs.TestLaws.{either}
 use Rattle.ao_run.proofs.Facts.{Facts}
 use Rattle.ao_run.proofs.Given.{all_given, calm, no_more}
 use Rattle.ao_run.proofs.LineEnds.{line_facts}

@@ -24,7 +24,8 @@ use Rattle.ao_run.specs.declared.stop.Stop.TheVariants.{Usage, KeysTooLong, Keys
 use Rattle.ao_run.specs.Gathered.{Gathered, InputGathered, KeysGathered, Sources, tables_in, answer_in}
 use Rattle.ao_run.specs.Obeys.{Unread, asks_keys, asks_input, most_of, writes_along}
 use Rattle.ao_run.specs.Stops.{Makes, Stopped, made, status_of, text_of}
-use Rattle.ao_run.proofs.AnswerLaws.{either, faulty_tables, long_input, long_keys, long_plain, over_tables, short_input, unkeyed, unread_four, unread_input, within_plain}
+use Rattle.ao_run.proofs.AnswerLaws.{faulty_tables, long_input, long_keys, long_plain, over_tables, short_input, unkeyed, unread_four, unread_input, within_plain}
+use Rattle.book_base.proofs.TestLaws.{either}
 
 -- nothing is read
 pub unread : (s : Side) → Unread [] s s

@@ -6,6 +6,6 @@ mod HandLaws
 pub mod LastLaws
 mod RowLaws
 mod SendLaws
-mod StandLaws
+pub mod StandLaws
 mod TellLaws
 mod TurnLaws

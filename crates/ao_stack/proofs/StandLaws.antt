@@ -33,7 +33,7 @@ some_with p q s t hs e = at (same_pair p q) refl
     at true g = let is = same_pair_is p q g in rw (← is) (rw (end_with_same p t s hs e, e) refl)
     at false g = rw (end_with_other q p t hs g) refl
 
-some_mapped : {A B : Type 0} (f : A → B) (o : Option A) → is_some (option_map f o) ≡ is_some o
+pub some_mapped : {A B : Type 0} (f : A → B) (o : Option A) → is_some (option_map f o) ≡ is_some o
 some_mapped f None = refl
 some_mapped f (Some x) = refl
 

@@ -1,4 +1,6 @@
 pub mod Examples
+pub mod ListLaws
+pub mod TestLaws
 pub mod FrontLaws
 pub mod LineLaws
 pub mod DecimalLaws

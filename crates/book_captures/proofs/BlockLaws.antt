@@ -9,7 +9,8 @@ use Rattle.book_pcap.specs.Packets.{four_at}
 use Rattle.book_captures.specs.declared.block_parts.BlockFault.{BlockFault}
 use Rattle.book_captures.specs.declared.block_parts.BlockFault.TheVariants as fault
 use Rattle.book_captures.specs.Blocks.{Block, section_header, byte_order_magic, order_at, length_fault, block_of_length, block_at, IsBlock}
-use Rattle.book_captures.proofs.Fronts.{four_front, take_drop}
+use Rattle.book_captures.proofs.Fronts.{four_front}
+use Rattle.book_base.proofs.ListLaws.{take_drop}
 
 -- the order of a block, by the numbers that tell it
 abbrev order_by : Option ByteOrder → (kind big little : ℕ) → Result ByteOrder BlockFault

@@ -16,13 +16,3 @@ two_front Little xs ys i lt = rw (index xs ys i (omega arith), index xs ys (i + 
 pub four_front : (order : ByteOrder) (xs ys : List ℕ) (i : ℕ) → i + 3 < length xs → four_at order (xs ++ ys) i ≡ four_at order xs i
 four_front Big xs ys i lt = rw (index xs ys i (omega arith), index xs ys (i + 1) (omega arith), index xs ys (i + 2) (omega arith), index xs ys (i + 2 + 1) (omega arith)) refl
 four_front Little xs ys i lt = rw (index xs ys i (omega arith), index xs ys (i + 1) (omega arith), index xs ys (i + 2) (omega arith), index xs ys (i + 2 + 1) (omega arith)) refl
-
-take_none : (n : ℕ) → [] ≡ take {A = ℕ} n []
-take_none zero = refl
-take_none (suc n) = refl
-
-pub take_drop : (m n k : ℕ) (xs : List ℕ) → m ≡ n + k → drop k (take m xs) ≡ take n (drop k xs)
-take_drop m n zero xs e = let same : m ≡ n = omega arith in ap (λ (i : ℕ). take i xs) same
-take_drop zero n (suc k) xs e = absurd (omega arith)
-take_drop (suc m) n (suc k) [] e = take_none n
-take_drop (suc m) n (suc k) (x ∷ xs) e = take_drop m n k xs (omega arith)

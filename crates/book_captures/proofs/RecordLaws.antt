@@ -7,7 +7,8 @@ use Rattle.book_captures.specs.declared.pcap_head.PcapHead.{PcapHead}
 use Rattle.book_captures.specs.declared.pcap_head.RecordFault.{RecordFault}
 use Rattle.book_captures.specs.declared.pcap_head.RecordFault.TheVariants as record_fault
 use Rattle.book_captures.specs.PcapFiles.{nanoseconds, KeptPacket, record_time, pcap_record_at, IsPcapRecord}
-use Rattle.book_captures.proofs.Fronts.{four_front, take_drop}
+use Rattle.book_captures.proofs.Fronts.{four_front}
+use Rattle.book_base.proofs.ListLaws.{take_drop}
 
 time_front : (head : PcapHead) (xs ys : List ℕ) → 16 ≤ length xs → record_time head (xs ++ ys) ≡ record_time head xs
 time_front head xs ys le =

@@ -5,7 +5,8 @@ use Rattle.book_base.specs.declared.address.Socket.{Socket}
 use Rattle.book_segments.specs.Sockets.{same_address, same_socket}
 use Rattle.book_segments.specs.Segments.{Segment, Reading, Read, Bad, reading, has, SYN, ACK}
 use Rattle.book_keys.specs.Rows.{Table}
-use Rattle.book_keys.proofs.OverlapLaws.{same_address-refl, same_address-true}
+use Rattle.book_keys.proofs.OverlapLaws.{same_address-true}
+use Rattle.book_segments.proofs.SocketLaws.{same_address-refl}
 use Rattle.book_endpoint.specs.Verdicts.{Judgement}
 use Rattle.book_cmd_check.specs.Captures.{Stored, Connection, Heard, joins, with_connection, fixed, same_isns, most_connections, connection_between, hear_syn_ack, hear_later, hear_judged, judge_stored, hear_at, hear_read, hear, sayings_from}
 use Rattle.book_segments.specs.Segments.{pair_reached}

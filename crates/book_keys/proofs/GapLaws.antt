@@ -15,7 +15,7 @@ IsFailing good low n None = (t : ℕ) → low ≤ t → t < low + n → good t �
 IsFailing good low n (Some time) = (low ≤ time) × (time < low + n) × (good time ≡ false) × ((t : ℕ) → low ≤ t → t < time → good t ≡ true)
 
 -- the time itself, or a later one
-here_or_later : (low t : ℕ) → low ≤ t → (low ≡ t) ⊎ (low + 1 ≤ t)
+pub here_or_later : (low t : ℕ) → low ≤ t → (low ≡ t) ⊎ (low + 1 ≤ t)
 here_or_later zero zero h = inl refl
 here_or_later zero (suc t) h = inr (omega arith)
 here_or_later (suc low) zero h = absurd (omega arith)

@@ -14,13 +14,10 @@ use Rattle.book_segments.specs.Bytes.{same_bytes}
 use Rattle.book_segments.specs.Sockets.{same_address}
 use Rattle.book_keys.specs.Rows.{Row, names, fits_port, matches, sendable, acceptable}
 use Rattle.book_keys.specs.Overlaps.{BothAccept, BothSend, Overlap, peer_meets, peers_meet, ports_meet, lifetimes_meet, pairs_meet, accepts_meet, sends_meet, overlaps, AreApart, IsValid, TwoRows, two_rows, first_overlap, overlap_at, IsFirstOverlap}
+use Rattle.book_segments.proofs.SocketLaws.{same_address-refl}
 
 same_bytes-Decides : (a b : List ℕ) → Decides (same_bytes a b) (a ≡ b)
 same_bytes-Decides = compares_Decides same_bytes (search rules)
-
-pub same_address-refl : (a : Address) → same_address a a ≡ true
-same_address-refl (V4 a) = (same_bytes-Decides a a).1 refl
-same_address-refl (V6 a) = (same_bytes-Decides a a).1 refl
 
 pub same_address-true : (a b : Address) → same_address a b ≡ true → a ≡ b
 same_address-true (V4 a) (V4 b) h = ap V4 ((same_bytes-Decides a b).0 h)

@@ -67,7 +67,7 @@ accepted rows pair id now k d valid low e =
     let same : x.number - 1 ≡ k = one_accepts rows pair now (x.number - 1) k d valid (omega arith) low ours.0 theirs.0 (eqb_is _ _ ours.1 ∙ sym (eqb_is _ _ theirs.1)) in
     (x, found.1, sym here ∙ ap (λ i. get_or rows i d) same)
 
-same_algorithm_tells : (a b : Algorithm) → same_algorithm a b ≡ true → a ≡ b
+pub same_algorithm_tells : (a b : Algorithm) → same_algorithm a b ≡ true → a ≡ b
 same_algorithm_tells HmacSha1 HmacSha1 e = refl
 same_algorithm_tells AesCmac AesCmac e = refl
 same_algorithm_tells HmacSha256 HmacSha256 e = refl
@@ -99,10 +99,10 @@ same_key_tells one two e =
       flag = same_flag_tells one.with_options two.with_options b.1;
     }
 
-from_contains : (l : Lifetime) (t : ℕ) → contains l t ≡ true → (l.first ≤ t) × (t ≤ l.last)
+pub from_contains : (l : Lifetime) (t : ℕ) → contains l t ≡ true → (l.first ≤ t) × (t ≤ l.last)
 from_contains l t e = let b = and_tells (nat_le l.first t) (nat_le t l.last) e in (le_is l.first t b.0, le_is t l.last b.1)
 
-to_contains : (l : Lifetime) (t : ℕ) → l.first ≤ t → t ≤ l.last → contains l t ≡ true
+pub to_contains : (l : Lifetime) (t : ℕ) → l.first ≤ t → t ≤ l.last → contains l t ≡ true
 to_contains l t a b = and_true (nat_le l.first t) (nat_le t l.last) (grind (arith, nat_tests)) (grind (arith, nat_tests))
 
 -- the times of a rollover

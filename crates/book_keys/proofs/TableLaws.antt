@@ -71,7 +71,7 @@ at_without (r ∷ rs) zero (suc k) d = inl refl
 at_without (r ∷ rs) (suc n) zero d = inl refl
 at_without (r ∷ rs) (suc n) (suc k) d = at_without rs n k d
 
-length-without : (rows : List Row) (n : ℕ) → length (without_row rows n) ≡ length rows
+pub length-without : (rows : List Row) (n : ℕ) → length (without_row rows n) ≡ length rows
 length-without [] n = refl
 length-without (r ∷ rs) zero = refl
 length-without (r ∷ rs) (suc n) = ap suc (length-without rs n)

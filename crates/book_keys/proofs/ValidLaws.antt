@@ -34,11 +34,11 @@ all_push P (x ∷ ts) t all here (suc k) d lt = all_push P ts t (λ j e low. all
 abbrev Short : Table → Type 0
 Short t = length t.rows ≤ row_limit
 
-ok_is : {A : Type 0} (x y : A) → ◌≡◌ {A = Result A TableFault} (Ok x) (Ok y) → x ≡ y
+pub ok_is : {A : Type 0} (x y : A) → ◌≡◌ {A = Result A TableFault} (Ok x) (Ok y) → x ≡ y
 ok_is x y e = cc
 
 -- reading that went on and didn't fail
-then_ok : {A B : Type 0} (r : Result A TableFault) (f : A → Result B TableFault) (y : B) → (r >>= f) ≡ Ok y → (x : A) × (r ≡ Ok x) × (f x ≡ Ok y)
+pub then_ok : {A B : Type 0} (r : Result A TableFault) (f : A → Result B TableFault) (y : B) → (r >>= f) ≡ Ok y → (x : A) × (r ≡ Ok x) × (f x ≡ Ok y)
 then_ok (Ok x) f y e = (x, refl, e)
 then_ok (Err x) f y e = absurd (cc)
 

@@ -6,6 +6,7 @@ use Rattle.std.proofs.lemmas.List.{length-append, length-drop, length-take, leng
 use Rattle.book_macs.specs.Ciphers.{xor, aes, doubled, last_block, cmac_from, cmac}
 use Rattle.book_macs.specs.Padded.{blocks, block_count, is_complete, padded, subkey, with_subkey, chain}
 use Rattle.book_macs.proofs.LengthLaws.{length-xor}
+use Rattle.book_base.proofs.ListLaws.{take_drop}
 
 -- the chain over whole blocks, with a subkey in the last one
 abbrev through : List ℕ → List ℕ → List ℕ → List ℕ → ℕ → List ℕ
@@ -17,16 +18,6 @@ take_all zero [] le = refl
 take_all zero (x ∷ xs) le = absurd (omega arith)
 take_all (suc n) [] le = refl
 take_all (suc n) (x ∷ xs) le = ap (λ (ys : List ℕ). x ∷ ys) (take_all n xs (omega arith))
-
-take_none : (n : ℕ) → [] ≡ take {A = ℕ} n []
-take_none zero = refl
-take_none (suc n) = refl
-
-take_drop : (m n k : ℕ) (xs : List ℕ) → m ≡ n + k → drop k (take m xs) ≡ take n (drop k xs)
-take_drop m n zero xs e = let same : m ≡ n = omega arith in ap (λ (i : ℕ). take i xs) same
-take_drop zero n (suc k) xs e = absurd (omega arith)
-take_drop (suc m) n (suc k) [] e = take_none n
-take_drop (suc m) n (suc k) (x ∷ xs) e = take_drop m n k xs (omega arith)
 
 through_blocks : (k : ℕ) (key s state m : List ℕ) → length m ≡ 16 * k + 16
     → through key s state m k ≡ fold (chain key) state (blocks (suc k) (take (16 * k) m ++ xor (drop (16 * k) m) s))

@@ -113,11 +113,11 @@ ids false area ao e =
       rnext_key_id = refl;
     }
 
-v4_long : (a : Address) → IsV4 a → length (octets a) ≡ 4
+pub v4_long : (a : Address) → IsV4 a → length (octets a) ≡ 4
 v4_long (V4 bytes) h = h.0
 v4_long (V6 bytes) h = absurd h
 
-v6_long : (a : Address) → IsV6 a → length (octets a) ≡ 16
+pub v6_long : (a : Address) → IsV6 a → length (octets a) ≡ 16
 v6_long (V4 bytes) h = absurd h
 v6_long (V6 bytes) h = h.0
 

@@ -13,7 +13,7 @@ pub record_none : (order : ByteOrder) → record_at order [] ≡ Ends
 unfolding record_at
 record_none order = refl
 
-none_at : (order : ByteOrder) (text : List ℕ) → length text ≡ 0 → record_at order text ≡ Ends
+pub none_at : (order : ByteOrder) (text : List ℕ) → length text ≡ 0 → record_at order text ≡ Ends
 unfolding record_at
 none_at order text none = rw (eq-eqb (length text) 0 none) refl
 

@@ -17,6 +17,7 @@ use Rattle.book_base.specs.Fronts.{Front, Ends, Faulted, Leads}
 use Rattle.book_pcap.specs.Packets.{two_at, four_at, magic, order_of, link_of, head_in, head_of, and_rest, opened, Kept, RecordFault, Broken, record_at, Packet, Packets, FileFault, BadRecord, datagram_of, with_packet, with_datagrams, packets_in, packets_behind, packets_of}
 use Rattle.book_pcap.specs.PacketFiles.{link_number, IsHeader, IsRecord, AreRecords, IsBroken, IsFile}
 use Rattle.book_pcap.proofs.Captures.{record_none, record_short, record_over, record_part, record_whole, put, packets_by, packets_step}
+use Rattle.book_base.proofs.ListLaws.{take_drop}
 
 -- ---- numbers at a place
 
@@ -46,16 +47,6 @@ four_front Little xs ys i le =
     omega (arith, a, b)
 
 -- ---- a record
-
-take_none : (n : ℕ) → [] ≡ take {A = ℕ} n []
-take_none zero = refl
-take_none (suc n) = refl
-
-take_drop : (m n k : ℕ) (xs : List ℕ) → m ≡ n + k → drop k (take m xs) ≡ take n (drop k xs)
-take_drop m n zero xs e = let same : m ≡ n = omega arith in ap (λ (i : ℕ). take i xs) same
-take_drop zero n (suc k) xs e = absurd (omega arith)
-take_drop (suc m) n (suc k) [] e = take_none n
-take_drop (suc m) n (suc k) (x ∷ xs) e = take_drop m n k xs (omega arith)
 
 same_kept : (k : Kept) (seconds : ℕ) (bytes : List ℕ) → seconds ≡ k.seconds → bytes ≡ k.bytes → record { seconds = seconds; bytes = bytes } ≡ k
 same_kept k seconds bytes e f =

@@ -16,7 +16,7 @@ use Rattle.book_keys.specs.declared.plan.Plan.{Plan}
 use Rattle.book_keys.specs.declared.lifetime.Lifetime.{Lifetime}
 use Rattle.book_keys.specs.declared.lint.LintAnswer.{LintAnswer}
 use Rattle.book_keys.specs.declared.lint.LintAnswer.TheVariants as answer
-use Rattle.book_keys.proofs.GapLaws.{covered_is_sendable}
+use Rattle.book_keys.proofs.GapLaws.{covered_is_sendable, here_or_later}
 use Rattle.book_keys.specs.Lifetimes.{greatest_time, contains, is_covered}
 use Rattle.book_keys.specs.Rows.{Row}
 use Rattle.book_keys.specs.Plans.{mirrored, outlasts, Reason, NoPeerRow, ShortAccept, Misaligned, misaligned_by, misaligned_answer, unmet_reason, first_unmet, first_misaligned, has_sendable, send_lifetimes, first_failing, gap, lint_answer, lint_rows}
@@ -154,9 +154,6 @@ widened_outlasts lead lag r other good =
     (inside l (min greatest_time (r.sending.last + lag)) (omega arith) (omega arith))
 
 -- ---- the spans are the longest
-
-here_or_later : (low t : ℕ) → low ≤ t → (low ≡ t) ⊎ (low + 1 ≤ t)
-here_or_later low t h = elim (cases_lt low t) [ inl lt ↦ inr (omega arith) | inr ge ↦ inl (omega arith) ]
 
 -- what holds at a time and of the later ones
 from_here : (good : ℕ → Bool) (b : Bool) (low : ℕ) (P : ℕ → Type 0) → good low ≡ b → ((t : ℕ) → low + 1 ≤ t → P t → good t ≡ b) → (t : ℕ) → low ≤ t → P t → good t ≡ b

@@ -15,6 +15,7 @@ use Rattle.book_keys.proofs.GapLaws.{lint_aligned}
 use Rattle.book_plans.specs.declared.margin.Margin.{Margin}
 use Rattle.book_plans.specs.declared.margin.Margin.TheVariants.{UpTo, Any}
 use Rattle.book_plans.specs.Margins.{is_within, IsMargin, wider, narrower, widest, narrowest, time_before, time_after, margin_where, lead_by, lag_by, lead_of_row, lag_of_row, lead_from, lag_from, lead_margin, lag_margin, lead_margin_of, lag_margin_of, IsOrdered, AreOrdered, AlignedAtLead, AlignedAtLag, SaysAlignedAtLead, SaysAlignedAtLag}
+use Rattle.book_keys.proofs.PlanLaws.{from_contains, to_contains}
 
 -- ---- tests that hold together
 
@@ -73,12 +74,6 @@ within_narrower (Some (UpTo one)) (Some Any) n = and_true (nat_le n one)
 within_narrower (Some (UpTo one)) (Some (UpTo two)) n = within_min n one two
 
 -- ---- one row of the other end
-
-from_contains : (l : Lifetime) (t : ℕ) → contains l t ≡ true → (l.first ≤ t) × (t ≤ l.last)
-from_contains l t e = let b = and_tells (nat_le l.first t) (nat_le t l.last) e in (le_is l.first t b.0, le_is t l.last b.1)
-
-to_contains : (l : Lifetime) (t : ℕ) → l.first ≤ t → t ≤ l.last → contains l t ≡ true
-to_contains l t a b = both_true (nat_le l.first t) (nat_le t l.last) (le_true l.first t a) (le_true t l.last b)
 
 -- accepting from so long before, where it lasts until sending begins
 before_exactly : (accepted : Lifetime) (sent lead : ℕ) → sent ≤ accepted.last

@@ -21,6 +21,7 @@ use Rattle.book_keys.specs.Nodes.{node_name_of, node_address_of, rows_of, fields
 use Rattle.book_keys.specs.Times.{time_of}
 use Rattle.book_plans.proofs.TimeLaws.{some_is, time_bound}
 use Rattle.book_plans.specs.Margins.{IsOrdered, AreOrdered}
+use Rattle.book_keys.proofs.ValidLaws.{ok_is, then_ok}
 
 -- ---- times
 
@@ -33,14 +34,6 @@ time_or_bound absent None t low e = let same = some_is absent t e in omega arith
 time_or_bound absent (Some d) t low e = text_bound (as_str d) t e
 
 -- ---- columns
-
-ok_is : {A : Type 0} (x y : A) → ◌≡◌ {A = Result A TableFault} (Ok x) (Ok y) → x ≡ y
-ok_is x y e = cc
-
--- reading that went on and didn't fail
-then_ok : {A B : Type 0} (r : Result A TableFault) (f : A → Result B TableFault) (y : B) → (r >>= f) ≡ Ok y → (x : A) × (r ≡ Ok x) × (f x ≡ Ok y)
-then_ok (Ok x) f y e = (x, refl, e)
-then_ok (Err x) f y e = absurd (cc)
 
 there : {A : Type 0} (o : Option A) (f : TableFault) (x : A) → or_fault o f ≡ Ok x → o ≡ Some x
 there (Some y) f x e = ap Some (ok_is y x e)

@@ -29,12 +29,9 @@ use Rattle.book_scope_keys.specs.declared.finding.KeyPlace.{KeyPlace}
 use Rattle.book_scope_keys.specs.FieldTexts.{finding_at, finding_unless}
 use Rattle.book_scope_keys.specs.RowFindings.{keys_in, key_finding, unknown_findings, KeyField, field_at, field_unless, id_findings, name_findings, peer_finding, each_peer_finding, peers_findings, protocol_findings, is_algorithm_with, alg_id_findings, algorithm_findings, secret_findings, time_findings, order_findings, lifetime_findings, term_findings, port_findings, column_findings, row_findings}
 use Rattle.book_scope_keys.specs.FileFindings.{key_place, file_place, table_named, bare_table, new_name, new_address, node_name_findings, node_address_findings, rows_findings_from, rows_findings, node_keys, node_called, node_fields_findings, node_findings, names_with, addresses_with, nodes_findings_from, nodes_findings, field_findings, refused_findings, first_or_further, document_findings, key_findings}
+use Rattle.book_keys.proofs.ValidLaws.{then_ok}
 
 -- ---- reading that went on
-
-then_ok : {A B : Type 0} (r : Result A TableFault) (f : A → Result B TableFault) (y : B) → (r >>= f) ≡ Ok y → (x : A) × (r ≡ Ok x) × (f x ≡ Ok y)
-then_ok (Ok x) f y e = (x, refl, e)
-then_ok (Err x) f y e = absurd (cc)
 
 must_true : (b : Bool) (e : TableFault) (u : Unit {0}) → must b e ≡ Ok u → b ≡ true
 must_true true e u h = refl

@@ -6,6 +6,7 @@ use Rattle.book_base.specs.Fronts.{Front, Faulted, Leads}
 use Rattle.book_segments.proofs.OptionFronts.{Leading, by_front, walked, options_from}
 use Rattle.book_segments.specs.Options.{Opt, Options, Listed, Faulty, and_then, least, Sized, LengthFault, TooShort, TooLong, option_front, of_kind, listed, AreListed}
 use Rattle.book_segments.proofs.Fields.{eqb_is, lt_not}
+use Rattle.book_base.proofs.TestLaws.{by_bool}
 
 -- the list with so many zeros from 4 past a place on
 abbrev pub blanked : ℕ → ℕ → List ℕ → List ℕ
@@ -106,10 +107,6 @@ skipped a o os ns is old ao md5 =
 by_test : (P : Front Sized LengthFault → Type 0) (b : Bool) (t u : Front Sized LengthFault) → (b ≡ true → P t) → (b ≡ false → P u) → P (if b then t else u)
 by_test P true t u one two = one refl
 by_test P false t u one two = two refl
-
-by_bool : (P : Type 0) (b : Bool) → (b ≡ true → P) → (b ≡ false → P) → P
-by_bool P true one two = one refl
-by_bool P false one two = two refl
 
 least_ao : (kind : ℕ) → kind ≡ 29 → least kind ≡ 4
 least_ao kind e = subst (λ (k : ℕ). least k ≡ 4) (sym e) refl

@@ -3,6 +3,7 @@ pub mod AreaLaws
 pub mod Blanked
 pub mod ByteLaws
 pub mod Fields
+pub mod SocketLaws
 pub mod Folding
 pub mod Found
 pub mod Nearest

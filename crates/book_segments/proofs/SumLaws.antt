@@ -85,15 +85,15 @@ complement_completes b p = rw (complement_by b) ((completes (words_sum b)).1 p)
 pub is_right : (b : List ℕ) → 0 < words_sum b → words_sum b % 65535 ≡ 0 → sums b ≡ true
 is_right b p e = sums_by b ∙ rw (lt-ltb 0 (words_sum b) p, eq-eqb (words_sum b % 65535) 0 e) refl
 
-same_tcp : (d : Segment) (c n : ℕ) → tcp_bytes (with_sum d c) n ≡ tcp_bytes d n
+pub same_tcp : (d : Segment) (c n : ℕ) → tcp_bytes (with_sum d c) n ≡ tcp_bytes d n
 unfolding tcp_bytes header
 same_tcp d c n = refl
 
-same_pseudo_of : (ip : IpHeader) (d : Segment) (c : ℕ) (rest : List ℕ) → pseudo_of ip (with_sum d c) rest ≡ pseudo_of ip d rest
+pub same_pseudo_of : (ip : IpHeader) (d : Segment) (c : ℕ) (rest : List ℕ) → pseudo_of ip (with_sum d c) rest ≡ pseudo_of ip d rest
 same_pseudo_of (Ipv4 service identification flags ttl checksum options) d c rest = refl
 same_pseudo_of (Ipv6 class_flow hops) d c rest = refl
 
-same_pseudo : (d : Segment) (c : ℕ) (rest : List ℕ) → pseudo (with_sum d c) rest ≡ pseudo d rest
+pub same_pseudo : (d : Segment) (c : ℕ) (rest : List ℕ) → pseudo (with_sum d c) rest ≡ pseudo d rest
 unfolding pseudo
 same_pseudo d c rest = same_pseudo_of d.ip d c rest
 

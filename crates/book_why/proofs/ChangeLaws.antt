@@ -13,6 +13,7 @@ use Rattle.book_why.specs.declared.change.SegmentNode.{SegmentNode}
 use Rattle.book_why.specs.declared.change.SegmentNode.TheVariants.{Receiver, Sender}
 use Rattle.book_why.specs.Changes.{BothTables, all_changes, changed, passes_changed, row_changes, rowless_changes, rows_there, table_at, would_pass}
 use Rattle.book_why.specs.Recipes.{Suspect, mac_made}
+use Rattle.book_segments.proofs.SocketLaws.{same_bytes-refl}
 
 none : {X : Type 0} → (x : X) → Contains [] x → ⊥
 none x h = omega (arith, h.1)
@@ -57,10 +58,6 @@ filter_from test (x ∷ xs) y h t = at (λ f. filter_from test xs y f t) (front_
     at later (inl e) false q = absurd (let same : test x ≡ test y = ap test e in cc)
     at later (inr f) true q = behind (filter test xs) x y (later f)
     at later (inr f) false q = later f
-
-pub same_bytes-refl : (xs : List ℕ) → same_bytes xs xs ≡ true
-same_bytes-refl [] = refl
-same_bytes-refl (x ∷ xs) = let same : (x == x) ≡ true = grind (arith, nat_tests) in rw same (same_bytes-refl xs)
 
 pub passing_told : (both : BothTables) (s : Suspect) (change : Change) → Contains (would_pass both s) change ↔ (Contains (all_changes both) change × (s.ao.mac ≡ mac_made (changed change both s)))
 passing_told both s change = (to, from)

@@ -18,7 +18,7 @@ use Rattle.book_endpoint.specs.declared.verdict.Verdict.TheVariants.{NoTuple, Ex
 use Rattle.book_endpoint.specs.States.{number_limit}
 use Rattle.book_endpoint.specs.Verdicts.{Finding, Judgement, Known, found_with, judge, mac_of, one_ao, require, row_taking, segment_number}
 use Rattle.book_base.specs.Algorithms.{mac_length_of}
-use Rattle.book_why.proofs.ChangeLaws.{same_bytes-refl}
+use Rattle.book_segments.proofs.SocketLaws.{same_bytes-refl}
 use Rattle.book_why.specs.Judging.{ComesToItsMac, row_as, suspect_context, suspect_finding}
 use Rattle.book_why.specs.Recipes.{Suspect, covered_with, key_made, mac_made, recipe_of}
 

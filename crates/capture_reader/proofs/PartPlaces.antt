@@ -20,7 +20,7 @@ use Rattle.capture_reader.specs.declared.parts.PartSays.{PartSays}
 use Rattle.capture_reader.specs.declared.parts.PartSays.TheVariants as says
 use Rattle.capture_reader.specs.Places.{placed}
 use Rattle.capture_reader.specs.FoundParts.{seen_said, seen_part, block_says, moved_by, IsWithin}
-use Rattle.book_captures.proofs.Fronts.{take_drop}
+use Rattle.book_base.proofs.ListLaws.{take_drop}
 use Rattle.book_captures.proofs.RecordLaws.{record_found}
 
 -- these bytes lie behind so many, within all

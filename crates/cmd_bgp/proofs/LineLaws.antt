@@ -1,10 +1,7 @@
 -- Texts put into a line one after another.
 use Rattle.std.proofs.Common.{◌≡◌, ℕ, List, [], ◌∷◌, ◌++◌, Result, Ok, Err, OnOk, refl, sym, ap, ◌∙◌, append_assoc}
 use Rattle.book_lines.specs.Texts.{line_text, spaced}
-
-spaced_more : (xs ys : List (List ℕ)) → spaced xs ++ spaced ys ≡ spaced (xs ++ ys)
-spaced_more [] ys = refl
-spaced_more (x ∷ xs) ys = ap (λ t. 32 ∷ t) (append_assoc x (spaced xs) (spaced ys) ∙ ap (λ t. x ++ t) (spaced_more xs ys))
+use Rattle.link_report.proofs.TextLaws.{spaced_more}
 
 -- a first text, two lists of texts, and a newline
 pub in_turn : {T E : Type 0} (r : Result T E) (out x y z line : List ℕ) (n : List ℕ) (p q : List (List ℕ)) → x ≡ out ++ n → y ≡ x ++ spaced p → z ≡ y ++ spaced q

@@ -17,6 +17,7 @@ use Rattle.cmd_check.specs.CheckedLines.{Checks, HasRead, Stops, segments_of, wr
 use Rattle.cmd_check.specs.Judges.{HasHeard, Judging}
 use Rattle.cmd_check.specs.declared.halt.Halt.TheVariants as halt
 use Rattle.cmd_check.proofs.RunLaws.{input_is, line_refused, run_none}
+use Rattle.book_base.proofs.TestLaws.{either}
 
 -- between two lines: these were read, none of them faulty, and the lines of their segments were written
 pub record Going (tables : List Table) (reading : Reading) (judging : Judging) (number : ℕ) (given : List ℕ) (read : List (List ℕ)) (source_before source_now out_before out_now : Side) : Type 0 where
@@ -52,10 +53,6 @@ going_none tables reading judging source out is same heard = rw is (record {
 
 neither : (b : Bool) → b ≡ false → b ≡ true → ⊥
 neither b f t = absurd (cc)
-
-pub either : (b : Bool) → (b ≡ true) ⊎ (b ≡ false)
-either true = inl refl
-either false = inr refl
 
 too_long : (n : ℕ) (line : List ℕ) → 131200 < length line → stored_line n line ≡ Err Range
 unfolding stored_line

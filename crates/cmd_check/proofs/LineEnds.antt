@@ -14,7 +14,8 @@ use Rattle.cmd_check.specs.CheckedLines.{BreaksLine, Checks, HasRead, JudgedLine
 use Rattle.cmd_check.specs.declared.halt.Halt.{Halt}
 use Rattle.cmd_check.specs.Judges.{Judging}
 use Rattle.cmd_check.specs.declared.halt.Halt.TheVariants as halt
-use Rattle.cmd_check.proofs.Goings.{Going, either, has_read, lines_then, no_lines}
+use Rattle.cmd_check.proofs.Goings.{Going, has_read, lines_then, no_lines}
+use Rattle.book_base.proofs.TestLaws.{either}
 use Rattle.cmd_check.proofs.RunLaws.{input_is, line_refused}
 
 end_of : (text line rest : List ℕ) (b : Bool) (side : Side) → b ≡ true → IsCut text line rest b side → IsAtEnd side

@@ -20,14 +20,8 @@ use Rattle.std.specs.Result.{result_ok}
 use Rattle.hex.specs.Hex.{IsBytes, decode_of}
 use Rattle.hex.specs.declared.error.FromHexError.{FromHexError}
 use Rattle.hex.proofs.HexLemmas.{decode_of-ok}
-
--- reading that went on and didn't fail
-then_ok : {A B : Type 0} (r : Result A TableFault) (f : A → Result B TableFault) (y : B) → (r >>= f) ≡ Ok y → (x : A) × (r ≡ Ok x) × (f x ≡ Ok y)
-then_ok (Ok x) f y e = (x, refl, e)
-then_ok (Err x) f y e = absurd (cc)
-
-ok_is : {A : Type 0} (x y : A) → ◌≡◌ {A = Result A TableFault} (Ok x) (Ok y) → x ≡ y
-ok_is x y e = cc
+use Rattle.law_scripts.proofs.WordRanges.{decoded}
+use Rattle.book_keys.proofs.ValidLaws.{ok_is, then_ok}
 
 fault_ok : {A : Type 0} (o : Option A) (e : TableFault) (x : A) → or_fault o e ≡ Ok x → o ≡ Some x
 fault_ok (Some y) e x h = cc
@@ -77,10 +71,6 @@ ids_ok n r ms ids h =
     )
 
 -- ---- the master key
-
-decoded : (w : List ℕ) (r : Result (List ℕ) FromHexError) (bytes : List ℕ) → result_ok r ≡ Some bytes → r ≡ Ok bytes
-decoded w (Ok x) bytes h = cc h
-decoded w (Err e) bytes h = absurd (cc h)
 
 hex_bytes : (w bytes : List ℕ) → bytes_of_hex w ≡ Some bytes → IsBytes bytes
 unfolding bytes_of_hex

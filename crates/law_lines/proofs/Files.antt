@@ -20,7 +20,8 @@ use Rattle.book_scope.specs.PacketLines.{packet_lines}
 use Rattle.book_sessions.specs.Sessions.{all_stored}
 use Rattle.book_base.specs.Hexadecimal.{IsByte}
 use Rattle.law_lines.specs.SeenPackets.{IsSeen, AreSeen}
-use Rattle.law_lines.proofs.Lines.{by_places, lines_judged}
+use Rattle.law_lines.proofs.Lines.{lines_judged}
+use Rattle.law_pcap.proofs.Records.{by_places}
 
 four_low : (order : ByteOrder) (text : List ℕ) (i : ℕ) → IsBytes text → four_at order text i < 4294967296
 four_low Big text i small = let a = small i in let b = small (i + 1) in let d = small (i + 2) in let e = small (i + 2 + 1) in omega arith

@@ -26,6 +26,7 @@ use Rattle.law_lines.specs.SeenPackets.{IsSeen, AreSeen}
 use Rattle.law_lines.proofs.Datagrams.{IsFound, is_found}
 use Rattle.law_lines.proofs.Reasons.{link_number}
 use Rattle.law_pcap.proofs.StoredWords.{stored_back, stored_plain}
+use Rattle.law_pcap.proofs.Records.{by_places}
 
 -- ---- no newline stands within a line
 
@@ -104,12 +105,6 @@ unfolding stored_line words_of says_something
 remark_back n number text short = rw (le-ltb 131200 (length (remark number text)) short) refl
 
 -- ---- a datagram is said
-
-pub by_places : (xs : List ℕ) → All IsByte xs → IsBytes xs
-by_places xs all = λ i. elim (cases_lt i (length xs)) [
-  | inl within ↦ All-get_or IsByte xs i 0 within all
-  | inr behind ↦ rw (get_or_past xs i 0 behind) (omega arith)
-]
 
 -- ---- each line
 

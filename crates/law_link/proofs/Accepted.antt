@@ -14,7 +14,7 @@ use Rattle.book_segments.proofs.Fields.{and_tells}
 use Rattle.book_macs.specs.Contexts.{context, context_known, context_of_syn, context_of_later, context_of}
 use Rattle.book_keys.specs.Rows.{Row}
 use Rattle.book_keys.specs.Choices.{Numbered, accept_row}
-use Rattle.book_keys.proofs.OverlapLaws.{same_address-refl}
+use Rattle.book_segments.proofs.SocketLaws.{same_address-refl}
 use Rattle.book_endpoint.specs.States.{EndState}
 use Rattle.book_endpoint.specs.Verdicts.{Judgement, mac_of, found_with, segment_number}
 use Rattle.book_endpoint.proofs.JudgeSteps.{judge_mac, judge_number, judge_context, judge_row, judge_ao, judge_by_steps}
@@ -22,13 +22,6 @@ use Rattle.book_endpoint.specs.Arrivals.{number_expected, numbers_known, judged_
 use Rattle.law_link.proofs.Tests.{choose}
 use Rattle.book_link.specs.Worlds.{is_known}
 use Rattle.law_link.proofs.Sessions.{known_is}
-
-pub same_bytes-refl : (xs : List ℕ) → same_bytes xs xs ≡ true
-same_bytes-refl [] = refl
-same_bytes-refl (x ∷ xs) = let same : (x == x) ≡ true = grind (arith, nat_tests) in rw same (same_bytes-refl xs)
-
-pub same_socket-refl : (k : Socket) → same_socket k k ≡ true
-same_socket-refl k = let same : (k.port == k.port) ≡ true = grind (arith, nat_tests) in rw (same_address-refl k.address, same) refl
 
 -- ---- the number meant
 

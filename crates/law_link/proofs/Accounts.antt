@@ -11,6 +11,7 @@ use Rattle.book_endpoint.specs.Verdicts.{Key, key_of, same_master_key, Finding}
 use Rattle.book_link.specs.Worlds.{other, same_end, Setup, Made, Happening, Making, Coming, World, side, accounts_for, was_made, forged}
 use Rattle.law_link.specs.Laws.{IsAmong}
 use Rattle.law_link.proofs.Invariant.{MadeOk, AllMadeOk}
+use Rattle.book_keys.proofs.PlanLaws.{same_algorithm_tells}
 
 pub record Found (setup : Setup) (w : World) (at : End) (p : Finding) (past : List Happening) : Type 0 where
   pub made : Made
@@ -41,18 +42,6 @@ unforged false e = absurd (cc)
 pub none_forged : (at : End) (o : Option Finding) (p : Finding) (past : List Happening) → o ≡ Some p → forged at o past ≡ 0 → was_made at p past ≡ true
 none_forged at None p past e z = absurd (cc)
 none_forged at (Some q) p past e z = subst (λ (x : Finding). was_made at x past ≡ true) (some_is q p e) (unforged (was_made at q past) z)
-
--- the same key is of the same algorithm
-same_algorithm_tells : (a b : Algorithm) → same_algorithm a b ≡ true → a ≡ b
-same_algorithm_tells HmacSha1 HmacSha1 e = refl
-same_algorithm_tells AesCmac AesCmac e = refl
-same_algorithm_tells HmacSha256 HmacSha256 e = refl
-same_algorithm_tells HmacSha1 AesCmac e = absurd (cc)
-same_algorithm_tells HmacSha1 HmacSha256 e = absurd (cc)
-same_algorithm_tells AesCmac HmacSha1 e = absurd (cc)
-same_algorithm_tells AesCmac HmacSha256 e = absurd (cc)
-same_algorithm_tells HmacSha256 HmacSha1 e = absurd (cc)
-same_algorithm_tells HmacSha256 AesCmac e = absurd (cc)
 
 same_key_algorithm : (k l : Key) → same_master_key k l ≡ true → k.algorithm ≡ l.algorithm
 same_key_algorithm k l e = same_algorithm_tells k.algorithm l.algorithm (and_tells (same_algorithm k.algorithm l.algorithm) (same_bytes k.master l.master) e).0

@@ -30,12 +30,14 @@ use Rattle.book_endpoint.specs.declared.arrival.Arrival.TheVariants.{Bad, Foreig
 use Rattle.book_endpoint.specs.Arrivals.{Arrived, unmoved, heard, number_expected, numbers_known, judged_by, from_peer, arrive}
 use Rattle.endpoint_steps.specs.Arriving.{after_check, arrive_judged, arrive_read}
 use Rattle.endpoint_steps.proofs.Arriving.{read_by_cases}
-use Rattle.law_link.proofs.Tests.{choose, not_false}
+use Rattle.law_link.proofs.Tests.{choose}
+use Rattle.book_base.proofs.TestLaws.{not_false}
 use Rattle.law_link.proofs.Phases.{waits}
 use Rattle.law_link.proofs.Sound.{Sound, Later, later_refl, steady_later, steady_sound}
 use Rattle.law_link.proofs.Moves.{MovedOk, after_check_ok}
 use Rattle.law_link.proofs.Gains.{meant_is, Gains, UnheardIn, after_check_gains}
 use Rattle.law_link.proofs.Whole.{Whole, after_check_whole}
+use Rattle.book_segments.proofs.SocketLaws.{same_address_is, same_socket_is}
 
 -- ---- the number of a segment
 
@@ -107,20 +109,6 @@ judged rows pair now s d fits =
 
 -- ---- the arrival
 
-same_address_is : (one two : Address) → same_address one two ≡ true → one ≡ two
-same_address_is (V4 a) (V4 b) e = ap V4 (same_bytes_tells a b e)
-same_address_is (V6 a) (V6 b) e = ap V6 (same_bytes_tells a b e)
-same_address_is (V4 a) (V6 b) e = absurd (cc)
-same_address_is (V6 a) (V4 b) e = absurd (cc)
-
-pub same_socket_is : (one two : Socket) → same_socket one two ≡ true → one ≡ two
-same_socket_is one two e =
-    let t = and_tells (same_address one.address two.address) (one.port == two.port) e in
-    let address = same_address_is one.address two.address t.0 in
-    let port = eqb_is one.port two.port t.1 in
-    let half : one ≡ record { address = two.address; port = one.port } = ap (λ (a : Address). let k : Socket = record { address = a; port = one.port } in k) address in
-    half ∙ ap (λ (n : ℕ). let k : Socket = record { address = two.address; port = n } in k) port
-
 -- what is known of an arrival that passed
 pub record Passing (pair : Pair) (s : EndState) (bytes : List ℕ) (p : Finding) : Type 0 where
   pub segment : Segment
@@ -142,7 +130,7 @@ pub record ArrivedOk (pair : Pair) (s : EndState) (bytes : List ℕ) (r : Arrive
 passed_is : (p q : Finding) → Some p ≡ Some q → p ≡ q
 passed_is p q e = cc
 
-segment_is : (d e : Segment) → Read d ≡ Read e → d ≡ e
+pub segment_is : (d e : Segment) → Read d ≡ Read e → d ≡ e
 segment_is d e is = cc
 
 still_ok : (pair : Pair) (s : EndState) (bytes : List ℕ) (answer : Arrival) → (answer ≡ Reset → ⊥) → Sound s → Whole s → ArrivedOk pair s bytes (unmoved s answer)

@@ -7,7 +7,9 @@ use Rattle.book_endpoint.specs.declared.phase.Phase.{Phase}
 use Rattle.book_endpoint.specs.declared.phase.Phase.TheVariants.{Listen, SynSent, Closed}
 use Rattle.book_endpoint.specs.States.{EndState, first, ready, is_closed, room, gives, give, taking, close_in, abort_resets, abort}
 use Rattle.book_segments.specs.Received.{below_limit, bytes_from}
-use Rattle.law_link.proofs.Tests.{choose, not_true, not_false}
+use Rattle.law_link.proofs.Tests.{choose}
+use Rattle.book_base.proofs.TestLaws.{not_true}
+use Rattle.book_base.proofs.TestLaws.{not_false}
 use Rattle.law_link.proofs.Sound.{Sound, later_refl, steady_later, steady_sound, with_phase}
 use Rattle.law_link.proofs.Phases.{closed_ok, closed_kept, resets_speaks}
 use Rattle.law_link.proofs.Lists.{bytes_from-add, length-bytes_from, take-bytes_from}

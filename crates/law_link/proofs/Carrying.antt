@@ -6,7 +6,8 @@ use Rattle.book_segments.proofs.Fields.{and_tells, eqb_is}
 use Rattle.book_endpoint.specs.States.{EndState, given_end}
 use Rattle.book_endpoint.specs.Emissions.{Draft, is_sending, is_silent, is_syn_sent, is_syn_received, unsent, slice_at, rst_draft, syn_draft, syn_ack_draft, data_draft, again_draft, fin_draft, fin_again_draft, ack_draft, sends_data, sends_fin, fitting, resends, is_blocked, sets}
 use Rattle.endpoint_steps.specs.Drafting.{to_emit, unacknowledged, probe, to_resend}
-use Rattle.law_link.proofs.Tests.{choose, not_true}
+use Rattle.law_link.proofs.Tests.{choose}
+use Rattle.book_base.proofs.TestLaws.{not_true}
 use Rattle.law_link.proofs.Drafts.{sends_data_says, sends_fin_says}
 use Rattle.law_link.proofs.Lists.{slice_get-append, slice_get-take, slice_get-drop}
 use Rattle.law_link.proofs.Phases.{sending_open, sending_speaks, resends_open, resends_speaks, syn_received_speaks}

@@ -12,7 +12,8 @@ use Rattle.book_endpoint.specs.States.{EndState, own_mss, given_end}
 use Rattle.book_keys.specs.Coordination.{Sending}
 use Rattle.book_endpoint.specs.Emissions.{Draft, is_sending, is_silent, is_syn_sent, is_syn_received, unsent, slice_at, rst_draft, syn_draft, syn_ack_draft, data_draft, again_draft, fin_draft, fin_again_draft, ack_draft, window_end, sends_data, sends_fin, fitting, resends, is_blocked, sets, most_bytes}
 use Rattle.endpoint_steps.specs.Drafting.{to_emit, unacknowledged, probe, to_resend}
-use Rattle.law_link.proofs.Tests.{choose, by_bool}
+use Rattle.law_link.proofs.Tests.{choose}
+use Rattle.book_base.proofs.TestLaws.{by_bool}
 use Rattle.law_link.proofs.Phases.{fin_gone, sending_unfinished, fin_sent_gone, fin_sent_knows, resends_made, syn_sent_unfinished, syn_received_unfinished}
 use Rattle.law_link.proofs.Sound.{Sound, Later, later_refl, later_next}
 

@@ -13,7 +13,7 @@ use Rattle.book_endpoint.specs.declared.arrival.Arrival.TheVariants.{Challenge, 
 use Rattle.book_endpoint.specs.Arrivals.{syn_alone, syn_ack_alone}
 use Rattle.book_endpoint.specs.Hearing.{Moved, answered, owing, above, in_range, fits_window, rested, finish, past_fin, pass_fin, fin_of, after_own_fin, acked_fin, windowed, acked}
 use Rattle.endpoint_steps.specs.Arriving.{reset, heard_runs, hear_data, go_on, acknowledged, ordinary, after_check}
-use Rattle.law_link.proofs.Tests.{not_false}
+use Rattle.book_base.proofs.TestLaws.{not_false}
 use Rattle.law_link.proofs.Moves.{following}
 use Rattle.law_link.proofs.Stream.{fm_low, keep-cases}
 use Rattle.book_segments.specs.Bytes.{ring}

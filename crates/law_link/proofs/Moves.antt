@@ -11,7 +11,8 @@ use Rattle.book_endpoint.specs.declared.arrival.Arrival.TheVariants.{Unexpected,
 use Rattle.book_endpoint.specs.Arrivals.{syn_alone, syn_ack_alone}
 use Rattle.book_endpoint.specs.Hearing.{Moved, answered, owing, above, in_range, fits_window, rested, finish, past_fin, pass_fin, fin_of, after_own_fin, acked_fin, windowed, acked, told_by_syn}
 use Rattle.endpoint_steps.specs.Arriving.{heard_runs, hear_data, go_on, acknowledged, ordinary, after_check}
-use Rattle.law_link.proofs.Tests.{choose, not_false}
+use Rattle.law_link.proofs.Tests.{choose}
+use Rattle.book_base.proofs.TestLaws.{not_false}
 use Rattle.law_link.proofs.Phases.{waits, PhaseOk, own_ok, past_ok, closed_ok, established_ok, received_ok, answered_ok}
 use Rattle.law_link.proofs.Sound.{Sound, Steady, steady_refl, steady_then, with_phase, learns}
 use Rattle.book_segments.specs.Bytes.{ring}
@@ -82,7 +83,7 @@ acked_steady : (s : EndState) (a : Option ℕ) → Steady s (acked s a)
 acked_steady s None = steady_refl s
 acked_steady s (Some a) = choose (Steady s) (nat_lt s.una a) (record s { una = a }) s (λ e. steady_refl s) (λ e. steady_refl s)
 
-acked_phase : (s : EndState) (a : Option ℕ) (phase : Phase) → s.phase ≡ phase → (acked s a).phase ≡ phase
+pub acked_phase : (s : EndState) (a : Option ℕ) (phase : Phase) → s.phase ≡ phase → (acked s a).phase ≡ phase
 acked_phase s None phase is = is
 acked_phase s (Some a) phase is = choose (λ (t : EndState). t.phase ≡ phase) (nat_lt s.una a) (record s { una = a }) s (λ e. is) (λ e. is)
 

@@ -28,7 +28,7 @@ use Rattle.book_link.specs.Worlds.{other, Setup, pair_of, Session, Made, Came, C
 use Rattle.book_link.specs.Steps.{step}
 use Rattle.law_link.specs.Laws.{SetupFits, EventFits, IsAmong, Repeats, FromPartner, Arrives, HasOrigin, ResetsByAbort}
 use Rattle.law_link.proofs.Invariant.{live_sound, live_whole, MadeBy, Inv, blank_in, blank_fits}
-use Rattle.law_link.proofs.Arriving.{Passing, ArrivedOk, arrive_ok}
+use Rattle.law_link.proofs.Arriving.{Passing, ArrivedOk, arrive_ok, segment_is}
 use Rattle.law_link.proofs.Accounts.{Found, found_made, none_forged, Accounts, accounts_tell}
 use Rattle.law_link.proofs.Comings.{came_by}
 use Rattle.law_link.proofs.Sessions.{partner_is}
@@ -174,9 +174,6 @@ origin_of setup w at s bytes p fits sound g f =
 
 session_is : (a b : Session) → Some a ≡ Some b → a ≡ b
 session_is a b e = cc
-
-segment_is : (d e : Segment) → Read d ≡ Read e → d ≡ e
-segment_is d e is = cc
 
 -- an arrival of an event of a world without a forgery
 record Came0 (setup : Setup) (w : World) (r : Came) (s : Session) : Type 0 where

@@ -30,7 +30,9 @@ use Rattle.endpoint_steps.specs.Arriving.{after_check, arrive_judged, arrive_rea
 use Rattle.book_endpoint.specs.Emissions.{Draft, Emission, sets, written, blank, own_ao, seal_of, input_of}
 use Rattle.endpoint_steps.proofs.Arriving.{read_by_cases}
 use Rattle.book_segments.specs.Spelling.{finished}
-use Rattle.law_link.proofs.Tests.{choose, by_bool, not_true}
+use Rattle.law_link.proofs.Tests.{choose}
+use Rattle.book_base.proofs.TestLaws.{not_true}
+use Rattle.book_base.proofs.TestLaws.{by_bool}
 use Rattle.law_link.proofs.Sound.{Sound, Later}
 use Rattle.law_link.proofs.Moves.{MovedOk, after_check_ok}
 use Rattle.law_link.proofs.Drafts.{DraftOk}
@@ -41,7 +43,9 @@ use Rattle.book_link.specs.Steps.{Act, act_on, come, deliver, step, view_of}
 use Rattle.law_link.specs.Laws.{SetupFits, IsNear, RollsOver, IsHeard, IsAdmitted, TablesFit}
 use Rattle.law_link.proofs.Invariant.{live_sound, Inv, mac_in, row_in, wired}
 use Rattle.law_link.proofs.Running.{named_ok}
-use Rattle.law_link.proofs.Accepted.{same_bytes-refl, same_socket-refl, option_is, meant_near, context_met, Passes, judged_pass}
+use Rattle.law_link.proofs.Accepted.{option_is, meant_near, context_met, Passes, judged_pass}
+use Rattle.book_segments.proofs.SocketLaws.{same_socket-refl}
+use Rattle.book_segments.proofs.SocketLaws.{same_bytes-refl}
 use Rattle.law_link.proofs.Sessions.{known_is}
 
 -- ---- the answer

@@ -25,7 +25,7 @@ grows_head s u rest l isn t e =
     let r = head_if s u rest isn t (s.state.isn == isn) l e in
     (r.0, subst (λ (n : ℕ). (if n == isn then Some u else find rest isn) ≡ Some r.0) (sym l.same_isn) r.1, r.2)
 
-new_if : (u : Session) (rest : List Session) (isn : ℕ) (t : Session) (b : Bool) → (u.state.isn == isn) ≡ b → find rest u.state.isn ≡ None → find rest isn ≡ Some t
+pub new_if : (u : Session) (rest : List Session) (isn : ℕ) (t : Session) (b : Bool) → (u.state.isn == isn) ≡ b → find rest u.state.isn ≡ None → find rest isn ≡ Some t
     → (if b then Some u else find rest isn) ≡ Some t
 new_if u rest isn t true h none e = let same : u.state.isn ≡ isn = eqb_is u.state.isn isn h in absurd (cc)
 new_if u rest isn t false h none e = e

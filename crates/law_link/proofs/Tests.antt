@@ -7,18 +7,6 @@ pub choose : {X : Type 0} (P : X → Type 0) (b : Bool) (t u : X) → (b ≡ tru
 choose P true t u one two = one refl
 choose P false t u one two = two refl
 
-pub by_bool : (P : Type 0) (b : Bool) → (b ≡ true → P) → (b ≡ false → P) → P
-by_bool P true one two = one refl
-by_bool P false one two = two refl
-
-pub not_true : (b : Bool) → not b ≡ true → b ≡ false
-not_true true e = absurd (cc)
-not_true false e = refl
-
-pub not_false : (b : Bool) → not b ≡ false → b ≡ true
-not_false true e = refl
-not_false false e = absurd (cc)
-
 pub and_false : (a b : Bool) → a ≡ true → (a && b) ≡ false → b ≡ false
 and_false true b e f = f
 and_false false b e f = absurd (cc)

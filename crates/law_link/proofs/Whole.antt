@@ -13,7 +13,7 @@ use Rattle.book_endpoint.specs.Arrivals.{syn_alone, syn_ack_alone}
 use Rattle.book_endpoint.specs.Hearing.{Moved, owing, above, in_range, fits_window, rested, finish, past_fin, pass_fin, fin_of, after_own_fin, acked_fin, windowed, acked}
 use Rattle.endpoint_steps.specs.Arriving.{heard_runs, hear_data, go_on, acknowledged, ordinary, after_check}
 use Rattle.book_endpoint.specs.Emissions.{is_silent}
-use Rattle.law_link.proofs.Tests.{not_true}
+use Rattle.book_base.proofs.TestLaws.{not_true}
 use Rattle.law_link.proofs.Phases.{waits, open_now, PhaseKept, own_kept, past_kept, closed_kept, hears_speaks}
 use Rattle.law_link.proofs.Sound.{Sound}
 use Rattle.law_link.proofs.Moves.{following}

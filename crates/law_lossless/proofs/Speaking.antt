@@ -20,7 +20,7 @@ use Rattle.law_progress.proofs.Acting.{StaysUp}
 use Rattle.law_progress.proofs.Facts.{Ends}
 use Rattle.law_progress.proofs.Kept.{facts_step}
 use Rattle.law_progress.proofs.Making.{Rest, takes, Numbers, Makes, not_both, send_case}
-use Rattle.law_progress.proofs.Trips.{Over, sends_so, same_rest, same_stays}
+use Rattle.law_progress.proofs.Trips.{Over, sends_so, same_rest, same_stays, gone_there}
 use Rattle.law_progress.proofs.Turning.{Two, far_ends, near_lives, AfterMade, AfterQuiet, Gone, all_taken, two_taken, two_far, took_window, or_owed, turn_made, turn_quiet}
 use Rattle.law_lossless.specs.Lossless.{speaking}
 use Rattle.law_lossless.proofs.Advancing.{makes_next}
@@ -238,10 +238,6 @@ module _ (setup : Setup) (fits : SetupFits setup) (w : World) (lead lag : ℕ) (
       c.which)
 
 -- ---- either end speaks
-
-gone_there : (setup : Setup) (v : World) (e : End) (s t : EndState) → Gone setup v (other e) s t → Over setup v e s t
-gone_there setup v A s t g = record { over = g.over; here = g.far; there = g.near }
-gone_there setup v B s t g = record { over = g.over; here = g.far; there = g.near }
 
 -- what holds once an end of state a spoke to one of state b, or often did
 abbrev pub Spoke : Setup → World → ℕ → ℕ → End → EndState → EndState → Type 0

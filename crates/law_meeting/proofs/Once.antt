@@ -30,6 +30,7 @@ use Rattle.law_stack.proofs.Timed.{Rings, TidyRings, ask_both, clocked_rings, em
 use Rattle.law_stack.proofs.Turned.{clocked_anew}
 use Rattle.law_meeting.proofs.Waking.{arrived_later}
 use Rattle.law_meeting.specs.Once.{is_resend, sends_again, sends_any_again, IsAt, NoneExpired, SendsOnce}
+use Rattle.law_stack.proofs.Sleeping.{line_alarms}
 
 -- ---- no alarm is reached, as no timer has expired
 
@@ -92,11 +93,6 @@ clocked_fresh now s both none = record { once = once (s.node.clock == now / 1000
     alarms : (v : Bool) → due now (let t : Turn = if v then passing s else clocked_anew now s in t.stack.alarms) ≡ 0
     alarms true = none
     alarms false = none
-
-line_alarms : (p : Pair) (o : NodeOutcome) (t : StackState) → (asked_line p o t).alarms ≡ t.alarms
-line_alarms p (Transmitted x) t = refl
-line_alarms p NoUsableKey t = refl
-line_alarms p o t = refl
 
 pub asked_due : (now : ℕ) (p : Pair) (e : EndState) (c : Called) (s : StackState) → Rings s → due now s.alarms ≡ 0 → due now (asked_end now p e c s).stack.alarms ≡ 0
 asked_due now p e c s h none =

@@ -7,7 +7,7 @@ use Rattle.book_stack.specs.declared.front.Front.{Front}
 use Rattle.book_stack.specs.declared.front.Timed.{Timed}
 use Rattle.book_stack.specs.Millis.{sampled_millis, slowed}
 use Rattle.book_stack.specs.Watches.{ConnectionWatch, after_acknowledgement, after_handshake, after_sample, arrived, hearing, is_heard, is_opening, is_time_wait, rests_now, time_wait_end, timer_started, timer_stopped}
-use Rattle.law_stack.proofs.Timed.{IsOn}
+use Rattle.law_stack.proofs.Timed.{IsOn, sampled_on}
 
 hearing_same : (now : ℕ) (answer : Arrival) (w : ConnectionWatch) → ((hearing now answer w).deadline ≡ w.deadline) × (IsOn w → IsOn (hearing now answer w))
 hearing_same now answer w = at (is_heard answer)
@@ -22,14 +22,6 @@ handshake_same c w = at (w.syn_again && is_opening c.before.phase && not (is_ope
     at : (v : Bool) → ((if v then record w { timer = slowed w.timer; syn_again = false } else w).deadline ≡ w.deadline) × (IsOn w → IsOn (if v then record w { timer = slowed w.timer; syn_again = false } else w))
     at true = (refl, λ h. omega (arith, h))
     at false = (refl, λ h. h)
-
-sampled_on : (now : ℕ) (f : Front) (w : ConnectionWatch) (t : Option Timed) → IsOn w → IsOn (after_sample now f w t)
-sampled_on now f w None h = h
-sampled_on now f w (Some t) h = at (nat_le t.number f.una)
-  where
-    at : (v : Bool) → IsOn (if v then record w { timer = sampled_millis w.timer (now - t.sent); timed = None } else w)
-    at true = omega arith
-    at false = h
 
 -- the deadline is later than now, or as it was
 abbrev pub IsLaterOr : ℕ → ConnectionWatch → ConnectionWatch → Type 0

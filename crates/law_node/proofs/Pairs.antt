@@ -10,31 +10,7 @@ use Rattle.book_segments.specs.Bytes.{same_bytes}
 use Rattle.book_segments.specs.Sockets.{same_address, same_socket}
 use Rattle.book_segments.proofs.Fields.{and_tells, eqb_is, same_bytes_tells}
 use Rattle.book_cmd_node.specs.NodeRuns.{same_pair}
-
-same_address_is : (one two : Address) → same_address one two ≡ true → one ≡ two
-same_address_is (address.V4 a) (address.V4 b) e = ap address.V4 (same_bytes_tells a b e)
-same_address_is (address.V6 a) (address.V6 b) e = ap address.V6 (same_bytes_tells a b e)
-same_address_is (address.V4 a) (address.V6 b) e = absurd (cc)
-same_address_is (address.V6 a) (address.V4 b) e = absurd (cc)
-
-same_socket_is : (one two : Socket) → same_socket one two ≡ true → one ≡ two
-same_socket_is one two e =
-    let t = and_tells (same_address one.address two.address) (one.port == two.port) e in
-    let address = same_address_is one.address two.address t.0 in
-    let port = eqb_is one.port two.port t.1 in
-    let half : one ≡ record { address = two.address; port = one.port } = ap (λ (a : Address). let k : Socket = record { address = a; port = one.port } in k) address in
-    half ∙ ap (λ (n : ℕ). let k : Socket = record { address = two.address; port = n } in k) port
-
-same_bytes-refl : (xs : List ℕ) → same_bytes xs xs ≡ true
-same_bytes-refl [] = refl
-same_bytes-refl (x ∷ xs) = let same : (x == x) ≡ true = grind (arith, nat_tests) in rw same (same_bytes-refl xs)
-
-same_address-refl : (a : Address) → same_address a a ≡ true
-same_address-refl (address.V4 a) = same_bytes-refl a
-same_address-refl (address.V6 a) = same_bytes-refl a
-
-same_socket-refl : (k : Socket) → same_socket k k ≡ true
-same_socket-refl k = let same : (k.port == k.port) ≡ true = grind (arith, nat_tests) in rw (same_address-refl k.address, same) refl
+use Rattle.book_segments.proofs.SocketLaws.{same_address-refl, same_address_is, same_socket-refl, same_socket_is}
 
 pub same_pair_is : (one two : Pair) → same_pair one two ≡ true → one ≡ two
 same_pair_is one two e =

@@ -16,14 +16,14 @@ use Rattle.book_pcap.specs.declared.pcap_head.Head.{Head}
 use Rattle.book_pcap.specs.declared.pcap_head.HeadFault.{HeadFault}
 use Rattle.book_base.specs.Fronts.{Front, Ends, Faulted, Leads, Fronted, fronted_by, fronted_within}
 use Rattle.book_pcap.specs.Packets.{Kept, RecordFault, Broken, four_at, record_at, Packet, Packets, is_ip, datagram_of, with_packet, with_datagrams, fault_at, packets_in, packets_behind, packets_of, opened, head_of, and_rest}
-use Rattle.book_pcap.proofs.Captures.{record_short, record_over, record_part, record_whole, record_none, put}
+use Rattle.book_pcap.proofs.Captures.{record_short, record_over, record_part, record_whole, record_none, put, none_at}
 use Rattle.book_cmd_check.specs.StoredPackets.{stored_packet}
 use Rattle.book_cmd_check.specs.StoredLines.{StoredInput, stored_from, stored_input}
 use Rattle.law_pcap.specs.LineForms.{packet_line, record_lines, lines_behind, line_form}
 use Rattle.law_pcap.proofs.Lines.{packet_line_plain, packet_line_back}
 
 -- bytes by their places
-by_places : (xs : List ℕ) → All IsByte xs → IsBytes xs
+pub by_places : (xs : List ℕ) → All IsByte xs → IsBytes xs
 by_places xs all = λ i. elim (cases_lt i (length xs)) [
   | inl within ↦ All-get_or IsByte xs i 0 within all
   | inr past ↦ rw (get_or_past xs i 0 past) (omega arith)
@@ -50,10 +50,6 @@ whole_parts order text kept rest all same =
       bytes = rw (← kept_is) (All-take IsByte (four_at order text 8) (drop 16 text) (All-drop IsByte 16 text all));
       rest = rw (← rest_is) (All-drop IsByte (16 + four_at order text 8) text all);
     }
-
-none_at : (order : ByteOrder) (text : List ℕ) → length text ≡ 0 → record_at order text ≡ Ends
-none_at order [] none = record_none order
-none_at order (b ∷ bs) none = absurd (omega arith)
 
 whole_is : (order : ByteOrder) (text : List ℕ) (kept : Kept) (rest : List ℕ) → All IsByte text → record_at order text ≡ Leads kept rest → IsWhole kept rest
 whole_is order text kept rest all is =

@@ -9,6 +9,7 @@ use Rattle.book_link.specs.Runs.{run}
 use Rattle.book_link.specs.Storm.{storm_setup, storm_starts}
 use Rattle.book_link.specs.Worlds.{other, pair_of, Session, World, side, live}
 use Rattle.law_progress.specs.Progress.{is_up, IsUp, IsWaiting, IsOpening}
+use Rattle.law_link.proofs.Sessions.{both}
 
 abbrev begun : World
 begun = run storm_setup (storm_starts ++ Give A (1 ∷ []) ∷ [])
@@ -16,10 +17,6 @@ begun = run storm_setup (storm_starts ++ Give A (1 ∷ []) ∷ [])
 abbrev sessions : End → Session
 sessions A = record { state = give (1 ∷ []) (started (pair_of storm_setup A) 4294960000 4000000000); end_shown = false }
 sessions B = record { state = started (pair_of storm_setup B) 4000000000 4294960000; end_shown = false }
-
-both : (P : End → Type 0) → P A → P B → (e : End) → P e
-both P a b A = a
-both P a b B = b
 
 begun_up : IsUp storm_setup begun 0 0
 begun_up = record {

@@ -27,7 +27,7 @@ use Rattle.law_link.proofs.Accepted.{meant_near}
 use Rattle.law_link.proofs.Invariant.{live_whole}
 use Rattle.law_link.proofs.Moves.{following}
 use Rattle.law_link.proofs.Sessions.{known_so}
-use Rattle.law_link.proofs.Tests.{by_bool}
+use Rattle.book_base.proofs.TestLaws.{by_bool}
 use Rattle.law_link.proofs.Whole.{Whole}
 use Rattle.law_progress.specs.Progress.{Sends, Resends, turn_events, is_open, is_up, IsSame, awaits, IsOpening, handshake, Connected, Connects}
 use Rattle.law_progress.proofs.Calm.{Calm, is_before}

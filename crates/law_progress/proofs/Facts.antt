@@ -13,7 +13,7 @@ use Rattle.book_endpoint.specs.Emissions.{is_syn_received}
 use Rattle.book_segments.specs.Segments.{bit_of}
 use Rattle.book_segments.proofs.Fields.{lt_is, lt_not}
 use Rattle.std.proofs.lemmas.Option.{slice_get_within}
-use Rattle.law_link.proofs.Tests.{by_bool}
+use Rattle.book_base.proofs.TestLaws.{by_bool}
 use Rattle.law_link.proofs.Carrying.{GivenAt}
 use Rattle.book_link.specs.Worlds.{other, Setup, Session, Made, Happening, Making, Coming, World, side, find, live, forgeries}
 use Rattle.law_link.specs.Headline.{GivesFew}

@@ -30,14 +30,16 @@ use Rattle.endpoint_steps.proofs.Arriving.{read_by_cases}
 use Rattle.book_link.specs.Outcomes.{Outcome, Idle, Nothing}
 use Rattle.book_link.specs.Worlds.{Setup, pair_of, Session, LinkSide, Happening, World, side}
 use Rattle.book_link.specs.Steps.{View, Act, put, sent, send, send_again, come, given, acted, act_on, view_of}
-use Rattle.law_link.proofs.Tests.{choose, not_true, not_false}
+use Rattle.law_link.proofs.Tests.{choose}
+use Rattle.book_base.proofs.TestLaws.{not_true}
+use Rattle.book_base.proofs.TestLaws.{not_false}
 use Rattle.law_link.proofs.Phases.{waits, fin_made, own_ok, past_ok, hears_speaks}
 use Rattle.law_link.proofs.Sound.{Sound}
 use Rattle.law_link.proofs.Stream.{Stream, room_of, kept, edge, not_some, fm_high, fm_stop}
 use Rattle.law_link.proofs.Drafts.{sends_data_says, sends_fin_says}
 use Rattle.law_progress.proofs.Making.{is_past, is_settled}
 use Rattle.law_link.proofs.Whole.{Whole, heard, fin_whole, pass_whole, record_says, acked_whole, windowed_whole, acked_fin_whole, established_any}
-use Rattle.law_link.proofs.Moves.{following}
+use Rattle.law_link.proofs.Moves.{following, acked_phase}
 use Rattle.law_link.proofs.Invariant.{AllSound, AllWhole, Inv}
 use Rattle.law_link.proofs.Sessions.{both}
 use Rattle.law_progress.proofs.Runs.{HasFewRuns, runs_edge, few_later, few_none}
@@ -539,10 +541,6 @@ established_fit s is h =
       gone = λ e. absurd (cc);
       settled = λ e. absurd (cc);
     }
-
-acked_phase : (s : EndState) (a : Option ℕ) (phase : Phase) → s.phase ≡ phase → (acked s a).phase ≡ phase
-acked_phase s None phase is = is
-acked_phase s (Some a) phase is = choose (λ (t : EndState). t.phase ≡ phase) (nat_lt s.una a) (record s { una = a }) s (λ e. is) (λ e. is)
 
 pick_moved : (b : Bool) (t u : Moved) → (b ≡ true → Fit t.state) → (b ≡ false → Fit u.state) → Fit (if b then t else u).state
 pick_moved true t u f g = f refl

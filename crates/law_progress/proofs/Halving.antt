@@ -29,7 +29,8 @@ use Rattle.law_link.proofs.Received.{FinMade, OfPartner, Received, Acked, stream
 use Rattle.law_link.proofs.Sessions.{known_so}
 use Rattle.law_link.proofs.Sound.{Sound}
 use Rattle.law_link.proofs.Stream.{or_lt}
-use Rattle.law_link.proofs.Tests.{choose, by_bool}
+use Rattle.law_link.proofs.Tests.{choose}
+use Rattle.book_base.proofs.TestLaws.{by_bool}
 use Rattle.law_link.proofs.Whole.{Whole}
 use Rattle.law_progress.specs.Progress.{Sends, Resends, turn_events, is_open, all_end, IsWaiting, IsSame}
 use Rattle.law_progress.proofs.Acting.{StaysUp}

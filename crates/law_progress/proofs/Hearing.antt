@@ -12,7 +12,8 @@ use Rattle.book_endpoint.specs.States.{EndState, first, window, hears}
 use Rattle.book_endpoint.specs.Hearing.{Moved, answered, owing, above, in_range, fits_window, rested, finish, past_fin, pass_fin, fin_of, records_fin, after_own_fin, acked_fin, windowed, acked}
 use Rattle.endpoint_steps.specs.Arriving.{heard_runs, hear_data, go_on, acknowledged, ordinary, after_check}
 use Rattle.book_endpoint.specs.declared.arrival.Arrival.TheVariants.{Window, BadAck}
-use Rattle.law_link.proofs.Tests.{choose, by_bool}
+use Rattle.law_link.proofs.Tests.{choose}
+use Rattle.book_base.proofs.TestLaws.{by_bool}
 use Rattle.law_link.proofs.Stream.{fm_low, fm_high, fm_stop, not_some}
 use Rattle.law_link.proofs.Moves.{following}
 use Rattle.law_progress.specs.Progress.{is_open}

@@ -19,7 +19,8 @@ use Rattle.book_endpoint.specs.States.{EndState, own_mss, given_end}
 use Rattle.book_endpoint.specs.Emissions.{Draft, Emitted, Quiet, NoKey, Emits, is_sending, is_silent, is_syn_sent, is_syn_received, fin_sent, unsent, slice_at, rst_draft, syn_draft, syn_ack_draft, data_draft, again_draft, fin_draft, fin_again_draft, ack_draft, window_end, sends_data, sends_fin, fitting, resends, is_blocked, sets, most_bytes, blank, sealed, seal_known, emit, resend}
 use Rattle.endpoint_steps.specs.Drafting.{to_emit, unacknowledged, probe, to_resend, keyed, emitted}
 use Rattle.endpoint_steps.proofs.Drafting.{emit_by_drafts, resend_by_drafts}
-use Rattle.law_link.proofs.Tests.{choose, by_bool}
+use Rattle.law_link.proofs.Tests.{choose}
+use Rattle.book_base.proofs.TestLaws.{by_bool}
 use Rattle.law_link.proofs.Phases.{fin_gone, fin_made}
 use Rattle.law_link.proofs.Written.{mac_words}
 use Rattle.law_link.proofs.Drafts.{sends_data_says, sends_fin_says}

@@ -13,7 +13,8 @@ use Rattle.book_endpoint.specs.States.{EndState, window, hears}
 use Rattle.book_endpoint.specs.Arrivals.{syn_alone, syn_ack_alone}
 use Rattle.book_endpoint.specs.Hearing.{Moved, owing, above, in_range, fits_window, rested, finish, past_fin, pass_fin, fin_of, records_fin, after_own_fin, acked_fin, windowed, acked, told_by_syn}
 use Rattle.endpoint_steps.specs.Arriving.{heard_runs, hear_data, go_on, acknowledged, ordinary, after_check}
-use Rattle.law_link.proofs.Tests.{choose, not_false}
+use Rattle.law_link.proofs.Tests.{choose}
+use Rattle.book_base.proofs.TestLaws.{not_false}
 use Rattle.law_link.proofs.Phases.{fin_gone, waits}
 use Rattle.law_link.proofs.Moves.{following}
 

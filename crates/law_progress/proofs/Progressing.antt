@@ -9,7 +9,7 @@ use Rattle.book_segments.proofs.Fields.{some_is, lt_is, and_tells}
 use Rattle.book_endpoint.specs.declared.phase.Phase.{Phase}
 use Rattle.book_endpoint.specs.declared.phase.Phase.TheVariants.{SynReceived}
 use Rattle.book_endpoint.specs.Emissions.{is_syn_received}
-use Rattle.law_link.proofs.Tests.{by_bool}
+use Rattle.book_base.proofs.TestLaws.{by_bool}
 use Rattle.std.proofs.lemmas.Bool.Decides.{nat_tests}
 use Rattle.book_endpoint.specs.States.{EndState, first, ready, ready_count, ready_at, take_out, given_end, passed_fin, at_end}
 use Rattle.book_link.specs.declared.event.Event.{Event}

@@ -29,7 +29,8 @@ use Rattle.book_link.specs.Worlds.{other, Setup, pair_of, Session, LinkSide, Mad
 use Rattle.book_link.specs.Steps.{Act, add, put, quietly, made_of, sent, send, send_again, came, come, took, given, acted, act_on, begin, ticked, with_clock, with_sessions, view_of}
 use Rattle.law_link.specs.Headline.{GivesFew}
 use Rattle.law_link.specs.Laws.{SetupFits, IsAmong}
-use Rattle.law_link.proofs.Tests.{choose, by_bool}
+use Rattle.law_link.proofs.Tests.{choose}
+use Rattle.book_base.proofs.TestLaws.{by_bool}
 use Rattle.law_link.proofs.Phases.{fin_gone}
 use Rattle.law_link.proofs.Sound.{Sound, Later, later_refl}
 use Rattle.law_link.proofs.Stream.{or_lt}
@@ -38,10 +39,10 @@ use Rattle.law_link.proofs.Moves.{following}
 use Rattle.law_link.proofs.Drafts.{sends_fin_says}
 use Rattle.law_link.proofs.Carrying.{GivenAt}
 use Rattle.law_link.proofs.Invariant.{AllSound, AllWhole, Inv}
-use Rattle.law_link.proofs.Sessions.{both, find_own, find_isn}
+use Rattle.law_link.proofs.Sessions.{both, find_own, find_isn, new_if}
 use Rattle.law_link.proofs.Keeping.{HasPassed, NewBy, ActOk}
 use Rattle.law_link.proofs.Running.{ticks, tick_later}
-use Rattle.law_link.proofs.Arriving.{Passing, arrive_ok}
+use Rattle.law_link.proofs.Arriving.{Passing, arrive_ok, segment_is}
 use Rattle.law_link.proofs.Origin.{plain_context}
 use Rattle.law_link.proofs.Received.{FinMade, OfPartner, Received, Heard, of-later, of-map, fewer_forgeries, stream_low, passed_origin}
 use Rattle.law_link.proofs.Accepted.{meant_near}
@@ -73,11 +74,6 @@ onto_head : (s u : Session) (rest : List Session) → Later s.state u.state → 
 onto_head s u rest l o isn t e =
     let r = head_if s u rest isn t (s.state.isn == isn) l o e in
     (r.0, subst (λ (n : ℕ). (if n == isn then Some u else find rest isn) ≡ Some r.0) (sym l.same_isn) r.1, r.2, r.3)
-
-new_if : (u : Session) (rest : List Session) (isn : ℕ) (t : Session) (b : Bool) → (u.state.isn == isn) ≡ b → find rest u.state.isn ≡ None → find rest isn ≡ Some t
-    → (if b then Some u else find rest isn) ≡ Some t
-new_if u rest isn t true h none e = let same : u.state.isn ≡ isn = eqb_is u.state.isn isn h in absurd (cc)
-new_if u rest isn t false h none e = e
 
 onto_new : (u : Session) (rest : List Session) → find rest u.state.isn ≡ None → OntoGrows rest (u ∷ rest)
 onto_new u rest none isn t e = (t, new_if u rest isn t (u.state.isn == isn) refl none e, later_refl t.state, onto_refl t.state)
@@ -302,9 +298,6 @@ unmoved_told setup e w bytes s r same =
       fins = λ f is. inl (sym (ap (λ (t : EndState). t.fin) same) ∙ is);
       made = λ m is. absurd (cc);
     }
-
-segment_is : (d e : Segment) → Read d ≡ Read e → d ≡ e
-segment_is d e is = cc
 
 -- what is known of each pass of these bytes
 abbrev Passes : Pair → EndState → List ℕ → Arrived → Type 0

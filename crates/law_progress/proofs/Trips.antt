@@ -187,7 +187,7 @@ gone_here : (setup : Setup) (v : World) (e : End) (s t : EndState) → Gone setu
 gone_here setup v A s t g = record { over = g.over; here = g.near; there = g.far }
 gone_here setup v B s t g = record { over = g.over; here = g.near; there = g.far }
 
-gone_there : (setup : Setup) (v : World) (e : End) (s t : EndState) → Gone setup v (other e) s t → Over setup v e s t
+pub gone_there : (setup : Setup) (v : World) (e : End) (s t : EndState) → Gone setup v (other e) s t → Over setup v e s t
 gone_there setup v A s t g = record { over = g.over; here = g.far; there = g.near }
 gone_there setup v B s t g = record { over = g.over; here = g.far; there = g.near }
 

@@ -34,7 +34,8 @@ use Rattle.law_link.specs.Laws.{SetupFits, EventFits, IsNear, RollsOver}
 use Rattle.law_link.proofs.Tests.{choose}
 use Rattle.law_link.proofs.Whole.{Whole}
 use Rattle.law_link.proofs.Lists.{length-bytes_from}
-use Rattle.law_link.proofs.Accepted.{same_bytes-refl, meant_near}
+use Rattle.law_link.proofs.Accepted.{meant_near}
+use Rattle.book_segments.proofs.SocketLaws.{same_bytes-refl}
 use Rattle.law_link.proofs.Sessions.{known_so}
 use Rattle.law_link.proofs.Rollover.{finds_made}
 use Rattle.law_progress.proofs.Opened.{BothOpen}

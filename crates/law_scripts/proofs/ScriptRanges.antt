@@ -65,7 +65,7 @@ key_ok ws k h =
     let is : record { alg = a.0.value; master = m.0.value } ≡ k = cc n.2 in
     rw (← is) (hex_ok 1 255 a.0.rest m.0 m.1)
 
-at_line_ok : {A : Type 0} (n : ℕ) (kind : LineKind) (ls : List Line) (r : Result A LineKind) (t : Left A) → at_line n kind ls r ≡ Ok t →
+pub at_line_ok : {A : Type 0} (n : ℕ) (kind : LineKind) (ls : List Line) (r : Result A LineKind) (t : Left A) → at_line n kind ls r ≡ Ok t →
     (r ≡ Ok t.value) × (ls ≡ t.rest)
 at_line_ok n kind ls (Ok x) t h =
     let is : record { value = x; rest = ls } ≡ t = cc h in
@@ -73,7 +73,7 @@ at_line_ok n kind ls (Ok x) t h =
 at_line_ok n kind ls (Err e) t h = absurd (cc h)
 
 -- a line was there and says the value
-line_ok : {A : Type 0} (missing : ℕ) (kind : LineKind) (meaning : List (List ℕ) → Result A LineKind) (ls : List Line) (t : Left A) →
+pub line_ok : {A : Type 0} (missing : ℕ) (kind : LineKind) (meaning : List (List ℕ) → Result A LineKind) (ls : List Line) (t : Left A) →
     line_in missing kind meaning ls ≡ Ok t →
     (ws : List (List ℕ)) × (meaning ws ≡ Ok t.value) × (length ls ≡ 1 + length t.rest)
 unfolding line_in

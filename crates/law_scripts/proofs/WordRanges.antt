@@ -55,7 +55,7 @@ number_ok low high ws t h =
     let e : b.0.value ≡ t.value = ap (λ (x : Taken ℕ). x.value) w.2 in
     record { least = rw e at w.0; most = rw e at w.1 }
 
-decoded : (w : List ℕ) (r : Result (List ℕ) FromHexError) (bytes : List ℕ) → result_ok r ≡ Some bytes → r ≡ Ok bytes
+pub decoded : (w : List ℕ) (r : Result (List ℕ) FromHexError) (bytes : List ℕ) → result_ok r ≡ Some bytes → r ≡ Ok bytes
 decoded w (Ok x) bytes h = cc h
 decoded w (Err e) bytes h = absurd (cc h)
 

@@ -14,7 +14,7 @@ use Rattle.book_segments.specs.Spelling.{Fits, with_sum}
 use Rattle.book_segments.proofs.Fields.{eqb_is}
 use Rattle.book_segments.proofs.Folding.{sums_by}
 use Rattle.book_segments.proofs.SpellLaws.{read_front}
-use Rattle.book_segments.proofs.SumLaws.{words_pseudo, words_tcp, fits_with}
+use Rattle.book_segments.proofs.SumLaws.{words_pseudo, words_tcp, fits_with, same_pseudo, same_tcp}
 use Rattle.book_macs.specs.Contexts.{context_of, context_of_later, context_of_syn}
 use Rattle.book_macs.specs.MacInput.{mac_input, covered}
 use Rattle.book_keys.specs.Choices.{Numbered}
@@ -33,18 +33,6 @@ use Rattle.book_stack.specs.Stacks.{handed}
 use Rattle.law_stack.specs.Handed.{IsHandedWell, IsTakenAlike}
 
 -- ---- the sum
-
-same_tcp : (d : Segment) (c n : ℕ) → tcp_bytes (with_sum d c) n ≡ tcp_bytes d n
-unfolding tcp_bytes header
-same_tcp d c n = refl
-
-same_pseudo_of : (ip : IpHeader) (d : Segment) (c : ℕ) (rest : List ℕ) → pseudo_of ip (with_sum d c) rest ≡ pseudo_of ip d rest
-same_pseudo_of (Ipv4 service identification flags ttl checksum options) d c rest = refl
-same_pseudo_of (Ipv6 class_flow hops) d c rest = refl
-
-same_pseudo : (d : Segment) (c : ℕ) (rest : List ℕ) → pseudo (with_sum d c) rest ≡ pseudo d rest
-unfolding pseudo
-same_pseudo d c rest = same_pseudo_of d.ip d c rest
 
 -- a plain sum above 0 is divisible by ffff with ffff more exactly where it is without
 divides_alike : (s t : ℕ) → 0 < s → t ≡ s + 65535 → (nat_lt 0 t && (t % 65535 == 0)) ≡ (nat_lt 0 s && (s % 65535 == 0))

@@ -40,7 +40,7 @@ record Calm (now : ℕ) (s : StackState) : Type 0 where
   mute : Mute s
   none : due now s.alarms ≡ 0
 
-line_alarms : (p : Pair) (o : NodeOutcome) (t : StackState) → (asked_line p o t).alarms ≡ t.alarms
+pub line_alarms : (p : Pair) (o : NodeOutcome) (t : StackState) → (asked_line p o t).alarms ≡ t.alarms
 line_alarms p (Transmitted x) t = refl
 line_alarms p NoUsableKey t = refl
 line_alarms p o t = refl

@@ -43,7 +43,7 @@ use Rattle.law_stack.proofs.Turned.{clocked_anew}
 abbrev pub IsOn : ConnectionWatch → Type 0
 IsOn w = 1 ≤ w.timer.value
 
-sampled_on : (now : ℕ) (f : Front) (w : ConnectionWatch) (t : Option Timed) → IsOn w → IsOn (after_sample now f w t)
+pub sampled_on : (now : ℕ) (f : Front) (w : ConnectionWatch) (t : Option Timed) → IsOn w → IsOn (after_sample now f w t)
 sampled_on now f w None h = h
 sampled_on now f w (Some t) h = at (nat_le t.number f.una)
   where

@@ -19,6 +19,7 @@ use Rattle.ao_mac.specs.Macs.{IsSameInput}
 use Rattle.ao_mac.proofs.InputLaws.{never, to_parts}
 use Rattle.link_log.specs.declared.entry.Entry.{Entry}
 use Rattle.link_log.specs.Entries.{IsEntry, PassesUnder, entry_key}
+use Rattle.book_keys.proofs.PlanLaws.{same_algorithm_tells}
 
 -- ---- tests
 
@@ -44,17 +45,6 @@ same_algorithm_itself : (a : Algorithm) → same_algorithm a a ≡ true
 same_algorithm_itself HmacSha1 = refl
 same_algorithm_itself AesCmac = refl
 same_algorithm_itself HmacSha256 = refl
-
-same_algorithm_tells : (a b : Algorithm) → same_algorithm a b ≡ true → a ≡ b
-same_algorithm_tells HmacSha1 HmacSha1 h = refl
-same_algorithm_tells HmacSha1 AesCmac h = absurd (cc)
-same_algorithm_tells HmacSha1 HmacSha256 h = absurd (cc)
-same_algorithm_tells AesCmac HmacSha1 h = absurd (cc)
-same_algorithm_tells AesCmac AesCmac h = refl
-same_algorithm_tells AesCmac HmacSha256 h = absurd (cc)
-same_algorithm_tells HmacSha256 HmacSha1 h = absurd (cc)
-same_algorithm_tells HmacSha256 AesCmac h = absurd (cc)
-same_algorithm_tells HmacSha256 HmacSha256 h = refl
 
 both_true : (a b : Bool) → (a && b) ≡ true → (a ≡ true) × (b ≡ true)
 both_true true b h = (refl, h)

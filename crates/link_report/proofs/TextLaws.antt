@@ -2,7 +2,7 @@
 use Rattle.std.proofs.Common.{◌≡◌, ℕ, List, [], ◌∷◌, ◌++◌, Result, Ok, Err, OnOk, refl, ap, ◌∙◌, append_assoc}
 use Rattle.book_lines.specs.Texts.{spaced}
 
-spaced_more : (xs ys : List (List ℕ)) → spaced xs ++ spaced ys ≡ spaced (xs ++ ys)
+pub spaced_more : (xs ys : List (List ℕ)) → spaced xs ++ spaced ys ≡ spaced (xs ++ ys)
 spaced_more [] ys = refl
 spaced_more (x ∷ xs) ys = ap (λ t. 32 ∷ t) (append_assoc x (spaced xs) (spaced ys) ∙ ap (λ t. x ++ t) (spaced_more xs ys))
 

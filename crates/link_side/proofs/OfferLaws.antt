@@ -36,7 +36,7 @@ pub given_acts : (piece : List ℕ) (s : EndState) (l l' : Live) (r : GiveAnswer
 given_acts piece s l l' r is stands same = given_if (not (gives s)) (nat_lt (room s) (length piece)) piece s l l' r is stands same
 
 -- a buffer of this length whose bytes were written anew
-written : (size : ℕ) (out rest : List ℕ) → length out ≡ size → take size (out ++ rest) ≡ out
+pub written : (size : ℕ) (out rest : List ℕ) → length out ≡ size → take size (out ++ rest) ≡ out
 written size out rest long = ap (λ k. take k (out ++ rest)) (sym long) ∙ take-append_seam out rest
 
 -- what is left of the buffer are the bytes that were taken

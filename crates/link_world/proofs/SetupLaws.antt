@@ -10,6 +10,7 @@ use Rattle.book_keys.specs.Plans.{rows_at, rows_of_table}
 use Rattle.book_keys.specs.Rows.{Table, has_address}
 use Rattle.key_table.specs.Loans.{place_of}
 use Rattle.book_base.specs.Addresses.{same_family}
+use Rattle.book_segments.proofs.SocketLaws.{same_address_is}
 
 -- ---- the addresses
 
@@ -36,12 +37,6 @@ apart a b e = sym (not-not (same_address a b)) ∙ ap not (and_tells (same_famil
     not-not false = refl
 
 -- ---- the tables
-
-same_address_is : (one two : Address) → same_address one two ≡ true → one ≡ two
-same_address_is (V4 a) (V4 b) e = ap V4 (same_bytes_tells a b e)
-same_address_is (V6 a) (V6 b) e = ap V6 (same_bytes_tells a b e)
-same_address_is (V4 a) (V6 b) e = absurd (cc)
-same_address_is (V6 a) (V4 b) e = absurd (cc)
 
 module _ (address other : Address) (left : Table) (here : left.address ≡ address) (differ : same_address address other ≡ false) where
   left_differs : has_address other left ≡ false

@@ -30,7 +30,8 @@ use Rattle.endpoint_steps.proofs.Drafting.{emit_by_drafts, resend_by_drafts}
 use Rattle.segment_writer.specs.Drafts.{IsWritten}
 use Rattle.tcp_endpoint.specs.declared.emission.Made.{Made as Told}
 use Rattle.book_link.specs.Worlds.{Made, World}
-use Rattle.law_link.proofs.Tests.{by_bool, choose}
+use Rattle.law_link.proofs.Tests.{choose}
+use Rattle.book_base.proofs.TestLaws.{by_bool}
 use Rattle.law_link.proofs.Written.{area_ao, same_input}
 use Rattle.link_side.specs.declared.side.Side.{Side}
 use Rattle.link_side.specs.Segments.{made_by, IsSent}

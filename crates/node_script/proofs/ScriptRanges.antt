@@ -20,6 +20,7 @@ use Rattle.law_scripts.specs.Scripts.{IsAddress}
 use Rattle.law_scripts.proofs.WordRanges.{bind_ok, address_ok}
 use Rattle.node_script.specs.Scripts.{IsEvent, IsScript}
 use Rattle.node_script.proofs.EventRanges.{event_ok}
+use Rattle.law_scripts.proofs.ScriptRanges.{at_line_ok, few_case, line_ok}
 
 address_of_ok : (ws : List (List ℕ)) (x : Address) → own_address_of ws ≡ Ok x → IsAddress x
 address_of_ok ws x h =
@@ -28,23 +29,6 @@ address_of_ok ws x h =
     let n = bind_ok (nothing_in a.0.rest) _ x a.2 in
     let is : a.0.value ≡ x = cc n.2 in
     rw (← is) (address_ok l.0.rest a.0 a.1)
-
-at_line_ok : {A : Type 0} (n : ℕ) (kind : LineKind) (ls : List Line) (r : Result A LineKind) (t : Left A) → at_line n kind ls r ≡ Ok t →
-    (r ≡ Ok t.value) × (ls ≡ t.rest)
-at_line_ok n kind ls (Ok x) t h =
-    let is : record { value = x; rest = ls } ≡ t = cc h in
-    (ap (λ (y : Left _). Ok y.value) is, ap (λ (y : Left _). y.rest) is)
-at_line_ok n kind ls (Err e) t h = absurd (cc h)
-
--- a line was there and says the value
-line_ok : {A : Type 0} (missing : ℕ) (kind : LineKind) (meaning : List (List ℕ) → Result A LineKind) (ls : List Line) (t : Left A) →
-    line_in missing kind meaning ls ≡ Ok t →
-    (ws : List (List ℕ)) × (meaning ws ≡ Ok t.value) × (length ls ≡ 1 + length t.rest)
-unfolding line_in
-line_ok missing kind meaning [] t h = absurd (cc h)
-line_ok missing kind meaning (l ∷ ls) t h =
-    let a = at_line_ok l.number kind ls (meaning l.words) t h in
-    (l.words, a.0, rw (← a.1) (omega arith))
 
 numbered_ok : (n : ℕ) (r : Result NodeEvent LineKind) (e : NodeEvent) → at_number n r ≡ Ok e → r ≡ Ok e
 numbered_ok n (Ok x) e h = cc h
@@ -75,10 +59,6 @@ script_in_ok missing ls s few h =
     let le = events_ok a.0.value a.0.rest e.0 e.1 in
     let is : record { address = a.0.value; events = e.0 } ≡ s = cc e.2 in
     rw (← is) (record { address = address_of_ok la.0 a.0.value la.1; events = le.0; lines = omega (arith, li.2, la.2, le.1, few) })
-
-few_case : {A : Type 0} (b : Bool) (r : Result A TextFault) (x : A) → cond b (Err fault.TooManyLines) r ≡ Ok x → (b ≡ false) × (r ≡ Ok x)
-few_case true r x h = absurd (cc h)
-few_case false r x h = (refl, h)
 
 -- a script that is read is one of the grammar
 pub script_of_ok : (text : List ℕ) (s : NodeScript) → node_script_of text ≡ Ok s → IsScript s

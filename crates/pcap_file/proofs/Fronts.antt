@@ -8,7 +8,7 @@ use Rattle.book_pcap.specs.declared.pcap_head.Head.{Head}
 use Rattle.book_pcap.specs.declared.pcap_head.HeadFault.{HeadFault}
 use Rattle.book_base.specs.Fronts.{Ends, Leads}
 use Rattle.book_pcap.specs.Packets.{Kept, four_at, record_at, head_of, and_rest, opened}
-use Rattle.book_pcap.proofs.Captures.{record_none, record_short, record_over, record_part, record_whole}
+use Rattle.book_pcap.proofs.Captures.{record_none, record_short, record_over, record_part, record_whole, none_at}
 use Rattle.pcap_file.specs.Reads.{opened_from}
 use Rattle.pcap_file.proofs.Parts.{four_in_front}
 
@@ -54,9 +54,6 @@ whole_front order text kept rest long fits all is =
       some = omega arith;
       stays = λ more. alone order past len size len_is fits more ∙ ap (λ k. Leads k more) kept_is;
     }
-
-none_at : (order : ByteOrder) (text : List ℕ) → length text ≡ 0 → record_at order text ≡ Ends
-none_at order text none = ap (record_at order) (nil_from_length text none) ∙ record_none order
 
 -- a whole record stays one
 pub record_front : (order : ByteOrder) (text : List ℕ) (kept : Kept) (rest : List ℕ) → record_at order text ≡ Leads kept rest → RecordFront order text kept rest

@@ -19,6 +19,7 @@ use Rattle.book_endpoint.specs.Verdicts as v
 use Rattle.book_endpoint.proofs.JudgeSteps as steps
 use Rattle.book_endpoint.specs.declared.verdict.Verdict.TheVariants as refusals
 use Rattle.book_base.specs.Algorithms.{mac_length_of}
+use Rattle.book_segments.proofs.SocketLaws.{same_address_is, same_socket_is}
 
 -- either way of a test
 choose : {X : Type 0} (P : X → Type 0) (b : Bool) (x y : X) → (b ≡ true → P x) → (b ≡ false → P y) → P (if b then x else y)
@@ -92,25 +93,11 @@ both_true : (a b : Bool) → (a && b) ≡ true → (a ≡ true) × (b ≡ true)
 both_true true b e = (refl, e)
 both_true false b e = absurd (cc)
 
-same_address_is : (one two : Address) → same_address one two ≡ true → one ≡ two
-same_address_is (V4 a) (V4 b) e = ap V4 (same_bytes_tells a b e)
-same_address_is (V6 a) (V6 b) e = ap V6 (same_bytes_tells a b e)
-same_address_is (V4 a) (V6 b) e = absurd (cc)
-same_address_is (V6 a) (V4 b) e = absurd (cc)
-
 port_is : (a b : ℕ) → (a == b) ≡ true → a ≡ b
 port_is a b e = grind (arith, nat_tests)
 
 port_same : (a : ℕ) → (a == a) ≡ true
 port_same a = grind (arith, nat_tests)
-
-pub same_socket_is : (one two : Socket) → same_socket one two ≡ true → one ≡ two
-same_socket_is one two e =
-    let t = both_true (same_address one.address two.address) (one.port == two.port) e in
-    let address = same_address_is one.address two.address t.0 in
-    let port = port_is one.port two.port t.1 in
-    let half : one ≡ record { address = two.address; port = one.port } = ap (λ (a : Address). let k : Socket = record { address = a; port = one.port } in k) address in
-    half ∙ ap (λ (n : ℕ). let k : Socket = record { address = two.address; port = n } in k) port
 
 same_bytes_own : (xs : List ℕ) → same_bytes xs xs ≡ true
 same_bytes_own [] = refl

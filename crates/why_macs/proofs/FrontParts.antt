@@ -9,7 +9,7 @@ use Rattle.book_segments.specs.Sockets.{octets}
 use Rattle.book_macs.specs.Contexts.{context}
 use Rattle.book_why.specs.Recipes.{Recipe, MacChoices, behind_pseudo, covered_with, input_made, recipe_by}
 use Rattle.std.specs.Prelude.{Bool, true, false}
-use Rattle.ao_mac.proofs.Parts.{pseudo-append, header-append}
+use Rattle.ao_mac.proofs.Parts.{pseudo-append, header-append, drop_rest}
 use Rattle.book_base.specs.Algorithms.{mac_length_of}
 use Rattle.book_macs.specs.Keys.{derivation_input}
 use Rattle.why_macs.specs.Views.{front_made}
@@ -17,9 +17,6 @@ use Rattle.why_macs.specs.Views.{front_made}
 pub context_joined : (s d : Socket) (i j : ℕ) → (octets s.address ++ octets d.address) ++ (put2 s.port (put2 d.port []) ++ put4 i (put4 j [])) ≡ context s d i j
 unfolding context put2 put4
 context_joined s d i j = append_assoc (octets s.address) (octets d.address) (put2 s.port (put2 d.port []) ++ put4 i (put4 j []))
-
-drop_rest : (n : ℕ) (xs : List ℕ) → take (length xs - n) (drop n xs) ≡ drop n xs
-drop_rest n xs = let l = length-drop n xs in take_all (length xs - n) (drop n xs) (omega arith)
 
 header-two : (d : Segment) (sum other : ℕ) → header d other [] ≡ take 16 (header d sum []) ++ (put2 other [] ++ drop 18 (header d sum []))
 unfolding header put2 put4

@@ -1,7 +1,8 @@
 use Rattle.std.proofs.Common.{◌≡◌, ℕ, ◌++◌, drop, length, subst, arith}
 use Rattle.book_endpoint.specs.States.{take_out, taking}
 use Rattle.tcp_endpoint.specs.Ends.{Stands}
-use Rattle.ao_node.proofs.ActLaws.{taken_bytes, took_follows}
+use Rattle.ao_node.proofs.ActLaws.{took_follows}
+use Rattle.link_side.proofs.OfferLaws.{taken_bytes}
 use Rattle.ao_node.proofs.acts.take.Goals as goal
 
 pub returns-clause-took : goal.returns-clause-took
