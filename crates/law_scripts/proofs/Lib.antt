@@ -6,6 +6,7 @@ pub mod PrintedLines
 pub mod ScriptBack
 pub mod WordRanges
 pub mod EventRanges
+pub mod EventLines
 pub mod ScriptRanges
 pub mod TimedRanges
 pub mod Counts

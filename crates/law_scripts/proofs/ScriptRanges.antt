@@ -25,6 +25,7 @@ use Rattle.law_scripts.specs.Printed.{event_words, key_lines, script_lines}
 use Rattle.law_scripts.specs.Scripts.{IsEvent, IsKey, IsScript, IsSocket}
 use Rattle.law_scripts.proofs.WordRanges.{bind_ok, address_ok, hex_ok, number_ok}
 use Rattle.law_scripts.proofs.EventRanges.{event_ok}
+use Rattle.law_scripts.proofs.EventLines.{events_ok}
 
 socket_in_ok : (ws : List (List ℕ)) (t : Taken Socket) → socket_in ws ≡ Ok t → IsSocket t.value
 unfolding socket_in
@@ -114,31 +115,6 @@ key_lines_ok false missing ls t h =
     let is : record { value = Some k.0.value; rest = k.0.rest } ≡ t = cc k.2 in
     rw (← is) (key_ok l.0 k.0.value l.1, l.2, refl)
 
-refused : (b : Bool) (n : ℕ) (k : LineKind) (r : Result Event TextFault) (e : Event) → cond b (Err (fault.Line n k)) r ≡ Ok e → r ≡ Ok e
-refused true n k r e h = absurd (cc h)
-refused false n k r e h = h
-
-numbered_ok : (n : ℕ) (r : Result Event LineKind) (e : Event) → at_number n r ≡ Ok e → r ≡ Ok e
-numbered_ok n (Ok x) e h = cc h
-numbered_ok n (Err k) e h = absurd (cc h)
-
-event_at_ok : (l : Line) (e : Event) → event_at link_event_of l ≡ Ok e → IsEvent e
-event_at_ok l e h = event_ok l.words e (numbered_ok l.number (link_event_of l.words) e (refused (is_shared l.words) l.number kind.Shared _ e h))
-
-one_more : (e : Event) (es : List Event) → IsEvent e → All IsEvent es → All IsEvent (e ∷ es)
-one_more e es here more zero d below = here
-one_more e es here more (suc k) d below = more k d (omega arith)
-
-events_ok : (ls : List Line) (es : List Event) → events_of link_event_of ls ≡ Ok es → All IsEvent es × (length es ≡ length ls)
-unfolding events_of
-events_ok [] es h = let is : [] ≡ es = cc h in rw (← is) ((λ n d below. absurd (omega arith)), refl)
-events_ok (l ∷ ls) es h =
-    let e = bind_ok (event_at link_event_of l) _ es h in
-    let others = bind_ok (events_of link_event_of ls) _ es e.2 in
-    let more = events_ok ls others.0 others.1 in
-    let is : e.0 ∷ others.0 ≡ es = cc others.2 in
-    rw (← is) (one_more e.0 others.0 (event_at_ok l e.0 e.1) more.0, omega (arith, more.1))
-
 script_in_ok : (with_keys : Bool) (missing : ℕ) (ls : List Line) (s : Script) → length ls ≤ 20000 → script_in with_keys missing ls ≡ Ok s →
     IsScript s × (is_none s.shared ≡ with_keys)
 unfolding script_in script_lines
@@ -148,7 +124,7 @@ script_in_ok with_keys missing ls s few h =
     let e = bind_ok (events_of link_event_of k.0.rest) _ s k.2 in
     let lh = head_ok missing ls t.0 t.1 in
     let lk = key_lines_ok with_keys missing t.0.rest k.0 k.1 in
-    let le = events_ok k.0.rest e.0 e.1 in
+    let le = events_ok link_event_of IsEvent event_ok k.0.rest e.0 e.1 in
     let is : record { a = t.0.value.a; b = t.0.value.b; shared = k.0.value; events = e.0 } ≡ s = cc e.2 in
     let all : length (key_lines k.0.value ++ map event_words e.0) ≡ length (key_lines k.0.value) + length e.0 =
     length-append (key_lines k.0.value) (map event_words e.0) ∙ ap (λ n. length (key_lines k.0.value) + n) (length-map e.0 event_words) in

@@ -22,6 +22,7 @@ use Rattle.book_lines.proofs.SayingLaws.{saying_length}
 use Rattle.law_scripts.specs.Timed.{IsTimedEvent, IsTimedScript}
 use Rattle.law_scripts.proofs.WordRanges.{bind_ok, number_ok}
 use Rattle.law_scripts.proofs.EventRanges.{event_ok}
+use Rattle.law_scripts.proofs.EventLines.{events_ok}
 use Rattle.law_scripts.proofs.ScriptRanges.{few_case, head_ok}
 
 wait_ok : (ws : List (List ℕ)) (x : TimedEvent) → wait_of ws ≡ Ok x → IsTimedEvent x
@@ -50,38 +51,13 @@ timed_ok ws x h =
     let w = bind_ok (word_in ws) (λ name. cond (bytes_eq name.value (codes "wait")) (wait_of name.rest) (plain_named name.value name.rest)) x h in
     either_ok (bytes_eq w.0.value (codes "wait")) w.0.value w.0.rest x w.2
 
-refused : (b : Bool) (n : ℕ) (k : LineKind) (r : Result TimedEvent TextFault) (e : TimedEvent) → cond b (Err (fault.Line n k)) r ≡ Ok e → r ≡ Ok e
-refused true n k r e h = absurd (cc h)
-refused false n k r e h = h
-
-numbered_ok : (n : ℕ) (r : Result TimedEvent LineKind) (e : TimedEvent) → at_number n r ≡ Ok e → r ≡ Ok e
-numbered_ok n (Ok x) e h = cc h
-numbered_ok n (Err k) e h = absurd (cc h)
-
-event_at_ok : (l : Line) (e : TimedEvent) → event_at timed_event_of l ≡ Ok e → IsTimedEvent e
-event_at_ok l e h = timed_ok l.words e (numbered_ok l.number (timed_event_of l.words) e (refused (is_shared l.words) l.number kind.Shared _ e h))
-
-one_more : (e : TimedEvent) (es : List TimedEvent) → IsTimedEvent e → All IsTimedEvent es → All IsTimedEvent (e ∷ es)
-one_more e es here more zero d below = here
-one_more e es here more (suc k) d below = more k d (omega arith)
-
-events_ok : (ls : List Line) (es : List TimedEvent) → events_of timed_event_of ls ≡ Ok es → All IsTimedEvent es × (length es ≡ length ls)
-unfolding events_of
-events_ok [] es h = let is : [] ≡ es = cc h in rw (← is) ((λ n d below. absurd (omega arith)), refl)
-events_ok (l ∷ ls) es h =
-    let e = bind_ok (event_at timed_event_of l) _ es h in
-    let others = bind_ok (events_of timed_event_of ls) _ es e.2 in
-    let more = events_ok ls others.0 others.1 in
-    let is : e.0 ∷ others.0 ≡ es = cc others.2 in
-    rw (← is) (one_more e.0 others.0 (event_at_ok l e.0 e.1) more.0, omega (arith, more.1))
-
 script_in_ok : (missing : ℕ) (ls : List Line) (s : TimedScript) → length ls ≤ 20000 → timed_script_in missing ls ≡ Ok s → IsTimedScript s
 unfolding timed_script_in
 script_in_ok missing ls s few h =
     let t = bind_ok (link_head_in missing ls) _ s h in
     let e = bind_ok (events_of timed_event_of t.0.rest) _ s t.2 in
     let lh = head_ok missing ls t.0 t.1 in
-    let le = events_ok t.0.rest e.0 e.1 in
+    let le = events_ok timed_event_of IsTimedEvent timed_ok t.0.rest e.0 e.1 in
     let is : record { a = t.0.value.a; b = t.0.value.b; events = e.0 } ≡ s = cc e.2 in
     rw (← is) (record { a = lh.a; b = lh.b; two = lh.two; events = le.0; lines = omega (arith, lh.three, le.1, few) })
 

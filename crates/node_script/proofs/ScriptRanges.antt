@@ -18,6 +18,7 @@ use Rattle.book_cmd_node.specs.NodeRuns.{own_address_of, node_event_of, node_eve
 use Rattle.book_lines.proofs.SayingLaws.{saying_length}
 use Rattle.law_scripts.specs.Scripts.{IsAddress}
 use Rattle.law_scripts.proofs.WordRanges.{bind_ok, address_ok}
+use Rattle.law_scripts.proofs.EventLines.{numbered_ok, one_more}
 use Rattle.node_script.specs.Scripts.{IsEvent, IsScript}
 use Rattle.node_script.proofs.EventRanges.{event_ok}
 use Rattle.law_scripts.proofs.ScriptRanges.{at_line_ok, few_case, line_ok}
@@ -30,14 +31,6 @@ address_of_ok ws x h =
     let is : a.0.value ≡ x = cc n.2 in
     rw (← is) (address_ok l.0.rest a.0 a.1)
 
-numbered_ok : (n : ℕ) (r : Result NodeEvent LineKind) (e : NodeEvent) → at_number n r ≡ Ok e → r ≡ Ok e
-numbered_ok n (Ok x) e h = cc h
-numbered_ok n (Err k) e h = absurd (cc h)
-
-one_more : (own : Address) (e : NodeEvent) (es : List NodeEvent) → IsEvent own e → All (IsEvent own) es → All (IsEvent own) (e ∷ es)
-one_more own e es here more zero d below = here
-one_more own e es here more (suc k) d below = more k d (omega arith)
-
 events_ok : (own : Address) (ls : List Line) (es : List NodeEvent) → node_events_of own ls ≡ Ok es → All (IsEvent own) es × (length es ≡ length ls)
 unfolding node_events_of
 events_ok own [] es h = let is : [] ≡ es = cc h in rw (← is) ((λ n d below. absurd (omega arith)), refl)
@@ -46,7 +39,7 @@ events_ok own (l ∷ ls) es h =
     let others = bind_ok (node_events_of own ls) _ es e.2 in
     let more = events_ok own ls others.0 others.1 in
     let is : e.0 ∷ others.0 ≡ es = cc others.2 in
-    rw (← is) (one_more own e.0 others.0 (event_ok own l.words e.0 (numbered_ok l.number (node_event_of own l.words) e.0 e.1)) more.0, omega (arith, more.1))
+    rw (← is) (one_more (IsEvent own) e.0 others.0 (event_ok own l.words e.0 (numbered_ok l.number (node_event_of own l.words) e.0 e.1)) more.0, omega (arith, more.1))
 
 script_in_ok : (missing : ℕ) (ls : List Line) (s : NodeScript) → length ls ≤ 20000 → node_script_in missing ls ≡ Ok s → IsScript s
 unfolding node_script_in
