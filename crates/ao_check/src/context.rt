@@ -7,30 +7,8 @@ ghost use Rattle.book_macs.specs.Contexts.{bytes_of};
 ghost use Rattle.ao_check.specs.Contexts.{HasSockets, IsBelow, IsPlanned};
 
 use ao_kdf::Context;
-use tcp_segment::Datagram;
+use tcp_segment::{Datagram, Flag};
 use wrap_seq::extend;
-
-/// The flags of TCP that the check looks at (RFC 9293, section 3.1).
-const FIN: u8 = 0x01;
-
-const SYN: u8 = 0x02;
-
-const ACK: u8 = 0x10;
-
-/// Whether a flag is set.
-fn has(datagram: &Datagram<'_>, flag: u8) -> bool
-    requires { 0 < flag }
-    ensures { result ≡ has flag datagram.now }
-{
-    datagram.flags() / flag % 2 == 1
-}
-
-/// Whether SYN is set.
-pub(crate) fn has_syn(datagram: &Datagram<'_>) -> bool
-    ensures { result ≡ has SYN datagram.now }
-{
-    has(datagram, SYN)
-}
 
 /// The context with these initial sequence numbers.
 fn between(datagram: &Datagram<'_>, source_isn: u32, dest_isn: u32) -> Context
@@ -55,8 +33,8 @@ pub(crate) fn context_of(
     ensures context { option_map bytes_of result ≡ context_of datagram.now source_isn dest_isn }
     ensures sockets { IfSome result (λ c. HasSockets datagram.now c) }
 {
-    if has(datagram, SYN) {
-        if !has(datagram, ACK) {
+    if datagram.has(Flag::Syn) {
+        if !datagram.has(Flag::Ack) {
             return Some(between(datagram, datagram.sequence(), 0));
         }
         return match dest_isn {
@@ -83,7 +61,7 @@ pub(crate) fn number_of(datagram: &Datagram<'_>, expected: Option<u64>) -> Optio
     match expected {
         None => Some(u64::from(datagram.sequence())),
         Some(expected) => {
-            if has(datagram, SYN) {
+            if datagram.has(Flag::Syn) {
                 Some(u64::from(datagram.sequence()))
             } else {
                 extend(datagram.sequence(), expected)
@@ -96,7 +74,7 @@ pub(crate) fn number_of(datagram: &Datagram<'_>, expected: Option<u64>) -> Optio
 pub(crate) fn is_silent(datagram: &Datagram<'_>, expected: Option<u64>) -> bool
     ensures { result ≡ (not (has SYN datagram.now) && not (is_some expected)) }
 {
-    if has(datagram, SYN) {
+    if datagram.has(Flag::Syn) {
         false
     } else {
         expected.is_none()
@@ -108,16 +86,7 @@ pub(crate) fn ends_late(datagram: &Datagram<'_>, number: u64) -> bool
     requires { number ≤ 2 ^ 63 + 2 ^ 32 }
     ensures { result ≡ nat_lt 9223372036854775808 (number + segment_length datagram.now) }
 {
-    number + length_of(datagram) > 1 << 63
-}
-
-/// How many numbers a segment takes: its payload, SYN and FIN (RFC 9293, section 3.4).
-fn length_of(datagram: &Datagram<'_>) -> u64
-    ensures length { result ≡ segment_length datagram.now }
-    ensures most { result ≤ 65537 }
-{
-    let payload = datagram.payload().len() as u64;
-    payload + u64::from(has(datagram, SYN)) + u64::from(has(datagram, FIN))
+    number + datagram.segment_length() > 1 << 63
 }
 
 /// The context of a segment that is being sent, and whether it has SYN.
@@ -135,8 +104,8 @@ pub(crate) fn outgoing(datagram: &Datagram<'_>, own_isn: u32, peer_isn: Option<u
     ensures syn { result.syn ≡ has SYN datagram.now }
     ensures context { context_of datagram.now (Some own_isn) peer_isn ≡ Some (bytes_of result.context) }
 {
-    let syn = has(datagram, SYN);
-    if syn && !has(datagram, ACK) {
+    let syn = datagram.has(Flag::Syn);
+    if syn && !datagram.has(Flag::Ack) {
         return Plan {
             syn,
             context: between(datagram, datagram.sequence(), 0),

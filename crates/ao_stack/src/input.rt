@@ -1,7 +1,7 @@
 //! A datagram comes.
 ghost use Rattle.std.specs.Prelude.{◌≡◌, ◌≤◌, ◌<◌, ◌&&◌, Option, Some, option_map};
 ghost use Rattle.book_base.specs.declared.address.Pair.{Pair as OnePair};
-ghost use Rattle.book_segments.specs.Segments.{Segment, Read, good, has, reading};
+ghost use Rattle.book_segments.specs.Segments.{Segment, Read, good, reading};
 ghost use Rattle.book_endpoint.specs.Arrivals.{syn_alone};
 ghost use Rattle.book_endpoint.specs.States.{EndState};
 ghost use Rattle.book_cmd_node.specs.NodeRuns.{held_end};
@@ -26,15 +26,7 @@ use node_ends::NodeArrival;
 use stack_timers::is_heard;
 use std::marker::Brand;
 use std::sync::ledger::{Blank, Ledger};
-use tcp_segment::{Datagram, read_datagram};
-
-const FIN: u8 = 0x01;
-
-const SYN: u8 = 0x02;
-
-const RST: u8 = 0x04;
-
-const ACK: u8 = 0x10;
+use tcp_segment::{Datagram, Flag, read_datagram};
 
 /// What a stack answers to a datagram that comes.
 #[derive(Clone, Copy, Debug, PartialEq, Eq)]
@@ -46,22 +38,14 @@ pub enum Heard {
     Knocks(Pair),
 }
 
-/// Whether a flag is set.
-fn has(datagram: &Datagram<'_>, flag: u8) -> bool
-    requires { 0 < flag }
-    ensures { result ≡ has flag datagram.now }
-{
-    datagram.flags() / flag % 2 == 1
-}
-
 /// SYN without ACK, RST and FIN, and the checksum is right.
 fn asks(datagram: &Datagram<'_>) -> bool
     ensures { result ≡ (syn_alone datagram.now && good datagram.now) }
 {
-    has(datagram, SYN)
-        && !has(datagram, ACK)
-        && !has(datagram, RST)
-        && !has(datagram, FIN)
+    datagram.has(Flag::Syn)
+        && !datagram.has(Flag::Ack)
+        && !datagram.has(Flag::Rst)
+        && !datagram.has(Flag::Fin)
         && datagram.checksum_ok()
 }
 

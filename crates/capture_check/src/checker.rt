@@ -14,7 +14,7 @@ use crate::answer::CheckLine;
 use crate::ends::{Ends, is_same_socket};
 use crate::flows::Flows;
 use crate::judgement::{fix, fix_given, hear_later, judge_alone};
-use crate::segment::{acknowledged_isn, has_ack, has_syn};
+use crate::segment::acknowledged_isn;
 use ao_base::Steps;
 use ao_check::Verdict;
 use book_cmd_check::GivenIsns;
@@ -23,7 +23,7 @@ use std::alloc::{AllocError, Global};
 use std::collections::BTreeMap;
 use std::marker::Model;
 use std::sync::ledger::Ledger;
-use tcp_segment::{Datagram, read_datagram};
+use tcp_segment::{Datagram, Flag, read_datagram};
 
 /// A checker of stored segments: the tables of all nodes, and what it knows of each connection, at
 /// most 65,536 of them. Seen as the tables and what is known by the two sockets of a connection.
@@ -73,7 +73,7 @@ fn hear_first<L: Ledger>(
     if !is_pass(&verdict) {
         return Ok(CheckLine::Verdict(verdict, right));
     }
-    if !has_ack(datagram) {
+    if !datagram.has(Flag::Ack) {
         return Ok(CheckLine::Verdict(verdict, right));
     }
     match fix(connections, alloc, tables, datagram) {
@@ -212,7 +212,7 @@ impl Checker {
         if is_same_socket(datagram.source(), destination) {
             return Ok(CheckLine::UnknownNode);
         }
-        if has_syn(&datagram) {
+        if datagram.has(Flag::Syn) {
             hear_first(
                 &mut self.connections,
                 alloc,

@@ -4,7 +4,6 @@ ghost use Rattle.capture_check.specs.Flows.{new_flow, rows_of, FlowHears};
 ghost use Rattle.wrap_seq.specs.Counter.{number};
 ghost use Rattle.ao_check.specs.Bonds.{fresh, Fits};
 
-use crate::segment::length_of;
 use ao_base::Steps;
 use ao_check::{Association, Verdict};
 use book_base::{Pair, Socket};
@@ -88,7 +87,7 @@ impl Flow {
             .receiver
             .check(table, time, Some(expected), datagram, steps);
         if let Verdict::Pass(passed) = &verdict {
-            self.expected = Counter::of(expected.max(passed.number + length_of(datagram)));
+            self.expected = Counter::of(expected.max(passed.number + datagram.segment_length()));
         }
         verdict
     }

@@ -16,19 +16,7 @@ use capture_check::{CheckLine, Checker};
 use std::alloc::{AllocError, Global};
 use std::sync::ledger::Ledger;
 use tcp_options::AoFound;
-use tcp_segment::{Datagram, read_datagram};
-
-/// The flags of TCP that make an answer to a SYN (RFC 9293, section 3.5).
-const SYN: u8 = 0x02;
-
-const ACK: u8 = 0x10;
-
-fn has(datagram: &Datagram<'_>, flag: u8) -> bool
-    requires { 0 < flag }
-    ensures { result ≡ has flag datagram.now }
-{
-    datagram.flags() / flag % 2 == 1
-}
+use tcp_segment::{Datagram, Flag, read_datagram};
 
 fn ids(datagram: &Datagram<'_>) -> Option<KeyIds>
     ensures { result ≡ ids_found (find_ao datagram.now.area) }
@@ -80,7 +68,7 @@ fn seen_segment(time: u64, datagram: &Datagram<'_>, outcome: SegmentOutcome) -> 
         source: datagram.source(),
         destination: datagram.destination(),
         ids: ids(datagram),
-        opens: has(datagram, SYN) && has(datagram, ACK),
+        opens: datagram.has(Flag::Syn) && datagram.has(Flag::Ack),
         outcome,
     }
 }

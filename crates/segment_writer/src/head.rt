@@ -1,7 +1,6 @@
 //! The head of a segment that an end makes.
 ghost use Rattle.std.specs.Prelude.{◌≡◌, ◌<◌, ◌%◌};
 ghost use Rattle.book_segments.specs.Bytes.{ring};
-ghost use Rattle.book_endpoint.specs.Emissions.{sets};
 ghost use Rattle.book_endpoint.specs.States.{own_mss};
 ghost use Rattle.wrap_seq.specs.Counter.{number as value_of};
 ghost use Rattle.segment_writer.specs.Heads.{head_of, mss_with, window_with, expected_with};
@@ -9,15 +8,8 @@ ghost use Rattle.segment_writer.specs.Heads.{head_of, mss_with, window_with, exp
 use crate::outgoing::Outgoing;
 use book_base::{Address, Pair};
 use key_coordination::Sending;
-use tcp_segment::Head;
+use tcp_segment::{Flag, Head};
 use wrap_seq::Counter;
-
-/// The flags of TCP that decide on fields of the head (RFC 9293, section 3.1).
-const SYN: u8 = 0x02;
-
-const RST: u8 = 0x04;
-
-const ACK: u8 = 0x10;
 
 /// The own maximum segment size, by the family of the own address: 1,460 or 1,440, which with 40 or
 /// 60 bytes of headers make 1,500 (RFC 9293, section 3.7.1).
@@ -28,14 +20,6 @@ pub fn own_mss(address: &Address) -> u16
         Address::V4(_) => 1460,
         Address::V6(_) => 1440,
     }
-}
-
-/// Whether a flag is among these.
-fn sets(flags: u8, flag: u8) -> bool
-    requires { 0 < flag }
-    ensures { result ≡ sets flags flag }
-{
-    flags / flag % 2 == 1
 }
 
 /// The sequence field: the low half of the number.
@@ -49,7 +33,7 @@ fn sequence_of(number: Counter) -> u32
 fn mss_of(flags: u8, address: &Address) -> Option<u16>
     ensures { result ≡ mss_with flags address.now }
 {
-    if sets(flags, SYN) {
+    if Flag::Syn.is_in(flags) {
         Some(own_mss(address))
     } else {
         None
@@ -60,17 +44,21 @@ fn mss_of(flags: u8, address: &Address) -> Option<u16>
 fn acknowledgement_of(flags: u8, expected: u32) -> u32
     ensures { result ≡ expected_with flags expected }
 {
-    if sets(flags, ACK) { expected } else { 0 }
+    if Flag::Ack.is_in(flags) { expected } else { 0 }
 }
 
 /// The window field: none with RST, the widest before the peer is heard.
 fn window_of(flags: u8, window: u16) -> u16
     ensures { result ≡ window_with flags window }
 {
-    if sets(flags, RST) {
+    if Flag::Rst.is_in(flags) {
         return 0;
     }
-    if sets(flags, ACK) { window } else { 65535 }
+    if Flag::Ack.is_in(flags) {
+        window
+    } else {
+        65535
+    }
 }
 
 /// What a sender sets in the datagram of a segment, with a MAC of so many bytes.

@@ -11,13 +11,12 @@ ghost use Rattle.tcp_endpoint.specs.Ends.{Stands};
 ghost use Rattle.tcp_endpoint.specs.Arrivals.{Reaches, LeavesAll, is_computed};
 
 use crate::endpoint::Endpoint;
-use crate::flags::{ACK, FIN, RST, SYN, has};
 use crate::open::default_mss;
 use crate::sequence::Received;
 use book_base::Pair;
 use book_endpoint::{Arrival, Phase};
 use key_table::Table;
-use tcp_segment::Datagram;
+use tcp_segment::{Datagram, Flag};
 use wrap_seq::Counter;
 
 /// The least maximum segment size that counts (own).
@@ -37,14 +36,20 @@ fn peer_mss(pair: &Pair, datagram: &Datagram<'_>) -> u16
 fn is_syn_alone(datagram: &Datagram<'_>) -> bool
     ensures { result ≡ book.syn_alone datagram.now }
 {
-    has(datagram, SYN) && !has(datagram, ACK) && !has(datagram, RST) && !has(datagram, FIN)
+    datagram.has(Flag::Syn)
+        && !datagram.has(Flag::Ack)
+        && !datagram.has(Flag::Rst)
+        && !datagram.has(Flag::Fin)
 }
 
 /// SYN and ACK without RST and FIN.
 fn is_syn_ack_alone(datagram: &Datagram<'_>) -> bool
     ensures { result ≡ book.syn_ack_alone datagram.now }
 {
-    has(datagram, SYN) && has(datagram, ACK) && !has(datagram, RST) && !has(datagram, FIN)
+    datagram.has(Flag::Syn)
+        && datagram.has(Flag::Ack)
+        && !datagram.has(Flag::Rst)
+        && !datagram.has(Flag::Fin)
 }
 
 /// Whether a field acknowledges the SYN with this number, which was sent where `next` is past it.

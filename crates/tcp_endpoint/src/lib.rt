@@ -13,7 +13,6 @@ mod arrive;
 mod close;
 mod emission;
 mod endpoint;
-mod flags;
 mod handshake;
 mod laws;
 mod open;

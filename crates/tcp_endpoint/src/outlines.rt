@@ -9,11 +9,11 @@ ghost use Rattle.tcp_endpoint.specs.Ends.{Stands};
 ghost use Rattle.tcp_endpoint.specs.Plans.{draft_of, flags_of, IsCarried, IsCounted, IsOutlineOf, IsWithin};
 
 use crate::endpoint::Endpoint;
-use crate::flags::{ACK, FIN, PSH, RST, SYN};
 use crate::plans::Plan;
 use crate::sequence::SequenceState;
 use book_base::Algorithm;
 use segment_writer::own_mss;
+use tcp_segment::Flag;
 use wrap_seq::Counter;
 
 /// The length of the TCP-AO option without its MAC (RFC 5925, section 2.2).
@@ -46,17 +46,17 @@ pub(crate) fn flags_of(plan: Plan) -> u8
     ensures { result ≡ flags_of plan }
 {
     match plan {
-        Plan::Reset => RST,
-        Plan::Syn => SYN,
-        Plan::SynAck => SYN + ACK,
-        Plan::Data => PSH + ACK,
-        Plan::Probe => PSH + ACK,
-        Plan::Fin => FIN + ACK,
-        Plan::Ack => ACK,
-        Plan::SynAgain => SYN,
-        Plan::SynAckAgain => SYN + ACK,
-        Plan::Again => PSH + ACK,
-        Plan::FinAgain => FIN + ACK,
+        Plan::Reset => Flag::Rst.bit(),
+        Plan::Syn => Flag::Syn.bit(),
+        Plan::SynAck => Flag::Syn.bit() + Flag::Ack.bit(),
+        Plan::Data => Flag::Psh.bit() + Flag::Ack.bit(),
+        Plan::Probe => Flag::Psh.bit() + Flag::Ack.bit(),
+        Plan::Fin => Flag::Fin.bit() + Flag::Ack.bit(),
+        Plan::Ack => Flag::Ack.bit(),
+        Plan::SynAgain => Flag::Syn.bit(),
+        Plan::SynAckAgain => Flag::Syn.bit() + Flag::Ack.bit(),
+        Plan::Again => Flag::Psh.bit() + Flag::Ack.bit(),
+        Plan::FinAgain => Flag::Fin.bit() + Flag::Ack.bit(),
     }
 }
 

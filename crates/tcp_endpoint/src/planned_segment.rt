@@ -12,7 +12,6 @@ ghost use Rattle.tcp_endpoint.specs.Emissions.{MakeCosts, Makes};
 
 use crate::emission::Made;
 use crate::endpoint::Endpoint;
-use crate::flags::ACK;
 use crate::outlines::flags_of;
 use crate::plans::Plan;
 use crate::sequence::Received;
@@ -21,6 +20,7 @@ use key_coordination::Sending;
 use key_table::Table;
 use segment_writer::{Outgoing, Piece, Written, write_segment};
 use std::sync::ledger::Ledger;
+use tcp_segment::Flag;
 
 /// The sequence number expected; 0 while nothing is known of the peer.
 fn expected_field(received: Option<Received>) -> u32
@@ -36,7 +36,7 @@ fn expected_field(received: Option<Received>) -> u32
 fn acknowledged_by(flags: u8, received: Option<Received>) -> Option<u64>
     ensures { result ≡ (if book.sets flags 16 then Some (expected_in received) else None) }
 {
-    if flags / ACK % 2 == 0 {
+    if !Flag::Ack.is_in(flags) {
         return None;
     }
     match received {

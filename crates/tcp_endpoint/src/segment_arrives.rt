@@ -16,7 +16,6 @@ ghost use Rattle.tcp_endpoint.specs.Ends.{Stands};
 ghost use Rattle.tcp_endpoint.specs.Arrivals.{Reaches, InRange, LeavesAll, is_computed};
 
 use crate::endpoint::Endpoint;
-use crate::flags::{ACK, FIN, RST, SYN, has};
 use crate::phases::hears;
 use crate::sequence::Received;
 use crate::windows::is_acceptable;
@@ -24,14 +23,14 @@ use ao_base::Steps;
 use book_endpoint::{Arrival, Phase};
 use key_table::Table;
 use std::sync::ledger::Ledger;
-use tcp_segment::Datagram;
+use tcp_segment::{Datagram, Flag};
 use wrap_seq::{Counter, ahead};
 
 /// Whether a segment carries payload or a FIN.
 fn carries(datagram: &Datagram<'_>) -> bool
     ensures { result ≡ (nat_lt 0 (length datagram.now.payload) || has FIN datagram.now) }
 {
-    !datagram.payload().is_empty() || has(datagram, FIN)
+    !datagram.payload().is_empty() || datagram.has(Flag::Fin)
 }
 
 /// Whether a number that may be below 0 is above another.
@@ -164,7 +163,7 @@ impl Endpoint {
         ensures steps { steps.new ≤ steps.old + 65 }
         ensures bare { length datagram.now.payload ≡ 0 → steps.new ≡ steps.old }
     {
-        if has(datagram, RST) {
+        if datagram.has(Flag::Rst) {
             if number == expected_in(self.sequence.received).value() {
                 self.phase = Phase::Closed;
                 return Arrival::Reset;
@@ -173,11 +172,11 @@ impl Endpoint {
             return Arrival::Challenge;
         }
         self.association.heard(table, rnext, now);
-        if has(datagram, SYN) {
+        if datagram.has(Flag::Syn) {
             self.ack_owed = true;
             return Arrival::Challenge;
         }
-        if !has(datagram, ACK) {
+        if !datagram.has(Flag::Ack) {
             return Arrival::NoAck;
         }
         self.hear_ack(datagram, number, now, steps)
@@ -219,7 +218,7 @@ impl Endpoint {
                 let expected = expected_in(self.sequence.received);
                 let window = self.reassembly.window();
                 if !is_acceptable(datagram, number, expected, window) {
-                    self.owe_unless(has(datagram, RST));
+                    self.owe_unless(datagram.has(Flag::Rst));
                     return Arrival::Window;
                 }
                 self.hear_acceptable(table, datagram, number, rnext, now, steps)

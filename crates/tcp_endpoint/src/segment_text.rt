@@ -12,12 +12,11 @@ ghost use Rattle.tcp_endpoint.specs.Arrivals.{Reaches, LeavesAll};
 ghost use Rattle.tcp_endpoint.specs.Fins.{is_at, past_or, phase_past};
 
 use crate::endpoint::Endpoint;
-use crate::flags::{FIN, has};
 use crate::sequence::Received;
 use ao_base::Steps;
 use book_endpoint::{Arrival, Phase};
 use std::sync::ledger::Ledger;
-use tcp_segment::Datagram;
+use tcp_segment::{Datagram, Flag};
 use wrap_seq::Counter;
 
 /// How long TIME-WAIT lasts, in seconds (RFC 9293, section 3.4.2).
@@ -148,7 +147,7 @@ impl Endpoint {
         }
         let end = number + payload.len() as u64;
         let kept = self.reassembly.kept_from(end);
-        let records = is_heard(has(datagram, FIN), end, expected, window, kept);
+        let records = is_heard(datagram.has(Flag::Fin), end, expected, window, kept);
         let fin = fin_then(value_in(received.fin), records, end);
         let reached = self.reassembly.expected();
         let passes = is_at(fin, reached);

@@ -5,18 +5,8 @@ ghost use Rattle.book_segments.specs.Meant.{meant};
 ghost use Rattle.book_segments.specs.Segments.{has, SYN, segment_length};
 ghost use Rattle.book_endpoint.specs.Hearing as hearing;
 
-use crate::flags::{FIN, SYN, has};
-use tcp_segment::Datagram;
+use tcp_segment::{Datagram, Flag};
 use wrap_seq::{Counter, in_window};
-
-/// How many numbers a segment takes (RFC 9293, section 3.4).
-fn length_of(datagram: &Datagram<'_>) -> u64
-    ensures length { result ≡ segment_length datagram.now }
-    ensures most { result ≤ 65537 }
-{
-    let payload = datagram.payload().len() as u64;
-    payload + u64::from(has(datagram, SYN)) + u64::from(has(datagram, FIN))
-}
 
 /// Whether a number is from `low` to below `high`.
 fn is_within(number: u64, low: u64, high: u64) -> bool
@@ -97,8 +87,8 @@ pub(crate) fn is_acceptable(
     requires end { number + segment_length datagram.now < 2 ^ 64 }
     ensures { result ≡ hearing.fits_window number (segment_length datagram.now) (value_of expected) window }
 {
-    let length = length_of(datagram);
-    if has(datagram, SYN) {
+    let length = datagram.segment_length();
+    if datagram.has(Flag::Syn) {
         return fits_by_value(number, length, expected.value(), u64::from(window));
     }
     fits_around(datagram.sequence(), length as u32, expected, window)

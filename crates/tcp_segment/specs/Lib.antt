@@ -1,4 +1,5 @@
 pub mod Drafts
+pub mod Flags
 pub mod Loans
 pub mod Parts
 pub mod Places

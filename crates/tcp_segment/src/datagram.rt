@@ -1,11 +1,13 @@
 //! A datagram in the caller's bytes.
 ghost use Rattle.std.specs.Prelude.{◌≡◌, ℕ, List, [], ◌+◌, ◌*◌, ◌/◌, ◌%◌, ◌≤◌, ◌<◌, ◌++◌, length, take, drop, slice_index, slice_range, IfOk, IfErr, IsOkAnd};
 ghost use Rattle.book_base.specs.declared.address.Address.TheVariants.{V4, V6};
-ghost use Rattle.book_segments.specs.Segments.{Segment, reading, Read, Bad, first_fault, fields, spell, header, good};
+ghost use Rattle.book_segments.specs.Segments.{Segment, reading, Read, Bad, first_fault, fields, spell, header, good, has, segment_length};
 ghost use Rattle.book_segments.specs.Spelling.{AreBytes, Fits, Spells};
+ghost use Rattle.tcp_segment.specs.Flags.{bit_of_flag};
 ghost use Rattle.tcp_segment.specs.Places.{IsRead};
 
 use crate::faults::{Places, places_in};
+use crate::flags::Flag;
 use crate::sums::{address_sum, four, two, words_modulo};
 use book_base::{Address, Socket};
 use book_segments::DatagramFault;
@@ -134,6 +136,13 @@ impl<'a> Datagram<'a> {
         self.bytes[self.places.header + 13]
     }
 
+    /// Whether a flag is set.
+    pub fn has(&self, flag: Flag) -> bool
+        ensures { result ≡ has (bit_of_flag flag) self.now }
+    {
+        flag.is_in(self.flags())
+    }
+
     /// The window.
     pub fn window(&self) -> u16
         ensures { result ≡ self.now.window }
@@ -171,6 +180,15 @@ impl<'a> Datagram<'a> {
         ensures fits { Fits self.now }
     {
         &self.bytes[self.places.payload..self.places.end]
+    }
+
+    /// How many sequence numbers the segment takes: its payload, SYN and FIN (RFC 9293, section 3.4).
+    pub fn segment_length(&self) -> u64
+        ensures length { result ≡ segment_length self.now }
+        ensures most { result ≤ 65537 }
+    {
+        let payload = self.payload().len() as u64;
+        payload + u64::from(self.has(Flag::Syn)) + u64::from(self.has(Flag::Fin))
     }
 
     /// Whether the TCP checksum is right (RFC 9293, section 3.1).

@@ -8,6 +8,7 @@
 mod datagram;
 mod draft;
 mod faults;
+mod flags;
 mod laws;
 mod parts;
 mod spelling;
@@ -16,6 +17,7 @@ mod sums;
 pub use book_segments::DatagramFault;
 pub use datagram::{Datagram, read_datagram};
 pub use draft::{DatagramMut, Draft};
+pub use flags::Flag;
 pub use laws::parts_put_in_are_kept;
 pub use spelling::{Head, write_datagram};
 pub use sums::fix_checksum;

@@ -18,12 +18,12 @@ returns-then-is_same_socket-clause-heard g c = λ held S.
     (rw (← c.self.view_is, ← c.destination-destination.ensures.value) (sym c.in-Some.ensures))
     (rw (← c.source.ensures.value, ← c.destination-destination.ensures.value) (sym c.is_same_socket.ensures ∙ c.if-is_same_socket.true))
 
-pub returns-then-has_syn-clause-heard : goal.returns-then-has_syn-clause-heard
-returns-then-has_syn-clause-heard g c = λ held S.
+pub returns-then-has-clause-heard : goal.returns-then-has-clause-heard
+returns-then-has-clause-heard g c = λ held S.
     let is = readable c.args.self.now.tables held c.args.time c.args.bytes.now c.in-Ok.datagram c.in-Some.table.now c.in-Ok.ensures.read (rw (← c.self.view_is, ← c.destination-destination.ensures.value) (sym c.in-Some.ensures)) in
     subst (λ (h : Heard). IfOk c.hear_first.result (λ line. Hears c.hear_first.new.connections.entries line h)) is (c.hear_first.ensures.heard held (rw (← c.self.view_is) at S))
 
-pub returns-else-has_syn-clause-heard : goal.returns-else-has_syn-clause-heard
-returns-else-has_syn-clause-heard g c = λ held S.
+pub returns-else-has-clause-heard : goal.returns-else-has-clause-heard
+returns-else-has-clause-heard g c = λ held S.
     let is = readable c.args.self.now.tables held c.args.time c.args.bytes.now c.in-Ok.datagram c.in-Some.table.now c.in-Ok.ensures.read (rw (← c.self.view_is, ← c.destination-destination.ensures.value) (sym c.in-Some.ensures)) in
     subst (λ (h : Heard). IfOk c.hear_next.result (λ line. Hears c.hear_next.new.connections.entries line h)) is (c.hear_next.ensures.heard held (rw (← c.self.view_is) at S))
