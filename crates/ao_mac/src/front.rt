@@ -10,16 +10,12 @@ ghost use Rattle.ao_mac.specs.Macs.{HasAo};
 
 use book_base::Address;
 use std::marker::Model;
-use tcp_options::{AoFound, AoOption};
-use tcp_segment::Datagram;
+use tcp_options::{AO_HEAD, AO_KIND, AoFound, AoOption};
+use tcp_segment::{Datagram, TCP_PROTOCOL};
 
 /// The most bytes before the payload: those of the extension, the pseudo-header of IPv6, the header
 /// and the longest options.
 const LONGEST: usize = 104;
-/// The protocol number of TCP (RFC 9293, section 3.1).
-const PROTOCOL: u8 = 6;
-/// The kind of the TCP-AO option (RFC 5925, section 2.2).
-pub(crate) const AO_KIND: u8 = 29;
 /// Zero bytes, as many as an option can have.
 const ZEROS: [u8; 40] = [0; 40];
 
@@ -100,7 +96,7 @@ impl Front {
         let [high, low] = total.to_be_bytes();
         self.push(source);
         self.push(destination);
-        self.push(&[0, PROTOCOL, high, low]);
+        self.push(&[0, TCP_PROTOCOL, high, low]);
     }
 
     /// Puts the pseudo-header of IPv6 (RFC 8200, section 8.1).
@@ -112,7 +108,7 @@ impl Front {
         let [high, low] = total.to_be_bytes();
         self.push(source);
         self.push(destination);
-        self.push(&[0, 0, high, low, 0, 0, 0, PROTOCOL]);
+        self.push(&[0, 0, high, low, 0, 0, 0, TCP_PROTOCOL]);
     }
 
     /// Puts the pseudo-header (RFC 9293, section 3.1; RFC 8200, section 8.1).
@@ -159,7 +155,7 @@ impl Front {
             self.push_zeros(length);
             self.push(&area[front + length..]);
         } else {
-            self.push(&[AO_KIND, 4 + length as u8, ao.key_id, ao.rnext]);
+            self.push(&[AO_KIND, AO_HEAD + length as u8, ao.key_id, ao.rnext]);
             self.push_zeros(length);
         }
     }

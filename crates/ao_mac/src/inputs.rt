@@ -5,10 +5,10 @@ ghost use Rattle.book_segments.specs.Segments.{pseudo, header};
 ghost use Rattle.book_macs.specs.MacInput.{covered, mac_input};
 ghost use Rattle.ao_mac.specs.Macs.{HasAo, IsSameInput};
 
-use crate::front::{AO_KIND, tcp_length_of};
+use crate::front::tcp_length_of;
 use book_base::Address;
 use std::marker::Model;
-use tcp_options::{AoFound, AoOption};
+use tcp_options::{AO_HEAD, AO_KIND, AoFound, AoOption};
 use tcp_segment::Datagram;
 
 /// The options that are covered, the MAC as zeros; seen as their bytes.
@@ -58,7 +58,7 @@ impl<'a> Covered<'a> {
         } else {
             match index {
                 0 => AO_KIND,
-                1 => 4 + self.ao.mac.len() as u8,
+                1 => AO_HEAD + self.ao.mac.len() as u8,
                 2 => self.ao.key_id,
                 3 => self.ao.rnext,
                 _ => 0,

@@ -9,7 +9,7 @@ ghost use Rattle.key_lint.specs.Unmet.{hears, unmet_answer};
 ghost use Rattle.book_keys.specs.Rows.{matches, receives, sends_for};
 
 use book_base::{Algorithm, End, Pair};
-use book_keys::{Direction, LATEST, LintAnswer};
+use book_keys::{LATEST, LintAnswer};
 use key_table::Row;
 
 /// The most rows of a table.
@@ -40,20 +40,14 @@ fn mirrored(pair: &Pair) -> Pair
 pub(crate) fn is_sending_for(row: &Row, pair: &Pair) -> bool
     ensures { result ≡ sends_for pair.now row.now }
 {
-    row.matches(pair) && matches!(row.direction(), Direction::Send | Direction::Both)
-}
-
-fn is_receiving(row: &Row) -> bool
-    ensures { result ≡ receives row.now.direction }
-{
-    matches!(row.direction(), Direction::Receive | Direction::Both)
+    row.matches(pair) && row.direction().sends()
 }
 
 /// Whether the row is for what comes in over the connection, at whatever time.
 fn is_hearing(row: &Row, pair: &Pair) -> bool
     ensures { result ≡ (matches row.now pair.now && receives row.now.direction) }
 {
-    is_receiving(row) && row.matches(pair)
+    row.direction().receives() && row.matches(pair)
 }
 
 fn is_same_algorithm(one: Algorithm, other: Algorithm) -> bool

@@ -3,12 +3,12 @@ ghost use Rattle.std.specs.Prelude.{◌≡◌};
 ghost use Rattle.book_segments.specs.Bytes.{same_bytes};
 ghost use Rattle.book_keys.specs.Plans.{mirrored, same_flag, accepts_from};
 ghost use Rattle.book_base.specs.Algorithms.{same_algorithm};
-ghost use Rattle.book_keys.specs.Rows.{receives, sends, sends_for};
+ghost use Rattle.book_keys.specs.Rows.{sends_for};
 ghost use Rattle.book_plans.specs.Differences.{differences};
 
 use book_base::{Algorithm, Pair};
 use book_plans::Differences;
-use key_table::{Direction, Row};
+use key_table::Row;
 
 /// The connection as the other end sees it.
 pub(crate) fn mirrored(pair: &Pair) -> Pair
@@ -24,21 +24,7 @@ pub(crate) fn mirrored(pair: &Pair) -> Pair
 pub(crate) fn is_sending_for(row: &Row, pair: &Pair) -> bool
     ensures { result ≡ sends_for pair.now row.now }
 {
-    row.matches(pair) && is_sending(row)
-}
-
-/// Whether the row is for what goes out.
-pub(crate) fn is_sending(row: &Row) -> bool
-    ensures { result ≡ sends row.now.direction }
-{
-    matches!(row.direction(), Direction::Send | Direction::Both)
-}
-
-/// Whether the row is for what comes in.
-pub(crate) fn is_receiving(row: &Row) -> bool
-    ensures { result ≡ receives row.now.direction }
-{
-    matches!(row.direction(), Direction::Receive | Direction::Both)
+    row.matches(pair) && row.direction().sends()
 }
 
 fn is_same_algorithm(one: Algorithm, other: Algorithm) -> bool
@@ -68,7 +54,7 @@ pub fn differences(pair: &Pair, row: &Row, other: &Row) -> Differences
     let back = mirrored(pair);
     Differences {
         connection: !other.matches(&back),
-        direction: !is_receiving(other),
+        direction: !other.direction().receives(),
         key_id: other.recv_id() != row.send_id(),
         master: !is_same_master(other.master(), row.master()),
         algorithm: !is_same_algorithm(other.algorithm(), row.algorithm()),

@@ -6,7 +6,7 @@ ghost use Rattle.book_keys.specs.Plans.{mirrored, rows_at};
 ghost use Rattle.book_keys.specs.Rows.{sendable, acceptable};
 ghost use Rattle.book_plans.specs.Calendar.{planned, is_number, has_role, turn_at, turn_by, role_turn, row_turns, turns_from, turns_after, turns_in, calendar_of, Keeps};
 
-use crate::alike::{is_receiving, is_sending, mirrored};
+use crate::alike::mirrored;
 use crate::tables::rows_at;
 use book_base::{Address, End, Pair};
 use book_plans::{Role, Turn};
@@ -16,13 +16,13 @@ use std::alloc::{AllocError, Global};
 fn is_sendable(row: &Row, pair: &Pair, time: u64) -> bool
     ensures { result ≡ sendable pair.now time row.now }
 {
-    row.matches(pair) && (is_sending(row) && row.sending().contains(time))
+    row.matches(pair) && (row.direction().sends() && row.sending().contains(time))
 }
 
 fn is_acceptable(row: &Row, pair: &Pair, time: u64) -> bool
     ensures { result ≡ acceptable pair.now time row.now }
 {
-    row.matches(pair) && (is_receiving(row) && row.accepting().contains(time))
+    row.matches(pair) && (row.direction().receives() && row.accepting().contains(time))
 }
 
 fn is_number(number: u8, found: Option<u8>) -> bool

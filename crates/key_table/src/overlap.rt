@@ -6,7 +6,7 @@ ghost use Rattle.book_keys.specs.Overlaps.{peer_meets, peers_meet, ports_meet, l
 ghost use Rattle.book_keys.specs.Nodes.{overlap_in};
 ghost use Rattle.key_table.specs.Pairs.{two_of};
 
-use crate::row::{Row, is_receiving, is_sending};
+use crate::row::Row;
 use crate::table::Table;
 use ao_base::is_same_address;
 use book_base::Address;
@@ -59,8 +59,8 @@ fn is_pairs_meeting(one: &Row, other: &Row) -> bool
 fn is_accepts_meeting(one: &Row, other: &Row) -> bool
     ensures { result ≡ accepts_meet one.now other.now }
 {
-    is_receiving(one.direction)
-        && is_receiving(other.direction)
+    one.direction.receives()
+        && other.direction.receives()
         && one.recv_id == other.recv_id
         && is_lifetimes_meeting(one.accepting, other.accepting)
 }
@@ -68,8 +68,8 @@ fn is_accepts_meeting(one: &Row, other: &Row) -> bool
 fn is_sends_meeting(one: &Row, other: &Row) -> bool
     ensures { result ≡ sends_meet one.now other.now }
 {
-    is_sending(one.direction)
-        && is_sending(other.direction)
+    one.direction.sends()
+        && other.direction.sends()
         && one.send_id == other.send_id
         && is_lifetimes_meeting(one.sending, other.sending)
 }

@@ -4,6 +4,7 @@ ghost use Rattle.book_segments.specs.Options.{AreListed, options_at, find_ao};
 ghost use Rattle.tcp_options.specs.Views.{HitIs, IsAo, view_found};
 
 use crate::iter::{Cut, Opt, cut_front};
+use crate::kinds::{AO_KIND, MD5_KIND};
 use crate::options::Options;
 
 /// A TCP-AO option: the key that made its MAC, the key that the sender wants next, the MAC, and the
@@ -89,13 +90,13 @@ impl<'a> Options<'a> {
         ensures { view_found result ≡ find_ao self.now }
     {
         let area = self.area;
-        let Some(hit) = first_of(29, area, 0) else {
+        let Some(hit) = first_of(AO_KIND, area, 0) else {
             return AoFound::Absent;
         };
-        if first_of(29, hit.behind, hit.behind_place).is_some() {
+        if first_of(AO_KIND, hit.behind, hit.behind_place).is_some() {
             return AoFound::Two;
         }
-        if first_of(19, area, 0).is_some() {
+        if first_of(MD5_KIND, area, 0).is_some() {
             return AoFound::WithMd5;
         }
         AoFound::One(ao_of_hit(hit))

@@ -4,6 +4,7 @@ ghost use Rattle.std.specs.Iterator.{YieldsFirstBy, item_count};
 ghost use Rattle.book_segments.specs.Options.{option_front, options_of, listed, AreListed, plains};
 ghost use Rattle.tcp_options.specs.Views.{view_opt, view_cut};
 
+use crate::kinds::{AO_HEAD, AO_KIND, LEAST_OPTION};
 use std::marker::Model;
 
 /// An option: its kind, and its body without the kind and length bytes (RFC 9293, section 3.2).
@@ -38,7 +39,11 @@ pub(crate) fn cut_front(area: &[u8]) -> Cut<'_>
         [1, rest @ ..] => Cut::Leading(Opt { kind: 1, body: &[] }, 1, rest),
         [_] => Cut::TooLong,
         [kind, size, rest @ ..] => {
-            let least = if *kind == 29 { 4 } else { 2 };
+            let least = if *kind == AO_KIND {
+                AO_HEAD
+            } else {
+                LEAST_OPTION
+            };
             if *size < least {
                 return Cut::TooShort;
             }

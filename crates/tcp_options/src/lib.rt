@@ -7,9 +7,11 @@
 
 mod ao;
 mod iter;
+mod kinds;
 mod options;
 
 pub use ao::{AoFound, AoOption};
 pub use book_segments::OptionFault;
 pub use iter::{Opt, OptionIter};
+pub use kinds::{AO_HEAD, AO_KIND, MSS_KIND};
 pub use options::{Options, options_over, read_options};

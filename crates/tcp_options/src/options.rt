@@ -6,6 +6,7 @@ ghost use Rattle.book_segments.specs.Areas.{Area, FaultAt};
 ghost use Rattle.tcp_options.specs.Views.{FaultIs, mss_or, view_opt};
 
 use crate::iter::{Cut, Opt, OptionIter, cut_front, iter_over};
+use crate::kinds::MSS_KIND;
 use book_segments::OptionFault;
 use byteorder::{BigEndian, ByteOrder};
 use std::marker::Model;
@@ -79,7 +80,7 @@ pub fn options_over(area: &[u8]) -> Options<'_>
 fn mss_of_option(option: Opt<'_>) -> Option<u16>
     ensures { result ≡ mss_or (view_opt option.entry) None }
 {
-    if option.kind != 2 {
+    if option.kind != MSS_KIND {
         return None;
     }
     if option.body.len() == 2 {

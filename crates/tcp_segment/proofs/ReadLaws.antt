@@ -150,6 +150,10 @@ source_port_in b p r = two_in b p 0 p.header r (omega arith) (omega arith) ∙ s
 destination_port_in : (b : List ℕ) (p : Places) → IsRead b p → two_octets_at b (p.header + 2) ≡ (fields b).destination.port
 destination_port_in b p r = two_in b p 2 (p.header + 2) r (omega arith) refl ∙ destination_port_of (fields b) (fields b).checksum r.fits
 
+-- what the test says isn't 4 isn't
+pub not_four : (n : ℕ) → (n == 4) ≡ false → n ≡ 4 → ⊥
+not_four n h e = let told : (4 == 4) ≡ false = rw e at h in absurd (cc)
+
 pub source_v4 : (b : List ℕ) (p : Places) (a : Address) (q : ℕ) → IsRead b p → slice_index b 0 / 16 ≡ 4 → a ≡ V4 (slice_range b 12 16) → q ≡ two_octets_at b p.header → ◌≡◌ {A = Socket} (record { address = a; port = q }) (fields b).source
 source_v4 b p a q r v e f = same_socket a (fields b).source.address q (fields b).source.port (e ∙ sym (v4_source b v)) (f ∙ source_port_in b p r)
 

@@ -8,6 +8,7 @@ ghost use Rattle.tcp_segment.specs.Places.{IsRead};
 
 use crate::faults::{Places, places_in};
 use crate::flags::Flag;
+use crate::headers::{TCP_HEADER, TCP_PROTOCOL, is_ipv4};
 use crate::sums::{address_sum, four, two, words_modulo};
 use book_base::{Address, Socket};
 use book_segments::DatagramFault;
@@ -93,7 +94,7 @@ impl<'a> Datagram<'a> {
         ensures fits { Fits self.now }
     {
         let port = two(self.bytes, self.places.header);
-        let address = if self.bytes[0] / 16 == 4 {
+        let address = if is_ipv4(self.bytes) {
             address_v4(self.bytes, 12)
         } else {
             address_v6(self.bytes, 8)
@@ -107,7 +108,7 @@ impl<'a> Datagram<'a> {
         ensures fits { Fits self.now }
     {
         let port = two(self.bytes, self.places.header + 2);
-        let address = if self.bytes[0] / 16 == 4 {
+        let address = if is_ipv4(self.bytes) {
             address_v4(self.bytes, 16)
         } else {
             address_v6(self.bytes, 24)
@@ -163,7 +164,7 @@ impl<'a> Datagram<'a> {
         ensures length { length result.now ≡ 20 }
         ensures fits { Fits self.now }
     {
-        &self.bytes[self.places.header..self.places.header + 20]
+        &self.bytes[self.places.header..self.places.header + TCP_HEADER]
     }
 
     /// The options of TCP.
@@ -171,7 +172,7 @@ impl<'a> Datagram<'a> {
         ensures value { result ≡ self.now.area }
         ensures fits { Fits self.now }
     {
-        options_over(&self.bytes[self.places.header + 20..self.places.payload])
+        options_over(&self.bytes[self.places.header + TCP_HEADER..self.places.payload])
     }
 
     /// The payload.
@@ -196,7 +197,10 @@ impl<'a> Datagram<'a> {
         ensures { result ≡ good self.now }
     {
         let tcp = &self.bytes[self.places.header..self.places.end];
-        let sum = address_sum(self.bytes) + 6 + tcp.len() as u64 + words_modulo(tcp);
+        let sum = address_sum(self.bytes)
+            + TCP_PROTOCOL as u64
+            + tcp.len() as u64
+            + words_modulo(tcp);
         sum > 0 && sum % 65535 == 0
     }
 }

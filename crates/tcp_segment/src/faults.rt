@@ -3,6 +3,9 @@ ghost use Rattle.std.specs.Prelude.{◌≡◌, ℕ, List, ◌+◌, ◌*◌, ◌/
 ghost use Rattle.book_segments.specs.Segments.{tcp_fault, v4_fault, v6_fault, first_fault, two_octets_at, is_extension};
 ghost use Rattle.tcp_segment.specs.Places.{PlacedBy, Placed};
 
+use crate::headers::{
+    DONT_FRAGMENT_BIT, IPV4, IPV4_HEADER, IPV6, IPV6_HEADER, TCP_HEADER, TCP_PROTOCOL,
+};
 use crate::sums::{is_right, two};
 use book_segments::DatagramFault;
 use tcp_options::read_options;
@@ -19,17 +22,17 @@ pub(crate) struct Places {
 fn tcp_header_length(tcp: &[u8]) -> Result<usize, DatagramFault>
     ensures { MatchResult result (λ n. (n ≡ 4 * (slice_index tcp.now 12 / 16)) × (tcp_fault tcp.now ≡ None)) (λ fault. tcp_fault tcp.now ≡ Some fault) }
 {
-    if tcp.len() < 20 {
+    if tcp.len() < TCP_HEADER {
         return Err(DatagramFault::DataOffset);
     }
     let length = 4 * (tcp[12] / 16) as usize;
-    if length < 20 {
+    if length < TCP_HEADER {
         return Err(DatagramFault::DataOffset);
     }
     if tcp.len() < length {
         return Err(DatagramFault::DataOffset);
     }
-    match read_options(&tcp[20..length]) {
+    match read_options(&tcp[TCP_HEADER..length]) {
         Ok(_) => Ok(length),
         Err(fault) => Err(DatagramFault::BadOption(fault)),
     }
@@ -38,7 +41,7 @@ fn tcp_header_length(tcp: &[u8]) -> Result<usize, DatagramFault>
 fn read_v4(bytes: &[u8]) -> Result<Places, DatagramFault>
     ensures { MatchResult result (λ places. PlacedBy bytes.now (4 * (slice_index bytes.now 0 % 16)) (two_octets_at bytes.now 2) places × (v4_fault bytes.now ≡ None)) (λ fault. v4_fault bytes.now ≡ Some fault) }
 {
-    if bytes.len() < 20 {
+    if bytes.len() < IPV4_HEADER {
         return Err(DatagramFault::Truncated);
     }
     let end = two(bytes, 2) as usize;
@@ -46,7 +49,7 @@ fn read_v4(bytes: &[u8]) -> Result<Places, DatagramFault>
         return Err(DatagramFault::Truncated);
     }
     let header = 4 * (bytes[0] % 16) as usize;
-    if header < 20 {
+    if header < IPV4_HEADER {
         return Err(DatagramFault::HeaderLength);
     }
     if end < header {
@@ -55,10 +58,10 @@ fn read_v4(bytes: &[u8]) -> Result<Places, DatagramFault>
     if !is_right(&bytes[..header]) {
         return Err(DatagramFault::HeaderChecksum);
     }
-    if two(bytes, 6) % 16384 != 0 {
+    if two(bytes, 6) % DONT_FRAGMENT_BIT != 0 {
         return Err(DatagramFault::Fragment);
     }
-    if bytes[9] != 6 {
+    if bytes[9] != TCP_PROTOCOL {
         return Err(DatagramFault::NotTcp);
     }
     match tcp_header_length(&bytes[header..end]) {
@@ -80,25 +83,25 @@ fn is_extension_header(next: u8) -> bool
 fn read_v6(bytes: &[u8]) -> Result<Places, DatagramFault>
     ensures { MatchResult result (λ places. PlacedBy bytes.now 40 (40 + two_octets_at bytes.now 4) places × (v6_fault bytes.now ≡ None)) (λ fault. v6_fault bytes.now ≡ Some fault) }
 {
-    if bytes.len() < 40 {
+    if bytes.len() < IPV6_HEADER {
         return Err(DatagramFault::Truncated);
     }
-    let end = 40 + two(bytes, 4) as usize;
+    let end = IPV6_HEADER + two(bytes, 4) as usize;
     if bytes.len() < end {
         return Err(DatagramFault::Truncated);
     }
     let next = bytes[6];
     let extension = is_extension_header(next);
-    if next != 6 && !extension {
+    if next != TCP_PROTOCOL && !extension {
         return Err(DatagramFault::NotTcp);
     }
     if extension {
         return Err(DatagramFault::ExtensionHeader);
     }
-    match tcp_header_length(&bytes[40..end]) {
+    match tcp_header_length(&bytes[IPV6_HEADER..end]) {
         Ok(length) => Ok(Places {
-            header: 40,
-            payload: 40 + length,
+            header: IPV6_HEADER,
+            payload: IPV6_HEADER + length,
             end,
         }),
         Err(fault) => Err(fault),
@@ -114,9 +117,9 @@ pub(crate) fn places_in(bytes: &[u8]) -> Result<Places, DatagramFault>
         return Err(DatagramFault::Truncated);
     }
     let version = bytes[0] / 16;
-    if version == 4 {
+    if version == IPV4 {
         read_v4(bytes)
-    } else if version == 6 {
+    } else if version == IPV6 {
         read_v6(bytes)
     } else {
         Err(DatagramFault::Version)

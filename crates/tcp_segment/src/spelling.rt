@@ -8,10 +8,15 @@ ghost use Rattle.tcp_segment.specs.Layout.{ip_start, ip_size, tcp_start, mss_len
 ghost use Rattle.tcp_segment.specs.Drafts.{Drafted};
 
 use crate::draft::{DatagramMut, Draft};
+use crate::headers::{
+    DONT_FRAGMENT, FIVE_WORDS, HOPS, IPV4_FIRST, IPV4_HEADER, IPV6_FIRST, IPV6_HEADER, TCP_HEADER,
+    TCP_PROTOCOL,
+};
 use crate::parts::{put, put_zeros};
 use crate::sums::{complement, words};
 use book_base::{Address, Socket};
 use byteorder::{BigEndian, ByteOrder};
+use tcp_options::{AO_HEAD, AO_KIND, MSS_KIND};
 
 /// What a sender sets in a datagram. The addresses are of one family, and the MAC of TCP-AO has 12
 /// or 16 bytes.
@@ -45,7 +50,20 @@ fn octets_of(address: &Address) -> &[u8]
 fn ipv4_start(total: u16, checksum: u16) -> [u8; 12]
     ensures { result ≡ 69 ∷ 0 ∷ put2 total (0 ∷ 0 ∷ 64 ∷ 0 ∷ 64 ∷ 6 ∷ put2 checksum []) }
 {
-    let mut start = [69, 0, 0, 0, 0, 0, 64, 0, 64, 6, 0, 0];
+    let mut start = [
+        IPV4_FIRST,
+        0,
+        0,
+        0,
+        0,
+        0,
+        DONT_FRAGMENT,
+        0,
+        HOPS,
+        TCP_PROTOCOL,
+        0,
+        0,
+    ];
     BigEndian::write_u16(&mut start[2..], total);
     BigEndian::write_u16(&mut start[10..], checksum);
     start
@@ -55,7 +73,7 @@ fn ipv4_start(total: u16, checksum: u16) -> [u8; 12]
 fn ipv6_start(length: u16) -> [u8; 8]
     ensures { result ≡ 96 ∷ 0 ∷ 0 ∷ 0 ∷ put2 length (6 ∷ 64 ∷ []) }
 {
-    let mut start = [96, 0, 0, 0, 0, 0, 6, 64];
+    let mut start = [IPV6_FIRST, 0, 0, 0, 0, 0, TCP_PROTOCOL, HOPS];
     BigEndian::write_u16(&mut start[4..], length);
     start
 }
@@ -71,7 +89,7 @@ fn tcp_start_of(head: &Head, area_length: u8) -> [u8; 20]
     BigEndian::write_u16(&mut start[2..], head.destination.port);
     BigEndian::write_u32(&mut start[4..], head.sequence);
     BigEndian::write_u32(&mut start[8..], head.acknowledgement);
-    start[12] = 80 + 4 * area_length;
+    start[12] = FIVE_WORDS + 4 * area_length;
     start[13] = head.flags;
     BigEndian::write_u16(&mut start[14..], head.window);
     start
@@ -82,8 +100,8 @@ fn ip_length_of(head: &Head) -> usize
     ensures { result ≡ ip_size head.now.source.address }
 {
     match head.source.address {
-        Address::V4(_) => 20,
-        Address::V6(_) => 40,
+        Address::V4(_) => IPV4_HEADER,
+        Address::V6(_) => IPV6_HEADER,
     }
 }
 
@@ -118,7 +136,7 @@ fn put_ip_start(out: &mut [u8], head: &Head, tcp_length: u16) -> usize
 {
     match head.source.address {
         Address::V4(_) => {
-            let total = 20 + tcp_length;
+            let total = IPV4_HEADER as u16 + tcp_length;
             put(out, 0, &ipv4_start(total, ip_checksum_of(head, total)))
         }
         Address::V6(_) => put(out, 0, &ipv6_start(tcp_length)),
@@ -134,10 +152,10 @@ fn put_options(out: &mut [u8], at: usize, head: &Head) -> usize
     ensures front { take result out.new ≡ take at out.old ++ option_heads head.now head.now.mac_length }
     ensures rest { (n : ℕ) → result ≤ n → drop n out.new ≡ drop n out.old }
 {
-    let ao = [29, 4 + head.mac_length, head.key_id, head.rnext];
+    let ao = [AO_KIND, AO_HEAD + head.mac_length, head.key_id, head.rnext];
     match head.mss {
         Some(mss) => {
-            let mut heads = [2, 4, 0, 0, ao[0], ao[1], ao[2], ao[3]];
+            let mut heads = [MSS_KIND, 4, 0, 0, ao[0], ao[1], ao[2], ao[3]];
             BigEndian::write_u16(&mut heads[2..], mss);
             put(out, at, &heads)
         }
@@ -160,10 +178,10 @@ fn lay_out(out: &mut [u8], head: &Head, payload_len: usize) -> Layout
     ensures { HoldsDraft out.new result.header result.mac result.payload result.len head.now 0 (replicate head.now.mac_length 0) (replicate payload_len 0) (drop (header_length head.now + payload_len) out.old) }
 {
     let header = ip_length_of(head);
-    let mac = header + 20 + heads_length_of(head);
+    let mac = header + TCP_HEADER + heads_length_of(head);
     let payload = mac + head.mac_length as usize;
     let len = payload + payload_len;
-    let area_length = (payload - header - 20) as u8;
+    let area_length = (payload - header - TCP_HEADER) as u8;
     let at = put_ip_start(out, head, (len - header) as u16);
     let at = put(out, at, octets_of(&head.source.address));
     let at = put(out, at, octets_of(&head.destination.address));

@@ -6,6 +6,7 @@ ghost use Rattle.book_segments.specs.Spelling.{AreBytes, with_right_checksum, ad
 ghost use Rattle.tcp_segment.specs.Parts.{spliced};
 ghost use Rattle.tcp_segment.specs.Sums.{complement_at, HasPlainHeader, IsSet};
 
+use crate::headers::{IPV4_HEADER, IPV6_HEADER, TCP_PROTOCOL, is_ipv4};
 use byteorder::{BigEndian, ByteOrder};
 
 /// The big-endian number of two bytes.
@@ -94,7 +95,11 @@ fn plain_header_length(datagram: &[u8]) -> usize
     requires { 0 < length datagram.now }
     ensures { result ≡ ip_length datagram.now }
 {
-    if datagram[0] / 16 == 4 { 20 } else { 40 }
+    if is_ipv4(datagram) {
+        IPV4_HEADER
+    } else {
+        IPV6_HEADER
+    }
 }
 
 /// The sum of the words of both addresses.
@@ -104,7 +109,7 @@ pub(crate) fn address_sum(datagram: &[u8]) -> u64
     ensures small { result ≤ 2097120 }
     ensures bytes { AreBytes datagram.now }
 {
-    if datagram[0] / 16 == 4 {
+    if is_ipv4(datagram) {
         words(&datagram[12..20])
     } else {
         words(&datagram[8..40])
@@ -123,7 +128,7 @@ pub(crate) fn set_checksum(out: &mut [u8], header: usize, end: usize)
     let addresses = address_sum(out);
     let place = header + 16;
     put_two(out, place, 0);
-    let sum = addresses + 6 + (end - header) as u64 + words(&out[header..end]);
+    let sum = addresses + TCP_PROTOCOL as u64 + (end - header) as u64 + words(&out[header..end]);
     put_two(out, place, complement(sum));
 }
 

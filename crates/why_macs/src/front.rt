@@ -14,14 +14,8 @@ ghost use Rattle.why_macs.specs.Views.{front_made, choices_view};
 use crate::choices::MacChoices;
 use book_base::{Address, Socket};
 use std::alloc::{AllocError, Global};
-use tcp_options::AoOption;
-use tcp_segment::Datagram;
-
-/// The protocol number of TCP (RFC 9293, section 3.1).
-const PROTOCOL: u8 = 6;
-
-/// The kind of the TCP-AO option (RFC 5925, section 2.2).
-const AO_KIND: u8 = 29;
+use tcp_options::{AO_HEAD, AO_KIND, AoOption};
+use tcp_segment::{Datagram, TCP_PROTOCOL};
 
 fn push_piece(out: &mut Vec<u8>, piece: &[u8]) -> Result<(), AllocError>
     ensures { OnOk result (out.new.items ≡ out.old.items ++ piece.now) }
@@ -127,7 +121,7 @@ fn tcp_length_of(datagram: &Datagram<'_>) -> u16
 fn push_tail_v4(out: &mut Vec<u8>, total: u16) -> Result<(), AllocError>
     ensures { OnOk result (out.new.items ≡ out.old.items ++ (0 ∷ 6 ∷ put2 total [])) }
 {
-    push_piece(out, &[0, PROTOCOL])?;
+    push_piece(out, &[0, TCP_PROTOCOL])?;
     push_two(out, total)?;
     Ok(())
 }
@@ -136,7 +130,7 @@ fn push_tail_v6(out: &mut Vec<u8>, total: u16) -> Result<(), AllocError>
     ensures { OnOk result (out.new.items ≡ out.old.items ++ put4 total (0 ∷ 0 ∷ 0 ∷ 6 ∷ [])) }
 {
     push_four(out, total as u64)?;
-    push_piece(out, &[0, 0, 0, PROTOCOL])?;
+    push_piece(out, &[0, 0, 0, TCP_PROTOCOL])?;
     Ok(())
 }
 
@@ -228,7 +222,7 @@ fn push_own_option(
     ensures { OnOk result (out.new.items ≡ out.old.items ++ covered_with false area.now (view_ao ao.entry) mac.now) }
 {
     let length = ao.mac.len();
-    push_piece(out, &[AO_KIND, 4 + length as u8, ao.key_id, ao.rnext])?;
+    push_piece(out, &[AO_KIND, AO_HEAD + length as u8, ao.key_id, ao.rnext])?;
     push_piece(out, mac)?;
     Ok(())
 }
