@@ -17,6 +17,7 @@ use Rattle.ao_kdf.specs.declared.way.Way.{Way}
 use Rattle.ao_kdf.specs.declared.way.Way.TheVariants.{Inbound, Outbound}
 use Rattle.book_keys.specs.Lookups.{number_of}
 use Rattle.book_base.specs.declared.address.Pair.{Pair}
+use Rattle.tcp_options.specs.Views.{view_ao}
 use Rattle.ao_check.specs.declared.screen.Screened.{Screened}
 use Rattle.book_endpoint.specs.declared.verdict.Passed.{Passed}
 use Rattle.book_endpoint.specs.declared.verdict.Verdict.TheVariants.{BadMac}
@@ -35,14 +36,14 @@ judged_one rows pair now f ao n e h = ap (judging rows pair now) e ∙ ap number
 
 pub ready : (rows : List Row) (a : Bond) (now : ℕ) (d : Segment) (s : Screened) (v : book.Judgement) → Fits rows a → Awaits rows a.pair a.own a.peer now d s v → Ready rows a now d s
 ready rows a now d s v f A =
-    let p = accepted_at rows a.pair A.ao.key_id now s.row A.row A.accepted in
+    let p = accepted_at rows a.pair s.option.key_id now s.row A.row A.accepted in
     let high = p.high in
     let fits = f.room in
     record {
       low = p.low;
       high = high;
       room = omega arith;
-      judged = judged_one rows a.pair now (find_ao d.area) A.ao (record { number = s.row; row = A.row }) A.found A.accepted;
+      judged = judged_one rows a.pair now (find_ao d.area) (view_ao s.option) (record { number = s.row; row = A.row }) A.found A.accepted;
     }
 
 -- the row at that place, and its key
@@ -53,7 +54,7 @@ pub record Keyed (rows : List Row) (a : Bond) (d : Segment) (s : Screened) (x : 
 pub keyed : (rows : List Row) (a : Bond) (now : ℕ) (d : Segment) (s : Screened) (v : book.Judgement) (x : Row) → Fits rows a → Awaits rows a.pair a.own a.peer now d s v → d.source ≡ a.pair.remote → d.destination ≡ a.pair.local
     → ((e : Row) → x ≡ get_or rows (s.row - 1) e) → Keyed rows a d s x
 keyed rows a now d s v x f A from to at =
-    let p = accepted_at rows a.pair A.ao.key_id now s.row A.row A.accepted in
+    let p = accepted_at rows a.pair s.option.key_id now s.row A.row A.accepted in
     let same = same_row rows s.row A.row x p at in
     let here : slice_get rows (s.row - 1) ≡ Some x = p.here ∙ ap Some (sym same) in
     let one = λ (syn : has SYN d ≡ false). inbound_key d a.pair a.own a.peer x (bytes_of s.context) syn from to A.context in
@@ -63,9 +64,9 @@ keyed rows a now d s v x f A from to at =
     }
 
 -- the test of the MAC, in the words of the verdict
-tested : (ao : Ao) (x r : Row) (n number : ℕ) (d : Segment) (c key field : List ℕ) (b : Bool) → ao.mac ≡ field → x ≡ r → key ≡ traffic_key x.algorithm x.master c
-    → b ≡ same_bytes field (mac x.algorithm key (mac_input n d ao x.with_options)) → b ≡ same_bytes ao.mac (book.mac_of (book.found_with (record { number = number; row = r }) d ao c n))
-tested ao x r n number d c key field b m e k h = h ∙ rw (m, ← e, k) refl
+tested : (ao : Ao) (x r : Row) (n number : ℕ) (d : Segment) (c key : List ℕ) (b : Bool) → x ≡ r → key ≡ traffic_key x.algorithm x.master c
+    → b ≡ same_bytes ao.mac (mac x.algorithm key (mac_input n d ao x.with_options)) → b ≡ same_bytes ao.mac (book.mac_of (book.found_with (record { number = number; row = r }) d ao c n))
+tested ao x r n number d c key b e k h = h ∙ rw (← e, k) refl
 
 pub record Judges (rows : List Row) (pair : Pair) (d : Segment) (s : Screened) (v : book.Judgement) (b : Bool) : Type 0 where
   pub wrong : b ≡ false → v ≡ Err BadMac
@@ -79,27 +80,27 @@ mac_right ao p e = rw e refl
 
 pub judges : (rows : List Row) (a : Bond) (now : ℕ) (d : Segment) (s : Screened) (v : book.Judgement) (x : Row) (key : List ℕ) (b : Bool) → Awaits rows a.pair a.own a.peer now d s v
     → d.source ≡ a.pair.remote → d.destination ≡ a.pair.local → ((e : Row) → x ≡ get_or rows (s.row - 1) e) → key ≡ traffic_key x.algorithm x.master (bytes_of s.context)
-    → ((ao : Ao) → find_ao d.area ≡ One ao → b ≡ same_bytes s.mac.now (mac x.algorithm key (mac_input s.number d ao x.with_options))) → Judges rows a.pair d s v b
+    → b ≡ same_bytes s.option.mac.now (mac x.algorithm key (mac_input s.number d (view_ao s.option) x.with_options)) → Judges rows a.pair d s v b
 judges rows a now d s v x key b A from to at k test =
-    let p = accepted_at rows a.pair A.ao.key_id now s.row A.row A.accepted in
+    let p = accepted_at rows a.pair s.option.key_id now s.row A.row A.accepted in
     let same = same_row rows s.row A.row x p at in
-    let entry = book.found_with (record { number = s.row; row = A.row }) d A.ao (bytes_of s.context) s.number in
-    let t = tested A.ao x A.row s.number s.row d (bytes_of s.context) key s.mac.now b A.mac same k (test A.ao A.found) in
+    let entry = book.found_with (record { number = s.row; row = A.row }) d (view_ao s.option) (bytes_of s.context) s.number in
+    let t = tested (view_ao s.option) x A.row s.number s.row d (bytes_of s.context) key b same k test in
     record {
-      wrong = λ e. A.judgement ∙ mac_wrong A.ao entry (sym t ∙ e);
+      wrong = λ e. A.judgement ∙ mac_wrong (view_ao s.option) entry (sym t ∙ e);
       right = λ e. (
         entry,
-        A.judgement ∙ mac_right A.ao entry (sym t ∙ e),
-        record { row = A.row; here = p.here; ao = A.ao; found = A.found; entry_is = refl; source = A.source ∙ from; destination = A.destination ∙ to; end = A.end },
+        A.judgement ∙ mac_right (view_ao s.option) entry (sym t ∙ e),
+        record { row = A.row; here = p.here; ao = view_ao s.option; found = A.found; entry_is = refl; source = A.source ∙ from; destination = A.destination ∙ to; end = A.end },
       );
     }
 
 pub field_long : (rows : List Row) (a : Bond) (now : ℕ) (d : Segment) (s : Screened) (v : book.Judgement) (x : Row) → Awaits rows a.pair a.own a.peer now d s v → ((e : Row) → x ≡ get_or rows (s.row - 1) e)
-    → length s.mac.now ≡ mac_length_of x.algorithm
+    → length s.option.mac.now ≡ mac_length_of x.algorithm
 field_long rows a now d s v x A at =
-    let p = accepted_at rows a.pair A.ao.key_id now s.row A.row A.accepted in
+    let p = accepted_at rows a.pair s.option.key_id now s.row A.row A.accepted in
     let same = same_row rows s.row A.row x p at in
-    ap length (sym A.mac) ∙ (A.length_is ∙ ap (λ (r : Row). mac_length_of r.algorithm) (sym same))
+    A.length_is ∙ ap (λ (r : Row). mac_length_of r.algorithm) (sym same)
 
 -- ---- what a call leaves
 

@@ -14,6 +14,8 @@ use Rattle.book_keys.specs.Lookups.{number_of}
 use Rattle.book_endpoint.specs.declared.verdict.Passed.{Passed}
 use Rattle.book_endpoint.specs.declared.verdict.Verdict.{Verdict}
 use Rattle.book_endpoint.specs.declared.verdict.Verdict.TheVariants as verdicts
+use Rattle.tcp_options.specs.Views.{view_ao}
+use Rattle.ao_check.specs.declared.passing.Passing.{Passing}
 use Rattle.ao_check.specs.declared.screen.Screened.{Screened}
 
 -- what is told of a segment that passed: the number of the row, the number of the segment, the context; all else is read from the table and the segment
@@ -31,6 +33,16 @@ pub record Names (rows : List Row) (pair : Pair) (d : Segment) (p : Passed) (ent
 abbrev pub Tells : List Row → Pair → Segment → Verdict → book.Judgement → Type 0
 Tells rows pair d (verdicts.Pass p) j = (entry : book.Finding) × (j ≡ Ok entry) × Names rows pair d p entry
 Tells rows pair d why j = j ≡ Err why
+
+-- the verdict of an answer that has the option of a segment that passes
+abbrev pub verdict_of : Result Passing Verdict → Verdict
+verdict_of (Ok p) = verdicts.Pass p.passed
+verdict_of (Err why) = why
+
+-- a verdict by which nothing passes
+abbrev pub IsRefusal : Verdict → Type 0
+IsRefusal (verdicts.Pass p) = ⊥
+IsRefusal _ = ⊤
 
 -- the number expected is at most 2^63, and there is none while the peer's initial sequence number is not known
 abbrev pub IsExpected : Option ℕ → Option ℕ → Type 0
@@ -55,19 +67,17 @@ judging rows pair now (One ao) = number_of (accept_row rows pair ao.key_id now)
 abbrev pub by_mac : Ao → book.Finding → book.Judgement
 by_mac ao p = if same_bytes ao.mac (book.mac_of p) then Ok p else Err verdicts.BadMac
 
--- only the MAC is left to judge: this row, number, context and MAC
+-- only the MAC is left to judge: this row, number, context and option
 pub record Awaits (rows : List Row) (pair : Pair) (own : ℕ) (peer : Option ℕ) (now : ℕ) (d : Segment) (s : Screened) (v : book.Judgement) : Type 0 where
-  pub ao : Ao
-  pub found : find_ao d.area ≡ One ao
-  pub mac : ao.mac ≡ s.mac.now
+  pub found : find_ao d.area ≡ One (view_ao s.option)
   pub row : Row
-  pub accepted : accept_row rows pair ao.key_id now ≡ Some (record { number = s.row; row = row })
-  pub length_is : length ao.mac ≡ mac_length_of row.algorithm
+  pub accepted : accept_row rows pair s.option.key_id now ≡ Some (record { number = s.row; row = row })
+  pub length_is : length s.option.mac.now ≡ mac_length_of row.algorithm
   pub context : context_of d peer (Some own) ≡ Some (bytes_of s.context)
   pub source : s.context.source ≡ d.source
   pub destination : s.context.destination ≡ d.destination
   pub end : s.number + segment_length d ≤ 2 ^ 63
-  pub judgement : v ≡ by_mac ao (book.found_with (record { number = s.row; row = row }) d ao (bytes_of s.context) s.number)
+  pub judgement : v ≡ by_mac (view_ao s.option) (book.found_with (record { number = s.row; row = row }) d (view_ao s.option) (bytes_of s.context) s.number)
 
 -- the first refusal before that of the MAC, or what the MAC is judged by
 abbrev pub Screens : List Row → Pair → ℕ → Option ℕ → ℕ → Segment → Result Screened Verdict → book.Judgement → Type 0

@@ -1,7 +1,7 @@
 //! An association of one end with its peer.
-ghost use Rattle.std.specs.Prelude.{◌≡◌, true, ◌≤◌, ◌<◌, ◌-◌, ◌+◌, ◌/◌, ◌^◌, ℕ, List, length, Option, Some, None, IfOk, IfSome, option_map, slice_get, slice_index_or};
+ghost use Rattle.std.specs.Prelude.{◌≡◌, true, ◌≤◌, ◌<◌, ◌-◌, ◌+◌, ◌/◌, ◌^◌, ℕ, List, length, Option, Some, None, IfErr, IfOk, IfSome, option_map, slice_get, slice_index_or};
 ghost use Rattle.book_segments.specs.Bytes.{ring};
-ghost use Rattle.book_segments.specs.Options.{find_ao};
+ghost use Rattle.book_segments.specs.Options.{One, find_ao};
 ghost use Rattle.book_segments.specs.Segments.{has, SYN};
 ghost use Rattle.book_macs.specs.Contexts.{context_of};
 ghost use Rattle.book_macs.specs.Keys.{traffic_key};
@@ -16,11 +16,13 @@ ghost use Rattle.book_macs.specs.Contexts.{bytes_of};
 ghost use Rattle.ao_kdf.specs.declared.way.Way.TheVariants.{Inbound, Outbound};
 ghost use Rattle.key_coordination.specs.Sendings.{told};
 ghost use Rattle.ao_check.specs.Bonds.{fresh, Fits, Counted};
-ghost use Rattle.ao_check.specs.Verdicts.{Tells, IsExpected, is_judged, judging};
+ghost use Rattle.tcp_options.specs.Views.{view_ao};
+ghost use Rattle.ao_check.specs.Verdicts.{IsExpected, IsRefusal, Tells, is_judged, judging, verdict_of};
 ghost use Rattle.ao_check.specs.Signings.{IsToSign, has_field};
 
 use crate::context::outgoing;
 use crate::key::{has_right_mac, seal_by};
+use crate::passing::Passing;
 use crate::screen::screen_segment;
 use ao_base::Steps;
 use ao_kdf::{Context, KeyCache};
@@ -87,6 +89,53 @@ impl Association {
         self.peer_isn = Some(peer_isn);
     }
 
+    /// A segment from the peer that passes the check, with the TCP-AO option that was found in it, or
+    /// else the first refusal that holds (RFC 5925, section 7.5). All else is as for `check`.
+    pub fn check_with_option<'a, L: Ledger>(
+        &mut self,
+        table: &Table,
+        now: u64,
+        expected: Option<u64>,
+        datagram: &Datagram<'a>,
+        steps: &mut Steps<L>,
+    ) -> Result<Passing<'a>, Verdict>
+        requires fits { Fits table.now.rows self.old }
+        requires source { datagram.now.source ≡ self.old.pair.remote }
+        requires destination { datagram.now.destination ≡ self.old.pair.local }
+        requires expected { IsExpected self.old.peer expected }
+        ensures verdict { Tells table.now.rows self.old.pair datagram.now (verdict_of result) (judge table.now.rows self.old.pair (record { own_isn = self.old.own; peer_isn = self.old.peer; expected = expected }) now datagram.now) }
+        ensures option { IfOk result (λ p. find_ao datagram.now.area ≡ One (view_ao p.option)) }
+        ensures refusal { IfErr result (λ v. IsRefusal v) }
+        ensures same { self.new ≡ record self.old { keys = self.new.keys } }
+        ensures fits { Fits table.now.rows self.new }
+        ensures counted { Counted self.old.keys self.new.keys (judging table.now.rows self.old.pair now (find_ao datagram.now.area)) (is_judged (verdict_of result)) Inbound (has SYN datagram.now) steps.old steps.new }
+    {
+        let seen = match screen_segment(
+            &self.pair,
+            self.own_isn,
+            self.peer_isn,
+            table,
+            now,
+            expected,
+            datagram,
+        ) {
+            Err(verdict) => return Err(verdict),
+            Ok(seen) => seen,
+        };
+        let row = table.row(seen.row);
+        if !has_right_mac(&mut self.keys, row, &seen, datagram, steps) {
+            return Err(Verdict::BadMac);
+        }
+        Ok(Passing {
+            passed: Passed {
+                row: seen.row,
+                number: seen.number,
+                context: seen.context,
+            },
+            option: seen.option,
+        })
+    }
+
     /// The verdict on a segment from the peer: the first refusal that holds, else a pass (RFC 5925,
     /// section 7.5). `expected` is the number expected, at most 2^63, if a peer's initial sequence
     /// number is known. At most one step is counted: none where the segment is refused before its MAC
@@ -109,27 +158,10 @@ impl Association {
         ensures fits { Fits table.now.rows self.new }
         ensures counted { Counted self.old.keys self.new.keys (judging table.now.rows self.old.pair now (find_ao datagram.now.area)) (is_judged result) Inbound (has SYN datagram.now) steps.old steps.new }
     {
-        let seen = match screen_segment(
-            &self.pair,
-            self.own_isn,
-            self.peer_isn,
-            table,
-            now,
-            expected,
-            datagram,
-        ) {
-            Err(verdict) => return verdict,
-            Ok(seen) => seen,
-        };
-        let row = table.row(seen.row);
-        if !has_right_mac(&mut self.keys, row, &seen, datagram, steps) {
-            return Verdict::BadMac;
+        match self.check_with_option(table, now, expected, datagram, steps) {
+            Ok(passing) => Verdict::Pass(passing.passed),
+            Err(verdict) => verdict,
         }
-        Verdict::Pass(Passed {
-            row: seen.row,
-            number: seen.number,
-            context: seen.context,
-        })
     }
 
     /// The row to send with and the two ids to send: the current row while it is sendable, else the

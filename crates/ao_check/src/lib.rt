@@ -11,8 +11,10 @@ mod compare;
 mod context;
 mod key;
 mod laws;
+mod passing;
 mod screen;
 
 pub use association::Association;
 pub use book_endpoint::Verdict;
 pub use laws::{fits_once_added, fits_once_withdrawn, signed_passes};
+pub use passing::Passing;

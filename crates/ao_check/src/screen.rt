@@ -2,23 +2,22 @@
 ghost use Rattle.std.specs.Prelude.{◌≡◌, ◌==◌, ◌≤◌, ◌<◌, ◌-◌, ◌^◌, ◌/◌, length, IfErr, IfOk, Ok, Err, Result};
 ghost use Rattle.book_base.specs.Algorithms.{mac_length_of};
 ghost use Rattle.book_segments.specs.Bytes.{same_bytes};
-ghost use Rattle.book_segments.specs.Options.{Ao, One, find_ao};
+ghost use Rattle.book_segments.specs.Options.{One, find_ao};
 ghost use Rattle.book_macs.specs.Keys.{key_length, mac};
 ghost use Rattle.book_macs.specs.MacInput.{mac_input};
 ghost use Rattle.book_endpoint.specs.Verdicts.{judge};
-ghost use Rattle.tcp_options.specs.Views.{view_found};
-ghost use Rattle.ao_mac.specs.Macs.{HasAo};
+ghost use Rattle.tcp_options.specs.Views.{view_ao, view_found};
 ghost use Rattle.ao_check.specs.Contexts.{IsBelow};
-ghost use Rattle.ao_check.specs.Verdicts.{Tells, Screens};
+ghost use Rattle.ao_check.specs.Verdicts.{IsRefusal, Screens, Tells};
 
 use crate::compare::is_same;
 use crate::context::{context_of, ends_late, is_silent, number_of};
 use ao_kdf::{Context, TrafficKey};
-use ao_mac::mac;
+use ao_mac::mac_over;
 use book_base::Pair;
 use book_endpoint::Verdict;
 use key_table::{Accept, Row, Table};
-use tcp_options::AoFound;
+use tcp_options::{AoFound, AoOption};
 use tcp_segment::Datagram;
 use wrap_seq::Counter;
 
@@ -28,7 +27,7 @@ pub(crate) struct Screened<'a> {
     pub(crate) row: u8,
     pub(crate) number: u64,
     pub(crate) context: Context,
-    pub(crate) mac: &'a [u8],
+    pub(crate) option: AoOption<'a>,
 }
 
 /// What a segment has of TCP-AO.
@@ -57,7 +56,8 @@ pub(crate) fn screen_segment<'a>(
     datagram: &Datagram<'a>,
 ) -> Result<Screened<'a>, Verdict>
     requires { IsBelow expected }
-    ensures { Screens table.now.rows pair.now own_isn peer_isn now datagram.now result (judge table.now.rows pair.now (record { own_isn = own_isn; peer_isn = peer_isn; expected = expected }) now datagram.now) }
+    ensures judged { Screens table.now.rows pair.now own_isn peer_isn now datagram.now result (judge table.now.rows pair.now (record { own_isn = own_isn; peer_isn = peer_isn; expected = expected }) now datagram.now) }
+    ensures refusal { IfErr result (λ v. IsRefusal v) }
 {
     let ao = match found(datagram) {
         AoFound::Absent => return Err(Verdict::NoAo),
@@ -92,31 +92,33 @@ pub(crate) fn screen_segment<'a>(
         row,
         number,
         context,
-        mac: ao.mac,
+        option: ao,
     })
 }
 
-/// Whether the MAC of a segment is right under a traffic key of the row.
+/// Whether the MAC of a segment, in the option that was found, is right under a traffic key of the
+/// row.
 pub(crate) fn is_right(
     key: &TrafficKey,
     row: &Row,
     number: u64,
     datagram: &Datagram<'_>,
-    field: &[u8],
+    ao: AoOption<'_>,
 ) -> bool
-    requires one { HasAo datagram.now }
+    requires found { find_ao datagram.now.area ≡ One (view_ao ao) }
     requires key { length key.now ≡ key_length row.now.algorithm }
-    requires field { length field.now ≡ mac_length_of row.now.algorithm }
+    requires field { length ao.mac.now ≡ mac_length_of row.now.algorithm }
     requires number { number < 2 ^ 64 }
-    ensures { (ao : Ao) → find_ao datagram.now.area ≡ One ao
-        → result ≡ same_bytes field.now (mac row.now.algorithm key.now (mac_input number datagram.now ao row.now.with_options)) }
+    ensures { result ≡ same_bytes ao.entry.mac.now
+        (mac row.now.algorithm key.now (mac_input number datagram.now (view_ao ao.entry) row.now.with_options)) }
 {
-    let code = mac(
+    let code = mac_over(
         key,
         row.algorithm(),
         Counter::of(number).extension,
         datagram,
+        ao,
         row.with_options(),
     );
-    is_same(field, code.as_slice())
+    is_same(ao.mac, code.as_slice())
 }

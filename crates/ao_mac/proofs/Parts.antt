@@ -3,7 +3,7 @@ use Rattle.std.proofs.Common.{◌≡◌, ℕ, ◌+◌, ◌-◌, ◌/◌, ◌%◌
 use Rattle.std.proofs.lemmas.List.{length-drop, take_all, take-replicate}
 use Rattle.book_base.specs.declared.address.Address.TheVariants.{V4, V6}
 use Rattle.book_segments.specs.Bytes.{put2, put4}
-use Rattle.book_segments.specs.Options.{Ao}
+use Rattle.book_segments.specs.Options.{Ao, One, find_ao}
 use Rattle.book_segments.specs.Segments.{IpHeader, Ipv4, Ipv6, Segment, pseudo_of, pseudo, header, tcp_length}
 use Rattle.book_segments.specs.Spelling.{FitsIp, IsV4, IsV6}
 use Rattle.book_base.specs.declared.algorithm.Algorithm.{Algorithm}
@@ -110,3 +110,7 @@ mac_of_fed algorithm key bytes number extension d ao flag q e is back =
     let fed : (((put4 extension [] ++ pseudo d []) ++ header d 0 []) ++ covered flag d.area ao) ++ q ≡ mac_input number d ao flag =
     rw back (mac_input-fed number extension d ao flag is) in
     e ∙ ap (λ f. mac algorithm key f) fed
+
+-- one option is found, not two
+pub one_is : (d : Segment) (p q : Ao) → find_ao d.area ≡ One p → find_ao d.area ≡ One q → p ≡ q
+one_is d p q e f = cc

@@ -1,16 +1,15 @@
 //! What a MAC is computed over, but for the payload.
 ghost use Rattle.std.specs.Prelude.{◌≡◌, ◌≤◌, ◌+◌, ℕ, List, [], ◌∷◌, ◌++◌, length, take, replicate};
 ghost use Rattle.book_segments.specs.Bytes.{put2, put4};
-ghost use Rattle.book_segments.specs.Options.{Ao, One, find_ao};
+ghost use Rattle.book_segments.specs.Options.{One, find_ao};
 ghost use Rattle.book_segments.specs.Segments.{pseudo, header, tcp_length};
 ghost use Rattle.book_segments.specs.Spelling.{Fits};
 ghost use Rattle.tcp_options.specs.Views.{view_ao};
 ghost use Rattle.book_macs.specs.MacInput.{covered};
-ghost use Rattle.ao_mac.specs.Macs.{HasAo};
 
 use book_base::Address;
 use std::marker::Model;
-use tcp_options::{AO_HEAD, AO_KIND, AoFound, AoOption};
+use tcp_options::{AO_HEAD, AO_KIND, AoOption};
 use tcp_segment::{Datagram, TCP_PROTOCOL};
 
 /// The most bytes before the payload: those of the extension, the pseudo-header of IPv6, the header
@@ -40,16 +39,21 @@ impl Front {
     /// What a MAC is computed over before the payload: the extension, the pseudo-header, the header
     /// with its checksum zero, and the options that are covered with the MAC zero (RFC 5925, section
     /// 5.1).
-    pub(crate) fn of(sne: u32, datagram: &Datagram<'_>, with_options: bool) -> Front
-        requires { HasAo datagram.now }
-        ensures { (ao : Ao) → find_ao datagram.now.area ≡ One ao
-            → result ≡ ((put4 sne [] ++ pseudo datagram.now []) ++ header datagram.now 0 []) ++ covered with_options datagram.now.area ao }
+    pub(crate) fn of(
+        sne: u32,
+        datagram: &Datagram<'_>,
+        ao: AoOption<'_>,
+        with_options: bool,
+    ) -> Front
+        requires { find_ao datagram.now.area ≡ One (view_ao ao) }
+        ensures { result ≡ ((put4 sne [] ++ pseudo datagram.now []) ++ header datagram.now 0 [])
+            ++ covered with_options datagram.now.area (view_ao ao.entry) }
     {
         let mut front = Front::empty();
         front.push(&sne.to_be_bytes());
         front.push_pseudo_header(datagram);
         front.push_header(datagram);
-        front.push_covered(datagram, with_options);
+        front.push_covered(datagram, ao, with_options);
         front
     }
 
@@ -160,17 +164,14 @@ impl Front {
         }
     }
 
-    /// Puts the options of a segment that are covered.
-    fn push_covered(&mut self, datagram: &Datagram<'_>, with_options: bool)
-        requires one { HasAo datagram.now }
+    /// Puts the options of a segment that are covered; its TCP-AO option was found.
+    fn push_covered(&mut self, datagram: &Datagram<'_>, ao: AoOption<'_>, with_options: bool)
+        requires one { find_ao datagram.now.area ≡ One (view_ao ao) }
         requires before { length self.old ≤ 64 }
-        ensures { (ao : Ao) → find_ao datagram.now.area ≡ One ao → self.new ≡ self.old ++ covered with_options datagram.now.area ao }
+        ensures { self.new ≡ self.old ++ covered with_options datagram.now.area (view_ao ao.entry) }
     {
         let options = datagram.options();
-        match options.find_ao() {
-            AoFound::One(ao) => self.push_options(options.area(), ao, with_options),
-            _ => unreachable!(),
-        }
+        self.push_options(options.area(), ao, with_options);
     }
 }
 

@@ -28,7 +28,7 @@ use Rattle.ao_stack.specs.declared.stack.Stack.{Stack}
 use Rattle.ao_stack.specs.declared.input.Heard.{Heard}
 use Rattle.ao_stack.specs.declared.input.Heard.TheVariants as heards
 use Rattle.ao_stack.specs.Answers.{Does, Follows, IsHeard, IsTold}
-use Rattle.ao_stack.specs.Passed.{PassesAs, TellsFound, found_by}
+use Rattle.ao_stack.specs.Passed.{TellsFound, found_by}
 use Rattle.ao_stack.specs.Stands.{Stands}
 use Rattle.ao_stack.proofs.CallLaws.{follows}
 use Rattle.ao_stack.proofs.StandLaws.{moved, some_with}
@@ -112,10 +112,6 @@ met_found k s d p told (Some e) is M =
 
 pub told_found : (k : Ends) (s : StackState) (d : Segment) (told : NodeArrival) (r : Reading) → Meets k s.rows s.node told r → r ≡ Read d → TellsFound s (Read d) told
 told_found k s d told r meets read = met_found k s d (pair_reached d) told (held_end (pair_reached d) s.node.ends) refl (subst (λ (x : Reading). Meets k s.rows s.node told x) read meets)
-
--- the same once the bytes are read
-pub read_found : (s : StackState) (d : Segment) (r : Reading) (told : Heard) → r ≡ Read d → PassesAs s (Read d) told → PassesAs s r told
-read_found s d r told read is = subst (λ (x : Reading). PassesAs s x told) (sym read) is
 
 -- ---- it knocks, or it doesn't
 

@@ -4,6 +4,7 @@ mod BeginLaws
 mod CallLaws
 mod HandLaws
 pub mod LastLaws
+pub mod ReadLaws
 mod RowLaws
 mod SendLaws
 pub mod StandLaws

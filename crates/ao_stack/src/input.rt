@@ -1,5 +1,5 @@
 //! A datagram comes.
-ghost use Rattle.std.specs.Prelude.{◌≡◌, ◌≤◌, ◌<◌, ◌&&◌, Option, Some, option_map};
+ghost use Rattle.std.specs.Prelude.{◌≡◌, ◌≤◌, ◌<◌, ◌&&◌, ℕ, List, Option, Some, option_map};
 ghost use Rattle.book_base.specs.declared.address.Pair.{Pair as OnePair};
 ghost use Rattle.book_segments.specs.Segments.{Segment, Read, good, reading};
 ghost use Rattle.book_endpoint.specs.Arrivals.{syn_alone};
@@ -13,6 +13,7 @@ ghost use Rattle.book_stack.specs.Watches.{end_front};
 ghost use Rattle.stack_timers.specs.Watches.{latest};
 ghost use Rattle.node_ends.specs.declared.answer.NodeArrival.TheVariants.{At};
 ghost use Rattle.tcp_endpoint.specs.declared.arrival.Arrived.{Arrived as OneArrived};
+ghost use Rattle.ao_stack.specs.Readings.{reading_of};
 ghost use Rattle.ao_stack.specs.Answers.{Does, Follows, IsHeard, IsTold};
 ghost use Rattle.ao_stack.specs.Passed.{PassesAs, TellsFound};
 ghost use Rattle.ao_stack.specs.Stands.{Stands};
@@ -26,7 +27,7 @@ use node_ends::NodeArrival;
 use stack_timers::is_heard;
 use std::marker::Brand;
 use std::sync::ledger::{Blank, Ledger};
-use tcp_segment::{Datagram, Flag, read_datagram};
+use tcp_segment::{Datagram, DatagramFault, Flag, read_datagram};
 
 /// What a stack answers to a datagram that comes.
 #[derive(Clone, Copy, Debug, PartialEq, Eq)]
@@ -107,19 +108,27 @@ impl Stack {
     }
 
     /// A segment comes for the pair.
-    fn hear<L: Ledger>(&mut self, blank: Blank, pair: &Pair, now: u64, bytes: &[u8]) -> NodeArrival
+    fn hear<L: Ledger>(
+        &mut self,
+        blank: Blank,
+        pair: &Pair,
+        now: u64,
+        datagram: &Datagram<'_>,
+    ) -> NodeArrival
         requires name { blank.name ≡ L.name }
         requires parts { blank.parts ≡ L.parts }
         requires part { 0 < blank.parts }
         requires time { now ≤ latest }
-        ensures told { (s : StackState) (d : Segment) → Stands self.old s → reading bytes.now ≡ Read d → pair.now ≡ pair_reached d
-            → Does self.new (IsTold (Read d) result) (heard_pair (record { now = now; bytes = bytes.now }) (pair_reached d) d s (held_end (pair_reached d) s.node.ends)) }
-        ensures passed { (s : StackState) (d : Segment) → Stands self.old s → reading bytes.now ≡ Read d → TellsFound s (Read d) result }
+        ensures told { (s : StackState) (bytes : List ℕ) → Stands self.old s → reading bytes ≡ Read datagram.now → pair.now ≡ pair_reached datagram.now
+            → Does self.new (IsTold (Read datagram.now) result) (heard_pair (record { now = now; bytes = bytes }) (pair_reached datagram.now) datagram.now s (held_end (pair_reached datagram.now) s.node.ends)) }
+        ensures passed { (s : StackState) → Stands self.old s → TellsFound s (Read datagram.now) result }
     {
         match self.ends.front(pair) {
             None => NodeArrival::NoConnection,
             Some(before) => {
-                let told = self.ends.arrive(bytes, &mut Steps::<L>::new(blank));
+                let told = self
+                    .ends
+                    .hear_datagram(datagram, &mut Steps::<L>::new(blank));
                 self.follow_told(pair, now, before, &told);
                 told
             }
@@ -127,17 +136,17 @@ impl Stack {
     }
 
     /// A segment comes for the pair, and asks for a connection or not.
-    fn meet(&mut self, pair: &Pair, asks: bool, now: u64, bytes: &[u8]) -> Heard
+    fn meet(&mut self, pair: &Pair, asks: bool, now: u64, datagram: &Datagram<'_>) -> Heard
         requires time { now ≤ latest }
-        ensures told { (s : StackState) (d : Segment) → Stands self.old s → reading bytes.now ≡ Read d → pair.now ≡ pair_reached d → asks ≡ (syn_alone d && good d)
-            → Does self.new (IsHeard (Read d) result) (met (record { now = now; bytes = bytes.now }) d s (held_end (pair_reached d) s.node.ends)) }
-        ensures passed { (s : StackState) (d : Segment) → Stands self.old s → reading bytes.now ≡ Read d → PassesAs s (Read d) result }
+        ensures told { (s : StackState) (bytes : List ℕ) → Stands self.old s → reading bytes ≡ Read datagram.now → pair.now ≡ pair_reached datagram.now → asks ≡ (syn_alone datagram.now && good datagram.now)
+            → Does self.new (IsHeard (Read datagram.now) result) (met (record { now = now; bytes = bytes }) datagram.now s (held_end (pair_reached datagram.now) s.node.ends)) }
+        ensures passed { (s : StackState) → Stands self.old s → PassesAs s (Read datagram.now) result }
     {
         let knocks = knocks(asks, self.ends.front(pair));
         if knocks {
             return Heard::Knocks(*pair);
         }
-        Heard::Told(self.hear::<Brand>(Blank::new(1), pair, now, bytes))
+        Heard::Told(self.hear::<Brand>(Blank::new(1), pair, now, datagram))
     }
 
     /// A datagram comes at `now`, in milliseconds since 1970 and at most the last one of the year 9999: to
@@ -149,16 +158,28 @@ impl Stack {
             → Follows self.new (Input (record { now = now; bytes = bytes.now })) s (IsHeard (reading bytes.now) result) }
         ensures passed { (s : StackState) → Stands self.old s → PassesAs (clocked now s).stack (reading bytes.now) result }
     {
+        let read = read_datagram(bytes);
+        self.input_read(now, &read)
+    }
+
+    /// Bytes come that were read, into a datagram or the fault that makes them none. All else is as for
+    /// `input`.
+    pub fn input_read(&mut self, now: u64, read: &Result<Datagram<'_>, DatagramFault>) -> Heard
+        requires time { now ≤ latest }
+        ensures told { (s : StackState) (bytes : List ℕ) → Stands self.old s → reading bytes ≡ reading_of read.now
+            → Follows self.new (Input (record { now = now; bytes = bytes })) s (IsHeard (reading bytes) result) }
+        ensures passed { (s : StackState) → Stands self.old s → PassesAs (clocked now s).stack (reading_of read.now) result }
+    {
         self.set_clock(now);
-        match read_datagram(bytes) {
-            Err(fault) => Heard::Told(NodeArrival::Bad(fault)),
+        match read {
+            Err(fault) => Heard::Told(NodeArrival::Bad(*fault)),
             Ok(datagram) => {
                 let pair = Pair {
                     local: datagram.destination(),
                     remote: datagram.source(),
                 };
-                let asks = asks(&datagram);
-                self.meet(&pair, asks, now, bytes)
+                let asks = asks(datagram);
+                self.meet(&pair, asks, now, datagram)
             }
         }
     }

@@ -2,7 +2,7 @@
 ghost use Rattle.std.specs.Prelude.{◌≡◌, ◌≤◌, ◌+◌, [], false, true, is_some, option_map, IfOk, OnOk, OnErr, Some, None};
 ghost use Rattle.std.specs.Borrow.{sem};
 ghost use Rattle.std.specs.Option.{option_copied_mut};
-ghost use Rattle.book_segments.specs.Segments.{reading};
+ghost use Rattle.book_segments.specs.Segments.{Read, reading};
 ghost use Rattle.book_keys.specs.Lifetimes.{greatest_time};
 ghost use Rattle.book_endpoint.specs.States.{connected, listening, started};
 ghost use Rattle.book_cmd_node.specs.NodeRuns.{most_ends};
@@ -22,7 +22,7 @@ use std::collections::BTreeMap;
 use std::marker::Model;
 use std::sync::ledger::Ledger;
 use tcp_endpoint::Endpoint;
-use tcp_segment::read_datagram;
+use tcp_segment::{Datagram, read_datagram};
 
 /// A node: an end for each of its connections, by the pair of its sockets, and how many it holds at
 /// most. Seen as this number and a finite map from pairs to ends. Nothing ties an end to the pair
@@ -187,16 +187,33 @@ impl Node {
         ensures comes { Comes table.now.rows now self.old self.new result (reading bytes.now) }
         ensures steps { steps.new ≤ steps.old + 66 }
     {
-        let pair = match read_datagram(bytes) {
+        let datagram = match read_datagram(bytes) {
             Err(fault) => return NodeArrival::Bad(fault),
-            Ok(datagram) => Pair {
-                local: datagram.destination(),
-                remote: datagram.source(),
-            },
+            Ok(datagram) => datagram,
+        };
+        self.hear_datagram(table, now, &datagram, steps)
+    }
+
+    /// A datagram that was read arrives, so the answer is not `Bad`. All else is as for `arrive`.
+    pub fn hear_datagram<L: Ledger>(
+        &mut self,
+        table: &Table,
+        now: u64,
+        datagram: &Datagram<'_>,
+        steps: &mut Steps<L>,
+    ) -> NodeArrival
+        requires fits { FitsAll table.now.rows self.old }
+        requires now { now ≤ greatest_time }
+        ensures comes { Comes table.now.rows now self.old self.new result (Read datagram.now) }
+        ensures steps { steps.new ≤ steps.old + 66 }
+    {
+        let pair = Pair {
+            local: datagram.destination(),
+            remote: datagram.source(),
         };
         match self.ends.get_mut(&key_of(&pair)) {
             None => NodeArrival::NoConnection,
-            Some(end) => NodeArrival::At(pair, end.arrive(table, now, bytes, steps)),
+            Some(end) => NodeArrival::At(pair, end.hear_datagram(table, now, datagram, steps)),
         }
     }
 

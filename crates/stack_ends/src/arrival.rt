@@ -1,7 +1,7 @@
 //! A datagram comes.
 ghost use Rattle.std.specs.Prelude.{◌≡◌, ◌≤◌, ◌+◌, List};
 ghost use Rattle.book_keys.specs.Rows.{Row};
-ghost use Rattle.book_segments.specs.Segments.{reading};
+ghost use Rattle.book_segments.specs.Segments.{Read};
 ghost use Rattle.book_cmd_node.specs.NodeRuns.{NodeState};
 ghost use Rattle.stack_ends.specs.Arrivals.{Meets};
 ghost use Rattle.stack_ends.specs.Stands.{Stands, most_of};
@@ -10,17 +10,22 @@ use crate::ends::Ends;
 use ao_base::Steps;
 use node_ends::NodeArrival;
 use std::sync::ledger::Ledger;
+use tcp_segment::Datagram;
 
 impl Ends {
-    /// A datagram comes: `Bad` exactly where the bytes are no datagram, `NoConnection` exactly where no
-    /// end is held for its pair; else the end of the pair answers (RFC 9293, section 3.10.7). At most 66
-    /// steps are counted.
-    pub fn arrive<L: Ledger>(&mut self, bytes: &[u8], steps: &mut Steps<L>) -> NodeArrival
+    /// A datagram that was read comes: `NoConnection` exactly where no end is held for its pair; else the
+    /// end of the pair answers (RFC 9293, section 3.10.7). At most 66 steps are counted.
+    pub fn hear_datagram<L: Ledger>(
+        &mut self,
+        datagram: &Datagram<'_>,
+        steps: &mut Steps<L>,
+    ) -> NodeArrival
         ensures meets { (rows : List Row) (n : NodeState) → Stands self.old rows n
-            → Meets self.new rows n result (reading bytes.now) }
+            → Meets self.new rows n result (Read datagram.now) }
         ensures most { most_of self.new ≡ most_of self.old }
         ensures steps { steps.new ≤ steps.old + 66 }
     {
-        self.node.arrive(&self.table, self.clock, bytes, steps)
+        self.node
+            .hear_datagram(&self.table, self.clock, datagram, steps)
     }
 }

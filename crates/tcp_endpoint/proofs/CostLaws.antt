@@ -47,7 +47,7 @@ none_before answers.TooManyRuns h b = b
 none_before answers.Reset h b = b
 none_before answers.Taken h b = b
 
-read_same : (d x : Segment) → Read d ≡ Read x → d ≡ x
+pub read_same : (d x : Segment) → Read d ≡ Read x → d ≡ x
 read_same d x e = cc
 
 -- nothing is done
@@ -75,11 +75,11 @@ early_costs rows now e d a told old q =
     subst (λ (z : Arrived). Costs rows now d e e z old old) (sym q) at
 
 -- a refusal is told of what the check says, and its work is the check's
-pub refused_costs : {after : Endpoint} (rows : List Row) (now : ℕ) (e : Endpoint) (d x : Segment) (w : Verdict) (told : Arrived) (pair : Pair) (old new : ℕ)
-    → told ≡ record { arrival = answers.Refused w; passed = None } → Read d ≡ Read x → pair ≡ e.pair
+pub refused_costs : {after : Endpoint} (rows : List Row) (now : ℕ) (e : Endpoint) (d : Segment) (w : Verdict) (told : Arrived) (pair : Pair) (old new : ℕ)
+    → told ≡ record { arrival = answers.Refused w; passed = None } → pair ≡ e.pair
     → Counted e.association.keys after.association.keys (judging rows pair now (find_ao d.area)) (is_judged w) Inbound (has SYN d) old new
-    → Costs rows now x e after told old new
-refused_costs {after} rows now e d x w told pair old new q r p k =
+    → Costs rows now d e after told old new
+refused_costs {after} rows now e d w told pair old new q p k =
     let at : Costs rows now d e after (record { arrival = answers.Refused w; passed = None }) old new = record {
       checked = new;
       counted = subst (λ (z : Pair). Counted e.association.keys after.association.keys (judging rows z now (find_ao d.area)) (is_judged w) Inbound (has SYN d) old new) p k;
@@ -87,7 +87,7 @@ refused_costs {after} rows now e d x w told pair old new q r p k =
       refused = λ _. refl;
       bare = λ _. refl;
     } in
-    subst (λ (z : Segment). Costs rows now z e after told old new) (read_same d x r) (subst (λ (z : Arrived). Costs rows now d e after z old new) (sym q) at)
+    subst (λ (z : Arrived). Costs rows now d e after z old new) (sym q) at
 
 pub untold : (w : Verdict) (told : Arrived) → told ≡ record { arrival = answers.Refused w; passed = None } → IsBeforeCheck told.arrival → ⊥
 untold w told q b = subst (λ (z : Arrived). IsBeforeCheck z.arrival) q b
@@ -96,19 +96,18 @@ no_pass : (p : Passed) → Some p ≡ None → ⊥
 no_pass p e = absurd (cc)
 
 -- a segment that passed costs what the check does, and the links that its payload walks
-pub passed_costs : {after : Endpoint} (rows : List Row) (now : ℕ) (e : Endpoint) (d x : Segment) (p : Passed) (a : Arrival) (pair : Pair) (keys : Cache) (old checked new : ℕ)
-    → Read d ≡ Read x → pair ≡ e.pair → is_computed a ≡ true → after.association.keys ≡ keys → new ≤ checked + 65 → (length d.payload ≡ 0 → new ≡ checked)
+pub passed_costs : {after : Endpoint} (rows : List Row) (now : ℕ) (e : Endpoint) (d : Segment) (p : Passed) (a : Arrival) (pair : Pair) (keys : Cache) (old checked new : ℕ)
+    → pair ≡ e.pair → is_computed a ≡ true → after.association.keys ≡ keys → new ≤ checked + 65 → (length d.payload ≡ 0 → new ≡ checked)
     → Counted e.association.keys keys (judging rows pair now (find_ao d.area)) true Inbound (has SYN d) old checked
-    → Costs rows now x e after (record { arrival = a; passed = Some p }) old new
-passed_costs {after} rows now e d x p a pair keys old checked new r q come same links bare k =
+    → Costs rows now d e after (record { arrival = a; passed = Some p }) old new
+passed_costs {after} rows now e d p a pair keys old checked new q come same links bare k =
     let one = subst (λ (z : Pair). Counted e.association.keys keys (judging rows z now (find_ao d.area)) true Inbound (has SYN d) old checked) q k in
     let two = subst (λ (z : Cache). Counted e.association.keys z (judging rows e.pair now (find_ao d.area)) true Inbound (has SYN d) old checked) (sym same) one in
     let three = subst (λ (z : Bool). Counted e.association.keys after.association.keys (judging rows e.pair now (find_ao d.area)) z Inbound (has SYN d) old checked) (sym come) two in
-    let at : Costs rows now d e after (record { arrival = a; passed = Some p }) old new = record {
+    record {
       checked = checked;
       counted = three;
       links = links;
       refused = λ h. absurd (no_pass p h);
       bare = bare;
-    } in
-    subst (λ (z : Segment). Costs rows now z e after (record { arrival = a; passed = Some p }) old new) (read_same d x r) at
+    }

@@ -2,14 +2,17 @@
 use Rattle.std.proofs.Common.{◌≡◌, ℕ, Bool, true, false, not, List, Option, Some, None, refl, sym, ap, ◌∙◌, subst, Ok, Err}
 use Rattle.std.specs.Prelude.{if◌then◌else◌, is_some}
 use Rattle.book_base.specs.declared.address.Pair.{Pair}
-use Rattle.book_segments.specs.Segments.{Segment, Read, reading, good}
+use Rattle.book_segments.specs.Options.{AoFound, One, find_ao}
+use Rattle.book_segments.specs.Segments.{Segment, Read, good}
+use Rattle.tcp_options.specs.Views.{view_ao}
+use Rattle.tcp_options.specs.declared.ao.AoOption.{AoOption}
 use Rattle.book_keys.specs.Rows.{Row}
 use Rattle.book_endpoint.specs.States as states
 use Rattle.book_endpoint.specs.Verdicts as v
 use Rattle.book_endpoint.specs.Arrivals as book
 use Rattle.endpoint_steps.specs.Arriving as stages
 use Rattle.ao_check.specs.Bonds.{Bond}
-use Rattle.ao_check.specs.Verdicts.{Names, Tells}
+use Rattle.ao_check.specs.Verdicts.{IsRefusal, Names, Tells}
 use Rattle.book_endpoint.specs.declared.verdict.Passed.{Passed}
 use Rattle.book_endpoint.specs.declared.verdict.Verdict.{Verdict}
 use Rattle.book_endpoint.specs.declared.verdict.Verdict.TheVariants as checked
@@ -20,7 +23,7 @@ use Rattle.tcp_endpoint.specs.declared.arrival.Arrived.{Arrived}
 use Rattle.tcp_endpoint.specs.declared.endpoint.Endpoint.{Endpoint}
 use Rattle.tcp_endpoint.specs.Numbers.{expected_in}
 use Rattle.tcp_endpoint.specs.Ends.{Stands}
-use Rattle.tcp_endpoint.specs.Arrivals.{Reaches, Arrives, rnext_of, rnext_in}
+use Rattle.tcp_endpoint.specs.Arrivals.{Reaches, Arrives}
 
 third : {X : Type 0} (a b c : Bool) (w x y z : X) → a ≡ true → b ≡ true → c ≡ false → (if not a then w else (if not b then x else (if c then y else z))) ≡ z
 third a b c w x y z p q r = rw (p, q, r) refl
@@ -37,33 +40,31 @@ check_move : (pair : Pair) (rows : List Row) (s : states.EndState) (d : Segment)
 check_move pair rows s d now id key n number p q =
     ap (λ z. stages.after_check pair s (book.heard rows pair now s z) d n now s.phase) p ∙ ap (λ z. stages.after_check pair s (book.heard rows pair now s key) d z now s.phase) q
 
-pub arrives_pass : (rows : List Row) (pair : Pair) (now : ℕ) (s : states.EndState) (bytes : List ℕ) (d : Segment) (entry : v.Finding) (e : Endpoint) (a : Arrival) (p : Passed) (id n : ℕ)
-    → reading bytes ≡ Read d → book.from_peer pair d ≡ true → good d ≡ true → states.is_closed s.phase ≡ false → book.judged_by rows pair now s d ≡ Ok entry → id ≡ entry.rnext_key_id → n ≡ entry.number
+pub arrives_pass : (rows : List Row) (pair : Pair) (now : ℕ) (s : states.EndState) (d : Segment) (entry : v.Finding) (e : Endpoint) (a : Arrival) (p : Passed) (id n : ℕ)
+    → book.from_peer pair d ≡ true → good d ≡ true → states.is_closed s.phase ≡ false → book.judged_by rows pair now s d ≡ Ok entry → id ≡ entry.rnext_key_id → n ≡ entry.number
     → Reaches e a (stages.after_check pair s (book.heard rows pair now s id) d n now s.phase) → Names rows pair d p entry
-    → Arrives rows pair (reading bytes) e (record { arrival = a; passed = Some p }) (book.arrive rows pair now s (reading bytes))
-arrives_pass rows pair now s bytes d entry e a p id n r peer right alive j i m reach names =
+    → Arrives rows pair (Read d) e (record { arrival = a; passed = Some p }) (book.arrive rows pair now s (Read d))
+arrives_pass rows pair now s d entry e a p id n peer right alive j i m reach names =
     let there = subst (λ z. Reaches e a z) (check_move pair rows s d now id entry.rnext_key_id n entry.number i m) reach in
     let at : Arrives rows pair (Read d) e (record { arrival = a; passed = Some p }) (stages.arrive_judged rows pair now s d (Ok entry)) = record { stands = there.stands; answer = there.answer_is; passed = names } in
-    subst (λ z. Arrives rows pair z e (record { arrival = a; passed = Some p }) (book.arrive rows pair now s z)) (sym r)
-    (subst (λ z. Arrives rows pair (Read d) e (record { arrival = a; passed = Some p }) z) (sym (judged rows pair now s d (Ok entry) peer right alive j)) at)
+    subst (λ z. Arrives rows pair (Read d) e (record { arrival = a; passed = Some p }) z) (sym (judged rows pair now s d (Ok entry) peer right alive j)) at
 
-refused_at : (rows : List Row) (pair : Pair) (now : ℕ) (s : states.EndState) (bytes : List ℕ) (d : Segment) (e : Endpoint) (w : Verdict)
-    → reading bytes ≡ Read d → book.from_peer pair d ≡ true → good d ≡ true → states.is_closed s.phase ≡ false → book.judged_by rows pair now s d ≡ Err w
+refused_at : (rows : List Row) (pair : Pair) (now : ℕ) (s : states.EndState) (d : Segment) (e : Endpoint) (w : Verdict)
+    → book.from_peer pair d ≡ true → good d ≡ true → states.is_closed s.phase ≡ false → book.judged_by rows pair now s d ≡ Err w
     → Stands e s
-    → Arrives rows pair (reading bytes) e (record { arrival = answers.Refused w; passed = None }) (book.arrive rows pair now s (reading bytes))
-refused_at rows pair now s bytes d e w r peer right alive j st =
+    → Arrives rows pair (Read d) e (record { arrival = answers.Refused w; passed = None }) (book.arrive rows pair now s (Read d))
+refused_at rows pair now s d e w peer right alive j st =
     let at : Arrives rows pair (Read d) e (record { arrival = answers.Refused w; passed = None }) (stages.arrive_judged rows pair now s d (Err w)) = record { stands = st; answer = refl; passed = tt } in
-    subst (λ z. Arrives rows pair z e (record { arrival = answers.Refused w; passed = None }) (book.arrive rows pair now s z)) (sym r)
-    (subst (λ z. Arrives rows pair (Read d) e (record { arrival = answers.Refused w; passed = None }) z) (sym (judged rows pair now s d (Err w) peer right alive j)) at)
+    subst (λ z. Arrives rows pair (Read d) e (record { arrival = answers.Refused w; passed = None }) z) (sym (judged rows pair now s d (Err w) peer right alive j)) at
 
-pub arrives_refused : {e : Endpoint} (rows : List Row) (pair : Pair) (now : ℕ) (s : states.EndState) (bytes : List ℕ) (d : Segment) (w : Verdict) (told : Arrived) → told ≡ record { arrival = answers.Refused w; passed = None }
-    → reading bytes ≡ Read d → book.from_peer pair d ≡ true → good d ≡ true → states.is_closed s.phase ≡ false → book.judged_by rows pair now s d ≡ Err w
-    → Stands e s → Arrives rows pair (reading bytes) e told (book.arrive rows pair now s (reading bytes))
-arrives_refused {e} rows pair now s bytes d w told q r peer right alive j st =
-    subst (λ z. Arrives rows pair (reading bytes) e z (book.arrive rows pair now s (reading bytes))) (sym q) (refused_at rows pair now s bytes d e w r peer right alive j st)
+pub arrives_refused : {e : Endpoint} (rows : List Row) (pair : Pair) (now : ℕ) (s : states.EndState) (d : Segment) (w : Verdict) (told : Arrived) → told ≡ record { arrival = answers.Refused w; passed = None }
+    → book.from_peer pair d ≡ true → good d ≡ true → states.is_closed s.phase ≡ false → book.judged_by rows pair now s d ≡ Err w
+    → Stands e s → Arrives rows pair (Read d) e told (book.arrive rows pair now s (Read d))
+arrives_refused {e} rows pair now s d w told q peer right alive j st =
+    subst (λ z. Arrives rows pair (Read d) e z (book.arrive rows pair now s (Read d))) (sym q) (refused_at rows pair now s d e w peer right alive j st)
 
-pub refused_by : (rows : List Row) (pair : Pair) (d : Segment) (c : Verdict) (w : v.Judgement) → ((x : Passed) → c ≡ checked.Pass x → ⊥) → Tells rows pair d c w → w ≡ Err c
-refused_by rows pair d (checked.Pass x) w n t = absurd (n x refl)
+pub refused_by : (rows : List Row) (pair : Pair) (d : Segment) (c : Verdict) (w : v.Judgement) → IsRefusal c → Tells rows pair d c w → w ≡ Err c
+refused_by rows pair d (checked.Pass x) w n t = absurd n
 refused_by rows pair d checked.NoAo w n t = t
 refused_by rows pair d checked.TwoAo w n t = t
 refused_by rows pair d checked.WithMd5 w n t = t
@@ -91,8 +92,15 @@ judged_is rows e s now d o h some none =
     judge_move rows e.association.pair e.pair e.association.own s.isn e.association.peer s.peer_isn o (book.number_expected s s.peer_isn) now d e.bound.pair (e.bound.own ∙ h.isn) (e.bound.peer ∙ h.peer_isn)
     (expected_case s.peer_isn s o (λ t. some (same ∙ t) ∙ ap Some h.expected) (λ t. none (same ∙ t)))
 
-pub rnext_is : (rows : List Row) (pair : Pair) (d : Segment) (p : Passed) (entry : v.Finding) → Names rows pair d p entry → rnext_of d ≡ entry.rnext_key_id
-rnext_is rows pair d p entry names = ap rnext_in names.found ∙ sym (ap (λ z. z.rnext_key_id) names.entry_is)
+rnext_in : AoFound → ℕ
+rnext_in (One ao) = ao.rnext_key_id
+rnext_in _ = 0
+
+-- the option that was handed on is the one that the check found
+pub rnext_is : (rows : List Row) (pair : Pair) (d : Segment) (p : Passed) (option : AoOption) (entry : v.Finding) → Names rows pair d p entry → find_ao d.area ≡ One (view_ao option)
+    → option.rnext ≡ entry.rnext_key_id
+unfolding rnext_in
+rnext_is rows pair d p option entry names found = ap rnext_in (sym found ∙ names.found) ∙ sym (ap (λ z. z.rnext_key_id) names.entry_is)
 
 pub number_is : (rows : List Row) (pair : Pair) (d : Segment) (p : Passed) (entry : v.Finding) → Names rows pair d p entry → p.number ≡ entry.number
 number_is rows pair d p entry names = sym (ap (λ z. z.number) names.entry_is)

@@ -28,15 +28,6 @@ pub record InRange (d : Segment) (n : ℕ) : Type 0 where
   pub fin : has FIN d ≡ true → n + length d.payload < 2 ^ 63
   pub whole : n + segment_length d ≤ 2 ^ 63
 
--- the RNextKeyID of one TCP-AO option
-abbrev pub rnext_in : options.AoFound → ℕ
-rnext_in (options.One ao) = ao.rnext_key_id
-rnext_in _ = 0
-
--- the RNextKeyID of a segment
-abbrev pub rnext_of : Segment → ℕ
-rnext_of d = rnext_in (options.find_ao d.area)
-
 -- what is told of a segment that passed names what the check found
 abbrev pub TellsPassed : List Row → Pair → Reading → Option Passed → Option Finding → Type 0
 TellsPassed rows pair r None None = ⊤

@@ -1,7 +1,6 @@
 //! An arrival.
 ghost use Rattle.std.specs.Prelude.{◌≡◌, ◌+◌, ◌≤◌, ℕ, Option, Some, None, true, false, is_some};
 ghost use Rattle.book_base.specs.declared.address.Socket.{Socket};
-ghost use Rattle.book_segments.specs.Options.{One, find_ao};
 ghost use Rattle.book_segments.specs.Sockets.{same_socket};
 ghost use Rattle.book_segments.specs.Segments.{Read, Segment, reading};
 ghost use Rattle.book_endpoint.specs.States.{EndState};
@@ -10,7 +9,7 @@ ghost use Rattle.book_keys.specs.Lifetimes.{greatest_time};
 ghost use Rattle.ao_check.specs.Verdicts.{IsExpected};
 ghost use Rattle.tcp_endpoint.specs.Numbers.{expected_in};
 ghost use Rattle.tcp_endpoint.specs.Ends.{Stands, FitsEnd, IsUnmoved};
-ghost use Rattle.tcp_endpoint.specs.Arrivals.{Arrives, Costs, IsBeforeCheck, LeavesAll, rnext_of};
+ghost use Rattle.tcp_endpoint.specs.Arrivals.{Arrives, Costs, IsBeforeCheck, LeavesAll};
 
 use crate::arrival::Arrived;
 use crate::endpoint::Endpoint;
@@ -18,10 +17,9 @@ use crate::phases::is_closed;
 use crate::sequence::Received;
 use ao_base::Steps;
 use book_base::{Pair, Socket};
-use book_endpoint::{Arrival, Verdict};
+use book_endpoint::Arrival;
 use key_table::Table;
 use std::sync::ledger::Ledger;
-use tcp_options::AoFound;
 use tcp_segment::{Datagram, read_datagram};
 
 /// Whether two sockets are the same.
@@ -50,18 +48,6 @@ fn expected_of(received: Option<Received>) -> Option<u64>
     match received {
         Some(received) => Some(received.expected.value()),
         None => None,
-    }
-}
-
-/// The RNextKeyID of a segment with one TCP-AO option.
-fn rnext_of(datagram: &Datagram<'_>) -> u8
-    ensures { result ≡ rnext_of datagram.now }
-{
-    match datagram.options().find_ao() {
-        AoFound::One(ao) => ao.rnext,
-        AoFound::Absent => 0,
-        AoFound::Two => 0,
-        AoFound::WithMd5 => 0,
     }
 }
 
@@ -96,7 +82,31 @@ impl Endpoint {
             Ok(datagram) => datagram,
             Err(fault) => return Arrived::without(Arrival::Bad(fault)),
         };
-        if !is_from_peer(&self.pair, &datagram) {
+        self.hear_datagram(table, now, &datagram, steps)
+    }
+
+    /// A datagram that was read arrives: the first answer that holds, which is not `Bad`. All else is
+    /// as for `arrive`.
+    #[tactic(auto, unfolding(book_endpoint::specs::Arrivals::arrive))]
+    pub fn hear_datagram<L: Ledger>(
+        &mut self,
+        table: &Table,
+        now: u64,
+        datagram: &Datagram<'_>,
+        steps: &mut Steps<L>,
+    ) -> Arrived
+        requires fits { FitsEnd table.now.rows self.old }
+        requires now { now ≤ greatest_time }
+        ensures arrives { (s : EndState) → Stands self.old s
+            → Arrives table.now.rows self.old.pair (Read datagram.now) self.new result (book.arrive table.now.rows self.old.pair now s (Read datagram.now)) }
+        ensures untouched { IsBeforeCheck result.arrival → (self.new ≡ self.old) × (steps.new ≡ steps.old) }
+        ensures unchanged { LeavesAll result.arrival → IsUnmoved self.old self.new }
+        ensures costs { Costs table.now.rows now datagram.now self.old self.new result steps.old steps.new }
+        ensures pair { self.new.pair ≡ self.old.pair }
+        ensures fits { FitsEnd table.now.rows self.new }
+        ensures steps { steps.new ≤ steps.old + 66 }
+    {
+        if !is_from_peer(&self.pair, datagram) {
             return Arrived::without(Arrival::Foreign);
         }
         if !datagram.checksum_ok() {
@@ -106,15 +116,16 @@ impl Endpoint {
             return Arrived::without(Arrival::Closed);
         }
         let expected = expected_of(self.sequence.received);
-        let passed = match self
+        let passing = match self
             .association
-            .check(table, now, expected, &datagram, steps)
+            .check_with_option(table, now, expected, datagram, steps)
         {
-            Verdict::Pass(passed) => passed,
-            verdict => return Arrived::without(Arrival::Refused(verdict)),
+            Ok(passing) => passing,
+            Err(verdict) => return Arrived::without(Arrival::Refused(verdict)),
         };
-        let rnext = rnext_of(&datagram);
-        let arrival = self.hear(table, &datagram, passed.number, rnext, now, steps);
+        let passed = passing.passed;
+        let rnext = passing.option.rnext;
+        let arrival = self.hear(table, datagram, passed.number, rnext, now, steps);
         Arrived {
             arrival,
             passed: Some(passed),

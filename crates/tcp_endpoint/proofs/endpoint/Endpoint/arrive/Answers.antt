@@ -1,139 +1,16 @@
-use Rattle.std.proofs.Common.{◌≡◌, Some, refl, sym, ap, ◌∙◌, subst, arith, Ok}
-use Rattle.book_endpoint.specs.Verdicts as v
-use Rattle.ao_check.specs.Verdicts.{Names}
-use Rattle.tcp_endpoint.specs.Numbers.{expected_in}
-use Rattle.tcp_endpoint.proofs.ReadyLaws.{nothing_known, something_known}
-use Rattle.book_endpoint.specs.declared.arrival.Arrival.TheVariants.{Foreign, Closed}
-use Rattle.tcp_endpoint.proofs.CostLaws.{early_costs, refused_costs, untold, none_before, passed_costs}
-use Rattle.tcp_endpoint.proofs.JudgeLaws.{number_first, number_near}
-use Rattle.tcp_endpoint.proofs.PassLaws.{arrives_pass, arrives_refused, refused_by, judged_is, rnext_is, number_is}
+use Rattle.std.proofs.Common.{sym, ◌∙◌, subst}
+use Rattle.book_segments.specs.Segments.{Reading, Segment}
+use Rattle.book_endpoint.specs.Arrivals as book
+use Rattle.tcp_endpoint.specs.Arrivals.{Arrives, Costs}
+use Rattle.tcp_endpoint.proofs.CostLaws.{read_same}
 use Rattle.tcp_endpoint.proofs.endpoint.Endpoint.arrive.Goals as goal
-
-pub returns-in_default : goal.returns-in_default
-returns-in_default g c =
-    let e = c.args.self.now in
-    let d = c.in-Ok.datagram in
-    let rows = c.args.table.now.rows in
-    record {
-      arrives = λ s h.
-          let told = refused_by rows e.association.pair d c.check.result _ c.in_default.not-Pass c.check.ensures.verdict in
-          let judged = sym (judged_is rows e s c.args.now d c.expected_of-expected.result h c.expected_of-expected.ensures.some c.expected_of-expected.ensures.none) ∙ told in
-          arrives_refused rows e.pair c.args.now s c.args.bytes.now d c.check.result c.without-in_default.result c.without-in_default.ensures c.in-Ok.ensures.read (sym c.if-not-is_from_peer.ensures.told) (sym c.if-not-checksum_ok.ensures) (ap Rattle.book_endpoint.specs.States.is_closed (sym h.phase) ∙ sym c.if-is_closed.ensures) judged
-          (record {
-            phase = h.phase;
-            isn = h.isn;
-            peer_isn = h.peer_isn;
-            una = h.una;
-            next = h.next;
-            send_window = h.send_window;
-            wl1 = h.wl1;
-            wl2 = h.wl2;
-            expected = h.expected;
-            fin = h.fin;
-            given = h.given;
-            queue = h.queue;
-            taken = h.taken;
-            bytes = h.bytes;
-            ack_owed = h.ack_owed;
-            closing = h.closing;
-            rst_owed = h.rst_owed;
-            mss = h.mss;
-            deadline = h.deadline;
-            current = ap (λ b. b.current) c.check.ensures.same ∙ h.current;
-          });
-      untouched = λ b. absurd (untold c.check.result c.without-in_default.result c.without-in_default.ensures b);
-      unchanged = λ _. record {
-        association = c.check.ensures.same;
-        pair = refl;
-        isn = refl;
-        peer_isn = refl;
-        sequence = refl;
-        send_window = refl;
-        given = refl;
-        taken = refl;
-        phase = refl;
-        ack_owed = refl;
-        closing = refl;
-        rst_owed = refl;
-        mss = refl;
-        deadline = refl;
-        queue = refl;
-        reassembly = refl;
-      };
-      pair = refl;
-      fits = c.check.ensures.fits;
-      steps = omega (arith, c.check.ensures.counted.most);
-      costs = λ x read. refused_costs rows c.args.now e d x c.check.result c.without-in_default.result e.association.pair _ _ c.without-in_default.ensures (sym c.in-Ok.ensures.read ∙ read) e.bound.pair c.check.ensures.counted;
-    }
-
-pub hear-arrival-requires-clause-number : goal.hear-arrival-requires-clause-number
-hear-arrival-requires-clause-number g c = λ w.
-    let e = c.args.self.now in
-    let d = c.in-Ok.datagram in
-    let told = c.in-Pass.ensures.verdict in
-    let none = c.expected_of-expected.ensures.none (nothing_known e w) in
-    let pass = subst (λ x. v.judge c.args.table.now.rows e.association.pair (record { own_isn = e.association.own; peer_isn = e.association.peer; expected = x }) c.args.now d ≡ Ok told.0) none told.1 in
-    number_is c.args.table.now.rows e.association.pair d c.in-Pass.passed told.0 told.2 ∙ number_first c.args.table.now.rows e.association.pair e.association.own e.association.peer c.args.now d told.0 pass
-
-pub hear-arrival-requires-clause-near : goal.hear-arrival-requires-clause-near
-hear-arrival-requires-clause-near g c = λ begun syn.
-    let e = c.args.self.now in
-    let d = c.in-Ok.datagram in
-    let rows = c.args.table.now.rows in
-    let told = c.in-Pass.ensures.verdict in
-    let some = c.expected_of-expected.ensures.some (something_known e begun (sym c.if-is_closed.ensures)) in
-    let pass = subst (λ x. v.judge rows e.association.pair (record { own_isn = e.association.own; peer_isn = e.association.peer; expected = x }) c.args.now d ≡ Ok told.0) some told.1 in
-    number_near rows e.association.pair e.association.own e.association.peer (expected_in e.sequence.received) c.args.now d told.0 pass syn ∙ ap Some (sym (number_is rows e.association.pair d c.in-Pass.passed told.0 told.2))
-
-pub returns-then-not-is_from_peer-clause-costs : goal.returns-then-not-is_from_peer-clause-costs
-returns-then-not-is_from_peer-clause-costs g c = λ x read.
-    early_costs c.args.table.now.rows c.args.now c.args.self.now x Foreign c.without-then-not-is_from_peer.result c.args.steps.now c.without-then-not-is_from_peer.ensures
-
-pub returns-then-is_closed-clause-costs : goal.returns-then-is_closed-clause-costs
-returns-then-is_closed-clause-costs g c = λ x read.
-    early_costs c.args.table.now.rows c.args.now c.args.self.now x Closed c.without-then-is_closed.result c.args.steps.now c.without-then-is_closed.ensures
-
-pub returns-clause-untouched : goal.returns-clause-untouched
-returns-clause-untouched g c = λ b. absurd (none_before c.hear-arrival.result c.hear-arrival.ensures.checked b)
-
-pub returns-clause-costs : goal.returns-clause-costs
-returns-clause-costs g c = λ x read.
-    let e = c.args.self.now in
-    passed_costs c.args.table.now.rows c.args.now e c.in-Ok.datagram x c.in-Pass.passed c.hear-arrival.result e.association.pair _ _ _ _ (sym c.in-Ok.ensures.read ∙ read) e.bound.pair
-    c.hear-arrival.ensures.checked c.hear-arrival.ensures.keys c.hear-arrival.ensures.steps c.hear-arrival.ensures.bare c.in-Pass.ensures.counted
 
 pub returns-clause-arrives : goal.returns-clause-arrives
 returns-clause-arrives g c = λ s h.
     let e = c.args.self.now in
-    let d = c.in-Ok.datagram in
     let rows = c.args.table.now.rows in
-    let told = c.in-Pass.ensures.verdict in
-    let judged = sym (judged_is rows e s c.args.now d c.expected_of-expected.result h c.expected_of-expected.ensures.some c.expected_of-expected.ensures.none) ∙ told.1 in
-    let reach = c.hear-arrival.ensures.reaches s (record {
-      phase = h.phase;
-      isn = h.isn;
-      peer_isn = h.peer_isn;
-      una = h.una;
-      next = h.next;
-      send_window = h.send_window;
-      wl1 = h.wl1;
-      wl2 = h.wl2;
-      expected = h.expected;
-      fin = h.fin;
-      given = h.given;
-      queue = h.queue;
-      taken = h.taken;
-      bytes = h.bytes;
-      ack_owed = h.ack_owed;
-      closing = h.closing;
-      rst_owed = h.rst_owed;
-      mss = h.mss;
-      deadline = h.deadline;
-      current = ap (λ b. b.current) c.check.ensures.same ∙ h.current;
-    }) in
-    arrives_pass rows e.pair c.args.now s c.args.bytes.now d told.0 c.hear-arrival.new.self c.hear-arrival.result c.in-Pass.passed c.rnext_of-rnext.result c.in-Pass.passed.number
-    c.in-Ok.ensures.read (sym c.if-not-is_from_peer.ensures.told) (sym c.if-not-checksum_ok.ensures) (ap Rattle.book_endpoint.specs.States.is_closed (sym h.phase) ∙ sym c.if-is_closed.ensures) judged
-    (c.rnext_of-rnext.ensures ∙ rnext_is rows e.association.pair d c.in-Pass.passed told.0 told.2)
-    (number_is rows e.association.pair d c.in-Pass.passed told.0 told.2)
-    reach
-    (subst (λ z. Names rows z d c.in-Pass.passed told.0) e.bound.pair told.2)
+    subst (λ (r : Reading). Arrives rows e.pair r c.hear_datagram.new.self c.hear_datagram.result (book.arrive rows e.pair c.args.now s r)) (sym c.in-Ok.ensures.read) (c.hear_datagram.ensures.arrives s h)
+
+pub returns-clause-costs : goal.returns-clause-costs
+returns-clause-costs g c = λ x read.
+    subst (λ (z : Segment). Costs c.args.table.now.rows c.args.now z c.args.self.now c.hear_datagram.new.self c.hear_datagram.result c.args.steps.now c.hear_datagram.new.steps) (read_same c.in-Ok.datagram x (sym c.in-Ok.ensures.read ∙ read)) c.hear_datagram.ensures.costs

@@ -1,0 +1,36 @@
+use Rattle.std.proofs.Common.{◌≡◌, sym, ap, ◌∙◌, subst}
+use Rattle.std.specs.Prelude.{Result}
+use Rattle.book_base.specs.declared.address.Pair.{Pair}
+use Rattle.book_base.specs.declared.address.Socket.{Socket}
+use Rattle.book_segments.specs.Segments.{Segment, Read, Bad}
+use Rattle.book_segments.specs.Segments.{pair_reached}
+use Rattle.book_segments.specs.declared.fault.DatagramFault.{DatagramFault}
+use Rattle.book_stack.specs.Calls.{Incoming}
+use Rattle.book_stack.specs.Turns.{clocked}
+use Rattle.node_ends.specs.declared.answer.NodeArrival.TheVariants as arrivals
+use Rattle.ao_stack.specs.declared.input.Heard.TheVariants as heards
+use Rattle.ao_stack.specs.Passed.{PassesAs}
+use Rattle.ao_stack.specs.Readings.{reading_of}
+use Rattle.ao_stack.proofs.ArriveLaws.{came_bad, inputs}
+use Rattle.ao_stack.proofs.stack.Stack.input_read.Goals as goal
+
+pub returns-in-Err-clause-told : goal.returns-in-Err-clause-told
+returns-in-Err-clause-told c s bytes S read =
+    let coming : Incoming = record { now = c.args.now; bytes = bytes } in
+    inputs _ coming s (Bad c.in-Err.fault) (heards.Told (arrivals.Bad c.in-Err.fault)) (read ∙ ap reading_of c.in-Err.is) (came_bad _ coming c.in-Err.fault _ (c.set_clock.ensures s S))
+
+pub returns-in-Ok-clause-told : goal.returns-in-Ok-clause-told
+returns-in-Ok-clause-told c s bytes S read =
+    let d = c.in-Ok.datagram in
+    let q : Pair = record { local = c.destination.result; remote = c.source.result } in
+    let seen : q ≡ pair_reached d =
+    ap (λ (x : Socket). let k : Pair = record { local = x; remote = c.source.result } in k) c.destination.ensures.value
+    ∙ ap (λ (x : Socket). let k : Pair = record { local = d.destination; remote = x } in k) c.source.ensures.value in
+    let coming : Incoming = record { now = c.args.now; bytes = bytes } in
+    let came = read ∙ ap reading_of c.in-Ok.is in
+    inputs _ coming s (Read d) c.meet.result came (c.meet.ensures.told _ bytes (c.set_clock.ensures s S) came seen c.asks-asks.ensures)
+
+pub returns-in-Ok-clause-passed : goal.returns-in-Ok-clause-passed
+returns-in-Ok-clause-passed c s S =
+    subst (λ (x : Result Segment DatagramFault). PassesAs (clocked c.args.now s).stack (reading_of x) c.meet.result) (sym c.in-Ok.is)
+    (c.meet.ensures.passed (clocked c.args.now s).stack (c.set_clock.ensures s S))
