@@ -30,7 +30,7 @@ pub use outside::{Failed, Sink, Source};
 pub use print::{push_decimal, push_hex};
 pub use quiet::{QuietSink, QuietSource};
 pub use reader::{LineReader, LineStep};
-pub use sockets::{are_two_of_a_family, is_one_family, is_same_address, is_same_socket};
 pub use refill::{Filled, fill};
+pub use sockets::{are_two_of_a_family, is_one_family, is_same_address, is_same_socket};
 pub use steps::Steps;
 pub use whole::{ReadProblem, read_all, write_all};

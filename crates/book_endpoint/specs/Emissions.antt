@@ -286,7 +286,7 @@ abbrev pub written : Pair → EndState → Draft → Sending → List ℕ → Se
 written pair s out sending m = record {
   ip = written_ip pair
       (tcp_header_length + ao_head_length + length m + ao_place (sets out.flags SYN)
-          + length out.payload)
+      + length out.payload)
       pair.local.address;
   source = pair.local;
   destination = pair.remote;

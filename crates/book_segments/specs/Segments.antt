@@ -252,7 +252,7 @@ v4_fields b =
 abbrev pub v6_fields : List ℕ → Segment
 v6_fields b =
     tcp_fields (Ipv6 (four_octets_at b 0 % 0x10000000) (slice_index b 7))
-    (V6 (slice_range b 8 24)) (V6 (slice_range b 24 40)) 
+    (V6 (slice_range b 8 24)) (V6 (slice_range b 24 40))
     (slice_range b ipv6_header_length (ipv6_header_length + two_octets_at b 4))
 
 -- the fields of a datagram, each at its place (RFC 791, section 3.1; RFC 8200, section 3)
