@@ -4,43 +4,40 @@ use Rattle.std.specs.Prelude.{cond, is_some, option_map, if◌then◌else◌}
 use Rattle.std.specs.BTreeMap.{is_at}
 use Rattle.std.specs.Map.{lookup, set_value}
 use Rattle.book_base.specs.declared.address.Pair.{Pair}
+use Rattle.book_base.specs.Orders.{by_pair}
 use Rattle.book_cmd_node.specs.NodeRuns.{same_pair}
 use Rattle.book_counters.specs.declared.tally.Tally.{Tally}
+use Rattle.law_node.proofs.PairMaps.{pair_finds, set_finds}
 use Rattle.law_node.proofs.Pairs.{same_pair_is}
-use Rattle.stack_timers.specs.declared.key.Key.{Key}
-use Rattle.stack_timers.specs.Keys.{by_key, key_of}
-use Rattle.stack_timers.proofs.MapLaws.{key_finds, set_finds}
 use Rattle.ao_counters.specs.Tallies.{Becomes, Tallying, tally_at}
 
 -- tallies with these entries
-abbrev pub of_entries : List (Key × Tally) → Tallying
+abbrev pub of_entries : List (Pair × Tally) → Tallying
 of_entries es = record { entries = es }
 
-module _ (es after : List (Key × Tally)) (k : Key) (p : Pair) (n : Tallying) (view : of_entries es ≡ n) (key : k ≡ key_of p) where
-  -- what is found by the key is the pair's
-  pub found_at : (o : Option Tally) → o ≡ lookup (is_at (by_key k)) es → o ≡ tally_at n p
-  found_at o is = rw (is, key, ← view) refl
+module _ (es after : List (Pair × Tally)) (p : Pair) (n : Tallying) (view : of_entries es ≡ n) where
+  -- what is found by the order is the pair's
+  pub found_at : (o : Option Tally) → o ≡ lookup (is_at (by_pair p)) es → o ≡ tally_at n p
+  found_at o is = rw (is, ← view) refl
 
   -- a tally was put
-  pub put_becomes : (w : Tally) → ((q : Key) → lookup (is_at (by_key q)) after ≡ cond (is_at (by_key k) q) (Some w) (lookup (is_at (by_key q)) es)) → Becomes n (of_entries after) p (Some w)
+  pub put_becomes : (w : Tally) → ((q : Pair) → lookup (is_at (by_pair q)) after ≡ cond (is_at (by_pair p) q) (Some w) (lookup (is_at (by_pair q)) es)) → Becomes n (of_entries after) p (Some w)
   put_becomes w finds =
-      let g : (q : Key) → lookup (is_at (by_key q)) after ≡ cond (is_at (by_key (key_of p)) q) (Some w) (lookup (is_at (by_key q)) es) = rw key at finds in
-      rw (← view) (record { finds = λ q. g (key_of q) ∙ rw (key_finds p q) refl })
+      rw (← view) (record { finds = λ q. finds q ∙ rw (pair_finds p q) refl })
 
   -- the tally of a pair was dropped
-  pub drop_becomes : ((q : Key) → lookup (is_at (by_key q)) after ≡ cond (is_at (by_key k) q) None (lookup (is_at (by_key q)) es)) → Becomes n (of_entries after) p None
+  pub drop_becomes : ((q : Pair) → lookup (is_at (by_pair q)) after ≡ cond (is_at (by_pair p) q) None (lookup (is_at (by_pair q)) es)) → Becomes n (of_entries after) p None
   drop_becomes finds =
-      let g : (q : Key) → lookup (is_at (by_key q)) after ≡ cond (is_at (by_key (key_of p)) q) None (lookup (is_at (by_key q)) es) = rw key at finds in
-      rw (← view) (record { finds = λ q. g (key_of q) ∙ rw (key_finds p q) refl })
+      rw (← view) (record { finds = λ q. finds q ∙ rw (pair_finds p q) refl })
 
   -- that of a pair that has one was written
-  pub set_becomes : (one other : Tally) → Some one ≡ lookup (is_at (by_key k)) es → after ≡ set_value (is_at (by_key k)) es other → Becomes n (of_entries after) p (Some other)
+  pub set_becomes : (one other : Tally) → Some one ≡ lookup (is_at (by_pair p)) es → after ≡ set_value (is_at (by_pair p)) es other → Becomes n (of_entries after) p (Some other)
   set_becomes one other is set =
-      let there : is_some (lookup (is_at (by_key (key_of p))) es) ≡ true = rw (← key) (ap is_some (sym is)) in
-      rw (← view, set, key) (record { finds = λ q. set_finds p q other es there })
+      let there : is_some (lookup (is_at (by_pair p)) es) ≡ true = ap is_some (sym is) in
+      rw (← view, set) (record { finds = λ q. set_finds p q other es there })
 
   -- that of a pair that has one was changed
-  pub some_changed : (one new : Tally) (f : Tally → Tally) → new ≡ f one → Some one ≡ lookup (is_at (by_key k)) es → after ≡ set_value (is_at (by_key k)) es new → Becomes n (of_entries after) p (option_map f (tally_at n p))
+  pub some_changed : (one new : Tally) (f : Tally → Tally) → new ≡ f one → Some one ≡ lookup (is_at (by_pair p)) es → after ≡ set_value (is_at (by_pair p)) es new → Becomes n (of_entries after) p (option_map f (tally_at n p))
   some_changed one new f made is set =
       let known : Some new ≡ option_map f (tally_at n p) = ap Some made ∙ ap (λ (o : Option Tally). option_map f o) (found_at (Some one) is) in
       subst (λ (x : Option Tally). Becomes n (of_entries after) p x) known (set_becomes one new is set)

@@ -3,18 +3,17 @@ use Rattle.std.specs.Prelude.{◌≡◌, List, Option, if◌then◌else◌}
 use Rattle.std.specs.Map.{lookup}
 use Rattle.std.specs.BTreeMap.{is_at}
 use Rattle.book_base.specs.declared.address.Pair.{Pair}
+use Rattle.book_base.specs.Orders.{by_pair}
 use Rattle.book_cmd_node.specs.NodeRuns.{same_pair}
 use Rattle.book_counters.specs.declared.tally.Tally.{Tally}
-use Rattle.stack_timers.specs.declared.key.Key.{Key}
-use Rattle.stack_timers.specs.Keys.{by_key, key_of}
 
--- tallies by the keys of their pairs (own)
+-- tallies by their pairs (own)
 pub record Tallying : Type 0 where
-  pub entries : List (Key × Tally)
+  pub entries : List (Pair × Tally)
 
 -- the tally of a pair (own)
 abbrev pub tally_at : Tallying → Pair → Option Tally
-tally_at t pair = lookup (is_at (by_key (key_of pair))) t.entries
+tally_at t pair = lookup (is_at (by_pair pair)) t.entries
 
 -- the pair has this tally from now on, or none, and all others stay (own)
 pub record Becomes (before after : Tallying) (pair : Pair) (k : Option Tally) : Type 0 where

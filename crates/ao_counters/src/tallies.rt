@@ -7,7 +7,6 @@ ghost use Rattle.ao_counters.specs.Tallies.{Becomes, tally_at};
 use crate::counts::{Happened, changed, no_tally};
 use book_base::Pair;
 use book_counters::Tally;
-use stack_timers::{Key, key_of};
 use std::alloc::{AllocError, Global};
 use std::collections::BTreeMap;
 use std::marker::Model;
@@ -15,7 +14,7 @@ use std::marker::Model;
 /// The tally of each connection, by the pair of its sockets.
 #[derive(Drop)]
 pub(crate) struct Tallies {
-    items: BTreeMap<Key, Tally>,
+    items: BTreeMap<Pair, Tally>,
 }
 
 impl Model for Tallies {
@@ -40,7 +39,7 @@ impl Tallies {
     pub(crate) fn get(&self, pair: &Pair) -> Option<Tally>
         ensures { result ≡ tally_at self.now pair.now }
     {
-        self.items.get(&key_of(pair)).copied()
+        self.items.get(pair).copied()
     }
 
     /// The pair has a new tally. After want of memory nothing has changed.
@@ -48,7 +47,7 @@ impl Tallies {
         ensures put { OnOk result (Becomes self.old self.new pair.now (Some no_tally)) }
         ensures unchanged { OnErr result (self.new ≡ self.old) }
     {
-        match self.items.insert(key_of(pair), no_tally()) {
+        match self.items.insert(*pair, no_tally()) {
             Ok(_) => Ok(()),
             Err(_) => Err(AllocError),
         }
@@ -58,14 +57,14 @@ impl Tallies {
     pub(crate) fn remove(&mut self, pair: &Pair)
         ensures { Becomes self.old self.new pair.now None }
     {
-        let _tally = self.items.remove(&key_of(pair));
+        let _tally = self.items.remove(pair);
     }
 
     /// Something happened at the connection of the pair; nothing where it has no tally.
     pub(crate) fn change(&mut self, pair: &Pair, what: Happened)
         ensures { Becomes self.old self.new pair.now (option_map (changed_by what) (tally_at self.old pair.now)) }
     {
-        match self.items.get_mut(&key_of(pair)) {
+        match self.items.get_mut(pair) {
             None => {}
             Some(tally) => *tally = changed(*tally, what),
         }

@@ -6,3 +6,4 @@ pub mod LineLaws
 pub mod DecimalLaws
 pub mod HexadecimalLaws
 pub mod AddressLaws
+pub mod OrderLaws

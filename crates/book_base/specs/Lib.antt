@@ -4,4 +4,5 @@ pub mod Decimals
 pub mod Fronts
 pub mod Hexadecimal
 pub mod Lines
+pub mod Orders
 pub mod Results

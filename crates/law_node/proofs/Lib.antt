@@ -1,4 +1,5 @@
 pub mod Held
+pub mod PairMaps
 pub mod Pairs
 pub mod Runs
 pub mod Steps

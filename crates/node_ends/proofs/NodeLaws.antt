@@ -5,49 +5,46 @@ use Rattle.std.specs.BTreeMap.{is_at}
 use Rattle.std.specs.Map.{lookup, set_value}
 use Rattle.std.specs.Map.Calls.{RetainsPairs}
 use Rattle.book_base.specs.declared.address.Pair.{Pair}
+use Rattle.book_base.specs.Orders.{by_pair}
 use Rattle.book_segments.specs.Segments.{Segment, Reading, Read}
 use Rattle.book_keys.specs.Rows.{Row}
 use Rattle.book_segments.specs.Segments.{pair_reached}
+use Rattle.law_node.proofs.PairMaps.{pair_finds}
 use Rattle.tcp_endpoint.specs.declared.arrival.Arrived.{Arrived}
 use Rattle.tcp_endpoint.specs.declared.endpoint.Endpoint.{Endpoint}
 use Rattle.node_ends.specs.declared.answer.NodeArrival.{NodeArrival}
 use Rattle.node_ends.specs.declared.answer.NodeArrival.TheVariants as answers
-use Rattle.node_ends.specs.declared.key.Key.{Key}
 use Rattle.node_ends.specs.Arrivals.{Comes, Hears}
 use Rattle.node_ends.specs.Held.{Holding, end_at, ends, holds, Adds, Removes, TicksAt, TicksEnd}
-use Rattle.node_ends.specs.Keys.{by_key, key_of}
 use Rattle.node_ends.specs.Loans.{written}
-use Rattle.node_ends.proofs.MapLaws.{key_finds, written_finds, written_count}
+use Rattle.node_ends.proofs.MapLaws.{written_finds, written_count}
 
 -- a node with these entries
-abbrev pub of_entries : ℕ → List (Key × Endpoint) → Holding
+abbrev pub of_entries : ℕ → List (Pair × Endpoint) → Holding
 of_entries most es = record { most = most; entries = es }
 
-module _ (most : ℕ) (es after : List (Key × Endpoint)) (k : Key) (p : Pair) (n : Holding) (view : of_entries most es ≡ n) (key : k ≡ key_of p) where
+module _ (most : ℕ) (es after : List (Pair × Endpoint)) (p : Pair) (n : Holding) (view : of_entries most es ≡ n) where
   -- an end was put for a pair that wasn't held
-  pub put_adds : (e : Endpoint) (o : Option Endpoint) → ((q : Key) → lookup (is_at (by_key q)) after ≡ cond (is_at (by_key k) q) (Some e) (lookup (is_at (by_key q)) es))
-      → o ≡ lookup (is_at (by_key k)) es → holds n p ≡ false → length after ≡ length es + (if is_some o then 0 else 1) → Adds n (of_entries most after) p e
+  pub put_adds : (e : Endpoint) (o : Option Endpoint) → ((q : Pair) → lookup (is_at (by_pair q)) after ≡ cond (is_at (by_pair p) q) (Some e) (lookup (is_at (by_pair q)) es))
+      → o ≡ lookup (is_at (by_pair p)) es → holds n p ≡ false → length after ≡ length es + (if is_some o then 0 else 1) → Adds n (of_entries most after) p e
   put_adds e o finds old apart len =
-      let apart_es : is_some (lookup (is_at (by_key (key_of p))) es) ≡ false = rw (← view) at apart in
-      let none : is_some o ≡ false = ap is_some old ∙ rw key apart_es in
-      let g : (q : Key) → lookup (is_at (by_key q)) after ≡ cond (is_at (by_key (key_of p)) q) (Some e) (lookup (is_at (by_key q)) es) = rw key at finds in
-      rw (← view) (record { most = refl; finds = λ q. g (key_of q) ∙ rw (key_finds p q) refl; count = len ∙ rw none refl })
+      let apart_es : is_some (lookup (is_at (by_pair p)) es) ≡ false = rw (← view) at apart in
+      let none : is_some o ≡ false = ap is_some old ∙ apart_es in
+      rw (← view) (record { most = refl; finds = λ q. finds q ∙ rw (pair_finds p q) refl; count = len ∙ rw none refl })
 
   -- the end of a pair was dropped
-  pub drop_removes : (o : Option Endpoint) → ((q : Key) → lookup (is_at (by_key q)) after ≡ cond (is_at (by_key k) q) None (lookup (is_at (by_key q)) es))
-      → o ≡ lookup (is_at (by_key k)) es → length after + (if is_some o then 1 else 0) ≡ length es → Removes n (of_entries most after) p
+  pub drop_removes : (o : Option Endpoint) → ((q : Pair) → lookup (is_at (by_pair q)) after ≡ cond (is_at (by_pair p) q) None (lookup (is_at (by_pair q)) es))
+      → o ≡ lookup (is_at (by_pair p)) es → length after + (if is_some o then 1 else 0) ≡ length es → Removes n (of_entries most after) p
   drop_removes o finds old len =
-      let is : o ≡ lookup (is_at (by_key (key_of p))) es = rw key at old in
-      let g : (q : Key) → lookup (is_at (by_key q)) after ≡ cond (is_at (by_key (key_of p)) q) None (lookup (is_at (by_key q)) es) = rw key at finds in
-      rw (← view) (record { most = refl; finds = λ q. g (key_of q) ∙ rw (key_finds p q) refl; count = rw is at len })
+      rw (← view) (record { most = refl; finds = λ q. finds q ∙ rw (pair_finds p q) refl; count = rw old at len })
 
   -- the end of a pair was written
-  pub set_writes : (e : Endpoint) → after ≡ set_value (is_at (by_key k)) es e → of_entries most after ≡ written p n e
-  set_writes e is = rw (is, key, ← view) refl
+  pub set_writes : (e : Endpoint) → after ≡ set_value (is_at (by_pair p)) es e → of_entries most after ≡ written p n e
+  set_writes e is = rw (is, ← view) refl
 
-  -- what is found by the key is held for the pair
-  pub found_at : (o : Option Endpoint) → o ≡ lookup (is_at (by_key k)) es → end_at n p ≡ o
-  found_at o is = rw (is, key, ← view) refl
+  -- what is found by the order is held for the pair
+  pub found_at : (o : Option Endpoint) → o ≡ lookup (is_at (by_pair p)) es → end_at n p ≡ o
+  found_at o is = rw (is, ← view) refl
 
 -- ---- arrivals
 
@@ -74,21 +71,21 @@ comes_some rows now r d before after told e f arrived is found answer new hears 
 
 -- ---- the clock
 
-pub record TicksPairs (now : ℕ) (es kept : List (Key × Endpoint)) : Type 0 where
-  pub each : (q : Pair) → TicksAt now (lookup (is_at (by_key (key_of q))) es) (lookup (is_at (by_key (key_of q))) kept)
+pub record TicksPairs (now : ℕ) (es kept : List (Pair × Endpoint)) : Type 0 where
+  pub each : (q : Pair) → TicksAt now (lookup (is_at (by_pair q)) es) (lookup (is_at (by_pair q)) kept)
   pub count : length kept ≡ length es
 
-pub ticks_pairs : {F : Type 0} (T : F → Key → Endpoint → Bool → Endpoint → F → Type 0) (now : ℕ) (f : F)
-    → ((k : Key) (v : Endpoint) (b : Bool) (w : Endpoint) (g : F) → T f k v b w g → (b ≡ true) × TicksEnd now v w × (g ≡ f))
-    → (es kept : List (Key × Endpoint)) → RetainsPairs T f es kept → TicksPairs now es kept
+pub ticks_pairs : {F : Type 0} (T : F → Pair → Endpoint → Bool → Endpoint → F → Type 0) (now : ℕ) (f : F)
+    → ((k : Pair) (v : Endpoint) (b : Bool) (w : Endpoint) (g : F) → T f k v b w g → (b ≡ true) × TicksEnd now v w × (g ≡ f))
+    → (es kept : List (Pair × Endpoint)) → RetainsPairs T f es kept → TicksPairs now es kept
 ticks_pairs T now f does [] kept h = rw h (record { each = λ q. refl; count = refl })
 ticks_pairs T now f does (e ∷ es) kept h =
     let t = does e.0 e.1 h.0 h.1 h.2 h.4 in
     let rest = ticks_pairs T now f does es h.3 (rw t.2 at h.5) in
     let is : kept ≡ (e.0, h.1) ∷ h.3 = h.6 ∙ rw t.0 refl in
-    rw is (record { each = λ q. at q (is_at (by_key (key_of q)) e.0) (rest.each q); count = let c = rest.count in omega arith })
+    rw is (record { each = λ q. at q (is_at (by_pair q) e.0) (rest.each q); count = let c = rest.count in omega arith })
   where
-    at : (q : Pair) (v : Bool) → TicksAt now (lookup (is_at (by_key (key_of q))) es) (lookup (is_at (by_key (key_of q))) h.3)
-        → TicksAt now (cond v (Some e.1) (lookup (is_at (by_key (key_of q))) es)) (cond v (Some h.1) (lookup (is_at (by_key (key_of q))) h.3))
+    at : (q : Pair) (v : Bool) → TicksAt now (lookup (is_at (by_pair q)) es) (lookup (is_at (by_pair q)) h.3)
+        → TicksAt now (cond v (Some e.1) (lookup (is_at (by_pair q)) es)) (cond v (Some h.1) (lookup (is_at (by_pair q)) h.3))
     at q true i = (h.1, refl, (does e.0 e.1 h.0 h.1 h.2 h.4).1)
     at q false i = i

@@ -3,6 +3,7 @@ use Rattle.std.specs.Prelude.{◌≡◌, ℕ, ◌+◌, nat_le, Bool, true, List,
 use Rattle.std.specs.Map.{lookup}
 use Rattle.std.specs.BTreeMap.{is_at}
 use Rattle.book_base.specs.declared.address.Pair.{Pair}
+use Rattle.book_base.specs.Orders.{by_pair}
 use Rattle.book_keys.specs.Rows.{Row}
 use Rattle.book_endpoint.specs.States.{EndState, tick}
 use Rattle.book_cmd_node.specs.NodeRuns.{same_pair}
@@ -10,17 +11,15 @@ use Rattle.tcp_endpoint.specs.declared.endpoint.Endpoint.{Endpoint}
 use Rattle.tcp_endpoint.specs.Ends.{Stands, FitsEnd}
 use Rattle.node_ends.specs.declared.answer.NodeRefusal.{NodeRefusal}
 use Rattle.node_ends.specs.declared.answer.NodeRefusal.TheVariants as refusals
-use Rattle.node_ends.specs.declared.key.Key.{Key}
-use Rattle.node_ends.specs.Keys.{by_key, key_of}
 
--- a node is: how many ends it holds at most, and the ends by the keys of their pairs
+-- a node is: how many ends it holds at most, and the ends by their pairs
 pub record Holding : Type 0 where
   pub most : ℕ
-  pub entries : List (Key × Endpoint)
+  pub entries : List (Pair × Endpoint)
 
 -- the end that is held for a pair
 abbrev pub end_at : Holding → Pair → Option Endpoint
-end_at n pair = lookup (is_at (by_key (key_of pair))) n.entries
+end_at n pair = lookup (is_at (by_pair pair)) n.entries
 
 -- how many ends are held
 abbrev pub ends : Holding → ℕ

@@ -1,6 +1,5 @@
 pub mod Arrivals
 pub mod Held
-pub mod Keys
 pub mod Loans
 pub mod Calls
 pub mod Stands

@@ -4,15 +4,15 @@ use Rattle.std.specs.BTreeMap.{is_at}
 use Rattle.std.specs.Borrow.{LendsIf, MutBor, Fml}
 use Rattle.std.specs.Map.{set_value}
 use Rattle.book_base.specs.declared.address.Pair.{Pair}
+use Rattle.book_base.specs.Orders.{by_pair}
 use Rattle.tcp_endpoint.specs.declared.endpoint.Endpoint.{Endpoint}
 use Rattle.tcp_endpoint.specs.contracts.endpoint.Endpoint.{the_row as end_row}
 use Rattle.node_ends.specs.contracts.node.Node.{the_row}
 use Rattle.node_ends.specs.Held.{Holding}
-use Rattle.node_ends.specs.Keys.{by_key, key_of}
 
 -- the node with this end in the place of the one that is held for the pair
 abbrev pub written : Pair → Holding → Endpoint → Holding
-written pair n e = record { most = n.most; entries = set_value (is_at (by_key (key_of pair))) n.entries e }
+written pair n e = record { most = n.most; entries = set_value (is_at (by_pair pair)) n.entries e }
 
 -- the node after the loan holds what was written for the pair, and all else as before
 abbrev pub LendsEnd : MutBor Holding → Pair → Option (MutBor Endpoint) → Fml

@@ -3,7 +3,6 @@
 #![tactic(auto)]
 
 mod answer;
-mod key;
 mod node;
 
 pub use answer::{NodeArrival, NodeRefusal};

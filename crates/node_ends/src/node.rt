@@ -13,7 +13,6 @@ ghost use Rattle.node_ends.specs.Held.{Adds, Begins, FitsAll, IsRefused, Removes
 ghost use Rattle.node_ends.specs.Loans.{LendsEnd};
 
 use crate::answer::{NodeArrival, NodeRefusal};
-use crate::key::{Key, key_of};
 use ao_base::Steps;
 use book_base::Pair;
 use key_table::Table;
@@ -30,7 +29,7 @@ use tcp_segment::{Datagram, read_datagram};
 #[derive(Drop)]
 pub struct Node {
     most: u16,
-    ends: BTreeMap<Key, Endpoint>,
+    ends: BTreeMap<Pair, Endpoint>,
 }
 
 impl Model for Node {
@@ -60,7 +59,7 @@ impl Node {
         ensures refused { IsRefused result (refusal self.now pair.now) }
         ensures told { OnErr result (is_some (refusal self.now pair.now) ≡ true) }
     {
-        if self.ends.contains_key(&key_of(pair)) {
+        if self.ends.contains_key(pair) {
             return Err(NodeRefusal::InUse);
         }
         if self.ends.len() >= usize::from(self.most) {
@@ -75,7 +74,7 @@ impl Node {
         ensures added { OnOk result (Adds self.old self.new pair.now endpoint) }
         ensures unchanged { OnErr result (self.new ≡ self.old) }
     {
-        match self.ends.insert(key_of(pair), endpoint) {
+        match self.ends.insert(*pair, endpoint) {
             Ok(_) => Ok(()),
             Err(_) => Err(AllocError),
         }
@@ -151,14 +150,14 @@ impl Node {
         ensures removed { Removes self.old self.new pair.now }
         ensures unchanged { result ≡ false → self.new ≡ self.old }
     {
-        self.ends.remove(&key_of(pair)).is_some()
+        self.ends.remove(pair).is_some()
     }
 
     /// The end of the pair. `None` exactly where the pair isn't held.
     pub fn end(&self, pair: &Pair) -> Option<&Endpoint>
         ensures { option_map (λ e. e.now) result ≡ end_at self.now pair.now }
     {
-        self.ends.get(&key_of(pair))
+        self.ends.get(pair)
     }
 
     /// The end of the pair, for calls that change it. `None` exactly where the pair isn't held. What
@@ -167,7 +166,7 @@ impl Node {
         ensures* writes { sem 𝓛 (LendsEnd self.entry pair.now result) }
         ensures end { option_copied_mut result ≡ end_at self.old pair.now }
     {
-        self.ends.get_mut(&key_of(pair))
+        self.ends.get_mut(pair)
     }
 
     /// A datagram arrives at `now`, in seconds since 1970 and at most LATEST. `Bad` exactly where the
@@ -211,7 +210,7 @@ impl Node {
             local: datagram.destination(),
             remote: datagram.source(),
         };
-        match self.ends.get_mut(&key_of(&pair)) {
+        match self.ends.get_mut(&pair) {
             None => NodeArrival::NoConnection,
             Some(end) => NodeArrival::At(pair, end.hear_datagram(table, now, datagram, steps)),
         }

@@ -1,4 +1,3 @@
-pub mod Keys
 pub mod Loans
 pub mod Places
 pub mod Timers

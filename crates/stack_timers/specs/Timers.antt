@@ -3,20 +3,19 @@ use Rattle.std.specs.Prelude.{◌≡◌, List, Option, Some, None, if◌then◌e
 use Rattle.std.specs.Map.{lookup}
 use Rattle.std.specs.BTreeMap.{is_at}
 use Rattle.book_base.specs.declared.address.Pair.{Pair}
+use Rattle.book_base.specs.Orders.{by_pair}
 use Rattle.book_cmd_node.specs.NodeRuns.{same_pair}
 use Rattle.stack_timers.specs.declared.watch.Watch.{Watch}
-use Rattle.stack_timers.specs.declared.key.Key.{Key}
-use Rattle.stack_timers.specs.Keys.{by_key, key_of}
 use Rattle.stack_timers.specs.Watches.{seen}
 use Rattle.book_stack.specs.Watches.{new_connection_watch}
 
--- timers by the keys of their pairs (own)
+-- timers by their pairs (own)
 pub record Timing : Type 0 where
-  pub entries : List (Key × Watch)
+  pub entries : List (Pair × Watch)
 
 -- the timer of a pair (own)
 abbrev pub watch_at : Timing → Pair → Option Watch
-watch_at t pair = lookup (is_at (by_key (key_of pair))) t.entries
+watch_at t pair = lookup (is_at (by_pair pair)) t.entries
 
 -- the pair has a new timer from now on, and all others stay (own)
 pub record KeepsNew (before after : Timing) (pair : Pair) : Type 0 where

@@ -3,13 +3,11 @@
 #![tactic(auto)]
 
 mod alarms;
-mod key;
 mod line;
 mod watch;
 mod watches;
 
 pub use alarms::Alarms;
-pub use key::{Key, key_of};
 pub use line::Line;
 pub use watch::{Watch, is_heard};
 pub use watches::Watches;

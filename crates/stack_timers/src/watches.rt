@@ -5,7 +5,6 @@ ghost use Rattle.std.specs.Option.{option_copied_mut};
 ghost use Rattle.stack_timers.specs.Loans.{LendsWatch};
 ghost use Rattle.stack_timers.specs.Timers.{KeepsNew, Drops, watch_at};
 
-use crate::key::{Key, key_of};
 use crate::watch::Watch;
 use book_base::Pair;
 use std::alloc::{AllocError, Global};
@@ -15,7 +14,7 @@ use std::marker::Model;
 /// A timer for each connection, by the pair of its sockets.
 #[derive(Drop)]
 pub struct Watches {
-    items: BTreeMap<Key, Watch>,
+    items: BTreeMap<Pair, Watch>,
 }
 
 impl Model for Watches {
@@ -41,7 +40,7 @@ impl Watches {
         ensures kept { OnOk result (KeepsNew self.old self.new pair.now) }
         ensures unchanged { OnErr result (self.new ≡ self.old) }
     {
-        match self.items.insert(key_of(pair), Watch::new()) {
+        match self.items.insert(*pair, Watch::new()) {
             Ok(_) => Ok(()),
             Err(_) => Err(AllocError),
         }
@@ -51,14 +50,14 @@ impl Watches {
     pub fn remove(&mut self, pair: &Pair)
         ensures { Drops self.old self.new pair.now }
     {
-        let _watch = self.items.remove(&key_of(pair));
+        let _watch = self.items.remove(pair);
     }
 
     /// The timer of the pair.
     pub fn get(&self, pair: &Pair) -> Option<&Watch>
         ensures { option_map (λ w. w.now) result ≡ watch_at self.now pair.now }
     {
-        self.items.get(&key_of(pair))
+        self.items.get(pair)
     }
 
     /// The timer of the pair, for calls that change it.
@@ -66,6 +65,6 @@ impl Watches {
         ensures* writes { sem 𝓛 (LendsWatch self.entry pair.now result) }
         ensures watch { option_copied_mut result ≡ watch_at self.old pair.now }
     {
-        self.items.get_mut(&key_of(pair))
+        self.items.get_mut(pair)
     }
 }

@@ -11,9 +11,9 @@ returns c =
     let n = c.args.self.now in
     elim c.match-get_mut.branch [
       | in-None w ↦
-          none_changed n _ p (changed_by c.args.what) (found_at es [] c.key_of.result p n c.self.view_is c.key_of.ensures None w.in-None.ensures.value)
+          none_changed n _ p (changed_by c.args.what) (found_at es [] p n c.self.view_is None w.in-None.ensures.value)
           (rw (w.self-inside-is, c.get_mut.follows.holds-at-none) c.self.view_is)
       | in-Some w ↦
           let new = w.changed.result in
-          rw w.self-inside-is (some_changed es (c.get_mut.follows.lender new).entries c.key_of.result p n c.self.view_is c.key_of.ensures w.in-Some.tally.now new (changed_by c.args.what) w.changed.ensures w.in-Some.ensures.value (c.get_mut.follows.holds new).0)
+          rw w.self-inside-is (some_changed es (c.get_mut.follows.lender new).entries p n c.self.view_is w.in-Some.tally.now new (changed_by c.args.what) w.changed.ensures w.in-Some.ensures.value (c.get_mut.follows.holds new).0)
     ]

@@ -2,4 +2,4 @@ use Rattle.ao_counters.proofs.MapLaws.{drop_becomes}
 use Rattle.ao_counters.proofs.tallies.Tallies.remove.Goals as goal
 
 pub returns : goal.returns
-returns c = drop_becomes c.self.inside.items.entries c.remove-tally.new.self.entries c.key_of.result c.args.pair.now c.args.self.now c.self.view_is c.key_of.ensures c.remove-tally.ensures.updates.0
+returns c = drop_becomes c.self.inside.items.entries c.remove-tally.new.self.entries c.args.pair.now c.args.self.now c.self.view_is c.remove-tally.ensures.updates.0

@@ -12,7 +12,7 @@ use Rattle.node_ends.proofs.node.Node.hear_datagram.Goals.{in-None, in-Some}
 pub hear_datagram-requires-clause-fits : goal.hear_datagram-requires-clause-fits
 hear_datagram-requires-clause-fits g c =
     let q : Pair = record { local = c.destination.result; remote = c.source.result } in
-    c.requires.fits q c.in-Some.end.now (found_at c.self.inside.most c.self.inside.ends.entries [] c.key_of.result q c.args.self.now c.self.view_is c.key_of.ensures (Some c.in-Some.end.now) c.in-Some.ensures.value)
+    c.requires.fits q c.in-Some.end.now (found_at c.self.inside.most c.self.inside.ends.entries [] q c.args.self.now c.self.view_is (Some c.in-Some.end.now) c.in-Some.ensures.value)
 
 pub returns-clause-comes : goal.returns-clause-comes
 returns-clause-comes g c =
@@ -25,14 +25,14 @@ returns-clause-comes g c =
     let es = c.self.inside.ends.entries in
     elim c.match-get_mut.branch [
       | in-None w ↦
-          let none = found_at most es [] c.key_of.result q c.args.self.now c.self.view_is c.key_of.ensures None w.in-None.ensures.value in
+          let none = found_at most es [] q c.args.self.now c.self.view_is None w.in-None.ensures.value in
           comes_none c.args.table.now.rows c.args.now _ d c.args.self.now _ _ refl (subst (λ (x : Pair). end_at c.args.self.now x ≡ None) seen none) w.result-is
           (rw (w.self-inside-is, c.get_mut.follows.holds-at-none) c.self.view_is)
       | in-Some w ↦
           let e = w.in-Some.end.now in
           let f = w.hear_datagram.new.self in
-          let found = found_at most es [] c.key_of.result q c.args.self.now c.self.view_is c.key_of.ensures (Some e) w.in-Some.ensures.value in
-          let new = set_writes most es (c.get_mut.follows.lender f).entries c.key_of.result q c.args.self.now c.self.view_is c.key_of.ensures f (c.get_mut.follows.holds f).0 in
+          let found = found_at most es [] q c.args.self.now c.self.view_is (Some e) w.in-Some.ensures.value in
+          let new = set_writes most es (c.get_mut.follows.lender f).entries q c.args.self.now c.self.view_is f (c.get_mut.follows.holds f).0 in
           comes_some c.args.table.now.rows c.args.now _ d c.args.self.now _ _ e f w.hear_datagram.result refl (subst (λ (x : Pair). end_at c.args.self.now x ≡ Some e) seen found) (subst (λ (x : Pair). c.match-get_mut.result ≡ answers.At x w.hear_datagram.result) seen w.result-is)
           (rw w.self-inside-is (subst (λ (x : Pair). of_entries most (c.get_mut.follows.lender f).entries ≡ written x c.args.self.now f) seen new))
           (record {

@@ -2,4 +2,4 @@ use Rattle.stack_timers.proofs.TimingLaws.{drop_drops}
 use Rattle.stack_timers.proofs.watches.Watches.remove.Goals as goal
 
 pub returns : goal.returns
-returns c = drop_drops c.self.inside.items.entries c.remove-watch.new.self.entries c.key_of.result c.args.pair.now c.args.self.now c.self.view_is c.key_of.ensures c.remove-watch.ensures.updates.0
+returns c = drop_drops c.self.inside.items.entries c.remove-watch.new.self.entries c.args.pair.now c.args.self.now c.self.view_is c.remove-watch.ensures.updates.0
