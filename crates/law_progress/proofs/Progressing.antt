@@ -13,7 +13,8 @@ use Rattle.law_link.proofs.Tests.{by_bool}
 use Rattle.std.proofs.lemmas.Bool.Decides.{nat_tests}
 use Rattle.book_endpoint.specs.States.{EndState, first, ready, ready_count, ready_at, take_out, given_end, passed_fin, at_end}
 use Rattle.book_link.specs.declared.event.Event.{Event}
-use Rattle.book_link.specs.declared.event.Event.TheVariants.{Take}
+use Rattle.book_link.specs.declared.event.Event.TheVariants.{At}
+use Rattle.book_link.specs.declared.event.Action.TheVariants.{Take}
 use Rattle.book_link.specs.Worlds.{other, Setup, Session, World, side, live, partner_among, forgeries}
 use Rattle.book_link.specs.Steps.{step}
 use Rattle.book_link.specs.Runs.{run_from, run}
@@ -402,8 +403,8 @@ catch_up setup fits n w lead lag up done low =
     let a0 = up.session A in
     let b0 = up.session B in
     let v = after setup w (round_trips n) in
-    let v1 = (step setup v (Take A 65535)).world in
-    let v2 = (step setup v1 (Take B 65535)).world in
+    let v1 = (step setup v (At A (Take 65535))).world in
+    let v2 = (step setup v1 (At B (Take 65535))).world in
     let is : run_from setup w (exchange setup w (round_trips n) ++ takings) ≡ v2 = run_append setup w (exchange setup w (round_trips n)) takings in
     subst (λ (k : World). CaughtUp setup w k lead lag up) (sym is)
     (⊎_elim
