@@ -9,6 +9,7 @@ use Rattle.book_bgp.specs.declared.bgp_fault.BgpFault.TheVariants as fault
 use Rattle.book_bgp.specs.Messages.{Message, message_length, messages, fault_in, place_of}
 use Rattle.book_link.specs.declared.event.Event.{Event}
 use Rattle.book_link.specs.declared.event.Event.TheVariants as event
+use Rattle.book_link.specs.declared.event.Action.TheVariants as action
 use Rattle.book_link.specs.Reports.{summary}
 use Rattle.book_link.specs.Worlds.{Setup, Session, World, side, live}
 use Rattle.book_link.specs.Steps.{step}
@@ -64,7 +65,7 @@ place_at w e n = record { number = n; end = e; session = length (side w e).sessi
 
 -- the lines of an event, between the worlds before and after it; only a take has any (own)
 abbrev pub event_lines : ℕ → Event → (before after : World) → List ℕ
-event_lines n (event.Take e count) before after =
+event_lines n (event.At e (action.Take count)) before after =
     taken_lines (place_at before e n) (taken_by (live (side before e).sessions))
     (taken_by (live (side after e).sessions))
 event_lines n _ before after = []

@@ -2,7 +2,6 @@
 use Rattle.std.specs.Prelude.{ℕ, nat_le, nat_lt, Bool, true, false, List, codes, Option, Some, None}
 use Rattle.std.specs.Prelude.{Result, Ok, Err, if◌then◌else◌}
 use Rattle.std.specs.Str.{bytes_eq}
-use Rattle.book_base.specs.declared.end.End.{End}
 use Rattle.book_lines.specs.declared.line_kind.LineKind.{LineKind}
 use Rattle.book_lines.specs.declared.line_kind.LineKind.TheVariants.{Word, Range}
 use Rattle.book_keys.specs.Lifetimes.{greatest_time}
@@ -13,7 +12,9 @@ use Rattle.book_lines.specs.Words.{algorithm_in, number_in, sized_hex_in, some_h
 use Rattle.book_base.specs.Results.{◌>>=◌}
 use Rattle.book_pcap.specs.Packets.{longest_datagram}
 use Rattle.book_link.specs.declared.event.Event.{Event}
+use Rattle.book_link.specs.declared.event.Action.{Action}
 use Rattle.book_link.specs.declared.event.Event.TheVariants as event
+use Rattle.book_link.specs.declared.event.Action.TheVariants as action
 
 -- the greatest initial sequence number (RFC 9293, section 3.4.1)
 abbrev pub greatest_isn : ℕ
@@ -32,21 +33,21 @@ abbrev pub furthest_place : ℕ
 furthest_place = 65535
 
 -- an event of an end alone: `send END`, `resend END`, `close END`, `abort END` (own)
-abbrev pub event_of_end : (End → Event) → List (List ℕ) → Result Event LineKind
+abbrev pub event_of_end : Action → List (List ℕ) → Result Event LineKind
 event_of_end made ws = do
   e ← end_in ws
   none ← nothing_in e.rest
-  Ok (made e.value)
+  Ok (event.At e.value made)
 
 -- an event of an end and a number from low to high: `clock END SECONDS`, `open END ISN`, `listen
 -- END ISN`, `deliver END N`, `take END COUNT`, `withdraw END ROW` (own)
 abbrev pub event_of_number :
-    (End → ℕ → Event) → (low high : ℕ) → List (List ℕ) → Result Event LineKind
+    (ℕ → Action) → (low high : ℕ) → List (List ℕ) → Result Event LineKind
 event_of_number made low high ws = do
   e ← end_in ws
   n ← number_in low high e.rest
   none ← nothing_in n.rest
-  Ok (made e.value n.value)
+  Ok (event.At e.value (made n.value))
 
 -- the event `start END ISN PEERISN` (own)
 unfoldable pub start_of : List (List ℕ) → Result Event LineKind
@@ -55,7 +56,7 @@ start_of ws = do
   own ← number_in 0 greatest_isn e.rest
   peer ← number_in 0 greatest_isn own.rest
   none ← nothing_in peer.rest
-  Ok (event.Start e.value own.value peer.value)
+  Ok (event.At e.value (action.Start own.value peer.value))
 
 -- the event `give END HEX`, of at least one byte (own)
 unfoldable pub give_of : List (List ℕ) → Result Event LineKind
@@ -63,7 +64,7 @@ give_of ws = do
   e ← end_in ws
   bytes ← some_hex_in e.rest
   none ← nothing_in bytes.rest
-  Ok (event.Give e.value bytes.value)
+  Ok (event.At e.value (action.Give bytes.value))
 
 -- the event `fill END COUNT BYTE` (own)
 unfoldable pub fill_of : List (List ℕ) → Result Event LineKind
@@ -72,7 +73,7 @@ fill_of ws = do
   count ← number_in 0 most_at_once e.rest
   byte ← byte_in count.rest
   none ← nothing_in byte.rest
-  Ok (event.Fill e.value count.value byte.value)
+  Ok (event.At e.value (action.Fill count.value byte.value))
 
 -- the event `inject END HEX`, of at least one byte and at most the longest datagram (own)
 unfoldable pub inject_of : List (List ℕ) → Result Event LineKind
@@ -80,7 +81,7 @@ inject_of ws = do
   e ← end_in ws
   bytes ← sized_hex_in 1 longest_datagram e.rest
   none ← nothing_in bytes.rest
-  Ok (event.Inject e.value bytes.value)
+  Ok (event.At e.value (action.Inject bytes.value))
 
 -- the event `alter END N PLACE MASK keep` or `fix` (own)
 unfoldable pub alter_of : List (List ℕ) → Result Event LineKind
@@ -91,7 +92,7 @@ alter_of ws = do
   mask ← byte_in place.rest
   fixing ← choice_in (codes "keep") (codes "fix") mask.rest
   none ← nothing_in fixing.rest
-  Ok (event.Alter e.value segment.value place.value mask.value fixing.value)
+  Ok (event.At e.value (action.Alter segment.value place.value mask.value fixing.value))
 
 -- whether a row receives, and whether it sends (RFC 7210, section 2)
 pub record Ways : Type 0 where
@@ -123,7 +124,7 @@ add_of ws = do
   accept_first ← number_in 0 greatest_time send_last.rest
   accept_last ← number_in accept_first.value greatest_time accept_first.rest
   none ← nothing_in accept_last.rest
-  Ok (event.AddRow e.value (record {
+  Ok (event.At e.value (action.AddRow (record {
     recv_id = recv_id.value;
     send_id = send_id.value;
     algorithm = algorithm.value;
@@ -135,7 +136,7 @@ add_of ws = do
     send_last = send_last.value;
     accept_first = accept_first.value;
     accept_last = accept_last.value;
-  }))
+  })))
 
 -- the event `dump N` (own)
 unfoldable pub dump_of : List (List ℕ) → Result Event LineKind
@@ -147,22 +148,22 @@ dump_of ws = do
 -- the event that the first word of a line names, of the words after it (own)
 unfoldable pub event_named : List ℕ → List (List ℕ) → Result Event LineKind
 event_named name ws =
-    if bytes_eq name (codes "clock") then event_of_number event.Clock 0 greatest_time ws
-    else if bytes_eq name (codes "open") then event_of_number event.Connect 0 greatest_isn ws
-    else if bytes_eq name (codes "listen") then event_of_number event.Listen 0 greatest_isn ws
+    if bytes_eq name (codes "clock") then event_of_number action.Clock 0 greatest_time ws
+    else if bytes_eq name (codes "open") then event_of_number action.Connect 0 greatest_isn ws
+    else if bytes_eq name (codes "listen") then event_of_number action.Listen 0 greatest_isn ws
     else if bytes_eq name (codes "start") then start_of ws
     else if bytes_eq name (codes "give") then give_of ws
     else if bytes_eq name (codes "fill") then fill_of ws
-    else if bytes_eq name (codes "send") then event_of_end event.Send ws
-    else if bytes_eq name (codes "resend") then event_of_end event.Resend ws
-    else if bytes_eq name (codes "deliver") then event_of_number event.Deliver 1 most_segments ws
+    else if bytes_eq name (codes "send") then event_of_end action.Send ws
+    else if bytes_eq name (codes "resend") then event_of_end action.Resend ws
+    else if bytes_eq name (codes "deliver") then event_of_number action.Deliver 1 most_segments ws
     else if bytes_eq name (codes "inject") then inject_of ws
     else if bytes_eq name (codes "alter") then alter_of ws
-    else if bytes_eq name (codes "take") then event_of_number event.Take 0 most_at_once ws
-    else if bytes_eq name (codes "close") then event_of_end event.Close ws
-    else if bytes_eq name (codes "abort") then event_of_end event.Abort ws
+    else if bytes_eq name (codes "take") then event_of_number action.Take 0 most_at_once ws
+    else if bytes_eq name (codes "close") then event_of_end action.Close ws
+    else if bytes_eq name (codes "abort") then event_of_end action.Abort ws
     else if bytes_eq name (codes "add") then add_of ws
-    else if bytes_eq name (codes "withdraw") then event_of_number event.Withdraw 1 row_limit ws
+    else if bytes_eq name (codes "withdraw") then event_of_number action.Withdraw 1 row_limit ws
     else if bytes_eq name (codes "dump") then dump_of ws
     else Err Word
 

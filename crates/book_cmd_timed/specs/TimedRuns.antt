@@ -18,6 +18,7 @@ use Rattle.book_timers.specs.declared.timer.Timer.{Timer}
 use Rattle.book_timers.specs.Timers.{new_timer, sampled, expired}
 use Rattle.book_link.specs.declared.event.Event.{Event}
 use Rattle.book_link.specs.declared.event.Event.TheVariants as event
+use Rattle.book_link.specs.declared.event.Action.TheVariants as action
 use Rattle.book_link.specs.Outcomes.{Outcome, Done, Sent}
 use Rattle.book_link.specs.SendFronts.{SendFront, front_at}
 use Rattle.book_link.specs.Worlds.{Setup, World, side}
@@ -102,14 +103,14 @@ watch_by reading again (Some old) (Some new) w =
 
 -- an event begins a session (own)
 abbrev pub is_begin : Event → Bool
-is_begin (event.Connect e isn) = true
-is_begin (event.Listen e isn) = true
-is_begin (event.Start e isn peer) = true
+is_begin (event.At e (action.Connect isn)) = true
+is_begin (event.At e (action.Listen isn)) = true
+is_begin (event.At e (action.Start isn peer)) = true
 is_begin _ = false
 
 -- an event sends again (own)
 abbrev pub is_again : Event → Bool
-is_again (event.Resend e) = true
+is_again (event.At e action.Resend) = true
 is_again _ = false
 
 -- an outcome is of an event that did something (own)
@@ -134,22 +135,7 @@ watch_after before event e after w =
 
 -- the end of an event; `dump` has none (own)
 abbrev pub end_of_event : Event → Option End
-end_of_event (event.Clock e seconds) = Some e
-end_of_event (event.Connect e isn) = Some e
-end_of_event (event.Listen e isn) = Some e
-end_of_event (event.Start e isn peer) = Some e
-end_of_event (event.Give e bytes) = Some e
-end_of_event (event.Fill e count byte) = Some e
-end_of_event (event.Send e) = Some e
-end_of_event (event.Resend e) = Some e
-end_of_event (event.Deliver e n) = Some e
-end_of_event (event.Inject e bytes) = Some e
-end_of_event (event.Alter e n place mask fix) = Some e
-end_of_event (event.Take e count) = Some e
-end_of_event (event.Close e) = Some e
-end_of_event (event.Abort e) = Some e
-end_of_event (event.AddRow e row) = Some e
-end_of_event (event.Withdraw e n) = Some e
+end_of_event (event.At e what) = Some e
 end_of_event (event.Dump n) = None
 
 -- a step of the link, and what it does to the timer of the event's end (own)
@@ -178,8 +164,9 @@ reading_at p e = (side p.world e).clock
 -- the event that sets the end's clock to this reading, unless it has it (own)
 abbrev pub until : Setup → End → ℕ → Progress → Expanded
 until setup e to p =
+    let setting = event.At e (action.Clock to) in
     if reading_at p e == to then record { events = []; progress = p }
-    else record { events = event.Clock e to ∷ []; progress = plain setup p (event.Clock e to) }
+    else record { events = setting ∷ []; progress = plain setup p setting }
 
 -- when the timer of an end expires next, at least one second after the reading (RFC 6298, section
 -- 5, and own)
@@ -200,12 +187,13 @@ after_expiry e p =
 -- the two events of an expiry: the clock goes to it, and the end sends again (RFC 6298, section
 -- 5.4)
 abbrev pub expiry : End → ℕ → List Event
-expiry e d = event.Clock e d ∷ event.Resend e ∷ []
+expiry e d = event.At e (action.Clock d) ∷ event.At e action.Resend ∷ []
 
 -- an expiry at this reading, and what follows it (RFC 6298, sections 5.4 to 5.6)
 abbrev pub expired_then : Setup → End → Progress → (Progress → Expanded) → ℕ → Expanded
 expired_then setup e p others d =
-    let sent_again = plain setup (plain setup p (event.Clock e d)) (event.Resend e) in
+    let set = plain setup p (event.At e (action.Clock d)) in
+    let sent_again = plain setup set (event.At e action.Resend) in
     before (expiry e d) (others (after_expiry e sent_again))
 
 -- what happens up to a reading: the expiry, where one is due by then, or else the rest (own)

@@ -12,6 +12,7 @@ use Rattle.book_endpoint.specs.Arrivals.{Arrived, arrive}
 use Rattle.book_endpoint.specs.Emissions.{Emission, Emitted, Quiet, NoKey, Emits, emit, resend}
 use Rattle.book_link.specs.declared.event.Event.{Event}
 use Rattle.book_link.specs.declared.event.Event.TheVariants as event
+use Rattle.book_link.specs.declared.event.Action.TheVariants as action
 use Rattle.book_link.specs.Alterations.{has_place, altered}
 use Rattle.book_link.specs.Outcomes as outcome
 use Rattle.book_link.specs.RowLines.{added_row}
@@ -148,29 +149,29 @@ module _ (w : World) where
   changed setup e d what place mask fix None = stays (λ o. Some (coming_rung e d what o)) (alter setup w e (record { place = place; mask = mask; fix = fix }) None) refl refl
   changed setup e d what place mask fix (Some m) = placed setup e d what (altered m.bytes (record { place = place; mask = mask; fix = fix })) (has_place m.bytes place)
 
-  clock_set : (e : End) (n : ℕ) (setup : Setup) → (step setup w (event.Clock e n)).world.history ≡ w.history
+  clock_set : (e : End) (n : ℕ) (setup : Setup) → (step setup w (event.At e (action.Clock n))).world.history ≡ w.history
   clock_set A n setup = refl
   clock_set B n setup = refl
 
   -- what each event leaves
   each : (setup : Setup) (x : Event) → Leaves_by (rung_of x) (step setup w x)
-  each setup (event.Clock e n) = stays (rung_of (event.Clock e n)) (step setup w (event.Clock e n)) (clock_set e n setup) refl
-  each setup (event.Connect e isn) = calls e deed.Connect (step setup w (event.Connect e isn)) (begun e _ (find (side w e).sessions isn))
-  each setup (event.Listen e isn) = calls e deed.Listen (step setup w (event.Listen e isn)) (begun e _ (find (side w e).sessions isn))
-  each setup (event.Start e isn peer) = calls e deed.Start (step setup w (event.Start e isn peer)) (begun e _ (find (side w e).sessions isn))
-  each setup (event.Give e bytes) = calls e (deed.Give (length bytes)) (step setup w (event.Give e bytes)) (quiet e (side w e).sessions (given bytes) (λ s. piece (not (gives s)) (nat_lt (room s) (length bytes)) s (give bytes s)))
-  each setup (event.Fill e count byte) = calls e (deed.Give count) (step setup w (event.Fill e count byte))
+  each setup (event.At e (action.Clock n)) = stays (rung_of (event.At e (action.Clock n))) (step setup w (event.At e (action.Clock n))) (clock_set e n setup) refl
+  each setup (event.At e (action.Connect isn)) = calls e deed.Connect (step setup w (event.At e (action.Connect isn))) (begun e _ (find (side w e).sessions isn))
+  each setup (event.At e (action.Listen isn)) = calls e deed.Listen (step setup w (event.At e (action.Listen isn))) (begun e _ (find (side w e).sessions isn))
+  each setup (event.At e (action.Start isn peer)) = calls e deed.Start (step setup w (event.At e (action.Start isn peer))) (begun e _ (find (side w e).sessions isn))
+  each setup (event.At e (action.Give bytes)) = calls e (deed.Give (length bytes)) (step setup w (event.At e (action.Give bytes))) (quiet e (side w e).sessions (given bytes) (λ s. piece (not (gives s)) (nat_lt (room s) (length bytes)) s (give bytes s)))
+  each setup (event.At e (action.Fill count byte)) = calls e (deed.Give count) (step setup w (event.At e (action.Fill count byte)))
       (quiet e (side w e).sessions (given (replicate count byte)) (λ s. piece (not (gives s)) (nat_lt (room s) (length (replicate count byte))) s (give (replicate count byte) s)))
-  each setup (event.Send e) = acts e (side w e).sessions (send (view_of setup w e)) (rung_of (event.Send e)) refl (λ s. made setup e _ false s outcome.Idle _ refl)
-  each setup (event.Resend e) = acts e (side w e).sessions (send_again (view_of setup w e)) (rung_of (event.Resend e)) refl (λ s. made setup e _ true s outcome.Nothing _ refl)
-  each setup (event.Deliver e n) = delivered setup e _ _ (segment_named n w.history)
-  each setup (event.Inject e bytes) = reached setup e _ _ bytes
-  each setup (event.Alter e n place mask fix) = changed setup e _ _ place mask fix (segment_named n w.history)
-  each setup (event.Take e count) = calls e deed.Take (step setup w (event.Take e count)) (quiet e (side w e).sessions (took count) (λ s. refl))
-  each setup (event.Close e) = calls e deed.Close (step setup w (event.Close e)) (quiet e (side w e).sessions (λ s. quietly (close s) outcome.Done) (λ s. refl))
-  each setup (event.Abort e) = calls e deed.Abort (step setup w (event.Abort e)) (quiet e (side w e).sessions (λ s. quietly (abort s) outcome.Done) (λ s. refl))
-  each setup (event.AddRow e row) = calls e deed.Add (step setup w (event.AddRow e row)) (row_added e (adding (side w e).rows (added_row row)))
-  each setup (event.Withdraw e n) = calls e (deed.Withdraw n) (step setup w (event.Withdraw e n)) (row_withdrawn e (withdrawn (side w e).rows n))
+  each setup (event.At e action.Send) = acts e (side w e).sessions (send (view_of setup w e)) (rung_of (event.At e action.Send)) refl (λ s. made setup e _ false s outcome.Idle _ refl)
+  each setup (event.At e action.Resend) = acts e (side w e).sessions (send_again (view_of setup w e)) (rung_of (event.At e action.Resend)) refl (λ s. made setup e _ true s outcome.Nothing _ refl)
+  each setup (event.At e (action.Deliver n)) = delivered setup e _ _ (segment_named n w.history)
+  each setup (event.At e (action.Inject bytes)) = reached setup e _ _ bytes
+  each setup (event.At e (action.Alter n place mask fix)) = changed setup e _ _ place mask fix (segment_named n w.history)
+  each setup (event.At e (action.Take count)) = calls e deed.Take (step setup w (event.At e (action.Take count))) (quiet e (side w e).sessions (took count) (λ s. refl))
+  each setup (event.At e action.Close) = calls e deed.Close (step setup w (event.At e action.Close)) (quiet e (side w e).sessions (λ s. quietly (close s) outcome.Done) (λ s. refl))
+  each setup (event.At e action.Abort) = calls e deed.Abort (step setup w (event.At e action.Abort)) (quiet e (side w e).sessions (λ s. quietly (abort s) outcome.Done) (λ s. refl))
+  each setup (event.At e (action.AddRow row)) = calls e deed.Add (step setup w (event.At e (action.AddRow row))) (row_added e (adding (side w e).rows (added_row row)))
+  each setup (event.At e (action.Withdraw n)) = calls e (deed.Withdraw n) (step setup w (event.At e (action.Withdraw n))) (row_withdrawn e (withdrawn (side w e).rows n))
   each setup (event.Dump n) = stays (rung_of (event.Dump n)) (step setup w (event.Dump n)) refl refl
 
   one : (setup : Setup) (x : Event) → happened (step setup w x).world.history ≡ happened w.history ++ arrows (rungs_at setup w x)

@@ -7,7 +7,9 @@ use Rattle.book_base.specs.declared.end.End.TheVariants.{A, B}
 use Rattle.book_endpoint.specs.declared.phase.Phase.{Phase}
 use Rattle.book_endpoint.specs.declared.phase.Phase.TheVariants as phase
 use Rattle.book_link.specs.declared.event.Event.{Event}
+use Rattle.book_link.specs.declared.event.Action.{Action}
 use Rattle.book_link.specs.declared.event.Event.TheVariants as event
+use Rattle.book_link.specs.declared.event.Action.TheVariants as action
 use Rattle.book_link.specs.Outcomes as outcome
 use Rattle.book_link.specs.Runs.{empty}
 use Rattle.book_link.specs.Steps.{step}
@@ -66,25 +68,28 @@ abbrev pub coming_rung : End → Deed → Brought → outcome.Outcome → Rung
 coming_rung e d what (outcome.Answered answer) = Came e what answer
 coming_rung e d what o = Call e d (reply_of o)
 
+-- the rung of an action at an end with this outcome (own)
+abbrev pub rung_at : End → Action → outcome.Outcome → Rung
+rung_at e (action.Clock seconds) o = Clock e seconds
+rung_at e (action.Connect isn) o = Call e deed.Connect (reply_of o)
+rung_at e (action.Listen isn) o = Call e deed.Listen (reply_of o)
+rung_at e (action.Start isn peer) o = Call e deed.Start (reply_of o)
+rung_at e (action.Give piece) o = Call e (deed.Give (length piece)) (reply_of o)
+rung_at e (action.Fill count byte) o = Call e (deed.Give count) (reply_of o)
+rung_at e action.Send o = making_rung e deed.Send false o
+rung_at e action.Resend o = making_rung e deed.Resend true o
+rung_at e (action.Deliver n) o = coming_rung e (deed.Deliver n) (brought.Segment n) o
+rung_at e (action.Inject bytes) o = coming_rung e deed.Inject brought.Injected o
+rung_at e (action.Alter n place mask fix) o = coming_rung e (deed.Alter n) (brought.Altered n) o
+rung_at e (action.Take count) o = Call e deed.Take (reply_of o)
+rung_at e action.Close o = Call e deed.Close (reply_of o)
+rung_at e action.Abort o = Call e deed.Abort (reply_of o)
+rung_at e (action.AddRow row) o = Call e deed.Add (reply_of o)
+rung_at e (action.Withdraw number) o = Call e (deed.Withdraw number) (reply_of o)
+
 -- the rung of an event with this outcome; to show a segment is none (own)
 abbrev pub rung_of : Event → outcome.Outcome → Option Rung
-rung_of (event.Clock e seconds) o = Some (Clock e seconds)
-rung_of (event.Connect e isn) o = Some (Call e deed.Connect (reply_of o))
-rung_of (event.Listen e isn) o = Some (Call e deed.Listen (reply_of o))
-rung_of (event.Start e isn peer) o = Some (Call e deed.Start (reply_of o))
-rung_of (event.Give e piece) o = Some (Call e (deed.Give (length piece)) (reply_of o))
-rung_of (event.Fill e count byte) o = Some (Call e (deed.Give count) (reply_of o))
-rung_of (event.Send e) o = Some (making_rung e deed.Send false o)
-rung_of (event.Resend e) o = Some (making_rung e deed.Resend true o)
-rung_of (event.Deliver e n) o = Some (coming_rung e (deed.Deliver n) (brought.Segment n) o)
-rung_of (event.Inject e bytes) o = Some (coming_rung e deed.Inject brought.Injected o)
-rung_of (event.Alter e n place mask fix) o =
-    Some (coming_rung e (deed.Alter n) (brought.Altered n) o)
-rung_of (event.Take e count) o = Some (Call e deed.Take (reply_of o))
-rung_of (event.Close e) o = Some (Call e deed.Close (reply_of o))
-rung_of (event.Abort e) o = Some (Call e deed.Abort (reply_of o))
-rung_of (event.AddRow e row) o = Some (Call e deed.Add (reply_of o))
-rung_of (event.Withdraw e number) o = Some (Call e (deed.Withdraw number) (reply_of o))
+rung_of (event.At e what) o = Some (rung_at e what o)
 rung_of (event.Dump n) o = None
 
 -- the place of a phase among the eleven (RFC 9293, section 3.3.2)

@@ -7,7 +7,8 @@ use Rattle.book_cmd_link.specs.declared.script.Script.{Script}
 use Rattle.book_lines.specs.Lines.{says_something}
 use Rattle.book_lines.specs.Texts.{end_text}
 use Rattle.book_link.specs.declared.event.Event.{Event}
-use Rattle.book_link.specs.declared.event.Event.TheVariants.{Clock}
+use Rattle.book_link.specs.declared.event.Event.TheVariants.{At}
+use Rattle.book_link.specs.declared.event.Action.TheVariants.{Clock}
 use Rattle.book_scope_texts.specs.Instants.{instant_text}
 
 -- a part of a report, and what is echoed in front of it (own)
@@ -46,7 +47,7 @@ event_echo n line = decimal n ++ (codes "  " ++ (line ++ codes "  ->  "))
 -- what is echoed of an event that sets a clock: the time that it shows (RFC 3339, section 5.6, and
 -- own)
 unfoldable pub clock_echo : Event → List ℕ
-clock_echo (Clock end seconds) =
+clock_echo (At end (Clock seconds)) =
     codes "   the clock of " ++ (end_text end ++ (codes " is "
     ++ (instant_text seconds ++ 10 ∷ [])))
 clock_echo e = []

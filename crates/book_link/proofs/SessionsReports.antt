@@ -19,15 +19,16 @@ use Rattle.book_endpoint.specs.Verdicts.{judge}
 use Rattle.book_endpoint.specs.States.{ready}
 use Rattle.book_endpoint.specs.Arrivals.{arrive}
 use Rattle.book_endpoint.specs.Emissions.{due_next, due_again, emit, resend}
-use Rattle.book_link.specs.declared.event.Event.TheVariants.{Clock, Connect, Listen, Start, Give, Fill, Send, Resend, Deliver, Inject, Alter, Take, Close, Abort, Dump}
+use Rattle.book_link.specs.declared.event.Event.TheVariants.{At, Dump}
+use Rattle.book_link.specs.declared.event.Action.TheVariants.{Clock, Connect, Listen, Start, Give, Fill, Send, Resend, Deliver, Inject, Alter, Take, Close, Abort}
 use Rattle.book_link.specs.Alterations.{altered}
 use Rattle.book_link.specs.Reports.{summary, report}
 use Rattle.book_link.proofs.Links.{shared_link, one_key, two_keys, lines}
 
 -- a handshake with a server whose initial sequence number is 0
 pub server_isn_zero : report shared_link
-    (Connect A 1000 ∷ Listen B 0 ∷ Send A ∷ Deliver B 1 ∷ Send B ∷ Deliver A 2 ∷ Send A ∷ Deliver B 3 ∷ Give A (65 ∷ []) ∷ Send A ∷ Deliver B 4 ∷
-    Take B 10 ∷ Deliver B 1 ∷ [])
+    (At A (Connect 1000) ∷ At B (Listen 0) ∷ At A Send ∷ At B (Deliver 1) ∷ At B Send ∷ At A (Deliver 2) ∷ At A Send ∷ At B (Deliver 3) ∷ At A (Give (65 ∷ [])) ∷ At A Send ∷ At B (Deliver 4) ∷
+    At B (Take 10) ∷ At B (Deliver 1) ∷ [])
     ≡ lines (
     codes "1 ok" ∷ codes "2 ok" ∷ codes "3 sent 1 S seq 1000 ack - len 0 key 0 next 0" ∷ codes "4 taken" ∷
     codes "5 sent 2 SA seq 0 ack 1001 len 0 key 0 next 0" ∷ codes "6 taken" ∷ codes "7 sent 3 A seq 1001 ack 1 len 0 key 0 next 0" ∷ codes "8 taken" ∷
@@ -39,7 +40,7 @@ server_isn_zero = refl
 
 -- a segment of an older session is refused
 pub older_sessions_segment : report shared_link
-    (Start A 100 200 ∷ Start B 200 100 ∷ Give A (65 ∷ []) ∷ Send A ∷ Start A 101 201 ∷ Start B 201 101 ∷ Deliver B 1 ∷ [])
+    (At A (Start 100 200) ∷ At B (Start 200 100) ∷ At A (Give (65 ∷ [])) ∷ At A Send ∷ At A (Start 101 201) ∷ At B (Start 201 101) ∷ At B (Deliver 1) ∷ [])
     ≡ lines (
     codes "1 ok" ∷ codes "2 ok" ∷ codes "3 ok" ∷ codes "4 sent 1 AP seq 101 ack 201 len 1 key 0 next 0" ∷ codes "5 ok" ∷ codes "6 ok" ∷
     codes "7 refused bad-mac" ∷ codes "session a 1 isn 100 peer 200 dropped given 1 delivered 0 open" ∷
@@ -50,7 +51,7 @@ older_sessions_segment = refl
 
 -- an initial sequence number is used once
 pub isn_used_twice : report shared_link
-    (Start A 100 200 ∷ Start B 200 100 ∷ Connect A 100 ∷ [])
+    (At A (Start 100 200) ∷ At B (Start 200 100) ∷ At A (Connect 100) ∷ [])
     ≡ lines (
     codes "1 ok" ∷ codes "2 ok" ∷ codes "3 isn-used" ∷ codes "session a 1 isn 100 peer 200 established given 0 delivered 0 open" ∷
     codes "session b 1 isn 200 peer 100 established given 0 delivered 0 open" ∷ codes "segments 0 forgeries 0" ∷ [])
@@ -59,8 +60,8 @@ isn_used_twice = refl
 
 -- an abort, its reset, and what is sent again before
 pub abort_and_reset : report shared_link
-    (Start A 100 200 ∷ Start B 200 100 ∷ Resend A ∷ Give A (65 ∷ []) ∷ Send A ∷ Resend A ∷ Deliver B 2 ∷ Deliver B 1 ∷ Send B ∷ Deliver A 3 ∷ Resend A ∷
-    Abort B ∷ Send B ∷ Deliver A 4 ∷ Give A (65 ∷ []) ∷ Close B ∷ [])
+    (At A (Start 100 200) ∷ At B (Start 200 100) ∷ At A Resend ∷ At A (Give (65 ∷ [])) ∷ At A Send ∷ At A Resend ∷ At B (Deliver 2) ∷ At B (Deliver 1) ∷ At B Send ∷ At A (Deliver 3) ∷ At A Resend ∷
+    At B Abort ∷ At B Send ∷ At A (Deliver 4) ∷ At A (Give (65 ∷ [])) ∷ At B Close ∷ [])
     ≡ lines (
     codes "1 ok" ∷ codes "2 ok" ∷ codes "3 nothing" ∷ codes "4 ok" ∷ codes "5 sent 1 AP seq 101 ack 201 len 1 key 0 next 0" ∷
     codes "6 sent 2 AP seq 101 ack 201 len 1 key 0 next 0" ∷ codes "7 taken" ∷ codes "8 window" ∷ codes "9 sent 3 A seq 201 ack 102 len 0 key 0 next 0" ∷
@@ -72,8 +73,8 @@ abort_and_reset = refl
 
 -- both FINs, and TIME-WAIT at its deadline
 pub both_fins_and_time_wait : report shared_link
-    (Start A 100 200 ∷ Start B 200 100 ∷ Close B ∷ Send B ∷ Deliver A 1 ∷ Send A ∷ Deliver B 2 ∷ Close A ∷ Send A ∷ Deliver B 3 ∷ Send B ∷ Deliver A 4 ∷
-    Clock B 240 ∷ Take A 5 ∷ [])
+    (At A (Start 100 200) ∷ At B (Start 200 100) ∷ At B Close ∷ At B Send ∷ At A (Deliver 1) ∷ At A Send ∷ At B (Deliver 2) ∷ At A Close ∷ At A Send ∷ At B (Deliver 3) ∷ At B Send ∷ At A (Deliver 4) ∷
+    At B (Clock 240) ∷ At A (Take 5) ∷ [])
     ≡ lines (
     codes "1 ok" ∷ codes "2 ok" ∷ codes "3 ok" ∷ codes "4 sent 1 AF seq 201 ack 101 len 0 key 0 next 0" ∷ codes "5 taken" ∷
     codes "6 sent 2 A seq 101 ack 202 len 0 key 0 next 0" ∷ codes "7 taken" ∷ codes "8 ok" ∷ codes "9 sent 3 AF seq 101 ack 202 len 0 key 0 next 0" ∷

@@ -19,14 +19,15 @@ use Rattle.book_endpoint.specs.Verdicts.{judge}
 use Rattle.book_endpoint.specs.States.{ready}
 use Rattle.book_endpoint.specs.Arrivals.{arrive}
 use Rattle.book_endpoint.specs.Emissions.{due_next, due_again, emit, resend}
-use Rattle.book_link.specs.declared.event.Event.TheVariants.{Clock, Connect, Listen, Start, Give, Fill, Send, Resend, Deliver, Inject, Alter, Take, Close, Abort, Dump}
+use Rattle.book_link.specs.declared.event.Event.TheVariants.{At, Dump}
+use Rattle.book_link.specs.declared.event.Action.TheVariants.{Clock, Connect, Listen, Start, Give, Fill, Send, Resend, Deliver, Inject, Alter, Take, Close, Abort}
 use Rattle.book_link.specs.Alterations.{altered}
 use Rattle.book_link.specs.Reports.{summary, report}
 use Rattle.book_link.proofs.Links.{shared_link, one_key, two_keys, lines}
 
 -- five bytes are given, sent, delivered and taken
 pub five_bytes_arrive : report shared_link
-    (Start A 100 200 ∷ Start B 200 100 ∷ Give A (104 ∷ 101 ∷ 108 ∷ 108 ∷ 111 ∷ []) ∷ Send A ∷ Deliver B 1 ∷ Take B 100 ∷ [])
+    (At A (Start 100 200) ∷ At B (Start 200 100) ∷ At A (Give (104 ∷ 101 ∷ 108 ∷ 108 ∷ 111 ∷ [])) ∷ At A Send ∷ At B (Deliver 1) ∷ At B (Take 100) ∷ [])
     ≡ lines (
     codes "1 ok" ∷ codes "2 ok" ∷ codes "3 ok" ∷ codes "4 sent 1 AP seq 101 ack 201 len 5 key 0 next 0" ∷ codes "5 taken" ∷ codes "6 took 68656c6c6f" ∷
     codes "session a 1 isn 100 peer 200 established given 5 delivered 0 open" ∷
@@ -36,8 +37,8 @@ five_bytes_arrive = refl
 
 -- a later segment comes first, and an earlier one twice
 pub reordered_and_repeated : report shared_link
-    (Start A 100 200 ∷ Start B 200 100 ∷ Give A (65 ∷ 66 ∷ []) ∷ Send A ∷ Give A (67 ∷ 68 ∷ []) ∷ Send A ∷ Deliver B 2 ∷ Deliver B 1 ∷ Deliver B 1 ∷
-    Take B 10 ∷ [])
+    (At A (Start 100 200) ∷ At B (Start 200 100) ∷ At A (Give (65 ∷ 66 ∷ [])) ∷ At A Send ∷ At A (Give (67 ∷ 68 ∷ [])) ∷ At A Send ∷ At B (Deliver 2) ∷ At B (Deliver 1) ∷ At B (Deliver 1) ∷
+    At B (Take 10) ∷ [])
     ≡ lines (
     codes "1 ok" ∷ codes "2 ok" ∷ codes "3 ok" ∷ codes "4 sent 1 AP seq 101 ack 201 len 2 key 0 next 0" ∷ codes "5 ok" ∷
     codes "6 sent 2 AP seq 103 ack 201 len 2 key 0 next 0" ∷ codes "7 taken" ∷ codes "8 taken" ∷ codes "9 window" ∷ codes "10 took 41424344" ∷
@@ -48,7 +49,7 @@ reordered_and_repeated = refl
 
 -- the sequence field goes round its ring, and the extension rises
 pub sequence_wraps : report shared_link
-    (Start A 4294967295 200 ∷ Start B 200 4294967295 ∷ Give A (0 ∷ 1 ∷ 2 ∷ 3 ∷ 4 ∷ 5 ∷ 6 ∷ 7 ∷ 8 ∷ 9 ∷ []) ∷ Send A ∷ Deliver B 1 ∷ Take B 10 ∷ [])
+    (At A (Start 4294967295 200) ∷ At B (Start 200 4294967295) ∷ At A (Give (0 ∷ 1 ∷ 2 ∷ 3 ∷ 4 ∷ 5 ∷ 6 ∷ 7 ∷ 8 ∷ 9 ∷ [])) ∷ At A Send ∷ At B (Deliver 1) ∷ At B (Take 10) ∷ [])
     ≡ lines (
     codes "1 ok" ∷ codes "2 ok" ∷ codes "3 ok" ∷ codes "4 sent 1 AP seq 4294967296 ack 201 len 10 key 0 next 0" ∷ codes "5 taken" ∷
     codes "6 took 00010203040506070809" ∷ codes "session a 1 isn 4294967295 peer 200 established given 10 delivered 0 open" ∷
@@ -58,7 +59,7 @@ sequence_wraps = refl
 
 -- an older number has the older extension
 pub older_number_after_the_wrap : report shared_link
-    (Start A 4294967294 200 ∷ Start B 200 4294967294 ∷ Give A (65 ∷ []) ∷ Send A ∷ Give A (66 ∷ []) ∷ Send A ∷ Deliver B 1 ∷ Deliver B 2 ∷ Deliver B 1 ∷ [])
+    (At A (Start 4294967294 200) ∷ At B (Start 200 4294967294) ∷ At A (Give (65 ∷ [])) ∷ At A Send ∷ At A (Give (66 ∷ [])) ∷ At A Send ∷ At B (Deliver 1) ∷ At B (Deliver 2) ∷ At B (Deliver 1) ∷ [])
     ≡ lines (
     codes "1 ok" ∷ codes "2 ok" ∷ codes "3 ok" ∷ codes "4 sent 1 AP seq 4294967295 ack 201 len 1 key 0 next 0" ∷ codes "5 ok" ∷
     codes "6 sent 2 AP seq 4294967296 ack 201 len 1 key 0 next 0" ∷ codes "7 taken" ∷ codes "8 taken" ∷ codes "9 window" ∷
@@ -69,8 +70,8 @@ older_number_after_the_wrap = refl
 
 -- the FIN comes before the data, and the end of the stream after them
 pub fin_before_the_data : report shared_link
-    (Start A 100 200 ∷ Start B 200 100 ∷ Give A (65 ∷ []) ∷ Send A ∷ Close A ∷ Send A ∷ Deliver B 2 ∷ Take B 10 ∷ Deliver B 1 ∷ Take B 10 ∷
-    Give A (66 ∷ []) ∷ [])
+    (At A (Start 100 200) ∷ At B (Start 200 100) ∷ At A (Give (65 ∷ [])) ∷ At A Send ∷ At A Close ∷ At A Send ∷ At B (Deliver 2) ∷ At B (Take 10) ∷ At B (Deliver 1) ∷ At B (Take 10) ∷
+    At A (Give (66 ∷ [])) ∷ [])
     ≡ lines (
     codes "1 ok" ∷ codes "2 ok" ∷ codes "3 ok" ∷ codes "4 sent 1 AP seq 101 ack 201 len 1 key 0 next 0" ∷ codes "5 ok" ∷
     codes "6 sent 2 AF seq 102 ack 201 len 0 key 0 next 0" ∷ codes "7 taken" ∷ codes "8 took -" ∷ codes "9 taken" ∷ codes "10 took 41 end" ∷

@@ -21,14 +21,15 @@ use Rattle.book_endpoint.specs.Verdicts.{judge}
 use Rattle.book_endpoint.specs.States.{ready}
 use Rattle.book_endpoint.specs.Arrivals.{arrive}
 use Rattle.book_endpoint.specs.Emissions.{due_next, due_again, emit, resend}
-use Rattle.book_link.specs.declared.event.Event.TheVariants.{Clock, Connect, Listen, Start, Give, Fill, Send, Resend, Deliver, Inject, Alter, Take, Close, Abort, AddRow, Withdraw, Dump}
+use Rattle.book_link.specs.declared.event.Event.TheVariants.{At, Dump}
+use Rattle.book_link.specs.declared.event.Action.TheVariants.{Clock, Connect, Listen, Start, Give, Fill, Send, Resend, Deliver, Inject, Alter, Take, Close, Abort, AddRow, Withdraw}
 use Rattle.book_link.specs.Alterations.{altered}
 use Rattle.book_link.specs.Reports.{summary, report}
 use Rattle.book_link.proofs.Links.{shared_link, one_key, two_keys, later_row, lines}
 
 -- an altered copy is refused by its MAC or by its checksum
 pub altered_copies : report shared_link
-    (Start A 100 200 ∷ Start B 200 100 ∷ Give A (65 ∷ []) ∷ Send A ∷ Alter B 1 36 1 true ∷ Alter B 1 36 1 false ∷ Alter B 1 37 1 true ∷ Deliver B 2 ∷ [])
+    (At A (Start 100 200) ∷ At B (Start 200 100) ∷ At A (Give (65 ∷ [])) ∷ At A Send ∷ At B (Alter 1 36 1 true) ∷ At B (Alter 1 36 1 false) ∷ At B (Alter 1 37 1 true) ∷ At B (Deliver 2) ∷ [])
     ≡ lines (
     codes "1 ok" ∷ codes "2 ok" ∷ codes "3 ok" ∷ codes "4 sent 1 AP seq 101 ack 201 len 1 key 0 next 0" ∷ codes "5 refused bad-mac" ∷ codes "6 checksum" ∷
     codes "7 no-place" ∷ codes "8 no-segment" ∷ codes "session a 1 isn 100 peer 200 established given 1 delivered 0 open" ∷
@@ -38,7 +39,7 @@ altered_copies = refl
 
 -- a key is accepted in the last second of its lifetime, and not after
 pub last_second_of_a_lifetime : report one_key
-    (Start A 100 200 ∷ Start B 200 100 ∷ Give A (65 ∷ []) ∷ Send A ∷ Give A (66 ∷ []) ∷ Send A ∷ Clock B 3660 ∷ Deliver B 1 ∷ Clock B 3661 ∷ Deliver B 2 ∷
+    (At A (Start 100 200) ∷ At B (Start 200 100) ∷ At A (Give (65 ∷ [])) ∷ At A Send ∷ At A (Give (66 ∷ [])) ∷ At A Send ∷ At B (Clock 3660) ∷ At B (Deliver 1) ∷ At B (Clock 3661) ∷ At B (Deliver 2) ∷
     [])
     ≡ lines (
     codes "1 ok" ∷ codes "2 ok" ∷ codes "3 ok" ∷ codes "4 sent 1 AP seq 101 ack 201 len 1 key 1 next 1" ∷ codes "5 ok" ∷
@@ -50,7 +51,7 @@ last_second_of_a_lifetime = refl
 
 -- no row sends at this time
 pub no_key_to_send : report one_key
-    (Start A 100 200 ∷ Start B 200 100 ∷ Give A (65 ∷ []) ∷ Clock A 3601 ∷ Send A ∷ Clock A 3600 ∷ Send A ∷ [])
+    (At A (Start 100 200) ∷ At B (Start 200 100) ∷ At A (Give (65 ∷ [])) ∷ At A (Clock 3601) ∷ At A Send ∷ At A (Clock 3600) ∷ At A Send ∷ [])
     ≡ lines (
     codes "1 ok" ∷ codes "2 ok" ∷ codes "3 ok" ∷ codes "4 ok" ∷ codes "5 no-key" ∷ codes "6 ok" ∷ codes "7 sent 1 AP seq 101 ack 201 len 1 key 1 next 1" ∷
     codes "session a 1 isn 100 peer 200 established given 1 delivered 0 open" ∷
@@ -60,8 +61,8 @@ no_key_to_send = refl
 
 -- the next key is asked for and followed
 pub rollover_follows : report two_keys
-    (Start A 100 200 ∷ Start B 200 100 ∷ Give A (65 ∷ []) ∷ Send A ∷ Clock A 3600 ∷ Clock B 3600 ∷ Give A (66 ∷ []) ∷ Send A ∷ Deliver B 2 ∷ Send B ∷
-    Deliver A 3 ∷ Give A (67 ∷ []) ∷ Send A ∷ [])
+    (At A (Start 100 200) ∷ At B (Start 200 100) ∷ At A (Give (65 ∷ [])) ∷ At A Send ∷ At A (Clock 3600) ∷ At B (Clock 3600) ∷ At A (Give (66 ∷ [])) ∷ At A Send ∷ At B (Deliver 2) ∷ At B Send ∷
+    At A (Deliver 3) ∷ At A (Give (67 ∷ [])) ∷ At A Send ∷ [])
     ≡ lines (
     codes "1 ok" ∷ codes "2 ok" ∷ codes "3 ok" ∷ codes "4 sent 1 AP seq 101 ack 201 len 1 key 1 next 1" ∷ codes "5 ok" ∷ codes "6 ok" ∷ codes "7 ok" ∷
     codes "8 sent 2 AP seq 102 ack 201 len 1 key 1 next 2" ∷ codes "9 taken" ∷ codes "10 sent 3 A seq 201 ack 101 len 0 key 2 next 2" ∷ codes "11 taken" ∷
@@ -72,8 +73,8 @@ rollover_follows = refl
 
 -- a row that is added takes and sends at once; one that is withdrawn does neither, and keeps its number
 pub rows_added_and_withdrawn : report one_key
-    (Start A 100 200 ∷ Start B 200 100 ∷ AddRow A later_row ∷ AddRow B later_row ∷ AddRow A later_row ∷ Clock A 3601 ∷ Clock B 3601 ∷ Give A (65 ∷ []) ∷ Send A ∷
-    Deliver B 1 ∷ Withdraw B 2 ∷ Give A (66 ∷ []) ∷ Send A ∷ Deliver B 2 ∷ Send B ∷ Withdraw B 3 ∷ [])
+    (At A (Start 100 200) ∷ At B (Start 200 100) ∷ At A (AddRow later_row) ∷ At B (AddRow later_row) ∷ At A (AddRow later_row) ∷ At A (Clock 3601) ∷ At B (Clock 3601) ∷ At A (Give (65 ∷ [])) ∷ At A Send ∷
+    At B (Deliver 1) ∷ At B (Withdraw 2) ∷ At A (Give (66 ∷ [])) ∷ At A Send ∷ At B (Deliver 2) ∷ At B Send ∷ At B (Withdraw 3) ∷ [])
     ≡ lines (
     codes "1 ok" ∷ codes "2 ok" ∷ codes "3 added row 2" ∷ codes "4 added row 2" ∷ codes "5 overlap 2" ∷ codes "6 ok" ∷ codes "7 ok" ∷ codes "8 ok" ∷
     codes "9 sent 1 AP seq 101 ack 201 len 1 key 2 next 2" ∷ codes "10 taken" ∷ codes "11 ok" ∷ codes "12 ok" ∷

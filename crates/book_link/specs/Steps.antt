@@ -13,10 +13,12 @@ use Rattle.book_endpoint.specs.Arrivals.{Arrived, arrive}
 use Rattle.book_endpoint.specs.Emissions.{Emission, Emitted, Quiet, NoKey, Emits, emit, resend}
 use Rattle.book_link.specs.Alterations.{Alteration, has_place, altered}
 use Rattle.book_link.specs.declared.event.Event.{Event}
-use Rattle.book_link.specs.declared.event.Event.TheVariants.{Clock, Connect, Listen, Start, Give}
-use Rattle.book_link.specs.declared.event.Event.TheVariants.{Fill, Send, Resend, Deliver, Inject}
-use Rattle.book_link.specs.declared.event.Event.TheVariants.{Alter, Take, Close, Abort, AddRow}
-use Rattle.book_link.specs.declared.event.Event.TheVariants.{Withdraw, Dump}
+use Rattle.book_link.specs.declared.event.Action.{Action}
+use Rattle.book_link.specs.declared.event.Event.TheVariants.{At, Dump}
+use Rattle.book_link.specs.declared.event.Action.TheVariants.{Clock, Connect, Listen, Start, Give}
+use Rattle.book_link.specs.declared.event.Action.TheVariants.{Fill, Send, Resend, Deliver, Inject}
+use Rattle.book_link.specs.declared.event.Action.TheVariants.{Alter, Take, Close, Abort, AddRow}
+use Rattle.book_link.specs.declared.event.Action.TheVariants.{Withdraw}
 use Rattle.book_link.specs.Outcomes.{Outcome, Done, Sent, Answered, Took, Image, Added, IsnUsed}
 use Rattle.book_link.specs.Outcomes.{NoSession, NoSegment, NoPlace, Full, HasClosed, WithoutKey}
 use Rattle.book_link.specs.Outcomes.{Idle, Nothing, TooManyRows, OverlapWith, NoRow}
@@ -232,24 +234,28 @@ withdraw w e (Some rows) = record {
   outcome = Done;
 }
 
--- the world after an event, and the event's outcome: an action for each kind of event (own)
-abbrev pub step : Setup → World → Event → Stepped
-step setup w (Clock e seconds) = set_clock w e seconds
-step setup w (Connect e isn) = begin_new w e (connected (pair_of setup e) isn)
-step setup w (Listen e isn) = begin_new w e (listening (pair_of setup e) isn)
-step setup w (Start e isn peer) = begin_new w e (started (pair_of setup e) isn peer)
-step setup w (Give e piece) = on_live w e (given piece)
-step setup w (Fill e count byte) = on_live w e (given (replicate count byte))
-step setup w (Send e) = acts setup w e send
-step setup w (Resend e) = acts setup w e send_again
-step setup w (Deliver e name) = deliver setup w e (segment_named name w.history)
-step setup w (Inject e bytes) = acts setup w e (come bytes)
-step setup w (Alter e name place mask fix) =
+-- the world after an action at an end, and the action's outcome (own)
+abbrev pub step_at : Setup → World → End → Action → Stepped
+step_at setup w e (Clock seconds) = set_clock w e seconds
+step_at setup w e (Connect isn) = begin_new w e (connected (pair_of setup e) isn)
+step_at setup w e (Listen isn) = begin_new w e (listening (pair_of setup e) isn)
+step_at setup w e (Start isn peer) = begin_new w e (started (pair_of setup e) isn peer)
+step_at setup w e (Give piece) = on_live w e (given piece)
+step_at setup w e (Fill count byte) = on_live w e (given (replicate count byte))
+step_at setup w e Send = acts setup w e send
+step_at setup w e Resend = acts setup w e send_again
+step_at setup w e (Deliver name) = deliver setup w e (segment_named name w.history)
+step_at setup w e (Inject bytes) = acts setup w e (come bytes)
+step_at setup w e (Alter name place mask fix) =
     let change : Alteration = record { place = place; mask = mask; fix = fix } in
     alter setup w e change (segment_named name w.history)
-step setup w (Take e count) = on_live w e (took count)
-step setup w (Close e) = on_live w e (λ s. quietly (close s) Done)
-step setup w (Abort e) = on_live w e (λ s. quietly (abort s) Done)
-step setup w (AddRow e row) = add_row w e (adding (side w e).rows (added_row row))
-step setup w (Withdraw e number) = withdraw w e (withdrawn (side w e).rows number)
+step_at setup w e (Take count) = on_live w e (took count)
+step_at setup w e Close = on_live w e (λ s. quietly (close s) Done)
+step_at setup w e Abort = on_live w e (λ s. quietly (abort s) Done)
+step_at setup w e (AddRow row) = add_row w e (adding (side w e).rows (added_row row))
+step_at setup w e (Withdraw number) = withdraw w e (withdrawn (side w e).rows number)
+
+-- the world after an event, and the event's outcome (own)
+abbrev pub step : Setup → World → Event → Stepped
+step setup w (At e action) = step_at setup w e action
 step setup w (Dump name) = record { world = w; outcome = image_of (segment_named name w.history) }

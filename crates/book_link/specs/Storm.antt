@@ -7,8 +7,9 @@ use Rattle.book_base.specs.declared.end.End.{End}
 use Rattle.book_base.specs.declared.end.End.TheVariants.{A, B}
 use Rattle.book_keys.specs.Shared.{shared_row}
 use Rattle.book_link.specs.declared.event.Event.{Event}
-use Rattle.book_link.specs.declared.event.Event.TheVariants.{Start, Fill, Send, Resend, Deliver}
-use Rattle.book_link.specs.declared.event.Event.TheVariants.{Take}
+use Rattle.book_link.specs.declared.event.Event.TheVariants.{At}
+use Rattle.book_link.specs.declared.event.Action.TheVariants.{Start, Fill, Send, Resend, Deliver}
+use Rattle.book_link.specs.declared.event.Action.TheVariants.{Take}
 use Rattle.book_link.specs.Worlds.{other, Setup, Made, World, segments, segment_named}
 use Rattle.book_link.specs.Steps.{step}
 use Rattle.book_link.specs.Runs.{empty, run_from}
@@ -39,25 +40,25 @@ drawn_end r = if r % 2 == 0 then A else B
 -- the last segment is delivered to the end that didn't make it; where there is none, the end
 -- sends (own)
 abbrev pub last_delivered : End → Option Made → Event
-last_delivered e None = Send e
-last_delivered e (Some m) = Deliver (other m.maker) m.name
+last_delivered e None = At e Send
+last_delivered e (Some m) = At (other m.maker) (Deliver m.name)
 
 -- one of so many segments is delivered; where there is none, the end sends (own)
 abbrev pub one_delivered : End → (count number : ℕ) → Event
-one_delivered e zero v = Send e
-one_delivered e (suc n) v = Deliver e (1 + v % suc n)
+one_delivered e zero v = At e Send
+one_delivered e (suc n) v = At e (Deliver (1 + v % suc n))
 
 -- the event that a draw makes of a world, by its kind and its number (own)
 abbrev pub event_by : World → End → (kind v : ℕ) → Event
 event_by w e kind v =
-    if kind == 0 then Fill e (v % 1000) (v / 1000 % 256)
-    else if kind == 1 then Send e
-    else if kind == 2 then Send e
+    if kind == 0 then At e (Fill (v % 1000) (v / 1000 % 256))
+    else if kind == 1 then At e Send
+    else if kind == 2 then At e Send
     else if kind == 3 then last_delivered e (segment_named (segments w.history) w.history)
     else if kind == 4 then last_delivered e (segment_named (segments w.history) w.history)
     else if kind == 5 then one_delivered e (segments w.history) v
-    else if kind == 6 then Resend e
-    else Take e (v % 2000)
+    else if kind == 6 then At e Resend
+    else At e (Take (v % 2000))
 
 -- the event that a draw makes of a world: its end, its kind and its number are the draw's lowest
 -- bit, the three bits above it, and the rest (own)
@@ -83,7 +84,7 @@ storm_setup = let row = shared_row HmacSha1 (replicate 20 11) in
 
 -- both ends of a storm begin established, soon before a lap of the sequence numbers (own)
 abbrev pub storm_starts : List Event
-storm_starts = Start A 4294960000 4000000000 ∷ Start B 4000000000 4294960000 ∷ []
+storm_starts = At A (Start 4294960000 4000000000) ∷ At B (Start 4000000000 4294960000) ∷ []
 
 -- the events of the storm from a seed, so many of them drawn (own)
 unfoldable pub storm_events : (seed count : ℕ) → List Event

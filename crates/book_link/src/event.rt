@@ -29,41 +29,48 @@ pub struct RowLine {
 /// What happens at a link. Segments are numbered from 1 in the order in which they are made.
 #[derive(Drop)]
 pub enum Event {
-    /// The clock of the end reads so many seconds since 1970-01-01, at most 253402300799.
-    Clock(End, u64),
-    /// A new session of the end opens actively, with this initial sequence number.
-    Connect(End, u32),
-    /// A new session of the end waits for its peer, with this initial sequence number.
-    Listen(End, u32),
-    /// A new session of the end is established, with its own initial sequence number and its peer's.
-    Start(End, u32, u32),
-    /// The end's user gives it bytes to send, at least one.
-    Give(End, Bytes),
-    /// The end's user gives it so many times the byte.
-    Fill(End, u16, u8),
-    /// The end makes a segment, if it has one to send.
-    Send(End),
-    /// The end makes a segment again that isn't acknowledged, or a probe.
-    Resend(End),
-    /// The segment of this number, from 1 to 20000, arrives at the end.
-    Deliver(End, u32),
-    /// A datagram of 1 to 65575 bytes arrives at the end.
-    Inject(End, Bytes),
-    /// A copy of the segment of this number arrives at the end, with the byte at the place, counted
-    /// from its TCP header, xored with the mask; whether its TCP checksum is set for the copy.
-    Alter(End, u32, u16, u8, bool),
-    /// The end's user takes at most so many bytes.
-    Take(End, u16),
-    /// The end's user has no more bytes to give.
-    Close(End),
-    /// The end's user gives the connection up.
-    Abort(End),
-    /// A row is added behind the last one of the end's table.
-    AddRow(End, RowLine),
-    /// The row of this number, from 1 to 64, of the end's table becomes Disabled.
-    Withdraw(End, u8),
+    /// An action at an end.
+    At(End, Action),
     /// The segment of this number is shown.
     Dump(u32),
+}
+
+/// What happens at an end of a link.
+#[derive(Drop)]
+pub enum Action {
+    /// The clock of the end reads so many seconds since 1970-01-01, at most 253402300799.
+    Clock(u64),
+    /// A new session of the end opens actively, with this initial sequence number.
+    Connect(u32),
+    /// A new session of the end waits for its peer, with this initial sequence number.
+    Listen(u32),
+    /// A new session of the end is established, with its own initial sequence number and its peer's.
+    Start(u32, u32),
+    /// The end's user gives it bytes to send, at least one.
+    Give(Bytes),
+    /// The end's user gives it so many times the byte.
+    Fill(u16, u8),
+    /// The end makes a segment, if it has one to send.
+    Send,
+    /// The end makes a segment again that isn't acknowledged, or a probe.
+    Resend,
+    /// The segment of this number, from 1 to 20000, arrives at the end.
+    Deliver(u32),
+    /// A datagram of 1 to 65575 bytes arrives at the end.
+    Inject(Bytes),
+    /// A copy of the segment of this number arrives at the end, with the byte at the place, counted
+    /// from its TCP header, xored with the mask; whether its TCP checksum is set for the copy.
+    Alter(u32, u16, u8, bool),
+    /// The end's user takes at most so many bytes.
+    Take(u16),
+    /// The end's user has no more bytes to give.
+    Close,
+    /// The end's user gives the connection up.
+    Abort,
+    /// A row is added behind the last one of the end's table.
+    AddRow(RowLine),
+    /// The row of this number, from 1 to 64, of the end's table becomes Disabled.
+    Withdraw(u8),
 }
 
 /// A list of events.

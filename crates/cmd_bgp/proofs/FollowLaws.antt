@@ -8,7 +8,8 @@ use Rattle.book_bgp.proofs.Streams.{behind_none, none_before, fault_of, fault_be
 use Rattle.bgp_messages.specs.Readers.{Reading, StandsFor, greatest_place, new_reading}
 use Rattle.bgp_messages.proofs.Standing.{new_stands}
 use Rattle.book_link.specs.declared.event.Event.{Event}
-use Rattle.book_link.specs.declared.event.Event.TheVariants.{Clock, Connect, Listen, Start, Give, Fill, Send, Resend, Deliver, Inject, Alter, Take, Close, Abort, AddRow, Withdraw, Dump}
+use Rattle.book_link.specs.declared.event.Event.TheVariants.{At, Dump}
+use Rattle.book_link.specs.declared.event.Action.TheVariants.{Clock, Connect, Listen, Start, Give, Fill, Send, Resend, Deliver, Inject, Alter, Take, Close, Abort, AddRow, Withdraw}
 use Rattle.book_link.specs.Outcomes as book
 use Rattle.book_link.specs.Runs.{empty, run_from, run}
 use Rattle.book_link.specs.Steps.{Stepped, step}
@@ -210,14 +211,14 @@ grown w e s o k h = elim k.either [
 
 -- the live session of an end was asked for bytes
 taken : (setup : Setup) (events : List Event) (e : End) (count : ℕ) (o : Outcome) (p : Place) (a b next_a next_b : Reading) (text next_text : List ℕ) (faults next_faults : ℕ)
-    → Follows setup events a b text faults → Shows o (step setup (run setup events) (Take e count)).outcome → place_of p ≡ place_at (run setup events) e (suc (length events))
+    → Follows setup events a b text faults → Shows o (step setup (run setup events) (At e (Take count))).outcome → place_of p ≡ place_at (run setup events) e (suc (length events))
     → IsHeard p (newest (streams (run setup events) e)) (taken_in o) text next_text (reader_at e next_a next_b) faults next_faults
-    → reader_at (other e) next_a next_b ≡ reader_at (other e) a b → Follows setup (events ++ Take e count ∷ []) next_a next_b next_text next_faults
+    → reader_at (other e) next_a next_b ≡ reader_at (other e) a b → Follows setup (events ++ At e (Take count) ∷ []) next_a next_b next_text next_faults
 taken setup events e count o p a b next_a next_b text next_text faults next_faults f h at heard there =
     let w = run setup events in
-    let s = step setup w (Take e count) in
+    let s = step setup w (At e (Take count)) in
     let v = s.world in
-    let k : Takes e w s = changes setup w (Take e count) in
+    let k : Takes e w s = changes setup w (At e (Take count)) in
     let g = grown w e s o k h in
     let old = newest (streams w e) in
     let P : End → Type 0 = λ x. StandsFor (reader_at x next_a next_b) (newest (streams v x)) in
@@ -226,7 +227,7 @@ taken setup events e count o p a b next_a next_b text next_text faults next_faul
     let n = suc (length events) in
     let was : old ≡ taken_by (live (side w e).sessions) = sym (newest_taken (side w e).sessions) in
     let is : old ++ taken_in o ≡ taken_by (live (side v e).sessions) = sym g.delivered ∙ sym (newest_taken (side v e).sessions) in
-    let lines : taken_lines (place_of p) old (old ++ taken_in o) ≡ event_lines n (Take e count) w v =
+    let lines : taken_lines (place_of p) old (old ++ taken_in o) ≡ event_lines n (At e (Take count)) w v =
     ap (λ q. taken_lines q old (old ++ taken_in o)) at ∙ ap (λ l. taken_lines (place_at w e n) l (old ++ taken_in o)) was
     ∙ ap (taken_lines (place_at w e n) (taken_by (live (side w e).sessions))) is in
     let ones = faults_at w e in
@@ -236,7 +237,7 @@ taken setup events e count o p a b next_a next_b text next_text faults next_faul
     let were = f.faults_are in
     let more = heard.faults in
     let same = ap (λ l. is_faulty (fault_in l)) g.delivered in
-    reaches setup events (Take e count) next_a next_b next_text next_faults (record {
+    reaches setup events (At e (Take count)) next_a next_b next_text next_faults (record {
       stands = both P e near far;
       text_is = heard.text ∙ ap (λ l. l ++ taken_lines (place_of p) old (old ++ taken_in o)) f.text_is ∙ ap (λ l. bgp_lines_from setup 1 (empty setup) events ++ l) lines;
       faults_are = omega (arith, ones, twos, counted, others, were, more, same);
@@ -256,17 +257,17 @@ the_taker : (e f : End) → turn.Takes e ≡ turn.Takes f → e ≡ f
 the_taker e f is = cc
 
 begins_by : (e : End) (setup : Setup) (w : World) (event : Event) → turn_of event ≡ turn.Begins e → BeginsBy e setup w event
-begins_by e setup w (Connect f isn) is =
-    let same = the_begun f e is in record { how = subst (λ x. Begins x w (step setup w (Connect f isn))) same (changes setup w (Connect f isn)); none = λ n v. refl }
-begins_by e setup w (Listen f isn) is =
-    let same = the_begun f e is in record { how = subst (λ x. Begins x w (step setup w (Listen f isn))) same (changes setup w (Listen f isn)); none = λ n v. refl }
-begins_by e setup w (Start f isn peer) is =
-    let same = the_begun f e is in record { how = subst (λ x. Begins x w (step setup w (Start f isn peer))) same (changes setup w (Start f isn peer)); none = λ n v. refl }
+begins_by e setup w (At f (Connect isn)) is =
+    let same = the_begun f e is in record { how = subst (λ x. Begins x w (step setup w (At f (Connect isn)))) same (changes setup w (At f (Connect isn))); none = λ n v. refl }
+begins_by e setup w (At f (Listen isn)) is =
+    let same = the_begun f e is in record { how = subst (λ x. Begins x w (step setup w (At f (Listen isn)))) same (changes setup w (At f (Listen isn))); none = λ n v. refl }
+begins_by e setup w (At f (Start isn peer)) is =
+    let same = the_begun f e is in record { how = subst (λ x. Begins x w (step setup w (At f (Start isn peer)))) same (changes setup w (At f (Start isn peer))); none = λ n v. refl }
 begins_by e setup w _ is = absurd (cc)
 
 -- an event by which the live session of this end is asked for bytes
-takes_by : (e : End) (event : Event) → turn_of event ≡ turn.Takes e → (count : ℕ) × (event ≡ Take e count)
-takes_by e (Take f count) is = (count, ap (λ x. Take x count) (the_taker f e is))
+takes_by : (e : End) (event : Event) → turn_of event ≡ turn.Takes e → (count : ℕ) × (event ≡ At e (Take count))
+takes_by e (At f (Take count)) is = (count, ap (λ x. At x (Take count)) (the_taker f e is))
 takes_by e _ is = absurd (cc)
 
 -- another event
@@ -275,22 +276,22 @@ record LeavesBy (setup : Setup) (w : World) (event : Event) : Type 0 where
   none : (n : ℕ) (v : World) → event_lines n event w v ≡ []
 
 leaves_by : (setup : Setup) (w : World) (event : Event) → turn_of event ≡ turn.Neither → LeavesBy setup w event
-leaves_by setup w (Connect f isn) is = absurd (cc)
-leaves_by setup w (Listen f isn) is = absurd (cc)
-leaves_by setup w (Start f isn peer) is = absurd (cc)
-leaves_by setup w (Take f count) is = absurd (cc)
-leaves_by setup w (Clock e seconds) is = record { same = changes setup w (Clock e seconds); none = λ n v. refl }
-leaves_by setup w (Give e piece) is = record { same = changes setup w (Give e piece); none = λ n v. refl }
-leaves_by setup w (Fill e count byte) is = record { same = changes setup w (Fill e count byte); none = λ n v. refl }
-leaves_by setup w (Send e) is = record { same = changes setup w (Send e); none = λ n v. refl }
-leaves_by setup w (Resend e) is = record { same = changes setup w (Resend e); none = λ n v. refl }
-leaves_by setup w (Deliver e name) is = record { same = changes setup w (Deliver e name); none = λ n v. refl }
-leaves_by setup w (Inject e bytes) is = record { same = changes setup w (Inject e bytes); none = λ n v. refl }
-leaves_by setup w (Alter e name place mask fix) is = record { same = changes setup w (Alter e name place mask fix); none = λ n v. refl }
-leaves_by setup w (Close e) is = record { same = changes setup w (Close e); none = λ n v. refl }
-leaves_by setup w (Abort e) is = record { same = changes setup w (Abort e); none = λ n v. refl }
-leaves_by setup w (AddRow e row) is = record { same = changes setup w (AddRow e row); none = λ n v. refl }
-leaves_by setup w (Withdraw e number) is = record { same = changes setup w (Withdraw e number); none = λ n v. refl }
+leaves_by setup w (At f (Connect isn)) is = absurd (cc)
+leaves_by setup w (At f (Listen isn)) is = absurd (cc)
+leaves_by setup w (At f (Start isn peer)) is = absurd (cc)
+leaves_by setup w (At f (Take count)) is = absurd (cc)
+leaves_by setup w (At e (Clock seconds)) is = record { same = changes setup w (At e (Clock seconds)); none = λ n v. refl }
+leaves_by setup w (At e (Give piece)) is = record { same = changes setup w (At e (Give piece)); none = λ n v. refl }
+leaves_by setup w (At e (Fill count byte)) is = record { same = changes setup w (At e (Fill count byte)); none = λ n v. refl }
+leaves_by setup w (At e Send) is = record { same = changes setup w (At e Send); none = λ n v. refl }
+leaves_by setup w (At e Resend) is = record { same = changes setup w (At e Resend); none = λ n v. refl }
+leaves_by setup w (At e (Deliver name)) is = record { same = changes setup w (At e (Deliver name)); none = λ n v. refl }
+leaves_by setup w (At e (Inject bytes)) is = record { same = changes setup w (At e (Inject bytes)); none = λ n v. refl }
+leaves_by setup w (At e (Alter name place mask fix)) is = record { same = changes setup w (At e (Alter name place mask fix)); none = λ n v. refl }
+leaves_by setup w (At e Close) is = record { same = changes setup w (At e Close); none = λ n v. refl }
+leaves_by setup w (At e Abort) is = record { same = changes setup w (At e Abort); none = λ n v. refl }
+leaves_by setup w (At e (AddRow row)) is = record { same = changes setup w (At e (AddRow row)); none = λ n v. refl }
+leaves_by setup w (At e (Withdraw number)) is = record { same = changes setup w (At e (Withdraw number)); none = λ n v. refl }
 leaves_by setup w (Dump name) is = record { same = changes setup w (Dump name); none = λ n v. refl }
 
 pub follows_begin : (setup : Setup) (events : List Event) (event : Event) (e : End) (o : Outcome) (a b next_a next_b : Reading) (text : List ℕ) (faults : ℕ) → Follows setup events a b text faults
@@ -309,7 +310,7 @@ pub follows_take : (setup : Setup) (events : List Event) (event : Event) (e : En
     → reader_at (other e) next_a next_b ≡ reader_at (other e) a b → Follows setup (events ++ event ∷ []) next_a next_b next_text next_faults
 follows_take setup events event e o p a b next_a next_b text next_text faults next_faults f is h at heard there =
     let t = takes_by e event is in
-    let same : event ≡ Take e t.0 = t.1 in
+    let same : event ≡ At e (Take t.0) = t.1 in
     subst (λ x. Follows setup (events ++ x ∷ []) next_a next_b next_text next_faults) (sym same)
     (taken setup events e t.0 o p a b next_a next_b text next_text faults next_faults f (subst (λ x. Shows o (step setup (run setup events) x).outcome) same h) at heard there)
 
@@ -360,13 +361,13 @@ record Placed (setup : Setup) (events : List Event) (e : End) (p : Place) (piece
 same_place : (n m s t : ℕ) (e f : End) → n ≡ m → e ≡ f → s ≡ t → place_with n e s ≡ place_with m f t
 same_place n m s t e f a b c = ap (λ k. place_with k e s) a ∙ ap (λ x. place_with m x s) b ∙ ap (place_with m f) c
 
-placed_by : (setup : Setup) (events : List Event) (e : End) (count : ℕ) (o : Outcome) (p : Place) (piece : List ℕ) (delivered : ℕ) → IsTake setup events (Take e count) e o p piece delivered
+placed_by : (setup : Setup) (events : List Event) (e : End) (count : ℕ) (o : Outcome) (p : Place) (piece : List ℕ) (delivered : ℕ) → IsTake setup events (At e (Take count)) e o p piece delivered
     → Placed setup events e p piece
 placed_by setup events e count o p piece delivered t =
     let w = run setup events in
-    let v = (step setup w (Take e count)).world in
-    let g = grown w e (step setup w (Take e count)) o (changes setup w (Take e count)) t.shows in
-    let is : run setup (events ++ Take e count ∷ []) ≡ v = run_more setup (empty setup) events (Take e count) in
+    let v = (step setup w (At e (Take count))).world in
+    let g = grown w e (step setup w (At e (Take count))) o (changes setup w (At e (Take count))) t.shows in
+    let is : run setup (events ++ At e (Take count) ∷ []) ≡ v = run_more setup (empty setup) events (At e (Take count)) in
     let session : p.session ≡ length (side w e).sessions =
     t.session ∙ ap (λ u. length (side u e).sessions) is ∙ sym (as_many (side v e).sessions) ∙ g.many ∙ as_many (side w e).sessions in
     let all : delivered ≡ length (newest (streams w e) ++ taken_in o) =

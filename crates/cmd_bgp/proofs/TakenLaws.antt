@@ -27,7 +27,8 @@ use Rattle.book_endpoint.specs.States.{given_end}
 use Rattle.endpoint_steps.proofs.Arriving.{read_by_cases}
 use Rattle.book_link.specs.Alterations.{has_place, altered}
 use Rattle.book_link.specs.declared.event.Event.{Event}
-use Rattle.book_link.specs.declared.event.Event.TheVariants.{Clock, Connect, Listen as Await, Start, Give, Fill, Send, Resend, Deliver, Inject, Alter, Take, Close, Abort, AddRow, Withdraw, Dump}
+use Rattle.book_link.specs.declared.event.Event.TheVariants.{At, Dump}
+use Rattle.book_link.specs.declared.event.Action.TheVariants.{Clock, Connect, Listen as Await, Start, Give, Fill, Send, Resend, Deliver, Inject, Alter, Take, Close, Abort, AddRow, Withdraw}
 use Rattle.book_link.specs.Outcomes.{Outcome, Done, Took, IsnUsed, NoSession, Full, HasClosed, Idle, Nothing}
 use Rattle.book_link.specs.RowLines.{added_row}
 use Rattle.book_link.specs.Worlds.{Setup, pair_of, Session, LinkSide, Made, Happening, World, other, side, find, segment_named}
@@ -350,27 +351,27 @@ take_streams w e count (s ∷ rest) is =
 
 -- what an event does to what the sessions delivered
 abbrev pub Changes : Event → World → Stepped → Type 0
-Changes (Connect e isn) w after = Begins e w after
-Changes (Await e isn) w after = Begins e w after
-Changes (Start e isn peer) w after = Begins e w after
-Changes (Take e count) w after = Takes e w after
+Changes (At e (Connect isn)) w after = Begins e w after
+Changes (At e (Await isn)) w after = Begins e w after
+Changes (At e (Start isn peer)) w after = Begins e w after
+Changes (At e (Take count)) w after = Takes e w after
 Changes _ w after = AllSame w after.world
 
 pub changes : (setup : Setup) (w : World) (event : Event) → Changes event w (step setup w event)
-changes setup w (Clock e seconds) = put_same w e (with_clock (side w e) seconds) None (ticked_same seconds (side w e).sessions)
-changes setup w (Connect e isn) = begin_streams w e (connected (pair_of setup e) isn) (find (side w e).sessions isn) refl
-changes setup w (Await e isn) = begin_streams w e (listening (pair_of setup e) isn) (find (side w e).sessions isn) refl
-changes setup w (Start e isn peer) = begin_streams w e (started (pair_of setup e) isn peer) (find (side w e).sessions isn) refl
-changes setup w (Give e piece) = live_same w e (given piece) (λ s. given_same piece s)
-changes setup w (Fill e count byte) = live_same w e (given (replicate count byte)) (λ s. given_same (replicate count byte) s)
-changes setup w (Send e) = live_same w e (send (view_of setup w e)) (λ s. send_same setup e w s)
-changes setup w (Resend e) = live_same w e (send_again (view_of setup w e)) (λ s. send_again_same setup e w s)
-changes setup w (Deliver e name) = deliver_same setup e w (segment_named name w.history)
-changes setup w (Inject e bytes) = live_same w e (come bytes (view_of setup w e)) (λ s. come_same setup e w bytes s)
-changes setup w (Alter e name place mask fix) = alter_same setup e w place mask fix (segment_named name w.history)
-changes setup w (Take e count) = take_streams w e count (side w e).sessions refl
-changes setup w (Close e) = live_same w e (λ s. quietly (close s) Done) (λ s. close_same s s.phase)
-changes setup w (Abort e) = live_same w e (λ s. quietly (abort s) Done) (λ s. refl)
-changes setup w (AddRow e row) = add_row_same w e (adding (side w e).rows (added_row row))
-changes setup w (Withdraw e number) = withdraw_same w e (withdrawn (side w e).rows number)
+changes setup w (At e (Clock seconds)) = put_same w e (with_clock (side w e) seconds) None (ticked_same seconds (side w e).sessions)
+changes setup w (At e (Connect isn)) = begin_streams w e (connected (pair_of setup e) isn) (find (side w e).sessions isn) refl
+changes setup w (At e (Await isn)) = begin_streams w e (listening (pair_of setup e) isn) (find (side w e).sessions isn) refl
+changes setup w (At e (Start isn peer)) = begin_streams w e (started (pair_of setup e) isn peer) (find (side w e).sessions isn) refl
+changes setup w (At e (Give piece)) = live_same w e (given piece) (λ s. given_same piece s)
+changes setup w (At e (Fill count byte)) = live_same w e (given (replicate count byte)) (λ s. given_same (replicate count byte) s)
+changes setup w (At e Send) = live_same w e (send (view_of setup w e)) (λ s. send_same setup e w s)
+changes setup w (At e Resend) = live_same w e (send_again (view_of setup w e)) (λ s. send_again_same setup e w s)
+changes setup w (At e (Deliver name)) = deliver_same setup e w (segment_named name w.history)
+changes setup w (At e (Inject bytes)) = live_same w e (come bytes (view_of setup w e)) (λ s. come_same setup e w bytes s)
+changes setup w (At e (Alter name place mask fix)) = alter_same setup e w place mask fix (segment_named name w.history)
+changes setup w (At e (Take count)) = take_streams w e count (side w e).sessions refl
+changes setup w (At e Close) = live_same w e (λ s. quietly (close s) Done) (λ s. close_same s s.phase)
+changes setup w (At e Abort) = live_same w e (λ s. quietly (abort s) Done) (λ s. refl)
+changes setup w (At e (AddRow row)) = add_row_same w e (adding (side w e).rows (added_row row))
+changes setup w (At e (Withdraw number)) = withdraw_same w e (withdrawn (side w e).rows number)
 changes setup w (Dump name) = λ f. refl

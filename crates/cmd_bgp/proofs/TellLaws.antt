@@ -10,7 +10,8 @@ use Rattle.book_bgp.proofs.Fronts.{front_short}
 use Rattle.book_bgp.proofs.Streams.{none_before}
 use Rattle.book_endpoint.specs.States.{ready}
 use Rattle.book_link.specs.declared.event.Event.{Event}
-use Rattle.book_link.specs.declared.event.Event.TheVariants.{Clock, Connect, Listen, Start, Give, Fill, Send, Resend, Deliver, Inject, Alter, Take, Close, Abort, AddRow, Withdraw, Dump}
+use Rattle.book_link.specs.declared.event.Event.TheVariants.{At, Dump}
+use Rattle.book_link.specs.declared.event.Action.TheVariants.{Clock, Connect, Listen, Start, Give, Fill, Send, Resend, Deliver, Inject, Alter, Take, Close, Abort, AddRow, Withdraw}
 use Rattle.law_link.specs.Headline.{ComesFrom}
 use Rattle.law_link.specs.Laws.{SetupFits, EventFits}
 use Rattle.book_link.specs.Reports.{summary}
@@ -29,7 +30,7 @@ use Rattle.cmd_bgp.proofs.TakenLaws.{AllSame, Begins, Delivers, Takes, changes}
 -- ---- the lines of a run
 
 told_by : ℕ → Event → World → World → List Telling
-told_by n (Take e count) before after = at (place_at before e n) (added (taken_by (live (side before e).sessions)) (taken_by (live (side after e).sessions)))
+told_by n (At e (Take count)) before after = at (place_at before e n) (added (taken_by (live (side before e).sessions)) (taken_by (live (side after e).sessions)))
 told_by n _ before after = []
 
 told_from : Setup → ℕ → World → List Event → List Telling
@@ -44,7 +45,7 @@ lines_append (t ∷ ts) two = ap (λ l. line_of t.place t.what ++ l) (lines_appe
 
 event_told : (n : ℕ) (e : Event) (before after : World) → lines_of (told_by n e before after) ≡ event_lines n e before after
 unfolding told_by
-event_told n (Take e count) before after = added_lines (place_at before e n) (taken_by (live (side before e).sessions)) (taken_by (live (side after e).sessions))
+event_told n (At e (Take count)) before after = added_lines (place_at before e n) (taken_by (live (side before e).sessions)) (taken_by (live (side after e).sessions))
 event_told n _ before after = refl
 
 from_told : (setup : Setup) (n : ℕ) (w : World) (es : List Event) → lines_of (told_from setup n w es) ≡ bgp_lines_from setup n w es
@@ -250,22 +251,22 @@ takes_told n e w after ts k t = elim k.either [
 
 step_told : (setup : Setup) (n : ℕ) (w : World) (event : Event) (ts : List Telling) → Told w ts → Told (step setup w event).world (ts ++ told_by n event w (step setup w event).world)
 unfolding told_by
-step_told setup n w (Clock e seconds) ts t = same_told w (step setup w (Clock e seconds)).world ts (changes setup w (Clock e seconds)) t
-step_told setup n w (Connect e isn) ts t = begins_told e w (step setup w (Connect e isn)) ts (changes setup w (Connect e isn)) t
-step_told setup n w (Listen e isn) ts t = begins_told e w (step setup w (Listen e isn)) ts (changes setup w (Listen e isn)) t
-step_told setup n w (Start e isn peer) ts t = begins_told e w (step setup w (Start e isn peer)) ts (changes setup w (Start e isn peer)) t
-step_told setup n w (Take e count) ts t = takes_told n e w (step setup w (Take e count)) ts (changes setup w (Take e count)) t
-step_told setup n w (Give e piece) ts t = same_told w (step setup w (Give e piece)).world ts (changes setup w (Give e piece)) t
-step_told setup n w (Fill e count byte) ts t = same_told w (step setup w (Fill e count byte)).world ts (changes setup w (Fill e count byte)) t
-step_told setup n w (Send e) ts t = same_told w (step setup w (Send e)).world ts (changes setup w (Send e)) t
-step_told setup n w (Resend e) ts t = same_told w (step setup w (Resend e)).world ts (changes setup w (Resend e)) t
-step_told setup n w (Deliver e name) ts t = same_told w (step setup w (Deliver e name)).world ts (changes setup w (Deliver e name)) t
-step_told setup n w (Inject e bytes) ts t = same_told w (step setup w (Inject e bytes)).world ts (changes setup w (Inject e bytes)) t
-step_told setup n w (Alter e name place mask fix) ts t = same_told w (step setup w (Alter e name place mask fix)).world ts (changes setup w (Alter e name place mask fix)) t
-step_told setup n w (Close e) ts t = same_told w (step setup w (Close e)).world ts (changes setup w (Close e)) t
-step_told setup n w (Abort e) ts t = same_told w (step setup w (Abort e)).world ts (changes setup w (Abort e)) t
-step_told setup n w (AddRow e row) ts t = same_told w (step setup w (AddRow e row)).world ts (changes setup w (AddRow e row)) t
-step_told setup n w (Withdraw e number) ts t = same_told w (step setup w (Withdraw e number)).world ts (changes setup w (Withdraw e number)) t
+step_told setup n w (At e (Clock seconds)) ts t = same_told w (step setup w (At e (Clock seconds))).world ts (changes setup w (At e (Clock seconds))) t
+step_told setup n w (At e (Connect isn)) ts t = begins_told e w (step setup w (At e (Connect isn))) ts (changes setup w (At e (Connect isn))) t
+step_told setup n w (At e (Listen isn)) ts t = begins_told e w (step setup w (At e (Listen isn))) ts (changes setup w (At e (Listen isn))) t
+step_told setup n w (At e (Start isn peer)) ts t = begins_told e w (step setup w (At e (Start isn peer))) ts (changes setup w (At e (Start isn peer))) t
+step_told setup n w (At e (Take count)) ts t = takes_told n e w (step setup w (At e (Take count))) ts (changes setup w (At e (Take count))) t
+step_told setup n w (At e (Give piece)) ts t = same_told w (step setup w (At e (Give piece))).world ts (changes setup w (At e (Give piece))) t
+step_told setup n w (At e (Fill count byte)) ts t = same_told w (step setup w (At e (Fill count byte))).world ts (changes setup w (At e (Fill count byte))) t
+step_told setup n w (At e Send) ts t = same_told w (step setup w (At e Send)).world ts (changes setup w (At e Send)) t
+step_told setup n w (At e Resend) ts t = same_told w (step setup w (At e Resend)).world ts (changes setup w (At e Resend)) t
+step_told setup n w (At e (Deliver name)) ts t = same_told w (step setup w (At e (Deliver name))).world ts (changes setup w (At e (Deliver name))) t
+step_told setup n w (At e (Inject bytes)) ts t = same_told w (step setup w (At e (Inject bytes))).world ts (changes setup w (At e (Inject bytes))) t
+step_told setup n w (At e (Alter name place mask fix)) ts t = same_told w (step setup w (At e (Alter name place mask fix))).world ts (changes setup w (At e (Alter name place mask fix))) t
+step_told setup n w (At e Close) ts t = same_told w (step setup w (At e Close)).world ts (changes setup w (At e Close)) t
+step_told setup n w (At e Abort) ts t = same_told w (step setup w (At e Abort)).world ts (changes setup w (At e Abort)) t
+step_told setup n w (At e (AddRow row)) ts t = same_told w (step setup w (At e (AddRow row))).world ts (changes setup w (At e (AddRow row))) t
+step_told setup n w (At e (Withdraw number)) ts t = same_told w (step setup w (At e (Withdraw number))).world ts (changes setup w (At e (Withdraw number))) t
 step_told setup n w (Dump name) ts t = same_told w (step setup w (Dump name)).world ts (changes setup w (Dump name)) t
 
 run_told : (setup : Setup) (n : ℕ) (w : World) (es : List Event) (ts : List Telling) → Told w ts → Told (run_from setup w es) (ts ++ told_from setup n w es)

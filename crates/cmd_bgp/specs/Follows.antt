@@ -5,6 +5,7 @@ use Rattle.book_base.specs.declared.end.End.TheVariants.{A, B}
 use Rattle.book_bgp.specs.Messages.{fault_in}
 use Rattle.book_link.specs.declared.event.Event.{Event}
 use Rattle.book_link.specs.declared.event.Event.TheVariants as event
+use Rattle.book_link.specs.declared.event.Action.TheVariants as action
 use Rattle.book_link.specs.Runs.{empty, run}
 use Rattle.book_link.specs.Worlds.{Setup}
 use Rattle.book_cmd_bgp.specs.BgpRuns.{bgp_faults, bgp_lines_from, is_faulty, taken_lines}
@@ -29,10 +30,10 @@ is_done _ = false
 
 -- what an event may bring the reader of an end
 abbrev pub turn_of : Event → Turn
-turn_of (event.Connect e isn) = turn.Begins e
-turn_of (event.Listen e isn) = turn.Begins e
-turn_of (event.Start e isn peer) = turn.Begins e
-turn_of (event.Take e count) = turn.Takes e
+turn_of (event.At e (action.Connect isn)) = turn.Begins e
+turn_of (event.At e (action.Listen isn)) = turn.Begins e
+turn_of (event.At e (action.Start isn peer)) = turn.Begins e
+turn_of (event.At e (action.Take count)) = turn.Takes e
 turn_of _ = turn.Neither
 
 -- a reader, made new where a session began

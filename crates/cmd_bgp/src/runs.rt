@@ -16,7 +16,7 @@ use crate::lines::Place;
 use crate::pieces::read_piece;
 use bgp_messages::BgpReader;
 use book_base::{Bytes, End};
-use book_link::{Event, Events};
+use book_link::{Action, Event, Events};
 use link_world::{Outcome, Setup, World};
 use std::alloc::{AllocError, Global};
 
@@ -46,10 +46,10 @@ fn turn_of(event: &Event) -> Turn
     ensures { result ≡ turn_of event.now }
 {
     match event {
-        Event::Connect(end, _) => Turn::Begins(*end),
-        Event::Listen(end, _) => Turn::Begins(*end),
-        Event::Start(end, _, _) => Turn::Begins(*end),
-        Event::Take(end, _) => Turn::Takes(*end),
+        Event::At(end, Action::Connect(_)) => Turn::Begins(*end),
+        Event::At(end, Action::Listen(_)) => Turn::Begins(*end),
+        Event::At(end, Action::Start(_, _)) => Turn::Begins(*end),
+        Event::At(end, Action::Take(_)) => Turn::Takes(*end),
         _ => Turn::Neither,
     }
 }

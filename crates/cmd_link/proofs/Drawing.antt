@@ -4,7 +4,8 @@ use Rattle.book_base.specs.declared.end.End.{End}
 use Rattle.book_link.specs.declared.event.Event.{Event}
 use Rattle.book_link.specs.Runs.{empty, run, run_from}
 use Rattle.book_link.specs.Steps.{step}
-use Rattle.book_link.specs.declared.event.Event.TheVariants.{Fill, Send, Resend, Deliver, Take}
+use Rattle.book_link.specs.declared.event.Event.TheVariants.{At}
+use Rattle.book_link.specs.declared.event.Action.TheVariants.{Fill, Send, Resend, Deliver, Take}
 use Rattle.book_link.specs.Storm.{draw, drawn, drawn_end, event_by, event_of, events_drawn, last_delivered, one_delivered, storm_events, storm_setup, storm_starts}
 use Rattle.book_link.specs.Worlds.{Made, Setup, World, segment_named, segments}
 use Rattle.link_world.specs.Events.{CanHappen}

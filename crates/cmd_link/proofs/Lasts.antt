@@ -3,7 +3,8 @@ use Rattle.std.proofs.Common.{◌≡◌, ◌==◌, ℕ, suc, Bool, true, false, 
 use Rattle.std.proofs.lemmas.Bool.Decides.{nat_tests}
 use Rattle.book_base.specs.declared.end.End.{End}
 use Rattle.book_link.specs.declared.event.Event.{Event}
-use Rattle.book_link.specs.declared.event.Event.TheVariants.{Send, Deliver}
+use Rattle.book_link.specs.declared.event.Event.TheVariants.{At}
+use Rattle.book_link.specs.declared.event.Action.TheVariants.{Send, Deliver}
 use Rattle.book_link.specs.Storm.{last_delivered}
 use Rattle.book_link.specs.Worlds.{Made, Happening, Making, Coming, other, segment_named, segments}
 use Rattle.link_log.specs.Logs.{MadeBy}
@@ -25,7 +26,7 @@ none_found n [] none = refl
 none_found n (Making m ∷ past) none = absurd (omega (arith, none))
 none_found n (Coming r ∷ past) none = none_found n past none
 
-last_of : (e maker : End) (n : ℕ) (o : Option Made) → MadeBy maker o → ((m : Made) → o ≡ Some m → m.name ≡ n) → Deliver (other maker) n ≡ last_delivered e o
+last_of : (e maker : End) (n : ℕ) (o : Option Made) → MadeBy maker o → ((m : Made) → o ≡ Some m → m.name ≡ n) → At (other maker) (Deliver n) ≡ last_delivered e o
 last_of e maker n None made name = absurd made
 last_of e maker n (Some m) made name =
     let is : m.maker ≡ maker = made in
@@ -33,10 +34,10 @@ last_of e maker n (Some m) made name =
     rw (is, called) refl
 
 -- where none was made the end sends
-pub no_last : (e : End) (past : List Happening) (made : ℕ) → made ≡ segments past → made ≡ 0 → Send e ≡ last_delivered e (segment_named (segments past) past)
+pub no_last : (e : End) (past : List Happening) (made : ℕ) → made ≡ segments past → made ≡ 0 → At e Send ≡ last_delivered e (segment_named (segments past) past)
 no_last e past made count none = let found : segment_named (segments past) past ≡ None = none_found (segments past) past (sym count ∙ none) in rw found refl
 
 -- else the last is delivered to the end that didn't make it
 pub a_last : (e maker : End) (past : List Happening) (made : ℕ) → made ≡ segments past → MadeBy maker (segment_named made past) →
-    Deliver (other maker) made ≡ last_delivered e (segment_named (segments past) past)
+    At (other maker) (Deliver made) ≡ last_delivered e (segment_named (segments past) past)
 a_last e maker past made count by = rw (← count) (last_of e maker made (segment_named made past) by (named made past))

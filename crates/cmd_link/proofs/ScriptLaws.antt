@@ -4,7 +4,8 @@ use Rattle.std.proofs.lemmas.List.{length-map}
 use Rattle.std.specs.List.{All}
 use Rattle.std.specs.Option.{is_none}
 use Rattle.book_link.specs.declared.event.Event.{Event}
-use Rattle.book_link.specs.declared.event.Event.TheVariants.{Clock, Connect, Listen, Start, Give, Fill, Send, Resend, Deliver, Inject, Alter, Take, Close, Abort, AddRow, Withdraw, Dump}
+use Rattle.book_link.specs.declared.event.Event.TheVariants.{At, Dump}
+use Rattle.book_link.specs.declared.event.Action.TheVariants.{Clock, Connect, Listen, Start, Give, Fill, Send, Resend, Deliver, Inject, Alter, Take, Close, Abort, AddRow, Withdraw}
 use Rattle.book_cmd_link.specs.declared.script.Script.{Script}
 use Rattle.book_cmd_link.specs.declared.script.SharedKey.{SharedKey}
 use Rattle.law_scripts.specs.Printed.{event_words, key_lines, script_lines}
@@ -25,8 +26,8 @@ key_lengths (Some j) k x h =
     subst P same (x.least, x.most)
 
 can_happen : (e : Event) → IsEvent e → CanHappen e
-can_happen (Clock e seconds) r = r
-can_happen (AddRow e row) r = record {
+can_happen (At e (Clock seconds)) r = r
+can_happen (At e (AddRow row)) r = record {
   least = r.master.least;
   most = r.master.most;
   sending = r.send_last.least;
@@ -34,20 +35,20 @@ can_happen (AddRow e row) r = record {
   accepting = r.accept_last.least;
   accepted = r.accept_last.most;
 }
-can_happen (Connect e isn) r = tt
-can_happen (Listen e isn) r = tt
-can_happen (Start e isn peer) r = tt
-can_happen (Give e bytes) r = tt
-can_happen (Fill e count byte) r = tt
-can_happen (Send e) r = tt
-can_happen (Resend e) r = tt
-can_happen (Deliver e name) r = tt
-can_happen (Inject e bytes) r = tt
-can_happen (Alter e name place mask fix) r = tt
-can_happen (Take e count) r = tt
-can_happen (Close e) r = tt
-can_happen (Abort e) r = tt
-can_happen (Withdraw e number) r = tt
+can_happen (At e (Connect isn)) r = tt
+can_happen (At e (Listen isn)) r = tt
+can_happen (At e (Start isn peer)) r = tt
+can_happen (At e (Give bytes)) r = tt
+can_happen (At e (Fill count byte)) r = tt
+can_happen (At e Send) r = tt
+can_happen (At e Resend) r = tt
+can_happen (At e (Deliver name)) r = tt
+can_happen (At e (Inject bytes)) r = tt
+can_happen (At e (Alter name place mask fix)) r = tt
+can_happen (At e (Take count)) r = tt
+can_happen (At e Close) r = tt
+can_happen (At e Abort) r = tt
+can_happen (At e (Withdraw number)) r = tt
 can_happen (Dump name) r = tt
 
 -- each event of a script can happen

@@ -7,7 +7,7 @@ ghost use Rattle.book_link.specs.Worlds.{Setup as Link, other, segment_named, se
 ghost use Rattle.link_world.specs.Stands.{StandsFor};
 
 use book_base::End;
-use book_link::Event;
+use book_link::{Action, Event};
 use link_world::World;
 
 fn other(end: End) -> End
@@ -32,10 +32,10 @@ fn last_delivered(world: &World, end: End) -> Event
 {
     let made = world.made();
     if made == 0 {
-        return Event::Send(end);
+        return Event::At(end, Action::Send);
     }
     let maker = world.maker(made);
-    Event::Deliver(other(maker), made)
+    Event::At(other(maker), Action::Deliver(made))
 }
 
 /// One of so many segments is delivered; where there is none, the end sends.
@@ -43,10 +43,10 @@ fn one_delivered(end: End, made: u32, number: u64) -> Event
     ensures { result ≡ one_delivered end made number }
 {
     if made == 0 {
-        return Event::Send(end);
+        return Event::At(end, Action::Send);
     }
     let place = number % u64::from(made);
-    Event::Deliver(end, 1 + place as u32)
+    Event::At(end, Action::Deliver(1 + place as u32))
 }
 
 /// The event of this kind, below 8, at this end, with this number.
@@ -56,14 +56,17 @@ fn event_by(world: &World, end: End, kind: u64, number: u64) -> Event
         → result ≡ event_by (run setup events) end kind number }
 {
     match kind {
-        0 => Event::Fill(end, (number % 1_000) as u16, (number / 1_000 % 256) as u8),
-        1 => Event::Send(end),
-        2 => Event::Send(end),
+        0 => {
+            let byte = (number / 1_000 % 256) as u8;
+            Event::At(end, Action::Fill((number % 1_000) as u16, byte))
+        }
+        1 => Event::At(end, Action::Send),
+        2 => Event::At(end, Action::Send),
         3 => last_delivered(world, end),
         4 => last_delivered(world, end),
         5 => one_delivered(end, world.made(), number),
-        6 => Event::Resend(end),
-        _ => Event::Take(end, (number % 2_000) as u16),
+        6 => Event::At(end, Action::Resend),
+        _ => Event::At(end, Action::Take((number % 2_000) as u16)),
     }
 }
 

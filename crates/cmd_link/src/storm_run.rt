@@ -8,7 +8,7 @@ ghost use Rattle.link_world.specs.Stands.{StandsFor, steps_taken};
 use crate::draw::{draw, drawn};
 use crate::event::event_of;
 use book_base::{Address, Algorithm, End, Socket};
-use book_link::Event;
+use book_link::{Action, Event};
 use command_report::{Report, Stop};
 use key_table::Tables;
 use link_world::{Setup, World};
@@ -49,8 +49,8 @@ fn started(alloc: Global) -> Result<World, AllocError>
     ensures steps { IfOk result (λ w. steps_taken w ≡ 2) }
 {
     let mut world = link(alloc)?;
-    world.step(alloc, &Event::Start(End::A, OF_A, OF_B))?;
-    world.step(alloc, &Event::Start(End::B, OF_B, OF_A))?;
+    world.step(alloc, &Event::At(End::A, Action::Start(OF_A, OF_B)))?;
+    world.step(alloc, &Event::At(End::B, Action::Start(OF_B, OF_A)))?;
     Ok(world)
 }
 

@@ -6,6 +6,7 @@ use Rattle.book_timers.specs.declared.timer.Timer.{Timer}
 use Rattle.book_lines.specs.declared.text_fault.TextFault.{TextFault}
 use Rattle.book_link.specs.declared.event.Event.{Event}
 use Rattle.book_link.specs.declared.event.Event.TheVariants as event
+use Rattle.book_link.specs.declared.event.Action.TheVariants as action
 use Rattle.book_link.specs.declared.event.RowLine.{RowLine}
 use Rattle.book_link.specs.Worlds.{setup_of}
 use Rattle.book_cmd_timed.specs.declared.timed.TimedEvent.{TimedEvent}
@@ -30,22 +31,22 @@ row_line r h =
     record { least = h.master.least; most = h.master.most; sending = h.send_last.least; sent = h.send_last.most; accepting = h.accept_last.least; accepted = h.accept_last.most }
 
 can_happen : (e : Event) → IsEvent e → CanHappen e
-can_happen (event.Clock e seconds) h = h
-can_happen (event.Connect e isn) h = tt
-can_happen (event.Listen e isn) h = tt
-can_happen (event.Start e own peer) h = tt
-can_happen (event.Give e bytes) h = tt
-can_happen (event.Fill e count byte) h = tt
-can_happen (event.Send e) h = tt
-can_happen (event.Resend e) h = tt
-can_happen (event.Deliver e name) h = tt
-can_happen (event.Inject e bytes) h = tt
-can_happen (event.Alter e name place mask fixing) h = tt
-can_happen (event.Take e count) h = tt
-can_happen (event.Close e) h = tt
-can_happen (event.Abort e) h = tt
-can_happen (event.AddRow e row) h = row_line row h
-can_happen (event.Withdraw e row) h = tt
+can_happen (event.At e (action.Clock seconds)) h = h
+can_happen (event.At e (action.Connect isn)) h = tt
+can_happen (event.At e (action.Listen isn)) h = tt
+can_happen (event.At e (action.Start own peer)) h = tt
+can_happen (event.At e (action.Give bytes)) h = tt
+can_happen (event.At e (action.Fill count byte)) h = tt
+can_happen (event.At e action.Send) h = tt
+can_happen (event.At e action.Resend) h = tt
+can_happen (event.At e (action.Deliver name)) h = tt
+can_happen (event.At e (action.Inject bytes)) h = tt
+can_happen (event.At e (action.Alter name place mask fixing)) h = tt
+can_happen (event.At e (action.Take count)) h = tt
+can_happen (event.At e action.Close) h = tt
+can_happen (event.At e action.Abort) h = tt
+can_happen (event.At e (action.AddRow row)) h = row_line row h
+can_happen (event.At e (action.Withdraw row)) h = tt
 can_happen (event.Dump name) h = tt
 
 can_pass : (e : TimedEvent) → IsTimedEvent e → CanPass e

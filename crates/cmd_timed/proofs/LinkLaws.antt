@@ -7,6 +7,7 @@ use Rattle.book_base.specs.declared.end.End.TheVariants.{A, B}
 use Rattle.book_keys.specs.Lifetimes.{greatest_time}
 use Rattle.book_link.specs.declared.event.Event.{Event}
 use Rattle.book_link.specs.declared.event.Event.TheVariants as event
+use Rattle.book_link.specs.declared.event.Action.TheVariants as action
 use Rattle.book_link.specs.Outcomes.{Outcome}
 use Rattle.book_link.specs.Runs.{outcomes_from, run, run_from, empty}
 use Rattle.book_link.specs.Steps.{step}
@@ -155,7 +156,7 @@ until_there : (setup : Setup) (e : End) (to : ℕ) (p : book.Progress) (reading 
 until_there setup e to p reading same is = let here : (book.reading_at p e == to) ≡ true = ap (λ (r : ℕ). r == to) (sym same) ∙ is in rw here refl
 
 until_later : (setup : Setup) (e : End) (to : ℕ) (p : book.Progress) (reading : ℕ) → reading ≡ book.reading_at p e → (reading == to) ≡ false
-    → book.until setup e to p ≡ steps (event.Clock e to) setup p
+    → book.until setup e to p ≡ steps (event.At e (action.Clock to)) setup p
 until_later setup e to p reading same is = let here : (book.reading_at p e == to) ≡ false = ap (λ (r : ℕ). r == to) (sym same) ∙ is in rw here refl
 
 -- the clock is there already
@@ -163,14 +164,14 @@ pub untils_there : (l : Link) (e : End) (to reading : ℕ) → Reads l e reading
 untils_there l e to reading r is = record { same = λ setup past h. until_there setup e to (progress l setup past) reading (r.reads setup past h.world_is) is }
 
 -- the clock has to go there
-pub untils_later : (l : Link) (e : End) (to reading : ℕ) → Reads l e reading → (reading == to) ≡ false → Same (untils e to) (steps (event.Clock e to)) l
+pub untils_later : (l : Link) (e : End) (to reading : ℕ) → Reads l e reading → (reading == to) ≡ false → Same (untils e to) (steps (event.At e (action.Clock to))) l
 untils_later l e to reading r is = record { same = λ setup past h. until_later setup e to (progress l setup past) reading (r.reads setup past h.world_is) is }
 
 -- the end sends again, and its timer expired
 abbrev pub sends_again : End → Makes
-sends_again e setup p = record { events = event.Resend e ∷ []; progress = book.after_expiry e (book.plain setup p (event.Resend e)) }
+sends_again e setup p = record { events = event.At e action.Resend ∷ []; progress = book.after_expiry e (book.plain setup p (event.At e action.Resend)) }
 
-pub expires_in_two : (e : End) (d : ℕ) (l : Link) → Same (expires e d) (chained (steps (event.Clock e d)) (sends_again e)) l
+pub expires_in_two : (e : End) (d : ℕ) (l : Link) → Same (expires e d) (chained (steps (event.At e (action.Clock d))) (sends_again e)) l
 expires_in_two e d l = record { same = λ setup past h. refl }
 
 expired_progress : (l : Link) (e : End) (w : Watch) (setup : Setup) (past : List Event) (reading : ℕ) → reading ≡ (side (run setup past) e).clock
@@ -184,33 +185,33 @@ expired_stands l A w setup past h = record { world_is = h.world_is; few = h.few 
 expired_stands l B w setup past h = record { world_is = h.world_is; few = h.few }
 
 -- the end sent again, and then its timer expired
-pub sends_again_done : (before l : Link) (e : End) (w : Watch) (reading : ℕ) → Does (steps (event.Resend e)) before l (Ok tt) → Reads l e reading
+pub sends_again_done : (before l : Link) (e : End) (w : Watch) (reading : ℕ) → Does (steps (event.At e action.Resend)) before l (Ok tt) → Reads l e reading
     → seen w ≡ expired_at reading (seen (at l e)) → Does (sends_again e) before (after_at l l.world e w) (Ok tt)
 sends_again_done before l e w reading did r is = λ setup past h.
     let reached = did setup past h in
-    let here = past ++ event.Resend e ∷ [] in
+    let here = past ++ event.At e action.Resend ∷ [] in
     record {
       stands = expired_stands l e w setup here reached.stands;
       progress_is = expired_progress l e w setup here reading (r.reads setup here reached.stands.world_is) is ∙ ap (book.after_expiry e) reached.progress_is;
     }
 
 -- the clock went to the expiry, the end sent again, and then its timer expired
-expires_at : (l0 l1 l2 : Link) (e : End) (d : ℕ) (w : Watch) (reading : ℕ) → Does (steps (event.Clock e d)) l0 l1 (Ok tt)
-    → Does (steps (event.Resend e)) l1 l2 (Ok tt) → Reads l2 e reading → seen w ≡ expired_at reading (seen (at l2 e))
+expires_at : (l0 l1 l2 : Link) (e : End) (d : ℕ) (w : Watch) (reading : ℕ) → Does (steps (event.At e (action.Clock d))) l0 l1 (Ok tt)
+    → Does (steps (event.At e action.Resend)) l1 l2 (Ok tt) → Reads l2 e reading → seen w ≡ expired_at reading (seen (at l2 e))
     → Does (expires e d) l0 (after_at l2 l2.world e w) (Ok tt)
 expires_at l0 l1 l2 e d w reading one two r is =
-    let left = one_more (expires e d) (expires e d) (steps (event.Clock e d)) (sends_again e) l0 l0 l1 (all_left (expires e d) l0) (expires_in_two e d l0) one in
+    let left = one_more (expires e d) (expires e d) (steps (event.At e (action.Clock d))) (sends_again e) l0 l0 l1 (all_left (expires e d) l0) (expires_in_two e d l0) one in
     last_call (expires e d) (sends_again e) l0 l1 (after_at l2 l2.world e w) (Ok tt) left (sends_again_done l1 l2 e w reading two r is)
 
 -- the same, of an end that is known
-pub expires_here : (l0 l1 l2 : Link) (e here : End) (d : ℕ) (w : Watch) (reading : ℕ) → e ≡ here → Does (steps (event.Clock e d)) l0 l1 (Ok tt)
-    → Does (steps (event.Resend e)) l1 l2 (Ok tt) → Reads l2 e reading → seen w ≡ expired_at reading (seen (at l2 here))
+pub expires_here : (l0 l1 l2 : Link) (e here : End) (d : ℕ) (w : Watch) (reading : ℕ) → e ≡ here → Does (steps (event.At e (action.Clock d))) l0 l1 (Ok tt)
+    → Does (steps (event.At e action.Resend)) l1 l2 (Ok tt) → Reads l2 e reading → seen w ≡ expired_at reading (seen (at l2 here))
     → Does (expires e d) l0 (after_at l2 l2.world here w) (Ok tt)
 expires_here l0 l1 l2 e here d w reading same one two r is =
     let P : End → Type 0 = λ y. seen w ≡ expired_at reading (seen (at l2 y)) → Does (expires e d) l0 (after_at l2 l2.world y w) (Ok tt) in
     subst P same (expires_at l0 l1 l2 e d w reading one two r) is
 
-pub sends_again_stopped : (before l : Link) (e : End) (s : Unfinished) → Does (steps (event.Resend e)) before l (Err s) → Does (sends_again e) before l (Err s)
+pub sends_again_stopped : (before l : Link) (e : End) (s : Unfinished) → Does (steps (event.At e action.Resend)) before l (Err s) → Does (sends_again e) before l (Err s)
 sends_again_stopped before l e (unfinished.Memory error) did = tt
 sends_again_stopped before l e unfinished.TooMany did = did
 

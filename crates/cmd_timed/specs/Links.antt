@@ -3,6 +3,7 @@ use Rattle.std.specs.Prelude.{◌≡◌, ℕ, ◌<◌, ◌≤◌, nat_lt, List, 
 use Rattle.book_base.specs.declared.end.End.{End}
 use Rattle.book_link.specs.declared.event.Event.{Event}
 use Rattle.book_link.specs.declared.event.Event.TheVariants as event
+use Rattle.book_link.specs.declared.event.Action.TheVariants as action
 use Rattle.book_link.specs.Runs.{run}
 use Rattle.book_link.specs.Worlds.{Setup}
 use Rattle.book_cmd_timed.specs.declared.timed.TimedEvent.{TimedEvent}
@@ -52,7 +53,9 @@ untils e to setup p = until setup e to p
 
 -- the end's timer expires at a reading
 abbrev pub expires : End → ℕ → Makes
-expires e d setup p = record { events = expiry e d; progress = after_expiry e (plain setup (plain setup p (event.Clock e d)) (event.Resend e)) }
+expires e d setup p =
+    let sent_again = plain setup (plain setup p (event.At e (action.Clock d))) (event.At e action.Resend) in
+    record { events = expiry e d; progress = after_expiry e sent_again }
 
 -- the same, where it is at this reading at the latest
 abbrev pub up_to : ℕ → Option ℕ → Option ℕ

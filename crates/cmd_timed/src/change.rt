@@ -9,7 +9,7 @@ ghost use Rattle.cmd_timed.specs.Watches.{seen};
 
 use crate::watch::Watch;
 use book_base::End;
-use book_link::Event;
+use book_link::{Action, Event};
 use link_report::Outcome;
 use link_world::Front;
 
@@ -34,22 +34,7 @@ pub(crate) fn end_of(event: &Event) -> Option<End>
     ensures { result ≡ end_of_event event.now }
 {
     match event {
-        Event::Clock(end, _) => Some(*end),
-        Event::Connect(end, _) => Some(*end),
-        Event::Listen(end, _) => Some(*end),
-        Event::Start(end, _, _) => Some(*end),
-        Event::Give(end, _) => Some(*end),
-        Event::Fill(end, _, _) => Some(*end),
-        Event::Send(end) => Some(*end),
-        Event::Resend(end) => Some(*end),
-        Event::Deliver(end, _) => Some(*end),
-        Event::Inject(end, _) => Some(*end),
-        Event::Alter(end, _, _, _, _) => Some(*end),
-        Event::Take(end, _) => Some(*end),
-        Event::Close(end) => Some(*end),
-        Event::Abort(end) => Some(*end),
-        Event::AddRow(end, _) => Some(*end),
-        Event::Withdraw(end, _) => Some(*end),
+        Event::At(end, _) => Some(*end),
         Event::Dump(_) => None,
     }
 }
@@ -59,9 +44,9 @@ pub(crate) fn is_begin(event: &Event) -> bool
     ensures { result ≡ is_begin event.now }
 {
     match event {
-        Event::Connect(..) => true,
-        Event::Listen(..) => true,
-        Event::Start(..) => true,
+        Event::At(_, Action::Connect(..)) => true,
+        Event::At(_, Action::Listen(..)) => true,
+        Event::At(_, Action::Start(..)) => true,
         _ => false,
     }
 }
@@ -71,7 +56,7 @@ pub(crate) fn is_again(event: &Event) -> bool
     ensures { result ≡ is_again event.now }
 {
     match event {
-        Event::Resend(_) => true,
+        Event::At(_, Action::Resend) => true,
         _ => false,
     }
 }

@@ -13,7 +13,7 @@ use crate::change::{Change, end_of, is_again, is_begin, is_done, is_sent};
 use crate::unfinished::Unfinished;
 use crate::watch::Watch;
 use book_base::End;
-use book_link::Event;
+use book_link::{Action, Event};
 use link_world::World;
 use std::alloc::{AllocError, Global};
 
@@ -89,7 +89,7 @@ impl Link {
         if self.world.reading(end) == to {
             return Ok(());
         }
-        self.step(alloc, &Event::Clock(end, to))
+        self.step(alloc, &Event::At(end, Action::Clock(to)))
     }
 
     /// When the end's timer expires next, where that is at this reading at the latest.
@@ -115,8 +115,8 @@ impl Link {
         requires { at ≤ greatest_time }
         ensures { Does (expires end at) self.old self.new result }
     {
-        self.step(alloc, &Event::Clock(end, at))?;
-        self.step(alloc, &Event::Resend(end))?;
+        self.step(alloc, &Event::At(end, Action::Clock(at)))?;
+        self.step(alloc, &Event::At(end, Action::Resend))?;
         let reading = self.world.reading(end);
         match end {
             End::A => {

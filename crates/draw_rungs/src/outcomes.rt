@@ -2,13 +2,13 @@
 ghost use Rattle.std.specs.Prelude.{◌≡◌};
 ghost use Rattle.book_link.specs.Outcomes as book;
 ghost use Rattle.book_link.specs.Worlds.{Made as BookMade};
-ghost use Rattle.book_draw.specs.Rungs.{coming_rung, making_rung, phase_place, reply_of, rung_of, same_phase, sketch_of, turned};
+ghost use Rattle.book_draw.specs.Rungs.{coming_rung, making_rung, phase_place, reply_of, rung_at, rung_of, same_phase, sketch_of, turned};
 ghost use Rattle.link_report.specs.Outcomes.{Shows, TellsMade};
 
 use book_base::End;
 use book_draw::{Brought, Deed, Reply, Rung, Sketch};
 use book_endpoint::Phase;
-use book_link::Event;
+use book_link::{Action, Event};
 use link_report::Outcome;
 use tcp_endpoint::Made;
 
@@ -71,38 +71,43 @@ fn coming_rung(end: End, deed: Deed, what: Brought, outcome: &Outcome) -> Rung
     }
 }
 
+/// The rung of an action at an end with this outcome.
+fn rung_at(end: End, action: &Action, outcome: &Outcome) -> Rung
+    ensures { (is : book.Outcome) → Shows outcome.now is → result ≡ rung_at end action.now is }
+{
+    match action {
+        Action::Clock(seconds) => Rung::Clock(end, *seconds),
+        Action::Connect(_) => Rung::Call(end, Deed::Connect, reply_of(outcome)),
+        Action::Listen(_) => Rung::Call(end, Deed::Listen, reply_of(outcome)),
+        Action::Start(_, _) => Rung::Call(end, Deed::Start, reply_of(outcome)),
+        Action::Give(bytes) => {
+            let count = bytes.as_slice().len() as u64;
+            Rung::Call(end, Deed::Give(count), reply_of(outcome))
+        }
+        Action::Fill(count, _) => Rung::Call(end, Deed::Give(u64::from(*count)), reply_of(outcome)),
+        Action::Send => making_rung(end, Deed::Send, false, outcome),
+        Action::Resend => making_rung(end, Deed::Resend, true, outcome),
+        Action::Deliver(name) => {
+            coming_rung(end, Deed::Deliver(*name), Brought::Segment(*name), outcome)
+        }
+        Action::Inject(_) => coming_rung(end, Deed::Inject, Brought::Injected, outcome),
+        Action::Alter(name, _, _, _) => {
+            coming_rung(end, Deed::Alter(*name), Brought::Altered(*name), outcome)
+        }
+        Action::Take(_) => Rung::Call(end, Deed::Take, reply_of(outcome)),
+        Action::Close => Rung::Call(end, Deed::Close, reply_of(outcome)),
+        Action::Abort => Rung::Call(end, Deed::Abort, reply_of(outcome)),
+        Action::AddRow(_) => Rung::Call(end, Deed::Add, reply_of(outcome)),
+        Action::Withdraw(row) => Rung::Call(end, Deed::Withdraw(*row), reply_of(outcome)),
+    }
+}
+
 /// The rung of an event with this outcome; none exactly where a segment is to be shown.
 pub(crate) fn rung_of(event: &Event, outcome: &Outcome) -> Option<Rung>
     ensures { (is : book.Outcome) → Shows outcome.now is → result ≡ rung_of event.now is }
 {
     match event {
-        Event::Clock(end, seconds) => Some(Rung::Clock(*end, *seconds)),
-        Event::Connect(end, _) => Some(Rung::Call(*end, Deed::Connect, reply_of(outcome))),
-        Event::Listen(end, _) => Some(Rung::Call(*end, Deed::Listen, reply_of(outcome))),
-        Event::Start(end, _, _) => Some(Rung::Call(*end, Deed::Start, reply_of(outcome))),
-        Event::Give(end, bytes) => {
-            let count = bytes.as_slice().len() as u64;
-            Some(Rung::Call(*end, Deed::Give(count), reply_of(outcome)))
-        }
-        Event::Fill(end, count, _) => {
-            Some(Rung::Call(*end, Deed::Give(u64::from(*count)), reply_of(outcome)))
-        }
-        Event::Send(end) => Some(making_rung(*end, Deed::Send, false, outcome)),
-        Event::Resend(end) => Some(making_rung(*end, Deed::Resend, true, outcome)),
-        Event::Deliver(end, name) => {
-            Some(coming_rung(*end, Deed::Deliver(*name), Brought::Segment(*name), outcome))
-        }
-        Event::Inject(end, _) => Some(coming_rung(*end, Deed::Inject, Brought::Injected, outcome)),
-        Event::Alter(end, name, _, _, _) => {
-            Some(coming_rung(*end, Deed::Alter(*name), Brought::Altered(*name), outcome))
-        }
-        Event::Take(end, _) => Some(Rung::Call(*end, Deed::Take, reply_of(outcome))),
-        Event::Close(end) => Some(Rung::Call(*end, Deed::Close, reply_of(outcome))),
-        Event::Abort(end) => Some(Rung::Call(*end, Deed::Abort, reply_of(outcome))),
-        Event::AddRow(end, _) => Some(Rung::Call(*end, Deed::Add, reply_of(outcome))),
-        Event::Withdraw(end, row) => {
-            Some(Rung::Call(*end, Deed::Withdraw(*row), reply_of(outcome)))
-        }
+        Event::At(end, action) => Some(rung_at(*end, action, outcome)),
         Event::Dump(_) => None,
     }
 }

@@ -14,7 +14,8 @@ use Rattle.book_keys.specs.Rows.{Row, Table, has_address}
 use Rattle.book_keys.specs.Shared.{shared_row}
 use Rattle.book_keys.proofs.ValidLaws.{empty-valid, shared-valid, tables_of-valid}
 use Rattle.book_link.specs.declared.event.Event.{Event}
-use Rattle.book_link.specs.declared.event.Event.TheVariants.{Clock, Connect, Listen, Start, Give, Fill, Send, Resend, Deliver, Inject, Alter, Take, Close, Abort, AddRow, Withdraw, Dump}
+use Rattle.book_link.specs.declared.event.Event.TheVariants.{At, Dump}
+use Rattle.book_link.specs.declared.event.Action.TheVariants.{Clock, Connect, Listen, Start, Give, Fill, Send, Resend, Deliver, Inject, Alter, Take, Close, Abort, AddRow, Withdraw}
 use Rattle.law_link.specs.Laws.{EventFits, AddressesFit, RowFits, SetupFits, TablesFit}
 use Rattle.book_link.specs.Worlds.{first_rows, setup_of}
 use Rattle.book_cmd_link.specs.declared.script.Script.{Script}
@@ -30,25 +31,25 @@ use Rattle.law_headline.proofs.TableFits.{Fit, tables_fit}
 -- ---- events
 
 pub event_fits : (e : Event) → IsEvent e → EventFits e
-event_fits (Clock e seconds) r = r
-event_fits (Connect e isn) r = omega (arith, r)
-event_fits (Listen e isn) r = omega (arith, r)
-event_fits (Start e isn peer) r = (omega (arith, r.0), omega (arith, r.1))
-event_fits (Give e bytes) r = r.1
-event_fits (Fill e count byte) r = r.1
-event_fits (Send e) r = tt
-event_fits (Resend e) r = tt
-event_fits (Deliver e name) r = tt
-event_fits (Inject e bytes) r = r.small
-event_fits (Alter e name place mask fix) r = r.2
-event_fits (Take e count) r = tt
-event_fits (Close e) r = tt
-event_fits (Abort e) r = tt
-event_fits (AddRow e row) r =
+event_fits (At e (Clock seconds)) r = r
+event_fits (At e (Connect isn)) r = omega (arith, r)
+event_fits (At e (Listen isn)) r = omega (arith, r)
+event_fits (At e (Start isn peer)) r = (omega (arith, r.0), omega (arith, r.1))
+event_fits (At e (Give bytes)) r = r.1
+event_fits (At e (Fill count byte)) r = r.1
+event_fits (At e Send) r = tt
+event_fits (At e Resend) r = tt
+event_fits (At e (Deliver name)) r = tt
+event_fits (At e (Inject bytes)) r = r.small
+event_fits (At e (Alter name place mask fix)) r = r.2
+event_fits (At e (Take count)) r = tt
+event_fits (At e Close) r = tt
+event_fits (At e Abort) r = tt
+event_fits (At e (AddRow row)) r =
     let recv = r.recv_id in
     let send = r.send_id in
     record { recv_id = omega (arith, recv); send_id = omega (arith, send); master = r.master.small }
-event_fits (Withdraw e number) r = tt
+event_fits (At e (Withdraw number)) r = tt
 event_fits (Dump name) r = tt
 
 all_events : (es : List Event) → All IsEvent es → AllByRecursion EventFits es

@@ -2,7 +2,8 @@
 use Rattle.std.proofs.Common.{◌≡◌, List, [], ◌∷◌, ◌++◌, subst, sym}
 use Rattle.std.specs.List.{AllByRecursion}
 use Rattle.book_link.specs.declared.event.Event.{Event}
-use Rattle.book_link.specs.declared.event.Event.TheVariants.{Clock, Connect, Listen, Start, Give, Fill, Send, Resend, Deliver, Inject, Alter, Take, Close, Abort, AddRow, Withdraw, Dump}
+use Rattle.book_link.specs.declared.event.Event.TheVariants.{At, Dump}
+use Rattle.book_link.specs.declared.event.Action.TheVariants.{Clock, Connect, Listen, Start, Give, Fill, Send, Resend, Deliver, Inject, Alter, Take, Close, Abort, AddRow, Withdraw}
 use Rattle.law_link.specs.Laws.{SetupFits, TablesFit, EventFits}
 use Rattle.book_link.specs.Runs.{run}
 use Rattle.book_link.specs.Worlds.{Setup, World}
@@ -30,61 +31,61 @@ event_fits [] event rest all = all.0
 event_fits (e ∷ front) event rest all = event_fits front event rest all.1
 
 takes : (setup : Setup) (w : World) (event : Event) → TakesAsTold setup w event
-takes setup w (Take e count) = λ bytes shown is. took_from setup w e count bytes shown is
-takes setup w (Clock e seconds) = tt
-takes setup w (Connect e isn) = tt
-takes setup w (Listen e isn) = tt
-takes setup w (Start e isn peer) = tt
-takes setup w (Give e piece) = tt
-takes setup w (Fill e count byte) = tt
-takes setup w (Send e) = tt
-takes setup w (Resend e) = tt
-takes setup w (Deliver e name) = tt
-takes setup w (Inject e bytes) = tt
-takes setup w (Alter e name place mask fix) = tt
-takes setup w (Close e) = tt
-takes setup w (Abort e) = tt
-takes setup w (AddRow e row) = tt
-takes setup w (Withdraw e number) = tt
+takes setup w (At e (Take count)) = λ bytes shown is. took_from setup w e count bytes shown is
+takes setup w (At e (Clock seconds)) = tt
+takes setup w (At e (Connect isn)) = tt
+takes setup w (At e (Listen isn)) = tt
+takes setup w (At e (Start isn peer)) = tt
+takes setup w (At e (Give piece)) = tt
+takes setup w (At e (Fill count byte)) = tt
+takes setup w (At e Send) = tt
+takes setup w (At e Resend) = tt
+takes setup w (At e (Deliver name)) = tt
+takes setup w (At e (Inject bytes)) = tt
+takes setup w (At e (Alter name place mask fix)) = tt
+takes setup w (At e Close) = tt
+takes setup w (At e Abort) = tt
+takes setup w (At e (AddRow row)) = tt
+takes setup w (At e (Withdraw number)) = tt
 takes setup w (Dump name) = tt
 
 has_key : (setup : Setup) (w : World) (event : Event) → HasKey setup w event
-has_key setup w (Send e) = λ covered. (never_keyless setup w e covered).0
-has_key setup w (Resend e) = λ covered. (never_keyless setup w e covered).1
-has_key setup w (Take e count) = tt
-has_key setup w (Clock e seconds) = tt
-has_key setup w (Connect e isn) = tt
-has_key setup w (Listen e isn) = tt
-has_key setup w (Start e isn peer) = tt
-has_key setup w (Give e piece) = tt
-has_key setup w (Fill e count byte) = tt
-has_key setup w (Deliver e name) = tt
-has_key setup w (Inject e bytes) = tt
-has_key setup w (Alter e name place mask fix) = tt
-has_key setup w (Close e) = tt
-has_key setup w (Abort e) = tt
-has_key setup w (AddRow e row) = tt
-has_key setup w (Withdraw e number) = tt
+has_key setup w (At e Send) = λ covered. (never_keyless setup w e covered).0
+has_key setup w (At e Resend) = λ covered. (never_keyless setup w e covered).1
+has_key setup w (At e (Take count)) = tt
+has_key setup w (At e (Clock seconds)) = tt
+has_key setup w (At e (Connect isn)) = tt
+has_key setup w (At e (Listen isn)) = tt
+has_key setup w (At e (Start isn peer)) = tt
+has_key setup w (At e (Give piece)) = tt
+has_key setup w (At e (Fill count byte)) = tt
+has_key setup w (At e (Deliver name)) = tt
+has_key setup w (At e (Inject bytes)) = tt
+has_key setup w (At e (Alter name place mask fix)) = tt
+has_key setup w (At e Close) = tt
+has_key setup w (At e Abort) = tt
+has_key setup w (At e (AddRow row)) = tt
+has_key setup w (At e (Withdraw number)) = tt
 has_key setup w (Dump name) = tt
 
 module _ (setup : Setup) (fits : SetupFits setup) where
   admits : TablesFit setup → (front : List Event) (event : Event) → Fit front → AdmitsInTime setup (run setup front) event
-  admits tables front (Deliver e name) all = λ m rolling. rolls_over setup fits tables (run setup front) e name m (run_inv setup fits front all) rolling
-  admits tables front (Send e) all = tt
-  admits tables front (Resend e) all = tt
-  admits tables front (Take e count) all = tt
-  admits tables front (Clock e seconds) all = tt
-  admits tables front (Connect e isn) all = tt
-  admits tables front (Listen e isn) all = tt
-  admits tables front (Start e isn peer) all = tt
-  admits tables front (Give e piece) all = tt
-  admits tables front (Fill e count byte) all = tt
-  admits tables front (Inject e bytes) all = tt
-  admits tables front (Alter e name place mask fix) all = tt
-  admits tables front (Close e) all = tt
-  admits tables front (Abort e) all = tt
-  admits tables front (AddRow e row) all = tt
-  admits tables front (Withdraw e number) all = tt
+  admits tables front (At e (Deliver name)) all = λ m rolling. rolls_over setup fits tables (run setup front) e name m (run_inv setup fits front all) rolling
+  admits tables front (At e Send) all = tt
+  admits tables front (At e Resend) all = tt
+  admits tables front (At e (Take count)) all = tt
+  admits tables front (At e (Clock seconds)) all = tt
+  admits tables front (At e (Connect isn)) all = tt
+  admits tables front (At e (Listen isn)) all = tt
+  admits tables front (At e (Start isn peer)) all = tt
+  admits tables front (At e (Give piece)) all = tt
+  admits tables front (At e (Fill count byte)) all = tt
+  admits tables front (At e (Inject bytes)) all = tt
+  admits tables front (At e (Alter name place mask fix)) all = tt
+  admits tables front (At e Close) all = tt
+  admits tables front (At e Abort) all = tt
+  admits tables front (At e (AddRow row)) all = tt
+  admits tables front (At e (Withdraw number)) all = tt
   admits tables front (Dump name) all = tt
 
   pub lawful : (events : List Event) → Fit events → Lawful setup events

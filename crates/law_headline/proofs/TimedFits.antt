@@ -7,7 +7,8 @@ use Rattle.book_keys.specs.Lifetimes.{greatest_time}
 use Rattle.book_keys.specs.Nodes.{tables_of}
 use Rattle.book_keys.specs.Rows.{Table}
 use Rattle.book_link.specs.declared.event.Event.{Event}
-use Rattle.book_link.specs.declared.event.Event.TheVariants.{Clock, Resend}
+use Rattle.book_link.specs.declared.event.Event.TheVariants.{At}
+use Rattle.book_link.specs.declared.event.Action.TheVariants.{Clock, Resend}
 use Rattle.law_link.specs.Laws.{EventFits, SetupFits}
 use Rattle.book_link.specs.Worlds.{Setup, setup_of}
 use Rattle.book_cmd_timed.specs.declared.timed.TimedEvent.{TimedEvent}
@@ -33,7 +34,7 @@ either false x y one other = other refl
 
 until_fits : (setup : Setup) (e : End) (to : ℕ) (p : Progress) → to ≤ greatest_time → Fitting (until setup e to p)
 until_fits setup e to p low =
-    either (reading_at p e == to) (record { events = []; progress = p }) (record { events = Clock e to ∷ []; progress = plain setup p (Clock e to) })
+    either (reading_at p e == to) (record { events = []; progress = p }) (record { events = At e (Clock to) ∷ []; progress = plain setup p (At e (Clock to)) })
     (λ is. tt) (λ is. (low, tt))
 
 -- an expiry that comes in time fits, with what follows it
@@ -41,7 +42,7 @@ expiry_fits : (setup : Setup) (e : End) (to : ℕ) (p : Progress) (others : Prog
     → Fitting (by_expiry next to (expired_then setup e p others) (until setup e to p))
 expiry_fits setup e to p others None low rest = until_fits setup e to p low
 expiry_fits setup e to p others (Some d) low rest =
-    let q = after_expiry e (plain setup (plain setup p (Clock e d)) (Resend e)) in
+    let q = after_expiry e (plain setup (plain setup p (At e (Clock d))) (At e Resend)) in
     either (nat_lt to d) (until setup e to p) (before (expiry e d) (others q)) (λ is. until_fits setup e to p low)
     (λ is. let early : d ≤ to = ltb-false to d is in (omega (arith, early, low), (tt, rest q)))
 

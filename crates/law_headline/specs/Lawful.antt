@@ -2,7 +2,8 @@
 -- reordered, altered or injected, and whatever the clocks read.
 use Rattle.std.specs.Prelude.{◌≡◌, ◌≢◌, ℕ, Bool, List, ◌∷◌, ◌++◌}
 use Rattle.book_link.specs.declared.event.Event.{Event}
-use Rattle.book_link.specs.declared.event.Event.TheVariants.{Send, Resend, Deliver, Take}
+use Rattle.book_link.specs.declared.event.Event.TheVariants.{At}
+use Rattle.book_link.specs.declared.event.Action.TheVariants.{Send, Resend, Deliver, Take}
 use Rattle.book_link.specs.Outcomes.{Took, WithoutKey}
 use Rattle.book_link.specs.Runs.{run}
 use Rattle.book_link.specs.Steps.{step}
@@ -46,8 +47,8 @@ OnlyGrows setup w event = OnlyGrow w (step setup w event).world
 -- what a take gives is taken by the live session, and the end of the stream is shown where the take
 -- told it (own)
 abbrev pub TakesAsTold : Setup → World → Event → Type 0
-TakesAsTold setup w (Take e count) =
-    let after = step setup w (Take e count) in
+TakesAsTold setup w (At e (Take count)) =
+    let after = step setup w (At e (Take count)) in
     (bytes : List ℕ) (shown : Bool) → after.outcome ≡ Took bytes shown
     → TookFrom (live (side w e).sessions) (live (side after.world e).sessions) bytes shown
 TakesAsTold setup w _ = Unit {0}
@@ -55,15 +56,17 @@ TakesAsTold setup w _ = Unit {0}
 -- a segment that comes as it was made, within the lead and the lag for which the tables are
 -- aligned, is admitted (RFC 5925, section 7.5)
 abbrev pub AdmitsInTime : Setup → World → Event → Type 0
-AdmitsInTime setup w (Deliver e name) =
-    (m : Made) → RollsOver setup w e name m → IsAdmitted (step setup w (Deliver e name)).outcome
+AdmitsInTime setup w (At e (Deliver name)) =
+    (m : Made) → RollsOver setup w e name m
+    → IsAdmitted (step setup w (At e (Deliver name))).outcome
 AdmitsInTime setup w _ = Unit {0}
 
 -- an end whose table has no gap over a range that its reading lies in has a key to send with
 -- (RFC 5925, section 7.4)
 abbrev pub HasKey : Setup → World → Event → Type 0
-HasKey setup w (Send e) = IsCovered setup w e → (step setup w (Send e)).outcome ≢ WithoutKey
-HasKey setup w (Resend e) = IsCovered setup w e → (step setup w (Resend e)).outcome ≢ WithoutKey
+HasKey setup w (At e Send) = IsCovered setup w e → (step setup w (At e Send)).outcome ≢ WithoutKey
+HasKey setup w (At e Resend) =
+    IsCovered setup w e → (step setup w (At e Resend)).outcome ≢ WithoutKey
 HasKey setup w _ = Unit {0}
 
 -- of the run of these events (own)

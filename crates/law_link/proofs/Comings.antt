@@ -15,7 +15,8 @@ use Rattle.law_link.proofs.ByteLists.{altered_bytes}
 use Rattle.law_link.proofs.Tests.{choose}
 use Rattle.book_link.specs.Alterations.{has_place, altered}
 use Rattle.book_link.specs.declared.event.Event.{Event}
-use Rattle.book_link.specs.declared.event.Event.TheVariants.{Clock, Connect, Listen as Await, Start, Give, Fill, Send, Resend, Deliver, Inject, Alter, Take, Close, Abort, AddRow, Withdraw, Dump}
+use Rattle.book_link.specs.declared.event.Event.TheVariants.{At, Dump}
+use Rattle.book_link.specs.declared.event.Action.TheVariants.{Clock, Connect, Listen as Await, Start, Give, Fill, Send, Resend, Deliver, Inject, Alter, Take, Close, Abort, AddRow, Withdraw}
 use Rattle.book_link.specs.Outcomes.{Outcome, Idle, Nothing, HasClosed, Full, Done, NoPlace}
 use Rattle.book_link.specs.Worlds.{Setup, pair_of, Session, LinkSide, Made, Came, Happening, Making, Coming, World, side, live, segment_named}
 use Rattle.book_link.specs.Steps.{View, Act, add, put, with_table, with_clock, act_on, on_live, quietly, begin, given, sent, send, send_again, come, took, deliver, alter, add_row, withdraw, step, view_of}
@@ -107,20 +108,20 @@ module _ (setup : Setup) (fits : SetupFits setup) where
   alter_came w e place mask fix (Some m) r low all is = alter_if w e place mask fix m r (has_place m.bytes place) low (all m refl) is
 
   pub came_by : (w : World) (event : Event) (r : Came) → EventFits event → Inv setup w → (step setup w event).world.history ≡ Coming r ∷ w.history → CameBy setup w r
-  came_by w (Clock e seconds) r f inv is = absurd (put_quiet w e (with_clock (side w e) seconds) r is)
-  came_by w (Connect e isn) r f inv is = absurd (begin_quiet w e _ _ r is)
-  came_by w (Await e isn) r f inv is = absurd (begin_quiet w e _ _ r is)
-  came_by w (Start e isn peer) r f inv is = absurd (begin_quiet w e _ _ r is)
-  came_by w (Give e piece) r f inv is = absurd (live_quiet w e (side w e).sessions (given piece) r (given_quiet piece) is)
-  came_by w (Fill e count byte) r f inv is = absurd (live_quiet w e (side w e).sessions (given (replicate count byte)) r (given_quiet (replicate count byte)) is)
-  came_by w (Send e) r f inv is = absurd (live_quiet w e (side w e).sessions (send (view_of setup w e)) r (λ s. sent_quiet (view_of setup w e) s Idle (emit (side w e).rows (pair_of setup e) (side w e).clock s)) is)
-  came_by w (Resend e) r f inv is = absurd (live_quiet w e (side w e).sessions (send_again (view_of setup w e)) r (λ s. sent_quiet (view_of setup w e) s Nothing (resend (side w e).rows (pair_of setup e) (side w e).clock s)) is)
-  came_by w (Deliver e name) r f inv is = deliver_came w e (segment_named name w.history) r (λ m named. named_bytes setup fits w name m inv named) is
-  came_by w (Inject e bytes) r f inv is = come_came setup w e (side w e).sessions bytes r refl f is
-  came_by w (Alter e name place mask fix) r f inv is = alter_came w e place mask fix (segment_named name w.history) r f (λ m named. named_bytes setup fits w name m inv named) is
-  came_by w (Take e count) r f inv is = absurd (live_quiet w e (side w e).sessions (took count) r (λ s. tt) is)
-  came_by w (Close e) r f inv is = absurd (live_quiet w e (side w e).sessions _ r (λ s. tt) is)
-  came_by w (Abort e) r f inv is = absurd (live_quiet w e (side w e).sessions _ r (λ s. tt) is)
-  came_by w (AddRow e row) r f inv is = absurd (add_quiet w e (adding (side w e).rows (added_row row)) r is)
-  came_by w (Withdraw e n) r f inv is = absurd (withdraw_quiet w e (withdrawn (side w e).rows n) r is)
+  came_by w (At e (Clock seconds)) r f inv is = absurd (put_quiet w e (with_clock (side w e) seconds) r is)
+  came_by w (At e (Connect isn)) r f inv is = absurd (begin_quiet w e _ _ r is)
+  came_by w (At e (Await isn)) r f inv is = absurd (begin_quiet w e _ _ r is)
+  came_by w (At e (Start isn peer)) r f inv is = absurd (begin_quiet w e _ _ r is)
+  came_by w (At e (Give piece)) r f inv is = absurd (live_quiet w e (side w e).sessions (given piece) r (given_quiet piece) is)
+  came_by w (At e (Fill count byte)) r f inv is = absurd (live_quiet w e (side w e).sessions (given (replicate count byte)) r (given_quiet (replicate count byte)) is)
+  came_by w (At e Send) r f inv is = absurd (live_quiet w e (side w e).sessions (send (view_of setup w e)) r (λ s. sent_quiet (view_of setup w e) s Idle (emit (side w e).rows (pair_of setup e) (side w e).clock s)) is)
+  came_by w (At e Resend) r f inv is = absurd (live_quiet w e (side w e).sessions (send_again (view_of setup w e)) r (λ s. sent_quiet (view_of setup w e) s Nothing (resend (side w e).rows (pair_of setup e) (side w e).clock s)) is)
+  came_by w (At e (Deliver name)) r f inv is = deliver_came w e (segment_named name w.history) r (λ m named. named_bytes setup fits w name m inv named) is
+  came_by w (At e (Inject bytes)) r f inv is = come_came setup w e (side w e).sessions bytes r refl f is
+  came_by w (At e (Alter name place mask fix)) r f inv is = alter_came w e place mask fix (segment_named name w.history) r f (λ m named. named_bytes setup fits w name m inv named) is
+  came_by w (At e (Take count)) r f inv is = absurd (live_quiet w e (side w e).sessions (took count) r (λ s. tt) is)
+  came_by w (At e Close) r f inv is = absurd (live_quiet w e (side w e).sessions _ r (λ s. tt) is)
+  came_by w (At e Abort) r f inv is = absurd (live_quiet w e (side w e).sessions _ r (λ s. tt) is)
+  came_by w (At e (AddRow row)) r f inv is = absurd (add_quiet w e (adding (side w e).rows (added_row row)) r is)
+  came_by w (At e (Withdraw n)) r f inv is = absurd (withdraw_quiet w e (withdrawn (side w e).rows n) r is)
   came_by w (Dump name) r f inv is = absurd (longer (Coming r) w.history is)

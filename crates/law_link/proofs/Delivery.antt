@@ -13,7 +13,8 @@ use Rattle.book_link.specs.RowLines.{added_row}
 use Rattle.law_link.proofs.ByteLists.{altered_bytes, repeated}
 use Rattle.book_link.specs.Alterations.{has_place, altered}
 use Rattle.book_link.specs.declared.event.Event.{Event}
-use Rattle.book_link.specs.declared.event.Event.TheVariants.{Clock, Connect, Listen as Await, Start, Give, Fill, Send, Resend, Deliver, Inject, Alter, Take, Close, Abort, AddRow, Withdraw, Dump}
+use Rattle.book_link.specs.declared.event.Event.TheVariants.{At, Dump}
+use Rattle.book_link.specs.declared.event.Action.TheVariants.{Clock, Connect, Listen as Await, Start, Give, Fill, Send, Resend, Deliver, Inject, Alter, Take, Close, Abort, AddRow, Withdraw}
 use Rattle.law_link.specs.Laws.{SetupFits, EventFits}
 use Rattle.book_link.specs.Worlds.{other, Setup, pair_of, Session, LinkSide, Made, World, side, find, segment_named}
 use Rattle.book_link.specs.Steps.{Stepped, Act, put, with_sessions, with_table, ticked, with_clock, acted, act_on, begin, on_live, come, deliver, alter, add_row, withdraw, step, view_of}
@@ -96,22 +97,22 @@ module _ (setup : Setup) (fits : SetupFits setup) where
   withdraw_heard w e (Some rows) h = quiet_heard w e (with_table (side w e) rows) refl h
 
   pub step_heard : (w : World) (event : Event) → EventFits event → Inv setup w → Heard w → Heard (step setup w event).world
-  step_heard w (Clock e seconds) f inv h = clock_heard w e seconds inv h
-  step_heard w (Connect e isn) f inv h = new_heard w e (connected (pair_of setup e) isn) (find (side w e).sessions isn) refl (omega arith) (λ p. refl) refl h
-  step_heard w (Await e isn) f inv h = new_heard w e (listening (pair_of setup e) isn) (find (side w e).sessions isn) refl (omega arith) (λ p. refl) refl h
-  step_heard w (Start e isn peer) f inv h = new_heard w e (started (pair_of setup e) isn peer) (find (side w e).sessions isn) refl (omega arith) (λ p. refl) refl h
-  step_heard w (Give e piece) f inv h = act_heard w e (side w e).sessions _ refl inv (λ s a b. given_ok setup e piece s f a b) h
-  step_heard w (Fill e count byte) f inv h = act_heard w e (side w e).sessions _ refl inv (λ s a b. given_ok setup e (replicate count byte) s (repeated count byte f).at a b) h
-  step_heard w (Send e) f inv h = act_heard w e (side w e).sessions _ refl inv (λ s a b. send_ok setup e w (inv.rows e) s a b) h
-  step_heard w (Resend e) f inv h = act_heard w e (side w e).sessions _ refl inv (λ s a b. resend_act_ok setup e w (inv.rows e) s a b) h
-  step_heard w (Deliver e name) f inv h = deliver_heard w e (segment_named name w.history) (λ m is. named_bytes setup fits w name m inv is) inv h
-  step_heard w (Inject e bytes) f inv h = arrive_heard w e bytes f inv h
-  step_heard w (Alter e name place mask fix) f inv h = alter_heard w e place mask fix (segment_named name w.history) f (λ m is. named_bytes setup fits w name m inv is) inv h
-  step_heard w (Take e count) f inv h = act_heard w e (side w e).sessions _ refl inv (λ s a b. took_ok setup e count s a b) h
-  step_heard w (Close e) f inv h = act_heard w e (side w e).sessions _ refl inv (λ s a b. close_ok setup e s s.phase a b) h
-  step_heard w (Abort e) f inv h = act_heard w e (side w e).sessions _ refl inv (λ s a b. abort_ok setup e s a b) h
-  step_heard w (AddRow e row) f inv h = add_heard w e (adding (side w e).rows (added_row row)) h
-  step_heard w (Withdraw e n) f inv h = withdraw_heard w e (withdrawn (side w e).rows n) h
+  step_heard w (At e (Clock seconds)) f inv h = clock_heard w e seconds inv h
+  step_heard w (At e (Connect isn)) f inv h = new_heard w e (connected (pair_of setup e) isn) (find (side w e).sessions isn) refl (omega arith) (λ p. refl) refl h
+  step_heard w (At e (Await isn)) f inv h = new_heard w e (listening (pair_of setup e) isn) (find (side w e).sessions isn) refl (omega arith) (λ p. refl) refl h
+  step_heard w (At e (Start isn peer)) f inv h = new_heard w e (started (pair_of setup e) isn peer) (find (side w e).sessions isn) refl (omega arith) (λ p. refl) refl h
+  step_heard w (At e (Give piece)) f inv h = act_heard w e (side w e).sessions _ refl inv (λ s a b. given_ok setup e piece s f a b) h
+  step_heard w (At e (Fill count byte)) f inv h = act_heard w e (side w e).sessions _ refl inv (λ s a b. given_ok setup e (replicate count byte) s (repeated count byte f).at a b) h
+  step_heard w (At e Send) f inv h = act_heard w e (side w e).sessions _ refl inv (λ s a b. send_ok setup e w (inv.rows e) s a b) h
+  step_heard w (At e Resend) f inv h = act_heard w e (side w e).sessions _ refl inv (λ s a b. resend_act_ok setup e w (inv.rows e) s a b) h
+  step_heard w (At e (Deliver name)) f inv h = deliver_heard w e (segment_named name w.history) (λ m is. named_bytes setup fits w name m inv is) inv h
+  step_heard w (At e (Inject bytes)) f inv h = arrive_heard w e bytes f inv h
+  step_heard w (At e (Alter name place mask fix)) f inv h = alter_heard w e place mask fix (segment_named name w.history) f (λ m is. named_bytes setup fits w name m inv is) inv h
+  step_heard w (At e (Take count)) f inv h = act_heard w e (side w e).sessions _ refl inv (λ s a b. took_ok setup e count s a b) h
+  step_heard w (At e Close) f inv h = act_heard w e (side w e).sessions _ refl inv (λ s a b. close_ok setup e s s.phase a b) h
+  step_heard w (At e Abort) f inv h = act_heard w e (side w e).sessions _ refl inv (λ s a b. abort_ok setup e s a b) h
+  step_heard w (At e (AddRow row)) f inv h = add_heard w e (adding (side w e).rows (added_row row)) h
+  step_heard w (At e (Withdraw n)) f inv h = withdraw_heard w e (withdrawn (side w e).rows n) h
   step_heard w (Dump name) f inv h = h
 
   pub heard_from : (w : World) (events : List Event) → AllByRecursion EventFits events → Inv setup w → Heard w → Heard (run_from setup w events)

@@ -13,7 +13,8 @@ use Rattle.book_endpoint.specs.Emissions.{Draft, Emitted, Quiet, NoKey, Emits, m
 use Rattle.endpoint_steps.specs.Drafting.{to_emit, to_resend, keyed, emitted}
 use Rattle.endpoint_steps.proofs.Drafting.{emit_by_drafts, resend_by_drafts}
 use Rattle.book_link.specs.Outcomes.{Outcome, WithoutKey, Idle, Nothing}
-use Rattle.book_link.specs.declared.event.Event.TheVariants.{Send, Resend}
+use Rattle.book_link.specs.declared.event.Event.TheVariants.{At}
+use Rattle.book_link.specs.declared.event.Action.TheVariants.{Send, Resend}
 use Rattle.book_link.specs.Worlds.{Setup, pair_of, Session, World, side}
 use Rattle.book_link.specs.Steps.{View, Act, sent, send, send_again, act_on, step, view_of}
 use Rattle.law_link.specs.Laws.{IsCovered}
@@ -49,7 +50,7 @@ covered_now : (setup : Setup) (w : World) (e : End) → IsCovered setup w e → 
 covered_now setup w e c = c.no_gap (side w e).clock c.after c.before
 
 -- at a time without a gap a send or a resend finds a row
-pub never_keyless : (setup : Setup) (w : World) (e : End) → IsCovered setup w e → ((step setup w (Send e)).outcome ≢ WithoutKey) × ((step setup w (Resend e)).outcome ≢ WithoutKey)
+pub never_keyless : (setup : Setup) (w : World) (e : End) → IsCovered setup w e → ((step setup w (At e Send)).outcome ≢ WithoutKey) × ((step setup w (At e Resend)).outcome ≢ WithoutKey)
 never_keyless setup w e c =
     let rows = (side w e).rows in
     let pair = pair_of setup e in

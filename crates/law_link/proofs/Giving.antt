@@ -13,7 +13,8 @@ use Rattle.book_endpoint.specs.Emissions.{Emitted, Quiet, NoKey, Emits, emit, re
 use Rattle.book_endpoint.specs.States.{EndState, connected, listening, started, room, gives, give, close_in, abort, tick}
 use Rattle.book_link.specs.Alterations.{has_place, altered}
 use Rattle.book_link.specs.declared.event.Event.{Event}
-use Rattle.book_link.specs.declared.event.Event.TheVariants.{Clock, Connect, Listen, Start, Give, Fill, Send, Resend, Deliver, Inject, Alter, Take, Close, Abort, AddRow, Withdraw, Dump}
+use Rattle.book_link.specs.declared.event.Event.TheVariants.{At, Dump}
+use Rattle.book_link.specs.declared.event.Action.TheVariants.{Clock, Connect, Listen, Start, Give, Fill, Send, Resend, Deliver, Inject, Alter, Take, Close, Abort, AddRow, Withdraw}
 use Rattle.book_link.specs.Outcomes.{Outcome, Done, Full, HasClosed, Idle, Nothing}
 use Rattle.book_link.specs.RowLines.{added_row}
 use Rattle.book_link.specs.Runs.{empty, run_from, run}
@@ -120,22 +121,22 @@ withdraw_most n w e None h = stays n w h
 withdraw_most n w e (Some rows) h = put_most n w e (with_table (side w e) rows) None (stays n w h e) h
 
 step_most : (n : ℕ) (setup : Setup) (w : World) (event : Event) → EachAtMost n w → EachAtMost (n + 65535) (step setup w event).world
-step_most n setup w (Clock e seconds) h = put_most n w e (with_clock (side w e) seconds) None (ticked_most n seconds (side w e).sessions (h e)) h
-step_most n setup w (Connect e isn) h = begin_most n w e (connected (pair_of setup e) isn) (find (side w e).sessions isn) refl h
-step_most n setup w (Listen e isn) h = begin_most n w e (listening (pair_of setup e) isn) (find (side w e).sessions isn) refl h
-step_most n setup w (Start e isn peer) h = begin_most n w e (started (pair_of setup e) isn peer) (find (side w e).sessions isn) refl h
-step_most n setup w (Give e piece) h = live_most n w e _ (piece_gives piece) h
-step_most n setup w (Fill e count byte) h = live_most n w e _ (piece_gives (replicate count byte)) h
-step_most n setup w (Send e) h = live_most n w e _ (λ s. sent_gives (view_of setup w e) s Idle (emit (side w e).rows (pair_of setup e) (side w e).clock s) (emit_emitting (side w e).rows (pair_of setup e) (side w e).clock s)) h
-step_most n setup w (Resend e) h = live_most n w e _ (λ s. sent_gives (view_of setup w e) s Nothing (resend (side w e).rows (pair_of setup e) (side w e).clock s) (resend_emitting (side w e).rows (pair_of setup e) (side w e).clock s)) h
-step_most n setup w (Deliver e name) h = deliver_most n setup w e (segment_named name w.history) h
-step_most n setup w (Inject e bytes) h = live_most n w e _ (come_gives setup e w bytes) h
-step_most n setup w (Alter e name place mask fix) h = alter_most n setup w e place mask fix (segment_named name w.history) h
-step_most n setup w (Take e count) h = live_most n w e (took count) (λ s. same_gives s (took count s) refl) h
-step_most n setup w (Close e) h = live_most n w e _ (λ s. close_gives s s.phase) h
-step_most n setup w (Abort e) h = live_most n w e _ (λ s. same_gives s (quietly (abort s) Done) refl) h
-step_most n setup w (AddRow e row) h = row_most n w e (adding (side w e).rows (added_row row)) h
-step_most n setup w (Withdraw e k) h = withdraw_most n w e (withdrawn (side w e).rows k) h
+step_most n setup w (At e (Clock seconds)) h = put_most n w e (with_clock (side w e) seconds) None (ticked_most n seconds (side w e).sessions (h e)) h
+step_most n setup w (At e (Connect isn)) h = begin_most n w e (connected (pair_of setup e) isn) (find (side w e).sessions isn) refl h
+step_most n setup w (At e (Listen isn)) h = begin_most n w e (listening (pair_of setup e) isn) (find (side w e).sessions isn) refl h
+step_most n setup w (At e (Start isn peer)) h = begin_most n w e (started (pair_of setup e) isn peer) (find (side w e).sessions isn) refl h
+step_most n setup w (At e (Give piece)) h = live_most n w e _ (piece_gives piece) h
+step_most n setup w (At e (Fill count byte)) h = live_most n w e _ (piece_gives (replicate count byte)) h
+step_most n setup w (At e Send) h = live_most n w e _ (λ s. sent_gives (view_of setup w e) s Idle (emit (side w e).rows (pair_of setup e) (side w e).clock s) (emit_emitting (side w e).rows (pair_of setup e) (side w e).clock s)) h
+step_most n setup w (At e Resend) h = live_most n w e _ (λ s. sent_gives (view_of setup w e) s Nothing (resend (side w e).rows (pair_of setup e) (side w e).clock s) (resend_emitting (side w e).rows (pair_of setup e) (side w e).clock s)) h
+step_most n setup w (At e (Deliver name)) h = deliver_most n setup w e (segment_named name w.history) h
+step_most n setup w (At e (Inject bytes)) h = live_most n w e _ (come_gives setup e w bytes) h
+step_most n setup w (At e (Alter name place mask fix)) h = alter_most n setup w e place mask fix (segment_named name w.history) h
+step_most n setup w (At e (Take count)) h = live_most n w e (took count) (λ s. same_gives s (took count s) refl) h
+step_most n setup w (At e Close) h = live_most n w e _ (λ s. close_gives s s.phase) h
+step_most n setup w (At e Abort) h = live_most n w e _ (λ s. same_gives s (quietly (abort s) Done) refl) h
+step_most n setup w (At e (AddRow row)) h = row_most n w e (adding (side w e).rows (added_row row)) h
+step_most n setup w (At e (Withdraw k)) h = withdraw_most n w e (withdrawn (side w e).rows k) h
 step_most n setup w (Dump name) h = stays n w h
 
 -- ---- a run

@@ -7,7 +7,8 @@ use Rattle.book_keys.specs.Tables.{Adding, AddedAs, TooMany, OverlapsRow, adding
 use Rattle.book_endpoint.specs.States.{EndState, connected, listening, started}
 use Rattle.book_link.specs.Alterations.{has_place, altered}
 use Rattle.book_link.specs.declared.event.Event.{Event}
-use Rattle.book_link.specs.declared.event.Event.TheVariants.{Clock, Connect, Listen, Start, Give, Fill, Send, Resend, Deliver, Inject, Alter, Take, Close, Abort, AddRow, Withdraw, Dump}
+use Rattle.book_link.specs.declared.event.Event.TheVariants.{At, Dump}
+use Rattle.book_link.specs.declared.event.Action.TheVariants.{Clock, Connect, Listen, Start, Give, Fill, Send, Resend, Deliver, Inject, Alter, Take, Close, Abort, AddRow, Withdraw}
 use Rattle.book_link.specs.Outcomes.{Outcome}
 use Rattle.book_link.specs.Reports.{outcome_line, lines_from, summary, report}
 use Rattle.book_link.specs.RowLines.{added_row}
@@ -111,22 +112,22 @@ withdraw_adds w e None = adds_none w
 withdraw_adds w e (Some rows) = put_adds w e (with_table (side w e) rows) None
 
 step_adds : (setup : Setup) (w : World) (event : Event) → Adds w (step setup w event).world
-step_adds setup w (Clock e seconds) = put_adds w e (with_clock (side w e) seconds) None
-step_adds setup w (Connect e isn) = begin_adds w e (connected (pair_of setup e) isn) (find (side w e).sessions isn)
-step_adds setup w (Listen e isn) = begin_adds w e (listening (pair_of setup e) isn) (find (side w e).sessions isn)
-step_adds setup w (Start e isn peer) = begin_adds w e (started (pair_of setup e) isn peer) (find (side w e).sessions isn)
-step_adds setup w (Give e piece) = live_adds w e _
-step_adds setup w (Fill e count byte) = live_adds w e _
-step_adds setup w (Send e) = live_adds w e _
-step_adds setup w (Resend e) = live_adds w e _
-step_adds setup w (Deliver e name) = deliver_adds setup w e (segment_named name w.history)
-step_adds setup w (Inject e bytes) = live_adds w e _
-step_adds setup w (Alter e name place mask fix) = alter_adds setup w e place mask fix (segment_named name w.history)
-step_adds setup w (Take e count) = live_adds w e _
-step_adds setup w (Close e) = live_adds w e _
-step_adds setup w (Abort e) = live_adds w e _
-step_adds setup w (AddRow e row) = row_adds w e (adding (side w e).rows (added_row row))
-step_adds setup w (Withdraw e n) = withdraw_adds w e (withdrawn (side w e).rows n)
+step_adds setup w (At e (Clock seconds)) = put_adds w e (with_clock (side w e) seconds) None
+step_adds setup w (At e (Connect isn)) = begin_adds w e (connected (pair_of setup e) isn) (find (side w e).sessions isn)
+step_adds setup w (At e (Listen isn)) = begin_adds w e (listening (pair_of setup e) isn) (find (side w e).sessions isn)
+step_adds setup w (At e (Start isn peer)) = begin_adds w e (started (pair_of setup e) isn peer) (find (side w e).sessions isn)
+step_adds setup w (At e (Give piece)) = live_adds w e _
+step_adds setup w (At e (Fill count byte)) = live_adds w e _
+step_adds setup w (At e Send) = live_adds w e _
+step_adds setup w (At e Resend) = live_adds w e _
+step_adds setup w (At e (Deliver name)) = deliver_adds setup w e (segment_named name w.history)
+step_adds setup w (At e (Inject bytes)) = live_adds w e _
+step_adds setup w (At e (Alter name place mask fix)) = alter_adds setup w e place mask fix (segment_named name w.history)
+step_adds setup w (At e (Take count)) = live_adds w e _
+step_adds setup w (At e Close) = live_adds w e _
+step_adds setup w (At e Abort) = live_adds w e _
+step_adds setup w (At e (AddRow row)) = row_adds w e (adding (side w e).rows (added_row row))
+step_adds setup w (At e (Withdraw n)) = withdraw_adds w e (withdrawn (side w e).rows n)
 step_adds setup w (Dump name) = adds_none w
 
 run_adds : (setup : Setup) (w : World) (events : List Event) → Adds w (run_from setup w events)

@@ -9,7 +9,8 @@ use Rattle.book_keys.specs.Tables.{Adding, AddedAs, TooMany, OverlapsRow, adding
 use Rattle.book_endpoint.specs.States.{EndState, connected, listening, started}
 use Rattle.book_link.specs.Alterations.{has_place, altered}
 use Rattle.book_link.specs.declared.event.Event.{Event}
-use Rattle.book_link.specs.declared.event.Event.TheVariants.{Clock, Connect, Listen, Start, Give, Fill, Send, Resend, Deliver, Inject, Alter, Take, Close, Abort, AddRow, Withdraw, Dump}
+use Rattle.book_link.specs.declared.event.Event.TheVariants.{At, Dump}
+use Rattle.book_link.specs.declared.event.Action.TheVariants.{Clock, Connect, Listen, Start, Give, Fill, Send, Resend, Deliver, Inject, Alter, Take, Close, Abort, AddRow, Withdraw}
 use Rattle.book_link.specs.RowLines.{added_row}
 use Rattle.book_link.specs.Runs.{empty, run_from, run}
 use Rattle.book_link.specs.Steps.{Stepped, Act, put, with_clock, with_table, with_sessions, acted, act_on, on_live, begin, come, deliver, alter, add_row, withdraw, step, view_of}
@@ -90,22 +91,22 @@ module _ (setup : Setup) (fits : SetupFits setup) where
       (λ t. arrival_grow w e (altered m.bytes (record { place = place; mask = mask; fix = fix })) (altered_bytes m.bytes place mask fix low (record { at = all m refl })).at inv) (λ t. still w)
 
   pub step_grow : (w : World) (event : Event) → EventFits event → Inv setup w → BothGrow w (step setup w event).world
-  step_grow w (Clock e seconds) f inv = put_grow w e (with_clock (side w e) seconds) None (ticked_grows seconds (side w e).sessions)
-  step_grow w (Connect e isn) f inv = begin_grow w e (connected (pair_of setup e) isn) (find (side w e).sessions isn) refl
-  step_grow w (Listen e isn) f inv = begin_grow w e (listening (pair_of setup e) isn) (find (side w e).sessions isn) refl
-  step_grow w (Start e isn peer) f inv = begin_grow w e (started (pair_of setup e) isn peer) (find (side w e).sessions isn) refl
-  step_grow w (Give e piece) f inv = act_grow setup w e (side w e).sessions _ refl inv (λ s a b. given_ok setup e piece s f a b)
-  step_grow w (Fill e count byte) f inv = act_grow setup w e (side w e).sessions _ refl inv (λ s a b. given_ok setup e (replicate count byte) s (repeated count byte f).at a b)
-  step_grow w (Send e) f inv = act_grow setup w e (side w e).sessions _ refl inv (λ s a b. send_ok setup e w (inv.rows e) s a b)
-  step_grow w (Resend e) f inv = act_grow setup w e (side w e).sessions _ refl inv (λ s a b. resend_act_ok setup e w (inv.rows e) s a b)
-  step_grow w (Deliver e name) f inv = deliver_grow w e (segment_named name w.history) (λ m is. named_bytes setup fits w name m inv is) inv
-  step_grow w (Inject e bytes) f inv = arrival_grow w e bytes f inv
-  step_grow w (Alter e name place mask fix) f inv = alter_grow w e place mask fix (segment_named name w.history) f (λ m is. named_bytes setup fits w name m inv is) inv
-  step_grow w (Take e count) f inv = act_grow setup w e (side w e).sessions _ refl inv (λ s a b. took_ok setup e count s a b)
-  step_grow w (Close e) f inv = act_grow setup w e (side w e).sessions _ refl inv (λ s a b. close_ok setup e s s.phase a b)
-  step_grow w (Abort e) f inv = act_grow setup w e (side w e).sessions _ refl inv (λ s a b. abort_ok setup e s a b)
-  step_grow w (AddRow e row) f inv = add_grow w e (adding (side w e).rows (added_row row))
-  step_grow w (Withdraw e n) f inv = withdraw_grow w e (withdrawn (side w e).rows n)
+  step_grow w (At e (Clock seconds)) f inv = put_grow w e (with_clock (side w e) seconds) None (ticked_grows seconds (side w e).sessions)
+  step_grow w (At e (Connect isn)) f inv = begin_grow w e (connected (pair_of setup e) isn) (find (side w e).sessions isn) refl
+  step_grow w (At e (Listen isn)) f inv = begin_grow w e (listening (pair_of setup e) isn) (find (side w e).sessions isn) refl
+  step_grow w (At e (Start isn peer)) f inv = begin_grow w e (started (pair_of setup e) isn peer) (find (side w e).sessions isn) refl
+  step_grow w (At e (Give piece)) f inv = act_grow setup w e (side w e).sessions _ refl inv (λ s a b. given_ok setup e piece s f a b)
+  step_grow w (At e (Fill count byte)) f inv = act_grow setup w e (side w e).sessions _ refl inv (λ s a b. given_ok setup e (replicate count byte) s (repeated count byte f).at a b)
+  step_grow w (At e Send) f inv = act_grow setup w e (side w e).sessions _ refl inv (λ s a b. send_ok setup e w (inv.rows e) s a b)
+  step_grow w (At e Resend) f inv = act_grow setup w e (side w e).sessions _ refl inv (λ s a b. resend_act_ok setup e w (inv.rows e) s a b)
+  step_grow w (At e (Deliver name)) f inv = deliver_grow w e (segment_named name w.history) (λ m is. named_bytes setup fits w name m inv is) inv
+  step_grow w (At e (Inject bytes)) f inv = arrival_grow w e bytes f inv
+  step_grow w (At e (Alter name place mask fix)) f inv = alter_grow w e place mask fix (segment_named name w.history) f (λ m is. named_bytes setup fits w name m inv is) inv
+  step_grow w (At e (Take count)) f inv = act_grow setup w e (side w e).sessions _ refl inv (λ s a b. took_ok setup e count s a b)
+  step_grow w (At e Close) f inv = act_grow setup w e (side w e).sessions _ refl inv (λ s a b. close_ok setup e s s.phase a b)
+  step_grow w (At e Abort) f inv = act_grow setup w e (side w e).sessions _ refl inv (λ s a b. abort_ok setup e s a b)
+  step_grow w (At e (AddRow row)) f inv = add_grow w e (adding (side w e).rows (added_row row))
+  step_grow w (At e (Withdraw n)) f inv = withdraw_grow w e (withdrawn (side w e).rows n)
   step_grow w (Dump name) f inv = still w
 
   run_grow : (w : World) (events : List Event) → AllByRecursion EventFits events → Inv setup w → BothGrow w (run_from setup w events)

@@ -37,7 +37,8 @@ use Rattle.law_link.proofs.Sound.{Sound, Later}
 use Rattle.law_link.proofs.Moves.{MovedOk, after_check_ok}
 use Rattle.law_link.proofs.Drafts.{DraftOk}
 use Rattle.law_link.proofs.Written.{area_ao, same_input, same_context}
-use Rattle.book_link.specs.declared.event.Event.TheVariants.{Deliver}
+use Rattle.book_link.specs.declared.event.Event.TheVariants.{At}
+use Rattle.book_link.specs.declared.event.Action.TheVariants.{Deliver}
 use Rattle.book_link.specs.Worlds.{other, Setup, pair_of, Session, Made, World, side, find, live, is_known, addressed}
 use Rattle.book_link.specs.Steps.{Act, act_on, come, deliver, step, view_of}
 use Rattle.law_link.specs.Laws.{SetupFits, IsNear, RollsOver, IsHeard, IsAdmitted, TablesFit}
@@ -282,7 +283,7 @@ finds_made setup fits tables w e name m inv c =
     subst (λ (x : Emission). Judges rows pair now r.state x.segment x.sending x.context x.number x.input) (sym h.emission) found in
     record { reads = wire.reads; right = wire.right; judges = there_found }
 
-pub rolls_over : (setup : Setup) (fits : SetupFits setup) → TablesFit setup → (w : World) (e : End) (name : ℕ) (m : Made) → Inv setup w → RollsOver setup w e name m → IsAdmitted (step setup w (Deliver e name)).outcome
+pub rolls_over : (setup : Setup) (fits : SetupFits setup) → TablesFit setup → (w : World) (e : End) (name : ℕ) (m : Made) → Inv setup w → RollsOver setup w e name m → IsAdmitted (step setup w (At e (Deliver name))).outcome
 rolls_over setup fits tables w e name m inv c =
     let rows = (side w e).rows in
     let pair = pair_of setup e in

@@ -28,7 +28,8 @@ use Rattle.book_base.specs.declared.address.Pair.{Pair}
 use Rattle.book_link.specs.RowLines.{added_row}
 use Rattle.book_link.specs.Alterations.{has_place, altered}
 use Rattle.book_link.specs.declared.event.Event.{Event}
-use Rattle.book_link.specs.declared.event.Event.TheVariants.{Clock, Connect, Listen as Await, Start, Give, Fill, Send, Resend, Deliver, Inject, Alter, Take, Close, Abort, AddRow, Withdraw, Dump}
+use Rattle.book_link.specs.declared.event.Event.TheVariants.{At, Dump}
+use Rattle.book_link.specs.declared.event.Action.TheVariants.{Clock, Connect, Listen as Await, Start, Give, Fill, Send, Resend, Deliver, Inject, Alter, Take, Close, Abort, AddRow, Withdraw}
 use Rattle.book_link.specs.Worlds.{Setup, pair_of, Session, Made, Came, Happening, Making, Coming, World, side, find, segment_named}
 use Rattle.book_link.specs.Steps.{Stepped, with_sessions, with_table, ticked, with_clock, begin, on_live, come, deliver, alter, add_row, withdraw, step, view_of}
 use Rattle.book_link.specs.Runs.{empty, run_from, run}
@@ -236,24 +237,24 @@ module _ (setup : Setup) (fits : SetupFits setup) where
       })
 
   pub step_keeps : (w : World) (event : Event) → EventFits event → Inv setup w → Inv setup (step setup w event).world
-  step_keeps w (Clock e seconds) f inv =
+  step_keeps w (At e (Clock seconds)) f inv =
       put_keeps setup w e (with_clock (side w e) seconds) None inv (ticked_grows seconds (side w e).sessions) tt
       (record { sound = ticked_sound seconds (side w e).sessions (inv.sound e); whole = ticked_whole seconds (side w e).sessions (inv.whole e); shown = ticked_shown seconds (side w e).sessions (inv.whole e) (inv.shown e); distinct = ticked_distinct seconds (side w e).sessions (inv.distinct e); rows = inv.rows e; valid = λ t. inv.valid t e; clock = f })
-  step_keeps w (Connect e isn) f inv = new_keeps w e (connected (pair_of setup e) isn) (find (side w e).sessions isn) refl (begun_sound (pair_of setup e) SynSent isn refl f) (begun_whole (pair_of setup e) SynSent isn refl refl) inv
-  step_keeps w (Await e isn) f inv = new_keeps w e (listening (pair_of setup e) isn) (find (side w e).sessions isn) refl (begun_sound (pair_of setup e) Listen isn refl f) (begun_whole (pair_of setup e) Listen isn refl refl) inv
-  step_keeps w (Start e isn peer) f inv = new_keeps w e (started (pair_of setup e) isn peer) (find (side w e).sessions isn) refl (started_sound setup e isn peer f.0 f.1) (started_whole setup e isn peer) inv
-  step_keeps w (Give e piece) f inv = act_keeps setup w e (side w e).sessions _ refl inv (λ s h k. given_ok setup e piece s f h k)
-  step_keeps w (Fill e count byte) f inv = act_keeps setup w e (side w e).sessions _ refl inv (λ s h k. given_ok setup e (replicate count byte) s (repeated count byte f).at h k)
-  step_keeps w (Send e) f inv = act_keeps setup w e (side w e).sessions _ refl inv (λ s h k. send_ok setup e w (inv.rows e) s h k)
-  step_keeps w (Resend e) f inv = act_keeps setup w e (side w e).sessions _ refl inv (λ s h k. resend_act_ok setup e w (inv.rows e) s h k)
-  step_keeps w (Deliver e name) f inv = deliver_keeps w e (segment_named name w.history) (λ m is. named_bytes w name m inv is) inv
-  step_keeps w (Inject e bytes) f inv = arrives w e bytes f inv
-  step_keeps w (Alter e name place mask fix) f inv = alter_keeps w e place mask fix (segment_named name w.history) f (λ m is. named_bytes w name m inv is) inv
-  step_keeps w (Take e count) f inv = act_keeps setup w e (side w e).sessions _ refl inv (λ s h k. took_ok setup e count s h k)
-  step_keeps w (Close e) f inv = act_keeps setup w e (side w e).sessions _ refl inv (λ s h k. close_ok setup e s s.phase h k)
-  step_keeps w (Abort e) f inv = act_keeps setup w e (side w e).sessions _ refl inv (λ s h k. abort_ok setup e s h k)
-  step_keeps w (AddRow e row) f inv = add_keeps w e (added_row row) (adding (side w e).rows (added_row row)) refl f inv
-  step_keeps w (Withdraw e n) f inv = withdraw_keeps w e n (withdrawn (side w e).rows n) refl inv
+  step_keeps w (At e (Connect isn)) f inv = new_keeps w e (connected (pair_of setup e) isn) (find (side w e).sessions isn) refl (begun_sound (pair_of setup e) SynSent isn refl f) (begun_whole (pair_of setup e) SynSent isn refl refl) inv
+  step_keeps w (At e (Await isn)) f inv = new_keeps w e (listening (pair_of setup e) isn) (find (side w e).sessions isn) refl (begun_sound (pair_of setup e) Listen isn refl f) (begun_whole (pair_of setup e) Listen isn refl refl) inv
+  step_keeps w (At e (Start isn peer)) f inv = new_keeps w e (started (pair_of setup e) isn peer) (find (side w e).sessions isn) refl (started_sound setup e isn peer f.0 f.1) (started_whole setup e isn peer) inv
+  step_keeps w (At e (Give piece)) f inv = act_keeps setup w e (side w e).sessions _ refl inv (λ s h k. given_ok setup e piece s f h k)
+  step_keeps w (At e (Fill count byte)) f inv = act_keeps setup w e (side w e).sessions _ refl inv (λ s h k. given_ok setup e (replicate count byte) s (repeated count byte f).at h k)
+  step_keeps w (At e Send) f inv = act_keeps setup w e (side w e).sessions _ refl inv (λ s h k. send_ok setup e w (inv.rows e) s h k)
+  step_keeps w (At e Resend) f inv = act_keeps setup w e (side w e).sessions _ refl inv (λ s h k. resend_act_ok setup e w (inv.rows e) s h k)
+  step_keeps w (At e (Deliver name)) f inv = deliver_keeps w e (segment_named name w.history) (λ m is. named_bytes w name m inv is) inv
+  step_keeps w (At e (Inject bytes)) f inv = arrives w e bytes f inv
+  step_keeps w (At e (Alter name place mask fix)) f inv = alter_keeps w e place mask fix (segment_named name w.history) f (λ m is. named_bytes w name m inv is) inv
+  step_keeps w (At e (Take count)) f inv = act_keeps setup w e (side w e).sessions _ refl inv (λ s h k. took_ok setup e count s h k)
+  step_keeps w (At e Close) f inv = act_keeps setup w e (side w e).sessions _ refl inv (λ s h k. close_ok setup e s s.phase h k)
+  step_keeps w (At e Abort) f inv = act_keeps setup w e (side w e).sessions _ refl inv (λ s h k. abort_ok setup e s h k)
+  step_keeps w (At e (AddRow row)) f inv = add_keeps w e (added_row row) (adding (side w e).rows (added_row row)) refl f inv
+  step_keeps w (At e (Withdraw n)) f inv = withdraw_keeps w e n (withdrawn (side w e).rows n) refl inv
   step_keeps w (Dump name) f inv = inv
 
   run_keeps : (w : World) (events : List Event) → AllByRecursion EventFits events → Inv setup w → Inv setup (run_from setup w events)

@@ -4,7 +4,8 @@ use Rattle.book_base.specs.declared.end.End.{End}
 use Rattle.book_base.specs.declared.end.End.TheVariants.{A, B}
 use Rattle.book_endpoint.specs.States.{taking, take_out, at_end}
 use Rattle.law_link.specs.Headline.{TookFrom}
-use Rattle.book_link.specs.declared.event.Event.TheVariants.{Take}
+use Rattle.book_link.specs.declared.event.Event.TheVariants.{At}
+use Rattle.book_link.specs.declared.event.Action.TheVariants.{Take}
 use Rattle.book_link.specs.Outcomes.{Took}
 use Rattle.book_link.specs.Worlds.{Setup, Session, LinkSide, Happening, World, side, live}
 use Rattle.book_link.specs.Steps.{put, with_sessions, acted, act_on, took, step}
@@ -39,6 +40,6 @@ took_by w e (s ∷ rest) count bytes shown is =
       marked = λ told. or_right s.end_shown (at_end t) (mark_is (taking count s.state) bytes (at_end t) shown is ∙ told);
     }
 
-pub took_from : (setup : Setup) (w : World) (e : End) (count : ℕ) (bytes : List ℕ) (shown : Bool) → (step setup w (Take e count)).outcome ≡ Took bytes shown
-    → TookFrom (live (side w e).sessions) (live (side (step setup w (Take e count)).world e).sessions) bytes shown
+pub took_from : (setup : Setup) (w : World) (e : End) (count : ℕ) (bytes : List ℕ) (shown : Bool) → (step setup w (At e (Take count))).outcome ≡ Took bytes shown
+    → TookFrom (live (side w e).sessions) (live (side (step setup w (At e (Take count))).world e).sessions) bytes shown
 took_from setup w e count bytes shown is = took_by w e (side w e).sessions count bytes shown is

@@ -21,10 +21,11 @@ use Rattle.book_endpoint.specs.declared.arrival.Arrival.TheVariants.{Unexpected,
 use Rattle.book_endpoint.specs.declared.arrival.Arrival.TheVariants.{NoAck, BadAck, TooManyRuns}
 use Rattle.book_endpoint.specs.declared.arrival.Arrival.TheVariants.{Reset, Taken}
 use Rattle.book_link.specs.declared.event.Event.{Event}
-use Rattle.book_link.specs.declared.event.Event.TheVariants.{Clock, Connect, Listen, Start, Give}
-use Rattle.book_link.specs.declared.event.Event.TheVariants.{Fill, Send, Resend, Deliver, Inject}
-use Rattle.book_link.specs.declared.event.Event.TheVariants.{Alter, Take, Close, Abort, AddRow}
-use Rattle.book_link.specs.declared.event.Event.TheVariants.{Withdraw, Dump}
+use Rattle.book_link.specs.declared.event.Event.TheVariants.{At, Dump}
+use Rattle.book_link.specs.declared.event.Action.TheVariants.{Clock, Connect, Listen, Start, Give}
+use Rattle.book_link.specs.declared.event.Action.TheVariants.{Fill, Send, Resend, Deliver, Inject}
+use Rattle.book_link.specs.declared.event.Action.TheVariants.{Alter, Take, Close, Abort, AddRow}
+use Rattle.book_link.specs.declared.event.Action.TheVariants.{Withdraw}
 use Rattle.book_link.specs.Outcomes.{Outcome, Answered}
 use Rattle.book_link.specs.RowLines.{added_row}
 use Rattle.book_link.specs.Worlds.{other, Setup, pair_of, first_rows, Session, Made, Came, Happening}
@@ -61,22 +62,22 @@ pub record TablesFit (setup : Setup) : Type 0 where
 -- what the types of an event say: initial sequence numbers are 32-bit numbers (RFC 9293, section
 -- 3.4.1), contents are bytes; and clock readings are times of a key file (own)
 abbrev pub EventFits : Event → Type 0
-EventFits (Clock e seconds) = seconds ≤ greatest_time
-EventFits (Connect e isn) = isn < 2 ^ 32
-EventFits (Listen e isn) = isn < 2 ^ 32
-EventFits (Start e isn peer) = (isn < 2 ^ 32) × (peer < 2 ^ 32)
-EventFits (Give e piece) = AreBytes piece
-EventFits (Fill e count byte) = byte < 256
-EventFits (Send e) = ⊤
-EventFits (Resend e) = ⊤
-EventFits (Deliver e name) = ⊤
-EventFits (Inject e bytes) = AreBytes bytes
-EventFits (Alter e name place mask fix) = mask < 256
-EventFits (Take e count) = ⊤
-EventFits (Close e) = ⊤
-EventFits (Abort e) = ⊤
-EventFits (AddRow e row) = RowFits (added_row row)
-EventFits (Withdraw e number) = ⊤
+EventFits (At e (Clock seconds)) = seconds ≤ greatest_time
+EventFits (At e (Connect isn)) = isn < 2 ^ 32
+EventFits (At e (Listen isn)) = isn < 2 ^ 32
+EventFits (At e (Start isn peer)) = (isn < 2 ^ 32) × (peer < 2 ^ 32)
+EventFits (At e (Give piece)) = AreBytes piece
+EventFits (At e (Fill count byte)) = byte < 256
+EventFits (At e Send) = ⊤
+EventFits (At e Resend) = ⊤
+EventFits (At e (Deliver name)) = ⊤
+EventFits (At e (Inject bytes)) = AreBytes bytes
+EventFits (At e (Alter name place mask fix)) = mask < 256
+EventFits (At e (Take count)) = ⊤
+EventFits (At e Close) = ⊤
+EventFits (At e Abort) = ⊤
+EventFits (At e (AddRow row)) = RowFits (added_row row)
+EventFits (At e (Withdraw number)) = ⊤
 EventFits (Dump name) = ⊤
 
 -- a range of times that has no gap in the end's table, and that holds the end's reading (own)

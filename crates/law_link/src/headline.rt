@@ -3,7 +3,8 @@ ghost use Rattle.std.specs.Prelude.{◌≡◌, ◌≤◌, ℕ, Bool, List, lengt
 ghost use Rattle.std.specs.List.{AllByRecursion};
 ghost use Rattle.book_base.specs.declared.end.End.{End};
 ghost use Rattle.book_link.specs.declared.event.Event.{Event};
-ghost use Rattle.book_link.specs.declared.event.Event.TheVariants.{Take};
+ghost use Rattle.book_link.specs.declared.event.Event.TheVariants.{At};
+ghost use Rattle.book_link.specs.declared.event.Action.TheVariants.{Take};
 ghost use Rattle.law_link.specs.Headline.{DeliversInOrder, EndsWhole, ShowsEnds, TookFrom, GivesFew, few_events, Acknowledges, AcknowledgedWasReceived, OnePartner, PartnerIsOne};
 ghost use Rattle.law_link.specs.Laws.{SetupFits, EventFits};
 ghost use Rattle.law_link.specs.Sessions.{ReceivesGiven};
@@ -33,8 +34,8 @@ pub fn receives_given()
 pub fn ends_whole()
     ensures reached { (setup : Setup) (events : List Event) → SetupFits setup → AllByRecursion EventFits events → EndsWhole (run setup events) }
     ensures shown { (setup : Setup) (events : List Event) → SetupFits setup → AllByRecursion EventFits events → ShowsEnds (run setup events) }
-    ensures told { (setup : Setup) (w : World) (e : End) (count : ℕ) (bytes : List ℕ) (shown : Bool) → (step setup w (Take e count)).outcome ≡ Took bytes shown
-        → TookFrom (live (side w e).sessions) (live (side (step setup w (Take e count)).world e).sessions) bytes shown }
+    ensures told { (setup : Setup) (w : World) (e : End) (count : ℕ) (bytes : List ℕ) (shown : Bool) → (step setup w (At e (Take count))).outcome ≡ Took bytes shown
+        → TookFrom (live (side w e).sessions) (live (side (step setup w (At e (Take count))).world e).sessions) bytes shown }
 {}
 
 /// Where a run counts no forgery and each session was given fewer than 2^31 bytes, each given byte

@@ -3,7 +3,8 @@ ghost use Rattle.std.specs.Prelude.{◌≢◌, ℕ, List};
 ghost use Rattle.std.specs.List.{AllByRecursion};
 ghost use Rattle.book_base.specs.declared.end.End.{End};
 ghost use Rattle.book_link.specs.declared.event.Event.{Event};
-ghost use Rattle.book_link.specs.declared.event.Event.TheVariants.{Send, Resend, Deliver};
+ghost use Rattle.book_link.specs.declared.event.Event.TheVariants.{At};
+ghost use Rattle.book_link.specs.declared.event.Action.TheVariants.{Send, Resend, Deliver};
 ghost use Rattle.book_link.specs.Outcomes.{WithoutKey};
 ghost use Rattle.law_link.specs.Laws.{SetupFits, TablesFit, EventFits, IsCovered, RollsOver, IsAdmitted, HasOrigin, ResetsByAbort};
 ghost use Rattle.book_link.specs.Runs.{run};
@@ -14,8 +15,8 @@ ghost use Rattle.book_link.specs.Worlds.{Setup, Made};
 /// reading lies in, the outcome isn't that there is no key. It holds for every setup and every list
 /// of events.
 pub fn never_keyless()
-    ensures send { (setup : Setup) (events : List Event) (e : End) → IsCovered setup (run setup events) e → (step setup (run setup events) (Send e)).outcome ≢ WithoutKey }
-    ensures resend { (setup : Setup) (events : List Event) (e : End) → IsCovered setup (run setup events) e → (step setup (run setup events) (Resend e)).outcome ≢ WithoutKey }
+    ensures send { (setup : Setup) (events : List Event) (e : End) → IsCovered setup (run setup events) e → (step setup (run setup events) (At e Send)).outcome ≢ WithoutKey }
+    ensures resend { (setup : Setup) (events : List Event) (e : End) → IsCovered setup (run setup events) e → (step setup (run setup events) (At e Resend)).outcome ≢ WithoutKey }
 {}
 
 /// A segment that is delivered as it was made, to the live session that it is addressed to, within
@@ -24,7 +25,7 @@ pub fn never_keyless()
 /// additions and withdrawals in between don't matter. The premises say what the types of a setup
 /// and of events say, and that the first tables are valid.
 pub fn rolls_over()
-    ensures { (setup : Setup) (events : List Event) (e : End) (name : ℕ) (m : Made) → SetupFits setup → TablesFit setup → AllByRecursion EventFits events → RollsOver setup (run setup events) e name m → IsAdmitted (step setup (run setup events) (Deliver e name)).outcome }
+    ensures { (setup : Setup) (events : List Event) (e : End) (name : ℕ) (m : Made) → SetupFits setup → TablesFit setup → AllByRecursion EventFits events → RollsOver setup (run setup events) e name m → IsAdmitted (step setup (run setup events) (At e (Deliver name))).outcome }
 {}
 
 /// Where a run counts no forgery, an arrival without SYN that passes at a session has the number,

@@ -4,7 +4,8 @@ use Rattle.book_base.specs.declared.end.End.{End}
 use Rattle.book_base.specs.declared.end.End.TheVariants.{A, B}
 use Rattle.book_keys.specs.Plans.{AlignedFrom, has_sendable}
 use Rattle.book_endpoint.specs.States.{give, started}
-use Rattle.book_link.specs.declared.event.Event.TheVariants.{Give}
+use Rattle.book_link.specs.declared.event.Event.TheVariants.{At}
+use Rattle.book_link.specs.declared.event.Action.TheVariants.{Give}
 use Rattle.book_link.specs.Runs.{run}
 use Rattle.book_link.specs.Storm.{storm_setup, storm_starts}
 use Rattle.book_link.specs.Worlds.{other, pair_of, Session, World, side, live}
@@ -13,7 +14,7 @@ use Rattle.law_progress.specs.Progress.{is_open, is_up, IsUp, IsWaiting}
 use Rattle.law_lossless.specs.Lossless.{IsInStep, AreInStep}
 
 abbrev pub begun : World
-begun = run storm_setup (storm_starts ++ Give A (1 ∷ []) ∷ [])
+begun = run storm_setup (storm_starts ++ At A (Give (1 ∷ [])) ∷ [])
 
 abbrev pub sessions : End → Session
 sessions A = record { state = give (1 ∷ []) (started (pair_of storm_setup A) 4294960000 4000000000); end_shown = false }

@@ -4,7 +4,8 @@ use Rattle.book_base.specs.declared.end.End.{End}
 use Rattle.book_base.specs.declared.end.End.TheVariants.{A, B}
 use Rattle.book_segments.specs.Segments.{bit_of}
 use Rattle.book_endpoint.specs.States.{EndState}
-use Rattle.book_link.specs.declared.event.Event.TheVariants.{Take}
+use Rattle.book_link.specs.declared.event.Event.TheVariants.{At}
+use Rattle.book_link.specs.declared.event.Action.TheVariants.{Take}
 use Rattle.book_link.specs.Worlds.{other, Setup, Session, World}
 use Rattle.book_link.specs.Steps.{step}
 use Rattle.book_link.specs.Runs.{run_from}
@@ -46,7 +47,7 @@ said_append setup w (x ∷ xs) ys =
 pub over_spoken : (setup : Setup) (fits : SetupFits setup) (w : World) (x e : End) (s t : EndState) → Over setup w e s t → Over setup (run_from setup w (speaking setup w x)) e s t
 unfolding speaking
 over_spoken setup fits w x e s t o =
-    let w0 = (step setup w (Take x 65535)).world in
+    let w0 = (step setup w (At x (Take 65535))).world in
     let r = over_take setup fits w o.over x in
     let one : Over setup w0 e s t = record { over = r.now; here = same_then s (o.over.session e).state (r.now.session e).state o.here (r.same e); there = same_then t (o.over.session (other e)).state (r.now.session (other e)).state o.there (r.same (other e)) } in
     over_after setup fits w0 e s t one (Sends x)

@@ -19,7 +19,8 @@ use Rattle.book_endpoint.specs.Verdicts.{judge}
 use Rattle.book_endpoint.specs.States.{ready, listening}
 use Rattle.book_endpoint.specs.Arrivals.{arrive}
 use Rattle.book_endpoint.specs.Emissions.{due_next, due_again, emit, resend}
-use Rattle.book_link.specs.declared.event.Event.TheVariants.{Connect, Listen, Send, Deliver}
+use Rattle.book_link.specs.declared.event.Event.TheVariants.{At}
+use Rattle.book_link.specs.declared.event.Action.TheVariants.{Connect, Listen, Send, Deliver}
 use Rattle.book_link.specs.Runs.{run}
 use Rattle.book_link.specs.Storm.{storm_setup}
 use Rattle.book_link.specs.Worlds.{other, pair_of, Session, World, side, live, forgeries}
@@ -28,7 +29,7 @@ use Rattle.law_progress.specs.Progress.{is_open, is_up, IsUp}
 use Rattle.law_lossless.specs.Lossless.{IsInStep, AreInStep}
 
 abbrev met : World
-met = run storm_setup (Connect A 4294960000 ∷ Listen B 4000000000 ∷ Send A ∷ Deliver B 1 ∷ Send B ∷ Deliver A 2 ∷ Send A ∷ Deliver B 3 ∷ [])
+met = run storm_setup (At A (Connect 4294960000) ∷ At B (Listen 4000000000) ∷ At A Send ∷ At B (Deliver 1) ∷ At B Send ∷ At A (Deliver 2) ∷ At A Send ∷ At B (Deliver 3) ∷ [])
 
 -- the newest session, or one that never is
 abbrev newest : List Session → Session

@@ -7,7 +7,8 @@ use Rattle.book_endpoint.specs.States.{EndState, window}
 use Rattle.book_endpoint.specs.Arrivals.{arrive}
 use Rattle.book_endpoint.specs.Emissions.{Emitted, Quiet, Emits, sets, told_window, sealed}
 use Rattle.book_link.specs.declared.event.Event.{Event}
-use Rattle.book_link.specs.declared.event.Event.TheVariants.{Deliver}
+use Rattle.book_link.specs.declared.event.Event.TheVariants.{At}
+use Rattle.book_link.specs.declared.event.Action.TheVariants.{Deliver}
 use Rattle.book_link.specs.Outcomes.{Outcome, Sent}
 use Rattle.book_link.specs.Worlds.{other, Setup, pair_of, Session, Made, Making, World, side, live, segment_named}
 use Rattle.book_link.specs.Steps.{Stepped, Act, add, acted, on_live, quietly, made_of, sent, come, deliver, step, view_of}
@@ -66,7 +67,7 @@ module _ (setup : Setup) (fits : SetupFits setup) (w : World) (lead lag : ℕ) (
       let facts2 : Facts setup w2 = subst (λ (k : Stepped). Facts setup k.world) is (facts_step setup fits w ev ev_fits two.facts) in
       let ok = named_ok setup fits w2 made.name w2.history made facts2.inv.made named in
       let reads : reading made.bytes ≡ Read em.segment = (wired setup ok.session.state made ok.by fits).reads in
-      let v = (step setup w2 (Deliver y made.name)).world in
+      let v = (step setup w2 (At y (Deliver made.name))).world in
       let v_is : v ≡ run_from setup w (ev ∷ delivering y (step setup w ev).outcome) =
       ap (λ (o : Outcome). run_from setup w2 (delivering y o)) (sym outcome) ∙ ap (λ (k : Stepped). run_from setup k.world (delivering y k.outcome)) (sym is) in
       let hear = come made.bytes (view_of setup w2 y) in

@@ -7,7 +7,8 @@ use Rattle.book_endpoint.specs.declared.phase.Phase.{Phase}
 use Rattle.book_endpoint.specs.declared.phase.Phase.TheVariants.{Listen, SynSent, SynReceived, Established, FinWait1, FinWait2, CloseWait, Closing, LastAck, TimeWait, Closed}
 use Rattle.book_endpoint.specs.States.{EndState, window, take_out}
 use Rattle.book_endpoint.specs.Emissions.{Quiet, emit, is_sending, sends_data, sends_fin}
-use Rattle.book_link.specs.declared.event.Event.TheVariants.{Send, Take}
+use Rattle.book_link.specs.declared.event.Event.TheVariants.{At}
+use Rattle.book_link.specs.declared.event.Action.TheVariants.{Send, Take}
 use Rattle.book_link.specs.Outcomes.{Idle}
 use Rattle.book_link.specs.Worlds.{other, Setup, pair_of, Session, World, side}
 use Rattle.book_link.specs.Steps.{step, took}
@@ -79,8 +80,8 @@ may_send s up h wide all left = sends_so s (sends_left s up h left) left (omega 
 
 -- ---- the worlds
 
-speaking_world : (setup : Setup) (w : World) (y : End) → let w0 = (step setup w (Take (other y) 65535)).world in
-    run_from setup w (speaking setup w (other y)) ≡ run_from setup w0 (Take y 65535 ∷ Send (other y) ∷ delivering y (step setup (step setup w0 (Take y 65535)).world (Send (other y))).outcome)
+speaking_world : (setup : Setup) (w : World) (y : End) → let w0 = (step setup w (At (other y) (Take 65535))).world in
+    run_from setup w (speaking setup w (other y)) ≡ run_from setup w0 (At y (Take 65535) ∷ At (other y) Send ∷ delivering y (step setup (step setup w0 (At y (Take 65535))).world (At (other y) Send)).outcome)
 unfolding speaking turn_events
 speaking_world setup w A = refl
 speaking_world setup w B = refl
@@ -92,15 +93,15 @@ module _ (setup : Setup) (fits : SetupFits setup) (w : World) (lead lag : ℕ) (
   ends = far_ends setup w lead lag y a b two
 
   abbrev w0 : World
-  w0 = (step setup w (Take (other y) 65535)).world
+  w0 = (step setup w (At (other y) (Take 65535))).world
 
   two0 : Two setup w0 lead lag y (all_taken a) b
   two0 =
       let stays : StaysUp a.state (take_out 65535 a.state) = record { opened = ends.up.phase; isn = refl; peer = refl; closing = refl; given = refl } in
-      two_far setup w lead lag y a b two (took 65535) (took 65535 a.state) refl stays two.up.unforged (facts_step setup fits w (Take (other y) 65535) tt two.facts)
+      two_far setup w lead lag y a b two (took 65535) (took 65535 a.state) refl stays two.up.unforged (facts_step setup fits w (At (other y) (Take 65535)) tt two.facts)
 
   abbrev w1 : World
-  w1 = (step setup w0 (Take y 65535)).world
+  w1 = (step setup w0 (At y (Take 65535))).world
 
   two1 : Two setup w1 lead lag y (all_taken a) (all_taken b)
   two1 = two_taken setup fits w0 lead lag y (all_taken a) b two0
@@ -110,7 +111,7 @@ module _ (setup : Setup) (fits : SetupFits setup) (w : World) (lead lag : ℕ) (
 
   -- the world once the far end has sent, and that has come
   abbrev v : World
-  v = run_from setup w0 (Take y 65535 ∷ Send (other y) ∷ delivering y (step setup w1 (Send (other y))).outcome)
+  v = run_from setup w0 (At y (Take 65535) ∷ At (other y) Send ∷ delivering y (step setup w1 (At (other y) Send)).outcome)
 
   -- the window that is told
   wide : window (all_taken a).state ≡ 65535
@@ -145,7 +146,7 @@ module _ (setup : Setup) (fits : SetupFits setup) (w : World) (lead lag : ℕ) (
       let up_una = r.after.una in
       let alike = same_rest (all_taken a).state far.state r.after.rest_is in
       let more = r.after.next in
-      let told = near_made setup fits w1 lead lag y (all_taken a) (all_taken b) two1 (Send x) Idle (emit (side w1 x).rows (pair_of setup x) (side w1 x).clock) tt refl m near (near_lives setup v lead lag y far near r.after.two) in
+      let told = near_made setup fits w1 lead lag y (all_taken a) (all_taken b) two1 (At x Send) Idle (emit (side w1 x).rows (pair_of setup x) (side w1 x).clock) tt refl m near (near_lives setup v lead lag y far near r.after.two) in
       let far_step : Step far.state near.state =
       ⊎_elim
       (λ (z : 0 < takes m.out). let h = r.moved z (omega arith) in let top = h.1 in record { received = omega arith; acknowledged = inr h.0; window = omega arith })
@@ -191,7 +192,7 @@ module _ (setup : Setup) (fits : SetupFits setup) (w : World) (lead lag : ℕ) (
       let up_una = r.after.una in
       let alike = same_rest (all_taken a).state far.state r.after.rest_is in
       let near_is : near ≡ all_taken b =
-      near_quiet setup fits w1 lead lag y (all_taken a) (all_taken b) two1 (Send x) Idle (emit (side w1 x).rows (pair_of setup x) (side w1 x).clock) refl refl quiet near (near_lives setup v lead lag y far near r.after.two) in
+      near_quiet setup fits w1 lead lag y (all_taken a) (all_taken b) two1 (At x Send) Idle (emit (side w1 x).rows (pair_of setup x) (side w1 x).clock) refl refl quiet near (near_lives setup v lead lag y far near r.after.two) in
       let near_window : near.state.send_window ≡ b.state.send_window = ap (λ (k : Session). k.state.send_window) near_is in
       let all_b : b.state.next ≤ b.state.una =
       ⊎_elim (λ (e : b.state.next ≤ b.state.una). e)
@@ -232,9 +233,9 @@ module _ (setup : Setup) (fits : SetupFits setup) (w : World) (lead lag : ℕ) (
       let goal : P v =
       ⊎_elim (λ (r : AfterMade setup v lead lag y s b.state z.0.out.number (takes z.0.out) z.0.out.state.next). inl (spoke_made z.0 z.1 z.2 r))
       (λ (g : Gone setup v y s b.state). let same : Gone setup v y a.state b.state = record { over = g.over; far = record { isn = g.far.isn; given = g.far.given; closing = g.far.closing }; near = g.near } in inr same)
-      (turn_made setup fits w0 lead lag y (all_taken a) b two0 (Send x) Idle f tt refl z.0) in goal)
+      (turn_made setup fits w0 lead lag y (all_taken a) b two0 (At x Send) Idle f tt refl z.0) in goal)
       (λ (z : (f s ≡ Quiet) × (sends_data s ≡ false) × (sends_fin s ≡ false) × (s.ack_owed ≡ false)).
-      let goal : P v = inl (spoke_quiet z.0 z.1 z.2 z.3 (turn_quiet setup fits w0 lead lag y (all_taken a) b two0 (Send x) Idle f tt refl refl z.0)) in goal)
+      let goal : P v = inl (spoke_quiet z.0 z.1 z.2 z.3 (turn_quiet setup fits w0 lead lag y (all_taken a) b two0 (At x Send) Idle f tt refl refl z.0)) in goal)
       c.which)
 
 -- ---- either end speaks

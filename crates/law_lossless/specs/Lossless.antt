@@ -6,7 +6,8 @@ use Rattle.book_base.specs.declared.end.End.{End}
 use Rattle.book_base.specs.declared.end.End.TheVariants.{A, B}
 use Rattle.book_endpoint.specs.States.{EndState}
 use Rattle.book_link.specs.declared.event.Event.{Event}
-use Rattle.book_link.specs.declared.event.Event.TheVariants.{Take}
+use Rattle.book_link.specs.declared.event.Event.TheVariants.{At}
+use Rattle.book_link.specs.declared.event.Action.TheVariants.{Take}
 use Rattle.book_link.specs.Worlds.{other, Setup, World}
 use Rattle.book_link.specs.Steps.{step}
 use Rattle.book_link.specs.Runs.{run_from}
@@ -17,8 +18,8 @@ use Rattle.law_progress.specs.Progress.{CaughtUp, takings}
 -- anything is, and that comes to the other end at once (own)
 unfoldable pub speaking : Setup → World → End → List Event
 speaking setup w e =
-    let taken = (step setup w (Take e 65535)).world in
-    Take e 65535 ∷ turn_events setup taken (Sends e)
+    let taken = (step setup w (At e (Take 65535))).world in
+    At e (Take 65535) ∷ turn_events setup taken (Sends e)
 
 -- ends speak one after the other: nothing is lost, nothing is sent again, and no clock changes
 -- (own)

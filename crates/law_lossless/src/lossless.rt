@@ -3,7 +3,9 @@ ghost use Rattle.std.specs.Prelude.{List, [], ◌∷◌, ◌++◌};
 ghost use Rattle.std.specs.List.{AllByRecursion};
 ghost use Rattle.book_base.specs.declared.end.End.TheVariants.{A, B};
 ghost use Rattle.book_link.specs.declared.event.Event.{Event};
-ghost use Rattle.book_link.specs.declared.event.Event.TheVariants.{Connect, Deliver, Give, Listen, Send};
+ghost use Rattle.book_link.specs.declared.event.Event.TheVariants.{At};
+ghost use Rattle.book_link.specs.declared.event.Action.TheVariants.{Connect, Deliver, Give, Listen};
+ghost use Rattle.book_link.specs.declared.event.Action.TheVariants.{Send};
 ghost use Rattle.book_link.specs.Runs.{run};
 ghost use Rattle.book_link.specs.Storm.{storm_setup, storm_starts};
 ghost use Rattle.book_link.specs.Worlds.{Setup};
@@ -36,8 +38,8 @@ pub fn all_is_delivered()
 /// The premises are met: both ends of the link of a storm begin in step, and a byte that is given
 /// waits.
 pub fn is_met()
-    ensures { (up : IsUp storm_setup (run storm_setup (storm_starts ++ Give A (1 ∷ []) ∷ [])) 0 0)
-        × AreInStep storm_setup (run storm_setup (storm_starts ++ Give A (1 ∷ []) ∷ [])) 0 0 up
+    ensures { (up : IsUp storm_setup (run storm_setup (storm_starts ++ At A (Give (1 ∷ [])) ∷ [])) 0 0)
+        × AreInStep storm_setup (run storm_setup (storm_starts ++ At A (Give (1 ∷ [])) ∷ [])) 0 0 up
         × IsWaiting (up.session A).state }
 {}
 
@@ -45,9 +47,9 @@ pub fn is_met()
 /// other listens, and each of the three segments comes as it is made.
 pub fn a_handshake_leads_in_step()
     ensures { (up : IsUp storm_setup
-        (run storm_setup (Connect A 4294960000 ∷ Listen B 4000000000 ∷ Send A ∷ Deliver B 1
-        ∷ Send B ∷ Deliver A 2 ∷ Send A ∷ Deliver B 3 ∷ [])) 0 0)
+        (run storm_setup (At A (Connect 4294960000) ∷ At B (Listen 4000000000) ∷ At A Send ∷ At B (Deliver 1)
+        ∷ At B Send ∷ At A (Deliver 2) ∷ At A Send ∷ At B (Deliver 3) ∷ [])) 0 0)
         × AreInStep storm_setup
-        (run storm_setup (Connect A 4294960000 ∷ Listen B 4000000000 ∷ Send A ∷ Deliver B 1
-        ∷ Send B ∷ Deliver A 2 ∷ Send A ∷ Deliver B 3 ∷ [])) 0 0 up }
+        (run storm_setup (At A (Connect 4294960000) ∷ At B (Listen 4000000000) ∷ At A Send ∷ At B (Deliver 1)
+        ∷ At B Send ∷ At A (Deliver 2) ∷ At A Send ∷ At B (Deliver 3) ∷ [])) 0 0 up }
 {}

@@ -9,7 +9,8 @@ use Rattle.book_keys.specs.Rows.{Row}
 use Rattle.book_endpoint.specs.States.{EndState}
 use Rattle.book_endpoint.specs.Arrivals.{Arrived, arrive}
 use Rattle.book_endpoint.specs.Emissions.{Emission, Emitted, Quiet, NoKey, Emits, is_syn_sent, emit}
-use Rattle.book_link.specs.declared.event.Event.TheVariants.{Deliver, Send, Take}
+use Rattle.book_link.specs.declared.event.Event.TheVariants.{At as AtEnd}
+use Rattle.book_link.specs.declared.event.Action.TheVariants.{Deliver, Send, Take}
 use Rattle.book_link.specs.Outcomes.{Outcome, Sent, Idle, WithoutKey}
 use Rattle.book_link.specs.Worlds.{other, Setup, pair_of, Session, Made, Happening, Making, World, side, live, segment_named}
 use Rattle.book_link.specs.Steps.{Act, add, acted, on_live, made_of, sent, come, took, deliver, step, view_of}
@@ -77,11 +78,11 @@ module _ (setup : Setup) (fits : SetupFits setup) (now : ℕ) where
   }
 
   -- a user takes
-  pub mirrors_take : (w : World) (s : Stacks) (ses : End → Session) (x : End) → Mirrors setup w now s ses → Mirrors setup (step setup w (Take x 65535)).world now (user_takes setup x s) (instead x (all_taken (ses x)) ses)
+  pub mirrors_take : (w : World) (s : Stacks) (ses : End → Session) (x : End) → Mirrors setup w now s ses → Mirrors setup (step setup w (AtEnd x (Take 65535))).world now (user_takes setup x s) (instead x (all_taken (ses x)) ses)
   mirrors_take w s ses x h =
       let k = h.has x in
-      mirrors_act w (step setup w (Take x 65535)).world s ses x (all_taken (ses x)) _ (call (At (pair_of setup x) (act.Take 65535)) (stack_at s x)).stack h (act_live w x (took 65535) (ses x) (h.lives x)).0
-      (facts_step setup fits w (Take x 65535) tt h.facts)
+      mirrors_act w (step setup w (AtEnd x (Take 65535))).world s ses x (all_taken (ses x)) _ (call (At (pair_of setup x) (act.Take 65535)) (stack_at s x)).stack h (act_live w x (took 65535) (ses x) (h.lives x)).0
+      (facts_step setup fits w (AtEnd x (Take 65535)) tt h.facts)
       (take_has now (pair_of setup x) (side w x).rows (side w x).clock (stack_at s x) (ses x).state k 65535)
 
   -- after both users took, the end stands in line
@@ -104,14 +105,14 @@ module _ (setup : Setup) (fits : SetupFits setup) (now : ℕ) where
     sends u = sent (view_of setup w e) u Idle (emit (side w e).rows (pair_of setup e) (side w e).clock u)
 
     abbrev w3 : World
-    w3 = (step setup w (Send e)).world
+    w3 = (step setup w (AtEnd e Send)).world
 
     facts3 : Facts setup w3
-    facts3 = facts_step setup fits w (Send e) tt h.facts
+    facts3 = facts_step setup fits w (AtEnd e Send) tt h.facts
 
     -- the world and the stacks once the end has spoken
     abbrev v : World
-    v = run_from setup w (Send e ∷ delivering (other e) (step setup w (Send e)).outcome)
+    v = run_from setup w (AtEnd e Send ∷ delivering (other e) (step setup w (AtEnd e Send)).outcome)
 
     abbrev spoken : Stacks
     spoken = comes_to now (other e) (call (Output now) (stack_at s e)).answer (called_stack e (Output now) s)
@@ -148,13 +149,13 @@ module _ (setup : Setup) (fits : SetupFits setup) (now : ℕ) where
         let s3 = called_stack e (Output now) s in
         let ses3 = instead e (acted (ses e) (sends (ses e).state)) ses in
         let act_is : sends (ses e).state ≡ sent (view_of setup w e) (ses e).state Idle (Emits em) = ap (sent (view_of setup w e) (ses e).state Idle) is in
-        let outcome : (step setup w (Send e)).outcome ≡ Sent made = live_act.1 ∙ ap (λ (k : Act). k.outcome) act_is in
+        let outcome : (step setup w (AtEnd e Send)).outcome ≡ Sent made = live_act.1 ∙ ap (λ (k : Act). k.outcome) act_is in
         let history : w3.history ≡ Making made ∷ w.history = live_act.0.history ∙ ap (λ (k : Act). add k.happened w.history) act_is in
         let named : segment_named made.name w3.history ≡ Some made = ap (segment_named made.name) history ∙ named_last made w.history in
         let ok = named_ok setup fits w3 made.name w3.history made facts3.inv.made named in
         let wire = wired setup ok.session.state made ok.by fits in
         let d = em.segment in
-        let w4 = (step setup w3 (Deliver y made.name)).world in
+        let w4 = (step setup w3 (AtEnd y (Deliver made.name))).world in
         let come_is : (on_live w3 y (come made.bytes (view_of setup w3 y))).world ≡ w4 = ap (λ (o : Option Made). (deliver setup w3 y o).world) (sym named) in
         let w_is : w4 ≡ v = ap (λ (o : Outcome). run_from setup w3 (delivering y o)) (sym outcome) in
         let u = ses3 y in
@@ -172,7 +173,7 @@ module _ (setup : Setup) (fits : SetupFits setup) (now : ℕ) where
         let came = input_has now (pair_of setup y) rows clock t u.state k bytes (handed d) well.read to unsyn in
         let same : (arrive rows (pair_of setup y) clock u.state (Read (handed d))).state ≡ heard.state =
         ap (λ (r : Reading). (arrive rows (pair_of setup y) clock u.state r).state) (sym well.read) ∙ ap (λ (x : Arrived). x.state) (taken_alike d wire.fits rows (pair_of setup y) clock u.state) in
-        let facts4 = facts_step setup fits w3 (Deliver y made.name) tt facts3 in
+        let facts4 = facts_step setup fits w3 (AtEnd y (Deliver made.name)) tt facts3 in
         let all : Mirrors setup w4 now (with_stack s3 y (call (Input (record { now = now; bytes = bytes })) t).stack) (instead y heard ses3) =
         mirrors_act w3 w4 s3 ses3 y heard (come made.bytes (view_of setup w3 y) u.state).happened (call (Input (record { now = now; bytes = bytes })) t).stack mirrors3 acts facts4
         (subst (Has now (pair_of setup y) rows clock (call (Input (record { now = now; bytes = bytes })) t).stack) same came) in
@@ -188,7 +189,7 @@ module _ (setup : Setup) (fits : SetupFits setup) (now : ℕ) where
         by_case NoKey is = silent WithoutKey Rests (ap (λ (r : Emitted). (sent (view_of setup w e) (ses e).state Idle r).outcome) is) refl (asked.0 ∙ ap answer_of is) refl
         by_case (Emits em) is = loud em is
 
-  speak_world : (w : World) (e : End) → let w2 = (step setup (step setup w (Take e 65535)).world (Take (other e) 65535)).world in run_from setup w (speaking setup w e) ≡ run_from setup w2 (Send e ∷ delivering (other e) (step setup w2 (Send e)).outcome)
+  speak_world : (w : World) (e : End) → let w2 = (step setup (step setup w (AtEnd e (Take 65535))).world (AtEnd (other e) (Take 65535))).world in run_from setup w (speaking setup w e) ≡ run_from setup w2 (AtEnd e Send ∷ delivering (other e) (step setup w2 (AtEnd e Send)).outcome)
   unfolding speaking turn_events
   speak_world w e = refl
 
@@ -199,8 +200,8 @@ module _ (setup : Setup) (fits : SetupFits setup) (now : ℕ) where
   pub mirrors_speak : (w : World) (s : Stacks) (ses : End → Session) (e : End) → Mirrors setup w now s ses → is_syn_sent (ses e).state.phase ≡ false
       → (sessions : End → Session) × Mirrors setup (run_from setup w (speaking setup w e)) now (stack_speaks setup now e s) sessions
   mirrors_speak w s ses e h off =
-      let w1 = (step setup w (Take e 65535)).world in
-      let w2 = (step setup w1 (Take (other e) 65535)).world in
+      let w1 = (step setup w (AtEnd e (Take 65535))).world in
+      let w2 = (step setup w1 (AtEnd (other e) (Take 65535))).world in
       let s1 = user_takes setup e s in
       let s2 = user_takes setup (other e) s1 in
       let ses1 = instead e (all_taken (ses e)) ses in

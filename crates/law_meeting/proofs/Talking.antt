@@ -11,7 +11,8 @@ use Rattle.book_endpoint.specs.declared.phase.Phase.TheVariants.{Listen, SynSent
 use Rattle.book_endpoint.specs.States.{EndState}
 use Rattle.book_endpoint.specs.Emissions.{is_syn_sent}
 use Rattle.book_link.specs.declared.event.Event.{Event}
-use Rattle.book_link.specs.declared.event.Event.TheVariants.{Take}
+use Rattle.book_link.specs.declared.event.Event.TheVariants.{At}
+use Rattle.book_link.specs.declared.event.Action.TheVariants.{Take}
 use Rattle.book_link.specs.Worlds.{Setup, pair_of, Session, World, side, live}
 use Rattle.book_link.specs.Steps.{step}
 use Rattle.book_link.specs.Runs.{run, run_from}
@@ -142,10 +143,10 @@ stacks_deliver setup fits tables events f few lead lag n now rounds s up steps h
     let t = stacks_talk setup now (speakers rounds) s in
     let talked = talk setup fits lead lag now (speakers rounds) w s up.session a.state b.state (inl start) h in
     let one = mirrors_take setup fits now v t talked.0 A talked.1 in
-    let v1 = (step setup v (Take A 65535)).world in
+    let v1 = (step setup v (At A (Take 65535))).world in
     let ses1 = instead A (all_taken (talked.0 A)) talked.0 in
     let two = mirrors_take setup fits now v1 (user_takes setup A t) ses1 B one in
-    let v2 = (step setup v1 (Take B 65535)).world in
+    let v2 = (step setup v1 (At B (Take 65535))).world in
     let ses2 = instead B (all_taken (ses1 B)) ses1 in
     let is : run_from setup w (conversation setup w (speakers rounds) ++ takings) ≡ v2 = run_append setup w (conversation setup w (speakers rounds)) takings in
     let c : CaughtUp setup w v2 lead lag up = subst (λ (x : World). CaughtUp setup w x lead lag up) is (delivers_all setup fits tables events f few lead lag n rounds up steps low long) in

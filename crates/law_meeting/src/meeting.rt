@@ -6,7 +6,8 @@ ghost use Rattle.book_base.specs.declared.end.End.TheVariants.{A};
 ghost use Rattle.book_cmd_node.specs.NodeRuns.{most_ends};
 ghost use Rattle.book_keys.specs.Rows.{Row};
 ghost use Rattle.book_link.specs.declared.event.Event.{Event};
-ghost use Rattle.book_link.specs.declared.event.Event.TheVariants.{Give};
+ghost use Rattle.book_link.specs.declared.event.Event.TheVariants.{At};
+ghost use Rattle.book_link.specs.declared.event.Action.TheVariants.{Give};
 ghost use Rattle.book_link.specs.Runs.{run};
 ghost use Rattle.book_link.specs.Storm.{storm_setup, storm_starts};
 ghost use Rattle.book_link.specs.Worlds.{Setup};
@@ -45,8 +46,8 @@ pub fn stacks_deliver()
 /// table of the link of a storm, hold that link's ends, which are in step, and a byte that was given
 /// to one of them waits.
 pub fn is_met()
-    ensures { (s : Stacks) × (up : IsUp storm_setup (run storm_setup (storm_starts ++ Give A (1 ∷ []) ∷ [])) 0 0)
-        × AreInStep storm_setup (run storm_setup (storm_starts ++ Give A (1 ∷ []) ∷ [])) 0 0 up
-        × ((e : End) → Holds storm_setup (run storm_setup (storm_starts ++ Give A (1 ∷ []) ∷ [])) 0 e (stack_at s e) (up.session e).state)
+    ensures { (s : Stacks) × (up : IsUp storm_setup (run storm_setup (storm_starts ++ At A (Give (1 ∷ [])) ∷ [])) 0 0)
+        × AreInStep storm_setup (run storm_setup (storm_starts ++ At A (Give (1 ∷ [])) ∷ [])) 0 0 up
+        × ((e : End) → Holds storm_setup (run storm_setup (storm_starts ++ At A (Give (1 ∷ [])) ∷ [])) 0 e (stack_at s e) (up.session e).state)
         × IsWaiting (up.session A).state }
 {}

@@ -4,7 +4,8 @@ use Rattle.book_base.specs.declared.end.End.{End}
 use Rattle.book_base.specs.declared.end.End.TheVariants.{A, B}
 use Rattle.book_keys.specs.Plans.{AlignedFrom, has_sendable}
 use Rattle.book_endpoint.specs.States.{connected, give, listening, started}
-use Rattle.book_link.specs.declared.event.Event.TheVariants.{Connect, Listen, Give}
+use Rattle.book_link.specs.declared.event.Event.TheVariants.{At}
+use Rattle.book_link.specs.declared.event.Action.TheVariants.{Connect, Listen, Give}
 use Rattle.book_link.specs.Runs.{run}
 use Rattle.book_link.specs.Storm.{storm_setup, storm_starts}
 use Rattle.book_link.specs.Worlds.{other, pair_of, Session, World, side, live}
@@ -12,7 +13,7 @@ use Rattle.law_progress.specs.Progress.{is_up, IsUp, IsWaiting, IsOpening}
 use Rattle.law_link.proofs.Sessions.{both}
 
 abbrev begun : World
-begun = run storm_setup (storm_starts ++ Give A (1 ∷ []) ∷ [])
+begun = run storm_setup (storm_starts ++ At A (Give (1 ∷ [])) ∷ [])
 
 abbrev sessions : End → Session
 sessions A = record { state = give (1 ∷ []) (started (pair_of storm_setup A) 4294960000 4000000000); end_shown = false }
@@ -43,7 +44,7 @@ begins_up = (begun_up, waits)
 -- ---- a connection that is opening
 
 abbrev opening : World
-opening = run storm_setup (Connect A 4294960000 ∷ Listen B 4000000000 ∷ [])
+opening = run storm_setup (At A (Connect 4294960000) ∷ At B (Listen 4000000000) ∷ [])
 
 abbrev asking : End → Session
 asking A = record { state = connected (pair_of storm_setup A) 4294960000; end_shown = false }

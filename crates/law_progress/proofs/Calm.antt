@@ -28,7 +28,8 @@ use Rattle.endpoint_steps.proofs.Drafting.{emit_by_drafts, resend_by_drafts}
 use Rattle.endpoint_steps.proofs.Arriving.{read_by_cases}
 use Rattle.book_link.specs.Alterations.{has_place, altered}
 use Rattle.book_link.specs.declared.event.Event.{Event}
-use Rattle.book_link.specs.declared.event.Event.TheVariants.{Clock, Connect, Listen as Await, Start, Give, Fill, Send, Resend, Deliver, Inject, Alter, Take, Close, Abort, AddRow, Withdraw, Dump}
+use Rattle.book_link.specs.declared.event.Event.TheVariants.{At, Dump}
+use Rattle.book_link.specs.declared.event.Action.TheVariants.{Clock, Connect, Listen as Await, Start, Give, Fill, Send, Resend, Deliver, Inject, Alter, Take, Close, Abort, AddRow, Withdraw}
 use Rattle.book_link.specs.Outcomes.{Outcome, Idle, Nothing}
 use Rattle.book_link.specs.RowLines.{added_row}
 use Rattle.book_link.specs.Worlds.{Setup, pair_of, Session, Made, LinkSide, Happening, World, side, find, segment_named}
@@ -337,20 +338,20 @@ module _ (setup : Setup) where
   withdraw_calm w e (Some rows) h = put_calm w e (with_table (side w e) rows) None (h e) h
 
   pub calm_step : (w : World) (event : Event) → AllCalms w → AllCalms (step setup w event).world
-  calm_step w (Clock e seconds) h = put_calm w e (with_clock (side w e) seconds) None (ticked_calm seconds (side w e).sessions (h e)) h
-  calm_step w (Connect e isn) h = begin_calm w e (connected (pair_of setup e) isn) (find (side w e).sessions isn) (record { oldest = λ g. refl; soon = λ g. omega arith; at = λ g. absurd (cc); unclosed = λ g. refl }) h
-  calm_step w (Await e isn) h = begin_calm w e (listening (pair_of setup e) isn) (find (side w e).sessions isn) (record { oldest = λ g. refl; soon = λ g. omega arith; at = λ g. absurd (cc); unclosed = λ g. absurd (cc) }) h
-  calm_step w (Start e isn peer) h = begin_calm w e (started (pair_of setup e) isn peer) (find (side w e).sessions isn) (past_calm (started (pair_of setup e) isn peer) refl) h
-  calm_step w (Give e piece) h = act_calm w e (side w e).sessions _ refl (λ s c. given_calm piece s c) h
-  calm_step w (Fill e count byte) h = act_calm w e (side w e).sessions _ refl (λ s c. given_calm (replicate count byte) s c) h
-  calm_step w (Send e) h = act_calm w e (side w e).sessions _ refl (λ s c. send_calm setup e w s c) h
-  calm_step w (Resend e) h = act_calm w e (side w e).sessions _ refl (λ s c. again_calm setup e w s c) h
-  calm_step w (Deliver e name) h = deliver_calm w e (segment_named name w.history) h
-  calm_step w (Inject e bytes) h = arrival_calm w e bytes h
-  calm_step w (Alter e name place mask fix) h = alter_calm w e place mask fix (segment_named name w.history) h
-  calm_step w (Take e count) h = act_calm w e (side w e).sessions _ refl (λ s c. c) h
-  calm_step w (Close e) h = act_calm w e (side w e).sessions _ refl (λ s c. close_calm s s.phase refl c) h
-  calm_step w (Abort e) h = act_calm w e (side w e).sessions _ refl (λ s c. past_calm (abort s) refl) h
-  calm_step w (AddRow e row) h = add_calm w e (adding (side w e).rows (added_row row)) h
-  calm_step w (Withdraw e n) h = withdraw_calm w e (withdrawn (side w e).rows n) h
+  calm_step w (At e (Clock seconds)) h = put_calm w e (with_clock (side w e) seconds) None (ticked_calm seconds (side w e).sessions (h e)) h
+  calm_step w (At e (Connect isn)) h = begin_calm w e (connected (pair_of setup e) isn) (find (side w e).sessions isn) (record { oldest = λ g. refl; soon = λ g. omega arith; at = λ g. absurd (cc); unclosed = λ g. refl }) h
+  calm_step w (At e (Await isn)) h = begin_calm w e (listening (pair_of setup e) isn) (find (side w e).sessions isn) (record { oldest = λ g. refl; soon = λ g. omega arith; at = λ g. absurd (cc); unclosed = λ g. absurd (cc) }) h
+  calm_step w (At e (Start isn peer)) h = begin_calm w e (started (pair_of setup e) isn peer) (find (side w e).sessions isn) (past_calm (started (pair_of setup e) isn peer) refl) h
+  calm_step w (At e (Give piece)) h = act_calm w e (side w e).sessions _ refl (λ s c. given_calm piece s c) h
+  calm_step w (At e (Fill count byte)) h = act_calm w e (side w e).sessions _ refl (λ s c. given_calm (replicate count byte) s c) h
+  calm_step w (At e Send) h = act_calm w e (side w e).sessions _ refl (λ s c. send_calm setup e w s c) h
+  calm_step w (At e Resend) h = act_calm w e (side w e).sessions _ refl (λ s c. again_calm setup e w s c) h
+  calm_step w (At e (Deliver name)) h = deliver_calm w e (segment_named name w.history) h
+  calm_step w (At e (Inject bytes)) h = arrival_calm w e bytes h
+  calm_step w (At e (Alter name place mask fix)) h = alter_calm w e place mask fix (segment_named name w.history) h
+  calm_step w (At e (Take count)) h = act_calm w e (side w e).sessions _ refl (λ s c. c) h
+  calm_step w (At e Close) h = act_calm w e (side w e).sessions _ refl (λ s c. close_calm s s.phase refl c) h
+  calm_step w (At e Abort) h = act_calm w e (side w e).sessions _ refl (λ s c. past_calm (abort s) refl) h
+  calm_step w (At e (AddRow row)) h = add_calm w e (adding (side w e).rows (added_row row)) h
+  calm_step w (At e (Withdraw n)) h = withdraw_calm w e (withdrawn (side w e).rows n) h
   calm_step w (Dump name) h = h

@@ -17,7 +17,8 @@ use Rattle.book_endpoint.specs.Emissions.{Draft, Emitted, Quiet, NoKey, Emits, i
 use Rattle.endpoint_steps.specs.Drafting.{to_emit, unacknowledged, probe, to_resend, keyed, emitted}
 use Rattle.endpoint_steps.proofs.Drafting.{emit_by_drafts, resend_by_drafts}
 use Rattle.book_link.specs.declared.event.Event.{Event}
-use Rattle.book_link.specs.declared.event.Event.TheVariants.{Send, Resend, Deliver, Take}
+use Rattle.book_link.specs.declared.event.Event.TheVariants.{At}
+use Rattle.book_link.specs.declared.event.Action.TheVariants.{Send, Resend, Deliver, Take}
 use Rattle.book_link.specs.Outcomes.{Outcome, Sent, Idle, Nothing, WithoutKey}
 use Rattle.book_link.specs.Worlds.{other, Setup, pair_of, Session, Made, Happening, Making, World, side, live, forgeries, segment_named}
 use Rattle.book_link.specs.Steps.{Stepped, Act, add, acted, on_live, quietly, made_of, sent, came, come, took, deliver, step, view_of}
@@ -252,16 +253,16 @@ still_refl : (setup : Setup) (w : World) (old : Finished setup w) → StillOver 
 still_refl setup w old = record { now = old; same = λ e. record { isn = refl; given = refl; closing = refl }; shut = refl }
 
 module _ (setup : Setup) (fits : SetupFits setup) where
-  pub over_taken : (w : World) (old : Finished setup w) (y : End) → (r : StillOver setup w (step setup w (Take y 65535)).world old) × ((e : End) → r.now.session e ≡ instead y (acted (old.session y) (took 65535 (old.session y).state)) old.session e)
+  pub over_taken : (w : World) (old : Finished setup w) (y : End) → (r : StillOver setup w (step setup w (At y (Take 65535))).world old) × ((e : End) → r.now.session e ≡ instead y (acted (old.session y) (took 65535 (old.session y).state)) old.session e)
   over_taken w old y =
       let s = old.session y in
       let act = took 65535 s.state in
       let leaves : Leaves s.state act.state = record { isn = refl; peer = refl; given = refl; closing = refl; una = refl; expected = refl } in
-      over_act setup w old y (took 65535) act refl leaves old.unforged (facts_step setup fits w (Take y 65535) tt old.facts)
+      over_act setup w old y (took 65535) act refl leaves old.unforged (facts_step setup fits w (At y (Take 65535)) tt old.facts)
       (keep_at (λ k. k.state.phase ≡ Closed) y (acted s act) old.session old.shut (λ h. h) old.closed)
       (keep_at (λ k. k.state.rst_owed ≡ false) y (acted s act) old.session old.shut (λ h. h) old.unowed)
 
-  pub over_take : (w : World) (old : Finished setup w) (y : End) → StillOver setup w (step setup w (Take y 65535)).world old
+  pub over_take : (w : World) (old : Finished setup w) (y : End) → StillOver setup w (step setup w (At y (Take 65535))).world old
   over_take w old y = (over_taken w old y).0
 
   -- nothing is made
@@ -311,9 +312,9 @@ module _ (setup : Setup) (fits : SetupFits setup) where
           let t = now.session c in
           let answer = closed_arrives (side w2 c).rows (pair_of setup c) (side w2 c).clock t.state (reading made.bytes) (ap is_closed closed) in
           let act2 = came made.bytes (view_of setup w2 c) t.state (unmoved t.state answer.0) in
-          let v = (step setup w2 (Deliver c made.name)).world in
+          let v = (step setup w2 (At c (Deliver made.name))).world in
           let v_is : (on_live w2 c (come made.bytes (view_of setup w2 c))).world ≡ v = ap (λ (o : Option Made). (deliver setup w2 c o).world) (sym named) in
-          let facts2 = facts_step setup fits w2 (Deliver c made.name) tt now.facts in
+          let facts2 = facts_step setup fits w2 (At c (Deliver made.name)) tt now.facts in
           let clean = now.unforged in
           let none2 : forgeries (add act2.happened w2.history) ≡ 0 = omega arith in
           let two = (over_act setup w2 now c (come made.bytes (view_of setup w2 c)) act2 (ap (came made.bytes (view_of setup w2 c) t.state) answer.1) (leaves_refl t.state) none2 (subst (Facts setup) (sym v_is) facts2)
@@ -321,7 +322,7 @@ module _ (setup : Setup) (fits : SetupFits setup) where
           (keep_at (λ k. k.state.rst_owed ≡ false) c (acted t act2) now.session now.shut (λ h. h) now.unowed)).0 in
           let both = still_then setup w w2 v old one (subst (λ (k : World). StillOver setup w2 k now) v_is two) in
           let world_is : v ≡ run_from setup w (ev ∷ delivering (other x) (step setup w ev).outcome) =
-          ap (λ (k : End). (step setup w2 (Deliver k made.name)).world) (sym far) ∙ ap (λ (o : Outcome). run_from setup w2 (delivering (other x) o)) (sym outcome) ∙ ap (λ (k : Stepped). run_from setup k.world (delivering (other x) k.outcome)) (sym is) in
+          ap (λ (k : End). (step setup w2 (At k (Deliver made.name))).world) (sym far) ∙ ap (λ (o : Outcome). run_from setup w2 (delivering (other x) o)) (sym outcome) ∙ ap (λ (k : Stepped). run_from setup k.world (delivering (other x) k.outcome)) (sym is) in
           subst (λ (k : World). StillOver setup w k old) world_is both
 
   -- a turn leaves it so
@@ -347,13 +348,13 @@ module _ (setup : Setup) (fits : SetupFits setup) where
   unfolding turn_events
   over_turn w old (Sends x) =
       let one = over_take w old (other x) in
-      let w1 = (step setup w (Take (other x) 65535)).world in
+      let w1 = (step setup w (At (other x) (Take 65535))).world in
       let s = (one.now.session x).state in
       let f = emit (side w1 x).rows (pair_of setup x) (side w1 x).clock in
-      still_then setup w w1 _ old one (over_by w1 one.now x (Send x) Idle f tt (λ y. refl) refl (emits_leave (side w1 x).rows (pair_of setup x) (side w1 x).clock s) (closed_emits (side w1 x).rows (pair_of setup x) (side w1 x).clock s))
+      still_then setup w w1 _ old one (over_by w1 one.now x (At x Send) Idle f tt (λ y. refl) refl (emits_leave (side w1 x).rows (pair_of setup x) (side w1 x).clock s) (closed_emits (side w1 x).rows (pair_of setup x) (side w1 x).clock s))
   over_turn w old (Resends x) =
       let one = over_take w old (other x) in
-      let w1 = (step setup w (Take (other x) 65535)).world in
+      let w1 = (step setup w (At (other x) (Take 65535))).world in
       let s = (one.now.session x).state in
       let f = resend (side w1 x).rows (pair_of setup x) (side w1 x).clock in
-      still_then setup w w1 _ old one (over_by w1 one.now x (Resend x) Nothing f tt (λ y. refl) refl (resends_leave (side w1 x).rows (pair_of setup x) (side w1 x).clock s) (closed_resends (side w1 x).rows (pair_of setup x) (side w1 x).clock s))
+      still_then setup w w1 _ old one (over_by w1 one.now x (At x Resend) Nothing f tt (λ y. refl) refl (resends_leave (side w1 x).rows (pair_of setup x) (side w1 x).clock s) (closed_resends (side w1 x).rows (pair_of setup x) (side w1 x).clock s))

@@ -14,7 +14,8 @@ use Rattle.book_endpoint.specs.Arrivals.{heard, passes, arrive}
 use Rattle.endpoint_steps.specs.Arriving.{after_check}
 use Rattle.book_endpoint.specs.Emissions.{Draft, Emitted, Quiet, Emits, sets, sealed, emit, resend}
 use Rattle.book_link.specs.declared.event.Event.{Event}
-use Rattle.book_link.specs.declared.event.Event.TheVariants.{Send, Resend, Deliver, Take}
+use Rattle.book_link.specs.declared.event.Event.TheVariants.{At}
+use Rattle.book_link.specs.declared.event.Action.TheVariants.{Send, Resend, Deliver, Take}
 use Rattle.book_link.specs.Outcomes.{Outcome, Sent, Idle, Nothing}
 use Rattle.book_link.specs.Worlds.{other, Setup, pair_of, Session, Made, Happening, World, side, find, live, is_known, addressed, forged, forgeries, segment_named}
 use Rattle.book_link.specs.Steps.{Stepped, Act, add, acted, on_live, quietly, made_of, sent, came, come, took, deliver, step, view_of}
@@ -125,8 +126,8 @@ record Comes (setup : Setup) (w : World) (lead lag : ℕ) (y : End) (a b : Sessi
   now : ℕ
   is : number ≡ m.emission.number
   state : after.state ≡ (after_check (pair_of setup y) b.state (following current b.state) m.emission.segment number now b.state.phase).state
-  ready : Ready setup (step setup w (Deliver y m.name)).world lead lag y a after
-  few : length after.state.given < 2 ^ 31 → GivesFew w → GivesFew (step setup w (Deliver y m.name)).world
+  ready : Ready setup (step setup w (At y (Deliver m.name))).world lead lag y a after
+  few : length after.state.given < 2 ^ 31 → GivesFew w → GivesFew (step setup w (At y (Deliver m.name))).world
 
 comes : (setup : Setup) (fits : SetupFits setup) (w : World) (lead lag : ℕ) (y : End) (a b : Session) (m : Made) → Ready setup w lead lag y a b → JustMade w y a m → is_closed b.state.phase ≡ false
     → addressed m.emission.segment a.state b.state ≡ true → (has SYN m.emission.segment ≡ false → IsNear m.emission.number b.state.expected) → Comes setup w lead lag y a b m
@@ -163,9 +164,9 @@ comes setup fits w lead lag y a b m r just awake to near =
     (let z = unforged_now y p m just.past just.maker j.key j.context j.message in
     let all : forged y (Some p) w.history ≡ 0 = ap (forged y (Some p)) just.history ∙ z in
     let before_none = r.keyed.unforged in omega arith) in
-    let v = (step setup w (Deliver y m.name)).world in
+    let v = (step setup w (At y (Deliver m.name))).world in
     let v_is : (on_live w y (come m.bytes (view_of setup w y))).world ≡ v = ap (λ (o : Option Made). (deliver setup w y o).world) (sym named) in
-    let facts = facts_step setup fits w (Deliver y m.name) tt r.facts in
+    let facts = facts_step setup fits w (At y (Deliver m.name)) tt r.facts in
     let facts_now = subst (Facts setup) (sym v_is) facts in
     let done = ready_near setup w lead lag y a b r (come m.bytes (view_of setup w y)) act (ap (came m.bytes (view_of setup w y) s) arrived) none facts_now in
     record {
@@ -231,16 +232,16 @@ pub live_few : (sessions : List Session) (t : Session) → live sessions ≡ Som
 live_few sessions t lives h = live_all (λ (s : Session). length s.state.given < 2 ^ 31) sessions t lives h
 
 module _ (setup : Setup) (fits : SetupFits setup) (w : World) (lead lag : ℕ) (y : End) (a b : Session) (r : Ready setup w lead lag y a b) where
-  taken : Ready setup (step setup w (Take y 65535)).world lead lag y a (all_taken b) × (length b.state.given < 2 ^ 31 → GivesFew w → GivesFew (step setup w (Take y 65535)).world)
-  taken = ready_near setup w lead lag y a b r (took 65535) (took 65535 b.state) refl r.keyed.unforged (facts_step setup fits w (Take y 65535) tt r.facts)
+  taken : Ready setup (step setup w (At y (Take 65535))).world lead lag y a (all_taken b) × (length b.state.given < 2 ^ 31 → GivesFew w → GivesFew (step setup w (At y (Take 65535))).world)
+  taken = ready_near setup w lead lag y a b r (took 65535) (took 65535 b.state) refl r.keyed.unforged (facts_step setup fits w (At y (Take 65535)) tt r.facts)
 
   made : (ev : Event) (without : Outcome) (f : EndState → Emitted) (P : Draft → Type 0) → EventFits ev
-      → let w1 = (step setup w (Take y 65535)).world in
+      → let w1 = (step setup w (At y (Take 65535))).world in
       step setup w1 ev ≡ on_live w1 (other y) (λ (s : EndState). sent (view_of setup w1 (other y)) s without (f s))
       → SealsAs (pair_of setup (other y)) a.state P (f a.state) → is_closed b.state.phase ≡ false → ((out : Draft) → P out → Fits a.state b.state out)
-      → Turned setup w (run_from setup w (Take y 65535 ∷ ev ∷ delivering y (step setup w1 ev).outcome)) lead lag y a.state (take_out 65535 b.state) P
+      → Turned setup w (run_from setup w (At y (Take 65535) ∷ ev ∷ delivering y (step setup w1 ev).outcome)) lead lag y a.state (take_out 65535 b.state) P
   made ev without f P ev_fits is m awake may =
-      let w1 = (step setup w (Take y 65535)).world in
+      let w1 = (step setup w (At y (Take 65535))).world in
       let x = other y in
       let one = taken.0 in
       let b1 = all_taken b in
@@ -267,8 +268,8 @@ module _ (setup : Setup) (fits : SetupFits setup) (w : World) (lead lag : ℕ) (
         rows = sym (acts.rows x);
       } in
       let c = comes setup fits w2 lead lag y a2 b1 entry two.0 just awake fit.to fit.near in
-      let v = (step setup w2 (Deliver y entry.name)).world in
-      let v_is : v ≡ run_from setup w (Take y 65535 ∷ ev ∷ delivering y (step setup w1 ev).outcome) =
+      let v = (step setup w2 (At y (Deliver entry.name))).world in
+      let v_is : v ≡ run_from setup w (At y (Take 65535) ∷ ev ∷ delivering y (step setup w1 ev).outcome) =
       ap (λ (o : Outcome). run_from setup w2 (delivering y o)) (sym outcome) ∙ ap (λ (k : Stepped). run_from setup k.world (delivering y k.outcome)) (sym is) in
       let few : length a2.state.given < 2 ^ 31 → length c.after.state.given < 2 ^ 31 → GivesFew w → GivesFew v =
       λ low high all. c.few high (two.1 low (taken.1 (live_few (side w y).sessions b r.near_lives (all y)) all)) in
@@ -294,11 +295,11 @@ module _ (setup : Setup) (fits : SetupFits setup) (w : World) (lead lag : ℕ) (
       subst (λ (k : World). Turned setup w k lead lag y a.state (take_out 65535 b.state) P) v_is goal
 
   rested : (ev : Event) (without : Outcome) (f : EndState → Emitted) → EventFits ev → delivering y without ≡ []
-      → let w1 = (step setup w (Take y 65535)).world in
+      → let w1 = (step setup w (At y (Take 65535))).world in
       step setup w1 ev ≡ on_live w1 (other y) (λ (s : EndState). sent (view_of setup w1 (other y)) s without (f s)) → f a.state ≡ Quiet
-      → Rested setup w (run_from setup w (Take y 65535 ∷ ev ∷ delivering y (step setup w1 ev).outcome)) lead lag y a.state (take_out 65535 b.state)
+      → Rested setup w (run_from setup w (At y (Take 65535) ∷ ev ∷ delivering y (step setup w1 ev).outcome)) lead lag y a.state (take_out 65535 b.state)
   rested ev without f ev_fits nothing is quiet =
-      let w1 = (step setup w (Take y 65535)).world in
+      let w1 = (step setup w (At y (Take 65535))).world in
       let x = other y in
       let one = taken.0 in
       let b1 = all_taken b in
@@ -309,7 +310,7 @@ module _ (setup : Setup) (fits : SetupFits setup) (w : World) (lead lag : ℕ) (
       let facts2 : Facts setup w2 = subst (λ (k : Stepped). Facts setup k.world) is (facts_step setup fits w1 ev ev_fits one.facts) in
       let two = ready_far setup w1 lead lag y a b1 one call act act_is one.keyed.unforged facts2 in
       let outcome : (on_live w1 x call).outcome ≡ without = (act_live w1 x call a one.far_lives).1 ∙ ap (λ (k : Act). k.outcome) act_is in
-      let v_is : w2 ≡ run_from setup w (Take y 65535 ∷ ev ∷ delivering y (step setup w1 ev).outcome) =
+      let v_is : w2 ≡ run_from setup w (At y (Take 65535) ∷ ev ∷ delivering y (step setup w1 ev).outcome) =
       ap (run_from setup w2) (sym (ap (delivering y) outcome ∙ nothing)) ∙ ap (λ (k : Stepped). run_from setup k.world (delivering y k.outcome)) (sym is) in
       let few : GivesFew w → GivesFew w2 =
       λ all. two.1 (live_few (side w (other y)).sessions a r.far_lives (all (other y))) (taken.1 (live_few (side w y).sessions b r.near_lives (all y)) all) in
@@ -328,29 +329,29 @@ module _ (setup : Setup) (fits : SetupFits setup) (w : World) (lead lag : ℕ) (
       → Turned setup w (run_from setup w (turn_events setup w t)) lead lag (other (maker t)) a.state (take_out 65535 b.state) P
   unfolding turn_events
   turned (Sends A) P r m awake may =
-      let w1 = (step setup w (Take B 65535)).world in
+      let w1 = (step setup w (At B (Take 65535))).world in
       let one = (taken setup fits w lead lag B a b r).0 in
-      made setup fits w lead lag B a b r (Send A) Idle (emit (side w1 A).rows (pair_of setup A) (side w1 A).clock) P tt refl (m (side w1 A).rows (side w1 A).clock (one.keyed.sends A)) awake may
+      made setup fits w lead lag B a b r (At A Send) Idle (emit (side w1 A).rows (pair_of setup A) (side w1 A).clock) P tt refl (m (side w1 A).rows (side w1 A).clock (one.keyed.sends A)) awake may
   turned (Sends B) P r m awake may =
-      let w1 = (step setup w (Take A 65535)).world in
+      let w1 = (step setup w (At A (Take 65535))).world in
       let one = (taken setup fits w lead lag A a b r).0 in
-      made setup fits w lead lag A a b r (Send B) Idle (emit (side w1 B).rows (pair_of setup B) (side w1 B).clock) P tt refl (m (side w1 B).rows (side w1 B).clock (one.keyed.sends B)) awake may
+      made setup fits w lead lag A a b r (At B Send) Idle (emit (side w1 B).rows (pair_of setup B) (side w1 B).clock) P tt refl (m (side w1 B).rows (side w1 B).clock (one.keyed.sends B)) awake may
   turned (Resends A) P r m awake may =
-      let w1 = (step setup w (Take B 65535)).world in
+      let w1 = (step setup w (At B (Take 65535))).world in
       let one = (taken setup fits w lead lag B a b r).0 in
-      made setup fits w lead lag B a b r (Resend A) Nothing (resend (side w1 A).rows (pair_of setup A) (side w1 A).clock) P tt refl (m (side w1 A).rows (side w1 A).clock (one.keyed.sends A)) awake may
+      made setup fits w lead lag B a b r (At A Resend) Nothing (resend (side w1 A).rows (pair_of setup A) (side w1 A).clock) P tt refl (m (side w1 A).rows (side w1 A).clock (one.keyed.sends A)) awake may
   turned (Resends B) P r m awake may =
-      let w1 = (step setup w (Take A 65535)).world in
+      let w1 = (step setup w (At A (Take 65535))).world in
       let one = (taken setup fits w lead lag A a b r).0 in
-      made setup fits w lead lag A a b r (Resend B) Nothing (resend (side w1 B).rows (pair_of setup B) (side w1 B).clock) P tt refl (m (side w1 B).rows (side w1 B).clock (one.keyed.sends B)) awake may
+      made setup fits w lead lag A a b r (At B Resend) Nothing (resend (side w1 B).rows (pair_of setup B) (side w1 B).clock) P tt refl (m (side w1 B).rows (side w1 B).clock (one.keyed.sends B)) awake may
 
   pub turned_quiet : (t : Turn) → Ready setup w lead lag (other (maker t)) a b → ((rows : List Row) (now : ℕ) → makes_of t rows (pair_of setup (maker t)) now a.state ≡ Quiet)
       → Rested setup w (run_from setup w (turn_events setup w t)) lead lag (other (maker t)) a.state (take_out 65535 b.state)
   unfolding turn_events
-  turned_quiet (Sends A) r m = let w1 = (step setup w (Take B 65535)).world in rested setup fits w lead lag B a b r (Send A) Idle (emit (side w1 A).rows (pair_of setup A) (side w1 A).clock) tt refl refl (m (side w1 A).rows (side w1 A).clock)
-  turned_quiet (Sends B) r m = let w1 = (step setup w (Take A 65535)).world in rested setup fits w lead lag A a b r (Send B) Idle (emit (side w1 B).rows (pair_of setup B) (side w1 B).clock) tt refl refl (m (side w1 B).rows (side w1 B).clock)
-  turned_quiet (Resends A) r m = let w1 = (step setup w (Take B 65535)).world in rested setup fits w lead lag B a b r (Resend A) Nothing (resend (side w1 A).rows (pair_of setup A) (side w1 A).clock) tt refl refl (m (side w1 A).rows (side w1 A).clock)
-  turned_quiet (Resends B) r m = let w1 = (step setup w (Take A 65535)).world in rested setup fits w lead lag A a b r (Resend B) Nothing (resend (side w1 B).rows (pair_of setup B) (side w1 B).clock) tt refl refl (m (side w1 B).rows (side w1 B).clock)
+  turned_quiet (Sends A) r m = let w1 = (step setup w (At B (Take 65535))).world in rested setup fits w lead lag B a b r (At A Send) Idle (emit (side w1 A).rows (pair_of setup A) (side w1 A).clock) tt refl refl (m (side w1 A).rows (side w1 A).clock)
+  turned_quiet (Sends B) r m = let w1 = (step setup w (At A (Take 65535))).world in rested setup fits w lead lag A a b r (At B Send) Idle (emit (side w1 B).rows (pair_of setup B) (side w1 B).clock) tt refl refl (m (side w1 B).rows (side w1 B).clock)
+  turned_quiet (Resends A) r m = let w1 = (step setup w (At B (Take 65535))).world in rested setup fits w lead lag B a b r (At A Resend) Nothing (resend (side w1 A).rows (pair_of setup A) (side w1 A).clock) tt refl refl (m (side w1 A).rows (side w1 A).clock)
+  turned_quiet (Resends B) r m = let w1 = (step setup w (At A (Take 65535))).world in rested setup fits w lead lag A a b r (At B Resend) Nothing (resend (side w1 B).rows (pair_of setup B) (side w1 B).clock) tt refl refl (m (side w1 B).rows (side w1 B).clock)
 
 module _ (setup : Setup) (fits : SetupFits setup) (w : World) (lead lag : ℕ) (a b : Session) (P : Draft → Type 0) (Q : Type 0) where
   -- a turn that makes a segment, or nothing where Q holds
@@ -362,30 +363,30 @@ module _ (setup : Setup) (fits : SetupFits setup) (w : World) (lead lag : ℕ) (
       ⊎ (Rested setup w (run_from setup w (turn_events setup w t)) lead lag (other (maker t)) a.state (take_out 65535 b.state) × Q)
   unfolding turn_events
   turned_either (Sends A) r m awake may =
-      let w1 = (step setup w (Take B 65535)).world in
+      let w1 = (step setup w (At B (Take 65535))).world in
       let one = (taken setup fits w lead lag B a b r).0 in
       let f = emit (side w1 A).rows (pair_of setup A) (side w1 A).clock in
-      ⊎_elim (λ (z : SealsAs (pair_of setup A) a.state P (f a.state)). inl (made setup fits w lead lag B a b r (Send A) Idle f P tt refl z awake may))
-      (λ (z : (f a.state ≡ Quiet) × Q). inr (rested setup fits w lead lag B a b r (Send A) Idle f tt refl refl z.0, z.1))
+      ⊎_elim (λ (z : SealsAs (pair_of setup A) a.state P (f a.state)). inl (made setup fits w lead lag B a b r (At A Send) Idle f P tt refl z awake may))
+      (λ (z : (f a.state ≡ Quiet) × Q). inr (rested setup fits w lead lag B a b r (At A Send) Idle f tt refl refl z.0, z.1))
       (m (side w1 A).rows (side w1 A).clock (one.keyed.sends A))
   turned_either (Sends B) r m awake may =
-      let w1 = (step setup w (Take A 65535)).world in
+      let w1 = (step setup w (At A (Take 65535))).world in
       let one = (taken setup fits w lead lag A a b r).0 in
       let f = emit (side w1 B).rows (pair_of setup B) (side w1 B).clock in
-      ⊎_elim (λ (z : SealsAs (pair_of setup B) a.state P (f a.state)). inl (made setup fits w lead lag A a b r (Send B) Idle f P tt refl z awake may))
-      (λ (z : (f a.state ≡ Quiet) × Q). inr (rested setup fits w lead lag A a b r (Send B) Idle f tt refl refl z.0, z.1))
+      ⊎_elim (λ (z : SealsAs (pair_of setup B) a.state P (f a.state)). inl (made setup fits w lead lag A a b r (At B Send) Idle f P tt refl z awake may))
+      (λ (z : (f a.state ≡ Quiet) × Q). inr (rested setup fits w lead lag A a b r (At B Send) Idle f tt refl refl z.0, z.1))
       (m (side w1 B).rows (side w1 B).clock (one.keyed.sends B))
   turned_either (Resends A) r m awake may =
-      let w1 = (step setup w (Take B 65535)).world in
+      let w1 = (step setup w (At B (Take 65535))).world in
       let one = (taken setup fits w lead lag B a b r).0 in
       let f = resend (side w1 A).rows (pair_of setup A) (side w1 A).clock in
-      ⊎_elim (λ (z : SealsAs (pair_of setup A) a.state P (f a.state)). inl (made setup fits w lead lag B a b r (Resend A) Nothing f P tt refl z awake may))
-      (λ (z : (f a.state ≡ Quiet) × Q). inr (rested setup fits w lead lag B a b r (Resend A) Nothing f tt refl refl z.0, z.1))
+      ⊎_elim (λ (z : SealsAs (pair_of setup A) a.state P (f a.state)). inl (made setup fits w lead lag B a b r (At A Resend) Nothing f P tt refl z awake may))
+      (λ (z : (f a.state ≡ Quiet) × Q). inr (rested setup fits w lead lag B a b r (At A Resend) Nothing f tt refl refl z.0, z.1))
       (m (side w1 A).rows (side w1 A).clock (one.keyed.sends A))
   turned_either (Resends B) r m awake may =
-      let w1 = (step setup w (Take A 65535)).world in
+      let w1 = (step setup w (At A (Take 65535))).world in
       let one = (taken setup fits w lead lag A a b r).0 in
       let f = resend (side w1 B).rows (pair_of setup B) (side w1 B).clock in
-      ⊎_elim (λ (z : SealsAs (pair_of setup B) a.state P (f a.state)). inl (made setup fits w lead lag A a b r (Resend B) Nothing f P tt refl z awake may))
-      (λ (z : (f a.state ≡ Quiet) × Q). inr (rested setup fits w lead lag A a b r (Resend B) Nothing f tt refl refl z.0, z.1))
+      ⊎_elim (λ (z : SealsAs (pair_of setup B) a.state P (f a.state)). inl (made setup fits w lead lag A a b r (At B Resend) Nothing f P tt refl z awake may))
+      (λ (z : (f a.state ≡ Quiet) × Q). inr (rested setup fits w lead lag A a b r (At B Resend) Nothing f tt refl refl z.0, z.1))
       (m (side w1 B).rows (side w1 B).clock (one.keyed.sends B))

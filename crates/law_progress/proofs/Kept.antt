@@ -10,7 +10,8 @@ use Rattle.book_endpoint.specs.States.{EndState, connected, listening, started}
 use Rattle.book_link.specs.Alterations.{has_place, altered}
 use Rattle.book_link.specs.RowLines.{added_row}
 use Rattle.book_link.specs.declared.event.Event.{Event}
-use Rattle.book_link.specs.declared.event.Event.TheVariants.{Clock, Connect, Listen as Await, Start, Give, Fill, Send, Resend, Deliver, Inject, Alter, Take, Close, Abort, AddRow, Withdraw, Dump}
+use Rattle.book_link.specs.declared.event.Event.TheVariants.{At, Dump}
+use Rattle.book_link.specs.declared.event.Action.TheVariants.{Clock, Connect, Listen as Await, Start, Give, Fill, Send, Resend, Deliver, Inject, Alter, Take, Close, Abort, AddRow, Withdraw}
 use Rattle.book_link.specs.Worlds.{other, Setup, pair_of, Session, Made, World, side, find, segment_named}
 use Rattle.book_link.specs.Steps.{Stepped, with_sessions, with_table, ticked, with_clock, begin, on_live, come, deliver, alter, add_row, withdraw, step, view_of}
 use Rattle.book_link.specs.Runs.{empty, run_from, run}
@@ -59,22 +60,22 @@ module _ (setup : Setup) where
   withdraw_fit w e (Some rows) h = put_fit w e (with_table (side w e) rows) None (h e) h
 
   fit_step : (w : World) (event : Event) → Inv setup w → AllFits w → AllFits (step setup w event).world
-  fit_step w (Clock e seconds) inv h = put_fit w e (with_clock (side w e) seconds) None (ticked_fit seconds (side w e).sessions (h e)) h
-  fit_step w (Connect e isn) inv h = begin_fit w e (connected (pair_of setup e) isn) (find (side w e).sessions isn) (beginning_fit (pair_of setup e) SynSent isn refl) h
-  fit_step w (Await e isn) inv h = begin_fit w e (listening (pair_of setup e) isn) (find (side w e).sessions isn) (beginning_fit (pair_of setup e) Listen isn refl) h
-  fit_step w (Start e isn peer) inv h = begin_fit w e (started (pair_of setup e) isn peer) (find (side w e).sessions isn) (started_fit (pair_of setup e) isn peer) h
-  fit_step w (Give e piece) inv h = act_fit setup w e (side w e).sessions _ refl inv (λ s a b fit. given_fit piece s a fit) h
-  fit_step w (Fill e count byte) inv h = act_fit setup w e (side w e).sessions _ refl inv (λ s a b fit. given_fit (replicate count byte) s a fit) h
-  fit_step w (Send e) inv h = act_fit setup w e (side w e).sessions _ refl inv (λ s a b fit. send_fit setup e w s fit) h
-  fit_step w (Resend e) inv h = act_fit setup w e (side w e).sessions _ refl inv (λ s a b fit. again_fit setup e w s fit) h
-  fit_step w (Deliver e name) inv h = deliver_fit w e (segment_named name w.history) inv h
-  fit_step w (Inject e bytes) inv h = arrival_fit w e bytes inv h
-  fit_step w (Alter e name place mask fix) inv h = alter_fit w e place mask fix (segment_named name w.history) inv h
-  fit_step w (Take e count) inv h = act_fit setup w e (side w e).sessions _ refl inv (λ s a b fit. fit) h
-  fit_step w (Close e) inv h = act_fit setup w e (side w e).sessions _ refl inv (λ s a b fit. close_fit s s.phase fit) h
-  fit_step w (Abort e) inv h = act_fit setup w e (side w e).sessions _ refl inv (λ s a b fit. abort_fit s fit) h
-  fit_step w (AddRow e row) inv h = add_fit w e (adding (side w e).rows (added_row row)) h
-  fit_step w (Withdraw e n) inv h = withdraw_fit w e (withdrawn (side w e).rows n) h
+  fit_step w (At e (Clock seconds)) inv h = put_fit w e (with_clock (side w e) seconds) None (ticked_fit seconds (side w e).sessions (h e)) h
+  fit_step w (At e (Connect isn)) inv h = begin_fit w e (connected (pair_of setup e) isn) (find (side w e).sessions isn) (beginning_fit (pair_of setup e) SynSent isn refl) h
+  fit_step w (At e (Await isn)) inv h = begin_fit w e (listening (pair_of setup e) isn) (find (side w e).sessions isn) (beginning_fit (pair_of setup e) Listen isn refl) h
+  fit_step w (At e (Start isn peer)) inv h = begin_fit w e (started (pair_of setup e) isn peer) (find (side w e).sessions isn) (started_fit (pair_of setup e) isn peer) h
+  fit_step w (At e (Give piece)) inv h = act_fit setup w e (side w e).sessions _ refl inv (λ s a b fit. given_fit piece s a fit) h
+  fit_step w (At e (Fill count byte)) inv h = act_fit setup w e (side w e).sessions _ refl inv (λ s a b fit. given_fit (replicate count byte) s a fit) h
+  fit_step w (At e Send) inv h = act_fit setup w e (side w e).sessions _ refl inv (λ s a b fit. send_fit setup e w s fit) h
+  fit_step w (At e Resend) inv h = act_fit setup w e (side w e).sessions _ refl inv (λ s a b fit. again_fit setup e w s fit) h
+  fit_step w (At e (Deliver name)) inv h = deliver_fit w e (segment_named name w.history) inv h
+  fit_step w (At e (Inject bytes)) inv h = arrival_fit w e bytes inv h
+  fit_step w (At e (Alter name place mask fix)) inv h = alter_fit w e place mask fix (segment_named name w.history) inv h
+  fit_step w (At e (Take count)) inv h = act_fit setup w e (side w e).sessions _ refl inv (λ s a b fit. fit) h
+  fit_step w (At e Close) inv h = act_fit setup w e (side w e).sessions _ refl inv (λ s a b fit. close_fit s s.phase fit) h
+  fit_step w (At e Abort) inv h = act_fit setup w e (side w e).sessions _ refl inv (λ s a b fit. abort_fit s fit) h
+  fit_step w (At e (AddRow row)) inv h = add_fit w e (adding (side w e).rows (added_row row)) h
+  fit_step w (At e (Withdraw n)) inv h = withdraw_fit w e (withdrawn (side w e).rows n) h
   fit_step w (Dump name) inv h = h
 
 module _ (setup : Setup) (fits : SetupFits setup) where
@@ -102,22 +103,22 @@ module _ (setup : Setup) (fits : SetupFits setup) where
   withdraw_telling w e (Some rows) h = quiet_telling w e (with_table (side w e) rows) refl h
 
   telling_step : (w : World) (event : Event) → EventFits event → Facts setup w → Telling (step setup w event).world
-  telling_step w (Clock e seconds) f h = clock_telling w e seconds h.telling
-  telling_step w (Connect e isn) f h = new_telling w e (connected (pair_of setup e) isn) (find (side w e).sessions isn) refl refl h.telling
-  telling_step w (Await e isn) f h = new_telling w e (listening (pair_of setup e) isn) (find (side w e).sessions isn) refl refl h.telling
-  telling_step w (Start e isn peer) f h = new_telling w e (started (pair_of setup e) isn peer) (find (side w e).sessions isn) refl refl h.telling
-  telling_step w (Give e piece) f h = act_telling setup fits w e (side w e).sessions _ refl h.inv h.heard h.fit (λ s a b c. given_ok setup e piece s f a b) (λ s a b c. given_told setup e piece s) h.telling
-  telling_step w (Fill e count byte) f h = act_telling setup fits w e (side w e).sessions _ refl h.inv h.heard h.fit (λ s a b c. given_ok setup e (replicate count byte) s (repeated count byte f).at a b) (λ s a b c. given_told setup e (replicate count byte) s) h.telling
-  telling_step w (Send e) f h = act_telling setup fits w e (side w e).sessions _ refl h.inv h.heard h.fit (λ s a b c. send_ok setup e w (h.inv.rows e) s a b) (λ s a b c. send_told setup e w s) h.telling
-  telling_step w (Resend e) f h = act_telling setup fits w e (side w e).sessions _ refl h.inv h.heard h.fit (λ s a b c. resend_act_ok setup e w (h.inv.rows e) s a b) (λ s a b c. again_told setup e w s a) h.telling
-  telling_step w (Deliver e name) f h = deliver_telling w e (segment_named name w.history) (λ m is. named_bytes setup fits w name m h.inv is) h
-  telling_step w (Inject e bytes) f h = arrival_telling w e bytes f h
-  telling_step w (Alter e name place mask fix) f h = alter_telling w e place mask fix (segment_named name w.history) f (λ m is. named_bytes setup fits w name m h.inv is) h
-  telling_step w (Take e count) f h = act_telling setup fits w e (side w e).sessions _ refl h.inv h.heard h.fit (λ s a b c. took_ok setup e count s a b) (λ s a b c. took_told setup e count s) h.telling
-  telling_step w (Close e) f h = act_telling setup fits w e (side w e).sessions _ refl h.inv h.heard h.fit (λ s a b c. close_ok setup e s s.phase a b) (λ s a b c. close_told setup e s s.phase) h.telling
-  telling_step w (Abort e) f h = act_telling setup fits w e (side w e).sessions _ refl h.inv h.heard h.fit (λ s a b c. abort_ok setup e s a b) (λ s a b c. abort_told setup e s) h.telling
-  telling_step w (AddRow e row) f h = add_telling w e (adding (side w e).rows (added_row row)) h.telling
-  telling_step w (Withdraw e n) f h = withdraw_telling w e (withdrawn (side w e).rows n) h.telling
+  telling_step w (At e (Clock seconds)) f h = clock_telling w e seconds h.telling
+  telling_step w (At e (Connect isn)) f h = new_telling w e (connected (pair_of setup e) isn) (find (side w e).sessions isn) refl refl h.telling
+  telling_step w (At e (Await isn)) f h = new_telling w e (listening (pair_of setup e) isn) (find (side w e).sessions isn) refl refl h.telling
+  telling_step w (At e (Start isn peer)) f h = new_telling w e (started (pair_of setup e) isn peer) (find (side w e).sessions isn) refl refl h.telling
+  telling_step w (At e (Give piece)) f h = act_telling setup fits w e (side w e).sessions _ refl h.inv h.heard h.fit (λ s a b c. given_ok setup e piece s f a b) (λ s a b c. given_told setup e piece s) h.telling
+  telling_step w (At e (Fill count byte)) f h = act_telling setup fits w e (side w e).sessions _ refl h.inv h.heard h.fit (λ s a b c. given_ok setup e (replicate count byte) s (repeated count byte f).at a b) (λ s a b c. given_told setup e (replicate count byte) s) h.telling
+  telling_step w (At e Send) f h = act_telling setup fits w e (side w e).sessions _ refl h.inv h.heard h.fit (λ s a b c. send_ok setup e w (h.inv.rows e) s a b) (λ s a b c. send_told setup e w s) h.telling
+  telling_step w (At e Resend) f h = act_telling setup fits w e (side w e).sessions _ refl h.inv h.heard h.fit (λ s a b c. resend_act_ok setup e w (h.inv.rows e) s a b) (λ s a b c. again_told setup e w s a) h.telling
+  telling_step w (At e (Deliver name)) f h = deliver_telling w e (segment_named name w.history) (λ m is. named_bytes setup fits w name m h.inv is) h
+  telling_step w (At e (Inject bytes)) f h = arrival_telling w e bytes f h
+  telling_step w (At e (Alter name place mask fix)) f h = alter_telling w e place mask fix (segment_named name w.history) f (λ m is. named_bytes setup fits w name m h.inv is) h
+  telling_step w (At e (Take count)) f h = act_telling setup fits w e (side w e).sessions _ refl h.inv h.heard h.fit (λ s a b c. took_ok setup e count s a b) (λ s a b c. took_told setup e count s) h.telling
+  telling_step w (At e Close) f h = act_telling setup fits w e (side w e).sessions _ refl h.inv h.heard h.fit (λ s a b c. close_ok setup e s s.phase a b) (λ s a b c. close_told setup e s s.phase) h.telling
+  telling_step w (At e Abort) f h = act_telling setup fits w e (side w e).sessions _ refl h.inv h.heard h.fit (λ s a b c. abort_ok setup e s a b) (λ s a b c. abort_told setup e s) h.telling
+  telling_step w (At e (AddRow row)) f h = add_telling w e (adding (side w e).rows (added_row row)) h.telling
+  telling_step w (At e (Withdraw n)) f h = withdraw_telling w e (withdrawn (side w e).rows n) h.telling
   telling_step w (Dump name) f h = h.telling
 
 pub facts_step : (setup : Setup) → SetupFits setup → (w : World) (event : Event) → EventFits event → Facts setup w → Facts setup (step setup w event).world

@@ -13,7 +13,8 @@ use Rattle.book_base.proofs.TestLaws.{by_bool}
 use Rattle.std.proofs.lemmas.Bool.Decides.{nat_tests}
 use Rattle.book_endpoint.specs.States.{EndState, first, ready, ready_count, ready_at, take_out, given_end, passed_fin, at_end}
 use Rattle.book_link.specs.declared.event.Event.{Event}
-use Rattle.book_link.specs.declared.event.Event.TheVariants.{Take}
+use Rattle.book_link.specs.declared.event.Event.TheVariants.{At}
+use Rattle.book_link.specs.declared.event.Action.TheVariants.{Take}
 use Rattle.book_link.specs.Worlds.{other, Setup, Session, World, side, live, partner_among, forgeries}
 use Rattle.book_link.specs.Steps.{step}
 use Rattle.book_link.specs.Runs.{run_from, run}

@@ -8,7 +8,8 @@ use Rattle.book_segments.specs.Received.{below_limit, bytes_from}
 use Rattle.book_segments.specs.Segments.{bit_of}
 use Rattle.book_segments.proofs.Fields.{some_is}
 use Rattle.book_endpoint.specs.States.{EndState, first, ready, ready_count, ready_at, take_out, given_end, passed_fin, at_end}
-use Rattle.book_link.specs.declared.event.Event.TheVariants.{Take}
+use Rattle.book_link.specs.declared.event.Event.TheVariants.{At}
+use Rattle.book_link.specs.declared.event.Action.TheVariants.{Take}
 use Rattle.book_link.specs.Worlds.{other, Setup, Session, World, side, live, partner_among, forgeries}
 use Rattle.book_link.specs.Steps.{step}
 use Rattle.book_link.specs.Runs.{run_from}
@@ -146,8 +147,8 @@ pub takes_all : (setup : Setup) (fits : SetupFits setup) (w v : World) (lead lag
 takes_all setup fits w v lead lag up done =
     let a0 = up.session A in
     let b0 = up.session B in
-    let v1 = (step setup v (Take A 65535)).world in
-    let v2 = (step setup v1 (Take B 65535)).world in
+    let v1 = (step setup v (At A (Take 65535))).world in
+    let v2 = (step setup v1 (At B (Take 65535))).world in
     ⊎_elim
     (λ (r : Settled setup v lead lag a0.state b0.state).
     let a = r.here in

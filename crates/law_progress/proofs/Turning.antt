@@ -24,7 +24,8 @@ use Rattle.endpoint_steps.specs.Arriving.{after_check, arrive_judged, arrive_rea
 use Rattle.book_endpoint.specs.Emissions.{Draft, Emission, Emitted, Quiet, Emits, sets, sealed}
 use Rattle.endpoint_steps.proofs.Arriving.{read_by_cases}
 use Rattle.book_link.specs.declared.event.Event.{Event}
-use Rattle.book_link.specs.declared.event.Event.TheVariants.{Deliver, Take}
+use Rattle.book_link.specs.declared.event.Event.TheVariants.{At}
+use Rattle.book_link.specs.declared.event.Action.TheVariants.{Deliver, Take}
 use Rattle.book_link.specs.Outcomes.{Outcome, Sent}
 use Rattle.book_link.specs.Worlds.{other, same_end, Setup, pair_of, Session, Made, Happening, Making, World, side, find, live, is_known, accounts_for, was_made, forged, forgeries, segment_named}
 use Rattle.book_link.specs.Steps.{Stepped, Act, add, acted, on_live, quietly, made_of, sent, came, come, took, deliver, step, view_of}
@@ -186,7 +187,7 @@ pub record Gone (setup : Setup) (v : World) (y : End) (a b : EndState) : Type 0 
 -- the segment that the far end made last comes to the near end, where all was taken
 pub record CameTo (setup : Setup) (w : World) (lead lag : ℕ) (y : End) (a b : Session) (m : Made) (out : Draft) (before : EndState) : Type 0 where
   pub after : Session
-  pub two : Two setup (step setup w (Deliver y m.name)).world lead lag y a after
+  pub two : Two setup (step setup w (At y (Deliver m.name))).world lead lag y a after
   pub heard : Heard before b.state after.state out
 
 pub stays_by : (s t : EndState) → is_open t.phase ≡ true → frame t ≡ frame s → StaysUp s t
@@ -210,7 +211,7 @@ pub record OfDraft (setup : Setup) (y : End) (before : EndState) (m : Made) (out
 
 come_two : (setup : Setup) (fits : SetupFits setup) (w : World) (lead lag : ℕ) (y : End) (a b : Session) (m : Made) (before : EndState) (out : Draft) → Two setup w lead lag y a b → JustMade w y a m → OfDraft setup y before m out
     → IsNear out.number b.state.expected → before.expected ≡ a.state.expected → given_end before ≡ given_end a.state → window b.state ≡ 65535
-    → CameTo setup w lead lag y a b m out before ⊎ Gone setup (step setup w (Deliver y m.name)).world y a.state b.state
+    → CameTo setup w lead lag y a b m out before ⊎ Gone setup (step setup w (At y (Deliver m.name))).world y a.state b.state
 come_two setup fits w lead lag y a b m before out two just of near_number x end_is wide =
     let near = near_ends setup w lead lag y a b two in
     let far = far_ends setup w lead lag y a b two in
@@ -289,9 +290,9 @@ come_two setup fits w lead lag y a b m before out two just of near_number x end_
     (let z = unforged_now y p m just.past just.maker j.key j.context j.message in
     let all : forged y (Some p) w.history ≡ 0 = ap (forged y (Some p)) just.history ∙ z in
     let before_none = two.up.unforged in omega arith) in
-    let v = (step setup w (Deliver y m.name)).world in
+    let v = (step setup w (At y (Deliver m.name))).world in
     let v_is : (on_live w y (come m.bytes (view_of setup w y))).world ≡ v = ap (λ (o : Option Made). (deliver setup w y o).world) (sym named) in
-    let facts = facts_step setup fits w (Deliver y m.name) tt two.facts in
+    let facts = facts_step setup fits w (At y (Deliver m.name)) tt two.facts in
     let facts_now = subst (Facts setup) (sym v_is) facts in
     let acts = subst (λ (k : Act). Acted w y (acted b k) k.happened (on_live w y (come m.bytes (view_of setup w y))).world) (ap (came m.bytes (view_of setup w y) s) arrived) (act_live w y (come m.bytes (view_of setup w y)) b (near_lives setup w lead lag y a b two)).0 in
     let expected_up = effect.up in
@@ -409,17 +410,17 @@ all_taken b = acted b (took 65535 b.state)
 
 module _ (setup : Setup) (fits : SetupFits setup) (w : World) (lead lag : ℕ) (y : End) (a b : Session) (two : Two setup w lead lag y a b) where
   -- the world once the near end took all
-  pub two_taken : Two setup (step setup w (Take y 65535)).world lead lag y a (all_taken b)
+  pub two_taken : Two setup (step setup w (At y (Take 65535))).world lead lag y a (all_taken b)
   two_taken =
       let stays : StaysUp b.state (take_out 65535 b.state) = record { opened = (near_ends setup w lead lag y a b two).up.phase; isn = refl; peer = refl; closing = refl; given = refl } in
-      two_near setup w lead lag y a b two (took 65535) (took 65535 b.state) refl stays two.up.unforged (facts_step setup fits w (Take y 65535) tt two.facts)
+      two_near setup w lead lag y a b two (took 65535) (took 65535 b.state) refl stays two.up.unforged (facts_step setup fits w (At y (Take 65535)) tt two.facts)
 
   pub turn_made : (ev : Event) (without : Outcome) (f : EndState → Emitted) → EventFits ev
-      → let w1 = (step setup w (Take y 65535)).world in
+      → let w1 = (step setup w (At y (Take 65535))).world in
       step setup w1 ev ≡ on_live w1 (other y) (λ (s : EndState). sent (view_of setup w1 (other y)) s without (f s)) → (m : Makes (pair_of setup (other y)) a.state (f a.state))
-      → AfterMade setup (run_from setup w (Take y 65535 ∷ ev ∷ delivering y (step setup w1 ev).outcome)) lead lag y a.state b.state m.out.number (takes m.out) m.out.state.next ⊎ Gone setup (run_from setup w (Take y 65535 ∷ ev ∷ delivering y (step setup w1 ev).outcome)) y a.state b.state
+      → AfterMade setup (run_from setup w (At y (Take 65535) ∷ ev ∷ delivering y (step setup w1 ev).outcome)) lead lag y a.state b.state m.out.number (takes m.out) m.out.state.next ⊎ Gone setup (run_from setup w (At y (Take 65535) ∷ ev ∷ delivering y (step setup w1 ev).outcome)) y a.state b.state
   turn_made ev without f ev_fits is m =
-      let w1 = (step setup w (Take y 65535)).world in
+      let w1 = (step setup w (At y (Take 65535))).world in
       let x = other y in
       let one = two_taken in
       let b1 = all_taken b in
@@ -456,8 +457,8 @@ module _ (setup : Setup) (fits : SetupFits setup) (w : World) (lead lag : ℕ) (
       let next = far1.numbers.next in
       let came_so = come_two setup fits w2 lead lag y a2 b1 made a.state m.out two2 just of (record { ahead = omega arith; behind = omega arith }) (sym (ap (λ (k : Rest). k.expected) same)) (sym (ap (λ (k : Rest). k.isn + 1 + length k.given) same))
       (took_window b.state (near_ends setup w lead lag y a b two).whole) in
-      let v = (step setup w2 (Deliver y made.name)).world in
-      let v_is : v ≡ run_from setup w (Take y 65535 ∷ ev ∷ delivering y (step setup w1 ev).outcome) =
+      let v = (step setup w2 (At y (Deliver made.name))).world in
+      let v_is : v ≡ run_from setup w (At y (Take 65535) ∷ ev ∷ delivering y (step setup w1 ev).outcome) =
       ap (λ (o : Outcome). run_from setup w2 (delivering y o)) (sym outcome) ∙ ap (λ (k : Stepped). run_from setup k.world (delivering y k.outcome)) (sym is) in
       ⊎_elim
       (λ (r : CameTo setup w2 lead lag y a2 b1 made m.out a.state).
@@ -490,11 +491,11 @@ module _ (setup : Setup) (fits : SetupFits setup) (w : World) (lead lag : ℕ) (
       came_so
 
   pub turn_quiet : (ev : Event) (without : Outcome) (f : EndState → Emitted) → EventFits ev → delivering y without ≡ []
-      → let w1 = (step setup w (Take y 65535)).world in
+      → let w1 = (step setup w (At y (Take 65535))).world in
       step setup w1 ev ≡ on_live w1 (other y) (λ (s : EndState). sent (view_of setup w1 (other y)) s without (f s)) → f a.state ≡ Quiet
-      → AfterQuiet setup (run_from setup w (Take y 65535 ∷ ev ∷ delivering y (step setup w1 ev).outcome)) lead lag y a.state b.state
+      → AfterQuiet setup (run_from setup w (At y (Take 65535) ∷ ev ∷ delivering y (step setup w1 ev).outcome)) lead lag y a.state b.state
   turn_quiet ev without f ev_fits nothing is quiet =
-      let w1 = (step setup w (Take y 65535)).world in
+      let w1 = (step setup w (At y (Take 65535))).world in
       let x = other y in
       let one = two_taken in
       let b1 = all_taken b in
@@ -506,7 +507,7 @@ module _ (setup : Setup) (fits : SetupFits setup) (w : World) (lead lag : ℕ) (
       let facts2 : Facts setup w2 = subst (λ (k : Stepped). Facts setup k.world) is (facts_step setup fits w1 ev ev_fits one.facts) in
       let two2 = two_far setup w1 lead lag y a b1 one call act act_is (stays_rest a.state a.state far1.up.phase refl) one.up.unforged facts2 in
       let outcome : (on_live w1 x call).outcome ≡ without = (act_live w1 x call a (far_lives setup w1 lead lag y a b1 one)).1 ∙ ap (λ (k : Act). k.outcome) act_is in
-      let v_is : w2 ≡ run_from setup w (Take y 65535 ∷ ev ∷ delivering y (step setup w1 ev).outcome) =
+      let v_is : w2 ≡ run_from setup w (At y (Take 65535) ∷ ev ∷ delivering y (step setup w1 ev).outcome) =
       ap (run_from setup w2) (sym (ap (delivering y) outcome ∙ nothing)) ∙ ap (λ (k : Stepped). run_from setup k.world (delivering y k.outcome)) (sym is) in
       let all : AfterQuiet setup w2 lead lag y a.state b.state = record {
         after = record {

@@ -26,6 +26,7 @@ use Rattle.book_macs.specs.Contexts.{context_of}
 use Rattle.book_link.specs.Alterations.{has_place, altered}
 use Rattle.book_link.specs.declared.event.Event.{Event}
 use Rattle.book_link.specs.declared.event.Event.TheVariants as event
+use Rattle.book_link.specs.declared.event.Action.TheVariants as action
 use Rattle.book_link.specs.Outcomes.{Outcome, Idle, Nothing}
 use Rattle.book_link.specs.RowLines.{added_row}
 use Rattle.book_link.specs.Runs.{empty}
@@ -219,7 +220,7 @@ module _ (setup : Setup) (w : World) (calm : AllCalms w) where
   ticked_goes seconds [] = tt
   ticked_goes seconds (s ∷ rest) = tick_holds s.state seconds s.state.phase
 
-  clock_steps : (e : End) (seconds : ℕ) → Steps_on w (step setup w (event.Clock e seconds)).world e
+  clock_steps : (e : End) (seconds : ℕ) → Steps_on w (step setup w (event.At e (action.Clock seconds))).world e
   clock_steps A seconds = record { there = refl; here = ticked_goes seconds w.a.sessions }
   clock_steps B seconds = record { there = refl; here = ticked_goes seconds w.b.sessions }
 
@@ -341,27 +342,27 @@ module _ (setup : Setup) where
   by_event p ev e h steps = let s = step setup p.world ev in plain_steps setup p ev e (side s.world e).clock (is_again ev) (is_again ev && is_sent s.outcome) h steps
 
   plain_watched : (p : Progress) (ev : Event) → IsWatched p → IsWatched (plain setup p ev)
-  plain_watched p (event.Clock e seconds) h = plain_steps setup p (event.Clock e seconds) e (side (step setup p.world (event.Clock e seconds)).world e).clock false false h (clock_steps setup p.world h.calm e seconds)
-  plain_watched p (event.Connect e isn) h = begin_watched setup p (event.Connect e isn) e (connected (pair_of setup e) isn) (find (side p.world e).sessions isn) (side (step setup p.world (event.Connect e isn)).world e).clock h (calm_step setup p.world (event.Connect e isn) h.calm) refl
-  plain_watched p (event.Listen e isn) h = begin_watched setup p (event.Listen e isn) e (listening (pair_of setup e) isn) (find (side p.world e).sessions isn) (side (step setup p.world (event.Listen e isn)).world e).clock h (calm_step setup p.world (event.Listen e isn) h.calm) refl
-  plain_watched p (event.Start e isn peer) h = begin_watched setup p (event.Start e isn peer) e (started (pair_of setup e) isn peer) (find (side p.world e).sessions isn) (side (step setup p.world (event.Start e isn peer)).world e).clock h (calm_step setup p.world (event.Start e isn peer) h.calm) refl
-  plain_watched p (event.Give e piece) h = by_event p (event.Give e piece) e h (on_steps setup p.world h.calm e (given piece) (λ s c. given_holds piece s))
-  plain_watched p (event.Fill e count byte) h = by_event p (event.Fill e count byte) e h (on_steps setup p.world h.calm e (given (replicate count byte)) (λ s c. given_holds (replicate count byte) s))
-  plain_watched p (event.Send e) h = by_event p (event.Send e) e h (on_steps setup p.world h.calm e (send (view_of setup p.world e)) (λ s c. send_holds setup e p.world s))
-  plain_watched p (event.Resend e) h = by_event p (event.Resend e) e h (on_steps setup p.world h.calm e (send_again (view_of setup p.world e)) (λ s c. again_holds setup e p.world s))
-  plain_watched p (event.Deliver e n) h = by_event p (event.Deliver e n) e h (deliver_steps setup p.world h.calm e (segment_named n p.world.history))
-  plain_watched p (event.Inject e bytes) h = by_event p (event.Inject e bytes) e h (on_steps setup p.world h.calm e (come bytes (view_of setup p.world e)) (come_holds setup e p.world bytes))
-  plain_watched p (event.Alter e n place mask fix) h = by_event p (event.Alter e n place mask fix) e h (alter_steps setup p.world h.calm e place mask fix (segment_named n p.world.history))
-  plain_watched p (event.Take e count) h = by_event p (event.Take e count) e h (on_steps setup p.world h.calm e (took count) (λ s c. record { una = omega arith; shut = λ g. g }))
-  plain_watched p (event.Close e) h = by_event p (event.Close e) e h (on_steps setup p.world h.calm e _ (λ s c. close_holds s s.phase))
-  plain_watched p (event.Abort e) h = by_event p (event.Abort e) e h (on_steps setup p.world h.calm e _ (λ s c. record { una = omega arith; shut = λ g. refl }))
-  plain_watched p (event.AddRow e row) h = by_event p (event.AddRow e row) e h (add_steps setup p.world h.calm e (adding (side p.world e).rows (added_row row)))
-  plain_watched p (event.Withdraw e n) h = by_event p (event.Withdraw e n) e h (withdraw_steps setup p.world h.calm e (withdrawn (side p.world e).rows n))
+  plain_watched p (event.At e (action.Clock seconds)) h = plain_steps setup p (event.At e (action.Clock seconds)) e (side (step setup p.world (event.At e (action.Clock seconds))).world e).clock false false h (clock_steps setup p.world h.calm e seconds)
+  plain_watched p (event.At e (action.Connect isn)) h = begin_watched setup p (event.At e (action.Connect isn)) e (connected (pair_of setup e) isn) (find (side p.world e).sessions isn) (side (step setup p.world (event.At e (action.Connect isn))).world e).clock h (calm_step setup p.world (event.At e (action.Connect isn)) h.calm) refl
+  plain_watched p (event.At e (action.Listen isn)) h = begin_watched setup p (event.At e (action.Listen isn)) e (listening (pair_of setup e) isn) (find (side p.world e).sessions isn) (side (step setup p.world (event.At e (action.Listen isn))).world e).clock h (calm_step setup p.world (event.At e (action.Listen isn)) h.calm) refl
+  plain_watched p (event.At e (action.Start isn peer)) h = begin_watched setup p (event.At e (action.Start isn peer)) e (started (pair_of setup e) isn peer) (find (side p.world e).sessions isn) (side (step setup p.world (event.At e (action.Start isn peer))).world e).clock h (calm_step setup p.world (event.At e (action.Start isn peer)) h.calm) refl
+  plain_watched p (event.At e (action.Give piece)) h = by_event p (event.At e (action.Give piece)) e h (on_steps setup p.world h.calm e (given piece) (λ s c. given_holds piece s))
+  plain_watched p (event.At e (action.Fill count byte)) h = by_event p (event.At e (action.Fill count byte)) e h (on_steps setup p.world h.calm e (given (replicate count byte)) (λ s c. given_holds (replicate count byte) s))
+  plain_watched p (event.At e action.Send) h = by_event p (event.At e action.Send) e h (on_steps setup p.world h.calm e (send (view_of setup p.world e)) (λ s c. send_holds setup e p.world s))
+  plain_watched p (event.At e action.Resend) h = by_event p (event.At e action.Resend) e h (on_steps setup p.world h.calm e (send_again (view_of setup p.world e)) (λ s c. again_holds setup e p.world s))
+  plain_watched p (event.At e (action.Deliver n)) h = by_event p (event.At e (action.Deliver n)) e h (deliver_steps setup p.world h.calm e (segment_named n p.world.history))
+  plain_watched p (event.At e (action.Inject bytes)) h = by_event p (event.At e (action.Inject bytes)) e h (on_steps setup p.world h.calm e (come bytes (view_of setup p.world e)) (come_holds setup e p.world bytes))
+  plain_watched p (event.At e (action.Alter n place mask fix)) h = by_event p (event.At e (action.Alter n place mask fix)) e h (alter_steps setup p.world h.calm e place mask fix (segment_named n p.world.history))
+  plain_watched p (event.At e (action.Take count)) h = by_event p (event.At e (action.Take count)) e h (on_steps setup p.world h.calm e (took count) (λ s c. record { una = omega arith; shut = λ g. g }))
+  plain_watched p (event.At e action.Close) h = by_event p (event.At e action.Close) e h (on_steps setup p.world h.calm e _ (λ s c. close_holds s s.phase))
+  plain_watched p (event.At e action.Abort) h = by_event p (event.At e action.Abort) e h (on_steps setup p.world h.calm e _ (λ s c. record { una = omega arith; shut = λ g. refl }))
+  plain_watched p (event.At e (action.AddRow row)) h = by_event p (event.At e (action.AddRow row)) e h (add_steps setup p.world h.calm e (adding (side p.world e).rows (added_row row)))
+  plain_watched p (event.At e (action.Withdraw n)) h = by_event p (event.At e (action.Withdraw n)) e h (withdraw_steps setup p.world h.calm e (withdrawn (side p.world e).rows n))
   plain_watched p (event.Dump n) h = h
 
   until_watched : (e : End) (to : ℕ) (p : Progress) → IsWatched p → IsWatched (until setup e to p).progress
   until_watched e to p h =
-      choose (λ (x : Expanded). IsWatched x.progress) (reading_at p e == to) (record { events = []; progress = p }) (record { events = event.Clock e to ∷ []; progress = plain setup p (event.Clock e to) }) (λ t. h) (λ t. plain_watched p (event.Clock e to) h)
+      choose (λ (x : Expanded). IsWatched x.progress) (reading_at p e == to) (record { events = []; progress = p }) (record { events = event.At e (action.Clock to) ∷ []; progress = plain setup p (event.At e (action.Clock to)) }) (λ t. h) (λ t. plain_watched p (event.At e (action.Clock to)) h)
 
   expired_watched : (e : End) (p : Progress) → IsWatched p → IsWatched (after_expiry e p)
   expired_watched e p h = with_watched p p.world e _ h h.calm refl (λ f is low. (_, refl))
@@ -370,10 +371,10 @@ module _ (setup : Setup) where
       → IsWatched (by_expiry next to (expired_then setup e p others) (until setup e to p)).progress
   expiry_watched e to p others None h rest = until_watched e to p h
   expiry_watched e to p others (Some d) h rest =
-      let r = plain setup (plain setup p (event.Clock e d)) (event.Resend e) in
+      let r = plain setup (plain setup p (event.At e (action.Clock d))) (event.At e action.Resend) in
       let q = after_expiry e r in
       choose (λ (x : Expanded). IsWatched x.progress) (nat_lt to d) (until setup e to p) (before (expiry e d) (others q)) (λ t. until_watched e to p h)
-      (λ t. rest q (expired_watched e r (plain_watched (plain setup p (event.Clock e d)) (event.Resend e) (plain_watched p (event.Clock e d) h))))
+      (λ t. rest q (expired_watched e r (plain_watched (plain setup p (event.At e (action.Clock d))) (event.At e action.Resend) (plain_watched p (event.At e (action.Clock d)) h))))
 
   waited_watched : (n : ℕ) (e : End) (to : ℕ) (p : Progress) → IsWatched p → IsWatched (waited n setup e to p).progress
   waited_watched zero e to p h = until_watched e to p h
@@ -388,16 +389,16 @@ module _ (setup : Setup) where
   expand_watched p (ev ∷ events) h = expand_watched (timed_event setup p ev).progress events (timed_watched p ev h)
 
   expiry_again : (e : End) (to : ℕ) (p : Progress) (others : Progress → Expanded) (d : ℕ) → d ≤ to
-      → (rest : List Event) × ((by_expiry (Some d) to (expired_then setup e p others) (until setup e to p)).events ≡ event.Clock e d ∷ event.Resend e ∷ rest)
+      → (rest : List Event) × ((by_expiry (Some d) to (expired_then setup e p others) (until setup e to p)).events ≡ event.At e (action.Clock d) ∷ event.At e action.Resend ∷ rest)
   expiry_again e to p others d low =
-      let q = after_expiry e (plain setup (plain setup p (event.Clock e d)) (event.Resend e)) in
-      choose (λ (x : Expanded). (rest : List Event) × (x.events ≡ event.Clock e d ∷ event.Resend e ∷ rest)) (nat_lt to d) (until setup e to p) (before (expiry e d) (others q))
+      let q = after_expiry e (plain setup (plain setup p (event.At e (action.Clock d))) (event.At e action.Resend)) in
+      choose (λ (x : Expanded). (rest : List Event) × (x.events ≡ event.At e (action.Clock d) ∷ event.At e action.Resend ∷ rest)) (nat_lt to d) (until setup e to p) (before (expiry e d) (others q))
       (λ t. let over = lt_is to d t in absurd (omega arith)) (λ t. ((others q).events, refl))
 
-  waited_again : (n : ℕ) (e : End) (to : ℕ) (p : Progress) (d : ℕ) → 1 ≤ n → d ≤ to → due_at p e ≡ Some d → (rest : List Event) × ((waited n setup e to p).events ≡ event.Clock e d ∷ event.Resend e ∷ rest)
+  waited_again : (n : ℕ) (e : End) (to : ℕ) (p : Progress) (d : ℕ) → 1 ≤ n → d ≤ to → due_at p e ≡ Some d → (rest : List Event) × ((waited n setup e to p).events ≡ event.At e (action.Clock d) ∷ event.At e action.Resend ∷ rest)
   waited_again zero e to p d some low at = absurd (omega arith)
   waited_again (suc n) e to p d some low at =
-      subst (λ (o : Option ℕ). (rest : List Event) × ((by_expiry o to (expired_then setup e p (waited n setup e to)) (until setup e to p)).events ≡ event.Clock e d ∷ event.Resend e ∷ rest)) (sym at)
+      subst (λ (o : Option ℕ). (rest : List Event) × ((by_expiry o to (expired_then setup e p (waited n setup e to)) (until setup e to p)).events ≡ event.At e (action.Clock d) ∷ event.At e action.Resend ∷ rest)) (sym at)
       (expiry_again e to p (waited n setup e to) d low)
 
   pub waits_resend : (events : List TimedEvent) → WaitsResend setup (expand setup events).progress

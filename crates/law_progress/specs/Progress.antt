@@ -13,7 +13,8 @@ use Rattle.book_endpoint.specs.declared.phase.Phase.TheVariants.{SynReceived, Es
 use Rattle.book_endpoint.specs.States.{EndState, given_end, at_end}
 use Rattle.book_endpoint.specs.Emissions.{is_syn_sent, is_syn_received}
 use Rattle.book_link.specs.declared.event.Event.{Event}
-use Rattle.book_link.specs.declared.event.Event.TheVariants.{Send, Resend, Deliver, Take}
+use Rattle.book_link.specs.declared.event.Event.TheVariants.{At}
+use Rattle.book_link.specs.declared.event.Action.TheVariants.{Send, Resend, Deliver, Take}
 use Rattle.book_link.specs.Outcomes.{Outcome, Sent}
 use Rattle.book_link.specs.Worlds.{other, Setup, pair_of, Session, World, side, live}
 use Rattle.book_link.specs.Worlds.{is_known, forgeries}
@@ -32,12 +33,12 @@ maker (Resends e) = e
 
 -- its call (own)
 abbrev pub making : Turn → Event
-making (Sends e) = Send e
-making (Resends e) = Resend e
+making (Sends e) = At e Send
+making (Resends e) = At e Resend
 
 -- a segment that was made is delivered as it was made (own)
 abbrev pub delivering : End → Outcome → List Event
-delivering e (Sent made) = Deliver e made.name ∷ []
+delivering e (Sent made) = At e (Deliver made.name) ∷ []
 delivering e _ = []
 
 -- a turn: the other end takes all that is ready there, the end makes a segment, and that comes to
@@ -45,8 +46,8 @@ delivering e _ = []
 unfoldable pub turn_events : Setup → World → Turn → List Event
 turn_events setup w t =
     let there = other (maker t) in
-    let taken = (step setup w (Take there 65535)).world in
-    Take there 65535 ∷ making t ∷ delivering there (step setup taken (making t)).outcome
+    let taken = (step setup w (At there (Take 65535))).world in
+    At there (Take 65535) ∷ making t ∷ delivering there (step setup taken (making t)).outcome
 
 -- some turns, one after the other: nothing is lost, nothing else happens, no clock changes (own)
 unfoldable pub exchange : Setup → World → List Turn → List Event
@@ -148,7 +149,7 @@ pub record CaughtUp (setup : Setup) (w v : World) (lead lag : ℕ)
 
 -- both ends take all that is ready (own)
 abbrev pub takings : List Event
-takings = Take A 65535 ∷ Take B 65535 ∷ []
+takings = At A (Take 65535) ∷ At B (Take 65535) ∷ []
 
 -- where the link is up and something waits at an end, one round trip of that end moves it (own)
 abbrev pub NeverStuck : Setup → World → Type 0

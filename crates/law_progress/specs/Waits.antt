@@ -4,7 +4,8 @@ use Rattle.std.specs.Prelude.{◌≡◌, ℕ, ◌+◌, ◌<◌, ◌≤◌, min, 
 use Rattle.book_base.specs.declared.end.End.{End}
 use Rattle.book_keys.specs.Lifetimes.{greatest_time}
 use Rattle.book_link.specs.declared.event.Event.{Event}
-use Rattle.book_link.specs.declared.event.Event.TheVariants.{Clock, Resend}
+use Rattle.book_link.specs.declared.event.Event.TheVariants.{At}
+use Rattle.book_link.specs.declared.event.Action.TheVariants.{Clock, Resend}
 use Rattle.book_link.specs.Worlds.{Setup}
 use Rattle.book_cmd_timed.specs.declared.timed.TimedEvent.TheVariants.{Wait}
 use Rattle.book_link.specs.SendFronts.{SendFront, front_at}
@@ -20,7 +21,7 @@ Reaches p e count d = d ≤ min (reading_at p e + count) greatest_time
 abbrev pub BeginsAgain : Setup → Progress → End → ℕ → ℕ → Type 0
 BeginsAgain setup p e count d =
     (rest : List Event)
-    × ((timed_event setup p (Wait e count)).events ≡ Clock e d ∷ Resend e ∷ rest)
+    × ((timed_event setup p (Wait e count)).events ≡ At e (Clock d) ∷ At e Resend ∷ rest)
 
 -- where something that an end sent isn't acknowledged, its timer runs, and each wait that reaches
 -- to its expiry sends again (RFC 6298, sections 5.1 and 5.4)

@@ -4,7 +4,8 @@ ghost use Rattle.std.specs.Prelude.{List, [], ◌∷◌, ◌++◌};
 ghost use Rattle.std.specs.List.{AllByRecursion};
 ghost use Rattle.book_base.specs.declared.end.End.TheVariants.{A, B};
 ghost use Rattle.book_link.specs.declared.event.Event.{Event};
-ghost use Rattle.book_link.specs.declared.event.Event.TheVariants.{Connect, Listen, Give};
+ghost use Rattle.book_link.specs.declared.event.Event.TheVariants.{At};
+ghost use Rattle.book_link.specs.declared.event.Action.TheVariants.{Connect, Listen, Give};
 ghost use Rattle.book_link.specs.Runs.{run};
 ghost use Rattle.book_link.specs.Storm.{storm_setup, storm_starts};
 ghost use Rattle.book_link.specs.Worlds.{Setup};
@@ -57,7 +58,7 @@ pub fn connects()
 /// The premises of the laws of a link that is up are met: both ends of the link of a storm begin
 /// up, and a byte that is given waits.
 pub fn is_met()
-    ensures { (up : IsUp storm_setup (run storm_setup (storm_starts ++ Give A (1 ∷ []) ∷ [])) 0 0)
+    ensures { (up : IsUp storm_setup (run storm_setup (storm_starts ++ At A (Give (1 ∷ [])) ∷ [])) 0 0)
         × IsWaiting (up.session A).state }
 {}
 
@@ -65,5 +66,5 @@ pub fn is_met()
 /// listens.
 pub fn begins_opening()
     ensures { IsOpening storm_setup
-        (run storm_setup (Connect A 4294960000 ∷ Listen B 4000000000 ∷ [])) 0 0 A }
+        (run storm_setup (At A (Connect 4294960000) ∷ At B (Listen 4000000000) ∷ [])) 0 0 A }
 {}

@@ -8,26 +8,28 @@ use Rattle.book_keys.specs.Lifetimes.{greatest_time}
 use Rattle.book_lines.specs.Words.{word_as, word_in, nothing_in, choice_in, end_in, algorithm_in, number_in, sized_hex_in, some_hex_in, byte_in}
 use Rattle.book_base.specs.Results.{◌>>=◌}
 use Rattle.book_link.specs.declared.event.Event.{Event}
+use Rattle.book_link.specs.declared.event.Action.{Action}
 use Rattle.book_link.specs.declared.event.Event.TheVariants as event
+use Rattle.book_link.specs.declared.event.Action.TheVariants as action
 use Rattle.book_cmd_link.specs.LinkEvents.{greatest_isn, most_segments, event_of_end, event_of_number, start_of, give_of, fill_of, inject_of, alter_of, ways_of}
 use Rattle.book_cmd_link.specs.LinkEvents.{add_of, dump_of, event_named, link_event_of}
 use Rattle.law_scripts.specs.Scripts.{IsEvent, IsWithin}
 use Rattle.law_scripts.proofs.WordRanges.{bind_ok, number_ok, hex_ok, some_hex_ok, byte_ok}
 
-alone_ok : (made : End → Event) (ws : List (List ℕ)) (x : Event) → ((e : End) → IsEvent (made e)) → event_of_end made ws ≡ Ok x → IsEvent x
+alone_ok : (made : Action) (ws : List (List ℕ)) (x : Event) → ((e : End) → IsEvent (event.At e made)) → event_of_end made ws ≡ Ok x → IsEvent x
 alone_ok made ws x ranged h =
     let e = bind_ok (end_in ws) _ x h in
     let n = bind_ok (nothing_in e.0.rest) _ x e.2 in
-    let is : made e.0.value ≡ x = cc n.2 in
+    let is : event.At e.0.value made ≡ x = cc n.2 in
     rw (← is) (ranged e.0.value)
 
-numbered_ok : (made : End → ℕ → Event) (low high : ℕ) (ws : List (List ℕ)) (x : Event) → ((e : End) (n : ℕ) → IsWithin low high n → IsEvent (made e n)) →
+numbered_ok : (made : ℕ → Action) (low high : ℕ) (ws : List (List ℕ)) (x : Event) → ((e : End) (n : ℕ) → IsWithin low high n → IsEvent (event.At e (made n))) →
     event_of_number made low high ws ≡ Ok x → IsEvent x
 numbered_ok made low high ws x ranged h =
     let e = bind_ok (end_in ws) _ x h in
     let k = bind_ok (number_in low high e.0.rest) _ x e.2 in
     let n = bind_ok (nothing_in k.0.rest) _ x k.2 in
-    let is : made e.0.value k.0.value ≡ x = cc n.2 in
+    let is : event.At e.0.value (made k.0.value) ≡ x = cc n.2 in
     rw (← is) (ranged e.0.value k.0.value (number_ok low high e.0.rest k.0 k.1))
 
 start_ok : (ws : List (List ℕ)) (x : Event) → start_of ws ≡ Ok x → IsEvent x
@@ -37,7 +39,7 @@ start_ok ws x h =
     let o = bind_ok (number_in 0 greatest_isn e.0.rest) _ x e.2 in
     let p = bind_ok (number_in 0 greatest_isn o.0.rest) _ x o.2 in
     let n = bind_ok (nothing_in p.0.rest) _ x p.2 in
-    let is : event.Start e.0.value o.0.value p.0.value ≡ x = cc n.2 in
+    let is : event.At e.0.value (action.Start o.0.value p.0.value) ≡ x = cc n.2 in
     rw (← is) ((number_ok 0 greatest_isn e.0.rest o.0 o.1).most, (number_ok 0 greatest_isn o.0.rest p.0 p.1).most)
 
 give_ok : (ws : List (List ℕ)) (x : Event) → give_of ws ≡ Ok x → IsEvent x
@@ -46,7 +48,7 @@ give_ok ws x h =
     let e = bind_ok (end_in ws) _ x h in
     let b = bind_ok (some_hex_in e.0.rest) _ x e.2 in
     let n = bind_ok (nothing_in b.0.rest) _ x b.2 in
-    let is : event.Give e.0.value b.0.value ≡ x = cc n.2 in
+    let is : event.At e.0.value (action.Give b.0.value) ≡ x = cc n.2 in
     rw (← is) (some_hex_ok e.0.rest b.0 b.1)
 
 fill_ok : (ws : List (List ℕ)) (x : Event) → fill_of ws ≡ Ok x → IsEvent x
@@ -56,7 +58,7 @@ fill_ok ws x h =
     let c = bind_ok (number_in 0 65535 e.0.rest) _ x e.2 in
     let b = bind_ok (byte_in c.0.rest) _ x c.2 in
     let n = bind_ok (nothing_in b.0.rest) _ x b.2 in
-    let is : event.Fill e.0.value c.0.value b.0.value ≡ x = cc n.2 in
+    let is : event.At e.0.value (action.Fill c.0.value b.0.value) ≡ x = cc n.2 in
     rw (← is) ((number_ok 0 65535 e.0.rest c.0 c.1).most, byte_ok c.0.rest b.0 b.1)
 
 inject_ok : (ws : List (List ℕ)) (x : Event) → inject_of ws ≡ Ok x → IsEvent x
@@ -65,7 +67,7 @@ inject_ok ws x h =
     let e = bind_ok (end_in ws) _ x h in
     let b = bind_ok (sized_hex_in 1 65575 e.0.rest) _ x e.2 in
     let n = bind_ok (nothing_in b.0.rest) _ x b.2 in
-    let is : event.Inject e.0.value b.0.value ≡ x = cc n.2 in
+    let is : event.At e.0.value (action.Inject b.0.value) ≡ x = cc n.2 in
     rw (← is) (hex_ok 1 65575 e.0.rest b.0 b.1)
 
 alter_ok : (ws : List (List ℕ)) (x : Event) → alter_of ws ≡ Ok x → IsEvent x
@@ -77,7 +79,7 @@ alter_ok ws x h =
     let m = bind_ok (byte_in p.0.rest) _ x p.2 in
     let f = bind_ok (choice_in (codes "keep") (codes "fix") m.0.rest) _ x m.2 in
     let n = bind_ok (nothing_in f.0.rest) _ x f.2 in
-    let is : event.Alter e.0.value s.0.value p.0.value m.0.value f.0.value ≡ x = cc n.2 in
+    let is : event.At e.0.value (action.Alter s.0.value p.0.value m.0.value f.0.value) ≡ x = cc n.2 in
     rw (← is) (number_ok 1 most_segments e.0.rest s.0 s.1, (number_ok 0 65535 s.0.rest p.0 p.1).most, byte_ok p.0.rest m.0 m.1)
 
 dump_ok : (ws : List (List ℕ)) (x : Event) → dump_of ws ≡ Ok x → IsEvent x
@@ -126,7 +128,7 @@ add_ok ws x h =
     after_ok (IsEvent x) (sized_hex_in 1 255 alg.rest) _ x h4 (λ key is_key h5.
     after_ok (IsEvent x) (choice_in (codes "no-options") (codes "options") key.rest) _ x h5 (λ flag is_flag h6.
     after_ok (IsEvent x) (word_as ways_of Word flag.rest) _ x h6 (λ ways is_ways h7.
-    lifetimes_ok (λ sf sl af al. event.AddRow e.value (record {
+    lifetimes_ok (λ sf sl af al. event.At e.value (action.AddRow (record {
       recv_id = recv.value;
       send_id = send.value;
       algorithm = alg.value;
@@ -138,7 +140,7 @@ add_ok ws x h =
       send_last = sl;
       accept_first = af;
       accept_last = al;
-    })) ways.rest x (λ sf sl af al small_sf small_sl small_af small_al. record {
+    }))) ways.rest x (λ sf sl af al small_sf small_sl small_af small_al. record {
       recv_id = (number_ok 0 255 e.rest recv is_recv).most;
       send_id = (number_ok 0 255 recv.rest send is_send).most;
       master = hex_ok 1 255 alg.rest key is_key;
@@ -155,22 +157,22 @@ either false r q x P f g h = g h
 named_ok : (name : List ℕ) (ws : List (List ℕ)) (x : Event) → event_named name ws ≡ Ok x → IsEvent x
 unfolding event_named
 named_ok name ws x =
-    either (bytes_eq name (codes "clock")) _ _ x (IsEvent x) (numbered_ok event.Clock 0 greatest_time ws x (λ e n h. h.most)) (
-    either (bytes_eq name (codes "open")) _ _ x (IsEvent x) (numbered_ok event.Connect 0 greatest_isn ws x (λ e n h. h.most)) (
-    either (bytes_eq name (codes "listen")) _ _ x (IsEvent x) (numbered_ok event.Listen 0 greatest_isn ws x (λ e n h. h.most)) (
+    either (bytes_eq name (codes "clock")) _ _ x (IsEvent x) (numbered_ok action.Clock 0 greatest_time ws x (λ e n h. h.most)) (
+    either (bytes_eq name (codes "open")) _ _ x (IsEvent x) (numbered_ok action.Connect 0 greatest_isn ws x (λ e n h. h.most)) (
+    either (bytes_eq name (codes "listen")) _ _ x (IsEvent x) (numbered_ok action.Listen 0 greatest_isn ws x (λ e n h. h.most)) (
     either (bytes_eq name (codes "start")) _ _ x (IsEvent x) (start_ok ws x) (
     either (bytes_eq name (codes "give")) _ _ x (IsEvent x) (give_ok ws x) (
     either (bytes_eq name (codes "fill")) _ _ x (IsEvent x) (fill_ok ws x) (
-    either (bytes_eq name (codes "send")) _ _ x (IsEvent x) (alone_ok event.Send ws x (λ e. tt)) (
-    either (bytes_eq name (codes "resend")) _ _ x (IsEvent x) (alone_ok event.Resend ws x (λ e. tt)) (
-    either (bytes_eq name (codes "deliver")) _ _ x (IsEvent x) (numbered_ok event.Deliver 1 most_segments ws x (λ e n h. h)) (
+    either (bytes_eq name (codes "send")) _ _ x (IsEvent x) (alone_ok action.Send ws x (λ e. tt)) (
+    either (bytes_eq name (codes "resend")) _ _ x (IsEvent x) (alone_ok action.Resend ws x (λ e. tt)) (
+    either (bytes_eq name (codes "deliver")) _ _ x (IsEvent x) (numbered_ok action.Deliver 1 most_segments ws x (λ e n h. h)) (
     either (bytes_eq name (codes "inject")) _ _ x (IsEvent x) (inject_ok ws x) (
     either (bytes_eq name (codes "alter")) _ _ x (IsEvent x) (alter_ok ws x) (
-    either (bytes_eq name (codes "take")) _ _ x (IsEvent x) (numbered_ok event.Take 0 65535 ws x (λ e n h. h.most)) (
-    either (bytes_eq name (codes "close")) _ _ x (IsEvent x) (alone_ok event.Close ws x (λ e. tt)) (
-    either (bytes_eq name (codes "abort")) _ _ x (IsEvent x) (alone_ok event.Abort ws x (λ e. tt)) (
+    either (bytes_eq name (codes "take")) _ _ x (IsEvent x) (numbered_ok action.Take 0 65535 ws x (λ e n h. h.most)) (
+    either (bytes_eq name (codes "close")) _ _ x (IsEvent x) (alone_ok action.Close ws x (λ e. tt)) (
+    either (bytes_eq name (codes "abort")) _ _ x (IsEvent x) (alone_ok action.Abort ws x (λ e. tt)) (
     either (bytes_eq name (codes "add")) _ _ x (IsEvent x) (add_ok ws x) (
-    either (bytes_eq name (codes "withdraw")) _ _ x (IsEvent x) (numbered_ok event.Withdraw 1 64 ws x (λ e n h. h)) (
+    either (bytes_eq name (codes "withdraw")) _ _ x (IsEvent x) (numbered_ok action.Withdraw 1 64 ws x (λ e n h. h)) (
     either (bytes_eq name (codes "dump")) _ _ x (IsEvent x) (dump_ok ws x) (λ h. absurd (cc h))))))))))))))))))
 
 pub event_ok : (ws : List (List ℕ)) (x : Event) → link_event_of ws ≡ Ok x → IsEvent x

@@ -8,7 +8,9 @@ use Rattle.book_lines.specs.Texts.{end_text}
 use Rattle.book_lines.specs.Words.{word_in, nothing_in}
 use Rattle.book_link.specs.declared.event.RowLine.{RowLine}
 use Rattle.book_link.specs.declared.event.Event.{Event}
+use Rattle.book_link.specs.declared.event.Action.{Action}
 use Rattle.book_link.specs.declared.event.Event.TheVariants as event
+use Rattle.book_link.specs.declared.event.Action.TheVariants as action
 use Rattle.book_cmd_link.specs.LinkEvents.{greatest_isn, most_segments, event_of_end, event_of_number, link_event_of, event_named, start_of, give_of, fill_of, inject_of}
 use Rattle.book_cmd_link.specs.LinkEvents.{alter_of, add_of, dump_of}
 use Rattle.law_scripts.specs.Printed.{direction_text, event_words, fixing_text, flag_text, row_texts, use_texts}
@@ -16,12 +18,12 @@ use Rattle.law_scripts.specs.Scripts.{IsEvent, IsRow, IsWithin}
 use Rattle.law_scripts.proofs.WordsBack.{end_back, algorithm_back, number_back, within_back, hex_back, some_hex_back, byte_back, fixing_back, flag_back}
 use Rattle.law_scripts.proofs.WordsBack.{direction_back}
 
-alone_back : (made : End → Event) (e : End) → event_of_end made (end_text e ∷ []) ≡ Ok (made e)
+alone_back : (made : Action) (e : End) → event_of_end made (end_text e ∷ []) ≡ Ok (event.At e made)
 unfolding nothing_in
 alone_back made e = rw (end_back e []) refl
 
-numbered_back : (made : End → ℕ → Event) (low high : ℕ) (e : End) (n : ℕ) → IsWithin low high n → high < 2 ^ 64 →
-    event_of_number made low high (end_text e ∷ decimal n ∷ []) ≡ Ok (made e n)
+numbered_back : (made : ℕ → Action) (low high : ℕ) (e : End) (n : ℕ) → IsWithin low high n → high < 2 ^ 64 →
+    event_of_number made low high (end_text e ∷ decimal n ∷ []) ≡ Ok (event.At e (made n))
 unfolding nothing_in
 numbered_back made low high e n h small = rw (end_back e (decimal n ∷ []), within_back low high n [] h small) refl
 
@@ -29,7 +31,7 @@ from_zero : {n high : ℕ} → n ≤ high → IsWithin 0 high n
 from_zero h = record { least = omega arith; most = h }
 
 start_back : (e : End) (own peer : ℕ) → own ≤ greatest_isn → peer ≤ greatest_isn →
-    start_of (end_text e ∷ decimal own ∷ decimal peer ∷ []) ≡ Ok (event.Start e own peer)
+    start_of (end_text e ∷ decimal own ∷ decimal peer ∷ []) ≡ Ok (event.At e (action.Start own peer))
 unfolding start_of nothing_in
 start_back e own peer small peers = rw (
   end_back e (decimal own ∷ decimal peer ∷ []),
@@ -38,7 +40,7 @@ start_back e own peer small peers = rw (
 ) refl
 
 fill_back : (e : End) (count byte : ℕ) → count ≤ 65535 → byte < 256 →
-    fill_of (end_text e ∷ decimal count ∷ hex_of (byte ∷ []) ∷ []) ≡ Ok (event.Fill e count byte)
+    fill_of (end_text e ∷ decimal count ∷ hex_of (byte ∷ []) ∷ []) ≡ Ok (event.At e (action.Fill count byte))
 unfolding fill_of nothing_in
 fill_back e count byte few small = rw (
   end_back e (decimal count ∷ hex_of (byte ∷ []) ∷ []),
@@ -47,7 +49,7 @@ fill_back e count byte few small = rw (
 ) refl
 
 alter_back : (e : End) (segment place mask : ℕ) (fixing : Bool) → IsWithin 1 most_segments segment → place ≤ 65535 → mask < 256 →
-    alter_of (end_text e ∷ decimal segment ∷ decimal place ∷ hex_of (mask ∷ []) ∷ fixing_text fixing ∷ []) ≡ Ok (event.Alter e segment place mask fixing)
+    alter_of (end_text e ∷ decimal segment ∷ decimal place ∷ hex_of (mask ∷ []) ∷ fixing_text fixing ∷ []) ≡ Ok (event.At e (action.Alter segment place mask fixing))
 unfolding alter_of nothing_in
 alter_back e segment place mask fixing made near small = rw (
   end_back e (decimal segment ∷ decimal place ∷ hex_of (mask ∷ []) ∷ fixing_text fixing ∷ []),
@@ -61,7 +63,7 @@ alter_back e segment place mask fixing made near small = rw (
 abbrev late_texts : RowLine → List (List ℕ)
 late_texts r = direction_text r.receive r.send ∷ decimal r.send_first ∷ decimal r.send_last ∷ decimal r.accept_first ∷ decimal r.accept_last ∷ []
 
-add_back : (e : End) (r : RowLine) → IsRow r → add_of (end_text e ∷ row_texts r) ≡ Ok (event.AddRow e r)
+add_back : (e : End) (r : RowLine) → IsRow r → add_of (end_text e ∷ row_texts r) ≡ Ok (event.At e (action.AddRow r))
 unfolding add_of row_texts use_texts nothing_in
 add_back e r h = rw (
   end_back e (decimal r.recv_id ∷ decimal r.send_id ∷ name_of r.algorithm ∷ hex_of r.master ∷ flag_text r.with_options ∷ late_texts r),
@@ -79,20 +81,20 @@ add_back e r h = rw (
 
 pub event_back : (e : Event) → IsEvent e → link_event_of (event_words e) ≡ Ok e
 unfolding link_event_of event_named word_in nothing_in event_words give_of inject_of dump_of
-event_back (event.Clock e seconds) h = numbered_back event.Clock 0 greatest_time e seconds (from_zero h) (lit< tt)
-event_back (event.Connect e isn) h = numbered_back event.Connect 0 greatest_isn e isn (from_zero h) (lit< tt)
-event_back (event.Listen e isn) h = numbered_back event.Listen 0 greatest_isn e isn (from_zero h) (lit< tt)
-event_back (event.Start e own peer) h = start_back e own peer h.0 h.1
-event_back (event.Give e bytes) h = rw (end_back e (hex_of bytes ∷ []), some_hex_back bytes [] h.0 h.1) refl
-event_back (event.Fill e count byte) h = fill_back e count byte h.0 h.1
-event_back (event.Send e) h = alone_back event.Send e
-event_back (event.Resend e) h = alone_back event.Resend e
-event_back (event.Deliver e segment) h = numbered_back event.Deliver 1 most_segments e segment h (lit< tt)
-event_back (event.Inject e bytes) h = rw (end_back e (hex_of bytes ∷ []), hex_back 1 65575 bytes [] h) refl
-event_back (event.Alter e segment place mask fixing) h = alter_back e segment place mask fixing h.0 h.1 h.2
-event_back (event.Take e count) h = numbered_back event.Take 0 65535 e count (from_zero h) (lit< tt)
-event_back (event.Close e) h = alone_back event.Close e
-event_back (event.Abort e) h = alone_back event.Abort e
-event_back (event.AddRow e row) h = add_back e row h
-event_back (event.Withdraw e row) h = numbered_back event.Withdraw 1 64 e row h (lit< tt)
+event_back (event.At e (action.Clock seconds)) h = numbered_back action.Clock 0 greatest_time e seconds (from_zero h) (lit< tt)
+event_back (event.At e (action.Connect isn)) h = numbered_back action.Connect 0 greatest_isn e isn (from_zero h) (lit< tt)
+event_back (event.At e (action.Listen isn)) h = numbered_back action.Listen 0 greatest_isn e isn (from_zero h) (lit< tt)
+event_back (event.At e (action.Start own peer)) h = start_back e own peer h.0 h.1
+event_back (event.At e (action.Give bytes)) h = rw (end_back e (hex_of bytes ∷ []), some_hex_back bytes [] h.0 h.1) refl
+event_back (event.At e (action.Fill count byte)) h = fill_back e count byte h.0 h.1
+event_back (event.At e action.Send) h = alone_back action.Send e
+event_back (event.At e action.Resend) h = alone_back action.Resend e
+event_back (event.At e (action.Deliver segment)) h = numbered_back action.Deliver 1 most_segments e segment h (lit< tt)
+event_back (event.At e (action.Inject bytes)) h = rw (end_back e (hex_of bytes ∷ []), hex_back 1 65575 bytes [] h) refl
+event_back (event.At e (action.Alter segment place mask fixing)) h = alter_back e segment place mask fixing h.0 h.1 h.2
+event_back (event.At e (action.Take count)) h = numbered_back action.Take 0 65535 e count (from_zero h) (lit< tt)
+event_back (event.At e action.Close) h = alone_back action.Close e
+event_back (event.At e action.Abort) h = alone_back action.Abort e
+event_back (event.At e (action.AddRow row)) h = add_back e row h
+event_back (event.At e (action.Withdraw row)) h = numbered_back action.Withdraw 1 64 e row h (lit< tt)
 event_back (event.Dump segment) h = rw (within_back 1 most_segments segment [] h (lit< tt)) refl

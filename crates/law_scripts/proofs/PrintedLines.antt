@@ -13,6 +13,7 @@ use Rattle.book_lines.specs.Texts.{end_text}
 use Rattle.book_link.specs.declared.event.RowLine.{RowLine}
 use Rattle.book_link.specs.declared.event.Event.{Event}
 use Rattle.book_link.specs.declared.event.Event.TheVariants as event
+use Rattle.book_link.specs.declared.event.Action.TheVariants as action
 use Rattle.book_cmd_link.specs.declared.script.SharedKey.{SharedKey}
 use Rattle.book_cmd_link.specs.declared.script.Script.{Script}
 use Rattle.law_scripts.specs.Printed.{direction_text, event_words, fixing_text, flag_text, key_lines, row_texts, use_texts, script_lines, socket_words}
@@ -158,28 +159,28 @@ row_words r h =
 
 event_line : (e : Event) → IsEvent e → IsLine (event_words e)
 unfolding event_words
-event_line (event.Clock e seconds) h = number_line clock_name e seconds (omega arith)
-event_line (event.Connect e isn) h = number_line open_name e isn (omega arith)
-event_line (event.Listen e isn) h = number_line listen_name e isn (omega arith)
-event_line (event.Start e own peer) h =
+event_line (event.At e (action.Clock seconds)) h = number_line clock_name e seconds (omega arith)
+event_line (event.At e (action.Connect isn)) h = number_line open_name e isn (omega arith)
+event_line (event.At e (action.Listen isn)) h = number_line listen_name e isn (omega arith)
+event_line (event.At e (action.Start own peer)) h =
     named_line start_name (end_text e ∷ decimal own ∷ decimal peer ∷ [])
     (end_word e, (decimal_word own (omega (arith, h.0)), (decimal_word peer (omega (arith, h.1)), tt)))
-event_line (event.Give e bytes) h = bytes_line give_name e bytes (hex_word bytes h.0 h.1)
-event_line (event.Fill e count byte) h =
+event_line (event.At e (action.Give bytes)) h = bytes_line give_name e bytes (hex_word bytes h.0 h.1)
+event_line (event.At e (action.Fill count byte)) h =
     named_line fill_name (end_text e ∷ decimal count ∷ hex_of (byte ∷ []) ∷ [])
     (end_word e, (decimal_word count (omega (arith, h.0)), (byte_word byte h.1, tt)))
-event_line (event.Send e) h = alone_line send_name e
-event_line (event.Resend e) h = alone_line resend_name e
-event_line (event.Deliver e segment) h = number_line deliver_name e segment (omega (arith, h.most))
-event_line (event.Inject e bytes) h = bytes_line inject_name e bytes (hex_word bytes (omega (arith, h.least)) h.small)
-event_line (event.Alter e segment place mask fixing) h =
+event_line (event.At e action.Send) h = alone_line send_name e
+event_line (event.At e action.Resend) h = alone_line resend_name e
+event_line (event.At e (action.Deliver segment)) h = number_line deliver_name e segment (omega (arith, h.most))
+event_line (event.At e (action.Inject bytes)) h = bytes_line inject_name e bytes (hex_word bytes (omega (arith, h.least)) h.small)
+event_line (event.At e (action.Alter segment place mask fixing)) h =
     named_line alter_name (end_text e ∷ decimal segment ∷ decimal place ∷ hex_of (mask ∷ []) ∷ fixing_text fixing ∷ [])
     (end_word e, (decimal_word segment (omega (arith, h.0.most)), (decimal_word place (omega (arith, h.1)), (byte_word mask h.2, (fixing_word fixing, tt)))))
-event_line (event.Take e count) h = number_line take_name e count (omega arith)
-event_line (event.Close e) h = alone_line close_name e
-event_line (event.Abort e) h = alone_line abort_name e
-event_line (event.AddRow e row) h = named_line add_name (end_text e ∷ row_texts row) (end_word e, row_words row h)
-event_line (event.Withdraw e row) h = number_line withdraw_name e row (omega (arith, h.most))
+event_line (event.At e (action.Take count)) h = number_line take_name e count (omega arith)
+event_line (event.At e action.Close) h = alone_line close_name e
+event_line (event.At e action.Abort) h = alone_line abort_name e
+event_line (event.At e (action.AddRow row)) h = named_line add_name (end_text e ∷ row_texts row) (end_word e, row_words row h)
+event_line (event.At e (action.Withdraw row)) h = number_line withdraw_name e row (omega (arith, h.most))
 event_line (event.Dump segment) h = named_line dump_name (decimal segment ∷ []) (decimal_word segment (omega (arith, h.most)), tt)
 
 event_lines : (es : List Event) → All IsEvent es → AreLines (map event_words es)

@@ -12,6 +12,7 @@ use Rattle.book_lines.specs.Words.{word_in, nothing_in, literal_in, socket_in}
 use Rattle.book_base.specs.Results.{◌>>=◌}
 use Rattle.book_link.specs.declared.event.Event.{Event}
 use Rattle.book_link.specs.declared.event.Event.TheVariants as event
+use Rattle.book_link.specs.declared.event.Action.TheVariants as action
 use Rattle.book_cmd_link.specs.declared.script.SharedKey.{SharedKey}
 use Rattle.book_cmd_link.specs.declared.script.Script.{Script}
 use Rattle.book_cmd_link.specs.LinkEvents.{link_event_of}
@@ -27,22 +28,22 @@ use Rattle.law_scripts.proofs.WordsBack.{address_back, algorithm_back, number_ba
 
 not_shared : (e : Event) → is_shared (event_words e) ≡ false
 unfolding is_shared event_words
-not_shared (event.Clock e seconds) = refl
-not_shared (event.Connect e isn) = refl
-not_shared (event.Listen e isn) = refl
-not_shared (event.Start e own peer) = refl
-not_shared (event.Give e bytes) = refl
-not_shared (event.Fill e count byte) = refl
-not_shared (event.Send e) = refl
-not_shared (event.Resend e) = refl
-not_shared (event.Deliver e segment) = refl
-not_shared (event.Inject e bytes) = refl
-not_shared (event.Alter e segment place mask fixing) = refl
-not_shared (event.Take e count) = refl
-not_shared (event.Close e) = refl
-not_shared (event.Abort e) = refl
-not_shared (event.AddRow e row) = refl
-not_shared (event.Withdraw e row) = refl
+not_shared (event.At e (action.Clock seconds)) = refl
+not_shared (event.At e (action.Connect isn)) = refl
+not_shared (event.At e (action.Listen isn)) = refl
+not_shared (event.At e (action.Start own peer)) = refl
+not_shared (event.At e (action.Give bytes)) = refl
+not_shared (event.At e (action.Fill count byte)) = refl
+not_shared (event.At e action.Send) = refl
+not_shared (event.At e action.Resend) = refl
+not_shared (event.At e (action.Deliver segment)) = refl
+not_shared (event.At e (action.Inject bytes)) = refl
+not_shared (event.At e (action.Alter segment place mask fixing)) = refl
+not_shared (event.At e (action.Take count)) = refl
+not_shared (event.At e action.Close) = refl
+not_shared (event.At e action.Abort) = refl
+not_shared (event.At e (action.AddRow row)) = refl
+not_shared (event.At e (action.Withdraw row)) = refl
 not_shared (event.Dump segment) = refl
 
 event_at-printed : (n : ℕ) (e : Event) → IsEvent e → event_at link_event_of (record { number = n; words = event_words e }) ≡ Ok e

@@ -8,6 +8,7 @@ use Rattle.book_lines.specs.Texts.{end_text, line_text, socket_texts}
 use Rattle.book_link.specs.declared.event.RowLine.{RowLine}
 use Rattle.book_link.specs.declared.event.Event.{Event}
 use Rattle.book_link.specs.declared.event.Event.TheVariants as event
+use Rattle.book_link.specs.declared.event.Action.TheVariants as action
 use Rattle.book_cmd_link.specs.declared.script.SharedKey.{SharedKey}
 use Rattle.book_cmd_link.specs.declared.script.Script.{Script}
 
@@ -65,23 +66,25 @@ bytes_words name e bytes = name ∷ end_text e ∷ hex_of bytes ∷ []
 
 -- the words of an event, bytes in hexadecimal of lower case
 unfoldable pub event_words : Event → List (List ℕ)
-event_words (event.Clock e seconds) = number_words (codes "clock") e seconds
-event_words (event.Connect e isn) = number_words (codes "open") e isn
-event_words (event.Listen e isn) = number_words (codes "listen") e isn
-event_words (event.Start e own peer) = codes "start" ∷ end_text e ∷ decimal own ∷ decimal peer ∷ []
-event_words (event.Give e bytes) = bytes_words (codes "give") e bytes
-event_words (event.Fill e count byte) = codes "fill" ∷ end_text e ∷ decimal count ∷ hex_of (byte ∷ []) ∷ []
-event_words (event.Send e) = end_words (codes "send") e
-event_words (event.Resend e) = end_words (codes "resend") e
-event_words (event.Deliver e segment) = number_words (codes "deliver") e segment
-event_words (event.Inject e bytes) = bytes_words (codes "inject") e bytes
-event_words (event.Alter e segment place mask fixing) =
+event_words (event.At e (action.Clock seconds)) = number_words (codes "clock") e seconds
+event_words (event.At e (action.Connect isn)) = number_words (codes "open") e isn
+event_words (event.At e (action.Listen isn)) = number_words (codes "listen") e isn
+event_words (event.At e (action.Start own peer)) =
+    codes "start" ∷ end_text e ∷ decimal own ∷ decimal peer ∷ []
+event_words (event.At e (action.Give bytes)) = bytes_words (codes "give") e bytes
+event_words (event.At e (action.Fill count byte)) =
+    codes "fill" ∷ end_text e ∷ decimal count ∷ hex_of (byte ∷ []) ∷ []
+event_words (event.At e action.Send) = end_words (codes "send") e
+event_words (event.At e action.Resend) = end_words (codes "resend") e
+event_words (event.At e (action.Deliver segment)) = number_words (codes "deliver") e segment
+event_words (event.At e (action.Inject bytes)) = bytes_words (codes "inject") e bytes
+event_words (event.At e (action.Alter segment place mask fixing)) =
     codes "alter" ∷ end_text e ∷ decimal segment ∷ decimal place ∷ hex_of (mask ∷ []) ∷ fixing_text fixing ∷ []
-event_words (event.Take e count) = number_words (codes "take") e count
-event_words (event.Close e) = end_words (codes "close") e
-event_words (event.Abort e) = end_words (codes "abort") e
-event_words (event.AddRow e row) = codes "add" ∷ end_text e ∷ row_texts row
-event_words (event.Withdraw e row) = number_words (codes "withdraw") e row
+event_words (event.At e (action.Take count)) = number_words (codes "take") e count
+event_words (event.At e action.Close) = end_words (codes "close") e
+event_words (event.At e action.Abort) = end_words (codes "abort") e
+event_words (event.At e (action.AddRow row)) = codes "add" ∷ end_text e ∷ row_texts row
+event_words (event.At e (action.Withdraw row)) = number_words (codes "withdraw") e row
 event_words (event.Dump segment) = codes "dump" ∷ decimal segment ∷ []
 
 -- the words of the first line

@@ -9,6 +9,7 @@ use Rattle.book_lines.specs.Lines.{most_lines}
 use Rattle.book_link.specs.declared.event.RowLine.{RowLine}
 use Rattle.book_link.specs.declared.event.Event.{Event}
 use Rattle.book_link.specs.declared.event.Event.TheVariants as event
+use Rattle.book_link.specs.declared.event.Action.TheVariants as action
 use Rattle.book_cmd_link.specs.declared.script.SharedKey.{SharedKey}
 use Rattle.book_cmd_link.specs.declared.script.Script.{Script}
 use Rattle.book_cmd_link.specs.LinkEvents.{greatest_isn, most_segments}
@@ -38,22 +39,23 @@ pub record IsRow (r : RowLine) : Type 0 where
 
 -- the numbers and lengths of an event are in their ranges
 abbrev pub IsEvent : Event → Type 0
-IsEvent (event.Clock e seconds) = seconds ≤ greatest_time
-IsEvent (event.Connect e isn) = isn ≤ greatest_isn
-IsEvent (event.Listen e isn) = isn ≤ greatest_isn
-IsEvent (event.Start e own peer) = (own ≤ greatest_isn) × (peer ≤ greatest_isn)
-IsEvent (event.Give e bytes) = (0 < length bytes) × IsBytes bytes
-IsEvent (event.Fill e count byte) = (count ≤ 65535) × (byte < 256)
-IsEvent (event.Send e) = Unit {0}
-IsEvent (event.Resend e) = Unit {0}
-IsEvent (event.Deliver e segment) = IsWithin 1 most_segments segment
-IsEvent (event.Inject e bytes) = AreBytes 1 65575 bytes
-IsEvent (event.Alter e segment place mask fixing) = IsWithin 1 most_segments segment × (place ≤ 65535) × (mask < 256)
-IsEvent (event.Take e count) = count ≤ 65535
-IsEvent (event.Close e) = Unit {0}
-IsEvent (event.Abort e) = Unit {0}
-IsEvent (event.AddRow e row) = IsRow row
-IsEvent (event.Withdraw e row) = IsWithin 1 64 row
+IsEvent (event.At e (action.Clock seconds)) = seconds ≤ greatest_time
+IsEvent (event.At e (action.Connect isn)) = isn ≤ greatest_isn
+IsEvent (event.At e (action.Listen isn)) = isn ≤ greatest_isn
+IsEvent (event.At e (action.Start own peer)) = (own ≤ greatest_isn) × (peer ≤ greatest_isn)
+IsEvent (event.At e (action.Give bytes)) = (0 < length bytes) × IsBytes bytes
+IsEvent (event.At e (action.Fill count byte)) = (count ≤ 65535) × (byte < 256)
+IsEvent (event.At e action.Send) = Unit {0}
+IsEvent (event.At e action.Resend) = Unit {0}
+IsEvent (event.At e (action.Deliver segment)) = IsWithin 1 most_segments segment
+IsEvent (event.At e (action.Inject bytes)) = AreBytes 1 65575 bytes
+IsEvent (event.At e (action.Alter segment place mask fixing)) =
+    IsWithin 1 most_segments segment × (place ≤ 65535) × (mask < 256)
+IsEvent (event.At e (action.Take count)) = count ≤ 65535
+IsEvent (event.At e action.Close) = Unit {0}
+IsEvent (event.At e action.Abort) = Unit {0}
+IsEvent (event.At e (action.AddRow row)) = IsRow row
+IsEvent (event.At e (action.Withdraw row)) = IsWithin 1 64 row
 IsEvent (event.Dump segment) = IsWithin 1 most_segments segment
 
 -- four bytes, or sixteen

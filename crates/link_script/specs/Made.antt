@@ -1,18 +1,13 @@
 -- What a call makes of words, beside what they say.
 use Rattle.std.specs.Prelude.{◌≡◌, ℕ, Option, Some, None, Result, Ok, Err}
-use Rattle.book_base.specs.declared.end.End.{End}
 use Rattle.book_lines.specs.declared.line_kind.LineKind.{LineKind}
-use Rattle.book_link.specs.declared.event.Event.{Event}
+use Rattle.book_link.specs.declared.event.Action.{Action}
 use Rattle.book_cmd_link.specs.LinkEvents as book
 use Rattle.link_script.specs.declared.row_lines.Ways.{Ways}
 
--- each event that calls with these results make of an end is the one that is meant
-abbrev pub MakesOfEnd : (End → Event → Type 0) → (End → Event) → Type 0
-MakesOfEnd results meant = (e : End) (event : Event) → results e event → event ≡ meant e
-
--- each event that calls with these results make of an end and a number is the one that is meant
-abbrev pub MakesOfNumber : (End → ℕ → Event → Type 0) → (End → ℕ → Event) → Type 0
-MakesOfNumber results meant = (e : End) (n : ℕ) (event : Event) → results e n event → event ≡ meant e n
+-- each action that calls with these results make of a number is the one that is meant
+abbrev pub MakesOf : (ℕ → Action → Type 0) → (ℕ → Action) → Type 0
+MakesOf results meant = (n : ℕ) (action : Action) → results n action → action ≡ meant n
 
 -- the ways as the definitions have them
 abbrev pub ways : Ways → book.Ways

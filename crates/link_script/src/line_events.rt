@@ -1,18 +1,16 @@
 //! The events of a link, each read from the words of its line.
 ghost use Rattle.std.specs.Prelude.{◌≡◌, ◌≤◌, ℕ};
-ghost use Rattle.book_base.specs.declared.end.End.{End as OneEnd};
-ghost use Rattle.book_link.specs.declared.event.Event.{Event as OneEvent};
+ghost use Rattle.book_link.specs.declared.event.Action.{Action as OneAction};
 ghost use Rattle.text_lines.specs.Readings.{Tells};
 ghost use Rattle.book_cmd_link.specs.LinkEvents.{event_of_end, event_of_number, start_of, give_of, fill_of, inject_of, alter_of, dump_of, event_named, link_event_of};
-ghost use Rattle.link_script.specs.Made.{MakesOfEnd, MakesOfNumber};
+ghost use Rattle.link_script.specs.Made.{MakesOf};
 ghost use Rattle.link_script.specs.Names.{name_text};
 
 use super::name::Name;
 use super::row_lines::add;
-use book_base::End;
 use book_keys::LATEST;
 use book_lines::LineKind;
-use book_link::Event;
+use book_link::{Action, Event};
 use std::alloc::Global;
 use text_lines::{LineWords, Refusal};
 
@@ -28,30 +26,29 @@ const MOST_DATAGRAM: usize = 65_575;
 /// The most rows of a table.
 const MOST_ROWS: u64 = 64;
 
-/// What `made` makes of an end alone.
-fn end_alone<F: FnOnce(End) -> Event>(words: &mut LineWords, made: F) -> Result<Event, LineKind>
-    requires { F.IsAlwaysCallable made }
-    ensures { (meant : OneEnd → OneEvent) → MakesOfEnd (F.post made) meant → result ≡ event_of_end meant words.old }
+/// The event of an end alone, which does this.
+fn end_alone(words: &mut LineWords, action: Action) -> Result<Event, LineKind>
+    ensures { result ≡ event_of_end action words.old }
 {
     let end = words.end()?;
     words.nothing()?;
-    Ok(made(end))
+    Ok(Event::At(end, action))
 }
 
-/// What `made` makes of an end and a number from `low` to `high`.
-fn numbered<F: FnOnce(End, u64) -> Event>(
+/// The event of an end and a number from `low` to `high`, of which `made` makes what the end does.
+fn numbered<F: FnOnce(u64) -> Action>(
     words: &mut LineWords,
     low: u64,
     high: u64,
     made: F,
 ) -> Result<Event, LineKind>
-    requires { (e : OneEnd) (n : ℕ) → n ≤ high → F.pre made e n }
-    ensures { (meant : OneEnd → ℕ → OneEvent) → MakesOfNumber (F.post made) meant → result ≡ event_of_number meant low high words.old }
+    requires { (n : ℕ) → n ≤ high → F.pre made n }
+    ensures { (meant : ℕ → OneAction) → MakesOf (F.post made) meant → result ≡ event_of_number meant low high words.old }
 {
     let end = words.end()?;
     let number = words.number(low, high)?;
     words.nothing()?;
-    Ok(made(end, number))
+    Ok(Event::At(end, made(number)))
 }
 
 #[tactic(auto, unfolding(book_cmd_link::specs::LinkEvents::start_of))]
@@ -62,7 +59,7 @@ fn start(words: &mut LineWords) -> Result<Event, LineKind>
     let own = words.long()?;
     let peer = words.long()?;
     words.nothing()?;
-    Ok(Event::Start(end, own, peer))
+    Ok(Event::At(end, Action::Start(own, peer)))
 }
 
 #[tactic(auto, unfolding(book_cmd_link::specs::LinkEvents::give_of))]
@@ -72,7 +69,7 @@ fn give(alloc: Global, words: &mut LineWords) -> Result<Event, Refusal>
     let end = words.end()?;
     let bytes = words.some_hex(alloc)?;
     words.nothing()?;
-    Ok(Event::Give(end, bytes))
+    Ok(Event::At(end, Action::Give(bytes)))
 }
 
 #[tactic(auto, unfolding(book_cmd_link::specs::LinkEvents::fill_of))]
@@ -83,7 +80,7 @@ fn fill(alloc: Global, words: &mut LineWords) -> Result<Event, Refusal>
     let count = words.short()?;
     let byte = words.byte(alloc)?;
     words.nothing()?;
-    Ok(Event::Fill(end, count, byte))
+    Ok(Event::At(end, Action::Fill(count, byte)))
 }
 
 #[tactic(auto, unfolding(book_cmd_link::specs::LinkEvents::inject_of))]
@@ -93,7 +90,7 @@ fn inject(alloc: Global, words: &mut LineWords) -> Result<Event, Refusal>
     let end = words.end()?;
     let datagram = words.sized_hex(alloc, 1, MOST_DATAGRAM)?;
     words.nothing()?;
-    Ok(Event::Inject(end, datagram))
+    Ok(Event::At(end, Action::Inject(datagram)))
 }
 
 #[tactic(auto, unfolding(book_cmd_link::specs::LinkEvents::alter_of))]
@@ -106,7 +103,7 @@ fn alter(alloc: Global, words: &mut LineWords) -> Result<Event, Refusal>
     let mask = words.byte(alloc)?;
     let fixing = words.choice(b"keep", b"fix")?;
     words.nothing()?;
-    Ok(Event::Alter(end, segment, place, mask, fixing))
+    Ok(Event::At(end, Action::Alter(segment, place, mask, fixing)))
 }
 
 #[tactic(auto, unfolding(book_cmd_link::specs::LinkEvents::dump_of))]
@@ -124,22 +121,22 @@ fn named(alloc: Global, name: Name, words: &mut LineWords) -> Result<Event, Refu
     ensures { Tells result (event_named (name_text name) words.old) }
 {
     match name {
-        Name::Clock => Ok(numbered(words, 0, LATEST, Event::Clock)?),
-        Name::Open => Ok(numbered(words, 0, MOST_ISN, |e, n| Event::Connect(e, n as u32))?),
-        Name::Listen => Ok(numbered(words, 0, MOST_ISN, |e, n| Event::Listen(e, n as u32))?),
+        Name::Clock => Ok(numbered(words, 0, LATEST, Action::Clock)?),
+        Name::Open => Ok(numbered(words, 0, MOST_ISN, |n| Action::Connect(n as u32))?),
+        Name::Listen => Ok(numbered(words, 0, MOST_ISN, |n| Action::Listen(n as u32))?),
         Name::Start => Ok(start(words)?),
         Name::Give => give(alloc, words),
         Name::Fill => fill(alloc, words),
-        Name::Send => Ok(end_alone(words, Event::Send)?),
-        Name::Resend => Ok(end_alone(words, Event::Resend)?),
-        Name::Deliver => Ok(numbered(words, 1, SEGMENTS, |e, n| Event::Deliver(e, n as u32))?),
+        Name::Send => Ok(end_alone(words, Action::Send)?),
+        Name::Resend => Ok(end_alone(words, Action::Resend)?),
+        Name::Deliver => Ok(numbered(words, 1, SEGMENTS, |n| Action::Deliver(n as u32))?),
         Name::Inject => inject(alloc, words),
         Name::Alter => alter(alloc, words),
-        Name::Take => Ok(numbered(words, 0, 65_535, |e, n| Event::Take(e, n as u16))?),
-        Name::Close => Ok(end_alone(words, Event::Close)?),
-        Name::Abort => Ok(end_alone(words, Event::Abort)?),
+        Name::Take => Ok(numbered(words, 0, 65_535, |n| Action::Take(n as u16))?),
+        Name::Close => Ok(end_alone(words, Action::Close)?),
+        Name::Abort => Ok(end_alone(words, Action::Abort)?),
         Name::Add => add(alloc, words),
-        Name::Withdraw => Ok(numbered(words, 1, MOST_ROWS, |e, n| Event::Withdraw(e, n as u8))?),
+        Name::Withdraw => Ok(numbered(words, 1, MOST_ROWS, |n| Action::Withdraw(n as u8))?),
         Name::Dump => Ok(dump(words)?),
     }
 }

@@ -3,6 +3,7 @@ ghost use Rattle.std.specs.Prelude.{◌≡◌, ◌++◌, ◌∷◌, [], OnOk, If
 ghost use Rattle.std.specs.Option.{is_none};
 ghost use Rattle.book_base.specs.Hexadecimal.{hex_of};
 ghost use Rattle.book_lines.specs.Texts.{end_text, line_text};
+ghost use Rattle.book_link.specs.declared.event.Event.TheVariants.{At};
 ghost use Rattle.book_cmd_link.specs.LinkFiles.{script_of};
 ghost use Rattle.link_script.specs.Names.{name_text};
 ghost use Rattle.law_scripts.specs.Scripts.{IsScript};
@@ -12,7 +13,7 @@ use super::name::Name;
 use super::row_texts::{chosen, push_row};
 use book_base::{Bytes, End, Socket};
 use book_cmd_link::{Script, SharedKey};
-use book_link::Event;
+use book_link::{Action, Event};
 use std::alloc::{AllocError, Global};
 use text_lines::{push_bytes, push_end, push_newline, push_number, push_socket, push_text};
 
@@ -40,47 +41,52 @@ fn push_load(out: &mut Vec<u8>, name: Name, end: End, bytes: &Bytes) -> Result<(
     push_bytes(out, bytes.as_slice())
 }
 
+/// The words of an action at an end.
+#[tactic(auto, unfolding(law_scripts::specs::Printed::event_words))]
+fn push_action(out: &mut Vec<u8>, end: End, action: &Action) -> Result<(), AllocError>
+    ensures { OnOk result (out.new.items ++ 10 ∷ [] ≡ out.old.items ++ line_text (event_words (At end action.now))) }
+{
+    match action {
+        Action::Clock(seconds) => push_numbered(out, Name::Clock, end, *seconds),
+        Action::Connect(isn) => push_numbered(out, Name::Open, end, u64::from(*isn)),
+        Action::Listen(isn) => push_numbered(out, Name::Listen, end, u64::from(*isn)),
+        Action::Start(own, peer) => {
+            push_numbered(out, Name::Start, end, u64::from(*own))?;
+            push_number(out, u64::from(*peer))
+        }
+        Action::Give(bytes) => push_load(out, Name::Give, end, bytes),
+        Action::Fill(count, byte) => {
+            push_numbered(out, Name::Fill, end, u64::from(*count))?;
+            push_bytes(out, &[*byte])
+        }
+        Action::Send => push_alone(out, Name::Send, end),
+        Action::Resend => push_alone(out, Name::Resend, end),
+        Action::Deliver(segment) => push_numbered(out, Name::Deliver, end, u64::from(*segment)),
+        Action::Inject(bytes) => push_load(out, Name::Inject, end, bytes),
+        Action::Alter(segment, place, mask, fixing) => {
+            push_numbered(out, Name::Alter, end, u64::from(*segment))?;
+            push_number(out, u64::from(*place))?;
+            push_bytes(out, &[*mask])?;
+            push_text(out, chosen(b"keep", b"fix", *fixing))
+        }
+        Action::Take(count) => push_numbered(out, Name::Take, end, u64::from(*count)),
+        Action::Close => push_alone(out, Name::Close, end),
+        Action::Abort => push_alone(out, Name::Abort, end),
+        Action::AddRow(row) => {
+            push_alone(out, Name::Add, end)?;
+            push_row(out, row)
+        }
+        Action::Withdraw(row) => push_numbered(out, Name::Withdraw, end, u64::from(*row)),
+    }
+}
+
 /// The words of an event.
 #[tactic(auto, unfolding(law_scripts::specs::Printed::event_words))]
 fn push_words(out: &mut Vec<u8>, event: &Event) -> Result<(), AllocError>
     ensures { OnOk result (out.new.items ++ 10 ∷ [] ≡ out.old.items ++ line_text (event_words event.now)) }
 {
     match event {
-        Event::Clock(end, seconds) => push_numbered(out, Name::Clock, *end, *seconds),
-        Event::Connect(end, isn) => push_numbered(out, Name::Open, *end, u64::from(*isn)),
-        Event::Listen(end, isn) => push_numbered(out, Name::Listen, *end, u64::from(*isn)),
-        Event::Start(end, own, peer) => {
-            push_numbered(out, Name::Start, *end, u64::from(*own))?;
-            push_number(out, u64::from(*peer))
-        }
-        Event::Give(end, bytes) => push_load(out, Name::Give, *end, bytes),
-        Event::Fill(end, count, byte) => {
-            push_numbered(out, Name::Fill, *end, u64::from(*count))?;
-            push_bytes(out, &[*byte])
-        }
-        Event::Send(end) => push_alone(out, Name::Send, *end),
-        Event::Resend(end) => push_alone(out, Name::Resend, *end),
-        Event::Deliver(end, segment) => push_numbered(
-            out,
-            Name::Deliver,
-            *end,
-            u64::from(*segment),
-        ),
-        Event::Inject(end, bytes) => push_load(out, Name::Inject, *end, bytes),
-        Event::Alter(end, segment, place, mask, fixing) => {
-            push_numbered(out, Name::Alter, *end, u64::from(*segment))?;
-            push_number(out, u64::from(*place))?;
-            push_bytes(out, &[*mask])?;
-            push_text(out, chosen(b"keep", b"fix", *fixing))
-        }
-        Event::Take(end, count) => push_numbered(out, Name::Take, *end, u64::from(*count)),
-        Event::Close(end) => push_alone(out, Name::Close, *end),
-        Event::Abort(end) => push_alone(out, Name::Abort, *end),
-        Event::AddRow(end, row) => {
-            push_alone(out, Name::Add, *end)?;
-            push_row(out, row)
-        }
-        Event::Withdraw(end, row) => push_numbered(out, Name::Withdraw, *end, u64::from(*row)),
+        Event::At(end, action) => push_action(out, *end, action),
         Event::Dump(segment) => {
             out.extend_from_slice(Name::Dump.text())?;
             push_number(out, u64::from(*segment))

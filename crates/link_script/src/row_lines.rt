@@ -8,7 +8,7 @@ ghost use Rattle.link_script.specs.Made.{named_ways, said_ways};
 
 use book_keys::LATEST;
 use book_lines::LineKind;
-use book_link::{Event, RowLine};
+use book_link::{Action, Event, RowLine};
 use std::alloc::Global;
 use text_lines::{LineWords, Refusal};
 
@@ -83,5 +83,5 @@ pub(crate) fn add(alloc: Global, words: &mut LineWords) -> Result<Event, Refusal
         accept_first,
         accept_last,
     };
-    Ok(Event::AddRow(end, row))
+    Ok(Event::At(end, Action::AddRow(row)))
 }

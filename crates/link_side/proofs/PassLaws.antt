@@ -7,6 +7,7 @@ use Rattle.book_keys.specs.Rows.{Row}
 use Rattle.book_endpoint.specs.Arrivals as arrivals
 use Rattle.book_endpoint.specs.Emissions.{Emitted, Quiet, NoKey, Emits}
 use Rattle.book_endpoint.specs.States.{EndState}
+use Rattle.book_link.specs.declared.event.Event.TheVariants.{At}
 use Rattle.book_link.specs.Outcomes.{NoSession}
 use Rattle.book_link.specs.Steps.{View, Act, Stepped, act_on, acted, came, come, made_of, on_live, put, sent, step, with_sessions, view_of}
 use Rattle.book_link.specs.Worlds.{Setup, pair_of, Session, World, LinkSide as EndSide, other, side as side_of}
@@ -80,7 +81,7 @@ hidden_sent v again s (Emits x) = refl
 
 -- the step of a send is a call on the live session
 step_sends : (setup : Setup) (w : World) (again : Bool) (e : End) (t : Session) (older : List Session) → (side_of w e).sessions ≡ t ∷ older
-    → step setup w (sending again e)
+    → step setup w (At e (sending again))
     ≡ act_on w e (t ∷ older) (λ s. sent (view_of setup w e) s (quiet again) (made_by again (side_of w e).rows (pair_of setup e) (side_of w e).clock s))
 step_sends setup w true e t older is = rw is refl
 step_sends setup w false e t older is = rw is refl
@@ -99,7 +100,7 @@ pub has_sent : (setup : Setup) (w : World) (again : Bool) (e : End) (d d' : Side
     → pair_of setup e ≡ d.pair → StandsSide d (side_of w e) → d.live ≡ Some l → d'.live ≡ Some l' → d'.pair ≡ d.pair → d'.clock ≡ d.clock
     → d'.table ≡ d.table → d'.dropped.items ≡ d.dropped.items → l'.end_shown ≡ l.end_shown
     → ((s : EndState) → Stands l.endpoint s → EmitsAs s l'.endpoint before out a (made_by again d.table.rows p d.clock s))
-    → HasSent w (step setup w (sending again e)) again e d' before out (Some a)
+    → HasSent w (step setup w (At e (sending again))) again e d' before out (Some a)
 has_sent setup w again e d d' l l' before out a p bound pair h was now pairs clock table dropped same emits =
     let k = live_is d (side_of w e) l was h in
     let s = k.session.state in

@@ -6,8 +6,8 @@ use Rattle.book_segments.specs.Segments.{reading, spell}
 use Rattle.book_keys.specs.Rows.{Row}
 use Rattle.book_endpoint.specs.Emissions.{Emission as BookEmission, Emitted, Emits, emit, resend}
 use Rattle.book_endpoint.specs.States.{EndState}
-use Rattle.book_link.specs.declared.event.Event.{Event}
-use Rattle.book_link.specs.declared.event.Event.TheVariants.{Send, Resend}
+use Rattle.book_link.specs.declared.event.Action.{Action}
+use Rattle.book_link.specs.declared.event.Action.TheVariants.{Send, Resend}
 use Rattle.book_link.specs.Outcomes.{Outcome, Sent, Answered, NoSession, Idle, Nothing, WithoutKey}
 use Rattle.book_link.specs.Steps.{Stepped}
 use Rattle.book_link.specs.Worlds.{Made as BookMade, Came, Happening, Making, Coming, World, segments, other, side as side_of}
@@ -22,10 +22,10 @@ use Rattle.tcp_endpoint.specs.declared.emission.Resent.{Resent}
 use Rattle.tcp_endpoint.specs.declared.emission.Resent.TheVariants as resents
 use Rattle.tcp_endpoint.specs.Emissions.{IsMade}
 
--- the event by which an end sends, or sends again
-abbrev pub sending : Bool → End → Event
-sending true e = Resend e
-sending false e = Send e
+-- the action by which an end sends, or sends again
+abbrev pub sending : Bool → Action
+sending true = Resend
+sending false = Send
 
 -- what an end makes then
 abbrev pub made_by : Bool → List Row → Pair → ℕ → EndState → Emitted

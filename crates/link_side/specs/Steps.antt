@@ -3,7 +3,8 @@ use Rattle.std.specs.Prelude.{◌≡◌, ℕ, ◌≤◌, length}
 use Rattle.book_base.specs.declared.end.End.{End}
 use Rattle.book_keys.specs.Lifetimes.{greatest_time}
 use Rattle.book_endpoint.specs.States.{EndState}
-use Rattle.book_link.specs.declared.event.Event.{Event}
+use Rattle.book_link.specs.declared.event.Action.{Action}
+use Rattle.book_link.specs.declared.event.Event.TheVariants.{At}
 use Rattle.book_link.specs.declared.event.RowLine.{RowLine}
 use Rattle.book_link.specs.Outcomes.{Outcome}
 use Rattle.book_link.specs.Steps.{Act, Stepped, on_live, step}
@@ -20,11 +21,11 @@ pub record Moved (w : World) (after : Stepped) (e : End) (d : Side) (told : Outc
   pub history : after.world.history ≡ w.history
   pub outcome : after.outcome ≡ told
 
--- of whatever end of whatever link the side stood for, it stands for what the event makes of it, and answers so
-abbrev pub Steps : Side → Side → (End → Event) → Answer → Type 0
-Steps before after event told =
+-- of whatever end of whatever link the side stood for, it stands for what the action makes of it, and answers so
+abbrev pub Steps : Side → Side → Action → Answer → Type 0
+Steps before after action told =
     (setup : Setup) (w : World) (e : End) → pair_of setup e ≡ before.pair → StandsSide before (side_of w e)
-    → Moved w (step setup w (event e)) e after (outcome_of told)
+    → Moved w (step setup w (At e action)) e after (outcome_of told)
 
 -- the same, of a call on the live session
 abbrev pub StepsBy : Side → Side → (EndState → Act) → Answer → Type 0

@@ -1,7 +1,7 @@
 //! The events at a live session by which no segment is made and nothing comes, and the clock.
 ghost use Rattle.std.specs.Prelude.{◌≡◌, ◌≤◌, length, OnErr, IfOk};
 ghost use Rattle.book_keys.specs.Lifetimes.{greatest_time};
-ghost use Rattle.book_link.specs.declared.event.Event.TheVariants.{Clock, Give, Fill, Take, Close, Abort};
+ghost use Rattle.book_link.specs.declared.event.Action.TheVariants.{Clock, Give, Fill, Take, Close, Abort};
 ghost use Rattle.link_side.specs.Outcomes.{answer_given};
 ghost use Rattle.book_link.specs.Steps.{given, took};
 ghost use Rattle.link_side.specs.Steps.{Steps, StepsBy};
@@ -28,7 +28,7 @@ impl Side {
     pub fn set_clock(&mut self, seconds: u64) -> Answer
         requires { seconds ≤ greatest_time }
         ensures pair { self.new.pair ≡ self.old.pair }
-        ensures step { Steps self.old self.new (λ e. Clock e seconds) result }
+        ensures step { Steps self.old self.new (Clock seconds) result }
     {
         self.clock = seconds;
         if let Some(live) = &mut self.live {
@@ -68,7 +68,7 @@ impl Side {
     /// The live session's user gives it a piece: all of it, or none.
     pub fn give(&mut self, piece: &Bytes) -> Answer
         ensures pair { self.new.pair ≡ self.old.pair }
-        ensures step { Steps self.old self.new (λ e. Give e piece.now) result }
+        ensures step { Steps self.old self.new (Give piece.now) result }
     {
         self.offer(piece.as_slice())
     }
@@ -77,7 +77,7 @@ impl Side {
     /// was.
     pub fn fill(&mut self, alloc: Global, count: u16, byte: u8) -> Result<Answer, AllocError>
         ensures pair { self.new.pair ≡ self.old.pair }
-        ensures step { IfOk result (λ told. Steps self.old self.new (λ e. Fill e count byte) told) }
+        ensures step { IfOk result (λ told. Steps self.old self.new (Fill count byte) told) }
         ensures same { OnErr result (self.new ≡ self.old) }
     {
         if self.live.is_none() {
@@ -92,7 +92,7 @@ impl Side {
     /// was.
     pub fn take(&mut self, alloc: Global, count: u16) -> Result<Answer, AllocError>
         ensures pair { self.new.pair ≡ self.old.pair }
-        ensures step { IfOk result (λ told. Steps self.old self.new (λ e. Take e count) told) }
+        ensures step { IfOk result (λ told. Steps self.old self.new (Take count) told) }
         ensures same { OnErr result (self.new ≡ self.old) }
     {
         if self.live.is_none() {
@@ -106,7 +106,7 @@ impl Side {
     /// The live session's user has no more bytes to give.
     pub fn close(&mut self) -> Answer
         ensures pair { self.new.pair ≡ self.old.pair }
-        ensures step { Steps self.old self.new (λ e. Close e) result }
+        ensures step { Steps self.old self.new Close result }
     {
         match &mut self.live {
             None => Answer::NoSession,
@@ -120,7 +120,7 @@ impl Side {
     /// The live session's user gives the connection up.
     pub fn abort(&mut self) -> Answer
         ensures pair { self.new.pair ≡ self.old.pair }
-        ensures step { Steps self.old self.new (λ e. Abort e) result }
+        ensures step { Steps self.old self.new Abort result }
     {
         match &mut self.live {
             None => Answer::NoSession,

@@ -1,7 +1,7 @@
 //! The events by which a session begins.
 ghost use Rattle.std.specs.Prelude.{◌≡◌, ◌∷◌, false, OnOk, OnErr, IfOk};
 ghost use Rattle.book_endpoint.specs.States.{EndState};
-ghost use Rattle.book_link.specs.declared.event.Event.TheVariants.{Connect, Listen, Start};
+ghost use Rattle.book_link.specs.declared.event.Action.TheVariants.{Connect, Listen, Start};
 ghost use Rattle.book_link.specs.Worlds.{LinkSide as EndSide};
 ghost use Rattle.link_side.specs.Sides.{StandsSide};
 ghost use Rattle.link_side.specs.Steps.{Steps};
@@ -41,7 +41,7 @@ impl Side {
     /// number before; the one before it is dropped. Out of memory all is as it was.
     pub fn connect(&mut self, alloc: Global, isn: u32) -> Result<Answer, AllocError>
         ensures pair { self.new.pair ≡ self.old.pair }
-        ensures step { IfOk result (λ told. Steps self.old self.new (λ e. Connect e isn) told) }
+        ensures step { IfOk result (λ told. Steps self.old self.new (Connect isn) told) }
         ensures same { OnErr result ((m : EndSide) → StandsSide self.old m → StandsSide self.new m) }
     {
         if self.has_used(isn) {
@@ -55,7 +55,7 @@ impl Side {
     /// A session waits for its peer (RFC 9293, section 3.10.1), as for `connect`.
     pub fn listen(&mut self, alloc: Global, isn: u32) -> Result<Answer, AllocError>
         ensures pair { self.new.pair ≡ self.old.pair }
-        ensures step { IfOk result (λ told. Steps self.old self.new (λ e. Listen e isn) told) }
+        ensures step { IfOk result (λ told. Steps self.old self.new (Listen isn) told) }
         ensures same { OnErr result ((m : EndSide) → StandsSide self.old m → StandsSide self.new m) }
     {
         if self.has_used(isn) {
@@ -69,7 +69,7 @@ impl Side {
     /// A session is established without a handshake, as for `connect`.
     pub fn start(&mut self, alloc: Global, isn: u32, peer_isn: u32) -> Result<Answer, AllocError>
         ensures pair { self.new.pair ≡ self.old.pair }
-        ensures step { IfOk result (λ told. Steps self.old self.new (λ e. Start e isn peer_isn) told) }
+        ensures step { IfOk result (λ told. Steps self.old self.new (Start isn peer_isn) told) }
         ensures same { OnErr result ((m : EndSide) → StandsSide self.old m → StandsSide self.new m) }
     {
         if self.has_used(isn) {

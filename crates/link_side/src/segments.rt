@@ -4,6 +4,7 @@ ghost use Rattle.book_base.specs.declared.end.End.{End};
 ghost use Rattle.book_endpoint.specs.States.{EndState};
 ghost use Rattle.book_keys.specs.Lifetimes.{greatest_time};
 ghost use Rattle.book_keys.specs.Rows.{Row};
+ghost use Rattle.book_link.specs.declared.event.Event.TheVariants.{At};
 ghost use Rattle.book_link.specs.Steps.{come, on_live, step, view_of};
 ghost use Rattle.book_link.specs.Worlds.{Setup, World, pair_of, side as side_of};
 ghost use Rattle.link_side.specs.Segments.{emission_of, HasCome, HasSent, length_sent, made_by, sending};
@@ -75,7 +76,7 @@ impl Side {
         requires room { 1500 ≤ length out.old }
         ensures pair { self.new.pair ≡ self.old.pair }
         ensures sent { (setup : Setup) (w : World) (e : End) → pair_of setup e ≡ self.old.pair → StandsSide self.old (side_of w e)
-            → HasSent w (step setup w (sending again e)) again e self.new out.old out.new result }
+            → HasSent w (step setup w (At e (sending again))) again e self.new out.old out.new result }
         ensures short { length_sent result ≤ 1500 }
         ensures steps { steps.new ≤ steps.old + 1 }
     {

@@ -1,6 +1,6 @@
 //! The events at an end's table.
 ghost use Rattle.std.specs.Prelude.{◌≡◌, OnErr, IfOk};
-ghost use Rattle.book_link.specs.declared.event.Event.TheVariants.{AddRow, Withdraw};
+ghost use Rattle.book_link.specs.declared.event.Action.TheVariants.{AddRow, Withdraw};
 ghost use Rattle.book_link.specs.RowLines.{direction_by};
 ghost use Rattle.book_link.specs.Worlds.{LinkSide as EndSide};
 ghost use Rattle.link_side.specs.Sides.{StandsSide};
@@ -32,7 +32,7 @@ impl Side {
     pub fn add_row(&mut self, alloc: Global, line: &RowLine) -> Result<Answer, AllocError>
         requires row { IsRowLine line.now }
         ensures pair { self.new.pair ≡ self.old.pair }
-        ensures step { IfOk result (λ told. Steps self.old self.new (λ e. AddRow e line.now) told) }
+        ensures step { IfOk result (λ told. Steps self.old self.new (AddRow line.now) told) }
         ensures same { OnErr result ((m : EndSide) → StandsSide self.old m → StandsSide self.new m) }
     {
         let master = Bytes::from_vec(Vec::from_slice(alloc, line.master.as_slice())?);
@@ -64,7 +64,7 @@ impl Side {
     /// new table.
     pub fn withdraw(&mut self, number: u8) -> Answer
         ensures pair { self.new.pair ≡ self.old.pair }
-        ensures step { Steps self.old self.new (λ e. Withdraw e number) result }
+        ensures step { Steps self.old self.new (Withdraw number) result }
     {
         match self.table.withdraw(number) {
             Ok(()) => Answer::Done,

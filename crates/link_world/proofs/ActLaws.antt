@@ -2,7 +2,8 @@
 use Rattle.std.proofs.Common.{◌≡◌, ◌+◌, ◌≤◌, ℕ, List, [], ◌∷◌, Option, Some, None, Result, Ok, Err, refl, sym, ap, ◌∙◌, subst, arith}
 use Rattle.book_base.specs.declared.end.End.{End}
 use Rattle.book_base.specs.declared.end.End.TheVariants.{A, B}
-use Rattle.book_link.specs.declared.event.Event.{Event}
+use Rattle.book_link.specs.declared.event.Action.{Action}
+use Rattle.book_link.specs.declared.event.Event.TheVariants.{At}
 use Rattle.book_link.specs.Outcomes as book
 use Rattle.book_link.specs.Steps.{Stepped, step}
 use Rattle.book_link.specs.Worlds.{Setup, World, LinkSide as EndSide, Happening, pair_of, other, side as side_of}
@@ -18,10 +19,10 @@ use Rattle.link_side.specs.Steps.{Steps}
 use Rattle.link_world.specs.Changes.{Follows, HasStepped, Stays, by_event}
 use Rattle.link_world.specs.Links.{StandsAt}
 
--- an event at an end by which nothing is made and nothing comes
-pub quietly : (e : End) (before after : Side) (log : Log) (event : End → Event) (told : Answer) (o : Outcome) → after.pair ≡ before.pair
-    → Steps before after event told → Shows o (outcome_of told) → HasStepped e before after log log (by_event (event e)) o
-quietly e before after log event told o pair steps shows =
+-- an action at an end by which nothing is made and nothing comes
+pub quietly : (e : End) (before after : Side) (log : Log) (action : Action) (told : Answer) (o : Outcome) → after.pair ≡ before.pair
+    → Steps before after action told → Shows o (outcome_of told) → HasStepped e before after log log (by_event (At e action)) o
+quietly e before after log action told o pair steps shows =
     record {
       pair = pair;
       made = omega arith;

@@ -10,7 +10,8 @@ use Rattle.book_endpoint.specs.Verdicts.{Finding}
 use Rattle.tcp_endpoint.specs.Arrivals.{TellsPassed}
 use Rattle.tcp_endpoint.specs.declared.arrival.Arrived.{Arrived}
 use Rattle.book_link.specs.Alterations.{altered, has_place}
-use Rattle.book_link.specs.declared.event.Event.TheVariants.{Alter, Deliver}
+use Rattle.book_link.specs.declared.event.Event.TheVariants.{At}
+use Rattle.book_link.specs.declared.event.Action.TheVariants.{Alter, Deliver}
 use Rattle.book_link.specs.Outcomes as book
 use Rattle.book_link.specs.Steps.{Stepped, alter, deliver}
 use Rattle.book_link.specs.Worlds.{Setup, World, Made, Came, Happening, Coming, forged, segment_named, side as side_of}
@@ -96,16 +97,16 @@ counted e before after old new s answered o pair made most received stands is =
 
 -- a segment that is kept comes as it was made
 pub delivered : (e : End) (name : ℕ) (bytes : List ℕ) (setup : Setup) (w : World) (m : Made) → segment_named name w.history ≡ Some m → m.bytes ≡ bytes
-    → by_bytes e bytes setup w ≡ by_event (Deliver e name) setup w
+    → by_bytes e bytes setup w ≡ by_event (At e (Deliver name)) setup w
 delivered e name bytes setup w m is same =
     ap (λ (b : List ℕ). by_bytes e b setup w) (sym same) ∙ ap (deliver setup w e) (sym is)
 
 pub undelivered : (e : End) (name : ℕ) (setup : Setup) (w : World) → segment_named name w.history ≡ None
-    → by_event (Deliver e name) setup w ≡ record { world = w; outcome = book.NoSegment }
+    → by_event (At e (Deliver name)) setup w ≡ record { world = w; outcome = book.NoSegment }
 undelivered e name setup w is = ap (deliver setup w e) is
 
 pub unaltered : (e : End) (name place mask : ℕ) (fix : Bool) (setup : Setup) (w : World) → segment_named name w.history ≡ None
-    → by_event (Alter e name place mask fix) setup w ≡ record { world = w; outcome = book.NoSegment }
+    → by_event (At e (Alter name place mask fix)) setup w ≡ record { world = w; outcome = book.NoSegment }
 unaltered e name place mask fix setup w is = ap (alter setup w e (record { place = place; mask = mask; fix = fix })) is
 
 altered_if : (b : Bool) (x y : Stepped) → b ≡ true → (if b then x else y) ≡ x
@@ -119,7 +120,7 @@ else_if false x y e = refl
 -- a copy of a segment that is kept comes
 pub altered_comes : (e : End) (name place mask : ℕ) (fix : Bool) (bytes copy : List ℕ) (setup : Setup) (w : World) (m : Made)
     → segment_named name w.history ≡ Some m → m.bytes ≡ bytes → has_place bytes place ≡ true → copy ≡ altered bytes (record { place = place; mask = mask; fix = fix })
-    → by_bytes e copy setup w ≡ by_event (Alter e name place mask fix) setup w
+    → by_bytes e copy setup w ≡ by_event (At e (Alter name place mask fix)) setup w
 altered_comes e name place mask fix bytes copy setup w m is same there is_copy =
     let own : has_place m.bytes place ≡ true = ap (λ (b : List ℕ). has_place b place) same ∙ there in
     ap (λ (b : List ℕ). by_bytes e b setup w) (is_copy ∙ ap (λ (b : List ℕ). altered b (record { place = place; mask = mask; fix = fix })) (sym same))
@@ -129,7 +130,7 @@ altered_comes e name place mask fix bytes copy setup w m is same there is_copy =
 -- the place is past its bytes
 pub misplaced : (e : End) (name place mask : ℕ) (fix : Bool) (bytes : List ℕ) (setup : Setup) (w : World) (m : Made)
     → segment_named name w.history ≡ Some m → m.bytes ≡ bytes → has_place bytes place ≡ false
-    → by_event (Alter e name place mask fix) setup w ≡ record { world = w; outcome = book.NoPlace }
+    → by_event (At e (Alter name place mask fix)) setup w ≡ record { world = w; outcome = book.NoPlace }
 misplaced e name place mask fix bytes setup w m is same past =
     let own : has_place m.bytes place ≡ false = ap (λ (b : List ℕ). has_place b place) same ∙ past in
     ap (alter setup w e (record { place = place; mask = mask; fix = fix })) is

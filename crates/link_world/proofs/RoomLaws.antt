@@ -9,7 +9,8 @@ use Rattle.book_endpoint.specs.States.{EndState, connected, listening, started, 
 use Rattle.book_endpoint.specs.Emissions.{Emitted, Quiet, NoKey, Emits, emit, resend}
 use Rattle.book_link.specs.Alterations.{altered, has_place}
 use Rattle.book_link.specs.declared.event.Event.{Event}
-use Rattle.book_link.specs.declared.event.Event.TheVariants.{Clock, Connect, Listen, Start, Give, Fill, Send, Resend, Deliver, Inject, Alter, Take, Close, Abort, AddRow, Withdraw, Dump}
+use Rattle.book_link.specs.declared.event.Event.TheVariants.{At, Dump}
+use Rattle.book_link.specs.declared.event.Action.TheVariants.{Clock, Connect, Listen, Start, Give, Fill, Send, Resend, Deliver, Inject, Alter, Take, Close, Abort, AddRow, Withdraw}
 use Rattle.book_link.specs.Outcomes as book
 use Rattle.book_link.specs.RowLines.{added_row}
 use Rattle.book_link.specs.Steps.{View, Act, act_on, add_row, begin, come, deliver, alter, given, image_of, on_live, quietly, send, send_again, sent, step, took, withdraw, view_of}
@@ -113,26 +114,26 @@ image_fits (Some m) = omega arith
 
 -- the outcome of an event carries no more than there is room for
 step_fits : (setup : Setup) (w : World) (event : Event) → length (carried (step setup w event).outcome) ≤ most_content event w.history
-step_fits setup w (Clock e seconds) = fits_none [] 0 refl
-step_fits setup w (Connect e isn) = let s = connected (pair_of setup e) isn in fits_none _ 0 (begun_none w e s (find (side w e).sessions s.isn))
-step_fits setup w (Listen e isn) = let s = listening (pair_of setup e) isn in fits_none _ 0 (begun_none w e s (find (side w e).sessions s.isn))
-step_fits setup w (Start e isn peer) = let s = started (pair_of setup e) isn peer in fits_none _ 0 (begun_none w e s (find (side w e).sessions s.isn))
-step_fits setup w (Give e piece) = fits_none _ 0 (on_sessions w e (side w e).sessions (given piece) (given_none piece))
-step_fits setup w (Fill e count byte) = fits_none _ 0 (on_sessions w e (side w e).sessions (given (replicate count byte)) (given_none (replicate count byte)))
-step_fits setup w (Send e) =
+step_fits setup w (At e (Clock seconds)) = fits_none [] 0 refl
+step_fits setup w (At e (Connect isn)) = let s = connected (pair_of setup e) isn in fits_none _ 0 (begun_none w e s (find (side w e).sessions s.isn))
+step_fits setup w (At e (Listen isn)) = let s = listening (pair_of setup e) isn in fits_none _ 0 (begun_none w e s (find (side w e).sessions s.isn))
+step_fits setup w (At e (Start isn peer)) = let s = started (pair_of setup e) isn peer in fits_none _ 0 (begun_none w e s (find (side w e).sessions s.isn))
+step_fits setup w (At e (Give piece)) = fits_none _ 0 (on_sessions w e (side w e).sessions (given piece) (given_none piece))
+step_fits setup w (At e (Fill count byte)) = fits_none _ 0 (on_sessions w e (side w e).sessions (given (replicate count byte)) (given_none (replicate count byte)))
+step_fits setup w (At e Send) =
     fits_none _ 0 (on_sessions w e (side w e).sessions (send (view_of setup w e))
     (λ s. sent_none (view_of setup w e) s book.Idle (emit (side w e).rows (pair_of setup e) (side w e).clock s) refl))
-step_fits setup w (Resend e) =
+step_fits setup w (At e Resend) =
     fits_none _ 0 (on_sessions w e (side w e).sessions (send_again (view_of setup w e))
     (λ s. sent_none (view_of setup w e) s book.Nothing (resend (side w e).rows (pair_of setup e) (side w e).clock s) refl))
-step_fits setup w (Deliver e name) = fits_none _ 0 (delivered_none setup w e (segment_named name w.history))
-step_fits setup w (Inject e bytes) = fits_none _ 0 (come_none setup w e bytes)
-step_fits setup w (Alter e name place mask fix) = fits_none _ 0 (altered_none setup w e place mask fix (segment_named name w.history))
-step_fits setup w (Take e count) = took_fits w e (side w e).sessions count
-step_fits setup w (Close e) = fits_none _ 0 (on_sessions w e (side w e).sessions (λ s. quietly (close s) book.Done) (λ s. refl))
-step_fits setup w (Abort e) = fits_none _ 0 (on_sessions w e (side w e).sessions (λ s. quietly (abort s) book.Done) (λ s. refl))
-step_fits setup w (AddRow e row) = fits_none _ 0 (added_none w e (adding (side w e).rows (added_row row)))
-step_fits setup w (Withdraw e number) = fits_none _ 0 (withdrawn_none w e (withdrawn (side w e).rows number))
+step_fits setup w (At e (Deliver name)) = fits_none _ 0 (delivered_none setup w e (segment_named name w.history))
+step_fits setup w (At e (Inject bytes)) = fits_none _ 0 (come_none setup w e bytes)
+step_fits setup w (At e (Alter name place mask fix)) = fits_none _ 0 (altered_none setup w e place mask fix (segment_named name w.history))
+step_fits setup w (At e (Take count)) = took_fits w e (side w e).sessions count
+step_fits setup w (At e Close) = fits_none _ 0 (on_sessions w e (side w e).sessions (λ s. quietly (close s) book.Done) (λ s. refl))
+step_fits setup w (At e Abort) = fits_none _ 0 (on_sessions w e (side w e).sessions (λ s. quietly (abort s) book.Done) (λ s. refl))
+step_fits setup w (At e (AddRow row)) = fits_none _ 0 (added_none w e (adding (side w e).rows (added_row row)))
+step_fits setup w (At e (Withdraw number)) = fits_none _ 0 (withdrawn_none w e (withdrawn (side w e).rows number))
 step_fits setup w (Dump name) = image_fits (segment_named name w.history)
 
 -- what a told outcome carries fits room for the most that its event's carries

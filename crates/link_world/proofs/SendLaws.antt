@@ -4,6 +4,7 @@ use Rattle.std.proofs.lemmas.List.{take-append-le, take-take}
 use Rattle.book_base.specs.declared.end.End.{End}
 use Rattle.ao_check.proofs.KeyLaws.{same_row}
 use Rattle.book_keys.specs.Rows.{Row}
+use Rattle.book_link.specs.declared.event.Event.TheVariants.{At}
 use Rattle.book_link.specs.Outcomes as book
 use Rattle.book_link.specs.Steps.{Stepped, step}
 use Rattle.book_link.specs.Worlds.{Setup, World, Made, Happening, Making, pair_of, segments, side as side_of}
@@ -28,14 +29,14 @@ use Rattle.link_world.proofs.WholeLaws.{HasRow, sent_made, sent_row}
 abbrev pub Sends : Bool → Side → Side → List ℕ → List ℕ → Option Emission → Type 0
 Sends again before after bytes out told =
     (setup : Setup) (w : World) (e : End) → pair_of setup e ≡ before.pair → StandsSide before (side_of w e)
-    → HasSent w (step setup w (sending again e)) again e after bytes out told
+    → HasSent w (step setup w (At e (sending again))) again e after bytes out told
 
 -- nothing was made
 pub sent_none : (again : Bool) (e : End) (before after : Side) (old new : Log) (bytes out : List ℕ) (told : Option Emission) (x : book.Outcome) (o : Outcome)
     → after.pair ≡ before.pair → made_count new ≡ made_count old → forgery_count new ≡ forgery_count old
     → ((history : List Happening) → StandsLog old history → StandsLog new history) → Sends again before after bytes out told
-    → ((setup : Setup) (w : World) → HasSent w (step setup w (sending again e)) again e after bytes out told → IsQuiet w (step setup w (sending again e)) bytes out x)
-    → Shows o x → HasStepped e before after old new (by_event (sending again e)) o
+    → ((setup : Setup) (w : World) → HasSent w (step setup w (At e (sending again))) again e after bytes out told → IsQuiet w (step setup w (At e (sending again))) bytes out x)
+    → Shows o x → HasStepped e before after old new (by_event (At e (sending again))) o
 sent_none again e before after old new bytes out told x o pair made forged logs sends quiet shows =
     record {
       pair = pair;
@@ -80,7 +81,7 @@ pub sent_some : (again : Bool) (e : End) (before after : Side) (old kept new : L
     → ((history : List Happening) → StandsLog old history → StandsLog kept history) → Sends again before after bytes out (Some (emissions.Segment told))
     → ((w : World) (made : Made) → IsSent w again e after bytes out told made → (history : List Happening) → StandsLog kept history
     → made.name ≡ suc (segments history) → StandsLog new (Making made ∷ history))
-    → name ≡ made_count kept + 1 → HasStepped e before after old new (by_event (sending again e)) (outcome.Sent name told)
+    → name ≡ made_count kept + 1 → HasStepped e before after old new (by_event (At e (sending again))) (outcome.Sent name told)
 sent_some again e before after old kept new bytes out told name pair reserved made forged logs sends push is =
     record {
       pair = pair;

@@ -1,5 +1,5 @@
 -- A world that goes on by one event.
-use Rattle.std.proofs.Common.{◌≡◌, ◌+◌, ◌-◌, ◌≤◌, ◌<◌, ℕ, suc, true, List, [], ◌∷◌, ◌++◌, length, get_or, Option, Some, None, Result, Ok, Err, OnErr, refl, sym, ap, ◌∙◌, subst, arith}
+use Rattle.std.proofs.Common.{◌≡◌, ◌+◌, ◌-◌, ◌≤◌, ◌<◌, ℕ, suc, true, List, [], ◌∷◌, ◌++◌, length, get_or, Option, Some, None, Result, Ok, Err, IfOk, OnErr, refl, sym, ap, ◌∙◌, subst, arith}
 use Rattle.std.specs.List.{AllByRecursion}
 use Rattle.std.specs.declared.alloc.AllocError.{AllocError}
 use Rattle.book_base.specs.declared.address.Address.{Address}
@@ -10,10 +10,11 @@ use Rattle.book_keys.specs.Rows.{Row}
 use Rattle.key_table.specs.Ranges.{FitsColumns}
 use Rattle.book_segments.specs.Sockets.{are_two_of_a_family}
 use Rattle.book_link.specs.declared.event.Event.{Event}
+use Rattle.book_link.specs.declared.event.Event.TheVariants.{Dump}
 use Rattle.book_link.specs.Outcomes as book
 use Rattle.book_link.specs.Runs.{begins, empty, outcomes_from, run}
-use Rattle.book_link.specs.Steps.{Stepped, step}
-use Rattle.book_link.specs.Worlds.{Setup, World as Both, pair_of, first_rows}
+use Rattle.book_link.specs.Steps.{Stepped, image_of, step}
+use Rattle.book_link.specs.Worlds.{Happening, Setup, World as Both, pair_of, first_rows, segment_named}
 use Rattle.link_log.specs.declared.log.Log.{Log}
 use Rattle.link_log.specs.Logs.{StandsLog}
 use Rattle.link_report.specs.declared.outcome.Outcome.{Outcome}
@@ -122,6 +123,19 @@ pub happens_b : (a b b' : Side) (old new : Log) (s : Setup → Both → Stepped)
 happens_b a b b' old new s r e is h = acts_b a b b' old new s r (subst (λ (x : End). Acts x b b' old new s r) is h)
 
 -- ---- the link
+
+-- to show a segment moves nothing, and memory may run out
+pub looks : (a b : Side) (log : Log) (name : ℕ) (r : Result Outcome AllocError)
+    → IfOk r (λ told. (history : List Happening) → StandsLog log history → Shows told (image_of (segment_named name history)))
+    → Happens a b a b log log (by_event (Dump name)) r
+looks a b log name (Ok told) h =
+    record {
+      made = omega arith;
+      forged = omega arith;
+      stands = λ setup w l. l;
+      shows = λ setup w l. h w.history l.log_is;
+    }
+looks a b log name (Err error) h = record { made = refl; forged = refl; stands = λ setup w l. l }
 
 -- after an event the ends and the log are still those of a link
 pub moved_of : (a b a' b' : Side) (old new : Log) (event : Event) (o : Outcome) → Moves a b a' b' old new (by_event event) o → AreOfLink a b old → AreOfLink a' b' new

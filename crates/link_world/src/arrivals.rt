@@ -1,7 +1,8 @@
 //! The events by which a datagram comes to an end.
 ghost use Rattle.std.specs.Prelude.{◌≡◌, ◌<◌, ◌≤◌, ◌+◌, List, length, Ok};
 ghost use Rattle.std.specs.Option.{ForSome};
-ghost use Rattle.book_link.specs.declared.event.Event.TheVariants.{Alter, Deliver};
+ghost use Rattle.book_link.specs.declared.event.Event.TheVariants.{At};
+ghost use Rattle.book_link.specs.declared.event.Action.TheVariants.{Alter, Deliver};
 ghost use Rattle.book_link.specs.Worlds.{Happening, Setup, World};
 ghost use Rattle.link_log.specs.Logs.{StandsLog, forgery_count, made_count};
 ghost use Rattle.link_world.specs.Changes.{Acts, by_bytes, by_event};
@@ -120,7 +121,7 @@ pub(crate) fn inject(
 pub(crate) fn deliver(side: &mut Side, log: &mut Log, at: End, name: u32) -> Outcome
     requires at { ∥ AreOfEnd at side.old log.old ∥₁ }
     requires forged { forgery_count log.old < 4294967295 }
-    ensures { Acts at side.old side.new log.old log.new (by_event (Deliver at name)) (Ok result) }
+    ensures { Acts at side.old side.new log.old log.new (by_event (At at (Deliver name))) (Ok result) }
 {
     match log.segment(name) {
         None => Outcome::NoSegment,
@@ -143,7 +144,7 @@ pub(crate) fn alter(
 ) -> Result<Outcome, AllocError>
     requires at { ∥ AreOfEnd at side.old log.old ∥₁ }
     requires forged { forgery_count log.old < 4294967295 }
-    ensures { Acts at side.old side.new log.old log.new (by_event (Alter at name change.place change.mask change.fix)) result }
+    ensures { Acts at side.old side.new log.old log.new (by_event (At at (Alter name change.place change.mask change.fix))) result }
 {
     match log.segment(name) {
         None => Ok(Outcome::NoSegment),

@@ -10,7 +10,7 @@ ghost use Rattle.link_world.specs.Events.{CanHappen};
 ghost use Rattle.link_world.specs.Ranges.{IsPlace, SocketsFit};
 
 use book_base::{Address, Socket};
-use book_link::{Event, RowLine};
+use book_link::{Action, Event, RowLine};
 use key_table::Table;
 
 fn see_byte(byte: u8)
@@ -70,28 +70,28 @@ pub(crate) fn see_event(event: &Event)
     ensures { EventFits event.now }
 {
     match event {
-        Event::Clock(_, _) => {}
-        Event::Connect(_, isn) => {
+        Event::At(_, Action::Clock(_)) => {}
+        Event::At(_, Action::Connect(isn)) => {
             let _isn = *isn;
         }
-        Event::Listen(_, isn) => {
+        Event::At(_, Action::Listen(isn)) => {
             let _isn = *isn;
         }
-        Event::Start(_, isn, peer) => {
+        Event::At(_, Action::Start(isn, peer)) => {
             let _isns = (*isn, *peer);
         }
-        Event::Give(_, piece) => see_bytes(piece.as_slice()),
-        Event::Fill(_, _, byte) => see_byte(*byte),
-        Event::Send(_) => {}
-        Event::Resend(_) => {}
-        Event::Deliver(_, _) => {}
-        Event::Inject(_, bytes) => see_bytes(bytes.as_slice()),
-        Event::Alter(_, _, _, mask, _) => see_byte(*mask),
-        Event::Take(_, _) => {}
-        Event::Close(_) => {}
-        Event::Abort(_) => {}
-        Event::AddRow(_, row) => see_row(row),
-        Event::Withdraw(_, _) => {}
+        Event::At(_, Action::Give(piece)) => see_bytes(piece.as_slice()),
+        Event::At(_, Action::Fill(_, byte)) => see_byte(*byte),
+        Event::At(_, Action::Send) => {}
+        Event::At(_, Action::Resend) => {}
+        Event::At(_, Action::Deliver(_)) => {}
+        Event::At(_, Action::Inject(bytes)) => see_bytes(bytes.as_slice()),
+        Event::At(_, Action::Alter(_, _, mask, _)) => see_byte(*mask),
+        Event::At(_, Action::Take(_)) => {}
+        Event::At(_, Action::Close) => {}
+        Event::At(_, Action::Abort) => {}
+        Event::At(_, Action::AddRow(row)) => see_row(row),
+        Event::At(_, Action::Withdraw(_)) => {}
         Event::Dump(_) => {}
     }
 }

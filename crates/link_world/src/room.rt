@@ -4,7 +4,7 @@ ghost use Rattle.book_link.specs.Worlds.{Happening};
 ghost use Rattle.link_log.specs.Logs.{StandsLog};
 ghost use Rattle.link_world.specs.Events.{most_content};
 
-use book_link::Event;
+use book_link::{Action, Event};
 use link_log::Log;
 use std::alloc::{AllocError, Global};
 
@@ -13,7 +13,7 @@ fn most_content(log: &Log, event: &Event) -> usize
     ensures { (history : List Happening) → StandsLog log.now history → result ≡ most_content event.now history }
 {
     match event {
-        Event::Take(_, count) => usize::from(*count),
+        Event::At(_, Action::Take(count)) => usize::from(*count),
         Event::Dump(name) => match log.segment(*name) {
             Some(entry) => entry.bytes.as_slice().len(),
             None => 0,

@@ -2,6 +2,7 @@
 ghost use Rattle.std.specs.Prelude.{◌≡◌, ◌<◌, ◌≤◌, length};
 ghost use Rattle.book_base.specs.declared.end.End.{End};
 ghost use Rattle.link_log.specs.Logs.{made_count};
+ghost use Rattle.book_link.specs.declared.event.Event.TheVariants.{At};
 ghost use Rattle.book_link.specs.Steps.{step};
 ghost use Rattle.book_link.specs.Worlds.{Setup, World, pair_of, side as side_of};
 ghost use Rattle.link_report.specs.Outcomes.{Shows};
@@ -47,7 +48,7 @@ fn send_counted<L: Ledger>(
     requires room { 1500 ≤ length out.old }
     ensures pair { side.new.pair ≡ side.old.pair }
     ensures sent { (setup : Setup) (w : World) (e : End) → pair_of setup e ≡ side.old.pair → StandsSide side.old (side_of w e)
-        → HasSent w (step setup w (sending again e)) again e side.new out.old out.new result }
+        → HasSent w (step setup w (At e (sending again))) again e side.new out.old out.new result }
     ensures short { length_sent result ≤ 1500 }
 {
     let mut steps = Steps::<L>::new(blank);
@@ -65,7 +66,7 @@ pub(crate) fn send(
 ) -> Result<Outcome, AllocError>
     requires at { ∥ AreOfEnd at side.old log.old ∥₁ }
     requires made { made_count log.old < 4294967295 }
-    ensures { Acts at side.old side.new log.old log.new (by_event (sending again at)) result }
+    ensures { Acts at side.old side.new log.old log.new (by_event (At at (sending again))) result }
 {
     log.reserve(alloc)?;
     let mut bytes = Vec::new(alloc);

@@ -6,7 +6,7 @@ use crate::event_lines::EventLines;
 use crate::report_lines::ReportLines;
 use ao_base::push_decimal;
 use book_base::Bytes;
-use book_link::Event;
+use book_link::{Action, Event};
 use scope_texts::push_instant;
 use std::alloc::{AllocError, Global};
 use text_lines::{push_end, push_newline};
@@ -27,7 +27,7 @@ fn push_event(out: &mut Vec<u8>, number: u64, line: &[u8]) -> Result<(), AllocEr
 fn push_clock(out: &mut Vec<u8>, event: &Event) -> Result<(), AllocError>
     ensures { OnOk result (out.new.items ≡ out.old.items ++ clock_echo event.now) }
 {
-    if let Event::Clock(end, seconds) = event {
+    if let Event::At(end, Action::Clock(seconds)) = event {
         out.extend_from_slice(b"   the clock of")?;
         push_end(out, *end)?;
         out.extend_from_slice(b" is ")?;
