@@ -23,7 +23,8 @@ use Rattle.book_link.specs.Outcomes.{Outcome, Done, Sent, Answered, Took, Image,
 use Rattle.book_link.specs.Outcomes.{NoSession, NoSegment, NoPlace, Full, HasClosed, WithoutKey}
 use Rattle.book_link.specs.Outcomes.{Idle, Nothing, TooManyRows, OverlapWith, NoRow}
 use Rattle.book_link.specs.RowLines.{added_row}
-use Rattle.book_link.specs.Worlds.{Setup, pair_of, Session, LinkSide, Made, Happening, Making, Coming}
+use Rattle.book_link.specs.Worlds.{Setup, pair_of, Session, LinkSide, Made, Happening, Making}
+use Rattle.book_link.specs.Worlds.{Coming}
 use Rattle.book_link.specs.Worlds.{World, side, find, segments, segment_named}
 
 -- the world after an event, and the event's outcome (own)
@@ -108,9 +109,9 @@ begin_new w e s = begin w e s (find (side w e).sessions s.isn)
 abbrev pub given : List ℕ → EndState → Act
 given piece s = offered quietly (record { closed = HasClosed; full = Full; done = Done }) piece s
 
--- what an end has in view when it acts: which of the two it is, its pair, its clock, its table as it
--- is now, and the name that the next segment gets, the numbers from 1 on; nothing of the other end
--- (own)
+-- what an end has in view when it acts: which of the two it is, its pair, its clock, its table as
+-- it is now, and the name that the next segment gets, the numbers from 1 on; nothing of the other
+-- end (own)
 pub record View : Type 0 where
   pub at : End
   pub pair : Pair
