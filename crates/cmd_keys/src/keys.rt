@@ -37,15 +37,14 @@ fn yes_or_no(holds: bool) -> &'static [u8]
 fn is_sending(row: &Row, time: u64) -> bool
     ensures { result ≡ (sends row.now.direction && contains row.now.sending time) }
 {
-    matches!(row.direction(), Direction::Send | Direction::Both) && row.sending().contains(time)
+    row.direction().sends() && row.sending().contains(time)
 }
 
 /// Whether the row accepts at the time, whatever the pair.
 fn is_accepting(row: &Row, time: u64) -> bool
     ensures { result ≡ (receives row.now.direction && contains row.now.accepting time) }
 {
-    matches!(row.direction(), Direction::Receive | Direction::Both)
-        && row.accepting().contains(time)
+    row.direction().receives() && row.accepting().contains(time)
 }
 
 /// The ids, the algorithm and the direction of a row.

@@ -13,11 +13,9 @@ use crate::plans::Plan;
 use crate::sequence::SequenceState;
 use book_base::Algorithm;
 use segment_writer::own_mss;
+use tcp_options::AO_HEAD;
 use tcp_segment::Flag;
 use wrap_seq::Counter;
-
-/// The length of the TCP-AO option without its MAC (RFC 5925, section 2.2).
-const AO_HEAD: u64 = 4;
 
 /// What a planned segment is made of: its number, and which bytes of the queue it carries.
 #[derive(Clone, Copy)]
@@ -68,7 +66,7 @@ impl Endpoint {
         ensures small { result + (4 + mac_length_of algorithm) ≤ own_mss self.now.pair.local.address }
     {
         let least = own_mss(&self.pair.local.address).min(self.mss);
-        u64::from(least).saturating_sub(AO_HEAD + u64::from(algorithm.mac_length()))
+        u64::from(least).saturating_sub(u64::from(AO_HEAD) + u64::from(algorithm.mac_length()))
     }
 
     /// What a planned segment is made of, with at most so many bytes.
