@@ -1,11 +1,10 @@
 -- Findings put behind others, part by part.
-use Rattle.std.proofs.Common.{◌≡◌, ℕ, Bool, true, false, List, [], ◌∷◌, ◌++◌, Option, Some, Result, Ok, Err, ap, ◌∙◌, append_assoc, length, ◌&&◌, if◌then◌else◌}
-use Rattle.std.specs.Prelude.{OnOk, is_ok, nat_le, codes}
+use Rattle.std.proofs.Common.{◌≡◌, ℕ, Bool, true, false, List, [], ◌∷◌, ◌++◌, Option, Some, Result, Ok, Err, ap, ◌∙◌, append_assoc, length, ◌&&◌}
+use Rattle.std.specs.Prelude.{OnOk, nat_le, codes}
 use Rattle.toml.specs.Data.{Data, array}
 use Rattle.toml.specs.View.{items_view}
 use Rattle.toml.specs.declared.value.Value.{Value}
 use Rattle.key_table.proofs.ItemLaws.{count_view}
-use Rattle.book_keys.specs.Columns.{count}
 use Rattle.book_scope_keys.specs.declared.finding.KeyFinding.{KeyFinding}
 use Rattle.book_scope_keys.specs.declared.finding.KeyPlace.{KeyPlace}
 use Rattle.book_scope_keys.specs.FieldTexts.{finding_at}

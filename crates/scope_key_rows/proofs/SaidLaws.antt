@@ -1,5 +1,5 @@
 -- Texts put behind others, one after the other.
-use Rattle.std.proofs.Common.{◌≡◌, ℕ, List, ◌++◌, Result, Ok, Err, ap, ◌∙◌, if◌then◌else◌, append_assoc}
+use Rattle.std.proofs.Common.{◌≡◌, ℕ, List, ◌++◌, Result, Ok, Err, ◌∙◌, if◌then◌else◌, append_assoc}
 use Rattle.std.specs.Prelude.{OnOk, is_ok}
 
 -- four texts, unless memory ran out for the last

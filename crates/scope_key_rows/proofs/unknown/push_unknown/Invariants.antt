@@ -1,7 +1,6 @@
 use Rattle.std.proofs.Common.{◌≡◌, ◌++◌, map, string_bytes}
-use Rattle.std.specs.Prelude.{flat_map}
 use Rattle.toml.specs.View.{table_view}
-use Rattle.book_scope_keys.specs.RowFindings.{key_finding, keys_in, unknown_findings}
+use Rattle.book_scope_keys.specs.RowFindings.{keys_in, unknown_findings}
 use Rattle.scope_key_rows.proofs.unknown.push_unknown.Given as goal
 
 abbrev pub invariant-loop-key : goal.invariant-loop-key
