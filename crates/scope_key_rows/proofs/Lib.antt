@@ -1,2 +1,4 @@
+pub mod FindingLaws
+pub mod KeyLaws
 pub mod SaidLaws
 pub mod WalkLaws

@@ -12,7 +12,7 @@ use key_table::read_time;
 use toml::{Table, Value};
 
 /// Whether AdminKeyName is a text of 1 to 255 bytes.
-pub fn is_admin_at(table: &Table) -> bool
+pub(crate) fn is_admin_at(table: &Table) -> bool
     ensures { result ≡ is_admin (text_of (codes "AdminKeyName") (table_view table.now)) }
 {
     match text_at(table, "AdminKeyName") {
@@ -31,7 +31,7 @@ fn is_id(text: &str) -> bool
 }
 
 /// Whether the text at a key writes a KeyID.
-pub fn is_id_at(table: &Table, key: &str) -> bool
+pub(crate) fn is_id_at(table: &Table, key: &str) -> bool
     ensures { result ≡ is_some (option_and_then id_of_text (text_of key.now (table_view table.now))) }
 {
     match text_at(table, key) {
@@ -60,7 +60,7 @@ pub(crate) fn is_peer(value: &Value) -> bool
 }
 
 /// Whether Interfaces is absent, or all.
-pub fn is_everywhere(table: &Table) -> bool
+pub(crate) fn is_everywhere(table: &Table) -> bool
     ensures { result ≡ is_absent_or (codes "all") (get_member (codes "Interfaces") (table_view table.now)) }
 {
     match member_at(table, "Interfaces") {
@@ -83,7 +83,7 @@ fn is_options_flag(text: &str) -> bool
 }
 
 /// Whether ProtocolSpecificInfo says whether the MAC covers the options.
-pub fn is_options_at(table: &Table) -> bool
+pub(crate) fn is_options_at(table: &Table) -> bool
     ensures { result ≡ is_some (option_and_then options_flag_of (text_of (codes "ProtocolSpecificInfo") (table_view table.now))) }
 {
     match text_at(table, "ProtocolSpecificInfo") {
@@ -107,7 +107,7 @@ fn read_kdf(text: &str) -> Option<Algorithm>
 }
 
 /// The algorithm to which the function that KDF names belongs.
-pub fn kdf_at(table: &Table) -> Option<Algorithm>
+pub(crate) fn kdf_at(table: &Table) -> Option<Algorithm>
     ensures { result ≡ option_and_then kdf_of (text_of (codes "KDF") (table_view table.now)) }
 {
     match text_at(table, "KDF") {
@@ -132,7 +132,7 @@ fn is_direction(text: &str) -> bool
 }
 
 /// Whether Direction names a direction.
-pub fn is_direction_at(table: &Table) -> bool
+pub(crate) fn is_direction_at(table: &Table) -> bool
     ensures { result ≡ is_some (option_and_then direction_of (text_of (codes "Direction") (table_view table.now))) }
 {
     match text_at(table, "Direction") {
@@ -152,7 +152,7 @@ fn time_of(value: &Value) -> Option<u64>
 
 /// The time that the text at a key writes, in seconds since 1970, or what stands for an absent one; `None`
 /// exactly where a value stands there that writes none.
-pub fn time_at(table: &Table, key: &str, absent: u64) -> Option<u64>
+pub(crate) fn time_at(table: &Table, key: &str, absent: u64) -> Option<u64>
     ensures { result ≡ time_or absent (get_member key.now (table_view table.now)) }
 {
     match member_at(table, key) {
@@ -180,7 +180,7 @@ fn is_port(value: &Value) -> bool
 }
 
 /// Whether no value stands at a key, or one that writes a port.
-pub fn is_port_at(table: &Table, key: &str) -> bool
+pub(crate) fn is_port_at(table: &Table, key: &str) -> bool
     ensures { result ≡ is_some (port_of (get_member key.now (table_view table.now))) }
 {
     match member_at(table, key) {

@@ -1,7 +1,10 @@
 //! What is found in the peers of a row.
-ghost use Rattle.std.specs.Prelude.{◌≡◌, ◌++◌, OnOk};
+ghost use Rattle.std.specs.Prelude.{◌≡◌, ◌++◌, ◌∷◌, ◌&&◌, [], OnOk, Some, codes, length, nat_le, option_map};
+ghost use Rattle.toml.specs.Data.{array};
 ghost use Rattle.toml.specs.View.{items_view, view};
-ghost use Rattle.book_scope_keys.specs.RowFindings.{count_said, each_peer_finding, peer_finding};
+ghost use Rattle.book_keys.specs.Rows.{peer_limit};
+ghost use Rattle.book_scope_keys.specs.FieldTexts.{field_said, finding_at};
+ghost use Rattle.book_scope_keys.specs.RowFindings.{count_said, each_peer_finding, peer_finding, peers_findings, peers_wanted};
 
 use crate::field::push_finding;
 use crate::forms::is_peer;
@@ -44,7 +47,7 @@ fn push_peer(
 }
 
 /// Puts the values of an array that are no peers behind the findings. An error only for want of memory.
-pub fn push_each_peer(
+fn push_each_peer(
     findings: &mut Vec<KeyFinding>,
     place: &KeyPlace,
     values: &[Value],
@@ -55,4 +58,68 @@ pub fn push_each_peer(
         push_peer(findings, place, value)?;
     }
     Ok(())
+}
+
+fn are_few(values: &[Value]) -> bool
+    ensures { result ≡ (nat_le 1 (length values.now) && nat_le (length values.now) peer_limit) }
+{
+    values.len() >= 1 && values.len() <= 16
+}
+
+/// That an array has too few or too many items.
+fn push_peer_count(
+    findings: &mut Vec<KeyFinding>,
+    place: &KeyPlace,
+    values: &[Value],
+) -> Result<(), AllocError>
+    ensures { OnOk result (findings.new.items ≡ findings.old.items ++ finding_at place.now (codes "Peers") (count_said (length values.now) peers_wanted) ∷ []) }
+{
+    let mut said = Vec::new(*findings.allocator());
+    push_count_said(&mut said, values.len(), WANTED)?;
+    push_finding(findings, place, b"Peers", said.as_slice())
+}
+
+/// An array of values, of which there are to be 1 to 16.
+fn push_peer_array(
+    findings: &mut Vec<KeyFinding>,
+    place: &KeyPlace,
+    values: &[Value],
+) -> Result<(), AllocError>
+    ensures { OnOk result (findings.new.items ≡ findings.old.items ++ peers_findings place.now (Some (array (items_view values.now)))) }
+{
+    if are_few(values) {
+        return push_each_peer(findings, place, values);
+    }
+    push_peer_count(findings, place, values)
+}
+
+/// No array, or nothing.
+fn push_no_peers(
+    findings: &mut Vec<KeyFinding>,
+    place: &KeyPlace,
+    value: Option<&Value>,
+) -> Result<(), AllocError>
+    ensures { OnOk result (findings.new.items ≡ findings.old.items ++ finding_at place.now (codes "Peers") (field_said (option_map (λ v. view v.now) value.entry) [] peers_wanted) ∷ []) }
+{
+    let mut said = Vec::new(*findings.allocator());
+    push_field_said(&mut said, value, b"", WANTED)?;
+    push_finding(findings, place, b"Peers", said.as_slice())
+}
+
+/// Puts what is found in Peers behind the findings. An error only for want of memory.
+#[tactic(auto, unfolding(book_scope_keys::specs::RowFindings::peers_findings))]
+pub(crate) fn push_peers(
+    findings: &mut Vec<KeyFinding>,
+    place: &KeyPlace,
+    value: Option<&Value>,
+) -> Result<(), AllocError>
+    ensures { OnOk result (findings.new.items ≡ findings.old.items ++ peers_findings place.now (option_map (λ v. view v.now) value.entry)) }
+{
+    match value {
+        Some(value) => match value.as_array() {
+            Some(values) => push_peer_array(findings, place, values.as_slice()),
+            None => push_no_peers(findings, place, Some(value)),
+        },
+        None => push_no_peers(findings, place, None),
+    }
 }

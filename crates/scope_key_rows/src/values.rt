@@ -32,7 +32,7 @@ pub(crate) fn is_text(text: &str, word: &str) -> bool
 }
 
 /// Whether the text at a key is this word.
-pub fn is_word_at(table: &Table, key: &str, word: &[u8]) -> bool
+pub(crate) fn is_word_at(table: &Table, key: &str, word: &[u8]) -> bool
     ensures { result ≡ is_word word.now (text_of key.now (table_view table.now)) }
 {
     match text_at(table, key) {

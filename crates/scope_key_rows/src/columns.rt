@@ -1,0 +1,222 @@
+//! What is found in the columns that say whose key a row has, and how it is used.
+ghost use Rattle.std.specs.Prelude.{◌≡◌, ◌++◌, [], OnOk, codes, is_some, option_and_then};
+ghost use Rattle.toml.specs.Data.{get_member};
+ghost use Rattle.toml.specs.View.{table_view};
+ghost use Rattle.book_keys.specs.Columns.{is_absent_or, is_admin, is_word, kdf_of, options_flag_of, text_of};
+ghost use Rattle.book_scope_keys.specs.RowFindings.{alg_id_findings, algorithm_findings, algorithm_wanted, field_at, field_unless, id_findings, is_algorithm_with, name_findings, port_findings, protocol_findings};
+
+use crate::field::{field_at, push_unless};
+use crate::forms::{is_admin_at, is_everywhere, is_id_at, is_options_at, is_port_at, kdf_at};
+use crate::values::{is_word_at, text_at};
+use book_base::Algorithm;
+use book_scope_keys::{KeyFinding, KeyPlace};
+use std::alloc::AllocError;
+use toml::Table;
+
+#[tactic(auto, unfolding(book_scope_keys::specs::RowFindings::id_findings))]
+fn push_id(
+    findings: &mut Vec<KeyFinding>,
+    place: &KeyPlace,
+    key: &str,
+    table: &Table,
+) -> Result<(), AllocError>
+    ensures { OnOk result (findings.new.items ≡ findings.old.items ++ id_findings place.now key.now (table_view table.now)) }
+{
+    push_unless(
+        findings,
+        is_id_at(table, key),
+        field_at(place, key, table),
+        b"",
+        b"a KeyID, a text from \"0\" to \"255\"",
+    )
+}
+
+fn push_admin(
+    findings: &mut Vec<KeyFinding>,
+    place: &KeyPlace,
+    table: &Table,
+) -> Result<(), AllocError>
+    ensures { OnOk result (findings.new.items ≡ findings.old.items ++ field_unless (is_admin (text_of (codes "AdminKeyName") (table_view table.now))) (field_at place.now (codes "AdminKeyName") (table_view table.now)) [] (codes "a text of 1 to 255 bytes")) }
+{
+    push_unless(
+        findings,
+        is_admin_at(table),
+        field_at(place, "AdminKeyName", table),
+        b"",
+        b"a text of 1 to 255 bytes",
+    )
+}
+
+/// AdminKeyName, LocalKeyName and PeerKeyName.
+#[tactic(auto, unfolding(book_scope_keys::specs::RowFindings::name_findings))]
+pub(crate) fn push_names(
+    findings: &mut Vec<KeyFinding>,
+    place: &KeyPlace,
+    table: &Table,
+) -> Result<(), AllocError>
+    ensures { OnOk result (findings.new.items ≡ findings.old.items ++ name_findings place.now (table_view table.now)) }
+{
+    push_admin(findings, place, table)?;
+    push_id(findings, place, "LocalKeyName", table)?;
+    push_id(findings, place, "PeerKeyName", table)
+}
+
+fn push_interfaces(
+    findings: &mut Vec<KeyFinding>,
+    place: &KeyPlace,
+    table: &Table,
+) -> Result<(), AllocError>
+    ensures { OnOk result (findings.new.items ≡ findings.old.items ++ field_unless (is_absent_or (codes "all") (get_member (codes "Interfaces") (table_view table.now))) (field_at place.now (codes "Interfaces") (table_view table.now)) [] (codes "\"all\", or no such field")) }
+{
+    push_unless(
+        findings,
+        is_everywhere(table),
+        field_at(place, "Interfaces", table),
+        b"",
+        b"\"all\", or no such field",
+    )
+}
+
+fn push_protocol_name(
+    findings: &mut Vec<KeyFinding>,
+    place: &KeyPlace,
+    table: &Table,
+) -> Result<(), AllocError>
+    ensures { OnOk result (findings.new.items ≡ findings.old.items ++ field_unless (is_word (codes "TCP-AO") (text_of (codes "Protocol") (table_view table.now))) (field_at place.now (codes "Protocol") (table_view table.now)) [] (codes "\"TCP-AO\"")) }
+{
+    push_unless(
+        findings,
+        is_word_at(table, "Protocol", b"TCP-AO"),
+        field_at(place, "Protocol", table),
+        b"",
+        b"\"TCP-AO\"",
+    )
+}
+
+fn push_options(
+    findings: &mut Vec<KeyFinding>,
+    place: &KeyPlace,
+    table: &Table,
+) -> Result<(), AllocError>
+    ensures { OnOk result (findings.new.items ≡ findings.old.items ++ field_unless (is_some (option_and_then options_flag_of (text_of (codes "ProtocolSpecificInfo") (table_view table.now)))) (field_at place.now (codes "ProtocolSpecificInfo") (table_view table.now)) [] (codes "\"options\" or \"no-options\"")) }
+{
+    push_unless(
+        findings,
+        is_options_at(table),
+        field_at(place, "ProtocolSpecificInfo", table),
+        b"",
+        b"\"options\" or \"no-options\"",
+    )
+}
+
+/// Interfaces, Protocol and ProtocolSpecificInfo.
+#[tactic(auto, unfolding(book_scope_keys::specs::RowFindings::protocol_findings))]
+pub(crate) fn push_protocol(
+    findings: &mut Vec<KeyFinding>,
+    place: &KeyPlace,
+    table: &Table,
+) -> Result<(), AllocError>
+    ensures { OnOk result (findings.new.items ≡ findings.old.items ++ protocol_findings place.now (table_view table.now)) }
+{
+    push_interfaces(findings, place, table)?;
+    push_protocol_name(findings, place, table)?;
+    push_options(findings, place, table)
+}
+
+/// Whether AlgID names the algorithm to which the key derivation function belongs, or any where that isn't
+/// known.
+fn is_algorithm_at(table: &Table, kdf: Option<Algorithm>) -> bool
+    ensures { result ≡ is_algorithm_with kdf (text_of (codes "AlgID") (table_view table.now)) }
+{
+    match kdf {
+        Some(algorithm) => is_word_at(table, "AlgID", algorithm.name()),
+        None => match text_at(table, "AlgID") {
+            Some(text) => Algorithm::named(text.as_bytes()).is_some(),
+            None => false,
+        },
+    }
+}
+
+#[tactic(auto, unfolding(book_scope_keys::specs::RowFindings::algorithm_wanted))]
+fn push_algorithm_wanted(out: &mut Vec<u8>, kdf: Option<Algorithm>) -> Result<(), AllocError>
+    ensures { OnOk result (out.new.items ≡ out.old.items ++ algorithm_wanted kdf) }
+{
+    match kdf {
+        Some(algorithm) => {
+            out.extend_from_slice(b"\"")?;
+            out.extend_from_slice(algorithm.name())?;
+            out.extend_from_slice(b"\", which goes with this KDF")
+        }
+        None => out.extend_from_slice(
+            b"\"HMAC-SHA-1-96\", \"AES-128-CMAC-96\" or \"HMAC-SHA-256-128\"",
+        ),
+    }
+}
+
+#[tactic(auto, unfolding(book_scope_keys::specs::RowFindings::alg_id_findings))]
+fn push_alg_id(
+    findings: &mut Vec<KeyFinding>,
+    place: &KeyPlace,
+    kdf: Option<Algorithm>,
+    table: &Table,
+) -> Result<(), AllocError>
+    ensures { OnOk result (findings.new.items ≡ findings.old.items ++ alg_id_findings place.now kdf (table_view table.now)) }
+{
+    let mut wanted = Vec::new(*findings.allocator());
+    push_algorithm_wanted(&mut wanted, kdf)?;
+    push_unless(
+        findings,
+        is_algorithm_at(table, kdf),
+        field_at(place, "AlgID", table),
+        b"",
+        wanted.as_slice(),
+    )
+}
+
+fn push_kdf(
+    findings: &mut Vec<KeyFinding>,
+    place: &KeyPlace,
+    table: &Table,
+) -> Result<(), AllocError>
+    ensures { OnOk result (findings.new.items ≡ findings.old.items ++ field_unless (is_some (option_and_then kdf_of (text_of (codes "KDF") (table_view table.now)))) (field_at place.now (codes "KDF") (table_view table.now)) [] (codes "\"HMAC-SHA-1\", \"AES-128-CMAC\" or \"HMAC-SHA-256\"")) }
+{
+    push_unless(
+        findings,
+        kdf_at(table).is_some(),
+        field_at(place, "KDF", table),
+        b"",
+        b"\"HMAC-SHA-1\", \"AES-128-CMAC\" or \"HMAC-SHA-256\"",
+    )
+}
+
+/// KDF and AlgID.
+#[tactic(auto, unfolding(book_scope_keys::specs::RowFindings::algorithm_findings))]
+pub(crate) fn push_algorithm(
+    findings: &mut Vec<KeyFinding>,
+    place: &KeyPlace,
+    table: &Table,
+) -> Result<(), AllocError>
+    ensures { OnOk result (findings.new.items ≡ findings.old.items ++ algorithm_findings place.now (table_view table.now)) }
+{
+    push_kdf(findings, place, table)?;
+    push_alg_id(findings, place, kdf_at(table), table)
+}
+
+/// A port.
+#[tactic(auto, unfolding(book_scope_keys::specs::RowFindings::port_findings))]
+pub(crate) fn push_port(
+    findings: &mut Vec<KeyFinding>,
+    place: &KeyPlace,
+    key: &str,
+    table: &Table,
+) -> Result<(), AllocError>
+    ensures { OnOk result (findings.new.items ≡ findings.old.items ++ port_findings place.now key.now (table_view table.now)) }
+{
+    push_unless(
+        findings,
+        is_port_at(table, key),
+        field_at(place, key, table),
+        b"",
+        b"a text from \"0\" to \"65535\", or no such field",
+    )
+}

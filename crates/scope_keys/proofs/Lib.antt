@@ -1,0 +1,3 @@
+pub mod FileLaws
+pub mod SaidLaws
+pub mod SeenLaws

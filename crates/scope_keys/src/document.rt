@@ -1,0 +1,35 @@
+//! The document that a key file is.
+ghost use Rattle.std.specs.Prelude.{◌≡◌, IfErr, IfOk, Some};
+ghost use Rattle.toml.specs.View.{table_view};
+ghost use Rattle.book_keys.specs.Nodes.{document_of};
+ghost use Rattle.scope_keys.specs.Reports.{Unreadable};
+
+use std::alloc::Global;
+use toml::Table;
+
+/// Why a text gave no document.
+#[derive(Clone, Copy, Debug)]
+pub(crate) enum Unread {
+    /// From the byte with this index on it is no TOML.
+    NotToml(usize),
+    Memory,
+}
+
+/// The document that a text is; `NotToml` exactly where it is none.
+#[tactic(auto, using(key_table::proofs::TextLaws::document_read))]
+pub(crate) fn read_document(alloc: Global, text: &[u8]) -> Result<Table, Unread>
+    ensures document { IfOk result (λ t. document_of text.now ≡ Some (table_view t)) }
+    ensures refused { IfErr result (Unreadable text.now) }
+{
+    let text = match std::str::from_utf8(text) {
+        Ok(text) => text,
+        Err(error) => return Err(Unread::NotToml(error.valid_up_to())),
+    };
+    match toml::table_from_str(alloc, text) {
+        Ok(table) => Ok(table),
+        Err(error) => match error.span() {
+            Some(span) => Err(Unread::NotToml(span.start)),
+            None => Err(Unread::Memory),
+        },
+    }
+}

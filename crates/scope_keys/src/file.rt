@@ -1,0 +1,101 @@
+//! All that is found in a file, and its lines.
+ghost use Rattle.std.specs.Prelude.{◌≡◌, ◌≤◌, ◌++◌, Err, IfOk, OnOk, flat_map, length};
+ghost use Rattle.toml.specs.View.{table_view};
+ghost use Rattle.book_scope_keys.specs.FileFindings.{field_findings, first_or_further, no_faults_line, refused_findings, row_total, syntax_line};
+ghost use Rattle.book_scope_keys.specs.Places.{key_finding_line};
+
+use crate::nodes::push_document;
+use crate::refused::push_refused;
+use ao_base::push_decimal;
+use book_scope_keys::KeyFinding;
+use key_table::{Table, TableFault, Tables};
+use scope_key_texts::{push_finding_line, push_place, text_place};
+use std::alloc::{AllocError, Global};
+
+/// All that is found in a document with this fault. An error only for want of memory.
+pub(crate) fn findings(
+    alloc: Global,
+    document: &toml::Table,
+    fault: TableFault,
+) -> Result<Vec<KeyFinding>, AllocError>
+    ensures { IfOk result (λ found. found.items ≡ first_or_further (field_findings (table_view document.now)) (refused_findings (table_view document.now) (Err fault))) }
+{
+    let mut found = Vec::new(alloc);
+    push_document(&mut found, document)?;
+    match found.as_slice() {
+        [] => refused(alloc, document, fault),
+        [_, ..] => Ok(found),
+    }
+}
+
+fn refused(
+    alloc: Global,
+    document: &toml::Table,
+    fault: TableFault,
+) -> Result<Vec<KeyFinding>, AllocError>
+    ensures { IfOk result (λ found. found.items ≡ refused_findings (table_view document.now) (Err fault)) }
+{
+    let mut found = Vec::new(alloc);
+    push_refused(&mut found, document, fault)?;
+    Ok(found)
+}
+
+/// Puts the line of each finding in a text behind `out`. Where memory runs out a part of it may stand there.
+pub(crate) fn push_lines(
+    out: &mut Vec<u8>,
+    text: &[u8],
+    findings: &[KeyFinding],
+) -> Result<(), AllocError>
+    ensures { OnOk result (out.new.items ≡ out.old.items ++ flat_map (key_finding_line text.now) findings.now) }
+{
+    for finding in findings {
+        push_finding_line(out, text, finding)?;
+    }
+    Ok(())
+}
+
+/// The line of a text that is no TOML from the byte with this index on.
+#[tactic(auto, unfolding(book_scope_keys::specs::FileFindings::syntax_line))]
+pub(crate) fn push_syntax(out: &mut Vec<u8>, at: usize, text: &[u8]) -> Result<(), AllocError>
+    requires { at ≤ length text.now }
+    ensures { OnOk result (out.new.items ≡ out.old.items ++ syntax_line at text.now) }
+{
+    push_place(out, text_place(at, text))?;
+    out.extend_from_slice(b"no TOML from here on\n")
+}
+
+fn row_count(table: &Table) -> u64
+    ensures value { result ≡ length table.now.rows }
+    ensures limit { result ≤ 64 }
+{
+    u64::from(table.rows())
+}
+
+/// How many rows the tables have.
+fn row_total(tables: &Tables) -> u64
+    ensures { result ≡ row_total tables.now }
+{
+    let mut total = 0u64;
+    for i in 0..tables.nodes() {
+        total += row_count(tables.node(i + 1));
+    }
+    total
+}
+
+fn node_total(tables: &Tables) -> u64
+    ensures { result ≡ length tables.now }
+{
+    u64::from(tables.nodes())
+}
+
+/// The line of a file without a fault.
+#[tactic(auto, unfolding(book_scope_keys::specs::FileFindings::no_faults_line))]
+pub(crate) fn push_no_faults(out: &mut Vec<u8>, tables: &Tables) -> Result<(), AllocError>
+    ensures { OnOk result (out.new.items ≡ out.old.items ++ no_faults_line tables.now) }
+{
+    out.extend_from_slice(b"no faults: ")?;
+    push_decimal(out, node_total(tables))?;
+    out.extend_from_slice(b" nodes, ")?;
+    push_decimal(out, row_total(tables))?;
+    out.extend_from_slice(b" rows\n")
+}

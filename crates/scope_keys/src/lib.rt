@@ -1,0 +1,14 @@
+//! What is wrong with a key file, told to the person who writes it: all faulty fields of all rows and nodes,
+//! each with its place in the text, its value and what is wanted.
+#![tactic(auto)]
+
+mod document;
+mod fields;
+mod file;
+mod node;
+mod nodes;
+mod refused;
+mod report;
+mod seen;
+
+pub use report::answer_keys;
