@@ -6,8 +6,9 @@
  * aotcp_output again at its deadline (aotcp_deadline). Bytes go in by aotcp_write and out by aotcp_read.
  *
  * Each call answers 0 (AOTCP_OK) for what was done, or says by its code why nothing was done; then the stack is as it
- * was, but for its clock after aotcp_input and aotcp_output. The answers are proved; what follows is not, and a caller
- * owes it:
+ * was, but for its clock after aotcp_input and aotcp_output. What a call tells through a pointer is written with AOTCP_OK
+ * alone, unless it says more. AOTCP_NO_MEMORY of aotcp_open, aotcp_listen and aotcp_add may come in place of a code that
+ * they name behind AOTCP_BAD_FAMILY or AOTCP_BAD_ROW. The answers are proved; what follows is not, and a caller owes it:
  *
  *   - A handle (struct aotcp_stack) is all zero before its first call, and only these calls touch it then: it isn't
  *     copied, nothing is written into it, and it stays on its thread, with one call at a time. aotcp_free ends it; it
@@ -218,8 +219,8 @@ struct aotcp_row {
 
 /* Makes a stack without connections for the node of this address in a key file, whose text is in memory; it holds at
  * most `most` connections, 1 to 1,024. AOTCP_BAD_MOST, AOTCP_BAD_FAMILY, AOTCP_HELD, AOTCP_BAD_KEYS with its fault,
- * AOTCP_NO_NODE or AOTCP_NO_MEMORY, in this order; then the handle is as it was. `fault` is written with
- * AOTCP_BAD_KEYS alone. */
+ * AOTCP_NO_NODE or AOTCP_NO_MEMORY, in this order: the first that holds; then the handle is as it was. `fault` is
+ * written with AOTCP_BAD_KEYS alone; it is want of memory, or the first fault of the file. */
 int aotcp_new(struct aotcp_stack *stack, const uint8_t *text, size_t length, const struct aotcp_address *node,
               uint16_t most, struct aotcp_fault *fault);
 
@@ -299,8 +300,8 @@ int aotcp_withdraw(struct aotcp_stack *stack, uint8_t number);
 
 /* Tells row `number`, from 1, of the node of this address in a key file, whose text is in memory, and its master key,
  * which stands in front of `key`, of `room` bytes, 255 at least, and has *key_length bytes. No stack is needed.
- * AOTCP_SMALL_ROOM, AOTCP_BAD_FAMILY, AOTCP_BAD_KEYS with its fault, AOTCP_NO_NODE, AOTCP_NO_ROW, in this order; then
- * only `fault` may be written, with AOTCP_BAD_KEYS. */
+ * AOTCP_SMALL_ROOM, AOTCP_BAD_FAMILY, AOTCP_BAD_KEYS with its fault, AOTCP_NO_NODE, AOTCP_NO_ROW, in this order: the
+ * first that holds; then only `fault` may be written, with AOTCP_BAD_KEYS. */
 int aotcp_row(const uint8_t *text, size_t length, const struct aotcp_address *node, uint8_t number,
               struct aotcp_row *row, uint8_t *key, size_t room, size_t *key_length, struct aotcp_fault *fault);
 

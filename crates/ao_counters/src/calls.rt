@@ -1,5 +1,5 @@
 //! The connection of a pair is called.
-ghost use Rattle.std.specs.Prelude.{length};
+ghost use Rattle.std.specs.Prelude.{◌≡◌, None, length};
 ghost use Rattle.book_cmd_node.specs.declared.node.Act.TheVariants as act;
 ghost use Rattle.book_counters.specs.Counters.{StackCounts};
 ghost use Rattle.book_stack.specs.Calls.{At};
@@ -39,8 +39,9 @@ impl CountedStack {
     /// as are ready and fit; the rest of it stays (RFC 9293, section 3.10.3). `None` exactly where the
     /// pair isn't held.
     pub fn take(&mut self, pair: &Pair, room: &mut [u8]) -> Option<Taken>
-        ensures { (s : StackState) (n : StackCounts) → Stands self.old s n
+        ensures taken { (s : StackState) (n : StackCounts) → Stands self.old s n
             → Follows self.new (At pair.now (act.Take (length room.old))) s n (IsTaken room.old room.new result) }
+        ensures untouched { result ≡ None → room.new ≡ room.old }
     {
         self.stack.take(pair, room)
     }

@@ -1,5 +1,5 @@
 //! The connection of a pair is called.
-ghost use Rattle.std.specs.Prelude.{ℕ, List, length};
+ghost use Rattle.std.specs.Prelude.{◌≡◌, ℕ, List, None, length};
 ghost use Rattle.book_cmd_node.specs.declared.node.Act.TheVariants as act;
 ghost use Rattle.book_stack.specs.Calls.{At, kept};
 ghost use Rattle.book_stack.specs.Stacks.{StackState};
@@ -57,8 +57,9 @@ impl Stack {
     /// as are ready and fit; the rest of it stays (RFC 9293, section 3.10.3). `None` exactly where the
     /// pair isn't held.
     pub fn take(&mut self, pair: &Pair, room: &mut [u8]) -> Option<Taken>
-        ensures { (s : StackState) → Stands self.old s
+        ensures taken { (s : StackState) → Stands self.old s
             → Follows self.new (At pair.now (act.Take (length room.old))) s (IsTaken room.old room.new result) }
+        ensures untouched { result ≡ None → room.new ≡ room.old }
     {
         match self.ends.take(pair, room) {
             None => None,

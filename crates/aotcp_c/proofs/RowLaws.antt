@@ -12,7 +12,7 @@ use Rattle.ao_counters.specs.declared.counted_stack.CountedStack.{CountedStack}
 use Rattle.ao_counters.specs.Answers.{AddsAs, Follows}
 use Rattle.ao_counters.specs.Stands.{Stands}
 use Rattle.aotcp_c.specs.Calls.{IsNumber}
-use Rattle.aotcp_c.specs.Codes.{added_code, code_of, no_memory}
+use Rattle.aotcp_c.specs.Codes.{added_code, code_of, no_memory, ok, overlap}
 use Rattle.aotcp_c.specs.RowShapes.{number_in}
 use Rattle.aotcp_c.proofs.AnswerLaws.{returned}
 
@@ -51,3 +51,10 @@ added_does k new s n (Err refused.Memory) before number code is so f differ = ab
 added_does k new s n (Ok m) before number code is so f differ = added_follows k new s n (Ok m) before number code is so f
 added_does k new s n (Err refused.TooMany) before number code is so f differ = added_follows k new s n (Err refused.TooMany) before number code is so f
 added_does k new s n (Err (refused.Overlap m)) before number code is so f differ = added_follows k new s n (Err (refused.Overlap m)) before number code is so f
+
+pub number_kept : (r : Result ℕ AddRefusal) (before number : ℕ) (code : ℤ) → code ≡ added_code r → number ≡ number_in r before
+    → returned code ≢ ok → returned code ≢ overlap → number ≡ before
+number_kept (Ok n) before number code is so done overlaps = absurd (done (ap returned is))
+number_kept (Err refused.Memory) before number code is so done overlaps = so
+number_kept (Err refused.TooMany) before number code is so done overlaps = so
+number_kept (Err (refused.Overlap n)) before number code is so done overlaps = absurd (overlaps (ap returned is))

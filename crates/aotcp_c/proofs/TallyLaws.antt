@@ -1,5 +1,5 @@
 -- What was counted of a connection is told, exactly where it is held.
-use Rattle.std.proofs.Common.{◌≡◌, ◌∙◌, sym, ap, refl, ℤ, pos, Bool, true, false, Option, Some, None}
+use Rattle.std.proofs.Common.{◌≡◌, ◌∙◌, sym, ap, refl, ℤ, pos, true, false, Option, Some, None}
 use Rattle.std.specs.Prelude.{is_some}
 use Rattle.book_endpoint.specs.States.{EndState}
 use Rattle.book_counters.specs.declared.tally.Tally.{Tally}

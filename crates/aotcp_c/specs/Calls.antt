@@ -93,13 +93,14 @@ abbrev pub IsIn : List ℕ → ℕ → CallAnswer → Type 0
 IsIn room n (book.Hands x) = take n room ≡ spell (handed x.segment)
 IsIn room n _ = ⊤
 
--- the next datagram is handed out, or none is due (own)
+-- the next datagram is handed out, or none is due, and the room is as it was (own)
 pub record Sends (k : CountedStack) (now : ℕ) (before after : List ℕ) (size : ℕ)
     (s : StackState) (n : StackCounts) (code : ℤ) : Type 0 where
   pub late : latest < now → Declines k s n bad_time code
   pub small : now ≤ latest → length before < 1500 → Declines k s n small_room code
   pub sends : now ≤ latest → 1500 ≤ length before
       → Follows k (book.Output now) s n (λ a. (code ≡ code_of a) × IsIn after size a)
+  pub kept : code ≢ ok → after ≡ before
 
 -- the bytes that were taken stand in front of the room (own)
 pub record AreIn (before after : List ℕ) (told : CTaken) (bytes : List ℕ)

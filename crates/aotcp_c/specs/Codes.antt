@@ -52,6 +52,10 @@ bad_row = pos 8
 abbrev pub bad_keys : ℤ
 bad_keys = pos 9
 
+-- no node of the key file has the address (own)
+abbrev pub no_node : ℤ
+no_node = pos 10
+
 -- no row has the number (own)
 abbrev pub no_row : ℤ
 no_row = pos 11
@@ -59,6 +63,10 @@ no_row = pos 11
 -- the pair isn't held (own)
 abbrev pub no_connection : ℤ
 no_connection = pos 12
+
+-- a row overlaps the new one (own)
+abbrev pub overlap : ℤ
+overlap = pos 18
 
 -- nothing is due (own)
 abbrev pub nothing : ℤ

@@ -4,4 +4,5 @@ pub mod Codes
 pub mod Shapes
 pub mod RowShapes
 pub mod Calls
+pub mod KeyFiles
 pub mod Counters

@@ -1,5 +1,5 @@
 //! What was counted is told.
-ghost use Rattle.std.specs.Prelude.{◌≡◌};
+ghost use Rattle.std.specs.Prelude.{◌≡◌, ◌≢◌};
 ghost use Rattle.book_counters.specs.Counters.{StackCounts};
 ghost use Rattle.book_stack.specs.Stacks.{StackState};
 ghost use Rattle.ao_counters.specs.Stands.{Stands};
@@ -65,7 +65,8 @@ fn told_counters(counters: Counters, seen: KeyIdsSeen) -> CCounters
 
 /// What was counted of the connection of the pair.
 fn counters(stack: &CountedStack, at: &CPair, told: &mut CCounters) -> i32
-    ensures { (s : StackState) (n : StackCounts) → Stands stack.now s n → IsTally (pair_of at.now) s n told.new result }
+    ensures told { (s : StackState) (n : StackCounts) → Stands stack.now s n → IsTally (pair_of at.now) s n told.new result }
+    ensures kept { result ≢ ok → told.new ≡ told.old }
 {
     match pair_of(at) {
         None => FAMILY,
@@ -81,7 +82,8 @@ fn counters(stack: &CountedStack, at: &CPair, told: &mut CCounters) -> i32
 
 /// What was counted of the node.
 fn node_counters(stack: &CountedStack, told: &mut CCounters) -> i32
-    ensures { (s : StackState) (n : StackCounts) → Stands stack.now s n → TellsNode s n told.new result }
+    ensures told { (s : StackState) (n : StackCounts) → Stands stack.now s n → TellsNode s n told.new result }
+    ensures kept { result ≢ ok → told.new ≡ told.old }
 {
     let seen = KeyIdsSeen {
         sent: None,
@@ -103,6 +105,7 @@ pub extern "C" fn aotcp_counters(
     ensures unchanged { content handle.new.place.value ≡ content handle.old.place.value }
     ensures told { OnStack (content handle.old.place.value) (content handle.new.place.value) result (λ p q. (s : StackState) (n : StackCounts) → Stands p s n
         → IsTally (pair_of pair.now) s n told.new result) }
+    ensures kept { result ≢ ok → told.new ≡ told.old }
 {
     match mem::replace(handle, Handle::none()).into_box(alloc) {
         Some(b) => {
@@ -124,6 +127,7 @@ pub extern "C" fn aotcp_node_counters(
     ensures unchanged { content handle.new.place.value ≡ content handle.old.place.value }
     ensures told { OnStack (content handle.old.place.value) (content handle.new.place.value) result (λ p q. (s : StackState) (n : StackCounts) → Stands p s n
         → TellsNode s n told.new result) }
+    ensures kept { result ≢ ok → told.new ≡ told.old }
 {
     match mem::replace(handle, Handle::none()).into_box(alloc) {
         Some(b) => {

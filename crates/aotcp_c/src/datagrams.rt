@@ -1,9 +1,10 @@
 //! Datagrams come and go.
-ghost use Rattle.std.specs.Prelude.{◌≡◌, ◌≤◌, ◌<◌, length};
+ghost use Rattle.std.specs.Prelude.{◌≡◌, ◌≢◌, ◌≤◌, ◌<◌, length};
 ghost use Rattle.book_counters.specs.Counters.{StackCounts};
 ghost use Rattle.book_stack.specs.Stacks.{StackState};
 ghost use Rattle.ao_counters.specs.Stands.{Stands};
 ghost use Rattle.aotcp_c.specs.Calls.{Hears, OnStack, Sends};
+ghost use Rattle.aotcp_c.specs.Codes.{no_stack, ok};
 ghost use Rattle.aotcp_c.specs.Held.{content};
 
 use crate::answers::heard_of;
@@ -22,7 +23,8 @@ const LEAST_ROOM: usize = 1500;
 
 /// A datagram comes.
 fn input(stack: &mut CountedStack, now: u64, bytes: &[u8], told: &mut CHeard) -> i32
-    ensures { (s : StackState) (n : StackCounts) → Stands stack.old s n → Hears stack.new (record { now = now; bytes = bytes.now }) s n told.new result }
+    ensures hears { (s : StackState) (n : StackCounts) → Stands stack.old s n → Hears stack.new (record { now = now; bytes = bytes.now }) s n told.new result }
+    ensures kept { result ≢ ok → told.new ≡ told.old }
 {
     if now > LATEST {
         return TIME;
@@ -33,7 +35,9 @@ fn input(stack: &mut CountedStack, now: u64, bytes: &[u8], told: &mut CHeard) ->
 
 /// The next datagram.
 fn output(stack: &mut CountedStack, now: u64, room: &mut [u8], length: &mut usize) -> i32
-    ensures { (s : StackState) (n : StackCounts) → Stands stack.old s n → Sends stack.new now room.old room.new length.new s n result }
+    ensures sends { (s : StackState) (n : StackCounts) → Stands stack.old s n → Sends stack.new now room.old room.new length.new s n result }
+    ensures kept { result ≢ ok → length.new ≡ length.old }
+    ensures room { result ≡ no_stack → room.new ≡ room.old }
 {
     if now > LATEST {
         return TIME;
@@ -59,8 +63,9 @@ pub extern "C" fn aotcp_input(
     bytes: &[u8],
     told: &mut CHeard,
 ) -> i32
-    ensures { OnStack (content handle.old.place.value) (content handle.new.place.value) result (λ p q. (s : StackState) (n : StackCounts) → Stands p s n
+    ensures hears { OnStack (content handle.old.place.value) (content handle.new.place.value) result (λ p q. (s : StackState) (n : StackCounts) → Stands p s n
         → Hears q (record { now = now; bytes = bytes.now }) s n told.new result) }
+    ensures kept { result ≢ ok → told.new ≡ told.old }
 {
     match mem::replace(handle, Handle::none()).into_box(alloc) {
         Some(mut b) => {
@@ -81,8 +86,10 @@ pub extern "C" fn aotcp_output(
     room: &mut [u8],
     length: &mut usize,
 ) -> i32
-    ensures { OnStack (content handle.old.place.value) (content handle.new.place.value) result (λ p q. (s : StackState) (n : StackCounts) → Stands p s n
+    ensures sends { OnStack (content handle.old.place.value) (content handle.new.place.value) result (λ p q. (s : StackState) (n : StackCounts) → Stands p s n
         → Sends q now room.old room.new length.new s n result) }
+    ensures kept { result ≢ ok → length.new ≡ length.old }
+    ensures room { result ≡ no_stack → room.new ≡ room.old }
 {
     match mem::replace(handle, Handle::none()).into_box(alloc) {
         Some(mut b) => {

@@ -1,8 +1,9 @@
 //! A row of a key file is told.
 ghost use Rattle.std.specs.Prelude.{◌≡◌, ◌≢◌, ◌≤◌, true, IfSome, is_some, length};
-ghost use Rattle.std.specs.List.{list_any};
-ghost use Rattle.aotcp_c.specs.Calls.{IsFaulty};
+ghost use Rattle.std.specs.List.{find, list_any};
+ghost use Rattle.book_keys.specs.Rows.{has_address};
 ghost use Rattle.aotcp_c.specs.Codes.{bad_keys, ok};
+ghost use Rattle.aotcp_c.specs.KeyFiles.{Finds, row_code};
 ghost use Rattle.aotcp_c.specs.RowShapes.{IsFiled, IsFound, IsToldRow, algorithm_number, direction_number, is_any, is_for_all, told_row};
 ghost use Rattle.aotcp_c.specs.Shapes.{address_of};
 
@@ -103,8 +104,11 @@ fn find(
     count: &mut usize,
 ) -> i32
     requires { 255 ≤ length key.old }
-    ensures read { result ≢ bad_keys }
+    ensures code { result ≡ row_code (find (has_address node.now) tables.now) number }
     ensures told { result ≡ ok → IsFound tables.now node.now number told.new count.new key.new }
+    ensures row { result ≢ ok → told.new ≡ told.old }
+    ensures key { result ≢ ok → key.new ≡ key.old }
+    ensures count { result ≢ ok → count.new ≡ count.old }
 {
     match tables.table(node) {
         None => NO_NODE,
@@ -136,7 +140,11 @@ pub extern "C" fn aotcp_row(
 ) -> i32
     ensures there { result ≡ ok → is_some (address_of node.now) ≡ true }
     ensures told { result ≡ ok → IfSome (address_of node.now) (λ a. IsFiled text.now a number told.new count.new key.new) }
-    ensures fault { result ≡ bad_keys → IsFaulty text.now fault.new }
+    ensures code { Finds (length key.old) (address_of node.now) number text.now fault.new result }
+    ensures fault { result ≢ bad_keys → fault.new ≡ fault.old }
+    ensures row { result ≢ ok → told.new ≡ told.old }
+    ensures key { result ≢ ok → key.new ≡ key.old }
+    ensures count { result ≢ ok → count.new ≡ count.old }
 {
     if key.len() < LONGEST_KEY {
         return ROOM;

@@ -1,9 +1,10 @@
 //! Bytes that were received are taken.
-ghost use Rattle.std.specs.Prelude.{◌≡◌};
+ghost use Rattle.std.specs.Prelude.{◌≡◌, ◌≢◌};
 ghost use Rattle.book_counters.specs.Counters.{StackCounts};
 ghost use Rattle.book_stack.specs.Stacks.{StackState};
 ghost use Rattle.ao_counters.specs.Stands.{Stands};
 ghost use Rattle.aotcp_c.specs.Calls.{OnStack, Reads};
+ghost use Rattle.aotcp_c.specs.Codes.{ok};
 ghost use Rattle.aotcp_c.specs.Held.{content};
 ghost use Rattle.aotcp_c.specs.Shapes.{pair_of};
 
@@ -17,7 +18,9 @@ use std::mem;
 
 /// The first bytes of the pair are moved to the front of `room`.
 fn read(stack: &mut CountedStack, at: &CPair, room: &mut [u8], told: &mut CTaken) -> i32
-    ensures { (s : StackState) (n : StackCounts) → Stands stack.old s n → Reads stack.new (pair_of at.now) room.old room.new told.new s n result }
+    ensures reads { (s : StackState) (n : StackCounts) → Stands stack.old s n → Reads stack.new (pair_of at.now) room.old room.new told.new s n result }
+    ensures kept { result ≢ ok → told.new ≡ told.old }
+    ensures room { result ≢ ok → room.new ≡ room.old }
 {
     match pair_of(at) {
         None => FAMILY,
@@ -44,8 +47,10 @@ pub extern "C" fn aotcp_read(
     room: &mut [u8],
     told: &mut CTaken,
 ) -> i32
-    ensures { OnStack (content handle.old.place.value) (content handle.new.place.value) result (λ p q. (s : StackState) (n : StackCounts) → Stands p s n
+    ensures reads { OnStack (content handle.old.place.value) (content handle.new.place.value) result (λ p q. (s : StackState) (n : StackCounts) → Stands p s n
         → Reads q (pair_of pair.now) room.old room.new told.new s n result) }
+    ensures kept { result ≢ ok → told.new ≡ told.old }
+    ensures room { result ≢ ok → room.new ≡ room.old }
 {
     match mem::replace(handle, Handle::none()).into_box(alloc) {
         Some(mut b) => {

@@ -1,5 +1,5 @@
 //! Rows are added and withdrawn.
-ghost use Rattle.std.specs.Prelude.{◌≡◌, ◌≤◌, true, Some, IfOk, IfSome, List, length};
+ghost use Rattle.std.specs.Prelude.{◌≡◌, ◌≢◌, ◌≤◌, true, Some, IfOk, IfSome, List, length};
 ghost use Rattle.book_keys.specs.Lifetimes.{greatest_time};
 ghost use Rattle.book_keys.specs.MasterKeys.{is_master_key};
 ghost use Rattle.book_stack.specs.Calls.{Withdraw};
@@ -7,6 +7,7 @@ ghost use Rattle.book_counters.specs.Counters.{StackCounts};
 ghost use Rattle.book_stack.specs.Stacks.{StackState};
 ghost use Rattle.ao_counters.specs.Stands.{Stands};
 ghost use Rattle.aotcp_c.specs.Calls.{Adds, Answers, OnStack};
+ghost use Rattle.aotcp_c.specs.Codes.{ok, overlap};
 ghost use Rattle.aotcp_c.specs.Held.{content};
 ghost use Rattle.aotcp_c.specs.RowShapes.{IsRow, algorithm_number, direction_number, is_lifetime, is_row, number_in};
 
@@ -108,7 +109,8 @@ fn number_in(added: Result<u8, AddRefusal>, before: u8) -> u8
 
 /// A row is added that stands so.
 fn add(alloc: Global, stack: &mut CountedStack, row: &CRow, key: &[u8], number: &mut u8) -> i32
-    ensures { (s : StackState) (n : StackCounts) → Stands stack.old s n → Adds stack.new row.now key.now s n number.new result }
+    ensures adds { (s : StackState) (n : StackCounts) → Stands stack.old s n → Adds stack.new row.now key.now s n number.new result }
+    ensures kept { result ≢ ok → result ≢ overlap → number.new ≡ number.old }
 {
     let stands_so = is_row(row, key);
     if !stands_so {
@@ -140,8 +142,9 @@ pub extern "C" fn aotcp_add(
     key: &[u8],
     number: &mut u8,
 ) -> i32
-    ensures { OnStack (content handle.old.place.value) (content handle.new.place.value) result (λ p q. (s : StackState) (n : StackCounts) → Stands p s n
+    ensures adds { OnStack (content handle.old.place.value) (content handle.new.place.value) result (λ p q. (s : StackState) (n : StackCounts) → Stands p s n
         → Adds q row.now key.now s n number.new result) }
+    ensures kept { result ≢ ok → result ≢ overlap → number.new ≡ number.old }
 {
     match mem::replace(handle, Handle::none()).into_box(alloc) {
         Some(mut b) => {

@@ -1,13 +1,16 @@
 //! Stacks are made and freed.
 ghost use Rattle.std.specs.Prelude.{◌≡◌, ◌≢◌, ◌≤◌, true, Some, None, Err, IfOk, IfSome, is_some, if◌then◌else◌};
+ghost use Rattle.std.specs.List.{find};
 ghost use Rattle.book_cmd_node.specs.NodeRuns.{most_ends};
 ghost use Rattle.book_keys.specs.Plans.{rows_at};
+ghost use Rattle.book_keys.specs.Rows.{has_address};
 ghost use Rattle.book_counters.specs.Counters.{no_stack_counts};
 ghost use Rattle.book_stack.specs.Stacks.{empty_stack};
 ghost use Rattle.ao_counters.specs.Stands.{Stands};
-ghost use Rattle.aotcp_c.specs.Calls.{IsFaulty, Opens};
+ghost use Rattle.aotcp_c.specs.Calls.{Opens};
 ghost use Rattle.aotcp_c.specs.Codes.{bad_keys, no_stack, ok};
 ghost use Rattle.aotcp_c.specs.Held.{content};
+ghost use Rattle.aotcp_c.specs.KeyFiles.{Makes, MakesAt, MakesOf, ReadsKeys, code_in};
 ghost use Rattle.aotcp_c.specs.Shapes.{address_of};
 
 use crate::codes::{FAMILY, FAULT, HELD, MEMORY, MOST, NO_NODE, NO_STACK, OK};
@@ -46,7 +49,7 @@ fn boxed(
     requires high { most ≤ most_ends }
     ensures opens { IfOk result (λ b. Stands b.value (empty_stack (rows_at tables.old address) most) no_stack_counts) }
     ensures failed { result ≢ Err ok }
-    ensures read { result ≢ Err bad_keys }
+    ensures code { MakesOf (find (has_address address) tables.old) (code_in result) }
 {
     if tables.table(&address).is_none() {
         return Err(NO_NODE);
@@ -73,7 +76,9 @@ fn made(
     requires high { most ≤ most_ends }
     ensures opens { IfOk result (λ b. Opens text.now address most b.value) }
     ensures failed { result ≢ Err ok }
-    ensures fault { result ≡ Err bad_keys → IsFaulty text.now fault.new }
+    ensures code { ReadsKeys text.now fault.new (code_in result)
+        (λ tables. MakesOf (find (has_address address) tables) (code_in result)) }
+    ensures fault { code_in result ≢ bad_keys → fault.new ≡ fault.old }
 {
     match read_tables(alloc, text) {
         Err(why) => {
@@ -100,9 +105,9 @@ fn put(
     requires high { most ≤ most_ends }
     ensures opens { result ≡ ok → IfSome (content handle.new.place.value) (λ k. Opens text.now address most k) }
     ensures held { result ≡ ok → is_some (content handle.new.place.value) ≡ true }
-    ensures before { result ≡ ok → content handle.old.place.value ≡ None }
     ensures stays { result ≢ ok → content handle.new.place.value ≡ content handle.old.place.value }
-    ensures fault { result ≡ bad_keys → IsFaulty text.now fault.new }
+    ensures code { MakesAt (Some address) (content handle.old.place.value) text.now fault.new result }
+    ensures fault { result ≢ bad_keys → fault.new ≡ fault.old }
 {
     match mem::replace(handle, Handle::none()).into_box(alloc) {
         Some(b) => {
@@ -135,7 +140,8 @@ pub extern "C" fn aotcp_new(
     ensures there { result ≡ ok → is_some (address_of node.now) ≡ true }
     ensures before { result ≡ ok → content handle.old.place.value ≡ None }
     ensures stays { result ≢ ok → content handle.new.place.value ≡ content handle.old.place.value }
-    ensures fault { result ≡ bad_keys → IsFaulty text.now fault.new }
+    ensures code { Makes most (address_of node.now) (content handle.old.place.value) text.now fault.new result }
+    ensures fault { result ≢ bad_keys → fault.new ≡ fault.old }
 {
     if most < 1 {
         return MOST;

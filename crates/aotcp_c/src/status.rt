@@ -1,8 +1,9 @@
 //! Looking at a stack.
-ghost use Rattle.std.specs.Prelude.{◌≡◌};
+ghost use Rattle.std.specs.Prelude.{◌≡◌, ◌≢◌};
 ghost use Rattle.book_cmd_node.specs.NodeRuns.{held_end};
 ghost use Rattle.book_stack.specs.Stacks.{StackState, next_deadline};
 ghost use Rattle.aotcp_c.specs.Calls.{IsAt, IsOverdue, IsState, OnStack, Tells};
+ghost use Rattle.aotcp_c.specs.Codes.{ok};
 ghost use Rattle.aotcp_c.specs.Held.{content};
 ghost use Rattle.aotcp_c.specs.Shapes.{pair_of, state_of};
 
@@ -29,7 +30,8 @@ fn state_of(front: Front) -> CState
 
 /// When the next datagram is due.
 fn deadline(stack: &CountedStack, at: &mut u64) -> i32
-    ensures { (s : StackState) → IsAt stack.now s → Tells (next_deadline s) at.new result }
+    ensures told { (s : StackState) → IsAt stack.now s → Tells (next_deadline s) at.new result }
+    ensures kept { result ≢ ok → at.new ≡ at.old }
 {
     match stack.next_deadline() {
         None => NOTHING,
@@ -42,7 +44,8 @@ fn deadline(stack: &CountedStack, at: &mut u64) -> i32
 
 /// Where the end of the pair stands.
 fn state(stack: &CountedStack, at: &CPair, told: &mut CState) -> i32
-    ensures { (s : StackState) → IsAt stack.now s → IsState (pair_of at.now) s told.new result }
+    ensures told { (s : StackState) → IsAt stack.now s → IsState (pair_of at.now) s told.new result }
+    ensures kept { result ≢ ok → told.new ≡ told.old }
 {
     match pair_of(at) {
         None => FAMILY,
@@ -58,7 +61,8 @@ fn state(stack: &CountedStack, at: &CPair, told: &mut CState) -> i32
 
 /// Whether the connection of the pair has heard nothing for so long.
 fn is_overdue(stack: &CountedStack, at: &CPair, now: u64, told: &mut bool) -> i32
-    ensures { (s : StackState) → IsAt stack.now s → IsOverdue (pair_of at.now) now s told.new result }
+    ensures told { (s : StackState) → IsAt stack.now s → IsOverdue (pair_of at.now) now s told.new result }
+    ensures kept { result ≢ ok → told.new ≡ told.old }
 {
     match pair_of(at) {
         None => FAMILY,
@@ -76,6 +80,7 @@ pub extern "C" fn aotcp_deadline(alloc: Global, handle: &mut Handle, at: &mut u6
     ensures unchanged { content handle.new.place.value ≡ content handle.old.place.value }
     ensures told { OnStack (content handle.old.place.value) (content handle.new.place.value) result (λ p q. (s : StackState) → IsAt p s
         → Tells (next_deadline s) at.new result) }
+    ensures kept { result ≢ ok → at.new ≡ at.old }
 {
     match mem::replace(handle, Handle::none()).into_box(alloc) {
         Some(b) => {
@@ -98,6 +103,7 @@ pub extern "C" fn aotcp_state(
     ensures unchanged { content handle.new.place.value ≡ content handle.old.place.value }
     ensures told { OnStack (content handle.old.place.value) (content handle.new.place.value) result (λ p q. (s : StackState) → IsAt p s
         → IsState (pair_of pair.now) s told.new result) }
+    ensures kept { result ≢ ok → told.new ≡ told.old }
 {
     match mem::replace(handle, Handle::none()).into_box(alloc) {
         Some(b) => {
@@ -122,6 +128,7 @@ pub extern "C" fn aotcp_is_overdue(
     ensures unchanged { content handle.new.place.value ≡ content handle.old.place.value }
     ensures told { OnStack (content handle.old.place.value) (content handle.new.place.value) result (λ p q. (s : StackState) → IsAt p s
         → IsOverdue (pair_of pair.now) now s told.new result) }
+    ensures kept { result ≢ ok → told.new ≡ told.old }
 {
     match mem::replace(handle, Handle::none()).into_box(alloc) {
         Some(b) => {

@@ -92,9 +92,17 @@ fn planned_accepting(plan: &Plan, row: &Row) -> Lifetime
     wanted_accepting(row, plan.lead, plan.lag)
 }
 
-/// The time before which a row of the other end is to begin to accept.
-fn push_start(out: &mut Vec<u8>, facing: &Facing, number: u8, wanted: u64) -> Result<(), AllocError>
-    ensures { OnOk result (out.new.items ≡ out.old.items ++ set_text (codes "AcceptLifetimeStart") (row_name (table_view facing.now.document.now) facing.now.other.now.name number) wanted (codes " or earlier\n")) }
+/// What a row of the other end is to set a column of its lifetime to, by its number.
+fn push_bound(
+    out: &mut Vec<u8>,
+    facing: &Facing,
+    number: u8,
+    column: &[u8],
+    time: u64,
+    word: &[u8],
+) -> Result<(), AllocError>
+    ensures { OnOk result (out.new.items ≡ out.old.items
+        ++ set_text column.now (row_name (table_view facing.now.document.now) facing.now.other.now.name number) time word.now) }
 {
     let row = row_name(
         *out.allocator(),
@@ -102,32 +110,23 @@ fn push_start(out: &mut Vec<u8>, facing: &Facing, number: u8, wanted: u64) -> Re
         facing.other.name(),
         number,
     )?;
-    push_set(
-        out,
-        b"AcceptLifetimeStart",
-        row.as_slice(),
-        wanted,
-        b" or earlier\n",
-    )
+    push_set(out, column, row.as_slice(), time, word)
+}
+
+/// The time before which a row of the other end is to begin to accept.
+fn push_start(out: &mut Vec<u8>, facing: &Facing, number: u8, wanted: u64) -> Result<(), AllocError>
+    ensures { OnOk result (out.new.items ≡ out.old.items ++ set_text (codes "AcceptLifetimeStart") (row_name (table_view facing.now.document.now) facing.now.other.now.name number) wanted (codes " or earlier\n")) }
+{
+    let column = b"AcceptLifetimeStart";
+    push_bound(out, facing, number, column, wanted, b" or earlier\n")
 }
 
 /// The time after which a row of the other end is to end to accept.
 fn push_end(out: &mut Vec<u8>, facing: &Facing, number: u8, wanted: u64) -> Result<(), AllocError>
     ensures { OnOk result (out.new.items ≡ out.old.items ++ set_text (codes "AcceptLifetimeEnd") (row_name (table_view facing.now.document.now) facing.now.other.now.name number) wanted (codes " or later\n")) }
 {
-    let row = row_name(
-        *out.allocator(),
-        facing.document,
-        facing.other.name(),
-        number,
-    )?;
-    push_set(
-        out,
-        b"AcceptLifetimeEnd",
-        row.as_slice(),
-        wanted,
-        b" or later\n",
-    )
+    let column = b"AcceptLifetimeEnd";
+    push_bound(out, facing, number, column, wanted, b" or later\n")
 }
 
 /// The line of a row of the other end that begins to accept too late.

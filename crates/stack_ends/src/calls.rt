@@ -1,5 +1,5 @@
 //! The end of a pair is called.
-ghost use Rattle.std.specs.Prelude.{◌≡◌, ◌≤◌, ◌++◌, List, length, drop};
+ghost use Rattle.std.specs.Prelude.{◌≡◌, ◌≤◌, ◌++◌, List, None, length, drop};
 ghost use Rattle.book_endpoint.specs.States.{EndState, at_end, take_out, taking};
 ghost use Rattle.tcp_endpoint.specs.Ends.{FitsEnd, Stands as EndStands};
 ghost use Rattle.book_keys.specs.Rows.{Row};
@@ -59,6 +59,7 @@ impl Ends {
         ensures called { (rows : List Row) (n : NodeState) → Stands self.old rows n
             → let q : Asking = record { rows = rows; node = n; pair = pair.now; answers = acting (act.Take (length room.old)) } in
             CallsAt self.new q result (Takes room.old room.new) (held_end pair.now n.ends) }
+        ensures untouched { result ≡ None → room.new ≡ room.old }
         ensures most { most_of self.new ≡ most_of self.old }
     {
         match self.node.end_mut(pair) {

@@ -1,2 +1,3 @@
 pub mod FrontParts
 pub mod Keeping
+pub mod PartLaws

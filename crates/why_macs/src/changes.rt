@@ -5,6 +5,7 @@ ghost use Rattle.book_segments.specs.Options.{One, find_ao};
 ghost use Rattle.book_why.specs.Changes.{changed_choices, padded_to, rows_there, table_at, upper_digit};
 ghost use Rattle.book_why.specs.Recipes.{mac_made, right_choices, recipe_of};
 ghost use Rattle.tcp_options.specs.Views.{view_ao};
+ghost use Rattle.why_macs.specs.Parts.{choices_under, derived_under, input_under, master_under};
 ghost use Rattle.why_macs.specs.Views.{both_view, choices_view, suspect_view};
 
 use crate::choices::{MacChoices, RING, choices_with, key_length, right_choices};
@@ -88,20 +89,6 @@ fn padded_to(alloc: Global, most: u8, bytes: &[u8]) -> Result<Vec<u8>, AllocErro
     Ok(text)
 }
 
-fn with_master(mut choices: MacChoices, master: Vec<u8>) -> MacChoices
-    ensures { choices_view result ≡ record (choices_view choices) { master = master.items } }
-{
-    choices.master = master;
-    choices
-}
-
-fn with_mac(mut choices: MacChoices, mac: Vec<u8>) -> MacChoices
-    ensures { choices_view result ≡ record (choices_view choices) { mac_bytes = mac.items } }
-{
-    choices.mac_bytes = mac;
-    choices
-}
-
 // The context of the other direction.
 fn turned(mut choices: MacChoices) -> MacChoices
     ensures { choices_view result ≡ record (choices_view choices) { source = choices.destination; destination = choices.source; source_isn = choices.destination_isn; destination_isn = choices.source_isn } }
@@ -149,6 +136,97 @@ fn checksum_of(suspect: &Suspect<'_>) -> u16
     header[16] as u16 * 256 + header[17] as u16
 }
 
+// The choices under another row or another algorithm.
+fn choices_under(
+    alloc: Global,
+    change: Change,
+    both: &BothTables<'_>,
+    suspect: &Suspect<'_>,
+) -> Result<MacChoices, AllocError>
+    ensures { IfOk result (λ m. choices_view m ≡ choices_under change (both_view both.now) (suspect_view suspect.now)) }
+{
+    match change {
+        Change::AnotherRow(node, number) => {
+            let row = row_at(rows_of(both, node), number, suspect.row);
+            right_choices(alloc, row, suspect)
+        }
+        Change::OtherAlgorithm(algorithm) => choices_with(alloc, algorithm, suspect.row, suspect),
+        _ => right_choices(alloc, suspect.row, suspect),
+    }
+}
+
+// The master key under a change of it.
+fn master_under(alloc: Global, change: Change, key: Vec<u8>) -> Result<Vec<u8>, AllocError>
+    ensures { IfOk result (λ text. text.items ≡ master_under change key.items) }
+{
+    match change {
+        Change::KeyAsText => text_of(alloc, key.as_slice()),
+        Change::KeyAsUpperText => upper_text_of(alloc, key.as_slice()),
+        Change::KeyWithNewline => with_newline(key),
+        Change::KeyAsTextWithNewline => {
+            let text = text_of(alloc, key.as_slice())?;
+            with_newline(text)
+        }
+        Change::KeyPadded(most) => padded_to(alloc, most, key.as_slice()),
+        _ => Ok(key),
+    }
+}
+
+// The choices under a change of their master key.
+fn keyed_under(
+    alloc: Global,
+    change: Change,
+    mut choices: MacChoices,
+) -> Result<MacChoices, AllocError>
+    ensures { IfOk result (λ m. choices_view m ≡ record (choices_view choices) { master = master_under change choices.master.items }) }
+{
+    choices.master = master_under(alloc, change, choices.master)?;
+    Ok(choices)
+}
+
+// The choices under a change of what else goes into the key derivation.
+fn derived_under(change: Change, mut choices: MacChoices) -> MacChoices
+    ensures { choices_view result ≡ derived_under change (choices_view choices) }
+{
+    match change {
+        Change::LengthInBytes => {
+            choices.output_length = key_length(choices.algorithm);
+            choices
+        }
+        Change::OtherDirection => turned(choices),
+        Change::SocketsExchanged => with_sockets_exchanged(choices),
+        Change::IsnsExchanged => with_isns_exchanged(choices),
+        Change::NoDestinationIsn => {
+            choices.destination_isn = 0;
+            choices
+        }
+        _ => choices,
+    }
+}
+
+// The choices under a change of the MAC's input, or of which part of the MAC is sent.
+fn input_under(
+    alloc: Global,
+    change: Change,
+    suspect: &Suspect<'_>,
+    mut choices: MacChoices,
+) -> Result<MacChoices, AllocError>
+    requires { find_ao suspect.now.datagram.now.area ≡ One (view_ao suspect.now.ao) }
+    ensures { IfOk result (λ m. choices_view m ≡ input_under change (suspect_view suspect.now) (choices_view choices)) }
+{
+    match change {
+        Change::OtherFlag => choices.with_options = !choices.with_options,
+        Change::LapMore => choices.extension = suspect.number / RING + 1,
+        Change::LapLess => choices.extension = suspect.number / RING + (RING - 1),
+        Change::ChecksumKept => choices.checksum = checksum_of(suspect),
+        Change::MacKept => choices.mac_bytes = right_mac(alloc, suspect)?,
+        Change::LastBytes => choices.part = MacPart::Last,
+        Change::NoPseudoHeader => choices.pseudo_header = false,
+        _ => {}
+    }
+    Ok(choices)
+}
+
 /// The choices that follow where one of the right ones is changed so.
 pub(crate) fn changed_choices(
     alloc: Global,
@@ -159,73 +237,8 @@ pub(crate) fn changed_choices(
     requires { find_ao suspect.now.datagram.now.area ≡ One (view_ao suspect.now.ao) }
     ensures { IfOk result (λ m. choices_view m ≡ changed_choices change (both_view both.now) (suspect_view suspect.now) (right_choices suspect.now.row.now (suspect_view suspect.now))) }
 {
-    let mut right = right_choices(alloc, suspect.row, suspect)?;
-    match change {
-        Change::AnotherRow(node, number) => {
-            let row = row_at(rows_of(both, node), number, suspect.row);
-            right_choices(alloc, row, suspect)
-        }
-        Change::OtherFlag => {
-            right.with_options = !right.with_options;
-            Ok(right)
-        }
-        Change::OtherAlgorithm(algorithm) => choices_with(alloc, algorithm, suspect.row, suspect),
-        Change::KeyAsText => {
-            let text = text_of(alloc, right.master.as_slice())?;
-            Ok(with_master(right, text))
-        }
-        Change::KeyAsUpperText => {
-            let text = upper_text_of(alloc, right.master.as_slice())?;
-            Ok(with_master(right, text))
-        }
-        Change::KeyWithNewline => {
-            let text = right.master.as_slice().to_vec(alloc)?;
-            let text = with_newline(text)?;
-            Ok(with_master(right, text))
-        }
-        Change::KeyAsTextWithNewline => {
-            let text = text_of(alloc, right.master.as_slice())?;
-            let text = with_newline(text)?;
-            Ok(with_master(right, text))
-        }
-        Change::KeyPadded(most) => {
-            let bytes = padded_to(alloc, most, right.master.as_slice())?;
-            Ok(with_master(right, bytes))
-        }
-        Change::LengthInBytes => {
-            right.output_length = key_length(right.algorithm);
-            Ok(right)
-        }
-        Change::OtherDirection => Ok(turned(right)),
-        Change::SocketsExchanged => Ok(with_sockets_exchanged(right)),
-        Change::IsnsExchanged => Ok(with_isns_exchanged(right)),
-        Change::NoDestinationIsn => {
-            right.destination_isn = 0;
-            Ok(right)
-        }
-        Change::LapMore => {
-            right.extension = suspect.number / RING + 1;
-            Ok(right)
-        }
-        Change::LapLess => {
-            right.extension = suspect.number / RING + (RING - 1);
-            Ok(right)
-        }
-        Change::ChecksumKept => {
-            right.checksum = checksum_of(suspect);
-            Ok(right)
-        }
-        Change::MacKept => {
-            let mac = right_mac(alloc, suspect)?;
-            Ok(with_mac(right, mac))
-        }
-        Change::LastBytes => {
-            right.part = MacPart::Last;
-            Ok(right)
-        }
-        Change::NoPseudoHeader => {
-            right.pseudo_header = false;
-            Ok(right)
-        }
-    }
+    let choices = choices_under(alloc, change, both, suspect)?;
+    let keyed = keyed_under(alloc, change, choices)?;
+    let choices = input_under(alloc, change, suspect, derived_under(change, keyed))?;
+    Ok(choices)
 }

@@ -4,8 +4,8 @@ use Rattle.book_counters.specs.KeyIds.{no_key_ids}
 use Rattle.aotcp_c.specs.Counters.{told_counters}
 use Rattle.aotcp_c.proofs.counters.node_counters.Goals as goal
 
-pub returns : goal.returns
-returns c = λ s n stands. record {
+pub returns-clause-told : goal.returns-clause-told
+returns-clause-told c = λ s n stands. record {
   is = refl;
   counted = c.told_counters.ensures ∙ ap (λ (k : Counters). told_counters k no_key_ids) (c.node_counters.ensures s n stands);
 }

@@ -6,10 +6,10 @@ use Rattle.ao_counters.specs.declared.counted_stack.CountedStack.{CountedStack}
 use Rattle.ao_counters.proofs.StandLaws.{plainly, taken_counts}
 use Rattle.ao_counters.proofs.counted_stack.CountedStack.take.Goals as goal
 
-pub returns : goal.returns
-returns c s n S =
+pub returns-clause-taken : goal.returns-clause-taken
+returns-clause-taken c s n S =
     let k = c.args.self.now in
     let after : CountedStack = record { stack = c.take.new.self; tallies = k.tallies; node = k.node } in
     let a = act.Take (length c.args.room.now) in
-    let F = c.take.ensures s S.stack in
+    let F = c.take.ensures.taken s S.stack in
     plainly k after s n S (At c.args.pair.now a) (IsTaken c.args.room.now c.take.new.room c.take.result) F refl refl (taken_counts c.args.pair.now a s n c.args.room.now c.take.new.room c.take.result F.answer)

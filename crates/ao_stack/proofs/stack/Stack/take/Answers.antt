@@ -8,12 +8,12 @@ use Rattle.ao_stack.specs.declared.stack.Stack.{Stack}
 use Rattle.ao_stack.proofs.ActLaws.{call_follows, has_called, not_called}
 use Rattle.ao_stack.proofs.stack.Stack.take.Goals as goal
 
-pub returns-in-None : goal.returns-in-None
-returns-in-None c s S =
+pub returns-in-None-clause-taken : goal.returns-in-None-clause-taken
+returns-in-None-clause-taken c s S =
     not_called c.args.self.now _ s S c.args.pair.now (act.Take (length c.args.room.now)) c.take.ensures.most refl refl refl (Takes c.args.room.now c.take.new.room) (IsTaken c.args.room.now c.take.new.room None) refl (c.in-None.ensures.called s.rows s.node S.ends) refl
 
-pub returns-in-Some : goal.returns-in-Some
-returns-in-Some c s S =
+pub returns-in-Some-clause-taken : goal.returns-in-Some-clause-taken
+returns-in-Some-clause-taken c s S =
     let k = c.args.self.now in
     let mid : Stack = record { ends = c.take.new.self; watches = k.watches; alarms = k.alarms; line = k.line } in
     let a = act.Take (length c.args.room.now) in
