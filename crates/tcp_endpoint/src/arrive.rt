@@ -1,7 +1,6 @@
 //! An arrival.
 ghost use Rattle.std.specs.Prelude.{◌≡◌, ◌+◌, ◌≤◌, ℕ, Option, Some, None, true, false, is_some};
 ghost use Rattle.book_base.specs.declared.address.Socket.{Socket};
-ghost use Rattle.book_segments.specs.Sockets.{same_socket};
 ghost use Rattle.book_segments.specs.Segments.{Read, Segment, reading};
 ghost use Rattle.book_endpoint.specs.States.{EndState};
 ghost use Rattle.book_endpoint.specs.Arrivals as book;
@@ -15,20 +14,12 @@ use crate::arrival::Arrived;
 use crate::endpoint::Endpoint;
 use crate::phases::is_closed;
 use crate::sequence::Received;
-use ao_base::Steps;
-use book_base::{Pair, Socket};
+use ao_base::{Steps, is_same_socket};
+use book_base::Pair;
 use book_endpoint::Arrival;
 use key_table::Table;
 use std::sync::ledger::Ledger;
 use tcp_segment::{Datagram, read_datagram};
-
-/// Whether two sockets are the same.
-fn is_same_socket(one: &Socket, other: &Socket) -> bool
-    ensures told { result ≡ same_socket one.now other.now }
-    ensures same { result ≡ true → one.now ≡ other.now }
-{
-    one == other
-}
 
 /// Whether the sockets are the pair's seen from the other end.
 fn is_from_peer(pair: &Pair, datagram: &Datagram<'_>) -> bool
