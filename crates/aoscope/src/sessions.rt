@@ -4,7 +4,7 @@ use book_base::Bytes;
 use clap::{Arg, ArgAction, ArgMatches, Command};
 use key_faults::push_key_fault;
 use scope_lines::push_fault;
-use scope_sessions::{LineKind, SessionsHalt, write_sessions};
+use scope_sessions::{LineKind, SessionsHalt, TableForm, write_sessions};
 use std::alloc::{AllocError, Global};
 use std::fs::File;
 use text_lines::{push_newline, push_number, push_text};
@@ -30,11 +30,16 @@ ADDRESS PORT ISN, each number behind the socket that chose it; an empty line and
 that begins with # say nothing. The capture is judged as if these sessions' handshakes stood in front of it, one \
 after another.
 
+With --json the same table is an object of JSON on one line, for programs: its members are packets, sessions, keys \
+and amiss. Times are strings of RFC 3339 in UTC; a KeyID that isn't there, a key that was never used, one that \
+nobody asks for, and whether a key may go where nothing is known of it, are null.
+
 Status 0: all segments are verified; 1: one isn't, or a packet that can't be read may be one; 3: keys; 4: \
 also FILE; the others as above.
 
     aoscope sessions KEYS < CAPTURE
-    aoscope sessions KEYS --isn FILE < CAPTURE";
+    aoscope sessions KEYS --isn FILE < CAPTURE
+    aoscope sessions KEYS --json < CAPTURE";
 
 /// The word with its page of help.
 pub(crate) fn command<'a>(alloc: Global) -> Result<Command<'a>, AllocError> {
@@ -47,11 +52,16 @@ pub(crate) fn command<'a>(alloc: Global) -> Result<Command<'a>, AllocError> {
         .value_name("FILE")
         .help("Initial sequence numbers of sessions that began before the capture")
         .action(ArgAction::Set);
+    let json = Arg::new(alloc, "json")
+        .long("json")
+        .help("Write the table as one line of JSON")
+        .action(ArgAction::SetTrue);
     Command::new(alloc, "sessions")
         .about(ABOUT)
         .after_help(AFTER)
         .arg(keys)?
-        .arg(isn)
+        .arg(isn)?
+        .arg(json)
 }
 
 fn status(halt: SessionsHalt) -> u8 {
@@ -127,11 +137,20 @@ fn read_isns(rt: &HostRuntime, path: Option<&str>) -> Result<Bytes, ReadProblem>
     }
 }
 
-/// Writes the table of the capture on standard input.
-fn write(rt: &HostRuntime, keys: &[u8], isns: &[u8]) -> u8 {
+/// In which form the words ask for the table.
+fn form(matches: &ArgMatches<'_>) -> TableForm {
+    if matches.get_flag("json") {
+        TableForm::Json
+    } else {
+        TableForm::Lines
+    }
+}
+
+/// Writes the table of the capture on standard input in this form.
+fn write(rt: &HostRuntime, form: TableForm, keys: &[u8], isns: &[u8]) -> u8 {
     let mut input = ReadSource::new(rt.stdin());
     let mut out = WriteSink::new(rt.stdout());
-    match write_sessions(rt.alloc(), keys, isns, &mut input, &mut out) {
+    match write_sessions(rt.alloc(), form, keys, isns, &mut input, &mut out) {
         Ok(false) => 0,
         Ok(true) => 1,
         Err(halt) => tell(rt, halt),
@@ -161,7 +180,7 @@ pub(crate) fn run(rt: &HostRuntime, matches: &ArgMatches<'_>) -> u8 {
         Err(problem) => return tell_unread(rt, problem, b"keys: too long\n", 3),
     };
     match read_isns(rt, matches.get_str("isn")) {
-        Ok(isns) => write(rt, keys.as_slice(), isns.as_slice()),
+        Ok(isns) => write(rt, form(matches), keys.as_slice(), isns.as_slice()),
         Err(problem) => tell_unread(rt, problem, b"isn: too long\n", 4),
     }
 }

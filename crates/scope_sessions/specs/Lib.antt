@@ -1,4 +1,5 @@
 pub mod Counting
 pub mod Given
+pub mod JsonParts
 pub mod Reading
 pub mod Writing

@@ -1,16 +1,20 @@
 //! A capture's table of sessions, written when the capture is read.
-ghost use Rattle.std.specs.Prelude.{◌≡◌, ℕ, List};
+ghost use Rattle.std.specs.Prelude.{◌≡◌, ◌++◌, ℕ, List, OnOk};
 ghost use Rattle.ao_base.specs.Outside.{Side};
+ghost use Rattle.book_sessions_json.specs.Forms.{written_as};
+ghost use Rattle.scope_sessions.specs.Counting.{table_of};
 ghost use Rattle.scope_sessions.specs.Writing.{halt_of, halt_of_lines, Writes, WritesCounted};
 
 use crate::count::{CountHalt, Counted, count_capture};
 use crate::isns::read_given;
+use crate::json_table::push_json;
 use crate::table_text::{has_amiss, push_table};
 use ao_base::{Failed, Sink, Source, write_all};
 use book_lines::{LineKind, TextFault};
+use book_sessions_json::TableForm;
 use capture_stream::CaptureFault;
 use key_table::{TableFault, read_tables};
-use std::alloc::Global;
+use std::alloc::{AllocError, Global};
 
 /// Why not the table of a whole capture was written.
 #[derive(Clone, Copy, Debug, PartialEq, Eq)]
@@ -60,16 +64,32 @@ fn halt_of_lines(fault: TextFault) -> SessionsHalt
     }
 }
 
+// Puts the table of what was counted behind `text`.
+fn push_counted(
+    alloc: Global,
+    form: TableForm,
+    text: &mut Vec<u8>,
+    counted: &Counted,
+) -> Result<(), AllocError>
+    ensures { OnOk result (text.new.items ≡ text.old.items ++ written_as form counted.now.checker.tables (table_of counted.now.tally)) }
+{
+    match form {
+        TableForm::Lines => push_table(text, counted.checker.tables(), &counted.tally),
+        TableForm::Json => push_json(alloc, text, counted.checker.tables(), &counted.tally),
+    }
+}
+
 // Writes the table of what was counted.
 fn write_counted<O: Sink>(
     alloc: Global,
+    form: TableForm,
     counted: &Counted,
     out: &mut O,
 ) -> Result<bool, SessionsHalt>
-    ensures { WritesCounted counted.now (O.side out.old) (O.side out.new) result }
+    ensures { WritesCounted form counted.now (O.side out.old) (O.side out.new) result }
 {
     let mut text = Vec::new(alloc);
-    match push_table(&mut text, counted.checker.tables(), &counted.tally) {
+    match push_counted(alloc, form, &mut text, counted) {
         Ok(()) => {}
         Err(_) => return Err(SessionsHalt::Memory),
     }
@@ -83,7 +103,7 @@ fn write_counted<O: Sink>(
     }
 }
 
-/// Writes the table of the sessions of a capture, judged by the tables of a key file as behind handshakes
+/// Writes the table of the sessions of a capture in this form, judged by the tables of a key file as behind handshakes
 /// with the initial sequence numbers that lines give, and of each key of these tables who used it last and
 /// whether anyone asks for it. Ok at the capture's end, and whether anything is amiss: a segment that isn't
 /// verified, or a packet that is passed over and may be one.
@@ -99,12 +119,13 @@ fn write_counted<O: Sink>(
 /// Read, TooLong and Memory nothing was written.
 pub fn write_sessions<I: Source, O: Sink>(
     alloc: Global,
+    form: TableForm,
     keys: &[u8],
     isns: &[u8],
     input: &mut I,
     out: &mut O,
 ) -> Result<bool, SessionsHalt>
-    ensures { (given : List ℕ) × Writes keys.now isns.now given (I.side input.old) (I.side input.new) (O.side out.old) (O.side out.new) result }
+    ensures { (given : List ℕ) × Writes form keys.now isns.now given (I.side input.old) (I.side input.new) (O.side out.old) (O.side out.new) result }
 {
     let tables = match read_tables(alloc, keys) {
         Ok(tables) => tables,
@@ -115,7 +136,7 @@ pub fn write_sessions<I: Source, O: Sink>(
         Err(fault) => return Err(halt_of_lines(fault)),
     };
     match count_capture(alloc, tables, given.as_slice(), input) {
-        Ok(counted) => write_counted(alloc, &counted, out),
+        Ok(counted) => write_counted(alloc, form, &counted, out),
         Err(CountHalt::TooLong) => Err(SessionsHalt::TooLong),
         Err(CountHalt::Read) => Err(SessionsHalt::Read),
         Err(CountHalt::Memory) => Err(SessionsHalt::Memory),

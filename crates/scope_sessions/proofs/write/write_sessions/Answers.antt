@@ -3,8 +3,8 @@ use Rattle.scope_sessions.proofs.Ends.{writes_refused, writes_unread}
 use Rattle.scope_sessions.proofs.write.write_sessions.Goals as goal
 
 pub returns-in-Err : goal.returns-in-Err
-returns-in-Err g c = ([], rw c.halt_of.ensures (writes_refused c.args.keys.now c.args.isns.now c.in-Err.fault _ _ c.in-Err.ensures.value))
+returns-in-Err g c = ([], rw c.halt_of.ensures (writes_refused c.args.form c.args.keys.now c.args.isns.now c.in-Err.fault _ _ c.in-Err.ensures.value))
 
 pub returns-in-Err-read_given : goal.returns-in-Err-read_given
 returns-in-Err-read_given g c =
-    ([], rw c.halt_of_lines.ensures (writes_unread c.args.keys.now c.args.isns.now c.in-Ok.tables c.in-Err-read_given.fault _ _ c.in-Ok.ensures.value c.in-Err-read_given.ensures))
+    ([], rw c.halt_of_lines.ensures (writes_unread c.args.form c.args.keys.now c.args.isns.now c.in-Ok.tables c.in-Err-read_given.fault _ _ c.in-Ok.ensures.value c.in-Err-read_given.ensures))
