@@ -1,4 +1,4 @@
-//! What a table of sessions is written as.
+//! Which tables of a capture are written, and what as.
 
 /// In which form a table of sessions is written.
 #[derive(Clone, Copy, Debug, PartialEq, Eq)]
@@ -7,4 +7,12 @@ pub enum TableForm {
     Lines,
     /// A text in JSON.
     Json,
+}
+
+/// Which tables of a capture are asked for: in which form, and after how many seconds of the capture's own
+/// time the next one is due, where not only the last one is asked for.
+#[derive(Clone, Copy, Debug, PartialEq, Eq)]
+pub struct TableRequest {
+    pub form: TableForm,
+    pub every: Option<u64>,
 }

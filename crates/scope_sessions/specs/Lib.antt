@@ -2,4 +2,5 @@ pub mod Counting
 pub mod Given
 pub mod JsonParts
 pub mod Reading
+pub mod Texts
 pub mod Writing

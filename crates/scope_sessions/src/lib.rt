@@ -3,6 +3,7 @@
 #![tactic(auto)]
 
 mod count;
+mod due;
 mod heard;
 mod holding;
 mod isns;
@@ -21,5 +22,5 @@ mod words;
 mod write;
 
 pub use book_lines::LineKind;
-pub use book_sessions_json::TableForm;
+pub use book_sessions_json::{TableForm, TableRequest};
 pub use write::{SessionsHalt, write_sessions};
