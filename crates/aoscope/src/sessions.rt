@@ -4,7 +4,8 @@ use book_base::Bytes;
 use clap::{Arg, ArgAction, ArgMatches, Command};
 use key_faults::push_key_fault;
 use scope_lines::push_fault;
-use scope_sessions::{LineKind, SessionsHalt, write_sessions};
+use scope_sessions::{LineKind, SessionsHalt, TableForm, TableRequest, write_sessions};
+use scope_texts::read_duration;
 use std::alloc::{AllocError, Global};
 use std::fs::File;
 use text_lines::{push_newline, push_number, push_text};
@@ -30,11 +31,21 @@ ADDRESS PORT ISN, each number behind the socket that chose it; an empty line and
 that begins with # say nothing. The capture is judged as if these sessions' handshakes stood in front of it, one \
 after another.
 
+With --json the same table is an object of JSON on one line, for programs: its members are packets, sessions, keys \
+and amiss. Times are strings of RFC 3339 in UTC; a KeyID that isn't there, a key that was never used, one that \
+nobody asks for, and whether a key may go where nothing is known of it, are null.
+
+With --every N, seconds or with a unit as in 90s, 10m, 2h, a table is written also while the capture is read: in \
+front of the first packet that was seen N or more after the last table, or after the first packet. Behind such a \
+table stands a line with that packet's time; a table in JSON is a line, and has none.
+
 Status 0: all segments are verified; 1: one isn't, or a packet that can't be read may be one; 3: keys; 4: \
 also FILE; the others as above.
 
     aoscope sessions KEYS < CAPTURE
-    aoscope sessions KEYS --isn FILE < CAPTURE";
+    aoscope sessions KEYS --isn FILE < CAPTURE
+    aoscope sessions KEYS --json < CAPTURE
+    tcpdump -i IFACE -s 0 -U -w - 'tcp port 179' | aoscope sessions KEYS --every 10s";
 
 /// The word with its page of help.
 pub(crate) fn command<'a>(alloc: Global) -> Result<Command<'a>, AllocError> {
@@ -47,11 +58,22 @@ pub(crate) fn command<'a>(alloc: Global) -> Result<Command<'a>, AllocError> {
         .value_name("FILE")
         .help("Initial sequence numbers of sessions that began before the capture")
         .action(ArgAction::Set);
+    let json = Arg::new(alloc, "json")
+        .long("json")
+        .help("Write the table as one line of JSON")
+        .action(ArgAction::SetTrue);
+    let every = Arg::new(alloc, "every")
+        .long("every")
+        .value_name("N")
+        .help("Write a table also each N of the capture's own time")
+        .action(ArgAction::Set);
     Command::new(alloc, "sessions")
         .about(ABOUT)
         .after_help(AFTER)
         .arg(keys)?
-        .arg(isn)
+        .arg(isn)?
+        .arg(json)?
+        .arg(every)
 }
 
 fn status(halt: SessionsHalt) -> u8 {
@@ -127,15 +149,44 @@ fn read_isns(rt: &HostRuntime, path: Option<&str>) -> Result<Bytes, ReadProblem>
     }
 }
 
-/// Writes the table of the capture on standard input.
-fn write(rt: &HostRuntime, keys: &[u8], isns: &[u8]) -> u8 {
+/// In which form the words ask for the table.
+fn form(matches: &ArgMatches<'_>) -> TableForm {
+    if matches.get_flag("json") {
+        TableForm::Json
+    } else {
+        TableForm::Lines
+    }
+}
+
+/// After how long the next table is due, if the words say it; an error where they say no length of time.
+fn every(matches: &ArgMatches<'_>) -> Result<Option<u64>, ()> {
+    match matches.get_str("every") {
+        None => Ok(None),
+        Some(text) => match read_duration(text.as_bytes()) {
+            Some(every) => Ok(Some(every)),
+            None => Err(()),
+        },
+    }
+}
+
+/// Writes the tables of the capture on standard input that are asked for.
+fn write(rt: &HostRuntime, request: TableRequest, keys: &[u8], isns: &[u8]) -> u8 {
     let mut input = ReadSource::new(rt.stdin());
     let mut out = WriteSink::new(rt.stdout());
-    match write_sessions(rt.alloc(), keys, isns, &mut input, &mut out) {
+    match write_sessions(rt.alloc(), request, keys, isns, &mut input, &mut out) {
         Ok(false) => 0,
         Ok(true) => 1,
         Err(halt) => tell(rt, halt),
     }
+}
+
+/// N is no length of time.
+fn tell_every(rt: &HostRuntime) -> u8 {
+    let _ = write_all(
+        &mut WriteSink::new(rt.stderr()),
+        b"usage: N is no length of time\n",
+    );
+    2
 }
 
 /// A file isn't read; `long` and `status` are of one of too many bytes.
@@ -150,18 +201,29 @@ fn tell_unread(rt: &HostRuntime, problem: ReadProblem, long: &[u8], status: u8) 
     }
 }
 
-/// What the word asks for.
-pub(crate) fn run(rt: &HostRuntime, matches: &ArgMatches<'_>) -> u8 {
-    let path = match matches.get_str("KEYS") {
-        Some(path) => path,
-        None => return tell(rt, SessionsHalt::Memory),
-    };
+/// What is asked for of the key file at this path and the capture.
+fn run_over(rt: &HostRuntime, matches: &ArgMatches<'_>, request: TableRequest, path: &str) -> u8 {
     let keys = match read_file(rt, path, MOST_KEYS) {
         Ok(keys) => keys,
         Err(problem) => return tell_unread(rt, problem, b"keys: too long\n", 3),
     };
     match read_isns(rt, matches.get_str("isn")) {
-        Ok(isns) => write(rt, keys.as_slice(), isns.as_slice()),
+        Ok(isns) => write(rt, request, keys.as_slice(), isns.as_slice()),
         Err(problem) => tell_unread(rt, problem, b"isn: too long\n", 4),
+    }
+}
+
+/// What the word asks for.
+pub(crate) fn run(rt: &HostRuntime, matches: &ArgMatches<'_>) -> u8 {
+    let request = match every(matches) {
+        Ok(every) => TableRequest {
+            form: form(matches),
+            every,
+        },
+        Err(()) => return tell_every(rt),
+    };
+    match matches.get_str("KEYS") {
+        Some(path) => run_over(rt, matches, request, path),
+        None => tell(rt, SessionsHalt::Memory),
     }
 }

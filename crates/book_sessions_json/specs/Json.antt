@@ -15,16 +15,15 @@ json_byte b =
 unfoldable pub json_string : List ℕ → List ℕ
 json_string text = 34 ∷ (flat_map json_byte text ++ 34 ∷ [])
 
--- values, each behind a comma (RFC 8259, sections 4 and 5)
-abbrev pub json_others : List (List ℕ) → List ℕ
-json_others [] = []
-json_others (x ∷ xs) = 44 ∷ (x ++ json_others xs)
+-- what stands in front of a value: nothing where it is the first, else a comma (RFC 8259, sections 4
+-- and 5)
+abbrev pub json_comma : (first : Bool) → List ℕ
+json_comma first = if first then [] else 44 ∷ []
 
 -- values, a comma between each two; behind others also one in front (RFC 8259, sections 4 and 5)
 abbrev pub json_items : (first : Bool) → List (List ℕ) → List ℕ
 json_items first [] = []
-json_items true (x ∷ xs) = x ++ json_others xs
-json_items false (x ∷ xs) = 44 ∷ (x ++ json_others xs)
+json_items first (x ∷ xs) = json_comma first ++ (x ++ json_items false xs)
 
 -- an array (RFC 8259, section 5)
 abbrev pub json_array : List (List ℕ) → List ℕ

@@ -1,2 +1,4 @@
+pub mod Forms
 pub mod Json
 pub mod SessionJson
+pub mod TableSeries

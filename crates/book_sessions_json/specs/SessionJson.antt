@@ -16,17 +16,17 @@ use Rattle.book_sessions.specs.OutcomeTexts.{outcome_text, passed_text}
 use Rattle.book_sessions.specs.Counts.{all_counted, all_passed}
 use Rattle.book_sessions.specs.KeyLines.{asks_row_still, carries_row, is_wanted, last_of}
 use Rattle.book_sessions.specs.SessionTexts.{earliest_seen, latest_seen, is_of_session}
-use Rattle.book_sessions.specs.SessionTexts.{opens_session, seen_text, has_amiss}
+use Rattle.book_sessions.specs.SessionTexts.{opens_session, has_amiss}
 use Rattle.book_sessions.specs.Sessions.{SessionTable}
 use Rattle.book_sessions_json.specs.Json.{json_string, json_array, json_object, json_member}
 use Rattle.book_sessions_json.specs.Json.{json_bool, json_null}
 
 -- a time, in seconds since 1970, as a string (RFC 3339, section 5.6)
-abbrev pub time_json : ℕ → List ℕ
+unfoldable pub time_json : ℕ → List ℕ
 time_json seconds = json_string (instant_text seconds)
 
 -- an address as a string (RFC 5952, section 4)
-abbrev pub address_json : Address → List ℕ
+unfoldable pub address_json : Address → List ℕ
 address_json address = json_string (usual_address_text address)
 
 -- a KeyID, if there is one (RFC 5925, section 2.2, and own)
@@ -35,7 +35,7 @@ id_json None = json_null
 id_json (Some id) = decimal id
 
 -- packets that are passed over for one reason (own)
-abbrev pub passed_json : PassedCount → List ℕ
+unfoldable pub passed_json : PassedCount → List ℕ
 passed_json c = json_object (json_member (codes "packets") (decimal c.packets)
     ∷ json_member (codes "reason") (json_string (passed_text c.why)) ∷ [])
 
@@ -51,7 +51,7 @@ last_json (u ∷ us) = time_json (latest_seen u.last us)
 
 -- the packets of a capture: how many are segments, from when to when these were seen, how many are
 -- none, and why (own)
-abbrev pub packets_json : SessionTable → List ℕ
+unfoldable pub packets_json : SessionTable → List ℕ
 packets_json t = json_object (json_member (codes "segments") (decimal (all_counted t.uses))
     ∷ json_member (codes "first") (first_json t.uses)
     ∷ json_member (codes "last") (last_json t.uses)
@@ -59,18 +59,18 @@ packets_json t = json_object (json_member (codes "segments") (decimal (all_count
     ∷ json_member (codes "reasons") (json_array (map passed_json t.passed)) ∷ [])
 
 -- an end of a session (own)
-abbrev pub end_json : Socket → List ℕ
+unfoldable pub end_json : Socket → List ℕ
 end_json s = json_object (json_member (codes "address") (address_json s.address)
     ∷ json_member (codes "port") (decimal s.port) ∷ [])
 
--- the place of a segment's sender among the ends of its session, of which these are the first
--- segments (own)
+-- the place of a segment's sender among the ends of its session, from 0, of which these are the
+-- first segments (own)
 abbrev pub sender_place : (heading one : KeyUse) → ℕ
 sender_place heading u = if same_socket u.source heading.source then 0 else 1
 
 -- the segments of one direction with one KeyID, of which the same is said (own)
-abbrev pub use_json : (heading one : KeyUse) → List ℕ
-use_json heading u = json_object (json_member (codes "from") (decimal (sender_place heading u))
+unfoldable pub use_json : (heading one : KeyUse) → List ℕ
+use_json heading u = json_object (json_member (codes "sender") (decimal (sender_place heading u))
     ∷ json_member (codes "key_id") (id_json u.key_id)
     ∷ json_member (codes "outcome") (json_string (outcome_text u.outcome))
     ∷ json_member (codes "segments") (decimal u.segments)
@@ -84,12 +84,12 @@ uses_json number heading uses =
     json_array (map (use_json heading) (filter (is_of_session number) uses))
 
 -- a session, by the first segments of it; there is none without segments (own)
-abbrev pub heading_json : List KeyUse → (number : ℕ) → Option KeyUse → List ℕ
+unfoldable pub heading_json : List KeyUse → (number : ℕ) → Option KeyUse → List ℕ
 heading_json uses number None = json_null
 heading_json uses number (Some u) = json_object (json_member (codes "number") (decimal number)
     ∷ json_member (codes "ends") (json_array (end_json u.source ∷ end_json u.destination ∷ []))
-    ∷ json_member (codes "handshake")
-    (json_string (seen_text (list_any (opens_session number) uses)))
+    ∷ json_member (codes "handshake_seen")
+    (json_bool (list_any (opens_session number) uses))
     ∷ json_member (codes "directions") (uses_json number u uses) ∷ [])
 
 -- the session of this number (own)
@@ -102,14 +102,14 @@ numbers_to zero = []
 numbers_to (suc n) = numbers_to n ++ suc n ∷ []
 
 -- who sent the last of the segments that carry a row's KeyID, and when (own)
-abbrev pub last_used_json : Option KeyUse → List ℕ
+unfoldable pub last_used_json : Option KeyUse → List ℕ
 last_used_json None = json_null
 last_used_json (Some u) = json_object (json_member (codes "at") (time_json u.last)
     ∷ json_member (codes "session") (decimal u.session)
     ∷ json_member (codes "from") (address_json u.source.address) ∷ [])
 
 -- who asks for a row (own)
-abbrev pub asked_for_json : Option KeyUse → List ℕ
+unfoldable pub asked_for_json : Option KeyUse → List ℕ
 asked_for_json None = json_null
 asked_for_json (Some u) = json_object (json_member (codes "by") (address_json u.source.address)
     ∷ json_member (codes "session") (decimal u.session) ∷ [])
@@ -122,7 +122,7 @@ may_go_json true false = json_bool true
 may_go_json false false = json_null
 
 -- the row of this number of a node (own)
-abbrev pub key_json : List KeyUse → Table → (number : ℕ) → Row → List ℕ
+unfoldable pub key_json : List KeyUse → Table → (number : ℕ) → Row → List ℕ
 key_json uses t n r = json_object (json_member (codes "node") (json_string t.name)
     ∷ json_member (codes "row") (decimal n)
     ∷ json_member (codes "send_id") (decimal r.send_id)

@@ -1,7 +1,10 @@
-//! A table of sessions in JSON: what its text says, for programs that watch it. Definitions; the empty
-//! function carries a theorem about them.
+//! A table of sessions in JSON, for programs that watch it, and the tables that are written of a capture
+//! while it is read. Definitions, with the plain types that code shares with them; the empty function
+//! carries a theorem about them.
 #![tactic(auto)]
 
+mod form;
 mod laws;
 
+pub use form::{TableForm, TableRequest};
 pub use laws::each_session_and_row_has_an_entry;

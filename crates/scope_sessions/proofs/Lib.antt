@@ -2,6 +2,7 @@ pub mod Counting
 pub mod Ends
 pub mod GivenLaws
 pub mod HoldLaws
+pub mod JsonItems
 pub mod KeyWords
 pub mod Placing
 pub mod Walk

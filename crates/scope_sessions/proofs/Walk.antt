@@ -1,116 +1,180 @@
 -- From one part of a capture to the next, and to each end.
-use Rattle.std.proofs.Common.{◌≡◌, ℕ, ◌-◌, ◌<◌, ◌≤◌, false, List, [], ◌∷◌, ◌++◌, length, true, Option, Some, None, Ok, Err, IsSome, refl, sym, ap, ◌∙◌, append_assoc, arith}
+use Rattle.std.proofs.Common.{◌≡◌, ℕ, ◌+◌, ◌-◌, ◌/◌, ◌<◌, ◌≤◌, false, List, [], ◌∷◌, ◌++◌, length, take, true, Option, Some, None, Ok, Err, IfSome, IsSome, refl, sym, ap, ◌∙◌, append_assoc, arith, option_map}
+use Rattle.std.proofs.Math.Seq.{take-append-add}
 use Rattle.std.proofs.lemmas.List.{append-nil, length-append}
 use Rattle.std.proofs.lemmas.List.Elements.{All-append, All-from_get_or}
 use Rattle.std.specs.List.{All}
-use Rattle.ao_base.specs.Outside.{Side, Gave, told}
-use Rattle.ao_base.proofs.Sides.{gave_more, gave_none, rose_after}
+use Rattle.ao_base.specs.Outside.{Side, Gave, WasWritten, told}
+use Rattle.ao_base.proofs.Sides.{gave_more, gave_none, rose_after, took_and_none, took_more, took_none}
 use Rattle.book_captures.specs.declared.capture_parts.CaptureFault.{CaptureFault}
 use Rattle.book_captures.specs.Parts.{PartSaid}
 use Rattle.book_captures.specs.Captures.{CapturePacket, capture_of}
-use Rattle.book_cmd_check.specs.declared.given.GivenIsns.{GivenIsns}
 use Rattle.book_cmd_check.specs.Captures.{Connection}
 use Rattle.book_cmd_check.specs.Handshakes.{given_after}
-use Rattle.book_keys.specs.Rows.{Table}
 use Rattle.book_sessions.specs.Sessions.{SessionTable, no_sessions, sessions_from, sessions_of}
+use Rattle.book_sessions_json.specs.TableSeries.{Series, counted_since, due_table, due_text, due_texts, early_text, second_seen}
 use Rattle.capture_check.specs.Checkers.{Checking, StandsFor}
 use Rattle.capture_stream.specs.declared.reader.CaptureStep.TheVariants as step
 use Rattle.capture_stream.specs.declared.reader.CaptureHalt.TheVariants as stream_halt
 use Rattle.book_base.specs.Hexadecimal.{IsByte}
 use Rattle.capture_stream.specs.Reads.{Reading, new_reading, ShowsNone, Passes, Steps}
-use Rattle.scope_lines.proofs.Showing.{HasShown, listed, none_listed, read_before, read_now, shown_all, shown_more, shown_none}
+use Rattle.scope_lines.proofs.Showing.{HasShown, listed, none_listed, one_listed, read_before, read_now, shown_all, shown_more, shown_none}
 use Rattle.scope_sessions.specs.declared.count.Counted.{Counted}
 use Rattle.scope_sessions.specs.declared.count.CountHalt.TheVariants as halt
 use Rattle.scope_sessions.specs.Counting.{CountsPacket, table_of}
-use Rattle.scope_sessions.specs.Reading.{Counts}
+use Rattle.scope_sessions.specs.Reading.{BreaksEarly, Counts}
+use Rattle.scope_sessions.specs.Texts.{BreaksText}
 
 -- these packets were counted: whatever packets follow
-pub record HasHeard (tables : List Table) (isns : List GivenIsns) (checking : Checking) (table : SessionTable) (shown : List CapturePacket) : Type 0 where
+pub record HasHeard (s : Series) (checking : Checking) (table : SessionTable) (shown : List CapturePacket) : Type 0 where
   pub held : List Connection
-  pub same : checking.tables ≡ tables
+  pub same : checking.tables ≡ s.tables
   pub stands : StandsFor checking.entries held
-  pub comes : (ps : List CapturePacket) → sessions_from tables (given_after [] isns) no_sessions (shown ++ ps) ≡ sessions_from tables held table ps
+  pub comes : (ps : List CapturePacket) → sessions_from s.tables (given_after [] s.given) no_sessions (shown ++ ps) ≡ sessions_from s.tables held table ps
+
+-- a text breaks behind another one
+pub breaks_more : (front text : List ℕ) (o q r : Side) → WasWritten front o q → BreaksText [] text q r → BreaksText front (front ++ text) o r
+breaks_more front text o q r wrote b =
+    let size = length-append front text in
+    let low = b.not_all in
+    let cut : take (length front + b.n) (front ++ text) ≡ front ++ take b.n text = take-append-add front text b.n in
+    record {
+      n = length front + b.n;
+      at_least = omega arith;
+      not_all = omega arith;
+      wrote = rw cut (took_more front (take b.n text) o q r wrote b.wrote);
+      rose = rose_after (length front) o q r wrote.counts b.rose;
+    }
+
+-- the tables were written that were due in front of these packets, behind which the seconds are counted since then:
+-- whatever packets follow
+pub record HasWritten (s : Series) (shown : List CapturePacket) (since : Option ℕ) (out_before out_now : Side) : Type 0 where
+  pub text : List ℕ
+  pub wrote : WasWritten text out_before out_now
+  pub comes : (ps : List CapturePacket) → due_texts s [] None (shown ++ ps) ≡ text ++ due_texts s shown since ps
+
+written_none : (s : Series) (o : Side) → HasWritten s [] None o o
+written_none s o = record { text = []; wrote = took_none o; comes = λ ps. refl }
+
+-- what was written is what was due
+early_is : (s : Series) (shown : List CapturePacket) (since : Option ℕ) (o p : Side) → (w : HasWritten s shown since o p) → early_text s shown ≡ w.text
+unfolding early_text
+early_is s shown since o p w =
+    ap (due_texts s [] None) (sym (append-nil shown)) ∙ (w.comes [] ∙ append-nil w.text)
+
+early_written : (s : Series) (shown : List CapturePacket) (since : Option ℕ) (o p : Side) → HasWritten s shown since o p → WasWritten (early_text s shown) o p
+early_written s shown since o p w = rw (early_is s shown since o p w) w.wrote
+
+-- what is due in front of one packet more
+early_more : (s : Series) (shown : List CapturePacket) (since : Option ℕ) (o p : Side) (last : CapturePacket) → HasWritten s shown since o p
+    → early_text s (shown ++ last ∷ []) ≡ early_text s shown ++ due_text s shown since (second_seen last)
+unfolding early_text
+early_more s shown since o p last w =
+    w.comes (last ∷ []) ∙ (ap (λ (x : List ℕ). w.text ++ x) (append-nil (due_text s shown since (second_seen last)))
+    ∙ ap (λ (x : List ℕ). x ++ due_text s shown since (second_seen last)) (sym (early_is s shown since o p w)))
+
+-- one packet more
+written_one : (s : Series) (shown : List CapturePacket) (since : Option ℕ) (o p q : Side) (packet : Option CapturePacket) (last : CapturePacket) → packet ≡ Some last → HasWritten s shown since o p → WasWritten (due_text s shown since (second_seen last)) p q
+    → HasWritten s (shown ++ listed packet) (counted_since s.request.every since (second_seen last)) o q
+written_one s shown since o p q packet last is w due = rw is (record {
+  text = w.text ++ due_text s shown since (second_seen last);
+  wrote = took_more w.text (due_text s shown since (second_seen last)) o p q w.wrote due;
+  comes = λ ps. ap (due_texts s [] None) (append_assoc shown (last ∷ []) ps)
+      ∙ (w.comes (last ∷ ps)
+      ∙ sym (append_assoc w.text (due_text s shown since (second_seen last)) (due_texts s (shown ++ last ∷ []) (counted_since s.request.every since (second_seen last)) ps)));
+})
+
+-- no packet more
+written_still : (s : Series) (shown : List CapturePacket) (packet : Option CapturePacket) (since : Option ℕ) (o p : Side) → listed packet ≡ [] → HasWritten s shown since o p → HasWritten s (shown ++ listed packet) since o p
+written_still s shown packet since o p none w =
+    let same : shown ++ listed packet ≡ shown = ap (λ (ps : List CapturePacket). shown ++ ps) none ∙ append-nil shown in
+    rw same w
 
 -- between two parts: these bytes were given, these packets shown and counted
-pub record Between (tables : List Table) (isns : List GivenIsns) (reader : Reading) (checking : Checking) (table : SessionTable) (given : List ℕ) (shown : List CapturePacket) (source_before source_now : Side) : Type 0 where
+pub record Between (s : Series) (reader : Reading) (checking : Checking) (table : SessionTable) (since : Option ℕ) (given : List ℕ) (shown : List CapturePacket) (source_before source_now out_before out_now : Side) : Type 0 where
   pub gave : Gave given source_before source_now
   pub bytes : All IsByte given
   pub shows : HasShown reader given shown
   pub within : reader.counts.bytes ≤ 9223372036854775808
   pub going : reader.over ≡ false
-  pub heard : HasHeard tables isns checking table shown
+  pub heard : HasHeard s checking table shown
+  pub writes : HasWritten s shown since out_before out_now
 
 pub all_none : All IsByte []
 all_none = All-from_get_or IsByte [] 0 (λ i within. absurd (omega arith))
 
 -- before the first part
-pub between_new : (tables : List Table) (isns : List GivenIsns) (reader : Reading) (checking : Checking) (table : SessionTable) (source : Side) → reader ≡ new_reading → checking.tables ≡ tables → StandsFor checking.entries (given_after [] isns) → table ≡ no_sessions →
-    Between tables isns reader checking table [] [] source source
-between_new tables isns reader checking table source is same stands none = rw (is, none) (record {
+pub between_new : (s : Series) (reader : Reading) (checking : Checking) (table : SessionTable) (source out : Side) → reader ≡ new_reading → checking.tables ≡ s.tables → StandsFor checking.entries (given_after [] s.given) → table ≡ no_sessions →
+    Between s reader checking table None [] [] source source out out
+between_new s reader checking table source out is same stands none = rw (is, none) (record {
   gave = gave_none source;
   bytes = all_none;
   shows = shown_none;
   within = omega arith;
   going = refl;
-  heard = record { held = given_after [] isns; same = same; stands = stands; comes = λ ps. refl };
+  heard = record { held = given_after [] s.given; same = same; stands = stands; comes = λ ps. refl };
+  writes = written_none s out;
 })
 
 -- memory ran out before the first part
-pub ends_none : (tables : List Table) (isns : List GivenIsns) (source : Side) → Counts tables isns [] source source (Err halt.Memory)
-ends_none tables isns source = record {
+pub ends_none : (s : Series) (source out : Side) → Counts s [] source source out out (Err halt.Memory)
+ends_none s source out = record {
   gave = gave_none source;
   bytes = all_none;
-  ends = record { read = []; has_read = read_now new_reading [] [] shown_none };
+  ends = record { read = []; later = []; one = omega arith; has_read = read_now new_reading [] [] shown_none; wrote = early_written s [] None out out (written_none s out) };
 }
 
 -- no packet more
-heard_none : (tables : List Table) (isns : List GivenIsns) (checking : Checking) (table : SessionTable) (shown : List CapturePacket) (packet : Option CapturePacket) → listed packet ≡ [] → HasHeard tables isns checking table shown → HasHeard tables isns checking table (shown ++ listed packet)
-heard_none tables isns checking table shown packet none heard =
+heard_none : (s : Series) (checking : Checking) (table : SessionTable) (shown : List CapturePacket) (packet : Option CapturePacket) → listed packet ≡ [] → HasHeard s checking table shown → HasHeard s checking table (shown ++ listed packet)
+heard_none s checking table shown packet none heard =
     let same : shown ++ listed packet ≡ shown = ap (λ (ps : List CapturePacket). shown ++ ps) none ∙ append-nil shown in
     rw same heard
 
 -- a packet more
-heard_one : (tables : List Table) (isns : List GivenIsns) (before now : Checking) (table table_now : SessionTable) (shown : List CapturePacket) (packet : Option CapturePacket) (p : CapturePacket) → packet ≡ Some p → now.tables ≡ before.tables →
-    (heard : HasHeard tables isns before table shown) → CountsPacket tables heard.held now.entries table table_now p → HasHeard tables isns now table_now (shown ++ listed packet)
-heard_one tables isns before now table table_now shown packet p is same heard counted = rw is (record {
+heard_one : (s : Series) (before now : Checking) (table table_now : SessionTable) (shown : List CapturePacket) (packet : Option CapturePacket) (p : CapturePacket) → packet ≡ Some p → now.tables ≡ before.tables →
+    (heard : HasHeard s before table shown) → CountsPacket s.tables heard.held now.entries table table_now p → HasHeard s now table_now (shown ++ listed packet)
+heard_one s before now table table_now shown packet p is same heard counted = rw is (record {
   held = counted.held_now;
   same = same ∙ heard.same;
   stands = counted.stands;
-  comes = λ ps. ap (sessions_from tables (given_after [] isns) no_sessions) (append_assoc shown (p ∷ []) ps)
-      ∙ (heard.comes (p ∷ ps) ∙ counted.counts (λ connections later. sessions_from tables connections later ps));
+  comes = λ ps. ap (sessions_from s.tables (given_after [] s.given) no_sessions) (append_assoc shown (p ∷ []) ps)
+      ∙ (heard.comes (p ∷ ps) ∙ counted.counts (λ connections later. sessions_from s.tables connections later ps));
 })
 
 -- what is counted is the table of the packets
-heard_all : (tables : List Table) (isns : List GivenIsns) (checking : Checking) (table : SessionTable) (shown : List CapturePacket) → HasHeard tables isns checking table shown → table ≡ sessions_of tables isns shown
+heard_all : (s : Series) (checking : Checking) (table : SessionTable) (shown : List CapturePacket) → HasHeard s checking table shown → table ≡ sessions_of s.tables s.given shown
 unfolding sessions_of
-heard_all tables isns checking table shown heard =
-    sym (ap (sessions_from tables (given_after [] isns) no_sessions) (sym (append-nil shown)) ∙ heard.comes [])
+heard_all s checking table shown heard =
+    sym (ap (sessions_from s.tables (given_after [] s.given) no_sessions) (sym (append-nil shown)) ∙ heard.comes [])
 
-module _ (tables : List Table) (isns : List GivenIsns) (before : Reading) (checking : Checking) (table : SessionTable) (given next : List ℕ) (shown : List CapturePacket) (a b c : Side) (between : Between tables isns before checking table given shown a b) where
+module _ (s : Series) (before : Reading) (checking : Checking) (table : SessionTable) (since : Option ℕ) (given next : List ℕ) (shown : List CapturePacket) (a b c o q : Side) (between : Between s before checking table since given shown a b o q) where
   gave_all : Gave next b c → Gave (given ++ next) a c
   gave_all gave = gave_more given next a b c between.gave gave
 
   bytes_all : All IsByte next → All IsByte (given ++ next)
   bytes_all bytes = All-append IsByte given next between.bytes bytes
 
+  wrote_before : WasWritten (early_text s shown) o q
+  wrote_before = early_written s shown since o q between.writes
+
   -- the capture's end
-  pub ends_done : (now : Reading) (counted : Counted) → counted.checker ≡ checking → table_of counted.tally ≡ table → counted.fault ≡ None → Steps before now b c next (Ok step.End) → Counts tables isns (given ++ next) a c (Ok counted)
+  pub ends_done : (now : Reading) (counted : Counted) → counted.checker ≡ checking → table_of counted.tally ≡ table → counted.fault ≡ None → Steps before now b c next (Ok step.End) → Counts s (given ++ next) a c o q (Ok counted)
   ends_done now counted by is none steps =
       let all : capture_of (given ++ next) ≡ record { packets = shown; passed = before.passed; fault = None } = shown_all before given next shown between.shows None (steps.answers.2) in
       record {
         gave = gave_all steps.gave;
         bytes = bytes_all steps.bytes;
-        ends = record {
+        ends = (record {
           tables_are = ap (λ (k : Checking). k.tables) by ∙ between.heard.same;
-          table_is = rw all (is ∙ heard_all tables isns checking table shown between.heard);
+          table_is = rw all (is ∙ heard_all s checking table shown between.heard);
           fault_is = none ∙ sym (ap (λ c. c.fault) all);
           whole = rw none (steps.answers.1);
           has_read = rw all (read_before before given next shown between.shows);
-        };
+        }, rw all wrote_before);
       }
 
   -- a fault of the capture
-  pub ends_broken : (now : Reading) (fault : CaptureFault) (counted : Counted) → counted.checker ≡ checking → table_of counted.tally ≡ table → counted.fault ≡ Some fault → Steps before now b c next (Err (stream_halt.Broken fault)) → Counts tables isns (given ++ next) a c (Ok counted)
+  pub ends_broken : (now : Reading) (fault : CaptureFault) (counted : Counted) → counted.checker ≡ checking → table_of counted.tally ≡ table → counted.fault ≡ Some fault → Steps before now b c next (Err (stream_halt.Broken fault)) → Counts s (given ++ next) a c o q (Ok counted)
   ends_broken now fault counted by is some steps =
       let left = told c.bytes in
       let all : capture_of (given ++ next) ≡ record { packets = shown; passed = before.passed; fault = Some fault } = shown_all before given next shown between.shows (Some fault) (steps.answers.1) in
@@ -121,28 +185,28 @@ module _ (tables : List Table) (isns : List GivenIsns) (before : Reading) (check
       record {
         gave = gave_all steps.gave;
         bytes = bytes_all steps.bytes;
-        ends = record {
+        ends = (record {
           tables_are = ap (λ (k : Checking). k.tables) by ∙ between.heard.same;
-          table_is = rw all (is ∙ heard_all tables isns checking table shown between.heard);
+          table_is = rw all (is ∙ heard_all s checking table shown between.heard);
           fault_is = some ∙ sym (ap (λ c. c.fault) all);
           whole = rw some whole;
           has_read = rw all (read_before before given next shown between.shows);
-        };
+        }, rw all wrote_before);
       }
 
   -- a read that failed
-  pub ends_read : (now : Reading) → Steps before now b c next (Err stream_halt.Read) → Counts tables isns (given ++ next) a c (Err halt.Read)
+  pub ends_read : (now : Reading) → Steps before now b c next (Err stream_halt.Read) → Counts s (given ++ next) a c o q (Err halt.Read)
   ends_read now steps = record {
     gave = gave_all steps.gave;
     bytes = bytes_all steps.bytes;
     ends = (
       rose_after (length given) a b c between.gave.counts (steps.answers.1),
-      record { read = shown; has_read = read_before before given next shown between.shows },
+      record { read = shown; has_read = read_before before given next shown between.shows; wrote = wrote_before },
     );
   }
 
   -- more bytes than any file has
-  pub ends_long : (now : Reading) → Steps before now b c next (Err stream_halt.TooLong) → Counts tables isns (given ++ next) a c (Err halt.TooLong)
+  pub ends_long : (now : Reading) → Steps before now b c next (Err stream_halt.TooLong) → Counts s (given ++ next) a c o q (Err halt.TooLong)
   ends_long now steps =
       let split : length (given ++ next) ≡ length (between.shows.front ++ (before.kept ++ next)) =
       ap length (ap (λ xs. xs ++ next) between.shows.split ∙ append_assoc between.shows.front before.kept next) in
@@ -152,7 +216,7 @@ module _ (tables : List Table) (isns : List GivenIsns) (before : Reading) (check
       record {
         gave = gave_all steps.gave;
         bytes = bytes_all steps.bytes;
-        ends = (omega arith, record { read = shown; has_read = read_before before given next shown between.shows });
+        ends = (omega arith, record { read = shown; has_read = read_before before given next shown between.shows; wrote = wrote_before });
       }
 
   -- one more part was read, which says this
@@ -164,44 +228,123 @@ module _ (tables : List Table) (isns : List GivenIsns) (before : Reading) (check
         let most = passes.within in
         omega arith
 
-    between_listed : (checking_now : Checking) (table_now : SessionTable) → HasHeard tables isns checking_now table_now (shown ++ listed now.packet) → Between tables isns now checking_now table_now (given ++ next) (shown ++ listed now.packet) a c
-    between_listed checking_now table_now heard = record {
+    between_listed : (checking_now : Checking) (table_now : SessionTable) (since_now : Option ℕ) (r : Side) → HasHeard s checking_now table_now (shown ++ listed now.packet) → HasWritten s (shown ++ listed now.packet) since_now o r
+        → Between s now checking_now table_now since_now (given ++ next) (shown ++ listed now.packet) a c o r
+    between_listed checking_now table_now since_now r heard writes = record {
       gave = gave_all gave;
       bytes = bytes_all bytes;
       shows = shown_more before given next shown between.shows now said passes;
       within = passes.within;
       going = passes.going;
       heard = heard;
+      writes = writes;
     }
 
     -- which showed no packet
-    pub between_block : ShowsNone said → Between tables isns now checking table (given ++ next) (shown ++ listed now.packet) a c
-    between_block none = between_listed checking table
-        (heard_none tables isns checking table shown now.packet (ap listed passes.shown ∙ none_listed said before.counts.packets none) between.heard)
+    pub between_block : ShowsNone said → Between s now checking table since (given ++ next) (shown ++ listed now.packet) a c o q
+    between_block none =
+        let gone = ap listed passes.shown ∙ none_listed said before.counts.packets none in
+        between_listed checking table since q (heard_none s checking table shown now.packet gone between.heard) (written_still s shown now.packet since o q gone between.writes)
 
-    -- which showed a packet, that was counted
-    pub between_packet : (checking_now : Checking) (table_now : SessionTable) (p : CapturePacket) → now.packet ≡ Some p → checking_now.tables ≡ checking.tables → CountsPacket tables between.heard.held checking_now.entries table table_now p
-        → Between tables isns now checking_now table_now (given ++ next) (shown ++ listed now.packet) a c
-    between_packet checking_now table_now p is same counted =
-        between_listed checking_now table_now (heard_one tables isns checking checking_now table table_now shown now.packet p is same between.heard counted)
+    -- what is due in front of the packet that it showed
+    due_is : (time seconds : Option ℕ) (p : CapturePacket) → now.packet ≡ Some p → IfSome now.packet (λ p. time ≡ p.frame.time) → seconds ≡ option_map (λ nanoseconds. nanoseconds / 1000000000) time
+        → due_table s.request checking.tables table since seconds ≡ due_text s shown since (second_seen p)
+    due_is time seconds p is time_is seconds_are =
+        let here : time ≡ p.frame.time = rw is at time_is in
+        let then : seconds ≡ second_seen p = seconds_are ∙ ap (λ (t : Option ℕ). option_map (λ nanoseconds. nanoseconds / 1000000000) t) here in
+        rw (then, between.heard.same) (ap (λ (t : SessionTable). due_table s.request s.tables t since (second_seen p)) (heard_all s checking table shown between.heard))
 
-    counted_by_packet : (checking_now : Checking) (table_now : SessionTable) (packet : Option CapturePacket) → now.packet ≡ packet → IsSome packet → checking_now.tables ≡ checking.tables
+    seconds_is : (time seconds : Option ℕ) (p : CapturePacket) → now.packet ≡ Some p → IfSome now.packet (λ p. time ≡ p.frame.time) → seconds ≡ option_map (λ nanoseconds. nanoseconds / 1000000000) time → seconds ≡ second_seen p
+    seconds_is time seconds p is time_is seconds_are =
+        let here : time ≡ p.frame.time = rw is at time_is in
+        seconds_are ∙ ap (λ (t : Option ℕ). option_map (λ nanoseconds. nanoseconds / 1000000000) t) here
+
+    -- which showed a packet, in front of which what was due was written, and which was counted
+    between_packet : (checking_now : Checking) (table_now : SessionTable) (time seconds since_now : Option ℕ) (r : Side) (p : CapturePacket) → now.packet ≡ Some p → IfSome now.packet (λ p. time ≡ p.frame.time)
+        → seconds ≡ option_map (λ nanoseconds. nanoseconds / 1000000000) time → since_now ≡ counted_since s.request.every since seconds
+        → WasWritten (due_table s.request checking.tables table since seconds) q r
+        → checking_now.tables ≡ checking.tables → CountsPacket s.tables between.heard.held checking_now.entries table table_now p
+        → Between s now checking_now table_now since_now (given ++ next) (shown ++ listed now.packet) a c o r
+    between_packet checking_now table_now time seconds since_now r p is time_is seconds_are since_is wrote same counted =
+        let then = seconds_is time seconds p is time_is seconds_are in
+        let counts : since_now ≡ counted_since s.request.every since (second_seen p) = since_is ∙ ap (counted_since s.request.every since) then in
+        between_listed checking_now table_now since_now r (heard_one s checking checking_now table table_now shown now.packet p is same between.heard counted)
+        (rw counts (written_one s shown since o q r now.packet p is between.writes (rw (due_is time seconds p is time_is seconds_are) at wrote)))
+
+    by_packet : (checking_now : Checking) (table_now : SessionTable) (time seconds since_now : Option ℕ) (r : Side) (packet : Option CapturePacket) → now.packet ≡ packet → IsSome packet → IfSome now.packet (λ p. time ≡ p.frame.time)
+        → seconds ≡ option_map (λ nanoseconds. nanoseconds / 1000000000) time → since_now ≡ counted_since s.request.every since seconds
+        → WasWritten (due_table s.request checking.tables table since seconds) q r → checking_now.tables ≡ checking.tables
         → ((p : CapturePacket) → now.packet ≡ Some p → CountsPacket checking.tables between.heard.held checking_now.entries table table_now p)
-        → Between tables isns now checking_now table_now (given ++ next) (shown ++ listed now.packet) a c
-    counted_by_packet checking_now table_now None is some same counts = let bad : false ≡ true = some in absurd (cc)
-    counted_by_packet checking_now table_now (Some p) is some same counts =
-        between_packet checking_now table_now p is same (rw between.heard.same at (counts p is))
+        → Between s now checking_now table_now since_now (given ++ next) (shown ++ listed now.packet) a c o r
+    by_packet checking_now table_now time seconds since_now r None is some time_is seconds_are since_is wrote same counts = let bad : false ≡ true = some in absurd (cc)
+    by_packet checking_now table_now time seconds since_now r (Some p) is some time_is seconds_are since_is wrote same counts =
+        between_packet checking_now table_now time seconds since_now r p is time_is seconds_are since_is wrote same (rw between.heard.same at (counts p is))
 
     -- the same, whatever it is
-    pub between_counted : (checking_now : Checking) (table_now : SessionTable) → IsSome now.packet → checking_now.tables ≡ checking.tables
+    pub between_counted : (checking_now : Checking) (table_now : SessionTable) (time seconds since_now : Option ℕ) (r : Side) → IsSome now.packet → IfSome now.packet (λ p. time ≡ p.frame.time)
+        → seconds ≡ option_map (λ nanoseconds. nanoseconds / 1000000000) time → since_now ≡ counted_since s.request.every since seconds
+        → WasWritten (due_table s.request checking.tables table since seconds) q r → checking_now.tables ≡ checking.tables
         → ((p : CapturePacket) → now.packet ≡ Some p → CountsPacket checking.tables between.heard.held checking_now.entries table table_now p)
-        → Between tables isns now checking_now table_now (given ++ next) (shown ++ listed now.packet) a c
-    between_counted checking_now table_now some same counts = counted_by_packet checking_now table_now now.packet refl some same counts
+        → Between s now checking_now table_now since_now (given ++ next) (shown ++ listed now.packet) a c o r
+    between_counted checking_now table_now time seconds since_now r some time_is seconds_are since_is wrote same counts =
+        by_packet checking_now table_now time seconds since_now r now.packet refl some time_is seconds_are since_is wrote same counts
 
-    -- memory ran out for it
-    pub ends_memory : Counts tables isns (given ++ next) a c (Err halt.Memory)
-    ends_memory = record {
+    -- memory ran out for it, behind what was due
+    memory_behind : (time seconds : Option ℕ) (r : Side) (packet : Option CapturePacket) → now.packet ≡ packet → IsSome packet → IfSome now.packet (λ p. time ≡ p.frame.time)
+        → seconds ≡ option_map (λ nanoseconds. nanoseconds / 1000000000) time → WasWritten (due_table s.request checking.tables table since seconds) q r
+        → WasWritten (early_text s (shown ++ listed now.packet)) o r
+    memory_behind time seconds r None is some time_is seconds_are wrote = let bad : false ≡ true = some in absurd (cc)
+    memory_behind time seconds r (Some p) is some time_is seconds_are wrote =
+        early_written s (shown ++ listed now.packet) (counted_since s.request.every since (second_seen p)) o r
+        (written_one s shown since o q r now.packet p is between.writes (rw (due_is time seconds p is time_is seconds_are) at wrote))
+
+    pub ends_memory : (time seconds : Option ℕ) (r : Side) → IsSome now.packet → IfSome now.packet (λ p. time ≡ p.frame.time)
+        → seconds ≡ option_map (λ nanoseconds. nanoseconds / 1000000000) time → WasWritten (due_table s.request checking.tables table since seconds) q r
+        → Counts s (given ++ next) a c o r (Err halt.Memory)
+    ends_memory time seconds r some time_is seconds_are wrote = record {
       gave = gave_all gave;
       bytes = bytes_all bytes;
-      ends = record { read = shown ++ listed now.packet; has_read = read_now now (given ++ next) (shown ++ listed now.packet) (shown_more before given next shown between.shows now said passes) };
+      ends = record {
+        read = shown ++ listed now.packet;
+        later = [];
+        one = omega arith;
+        has_read = rw (append-nil (shown ++ listed now.packet)) (read_now now (given ++ next) (shown ++ listed now.packet) (shown_more before given next shown between.shows now said passes));
+        wrote = memory_behind time seconds r now.packet refl some time_is seconds_are wrote;
+      };
+    }
+
+    -- memory ran out for what was due
+    pub ends_lacking : (r : Side) → WasWritten [] q r → Counts s (given ++ next) a c o r (Err halt.Memory)
+    ends_lacking r none = record {
+      gave = gave_all gave;
+      bytes = bytes_all bytes;
+      ends = record {
+        read = shown;
+        later = listed now.packet;
+        one = one_listed now.packet;
+        has_read = read_now now (given ++ next) (shown ++ listed now.packet) (shown_more before given next shown between.shows now said passes);
+        wrote = took_and_none (early_text s shown) o q r wrote_before none;
+      };
+    }
+
+    -- what was due wasn't written
+    breaks_by : (time seconds : Option ℕ) (r : Side) (packet : Option CapturePacket) → now.packet ≡ packet → IsSome packet → IfSome now.packet (λ p. time ≡ p.frame.time)
+        → seconds ≡ option_map (λ nanoseconds. nanoseconds / 1000000000) time → BreaksText [] (due_table s.request checking.tables table since seconds) q r
+        → BreaksEarly s (given ++ next) o r
+    breaks_by time seconds r None is some time_is seconds_are breaks = let bad : false ≡ true = some in absurd (cc)
+    breaks_by time seconds r (Some p) is some time_is seconds_are breaks = record {
+      read = shown;
+      last = p;
+      has_read = rw is at (read_now now (given ++ next) (shown ++ listed now.packet) (shown_more before given next shown between.shows now said passes));
+      breaks = rw (early_more s shown since o q p between.writes)
+          (breaks_more (early_text s shown) (due_text s shown since (second_seen p)) o q r wrote_before (rw (due_is time seconds p is time_is seconds_are) at breaks));
+    }
+
+    pub ends_stuck : (time seconds : Option ℕ) (r : Side) → IsSome now.packet → IfSome now.packet (λ p. time ≡ p.frame.time)
+        → seconds ≡ option_map (λ nanoseconds. nanoseconds / 1000000000) time → BreaksText [] (due_table s.request checking.tables table since seconds) q r
+        → Counts s (given ++ next) a c o r (Err halt.Write)
+    ends_stuck time seconds r some time_is seconds_are breaks = record {
+      gave = gave_all gave;
+      bytes = bytes_all bytes;
+      ends = breaks_by time seconds r now.packet refl some time_is seconds_are breaks;
     }

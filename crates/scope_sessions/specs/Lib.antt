@@ -1,4 +1,6 @@
 pub mod Counting
 pub mod Given
+pub mod JsonParts
 pub mod Reading
+pub mod Texts
 pub mod Writing

@@ -1,12 +1,14 @@
 -- What is read of a capture and counted of it (own). Its top is `Counts`.
-use Rattle.std.specs.Prelude.{◌≡◌, ℕ, ◌<◌, List, ◌++◌, length, Option, Some, None, Result, Ok, Err}
+use Rattle.std.specs.Prelude.{◌≡◌, ℕ, ◌<◌, ◌≤◌, List, [], ◌∷◌, ◌++◌, length, Option, Some, None, Result, Ok, Err}
 use Rattle.std.specs.List.{All}
-use Rattle.ao_base.specs.Outside.{Side, Gave, Rose, IsAtEnd, told}
+use Rattle.ao_base.specs.Outside.{Side, Gave, WasWritten, Rose, IsAtEnd, told}
 use Rattle.book_captures.specs.declared.capture_parts.CaptureFault.{CaptureFault}
 use Rattle.book_captures.specs.Captures.{CapturePacket, capture_of}
 use Rattle.book_cmd_check.specs.declared.given.GivenIsns.{GivenIsns}
 use Rattle.book_keys.specs.Rows.{Table}
 use Rattle.book_sessions.specs.Sessions.{sessions_of}
+use Rattle.book_sessions_json.specs.declared.form.TableRequest.{TableRequest}
+use Rattle.book_sessions_json.specs.TableSeries.{Series, early_text}
 use Rattle.book_base.specs.Hexadecimal.{IsByte}
 use Rattle.capture_stream.specs.Reads.{most_read}
 use Rattle.scope_lines.specs.Writes.{HasRead}
@@ -14,6 +16,7 @@ use Rattle.scope_sessions.specs.declared.count.Counted.{Counted}
 use Rattle.scope_sessions.specs.declared.count.CountHalt.{CountHalt}
 use Rattle.scope_sessions.specs.declared.count.CountHalt.TheVariants as halt
 use Rattle.scope_sessions.specs.Counting.{table_of}
+use Rattle.scope_sessions.specs.Texts.{BreaksText}
 
 -- the source is at its end, where the capture has no fault; and where it has one, then whatever
 -- follows in the source
@@ -21,28 +24,52 @@ abbrev pub IsWhole : List ℕ → Side → Option CaptureFault → Type 0
 IsWhole given source_now None = IsAtEnd source_now
 IsWhole given source_now (Some fault) = capture_of (given ++ told source_now.bytes) ≡ capture_of given
 
+-- the tables that are asked for of a capture
+abbrev pub series_of : List Table → List GivenIsns → TableRequest → Series
+series_of tables given request = record { tables = tables; given = given; request = request }
+
 -- all packets of the capture were counted
-pub record HasCounted (tables : List Table) (isns : List GivenIsns) (given : List ℕ) (source_now : Side) (counted : Counted) : Type 0 where
-  pub tables_are : counted.checker.tables ≡ tables
-  pub table_is : table_of counted.tally ≡ sessions_of tables isns (capture_of given).packets
+pub record HasCounted (s : Series) (given : List ℕ) (source_now : Side) (counted : Counted) : Type 0 where
+  pub tables_are : counted.checker.tables ≡ s.tables
+  pub table_is : table_of counted.tally ≡ sessions_of s.tables s.given (capture_of given).packets
   pub fault_is : counted.fault ≡ (capture_of given).fault
   pub whole : IsWhole given source_now counted.fault
   pub has_read : HasRead given (capture_of given).packets
 
--- these packets were read
-pub record Stops (given : List ℕ) : Type 0 where
+-- these packets were read, and the tables written that were due in front of them
+pub record Stops (s : Series) (given : List ℕ) (out_before out_now : Side) : Type 0 where
   pub read : List CapturePacket
   pub has_read : HasRead given read
+  pub wrote : WasWritten (early_text s read) out_before out_now
+
+-- memory ran out: the tables were written that were due in front of the packets that were read, but perhaps for
+-- the last one
+pub record Lacks (s : Series) (given : List ℕ) (out_before out_now : Side) : Type 0 where
+  pub read : List CapturePacket
+  pub later : List CapturePacket
+  pub one : length later ≤ 1
+  pub has_read : HasRead given (read ++ later)
+  pub wrote : WasWritten (early_text s read) out_before out_now
+
+-- a write failed in front of the last packet that was read
+pub record BreaksEarly (s : Series) (given : List ℕ) (out_before out_now : Side) : Type 0 where
+  pub read : List CapturePacket
+  pub last : CapturePacket
+  pub has_read : HasRead given (read ++ last ∷ [])
+  pub breaks : BreaksText (early_text s read) (early_text s (read ++ last ∷ [])) out_before out_now
 
 -- how each end comes
-abbrev pub CountEnds : List Table → List GivenIsns → List ℕ → (source_before source_now : Side) → Result Counted CountHalt → Type 0
-CountEnds tables isns given source_before source_now (Ok counted) = HasCounted tables isns given source_now counted
-CountEnds tables isns given source_before source_now (Err halt.TooLong) = (most_read < length given) × Stops given
-CountEnds tables isns given source_before source_now (Err halt.Read) = Rose source_before source_now × Stops given
-CountEnds tables isns given source_before source_now (Err halt.Memory) = Stops given
+abbrev pub CountEnds : Series → List ℕ → (source_before source_now out_before out_now : Side) → Result Counted CountHalt → Type 0
+CountEnds s given source_before source_now out_before out_now (Ok counted) =
+    HasCounted s given source_now counted × WasWritten (early_text s (capture_of given).packets) out_before out_now
+CountEnds s given source_before source_now out_before out_now (Err halt.TooLong) = (most_read < length given) × Stops s given out_before out_now
+CountEnds s given source_before source_now out_before out_now (Err halt.Read) = Rose source_before source_now × Stops s given out_before out_now
+CountEnds s given source_before source_now out_before out_now (Err halt.Write) = BreaksEarly s given out_before out_now
+CountEnds s given source_before source_now out_before out_now (Err halt.Memory) = Lacks s given out_before out_now
 
--- the packets of a capture are counted, of which the source gave these bytes
-pub record Counts (tables : List Table) (isns : List GivenIsns) (given : List ℕ) (source_before source_now : Side) (result : Result Counted CountHalt) : Type 0 where
+-- the packets of a capture are counted, of which the source gave these bytes, and the tables written that are due in
+-- front of them
+pub record Counts (s : Series) (given : List ℕ) (source_before source_now out_before out_now : Side) (result : Result Counted CountHalt) : Type 0 where
   pub gave : Gave given source_before source_now
   pub bytes : All IsByte given
-  pub ends : CountEnds tables isns given source_before source_now result
+  pub ends : CountEnds s given source_before source_now out_before out_now result

@@ -1,5 +1,5 @@
 -- What is read of a capture and written of it (own). Its top is `Writes`.
-use Rattle.std.specs.Prelude.{◌≡◌, ℕ, ◌<◌, Bool, List, [], ◌++◌, length, take, Option, Some, None, Result, Ok, Err}
+use Rattle.std.specs.Prelude.{◌≡◌, ◌⊎◌, ℕ, ◌<◌, Bool, List, [], ◌++◌, length, Option, Some, None, Result, Ok, Err}
 use Rattle.std.specs.List.{All}
 use Rattle.ao_base.specs.Outside.{Side, Gave, WasWritten, Rose, IsAtEnd, told}
 use Rattle.book_captures.specs.declared.capture_parts.CaptureFault.{CaptureFault}
@@ -13,7 +13,11 @@ use Rattle.book_keys.specs.Rows.{Table}
 use Rattle.book_keys.specs.Nodes.{tables_of}
 use Rattle.book_sessions.specs.GivenLines.{given_isns_of}
 use Rattle.book_sessions.specs.Sessions.{SessionTable, sessions_of}
-use Rattle.book_sessions.specs.SessionTexts.{has_amiss, sessions_text}
+use Rattle.book_sessions.specs.SessionTexts.{has_amiss}
+use Rattle.book_sessions_json.specs.declared.form.TableForm.{TableForm}
+use Rattle.book_sessions_json.specs.declared.form.TableRequest.{TableRequest}
+use Rattle.book_sessions_json.specs.Forms.{written_as}
+use Rattle.book_sessions_json.specs.TableSeries.{Series, early_text, series_text}
 use Rattle.book_base.specs.Hexadecimal.{IsByte}
 use Rattle.capture_stream.specs.Reads.{most_read}
 use Rattle.scope_lines.specs.Writes.{HasRead}
@@ -21,78 +25,68 @@ use Rattle.scope_sessions.specs.declared.count.Counted.{Counted}
 use Rattle.scope_sessions.specs.declared.write.SessionsHalt.{SessionsHalt}
 use Rattle.scope_sessions.specs.declared.write.SessionsHalt.TheVariants as halt
 use Rattle.scope_sessions.specs.Counting.{table_of}
-use Rattle.scope_sessions.specs.Reading.{IsWhole, Stops}
+use Rattle.scope_sessions.specs.Reading.{BreaksEarly, IsWhole, Lacks, Stops, series_of}
+use Rattle.scope_sessions.specs.Texts.{BreaksText}
 
 -- the table of the packets of a capture (own)
 abbrev pub table_in : List Table → List GivenIsns → List ℕ → SessionTable
 table_in tables isns given = sessions_of tables isns (capture_of given).packets
 
--- the text of that table (own)
-abbrev pub text_in : List Table → List GivenIsns → List ℕ → List ℕ
-text_in tables isns given = sessions_text tables (table_in tables isns given)
-
--- a front part of this text was written (own)
-pub record BreaksText (text : List ℕ) (out_before out_now : Side) : Type 0 where
-  pub n : ℕ
-  pub not_all : n < length text
-  pub wrote : WasWritten (take n text) out_before out_now
-  pub rose : Rose out_before out_now
-
--- the whole capture was read, and its table written (own)
-pub record Finishes (tables : List Table) (isns : List GivenIsns) (given : List ℕ) (source_now out_before out_now : Side) (amiss : Bool) : Type 0 where
+-- the whole capture was read, and its tables written (own)
+pub record Finishes (s : Series) (given : List ℕ) (source_now out_before out_now : Side) (amiss : Bool) : Type 0 where
   pub at_end : IsAtEnd source_now
   pub faultless : (capture_of given).fault ≡ None
-  pub amiss_is : amiss ≡ has_amiss (table_in tables isns given)
-  pub wrote : WasWritten (text_in tables isns given) out_before out_now
+  pub amiss_is : amiss ≡ has_amiss (table_in s.tables s.given given)
+  pub wrote : WasWritten (series_text s (capture_of given).packets) out_before out_now
 
--- the capture has this fault, whatever follows in the source: the table of the packets before it was written (own)
-pub record Refuses (tables : List Table) (isns : List GivenIsns) (given : List ℕ) (source_now out_before out_now : Side) (fault : CaptureFault) : Type 0 where
+-- the capture has this fault, whatever follows in the source: the tables of the packets before it were written (own)
+pub record Refuses (s : Series) (given : List ℕ) (source_now out_before out_now : Side) (fault : CaptureFault) : Type 0 where
   pub has_read : HasRead given (capture_of given).packets
   pub fault_is : (capture_of given).fault ≡ Some fault
   pub all : capture_of (given ++ told source_now.bytes) ≡ capture_of given
-  pub wrote : WasWritten (text_in tables isns given) out_before out_now
+  pub wrote : WasWritten (series_text s (capture_of given).packets) out_before out_now
 
 -- a write failed, behind the capture's end or its fault (own)
-pub record Breaks (tables : List Table) (isns : List GivenIsns) (given : List ℕ) (source_now out_before out_now : Side) : Type 0 where
+pub record BreaksLast (s : Series) (given : List ℕ) (source_now out_before out_now : Side) : Type 0 where
   pub whole : IsWhole given source_now (capture_of given).fault
-  pub breaks : BreaksText (text_in tables isns given) out_before out_now
+  pub breaks : BreaksText (early_text s (capture_of given).packets) (series_text s (capture_of given).packets) out_before out_now
 
--- how each end comes, where these are the key file's tables (own)
-abbrev pub Ends : List Table → List GivenIsns → List ℕ → (source_before source_now out_before out_now : Side) → Result Bool SessionsHalt → Type 0
-Ends tables isns given source_before source_now out_before out_now (Ok amiss) = Finishes tables isns given source_now out_before out_now amiss
-Ends tables isns given source_before source_now out_before out_now (Err (halt.Keys fault)) = ⊥
-Ends tables isns given source_before source_now out_before out_now (Err (halt.IsnLine n kind)) = ⊥
-Ends tables isns given source_before source_now out_before out_now (Err halt.TooManyIsns) = ⊥
-Ends tables isns given source_before source_now out_before out_now (Err (halt.Broken fault)) = Refuses tables isns given source_now out_before out_now fault
-Ends tables isns given source_before source_now out_before out_now (Err halt.TooLong) = (most_read < length given) × Stops given × WasWritten [] out_before out_now
-Ends tables isns given source_before source_now out_before out_now (Err halt.Read) = Rose source_before source_now × Stops given × WasWritten [] out_before out_now
-Ends tables isns given source_before source_now out_before out_now (Err halt.Write) = Breaks tables isns given source_now out_before out_now
-Ends tables isns given source_before source_now out_before out_now (Err halt.Memory) = Stops given × WasWritten [] out_before out_now
+-- how each end comes, where these tables are asked for (own)
+abbrev pub Ends : Series → List ℕ → (source_before source_now out_before out_now : Side) → Result Bool SessionsHalt → Type 0
+Ends s given source_before source_now out_before out_now (Ok amiss) = Finishes s given source_now out_before out_now amiss
+Ends s given source_before source_now out_before out_now (Err (halt.Keys fault)) = ⊥
+Ends s given source_before source_now out_before out_now (Err (halt.IsnLine n kind)) = ⊥
+Ends s given source_before source_now out_before out_now (Err halt.TooManyIsns) = ⊥
+Ends s given source_before source_now out_before out_now (Err (halt.Broken fault)) = Refuses s given source_now out_before out_now fault
+Ends s given source_before source_now out_before out_now (Err halt.TooLong) = (most_read < length given) × Stops s given out_before out_now
+Ends s given source_before source_now out_before out_now (Err halt.Read) = Rose source_before source_now × Stops s given out_before out_now
+Ends s given source_before source_now out_before out_now (Err halt.Write) = BreaksEarly s given out_before out_now ⊎ BreaksLast s given source_now out_before out_now
+Ends s given source_before source_now out_before out_now (Err halt.Memory) = Lacks s given out_before out_now
 
 -- nothing was read, and nothing written (own)
 abbrev pub Nothing : List ℕ → (out_before out_now : Side) → Type 0
 Nothing given out_before out_now = (given ≡ []) × WasWritten [] out_before out_now
 
 -- how each end comes by a key file's tables: given lines that are refused end all before the capture is read (own)
-abbrev pub EndsWith : List Table → Result (List GivenIsns) TextFault → List ℕ → (source_before source_now out_before out_now : Side) → Result Bool SessionsHalt → Type 0
-EndsWith tables (Ok isns) given source_before source_now out_before out_now result = Ends tables isns given source_before source_now out_before out_now result
-EndsWith tables (Err why) given source_before source_now out_before out_now (Err (halt.IsnLine n kind)) = (why ≡ line_fault.Line n kind) × Nothing given out_before out_now
-EndsWith tables (Err why) given source_before source_now out_before out_now (Err halt.TooManyIsns) = (why ≡ line_fault.TooManyLines) × Nothing given out_before out_now
-EndsWith tables (Err why) given source_before source_now out_before out_now (Err halt.Memory) = Nothing given out_before out_now
-EndsWith tables (Err why) given source_before source_now out_before out_now other = ⊥
+abbrev pub EndsWith : TableRequest → List Table → Result (List GivenIsns) TextFault → List ℕ → (source_before source_now out_before out_now : Side) → Result Bool SessionsHalt → Type 0
+EndsWith request tables (Ok isns) given source_before source_now out_before out_now result = Ends (series_of tables isns request) given source_before source_now out_before out_now result
+EndsWith request tables (Err why) given source_before source_now out_before out_now (Err (halt.IsnLine n kind)) = (why ≡ line_fault.Line n kind) × Nothing given out_before out_now
+EndsWith request tables (Err why) given source_before source_now out_before out_now (Err halt.TooManyIsns) = (why ≡ line_fault.TooManyLines) × Nothing given out_before out_now
+EndsWith request tables (Err why) given source_before source_now out_before out_now (Err halt.Memory) = Nothing given out_before out_now
+EndsWith request tables (Err why) given source_before source_now out_before out_now other = ⊥
 
 -- how each end comes: a key file that is refused ends all before the capture is read (own)
-abbrev pub EndsBy : Result (List Table) TableFault → Result (List GivenIsns) TextFault → List ℕ → (source_before source_now out_before out_now : Side) → Result Bool SessionsHalt → Type 0
-EndsBy (Ok tables) isns given source_before source_now out_before out_now result = EndsWith tables isns given source_before source_now out_before out_now result
-EndsBy (Err why) isns given source_before source_now out_before out_now (Err (halt.Keys fault)) = (fault ≡ why) × Nothing given out_before out_now
-EndsBy (Err why) isns given source_before source_now out_before out_now (Err halt.Memory) = Nothing given out_before out_now
-EndsBy (Err why) isns given source_before source_now out_before out_now other = ⊥
+abbrev pub EndsBy : TableRequest → Result (List Table) TableFault → Result (List GivenIsns) TextFault → List ℕ → (source_before source_now out_before out_now : Side) → Result Bool SessionsHalt → Type 0
+EndsBy request (Ok tables) isns given source_before source_now out_before out_now result = EndsWith request tables isns given source_before source_now out_before out_now result
+EndsBy request (Err why) isns given source_before source_now out_before out_now (Err (halt.Keys fault)) = (fault ≡ why) × Nothing given out_before out_now
+EndsBy request (Err why) isns given source_before source_now out_before out_now (Err halt.Memory) = Nothing given out_before out_now
+EndsBy request (Err why) isns given source_before source_now out_before out_now other = ⊥
 
--- the table of a capture is written, of which the source gave these bytes, by the key file of this text and the given lines of that one (own)
-pub record Writes (keys isns given : List ℕ) (source_before source_now out_before out_now : Side) (result : Result Bool SessionsHalt) : Type 0 where
+-- the tables of a capture are written that are asked for, of which the source gave these bytes, by the key file of this text and the given lines of that one (own)
+pub record Writes (request : TableRequest) (keys isns given : List ℕ) (source_before source_now out_before out_now : Side) (result : Result Bool SessionsHalt) : Type 0 where
   pub gave : Gave given source_before source_now
   pub bytes : All IsByte given
-  pub ends : EndsBy (tables_of keys) (given_isns_of isns) given source_before source_now out_before out_now result
+  pub ends : EndsBy request (tables_of keys) (given_isns_of isns) given source_before source_now out_before out_now result
 
 -- why all ends where the key file has this fault
 abbrev pub halt_of : TableFault → SessionsHalt
@@ -105,12 +99,13 @@ halt_of_lines line_fault.Memory = halt.Memory
 halt_of_lines line_fault.TooManyLines = halt.TooManyIsns
 halt_of_lines (line_fault.Line n kind) = halt.IsnLine n kind
 
--- the table of what was counted is written
-abbrev pub WritesCounted : Counted → (out_before out_now : Side) → Result Bool SessionsHalt → Type 0
-WritesCounted counted out_before out_now (Ok amiss) = (counted.fault ≡ None) × (amiss ≡ has_amiss (table_of counted.tally))
-    × WasWritten (sessions_text counted.checker.tables (table_of counted.tally)) out_before out_now
-WritesCounted counted out_before out_now (Err (halt.Broken fault)) = (counted.fault ≡ Some fault)
-    × WasWritten (sessions_text counted.checker.tables (table_of counted.tally)) out_before out_now
-WritesCounted counted out_before out_now (Err halt.Write) = BreaksText (sessions_text counted.checker.tables (table_of counted.tally)) out_before out_now
-WritesCounted counted out_before out_now (Err halt.Memory) = WasWritten [] out_before out_now
-WritesCounted counted out_before out_now (Err other) = ⊥
+-- the last table, that of what was counted, is written
+abbrev pub WritesCounted : TableForm → Counted → (out_before out_now : Side) → Result Bool SessionsHalt → Type 0
+WritesCounted form counted out_before out_now (Ok amiss) = (counted.fault ≡ None) × (amiss ≡ has_amiss (table_of counted.tally))
+    × WasWritten (written_as form counted.checker.tables (table_of counted.tally)) out_before out_now
+WritesCounted form counted out_before out_now (Err (halt.Broken fault)) = (counted.fault ≡ Some fault)
+    × WasWritten (written_as form counted.checker.tables (table_of counted.tally)) out_before out_now
+WritesCounted form counted out_before out_now (Err halt.Write) =
+    BreaksText [] (written_as form counted.checker.tables (table_of counted.tally)) out_before out_now
+WritesCounted form counted out_before out_now (Err halt.Memory) = WasWritten [] out_before out_now
+WritesCounted form counted out_before out_now (Err other) = ⊥

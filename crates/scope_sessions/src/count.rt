@@ -8,13 +8,15 @@ ghost use Rattle.book_sessions.specs.Sessions.{stored_by};
 ghost use Rattle.capture_check.specs.Checkers.{StandsFor};
 ghost use Rattle.scope_lines.specs.Writes.{found_in};
 ghost use Rattle.scope_sessions.specs.Counting.{CountsPacket, CountsStored, table_of};
-ghost use Rattle.scope_sessions.specs.Reading.{Counts};
+ghost use Rattle.scope_sessions.specs.Reading.{Counts, series_of};
 
+use crate::due::{TextHalt, counted_since, second_of, write_due};
 use crate::heard::hear;
 use crate::holding::checker_of;
 use crate::tally::Tally;
-use ao_base::{Source, Steps};
+use ao_base::{Sink, Source, Steps};
 use book_sessions::{GivenIsns, PassedOver};
+use book_sessions_json::TableRequest;
 use capture_check::Checker;
 use capture_reader::FoundDatagram;
 use capture_stream::{CaptureFault, CaptureHalt, CaptureReader, CaptureStep, Skipped};
@@ -36,6 +38,8 @@ pub(crate) enum CountHalt {
     TooLong,
     /// A read failed.
     Read,
+    /// A write failed.
+    Write,
     /// Memory ran out.
     Memory,
 }
@@ -133,17 +137,19 @@ fn count_packet<L: Ledger>(
 }
 
 // The same as `count_capture`, with a counter of derivations.
-fn count_counted<L: Ledger, I: Source>(
+fn count_counted<L: Ledger, I: Source, O: Sink>(
     alloc: Global,
     tables: Tables,
     isns: &[GivenIsns],
+    request: TableRequest,
     input: &mut I,
+    out: &mut O,
     blank: Blank,
 ) -> Result<Counted, CountHalt>
     requires name { blank.name ≡ L.name }
     requires parts { blank.parts ≡ L.parts }
     requires part { 0 < blank.parts }
-    ensures { (given : List ℕ) × Counts tables isns.now given (I.side input.old) (I.side input.new) result }
+    ensures { (given : List ℕ) × Counts (series_of tables isns.now request) given (I.side input.old) (I.side input.new) (O.side out.old) (O.side out.new) result }
 {
     let mut steps = Steps::<L>::new(blank);
     let mut reader = match CaptureReader::new(alloc) {
@@ -155,6 +161,7 @@ fn count_counted<L: Ledger, I: Source>(
         Err(_) => return Err(CountHalt::Memory),
     };
     let mut tally = Tally::new(alloc);
+    let mut since = None;
     'parts: loop {
         match reader.next(input) {
             Ok(CaptureStep::Packet) => {}
@@ -176,6 +183,21 @@ fn count_counted<L: Ledger, I: Source>(
                 });
             }
         }
+        let now = second_of(reader.time());
+        match write_due(
+            alloc,
+            request,
+            checker.tables(),
+            &tally,
+            since,
+            now,
+            out,
+        ) {
+            Ok(()) => {}
+            Err(TextHalt::Write) => return Err(CountHalt::Write),
+            Err(TextHalt::Memory) => return Err(CountHalt::Memory),
+        }
+        since = counted_since(request.every, since, now);
         match count_packet(&mut checker, &mut tally, alloc, &mut steps, &reader) {
             Ok(()) => {}
             Err(_) => return Err(CountHalt::Memory),
@@ -184,16 +206,19 @@ fn count_counted<L: Ledger, I: Source>(
 }
 
 /// Counts the packets of a capture, judged by the tables as behind handshakes with the given initial
-/// sequence numbers, up to its end or its fault. Read only where
-/// the source's count of faults rose; TooLong only where it gave more than 2^63 bytes; and Memory for
-/// want of memory, or where 2^64 - 1 packets of one kind are counted.
-pub(crate) fn count_capture<I: Source>(
+/// sequence numbers, up to its end or its fault, and writes each table that is due in front of a packet
+/// before that packet is counted. Read only where the source's count of faults rose; Write only where the
+/// sink's did; TooLong only where the source gave more than 2^63 bytes; and Memory for want of memory, or
+/// where 2^64 - 1 packets of one kind are counted.
+pub(crate) fn count_capture<I: Source, O: Sink>(
     alloc: Global,
     tables: Tables,
     isns: &[GivenIsns],
+    request: TableRequest,
     input: &mut I,
+    out: &mut O,
 ) -> Result<Counted, CountHalt>
-    ensures { (given : List ℕ) × Counts tables isns.now given (I.side input.old) (I.side input.new) result }
+    ensures { (given : List ℕ) × Counts (series_of tables isns.now request) given (I.side input.old) (I.side input.new) (O.side out.old) (O.side out.new) result }
 {
-    count_counted::<Brand, I>(alloc, tables, isns, input, Blank::new(1))
+    count_counted::<Brand, I, O>(alloc, tables, isns, request, input, out, Blank::new(1))
 }

@@ -1,11 +1,11 @@
 //! The initial sequence numbers that lines give.
 ghost use Rattle.std.specs.Prelude.{◌≡◌, [], MatchResult, Ok};
 ghost use Rattle.book_lines.specs.Said.{at_number, said_by};
-ghost use Rattle.book_segments.specs.Sockets.{same_socket};
 ghost use Rattle.book_sessions.specs.GivenLines.{can_connect, given_isns_in, given_isns_of, is_of_one_family, other_socket_in};
 ghost use Rattle.text_lines.specs.Readings.{Fails, gives};
 ghost use Rattle.scope_sessions.specs.Given.{given_from};
 
+use crate::words::is_same_socket;
 use book_base::{Address, Socket};
 use book_lines::{LineKind, TextFault};
 use book_sessions::GivenIsns;
@@ -21,12 +21,6 @@ fn is_of_one_family(one: &Address, other: &Address) -> bool
         (Address::V6(_), Address::V6(_)) => true,
         _ => false,
     }
-}
-
-fn is_same_socket(one: Socket, other: Socket) -> bool
-    ensures { result ≡ same_socket one other }
-{
-    one == other
 }
 
 fn can_connect(one: Socket, other: Socket) -> bool

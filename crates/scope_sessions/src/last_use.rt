@@ -1,22 +1,16 @@
 //! Who used a key last, and whether anyone asks for it.
 ghost use Rattle.std.specs.Prelude.{◌≡◌, not, Some, if◌then◌else◌};
 ghost use Rattle.std.specs.List.{find, list_any};
-ghost use Rattle.book_segments.specs.Sockets.{same_address, same_socket};
+ghost use Rattle.book_segments.specs.Sockets.{same_address};
 ghost use Rattle.book_sessions.specs.KeyLines.{asks_for_row, asks_row_still, between, carries_row, is_current, is_id, is_of_row, is_wanted, last_of, later_of, overtakes, uses_row_still};
 
-use crate::words::{is_same_id, is_verified};
+use crate::words::{is_same_id, is_same_socket, is_verified};
 use book_base::{Address, Pair, Socket};
 use book_sessions::KeyUse;
 use key_table::{Row, Table};
 
 fn is_same_address(one: Address, two: Address) -> bool
     ensures { result ≡ same_address one two }
-{
-    one == two
-}
-
-fn is_same_socket(one: Socket, two: Socket) -> bool
-    ensures { result ≡ same_socket one two }
 {
     one == two
 }

@@ -1,11 +1,17 @@
 //! The sessions of a capture and the keys of a key file: counted as the capture is read, packet after
-//! packet, and written as a table. Memory grows with sessions, and not with packets.
+//! packet, and written as a table, in lines or in JSON. Memory grows with sessions, and not with packets.
 #![tactic(auto)]
 
 mod count;
+mod due;
 mod heard;
 mod holding;
 mod isns;
+mod json_keys;
+mod json_packets;
+mod json_sessions;
+mod json_table;
+mod json_values;
 mod key_texts;
 mod last_use;
 mod passed_texts;
@@ -16,4 +22,5 @@ mod words;
 mod write;
 
 pub use book_lines::LineKind;
+pub use book_sessions_json::{TableForm, TableRequest};
 pub use write::{SessionsHalt, write_sessions};

@@ -49,7 +49,7 @@ fn push_end(out: &mut Vec<u8>, socket: &Socket) -> Result<(), AllocError>
     push_number(out, u64::from(socket.port))
 }
 
-fn earliest_seen(time: u64, uses: &[KeyUse]) -> u64
+pub(crate) fn earliest_seen(time: u64, uses: &[KeyUse]) -> u64
     ensures { result ≡ earliest_seen time uses.now }
 {
     let mut earliest = time;
@@ -59,7 +59,7 @@ fn earliest_seen(time: u64, uses: &[KeyUse]) -> u64
     earliest
 }
 
-fn latest_seen(time: u64, uses: &[KeyUse]) -> u64
+pub(crate) fn latest_seen(time: u64, uses: &[KeyUse]) -> u64
     ensures { result ≡ latest_seen time uses.now }
 {
     let mut latest = time;
@@ -115,7 +115,7 @@ pub(crate) fn push_capture(
     push_times(out, uses)
 }
 
-fn is_of_session(number: u64, one: &KeyUse) -> bool
+pub(crate) fn is_of_session(number: u64, one: &KeyUse) -> bool
     ensures { result ≡ is_of_session number one.now }
 {
     one.session == number
@@ -127,13 +127,13 @@ fn opens_session(number: u64, one: &KeyUse) -> bool
     is_of_session(number, one) && (one.opens && is_verified(one.outcome))
 }
 
-fn is_opened(number: u64, uses: &[KeyUse]) -> bool
+pub(crate) fn is_opened(number: u64, uses: &[KeyUse]) -> bool
     ensures { result ≡ list_any (opens_session number) uses.now }
 {
     uses.iter().any(|one| opens_session(number, one))
 }
 
-fn first_of(number: u64, uses: &[KeyUse]) -> Option<KeyUse>
+pub(crate) fn first_of(number: u64, uses: &[KeyUse]) -> Option<KeyUse>
     ensures { result ≡ find (is_of_session number) uses.now }
 {
     for one in uses {

@@ -16,7 +16,7 @@ use key_table::Tables;
 use std::alloc::AllocError;
 
 /// How many segments there are; None where they are more than 2^64 - 1.
-fn all_counted(uses: &[KeyUse]) -> Option<u64>
+pub(crate) fn all_counted(uses: &[KeyUse]) -> Option<u64>
     ensures { IfSome result (λ n. n ≡ all_counted uses.now) }
 {
     let mut count: u64 = 0;
@@ -30,7 +30,7 @@ fn all_counted(uses: &[KeyUse]) -> Option<u64>
 }
 
 /// How many packets are passed over; None where they are more than 2^64 - 1.
-fn all_passed(passed: &[PassedCount]) -> Option<u64>
+pub(crate) fn all_passed(passed: &[PassedCount]) -> Option<u64>
     ensures { IfSome result (λ n. n ≡ all_passed passed.now) }
 {
     let mut count: u64 = 0;

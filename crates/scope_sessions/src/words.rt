@@ -1,9 +1,11 @@
 //! Words for what is said of a segment, and when two of them are the same.
 ghost use Rattle.std.specs.Prelude.{◌≡◌};
 ghost use Rattle.book_link.specs.Reports.{verdict_text};
+ghost use Rattle.book_segments.specs.Sockets.{same_socket};
 ghost use Rattle.book_sessions.specs.OutcomeTexts.{is_verified, outcome_text};
 ghost use Rattle.book_sessions.specs.Sessions.{same_id, same_outcome};
 
+use book_base::Socket;
 use book_endpoint::Verdict;
 use book_sessions::SegmentOutcome;
 
@@ -45,6 +47,12 @@ pub(crate) fn is_verified(outcome: SegmentOutcome) -> bool
     ensures { result ≡ is_verified outcome }
 {
     matches!(outcome, SegmentOutcome::Verified)
+}
+
+pub(crate) fn is_same_socket(one: Socket, two: Socket) -> bool
+    ensures { result ≡ same_socket one two }
+{
+    one == two
 }
 
 pub(crate) fn is_same_id(one: Option<u8>, two: Option<u8>) -> bool

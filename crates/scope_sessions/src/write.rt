@@ -4,10 +4,12 @@ ghost use Rattle.ao_base.specs.Outside.{Side};
 ghost use Rattle.scope_sessions.specs.Writing.{halt_of, halt_of_lines, Writes, WritesCounted};
 
 use crate::count::{CountHalt, Counted, count_capture};
+use crate::due::push_form;
 use crate::isns::read_given;
-use crate::table_text::{has_amiss, push_table};
+use crate::table_text::has_amiss;
 use ao_base::{Failed, Sink, Source, write_all};
 use book_lines::{LineKind, TextFault};
+use book_sessions_json::{TableForm, TableRequest};
 use capture_stream::CaptureFault;
 use key_table::{TableFault, read_tables};
 use std::alloc::Global;
@@ -63,13 +65,14 @@ fn halt_of_lines(fault: TextFault) -> SessionsHalt
 // Writes the table of what was counted.
 fn write_counted<O: Sink>(
     alloc: Global,
+    form: TableForm,
     counted: &Counted,
     out: &mut O,
 ) -> Result<bool, SessionsHalt>
-    ensures { WritesCounted counted.now (O.side out.old) (O.side out.new) result }
+    ensures { WritesCounted form counted.now (O.side out.old) (O.side out.new) result }
 {
     let mut text = Vec::new(alloc);
-    match push_table(&mut text, counted.checker.tables(), &counted.tally) {
+    match push_form(alloc, form, &mut text, counted.checker.tables(), &counted.tally) {
         Ok(()) => {}
         Err(_) => return Err(SessionsHalt::Memory),
     }
@@ -83,28 +86,31 @@ fn write_counted<O: Sink>(
     }
 }
 
-/// Writes the table of the sessions of a capture, judged by the tables of a key file as behind handshakes
-/// with the initial sequence numbers that lines give, and of each key of these tables who used it last and
-/// whether anyone asks for it. Ok at the capture's end, and whether anything is amiss: a segment that isn't
-/// verified, or a packet that is passed over and may be one.
+/// Writes the tables of the sessions of a capture that are asked for, judged by the tables of a key file as
+/// behind handshakes with the initial sequence numbers that lines give, and of each key of these tables who
+/// used it last and whether anyone asks for it. Each table that is due in front of a packet is written before
+/// that packet is counted, the last one at the end. Ok at the capture's end, and whether anything is amiss: a
+/// segment that isn't verified, or a packet that is passed over and may be one.
 ///
 /// Each given line that says something is `ADDRESS PORT ISN ADDRESS PORT ISN`: two sockets of one version of
 /// IP that differ, with addresses in their usual form, each with its initial sequence number.
 ///
 /// Keys comes exactly where the key file is refused, IsnLine and TooManyIsns exactly where it isn't and the
-/// given lines are, and nothing was read. Broken comes where the capture has this fault, with the table of
+/// given lines are, and nothing was read. Broken comes where the capture has this fault, with the tables of
 /// the packets in front of it written; Read only where the source's count of faults rose; TooLong only where
 /// it gave more than 2^63 bytes; Write only where the sink's count of faults rose, with a front part of the
-/// table written; and Memory for want of memory, or where 2^64 - 1 packets of one kind are counted. With
-/// Read, TooLong and Memory nothing was written.
+/// last of the tables written; and Memory for want of memory, or where 2^64 - 1 packets of one kind are
+/// counted. With Read, TooLong and Memory only the tables were written that were due in front of the packets
+/// that were read, with Memory perhaps not that in front of the last one.
 pub fn write_sessions<I: Source, O: Sink>(
     alloc: Global,
+    request: TableRequest,
     keys: &[u8],
     isns: &[u8],
     input: &mut I,
     out: &mut O,
 ) -> Result<bool, SessionsHalt>
-    ensures { (given : List ℕ) × Writes keys.now isns.now given (I.side input.old) (I.side input.new) (O.side out.old) (O.side out.new) result }
+    ensures { (given : List ℕ) × Writes request keys.now isns.now given (I.side input.old) (I.side input.new) (O.side out.old) (O.side out.new) result }
 {
     let tables = match read_tables(alloc, keys) {
         Ok(tables) => tables,
@@ -114,10 +120,11 @@ pub fn write_sessions<I: Source, O: Sink>(
         Ok(given) => given,
         Err(fault) => return Err(halt_of_lines(fault)),
     };
-    match count_capture(alloc, tables, given.as_slice(), input) {
-        Ok(counted) => write_counted(alloc, &counted, out),
+    match count_capture(alloc, tables, given.as_slice(), request, input, out) {
+        Ok(counted) => write_counted(alloc, request.form, &counted, out),
         Err(CountHalt::TooLong) => Err(SessionsHalt::TooLong),
         Err(CountHalt::Read) => Err(SessionsHalt::Read),
+        Err(CountHalt::Write) => Err(SessionsHalt::Write),
         Err(CountHalt::Memory) => Err(SessionsHalt::Memory),
     }
 }

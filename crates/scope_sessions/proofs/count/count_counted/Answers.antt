@@ -1,17 +1,18 @@
 use Rattle.std.proofs.Common.{[], ◌++◌, Some, None, refl}
 use Rattle.scope_lines.proofs.Showing.{listed}
 use Rattle.scope_sessions.specs.Counting.{table_of}
-use Rattle.scope_sessions.proofs.Walk.{between_block, between_counted, between_new, between_smaller, ends_broken, ends_done, ends_long, ends_memory, ends_none, ends_read}
+use Rattle.scope_sessions.specs.Reading.{series_of}
+use Rattle.scope_sessions.proofs.Walk.{between_block, between_counted, between_new, between_smaller, ends_broken, ends_done, ends_long, ends_lacking, ends_memory, ends_none, ends_read, ends_stuck}
 use Rattle.scope_sessions.proofs.count.count_counted.Goals as goal
 
 pub returns-in-Err : goal.returns-in-Err
-returns-in-Err g c = ([], ends_none c.args.tables c.args.isns.now _)
+returns-in-Err g c = ([], ends_none (series_of c.args.tables c.args.isns.now c.args.request) _ _)
 
 pub returns-in-Err-checker_of : goal.returns-in-Err-checker_of
-returns-in-Err-checker_of g c = ([], ends_none c.args.tables c.args.isns.now _)
+returns-in-Err-checker_of g c = ([], ends_none (series_of c.args.tables c.args.isns.now c.args.request) _ _)
 
 pub parts-init : goal.parts-init
-parts-init g c = ([], [], between_new c.args.tables c.args.isns.now c.in-Ok.reader c.in-Ok-checker_of.checker (table_of c.new-tally.result) _ c.in-Ok.ensures c.in-Ok-checker_of.ensures.tables c.in-Ok-checker_of.ensures.stands c.new-tally.ensures)
+parts-init g c = ([], [], between_new (series_of c.args.tables c.args.isns.now c.args.request) c.in-Ok.reader c.in-Ok-checker_of.checker (table_of c.new-tally.result) _ _ c.in-Ok.ensures c.in-Ok-checker_of.ensures.tables c.in-Ok-checker_of.ensures.stands c.new-tally.ensures)
 
 pub next-requires : goal.next-requires
 next-requires g c = c.parts.invariant.2.going
@@ -20,7 +21,7 @@ pub parts-smaller-in-Ok-Block : goal.parts-smaller-in-Ok-Block
 parts-smaller-in-Ok-Block g c =
     let more = rw c.in-Ok-Block.field-0-is at c.in-Ok-Block.ensures.steps in
     let step = more.1 in
-    between_smaller c.args.tables c.args.isns.now c.parts.reader c.parts.checker (table_of c.parts.tally) c.parts.invariant.0 more.0 c.parts.invariant.1 _ _ _ c.parts.invariant.2 c.next.new.self step.answers.0 step.answers.1 step.gave step.bytes
+    between_smaller (series_of c.args.tables c.args.isns.now c.args.request) c.parts.reader c.parts.checker (table_of c.parts.tally) c.parts.since c.parts.invariant.0 more.0 c.parts.invariant.1 _ _ _ _ _ c.parts.invariant.2 c.next.new.self step.answers.0 step.answers.1 step.gave step.bytes
 
 pub parts-preserved-in-Ok-Block : goal.parts-preserved-in-Ok-Block
 parts-preserved-in-Ok-Block g c =
@@ -28,34 +29,34 @@ parts-preserved-in-Ok-Block g c =
     let step = more.1 in (
       c.parts.invariant.0 ++ more.0,
       c.parts.invariant.1 ++ listed c.next.new.self.packet,
-      between_block c.args.tables c.args.isns.now c.parts.reader c.parts.checker (table_of c.parts.tally) c.parts.invariant.0 more.0 c.parts.invariant.1 _ _ _ c.parts.invariant.2 c.next.new.self step.answers.0 step.answers.1 step.gave step.bytes step.answers.2,
+      between_block (series_of c.args.tables c.args.isns.now c.args.request) c.parts.reader c.parts.checker (table_of c.parts.tally) c.parts.since c.parts.invariant.0 more.0 c.parts.invariant.1 _ _ _ _ _ c.parts.invariant.2 c.next.new.self step.answers.0 step.answers.1 step.gave step.bytes step.answers.2,
     )
 
 pub returns-in-Ok-End : goal.returns-in-Ok-End
 returns-in-Ok-End g c =
     let more = rw c.in-Ok-End.field-0-is at c.in-Ok-End.ensures.steps in
-    (c.parts.invariant.0 ++ more.0, ends_done c.args.tables c.args.isns.now c.parts.reader c.parts.checker (table_of c.parts.tally) c.parts.invariant.0 more.0 c.parts.invariant.1 _ _ _ c.parts.invariant.2 c.next.new.self (record { checker = c.parts.checker; tally = c.parts.tally; fault = None }) refl refl refl more.1)
+    (c.parts.invariant.0 ++ more.0, ends_done (series_of c.args.tables c.args.isns.now c.args.request) c.parts.reader c.parts.checker (table_of c.parts.tally) c.parts.since c.parts.invariant.0 more.0 c.parts.invariant.1 _ _ _ _ _ c.parts.invariant.2 c.next.new.self (record { checker = c.parts.checker; tally = c.parts.tally; fault = None }) refl refl refl more.1)
 
 pub returns-in-Err-Read : goal.returns-in-Err-Read
 returns-in-Err-Read g c =
     let more = rw c.in-Err-Read.field-0-is at c.in-Err-Read.ensures.steps in
-    (c.parts.invariant.0 ++ more.0, ends_read c.args.tables c.args.isns.now c.parts.reader c.parts.checker (table_of c.parts.tally) c.parts.invariant.0 more.0 c.parts.invariant.1 _ _ _ c.parts.invariant.2 c.next.new.self more.1)
+    (c.parts.invariant.0 ++ more.0, ends_read (series_of c.args.tables c.args.isns.now c.args.request) c.parts.reader c.parts.checker (table_of c.parts.tally) c.parts.since c.parts.invariant.0 more.0 c.parts.invariant.1 _ _ _ _ _ c.parts.invariant.2 c.next.new.self more.1)
 
 pub returns-in-Err-TooLong : goal.returns-in-Err-TooLong
 returns-in-Err-TooLong g c =
     let more = rw c.in-Err-TooLong.field-0-is at c.in-Err-TooLong.ensures.steps in
-    (c.parts.invariant.0 ++ more.0, ends_long c.args.tables c.args.isns.now c.parts.reader c.parts.checker (table_of c.parts.tally) c.parts.invariant.0 more.0 c.parts.invariant.1 _ _ _ c.parts.invariant.2 c.next.new.self more.1)
+    (c.parts.invariant.0 ++ more.0, ends_long (series_of c.args.tables c.args.isns.now c.args.request) c.parts.reader c.parts.checker (table_of c.parts.tally) c.parts.since c.parts.invariant.0 more.0 c.parts.invariant.1 _ _ _ _ _ c.parts.invariant.2 c.next.new.self more.1)
 
 pub returns-in-Err-Broken : goal.returns-in-Err-Broken
 returns-in-Err-Broken g c =
     let more = rw c.in-Err-Broken.field-0-is at c.in-Err-Broken.ensures.steps in
-    (c.parts.invariant.0 ++ more.0, rw c.in-Err-Broken.field-0-is (ends_broken c.args.tables c.args.isns.now c.parts.reader c.parts.checker (table_of c.parts.tally) c.parts.invariant.0 more.0 c.parts.invariant.1 _ _ _ c.parts.invariant.2 c.next.new.self c.in-Err-Broken.fault (record { checker = c.parts.checker; tally = c.parts.tally; fault = Some c.in-Err-Broken.fault }) refl refl refl more.1))
+    (c.parts.invariant.0 ++ more.0, rw c.in-Err-Broken.field-0-is (ends_broken (series_of c.args.tables c.args.isns.now c.args.request) c.parts.reader c.parts.checker (table_of c.parts.tally) c.parts.since c.parts.invariant.0 more.0 c.parts.invariant.1 _ _ _ _ _ c.parts.invariant.2 c.next.new.self c.in-Err-Broken.fault (record { checker = c.parts.checker; tally = c.parts.tally; fault = Some c.in-Err-Broken.fault }) refl refl refl more.1))
 
 pub parts-smaller : goal.parts-smaller
 parts-smaller g c =
     let more = rw c.in-Ok-Packet.field-0-is at c.in-Ok-Packet.ensures.steps in
     let step = more.1 in
-    between_smaller c.args.tables c.args.isns.now c.parts.reader c.parts.checker (table_of c.parts.tally) c.parts.invariant.0 more.0 c.parts.invariant.1 _ _ _ c.parts.invariant.2 c.next.new.self step.answers.0 step.answers.1 step.gave step.bytes
+    between_smaller (series_of c.args.tables c.args.isns.now c.args.request) c.parts.reader c.parts.checker (table_of c.parts.tally) c.parts.since c.parts.invariant.0 more.0 c.parts.invariant.1 _ _ _ _ _ c.parts.invariant.2 c.next.new.self step.answers.0 step.answers.1 step.gave step.bytes
 
 pub parts-preserved : goal.parts-preserved
 parts-preserved g c =
@@ -64,12 +65,28 @@ parts-preserved g c =
     let between = c.parts.invariant.2 in (
       c.parts.invariant.0 ++ more.0,
       c.parts.invariant.1 ++ listed c.next.new.self.packet,
-      between_counted c.args.tables c.args.isns.now c.parts.reader c.parts.checker (table_of c.parts.tally) c.parts.invariant.0 more.0 c.parts.invariant.1 _ _ _ between c.next.new.self step.answers.0 step.answers.1 step.gave step.bytes
-          c.count_packet.new.checker (table_of c.count_packet.new.tally) (c.in-Ok-Packet.ensures.shown (rw c.in-Ok-Packet.field-0-is refl)) c.in-Ok-count_packet.ensures.tables (λ p is. c.in-Ok-count_packet.ensures.counts between.heard.held p is between.heard.stands),
+      between_counted (series_of c.args.tables c.args.isns.now c.args.request) c.parts.reader c.parts.checker (table_of c.parts.tally) c.parts.since c.parts.invariant.0 more.0 c.parts.invariant.1 _ _ _ _ _ between c.next.new.self step.answers.0 step.answers.1 step.gave step.bytes
+          c.count_packet.new.checker (table_of c.count_packet.new.tally) c.time.result c.second_of-now.result c.counted_since-since.result _ (c.in-Ok-Packet.ensures.shown (rw c.in-Ok-Packet.field-0-is refl)) c.time.ensures c.second_of-now.ensures c.counted_since-since.ensures
+          (rw c.tables-in-parts.ensures at c.in-Ok-write_due.ensures) c.in-Ok-count_packet.ensures.tables (λ p is. c.in-Ok-count_packet.ensures.counts between.heard.held p is between.heard.stands),
     )
 
 pub returns-in-Err-count_packet : goal.returns-in-Err-count_packet
 returns-in-Err-count_packet g c =
     let more = rw c.in-Ok-Packet.field-0-is at c.in-Ok-Packet.ensures.steps in
     let step = more.1 in
-    (c.parts.invariant.0 ++ more.0, ends_memory c.args.tables c.args.isns.now c.parts.reader c.parts.checker (table_of c.parts.tally) c.parts.invariant.0 more.0 c.parts.invariant.1 _ _ _ c.parts.invariant.2 c.next.new.self step.answers.0 step.answers.1 step.gave step.bytes)
+    (c.parts.invariant.0 ++ more.0, ends_memory (series_of c.args.tables c.args.isns.now c.args.request) c.parts.reader c.parts.checker (table_of c.parts.tally) c.parts.since c.parts.invariant.0 more.0 c.parts.invariant.1 _ _ _ _ _ c.parts.invariant.2 c.next.new.self step.answers.0 step.answers.1 step.gave step.bytes
+        c.time.result c.second_of-now.result _ (c.in-Ok-Packet.ensures.shown (rw c.in-Ok-Packet.field-0-is refl)) c.time.ensures c.second_of-now.ensures (rw c.tables-in-parts.ensures at c.in-Ok-write_due.ensures))
+
+pub returns-in-Err-Write : goal.returns-in-Err-Write
+returns-in-Err-Write g c =
+    let more = rw c.in-Ok-Packet.field-0-is at c.in-Ok-Packet.ensures.steps in
+    let step = more.1 in
+    (c.parts.invariant.0 ++ more.0, ends_stuck (series_of c.args.tables c.args.isns.now c.args.request) c.parts.reader c.parts.checker (table_of c.parts.tally) c.parts.since c.parts.invariant.0 more.0 c.parts.invariant.1 _ _ _ _ _ c.parts.invariant.2 c.next.new.self step.answers.0 step.answers.1 step.gave step.bytes
+        c.time.result c.second_of-now.result _ (c.in-Ok-Packet.ensures.shown (rw c.in-Ok-Packet.field-0-is refl)) c.time.ensures c.second_of-now.ensures (rw c.tables-in-parts.ensures at (rw c.in-Err-Write.field-0-is at c.in-Err-Write.ensures)))
+
+pub returns-in-Err-Memory : goal.returns-in-Err-Memory
+returns-in-Err-Memory g c =
+    let more = rw c.in-Ok-Packet.field-0-is at c.in-Ok-Packet.ensures.steps in
+    let step = more.1 in
+    (c.parts.invariant.0 ++ more.0, ends_lacking (series_of c.args.tables c.args.isns.now c.args.request) c.parts.reader c.parts.checker (table_of c.parts.tally) c.parts.since c.parts.invariant.0 more.0 c.parts.invariant.1 _ _ _ _ _ c.parts.invariant.2 c.next.new.self step.answers.0 step.answers.1 step.gave step.bytes
+        _ (rw c.in-Err-Memory.field-0-is at c.in-Err-Memory.ensures))

@@ -1,0 +1,119 @@
+-- Values of JSON, one part behind another.
+use Rattle.std.proofs.Common.{◌≡◌, ℕ, zero, suc, ◌+◌, ◌-◌, ◌<◌, ◌==◌, ◌&&◌, Bool, true, false, List, [], ◌∷◌, ◌++◌, length, drop, get_or, map, Option, is_some, refl, sym, ap, subst, ◌∙◌, append_assoc, arith, add-one}
+use Rattle.std.proofs.Math.Seq.{drop-cons}
+use Rattle.std.proofs.lemmas.List.{append-nil, map-append}
+use Rattle.std.proofs.lemmas.Bool.Decides.{nat_tests}
+use Rattle.std.specs.List.{find}
+use Rattle.book_keys.specs.Rows.{Row, Table}
+use Rattle.book_sessions.specs.declared.uses.KeyUse.{KeyUse}
+use Rattle.book_sessions.specs.KeyLines.{asks_row_still, carries_row, is_wanted, last_of}
+use Rattle.book_sessions_json.specs.Json.{json_comma, json_items, json_object}
+use Rattle.book_sessions_json.specs.SessionJson.{key_json, keys_json, may_go_json, numbers_to, rows_json, use_json}
+use Rattle.scope_sessions.specs.JsonParts.{asked_members, id_members, node_members, sender_members, span_members, state_members}
+
+abbrev none : {A : Type 0} → List A → Bool
+none [] = true
+none (x ∷ xs) = false
+
+value_first : (comma x : List ℕ) (xs ys : List (List ℕ)) → json_items false (xs ++ ys) ≡ json_items false xs ++ json_items false ys
+    → comma ++ (x ++ json_items false (xs ++ ys)) ≡ (comma ++ (x ++ json_items false xs)) ++ json_items false ys
+value_first comma x xs ys others =
+    ap (λ (z : List ℕ). comma ++ (x ++ z)) others ∙ (ap (λ (z : List ℕ). comma ++ z) (sym (append_assoc x (json_items false xs) (json_items false ys)))
+    ∙ sym (append_assoc comma (x ++ json_items false xs) (json_items false ys)))
+
+-- values behind others
+items_more : (b : Bool) (xs ys : List (List ℕ)) → json_items b (xs ++ ys) ≡ json_items b xs ++ json_items (b && none xs) ys
+items_more true [] ys = refl
+items_more false [] ys = refl
+items_more true (x ∷ xs) ys = value_first [] x xs ys (items_more false xs ys)
+items_more false (x ∷ xs) ys = value_first (44 ∷ []) x xs ys (items_more false xs ys)
+
+after_some : (xs ys : List (List ℕ)) → none xs ≡ false → json_items true (xs ++ ys) ≡ json_items true xs ++ json_items false ys
+after_some xs ys some = items_more true xs ys ∙ ap (λ (b : Bool). json_items true xs ++ json_items b ys) some
+
+-- members behind the first ones
+members_behind : (out one two : List ℕ) (xs ys : List (List ℕ)) → none xs ≡ false → one ≡ out ++ 123 ∷ json_items true xs → two ≡ one ++ json_items false ys
+    → two ≡ out ++ 123 ∷ json_items true (xs ++ ys)
+members_behind out one two xs ys some a b =
+    b ∙ (ap (λ (z : List ℕ). z ++ json_items false ys) a ∙ (append_assoc out (123 ∷ json_items true xs) (json_items false ys)
+    ∙ ap (λ (z : List ℕ). out ++ 123 ∷ z) (sym (after_some xs ys some))))
+
+-- the last members, and the brace behind them
+object_done : (out one two : List ℕ) (xs ys : List (List ℕ)) → none xs ≡ false → one ≡ out ++ 123 ∷ json_items true xs → two ≡ one ++ (json_items false ys ++ 125 ∷ [])
+    → two ≡ out ++ json_object (xs ++ ys)
+object_done out one two xs ys some a b =
+    let first = json_items true xs in
+    let last = json_items false ys in
+    b ∙ (ap (λ (z : List ℕ). z ++ (last ++ 125 ∷ [])) a ∙ (append_assoc out (123 ∷ first) (last ++ 125 ∷ [])
+    ∙ ap (λ (z : List ℕ). out ++ 123 ∷ z) (sym (append_assoc first last (125 ∷ [])) ∙ ap (λ (z : List ℕ). z ++ 125 ∷ []) (sym (after_some xs ys some)))))
+
+some_more : (xs ys : List (List ℕ)) → none xs ≡ false → none (xs ++ ys) ≡ false
+some_more [] ys some = absurd (cc)
+some_more (x ∷ xs) ys some = refl
+
+object_of_three : (out one two three : List ℕ) (xs ys zs : List (List ℕ)) → none xs ≡ false → one ≡ out ++ 123 ∷ json_items true xs → two ≡ one ++ json_items false ys
+    → three ≡ two ++ (json_items false zs ++ 125 ∷ []) → three ≡ out ++ json_object ((xs ++ ys) ++ zs)
+object_of_three out one two three xs ys zs some a b c = object_done out two three (xs ++ ys) zs (some_more xs ys some) (members_behind out one two xs ys some a b) c
+
+-- segments, in three parts
+pub use_done : (heading u : KeyUse) (out one two three : List ℕ) → one ≡ out ++ 123 ∷ json_items true (sender_members heading u) → two ≡ one ++ json_items false (span_members u)
+    → three ≡ two ++ (json_items false (asked_members u) ++ 125 ∷ []) → three ≡ out ++ use_json heading u
+unfolding use_json
+use_done heading u out one two three a b c = object_of_three out one two three (sender_members heading u) (span_members u) (asked_members u) refl a b c
+
+key_by : (uses : List KeyUse) (t : Table) (n : ℕ) (r : Row) (out one two three : List ℕ) → one ≡ out ++ 123 ∷ json_items true (node_members t n) → two ≡ one ++ json_items false (id_members r)
+    → three ≡ two ++ (json_items false (state_members (last_of (carries_row t r) uses) (find (asks_row_still uses t r) uses) (may_go_json (is_some (last_of (carries_row t r) uses)) (is_wanted uses t r))) ++ 125 ∷ [])
+    → three ≡ out ++ key_json uses t n r
+unfolding key_json
+key_by uses t n r out one two three a b c = object_of_three out one two three (node_members t n) (id_members r) (state_members (last_of (carries_row t r) uses) (find (asks_row_still uses t r) uses) (may_go_json (is_some (last_of (carries_row t r) uses)) (is_wanted uses t r))) refl a b c
+
+-- a row, in three parts
+pub key_done : (uses : List KeyUse) (t : Table) (n : ℕ) (r : Row) (last asking : Option KeyUse) (wanted : Bool) (may out one two three : List ℕ) → last ≡ last_of (carries_row t r) uses → asking ≡ find (asks_row_still uses t r) uses
+    → wanted ≡ is_wanted uses t r → may ≡ may_go_json (is_some last) wanted → one ≡ out ++ 123 ∷ json_items true (node_members t n) → two ≡ one ++ json_items false (id_members r)
+    → three ≡ two ++ (json_items false (state_members last asking may) ++ 125 ∷ []) → three ≡ out ++ key_json uses t n r
+key_done uses t n r last asking wanted may out one two three last_is asking_is wanted_is may_is a b c =
+    key_by uses t n r out one two three a b (rw (may_is, last_is, asking_is, wanted_is) at c)
+
+-- the rows of one node more
+keys_first : (uses : List KeyUse) (tables rest : List Table) (t : Table) (before after all : List ℕ) (first still : Bool) → tables ≡ t ∷ rest → before ++ json_items first (keys_json uses tables) ≡ all
+    → ((others : List (List ℕ)) → after ++ json_items still others ≡ before ++ json_items first (rows_json uses t 1 t.rows ++ others)) → after ++ json_items still (keys_json uses rest) ≡ all
+keys_first uses tables rest t before after all first still cut so_far more = more (keys_json uses rest) ∙ (rw cut at so_far)
+
+pub keys_more : (uses : List KeyUse) (i : ℕ) (tables : List Table) (t : Table) (before after all : List ℕ) (first still : Bool) → i < length tables → ((d : Table) → t ≡ get_or tables (i + 1 - 1) d)
+    → before ++ json_items first (keys_json uses (drop i tables)) ≡ all
+    → ((others : List (List ℕ)) → after ++ json_items still others ≡ before ++ json_items first (rows_json uses t 1 t.rows ++ others)) → after ++ json_items still (keys_json uses (drop (i + 1) tables)) ≡ all
+keys_more uses i tables t before after all first still low here so_far more =
+    let place : i + 1 - 1 ≡ i = omega arith in
+    let at_place : t ≡ get_or tables i t = subst (λ (k : ℕ). t ≡ get_or tables k t) place (here t) in
+    let cut : drop i tables ≡ t ∷ drop (i + 1) tables = rw (add-one i) (drop-cons tables i t low ∙ ap (λ x. x ∷ drop (suc i) tables) (sym at_place)) in
+    keys_first uses (drop i tables) (drop (i + 1) tables) t before after all first still cut so_far more
+
+none_behind : {A : Type 0} (xs : List A) (x : A) → none (xs ++ x ∷ []) ≡ false
+none_behind [] x = refl
+none_behind (y ∷ ys) x = refl
+
+not_zero : (n : ℕ) → 0 < n → (n == 0) ≡ false
+not_zero n more = grind (arith, nat_tests)
+
+none_numbered : (f : ℕ → List ℕ) (n : ℕ) → none (map f (numbers_to n)) ≡ (n == 0)
+none_numbered f zero = refl
+none_numbered f (suc n) =
+    let more : (suc n == 0) ≡ false = not_zero (suc n) (omega arith) in
+    ap none (map-append f (numbers_to n) (suc n ∷ [])) ∙ (none_behind (map f (numbers_to n)) (f (suc n)) ∙ sym more)
+
+session_last : (f : ℕ → List ℕ) (n : ℕ) → json_items true (map f (numbers_to (suc n))) ≡ json_items true (map f (numbers_to n)) ++ (json_comma (n == 0) ++ f (suc n))
+session_last f n =
+    ap (json_items true) (map-append f (numbers_to n) (suc n ∷ [])) ∙ (items_more true (map f (numbers_to n)) (f (suc n) ∷ [])
+    ∙ (ap (λ (b : Bool). json_items true (map f (numbers_to n)) ++ json_items b (f (suc n) ∷ [])) (none_numbered f n)
+    ∙ ap (λ (z : List ℕ). json_items true (map f (numbers_to n)) ++ (json_comma (n == 0) ++ z)) (append-nil (f (suc n)))))
+
+-- one session more
+pub sessions_more : (f : ℕ → List ℕ) (i : ℕ) (out before comma after : List ℕ) → before ≡ out ++ json_items true (map f (numbers_to i)) → comma ≡ before ++ json_comma (i == 0)
+    → after ≡ comma ++ f (i + 1) → after ≡ out ++ json_items true (map f (numbers_to (i + 1)))
+sessions_more f i out before comma after a b c =
+    let first = json_items true (map f (numbers_to i)) in
+    let same : i + 1 ≡ suc i = add-one i in
+    let more : after ≡ comma ++ f (suc i) = rw same at c in
+    rw same (more ∙ (ap (λ (z : List ℕ). z ++ f (suc i)) (b ∙ ap (λ (z : List ℕ). z ++ json_comma (i == 0)) a)
+    ∙ (append_assoc (out ++ first) (json_comma (i == 0)) (f (suc i)) ∙ (append_assoc out first (json_comma (i == 0) ++ f (suc i))
+    ∙ ap (λ (z : List ℕ). out ++ z) (sym (session_last f i))))))

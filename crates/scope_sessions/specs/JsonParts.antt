@@ -1,0 +1,40 @@
+-- The members of objects of JSON, as they are written one part behind another (own).
+use Rattle.std.specs.Prelude.{ℕ, List, [], ◌∷◌, Option, codes, decimal}
+use Rattle.book_keys.specs.Rows.{Row, Table}
+use Rattle.book_sessions.specs.declared.uses.KeyUse.{KeyUse}
+use Rattle.book_sessions.specs.OutcomeTexts.{outcome_text}
+use Rattle.book_sessions_json.specs.Json.{json_member, json_string}
+use Rattle.book_sessions_json.specs.SessionJson.{asked_for_json, id_json, last_used_json}
+use Rattle.book_sessions_json.specs.SessionJson.{sender_place, time_json}
+
+-- of segments: who sent them, under which KeyID, and what is said of them
+abbrev pub sender_members : (heading one : KeyUse) → List (List ℕ)
+sender_members heading u = json_member (codes "sender") (decimal (sender_place heading u))
+    ∷ json_member (codes "key_id") (id_json u.key_id)
+    ∷ json_member (codes "outcome") (json_string (outcome_text u.outcome)) ∷ []
+
+-- of segments: how many they are, and when they were seen
+abbrev pub span_members : KeyUse → List (List ℕ)
+span_members u = json_member (codes "segments") (decimal u.segments)
+    ∷ json_member (codes "first") (time_json u.first)
+    ∷ json_member (codes "last") (time_json u.last) ∷ []
+
+-- of segments: what they ask for
+abbrev pub asked_members : KeyUse → List (List ℕ)
+asked_members u = json_member (codes "asks") (id_json u.asked) ∷ []
+
+-- of a row: its node and its number
+abbrev pub node_members : Table → (number : ℕ) → List (List ℕ)
+node_members t n = json_member (codes "node") (json_string t.name)
+    ∷ json_member (codes "row") (decimal n) ∷ []
+
+-- of a row: its ids
+abbrev pub id_members : Row → List (List ℕ)
+id_members r = json_member (codes "send_id") (decimal r.send_id)
+    ∷ json_member (codes "recv_id") (decimal r.recv_id) ∷ []
+
+-- of a row: who used it last, who asks for it, and whether it may go
+abbrev pub state_members : (last asking : Option KeyUse) → (may : List ℕ) → List (List ℕ)
+state_members last asking may = json_member (codes "last_used") (last_used_json last)
+    ∷ json_member (codes "asked_for") (asked_for_json asking)
+    ∷ json_member (codes "may_go") may ∷ []

@@ -1,0 +1,160 @@
+//! The keys of a key file in JSON.
+ghost use Rattle.std.specs.Prelude.{◌≡◌, ◌++◌, ◌∷◌, [], ℕ, IfOk, List, OnOk, codes, decimal, false, is_some, true};
+ghost use Rattle.book_sessions_json.specs.Json.{json_items};
+ghost use Rattle.book_sessions_json.specs.SessionJson.{asked_for_json, key_json, keys_json, last_used_json, may_go_json, rows_json};
+ghost use Rattle.scope_sessions.specs.JsonParts.{id_members, node_members, state_members};
+
+use crate::json_values::{push_address_text, push_comma, push_name, push_string, push_time};
+use crate::last_use::{asking, is_wanted, last_carrying};
+use ao_base::push_decimal;
+use book_sessions::KeyUse;
+use key_table::{Row, Table, Tables};
+use std::alloc::{AllocError, Global};
+
+#[tactic(auto, unfolding(book_sessions_json::specs::SessionJson::last_used_json))]
+fn push_last(alloc: Global, out: &mut Vec<u8>, last: Option<KeyUse>) -> Result<(), AllocError>
+    ensures { OnOk result (out.new.items ≡ out.old.items ++ last_used_json last) }
+{
+    match last {
+        None => out.extend_from_slice(b"null"),
+        Some(last) => {
+            push_name(out, b'{', b"at")?;
+            push_time(alloc, out, last.last)?;
+            push_name(out, b',', b"session")?;
+            push_decimal(out, last.session)?;
+            push_name(out, b',', b"from")?;
+            push_address_text(alloc, out, &last.source.address)?;
+            out.push(b'}')?;
+            Ok(())
+        }
+    }
+}
+
+#[tactic(auto, unfolding(book_sessions_json::specs::SessionJson::asked_for_json))]
+fn push_asking(alloc: Global, out: &mut Vec<u8>, asking: Option<KeyUse>) -> Result<(), AllocError>
+    ensures { OnOk result (out.new.items ≡ out.old.items ++ asked_for_json asking) }
+{
+    match asking {
+        None => out.extend_from_slice(b"null"),
+        Some(asking) => {
+            push_name(out, b'{', b"by")?;
+            push_address_text(alloc, out, &asking.source.address)?;
+            push_name(out, b',', b"session")?;
+            push_decimal(out, asking.session)?;
+            out.push(b'}')?;
+            Ok(())
+        }
+    }
+}
+
+fn may_go_word(last: Option<KeyUse>, wanted: bool) -> &'static [u8]
+    ensures { result.now ≡ may_go_json (is_some last) wanted }
+{
+    if wanted {
+        return b"false";
+    }
+    match last {
+        Some(_) => b"true",
+        None => b"null",
+    }
+}
+
+// Puts the first members of a row behind `out`: its node and its number.
+fn push_node(out: &mut Vec<u8>, table: &Table, number: u64) -> Result<(), AllocError>
+    ensures { OnOk result (out.new.items ≡ out.old.items ++ 123 ∷ json_items true (node_members table.now number)) }
+{
+    push_name(out, b'{', b"node")?;
+    push_string(out, table.name())?;
+    push_name(out, b',', b"row")?;
+    push_decimal(out, number)
+}
+
+// Puts the next members of a row behind `out`: its ids.
+fn push_ids(out: &mut Vec<u8>, row: &Row) -> Result<(), AllocError>
+    ensures { OnOk result (out.new.items ≡ out.old.items ++ json_items false (id_members row.now)) }
+{
+    push_name(out, b',', b"send_id")?;
+    push_decimal(out, u64::from(row.send_id()))?;
+    push_name(out, b',', b"recv_id")?;
+    push_decimal(out, u64::from(row.recv_id()))
+}
+
+// Puts the last members of a row behind `out`: who used it last, who asks for it, whether it may go.
+fn push_state(
+    alloc: Global,
+    out: &mut Vec<u8>,
+    last: Option<KeyUse>,
+    asking: Option<KeyUse>,
+    may: &[u8],
+) -> Result<(), AllocError>
+    ensures { OnOk result (out.new.items ≡ out.old.items ++ (json_items false (state_members last asking may.now) ++ 125 ∷ [])) }
+{
+    push_name(out, b',', b"last_used")?;
+    push_last(alloc, out, last)?;
+    push_name(out, b',', b"asked_for")?;
+    push_asking(alloc, out, asking)?;
+    push_name(out, b',', b"may_go")?;
+    out.extend_from_slice(may)?;
+    out.push(b'}')?;
+    Ok(())
+}
+
+fn push_key(
+    alloc: Global,
+    out: &mut Vec<u8>,
+    uses: &[KeyUse],
+    table: &Table,
+    number: u64,
+    row: &Row,
+) -> Result<(), AllocError>
+    ensures { OnOk result (out.new.items ≡ out.old.items ++ key_json uses.now table.now number row.now) }
+{
+    let last = last_carrying(uses, table, row);
+    let wanted = is_wanted(uses, table, row);
+    let asked = asking(uses, table, row);
+    let may = may_go_word(last, wanted);
+    push_node(out, table, number)?;
+    push_ids(out, row)?;
+    push_state(alloc, out, last, asked, may)?;
+    Ok(())
+}
+
+// Puts the rows of a node behind `out`, a comma between each two; behind others also one in front.
+// Answers whether what follows is the first.
+fn push_rows(
+    alloc: Global,
+    out: &mut Vec<u8>,
+    first: bool,
+    uses: &[KeyUse],
+    table: &Table,
+    rows: &[Row],
+) -> Result<bool, AllocError>
+    ensures { (others : List (List ℕ)) → IfOk result (λ still. out.new.items ++ json_items still others
+        ≡ out.old.items ++ json_items first (rows_json uses.now table.now 1 rows.now ++ others)) }
+{
+    let mut still = first;
+    for (i, row) in rows.iter().enumerate() {
+        push_comma(out, still)?;
+        push_key(alloc, out, uses, table, i as u64 + 1, row)?;
+        still = false;
+    }
+    Ok(still)
+}
+
+/// Puts the rows of all nodes behind `out`, a comma between each two.
+pub(crate) fn push_keys(
+    alloc: Global,
+    out: &mut Vec<u8>,
+    uses: &[KeyUse],
+    tables: &Tables,
+) -> Result<(), AllocError>
+    ensures { OnOk result (out.new.items ≡ out.old.items ++ json_items true (keys_json uses.now tables.now)) }
+{
+    let mut first = true;
+    for i in 0..tables.nodes() {
+        let table = tables.node(i + 1);
+        let still = push_rows(alloc, out, first, uses, table, table.entries())?;
+        first = still;
+    }
+    Ok(())
+}
