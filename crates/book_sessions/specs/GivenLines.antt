@@ -2,29 +2,23 @@
 -- Our own format. Its top is `given_isns_of`.
 use Rattle.std.specs.Prelude.{ℕ, ◌&&◌, not, Bool, true, false, if◌then◌else◌, List, [], ◌∷◌}
 use Rattle.std.specs.Prelude.{Result, Ok, Err}
-use Rattle.book_base.specs.declared.address.Address.{Address}
-use Rattle.book_base.specs.declared.address.Address.TheVariants.{V4, V6}
 use Rattle.book_base.specs.declared.address.Socket.{Socket}
 use Rattle.book_lines.specs.declared.line_kind.LineKind.{LineKind}
 use Rattle.book_lines.specs.declared.line_kind.LineKind.TheVariants.{Range}
+use Rattle.book_base.specs.Addresses.{same_family}
 use Rattle.book_base.specs.Results.{◌>>=◌}
 use Rattle.book_segments.specs.Sockets.{same_socket}
 use Rattle.book_lines.specs.declared.text_fault.TextFault.{TextFault}
 use Rattle.book_lines.specs.Said.{Said, said_in}
 use Rattle.book_lines.specs.Words.{Taken, number_in, nothing_in}
 use Rattle.book_scope_texts.specs.AddressWords.{usual_socket_in}
+use Rattle.book_cmd_link.specs.LinkEvents.{greatest_isn}
 use Rattle.book_cmd_check.specs.declared.given.GivenIsns.{GivenIsns}
 
--- two addresses are of one version of IP (own)
-abbrev pub is_of_one_family : (one other : Address) → Bool
-is_of_one_family (V4 x) (V4 y) = true
-is_of_one_family (V6 x) (V6 y) = true
-is_of_one_family _ _ = false
-
--- two sockets are those of a connection: of one version of IP, and not the same (RFC 9293, section
+-- two sockets are those of a connection: of one family, and not the same (RFC 9293, section
 -- 3.3.1, and own)
 abbrev pub can_connect : (one other : Socket) → Bool
-can_connect a b = is_of_one_family a.address b.address && not (same_socket a b)
+can_connect a b = same_family a.address b.address && not (same_socket a b)
 
 -- the next two words as a socket that can connect with this one (own)
 unfoldable pub other_socket_in : Socket → List (List ℕ) → Result (Taken Socket) LineKind
@@ -37,9 +31,9 @@ other_socket_in one ws = do
 unfoldable pub given_isns_in : List (List ℕ) → Result GivenIsns LineKind
 given_isns_in ws = do
   one ← usual_socket_in ws
-  one_isn ← number_in 0 4294967295 one.rest
+  one_isn ← number_in 0 greatest_isn one.rest
   other ← other_socket_in one.value one_isn.rest
-  other_isn ← number_in 0 4294967295 other.rest
+  other_isn ← number_in 0 greatest_isn other.rest
   none ← nothing_in other_isn.rest
   Ok (record {
     one = one.value;

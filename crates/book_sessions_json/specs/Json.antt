@@ -15,8 +15,8 @@ json_byte b =
 unfoldable pub json_string : List ℕ → List ℕ
 json_string text = 34 ∷ (flat_map json_byte text ++ 34 ∷ [])
 
--- what stands in front of a value: nothing where it is the first, else a comma (RFC 8259, sections 4
--- and 5)
+-- what stands in front of a value: nothing where it is the first, else a comma (RFC 8259, sections
+-- 4 and 5)
 abbrev pub json_comma : (first : Bool) → List ℕ
 json_comma first = if first then [] else 44 ∷ []
 

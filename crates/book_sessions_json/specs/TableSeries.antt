@@ -40,8 +40,8 @@ counted_since every None (Some now) = Some now
 counted_since every (Some since) (Some now) =
     if is_table_due every (Some since) (Some now) then Some now else Some since
 
--- the line that ends a table that isn't the last one: when the packet behind it was seen. A table in
--- JSON is a line itself, and has none (own)
+-- the line that ends a table that isn't the last one: when the packet behind it was seen. A table
+-- in JSON is a line itself, and has none (own)
 abbrev pub time_line : TableForm → (now : Option ℕ) → List ℕ
 time_line Json now = []
 time_line Lines None = []

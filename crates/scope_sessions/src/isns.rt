@@ -1,32 +1,23 @@
 //! The initial sequence numbers that lines give.
 ghost use Rattle.std.specs.Prelude.{◌≡◌, [], MatchResult, Ok};
 ghost use Rattle.book_lines.specs.Said.{at_number, said_by};
-ghost use Rattle.book_sessions.specs.GivenLines.{can_connect, given_isns_in, given_isns_of, is_of_one_family, other_socket_in};
+ghost use Rattle.book_sessions.specs.GivenLines.{can_connect, given_isns_in, given_isns_of, other_socket_in};
 ghost use Rattle.text_lines.specs.Readings.{Fails, gives};
 ghost use Rattle.scope_sessions.specs.Given.{given_from};
 
 use crate::words::is_same_socket;
-use book_base::{Address, Socket};
+use ao_base::is_one_family;
+use book_base::Socket;
 use book_lines::{LineKind, TextFault};
 use book_sessions::GivenIsns;
 use scope_texts::read_socket_words;
 use std::alloc::Global;
 use text_lines::{LineWords, Saying, SayingLines, count_lines};
 
-fn is_of_one_family(one: &Address, other: &Address) -> bool
-    ensures { result ≡ is_of_one_family one.now other.now }
-{
-    match (one, other) {
-        (Address::V4(_), Address::V4(_)) => true,
-        (Address::V6(_), Address::V6(_)) => true,
-        _ => false,
-    }
-}
-
 fn can_connect(one: Socket, other: Socket) -> bool
     ensures { result ≡ can_connect one other }
 {
-    is_of_one_family(&one.address, &other.address) && !is_same_socket(one, other)
+    is_one_family(&one.address, &other.address) && !is_same_socket(one, other)
 }
 
 /// A socket that can connect with this one; `Range` for another one.
