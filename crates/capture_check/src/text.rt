@@ -1,6 +1,5 @@
 //! The line that an answer is printed as.
 ghost use Rattle.std.specs.Prelude.{◌≡◌, ◌++◌, ◌∷◌, [], OnOk, codes, decimal};
-ghost use Rattle.book_segments.specs.Faults.{fault_text};
 ghost use Rattle.book_link.specs.Reports.{verdict_text};
 ghost use Rattle.book_lines.specs.Texts.{numbered_text, spaced};
 ghost use Rattle.book_cmd_check.specs.Captures.{Saying, saying_texts};
@@ -11,55 +10,9 @@ ghost use Rattle.capture_check.specs.Answers.{Says, answer_texts, verdict_texts}
 use crate::answer::CheckLine;
 use ao_base::push_decimal;
 use book_endpoint::{Passed, Verdict};
-use book_segments::{DatagramFault, OptionFault};
+use segment_words::{push_fault, verdict_word};
 use std::alloc::AllocError;
 use text_lines::{push_field, push_newline, push_text};
-
-/// The text of a fault.
-fn push_fault(out: &mut Vec<u8>, fault: DatagramFault) -> Result<(), AllocError>
-    ensures { OnOk result (out.new.items ≡ out.old.items ++ 32 ∷ fault_text fault) }
-{
-    match fault {
-        DatagramFault::Truncated => push_text(out, b"truncated"),
-        DatagramFault::Version => push_text(out, b"version"),
-        DatagramFault::HeaderLength => push_text(out, b"header-length"),
-        DatagramFault::HeaderChecksum => push_text(out, b"header-checksum"),
-        DatagramFault::Fragment => push_text(out, b"fragment"),
-        DatagramFault::NotTcp => push_text(out, b"not-tcp"),
-        DatagramFault::ExtensionHeader => push_text(out, b"extension-header"),
-        DatagramFault::DataOffset => push_text(out, b"data-offset"),
-        DatagramFault::BadOption(OptionFault::ShortLength(place)) => {
-            push_place(out, b"option short-length", place)
-        }
-        DatagramFault::BadOption(OptionFault::PastEnd(place)) => {
-            push_place(out, b"option past-end", place)
-        }
-    }
-}
-
-/// The place of a faulty option.
-fn push_place(out: &mut Vec<u8>, name: &[u8], place: u8) -> Result<(), AllocError>
-    ensures { OnOk result (out.new.items ≡ out.old.items ++ 32 ∷ (name.now ++ 32 ∷ decimal place)) }
-{
-    push_field(out, name, u64::from(place))
-}
-
-fn verdict_name(verdict: &Verdict) -> &'static [u8]
-    ensures { result.now ≡ verdict_text verdict.now }
-{
-    match verdict {
-        Verdict::Pass(_) => b"pass",
-        Verdict::NoAo => b"no-ao",
-        Verdict::TwoAo => b"two-ao",
-        Verdict::WithMd5 => b"with-md5",
-        Verdict::NoTuple => b"no-tuple",
-        Verdict::Expired => b"expired",
-        Verdict::MacLength => b"mac-length",
-        Verdict::NoContext => b"no-context",
-        Verdict::Range => b"range",
-        Verdict::BadMac => b"bad-mac",
-    }
-}
 
 fn checksum_name(right: bool) -> &'static [u8]
     ensures { result.now ≡ checksum_text right }
@@ -103,7 +56,7 @@ fn push_refused(out: &mut Vec<u8>, verdict: &Verdict) -> Result<(), AllocError>
     ensures { OnOk result (out.new.items ≡ out.old.items ++ spaced (codes "refused" ∷ verdict_text verdict.now ∷ [])) }
 {
     push_text(out, b"refused")?;
-    push_text(out, verdict_name(verdict))
+    push_text(out, verdict_word(*verdict))
 }
 
 fn push_answer(out: &mut Vec<u8>, line: &CheckLine) -> Result<(), AllocError>

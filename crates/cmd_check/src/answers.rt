@@ -43,7 +43,8 @@ pub fn answer<I: Source, O: Sink>(
     input: &mut I,
     out: &mut O,
 ) -> Result<bool, Halt>
-    ensures { (given : List ℕ) × Checks form tables given (I.side input.old) (I.side input.new) (O.side out.old) (O.side out.new) result }
+    ensures { (given : List ℕ) × Checks form tables given (I.side input.old) (I.side input.new)
+        (O.side out.old) (O.side out.new) result }
 {
     match form {
         Form::Lines => check_lines::<Brand, I, O>(alloc, tables, input, out, Blank::new(1)),

@@ -1,7 +1,6 @@
 //! The fields of a datagram as text.
 ghost use Rattle.std.specs.Prelude.{◌≡◌, ◌++◌, ◌∷◌, [], OnOk, IfOk, codes, decimal, length, map};
 ghost use Rattle.book_base.specs.Hexadecimal.{hex_of};
-ghost use Rattle.book_segments.specs.Faults.{fault_text};
 ghost use Rattle.book_segments.specs.Options.{plains, listed, options_of};
 ghost use Rattle.book_segments.specs.Segments.{good, reading};
 ghost use Rattle.tcp_options.specs.Views.{view_opt};
@@ -11,9 +10,10 @@ ghost use Rattle.book_cmd_show.specs.Show.{reading_texts};
 
 use ao_base::{push_decimal, push_hex};
 use book_base::Address;
+use segment_words::push_fault;
 use std::alloc::{AllocError, Global};
-use tcp_options::{Opt, OptionFault, OptionIter};
-use tcp_segment::{Datagram, DatagramFault, read_datagram};
+use tcp_options::{Opt, OptionIter};
+use tcp_segment::{Datagram, read_datagram};
 use text_lines::{push_bytes, push_field, push_socket, push_text};
 
 fn family(address: &Address) -> &[u8]
@@ -112,35 +112,6 @@ fn push_datagram(
     push_sockets(alloc, out, datagram)?;
     push_numbers(out, datagram)?;
     push_rest(out, datagram)
-}
-
-/// The place of a faulty option.
-fn push_place(out: &mut Vec<u8>, name: &[u8], place: u8) -> Result<(), AllocError>
-    ensures { OnOk result (out.new.items ≡ out.old.items ++ 32 ∷ (name.now ++ 32 ∷ decimal place)) }
-{
-    push_field(out, name, u64::from(place))
-}
-
-/// The text of a fault.
-fn push_fault(out: &mut Vec<u8>, fault: DatagramFault) -> Result<(), AllocError>
-    ensures { OnOk result (out.new.items ≡ out.old.items ++ 32 ∷ fault_text fault) }
-{
-    match fault {
-        DatagramFault::Truncated => push_text(out, b"truncated"),
-        DatagramFault::Version => push_text(out, b"version"),
-        DatagramFault::HeaderLength => push_text(out, b"header-length"),
-        DatagramFault::HeaderChecksum => push_text(out, b"header-checksum"),
-        DatagramFault::Fragment => push_text(out, b"fragment"),
-        DatagramFault::NotTcp => push_text(out, b"not-tcp"),
-        DatagramFault::ExtensionHeader => push_text(out, b"extension-header"),
-        DatagramFault::DataOffset => push_text(out, b"data-offset"),
-        DatagramFault::BadOption(OptionFault::ShortLength(place)) => {
-            push_place(out, b"option short-length", place)
-        }
-        DatagramFault::BadOption(OptionFault::PastEnd(place)) => {
-            push_place(out, b"option past-end", place)
-        }
-    }
 }
 
 /// The fields of the datagram that a prefix of the bytes is, or `bad` and why there is none.

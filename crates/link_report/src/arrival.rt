@@ -1,52 +1,12 @@
 //! The texts of an answer to an arrival.
-ghost use Rattle.std.specs.Prelude.{◌≡◌, ◌++◌, ◌∷◌, OnOk};
+ghost use Rattle.std.specs.Prelude.{◌≡◌, ◌++◌, OnOk};
 ghost use Rattle.book_lines.specs.Texts.{spaced};
-ghost use Rattle.book_link.specs.Reports.{answer_texts, verdict_text};
-ghost use Rattle.book_segments.specs.Faults.{fault_text};
+ghost use Rattle.book_link.specs.Reports.{answer_texts};
 
-use book_endpoint::{Arrival, Verdict};
-use book_segments::{DatagramFault, OptionFault};
+use book_endpoint::Arrival;
+use segment_words::{push_fault, verdict_word};
 use std::alloc::AllocError;
-use text_lines::{push_field, push_text};
-
-/// Puts the text of a fault behind `out`, a space in front.
-fn push_fault(out: &mut Vec<u8>, fault: DatagramFault) -> Result<(), AllocError>
-    ensures { OnOk result (out.new.items ≡ out.old.items ++ 32 ∷ fault_text fault) }
-{
-    match fault {
-        DatagramFault::Truncated => push_text(out, b"truncated"),
-        DatagramFault::Version => push_text(out, b"version"),
-        DatagramFault::HeaderLength => push_text(out, b"header-length"),
-        DatagramFault::HeaderChecksum => push_text(out, b"header-checksum"),
-        DatagramFault::Fragment => push_text(out, b"fragment"),
-        DatagramFault::NotTcp => push_text(out, b"not-tcp"),
-        DatagramFault::ExtensionHeader => push_text(out, b"extension-header"),
-        DatagramFault::DataOffset => push_text(out, b"data-offset"),
-        DatagramFault::BadOption(OptionFault::ShortLength(place)) => {
-            push_field(out, b"option short-length", u64::from(place))
-        }
-        DatagramFault::BadOption(OptionFault::PastEnd(place)) => {
-            push_field(out, b"option past-end", u64::from(place))
-        }
-    }
-}
-
-fn verdict_word(verdict: Verdict) -> &'static [u8]
-    ensures { result.now ≡ verdict_text verdict }
-{
-    match verdict {
-        Verdict::Pass(_) => b"pass",
-        Verdict::NoAo => b"no-ao",
-        Verdict::TwoAo => b"two-ao",
-        Verdict::WithMd5 => b"with-md5",
-        Verdict::NoTuple => b"no-tuple",
-        Verdict::Expired => b"expired",
-        Verdict::MacLength => b"mac-length",
-        Verdict::NoContext => b"no-context",
-        Verdict::Range => b"range",
-        Verdict::BadMac => b"bad-mac",
-    }
-}
+use text_lines::push_text;
 
 /// Puts the texts of an answer to an arrival behind `out`, a space in front of each.
 pub fn push_answer(out: &mut Vec<u8>, arrival: Arrival) -> Result<(), AllocError>
