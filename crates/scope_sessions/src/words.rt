@@ -1,37 +1,19 @@
 //! Words for what is said of a segment, and when two of them are the same.
 ghost use Rattle.std.specs.Prelude.{◌≡◌};
-ghost use Rattle.book_link.specs.Reports.{verdict_text};
 ghost use Rattle.book_segments.specs.Sockets.{same_socket};
 ghost use Rattle.book_sessions.specs.OutcomeTexts.{is_verified, outcome_text};
 ghost use Rattle.book_sessions.specs.Sessions.{same_id, same_outcome};
 
 use book_base::Socket;
-use book_endpoint::Verdict;
 use book_sessions::SegmentOutcome;
-
-fn verdict_name(verdict: Verdict) -> &'static [u8]
-    ensures { result.now ≡ verdict_text verdict }
-{
-    match verdict {
-        Verdict::Pass(_) => b"pass",
-        Verdict::NoAo => b"no-ao",
-        Verdict::TwoAo => b"two-ao",
-        Verdict::WithMd5 => b"with-md5",
-        Verdict::NoTuple => b"no-tuple",
-        Verdict::Expired => b"expired",
-        Verdict::MacLength => b"mac-length",
-        Verdict::NoContext => b"no-context",
-        Verdict::Range => b"range",
-        Verdict::BadMac => b"bad-mac",
-    }
-}
+use segment_words::verdict_word;
 
 pub(crate) fn outcome_name(outcome: SegmentOutcome) -> &'static [u8]
     ensures { result.now ≡ outcome_text outcome }
 {
     match outcome {
         SegmentOutcome::Verified => b"verified",
-        SegmentOutcome::Refused(why) => verdict_name(why),
+        SegmentOutcome::Refused(why) => verdict_word(why),
         SegmentOutcome::NoNode => b"unknown-node",
         SegmentOutcome::TooMany => b"full",
     }
