@@ -164,13 +164,16 @@ module _ (s : Series) (before : Reading) (checking : Checking) (table : SessionT
       record {
         gave = gave_all steps.gave;
         bytes = bytes_all steps.bytes;
-        ends = (record {
-          tables_are = ap (λ (k : Checking). k.tables) by ∙ between.heard.same;
-          table_is = rw all (is ∙ heard_all s checking table shown between.heard);
-          fault_is = none ∙ sym (ap (λ c. c.fault) all);
-          whole = rw none (steps.answers.1);
-          has_read = rw all (read_before before given next shown between.shows);
-        }, rw all wrote_before);
+        ends = (
+          record {
+            tables_are = ap (λ (k : Checking). k.tables) by ∙ between.heard.same;
+            table_is = rw all (is ∙ heard_all s checking table shown between.heard);
+            fault_is = none ∙ sym (ap (λ c. c.fault) all);
+            whole = rw none (steps.answers.1);
+            has_read = rw all (read_before before given next shown between.shows);
+          },
+          rw all wrote_before,
+        );
       }
 
   -- a fault of the capture
@@ -185,13 +188,16 @@ module _ (s : Series) (before : Reading) (checking : Checking) (table : SessionT
       record {
         gave = gave_all steps.gave;
         bytes = bytes_all steps.bytes;
-        ends = (record {
-          tables_are = ap (λ (k : Checking). k.tables) by ∙ between.heard.same;
-          table_is = rw all (is ∙ heard_all s checking table shown between.heard);
-          fault_is = some ∙ sym (ap (λ c. c.fault) all);
-          whole = rw some whole;
-          has_read = rw all (read_before before given next shown between.shows);
-        }, rw all wrote_before);
+        ends = (
+          record {
+            tables_are = ap (λ (k : Checking). k.tables) by ∙ between.heard.same;
+            table_is = rw all (is ∙ heard_all s checking table shown between.heard);
+            fault_is = some ∙ sym (ap (λ c. c.fault) all);
+            whole = rw some whole;
+            has_read = rw all (read_before before given next shown between.shows);
+          },
+          rw all wrote_before,
+        );
       }
 
   -- a read that failed

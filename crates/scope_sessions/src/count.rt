@@ -184,15 +184,7 @@ fn count_counted<L: Ledger, I: Source, O: Sink>(
             }
         }
         let now = second_of(reader.time());
-        match write_due(
-            alloc,
-            request,
-            checker.tables(),
-            &tally,
-            since,
-            now,
-            out,
-        ) {
+        match write_due(alloc, request, checker.tables(), &tally, since, now, out) {
             Ok(()) => {}
             Err(TextHalt::Write) => return Err(CountHalt::Write),
             Err(TextHalt::Memory) => return Err(CountHalt::Memory),

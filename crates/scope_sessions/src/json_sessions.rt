@@ -7,7 +7,9 @@ ghost use Rattle.book_sessions_json.specs.Json.{json_array, json_bool, json_item
 ghost use Rattle.book_sessions_json.specs.SessionJson.{end_json, heading_json, numbers_to, sender_place, session_json, use_json, uses_json};
 ghost use Rattle.scope_sessions.specs.JsonParts.{asked_members, sender_members, span_members};
 
-use crate::json_values::{push_address_text, push_bool, push_comma, push_id, push_name, push_string, push_time};
+use crate::json_values::{
+    push_address_text, push_bool, push_comma, push_id, push_name, push_string, push_time,
+};
 use crate::session_texts::{first_of, is_of_session, is_opened};
 use crate::words::{is_same_socket, outcome_name};
 use ao_base::push_decimal;
@@ -41,7 +43,11 @@ fn push_ends(alloc: Global, out: &mut Vec<u8>, first: &KeyUse) -> Result<(), All
 fn sender_place(heading: &KeyUse, one: &KeyUse) -> u64
     ensures { result ≡ sender_place heading.now one.now }
 {
-    if is_same_socket(one.source, heading.source) { 0 } else { 1 }
+    if is_same_socket(one.source, heading.source) {
+        0
+    } else {
+        1
+    }
 }
 
 // Puts the first members of segments behind `out`: who sent them, under which KeyID, and what is said of

@@ -72,7 +72,13 @@ fn write_counted<O: Sink>(
     ensures { WritesCounted form counted.now (O.side out.old) (O.side out.new) result }
 {
     let mut text = Vec::new(alloc);
-    match push_form(alloc, form, &mut text, counted.checker.tables(), &counted.tally) {
+    match push_form(
+        alloc,
+        form,
+        &mut text,
+        counted.checker.tables(),
+        &counted.tally,
+    ) {
         Ok(()) => {}
         Err(_) => return Err(SessionsHalt::Memory),
     }

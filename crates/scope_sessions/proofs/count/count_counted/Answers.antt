@@ -73,20 +73,26 @@ parts-preserved g c =
 pub returns-in-Err-count_packet : goal.returns-in-Err-count_packet
 returns-in-Err-count_packet g c =
     let more = rw c.in-Ok-Packet.field-0-is at c.in-Ok-Packet.ensures.steps in
-    let step = more.1 in
-    (c.parts.invariant.0 ++ more.0, ends_memory (series_of c.args.tables c.args.isns.now c.args.request) c.parts.reader c.parts.checker (table_of c.parts.tally) c.parts.since c.parts.invariant.0 more.0 c.parts.invariant.1 _ _ _ _ _ c.parts.invariant.2 c.next.new.self step.answers.0 step.answers.1 step.gave step.bytes
-        c.time.result c.second_of-now.result _ (c.in-Ok-Packet.ensures.shown (rw c.in-Ok-Packet.field-0-is refl)) c.time.ensures c.second_of-now.ensures (rw c.tables-in-parts.ensures at c.in-Ok-write_due.ensures))
+    let step = more.1 in (
+      c.parts.invariant.0 ++ more.0,
+      ends_memory (series_of c.args.tables c.args.isns.now c.args.request) c.parts.reader c.parts.checker (table_of c.parts.tally) c.parts.since c.parts.invariant.0 more.0 c.parts.invariant.1 _ _ _ _ _ c.parts.invariant.2 c.next.new.self step.answers.0 step.answers.1 step.gave step.bytes
+          c.time.result c.second_of-now.result _ (c.in-Ok-Packet.ensures.shown (rw c.in-Ok-Packet.field-0-is refl)) c.time.ensures c.second_of-now.ensures (rw c.tables-in-parts.ensures at c.in-Ok-write_due.ensures),
+    )
 
 pub returns-in-Err-Write : goal.returns-in-Err-Write
 returns-in-Err-Write g c =
     let more = rw c.in-Ok-Packet.field-0-is at c.in-Ok-Packet.ensures.steps in
-    let step = more.1 in
-    (c.parts.invariant.0 ++ more.0, ends_stuck (series_of c.args.tables c.args.isns.now c.args.request) c.parts.reader c.parts.checker (table_of c.parts.tally) c.parts.since c.parts.invariant.0 more.0 c.parts.invariant.1 _ _ _ _ _ c.parts.invariant.2 c.next.new.self step.answers.0 step.answers.1 step.gave step.bytes
-        c.time.result c.second_of-now.result _ (c.in-Ok-Packet.ensures.shown (rw c.in-Ok-Packet.field-0-is refl)) c.time.ensures c.second_of-now.ensures (rw c.tables-in-parts.ensures at (rw c.in-Err-Write.field-0-is at c.in-Err-Write.ensures)))
+    let step = more.1 in (
+      c.parts.invariant.0 ++ more.0,
+      ends_stuck (series_of c.args.tables c.args.isns.now c.args.request) c.parts.reader c.parts.checker (table_of c.parts.tally) c.parts.since c.parts.invariant.0 more.0 c.parts.invariant.1 _ _ _ _ _ c.parts.invariant.2 c.next.new.self step.answers.0 step.answers.1 step.gave step.bytes
+          c.time.result c.second_of-now.result _ (c.in-Ok-Packet.ensures.shown (rw c.in-Ok-Packet.field-0-is refl)) c.time.ensures c.second_of-now.ensures (rw c.tables-in-parts.ensures at (rw c.in-Err-Write.field-0-is at c.in-Err-Write.ensures)),
+    )
 
 pub returns-in-Err-Memory : goal.returns-in-Err-Memory
 returns-in-Err-Memory g c =
     let more = rw c.in-Ok-Packet.field-0-is at c.in-Ok-Packet.ensures.steps in
-    let step = more.1 in
-    (c.parts.invariant.0 ++ more.0, ends_lacking (series_of c.args.tables c.args.isns.now c.args.request) c.parts.reader c.parts.checker (table_of c.parts.tally) c.parts.since c.parts.invariant.0 more.0 c.parts.invariant.1 _ _ _ _ _ c.parts.invariant.2 c.next.new.self step.answers.0 step.answers.1 step.gave step.bytes
-        _ (rw c.in-Err-Memory.field-0-is at c.in-Err-Memory.ensures))
+    let step = more.1 in (
+      c.parts.invariant.0 ++ more.0,
+      ends_lacking (series_of c.args.tables c.args.isns.now c.args.request) c.parts.reader c.parts.checker (table_of c.parts.tally) c.parts.since c.parts.invariant.0 more.0 c.parts.invariant.1 _ _ _ _ _ c.parts.invariant.2 c.next.new.self step.answers.0 step.answers.1 step.gave step.bytes
+          _ (rw c.in-Err-Memory.field-0-is at c.in-Err-Memory.ensures),
+    )
