@@ -19,12 +19,13 @@ abbrev pub shown : ℕ → ℕ → List ℕ → Option Stored
 shown n seconds [] = None
 shown n seconds (b ∷ bs) = Some (record { number = n; time = seconds; bytes = b ∷ bs })
 
+-- a packet without a datagram has a line that says nothing
+none_said : (n seconds : ℕ) → stored_line n (packet_line seconds []) ≡ Ok None
+unfolding stored_line words_of says_something
+none_said n seconds = refl
+
 -- the line of a packet has the packet's segment
 pub packet_line_back : (n seconds : ℕ) (bytes : List ℕ) → seconds < 4294967296 → length bytes ≤ 65575 → IsBytes bytes →
     stored_line n (packet_line seconds bytes) ≡ Ok (shown n seconds bytes)
 packet_line_back n seconds [] low few small = none_said n seconds
-  where
-    none_said : (n seconds : ℕ) → stored_line n (packet_line seconds []) ≡ Ok None
-    unfolding stored_line words_of says_something
-    none_said n seconds = refl
 packet_line_back n seconds (b ∷ bs) low few small = stored_back n seconds (b ∷ bs) (omega arith) (omega arith) few small
