@@ -5,6 +5,7 @@ mod command;
 mod draw;
 mod echo;
 mod inputs;
+mod keys;
 mod plan;
 mod sessions;
 mod told;
@@ -42,6 +43,7 @@ fn run(rt: &HostRuntime, matches: &ArgMatches<'_>) -> u8 {
     match matches.subcommand() {
         Some(("lines", _)) => lines(rt),
         Some(("sessions", matches)) => sessions::run(rt, matches),
+        Some(("keys", matches)) => keys::run(rt, matches),
         Some(("plan", matches)) => plan::run(rt, matches),
         Some(("draw", matches)) => draw::run(rt, matches),
         Some(("echo", matches)) => echo::run(rt, matches),

@@ -1,0 +1,46 @@
+//! The word `keys`: all that is wrong with a key file, told to the person who writes it.
+use crate::inputs::{Halt, end, keys_at};
+use clap::{Arg, ArgAction, ArgMatches, Command};
+use command_report::Report;
+use scope_keys::answer_keys;
+use std::alloc::{AllocError, Global};
+
+const ABOUT: &str = "Says all that is wrong with a key file, where, and what is wanted there";
+
+const AFTER: &str =
+    "KEYS is a key file of `aotcp`. Of each fault there is a line: the place in the file, the field and \
+whose it is, its value, and what is wanted. All faults of all rows and nodes are told, in the order of the nodes, their \
+rows and the columns; of a key that is none, which one is like it. The master key is never shown. Where no field is \
+faulty, the first two rows that overlap are. Of a file that isn't TOML it is said from where on.
+
+A file without faults, which is exactly one that `aotcp` takes, has the line `no faults: N nodes, N rows`.
+
+Status 0: no faults; 1: faults; 3: the file is too long; 5: it can't be read; the others as above.
+
+    aoscope keys KEYS";
+
+/// The word with its page of help.
+pub(crate) fn command<'a>(alloc: Global) -> Result<Command<'a>, AllocError> {
+    let keys = Arg::new(alloc, "KEYS")
+        .required(true)
+        .help("The key file")
+        .action(ArgAction::Set);
+    Command::new(alloc, "keys")
+        .about(ABOUT)
+        .after_help(AFTER)
+        .arg(keys)
+}
+
+fn report(rt: &HostRuntime, matches: &ArgMatches<'_>) -> Result<Report, Halt> {
+    let path = match matches.get_str("KEYS") {
+        Some(path) => path,
+        None => return Err(Halt::Memory),
+    };
+    let text = keys_at(rt, path)?;
+    Ok(answer_keys(rt.alloc(), text.as_slice())?)
+}
+
+/// What the word asks for.
+pub(crate) fn run(rt: &HostRuntime, matches: &ArgMatches<'_>) -> u8 {
+    end(rt, report(rt, matches))
+}
