@@ -1,0 +1,178 @@
+-- The planned rollover of a connection as bars over time: a bar for each row and what it does, and
+-- a line that marks what is wrong. Our own format. Its top is `drawings_text`.
+use Rattle.std.specs.Prelude.{ℕ, ◌+◌, ◌&&◌, ◌||◌, nat_le, Bool, true, false, List, [], ◌∷◌, ◌++◌}
+use Rattle.std.specs.Prelude.{flat_map, codes, decimal, Option, Some, None, if◌then◌else◌}
+use Rattle.std.specs.List.{list_any}
+use Rattle.book_base.specs.declared.address.Pair.{Pair}
+use Rattle.book_base.specs.declared.end.End.{End}
+use Rattle.book_base.specs.declared.end.End.TheVariants.{A, B}
+use Rattle.book_draw_plan.specs.declared.duty.Duty.{Duty}
+use Rattle.book_draw_plan.specs.declared.duty.Duty.TheVariants.{Accepts, Sends}
+use Rattle.book_draw_plan.specs.declared.duty.Filling.{Filling}
+use Rattle.book_draw_plan.specs.declared.duty.Filling.TheVariants.{Never, Partly, Wholly}
+use Rattle.book_draw_plan.specs.Slices.{filling, slice_between, slice_width, slices_of}
+use Rattle.book_keys.specs.declared.plan.Plan.{Plan}
+use Rattle.book_keys.specs.Plans.{mirrored}
+use Rattle.book_keys.specs.Rows.{Row, Table, acceptable, sendable}
+use Rattle.book_lines.specs.Said.{Said}
+use Rattle.book_plans.specs.declared.finding.Finding.{Finding}
+use Rattle.book_plans.specs.declared.finding.Finding.TheVariants as finding
+use Rattle.book_draw_plan.specs.declared.slice.Slice.{Slice}
+use Rattle.book_scope_plan.specs.CalendarTexts.{row_numbered, side_of}
+use Rattle.book_scope_plan.specs.FindingTexts.{times_text}
+use Rattle.book_scope_plan.specs.PlanTexts.{connection_line, missing_text, node_with}
+use Rattle.book_scope_plan.specs.PlanTexts.{plan_findings}
+
+-- the row may do this for the pair at the time (RFC 7210, section 3)
+abbrev pub is_doing : Pair → Duty → Row → ℕ → Bool
+is_doing pair Accepts r time = acceptable pair time r
+is_doing pair Sends r time = sendable pair time r
+
+-- how what the row does fills a slice (own)
+abbrev pub row_filling : Pair → Duty → Row → Slice → Filling
+row_filling pair duty r s = filling (is_doing pair duty r) s
+
+-- the byte of a bar's slice: `#`, `+` or a space (own)
+abbrev pub filling_byte : Filling → ℕ
+filling_byte Wholly = 35
+filling_byte Partly = 43
+filling_byte Never = 32
+
+-- a line of the picture: a byte for each slice, and what it is (own)
+unfoldable pub bar_line : (bytes label : List ℕ) → List ℕ
+bar_line bytes label = codes "  |" ++ (bytes ++ (codes "| " ++ (label ++ 10 ∷ [])))
+
+-- the byte of a row's bar for a slice (own)
+abbrev pub bar_byte : Pair → Duty → Row → Slice → List ℕ
+bar_byte pair duty r s = filling_byte (row_filling pair duty r s) ∷ []
+
+-- the bytes of a row's bar (own)
+abbrev pub bar_bytes : Pair → Duty → Row → List Slice → List ℕ
+bar_bytes pair duty r slices = flat_map (bar_byte pair duty r) slices
+
+-- the id under which a row does this (RFC 5925, section 3.1)
+abbrev pub duty_id : Duty → Row → ℕ
+duty_id Accepts r = r.recv_id
+duty_id Sends r = r.send_id
+
+-- what a row does (own)
+abbrev pub duty_words : Duty → List ℕ
+duty_words Accepts = codes ") accepts"
+duty_words Sends = codes ") sends"
+
+-- what stands beside the bar of a row of this number, at the node of this name (own)
+unfoldable pub bar_label : (name : List ℕ) → ℕ → Duty → Row → List ℕ
+bar_label name n duty r =
+    name ++ (codes " row " ++ (decimal n ++ (codes " (KeyID " ++ (decimal (duty_id duty r)
+    ++ duty_words duty))))
+
+-- an end of a connection as it is drawn: its node's name, the pair as it sees it, the time that is
+-- drawn, and the slices of that (own)
+pub record DrawnEnd : Type 0 where
+  pub name : List ℕ
+  pub pair : Pair
+  pub time : Slice
+  pub slices : List Slice
+
+-- an end of this name that sees the pair so, over the time of a plan (own)
+abbrev pub end_drawn : (name : List ℕ) → Pair → Plan → DrawnEnd
+end_drawn name pair plan = record {
+  name = name;
+  pair = pair;
+  time = slice_between plan.from plan.to;
+  slices = slices_of plan.from plan.to;
+}
+
+-- the bar of a row of this number (own)
+abbrev pub bar_text : DrawnEnd → ℕ → Row → Duty → List ℕ
+bar_text e n r duty = bar_line (bar_bytes e.pair duty r e.slices) (bar_label e.name n duty r)
+
+-- something is filled at all (own)
+abbrev pub is_filled : Filling → Bool
+is_filled Never = false
+is_filled Partly = true
+is_filled Wholly = true
+
+-- the row does this at some time that is drawn (own)
+abbrev pub is_doing_within : DrawnEnd → Row → Duty → Bool
+is_doing_within e r duty = is_filled (row_filling e.pair duty r e.time)
+
+-- the bars of a row of this number, where it does something (own)
+abbrev pub row_bars : DrawnEnd → ℕ → Row → List ℕ
+row_bars e n r =
+    if is_doing_within e r Accepts || is_doing_within e r Sends then
+    bar_text e n r Accepts ++ bar_text e n r Sends
+    else []
+
+-- the bars of rows of an end, the first having number n (own)
+abbrev pub end_bars : DrawnEnd → ℕ → List Row → List ℕ
+end_bars e n [] = []
+end_bars e n (r ∷ rs) = row_bars e n r ++ end_bars e (n + 1) rs
+
+-- the pair as this end sees it, which is given as end a does (own)
+abbrev pub pair_at : End → Pair → Pair
+pair_at A pair = pair
+pair_at B pair = mirrored pair
+
+-- the row that was found may send for the pair at some time of the slice (own)
+abbrev pub may_send_in : Pair → Slice → Option Row → Bool
+may_send_in pair s None = false
+may_send_in pair s (Some r) = is_filled (row_filling pair Sends r s)
+
+-- the row of this number may send at some time of the slice (own)
+abbrev pub numbered_sends : List Row → Pair → Slice → ℕ → Bool
+numbered_sends rows pair s n = may_send_in pair s (row_numbered rows n)
+
+-- the finding is seen in the slice: a row that isn't met may send in it, or a gap has a time of it
+-- (own)
+abbrev pub is_seen : (a b : Table) → Pair → Slice → Finding → Bool
+is_seen a b pair s (finding.NoPeerRow end n) =
+    numbered_sends (side_of end a b).rows (pair_at end pair) s n
+is_seen a b pair s (finding.ShortAccept end n) =
+    numbered_sends (side_of end a b).rows (pair_at end pair) s n
+is_seen a b pair s (finding.Gap end first last) = nat_le first s.last && nat_le s.first last
+
+-- the byte of a slice in which something is wrong, or not: `!` or a space (own)
+abbrev pub wrong_byte : Bool → ℕ
+wrong_byte true = 33
+wrong_byte false = 32
+
+-- the byte that marks a slice in which one of the findings is seen (own)
+unfoldable pub slice_mark : (a b : Table) → Pair → List Finding → Slice → List ℕ
+slice_mark a b pair fs s = wrong_byte (list_any (is_seen a b pair s) fs) ∷ []
+
+-- the bytes that mark the slices in which one of the findings is seen (own)
+abbrev pub wrong_bytes : (a b : Table) → Pair → List Finding → List Slice → List ℕ
+wrong_bytes a b pair fs slices = flat_map (slice_mark a b pair fs) slices
+
+-- the line that says from when to when the bars go, and how many seconds a slice has (own)
+unfoldable pub scale_line : Plan → List ℕ
+scale_line plan =
+    codes "  " ++ (times_text plan.from plan.to
+    ++ (codes ", a column is " ++ (decimal (slice_width plan.from plan.to) ++ codes " s\n")))
+
+-- the bars of a connection between two nodes, and below them what is wrong (own)
+unfoldable pub both_bars : (a b : Table) → Pair → Plan → List Finding → List ℕ
+both_bars a b pair plan fs =
+    scale_line plan
+    ++ (end_bars (end_drawn a.name pair plan) 1 a.rows
+    ++ (end_bars (end_drawn b.name (mirrored pair) plan) 1 b.rows
+    ++ bar_line (wrong_bytes a b pair fs (slices_of plan.from plan.to)) (codes "wrong")))
+
+-- the bars of a connection by the nodes of its ends (own)
+abbrev pub nodes_bars : (a b : Option Table) → List Table → Plan → Pair → List ℕ
+nodes_bars (Some a) (Some b) tables plan pair =
+    both_bars a b pair plan (plan_findings tables plan pair)
+nodes_bars a b tables plan pair =
+    missing_text a pair.local.address ++ missing_text b pair.remote.address
+
+-- a connection as it is drawn (own)
+unfoldable pub drawing_text : List Table → Plan → Pair → List ℕ
+drawing_text tables plan pair =
+    connection_line pair
+    ++ nodes_bars (node_with tables pair.local.address) (node_with tables pair.remote.address)
+    tables plan pair
+
+-- the connections as they are drawn, one after another (own)
+unfoldable pub drawings_text : List Table → Plan → List (Said Pair) → List ℕ
+drawings_text tables plan said = flat_map (λ s. drawing_text tables plan s.value) said

@@ -1,0 +1,3 @@
+pub mod LifetimeLaws
+mod Parts
+mod SliceWalk

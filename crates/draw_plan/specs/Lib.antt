@@ -1,0 +1,2 @@
+pub mod Lifetimes
+pub mod Drawn

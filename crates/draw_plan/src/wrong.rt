@@ -1,0 +1,130 @@
+//! The slices in which something is wrong.
+ghost use Rattle.std.specs.Prelude.{◌≡◌, ◌++◌, OnOk, option_map};
+ghost use Rattle.std.specs.List.{list_any};
+ghost use Rattle.book_draw_plan.specs.Bars.{is_seen, may_send_in, numbered_sends, pair_at, slice_mark, wrong_byte, wrong_bytes};
+ghost use Rattle.book_keys.specs.Plans.{mirrored};
+ghost use Rattle.book_scope_plan.specs.CalendarTexts.{row_numbered, side_of};
+
+use crate::fillings::{is_filled, row_filling};
+use book_base::{End, Pair};
+use book_draw_plan::{Duty, Slice};
+use book_plans::Finding;
+use key_table::{Row, Table};
+use std::alloc::AllocError;
+
+/// The tables of the two ends of a connection, and the pair as end A sees it.
+#[derive(Clone, Copy)]
+pub(crate) struct Connected<'a> {
+    pub(crate) a: &'a Table,
+    pub(crate) b: &'a Table,
+    pub(crate) pair: Pair,
+}
+
+/// The pair as the other end sees it.
+pub(crate) fn mirrored(pair: &Pair) -> Pair
+    ensures { result ≡ mirrored pair.now }
+{
+    Pair {
+        local: pair.remote,
+        remote: pair.local,
+    }
+}
+
+fn pair_at(end: End, pair: &Pair) -> Pair
+    ensures { result ≡ pair_at end pair.now }
+{
+    match end {
+        End::A => *pair,
+        End::B => mirrored(pair),
+    }
+}
+
+/// The row of this number, from 1.
+fn row_numbered(table: &Table, number: u8) -> Option<&Row>
+    ensures { option_map (λ r. r.now) result ≡ row_numbered table.now.rows number }
+{
+    let rows = table.entries();
+    rows.get(usize::from(number).saturating_sub(1))
+}
+
+/// Whether the row that was found may send at some second of the slice.
+fn may_send_in(pair: &Pair, slice: &Slice, row: Option<&Row>) -> bool
+    ensures { result ≡ may_send_in pair.now slice.now (option_map (λ r. r.now) row.entry) }
+{
+    match row {
+        None => false,
+        Some(row) => is_filled(row_filling(pair, Duty::Sends, row, slice)),
+    }
+}
+
+impl<'a> Connected<'a> {
+    /// The table of an end.
+    fn table(&self, end: End) -> &'a Table
+        ensures { result.now ≡ side_of end self.now.a.now self.now.b.now }
+    {
+        match end {
+            End::A => self.a,
+            End::B => self.b,
+        }
+    }
+
+    /// Whether the row of this end and number may send at some second of the slice.
+    fn is_sending(&self, slice: &Slice, end: End, number: u8) -> bool
+        ensures { result ≡ numbered_sends (side_of end self.now.a.now self.now.b.now).rows (pair_at end self.now.pair) slice.now number }
+    {
+        let pair = pair_at(end, &self.pair);
+        may_send_in(&pair, slice, row_numbered(self.table(end), number))
+    }
+
+    /// Whether the finding is seen in the slice.
+    fn is_seen(&self, slice: &Slice, finding: Finding) -> bool
+        ensures { result ≡ is_seen self.now.a.now self.now.b.now self.now.pair slice.now finding }
+    {
+        match finding {
+            Finding::NoPeerRow(end, number) => self.is_sending(slice, end, number),
+            Finding::ShortAccept(end, number) => self.is_sending(slice, end, number),
+            Finding::Gap(_, first, last) => first <= slice.last && slice.first <= last,
+        }
+    }
+
+    /// Whether one of the findings is seen in the slice.
+    fn is_wrong(&self, slice: &Slice, findings: &[Finding]) -> bool
+        ensures { result ≡ list_any (is_seen self.now.a.now self.now.b.now self.now.pair slice.now) findings.now }
+    {
+        findings.iter().any(|finding| self.is_seen(slice, *finding))
+    }
+}
+
+fn wrong_byte(is_wrong: bool) -> u8
+    ensures { result ≡ wrong_byte is_wrong }
+{
+    if is_wrong { b'!' } else { b' ' }
+}
+
+#[tactic(auto, unfolding(book_draw_plan::specs::Bars::slice_mark))]
+fn push_slice_mark(
+    out: &mut Vec<u8>,
+    ends: &Connected,
+    findings: &[Finding],
+    slice: &Slice,
+) -> Result<(), AllocError>
+    ensures { OnOk result (out.new.items ≡ out.old.items ++ slice_mark ends.now.a.now ends.now.b.now ends.now.pair findings.now slice.now) }
+{
+    out.push(wrong_byte(ends.is_wrong(slice, findings)))?;
+    Ok(())
+}
+
+/// The bytes that mark the slices in which one of the findings is seen.
+pub(crate) fn push_wrong_bytes(
+    out: &mut Vec<u8>,
+    ends: &Connected,
+    findings: &[Finding],
+    slices: &[Slice],
+) -> Result<(), AllocError>
+    ensures { OnOk result (out.new.items ≡ out.old.items ++ wrong_bytes ends.now.a.now ends.now.b.now ends.now.pair findings.now slices.now) }
+{
+    for slice in slices {
+        push_slice_mark(out, ends, findings, slice)?;
+    }
+    Ok(())
+}
