@@ -1,6 +1,7 @@
 //! The word `plan`: what is said of the planned rollovers of connections.
 use ao_base::{ReadProblem, ReadSource, WriteSink, read_all, write_all};
 use book_cmd_keys::Plan;
+use book_draw_plan::PlanForm;
 use clap::{Arg, ArgAction, ArgMatches, Command};
 use command_report::{Report, Stop};
 use key_faults::push_key_fault;
@@ -30,6 +31,10 @@ Of each connection there is a line for each time after FROM until TO at which a 
 accepted or sent with, or begins to be asked for; then each row that the other end doesn't take, and in which \
 columns the nearest differ or what a lifetime is to be set to; then each gap in which a node has no row to send \
 with. Where nothing is wrong it says aligned, and up to which LEAD and LAG it stays so.
+
+With --draw there is a bar instead for each row and whether it accepts or sends, over the time from FROM to TO: # is \
+a column in each second of which it does so, + one in some of which. Below them each column is marked with ! in \
+which something is wrong: a row that the other end doesn't take may send in it, or a node has no row to send with.
 
 Status 0: all plans are aligned; 1: one isn't, or no node has an address; 3: keys; the others as above.
 
@@ -79,9 +84,14 @@ pub(crate) fn command<'a>(alloc: Global) -> Result<Command<'a>, AllocError> {
         "The time from which on the plan is looked at",
     );
     let to = word(alloc, "TO", "The last time at which it is");
+    let draw = Arg::new(alloc, "draw")
+        .long("draw")
+        .help("Draw the use of each row over time, as bars")
+        .action(ArgAction::SetTrue);
     Command::new(alloc, "plan")
         .about(ABOUT)
         .after_help(AFTER)
+        .arg(draw)?
         .arg(keys)?
         .arg(lead)?
         .arg(lag)?
@@ -182,6 +192,14 @@ fn key_file_at(rt: &HostRuntime, path: &str) -> Result<KeyFile, Halt> {
     }
 }
 
+fn form_of(matches: &ArgMatches<'_>) -> PlanForm {
+    if matches.get_flag("draw") {
+        PlanForm::Bars
+    } else {
+        PlanForm::Lines
+    }
+}
+
 fn report(rt: &HostRuntime, matches: &ArgMatches<'_>) -> Result<Report, Halt> {
     let plan = plan_of(matches)?;
     let path = match matches.get_str("KEYS") {
@@ -195,7 +213,7 @@ fn report(rt: &HostRuntime, matches: &ArgMatches<'_>) -> Result<Report, Halt> {
         Err(ReadProblem::Fault) => return Err(Halt::Read),
         Err(ReadProblem::TooLong) => return Err(Halt::TooLong),
     };
-    match answer_plan(rt.alloc(), &keys, plan, input.as_slice()) {
+    match answer_plan(rt.alloc(), form_of(matches), &keys, plan, input.as_slice()) {
         Ok(report) => Ok(report),
         Err(stop) => Err(Halt::Stopped(stop)),
     }

@@ -1,7 +1,6 @@
 -- Connections told one after another, as a loop tells them.
 use Rattle.std.proofs.Common.{◌≡◌, ℕ, Bool, true, false, not, ◌||◌, List, [], ◌∷◌, ◌++◌, Result, Ok, Err, refl, sym, ap, ◌∙◌, append_assoc}
 use Rattle.std.proofs.lemmas.List.{append-nil}
-use Rattle.std.specs.List.{flat_map}
 use Rattle.book_base.specs.declared.address.Pair.{Pair}
 use Rattle.book_scope_plan.specs.AdminNames.{KeyFile}
 use Rattle.book_lines.specs.declared.text_fault.TextFault.{TextFault}
@@ -11,11 +10,14 @@ use Rattle.book_base.specs.Results.{◌>>=◌}
 use Rattle.book_lines.specs.Said.{Said, at_number, said_by}
 use Rattle.text_lines.specs.Readings.{Answers, Fails}
 use Rattle.text_lines.proofs.SaidLaws.{said_few, same_fault}
+use Rattle.book_draw_plan.specs.Bars.{drawings_text}
+use Rattle.book_draw_plan.specs.declared.form.PlanForm.{PlanForm}
+use Rattle.book_draw_plan.specs.declared.form.PlanForm.TheVariants.{Bars, Lines as FormOfLines}
 use Rattle.book_keys.specs.declared.plan.Plan.{Plan}
 use Rattle.book_scope_plan.specs.Connections.{plan_pair_of}
-use Rattle.book_scope_plan.specs.PlanTexts.{connection_text, has_wrong_plan, is_good_plan, plans_text}
+use Rattle.book_scope_plan.specs.PlanTexts.{has_wrong_plan, is_good_plan, plans_text}
 use Rattle.scope_plan.specs.declared.planned.Planned.{Planned}
-use Rattle.scope_plan.specs.Plannings.{planned_from}
+use Rattle.scope_plan.specs.Plannings.{connection_as, planned_from, plans_as}
 
 same_answer : (t u : List ℕ) (x y : Bool) → t ≡ u → x ≡ y
     → ◌≡◌ {A = Result Planned TextFault} (Ok (record { text = t; has_wrong = x })) (Ok (record { text = u; has_wrong = y }))
@@ -33,21 +35,32 @@ or_false false = refl
 abbrev said_at : Line → Pair → Said Pair
 said_at l pair = record { number = l.number; value = pair }
 
-module _ (keys : KeyFile) (plan : Plan) where
+-- the first connection in front of the others
+more_text : (form : PlanForm) (keys : KeyFile) (plan : Plan) (s : Said Pair) (said : List (Said Pair))
+    → plans_as form keys plan (s ∷ said) ≡ connection_as form keys plan s.value ++ plans_as form keys plan said
+unfolding plans_text drawings_text
+more_text FormOfLines keys plan s said = refl
+more_text Bars keys plan s said = refl
+
+no_text : (form : PlanForm) (keys : KeyFile) (plan : Plan) → plans_as form keys plan [] ≡ []
+unfolding plans_text drawings_text
+no_text FormOfLines keys plan = refl
+no_text Bars keys plan = refl
+
+module _ (form : PlanForm) (keys : KeyFile) (plan : Plan) where
   -- something is wrong with the connection of this line
   abbrev is_wrong : Said Pair → Bool
   is_wrong s = not (is_good_plan keys.tables plan s.value)
 
   -- the answer so far, and then the connections of the lines
   abbrev from_lines : List ℕ → Bool → List Line → Result Planned TextFault
-  from_lines out wrong ls = planned_from keys plan out wrong (said_by plan_pair_of ls)
+  from_lines out wrong ls = planned_from form keys plan out wrong (said_by plan_pair_of ls)
 
   one_planned : (before out : List ℕ) (wrong now : Bool) (s : Said Pair) (others : Result (List (Said Pair)) TextFault)
-      → out ≡ before ++ connection_text keys plan s.value → now ≡ (wrong || is_wrong s)
-      → planned_from keys plan out now others ≡ planned_from keys plan before wrong (others >>= λ o. Ok (s ∷ o))
-  unfolding plans_text
+      → out ≡ before ++ connection_as form keys plan s.value → now ≡ (wrong || is_wrong s)
+      → planned_from form keys plan out now others ≡ planned_from form keys plan before wrong (others >>= λ o. Ok (s ∷ o))
   one_planned before out wrong now s (Ok said) text also =
-      same_answer _ _ _ _ (rw text (append_assoc before (connection_text keys plan s.value) (flat_map (λ (t : Said Pair). connection_text keys plan t.value) said)))
+      same_answer _ _ _ _ (rw (text, more_text form keys plan s said) (append_assoc before (connection_as form keys plan s.value) (plans_as form keys plan said)))
       (rw also (or_grouped wrong (is_wrong s) (has_wrong_plan keys.tables plan said)))
   one_planned before out wrong now s (Err e) text also = refl
 
@@ -57,7 +70,7 @@ module _ (keys : KeyFile) (plan : Plan) where
     step = sym (ap (λ x. from_lines before wrong x) next) ∙ so_far
 
     pub line_planned : (pair : Pair) (out : List ℕ) (now : Bool) → Ok pair ≡ at_number l.number (plan_pair_of l.words)
-        → out ≡ before ++ connection_text keys plan pair → now ≡ (wrong || is_wrong (said_at l pair)) → from_lines out now ls ≡ whole
+        → out ≡ before ++ connection_as form keys plan pair → now ≡ (wrong || is_wrong (said_at l pair)) → from_lines out now ls ≡ whole
     unfolding said_by
     line_planned pair out now h text also =
         one_planned before out wrong now (said_at l pair) (said_by plan_pair_of ls) text also ∙ (rw (sym h) at step)
@@ -70,11 +83,11 @@ module _ (keys : KeyFile) (plan : Plan) where
 
   pub lines_planned : (out : List ℕ) (wrong : Bool) (lines : List Line) (whole : Result Planned TextFault)
       → lines ≡ [] → from_lines out wrong lines ≡ whole → whole ≡ Ok (record { text = out; has_wrong = wrong })
-  unfolding said_by plans_text
-  lines_planned out wrong lines whole none so_far = sym (rw none at so_far) ∙ same_answer _ _ _ _ (append-nil out) (or_false wrong)
+  unfolding said_by
+  lines_planned out wrong lines whole none so_far = sym (rw none at so_far) ∙ same_answer _ _ _ _ (rw (no_text form keys plan) (append-nil out)) (or_false wrong)
 
   planned_few : (said : Result (List (Said Pair)) TextFault) → (said ≡ Err fault.TooManyLines → ⊥)
-      → Fails fault.TooManyLines (planned_from keys plan [] false said) → ⊥
+      → Fails fault.TooManyLines (planned_from form keys plan [] false said) → ⊥
   planned_few (Ok said) few h = absurd (cc h)
   planned_few (Err e) few h = few (same_fault e fault.TooManyLines h)
 

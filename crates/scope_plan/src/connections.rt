@@ -28,7 +28,7 @@ fn push_socket(out: &mut Vec<u8>, socket: &Socket) -> Result<(), AllocError>
 
 /// The line that names a connection.
 #[tactic(auto, unfolding(book_scope_plan::specs::PlanTexts::connection_line))]
-fn push_connection_line(out: &mut Vec<u8>, pair: &Pair) -> Result<(), AllocError>
+pub(crate) fn push_connection_line(out: &mut Vec<u8>, pair: &Pair) -> Result<(), AllocError>
     ensures { OnOk result (out.new.items ≡ out.old.items ++ connection_line pair.now) }
 {
     out.extend_from_slice(b"connection ")?;
@@ -77,7 +77,7 @@ fn push_aligned(
     Ok(())
 }
 
-fn has_none(findings: &[Finding]) -> bool
+pub(crate) fn has_none(findings: &[Finding]) -> bool
     ensures { result ≡ has_none findings.now }
 {
     match findings {
@@ -107,7 +107,7 @@ fn push_judgement(
 }
 
 /// All that doesn't hold of the plan.
-fn findings_by(
+pub(crate) fn findings_by(
     alloc: Global,
     tables: &Tables,
     pair: &Pair,
@@ -145,7 +145,7 @@ fn push_both(
 }
 
 /// That no node has the address, where none has.
-fn push_missing(
+pub(crate) fn push_missing(
     out: &mut Vec<u8>,
     node: Option<&Table>,
     address: &Address,

@@ -6,6 +6,7 @@ mod calendar;
 mod connection;
 mod connections;
 mod differences;
+mod drawn;
 mod ends;
 mod findings;
 mod key_file;

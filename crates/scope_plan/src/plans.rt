@@ -11,11 +11,12 @@ ghost use Rattle.scope_plan.specs.KeyFiles.{key_file_of};
 ghost use Rattle.scope_plan.specs.Plannings.{planned_answer, planned_from, plannings};
 
 use crate::connection::read_connection;
-use crate::connections::push_connection;
+use crate::drawn::push_connection_as;
 use crate::key_file::KeyFile;
 use crate::planned::Planned;
 use book_base::{Bytes, Pair};
 use book_cmd_keys::Plan;
+use book_draw_plan::PlanForm;
 use book_lines::TextFault;
 use command_report::{Report, Stop};
 use std::alloc::Global;
@@ -34,17 +35,18 @@ fn connection_in(mut line: Saying) -> Result<Pair, TextFault>
 /// What is said of each connection of the lines that are left.
 fn plan_lines(
     alloc: Global,
+    form: PlanForm,
     keys: &KeyFile,
     plan: &Plan,
     mut lines: SayingLines,
 ) -> Result<Planned, TextFault>
-    ensures { Answers result (planned_from (key_file_of keys.now) plan.now [] false (said_by plan_pair_of lines.entry)) }
+    ensures { Answers result (planned_from form (key_file_of keys.now) plan.now [] false (said_by plan_pair_of lines.entry)) }
 {
     let mut out = Vec::new(alloc);
     let mut has_wrong = false;
     while let Some(line) = lines.next() {
         let pair = connection_in(line)?;
-        let is_good = push_connection(alloc, &mut out, keys, plan, &pair)?;
+        let is_good = push_connection_as(alloc, form, &mut out, keys, plan, &pair)?;
         has_wrong |= !is_good;
     }
     Ok(Planned {
@@ -57,15 +59,16 @@ fn plan_lines(
 #[tactic(auto, unfolding(crate::specs::Plannings::plannings, book_lines::specs::Said::said_in))]
 fn plan_input(
     alloc: Global,
+    form: PlanForm,
     keys: &KeyFile,
     plan: &Plan,
     input: &[u8],
 ) -> Result<Planned, TextFault>
-    ensures text { Answers result (plannings (key_file_of keys.now) plan.now input.now) }
+    ensures text { Answers result (plannings form (key_file_of keys.now) plan.now input.now) }
     ensures too_many { IsErrOf result TextFault.TooManyLines ↔ (most_lines < length (lines_of input.now)) }
 {
     let _count = count_lines(input)?;
-    plan_lines(alloc, keys, plan, SayingLines::new(input))
+    plan_lines(alloc, form, keys, plan, SayingLines::new(input))
 }
 
 /// The answer of `plan`: for each connection of the input, a line `ADDRESS PORT ADDRESS PORT` with
@@ -79,7 +82,8 @@ fn plan_input(
 /// - or, where there is none, `aligned` with the greatest lead and lag for which it stays so.
 ///
 /// Of a connection with an address that no node has it is only said so. A finding or such an address is
-/// amiss.
+/// amiss. In the form `PlanForm::Bars` the line `connection ..` is followed by the bars of
+/// `draw_plan::push_bars` in place of the calendar and the findings.
 ///
 /// `Ok` exactly where each line that says something is a connection between two addresses of one family
 /// that differ. `TooManyLines` exactly where the input has more than 20,000 lines; else `Line` is the first
@@ -87,11 +91,17 @@ fn plan_input(
 /// over 65,535 and for a second address that is the first one or of the other family. `Memory` only for
 /// want of memory.
 #[tactic(auto, using(crate::proofs::ReportLaws::planned_reports, crate::proofs::ReportLaws::refused_reports))]
-pub fn answer_plan(alloc: Global, keys: &KeyFile, plan: Plan, input: &[u8]) -> Result<Report, Stop>
-    ensures answer { Reports result (if_read (planned_answer (key_file_of keys.now) plan) (said_in plan_pair_of input.now)) }
+pub fn answer_plan(
+    alloc: Global,
+    form: PlanForm,
+    keys: &KeyFile,
+    plan: Plan,
+    input: &[u8],
+) -> Result<Report, Stop>
+    ensures answer { Reports result (if_read (planned_answer form (key_file_of keys.now) plan) (said_in plan_pair_of input.now)) }
     ensures too_many { IsErrOf result (Stop.Input TextFault.TooManyLines) ↔ (most_lines < length (lines_of input.now)) }
 {
-    let planned = plan_input(alloc, keys, &plan, input)?;
+    let planned = plan_input(alloc, form, keys, &plan, input)?;
     Ok(Report {
         text: planned.text,
         is_amiss: planned.has_wrong,

@@ -7,8 +7,8 @@ use Rattle.scope_plan.proofs.plans.plan_lines.Given as goal
 
 abbrev pub invariant-loop-line : goal.invariant-loop-line
 invariant-loop-line l =
-    planned_from (key_file_of l.keys) l.plan l.out.items l.has_wrong (said_by plan_pair_of l.lines)
-    ≡ planned_from (key_file_of l.keys) l.plan [] false (said_by plan_pair_of l.fn.lines)
+    planned_from l.form (key_file_of l.keys) l.plan l.out.items l.has_wrong (said_by plan_pair_of l.lines)
+    ≡ planned_from l.form (key_file_of l.keys) l.plan [] false (said_by plan_pair_of l.fn.lines)
 
 abbrev pub decreases-loop-line : goal.decreases-loop-line
 decreases-loop-line l = length l.lines
