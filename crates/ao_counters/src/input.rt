@@ -13,10 +13,11 @@ ghost use Rattle.ao_counters.specs.Stands.{Stands};
 
 use crate::counted_stack::CountedStack;
 use crate::counts::{Happened, arrived, knocked, stray};
-use crate::key_ids::ids_in;
+use crate::key_ids::ids_read;
 use ao_stack::Heard;
 use book_endpoint::Arrival;
 use node_ends::NodeArrival;
+use tcp_segment::read_datagram;
 
 impl CountedStack {
     /// A datagram comes at `now`, in milliseconds since 1970 and at most the last one of the year 9999: to
@@ -28,7 +29,8 @@ impl CountedStack {
             → Follows self.new (Input (record { now = now; bytes = bytes.now })) s n (IsHeard (reading bytes.now) result) }
         ensures passed { (s : StackState) (n : StackCounts) → Stands self.old s n → PassesAs (clocked now s).stack (reading bytes.now) result }
     {
-        match self.stack.input(now, bytes) {
+        let read = read_datagram(bytes);
+        match self.stack.input_read(now, &read) {
             Heard::Knocks(pair) => {
                 self.node = knocked(self.node);
                 Heard::Knocks(pair)
@@ -42,7 +44,7 @@ impl CountedStack {
                 Heard::Told(NodeArrival::Bad(fault))
             }
             Heard::Told(NodeArrival::At(pair, answer)) => {
-                self.count(&pair, Happened::Heard(answer.arrival, ids_in(bytes)));
+                self.count(&pair, Happened::Heard(answer.arrival, ids_read(&read)));
                 Heard::Told(NodeArrival::At(pair, answer))
             }
         }

@@ -3,12 +3,13 @@ ghost use Rattle.std.specs.Prelude.{◌≡◌, take};
 ghost use Rattle.book_counters.specs.KeyIds.{key_ids_heard, key_ids_read, key_ids_sent, option_key_ids};
 ghost use Rattle.book_segments.specs.Options.{find_ao};
 ghost use Rattle.book_segments.specs.Segments.{reading};
+ghost use Rattle.ao_stack.specs.Readings.{reading_of};
 
 use book_counters::{KeyIds, KeyIdsSeen};
 use book_endpoint::Arrival;
 use stack_timers::is_heard;
 use tcp_options::AoFound;
-use tcp_segment::{Datagram, read_datagram};
+use tcp_segment::{Datagram, DatagramFault, read_datagram};
 
 /// The ids of the one TCP-AO option of a datagram.
 fn ids_of(datagram: &Datagram<'_>) -> Option<KeyIds>
@@ -25,13 +26,13 @@ fn ids_of(datagram: &Datagram<'_>) -> Option<KeyIds>
     }
 }
 
-/// The ids of the datagram that a prefix of the bytes is.
-pub(crate) fn ids_in(bytes: &[u8]) -> Option<KeyIds>
-    ensures { result ≡ key_ids_read (reading bytes.now) }
+/// The ids of the datagram that was read, if one was.
+pub(crate) fn ids_read(read: &Result<Datagram<'_>, DatagramFault>) -> Option<KeyIds>
+    ensures { result ≡ key_ids_read (reading_of read.now) }
 {
-    match read_datagram(bytes) {
+    match read {
         Err(_) => None,
-        Ok(datagram) => ids_of(&datagram),
+        Ok(datagram) => ids_of(datagram),
     }
 }
 
@@ -40,7 +41,7 @@ pub(crate) fn ids_in_front(room: &[u8], length: usize) -> Option<KeyIds>
     ensures { result ≡ key_ids_read (reading (take length room.now)) }
 {
     let end = length.min(room.len());
-    ids_in(&room[..end])
+    ids_read(&read_datagram(&room[..end]))
 }
 
 /// The ids that were seen once a segment was sent.
