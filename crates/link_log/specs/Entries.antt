@@ -1,5 +1,5 @@
 -- What an entry keeps of a segment that was made, and what is told of one that passed.
-use Rattle.std.specs.Prelude.{◌≡◌, ℕ, ◌%◌, ◌^◌, ◌<◌, List, Option, Some, None}
+use Rattle.std.specs.Prelude.{◌≡◌, ℕ, ◌%◌, ◌^◌, ◌<◌, List}
 use Rattle.book_base.specs.declared.end.End.{End}
 use Rattle.book_segments.specs.Bytes.{ring}
 use Rattle.book_segments.specs.Options.{Ao, One, find_ao}
@@ -13,7 +13,6 @@ use Rattle.book_keys.specs.Rows.{Row}
 use Rattle.book_endpoint.specs.Verdicts.{Key, Finding, key_of}
 use Rattle.book_link.specs.Worlds.{Made}
 use Rattle.link_log.specs.declared.entry.Entry.{Entry}
-use Rattle.link_log.specs.declared.entry.Entrance.{Entrance}
 
 -- the bytes of a segment that was made are read as it, behind an IP header without options, and its MAC input is that of its number and its one TCP-AO option, with the row's flag (RFC 5925, section 5.1)
 pub record IsWhole (m : Made) : Type 0 where
@@ -56,14 +55,3 @@ pub record PassesUnder (row : Row) (d : Segment) (number : ℕ) (context : Conte
   pub ao : Ao
   pub found : find_ao d.area ≡ One ao
   pub input : f.input ≡ mac_input number d ao row.with_options
-
--- the bytes are a segment that passed with this finding
-pub record IsEntrance (bytes : List ℕ) (e : Entrance) (f : Finding) : Type 0 where
-  pub segment : Segment
-  pub reads : reading bytes ≡ Read segment
-  pub passes : PassesUnder e.row.now segment e.number e.context f
-
--- what came passed with that finding, or didn't pass
-abbrev pub ComesAs : List ℕ → Option Entrance → Option Finding → Type 0
-ComesAs bytes None passed = passed ≡ None
-ComesAs bytes (Some e) passed = (f : Finding) × (passed ≡ Some f) × IsEntrance bytes e f

@@ -4,7 +4,7 @@ ghost use Rattle.book_endpoint.specs.Verdicts.{Finding};
 ghost use Rattle.book_segments.specs.Segments.{bit_of};
 ghost use Rattle.book_segments.specs.Spelling.{AreBytes, Fits};
 ghost use Rattle.book_link.specs.Worlds.{Made, Came, Happening, Making, Coming, segment_named, segments, forged as forged_by, forgeries, was_made};
-ghost use Rattle.link_log.specs.Entries.{ComesAs, IsEntry, IsMade, PassesUnder};
+ghost use Rattle.link_log.specs.Entries.{IsEntry, IsMade, PassesUnder};
 ghost use Rattle.link_log.specs.Numbers.{AreLinked};
 
 use crate::accounts::{accounts_for, sought};
@@ -15,7 +15,7 @@ use book_macs::Context;
 use key_table::Row;
 use std::alloc::{AllocError, Global};
 use std::collections::HashMap;
-use tcp_segment::{Datagram, read_datagram};
+use tcp_segment::Datagram;
 
 /// The most bytes of a master key.
 const LONGEST_MASTER: usize = 255;
@@ -226,27 +226,23 @@ impl Log {
         }
     }
 
-    /// Whether a datagram that came to an end, with what the check found where it passed, is a forgery:
-    /// the other end had made no segment with the same algorithm, master key, context and MAC input. Of a
-    /// copy, `name` is the segment's that it is one of, which makes the answer no other, but mostly quick.
+    /// Whether a datagram that passed at an end, with what the check found, is a forgery: the other end
+    /// had made no segment with the same algorithm, master key, context and MAC input. Of a copy, `name`
+    /// is the segment's that it is one of, which makes the answer no other, but mostly quick.
     pub fn is_forged(
         &self,
         at: End,
         name: Option<u32>,
-        bytes: &[u8],
-        entrance: Option<Entrance<'_>>,
+        datagram: &Datagram<'_>,
+        entrance: &Entrance<'_>,
     ) -> bool
-        ensures { (history : List Happening) (passed : Option Finding) → StandsLog self.now history → ComesAs bytes.now entrance.entry passed
-            → forged_by at passed history ≡ bit_of result }
+        ensures { (history : List Happening) (f : Finding) → StandsLog self.now history
+            → PassesUnder entrance.now.row.now datagram.now entrance.now.number entrance.now.context f
+            → forged_by at (Some f) history ≡ bit_of result }
     {
-        match entrance {
-            None => false,
-            Some(entrance) => match read_datagram(bytes) {
-                // What passed can be read; of other bytes the contract says nothing.
-                Err(_) => false,
-                Ok(datagram) => !self.was_made_as(name, at, &entrance, &datagram),
-            },
-        }
+        // A call on the datagram shows that its fields are in range.
+        let _length = datagram.length();
+        !self.was_made_as(name, at, entrance, datagram)
     }
 
     /// Takes notice of a datagram that came to an end, and whether it is a forgery. Fewer than 2^32 - 1

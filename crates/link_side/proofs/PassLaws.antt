@@ -2,8 +2,10 @@
 use Rattle.std.proofs.Common.{◌≡◌, ℕ, Bool, true, false, ◌||◌, List, [], ◌∷◌, Option, Some, None, refl, sym, ap, ◌∙◌, subst}
 use Rattle.book_base.specs.declared.address.Pair.{Pair}
 use Rattle.book_base.specs.declared.end.End.{End}
-use Rattle.book_segments.specs.Segments.{Reading, reading}
+use Rattle.book_segments.specs.Segments.{Reading, Bad as Unread, reading}
+use Rattle.book_segments.specs.declared.fault.DatagramFault.{DatagramFault}
 use Rattle.book_keys.specs.Rows.{Row}
+use Rattle.book_endpoint.specs.declared.arrival.Arrival.TheVariants as answers
 use Rattle.book_endpoint.specs.Arrivals as arrivals
 use Rattle.book_endpoint.specs.Emissions.{Emitted, Quiet, NoKey, Emits}
 use Rattle.book_endpoint.specs.States.{EndState}
@@ -25,6 +27,7 @@ use Rattle.tcp_endpoint.specs.declared.emission.Emission.TheVariants as emission
 use Rattle.tcp_endpoint.specs.declared.emission.Resent.{Resent}
 use Rattle.tcp_endpoint.specs.declared.emission.Resent.TheVariants as resents
 use Rattle.tcp_endpoint.specs.Emissions.{AnswersAs, AnswersAgainAs, Emits as EmitsAs, Resends as ResendsAs, state_after}
+use Rattle.tcp_endpoint.specs.declared.endpoint.Endpoint.{Endpoint}
 use Rattle.tcp_endpoint.specs.Ends.{Stands}
 
 -- a side whose live session is in another state
@@ -122,6 +125,17 @@ arrives_at : (rows seen rows' : List Row) (p from p' : Pair) (n n' : ℕ) (s : E
     → rows ≡ rows' → p ≡ p' → n ≡ n' → Arrives rows p r l.endpoint a (arrivals.arrive rows p n s r)
     → Arrives seen from r l.endpoint a (arrivals.arrive rows' p' n' s r)
 arrives_at rows seen rows' p from p' n n' s r l a u v x y z h = rw (sym u, sym v, sym x, sym y, sym z) h
+
+-- bytes were read, and come as what was read
+pub arrives_read : (rows : List Row) (p : Pair) (n : ℕ) (s : EndState) (bytes : List ℕ) (r : Reading) (e : Endpoint) (a : Arrived) → reading bytes ≡ r
+    → Arrives rows p r e a (arrivals.arrive rows p n s r) → Arrives rows p (reading bytes) e a (arrivals.arrive rows p n s (reading bytes))
+arrives_read rows p n s bytes r e a is h = subst (λ (x : Reading). Arrives rows p x e a (arrivals.arrive rows p n s x)) (sym is) h
+
+-- bytes that are no datagram change nothing
+pub arrives_bad : (rows : List Row) (p : Pair) (n : ℕ) (s : EndState) (fault : DatagramFault) (e : Endpoint) → Stands e s
+    → Arrives rows p (Unread fault) e (record { arrival = answers.Bad fault; passed = None }) (arrivals.arrive rows p n s (Unread fault))
+unfolding arrivals.arrive
+arrives_bad rows p n s fault e h = record { stands = h; answer = refl; passed = tt }
 
 -- bytes come to a live session
 pub has_come : (setup : Setup) (w : World) (e : End) (bytes : List ℕ) (d d' : Side) (l l' : Live) (a : Arrived) (p : Pair) → p ≡ d.pair

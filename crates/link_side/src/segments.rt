@@ -1,6 +1,7 @@
 //! The events by which a segment may be made at an end, or by which bytes come.
 ghost use Rattle.std.specs.Prelude.{◌≡◌, ℕ, ◌+◌, ◌≤◌, Bool, true, false, List, length, Some};
 ghost use Rattle.book_base.specs.declared.end.End.{End};
+ghost use Rattle.book_segments.specs.Segments.{Bad, Read, reading};
 ghost use Rattle.book_endpoint.specs.States.{EndState};
 ghost use Rattle.book_keys.specs.Lifetimes.{greatest_time};
 ghost use Rattle.book_keys.specs.Rows.{Row};
@@ -16,7 +17,8 @@ use crate::side::Side;
 use ao_base::Steps;
 use key_table::Table;
 use std::sync::ledger::Ledger;
-use tcp_endpoint::{Arrived, Emission, Endpoint, Resent};
+use tcp_endpoint::{Arrival, Arrived, Emission, Endpoint, Resent};
+use tcp_segment::{Datagram, DatagramFault};
 
 /// The answer of a resend, as that of an emit.
 fn emission_of(resent: Resent) -> Emission
@@ -96,18 +98,40 @@ impl Side {
         }
     }
 
-    /// A datagram comes to the live session (RFC 9293, section 3.10.7; RFC 5925, section 7.5). `None`
-    /// exactly where there is no session; then all is as it was. At most 66 steps are counted.
-    pub fn come<L: Ledger>(&mut self, bytes: &[u8], steps: &mut Steps<L>) -> Option<Arrived>
+    /// Bytes that are no datagram, by this fault, come to the live session. `None` exactly where there
+    /// is no session; and nothing changes.
+    pub fn come_unread(&self, fault: DatagramFault) -> Option<Arrived>
+        ensures { (setup : Setup) (w : World) (e : End) (bytes : List ℕ) → reading bytes ≡ Bad fault → pair_of setup e ≡ self.now.pair → StandsSide self.now (side_of w e)
+            → HasCome w (on_live w e (come bytes (view_of setup w e))) e self.now bytes result }
+    {
+        match &self.live {
+            None => None,
+            Some(_) => Some(Arrived {
+                arrival: Arrival::Bad(fault),
+                passed: None,
+            }),
+        }
+    }
+
+    /// A datagram that was read comes to the live session (RFC 9293, section 3.10.7; RFC 5925, section
+    /// 7.5). `None` exactly where there is no session; then all is as it was. At most 66 steps are
+    /// counted.
+    pub fn come<L: Ledger>(
+        &mut self,
+        datagram: &Datagram<'_>,
+        steps: &mut Steps<L>,
+    ) -> Option<Arrived>
         ensures pair { self.new.pair ≡ self.old.pair }
-        ensures come { (setup : Setup) (w : World) (e : End) → pair_of setup e ≡ self.old.pair → StandsSide self.old (side_of w e)
-            → HasCome w (on_live w e (come bytes.now (view_of setup w e))) e self.new bytes.now result }
+        ensures come { (setup : Setup) (w : World) (e : End) (bytes : List ℕ) → reading bytes ≡ Read datagram.now → pair_of setup e ≡ self.old.pair → StandsSide self.old (side_of w e)
+            → HasCome w (on_live w e (come bytes (view_of setup w e))) e self.new bytes result }
         ensures steps { steps.new ≤ steps.old + 66 }
     {
         match &mut self.live {
             None => None,
             Some(live) => {
-                let arrived = live.endpoint.arrive(&self.table, self.clock, bytes, steps);
+                let arrived = live
+                    .endpoint
+                    .hear_datagram(&self.table, self.clock, datagram, steps);
                 Some(arrived)
             }
         }

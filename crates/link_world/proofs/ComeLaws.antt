@@ -2,7 +2,8 @@
 use Rattle.std.proofs.Common.{◌≡◌, ◌+◌, ◌-◌, ◌≤◌, ◌<◌, ℕ, Bool, true, false, List, [], ◌∷◌, length, Option, Some, None, if◌then◌else◌, slice_get, refl, sym, ap, ◌∙◌, subst, arith}
 use Rattle.book_base.specs.declared.address.Pair.{Pair}
 use Rattle.book_base.specs.declared.end.End.{End}
-use Rattle.book_segments.specs.Segments.{bit_of, reading}
+use Rattle.book_segments.specs.Segments.{Segment, Reading, Read, Bad, bit_of, reading}
+use Rattle.book_segments.specs.declared.fault.DatagramFault.{DatagramFault}
 use Rattle.tcp_segment.specs.Sums.{HasPlainHeader}
 use Rattle.book_keys.specs.Rows.{Row}
 use Rattle.book_endpoint.specs.declared.verdict.Passed.{Passed}
@@ -18,7 +19,7 @@ use Rattle.book_link.specs.Worlds.{Setup, World, Made, Came, Happening, Coming, 
 use Rattle.link_log.specs.declared.entry.Entrance.{Entrance}
 use Rattle.link_log.specs.declared.entry.Entry.{Entry}
 use Rattle.link_log.specs.declared.log.Log.{Log}
-use Rattle.link_log.specs.Entries.{ComesAs, IsEntry}
+use Rattle.link_log.specs.Entries.{IsEntry, PassesUnder}
 use Rattle.link_log.specs.Logs.{StandsLog, forgery_count, made_count}
 use Rattle.link_report.specs.declared.outcome.Outcome.{Outcome}
 use Rattle.link_report.specs.Outcomes.{Shows}
@@ -28,17 +29,24 @@ use Rattle.link_world.specs.declared.arrivals.Answered.{Answered}
 use Rattle.link_world.specs.Changes.{HasStepped, by_bytes, by_event}
 use Rattle.link_world.specs.Links.{AreOfEnd, StandsAt}
 use Rattle.link_world.specs.Arrivals.{Counts, EntersAs, HasReceived, outcome_come}
-use Rattle.link_world.proofs.EntranceLaws.{IsRow, came_numbered, comes_passed, comes_unpassed, told_row}
+use Rattle.link_world.proofs.EntranceLaws.{IsRow, came_numbered, none_told, none_unread, passes_told, told_row}
 
 -- ---- what passed
 
--- what a log is told of what passed is how it came
-pub comes_as : (rows : List Row) (pair : Pair) (bytes : List ℕ) (p : Option Passed) (o : Option Finding) (e : Option Entrance)
-    → TellsPassed rows pair (reading bytes) p o → EntersAs rows p e → ComesAs bytes e o
-comes_as rows pair bytes None o None n t = comes_unpassed rows pair bytes o n
-comes_as rows pair bytes None o (Some e) n t = absurd t
-comes_as rows pair bytes (Some p) o None n t = absurd t
-comes_as rows pair bytes (Some p) o (Some e) n (here, number, context) = comes_passed rows pair bytes p o e n here number context
+-- what a log says of a segment that passed, it says of what is told of it
+pub forged_told : (rows : List Row) (pair : Pair) (e : End) (d : Segment) (p : Passed) (o : Option Finding) (x : Entrance) (history : List Happening) (b : Bool)
+    → TellsPassed rows pair (Read d) (Some p) o → EntersAs rows p x
+    → ((f : Finding) → PassesUnder x.row.now d x.number x.context f → forged e (Some f) history ≡ bit_of b) → forged e o history ≡ bit_of b
+forged_told rows pair e d p o x history b n (here, number, context) tells =
+    let t = passes_told rows pair d p o x.row.now n here in
+    let at : PassesUnder x.row.now d x.number x.context t.0 =
+    subst (λ c. PassesUnder x.row.now d x.number c t.0) (sym context) (subst (λ k. PassesUnder x.row.now d k p.context t.0) (sym number) t.2) in
+    ap (λ (z : Option Finding). forged e z history) t.1 ∙ tells t.0 at
+
+-- nothing that didn't pass is a forgery
+pub forged_none : (rows : List Row) (pair : Pair) (e : End) (d : Segment) (o : Option Finding) (history : List Happening) → TellsPassed rows pair (Read d) None o
+    → forged e o history ≡ bit_of false
+forged_none rows pair e d o history n = ap (λ (z : Option Finding). forged e z history) (none_told rows pair d o n)
 
 -- the row that is told of what passed is one of the table
 pub row_there : (setup : Setup) (w : World) (e : End) (d : Side) (bytes : List ℕ) (told : Arrived) (p : Passed)
@@ -57,20 +65,37 @@ pub received_none : (setup : Setup) (w : World) (e : End) (d : Side) (bytes : Li
 received_none setup w e d bytes h = record { side_is = h.stands; others = h.others; counts = h.tells.1; shows = h.tells.0 }
 
 -- bytes came, and it is known whether they are a forgery
-pub received_some : (setup : Setup) (w : World) (e : End) (d : Side) (log : Log) (bytes : List ℕ) (told : Arrived) (entered : Option Entrance) (b : Bool)
-    → HasCome w (by_bytes e bytes setup w) e d bytes (Some told) → EntersAs d.table.rows told.passed entered → StandsLog log w.history
-    → ((history : List Happening) (passed : Option Finding) → StandsLog log history → ComesAs bytes entered passed → forged e passed history ≡ bit_of b)
+received_so : (setup : Setup) (w : World) (e : End) (d : Side) (bytes : List ℕ) (told : Arrived) (b : Bool)
+    → HasCome w (by_bytes e bytes setup w) e d bytes (Some told)
+    → ((o : Option Finding) → TellsPassed d.table.rows d.pair (reading bytes) told.passed o → forged e o w.history ≡ bit_of b)
     → HasReceived w (by_bytes e bytes setup w) e d (Some (record { arrival = told.arrival; forged = b }))
-received_some setup w e d log bytes told entered b h enters logs tells =
+received_so setup w e d bytes told b h tells =
     let came : Came = h.tells.0 in
     let is = h.tells.3 in
-    let how = comes_as d.table.rows d.pair bytes told.passed came.passed entered is.passed enters in
     record {
       side_is = h.stands;
       others = h.others;
-      counts = (came, h.tells.2, ap (λ (x : End). forged x came.passed w.history) is.at ∙ tells w.history came.passed logs how);
+      counts = (came, h.tells.2, ap (λ (x : End). forged x came.passed w.history) is.at ∙ tells came.passed is.passed);
       shows = h.tells.1 ∙ ap book.Answered (sym is.answer);
     }
+
+-- a datagram came, and it is known whether it is a forgery
+pub received_some : (setup : Setup) (w : World) (e : End) (d : Side) (log : Log) (bytes : List ℕ) (x : Segment) (told : Arrived) (b : Bool) → reading bytes ≡ Read x
+    → HasCome w (by_bytes e bytes setup w) e d bytes (Some told) → StandsLog log w.history
+    → ((pair : Pair) (history : List Happening) (found : Option Finding) → StandsLog log history → TellsPassed d.table.rows pair (Read x) told.passed found → forged e found history ≡ bit_of b)
+    → HasReceived w (by_bytes e bytes setup w) e d (Some (record { arrival = told.arrival; forged = b }))
+received_some setup w e d log bytes x told b read h logs tells =
+    received_so setup w e d bytes told b h
+    (λ o t. tells d.pair w.history o logs (subst (λ (r : Reading). TellsPassed d.table.rows d.pair r told.passed o) read t))
+
+-- what came was no datagram, and is no forgery
+pub received_unread : (setup : Setup) (w : World) (e : End) (d : Side) (bytes : List ℕ) (fault : DatagramFault) (told : Arrived) → reading bytes ≡ Bad fault
+    → HasCome w (by_bytes e bytes setup w) e d bytes (Some told)
+    → HasReceived w (by_bytes e bytes setup w) e d (Some (record { arrival = told.arrival; forged = false }))
+received_unread setup w e d bytes fault told read h =
+    received_so setup w e d bytes told false h
+    (λ o t. ap (λ (z : Option Finding). forged e z w.history)
+    (none_unread d.table.rows d.pair fault told.passed o (subst (λ (r : Reading). TellsPassed d.table.rows d.pair r told.passed o) read t)))
 
 -- what was received and counted is a step
 pub counted : (e : End) (before after : Side) (old new : Log) (s : Setup → World → Stepped) (answered : Option Answered) (o : Outcome) → after.pair ≡ before.pair

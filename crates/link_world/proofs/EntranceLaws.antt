@@ -8,6 +8,7 @@ use Rattle.book_base.specs.Algorithms.{mac_length_of}
 use Rattle.book_segments.specs.Bytes.{same_bytes}
 use Rattle.book_segments.specs.Options.{Ao, AoFound, Absent, One, Two, WithMd5 as FoundMd5, find_ao}
 use Rattle.book_segments.specs.Segments.{Segment, Reading, Read, Bad as Unread, reading, good, has, segment_length, SYN}
+use Rattle.book_segments.specs.declared.fault.DatagramFault.{DatagramFault}
 use Rattle.book_segments.proofs.Fields.{some_is}
 use Rattle.book_macs.specs.Contexts.{bytes_of, context_of}
 use Rattle.book_macs.specs.MacInput.{mac_input}
@@ -31,8 +32,7 @@ use Rattle.book_link.specs.Worlds.{Setup, pair_of, Session, LinkSide as EndSide,
 use Rattle.law_link.proofs.Tests.{choose}
 use Rattle.link_side.specs.declared.side.Side.{Side}
 use Rattle.link_side.specs.Segments.{IsCome}
-use Rattle.link_log.specs.declared.entry.Entrance.{Entrance}
-use Rattle.link_log.specs.Entries.{ComesAs, PassesUnder}
+use Rattle.link_log.specs.Entries.{PassesUnder}
 
 -- ---- how it came
 
@@ -50,30 +50,21 @@ passes_under rows pair d p f row n here =
       input = ap (λ (g : Finding). g.input) is ∙ ap (λ (r : Row). mac_input p.number d n.ao r.with_options) same;
     }
 
-comes_by : (rows : List Row) (pair : Pair) (bytes : List ℕ) (r : Reading) (p : Passed) (o : Option Finding) (e : Entrance) → reading bytes ≡ r
-    → TellsPassed rows pair r (Some p) o → slice_get rows (p.row - 1) ≡ Some e.row.now → e.number ≡ p.number → e.context ≡ p.context → ComesAs bytes (Some e) o
-comes_by rows pair bytes (Read d) p (Some f) e is n here number context =
-    let passes : PassesUnder e.row.now d p.number p.context f = passes_under rows pair d p f e.row.now n here in
-    let at_number : PassesUnder e.row.now d e.number p.context f = subst (λ k. PassesUnder e.row.now d k p.context f) (sym number) passes in
-    (f, refl, record { segment = d; reads = is; passes = subst (λ c. PassesUnder e.row.now d e.number c f) (sym context) at_number })
-comes_by rows pair bytes (Read d) p None e is n here number context = absurd n
-comes_by rows pair bytes (Unread fault) p (Some f) e is n here number context = absurd n
-comes_by rows pair bytes (Unread fault) p None e is n here number context = absurd n
-
 -- what is told of a segment that passed is how it came: under the row of that number, with that number and context
-pub comes_passed : (rows : List Row) (pair : Pair) (bytes : List ℕ) (p : Passed) (o : Option Finding) (e : Entrance)
-    → TellsPassed rows pair (reading bytes) (Some p) o → slice_get rows (p.row - 1) ≡ Some e.row.now → e.number ≡ p.number → e.context ≡ p.context
-    → ComesAs bytes (Some e) o
-comes_passed rows pair bytes p o e n here number context = comes_by rows pair bytes (reading bytes) p o e refl n here number context
+pub passes_told : (rows : List Row) (pair : Pair) (d : Segment) (p : Passed) (o : Option Finding) (row : Row) → TellsPassed rows pair (Read d) (Some p) o
+    → slice_get rows (p.row - 1) ≡ Some row → (f : Finding) × (o ≡ Some f) × PassesUnder row d p.number p.context f
+passes_told rows pair d p (Some f) row n here = (f, refl, passes_under rows pair d p f row n here)
+passes_told rows pair d p None row n here = absurd n
 
-none_by : (rows : List Row) (pair : Pair) (r : Reading) (o : Option Finding) → TellsPassed rows pair r None o → o ≡ None
-none_by rows pair r None n = refl
-none_by rows pair (Read d) (Some f) n = absurd n
-none_by rows pair (Unread fault) (Some f) n = absurd n
+pub none_told : (rows : List Row) (pair : Pair) (d : Segment) (o : Option Finding) → TellsPassed rows pair (Read d) None o → o ≡ None
+none_told rows pair d None n = refl
+none_told rows pair d (Some f) n = absurd n
 
--- where nothing is told, nothing passed
-pub comes_unpassed : (rows : List Row) (pair : Pair) (bytes : List ℕ) (o : Option Finding) → TellsPassed rows pair (reading bytes) None o → ComesAs bytes None o
-comes_unpassed rows pair bytes o n = none_by rows pair (reading bytes) o n
+pub none_unread : (rows : List Row) (pair : Pair) (fault : DatagramFault) (p : Option Passed) (o : Option Finding) → TellsPassed rows pair (Unread fault) p o → o ≡ None
+none_unread rows pair fault None None n = refl
+none_unread rows pair fault None (Some f) n = absurd n
+none_unread rows pair fault (Some p) None n = absurd n
+none_unread rows pair fault (Some p) (Some f) n = absurd n
 
 -- ---- the number of its row
 

@@ -1,5 +1,5 @@
 -- A datagram that came to an end.
-use Rattle.std.specs.Prelude.{◌≡◌, ◌-◌, List, ◌∷◌, Option, Some, None, slice_get, ⊤}
+use Rattle.std.specs.Prelude.{◌≡◌, ◌-◌, List, ◌∷◌, Option, Some, None, slice_get}
 use Rattle.book_base.specs.declared.end.End.{End}
 use Rattle.book_segments.specs.Segments.{bit_of}
 use Rattle.book_keys.specs.Rows.{Row}
@@ -15,11 +15,8 @@ use Rattle.link_side.specs.Sides.{StandsSide}
 use Rattle.link_world.specs.declared.arrivals.Answered.{Answered}
 
 -- what a log is told of what passed: the row of that number, the number in the stream and the context
-abbrev pub EntersAs : List Row → Option Passed → Option Entrance → Type 0
-EntersAs rows None None = ⊤
-EntersAs rows None (Some e) = ⊥
-EntersAs rows (Some p) None = ⊥
-EntersAs rows (Some p) (Some e) = (slice_get rows (p.row - 1) ≡ Some e.row.now) × (e.number ≡ p.number) × (e.context ≡ p.context)
+abbrev pub EntersAs : List Row → Passed → Entrance → Type 0
+EntersAs rows p e = (slice_get rows (p.row - 1) ≡ Some e.row.now) × (e.number ≡ p.number) × (e.context ≡ p.context)
 
 -- the outcome where bytes came, or there was no session
 abbrev pub outcome_come : Option Answered → Outcome

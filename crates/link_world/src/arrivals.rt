@@ -1,9 +1,14 @@
 //! The events by which a datagram comes to an end.
-ghost use Rattle.std.specs.Prelude.{◌≡◌, ◌<◌, ◌≤◌, ◌+◌, List, length, Ok};
+ghost use Rattle.std.specs.Prelude.{◌≡◌, ◌<◌, ◌≤◌, ◌+◌, ℕ, List, Option, length, Ok};
 ghost use Rattle.std.specs.Option.{ForSome};
 ghost use Rattle.book_link.specs.declared.event.Event.TheVariants.{At};
 ghost use Rattle.book_link.specs.declared.event.Action.TheVariants.{Alter, Deliver};
-ghost use Rattle.book_link.specs.Worlds.{Happening, Setup, World};
+ghost use Rattle.book_base.specs.declared.address.Pair.{Pair};
+ghost use Rattle.book_segments.specs.Segments.{Bad, Read, bit_of, reading};
+ghost use Rattle.book_endpoint.specs.Verdicts.{Finding};
+ghost use Rattle.tcp_endpoint.specs.Arrivals.{TellsPassed};
+ghost use Rattle.book_link.specs.Worlds.{Happening, Setup, World, forged, pair_of, side as side_of};
+ghost use Rattle.link_side.specs.Sides.{StandsSide};
 ghost use Rattle.link_log.specs.Logs.{StandsLog, forgery_count, made_count};
 ghost use Rattle.link_world.specs.Changes.{Acts, by_bytes, by_event};
 ghost use Rattle.link_world.specs.Links.{AreOfEnd, StandsAt};
@@ -20,6 +25,7 @@ use link_side::Side;
 use std::alloc::{AllocError, Global};
 use std::marker::Brand;
 use std::sync::ledger::{Blank, Ledger};
+use tcp_segment::{Datagram, DatagramFault, read_datagram};
 
 /// What is altered in a copy of a segment: the byte at this place, counted from the TCP header, is
 /// xored with this mask; with `fix` the TCP checksum is then set right.
@@ -37,18 +43,50 @@ pub(crate) struct Answered {
     pub(crate) forged: bool,
 }
 
-/// What passed, with the row that it passed under; none where nothing passed.
-fn entrance(table: &Table, passed: Option<Passed>) -> Option<Entrance<'_>>
-    requires low { ForSome passed (λ p. 1 ≤ p.row) }
-    requires high { ForSome passed (λ p. p.row ≤ length table.now.rows) }
+/// What passed, with the row that it passed under.
+fn entrance(table: &Table, passed: Passed) -> Entrance<'_>
+    requires low { 1 ≤ passed.row }
+    requires high { passed.row ≤ length table.now.rows }
     ensures { EntersAs table.now.rows passed result }
 {
+    Entrance {
+        row: table.row(passed.row),
+        number: passed.number,
+        context: passed.context,
+    }
+}
+
+/// Whether a datagram that came is a forgery: the log is asked of one that passed.
+fn is_forged(
+    table: &Table,
+    log: &Log,
+    at: End,
+    name: Option<u32>,
+    datagram: &Datagram<'_>,
+    passed: Option<Passed>,
+) -> bool
+    requires low { ForSome passed (λ p. 1 ≤ p.row) }
+    requires high { ForSome passed (λ p. p.row ≤ length table.now.rows) }
+    ensures { (pair : Pair) (history : List Happening) (found : Option Finding) → StandsLog log.now history
+        → TellsPassed table.now.rows pair (Read datagram.now) passed found → forged at found history ≡ bit_of result }
+{
     match passed {
+        None => false,
+        Some(passed) => log.is_forged(at, name, datagram, &entrance(table, passed)),
+    }
+}
+
+/// Bytes that are no datagram, by this fault, come to the live session of the end: they are no
+/// forgery. None where there is no session.
+fn unread(side: &Side, fault: DatagramFault) -> Option<Answered>
+    ensures { (setup : Setup) (w : World) (at : End) (bytes : List ℕ) → reading bytes ≡ Bad fault → pair_of setup at ≡ side.now.pair → StandsSide side.now (side_of w at)
+        → HasReceived w (by_bytes at bytes setup w) at side.now result }
+{
+    match side.come_unread(fault) {
         None => None,
-        Some(passed) => Some(Entrance {
-            row: table.row(passed.row),
-            number: passed.number,
-            context: passed.context,
+        Some(arrived) => Some(Answered {
+            arrival: arrived.arrival,
+            forged: false,
         }),
     }
 }
@@ -70,12 +108,15 @@ fn come<L: Ledger>(
     ensures pair { side.new.pair ≡ side.old.pair }
     ensures received { (setup : Setup) (w : World) → StandsAt at side.old log.now setup w → HasReceived w (by_bytes at bytes.now setup w) at side.new result }
 {
+    let datagram = match read_datagram(bytes) {
+        Ok(datagram) => datagram,
+        Err(fault) => return unread(side, fault),
+    };
     let mut steps = Steps::<L>::new(blank);
-    match side.come(bytes, &mut steps) {
+    match side.come(&datagram, &mut steps) {
         None => None,
         Some(arrived) => {
-            let entered = entrance(side.table(), arrived.passed);
-            let forged = log.is_forged(at, name, bytes, entered);
+            let forged = is_forged(side.table(), log, at, name, &datagram, arrived.passed);
             Some(Answered {
                 arrival: arrived.arrival,
                 forged,
