@@ -10,6 +10,7 @@ use book_base::Words;
 use std::marker::Model;
 
 /// Words with the command that they name, or none where they are in no command's form.
+#[derive(Drop)]
 pub struct Asked<'a> {
     words: &'a Words,
     command: Option<Command>,

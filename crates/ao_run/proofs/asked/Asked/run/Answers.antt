@@ -1,6 +1,6 @@
 use Rattle.ao_run.proofs.Contract.{runs}
 use Rattle.ao_run.proofs.Telling.{offered}
-use Rattle.ao_run.proofs.top.Asked.run.Goals as goal
+use Rattle.ao_run.proofs.asked.Asked.run.Goals as goal
 
 -- done
 pub returns-in-Ok : goal.returns-in-Ok
