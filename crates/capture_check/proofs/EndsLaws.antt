@@ -19,7 +19,7 @@ use Rattle.capture_check.specs.declared.ends.Place.TheVariants.{V4, V6}
 use Rattle.capture_check.specs.declared.ends.Ends.{Ends}
 use Rattle.capture_check.specs.contracts.ends.PlaceOrd.TheImpl.Laws as place_laws
 use Rattle.capture_check.specs.contracts.ends.EndsOrd.TheImpl.Laws as ends_laws
-use Rattle.capture_check.specs.Ends.{placed, place_of, by_place, by_ends, is_low, key_of}
+use Rattle.capture_check.specs.Ends.{placed, place_of, by_place, by_ends, is_low, key_of, way_key}
 
 -- ---- sockets
 
@@ -67,9 +67,9 @@ exact_place (V6 p a) (V4 q b) e = absurd (cc)
 
 exact_ends : (x y : Ends) → by_ends x y ≡ Equal → x ≡ y
 exact_ends x y e =
-    let t = then_equal (by_place x.low y.low) (by_place x.high y.high) e in
-    let half : x ≡ record { low = y.low; high = x.high } = ap (λ (p : Place). let k : Ends = record { low = p; high = x.high } in k) (exact_place x.low y.low t.0) in
-    half ∙ ap (λ (p : Place). let k : Ends = record { low = y.low; high = p } in k) (exact_place x.high y.high t.1)
+    let t = then_equal (by_place x.first y.first) (by_place x.second y.second) e in
+    let half : x ≡ record { first = y.first; second = x.second } = ap (λ (p : Place). let k : Ends = record { first = p; second = x.second } in k) (exact_place x.first y.first t.0) in
+    half ∙ ap (λ (p : Place). let k : Ends = record { first = y.first; second = p } in k) (exact_place x.second y.second t.1)
 
 pub ends_tied : (x : Ends) → is_eq (by_ends x x) ≡ true
 ends_tied x = ap is_eq (tied_itself ends_laws.total-law x)
@@ -104,13 +104,13 @@ pub both_told : (a b c d : Socket) → key_of a b ≡ key_of c d → ((a ≡ c) 
 both_told a b c d e = at (is_low a b) (is_low c d) e
   where
     one : Socket → Socket → Bool → Ends
-    one x y v = if v then record { low = place_of x; high = place_of y } else record { low = place_of y; high = place_of x }
+    one x y v = if v then record { first = place_of x; second = place_of y } else record { first = place_of y; second = place_of x }
 
     at : (v w : Bool) → one a b v ≡ one c d w → ((a ≡ c) × (b ≡ d)) ⊎ ((a ≡ d) × (b ≡ c))
-    at true true h = inl (place_told a c (ap (λ (k : Ends). k.low) h), place_told b d (ap (λ (k : Ends). k.high) h))
-    at false false h = inl (place_told a c (ap (λ (k : Ends). k.high) h), place_told b d (ap (λ (k : Ends). k.low) h))
-    at true false h = inr (place_told a d (ap (λ (k : Ends). k.low) h), place_told b c (ap (λ (k : Ends). k.high) h))
-    at false true h = inr (place_told a d (ap (λ (k : Ends). k.high) h), place_told b c (ap (λ (k : Ends). k.low) h))
+    at true true h = inl (place_told a c (ap (λ (k : Ends). k.first) h), place_told b d (ap (λ (k : Ends). k.second) h))
+    at false false h = inl (place_told a c (ap (λ (k : Ends). k.second) h), place_told b d (ap (λ (k : Ends). k.first) h))
+    at true false h = inr (place_told a d (ap (λ (k : Ends). k.first) h), place_told b c (ap (λ (k : Ends). k.second) h))
+    at false true h = inr (place_told a d (ap (λ (k : Ends). k.second) h), place_told b c (ap (λ (k : Ends). k.first) h))
 
 -- of two sockets that differ, the first is low exactly where the second isn't
 pub low_turned : (a b : Socket) → same_socket a b ≡ false → is_low b a ≡ not (is_low a b)
@@ -132,10 +132,14 @@ pub key_turned : (a b : Socket) → same_socket a b ≡ false → key_of b a ≡
 key_turned a b e = at (is_low a b) (is_low b a) (low_turned a b e)
   where
     one : Socket → Socket → Bool → Ends
-    one x y v = if v then record { low = place_of x; high = place_of y } else record { low = place_of y; high = place_of x }
+    one x y v = if v then record { first = place_of x; second = place_of y } else record { first = place_of y; second = place_of x }
 
     at : (v w : Bool) → w ≡ not v → one b a w ≡ one a b v
     at true true h = absurd (cc)
     at true false h = refl
     at false true h = refl
     at false false h = absurd (cc)
+
+-- a way has its own key
+pub way_told : (a b c d : Socket) → way_key a b ≡ way_key c d → (a ≡ c) × (b ≡ d)
+way_told a b c d e = (place_told a c (ap (λ (k : Ends). k.first) e), place_told b d (ap (λ (k : Ends). k.second) e))

@@ -11,7 +11,7 @@ use Rattle.book_keys.specs.Rows.{Row, Table}
 use Rattle.book_endpoint.specs.declared.verdict.Verdict.{Verdict}
 use Rattle.book_endpoint.specs.Verdicts.{Judgement, judge}
 use Rattle.book_cmd_check.specs.declared.given.GivenIsns.{GivenIsns}
-use Rattle.book_cmd_check.specs.Handshakes.{and_given, given_connection, has_room, held_between, with_begun}
+use Rattle.book_cmd_check.specs.Handshakes.{and_given, given_connection, has_room, with_begun}
 use Rattle.book_cmd_check.specs.Captures.{Connection, Heard, acknowledged_isn, connection_between, fixed, hear_judged, hear_later, hear_syn_ack, judge_stored, most_connections, same_isns, with_connection}
 use Rattle.book_segments.specs.Segments.{pair_reached}
 use Rattle.ao_kdf.specs.declared.way.Way.TheVariants.{Inbound}

@@ -4,5 +4,6 @@ pub mod FixLaws
 pub mod HearLaws
 pub mod HeldLaws
 pub mod KeepLaws
+pub mod LaterLaws
 pub mod PutLaws
 pub mod StepLaws

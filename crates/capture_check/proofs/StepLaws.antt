@@ -26,10 +26,10 @@ use Rattle.capture_check.specs.Answers.{IsJudged, is_pass}
 use Rattle.capture_check.specs.Ends.{key_of}
 use Rattle.capture_check.specs.Flows.{rows_in, rows_of, flow_from, IsFlow, side_of, shown, judged_on, expected_after, FlowHears}
 use Rattle.capture_check.specs.Checkers.{found, IsSound, told, StandsFor, Hears, key_in, KeepsKeys, Derives}
-use Rattle.capture_check.specs.Judgements.{Puts, key_at, from_low, FlowsHear, OfKnown, OfUnknown, HearsLater}
+use Rattle.capture_check.specs.Judgements.{Puts, key_at, from_low, FlowsHear, OfKnown, OfUnknown}
 use Rattle.capture_check.proofs.EndsLaws.{low_turned, key_turned}
 use Rattle.capture_check.proofs.PutLaws.{put_found, same_turned, stands_put, stands_same, sound_put}
-use Rattle.capture_check.proofs.KeepLaws.{keys_same, keys_heard}
+use Rattle.capture_check.proofs.KeepLaws.{keys_heard}
 
 -- ---- verdicts
 
@@ -79,18 +79,18 @@ pub met : (es : List (Ends × Flows)) (held : List Connection) (d : Segment) (o 
     → connection_between d held ≡ told d.source d.destination o
 met es held d o S ne f = sym (S.same d.source d.destination ne) ∙ ap (told d.source d.destination) f
 
-judged_as : (rows : List Row) (now : ℕ) (d : Segment) (f : Flow) (pair : Pair) (own : ℕ) → f.receiver.pair ≡ pair → f.receiver.own ≡ own → f.receiver.peer ≡ Some f.isn
-    → judged_on rows now d f ≡ judge rows pair (record { own_isn = own; peer_isn = Some f.isn; expected = Some (number f.expected) }) now d
-judged_as rows now d f pair own p o e = rw (p, o, e) refl
+pub judged_as : (rows : List Row) (now : ℕ) (d : Segment) (f : Flow) (n : ℕ) (pair : Pair) (own : ℕ) → f.receiver.pair ≡ pair → f.receiver.own ≡ own → f.receiver.peer ≡ Some f.isn
+    → judged_on rows now d f n ≡ judge rows pair (record { own_isn = own; peer_isn = Some f.isn; expected = Some n }) now d
+judged_as rows now d f n pair own p o e = rw (p, o, e) refl
 
 -- ---- a segment without SYN of a connection that is known
 
 -- the other way stays
-other_stays : (rows : List Row) (now : ℕ) (d : Segment) (h next : Flows) (v : Verdict) (old new : ℕ) → same_socket d.source d.destination ≡ false
-    → FlowsHear rows now d (from_low d) h next v old new → flow_from d.destination d.source next ≡ flow_from d.destination d.source h
-other_stays rows now d h next v old new ne H = rw (low_turned d.source d.destination ne) H.other
+pub other_stays : (rows : List Row) (now : ℕ) (given : Option ℕ) (d : Segment) (h next : Flows) (v : Verdict) (old new : ℕ) → same_socket d.source d.destination ≡ false
+    → FlowsHear rows now given d (from_low d) h next v old new → flow_from d.destination d.source next ≡ flow_from d.destination d.source h
+other_stays rows now given d h next v old new ne H = rw (low_turned d.source d.destination ne) H.other
 
-shown_later : (s t : Socket) (h next : Flows) (x : ℕ) → (flow_from s t next).isn ≡ (flow_from s t h).isn → flow_from t s next ≡ flow_from t s h → number (flow_from s t next).expected ≡ x
+pub shown_later : (s t : Socket) (h next : Flows) (x : ℕ) → (flow_from s t next).isn ≡ (flow_from s t h).isn → flow_from t s next ≡ flow_from t s h → number (flow_from s t next).expected ≡ x
     → shown s t next ≡ record { one = record { socket = s; isn = (flow_from s t h).isn; expected = x }; two = side_of t (flow_from t s h) }
 shown_later s t h next x i o e = rw (i, o, e) refl
 
@@ -101,7 +101,7 @@ not_first false after l x y e h = h
 
 heard_known : (before after : List (Ends × Flows)) (held : List Connection) (s t : Socket) (d : Segment) (h next : Flows) (v : Verdict) (j : Judgement)
     → StandsFor before held → same_socket s t ≡ false → found before (key_of s t) ≡ Some h → Puts before after (key_of s t) next → has SYN d ≡ false
-    → (flow_from s t next).isn ≡ (flow_from s t h).isn → flow_from t s next ≡ flow_from t s h → IsJudged v j → number (flow_from s t next).expected ≡ expected_after (number (flow_from s t h).expected) d j
+    → (flow_from s t next).isn ≡ (flow_from s t h).isn → flow_from t s next ≡ flow_from t s h → IsJudged v j → number (flow_from s t next).expected ≡ expected_after (number (flow_from s t h).expected) (number (flow_from s t h).expected) d j
     → Hears after (line.Verdict v (good d)) (hear_judged held d (Some (shown s t h)) j)
 heard_known before after held s t d h next v (Err why) S ne f P syn i o is_told e =
     let is = shown_later s t h next (number (flow_from s t h).expected) i o e in
@@ -112,37 +112,37 @@ heard_known before after held s t d h next v (Ok p) S ne f P syn i o is_told e =
     (record { says = (Ok p, refl, is_told); stands = subst (λ (c : Connection). StandsFor after (with_connection c held)) is (stands_put before after held s t next S P ne) })
 
 pub hears_known : (tables : List Table) (rows : List Row) (before after : List (Ends × Flows)) (held : List Connection) (now : ℕ) (d : Segment) (h : Flows) (v : Verdict) (old new : ℕ)
-    → StandsFor before held → IsSound tables before → same_socket d.source d.destination ≡ false → found before (key_at d) ≡ Some h → OfKnown rows now d before after h v old new → has SYN d ≡ false
+    → StandsFor before held → IsSound tables before → same_socket d.source d.destination ≡ false → found before (key_at d) ≡ Some h → OfKnown rows now None d before after h v old new → has SYN d ≡ false
     → Hears after (line.Verdict v (good d)) (hear_judged held d (connection_between d held) (judge_stored rows (pair_reached d) now d (connection_between d held)))
 hears_known tables rows before after held now d h v old new S T ne f K syn =
     let F = T d.source d.destination h ne f in
     let one = flow_from d.source d.destination h in
-    let is = judged_as rows now d one (pair_reached d) (flow_from d.destination d.source h).isn F.pair F.own F.peer in
+    let is = judged_as rows now d one (number one.expected) (pair_reached d) (flow_from d.destination d.source h).isn F.pair F.own F.peer in
     let H = K.hears.hears in
-    let o = other_stays rows now d h K.next v old new ne K.hears in
-    let is_told = told_judged rows one.receiver.pair d v (judged_on rows now d one) H.tells in
-    let all = heard_known before after held d.source d.destination d h K.next v (judged_on rows now d one) S ne f K.puts syn H.isn o is_told H.expected in
+    let o = other_stays rows now None d h K.next v old new ne K.hears in
+    let is_told = told_judged rows one.receiver.pair d v (judged_on rows now d one (number one.expected)) H.tells in
+    let all = heard_known before after held d.source d.destination d h K.next v (judged_on rows now d one (number one.expected)) S ne f K.puts syn H.isn o is_told H.expected in
     rw (met before held d (Some h) S ne f) (rw syn (subst (λ (j : Judgement). Hears after (line.Verdict v (good d)) (hear_judged held d (Some (shown d.source d.destination h)) j)) is all))
 
 -- the checker stays sound
-pub sound_known : (tables : List Table) (rows : List Row) (before after : List (Ends × Flows)) (now : ℕ) (d : Segment) (h : Flows) (v : Verdict) (old new : ℕ)
-    → IsSound tables before → same_socket d.source d.destination ≡ false → found before (key_at d) ≡ Some h → rows_of tables d.destination ≡ rows → OfKnown rows now d before after h v old new
+pub sound_known : (tables : List Table) (rows : List Row) (before after : List (Ends × Flows)) (now : ℕ) (given : Option ℕ) (d : Segment) (h : Flows) (v : Verdict) (old new : ℕ)
+    → IsSound tables before → same_socket d.source d.destination ≡ false → found before (key_at d) ≡ Some h → rows_of tables d.destination ≡ rows → OfKnown rows now given d before after h v old new
     → IsSound tables after
-sound_known tables rows before after now d h v old new T ne f r K =
+sound_known tables rows before after now given d h v old new T ne f r K =
     let s = d.source in
     let t = d.destination in
     let F = T s t h ne f in
     let back = ap (found before) (key_turned s t ne) ∙ f in
     let G = T t s h (same_turned s t ne) back in
     let H = K.hears.hears in
-    let o = other_stays rows now d h K.next v old new ne K.hears in
+    let o = other_stays rows now given d h K.next v old new ne K.hears in
     sound_put tables before after s t K.next T K.puts ne
-    (heard_flow tables rows s t (flow_from s t h) (flow_from s t K.next) (flow_from t s h) (flow_from t s K.next) now d v old new F o r H)
+    (heard_flow tables rows s t (flow_from s t h) (flow_from s t K.next) (flow_from t s h) (flow_from t s K.next) now given d v old new F o r H)
     (same_flow tables t s (flow_from t s h) (flow_from t s K.next) (flow_from s t h) (flow_from s t K.next) G o H.isn)
   where
-    heard_flow : (tables : List Table) (rows : List Row) (a b : Socket) (f g f2 g2 : Flow) (now : ℕ) (d : Segment) (v : Verdict) (old new : ℕ) → IsFlow tables a b f f2 → g2 ≡ f2 → rows_of tables b ≡ rows
-        → FlowHears rows now d f g v old new → IsFlow tables a b g g2
-    heard_flow tables rows a b f g f2 g2 now d v old new F o r H =
+    heard_flow : (tables : List Table) (rows : List Row) (a b : Socket) (f g f2 g2 : Flow) (now : ℕ) (given : Option ℕ) (d : Segment) (v : Verdict) (old new : ℕ) → IsFlow tables a b f f2 → g2 ≡ f2 → rows_of tables b ≡ rows
+        → FlowHears rows now given d f g v old new → IsFlow tables a b g g2
+    heard_flow tables rows a b f g f2 g2 now given d v old new F o r H =
         record {
           pair = ap (λ (x : Bond). x.pair) H.receiver ∙ F.pair;
           own = ap (λ (x : Bond). x.own) H.receiver ∙ (F.own ∙ ap (λ (x : Flow). x.isn) (sym o));
@@ -161,16 +161,16 @@ sound_known tables rows before after now d h v old new T ne f r K =
           fits = rw o F.fits;
         }
 
-pub keys_known : (rows : List Row) (before after : List (Ends × Flows)) (now : ℕ) (d : Segment) (h : Flows) (v : Verdict) (old new : ℕ)
-    → same_socket d.source d.destination ≡ false → found before (key_at d) ≡ Some h → OfKnown rows now d before after h v old new → KeepsKeys before after
-keys_known rows before after now d h v old new ne f K =
+pub keys_known : (rows : List Row) (before after : List (Ends × Flows)) (now : ℕ) (given : Option ℕ) (d : Segment) (h : Flows) (v : Verdict) (old new : ℕ)
+    → same_socket d.source d.destination ≡ false → found before (key_at d) ≡ Some h → OfKnown rows now given d before after h v old new → KeepsKeys before after
+keys_known rows before after now given d h v old new ne f K =
     let H = K.hears.hears in
     keys_heard before after d.source d.destination h K.next K.puts ne f
-    (record { isn = H.isn; other = other_stays rows now d h K.next v old new ne K.hears; keys = λ n k e. H.counted.stays n Inbound k e })
+    (record { isn = H.isn; other = other_stays rows now given d h K.next v old new ne K.hears; keys = λ n k e. H.counted.stays n Inbound k e })
 
-pub derives_known : (tables : List Table) (rows : List Row) (before after : List (Ends × Flows)) (now : ℕ) (d : Segment) (h : Flows) (v : Verdict) (old new : ℕ)
-    → IsSound tables before → same_socket d.source d.destination ≡ false → found before (key_at d) ≡ Some h → OfKnown rows now d before after h v old new → Derives before after rows now d old new
-derives_known tables rows before after now d h v old new T ne f K =
+pub derives_known : (tables : List Table) (rows : List Row) (before after : List (Ends × Flows)) (now : ℕ) (given : Option ℕ) (d : Segment) (h : Flows) (v : Verdict) (old new : ℕ)
+    → IsSound tables before → same_socket d.source d.destination ≡ false → found before (key_at d) ≡ Some h → OfKnown rows now given d before after h v old new → Derives before after rows now d old new
+derives_known tables rows before after now given d h v old new T ne f K =
     let C = K.hears.hears.counted in
     let least = C.least in
     let most = C.most in
@@ -215,36 +215,6 @@ derives_unknown rows before after now d v old new U =
       none = λ n k syn row e. C.free n syn row;
       derived = λ n syn row more. let free = C.free n syn row in absurd (omega arith);
     }
-
--- ---- the answer to a segment without SYN
-
-pub record Later (tables : List Table) (rows : List Row) (before after : List (Ends × Flows)) (now : ℕ) (d : Segment) (v : Verdict) (old new : ℕ) : Type 0 where
-  pub heard : (held : List Connection) → StandsFor before held
-      → Hears after (line.Verdict v (good d)) (hear_judged held d (connection_between d held) (judge_stored rows (pair_reached d) now d (connection_between d held)))
-  pub sound : IsSound tables after
-  pub keys : KeepsKeys before after
-  pub derives : Derives before after rows now d old new
-
-pub later : (tables : List Table) (rows : List Row) (before after : List (Ends × Flows)) (now : ℕ) (d : Segment) (v : Verdict) (old new : ℕ) → IsSound tables before
-    → same_socket d.source d.destination ≡ false → rows_of tables d.destination ≡ rows → has SYN d ≡ false → HearsLater rows now d before after (found before (key_at d)) v old new
-    → Later tables rows before after now d v old new
-later tables rows before after now d v old new T ne r syn H = at (found before (key_at d)) refl H
-  where
-    at : (o : Option Flows) → found before (key_at d) ≡ o → HearsLater rows now d before after o v old new → Later tables rows before after now d v old new
-    at (Some h) f K =
-        record {
-          heard = λ held S. hears_known tables rows before after held now d h v old new S T ne f K syn;
-          sound = sound_known tables rows before after now d h v old new T ne f r K;
-          keys = keys_known rows before after now d h v old new ne f K;
-          derives = derives_known tables rows before after now d h v old new T ne f K;
-        }
-    at None f U =
-        record {
-          heard = λ held S. hears_unknown rows before after held now d v old new S ne f U syn;
-          sound = rw U.same T;
-          keys = keys_same before after U.same;
-          derives = derives_unknown rows before after now d v old new U;
-        }
 
 -- the rows are those of the node that the segment goes to
 pub rows_found : (tables : List Table) (s : Socket) (t : Table) → find (has_address s.address) tables ≡ Some t → rows_of tables s ≡ t.rows

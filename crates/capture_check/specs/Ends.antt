@@ -24,7 +24,7 @@ place_of s = placed s.address s.port
 abbrev pub by_place : Place → Place → Ordering
 by_place = (place_ord.ghosts).cmp
 
--- the order of the keys of connections
+-- the order of keys
 abbrev pub by_ends : Ends → Ends → Ordering
 by_ends = (ends_ord.ghosts).cmp
 
@@ -35,5 +35,9 @@ is_low one two = not (is_lt (by_place (place_of two) (place_of one)))
 -- the two sockets in their order
 abbrev pub key_of : Socket → Socket → Ends
 key_of one two =
-    if is_low one two then record { low = place_of one; high = place_of two }
-    else record { low = place_of two; high = place_of one }
+    if is_low one two then record { first = place_of one; second = place_of two }
+    else record { first = place_of two; second = place_of one }
+
+-- the sockets of a way, its source first
+abbrev pub way_key : Socket → Socket → Ends
+way_key source destination = record { first = place_of source; second = place_of destination }

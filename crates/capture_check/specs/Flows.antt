@@ -75,20 +75,25 @@ side_of socket f = record { socket = socket; isn = f.isn; expected = number f.ex
 abbrev pub shown : Socket → Socket → Flows → Connection
 shown a b h = record { one = side_of a (flow_from a b h); two = side_of b (flow_from b a h) }
 
--- the verdict on a segment that goes this way
-abbrev pub judged_on : List Row → ℕ → Segment → Flow → Judgement
-judged_on rows now d f = judge rows f.receiver.pair (record { own_isn = f.receiver.own; peer_isn = f.receiver.peer; expected = Some (number f.expected) }) now d
+-- the number by which a segment is judged: a given one, or else the one that is expected of the sender
+abbrev pub expected_by : Option ℕ → Flow → ℕ
+expected_by None f = number f.expected
+expected_by (Some n) f = n
 
--- what is expected of the sender after a segment with this verdict: where it passed, at least the number behind it
-abbrev pub expected_after : ℕ → Segment → Judgement → ℕ
-expected_after x d (Err why) = x
-expected_after x d (Ok p) = max x (p.number + segment_length d)
+-- the verdict on a segment that goes this way, where this number is expected
+abbrev pub judged_on : List Row → ℕ → Segment → Flow → ℕ → Judgement
+judged_on rows now d f n = judge rows f.receiver.pair (record { own_isn = f.receiver.own; peer_isn = f.receiver.peer; expected = Some n }) now d
 
--- one segment without SYN is heard: its verdict, what is expected then, and the keys that are kept
-pub record FlowHears (rows : List Row) (now : ℕ) (d : Segment) (before after : Flow) (verdict : Verdict) (old new : ℕ) : Type 0 where
-  pub tells : Tells rows before.receiver.pair d verdict (judged_on rows now d before)
+-- what is expected of the sender after a segment that got this verdict by number n: where it passed, at least n and the number behind it; else x, as before
+abbrev pub expected_after : ℕ → ℕ → Segment → Judgement → ℕ
+expected_after x n d (Err why) = x
+expected_after x n d (Ok p) = max n (p.number + segment_length d)
+
+-- one segment without SYN is heard, by a given number or by the one that is expected: its verdict, what is expected then, and the keys that are kept
+pub record FlowHears (rows : List Row) (now : ℕ) (given : Option ℕ) (d : Segment) (before after : Flow) (verdict : Verdict) (old new : ℕ) : Type 0 where
+  pub tells : Tells rows before.receiver.pair d verdict (judged_on rows now d before (expected_by given before))
   pub isn : after.isn ≡ before.isn
-  pub expected : number after.expected ≡ expected_after (number before.expected) d (judged_on rows now d before)
+  pub expected : number after.expected ≡ expected_after (number before.expected) (expected_by given before) d (judged_on rows now d before (expected_by given before))
   pub small : number after.expected ≤ 2 ^ 63
   pub receiver : after.receiver ≡ record before.receiver { keys = after.receiver.keys }
   pub fits : Fits rows after.receiver

@@ -12,6 +12,8 @@ use Rattle.book_segments.specs.Segments.{pair_reached}
 use Rattle.ao_check.specs.Verdicts.{Tells, judging}
 use Rattle.capture_check.specs.declared.ends.Ends.{Ends}
 use Rattle.capture_check.specs.declared.flows.Flows.{Flows}
+use Rattle.capture_check.specs.declared.known.KnownConnection.{KnownConnection}
+use Rattle.wrap_seq.specs.Counter.{number}
 use Rattle.capture_check.specs.Checkers.{found}
 use Rattle.capture_check.specs.Ends.{by_ends, is_low, key_of}
 use Rattle.capture_check.specs.Flows.{way, FlowHears, new_flows}
@@ -29,9 +31,9 @@ key_at d = key_of d.source d.destination
 abbrev pub from_low : Segment → Bool
 from_low d = is_low d.source d.destination
 
--- a segment without SYN is heard on one of both ways
-pub record FlowsHear (rows : List Row) (now : ℕ) (d : Segment) (low : Bool) (before after : Flows) (verdict : Verdict) (old new : ℕ) : Type 0 where
-  pub hears : FlowHears rows now d (way low before) (way low after) verdict old new
+-- a segment without SYN is heard on one of both ways, by a given number or by the one that is expected
+pub record FlowsHear (rows : List Row) (now : ℕ) (given : Option ℕ) (d : Segment) (low : Bool) (before after : Flows) (verdict : Verdict) (old new : ℕ) : Type 0 where
+  pub hears : FlowHears rows now given d (way low before) (way low after) verdict old new
   pub other : way (not low) after ≡ way (not low) before
 
 -- the verdict on a segment of which nothing is known but its destination's initial sequence number; without SYN no step is counted for a row that judges it
@@ -44,11 +46,11 @@ pub record AloneCounts (rows : List Row) (now : ℕ) (d : Segment) (old new : �
   pub most : new ≤ old + 1
   pub free : (n : ℕ) → has SYN d ≡ false → judging rows (pair_reached d) now (find_ao d.area) ≡ Some n → new ≡ old
 
--- a segment without SYN of a connection that is known
-pub record OfKnown (rows : List Row) (now : ℕ) (d : Segment) (before after : List (Ends × Flows)) (h : Flows) (result : Verdict) (old new : ℕ) : Type 0 where
+-- a segment without SYN of a connection that is known, by a given number or by the one that is expected
+pub record OfKnown (rows : List Row) (now : ℕ) (given : Option ℕ) (d : Segment) (before after : List (Ends × Flows)) (h : Flows) (result : Verdict) (old new : ℕ) : Type 0 where
   pub next : Flows
   pub puts : Puts before after (key_at d) next
-  pub hears : FlowsHear rows now d (from_low d) h next result old new
+  pub hears : FlowsHear rows now given d (from_low d) h next result old new
 
 -- a segment without SYN of a connection that isn't known
 pub record OfUnknown (rows : List Row) (now : ℕ) (d : Segment) (before after : List (Ends × Flows)) (result : Verdict) (old new : ℕ) : Type 0 where
@@ -57,9 +59,9 @@ pub record OfUnknown (rows : List Row) (now : ℕ) (d : Segment) (before after :
   pub counts : AloneCounts rows now d old new
 
 -- a segment without SYN, by what is known of its connection
-abbrev pub HearsLater : List Row → ℕ → Segment → List (Ends × Flows) → List (Ends × Flows) → Option Flows → Verdict → ℕ → ℕ → Type 0
-HearsLater rows now d before after (Some h) result old new = OfKnown rows now d before after h result old new
-HearsLater rows now d before after None result old new = OfUnknown rows now d before after result old new
+abbrev pub HearsLater : List Row → ℕ → Option ℕ → Segment → List (Ends × Flows) → List (Ends × Flows) → Option Flows → Verdict → ℕ → ℕ → Type 0
+HearsLater rows now given d before after (Some h) result old new = OfKnown rows now given d before after h result old new
+HearsLater rows now given d before after None result old new = OfUnknown rows now d before after result old new
 
 -- what becomes of a connection when a SYN with ACK passes
 pub data Fixing : Type 0 where
@@ -70,6 +72,10 @@ pub data Fixing : Type 0 where
 -- both ways have these initial sequence numbers
 abbrev pub has_isns : Bool → Flows → ℕ → ℕ → Bool
 has_isns low h isn other = ((way low h).isn == isn) && ((way (not low) h).isn == other)
+
+-- the numbers of both ways, seen from the lower socket, or from the higher one
+abbrev pub numbers_in : Bool → Flows → KnownConnection
+numbers_in low h = record { source_isn = (way low h).isn; destination_isn = (way (not low) h).isn; expected = number (way low h).expected }
 
 -- the initial sequence numbers that a SYN with ACK tells
 abbrev pub isns_of : Segment → GivenIsns

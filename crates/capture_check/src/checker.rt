@@ -1,36 +1,32 @@
 //! A checker of stored segments.
-ghost use Rattle.std.specs.Prelude.{◌≡◌, ◌≤◌, ◌+◌, ℕ, [], false, true, List, IfOk, OnErr, OnOk, Some};
-ghost use Rattle.std.specs.List.{find};
+ghost use Rattle.std.specs.Prelude.{◌≡◌, ◌≤◌, ◌+◌, ◌^◌, [], false, true, List, IfOk, IfSome, OnErr, OnOk, None};
 ghost use Rattle.book_segments.specs.Segments.{Segment, Read, reading, has, SYN};
 ghost use Rattle.book_segments.specs.Sockets.{same_socket};
-ghost use Rattle.book_keys.specs.Rows.{has_address};
-ghost use Rattle.book_cmd_check.specs.Captures.{Connection, hear, hear_at};
+ghost use Rattle.book_cmd_check.specs.Captures.{Connection, hear, hear_read};
 ghost use Rattle.book_cmd_check.specs.Handshakes.{and_given, has_room};
 ghost use Rattle.capture_check.specs.Checkers.{IsSound, StandsFor, Hears, KeepsKeys, Derives};
-ghost use Rattle.capture_check.specs.Answers.{is_computed, is_pass};
+ghost use Rattle.capture_check.specs.Answers.{is_computed};
+ghost use Rattle.capture_check.specs.Expecting.{hear_as, known_numbers};
 ghost use Rattle.capture_check.specs.Flows.{rows_of};
 
 use crate::answer::CheckLine;
-use crate::ends::{Ends, is_same_socket};
-use crate::flows::Flows;
-use crate::judgement::{fix, fix_given, hear_later, judge_alone};
-use crate::segment::acknowledged_isn;
+use crate::connections::Connections;
+use crate::known::KnownConnection;
 use ao_base::Steps;
-use ao_check::Verdict;
+use book_base::Socket;
 use book_cmd_check::GivenIsns;
-use key_table::{Table, Tables};
+use key_table::Tables;
 use std::alloc::{AllocError, Global};
-use std::collections::BTreeMap;
 use std::marker::Model;
 use std::sync::ledger::Ledger;
-use tcp_segment::{Datagram, Flag, read_datagram};
+use tcp_segment::{Datagram, read_datagram};
 
 /// A checker of stored segments: the tables of all nodes, and what it knows of each connection, at
 /// most 65,536 of them. Seen as the tables and what is known by the two sockets of a connection.
 #[derive(Drop)]
 pub struct Checker {
     tables: Tables,
-    connections: BTreeMap<Ends, Flows>,
+    connections: Connections,
 }
 
 impl Model for Checker {
@@ -38,107 +34,9 @@ impl Model for Checker {
 
     ghost Value = { Checking };
 
-    ghost view = { λ c. record { tables = c.tables; entries = c.connections.entries } };
+    ghost view = { λ c. record { tables = c.tables; entries = c.connections } };
 
-    ghost invariant = { λ c. IsSound c.tables c.connections.entries };
-}
-
-/// The answer to a segment with SYN. It tells its own initial sequence number, and with ACK the
-/// other one (RFC 5925, section 5.2), and with ACK it fixes them where it passes. After want of
-/// memory nothing has changed.
-fn hear_first<L: Ledger>(
-    connections: &mut BTreeMap<Ends, Flows>,
-    alloc: Global,
-    tables: &Tables,
-    table: &Table,
-    time: u64,
-    datagram: &Datagram<'_>,
-    steps: &mut Steps<L>,
-) -> Result<CheckLine, AllocError>
-    requires sound { IsSound tables.now connections.old.entries }
-    requires table { find (has_address datagram.now.destination.address) tables.now ≡ Some table.now }
-    requires differ { same_socket datagram.now.source datagram.now.destination ≡ false }
-    requires first { has SYN datagram.now ≡ true }
-    ensures heard { (held : List Connection) → StandsFor connections.old.entries held
-        → IfOk result (λ line. Hears connections.new.entries line (hear_at (Some table.now) held time datagram.now)) }
-    ensures unchanged { OnErr result (connections.new.entries ≡ connections.old.entries) }
-    ensures sound { IsSound tables.now connections.new.entries }
-    ensures keys { KeepsKeys connections.old.entries connections.new.entries }
-    ensures derives { Derives connections.old.entries connections.new.entries table.now.rows time datagram.now steps.old steps.new }
-    ensures idle { IfOk result (λ line. is_computed line ≡ false → steps.new ≡ steps.old) }
-{
-    let right = datagram.checksum_ok();
-    let own = acknowledged_isn(datagram);
-    let verdict = judge_alone(alloc, table, own, time, datagram, steps)?;
-    if !is_pass(&verdict) {
-        return Ok(CheckLine::Verdict(verdict, right));
-    }
-    if !datagram.has(Flag::Ack) {
-        return Ok(CheckLine::Verdict(verdict, right));
-    }
-    match fix(connections, alloc, tables, datagram) {
-        Err(error) => Err(error),
-        Ok(true) => Ok(CheckLine::Verdict(verdict, right)),
-        Ok(false) => Ok(CheckLine::Full(right)),
-    }
-}
-
-/// The answer to a segment without SYN.
-fn hear_next<L: Ledger>(
-    connections: &mut BTreeMap<Ends, Flows>,
-    alloc: Global,
-    tables: &Tables,
-    table: &Table,
-    time: u64,
-    datagram: &Datagram<'_>,
-    steps: &mut Steps<L>,
-) -> Result<CheckLine, AllocError>
-    requires sound { IsSound tables.now connections.old.entries }
-    requires table { find (has_address datagram.now.destination.address) tables.now ≡ Some table.now }
-    requires differ { same_socket datagram.now.source datagram.now.destination ≡ false }
-    requires later { has SYN datagram.now ≡ false }
-    ensures heard { (held : List Connection) → StandsFor connections.old.entries held
-        → IfOk result (λ line. Hears connections.new.entries line (hear_at (Some table.now) held time datagram.now)) }
-    ensures unchanged { OnErr result (connections.new.entries ≡ connections.old.entries) }
-    ensures sound { IsSound tables.now connections.new.entries }
-    ensures keys { KeepsKeys connections.old.entries connections.new.entries }
-    ensures derives { Derives connections.old.entries connections.new.entries table.now.rows time datagram.now steps.old steps.new }
-    ensures idle { IfOk result (λ line. is_computed line ≡ false → steps.new ≡ steps.old) }
-{
-    let right = datagram.checksum_ok();
-    match hear_later(connections, alloc, tables, table, time, datagram, steps) {
-        Err(error) => Err(error),
-        Ok(verdict) => Ok(CheckLine::Verdict(verdict, right)),
-    }
-}
-
-fn is_pass(verdict: &Verdict) -> bool
-    ensures { result ≡ is_pass verdict.now }
-{
-    matches!(verdict, Verdict::Pass(_))
-}
-
-/// Takes it that a handshake with these initial sequence numbers passed; whether there was room.
-fn hold(
-    connections: &mut BTreeMap<Ends, Flows>,
-    alloc: Global,
-    tables: &Tables,
-    given: GivenIsns,
-) -> Result<bool, AllocError>
-    requires sound { IsSound tables.now connections.old.entries }
-    ensures stands { (held : List Connection) → StandsFor connections.old.entries held → OnOk result (StandsFor connections.new.entries (and_given given held)) }
-    ensures room { (held : List Connection) → StandsFor connections.old.entries held → IfOk result (λ room. room ≡ has_room given held) }
-    ensures unchanged { OnErr result (connections.new.entries ≡ connections.old.entries) }
-    ensures sound { IsSound tables.now connections.new.entries }
-    ensures keys { KeepsKeys connections.old.entries connections.new.entries }
-{
-    if is_same_socket(given.one, given.other) {
-        return Ok(true);
-    }
-    match fix_given(connections, alloc, tables, given) {
-        Ok(room) => Ok(room),
-        Err(error) => Err(error),
-    }
+    ghost invariant = { λ c. IsSound c.tables c.connections };
 }
 
 impl Checker {
@@ -149,7 +47,7 @@ impl Checker {
     {
         Ok(Checker {
             tables,
-            connections: BTreeMap::new(alloc),
+            connections: Connections::new(alloc),
         })
     }
 
@@ -172,7 +70,7 @@ impl Checker {
         ensures unchanged { OnErr result (self.new ≡ self.old) }
         ensures keys { KeepsKeys self.old.entries self.new.entries }
     {
-        hold(&mut self.connections, alloc, &self.tables, given)
+        self.connections.hold(alloc, &self.tables, given)
     }
 
     /// What is said of the bytes that were stored at a time, in seconds since 1970: the answer, and
@@ -200,38 +98,74 @@ impl Checker {
         ensures least { steps.old ≤ steps.new }
         ensures most { steps.new ≤ steps.old + 1 }
     {
-        let datagram = match read_datagram(bytes) {
-            Err(fault) => return Ok(CheckLine::Bad(fault)),
-            Ok(datagram) => datagram,
-        };
-        let destination = datagram.destination();
-        let table = match self.tables.table(&destination.address) {
-            None => return Ok(CheckLine::UnknownNode),
-            Some(table) => table,
-        };
-        if is_same_socket(datagram.source(), destination) {
-            return Ok(CheckLine::UnknownNode);
+        match read_datagram(bytes) {
+            Err(fault) => Ok(CheckLine::Bad(fault)),
+            Ok(datagram) => self.hear(alloc, time, &datagram, steps),
         }
-        if datagram.has(Flag::Syn) {
-            hear_first(
-                &mut self.connections,
-                alloc,
-                &self.tables,
-                table,
-                time,
-                &datagram,
-                steps,
-            )
-        } else {
-            hear_next(
-                &mut self.connections,
-                alloc,
-                &self.tables,
-                table,
-                time,
-                &datagram,
-                steps,
-            )
-        }
+    }
+
+    /// What is said of a datagram that was stored at a time, in seconds since 1970: as `next` says of its
+    /// bytes. The answer, and the connections that the checker knows afterwards, are those of the
+    /// definition, whatever connections it knew. After want of memory it is as it was. Steps are counted,
+    /// and keys are kept, as by `next`.
+    pub fn hear<L: Ledger>(
+        &mut self,
+        alloc: Global,
+        time: u64,
+        datagram: &Datagram<'_>,
+        steps: &mut Steps<L>,
+    ) -> Result<CheckLine, AllocError>
+        ensures heard { (held : List Connection) → StandsFor self.old.entries held
+            → IfOk result (λ line. Hears self.new.entries line (hear_read self.old.tables held time (Read datagram.now))) }
+        ensures tables { self.new.tables ≡ self.old.tables }
+        ensures unchanged { OnErr result (self.new ≡ self.old) }
+        ensures keys { KeepsKeys self.old.entries self.new.entries }
+        ensures derives { Derives self.old.entries self.new.entries (rows_of self.old.tables datagram.now.destination) time datagram.now steps.old steps.new }
+        ensures idle { IfOk result (λ line. is_computed line ≡ false → steps.new ≡ steps.old) }
+        ensures least { steps.old ≤ steps.new }
+        ensures most { steps.new ≤ steps.old + 1 }
+    {
+        self.connections
+            .hear(alloc, &self.tables, time, datagram, steps)
+    }
+
+    /// What is said of a segment without SYN as if this number, at most 2^63, were expected of its
+    /// sender: where it passes, the answer and the connections that the checker knows afterwards are those
+    /// of `hear` with this number expected; where it doesn't, the answer is that one, and the connections
+    /// stay. Where no connection is known between its sockets, all is as by `hear`. After want of memory
+    /// the checker is as it was. Steps are counted, and keys are kept, as by `next`.
+    pub fn hear_as<L: Ledger>(
+        &mut self,
+        alloc: Global,
+        time: u64,
+        datagram: &Datagram<'_>,
+        expected: u64,
+        steps: &mut Steps<L>,
+    ) -> Result<CheckLine, AllocError>
+        requires later { has SYN datagram.now ≡ false }
+        requires expected { expected ≤ 2 ^ 63 }
+        ensures heard { (held : List Connection) → StandsFor self.old.entries held
+            → IfOk result (λ line. Hears self.new.entries line (hear_as self.old.tables held time datagram.now expected)) }
+        ensures tables { self.new.tables ≡ self.old.tables }
+        ensures unchanged { OnErr result (self.new ≡ self.old) }
+        ensures keys { KeepsKeys self.old.entries self.new.entries }
+        ensures derives { Derives self.old.entries self.new.entries (rows_of self.old.tables datagram.now.destination) time datagram.now steps.old steps.new }
+        ensures idle { IfOk result (λ line. is_computed line ≡ false → steps.new ≡ steps.old) }
+        ensures least { steps.old ≤ steps.new }
+        ensures most { steps.new ≤ steps.old + 1 }
+    {
+        self.connections
+            .hear_as(alloc, &self.tables, time, datagram, expected, steps)
+    }
+
+    /// The numbers of the connection between two sockets, as the first of them sees it: those of the
+    /// definition, whatever connections the checker knows. None exactly where no connection is known
+    /// between them, or they are one socket.
+    pub fn known(&self, source: Socket, destination: Socket) -> Option<KnownConnection>
+        ensures known { (held : List Connection) → StandsFor self.now.entries held → same_socket source destination ≡ false → result ≡ known_numbers source destination held }
+        ensures one { same_socket source destination ≡ true → result ≡ None }
+        ensures limit { IfSome result (λ k. k.expected ≤ 2 ^ 63) }
+    {
+        self.connections.known(source, destination)
     }
 }

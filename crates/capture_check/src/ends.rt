@@ -1,7 +1,8 @@
-//! The two sockets of a connection in their order, which is the same seen from either.
+//! Two sockets as a key: those of a connection in their order, which is the same seen from either, or
+//! those of a way from one to the other.
 ghost use Rattle.std.specs.Prelude.{◌≡◌, not};
 ghost use Rattle.book_segments.specs.Sockets.{same_socket};
-ghost use Rattle.capture_check.specs.Ends.{place_of, is_low, key_of};
+ghost use Rattle.capture_check.specs.Ends.{place_of, is_low, key_of, way_key};
 
 use book_base::{Address, Socket};
 use std::cmp::Ordering;
@@ -14,11 +15,11 @@ pub(crate) enum Place {
     V6(u16, [u8; 16]),
 }
 
-/// The two sockets of a connection, the lower one first.
+/// Two sockets, the key of a map: of a connection the lower one first, of a way its source.
 #[derive(Clone, Copy, Debug, PartialEq, Eq, PartialOrd, Ord)]
-pub(crate) struct Ends {
-    low: Place,
-    high: Place,
+pub struct Ends {
+    first: Place,
+    second: Place,
 }
 
 fn place_of(socket: Socket) -> Place
@@ -55,15 +56,26 @@ pub(crate) fn ends_of(one: Socket, two: Socket) -> (bool, Ends)
 {
     if is_low(one, two) {
         let ends = Ends {
-            low: place_of(one),
-            high: place_of(two),
+            first: place_of(one),
+            second: place_of(two),
         };
         (true, ends)
     } else {
         let ends = Ends {
-            low: place_of(two),
-            high: place_of(one),
+            first: place_of(two),
+            second: place_of(one),
         };
         (false, ends)
+    }
+}
+
+/// The key of what goes from one socket to another: two ways have the same key exactly where they go
+/// from the same socket to the same other one.
+pub fn way_key(source: Socket, destination: Socket) -> Ends
+    ensures { result ≡ way_key source destination }
+{
+    Ends {
+        first: place_of(source),
+        second: place_of(destination),
     }
 }

@@ -1,6 +1,6 @@
 //! What is known of the segments of a connection that go one way.
-ghost use Rattle.std.specs.Prelude.{◌≡◌, ◌≤◌, ◌^◌, length, Some, IfOk};
-ghost use Rattle.capture_check.specs.Flows.{new_flow, rows_of, FlowHears};
+ghost use Rattle.std.specs.Prelude.{◌≡◌, ◌≤◌, ◌^◌, length, Some, IfOk, IfSome};
+ghost use Rattle.capture_check.specs.Flows.{new_flow, rows_of, expected_by, FlowHears};
 ghost use Rattle.wrap_seq.specs.Counter.{number};
 ghost use Rattle.ao_check.specs.Bonds.{fresh, Fits};
 
@@ -66,12 +66,27 @@ impl Flow {
         })
     }
 
-    /// The verdict on a segment without SYN that goes this way. Where it passes, what is expected is
-    /// at least the number behind it.
+    /// The number by which a segment is judged: the given one, or else the one that is expected.
+    fn expected_by(&self, given: Option<u64>) -> u64
+        requires expected { number self.now.expected ≤ 2 ^ 63 }
+        requires given { IfSome given (λ n. n ≤ 2 ^ 63) }
+        ensures value { result ≡ expected_by given self.now }
+        ensures limit { result ≤ 2 ^ 63 }
+    {
+        match given {
+            None => self.expected.value(),
+            Some(number) => number,
+        }
+    }
+
+    /// The verdict on a segment without SYN that goes this way, judged by the given number, at most
+    /// 2^63, or else by the one that is expected. Where it passes, what is expected is at least that
+    /// number and the one behind the segment.
     pub(crate) fn hear<L: Ledger>(
         &mut self,
         table: &Table,
         time: u64,
+        given: Option<u64>,
         datagram: &Datagram<'_>,
         steps: &mut Steps<L>,
     ) -> Verdict
@@ -80,9 +95,10 @@ impl Flow {
         requires destination { datagram.now.destination ≡ self.old.receiver.pair.local }
         requires peer { self.old.receiver.peer ≡ Some self.old.isn }
         requires expected { number self.old.expected ≤ 2 ^ 63 }
-        ensures { FlowHears table.now.rows time datagram.now self.old self.new result steps.old steps.new }
+        requires given { IfSome given (λ n. n ≤ 2 ^ 63) }
+        ensures { FlowHears table.now.rows time given datagram.now self.old self.new result steps.old steps.new }
     {
-        let expected = self.expected.value();
+        let expected = self.expected_by(given);
         let verdict = self
             .receiver
             .check(table, time, Some(expected), datagram, steps);

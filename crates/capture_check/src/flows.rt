@@ -1,12 +1,13 @@
 //! Both ways of a connection.
-ghost use Rattle.std.specs.Prelude.{◌≡◌, ◌≤◌, ◌^◌, Some, IfOk, not};
+ghost use Rattle.std.specs.Prelude.{◌≡◌, ◌≤◌, ◌^◌, Some, IfOk, IfSome, not};
 ghost use Rattle.wrap_seq.specs.Counter.{number};
 ghost use Rattle.ao_check.specs.Bonds.{Fits};
 ghost use Rattle.capture_check.specs.Flows.{new_flows, rows_of, flow_from, way};
-ghost use Rattle.capture_check.specs.Judgements.{FlowsHear, has_isns};
+ghost use Rattle.capture_check.specs.Judgements.{FlowsHear, has_isns, numbers_in};
 
 use crate::ends::is_low;
 use crate::flow::Flow;
+use crate::known::KnownConnection;
 use ao_base::Steps;
 use ao_check::Verdict;
 use book_base::Socket;
@@ -61,12 +62,33 @@ impl Flows {
         }
     }
 
-    /// The verdict on a segment without SYN that comes from the lower socket, or from the higher one.
+    /// The numbers of both ways, seen from the lower socket or from the higher one.
+    pub(crate) fn numbers(&self, low: bool) -> KnownConnection
+        ensures { result ≡ numbers_in low self.now }
+    {
+        if low {
+            KnownConnection {
+                source_isn: self.low.isn,
+                destination_isn: self.high.isn,
+                expected: self.low.expected.value(),
+            }
+        } else {
+            KnownConnection {
+                source_isn: self.high.isn,
+                destination_isn: self.low.isn,
+                expected: self.high.expected.value(),
+            }
+        }
+    }
+
+    /// The verdict on a segment without SYN that comes from the lower socket, or from the higher one,
+    /// judged by the given number, at most 2^63, or else by the one that is expected.
     pub(crate) fn hear<L: Ledger>(
         &mut self,
         low: bool,
         table: &Table,
         time: u64,
+        given: Option<u64>,
         datagram: &Datagram<'_>,
         steps: &mut Steps<L>,
     ) -> Verdict
@@ -75,12 +97,13 @@ impl Flows {
         requires destination { datagram.now.destination ≡ (way low self.old).receiver.pair.local }
         requires peer { (way low self.old).receiver.peer ≡ Some (way low self.old).isn }
         requires expected { number (way low self.old).expected ≤ 2 ^ 63 }
-        ensures { FlowsHear table.now.rows time datagram.now low self.old self.new result steps.old steps.new }
+        requires given { IfSome given (λ n. n ≤ 2 ^ 63) }
+        ensures { FlowsHear table.now.rows time given datagram.now low self.old self.new result steps.old steps.new }
     {
         if low {
-            self.low.hear(table, time, datagram, steps)
+            self.low.hear(table, time, given, datagram, steps)
         } else {
-            self.high.hear(table, time, datagram, steps)
+            self.high.hear(table, time, given, datagram, steps)
         }
     }
 }

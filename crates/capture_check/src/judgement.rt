@@ -1,5 +1,5 @@
 //! What a checker does with a segment.
-ghost use Rattle.std.specs.Prelude.{◌≡◌, length, Some, IfOk, OnErr, ◌<◌, ◌^◌};
+ghost use Rattle.std.specs.Prelude.{◌≡◌, length, Some, IfOk, IfSome, OnErr, ◌<◌, ◌≤◌, ◌^◌};
 ghost use Rattle.std.specs.List.{find};
 ghost use Rattle.book_keys.specs.Rows.{has_address};
 ghost use Rattle.book_segments.specs.Sockets.{same_socket};
@@ -42,21 +42,24 @@ pub(crate) fn judge_alone<L: Ledger>(
     Ok(association.check(table, time, None, datagram, steps))
 }
 
-/// The verdict on a segment without SYN, by what is known of its connection; where it passes, more
-/// is expected of its sender. After want of memory nothing has changed.
+/// The verdict on a segment without SYN, by what is known of its connection, as if the given number, at
+/// most 2^63, were expected of its sender if there is one; where it passes, more is expected of its
+/// sender. After want of memory nothing has changed.
 pub(crate) fn hear_later<L: Ledger>(
     connections: &mut BTreeMap<Ends, Flows>,
     alloc: Global,
     tables: &Tables,
     table: &Table,
     time: u64,
+    given: Option<u64>,
     datagram: &Datagram<'_>,
     steps: &mut Steps<L>,
 ) -> Result<Verdict, AllocError>
     requires sound { IsSound tables.now connections.old.entries }
     requires table { find (has_address datagram.now.destination.address) tables.now ≡ Some table.now }
     requires differ { same_socket datagram.now.source datagram.now.destination ≡ false }
-    ensures heard { IfOk result (λ v. HearsLater table.now.rows time datagram.now connections.old.entries connections.new.entries (found connections.old.entries (key_at datagram.now)) v steps.old steps.new) }
+    requires given { IfSome given (λ n. n ≤ 2 ^ 63) }
+    ensures heard { IfOk result (λ v. HearsLater table.now.rows time given datagram.now connections.old.entries connections.new.entries (found connections.old.entries (key_at datagram.now)) v steps.old steps.new) }
     ensures idle { IfOk result (λ v. is_judged v ≡ false → steps.new ≡ steps.old) }
     ensures unchanged { OnErr result (connections.new.entries ≡ connections.old.entries) }
     ensures free { OnErr result (AloneCounts table.now.rows time datagram.now steps.old steps.new) }
@@ -65,7 +68,7 @@ pub(crate) fn hear_later<L: Ledger>(
     let destination = datagram.destination();
     let (low, ends) = ends_of(source, destination);
     match connections.get_mut(&ends) {
-        Some(flows) => Ok(flows.hear(low, table, time, datagram, steps)),
+        Some(flows) => Ok(flows.hear(low, table, time, given, datagram, steps)),
         None => judge_alone(alloc, table, 0, time, datagram, steps),
     }
 }

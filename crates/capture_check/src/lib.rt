@@ -8,10 +8,13 @@
 
 mod answer;
 mod checker;
+mod connections;
 mod ends;
 mod flow;
 mod flows;
+mod hearing;
 mod judgement;
+mod known;
 mod segment;
 mod stored;
 mod text;
@@ -19,5 +22,8 @@ mod text;
 pub use answer::CheckLine;
 pub use book_cmd_check::GivenIsns;
 pub use checker::Checker;
+pub use connections::Connections;
+pub use ends::{Ends, way_key};
+pub use known::KnownConnection;
 pub use stored::{LineProblem, Stored, read_line};
 pub use text::push_check_line;
