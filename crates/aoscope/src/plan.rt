@@ -36,9 +36,15 @@ With --draw there is a bar instead for each row and whether it accepts or sends,
 a column in each second of which it does so, + one in some of which. Below them each column is marked with ! in \
 which something is wrong: a row that the other end doesn't take may send in it, or a node has no row to send with.
 
+With --draw --svg these bars are one picture that a browser shows, each at the very seconds in which its row does so, \
+in a colour for each KeyID, filled where it sends and white where it accepts. Below them a black box stands over each \
+column that has a !. Each bar has a title that says from when to when its row may do so, and each box one that says \
+when it is.
+
 Status 0: all plans are aligned; 1: one isn't, or no node has an address; 3: keys; the others as above.
 
-    aoscope plan KEYS 60 60 2026-12-01T00:00:00Z 2027-02-01T00:00:00Z < CONNECTIONS";
+    aoscope plan KEYS 60 60 2026-12-01T00:00:00Z 2027-02-01T00:00:00Z < CONNECTIONS
+    aoscope plan --draw --svg KEYS 60 60 2026-12-01T00:00:00Z 2027-02-01T00:00:00Z < CONNECTIONS > PICTURE.svg";
 
 /// Why the program ends early.
 #[derive(Debug, Drop)]
@@ -88,10 +94,16 @@ pub(crate) fn command<'a>(alloc: Global) -> Result<Command<'a>, AllocError> {
         .long("draw")
         .help("Draw the use of each row over time, as bars")
         .action(ArgAction::SetTrue);
+    let svg = Arg::new(alloc, "svg")
+        .long("svg")
+        .requires_arg("draw")?
+        .help("Draw them as a picture in SVG")
+        .action(ArgAction::SetTrue);
     Command::new(alloc, "plan")
         .about(ABOUT)
         .after_help(AFTER)
         .arg(draw)?
+        .arg(svg)?
         .arg(keys)?
         .arg(lead)?
         .arg(lag)?
@@ -193,10 +205,10 @@ fn key_file_at(rt: &HostRuntime, path: &str) -> Result<KeyFile, Halt> {
 }
 
 fn form_of(matches: &ArgMatches<'_>) -> PlanForm {
-    if matches.get_flag("draw") {
-        PlanForm::Bars
-    } else {
-        PlanForm::Lines
+    match (matches.get_flag("draw"), matches.get_flag("svg")) {
+        (false, _) => PlanForm::Lines,
+        (true, false) => PlanForm::Bars,
+        (true, true) => PlanForm::Picture,
     }
 }
 

@@ -1,2 +1,3 @@
 pub mod FillingLaws
+mod MarkLaws
 mod SliceLaws

@@ -60,11 +60,14 @@ abbrev pub duty_words : Duty → List ℕ
 duty_words Accepts = codes ") accepts"
 duty_words Sends = codes ") sends"
 
+-- what a row does, with the id under which it does (own)
+unfoldable pub duty_text : Duty → Row → List ℕ
+duty_text duty r = codes " (KeyID " ++ (decimal (duty_id duty r) ++ duty_words duty)
+
 -- what stands beside the bar of a row of this number, at the node of this name (own)
 unfoldable pub bar_label : (name : List ℕ) → ℕ → Duty → Row → List ℕ
 bar_label name n duty r =
-    name ++ (codes " row " ++ (decimal n ++ (codes " (KeyID " ++ (decimal (duty_id duty r)
-    ++ duty_words duty))))
+    name ++ (codes " row " ++ (decimal n ++ duty_text duty r))
 
 -- an end of a connection as it is drawn: its node's name, the pair as it sees it, the time that is
 -- drawn, and the slices of that (own)
@@ -137,19 +140,27 @@ abbrev pub wrong_byte : Bool → ℕ
 wrong_byte true = 33
 wrong_byte false = 32
 
+-- one of the findings is seen in the slice (own)
+abbrev pub is_marked : (a b : Table) → Pair → List Finding → Slice → Bool
+is_marked a b pair fs s = list_any (is_seen a b pair s) fs
+
 -- the byte that marks a slice in which one of the findings is seen (own)
 unfoldable pub slice_mark : (a b : Table) → Pair → List Finding → Slice → List ℕ
-slice_mark a b pair fs s = wrong_byte (list_any (is_seen a b pair s) fs) ∷ []
+slice_mark a b pair fs s = wrong_byte (is_marked a b pair fs s) ∷ []
 
 -- the bytes that mark the slices in which one of the findings is seen (own)
 abbrev pub wrong_bytes : (a b : Table) → Pair → List Finding → List Slice → List ℕ
 wrong_bytes a b pair fs slices = flat_map (slice_mark a b pair fs) slices
 
--- the line that says from when to when the bars go, and how many seconds a slice has (own)
+-- from when to when the bars go, and how many seconds a slice has (own)
+unfoldable pub scale_words : Plan → List ℕ
+scale_words plan =
+    times_text plan.from plan.to
+    ++ (codes ", a column is " ++ (decimal (slice_width plan.from plan.to) ++ codes " s"))
+
+-- the line that says so (own)
 unfoldable pub scale_line : Plan → List ℕ
-scale_line plan =
-    codes "  " ++ (times_text plan.from plan.to
-    ++ (codes ", a column is " ++ (decimal (slice_width plan.from plan.to) ++ codes " s\n")))
+scale_line plan = codes "  " ++ (scale_words plan ++ 10 ∷ [])
 
 -- the bars of a connection between two nodes, and below them what is wrong (own)
 unfoldable pub both_bars : (a b : Table) → Pair → Plan → List Finding → List ℕ

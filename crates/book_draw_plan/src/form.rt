@@ -7,4 +7,6 @@ pub enum PlanForm {
     Lines,
     /// Bars over time, as lines of text.
     Bars,
+    /// Bars over time, as one picture in SVG.
+    Picture,
 }

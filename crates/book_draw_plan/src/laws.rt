@@ -1,12 +1,17 @@
 //! Theorems about bars, as clauses of functions that do nothing.
-ghost use Rattle.std.specs.Prelude.{◌≡◌, ◌↔◌, ◌≤◌, ◌<◌, ◌+◌, ℕ, [], true, false, length};
+ghost use Rattle.std.specs.Prelude.{◌≡◌, ◌↔◌, ◌≤◌, ◌<◌, ◌+◌, ℕ, List, [], ◌∷◌, Some, true, false, length};
 ghost use Rattle.book_base.specs.declared.address.Pair.{Pair};
 ghost use Rattle.book_draw_plan.specs.declared.duty.Duty.{Duty as Doing};
 ghost use Rattle.book_draw_plan.specs.declared.duty.Filling.TheVariants.{Never, Wholly};
-ghost use Rattle.book_draw_plan.specs.Bars.{is_doing, row_filling};
+ghost use Rattle.book_draw_plan.specs.Bars.{is_doing, row_filling, slice_mark};
 ghost use Rattle.book_draw_plan.specs.Slices.{AreParts, most_slices, slices_of};
-ghost use Rattle.book_keys.specs.Rows.{Row};
+ghost use Rattle.book_draw_plan.specs.Wrongs.{PassesWithin, is_wrong_at};
 ghost use Rattle.book_draw_plan.specs.declared.slice.Slice.{Slice as Part};
+ghost use Rattle.book_keys.specs.declared.lint.LintAnswer.TheVariants as answer;
+ghost use Rattle.book_keys.specs.declared.plan.Plan.{Plan};
+ghost use Rattle.book_keys.specs.Plans.{lint_of};
+ghost use Rattle.book_keys.specs.Rows.{Row, Table};
+ghost use Rattle.book_scope_plan.specs.PlanTexts.{node_with, plan_findings};
 
 /// A slice of a bar is filled exactly where the row does this at every second of the slice, and blank
 /// exactly where it does so at none; `is_doing` is `acceptable` and `sendable` of the book of keys.
@@ -25,4 +30,17 @@ pub fn slices_are_of_the_time()
     ensures parts { (low high : ℕ) → low ≤ high → AreParts low (high + 1) (slices_of low high) }
     ensures few { (low high : ℕ) → length (slices_of low high) ≤ most_slices }
     ensures none { (low high : ℕ) → high < low → slices_of low high ≡ [] }
+{}
+
+/// By the tables of a key file a slice of the time of a plan is marked, as `!`, exactly where at one of its
+/// seconds one of the two ends has no row to send with, or may send with a row that isn't met at the other
+/// end: no row there accepts it, or none for long enough. Where the judgement on the connection is `Aligned`
+/// no slice is marked: each has a space.
+pub fn marks_are_of_the_plan()
+    ensures wrong { (tables : List Table) (plan : Plan) (pair : Pair) (a b : Table) (s : Part)
+        → node_with tables pair.local.address ≡ Some a → node_with tables pair.remote.address ≡ Some b
+        → plan.from ≤ s.first → s.first ≤ s.last → s.last ≤ plan.to
+        → (slice_mark a b pair (plan_findings tables plan pair) s ≡ 33 ∷ []) ↔ PassesWithin (is_wrong_at a.rows b.rows pair plan) s }
+    ensures aligned { (tables : List Table) (plan : Plan) (pair : Pair) (a b : Table) (s : Part)
+        → lint_of tables pair plan ≡ answer.Aligned → slice_mark a b pair (plan_findings tables plan pair) s ≡ 32 ∷ [] }
 {}

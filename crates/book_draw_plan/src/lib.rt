@@ -10,5 +10,5 @@ mod slice;
 
 pub use duty::{Duty, Filling};
 pub use form::PlanForm;
-pub use laws::{bars_are_of_the_rows, slices_are_of_the_time};
+pub use laws::{bars_are_of_the_rows, marks_are_of_the_plan, slices_are_of_the_time};
 pub use slice::Slice;

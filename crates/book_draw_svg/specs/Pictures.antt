@@ -2,7 +2,7 @@
 -- rung, an arrow from where a segment is made to where it comes. Our own format. Its tops are
 -- `svg_text` and `drawn_as`.
 use Rattle.std.specs.Prelude.{ℕ, ◌+◌, ◌*◌, ◌==◌, Bool, true, false, List, [], ◌∷◌, ◌++◌}
-use Rattle.std.specs.Prelude.{length, codes, decimal, flat_map, Option, Some, None, option_map}
+use Rattle.std.specs.Prelude.{length, codes, flat_map, Option, Some, None, option_map}
 use Rattle.std.specs.Prelude.{if◌then◌else◌}
 use Rattle.book_base.specs.declared.end.End.{End}
 use Rattle.book_base.specs.declared.end.End.TheVariants.{A, B}
@@ -13,13 +13,13 @@ use Rattle.book_draw.specs.Ladders.{ladder_text, rung_end, rung_margin}
 use Rattle.book_draw_svg.specs.declared.placed.Form.{Form}
 use Rattle.book_draw_svg.specs.declared.placed.Form.TheVariants.{Text, Svg}
 use Rattle.book_draw_svg.specs.declared.placed.Placed.{Placed}
-use Rattle.book_draw_svg.specs.declared.placed.Point.{Point}
 use Rattle.book_draw_svg.specs.declared.placed.Start.{Start}
 use Rattle.book_draw_svg.specs.declared.placed.Stroke.{Stroke}
 use Rattle.book_draw_svg.specs.declared.placed.Stroke.TheVariants as stroke
 use Rattle.book_draw_svg.specs.Placements.{rungs_placed}
-use Rattle.book_draw_svg.specs.Tags.{arrow_tag, colour_text, dot_tag, line_tag, words_tag}
 use Rattle.book_link.specs.Worlds.{same_end}
+use Rattle.book_svg.specs.declared.point.Point.{Point}
+use Rattle.book_svg.specs.Tags.{colour_text, dot_tag, head_svg, line_tag, titled_tag, words_tag}
 
 -- the height of a row, from above (own)
 abbrev pub row_height : (row : ℕ) → ℕ
@@ -113,10 +113,10 @@ late_label_svg e p = if is_at_once p.row p.start then [] else label_svg e p
 abbrev pub arrow_svg : Placed → Rung → List ℕ
 arrow_svg p (Clock e seconds) = []
 arrow_svg p (Made e s again) =
-    arrow_tag (codes "made") (colour_text (Some s.key_id))
+    titled_tag (codes "made") (colour_text (Some s.key_id))
     (p.label ++ words_beside p.stroke p.rung) (leaving_svg e p.row p.stroke ++ label_svg e p)
 arrow_svg p (Came e what answer) =
-    arrow_tag (codes "came") (colour_text (option_map (λ s. s.key_id) p.start))
+    titled_tag (codes "came") (colour_text (option_map (λ s. s.key_id) p.start))
     (p.label ++ words_beside p.stroke p.rung) (reaching_svg e p ++ late_label_svg e p)
 arrow_svg p (Call e d reply) = []
 arrow_svg p (Turned e phase) = []
@@ -171,22 +171,6 @@ upright_svg height e name =
     line_tag (record { x = end_column e; y = 66 }) (record { x = end_column e; y = height })
     (codes " stroke=\"#000\"")
     ++ words_tag (record { x = end_column e; y = 58 }) false name
-
--- how words and the page look: words have a white edge, and a page that is narrower has a smaller
--- picture (SVG 2, section 6.2, own)
-unfoldable pub style_svg : List ℕ
-style_svg =
-    codes "<style>text{stroke:#fff;stroke-width:3px;paint-order:stroke}svg{max-width:100%;"
-    ++ codes "height:auto;background:#fff}</style>\n"
-
--- the head of a picture of this height (SVG 2, section 8.2, own)
-unfoldable pub head_svg : (height : ℕ) → List ℕ
-head_svg height =
-    codes "<svg xmlns=\"http://www.w3.org/2000/svg\" width=\"800\""
-    ++ ((codes " height=\"" ++ decimal height)
-    ++ ((codes "\" viewBox=\"0 0 800 " ++ decimal height)
-    ++ (codes "\" font-family=\"monospace\" font-size=\"12\" stroke-width=\"1.5\">\n"
-    ++ style_svg)))
 
 -- the two ends, of this height (own)
 abbrev pub uprights_svg : (height : ℕ) → List ℕ

@@ -1,11 +1,9 @@
-//! Theorems about pictures, as clauses of functions that do nothing.
-ghost use Rattle.std.specs.Prelude.{◌≡◌, ℕ, List, map, true};
-ghost use Rattle.std.specs.List.{list_all};
+//! Theorems about pictures, as clauses of a function that does nothing.
+ghost use Rattle.std.specs.Prelude.{◌≡◌, List, map};
 ghost use Rattle.book_draw.specs.Arrows.{arrows, happened};
 ghost use Rattle.book_draw.specs.declared.rung.Rung.{Rung as Step};
 ghost use Rattle.book_draw.specs.Rungs.{rungs};
 ghost use Rattle.book_draw_svg.specs.Placements.{rung_of_placed, rungs_placed};
-ghost use Rattle.book_draw_svg.specs.Tags.{escaped, is_plain};
 ghost use Rattle.book_link.specs.declared.event.Event.{Event};
 ghost use Rattle.book_link.specs.Runs.{run};
 ghost use Rattle.book_link.specs.Worlds.{Setup};
@@ -17,9 +15,4 @@ pub fn elements_are_those_of_the_run()
     ensures rungs { (rs : List Step) → map rung_of_placed (rungs_placed rs) ≡ rs }
     ensures arrows { (setup : Setup) (events : List Event)
         → arrows (map rung_of_placed (rungs_placed (rungs setup events))) ≡ happened (run setup events).history }
-{}
-
-/// What is written between tags has none of the bytes that would end it or begin a tag: `<`, `>` and `"`.
-pub fn escaped_text_has_no_mark()
-    ensures { (text : List ℕ) → list_all is_plain (escaped text) ≡ true }
 {}

@@ -1,10 +1,10 @@
 //! The ladder of a run as a picture in SVG: each rung with its place, its stroke and its label, and the
-//! text of the picture. Definitions, with the plain types that code shares with them; the empty functions
-//! carry theorems about them.
+//! text of the picture. Definitions, with the plain types that code shares with them; the empty function
+//! carries theorems about them.
 #![tactic(auto)]
 
 mod laws;
 mod placed;
 
-pub use laws::{elements_are_those_of_the_run, escaped_text_has_no_mark};
-pub use placed::{Form, Placed, Point, Start, Stroke};
+pub use laws::elements_are_those_of_the_run;
+pub use placed::{Form, Placed, Start, Stroke};

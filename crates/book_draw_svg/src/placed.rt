@@ -37,13 +37,6 @@ pub struct Start {
     pub key_id: u8,
 }
 
-/// A place of the picture: so far from the left and from above.
-#[derive(Clone, Copy, Debug)]
-pub struct Point {
-    pub x: u64,
-    pub y: u64,
-}
-
 /// A rung in its place.
 #[derive(Drop)]
 pub struct Placed {

@@ -24,11 +24,15 @@ use Rattle.book_scope_plan.specs.FindingTexts.{Facing, finding_text}
 unfoldable pub usual_socket_text : Socket → List ℕ
 usual_socket_text s = usual_address_text s.address ++ (32 ∷ decimal s.port)
 
--- the line that names a connection (own)
-unfoldable pub connection_line : Pair → List ℕ
-connection_line pair =
+-- the words that name a connection (own)
+unfoldable pub pair_words : Pair → List ℕ
+pair_words pair =
     codes "connection " ++ (usual_socket_text pair.local
-    ++ (32 ∷ (usual_socket_text pair.remote ++ 10 ∷ [])))
+    ++ (32 ∷ usual_socket_text pair.remote))
+
+-- the line that names a connection (own)
+abbrev pub connection_line : Pair → List ℕ
+connection_line pair = pair_words pair ++ 10 ∷ []
 
 -- how many seconds the plan leaves: up to a greatest number, any, or none (own)
 unfoldable pub margin_text : (name : List ℕ) → Option Margin → List ℕ
@@ -63,11 +67,14 @@ both_text ends tables plan =
     calendar_text ends.node ends.other (calendar_of tables ends.pair plan.from plan.to)
     ++ findings_text ends tables plan (plan_findings tables plan ends.pair)
 
+-- that no node has the address (own)
+unfoldable pub missing_words : Address → List ℕ
+missing_words address = codes "no node of the key file has " ++ usual_address_text address
+
 -- that no node has the address, where none has (own)
 abbrev pub missing_text : Option Table → Address → List ℕ
 missing_text (Some t) address = []
-missing_text None address =
-    codes "  no node of the key file has " ++ (usual_address_text address ++ 10 ∷ [])
+missing_text None address = codes "  " ++ (missing_words address ++ 10 ∷ [])
 
 -- the node of an address (own)
 abbrev pub node_with : List Table → Address → Option Table

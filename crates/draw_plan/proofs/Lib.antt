@@ -1,3 +1,2 @@
 pub mod LifetimeLaws
-mod Parts
 mod SliceWalk

@@ -1,6 +1,6 @@
 //! The bars of the rows of an end.
 ghost use Rattle.std.specs.Prelude.{◌≡◌, ◌++◌, ◌≤◌, OnOk, length};
-ghost use Rattle.book_draw_plan.specs.Bars.{bar_byte, bar_bytes, bar_label, bar_text, duty_id, duty_words, end_bars, filling_byte, is_doing_within, row_bars};
+ghost use Rattle.book_draw_plan.specs.Bars.{bar_byte, bar_bytes, bar_label, bar_text, duty_id, duty_text, duty_words, end_bars, filling_byte, is_doing_within, row_bars};
 ghost use Rattle.draw_plan.specs.Drawn.{drawn_of};
 
 use crate::fillings::{is_filled, row_filling};
@@ -13,11 +13,11 @@ use std::alloc::AllocError;
 /// An end as it is drawn: its node's name, the pair as it sees it, the time that is drawn, and the slices
 /// of that.
 #[derive(Clone, Copy)]
-pub(crate) struct DrawnEnd<'a> {
-    pub(crate) name: &'a [u8],
-    pub(crate) pair: Pair,
-    pub(crate) time: Slice,
-    pub(crate) slices: &'a [Slice],
+pub struct DrawnEnd<'a> {
+    pub name: &'a [u8],
+    pub pair: Pair,
+    pub time: Slice,
+    pub slices: &'a [Slice],
 }
 
 fn filling_byte(filling: Filling) -> u8
@@ -60,7 +60,8 @@ fn push_bar_bytes(
     Ok(())
 }
 
-fn duty_id(duty: Duty, row: &Row) -> u8
+/// The KeyID under which a row does this: RecvID where it accepts, and SendID where it sends.
+pub fn duty_id(duty: Duty, row: &Row) -> u8
     ensures { result ≡ duty_id duty row.now }
 {
     match duty {
@@ -78,6 +79,16 @@ fn duty_words(duty: Duty) -> &'static [u8]
     }
 }
 
+/// Puts what a row does behind `out`, with the KeyID under which it does. An error only for want of memory.
+#[tactic(auto, unfolding(book_draw_plan::specs::Bars::duty_text))]
+pub fn push_duty(out: &mut Vec<u8>, duty: Duty, row: &Row) -> Result<(), AllocError>
+    ensures { OnOk result (out.new.items ≡ out.old.items ++ duty_text duty row.now) }
+{
+    out.extend_from_slice(b" (KeyID ")?;
+    push_decimal(out, u64::from(duty_id(duty, row)))?;
+    out.extend_from_slice(duty_words(duty))
+}
+
 /// What stands beside the bar of a row.
 #[tactic(auto, unfolding(book_draw_plan::specs::Bars::bar_label))]
 fn push_label(
@@ -92,9 +103,7 @@ fn push_label(
     out.extend_from_slice(name)?;
     out.extend_from_slice(b" row ")?;
     push_decimal(out, u64::from(number))?;
-    out.extend_from_slice(b" (KeyID ")?;
-    push_decimal(out, u64::from(duty_id(duty, row)))?;
-    out.extend_from_slice(duty_words(duty))
+    push_duty(out, duty, row)
 }
 
 /// The bar of a row.
@@ -117,7 +126,7 @@ fn push_bar(
 }
 
 /// Whether the row does this at some time that is drawn.
-fn is_doing_within(end: &DrawnEnd, row: &Row, duty: Duty) -> bool
+pub fn is_doing_within(end: &DrawnEnd, row: &Row, duty: Duty) -> bool
     ensures { result ≡ is_doing_within (drawn_of end.now) row.now duty }
 {
     is_filled(row_filling(&end.pair, duty, row, &end.time))

@@ -1,8 +1,7 @@
 //! The bars of a connection.
 ghost use Rattle.std.specs.Prelude.{◌≡◌, ◌++◌, OnOk, codes};
-ghost use Rattle.book_draw_plan.specs.Bars.{bar_line, both_bars, end_drawn, end_bars, scale_line, wrong_bytes};
+ghost use Rattle.book_draw_plan.specs.Bars.{bar_line, both_bars, end_drawn, end_bars, scale_line, scale_words, wrong_bytes};
 ghost use Rattle.book_draw_plan.specs.Slices.{slices_of};
-ghost use Rattle.book_scope_plan.specs.FindingTexts.{times_text};
 
 use crate::bars::{DrawnEnd, push_end_bars};
 use crate::slices::{slice_width, slices_of};
@@ -13,28 +12,29 @@ use book_draw_plan::Slice;
 use book_keys::Plan;
 use book_plans::Finding;
 use key_table::Table;
-use scope_texts::push_instant;
+use plan_texts::push_times;
 use std::alloc::{AllocError, Global};
 
-/// A time and a later one.
-#[tactic(auto, unfolding(book_scope_plan::specs::FindingTexts::times_text))]
-fn push_times(out: &mut Vec<u8>, first: u64, last: u64) -> Result<(), AllocError>
-    ensures { OnOk result (out.new.items ≡ out.old.items ++ times_text first last) }
+/// Puts behind `out` from when to when the bars go, and how many seconds a slice has. An error only for want of
+/// memory.
+pub fn push_scale_words(out: &mut Vec<u8>, plan: &Plan) -> Result<(), AllocError>
+    ensures { OnOk result (out.new.items ≡ out.old.items ++ scale_words plan.now) }
 {
-    push_instant(out, first)?;
-    out.extend_from_slice(b" to ")?;
-    push_instant(out, last)
+    push_times(out, plan.from, plan.to)?;
+    out.extend_from_slice(b", a column is ")?;
+    push_decimal(out, slice_width(plan.from, plan.to))?;
+    out.extend_from_slice(b" s")?;
+    Ok(())
 }
 
-/// From when to when the bars go, and how many seconds a slice has.
+/// The line that says so.
+#[tactic(auto, unfolding(book_draw_plan::specs::Bars::scale_line))]
 fn push_scale(out: &mut Vec<u8>, plan: &Plan) -> Result<(), AllocError>
     ensures { OnOk result (out.new.items ≡ out.old.items ++ scale_line plan.now) }
 {
     out.extend_from_slice(b"  ")?;
-    push_times(out, plan.from, plan.to)?;
-    out.extend_from_slice(b", a column is ")?;
-    push_decimal(out, slice_width(plan.from, plan.to))?;
-    out.extend_from_slice(b" s\n")?;
+    push_scale_words(out, plan)?;
+    out.push(b'\n')?;
     Ok(())
 }
 

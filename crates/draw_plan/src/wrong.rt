@@ -1,7 +1,6 @@
 //! The slices in which something is wrong.
 ghost use Rattle.std.specs.Prelude.{◌≡◌, ◌++◌, OnOk, option_map};
-ghost use Rattle.std.specs.List.{list_any};
-ghost use Rattle.book_draw_plan.specs.Bars.{is_seen, may_send_in, numbered_sends, pair_at, slice_mark, wrong_byte, wrong_bytes};
+ghost use Rattle.book_draw_plan.specs.Bars.{is_marked, is_seen, may_send_in, numbered_sends, pair_at, slice_mark, wrong_byte, wrong_bytes};
 ghost use Rattle.book_keys.specs.Plans.{mirrored};
 ghost use Rattle.book_scope_plan.specs.CalendarTexts.{row_numbered, side_of};
 
@@ -14,14 +13,14 @@ use std::alloc::AllocError;
 
 /// The tables of the two ends of a connection, and the pair as end A sees it.
 #[derive(Clone, Copy)]
-pub(crate) struct Connected<'a> {
-    pub(crate) a: &'a Table,
-    pub(crate) b: &'a Table,
-    pub(crate) pair: Pair,
+pub struct Connected<'a> {
+    pub a: &'a Table,
+    pub b: &'a Table,
+    pub pair: Pair,
 }
 
 /// The pair as the other end sees it.
-pub(crate) fn mirrored(pair: &Pair) -> Pair
+pub fn mirrored(pair: &Pair) -> Pair
     ensures { result ≡ mirrored pair.now }
 {
     Pair {
@@ -87,9 +86,10 @@ impl<'a> Connected<'a> {
         }
     }
 
-    /// Whether one of the findings is seen in the slice.
-    fn is_wrong(&self, slice: &Slice, findings: &[Finding]) -> bool
-        ensures { result ≡ list_any (is_seen self.now.a.now self.now.b.now self.now.pair slice.now) findings.now }
+    /// Whether one of the findings is seen in the slice: a row that isn't met at the other end may send in it, or
+    /// a gap has a second of it.
+    pub fn is_marked(&self, slice: &Slice, findings: &[Finding]) -> bool
+        ensures { result ≡ is_marked self.now.a.now self.now.b.now self.now.pair findings.now slice.now }
     {
         findings.iter().any(|finding| self.is_seen(slice, *finding))
     }
@@ -110,7 +110,7 @@ fn push_slice_mark(
 ) -> Result<(), AllocError>
     ensures { OnOk result (out.new.items ≡ out.old.items ++ slice_mark ends.now.a.now ends.now.b.now ends.now.pair findings.now slice.now) }
 {
-    out.push(wrong_byte(ends.is_wrong(slice, findings)))?;
+    out.push(wrong_byte(ends.is_marked(slice, findings)))?;
     Ok(())
 }
 

@@ -1,15 +1,16 @@
 //! The elements of rungs.
 ghost use Rattle.std.specs.Prelude.{◌≡◌, ◌++◌, IfOk, OnOk, Some, codes, option_map};
 ghost use Rattle.book_draw_svg.specs.Pictures.{arrow_svg, dash_attribute, element_svg, end_column, is_at_once, label_column, label_height, label_svg, late_label_svg, leaving_svg, lost_column, lost_height, margin_column, margin_height, margin_svg, reaching_svg, row_height, start_column, start_row, words_beside};
-ghost use Rattle.book_draw_svg.specs.Tags.{arrow_tag, colour_text};
 ghost use Rattle.book_link.specs.Worlds.{same_end};
+ghost use Rattle.book_svg.specs.Tags.{colour_text, titled_tag};
 
-use crate::tags::{push_arrow, push_dot, push_line, push_words};
 use book_base::End;
 use book_draw::Rung;
-use book_draw_svg::{Placed, Point, Start, Stroke};
+use book_draw_svg::{Placed, Start, Stroke};
+use book_svg::Point;
 use draw_ladder::{push_margin, rung_end};
 use std::alloc::{AllocError, Global};
+use svg_tags::{push_dot, push_line, push_titled, push_words};
 
 /// The height of a row.
 pub(crate) fn row_height(row: u32) -> u64
@@ -256,13 +257,13 @@ fn key_of(start: Option<Start>) -> Option<u8>
 
 /// The arrow of what is made, with its title.
 fn push_made(out: &mut Vec<u8>, end: End, key_id: u8, placed: &Placed) -> Result<(), AllocError>
-    ensures { OnOk result (out.new.items ≡ out.old.items ++ arrow_tag (codes "made") (colour_text (Some key_id))
+    ensures { OnOk result (out.new.items ≡ out.old.items ++ titled_tag (codes "made") (colour_text (Some key_id))
         (placed.now.label ++ words_beside placed.now.stroke placed.now.rung)
         (leaving_svg end placed.now.row placed.now.stroke ++ label_svg end placed.now)) }
 {
     let title = title_of(*out.allocator(), placed)?;
     let drawing = made_drawing(*out.allocator(), end, placed)?;
-    push_arrow(
+    push_titled(
         out,
         b"made",
         Some(key_id),
@@ -273,14 +274,14 @@ fn push_made(out: &mut Vec<u8>, end: End, key_id: u8, placed: &Placed) -> Result
 
 /// The arrow of what comes, with its title.
 fn push_came(out: &mut Vec<u8>, end: End, placed: &Placed) -> Result<(), AllocError>
-    ensures { OnOk result (out.new.items ≡ out.old.items ++ arrow_tag (codes "came") (colour_text (option_map (λ s. s.key_id) placed.now.start))
+    ensures { OnOk result (out.new.items ≡ out.old.items ++ titled_tag (codes "came") (colour_text (option_map (λ s. s.key_id) placed.now.start))
         (placed.now.label ++ words_beside placed.now.stroke placed.now.rung)
         (reaching_svg end placed.now ++ late_label_svg end placed.now)) }
 {
     let title = title_of(*out.allocator(), placed)?;
     let drawing = came_drawing(*out.allocator(), end, placed)?;
     let key_id = key_of(placed.start);
-    push_arrow(out, b"came", key_id, title.as_slice(), drawing.as_slice())
+    push_titled(out, b"came", key_id, title.as_slice(), drawing.as_slice())
 }
 
 /// The arrow of a rung, where it has one.

@@ -1,38 +1,13 @@
 //! What stands in front of the rungs of a picture.
 ghost use Rattle.std.specs.Prelude.{◌≡◌, ◌++◌, OnOk, codes};
-ghost use Rattle.book_draw_svg.specs.Pictures.{dash_attribute, head_svg, lost_tip_svg, sample_svg, samples_svg, style_svg, tip_svg, tips_svg, upright_svg};
+ghost use Rattle.book_draw_svg.specs.Pictures.{dash_attribute, lost_tip_svg, sample_svg, samples_svg, tip_svg, tips_svg, upright_svg};
 
 use crate::arrows::{dash_attribute, end_column};
-use crate::tags::{push_line, push_numbered, push_words};
 use book_base::End;
-use book_draw_svg::{Point, Stroke};
+use book_draw_svg::Stroke;
+use book_svg::Point;
 use std::alloc::AllocError;
-
-/// How words and the page look.
-#[tactic(auto, unfolding(book_draw_svg::specs::Pictures::style_svg))]
-fn push_style(out: &mut Vec<u8>) -> Result<(), AllocError>
-    ensures { OnOk result (out.new.items ≡ out.old.items ++ style_svg) }
-{
-    out.extend_from_slice(
-        b"<style>text{stroke:#fff;stroke-width:3px;paint-order:stroke}svg{max-width:100%;",
-    )?;
-    out.extend_from_slice(b"height:auto;background:#fff}</style>\n")
-}
-
-/// The head of a picture of this height.
-#[tactic(auto, unfolding(book_draw_svg::specs::Pictures::head_svg))]
-pub(crate) fn push_head(out: &mut Vec<u8>, height: u64) -> Result<(), AllocError>
-    ensures { OnOk result (out.new.items ≡ out.old.items ++ head_svg height) }
-{
-    out.extend_from_slice(b"<svg xmlns=\"http://www.w3.org/2000/svg\" width=\"800\"")?;
-    push_numbered(out, b" height=\"", height)?;
-    push_numbered(out, b"\" viewBox=\"0 0 800 ", height)?;
-    out.extend_from_slice(
-        b"\" font-family=\"monospace\" font-size=\"12\" stroke-width=\"1.5\">\n",
-    )?;
-    push_style(out)?;
-    Ok(())
-}
+use svg_tags::{push_line, push_words};
 
 /// The tip of an arrow that comes.
 #[tactic(auto, unfolding(book_draw_svg::specs::Pictures::tip_svg))]

@@ -7,6 +7,5 @@ mod heads;
 mod past;
 mod picture;
 mod places;
-mod tags;
 
 pub use picture::{draw_rungs_as, print_svg};

@@ -6,7 +6,7 @@ ghost use Rattle.book_draw_svg.specs.Placements.{placements_from};
 ghost use Rattle.draw_ladder.specs.Sights.{Saw};
 
 use crate::arrows::{push_element, row_height};
-use crate::heads::{push_head, push_samples, push_tips, push_upright};
+use crate::heads::{push_samples, push_tips, push_upright};
 use crate::past::Past;
 use crate::places::placed_at;
 use book_base::{Bytes, End};
@@ -14,6 +14,7 @@ use book_draw::Rung;
 use book_draw_svg::Form;
 use draw_ladder::{Seen, print_ladder};
 use std::alloc::{AllocError, Global};
+use svg_tags::push_head;
 
 /// Puts the elements of all rungs behind `out`.
 fn push_elements(

@@ -1,4 +1,2 @@
-mod NodeLaws
-mod Parts
 mod PlannedLaws
 pub mod ReportLaws

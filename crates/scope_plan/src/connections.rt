@@ -1,7 +1,7 @@
 //! What is said of a connection.
-ghost use Rattle.std.specs.Prelude.{◌≡◌, ◌++◌, OnOk, IfOk, option_map};
+ghost use Rattle.std.specs.Prelude.{◌≡◌, ◌++◌, OnOk, IfOk};
 ghost use Rattle.book_plans.specs.Margins.{lead_margin_of, lag_margin_of};
-ghost use Rattle.book_scope_plan.specs.PlanTexts.{aligned_line, both_text, connection_line, connection_text, facing, findings_text, has_none, is_good_plan, margin_text, missing_text, node_with, nodes_text, plan_findings, usual_socket_text};
+ghost use Rattle.book_scope_plan.specs.PlanTexts.{aligned_line, both_text, connection_text, facing, findings_text, has_none, is_good_plan, margin_text, node_with, nodes_text, plan_findings};
 ghost use Rattle.scope_plan.specs.Facings.{facing_of};
 ghost use Rattle.scope_plan.specs.KeyFiles.{key_file_of};
 
@@ -10,34 +10,12 @@ use crate::ends::{Ends, Facing};
 use crate::findings::push_findings;
 use crate::key_file::KeyFile;
 use ao_base::push_decimal;
-use book_base::{Address, Pair, Socket};
+use book_base::Pair;
 use book_cmd_keys::Plan;
 use key_plan::{Finding, Margin, calendar, findings, lag_margin, lead_margin};
-use key_table::{Table, Tables};
-use scope_texts::push_address;
+use key_table::Tables;
+use plan_texts::{push_missing, push_pair_line};
 use std::alloc::{AllocError, Global};
-
-#[tactic(auto, unfolding(book_scope_plan::specs::PlanTexts::usual_socket_text))]
-fn push_socket(out: &mut Vec<u8>, socket: &Socket) -> Result<(), AllocError>
-    ensures { OnOk result (out.new.items ≡ out.old.items ++ usual_socket_text socket.now) }
-{
-    push_address(out, &socket.address)?;
-    out.push(b' ')?;
-    push_decimal(out, u64::from(socket.port))
-}
-
-/// The line that names a connection.
-#[tactic(auto, unfolding(book_scope_plan::specs::PlanTexts::connection_line))]
-pub(crate) fn push_connection_line(out: &mut Vec<u8>, pair: &Pair) -> Result<(), AllocError>
-    ensures { OnOk result (out.new.items ≡ out.old.items ++ connection_line pair.now) }
-{
-    out.extend_from_slice(b"connection ")?;
-    push_socket(out, &pair.local)?;
-    out.push(b' ')?;
-    push_socket(out, &pair.remote)?;
-    out.push(b'\n')?;
-    Ok(())
-}
 
 #[tactic(auto, unfolding(book_scope_plan::specs::PlanTexts::margin_text))]
 fn push_margin(out: &mut Vec<u8>, name: &[u8], margin: Option<Margin>) -> Result<(), AllocError>
@@ -144,25 +122,6 @@ fn push_both(
     Ok(has_none(findings.as_slice()))
 }
 
-/// That no node has the address, where none has.
-pub(crate) fn push_missing(
-    out: &mut Vec<u8>,
-    node: Option<&Table>,
-    address: &Address,
-) -> Result<(), AllocError>
-    ensures { OnOk result (out.new.items ≡ out.old.items ++ missing_text (option_map (λ t. t.now) node.entry) address.now) }
-{
-    match node {
-        Some(_) => Ok(()),
-        None => {
-            out.extend_from_slice(b"  no node of the key file has ")?;
-            push_address(out, address)?;
-            out.push(b'\n')?;
-            Ok(())
-        }
-    }
-}
-
 /// What is said of a connection; whether nothing is wrong with its plan.
 #[tactic(auto, unfolding(book_scope_plan::specs::PlanTexts::connection_text, book_scope_plan::specs::PlanTexts::is_good_plan))]
 pub(crate) fn push_connection(
@@ -175,7 +134,7 @@ pub(crate) fn push_connection(
     ensures text { OnOk result (out.new.items ≡ out.old.items ++ connection_text (key_file_of keys.now) plan.now pair.now) }
     ensures good { IfOk result (λ good. good ≡ is_good_plan keys.now.tables plan.now pair.now) }
 {
-    push_connection_line(out, pair)?;
+    push_pair_line(out, pair)?;
     let a = keys.tables.table(&pair.local.address);
     let b = keys.tables.table(&pair.remote.address);
     match (a, b) {

@@ -3,16 +3,15 @@ ghost use Rattle.std.specs.Prelude.{◌≡◌, ◌==◌, ◌++◌, ◌≤◌, If
 ghost use Rattle.toml.specs.View.{table_view};
 ghost use Rattle.book_base.specs.Algorithms.{name_of};
 ghost use Rattle.book_plans.specs.Differences.{differences};
-ghost use Rattle.book_scope_plan.specs.FindingTexts.{admin_text, algorithms_text, connection_words, difference_count, difference_head, difference_lines, direction_words, fewest, ids_text, key_column_lines, key_words, nearest_lines, one_if, options_words, row_name, text_if, use_column_lines};
+ghost use Rattle.book_scope_plan.specs.FindingTexts.{algorithms_text, connection_words, difference_count, difference_head, difference_lines, direction_words, fewest, ids_text, key_column_lines, key_words, nearest_lines, one_if, options_words, row_name, text_if, use_column_lines};
 ghost use Rattle.scope_plan.specs.Facings.{facing_of};
 
 use crate::ends::Facing;
-use crate::names::admin_name;
 use ao_base::push_decimal;
 use book_base::Pair;
 use key_plan::{Differences, differences};
 use key_table::Row;
-use scope_key_texts::push_shown_text;
+use plan_texts::row_name;
 use std::alloc::{AllocError, Global};
 use toml::Table;
 
@@ -47,51 +46,6 @@ pub(crate) fn fewest(pair: &Pair, row: &Row, others: &[Row]) -> u8
         least = least.min(count_of(pair, row, other));
     }
     least
-}
-
-/// What the operator calls a row, where it is named.
-#[tactic(auto, unfolding(book_scope_plan::specs::FindingTexts::admin_text))]
-fn push_admin(out: &mut Vec<u8>, name: Option<&str>) -> Result<(), AllocError>
-    ensures { OnOk result (out.new.items ≡ out.old.items ++ admin_text (option_map (λ s. s.now) name.entry)) }
-{
-    match name {
-        Some(text) => {
-            out.extend_from_slice(b" (")?;
-            push_shown_text(out, text.as_bytes())?;
-            out.extend_from_slice(b")")
-        }
-        None => Ok(()),
-    }
-}
-
-/// The name of a node, the number of a row, and what the document calls it.
-#[tactic(auto, unfolding(book_scope_plan::specs::FindingTexts::row_name))]
-pub(crate) fn push_row_name(
-    out: &mut Vec<u8>,
-    document: &Table,
-    name: &[u8],
-    number: u8,
-) -> Result<(), AllocError>
-    ensures { OnOk result (out.new.items ≡ out.old.items ++ row_name (table_view document.now) name.now number) }
-{
-    out.extend_from_slice(name)?;
-    out.extend_from_slice(b" row ")?;
-    push_decimal(out, u64::from(number))?;
-    push_admin(out, admin_name(document, name, number))
-}
-
-/// The same as a text of its own.
-pub(crate) fn row_name(
-    alloc: Global,
-    document: &Table,
-    name: &[u8],
-    number: u8,
-) -> Result<Vec<u8>, AllocError>
-    ensures { IfOk result (λ text. text.items ≡ row_name (table_view document.now) name.now number) }
-{
-    let mut text = Vec::new(alloc);
-    push_row_name(&mut text, document, name, number)?;
-    Ok(text)
 }
 
 /// A row of the other end differs in a column.

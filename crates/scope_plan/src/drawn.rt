@@ -1,20 +1,24 @@
-//! What is said of a connection in a form: its lines, or its bars.
-ghost use Rattle.std.specs.Prelude.{◌≡◌, ◌++◌, OnOk, IfOk};
+//! What is said of a connection in a form: its lines, its bars, or its part of a picture.
+ghost use Rattle.std.specs.Prelude.{◌≡◌, ◌++◌, ◌+◌, ◌≤◌, ◌&&◌, OnOk, IfOk, is_some, option_map};
 ghost use Rattle.book_draw_plan.specs.Bars.{both_bars, drawing_text, nodes_bars};
+ghost use Rattle.book_draw_plan_svg.specs.PlanLines.{drawing_lines};
 ghost use Rattle.book_scope_plan.specs.PlanTexts.{connection_line, has_none, is_good_plan, missing_text, node_with, plan_findings};
 ghost use Rattle.scope_plan.specs.KeyFiles.{key_file_of};
-ghost use Rattle.scope_plan.specs.Plannings.{connection_as};
+ghost use Rattle.draw_plan_svg.specs.Draws.{Draws};
+ghost use Rattle.scope_plan.specs.Plannings.{connection_as, framed, lines_as};
 
-use crate::connections::{
-    findings_by, has_none, push_connection, push_connection_line, push_missing,
-};
+use crate::connections::{findings_by, has_none, push_connection};
 use crate::ends::Ends;
 use crate::key_file::KeyFile;
-use book_base::Pair;
+use crate::planned::Written;
+use book_base::{Bytes, Pair};
 use book_cmd_keys::Plan;
 use book_draw_plan::PlanForm;
+use book_plans::Finding;
 use draw_plan::push_bars;
-use key_table::Tables;
+use draw_plan_svg::{Panel, Paper, push_end, push_front, push_panel};
+use key_table::{Table, Tables};
+use plan_texts::{push_missing, push_pair_line};
 use std::alloc::{AllocError, Global};
 
 /// The bars of a connection whose ends have tables; whether there is no finding.
@@ -46,7 +50,7 @@ fn push_drawing(
     ensures text { OnOk result (out.new.items ≡ out.old.items ++ drawing_text tables.now plan.now pair.now) }
     ensures good { IfOk result (λ good. good ≡ is_good_plan tables.now plan.now pair.now) }
 {
-    push_connection_line(out, pair)?;
+    push_pair_line(out, pair)?;
     let a = tables.table(&pair.local.address);
     let b = tables.table(&pair.remote.address);
     match (a, b) {
@@ -59,20 +63,108 @@ fn push_drawing(
     }
 }
 
-/// What is said of a connection, in the form; whether nothing is wrong with its plan.
+/// Whether both ends have nodes, and there is no finding.
+fn is_good(a: Option<&Table>, b: Option<&Table>, findings: &[Finding]) -> bool
+    ensures { result ≡ ((is_some (option_map (λ t. t.now) a.entry) && is_some (option_map (λ t. t.now) b.entry)) && has_none findings.now) }
+{
+    match (a, b) {
+        (Some(_), Some(_)) => has_none(findings),
+        _ => false,
+    }
+}
+
+/// The lines of a connection in a picture, from this one on.
+#[tactic(auto, unfolding(book_draw_plan_svg::specs::PlanLines::drawing_lines, book_scope_plan::specs::PlanTexts::is_good_plan))]
+fn push_pictured(
+    alloc: Global,
+    out: &mut Vec<u8>,
+    line: u32,
+    keys: &KeyFile,
+    plan: &Plan,
+    pair: &Pair,
+) -> Result<Written, AllocError>
+    requires { line ≤ 4000000000 }
+    ensures drawn { IfOk result (λ w. Draws (key_file_of keys.now).document plan.now (drawing_lines keys.now.tables plan.now pair.now) out.old.items line out.new.items w.next) }
+    ensures few { IfOk result (λ w. w.next ≤ line + 259) }
+    ensures good { IfOk result (λ w. w.is_good ≡ is_good_plan keys.now.tables plan.now pair.now) }
+{
+    let tables = &keys.tables;
+    let a = tables.table(&pair.local.address);
+    let b = tables.table(&pair.remote.address);
+    let findings = findings_by(alloc, tables, pair, plan)?;
+    let paper = Paper {
+        document: &keys.document,
+        plan: *plan,
+    };
+    let panel = Panel {
+        a,
+        b,
+        pair: *pair,
+        findings: findings.as_slice(),
+    };
+    let next = push_panel(alloc, out, &paper, line, &panel)?;
+    Ok(Written {
+        next,
+        is_good: is_good(a, b, findings.as_slice()),
+    })
+}
+
+/// What is said of a connection, in the form; in a picture from this line on.
 pub(crate) fn push_connection_as(
     alloc: Global,
     form: PlanForm,
     out: &mut Vec<u8>,
+    line: u32,
     keys: &KeyFile,
     plan: &Plan,
     pair: &Pair,
-) -> Result<bool, AllocError>
-    ensures text { OnOk result (out.new.items ≡ out.old.items ++ connection_as form (key_file_of keys.now) plan.now pair.now) }
-    ensures good { IfOk result (λ good. good ≡ is_good_plan keys.now.tables plan.now pair.now) }
+) -> Result<Written, AllocError>
+    requires { line ≤ 4000000000 }
+    ensures text { OnOk result (out.new.items ≡ out.old.items ++ connection_as form (key_file_of keys.now) plan.now line pair.now) }
+    ensures next { IfOk result (λ w. w.next ≡ line + lines_as form (key_file_of keys.now) plan.now pair.now) }
+    ensures few { IfOk result (λ w. w.next ≤ line + 259) }
+    ensures good { IfOk result (λ w. w.is_good ≡ is_good_plan keys.now.tables plan.now pair.now) }
 {
     match form {
-        PlanForm::Lines => push_connection(alloc, out, keys, plan, pair),
-        PlanForm::Bars => push_drawing(alloc, out, &keys.tables, plan, pair),
+        PlanForm::Lines => {
+            let is_good = push_connection(alloc, out, keys, plan, pair)?;
+            Ok(Written {
+                next: line,
+                is_good,
+            })
+        }
+        PlanForm::Bars => {
+            let is_good = push_drawing(alloc, out, &keys.tables, plan, pair)?;
+            Ok(Written {
+                next: line,
+                is_good,
+            })
+        }
+        PlanForm::Picture => {
+            let written = push_pictured(alloc, out, line, keys, plan, pair)?;
+            Ok(written)
+        }
+    }
+}
+
+/// The whole text of what is said, which has so many lines of a picture.
+pub(crate) fn framed(
+    alloc: Global,
+    form: PlanForm,
+    count: u32,
+    text: Bytes,
+) -> Result<Bytes, AllocError>
+    ensures { IfOk result (λ whole. whole ≡ framed form count text) }
+{
+    match form {
+        PlanForm::Lines => Ok(text),
+        PlanForm::Bars => Ok(text),
+        PlanForm::Picture => {
+            let mut out = Vec::new(alloc);
+            push_front(&mut out, count)?;
+            out.extend_from_slice(text.as_slice())?;
+            push_end(&mut out)?;
+            Ok(Bytes::from_vec(out))
+        }
     }
 }

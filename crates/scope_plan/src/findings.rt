@@ -4,14 +4,14 @@ ghost use Rattle.book_scope_plan.specs.CalendarTexts.{row_numbered};
 ghost use Rattle.book_scope_plan.specs.FindingTexts.{finding_text, gap_text, refused_text, seconds_between, seconds_text, sent_id_text, short_text, short_words, times_text, unmet_line};
 ghost use Rattle.scope_plan.specs.Facings.{facing_of};
 
-use crate::differences::{fewest, push_nearest, push_row_name, push_sent};
+use crate::differences::{fewest, push_nearest, push_sent};
 use crate::ends::{Facing, row_numbered};
 use crate::lifetimes::push_short;
 use ao_base::push_decimal;
 use book_cmd_keys::Plan;
 use key_plan::Finding;
 use key_table::Row;
-use scope_texts::push_instant;
+use plan_texts::{push_row_name, push_times};
 use std::alloc::AllocError;
 
 /// With which id a row sends.
@@ -91,15 +91,6 @@ fn seconds_between(first: u64, last: u64) -> u64
     } else {
         (last - first).saturating_add(1)
     }
-}
-
-#[tactic(auto, unfolding(book_scope_plan::specs::FindingTexts::times_text))]
-fn push_times(out: &mut Vec<u8>, first: u64, last: u64) -> Result<(), AllocError>
-    ensures { OnOk result (out.new.items ≡ out.old.items ++ times_text first last) }
-{
-    push_instant(out, first)?;
-    out.extend_from_slice(b" to ")?;
-    push_instant(out, last)
 }
 
 #[tactic(auto, unfolding(book_scope_plan::specs::FindingTexts::seconds_text))]

@@ -11,8 +11,8 @@ use toml::Table;
 /// A key file as it is read: the document that it is, and the tables that it stands for.
 #[derive(Drop)]
 pub struct KeyFile {
-    pub(crate) document: Table,
-    pub(crate) tables: Tables,
+    pub document: Table,
+    pub tables: Tables,
 }
 
 /// The document that a text is; `Syntax` exactly where it is none.

@@ -11,7 +11,6 @@ mod ends;
 mod findings;
 mod key_file;
 mod lifetimes;
-mod names;
 mod planned;
 mod plans;
 mod told;

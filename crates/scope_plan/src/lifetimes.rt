@@ -5,12 +5,12 @@ ghost use Rattle.book_plans.specs.Differences.{differences, is_alike};
 ghost use Rattle.book_scope_plan.specs.FindingTexts.{accepting_lines, accepting_row, accepts_text, early_line, late_line, lifetime_lines, planned_accepting, row_name, sends_text, set_text, text_if, wanted_text};
 ghost use Rattle.scope_plan.specs.Facings.{facing_of};
 
-use crate::differences::row_name;
 use crate::ends::Facing;
 use ao_base::push_decimal;
 use book_cmd_keys::Plan;
 use key_plan::{differences, wanted_accepting};
 use key_table::{Lifetime, Row};
+use plan_texts::row_name;
 use scope_texts::{push_instant, push_key_time};
 use std::alloc::AllocError;
 

@@ -1,5 +1,5 @@
 //! What is said of each connection of an input.
-ghost use Rattle.std.specs.Prelude.{◌≡◌, ◌<◌, ◌↔◌, IsErrOf, [], false, length};
+ghost use Rattle.std.specs.Prelude.{◌≡◌, ◌<◌, ◌≤◌, ◌↔◌, IsErrOf, [], false, length};
 ghost use Rattle.book_base.specs.Lines.{lines_of};
 ghost use Rattle.book_lines.specs.Lines.{most_lines};
 ghost use Rattle.book_lines.specs.Said.{at_number, said_by, said_in};
@@ -11,7 +11,7 @@ ghost use Rattle.scope_plan.specs.KeyFiles.{key_file_of};
 ghost use Rattle.scope_plan.specs.Plannings.{planned_answer, planned_from, plannings};
 
 use crate::connection::read_connection;
-use crate::drawn::push_connection_as;
+use crate::drawn::{framed, push_connection_as};
 use crate::key_file::KeyFile;
 use crate::planned::Planned;
 use book_base::{Bytes, Pair};
@@ -40,17 +40,21 @@ fn plan_lines(
     plan: &Plan,
     mut lines: SayingLines,
 ) -> Result<Planned, TextFault>
-    ensures { Answers result (planned_from form (key_file_of keys.now) plan.now [] false (said_by plan_pair_of lines.entry)) }
+    requires { length lines ≤ 20000 }
+    ensures { Answers result (planned_from form (key_file_of keys.now) plan.now [] 0 false (said_by plan_pair_of lines.entry)) }
 {
     let mut out = Vec::new(alloc);
+    let mut count = 0;
     let mut has_wrong = false;
     while let Some(line) = lines.next() {
         let pair = connection_in(line)?;
-        let is_good = push_connection_as(alloc, form, &mut out, keys, plan, &pair)?;
-        has_wrong |= !is_good;
+        let written = push_connection_as(alloc, form, &mut out, count, keys, plan, &pair)?;
+        count = written.next;
+        has_wrong |= !written.is_good;
     }
     Ok(Planned {
         text: Bytes::from_vec(out),
+        lines: count,
         has_wrong,
     })
 }
@@ -83,7 +87,9 @@ fn plan_input(
 ///
 /// Of a connection with an address that no node has it is only said so. A finding or such an address is
 /// amiss. In the form `PlanForm::Bars` the line `connection ..` is followed by the bars of
-/// `draw_plan::push_bars` in place of the calendar and the findings.
+/// `draw_plan::push_bars` in place of the calendar and the findings. In the form `PlanForm::Picture` it is one
+/// picture in SVG, `picture_text` of the book, of the same lines, connections one below another: the bars by
+/// seconds in place of slices, and a mark for each slice under which the text has one.
 ///
 /// `Ok` exactly where each line that says something is a connection between two addresses of one family
 /// that differ. `TooManyLines` exactly where the input has more than 20,000 lines; else `Line` is the first
@@ -102,8 +108,7 @@ pub fn answer_plan(
     ensures too_many { IsErrOf result (Stop.Input TextFault.TooManyLines) ↔ (most_lines < length (lines_of input.now)) }
 {
     let planned = plan_input(alloc, form, keys, &plan, input)?;
-    Ok(Report {
-        text: planned.text,
-        is_amiss: planned.has_wrong,
-    })
+    let is_amiss = planned.has_wrong;
+    let text = framed(alloc, form, planned.lines, planned.text)?;
+    Ok(Report { text, is_amiss })
 }

@@ -1,6 +1,6 @@
 use Rattle.std.specs.Prelude.{codes}
 use Rattle.book_draw_svg.specs.Pictures.{dash_attribute}
-use Rattle.draw_svg.proofs.Parts.{two}
+use Rattle.svg_tags.proofs.Parts.{two}
 use Rattle.draw_svg.proofs.heads.push_black.Goals as goal
 
 pub returns : goal.returns

@@ -1,7 +1,7 @@
 use Rattle.std.specs.Prelude.{codes}
 use Rattle.book_base.specs.Algorithms.{name_of}
 use Rattle.book_scope_plan.specs.FindingTexts.{algorithms_text}
-use Rattle.scope_plan.proofs.Parts.{five}
+use Rattle.plan_texts.proofs.Parts.{five}
 use Rattle.scope_plan.proofs.differences.push_algorithms.Goals as goal
 
 pub returns : goal.returns

@@ -1,6 +1,6 @@
 use Rattle.std.specs.Prelude.{codes}
 use Rattle.book_scope_plan.specs.FindingTexts.{difference_head}
-use Rattle.scope_plan.proofs.Parts.{three}
+use Rattle.plan_texts.proofs.Parts.{three}
 use Rattle.scope_plan.proofs.differences.push_head.Goals as goal
 
 pub returns : goal.returns

@@ -1,6 +1,6 @@
 use Rattle.std.specs.Prelude.{codes, decimal}
 use Rattle.book_scope_plan.specs.FindingTexts.{ids_text}
-use Rattle.scope_plan.proofs.Parts.{five}
+use Rattle.plan_texts.proofs.Parts.{five}
 use Rattle.scope_plan.proofs.differences.push_ids.Goals as goal
 
 pub returns : goal.returns

@@ -1,6 +1,6 @@
 use Rattle.std.specs.Prelude.{codes}
 use Rattle.book_scope_plan.specs.FindingTexts.{gap_text, seconds_text, times_text}
-use Rattle.scope_plan.proofs.Parts.{five}
+use Rattle.plan_texts.proofs.Parts.{five}
 use Rattle.scope_plan.proofs.findings.push_gap.Goals as goal
 
 pub returns : goal.returns

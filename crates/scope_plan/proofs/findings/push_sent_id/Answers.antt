@@ -1,6 +1,6 @@
 use Rattle.std.specs.Prelude.{codes, decimal}
 use Rattle.book_scope_plan.specs.FindingTexts.{sent_id_text}
-use Rattle.scope_plan.proofs.Parts.{three}
+use Rattle.plan_texts.proofs.Parts.{three}
 use Rattle.scope_plan.proofs.findings.push_sent_id.Goals as goal
 
 pub returns : goal.returns

@@ -1,6 +1,6 @@
 use Rattle.std.specs.Prelude.{codes, decimal}
 use Rattle.book_scope_plan.specs.FindingTexts.{accepting_row}
-use Rattle.scope_plan.proofs.Parts.{four}
+use Rattle.plan_texts.proofs.Parts.{four}
 use Rattle.scope_plan.proofs.lifetimes.push_accepting_row.Goals as goal
 
 pub returns : goal.returns

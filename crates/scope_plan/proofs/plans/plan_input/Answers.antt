@@ -1,8 +1,15 @@
 use Rattle.std.proofs.Common.{arith}
+use Rattle.book_base.specs.Lines.{lines_of}
 use Rattle.book_lines.specs.Lines.{saying_lines}
+use Rattle.book_lines.proofs.SayingLaws.{saying_length}
 use Rattle.scope_plan.specs.KeyFiles.{key_file_of}
 use Rattle.scope_plan.proofs.PlannedLaws.{never_too_many}
 use Rattle.scope_plan.proofs.plans.plan_input.Goals as goal
+
+pub plan_lines-requires : goal.plan_lines-requires
+plan_lines-requires c =
+    let fewer = saying_length 1 (lines_of c.args.input.now) in
+    rw c.new.ensures (omega (arith, fewer, c.in_ok-_count.ensures.counted, c.in_ok-_count.ensures.few))
 
 pub returns-clause-too_many : goal.returns-clause-too_many
 returns-clause-too_many c =

@@ -1,0 +1,3 @@
+pub mod PlanLines
+pub mod PlanPictures
+pub mod Spans

@@ -1,0 +1,2 @@
+pub mod DrawsLaws
+pub mod MarkLaws

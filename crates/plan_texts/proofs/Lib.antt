@@ -1,0 +1,2 @@
+mod NodeLaws
+pub mod Parts
