@@ -8,6 +8,9 @@ use Rattle.book_lines.specs.Texts.{line_text}
 use Rattle.book_why.specs.declared.change.Change.{Change}
 use Rattle.book_why.specs.declared.change.Change.TheVariants.{AnotherRow, OtherFlag}
 use Rattle.book_why.specs.declared.change.Change.TheVariants.{OtherAlgorithm, KeyAsText}
+use Rattle.book_why.specs.declared.change.Change.TheVariants.{CutSha256, KeyTrimmed}
+use Rattle.book_why.specs.declared.change.Change.TheVariants.{OtherConnection}
+use Rattle.book_why.specs.declared.change.IsnPair.{IsnPair}
 use Rattle.book_why.specs.declared.change.Change.TheVariants.{KeyAsUpperText, KeyWithNewline}
 use Rattle.book_why.specs.declared.change.Change.TheVariants.{KeyAsTextWithNewline, KeyPadded}
 use Rattle.book_why.specs.declared.change.Change.TheVariants.{LengthInBytes}
@@ -32,16 +35,20 @@ abbrev pub change_name : Change → List ℕ
 change_name (AnotherRow node n) = codes "another row:"
 change_name OtherFlag = codes "the other option flag:"
 change_name (OtherAlgorithm algorithm) = codes "the other algorithm:"
+change_name CutSha256 = codes "the other algorithm: HMAC-SHA-256 cut to 96 bits"
 change_name KeyAsText = codes "the key's hexadecimal digits as the key"
 change_name KeyAsUpperText = codes "the key's hexadecimal digits in upper case as the key"
 change_name KeyWithNewline = codes "a newline behind the key"
 change_name KeyAsTextWithNewline = codes "the key's hexadecimal digits and a newline as the key"
 change_name (KeyPadded n) = codes "the key filled with zeros to"
+change_name KeyTrimmed = codes "the key without the zeros at its end"
 change_name LengthInBytes = codes "the output length in bytes"
 change_name OtherDirection = codes "source and destination exchanged in the context"
 change_name SocketsExchanged = codes "the sockets alone exchanged in the context"
 change_name IsnsExchanged = codes "the initial sequence numbers exchanged in the context"
 change_name NoDestinationIsn = codes "a destination's initial sequence number of 0 in the context"
+change_name (OtherConnection isns) =
+    codes "the initial sequence numbers of another connection on these sockets:"
 change_name LapMore = codes "the extension one more"
 change_name LapLess = codes "the extension one less"
 change_name ChecksumKept = codes "the checksum not zeroed in the MAC's input"
@@ -49,13 +56,16 @@ change_name MacKept = codes "the MAC not zeroed in the MAC's input"
 change_name LastBytes = codes "the last bytes of the MAC in place of the first"
 change_name NoPseudoHeader = codes "no pseudo-header in the MAC's input"
 
--- what a change names, as texts: a row of a node, a flag, an algorithm, a number of bytes (own)
+-- what a change names, as texts: a row of a node, a flag, an algorithm, a number of bytes, the
+-- initial sequence numbers of source and destination (own)
 abbrev pub change_details : BothTables → Suspect → Change → List (List ℕ)
 change_details both s (AnotherRow node n) =
     codes "row" ∷ decimal n ∷ codes "of" ∷ node_name (table_at both node) ∷ []
 change_details both s OtherFlag = options_text (not s.row.with_options) ∷ []
 change_details both s (OtherAlgorithm algorithm) = name_of algorithm ∷ []
 change_details both s (KeyPadded n) = decimal n ∷ codes "bytes" ∷ []
+change_details both s (OtherConnection isns) =
+    decimal isns.source_isn ∷ decimal isns.destination_isn ∷ []
 change_details both s _ = []
 
 -- the line of a change under which the MAC is right (own)
@@ -69,5 +79,5 @@ lines_of_passing both s [] = codes "no single change makes it pass" ++ 10 ∷ []
 lines_of_passing both s (c ∷ cs) = flat_map (passing_line both s) (c ∷ cs)
 
 -- the changes under which the MAC of a segment is right, as lines (own)
-abbrev pub passing_lines : BothTables → Suspect → List ℕ
-passing_lines both s = lines_of_passing both s (would_pass both s)
+abbrev pub passing_lines : BothTables → (others : List IsnPair) → Suspect → List ℕ
+passing_lines both others s = lines_of_passing both s (would_pass both others s)

@@ -72,6 +72,7 @@ pub record MacChoices : Type 0 where
   pub with_options : Bool
   pub mac_bytes : List ℕ  -- what stands in the MAC's place in the input
   pub part : MacPart
+  pub cut : Bool  -- the MAC is cut to 96 bits, whatever the algorithm
 
 -- the right choices under a row: the length in bits, the checksum and the MAC zero (RFC 5925,
 -- sections 5.1 and 5.2; RFC 5926, section 3.1)
@@ -90,6 +91,7 @@ right_choices row s = record {
   with_options = row.with_options;
   mac_bytes = replicate (length s.ao.mac) 0;
   part = First;
+  cut = false;
 }
 
 -- the options that the MAC covers, with these bytes in the MAC's place: all of them, or the TCP-AO
@@ -110,6 +112,11 @@ input_made m d ao =
     let options = covered_with m.with_options d.area ao m.mac_bytes in
     put4 m.extension (behind_pseudo m.pseudo_header d (header d m.checksum (options ++ d.payload)))
 
+-- how many bytes of a whole MAC are sent: as many as the algorithm says, or 96 bits (RFC 5926,
+-- section 3.2, and own)
+abbrev pub bytes_sent : MacChoices → ℕ
+bytes_sent m = if m.cut then 12 else mac_length_of m.algorithm
+
 -- the recipe of a segment by these choices (RFC 5925, sections 5.1 and 5.2)
 abbrev pub recipe_by : MacChoices → Segment → Ao → Recipe
 recipe_by m d ao = record {
@@ -119,7 +126,7 @@ recipe_by m d ao = record {
       m.output_length;
   input = input_made m d ao;
   part = m.part;
-  taken = mac_length_of m.algorithm;
+  taken = bytes_sent m;
 }
 
 -- the right recipe of a segment (RFC 5925, sections 5.1 and 5.2)

@@ -19,6 +19,13 @@ pub enum SegmentNode {
     Sender,
 }
 
+/// The initial sequence numbers of the source and of the destination of a segment (RFC 5925, section 5.2).
+#[derive(Clone, Copy, Debug, PartialEq, Eq)]
+pub struct IsnPair {
+    pub source_isn: u32,
+    pub destination_isn: u32,
+}
+
 /// A single change of how the MAC of a segment is made: a mistake of one of its ends.
 #[derive(Clone, Copy, Debug, PartialEq, Eq)]
 pub enum Change {
@@ -28,6 +35,8 @@ pub enum Change {
     OtherFlag,
     /// This algorithm in place of the row's.
     OtherAlgorithm(Algorithm),
+    /// HMAC-SHA-256 in place of the row's algorithm, its MAC cut to 96 bits.
+    CutSha256,
     /// The master key's hexadecimal digits, in lower case, are themselves taken as bytes.
     KeyAsText,
     /// The same in upper case.
@@ -38,6 +47,8 @@ pub enum Change {
     KeyAsTextWithNewline,
     /// The master key is filled with zeros to so many bytes.
     KeyPadded(u8),
+    /// The zeros at the end of the master key are left out: it is taken for a text that a zero ends.
+    KeyTrimmed,
     /// The output length of the key derivation is told in bytes.
     LengthInBytes,
     /// The context of the other direction: sockets and initial sequence numbers are exchanged.
@@ -48,6 +59,8 @@ pub enum Change {
     IsnsExchanged,
     /// The destination's initial sequence number is 0 in the context.
     NoDestinationIsn,
+    /// The context has these initial sequence numbers: those of another connection.
+    OtherConnection(IsnPair),
     /// The extension is one more.
     LapMore,
     /// The extension is one less.

@@ -5,7 +5,8 @@ ghost use Rattle.book_keys.specs.Rows.{Row};
 ghost use Rattle.book_endpoint.specs.declared.verdict.Verdict.TheVariants.{BadMac};
 ghost use Rattle.book_endpoint.specs.Verdicts.{Known, judge, mac_of};
 ghost use Rattle.book_why.specs.declared.change.Change.{Change};
-ghost use Rattle.book_why.specs.declared.change.Change.TheVariants.{AnotherRow};
+ghost use Rattle.book_why.specs.declared.change.Change.TheVariants.{AnotherRow, OtherConnection};
+ghost use Rattle.book_why.specs.declared.change.IsnPair.{IsnPair};
 ghost use Rattle.book_why.specs.declared.change.SegmentNode.{SegmentNode};
 ghost use Rattle.book_why.specs.Changes.{BothTables, all_changes, changed, rows_there, table_at, would_pass};
 ghost use Rattle.book_why.specs.Judging.{ComesToItsMac, suspect_finding};
@@ -23,10 +24,12 @@ pub fn right_recipe_is_the_checks()
 {}
 
 /// A segment would pass under exactly the changes of the table whose recipe makes its MAC: none is left out,
-/// and none is told falsely. The table has each row of either node.
+/// and none is told falsely. The table has each row of either node, and the initial sequence numbers of each other
+/// connection.
 pub fn lines_are_those_of_passing_changes()
-    ensures passing { (both : BothTables) (s : Suspect) (change : Change) → Contains (would_pass both s) change
-        ↔ (Contains (all_changes both) change × (s.ao.mac ≡ mac_made (changed change both s))) }
-    ensures rows { (both : BothTables) (node : SegmentNode) (n : ℕ) → 1 ≤ n → n ≤ length (rows_there (table_at both node))
-        → Contains (all_changes both) (AnotherRow node n) }
+    ensures passing { (both : BothTables) (others : List IsnPair) (s : Suspect) (change : Change) → Contains (would_pass both others s) change
+        ↔ (Contains (all_changes both others) change × (s.ao.mac ≡ mac_made (changed change both s))) }
+    ensures rows { (both : BothTables) (others : List IsnPair) (node : SegmentNode) (n : ℕ) → 1 ≤ n → n ≤ length (rows_there (table_at both node))
+        → Contains (all_changes both others) (AnotherRow node n) }
+    ensures connections { (both : BothTables) (others : List IsnPair) (isns : IsnPair) → Contains others isns → Contains (all_changes both others) (OtherConnection isns) }
 {}

@@ -6,5 +6,5 @@
 mod change;
 mod laws;
 
-pub use change::{Change, MacPart, SegmentNode};
+pub use change::{Change, IsnPair, MacPart, SegmentNode};
 pub use laws::{lines_are_those_of_passing_changes, right_recipe_is_the_checks};

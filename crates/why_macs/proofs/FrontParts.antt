@@ -7,10 +7,9 @@ use Rattle.book_segments.specs.Options.{Ao}
 use Rattle.book_segments.specs.Segments.{Segment, header, pseudo}
 use Rattle.book_segments.specs.Sockets.{octets}
 use Rattle.book_macs.specs.Contexts.{context}
-use Rattle.book_why.specs.Recipes.{Recipe, MacChoices, behind_pseudo, covered_with, input_made, recipe_by}
+use Rattle.book_why.specs.Recipes.{Recipe, MacChoices, behind_pseudo, bytes_sent, covered_with, input_made, recipe_by}
 use Rattle.std.specs.Prelude.{Bool, true, false}
 use Rattle.ao_mac.proofs.Parts.{pseudo-append, header-append, drop_rest}
-use Rattle.book_base.specs.Algorithms.{mac_length_of}
 use Rattle.book_macs.specs.Keys.{derivation_input}
 use Rattle.why_macs.specs.Views.{front_made}
 
@@ -58,8 +57,12 @@ input_joined m d ao =
 
 -- the parts of a recipe
 pub recipe_joined : (m : MacChoices) (d : Segment) (ao : Ao) (derivation front payload : List ℕ) (taken : ℕ) → derivation ≡ derivation_input (context m.source m.destination m.source_isn m.destination_isn) m.output_length
-    → front ≡ front_made m d ao → payload ≡ d.payload → taken ≡ mac_length_of m.algorithm
+    → front ≡ front_made m d ao → payload ≡ d.payload → taken ≡ bytes_sent m
     → ◌≡◌ {A = Recipe} (record { algorithm = m.algorithm; master = m.master; derivation = derivation; input = front ++ payload; part = m.part; taken = taken }) (recipe_by m d ao)
 recipe_joined m d ao derivation front payload taken e1 e2 e3 e4 =
     let input : front ++ payload ≡ input_made m d ao = rw (e2, e3) (input_joined m d ao) in
     rw (e1, input, e4) refl
+
+-- five pieces as one
+pub put_five : (front a b c d now p q r s t : List ℕ) → a ≡ front ++ p → b ≡ a ++ q → c ≡ b ++ r → d ≡ c ++ s → now ≡ d ++ t → now ≡ front ++ (p ++ (q ++ (r ++ (s ++ t))))
+put_five front a b c d now p q r s t one two three four five = rw (five, four, three, two, one) (simp append_assoc)

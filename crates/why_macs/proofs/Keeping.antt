@@ -29,3 +29,10 @@ row_more node i rs out now goal low is inv =
     let cut : row_changes node (i + 1) (drop i rs) ≡ AnotherRow node (i + 1) ∷ row_changes node (i + 1 + 1) (drop (suc i) rs) = row_drop node (i + 1) i rs low in
     let same : drop (i + 1) rs ≡ drop (suc i) rs = ap (λ (k : ℕ). drop k rs) (add-one i) in
     rw (is, same) (append_assoc out (AnotherRow node (i + 1) ∷ []) (row_changes node (i + 1 + 1) (drop (suc i) rs)) ∙ (ap (λ (l : List Change). out ++ l) (sym cut) ∙ inv))
+
+-- two pieces, and three, as one
+pub put_both : (front a now p q x : List Change) → p ++ q ≡ x → a ≡ front ++ p → now ≡ a ++ q → now ≡ front ++ x
+put_both front a now p q x e one two = rw (two, one, ← e) (simp append_assoc)
+
+pub put_all : (a b now p q r : List Change) → a ≡ p → b ≡ a ++ q → now ≡ b ++ r → now ≡ p ++ (q ++ r)
+put_all a b now p q r one two three = rw (three, two, one) (simp append_assoc)

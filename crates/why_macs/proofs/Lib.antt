@@ -1,3 +1,4 @@
 pub mod FrontParts
 pub mod Keeping
 pub mod PartLaws
+pub mod ZerosLaws

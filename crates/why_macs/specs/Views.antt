@@ -29,6 +29,7 @@ choices_view m = record {
   with_options = m.with_options;
   mac_bytes = m.mac_bytes.items;
   part = m.part;
+  cut = m.cut;
 }
 
 -- the recipe

@@ -1,18 +1,19 @@
 //! The choices under a single change.
-ghost use Rattle.std.specs.Prelude.{◌≡◌, ◌≤◌, ◌-◌, ◌++◌, ◌∷◌, [], IfOk, length, map, slice_index_or};
-ghost use Rattle.book_base.specs.Hexadecimal.{hex_of};
+ghost use Rattle.std.specs.Prelude.{◌≡◌, ◌≤◌, ◌-◌, IfOk, length, slice_index_or, true};
+ghost use Rattle.book_base.specs.declared.algorithm.Algorithm.TheVariants.{HmacSha256};
 ghost use Rattle.book_segments.specs.Options.{One, find_ao};
-ghost use Rattle.book_why.specs.Changes.{changed_choices, padded_to, rows_there, table_at, upper_digit};
+ghost use Rattle.book_why.specs.Changes.{changed_choices, rows_there, table_at};
 ghost use Rattle.book_why.specs.Recipes.{mac_made, right_choices, recipe_of};
 ghost use Rattle.tcp_options.specs.Views.{view_ao};
-ghost use Rattle.why_macs.specs.Parts.{choices_under, derived_under, input_under, master_under};
+ghost use Rattle.why_macs.specs.Parts.{choices_under, derived_under, input_under};
 ghost use Rattle.why_macs.specs.Views.{both_view, choices_view, suspect_view};
 
 use crate::choices::{MacChoices, RING, choices_with, key_length, right_choices};
+use crate::masters::keyed_under;
 use crate::recipe::{mac_made, recipe_by};
 use crate::suspect::{BothTables, Suspect};
-use ao_base::push_hex;
-use book_why::{Change, MacPart, SegmentNode};
+use book_base::Algorithm;
+use book_why::{Change, IsnPair, MacPart, SegmentNode};
 use key_table::{Row, Table};
 use std::alloc::{AllocError, Global};
 
@@ -49,46 +50,6 @@ fn row_at<'a>(rows: &'a [Row], number: u8, other: &'a Row) -> &'a Row
     }
 }
 
-fn text_of(alloc: Global, master: &[u8]) -> Result<Vec<u8>, AllocError>
-    ensures { IfOk result (λ text. text.items ≡ hex_of master.now) }
-{
-    let mut text = Vec::new(alloc);
-    match push_hex(&mut text, master) {
-        Ok(()) => Ok(text),
-        Err(error) => Err(error),
-    }
-}
-
-fn upper_digit(digit: u8) -> u8
-    ensures { result ≡ upper_digit digit }
-{
-    if digit >= 97 { digit - 32 } else { digit }
-}
-
-fn upper_text_of(alloc: Global, master: &[u8]) -> Result<Vec<u8>, AllocError>
-    ensures { IfOk result (λ text. text.items ≡ map upper_digit (hex_of master.now)) }
-{
-    let text = text_of(alloc, master)?;
-    text.iter().map(|digit| upper_digit(*digit)).collect(alloc)
-}
-
-fn with_newline(mut bytes: Vec<u8>) -> Result<Vec<u8>, AllocError>
-    ensures { IfOk result (λ text. text.items ≡ bytes.items ++ 10 ∷ []) }
-{
-    bytes.push(b'\n')?;
-    Ok(bytes)
-}
-
-fn padded_to(alloc: Global, most: u8, bytes: &[u8]) -> Result<Vec<u8>, AllocError>
-    ensures { IfOk result (λ text. text.items ≡ padded_to most bytes.now) }
-{
-    let missing = usize::from(most).saturating_sub(bytes.len());
-    let zeros = vec![in alloc; 0u8; missing]?;
-    let mut text = bytes.to_vec(alloc)?;
-    text.extend_from_slice(zeros.as_slice())?;
-    Ok(text)
-}
-
 // The context of the other direction.
 fn turned(mut choices: MacChoices) -> MacChoices
     ensures { choices_view result ≡ record (choices_view choices) { source = choices.destination; destination = choices.source; source_isn = choices.destination_isn; destination_isn = choices.source_isn } }
@@ -119,6 +80,14 @@ fn with_isns_exchanged(mut choices: MacChoices) -> MacChoices
     choices
 }
 
+fn with_isns(mut choices: MacChoices, isns: IsnPair) -> MacChoices
+    ensures { choices_view result ≡ record (choices_view choices) { source_isn = isns.source_isn; destination_isn = isns.destination_isn } }
+{
+    choices.source_isn = isns.source_isn;
+    choices.destination_isn = isns.destination_isn;
+    choices
+}
+
 // The MAC that the check computes.
 pub(crate) fn right_mac(alloc: Global, suspect: &Suspect<'_>) -> Result<Vec<u8>, AllocError>
     requires { find_ao suspect.now.datagram.now.area ≡ One (view_ao suspect.now.ao) }
@@ -136,6 +105,15 @@ fn checksum_of(suspect: &Suspect<'_>) -> u16
     header[16] as u16 * 256 + header[17] as u16
 }
 
+// The choices under HMAC-SHA-256 cut to 96 bits.
+fn cut_sha256(alloc: Global, suspect: &Suspect<'_>) -> Result<MacChoices, AllocError>
+    ensures { IfOk result (λ m. choices_view m ≡ record (right_choices (record (suspect.now.row.now) { algorithm = HmacSha256 }) (suspect_view suspect.now)) { cut = true }) }
+{
+    let mut choices = choices_with(alloc, Algorithm::HmacSha256, suspect.row, suspect)?;
+    choices.cut = true;
+    Ok(choices)
+}
+
 // The choices under another row or another algorithm.
 fn choices_under(
     alloc: Global,
@@ -151,37 +129,9 @@ fn choices_under(
             right_choices(alloc, row, suspect)
         }
         Change::OtherAlgorithm(algorithm) => choices_with(alloc, algorithm, suspect.row, suspect),
+        Change::CutSha256 => cut_sha256(alloc, suspect),
         _ => right_choices(alloc, suspect.row, suspect),
     }
-}
-
-// The master key under a change of it.
-fn master_under(alloc: Global, change: Change, key: Vec<u8>) -> Result<Vec<u8>, AllocError>
-    ensures { IfOk result (λ text. text.items ≡ master_under change key.items) }
-{
-    match change {
-        Change::KeyAsText => text_of(alloc, key.as_slice()),
-        Change::KeyAsUpperText => upper_text_of(alloc, key.as_slice()),
-        Change::KeyWithNewline => with_newline(key),
-        Change::KeyAsTextWithNewline => {
-            let text = text_of(alloc, key.as_slice())?;
-            with_newline(text)
-        }
-        Change::KeyPadded(most) => padded_to(alloc, most, key.as_slice()),
-        _ => Ok(key),
-    }
-}
-
-// The choices under a change of their master key.
-fn keyed_under(
-    alloc: Global,
-    change: Change,
-    mut choices: MacChoices,
-) -> Result<MacChoices, AllocError>
-    ensures { IfOk result (λ m. choices_view m ≡ record (choices_view choices) { master = master_under change choices.master.items }) }
-{
-    choices.master = master_under(alloc, change, choices.master)?;
-    Ok(choices)
 }
 
 // The choices under a change of what else goes into the key derivation.
@@ -200,6 +150,7 @@ fn derived_under(change: Change, mut choices: MacChoices) -> MacChoices
             choices.destination_isn = 0;
             choices
         }
+        Change::OtherConnection(isns) => with_isns(choices, isns),
         _ => choices,
     }
 }

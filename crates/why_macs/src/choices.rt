@@ -31,6 +31,8 @@ pub struct MacChoices {
     /// What stands in the MAC's place in the input.
     pub mac_bytes: Vec<u8>,
     pub part: MacPart,
+    /// Whether the MAC is cut to 96 bits, whatever the algorithm.
+    pub cut: bool,
 }
 
 /// How many sequence numbers there are (RFC 9293, section 3.4).
@@ -72,6 +74,7 @@ pub(crate) fn choices_with(
         with_options: row.with_options(),
         mac_bytes,
         part: MacPart::First,
+        cut: false,
     })
 }
 

@@ -1,23 +1,20 @@
 //! What a MAC is computed over in front of the payload.
 ghost use Rattle.std.specs.Prelude.{◌≡◌, ◌≤◌, ◌+◌, [], ◌∷◌, ◌++◌, OnOk, IfOk, true, false, length};
-ghost use Rattle.book_macs.specs.Keys.{derivation_input};
-ghost use Rattle.book_macs.specs.Contexts.{context};
 ghost use Rattle.book_segments.specs.Bytes.{put2, put4};
 ghost use Rattle.book_segments.specs.Options.{One, find_ao};
 ghost use Rattle.book_segments.specs.Segments.{header, pseudo, tcp_length};
-ghost use Rattle.book_segments.specs.Sockets.{octets};
 ghost use Rattle.book_segments.specs.Spelling.{Fits};
 ghost use Rattle.book_why.specs.Recipes.{behind_pseudo, covered_with};
 ghost use Rattle.tcp_options.specs.Views.{view_ao};
 ghost use Rattle.why_macs.specs.Views.{front_made, choices_view};
 
 use crate::choices::MacChoices;
-use book_base::{Address, Socket};
+use book_base::Address;
 use std::alloc::{AllocError, Global};
 use tcp_options::{AO_HEAD, AO_KIND, AoOption};
 use tcp_segment::{Datagram, TCP_PROTOCOL};
 
-fn push_piece(out: &mut Vec<u8>, piece: &[u8]) -> Result<(), AllocError>
+pub(crate) fn push_piece(out: &mut Vec<u8>, piece: &[u8]) -> Result<(), AllocError>
     ensures { OnOk result (out.new.items ≡ out.old.items ++ piece.now) }
 {
     out.extend_from_slice(piece)
@@ -42,73 +39,16 @@ fn four(number: u64) -> [u8; 4]
     ]
 }
 
-fn push_two(out: &mut Vec<u8>, number: u16) -> Result<(), AllocError>
+pub(crate) fn push_two(out: &mut Vec<u8>, number: u16) -> Result<(), AllocError>
     ensures { OnOk result (out.new.items ≡ out.old.items ++ put2 number []) }
 {
     push_piece(out, &two(number))
 }
 
-fn push_four(out: &mut Vec<u8>, number: u64) -> Result<(), AllocError>
+pub(crate) fn push_four(out: &mut Vec<u8>, number: u64) -> Result<(), AllocError>
     ensures { OnOk result (out.new.items ≡ out.old.items ++ put4 number []) }
 {
     push_piece(out, &four(number))
-}
-
-fn push_address(out: &mut Vec<u8>, address: &Address) -> Result<(), AllocError>
-    ensures { OnOk result (out.new.items ≡ out.old.items ++ octets address.now) }
-{
-    match address {
-        Address::V4(bytes) => out.extend_from_slice(bytes),
-        Address::V6(bytes) => out.extend_from_slice(bytes),
-    }
-}
-
-fn push_addresses(
-    out: &mut Vec<u8>,
-    source: &Socket,
-    destination: &Socket,
-) -> Result<(), AllocError>
-    ensures { OnOk result (out.new.items ≡ out.old.items ++ (octets source.now.address ++ octets destination.now.address)) }
-{
-    push_address(out, &source.address)?;
-    push_address(out, &destination.address)
-}
-
-fn push_ports(out: &mut Vec<u8>, source: &Socket, destination: &Socket) -> Result<(), AllocError>
-    ensures { OnOk result (out.new.items ≡ out.old.items ++ put2 source.now.port (put2 destination.now.port [])) }
-{
-    push_two(out, source.port)?;
-    push_two(out, destination.port)?;
-    Ok(())
-}
-
-fn push_isns(out: &mut Vec<u8>, source_isn: u32, destination_isn: u32) -> Result<(), AllocError>
-    ensures { OnOk result (out.new.items ≡ out.old.items ++ put4 source_isn (put4 destination_isn [])) }
-{
-    push_four(out, source_isn as u64)?;
-    push_four(out, destination_isn as u64)?;
-    Ok(())
-}
-
-/// Puts the context behind `out` (RFC 5925, section 5.2).
-pub(crate) fn push_context(out: &mut Vec<u8>, choices: &MacChoices) -> Result<(), AllocError>
-    ensures { OnOk result (out.new.items ≡ out.old.items ++ context choices.now.source choices.now.destination choices.now.source_isn choices.now.destination_isn) }
-{
-    push_addresses(out, &choices.source, &choices.destination)?;
-    push_ports(out, &choices.source, &choices.destination)?;
-    push_isns(out, choices.source_isn, choices.destination_isn)?;
-    Ok(())
-}
-
-/// What the key derivation hashes (RFC 5926, section 3.1).
-pub(crate) fn derivation_of(alloc: Global, choices: &MacChoices) -> Result<Vec<u8>, AllocError>
-    ensures { IfOk result (λ bytes. bytes.items ≡ derivation_input (context choices.now.source choices.now.destination choices.now.source_isn choices.now.destination_isn) choices.now.output_length) }
-{
-    let mut out = Vec::new(alloc);
-    push_piece(&mut out, b"\x01TCP-AO")?;
-    push_context(&mut out, choices)?;
-    push_two(&mut out, choices.output_length)?;
-    Ok(out)
 }
 
 fn tcp_length_of(datagram: &Datagram<'_>) -> u16
@@ -165,7 +105,7 @@ fn push_pseudo_v6(
 }
 
 // The pseudo-header (RFC 9293, section 3.1; RFC 8200, section 8.1).
-fn push_pseudo(out: &mut Vec<u8>, datagram: &Datagram<'_>) -> Result<(), AllocError>
+pub(crate) fn push_pseudo(out: &mut Vec<u8>, datagram: &Datagram<'_>) -> Result<(), AllocError>
     ensures { OnOk result (out.new.items ≡ out.old.items ++ pseudo datagram.now []) }
 {
     let length = tcp_length_of(datagram);
@@ -181,7 +121,11 @@ fn push_pseudo(out: &mut Vec<u8>, datagram: &Datagram<'_>) -> Result<(), AllocEr
 }
 
 // The TCP header with this checksum (RFC 9293, section 3.1).
-fn push_header(out: &mut Vec<u8>, datagram: &Datagram<'_>, checksum: u16) -> Result<(), AllocError>
+pub(crate) fn push_header(
+    out: &mut Vec<u8>,
+    datagram: &Datagram<'_>,
+    checksum: u16,
+) -> Result<(), AllocError>
     ensures { OnOk result (out.new.items ≡ out.old.items ++ header datagram.now checksum []) }
 {
     let header = datagram.header();
@@ -228,7 +172,7 @@ fn push_own_option(
 }
 
 // The options that the MAC covers, with these bytes in its place (RFC 5925, section 5.1).
-fn push_covered(
+pub(crate) fn push_covered(
     out: &mut Vec<u8>,
     area: &[u8],
     ao: AoOption<'_>,

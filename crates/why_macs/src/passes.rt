@@ -1,8 +1,9 @@
 //! The changes under which the MAC of a segment is right.
-ghost use Rattle.std.specs.Prelude.{◌≡◌, ◌≤◌, ◌++◌, IfOk, OnOk, filter, length};
+ghost use Rattle.std.specs.Prelude.{◌≡◌, ◌≤◌, ◌++◌, IfOk, OnOk, filter, length, map};
 ghost use Rattle.std.specs.List.{flat_map};
 ghost use Rattle.book_segments.specs.Bytes.{same_bytes};
 ghost use Rattle.book_segments.specs.Options.{One, find_ao};
+ghost use Rattle.book_why.specs.declared.change.Change.TheVariants.{OtherConnection};
 ghost use Rattle.book_why.specs.Changes.{all_changes, passes_changed, row_changes, rowless_changes, would_pass};
 ghost use Rattle.tcp_options.specs.Views.{view_ao};
 ghost use Rattle.why_macs.specs.Views.{both_view, kept, suspect_view};
@@ -11,14 +12,14 @@ use crate::changes::{changed_choices, rows_of};
 use crate::recipe::{mac_made, recipe_by};
 use crate::suspect::{BothTables, Suspect};
 use book_base::Algorithm;
-use book_why::{Change, SegmentNode};
+use book_why::{Change, IsnPair, SegmentNode};
 use key_table::Row;
 use std::alloc::{AllocError, Global};
 
-/// How many changes don't name a row.
-const ROWLESS: usize = 24;
+/// How many changes name neither a row nor a connection.
+const ROWLESS: usize = 26;
 
-/// The changes that don't name a row, in the order in which they are told.
+/// The changes that name neither a row nor a connection, in the order in which they are told.
 fn rowless_changes() -> [Change; ROWLESS]
     ensures { result ≡ rowless_changes }
 {
@@ -27,6 +28,7 @@ fn rowless_changes() -> [Change; ROWLESS]
         Change::OtherAlgorithm(Algorithm::HmacSha1),
         Change::OtherAlgorithm(Algorithm::AesCmac),
         Change::OtherAlgorithm(Algorithm::HmacSha256),
+        Change::CutSha256,
         Change::KeyAsText,
         Change::KeyAsUpperText,
         Change::KeyWithNewline,
@@ -36,6 +38,7 @@ fn rowless_changes() -> [Change; ROWLESS]
         Change::KeyPadded(32),
         Change::KeyPadded(64),
         Change::KeyPadded(80),
+        Change::KeyTrimmed,
         Change::LengthInBytes,
         Change::OtherDirection,
         Change::SocketsExchanged,
@@ -61,9 +64,32 @@ fn push_rows(out: &mut Vec<Change>, node: SegmentNode, rows: &[Row]) -> Result<(
     Ok(())
 }
 
+// Puts the changes to the initial sequence numbers of other connections behind `out`.
+fn push_connections(out: &mut Vec<Change>, others: &[IsnPair]) -> Result<(), AllocError>
+    ensures { OnOk result (out.new.items ≡ out.old.items ++ map OtherConnection others.now) }
+{
+    for isns in others {
+        out.push(Change::OtherConnection(*isns))?;
+    }
+    Ok(())
+}
+
+// Puts the changes that name no row behind `out`.
+fn push_rowless(out: &mut Vec<Change>, others: &[IsnPair]) -> Result<(), AllocError>
+    ensures { OnOk result (out.new.items ≡ out.old.items ++ (rowless_changes ++ map OtherConnection others.now)) }
+{
+    out.extend_from_slice(&rowless_changes())?;
+    push_connections(out, others)?;
+    Ok(())
+}
+
 // The table of all changes.
-fn all_changes(alloc: Global, both: &BothTables<'_>) -> Result<Vec<Change>, AllocError>
-    ensures { IfOk result (λ all. all.items ≡ all_changes (both_view both.now)) }
+fn all_changes(
+    alloc: Global,
+    both: &BothTables<'_>,
+    others: &[IsnPair],
+) -> Result<Vec<Change>, AllocError>
+    ensures { IfOk result (λ all. all.items ≡ all_changes (both_view both.now) others.now) }
 {
     let mut out = Vec::new(alloc);
     push_rows(
@@ -76,7 +102,7 @@ fn all_changes(alloc: Global, both: &BothTables<'_>) -> Result<Vec<Change>, Allo
         SegmentNode::Sender,
         rows_of(both, SegmentNode::Sender),
     )?;
-    out.extend_from_slice(&rowless_changes())?;
+    push_rowless(&mut out, others)?;
     Ok(out)
 }
 
@@ -150,16 +176,18 @@ fn push_filtered(
     push_kept(alloc, out, both, suspect, all)
 }
 
-/// The changes under which the MAC of a segment is right, in the order of the table.
+/// The changes under which the MAC of a segment is right, in the order of the table, where other connections
+/// on its sockets had these initial sequence numbers.
 pub fn would_pass(
     alloc: Global,
     both: &BothTables<'_>,
+    others: &[IsnPair],
     suspect: &Suspect<'_>,
 ) -> Result<Vec<Change>, AllocError>
     requires { find_ao suspect.now.datagram.now.area ≡ One (view_ao suspect.now.ao) }
-    ensures { IfOk result (λ passing. passing.items ≡ would_pass (both_view both.now) (suspect_view suspect.now)) }
+    ensures { IfOk result (λ passing. passing.items ≡ would_pass (both_view both.now) others.now (suspect_view suspect.now)) }
 {
-    let all = all_changes(alloc, both)?;
+    let all = all_changes(alloc, both, others)?;
     let mut passing = Vec::new(alloc);
     push_filtered(alloc, &mut passing, both, suspect, all.as_slice())?;
     Ok(passing)

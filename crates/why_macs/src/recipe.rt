@@ -1,5 +1,5 @@
 //! How a MAC is made, step by step.
-ghost use Rattle.std.specs.Prelude.{◌≡◌, ◌≤◌, ◌++◌, IfOk, length};
+ghost use Rattle.std.specs.Prelude.{◌≡◌, ◌≤◌, ◌++◌, IfOk, length, if◌then◌else◌};
 ghost use Rattle.sha1.specs.Sha1.{sha1};
 ghost use Rattle.sha2.specs.Sha256.{sha256};
 ghost use Rattle.book_base.specs.Algorithms.{mac_length_of};
@@ -11,7 +11,8 @@ ghost use Rattle.tcp_options.specs.Views.{view_ao};
 ghost use Rattle.why_macs.specs.Views.{choices_view, recipe_view};
 
 use crate::choices::MacChoices;
-use crate::front::{derivation_of, front_of};
+use crate::context::derivation_of;
+use crate::front::front_of;
 use aes_cmac::{Cmac, prf};
 use book_base::Algorithm;
 use book_why::MacPart;
@@ -35,10 +36,14 @@ pub struct Recipe<'a> {
     pub taken: u8,
 }
 
-fn mac_length(algorithm: Algorithm) -> u8
-    ensures length { result ≡ mac_length_of algorithm }
+// How many bytes of a MAC are sent (RFC 5926, section 3.2).
+fn bytes_sent(algorithm: Algorithm, cut: bool) -> u8
+    ensures length { result ≡ if cut then 12 else mac_length_of algorithm }
     ensures most { result ≤ 16 }
 {
+    if cut {
+        return 12;
+    }
     match algorithm {
         Algorithm::HmacSha1 => 12,
         Algorithm::AesCmac => 12,
@@ -66,7 +71,7 @@ pub fn recipe_by<'a>(
         front,
         payload: datagram.payload(),
         part: choices.part,
-        taken: mac_length(choices.algorithm),
+        taken: bytes_sent(choices.algorithm, choices.cut),
     })
 }
 

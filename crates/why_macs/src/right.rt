@@ -7,7 +7,7 @@ ghost use Rattle.tcp_options.specs.Views.{view_ao};
 ghost use Rattle.why_macs.specs.Views.{recipe_view, suspect_view};
 
 use crate::choices::right_choices;
-use crate::front::push_context;
+use crate::context::push_context;
 use crate::recipe::{Recipe, hmac_sha1, hmac_sha256, recipe_by};
 use crate::suspect::Suspect;
 use aes_cmac::prf;

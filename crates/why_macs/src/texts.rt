@@ -7,7 +7,7 @@ ghost use Rattle.book_why.specs.ChangeTexts.{change_details, change_name, lines_
 ghost use Rattle.why_macs.specs.Views.{both_view, suspect_view};
 
 use crate::suspect::{BothTables, Suspect};
-use book_why::{Change, SegmentNode};
+use book_why::{Change, IsnPair, SegmentNode};
 use std::alloc::AllocError;
 use text_lines::{push_field, push_newline, push_number, push_text};
 
@@ -47,16 +47,21 @@ fn change_name(change: Change) -> &'static [u8]
         Change::AnotherRow(_, _) => b"another row:",
         Change::OtherFlag => b"the other option flag:",
         Change::OtherAlgorithm(_) => b"the other algorithm:",
+        Change::CutSha256 => b"the other algorithm: HMAC-SHA-256 cut to 96 bits",
         Change::KeyAsText => b"the key's hexadecimal digits as the key",
         Change::KeyAsUpperText => b"the key's hexadecimal digits in upper case as the key",
         Change::KeyWithNewline => b"a newline behind the key",
         Change::KeyAsTextWithNewline => b"the key's hexadecimal digits and a newline as the key",
         Change::KeyPadded(_) => b"the key filled with zeros to",
+        Change::KeyTrimmed => b"the key without the zeros at its end",
         Change::LengthInBytes => b"the output length in bytes",
         Change::OtherDirection => b"source and destination exchanged in the context",
         Change::SocketsExchanged => b"the sockets alone exchanged in the context",
         Change::IsnsExchanged => b"the initial sequence numbers exchanged in the context",
         Change::NoDestinationIsn => b"a destination's initial sequence number of 0 in the context",
+        Change::OtherConnection(_) => {
+            b"the initial sequence numbers of another connection on these sockets:"
+        }
         Change::LapMore => b"the extension one more",
         Change::LapLess => b"the extension one less",
         Change::ChecksumKept => b"the checksum not zeroed in the MAC's input",
@@ -81,6 +86,13 @@ fn push_count(out: &mut Vec<u8>, most: u8) -> Result<(), AllocError>
     push_text(out, b"bytes")
 }
 
+fn push_isns(out: &mut Vec<u8>, isns: IsnPair) -> Result<(), AllocError>
+    ensures { OnOk result (out.new.items ≡ out.old.items ++ spaced (decimal isns.source_isn ∷ decimal isns.destination_isn ∷ [])) }
+{
+    push_number(out, u64::from(isns.source_isn))?;
+    push_number(out, u64::from(isns.destination_isn))
+}
+
 fn push_one(out: &mut Vec<u8>, text: &[u8]) -> Result<(), AllocError>
     ensures { OnOk result (out.new.items ≡ out.old.items ++ spaced (text.now ∷ [])) }
 {
@@ -101,10 +113,13 @@ fn push_details(
         Change::OtherFlag => push_one(out, options_name(!suspect.row.with_options())),
         Change::OtherAlgorithm(algorithm) => push_one(out, algorithm.name()),
         Change::KeyPadded(most) => push_count(out, most),
+        Change::OtherConnection(isns) => push_isns(out, isns),
+        Change::CutSha256 => Ok(()),
         Change::KeyAsText => Ok(()),
         Change::KeyAsUpperText => Ok(()),
         Change::KeyWithNewline => Ok(()),
         Change::KeyAsTextWithNewline => Ok(()),
+        Change::KeyTrimmed => Ok(()),
         Change::LengthInBytes => Ok(()),
         Change::OtherDirection => Ok(()),
         Change::SocketsExchanged => Ok(()),

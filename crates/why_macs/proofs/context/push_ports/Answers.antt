@@ -1,7 +1,7 @@
 use Rattle.std.proofs.Common.{refl}
 use Rattle.ao_mac.proofs.FrontLaws.{put_two, put_three}
 use Rattle.book_segments.specs.Bytes.{put2, put4}
-use Rattle.why_macs.proofs.front.push_ports.Goals as goal
+use Rattle.why_macs.proofs.context.push_ports.Goals as goal
 
 pub returns : goal.returns
 unfolding put2

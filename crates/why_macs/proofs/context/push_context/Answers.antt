@@ -1,6 +1,6 @@
 use Rattle.ao_mac.proofs.FrontLaws.{put_two, put_three}
 use Rattle.why_macs.proofs.FrontParts.{context_joined}
-use Rattle.why_macs.proofs.front.push_context.Goals as goal
+use Rattle.why_macs.proofs.context.push_context.Goals as goal
 
 pub returns : goal.returns
 returns c =

@@ -1,0 +1,5 @@
+pub mod AnswerLaws
+pub mod LackLaws
+pub mod PartLaws
+pub mod SuspectLaws
+pub mod TellingLaws
