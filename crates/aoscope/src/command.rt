@@ -1,5 +1,5 @@
 //! The words that the program knows, with a page of help for each.
-use crate::{draw, echo, keys, plan, sessions};
+use crate::{draw, echo, keys, plan, sessions, why};
 use clap::Command;
 use std::alloc::{AllocError, Global};
 
@@ -25,6 +25,7 @@ pub(crate) fn command<'a>(alloc: Global) -> Result<Command<'a>, AllocError> {
         .about(LINES_ABOUT)
         .after_help(LINES_AFTER);
     let sessions = sessions::command(alloc)?;
+    let why = why::command(alloc)?;
     let keys = keys::command(alloc)?;
     let plan = plan::command(alloc)?;
     let draw = draw::command(alloc)?;
@@ -37,6 +38,7 @@ pub(crate) fn command<'a>(alloc: Global) -> Result<Command<'a>, AllocError> {
         .arg_required_else_help(true)
         .subcommand(lines)?
         .subcommand(sessions)?
+        .subcommand(why)?
         .subcommand(keys)?
         .subcommand(plan)?
         .subcommand(draw)?

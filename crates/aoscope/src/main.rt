@@ -7,8 +7,11 @@ mod echo;
 mod inputs;
 mod keys;
 mod plan;
+mod session_ladder;
 mod sessions;
+mod sessions_page;
 mod told;
+mod why;
 
 use ao_base::{ReadSource, WriteSink};
 use clap::error::ErrorKind;
@@ -43,6 +46,7 @@ fn run(rt: &HostRuntime, matches: &ArgMatches<'_>) -> u8 {
     match matches.subcommand() {
         Some(("lines", _)) => lines(rt),
         Some(("sessions", matches)) => sessions::run(rt, matches),
+        Some(("why", matches)) => why::run(rt, matches),
         Some(("keys", matches)) => keys::run(rt, matches),
         Some(("plan", matches)) => plan::run(rt, matches),
         Some(("draw", matches)) => draw::run(rt, matches),

@@ -1,5 +1,7 @@
 //! The word `sessions`: the table of a capture's sessions and of the keys of a key file.
-use ao_base::{ReadProblem, ReadSource, WriteSink, read_all, write_all};
+use crate::session_ladder;
+use crate::sessions_page::{ABOUT, AFTER};
+use ao_base::{ReadProblem, ReadSource, WriteSink, read_all, read_decimal, write_all};
 use book_base::Bytes;
 use clap::{Arg, ArgAction, ArgMatches, Command};
 use key_faults::push_key_fault;
@@ -11,41 +13,13 @@ use std::fs::File;
 use text_lines::{push_newline, push_number, push_text};
 
 /// The most bytes of a key file.
-const MOST_KEYS: u64 = 1_048_576;
+pub(crate) const MOST_KEYS: u64 = 1_048_576;
 
 /// The most bytes of a file of initial sequence numbers.
 const MOST_ISNS: u64 = 4_194_304;
 
-const ABOUT: &str =
-    "Says of each session of a capture who used which key, and of each key whether it may go";
-
-const AFTER: &str =
-    "KEYS is a key file of `aotcp`; the capture is read from standard input. Of each \
-session there is a line with its sockets, and one for the segments of each direction under each KeyID that \
-are verified, and for those that aren't, by the reason. Of each key of the file there is who used it last, \
-whether a peer asks for it, and whether it may go: whether no direction of a session uses it still or asks \
-for it.
-
-FILE gives the initial sequence numbers of sessions that began before the capture: each line is ADDRESS PORT ISN \
-ADDRESS PORT ISN, each number behind the socket that chose it; an empty line and one \
-that begins with # say nothing. The capture is judged as if these sessions' handshakes stood in front of it, one \
-after another.
-
-With --json the same table is an object of JSON on one line, for programs: its members are packets, sessions, keys \
-and amiss. Times are strings of RFC 3339 in UTC; a KeyID that isn't there, a key that was never used, one that \
-nobody asks for, and whether a key may go where nothing is known of it, are null.
-
-With --every N, seconds or with a unit as in 90s, 10m, 2h, a table is written also while the capture is read: in \
-front of the first packet that was seen N or more after the last table, or after the first packet. Behind such a \
-table stands a line with that packet's time; a table in JSON is a line, and has none.
-
-Status 0: all segments are verified; 1: one isn't, or a packet that can't be read may be one; 3: keys; 4: \
-also FILE; the others as above.
-
-    aoscope sessions KEYS < CAPTURE
-    aoscope sessions KEYS --isn FILE < CAPTURE
-    aoscope sessions KEYS --json < CAPTURE
-    tcpdump -i IFACE -s 0 -U -w - 'tcp port 179' | aoscope sessions KEYS --every 10s";
+/// The most laps that are searched.
+const MOST_LAPS: u64 = 255;
 
 /// The word with its page of help.
 pub(crate) fn command<'a>(alloc: Global) -> Result<Command<'a>, AllocError> {
@@ -67,13 +41,21 @@ pub(crate) fn command<'a>(alloc: Global) -> Result<Command<'a>, AllocError> {
         .value_name("N")
         .help("Write a table also each N of the capture's own time")
         .action(ArgAction::Set);
+    let laps = Arg::new(alloc, "laps")
+        .long("laps")
+        .value_name("N")
+        .help("Search up to N laps of 4 GiB, 0 to 255, where a MAC is wrong; else 0")
+        .action(ArgAction::Set);
     Command::new(alloc, "sessions")
         .about(ABOUT)
         .after_help(AFTER)
+        .arg(session_ladder::argument(alloc))?
+        .arg(session_ladder::svg_argument(alloc)?)?
         .arg(keys)?
         .arg(isn)?
         .arg(json)?
-        .arg(every)
+        .arg(every)?
+        .arg(laps)
 }
 
 fn status(halt: SessionsHalt) -> u8 {
@@ -101,7 +83,11 @@ fn kind_name(kind: LineKind) -> &'static [u8] {
 }
 
 /// Puts which given line is faulty, and the kind of its first faulty word, behind `line`.
-fn push_isn_line(line: &mut Vec<u8>, number: u32, kind: LineKind) -> Result<(), AllocError> {
+pub(crate) fn push_isn_line(
+    line: &mut Vec<u8>,
+    number: u32,
+    kind: LineKind,
+) -> Result<(), AllocError> {
     line.extend_from_slice(b"isn: line")?;
     push_number(line, u64::from(number))?;
     push_text(line, kind_name(kind))?;
@@ -123,7 +109,7 @@ fn push_halt(line: &mut Vec<u8>, halt: SessionsHalt) -> Result<(), AllocError> {
 }
 
 /// Tells on standard error why the program ends early, as far as it takes it, and answers the status.
-fn tell(rt: &HostRuntime, halt: SessionsHalt) -> u8 {
+pub(crate) fn tell(rt: &HostRuntime, halt: SessionsHalt) -> u8 {
     let mut err = WriteSink::new(rt.stderr());
     let mut line = Vec::new(rt.alloc());
     let _ = match push_halt(&mut line, halt) {
@@ -134,7 +120,7 @@ fn tell(rt: &HostRuntime, halt: SessionsHalt) -> u8 {
 }
 
 /// A file of at most so many bytes.
-fn read_file(rt: &HostRuntime, path: &str, most: u64) -> Result<Bytes, ReadProblem> {
+pub(crate) fn read_file(rt: &HostRuntime, path: &str, most: u64) -> Result<Bytes, ReadProblem> {
     match File::open(rt, path) {
         Ok(file) => read_all(rt.alloc(), &mut ReadSource::new(file), most),
         Err(_) => Err(ReadProblem::Fault),
@@ -142,7 +128,7 @@ fn read_file(rt: &HostRuntime, path: &str, most: u64) -> Result<Bytes, ReadProbl
 }
 
 /// The lines of the file of initial sequence numbers; without one there are none.
-fn read_isns(rt: &HostRuntime, path: Option<&str>) -> Result<Bytes, ReadProblem> {
+pub(crate) fn read_isns(rt: &HostRuntime, path: Option<&str>) -> Result<Bytes, ReadProblem> {
     match path {
         Some(path) => read_file(rt, path, MOST_ISNS),
         None => Ok(Bytes::from_vec(Vec::new(rt.alloc()))),
@@ -169,11 +155,33 @@ fn every(matches: &ArgMatches<'_>) -> Result<Option<u64>, ()> {
     }
 }
 
+/// A number of laps, if the text is one from 0 to 255.
+fn few_laps(text: &[u8]) -> Result<u32, ()> {
+    match read_decimal(text) {
+        Some(laps) => {
+            if laps <= MOST_LAPS {
+                Ok(laps as u32)
+            } else {
+                Err(())
+            }
+        }
+        None => Err(()),
+    }
+}
+
+/// Over how many laps is searched; an error where the words say no number from 0 to 255.
+pub(crate) fn laps(matches: &ArgMatches<'_>) -> Result<u32, ()> {
+    match matches.get_str("laps") {
+        None => Ok(0),
+        Some(text) => few_laps(text.as_bytes()),
+    }
+}
+
 /// Writes the tables of the capture on standard input that are asked for.
-fn write(rt: &HostRuntime, request: TableRequest, keys: &[u8], isns: &[u8]) -> u8 {
+fn write(rt: &HostRuntime, request: TableRequest, laps: u32, keys: &[u8], isns: &[u8]) -> u8 {
     let mut input = ReadSource::new(rt.stdin());
     let mut out = WriteSink::new(rt.stdout());
-    match write_sessions(rt.alloc(), request, keys, isns, &mut input, &mut out) {
+    match write_sessions(rt.alloc(), request, laps, keys, isns, &mut input, &mut out) {
         Ok(false) => 0,
         Ok(true) => 1,
         Err(halt) => tell(rt, halt),
@@ -189,8 +197,17 @@ fn tell_every(rt: &HostRuntime) -> u8 {
     2
 }
 
+/// N is no number of laps.
+pub(crate) fn tell_laps(rt: &HostRuntime) -> u8 {
+    let _ = write_all(
+        &mut WriteSink::new(rt.stderr()),
+        b"usage: N is no number of laps from 0 to 255\n",
+    );
+    2
+}
+
 /// A file isn't read; `long` and `status` are of one of too many bytes.
-fn tell_unread(rt: &HostRuntime, problem: ReadProblem, long: &[u8], status: u8) -> u8 {
+pub(crate) fn tell_unread(rt: &HostRuntime, problem: ReadProblem, long: &[u8], status: u8) -> u8 {
     match problem {
         ReadProblem::Memory => tell(rt, SessionsHalt::Memory),
         ReadProblem::Fault => tell(rt, SessionsHalt::Read),
@@ -202,19 +219,28 @@ fn tell_unread(rt: &HostRuntime, problem: ReadProblem, long: &[u8], status: u8) 
 }
 
 /// What is asked for of the key file at this path and the capture.
-fn run_over(rt: &HostRuntime, matches: &ArgMatches<'_>, request: TableRequest, path: &str) -> u8 {
+fn run_over(
+    rt: &HostRuntime,
+    matches: &ArgMatches<'_>,
+    request: TableRequest,
+    laps: u32,
+    path: &str,
+) -> u8 {
     let keys = match read_file(rt, path, MOST_KEYS) {
         Ok(keys) => keys,
         Err(problem) => return tell_unread(rt, problem, b"keys: too long\n", 3),
     };
     match read_isns(rt, matches.get_str("isn")) {
-        Ok(isns) => write(rt, request, keys.as_slice(), isns.as_slice()),
+        Ok(isns) => write(rt, request, laps, keys.as_slice(), isns.as_slice()),
         Err(problem) => tell_unread(rt, problem, b"isn: too long\n", 4),
     }
 }
 
 /// What the word asks for.
 pub(crate) fn run(rt: &HostRuntime, matches: &ArgMatches<'_>) -> u8 {
+    if let Some(text) = matches.get_str("draw") {
+        return session_ladder::run(rt, matches, text);
+    }
     let request = match every(matches) {
         Ok(every) => TableRequest {
             form: form(matches),
@@ -222,8 +248,12 @@ pub(crate) fn run(rt: &HostRuntime, matches: &ArgMatches<'_>) -> u8 {
         },
         Err(()) => return tell_every(rt),
     };
+    let laps = match laps(matches) {
+        Ok(laps) => laps,
+        Err(()) => return tell_laps(rt),
+    };
     match matches.get_str("KEYS") {
-        Some(path) => run_over(rt, matches, request, path),
+        Some(path) => run_over(rt, matches, request, laps, path),
         None => tell(rt, SessionsHalt::Memory),
     }
 }

@@ -5,11 +5,15 @@ use Rattle.book_segments.specs.Segments.{reading}
 use Rattle.book_keys.specs.Rows.{Table}
 use Rattle.book_cmd_check.specs.Captures.{Saying, Stored, Connection, hear}
 use Rattle.book_sessions.specs.declared.outcome.PassedOver.{PassedOver}
+use Rattle.book_endpoint.specs.declared.verdict.Verdict.TheVariants.{NoContext}
 use Rattle.book_sessions.specs.declared.outcome.SegmentOutcome.{SegmentOutcome}
+use Rattle.book_sessions.specs.declared.outcome.SegmentOutcome.TheVariants as outcome
 use Rattle.book_sessions.specs.declared.uses.KeyUse.{KeyUse}
 use Rattle.book_sessions.specs.declared.uses.PassedCount.{PassedCount}
 use Rattle.book_sessions.specs.declared.uses.SeenSegment.{SeenSegment}
-use Rattle.book_sessions.specs.Sessions.{outcome_of, same_outcome, seen_by, is_use_of, first_use}
+use Rattle.book_sessions.specs.Laps.{Judging}
+use Rattle.book_sessions.specs.Listening.{Listening, listen, outcome_of}
+use Rattle.book_sessions.specs.Sessions.{same_outcome, seen_by, is_use_of, first_use}
 
 -- so many, if it is the outcome that is asked for (own)
 abbrev pub if_outcome : SegmentOutcome → SegmentOutcome → ℕ → ℕ
@@ -51,6 +55,28 @@ segments_seen tables held [] = []
 segments_seen tables held (s ∷ rest) = let h = hear tables held s.time s.bytes in
     seen_before (seen_by s.time (reading s.bytes) (outcome_of h.saying))
     (segments_seen tables h.connections rest)
+
+-- the segments of stored datagrams, each with what comes of it (own)
+abbrev pub segments_heard : Judging → Listening → List Stored → List SeenSegment
+segments_heard j l [] = []
+segments_heard j l (s ∷ rest) = let h = listen j l s.time (reading s.bytes) in
+    seen_before (seen_by s.time (reading s.bytes) h.outcome) (segments_heard j h.listening rest)
+
+-- what `check` says of a segment of which this comes: of one whose handshake isn't verified it
+-- knows no context (own)
+abbrev pub as_checked : SegmentOutcome → SegmentOutcome
+as_checked outcome.Unconfirmed = outcome.Refused NoContext
+as_checked (outcome.UnconfirmedRefused why) = outcome.Refused NoContext
+as_checked o = o
+
+-- the same, of segments of one kind (own)
+abbrev pub use_as_checked : KeyUse → KeyUse
+use_as_checked u = record u { outcome = as_checked u.outcome }
+
+-- how many of these segments have this outcome (own)
+abbrev pub outcome_times : SegmentOutcome → List SeenSegment → ℕ
+outcome_times o [] = 0
+outcome_times o (s ∷ ss) = if_outcome o s.outcome 1 + outcome_times o ss
 
 -- two segments go the same way with the same KeyID, and the same is said of them (own)
 abbrev pub is_like : SeenSegment → SeenSegment → Bool

@@ -1,6 +1,6 @@
 -- The lines that give the initial sequence numbers of sessions whose handshake isn't in a capture.
 -- Our own format. Its top is `given_isns_of`.
-use Rattle.std.specs.Prelude.{ℕ, ◌&&◌, not, Bool, true, false, if◌then◌else◌, List, [], ◌∷◌}
+use Rattle.std.specs.Prelude.{ℕ, ◌&&◌, not, Bool, if◌then◌else◌, List, [], ◌∷◌}
 use Rattle.std.specs.Prelude.{Result, Ok, Err}
 use Rattle.book_base.specs.declared.address.Socket.{Socket}
 use Rattle.book_lines.specs.declared.line_kind.LineKind.{LineKind}

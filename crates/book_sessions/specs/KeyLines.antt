@@ -4,7 +4,6 @@ use Rattle.std.specs.Prelude.{ℕ, suc, ◌==◌, ◌&&◌, ◌||◌, nat_lt, Bo
 use Rattle.std.specs.Prelude.{List, [], ◌∷◌, ◌++◌, codes, decimal, Option, Some, None}
 use Rattle.std.specs.Prelude.{if◌then◌else◌}
 use Rattle.std.specs.List.{find, flat_map, list_any}
-use Rattle.book_base.specs.declared.address.Address.{Address}
 use Rattle.book_base.specs.declared.address.Pair.{Pair}
 use Rattle.book_base.specs.declared.address.Socket.{Socket}
 use Rattle.book_segments.specs.Sockets.{same_address, same_socket}
@@ -43,7 +42,8 @@ abbrev pub asks_for_row : Table → Row → KeyUse → Bool
 asks_for_row t r u = is_of_row t r (between u.source u.destination) u.asked r.recv_id
     || is_of_row t r (between u.destination u.source) u.asked r.send_id
 
--- of what goes the same way, these are with another KeyID, verified, and later (own)
+-- of what goes the same way, these are with another KeyID, verified, and later: what is unconfirmed
+-- doesn't tell that a key may go (own)
 abbrev pub overtakes : (later earlier : KeyUse) → Bool
 overtakes v u = (same_socket v.source u.source && same_socket v.destination u.destination)
     && ((is_verified v.outcome && not (same_id v.key_id u.key_id)) && nat_lt u.last v.last)

@@ -1,6 +1,10 @@
 pub mod Counts
 pub mod GivenLines
+pub mod Glimpses
 pub mod KeyLines
+pub mod Laps
+pub mod Listening
 pub mod OutcomeTexts
+pub mod Passing
 pub mod SessionTexts
 pub mod Sessions

@@ -9,17 +9,13 @@ use Rattle.book_segments.specs.declared.fault.DatagramFault.{DatagramFault}
 use Rattle.book_segments.specs.Sockets.{same_socket}
 use Rattle.book_segments.specs.Options.{AoFound, Absent, One, Two, WithMd5, find_ao}
 use Rattle.book_segments.specs.Segments.{Segment, Reading, Read, Bad, reading, has, SYN, ACK}
-use Rattle.book_keys.specs.Rows.{Table}
-use Rattle.book_cmd_check.specs.Captures.{Stored, Connection, Saying, Unreadable, UnknownNode}
-use Rattle.book_cmd_check.specs.Captures.{Judged, TooManyConnections, hear}
+use Rattle.book_cmd_check.specs.Captures.{Stored}
 use Rattle.book_cmd_check.specs.declared.given.GivenIsns.{GivenIsns}
-use Rattle.book_cmd_check.specs.Handshakes.{given_after}
 use Rattle.book_captures.specs.declared.reasons.Skipped.{Skipped}
 use Rattle.book_captures.specs.Frames.{Datagram}
 use Rattle.book_captures.specs.Captures.{CapturePacket, frame_datagram}
 use Rattle.book_scope.specs.PacketLines.{judged_bytes}
 use Rattle.book_sessions.specs.declared.outcome.SegmentOutcome.{SegmentOutcome}
-use Rattle.book_sessions.specs.declared.outcome.SegmentOutcome.TheVariants as outcome
 use Rattle.book_sessions.specs.declared.outcome.PassedOver.{PassedOver}
 use Rattle.book_sessions.specs.declared.outcome.PassedOver.TheVariants as passed
 use Rattle.book_sessions.specs.declared.uses.KeyIds.{KeyIds}
@@ -27,6 +23,8 @@ use Rattle.book_sessions.specs.declared.uses.SeenSegment.{SeenSegment}
 use Rattle.book_sessions.specs.declared.uses.KeyUse.{KeyUse}
 use Rattle.book_sessions.specs.declared.uses.PassedCount.{PassedCount}
 use Rattle.book_sessions.specs.contracts.outcome.PassedOverPartialEq.TheImpl as passed_eq
+use Rattle.book_sessions.specs.Laps.{Judging}
+use Rattle.book_sessions.specs.Listening.{Listening, listen, listening_behind}
 use Rattle.book_sessions.specs.OutcomeTexts.{outcome_text}
 
 -- a table of sessions: how many there are, what their segments use, and what was passed over (own)
@@ -41,14 +39,6 @@ ids_found (One ao) = Some (record { key_id = ao.key_id; rnext_key_id = ao.rnext_
 ids_found Absent = None
 ids_found Two = None
 ids_found WithMd5 = None
-
--- what is said of a segment, or why the bytes are none (own)
-abbrev pub outcome_of : Saying → Result SegmentOutcome DatagramFault
-outcome_of (Unreadable fault) = Err fault
-outcome_of UnknownNode = Ok outcome.NoNode
-outcome_of (Judged (Ok p) right) = Ok outcome.Verified
-outcome_of (Judged (Err why) right) = Ok (outcome.Refused why)
-outcome_of (TooManyConnections right) = Ok outcome.TooMany
 
 -- a segment that was seen at this time, with what is said of it (own)
 abbrev pub seen_segment : ℕ → Segment → SegmentOutcome → SeenSegment
@@ -186,26 +176,23 @@ all_stored [] = []
 all_stored (p ∷ ps) = stored_before (stored_of_packet p) (all_stored ps)
 
 -- a packet of which this is judged, counted, and then others behind what was heard with it (own)
-abbrev pub counted_by : List Table → List Connection → SessionTable → Result Stored PassedOver →
-    (List Connection → SessionTable → SessionTable) → SessionTable
-counted_by tables held t (Err why) others = others held (and_counted (Err why) t)
-counted_by tables held t (Ok s) others = let h = hear tables held s.time s.bytes in
-    others h.connections (and_counted (seen_by s.time (reading s.bytes) (outcome_of h.saying)) t)
+abbrev pub counted_by : Judging → Listening → SessionTable → Result Stored PassedOver →
+    (Listening → SessionTable → SessionTable) → SessionTable
+counted_by j l t (Err why) others = others l (and_counted (Err why) t)
+counted_by j l t (Ok s) others = let h = listen j l s.time (reading s.bytes) in
+    others h.listening (and_counted (seen_by s.time (reading s.bytes) h.outcome) t)
 
 -- these packets, counted behind others (own)
-abbrev pub sessions_from : List Table → List Connection → SessionTable → List CapturePacket →
-    SessionTable
-sessions_from tables held t [] = t
-sessions_from tables held t (p ∷ ps) = counted_by tables held t (stored_of_packet p)
-    (λ connections now. sessions_from tables connections now ps)
+abbrev pub sessions_from : Judging → Listening → SessionTable → List CapturePacket → SessionTable
+sessions_from j l t [] = t
+sessions_from j l t (p ∷ ps) = counted_by j l t (stored_of_packet p)
+    (λ known now. sessions_from j known now ps)
 
 -- a table that counts nothing (own)
 abbrev pub no_sessions : SessionTable
 no_sessions = record { sessions = 0; uses = []; passed = [] }
 
--- the sessions of these packets, judged by the tables as behind handshakes with the given initial
--- sequence numbers (own)
-unfoldable pub sessions_of :
-    List Table → (given : List GivenIsns) → List CapturePacket → SessionTable
-sessions_of tables given packets =
-    sessions_from tables (given_after [] given) no_sessions packets
+-- the sessions of these packets, judged so, behind handshakes with the given initial sequence
+-- numbers (own)
+unfoldable pub sessions_of : Judging → (given : List GivenIsns) → List CapturePacket → SessionTable
+sessions_of j given packets = sessions_from j (listening_behind given) no_sessions packets

@@ -8,6 +8,6 @@ mod outcome;
 mod uses;
 
 pub use book_cmd_check::GivenIsns;
-pub use laws::counts_are_those_of_the_verdicts;
+pub use laws::{counts_are_those_of_the_verdicts, right_macs_pass_the_check};
 pub use outcome::{PassedOver, SegmentOutcome};
 pub use uses::{KeyIds, KeyUse, PassedCount, SeenSegment};

@@ -3,7 +3,7 @@ use book_captures::Skipped;
 use book_endpoint::Verdict;
 use book_segments::DatagramFault;
 
-/// What the check says of a segment of a capture.
+/// What comes of a segment of a capture.
 #[derive(Clone, Copy, Debug, PartialEq, Eq)]
 pub enum SegmentOutcome {
     /// It passes: its MAC is right (RFC 5925, section 7.5).
@@ -14,6 +14,10 @@ pub enum SegmentOutcome {
     NoNode,
     /// It passes, and would fix a connection more than are held.
     TooMany,
+    /// Its connection's handshake isn't verified; it passes under initial sequence numbers that were seen.
+    Unconfirmed,
+    /// The same, and under these numbers it is refused for this reason.
+    UnconfirmedRefused(Verdict),
 }
 
 /// Why a packet of a capture is no segment that the check judges.

@@ -7,16 +7,17 @@ use Rattle.book_cmd_check.specs.declared.given.GivenIsns.{GivenIsns}
 use Rattle.book_keys.specs.Rows.{Table}
 use Rattle.book_lines.specs.Texts.{line_text}
 use Rattle.book_scope_texts.specs.Instants.{instant_text}
+use Rattle.book_sessions.specs.Laps.{Judging}
 use Rattle.book_sessions.specs.Sessions.{SessionTable, sessions_of}
 use Rattle.book_sessions_json.specs.declared.form.TableForm.{TableForm}
 use Rattle.book_sessions_json.specs.declared.form.TableForm.TheVariants.{Lines, Json}
 use Rattle.book_sessions_json.specs.declared.form.TableRequest.{TableRequest}
 use Rattle.book_sessions_json.specs.Forms.{written_as}
 
--- the tables that are asked for of a capture, which is judged by the tables of a key file as behind
--- handshakes with the given initial sequence numbers (own)
+-- the tables that are asked for of a capture, and how it is judged, as behind handshakes with the
+-- given initial sequence numbers (own)
 pub record Series : Type 0 where
-  pub tables : List Table
+  pub judging : Judging
   pub given : List GivenIsns
   pub request : TableRequest
 
@@ -55,7 +56,7 @@ due_table request tables t since now = if is_table_due request.every since now
 -- the table of these packets, if one is due (own)
 abbrev pub due_text : Series → List CapturePacket → (since now : Option ℕ) → List ℕ
 due_text s before since now =
-    due_table s.request s.tables (sessions_of s.tables s.given before) since now
+    due_table s.request s.judging.tables (sessions_of s.judging s.given before) since now
 
 -- the tables that are due in front of these packets, behind those before (own)
 abbrev pub due_texts :
@@ -70,7 +71,8 @@ early_text s packets = due_texts s [] None packets
 
 -- the table of all packets (own)
 abbrev pub last_text : Series → List CapturePacket → List ℕ
-last_text s packets = written_as s.request.form s.tables (sessions_of s.tables s.given packets)
+last_text s packets =
+    written_as s.request.form s.judging.tables (sessions_of s.judging s.given packets)
 
 -- all tables, the last one at the end (own)
 abbrev pub series_text : Series → List CapturePacket → List ℕ

@@ -48,7 +48,9 @@ fn push_option(out: &mut Vec<u8>, option: Opt<'_>) -> Result<(), AllocError>
     Ok(())
 }
 
-fn push_options(out: &mut Vec<u8>, mut options: OptionIter<'_>) -> Result<(), AllocError>
+/// Puts the options behind `out`, with a space in front of each, or a space and a hyphen where there is none. Where
+/// memory runs out a part of them may stand there.
+pub fn push_options(out: &mut Vec<u8>, mut options: OptionIter<'_>) -> Result<(), AllocError>
     ensures { OnOk result (out.new.items ≡ out.old.items ++ spaced (options_texts options.entry)) }
 {
     let Some(first) = options.next() else {
@@ -77,8 +79,9 @@ fn push_sockets(alloc: Global, out: &mut Vec<u8>, datagram: &Datagram<'_>) -> Re
     push_socket(alloc, out, &datagram.destination())
 }
 
-/// Numbers, flags and the length of the payload.
-fn push_numbers(out: &mut Vec<u8>, datagram: &Datagram<'_>) -> Result<(), AllocError>
+/// Puts the numbers, the flags and the length of the payload of a datagram behind `out`, with a space in front of
+/// each. Where memory runs out a part of them may stand there.
+pub fn push_numbers(out: &mut Vec<u8>, datagram: &Datagram<'_>) -> Result<(), AllocError>
     ensures { OnOk result (out.new.items ≡ out.old.items ++ spaced (number_texts datagram.now [])) }
 {
     push_field(out, b"seq", u64::from(datagram.sequence()))?;

@@ -14,5 +14,6 @@ mod vector;
 mod vector_lines;
 mod vector_words;
 
+pub use datagram_text::{push_numbers, push_options};
 pub use shown_lines::answer_show;
 pub use vector_lines::answer_vectors;

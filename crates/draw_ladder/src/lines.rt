@@ -1,5 +1,6 @@
 //! The lines of a ladder.
 ghost use Rattle.std.specs.Prelude.{◌≡◌, ◌++◌, ◌∷◌, ◌-◌, [], OnOk, codes, length, replicate};
+ghost use Rattle.book_base.specs.declared.end.End.TheVariants.{A};
 ghost use Rattle.book_draw.specs.Ladders.{arriving_pen, arrowhead, blank_way, ladder_line, leftward, line_at, made_pen, rightward, way_from, way_to};
 ghost use Rattle.draw_ladder.specs.Pens.{pen_of};
 
@@ -182,4 +183,38 @@ pub(crate) fn made_pen(end: End, comes: bool, at_once: bool) -> Pen
             tip: b'X',
         }
     }
+}
+
+/// Puts the line of an arrow that reaches this end behind `out`: it is drawn of this byte, with the label on
+/// it, its own words beside the end, and the other words beside the other end. Where memory runs out a part
+/// of it may stand there.
+pub fn push_arrow(
+    out: &mut Vec<u8>,
+    at: End,
+    stroke: u8,
+    label: &[u8],
+    own: &[u8],
+    other: &[u8],
+) -> Result<(), AllocError>
+    ensures { OnOk result (out.new.items ≡ out.old.items
+        ++ line_at at own.now (way_to at (record { lead = stroke; stroke = stroke; tip = arrowhead at }) label.now) other.now) }
+{
+    let mut way = Vec::new(*out.allocator());
+    let pen = Pen {
+        lead: stroke,
+        stroke,
+        tip: arrowhead(at),
+    };
+    push_way_to(&mut way, at, pen, label)?;
+    push_line_at(out, at, own, way.as_slice(), other)
+}
+
+/// Puts the line above a ladder behind `out`: the names of its two ends. Where memory runs out a part of it
+/// may stand there.
+pub fn push_names(out: &mut Vec<u8>, left: &[u8], right: &[u8]) -> Result<(), AllocError>
+    ensures { OnOk result (out.new.items ≡ out.old.items ++ line_at A left.now blank_way right.now) }
+{
+    let mut way = Vec::new(*out.allocator());
+    push_blank_way(&mut way)?;
+    push_line_at(out, End::A, left, way.as_slice(), right)
 }

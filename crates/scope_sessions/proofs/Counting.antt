@@ -5,34 +5,36 @@ use Rattle.std.proofs.lemmas.List.Folds.{drop_split}
 use Rattle.book_captures.specs.declared.reasons.Skipped.{Skipped}
 use Rattle.book_captures.specs.Frames.{Datagram}
 use Rattle.book_captures.specs.Captures.{CapturePacket, frame_datagram}
-use Rattle.book_cmd_check.specs.Captures.{Stored, Connection, hear}
-use Rattle.book_keys.specs.Rows.{Table}
-use Rattle.book_segments.specs.Segments.{reading}
+use Rattle.book_cmd_check.specs.Captures.{Stored}
+use Rattle.book_segments.specs.Segments.{Bad, Read, Reading, Segment, reading}
 use Rattle.book_sessions.specs.declared.outcome.PassedOver.{PassedOver}
 use Rattle.book_sessions.specs.declared.uses.KeyUse.{KeyUse}
 use Rattle.book_sessions.specs.declared.uses.SeenSegment.{SeenSegment}
-use Rattle.book_sessions.specs.Sessions.{SessionTable, and_counted, outcome_of, seen_by, stored_by, stored_of_packet}
+use Rattle.book_sessions.specs.Laps.{Judging}
+use Rattle.book_sessions.specs.declared.outcome.SegmentOutcome.{SegmentOutcome}
+use Rattle.book_sessions.specs.Listening.{Listened, Listening, listen}
+use Rattle.book_sessions.specs.Sessions.{SessionTable, and_counted, seen_by, seen_segment, stored_by, stored_of_packet}
 use Rattle.book_sessions.specs.KeyLines.{last_of, later_of}
-use Rattle.capture_check.specs.declared.ends.Ends.{Ends}
-use Rattle.capture_check.specs.declared.flows.Flows.{Flows}
-use Rattle.capture_check.specs.Checkers.{StandsFor}
+use Rattle.capture_listener.specs.Listeners.{Hearing, Knows}
 use Rattle.capture_reader.specs.declared.frames.FoundDatagram.{FoundDatagram}
 use Rattle.capture_reader.specs.Found.{Gives, seen}
 use Rattle.scope_lines.specs.Writes.{found_in}
-use Rattle.scope_sessions.specs.Counting.{CountsPacket, CountsStored}
+use Rattle.book_segments.specs.declared.fault.DatagramFault.{DatagramFault}
+use Rattle.book_sessions.specs.declared.outcome.PassedOver.TheVariants as passed
+use Rattle.scope_sessions.specs.Counting.{CountsPacket, CountsStored, IsHeard, IsSeen}
 
 -- a packet that is passed over
-pub counts_passed : (tables : List Table) (held : List Connection) (entries : List (Ends × Flows)) (before now : SessionTable) (why : PassedOver) → StandsFor entries held → now ≡ and_counted (Err why) before →
-    CountsStored tables held entries before now (Err why)
-counts_passed tables held entries before now why stands is = record { held_now = held; stands = stands; counts = λ others. ap (others held) (sym is) }
+pub counts_passed : (j : Judging) (k : Listening) (after : Hearing) (before now : SessionTable) (why : PassedOver) → Knows after k → now ≡ and_counted (Err why) before →
+    CountsStored j k after before now (Err why)
+counts_passed j k after before now why stands is = record { known = k; knows = stands; counts = λ others. ap (others k) (sym is) }
 
 -- bytes that were stored
-pub counts_heard : (tables : List Table) (held : List Connection) (entries : List (Ends × Flows)) (before now : SessionTable) (s : Stored) (seen : Result SeenSegment PassedOver) → StandsFor entries (hear tables held s.time s.bytes).connections →
-    seen ≡ seen_by s.time (reading s.bytes) (outcome_of (hear tables held s.time s.bytes).saying) → now ≡ and_counted seen before → CountsStored tables held entries before now (Ok s)
-counts_heard tables held entries before now s seen stands is counted = record {
-  held_now = (hear tables held s.time s.bytes).connections;
-  stands = stands;
-  counts = λ others. ap (others (hear tables held s.time s.bytes).connections) (sym (counted ∙ ap (λ r. and_counted r before) is));
+pub counts_heard : (j : Judging) (k : Listening) (after : Hearing) (before now : SessionTable) (s : Stored) (seen : Result SeenSegment PassedOver) → Knows after (listen j k s.time (reading s.bytes)).listening →
+    seen ≡ seen_by s.time (reading s.bytes) (listen j k s.time (reading s.bytes)).outcome → now ≡ and_counted seen before → CountsStored j k after before now (Ok s)
+counts_heard j k after before now s seen stands is counted = record {
+  known = (listen j k s.time (reading s.bytes)).listening;
+  knows = stands;
+  counts = λ others. ap (others (listen j k s.time (reading s.bytes)).listening) (sym (counted ∙ ap (λ r. and_counted r before) is));
 }
 
 given_found : (frame : List ℕ) (found : Result FoundDatagram Skipped) (r : Result Datagram Skipped) → Gives (seen frame) found r → r ≡ found_in frame found
@@ -44,19 +46,19 @@ stored_is : (p : CapturePacket) (time : Option ℕ) (frame : List ℕ) (found : 
 stored_is p time frame found time_is frame_is gives = rw (time_is, frame_is, given_found p.frame.bytes found (frame_datagram p.frame) gives) refl
 
 -- the packet that is shown
-counts_shown : (tables : List Table) (held : List Connection) (entries : List (Ends × Flows)) (before now : SessionTable) (packet : Option CapturePacket) (p : CapturePacket) (time : Option ℕ) (frame : List ℕ) (found : Result FoundDatagram Skipped) →
+counts_shown : (j : Judging) (k : Listening) (after : Hearing) (before now : SessionTable) (packet : Option CapturePacket) (p : CapturePacket) (time : Option ℕ) (frame : List ℕ) (found : Result FoundDatagram Skipped) →
     packet ≡ Some p → IfSome packet (λ p. time ≡ p.frame.time) → IfSome packet (λ p. frame ≡ p.frame.bytes) → IfSome packet (λ p. Gives (seen p.frame.bytes) found (frame_datagram p.frame)) →
-    CountsStored tables held entries before now (stored_by p.number time (found_in frame found)) → CountsPacket tables held entries before now p
-counts_shown tables held entries before now packet p time frame found is time_is frame_is gives counts =
+    CountsStored j k after before now (stored_by p.number time (found_in frame found)) → CountsPacket j k after before now p
+counts_shown j k after before now packet p time frame found is time_is frame_is gives counts =
     let c = rw (stored_is p time frame found (rw is at time_is) (rw is at frame_is) (rw is at gives)) at counts in
-    record { held_now = c.held_now; stands = c.stands; counts = c.counts }
+    record { known = c.known; knows = c.knows; counts = c.counts }
 
 -- the same, unless memory ran out
-pub counts_on : {E : Type 0} (result : Result (Unit {0}) E) (tables : List Table) (held : List Connection) (entries : List (Ends × Flows)) (before now : SessionTable) (packet : Option CapturePacket) (p : CapturePacket) (time : Option ℕ) (frame : List ℕ) (found : Result FoundDatagram Skipped) →
+pub counts_on : {E : Type 0} (result : Result (Unit {0}) E) (j : Judging) (k : Listening) (after : Hearing) (before now : SessionTable) (packet : Option CapturePacket) (p : CapturePacket) (time : Option ℕ) (frame : List ℕ) (found : Result FoundDatagram Skipped) →
     packet ≡ Some p → IfSome packet (λ p. time ≡ p.frame.time) → IfSome packet (λ p. frame ≡ p.frame.bytes) → IfSome packet (λ p. Gives (seen p.frame.bytes) found (frame_datagram p.frame)) →
-    OnOk result (CountsStored tables held entries before now (stored_by p.number time (found_in frame found))) → OnOk result (CountsPacket tables held entries before now p)
-counts_on (Ok done) tables held entries before now packet p time frame found is time_is frame_is gives counts = counts_shown tables held entries before now packet p time frame found is time_is frame_is gives counts
-counts_on (Err e) tables held entries before now packet p time frame found is time_is frame_is gives counts = tt
+    OnOk result (CountsStored j k after before now (stored_by p.number time (found_in frame found))) → OnOk result (CountsPacket j k after before now p)
+counts_on (Ok done) j k after before now packet p time frame found is time_is frame_is gives counts = counts_shown j k after before now packet p time frame found is time_is frame_is gives counts
+counts_on (Err e) j k after before now packet p time frame found is time_is frame_is gives counts = tt
 
 -- where its datagram lies in its frame
 pub found_within : (packet : Option CapturePacket) (frame : List ℕ) (found : Result FoundDatagram Skipped) → IsSome packet → IfSome packet (λ p. frame ≡ p.frame.bytes) → IfOk found (λ d. d.first ≤ d.after)
@@ -81,3 +83,24 @@ pub last_more : (chosen : KeyUse → Bool) (uses : List KeyUse) (left : ℕ) (u 
 last_more chosen uses left u last low here is =
     let cut : drop left uses ≡ u ∷ drop (left + 1) uses = rw (add-one left) (drop-cons uses left u low ∙ ap (λ x. x ∷ drop (suc left) uses) (sym here)) in
     rw (cut, is) refl
+
+-- what is heard of bytes that are no datagram
+pub heard_bad : (j : Judging) (k : Listening) (after : Hearing) (time : ℕ) (bytes : Reading) (fault : DatagramFault) → bytes ≡ Bad fault → Knows after k
+    → IsHeard time bytes (Err (passed.Faulty fault)) after (listen j k time bytes)
+unfolding listen
+heard_bad j k after time bytes fault is knows = rw is (record { seen = refl; knows = knows })
+
+-- what is heard of a datagram
+pub heard_read : (j : Judging) (k : Listening) (after : Hearing) (time : ℕ) (bytes : Reading) (d : Segment) (s : SeenSegment) → bytes ≡ Read d
+    → IsSeen time d s (listen j k time (Read d)) → Knows after (listen j k time (Read d)).listening → IsHeard time bytes (Ok s) after (listen j k time bytes)
+heard_read j k after time bytes d s is seen knows = rw is (record { seen = sym seen; knows = knows })
+
+-- bytes that were stored, unless memory ran out
+pub stored_on : {E : Type 0} (result : Result (Unit {0}) E) (j : Judging) (k : Listening) (after : Hearing) (before now : SessionTable) (s : Stored) (seen : Result SeenSegment PassedOver)
+    → IsHeard s.time (reading s.bytes) seen after (listen j k s.time (reading s.bytes)) → OnOk result (now ≡ and_counted seen before) → OnOk result (CountsStored j k after before now (Ok s))
+stored_on (Ok done) j k after before now s seen heard counted = counts_heard j k after before now s seen heard.knows heard.seen counted
+stored_on (Err e) j k after before now s seen heard counted = tt
+
+-- a segment is seen so, of which this is told
+pub seen_told : (time : ℕ) (d : Segment) (l : Listened) (told : SegmentOutcome) (s : SeenSegment) → l.outcome ≡ Ok told → s ≡ seen_segment time d told → IsSeen time d s l
+seen_told time d l told s e is = rw (e, is) refl

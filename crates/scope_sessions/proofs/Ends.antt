@@ -26,16 +26,15 @@ use Rattle.scope_sessions.specs.declared.count.Counted.{Counted}
 use Rattle.scope_sessions.specs.declared.count.CountHalt.TheVariants as count_halt
 use Rattle.scope_sessions.specs.declared.write.SessionsHalt.{SessionsHalt}
 use Rattle.scope_sessions.specs.declared.write.SessionsHalt.TheVariants as halt
-use Rattle.scope_sessions.specs.Counting.{table_of}
 use Rattle.scope_sessions.specs.Reading.{Counts, HasCounted, series_of}
 use Rattle.scope_sessions.specs.Writing.{Ends, EndsBy, EndsWith, halt_of, halt_of_lines, Writes, WritesCounted}
 use Rattle.scope_sessions.proofs.Walk.{all_none, breaks_more, ends_none}
 
 module _ (s : Series) (given : List ℕ) (a c o p q : Side) (counted : Counted) (has : HasCounted s given c counted) (before : WasWritten (early_text s (capture_of given).packets) o p) where
-  text_is : written_as s.request.form counted.checker.tables (table_of counted.tally) ≡ last_text s (capture_of given).packets
-  text_is = ap (λ ts. written_as s.request.form ts (table_of counted.tally)) has.tables_are ∙ ap (written_as s.request.form s.tables) has.table_is
+  text_is : written_as s.request.form counted.listener.judging.tables counted.index ≡ last_text s (capture_of given).packets
+  text_is = ap (λ ts. written_as s.request.form ts counted.index) has.tables_are ∙ ap (written_as s.request.form s.judging.tables) has.table_is
 
-  all_written : WasWritten (written_as s.request.form counted.checker.tables (table_of counted.tally)) p q → WasWritten (series_text s (capture_of given).packets) o q
+  all_written : WasWritten (written_as s.request.form counted.listener.judging.tables counted.index) p q → WasWritten (series_text s (capture_of given).packets) o q
   all_written wrote = took_more (early_text s (capture_of given).packets) (last_text s (capture_of given).packets) o p q before (rw text_is at wrote)
 
   pub ends_written : (result : Result Bool SessionsHalt) → WritesCounted s.request.form counted p q result → Ends s given a c o q result
@@ -68,72 +67,72 @@ module _ (s : Series) (given : List ℕ) (a c o p q : Side) (counted : Counted) 
     wrote = took_and_none (early_text s (capture_of given).packets) o p q before wrote;
   }
 
-by_both : (request : TableRequest) (read : Result (List Table) TableFault) (said : Result (List GivenIsns) TextFault) (tables : List Table) (isns : List GivenIsns) (given : List ℕ) (a c o q : Side) (result : Result Bool SessionsHalt)
-    → read ≡ Ok tables → said ≡ Ok isns → Ends (series_of tables isns request) given a c o q result → EndsBy request read said given a c o q result
-by_both request read said tables isns given a c o q result is also ends = rw (is, also) ends
+by_both : (request : TableRequest) (laps : ℕ) (read : Result (List Table) TableFault) (said : Result (List GivenIsns) TextFault) (tables : List Table) (isns : List GivenIsns) (given : List ℕ) (a c o q : Side) (result : Result Bool SessionsHalt)
+    → read ≡ Ok tables → said ≡ Ok isns → Ends (series_of tables laps isns request) given a c o q result → EndsBy request laps read said given a c o q result
+by_both request laps read said tables isns given a c o q result is also ends = rw (is, also) ends
 
-module _ (request : TableRequest) (keys lines : List ℕ) (tables : List Table) (isns : List GivenIsns) (is : tables_of keys ≡ Ok tables) (also : given_isns_of lines ≡ Ok isns) (given : List ℕ) (a c o q : Side) where
-  by_all : (result : Result Bool SessionsHalt) (now : Side) → Ends (series_of tables isns request) given a c o now result → EndsBy request (tables_of keys) (given_isns_of lines) given a c o now result
-  by_all result now ends = by_both request (tables_of keys) (given_isns_of lines) tables isns given a c o now result is also ends
+module _ (request : TableRequest) (laps : ℕ) (keys lines : List ℕ) (tables : List Table) (isns : List GivenIsns) (is : tables_of keys ≡ Ok tables) (also : given_isns_of lines ≡ Ok isns) (given : List ℕ) (a c o q : Side) where
+  by_all : (result : Result Bool SessionsHalt) (now : Side) → Ends (series_of tables laps isns request) given a c o now result → EndsBy request laps (tables_of keys) (given_isns_of lines) given a c o now result
+  by_all result now ends = by_both request laps (tables_of keys) (given_isns_of lines) tables isns given a c o now result is also ends
 
   -- what was counted was written, or not
-  pub writes_counted : (counted : Counted) (p : Side) (result : Result Bool SessionsHalt) → Counts (series_of tables isns request) given a c o p (Ok counted) → WritesCounted request.form counted p q result → Writes request keys lines given a c o q result
+  pub writes_counted : (counted : Counted) (p : Side) (result : Result Bool SessionsHalt) → Counts (series_of tables laps isns request) given a c o p (Ok counted) → WritesCounted request.form counted p q result → Writes request laps keys lines given a c o q result
   writes_counted counted p result counts wrote = record {
     gave = counts.gave;
     bytes = counts.bytes;
-    ends = by_all result q (ends_written (series_of tables isns request) given a c o p q counted counts.ends.0 counts.ends.1 result wrote);
+    ends = by_all result q (ends_written (series_of tables laps isns request) given a c o p q counted counts.ends.0 counts.ends.1 result wrote);
   }
 
-  pub writes_long : Counts (series_of tables isns request) given a c o q (Err count_halt.TooLong) → Writes request keys lines given a c o q (Err halt.TooLong)
+  pub writes_long : Counts (series_of tables laps isns request) given a c o q (Err count_halt.TooLong) → Writes request laps keys lines given a c o q (Err halt.TooLong)
   writes_long counts = record { gave = counts.gave; bytes = counts.bytes; ends = by_all (Err halt.TooLong) q counts.ends }
 
-  pub writes_read : Counts (series_of tables isns request) given a c o q (Err count_halt.Read) → Writes request keys lines given a c o q (Err halt.Read)
+  pub writes_read : Counts (series_of tables laps isns request) given a c o q (Err count_halt.Read) → Writes request laps keys lines given a c o q (Err halt.Read)
   writes_read counts = record { gave = counts.gave; bytes = counts.bytes; ends = by_all (Err halt.Read) q counts.ends }
 
-  pub writes_stuck : Counts (series_of tables isns request) given a c o q (Err count_halt.Write) → Writes request keys lines given a c o q (Err halt.Write)
+  pub writes_stuck : Counts (series_of tables laps isns request) given a c o q (Err count_halt.Write) → Writes request laps keys lines given a c o q (Err halt.Write)
   writes_stuck counts = record { gave = counts.gave; bytes = counts.bytes; ends = by_all (Err halt.Write) q (inl counts.ends) }
 
-  pub writes_memory : Counts (series_of tables isns request) given a c o q (Err count_halt.Memory) → Writes request keys lines given a c o q (Err halt.Memory)
+  pub writes_memory : Counts (series_of tables laps isns request) given a c o q (Err count_halt.Memory) → Writes request laps keys lines given a c o q (Err halt.Memory)
   writes_memory counts = record { gave = counts.gave; bytes = counts.bytes; ends = by_all (Err halt.Memory) q counts.ends }
 
-memory_with : (request : TableRequest) (tables : List Table) (said : Result (List GivenIsns) TextFault) (a o : Side) → EndsWith request tables said [] a a o o (Err halt.Memory)
-memory_with request tables (Ok isns) a o = (ends_none (series_of tables isns request) a o).ends
-memory_with request tables (Err why) a o = (refl, took_none o)
+memory_with : (request : TableRequest) (laps : ℕ) (tables : List Table) (said : Result (List GivenIsns) TextFault) (a o : Side) → EndsWith request laps tables said [] a a o o (Err halt.Memory)
+memory_with request laps tables (Ok isns) a o = (ends_none (series_of tables laps isns request) a o).ends
+memory_with request laps tables (Err why) a o = (refl, took_none o)
 
-memory_by : (request : TableRequest) (read : Result (List Table) TableFault) (said : Result (List GivenIsns) TextFault) (a o : Side) → EndsBy request read said [] a a o o (Err halt.Memory)
-memory_by request (Ok tables) said a o = memory_with request tables said a o
-memory_by request (Err why) said a o = (refl, took_none o)
+memory_by : (request : TableRequest) (laps : ℕ) (read : Result (List Table) TableFault) (said : Result (List GivenIsns) TextFault) (a o : Side) → EndsBy request laps read said [] a a o o (Err halt.Memory)
+memory_by request laps (Ok tables) said a o = memory_with request laps tables said a o
+memory_by request laps (Err why) said a o = (refl, took_none o)
 
 -- memory ran out for the key file, or for the given lines
-pub writes_none : (request : TableRequest) (keys lines : List ℕ) (a o : Side) → Writes request keys lines [] a a o o (Err halt.Memory)
-writes_none request keys lines a o = record { gave = gave_none a; bytes = all_none; ends = memory_by request (tables_of keys) (given_isns_of lines) a o }
+pub writes_none : (request : TableRequest) (laps : ℕ) (keys lines : List ℕ) (a o : Side) → Writes request laps keys lines [] a a o o (Err halt.Memory)
+writes_none request laps keys lines a o = record { gave = gave_none a; bytes = all_none; ends = memory_by request laps (tables_of keys) (given_isns_of lines) a o }
 
-keys_by : (request : TableRequest) (read : Result (List Table) TableFault) (said : Result (List GivenIsns) TextFault) (fault : TableFault) (a o : Side) → read ≡ Err fault → EndsBy request read said [] a a o o (Err (halt.Keys fault))
-keys_by request read said fault a o is = rw is (refl, (refl, took_none o))
+keys_by : (request : TableRequest) (laps : ℕ) (read : Result (List Table) TableFault) (said : Result (List GivenIsns) TextFault) (fault : TableFault) (a o : Side) → read ≡ Err fault → EndsBy request laps read said [] a a o o (Err (halt.Keys fault))
+keys_by request laps read said fault a o is = rw is (refl, (refl, took_none o))
 
 -- the key file is refused
-pub writes_keys : (request : TableRequest) (keys lines : List ℕ) (fault : TableFault) (a o : Side) → tables_of keys ≡ Err fault → Writes request keys lines [] a a o o (Err (halt.Keys fault))
-writes_keys request keys lines fault a o is = record { gave = gave_none a; bytes = all_none; ends = keys_by request (tables_of keys) (given_isns_of lines) fault a o is }
+pub writes_keys : (request : TableRequest) (laps : ℕ) (keys lines : List ℕ) (fault : TableFault) (a o : Side) → tables_of keys ≡ Err fault → Writes request laps keys lines [] a a o o (Err (halt.Keys fault))
+writes_keys request laps keys lines fault a o is = record { gave = gave_none a; bytes = all_none; ends = keys_by request laps (tables_of keys) (given_isns_of lines) fault a o is }
 
 -- the key file is refused, or memory ran out for it
-pub writes_refused : (request : TableRequest) (keys lines : List ℕ) (why : TableFault) (a o : Side) → Fails why (tables_of keys) → Writes request keys lines [] a a o o (Err (halt_of why))
-writes_refused request keys lines fault.Memory a o fails = writes_none request keys lines a o
-writes_refused request keys lines fault.Syntax a o fails = writes_keys request keys lines fault.Syntax a o fails
-writes_refused request keys lines (fault.Field n r c) a o fails = writes_keys request keys lines (fault.Field n r c) a o fails
-writes_refused request keys lines (fault.TooMany n) a o fails = writes_keys request keys lines (fault.TooMany n) a o fails
-writes_refused request keys lines (fault.Overlap n r s) a o fails = writes_keys request keys lines (fault.Overlap n r s) a o fails
+pub writes_refused : (request : TableRequest) (laps : ℕ) (keys lines : List ℕ) (why : TableFault) (a o : Side) → Fails why (tables_of keys) → Writes request laps keys lines [] a a o o (Err (halt_of why))
+writes_refused request laps keys lines fault.Memory a o fails = writes_none request laps keys lines a o
+writes_refused request laps keys lines fault.Syntax a o fails = writes_keys request laps keys lines fault.Syntax a o fails
+writes_refused request laps keys lines (fault.Field n r c) a o fails = writes_keys request laps keys lines (fault.Field n r c) a o fails
+writes_refused request laps keys lines (fault.TooMany n) a o fails = writes_keys request laps keys lines (fault.TooMany n) a o fails
+writes_refused request laps keys lines (fault.Overlap n r s) a o fails = writes_keys request laps keys lines (fault.Overlap n r s) a o fails
 
-line_by : (request : TableRequest) (read : Result (List Table) TableFault) (said : Result (List GivenIsns) TextFault) (tables : List Table) (n : ℕ) (kind : LineKind) (a o : Side)
-    → read ≡ Ok tables → said ≡ Err (line_fault.Line n kind) → EndsBy request read said [] a a o o (Err (halt.IsnLine n kind))
-line_by request read said tables n kind a o is also = rw (is, also) (refl, (refl, took_none o))
+line_by : (request : TableRequest) (laps : ℕ) (read : Result (List Table) TableFault) (said : Result (List GivenIsns) TextFault) (tables : List Table) (n : ℕ) (kind : LineKind) (a o : Side)
+    → read ≡ Ok tables → said ≡ Err (line_fault.Line n kind) → EndsBy request laps read said [] a a o o (Err (halt.IsnLine n kind))
+line_by request laps read said tables n kind a o is also = rw (is, also) (refl, (refl, took_none o))
 
-many_by : (request : TableRequest) (read : Result (List Table) TableFault) (said : Result (List GivenIsns) TextFault) (tables : List Table) (a o : Side)
-    → read ≡ Ok tables → said ≡ Err line_fault.TooManyLines → EndsBy request read said [] a a o o (Err halt.TooManyIsns)
-many_by request read said tables a o is also = rw (is, also) (refl, (refl, took_none o))
+many_by : (request : TableRequest) (laps : ℕ) (read : Result (List Table) TableFault) (said : Result (List GivenIsns) TextFault) (tables : List Table) (a o : Side)
+    → read ≡ Ok tables → said ≡ Err line_fault.TooManyLines → EndsBy request laps read said [] a a o o (Err halt.TooManyIsns)
+many_by request laps read said tables a o is also = rw (is, also) (refl, (refl, took_none o))
 
 -- the given lines are refused, or memory ran out for them
-pub writes_unread : (request : TableRequest) (keys lines : List ℕ) (tables : List Table) (why : TextFault) (a o : Side) → tables_of keys ≡ Ok tables → readings.Fails why (given_isns_of lines)
-    → Writes request keys lines [] a a o o (Err (halt_of_lines why))
-writes_unread request keys lines tables line_fault.Memory a o is fails = writes_none request keys lines a o
-writes_unread request keys lines tables line_fault.TooManyLines a o is fails = record { gave = gave_none a; bytes = all_none; ends = many_by request (tables_of keys) (given_isns_of lines) tables a o is fails }
-writes_unread request keys lines tables (line_fault.Line n kind) a o is fails = record { gave = gave_none a; bytes = all_none; ends = line_by request (tables_of keys) (given_isns_of lines) tables n kind a o is fails }
+pub writes_unread : (request : TableRequest) (laps : ℕ) (keys lines : List ℕ) (tables : List Table) (why : TextFault) (a o : Side) → tables_of keys ≡ Ok tables → readings.Fails why (given_isns_of lines)
+    → Writes request laps keys lines [] a a o o (Err (halt_of_lines why))
+writes_unread request laps keys lines tables line_fault.Memory a o is fails = writes_none request laps keys lines a o
+writes_unread request laps keys lines tables line_fault.TooManyLines a o is fails = record { gave = gave_none a; bytes = all_none; ends = many_by request laps (tables_of keys) (given_isns_of lines) tables a o is fails }
+writes_unread request laps keys lines tables (line_fault.Line n kind) a o is fails = record { gave = gave_none a; bytes = all_none; ends = line_by request laps (tables_of keys) (given_isns_of lines) tables n kind a o is fails }

@@ -4,28 +4,32 @@ use Rattle.std.proofs.Math.Seq.{drop-cons}
 use Rattle.book_cmd_check.specs.declared.given.GivenIsns.{GivenIsns}
 use Rattle.book_cmd_check.specs.Captures.{Connection}
 use Rattle.book_cmd_check.specs.Handshakes.{and_given, given_after}
-use Rattle.capture_check.specs.declared.ends.Ends.{Ends}
-use Rattle.capture_check.specs.declared.flows.Flows.{Flows}
-use Rattle.capture_check.specs.Checkers.{StandsFor}
+use Rattle.book_sessions.specs.Listening.{Listening, listening_behind}
+use Rattle.capture_listener.specs.Listeners.{Hearing, Knows}
+
+-- what is known where these connections are held, and no more
+abbrev pub holding : List Connection → Listening
+holding held = record { held = held; guessed = []; openings = [] }
 
 -- the connections are known behind which those that are left give all
-pub record HoldsBut (entries : List (Ends × Flows)) (isns left : List GivenIsns) : Type 0 where
+pub record HoldsBut (hearing : Hearing) (isns left : List GivenIsns) : Type 0 where
   pub held : List Connection
-  pub stands : StandsFor entries held
+  pub knows : Knows hearing (holding held)
   pub rest : given_after held left ≡ given_after [] isns
 
-pub holds_none : (entries : List (Ends × Flows)) (isns : List GivenIsns) → StandsFor entries [] → HoldsBut entries isns isns
-holds_none entries isns stands = record { held = []; stands = stands; rest = refl }
+pub holds_none : (hearing : Hearing) (isns : List GivenIsns) → Knows hearing (listening_behind []) → HoldsBut hearing isns isns
+holds_none hearing isns knows = record { held = []; knows = knows; rest = refl }
 
-pub holds_one : (before after : List (Ends × Flows)) (isns : List GivenIsns) (i : ℕ) (g d : GivenIsns) → i < length isns → g ≡ get_or isns i d
-    → (h : HoldsBut before isns (drop i isns)) → ((held : List Connection) → StandsFor before held → StandsFor after (and_given g held)) → HoldsBut after isns (drop (i + 1) isns)
+pub holds_one : (before after : Hearing) (isns : List GivenIsns) (i : ℕ) (g d : GivenIsns) → i < length isns → g ≡ get_or isns i d
+    → (h : HoldsBut before isns (drop i isns))
+    → ((k : Listening) → Knows before k → Knows after (record { held = and_given g k.held; guessed = k.guessed; openings = k.openings })) → HoldsBut after isns (drop (i + 1) isns)
 holds_one before after isns i g d low here h put =
     let cut : drop i isns ≡ g ∷ drop (i + 1) isns = rw (add-one i) (drop-cons isns i d low ∙ ap (λ x. x ∷ drop (suc i) isns) (sym here)) in
     record {
       held = and_given g h.held;
-      stands = put h.held h.stands;
+      knows = put (holding h.held) h.knows;
       rest = sym (ap (given_after h.held) cut) ∙ h.rest;
     }
 
-pub holds_all : (entries : List (Ends × Flows)) (isns : List GivenIsns) (i : ℕ) → drop i isns ≡ [] → HoldsBut entries isns (drop i isns) → StandsFor entries (given_after [] isns)
-holds_all entries isns i none h = rw (sym (ap (given_after h.held) (sym none) ∙ h.rest)) h.stands
+pub holds_all : (hearing : Hearing) (isns : List GivenIsns) (i : ℕ) → drop i isns ≡ [] → HoldsBut hearing isns (drop i isns) → Knows hearing (listening_behind isns)
+holds_all hearing isns i none h = rw (sym (ap (given_after h.held) (sym none) ∙ h.rest)) h.knows

@@ -1,13 +1,14 @@
 -- The parts of a text, one behind another.
-use Rattle.std.proofs.Common.{◌≡◌, ℕ, suc, ◌+◌, ◌-◌, ◌<◌, List, [], ◌∷◌, ◌++◌, length, drop, get_or, Option, Some, None, refl, sym, ap, subst, ◌∙◌, append_assoc, arith, add-one}
+use Rattle.std.proofs.Common.{◌≡◌, ℕ, suc, ◌+◌, ◌-◌, ◌<◌, List, [], ◌∷◌, ◌++◌, length, drop, get_or, Option, Some, None, Bool, Result, Ok, Err, OnOk, refl, sym, ap, subst, ◌∙◌, append_assoc, arith, add-one}
 use Rattle.std.proofs.Math.Seq.{drop-cons}
 use Rattle.std.proofs.lemmas.List.{append-nil}
-use Rattle.std.specs.List.{flat_map}
-use Rattle.book_keys.specs.Rows.{Table}
+use Rattle.std.specs.List.{find, flat_map}
+use Rattle.book_keys.specs.Rows.{Row, Table}
 use Rattle.book_lines.specs.Texts.{spaced}
 use Rattle.book_sessions.specs.declared.uses.KeyUse.{KeyUse}
 use Rattle.book_sessions.specs.Counts.{all_counted, all_passed}
-use Rattle.book_sessions.specs.KeyLines.{asking_texts, key_lines, keys_lines, last_texts}
+use Rattle.book_sessions.specs.KeyLines.{asking_texts, asks_row_still, carries_row, is_wanted, key_line, key_lines, keys_lines, last_of, last_texts}
+use Rattle.scope_sessions.specs.KeyRows.{found_line}
 use Rattle.book_sessions.specs.Sessions.{SessionTable}
 use Rattle.book_sessions.specs.SessionTexts.{capture_line, passed_line, sessions_lines, sessions_text}
 
@@ -63,3 +64,10 @@ whole_text tables t out one two three four segments others m n a b c d =
     let first : one ≡ out ++ l = rw (m, n) at a in
     let third : three ≡ out ++ (l ++ (p ++ s)) = c ∙ (ap (λ (x : List ℕ). x ++ s) (b ∙ ap (λ (x : List ℕ). x ++ p) first) ∙ (append_assoc (out ++ l) p s ∙ append_assoc out l (p ++ s))) in
     d ∙ (ap (λ (x : List ℕ). x ++ k) third ∙ (append_assoc out (l ++ (p ++ s)) k ∙ ap (λ (x : List ℕ). out ++ x) (append_assoc l (p ++ s) k ∙ ap (λ (x : List ℕ). l ++ x) (append_assoc p s k))))
+
+-- the line of a row, by what was found of it
+pub key_found : {E : Type 0} (result : Result (Unit {0}) E) (uses : List KeyUse) (t : Table) (n : ℕ) (r : Row) (last asking : Option KeyUse) (wanted : Bool) (out new : List ℕ)
+    → last ≡ last_of (carries_row t r) uses → asking ≡ find (asks_row_still uses t r) uses → wanted ≡ is_wanted uses t r → OnOk result (new ≡ out ++ found_line t n r last asking wanted)
+    → OnOk result (new ≡ out ++ key_line uses t n r)
+key_found (Ok done) uses t n r last asking wanted out new a b c h = h ∙ rw (a, b, c) refl
+key_found (Err e) uses t n r last asking wanted out new a b c h = tt

@@ -4,5 +4,5 @@ pub mod GivenLaws
 pub mod HoldLaws
 pub mod JsonItems
 pub mod KeyWords
-pub mod Placing
+pub mod OwnLaws
 pub mod Walk

@@ -9,11 +9,11 @@ use Rattle.ao_base.proofs.Sides.{gave_more, gave_none, rose_after, took_and_none
 use Rattle.book_captures.specs.declared.capture_parts.CaptureFault.{CaptureFault}
 use Rattle.book_captures.specs.Parts.{PartSaid}
 use Rattle.book_captures.specs.Captures.{CapturePacket, capture_of}
-use Rattle.book_cmd_check.specs.Captures.{Connection}
-use Rattle.book_cmd_check.specs.Handshakes.{given_after}
+use Rattle.book_sessions.specs.Laps.{Judging}
+use Rattle.book_sessions.specs.Listening.{Listening, listening_behind}
 use Rattle.book_sessions.specs.Sessions.{SessionTable, no_sessions, sessions_from, sessions_of}
 use Rattle.book_sessions_json.specs.TableSeries.{Series, counted_since, due_table, due_text, due_texts, early_text, second_seen}
-use Rattle.capture_check.specs.Checkers.{Checking, StandsFor}
+use Rattle.capture_listener.specs.Listeners.{Hearing, Knows}
 use Rattle.capture_stream.specs.declared.reader.CaptureStep.TheVariants as step
 use Rattle.capture_stream.specs.declared.reader.CaptureHalt.TheVariants as stream_halt
 use Rattle.book_base.specs.Hexadecimal.{IsByte}
@@ -21,16 +21,16 @@ use Rattle.capture_stream.specs.Reads.{Reading, new_reading, ShowsNone, Passes, 
 use Rattle.scope_lines.proofs.Showing.{HasShown, listed, none_listed, one_listed, read_before, read_now, shown_all, shown_more, shown_none}
 use Rattle.scope_sessions.specs.declared.count.Counted.{Counted}
 use Rattle.scope_sessions.specs.declared.count.CountHalt.TheVariants as halt
-use Rattle.scope_sessions.specs.Counting.{CountsPacket, table_of}
+use Rattle.scope_sessions.specs.Counting.{CountsPacket}
 use Rattle.scope_sessions.specs.Reading.{BreaksEarly, Counts}
 use Rattle.scope_sessions.specs.Texts.{BreaksText}
 
 -- these packets were counted: whatever packets follow
-pub record HasHeard (s : Series) (checking : Checking) (table : SessionTable) (shown : List CapturePacket) : Type 0 where
-  pub held : List Connection
-  pub same : checking.tables ≡ s.tables
-  pub stands : StandsFor checking.entries held
-  pub comes : (ps : List CapturePacket) → sessions_from s.tables (given_after [] s.given) no_sessions (shown ++ ps) ≡ sessions_from s.tables held table ps
+pub record HasHeard (s : Series) (hearing : Hearing) (table : SessionTable) (shown : List CapturePacket) : Type 0 where
+  pub known : Listening
+  pub same : hearing.judging ≡ s.judging
+  pub knows : Knows hearing known
+  pub comes : (ps : List CapturePacket) → sessions_from s.judging (listening_behind s.given) no_sessions (shown ++ ps) ≡ sessions_from s.judging known table ps
 
 -- a text breaks behind another one
 pub breaks_more : (front text : List ℕ) (o q r : Side) → WasWritten front o q → BreaksText [] text q r → BreaksText front (front ++ text) o r
@@ -91,28 +91,28 @@ written_still s shown packet since o p none w =
     rw same w
 
 -- between two parts: these bytes were given, these packets shown and counted
-pub record Between (s : Series) (reader : Reading) (checking : Checking) (table : SessionTable) (since : Option ℕ) (given : List ℕ) (shown : List CapturePacket) (source_before source_now out_before out_now : Side) : Type 0 where
+pub record Between (s : Series) (reader : Reading) (hearing : Hearing) (table : SessionTable) (since : Option ℕ) (given : List ℕ) (shown : List CapturePacket) (source_before source_now out_before out_now : Side) : Type 0 where
   pub gave : Gave given source_before source_now
   pub bytes : All IsByte given
   pub shows : HasShown reader given shown
   pub within : reader.counts.bytes ≤ 9223372036854775808
   pub going : reader.over ≡ false
-  pub heard : HasHeard s checking table shown
+  pub heard : HasHeard s hearing table shown
   pub writes : HasWritten s shown since out_before out_now
 
 pub all_none : All IsByte []
 all_none = All-from_get_or IsByte [] 0 (λ i within. absurd (omega arith))
 
 -- before the first part
-pub between_new : (s : Series) (reader : Reading) (checking : Checking) (table : SessionTable) (source out : Side) → reader ≡ new_reading → checking.tables ≡ s.tables → StandsFor checking.entries (given_after [] s.given) → table ≡ no_sessions →
-    Between s reader checking table None [] [] source source out out
-between_new s reader checking table source out is same stands none = rw (is, none) (record {
+pub between_new : (s : Series) (reader : Reading) (hearing : Hearing) (table : SessionTable) (source out : Side) → reader ≡ new_reading → hearing.judging ≡ s.judging → Knows hearing (listening_behind s.given) → table ≡ no_sessions →
+    Between s reader hearing table None [] [] source source out out
+between_new s reader hearing table source out is same stands none = rw (is, none) (record {
   gave = gave_none source;
   bytes = all_none;
   shows = shown_none;
   within = omega arith;
   going = refl;
-  heard = record { held = given_after [] s.given; same = same; stands = stands; comes = λ ps. refl };
+  heard = record { known = listening_behind s.given; same = same; knows = stands; comes = λ ps. refl };
   writes = written_none s out;
 })
 
@@ -125,29 +125,29 @@ ends_none s source out = record {
 }
 
 -- no packet more
-heard_none : (s : Series) (checking : Checking) (table : SessionTable) (shown : List CapturePacket) (packet : Option CapturePacket) → listed packet ≡ [] → HasHeard s checking table shown → HasHeard s checking table (shown ++ listed packet)
-heard_none s checking table shown packet none heard =
+heard_none : (s : Series) (hearing : Hearing) (table : SessionTable) (shown : List CapturePacket) (packet : Option CapturePacket) → listed packet ≡ [] → HasHeard s hearing table shown → HasHeard s hearing table (shown ++ listed packet)
+heard_none s hearing table shown packet none heard =
     let same : shown ++ listed packet ≡ shown = ap (λ (ps : List CapturePacket). shown ++ ps) none ∙ append-nil shown in
     rw same heard
 
 -- a packet more
-heard_one : (s : Series) (before now : Checking) (table table_now : SessionTable) (shown : List CapturePacket) (packet : Option CapturePacket) (p : CapturePacket) → packet ≡ Some p → now.tables ≡ before.tables →
-    (heard : HasHeard s before table shown) → CountsPacket s.tables heard.held now.entries table table_now p → HasHeard s now table_now (shown ++ listed packet)
+heard_one : (s : Series) (before now : Hearing) (table table_now : SessionTable) (shown : List CapturePacket) (packet : Option CapturePacket) (p : CapturePacket) → packet ≡ Some p → now.judging ≡ before.judging →
+    (heard : HasHeard s before table shown) → CountsPacket s.judging heard.known now table table_now p → HasHeard s now table_now (shown ++ listed packet)
 heard_one s before now table table_now shown packet p is same heard counted = rw is (record {
-  held = counted.held_now;
+  known = counted.known;
   same = same ∙ heard.same;
-  stands = counted.stands;
-  comes = λ ps. ap (sessions_from s.tables (given_after [] s.given) no_sessions) (append_assoc shown (p ∷ []) ps)
-      ∙ (heard.comes (p ∷ ps) ∙ counted.counts (λ connections later. sessions_from s.tables connections later ps));
+  knows = counted.knows;
+  comes = λ ps. ap (sessions_from s.judging (listening_behind s.given) no_sessions) (append_assoc shown (p ∷ []) ps)
+      ∙ (heard.comes (p ∷ ps) ∙ counted.counts (λ known later. sessions_from s.judging known later ps));
 })
 
 -- what is counted is the table of the packets
-heard_all : (s : Series) (checking : Checking) (table : SessionTable) (shown : List CapturePacket) → HasHeard s checking table shown → table ≡ sessions_of s.tables s.given shown
+heard_all : (s : Series) (hearing : Hearing) (table : SessionTable) (shown : List CapturePacket) → HasHeard s hearing table shown → table ≡ sessions_of s.judging s.given shown
 unfolding sessions_of
-heard_all s checking table shown heard =
-    sym (ap (sessions_from s.tables (given_after [] s.given) no_sessions) (sym (append-nil shown)) ∙ heard.comes [])
+heard_all s hearing table shown heard =
+    sym (ap (sessions_from s.judging (listening_behind s.given) no_sessions) (sym (append-nil shown)) ∙ heard.comes [])
 
-module _ (s : Series) (before : Reading) (checking : Checking) (table : SessionTable) (since : Option ℕ) (given next : List ℕ) (shown : List CapturePacket) (a b c o q : Side) (between : Between s before checking table since given shown a b o q) where
+module _ (s : Series) (before : Reading) (hearing : Hearing) (table : SessionTable) (since : Option ℕ) (given next : List ℕ) (shown : List CapturePacket) (a b c o q : Side) (between : Between s before hearing table since given shown a b o q) where
   gave_all : Gave next b c → Gave (given ++ next) a c
   gave_all gave = gave_more given next a b c between.gave gave
 
@@ -158,7 +158,7 @@ module _ (s : Series) (before : Reading) (checking : Checking) (table : SessionT
   wrote_before = early_written s shown since o q between.writes
 
   -- the capture's end
-  pub ends_done : (now : Reading) (counted : Counted) → counted.checker ≡ checking → table_of counted.tally ≡ table → counted.fault ≡ None → Steps before now b c next (Ok step.End) → Counts s (given ++ next) a c o q (Ok counted)
+  pub ends_done : (now : Reading) (counted : Counted) → counted.listener ≡ hearing → counted.index ≡ table → counted.fault ≡ None → Steps before now b c next (Ok step.End) → Counts s (given ++ next) a c o q (Ok counted)
   ends_done now counted by is none steps =
       let all : capture_of (given ++ next) ≡ record { packets = shown; passed = before.passed; fault = None } = shown_all before given next shown between.shows None (steps.answers.2) in
       record {
@@ -166,8 +166,8 @@ module _ (s : Series) (before : Reading) (checking : Checking) (table : SessionT
         bytes = bytes_all steps.bytes;
         ends = (
           record {
-            tables_are = ap (λ (k : Checking). k.tables) by ∙ between.heard.same;
-            table_is = rw all (is ∙ heard_all s checking table shown between.heard);
+            tables_are = ap (λ (k : Hearing). k.judging.tables) by ∙ ap (λ (j : Judging). j.tables) between.heard.same;
+            table_is = rw all (is ∙ heard_all s hearing table shown between.heard);
             fault_is = none ∙ sym (ap (λ c. c.fault) all);
             whole = rw none (steps.answers.1);
             has_read = rw all (read_before before given next shown between.shows);
@@ -177,7 +177,7 @@ module _ (s : Series) (before : Reading) (checking : Checking) (table : SessionT
       }
 
   -- a fault of the capture
-  pub ends_broken : (now : Reading) (fault : CaptureFault) (counted : Counted) → counted.checker ≡ checking → table_of counted.tally ≡ table → counted.fault ≡ Some fault → Steps before now b c next (Err (stream_halt.Broken fault)) → Counts s (given ++ next) a c o q (Ok counted)
+  pub ends_broken : (now : Reading) (fault : CaptureFault) (counted : Counted) → counted.listener ≡ hearing → counted.index ≡ table → counted.fault ≡ Some fault → Steps before now b c next (Err (stream_halt.Broken fault)) → Counts s (given ++ next) a c o q (Ok counted)
   ends_broken now fault counted by is some steps =
       let left = told c.bytes in
       let all : capture_of (given ++ next) ≡ record { packets = shown; passed = before.passed; fault = Some fault } = shown_all before given next shown between.shows (Some fault) (steps.answers.1) in
@@ -190,8 +190,8 @@ module _ (s : Series) (before : Reading) (checking : Checking) (table : SessionT
         bytes = bytes_all steps.bytes;
         ends = (
           record {
-            tables_are = ap (λ (k : Checking). k.tables) by ∙ between.heard.same;
-            table_is = rw all (is ∙ heard_all s checking table shown between.heard);
+            tables_are = ap (λ (k : Hearing). k.judging.tables) by ∙ ap (λ (j : Judging). j.tables) between.heard.same;
+            table_is = rw all (is ∙ heard_all s hearing table shown between.heard);
             fault_is = some ∙ sym (ap (λ c. c.fault) all);
             whole = rw some whole;
             has_read = rw all (read_before before given next shown between.shows);
@@ -234,9 +234,9 @@ module _ (s : Series) (before : Reading) (checking : Checking) (table : SessionT
         let most = passes.within in
         omega arith
 
-    between_listed : (checking_now : Checking) (table_now : SessionTable) (since_now : Option ℕ) (r : Side) → HasHeard s checking_now table_now (shown ++ listed now.packet) → HasWritten s (shown ++ listed now.packet) since_now o r
-        → Between s now checking_now table_now since_now (given ++ next) (shown ++ listed now.packet) a c o r
-    between_listed checking_now table_now since_now r heard writes = record {
+    between_listed : (hearing_now : Hearing) (table_now : SessionTable) (since_now : Option ℕ) (r : Side) → HasHeard s hearing_now table_now (shown ++ listed now.packet) → HasWritten s (shown ++ listed now.packet) since_now o r
+        → Between s now hearing_now table_now since_now (given ++ next) (shown ++ listed now.packet) a c o r
+    between_listed hearing_now table_now since_now r heard writes = record {
       gave = gave_all gave;
       bytes = bytes_all bytes;
       shows = shown_more before given next shown between.shows now said passes;
@@ -247,18 +247,18 @@ module _ (s : Series) (before : Reading) (checking : Checking) (table : SessionT
     }
 
     -- which showed no packet
-    pub between_block : ShowsNone said → Between s now checking table since (given ++ next) (shown ++ listed now.packet) a c o q
+    pub between_block : ShowsNone said → Between s now hearing table since (given ++ next) (shown ++ listed now.packet) a c o q
     between_block none =
         let gone = ap listed passes.shown ∙ none_listed said before.counts.packets none in
-        between_listed checking table since q (heard_none s checking table shown now.packet gone between.heard) (written_still s shown now.packet since o q gone between.writes)
+        between_listed hearing table since q (heard_none s hearing table shown now.packet gone between.heard) (written_still s shown now.packet since o q gone between.writes)
 
     -- what is due in front of the packet that it showed
     due_is : (time seconds : Option ℕ) (p : CapturePacket) → now.packet ≡ Some p → IfSome now.packet (λ p. time ≡ p.frame.time) → seconds ≡ option_map (λ nanoseconds. nanoseconds / 1000000000) time
-        → due_table s.request checking.tables table since seconds ≡ due_text s shown since (second_seen p)
+        → due_table s.request hearing.judging.tables table since seconds ≡ due_text s shown since (second_seen p)
     due_is time seconds p is time_is seconds_are =
         let here : time ≡ p.frame.time = rw is at time_is in
         let then : seconds ≡ second_seen p = seconds_are ∙ ap (λ (t : Option ℕ). option_map (λ nanoseconds. nanoseconds / 1000000000) t) here in
-        rw (then, between.heard.same) (ap (λ (t : SessionTable). due_table s.request s.tables t since (second_seen p)) (heard_all s checking table shown between.heard))
+        rw (then, between.heard.same) (ap (λ (t : SessionTable). due_table s.request s.judging.tables t since (second_seen p)) (heard_all s hearing table shown between.heard))
 
     seconds_is : (time seconds : Option ℕ) (p : CapturePacket) → now.packet ≡ Some p → IfSome now.packet (λ p. time ≡ p.frame.time) → seconds ≡ option_map (λ nanoseconds. nanoseconds / 1000000000) time → seconds ≡ second_seen p
     seconds_is time seconds p is time_is seconds_are =
@@ -266,38 +266,38 @@ module _ (s : Series) (before : Reading) (checking : Checking) (table : SessionT
         seconds_are ∙ ap (λ (t : Option ℕ). option_map (λ nanoseconds. nanoseconds / 1000000000) t) here
 
     -- which showed a packet, in front of which what was due was written, and which was counted
-    between_packet : (checking_now : Checking) (table_now : SessionTable) (time seconds since_now : Option ℕ) (r : Side) (p : CapturePacket) → now.packet ≡ Some p → IfSome now.packet (λ p. time ≡ p.frame.time)
+    between_packet : (hearing_now : Hearing) (table_now : SessionTable) (time seconds since_now : Option ℕ) (r : Side) (p : CapturePacket) → now.packet ≡ Some p → IfSome now.packet (λ p. time ≡ p.frame.time)
         → seconds ≡ option_map (λ nanoseconds. nanoseconds / 1000000000) time → since_now ≡ counted_since s.request.every since seconds
-        → WasWritten (due_table s.request checking.tables table since seconds) q r
-        → checking_now.tables ≡ checking.tables → CountsPacket s.tables between.heard.held checking_now.entries table table_now p
-        → Between s now checking_now table_now since_now (given ++ next) (shown ++ listed now.packet) a c o r
-    between_packet checking_now table_now time seconds since_now r p is time_is seconds_are since_is wrote same counted =
+        → WasWritten (due_table s.request hearing.judging.tables table since seconds) q r
+        → hearing_now.judging ≡ hearing.judging → CountsPacket s.judging between.heard.known hearing_now table table_now p
+        → Between s now hearing_now table_now since_now (given ++ next) (shown ++ listed now.packet) a c o r
+    between_packet hearing_now table_now time seconds since_now r p is time_is seconds_are since_is wrote same counted =
         let then = seconds_is time seconds p is time_is seconds_are in
         let counts : since_now ≡ counted_since s.request.every since (second_seen p) = since_is ∙ ap (counted_since s.request.every since) then in
-        between_listed checking_now table_now since_now r (heard_one s checking checking_now table table_now shown now.packet p is same between.heard counted)
+        between_listed hearing_now table_now since_now r (heard_one s hearing hearing_now table table_now shown now.packet p is same between.heard counted)
         (rw counts (written_one s shown since o q r now.packet p is between.writes (rw (due_is time seconds p is time_is seconds_are) at wrote)))
 
-    by_packet : (checking_now : Checking) (table_now : SessionTable) (time seconds since_now : Option ℕ) (r : Side) (packet : Option CapturePacket) → now.packet ≡ packet → IsSome packet → IfSome now.packet (λ p. time ≡ p.frame.time)
+    by_packet : (hearing_now : Hearing) (table_now : SessionTable) (time seconds since_now : Option ℕ) (r : Side) (packet : Option CapturePacket) → now.packet ≡ packet → IsSome packet → IfSome now.packet (λ p. time ≡ p.frame.time)
         → seconds ≡ option_map (λ nanoseconds. nanoseconds / 1000000000) time → since_now ≡ counted_since s.request.every since seconds
-        → WasWritten (due_table s.request checking.tables table since seconds) q r → checking_now.tables ≡ checking.tables
-        → ((p : CapturePacket) → now.packet ≡ Some p → CountsPacket checking.tables between.heard.held checking_now.entries table table_now p)
-        → Between s now checking_now table_now since_now (given ++ next) (shown ++ listed now.packet) a c o r
-    by_packet checking_now table_now time seconds since_now r None is some time_is seconds_are since_is wrote same counts = let bad : false ≡ true = some in absurd (cc)
-    by_packet checking_now table_now time seconds since_now r (Some p) is some time_is seconds_are since_is wrote same counts =
-        between_packet checking_now table_now time seconds since_now r p is time_is seconds_are since_is wrote same (rw between.heard.same at (counts p is))
+        → WasWritten (due_table s.request hearing.judging.tables table since seconds) q r → hearing_now.judging ≡ hearing.judging
+        → ((p : CapturePacket) → now.packet ≡ Some p → CountsPacket hearing.judging between.heard.known hearing_now table table_now p)
+        → Between s now hearing_now table_now since_now (given ++ next) (shown ++ listed now.packet) a c o r
+    by_packet hearing_now table_now time seconds since_now r None is some time_is seconds_are since_is wrote same counts = let bad : false ≡ true = some in absurd (cc)
+    by_packet hearing_now table_now time seconds since_now r (Some p) is some time_is seconds_are since_is wrote same counts =
+        between_packet hearing_now table_now time seconds since_now r p is time_is seconds_are since_is wrote same (rw between.heard.same at (counts p is))
 
     -- the same, whatever it is
-    pub between_counted : (checking_now : Checking) (table_now : SessionTable) (time seconds since_now : Option ℕ) (r : Side) → IsSome now.packet → IfSome now.packet (λ p. time ≡ p.frame.time)
+    pub between_counted : (hearing_now : Hearing) (table_now : SessionTable) (time seconds since_now : Option ℕ) (r : Side) → IsSome now.packet → IfSome now.packet (λ p. time ≡ p.frame.time)
         → seconds ≡ option_map (λ nanoseconds. nanoseconds / 1000000000) time → since_now ≡ counted_since s.request.every since seconds
-        → WasWritten (due_table s.request checking.tables table since seconds) q r → checking_now.tables ≡ checking.tables
-        → ((p : CapturePacket) → now.packet ≡ Some p → CountsPacket checking.tables between.heard.held checking_now.entries table table_now p)
-        → Between s now checking_now table_now since_now (given ++ next) (shown ++ listed now.packet) a c o r
-    between_counted checking_now table_now time seconds since_now r some time_is seconds_are since_is wrote same counts =
-        by_packet checking_now table_now time seconds since_now r now.packet refl some time_is seconds_are since_is wrote same counts
+        → WasWritten (due_table s.request hearing.judging.tables table since seconds) q r → hearing_now.judging ≡ hearing.judging
+        → ((p : CapturePacket) → now.packet ≡ Some p → CountsPacket hearing.judging between.heard.known hearing_now table table_now p)
+        → Between s now hearing_now table_now since_now (given ++ next) (shown ++ listed now.packet) a c o r
+    between_counted hearing_now table_now time seconds since_now r some time_is seconds_are since_is wrote same counts =
+        by_packet hearing_now table_now time seconds since_now r now.packet refl some time_is seconds_are since_is wrote same counts
 
     -- memory ran out for it, behind what was due
     memory_behind : (time seconds : Option ℕ) (r : Side) (packet : Option CapturePacket) → now.packet ≡ packet → IsSome packet → IfSome now.packet (λ p. time ≡ p.frame.time)
-        → seconds ≡ option_map (λ nanoseconds. nanoseconds / 1000000000) time → WasWritten (due_table s.request checking.tables table since seconds) q r
+        → seconds ≡ option_map (λ nanoseconds. nanoseconds / 1000000000) time → WasWritten (due_table s.request hearing.judging.tables table since seconds) q r
         → WasWritten (early_text s (shown ++ listed now.packet)) o r
     memory_behind time seconds r None is some time_is seconds_are wrote = let bad : false ≡ true = some in absurd (cc)
     memory_behind time seconds r (Some p) is some time_is seconds_are wrote =
@@ -305,7 +305,7 @@ module _ (s : Series) (before : Reading) (checking : Checking) (table : SessionT
         (written_one s shown since o q r now.packet p is between.writes (rw (due_is time seconds p is time_is seconds_are) at wrote))
 
     pub ends_memory : (time seconds : Option ℕ) (r : Side) → IsSome now.packet → IfSome now.packet (λ p. time ≡ p.frame.time)
-        → seconds ≡ option_map (λ nanoseconds. nanoseconds / 1000000000) time → WasWritten (due_table s.request checking.tables table since seconds) q r
+        → seconds ≡ option_map (λ nanoseconds. nanoseconds / 1000000000) time → WasWritten (due_table s.request hearing.judging.tables table since seconds) q r
         → Counts s (given ++ next) a c o r (Err halt.Memory)
     ends_memory time seconds r some time_is seconds_are wrote = record {
       gave = gave_all gave;
@@ -335,7 +335,7 @@ module _ (s : Series) (before : Reading) (checking : Checking) (table : SessionT
 
     -- what was due wasn't written
     breaks_by : (time seconds : Option ℕ) (r : Side) (packet : Option CapturePacket) → now.packet ≡ packet → IsSome packet → IfSome now.packet (λ p. time ≡ p.frame.time)
-        → seconds ≡ option_map (λ nanoseconds. nanoseconds / 1000000000) time → BreaksText [] (due_table s.request checking.tables table since seconds) q r
+        → seconds ≡ option_map (λ nanoseconds. nanoseconds / 1000000000) time → BreaksText [] (due_table s.request hearing.judging.tables table since seconds) q r
         → BreaksEarly s (given ++ next) o r
     breaks_by time seconds r None is some time_is seconds_are breaks = let bad : false ≡ true = some in absurd (cc)
     breaks_by time seconds r (Some p) is some time_is seconds_are breaks = record {
@@ -347,7 +347,7 @@ module _ (s : Series) (before : Reading) (checking : Checking) (table : SessionT
     }
 
     pub ends_stuck : (time seconds : Option ℕ) (r : Side) → IsSome now.packet → IfSome now.packet (λ p. time ≡ p.frame.time)
-        → seconds ≡ option_map (λ nanoseconds. nanoseconds / 1000000000) time → BreaksText [] (due_table s.request checking.tables table since seconds) q r
+        → seconds ≡ option_map (λ nanoseconds. nanoseconds / 1000000000) time → BreaksText [] (due_table s.request hearing.judging.tables table since seconds) q r
         → Counts s (given ++ next) a c o r (Err halt.Write)
     ends_stuck time seconds r some time_is seconds_are breaks = record {
       gave = gave_all gave;

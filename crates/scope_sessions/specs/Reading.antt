@@ -15,7 +15,6 @@ use Rattle.scope_lines.specs.Writes.{HasRead}
 use Rattle.scope_sessions.specs.declared.count.Counted.{Counted}
 use Rattle.scope_sessions.specs.declared.count.CountHalt.{CountHalt}
 use Rattle.scope_sessions.specs.declared.count.CountHalt.TheVariants as halt
-use Rattle.scope_sessions.specs.Counting.{table_of}
 use Rattle.scope_sessions.specs.Texts.{BreaksText}
 
 -- the source is at its end, where the capture has no fault; and where it has one, then whatever
@@ -25,13 +24,14 @@ IsWhole given source_now None = IsAtEnd source_now
 IsWhole given source_now (Some fault) = capture_of (given ++ told source_now.bytes) ≡ capture_of given
 
 -- the tables that are asked for of a capture
-abbrev pub series_of : List Table → List GivenIsns → TableRequest → Series
-series_of tables given request = record { tables = tables; given = given; request = request }
+abbrev pub series_of : List Table → (laps : ℕ) → List GivenIsns → TableRequest → Series
+series_of tables laps given request =
+    record { judging = record { tables = tables; laps = laps }; given = given; request = request }
 
 -- all packets of the capture were counted
 pub record HasCounted (s : Series) (given : List ℕ) (source_now : Side) (counted : Counted) : Type 0 where
-  pub tables_are : counted.checker.tables ≡ s.tables
-  pub table_is : table_of counted.tally ≡ sessions_of s.tables s.given (capture_of given).packets
+  pub tables_are : counted.listener.judging.tables ≡ s.judging.tables
+  pub table_is : counted.index ≡ sessions_of s.judging s.given (capture_of given).packets
   pub fault_is : counted.fault ≡ (capture_of given).fault
   pub whole : IsWhole given source_now counted.fault
   pub has_read : HasRead given (capture_of given).packets

@@ -12,6 +12,7 @@ use Rattle.book_keys.specs.declared.fault.TableFault.TheVariants as fault
 use Rattle.book_keys.specs.Rows.{Table}
 use Rattle.book_keys.specs.Nodes.{tables_of}
 use Rattle.book_sessions.specs.GivenLines.{given_isns_of}
+use Rattle.book_sessions.specs.Laps.{Judging}
 use Rattle.book_sessions.specs.Sessions.{SessionTable, sessions_of}
 use Rattle.book_sessions.specs.SessionTexts.{has_amiss}
 use Rattle.book_sessions_json.specs.declared.form.TableForm.{TableForm}
@@ -24,19 +25,18 @@ use Rattle.scope_lines.specs.Writes.{HasRead}
 use Rattle.scope_sessions.specs.declared.count.Counted.{Counted}
 use Rattle.scope_sessions.specs.declared.write.SessionsHalt.{SessionsHalt}
 use Rattle.scope_sessions.specs.declared.write.SessionsHalt.TheVariants as halt
-use Rattle.scope_sessions.specs.Counting.{table_of}
 use Rattle.scope_sessions.specs.Reading.{BreaksEarly, IsWhole, Lacks, Stops, series_of}
 use Rattle.scope_sessions.specs.Texts.{BreaksText}
 
 -- the table of the packets of a capture (own)
-abbrev pub table_in : List Table → List GivenIsns → List ℕ → SessionTable
-table_in tables isns given = sessions_of tables isns (capture_of given).packets
+abbrev pub table_in : Judging → List GivenIsns → List ℕ → SessionTable
+table_in j isns given = sessions_of j isns (capture_of given).packets
 
 -- the whole capture was read, and its tables written (own)
 pub record Finishes (s : Series) (given : List ℕ) (source_now out_before out_now : Side) (amiss : Bool) : Type 0 where
   pub at_end : IsAtEnd source_now
   pub faultless : (capture_of given).fault ≡ None
-  pub amiss_is : amiss ≡ has_amiss (table_in s.tables s.given given)
+  pub amiss_is : amiss ≡ has_amiss (table_in s.judging s.given given)
   pub wrote : WasWritten (series_text s (capture_of given).packets) out_before out_now
 
 -- the capture has this fault, whatever follows in the source: the tables of the packets before it were written (own)
@@ -68,25 +68,25 @@ abbrev pub Nothing : List ℕ → (out_before out_now : Side) → Type 0
 Nothing given out_before out_now = (given ≡ []) × WasWritten [] out_before out_now
 
 -- how each end comes by a key file's tables: given lines that are refused end all before the capture is read (own)
-abbrev pub EndsWith : TableRequest → List Table → Result (List GivenIsns) TextFault → List ℕ → (source_before source_now out_before out_now : Side) → Result Bool SessionsHalt → Type 0
-EndsWith request tables (Ok isns) given source_before source_now out_before out_now result = Ends (series_of tables isns request) given source_before source_now out_before out_now result
-EndsWith request tables (Err why) given source_before source_now out_before out_now (Err (halt.IsnLine n kind)) = (why ≡ line_fault.Line n kind) × Nothing given out_before out_now
-EndsWith request tables (Err why) given source_before source_now out_before out_now (Err halt.TooManyIsns) = (why ≡ line_fault.TooManyLines) × Nothing given out_before out_now
-EndsWith request tables (Err why) given source_before source_now out_before out_now (Err halt.Memory) = Nothing given out_before out_now
-EndsWith request tables (Err why) given source_before source_now out_before out_now other = ⊥
+abbrev pub EndsWith : TableRequest → (laps : ℕ) → List Table → Result (List GivenIsns) TextFault → List ℕ → (source_before source_now out_before out_now : Side) → Result Bool SessionsHalt → Type 0
+EndsWith request laps tables (Ok isns) given source_before source_now out_before out_now result = Ends (series_of tables laps isns request) given source_before source_now out_before out_now result
+EndsWith request laps tables (Err why) given source_before source_now out_before out_now (Err (halt.IsnLine n kind)) = (why ≡ line_fault.Line n kind) × Nothing given out_before out_now
+EndsWith request laps tables (Err why) given source_before source_now out_before out_now (Err halt.TooManyIsns) = (why ≡ line_fault.TooManyLines) × Nothing given out_before out_now
+EndsWith request laps tables (Err why) given source_before source_now out_before out_now (Err halt.Memory) = Nothing given out_before out_now
+EndsWith request laps tables (Err why) given source_before source_now out_before out_now other = ⊥
 
 -- how each end comes: a key file that is refused ends all before the capture is read (own)
-abbrev pub EndsBy : TableRequest → Result (List Table) TableFault → Result (List GivenIsns) TextFault → List ℕ → (source_before source_now out_before out_now : Side) → Result Bool SessionsHalt → Type 0
-EndsBy request (Ok tables) isns given source_before source_now out_before out_now result = EndsWith request tables isns given source_before source_now out_before out_now result
-EndsBy request (Err why) isns given source_before source_now out_before out_now (Err (halt.Keys fault)) = (fault ≡ why) × Nothing given out_before out_now
-EndsBy request (Err why) isns given source_before source_now out_before out_now (Err halt.Memory) = Nothing given out_before out_now
-EndsBy request (Err why) isns given source_before source_now out_before out_now other = ⊥
+abbrev pub EndsBy : TableRequest → (laps : ℕ) → Result (List Table) TableFault → Result (List GivenIsns) TextFault → List ℕ → (source_before source_now out_before out_now : Side) → Result Bool SessionsHalt → Type 0
+EndsBy request laps (Ok tables) isns given source_before source_now out_before out_now result = EndsWith request laps tables isns given source_before source_now out_before out_now result
+EndsBy request laps (Err why) isns given source_before source_now out_before out_now (Err (halt.Keys fault)) = (fault ≡ why) × Nothing given out_before out_now
+EndsBy request laps (Err why) isns given source_before source_now out_before out_now (Err halt.Memory) = Nothing given out_before out_now
+EndsBy request laps (Err why) isns given source_before source_now out_before out_now other = ⊥
 
 -- the tables of a capture are written that are asked for, of which the source gave these bytes, by the key file of this text and the given lines of that one (own)
-pub record Writes (request : TableRequest) (keys isns given : List ℕ) (source_before source_now out_before out_now : Side) (result : Result Bool SessionsHalt) : Type 0 where
+pub record Writes (request : TableRequest) (laps : ℕ) (keys isns given : List ℕ) (source_before source_now out_before out_now : Side) (result : Result Bool SessionsHalt) : Type 0 where
   pub gave : Gave given source_before source_now
   pub bytes : All IsByte given
-  pub ends : EndsBy request (tables_of keys) (given_isns_of isns) given source_before source_now out_before out_now result
+  pub ends : EndsBy request laps (tables_of keys) (given_isns_of isns) given source_before source_now out_before out_now result
 
 -- why all ends where the key file has this fault
 abbrev pub halt_of : TableFault → SessionsHalt
@@ -101,11 +101,11 @@ halt_of_lines (line_fault.Line n kind) = halt.IsnLine n kind
 
 -- the last table, that of what was counted, is written
 abbrev pub WritesCounted : TableForm → Counted → (out_before out_now : Side) → Result Bool SessionsHalt → Type 0
-WritesCounted form counted out_before out_now (Ok amiss) = (counted.fault ≡ None) × (amiss ≡ has_amiss (table_of counted.tally))
-    × WasWritten (written_as form counted.checker.tables (table_of counted.tally)) out_before out_now
+WritesCounted form counted out_before out_now (Ok amiss) = (counted.fault ≡ None) × (amiss ≡ has_amiss counted.index)
+    × WasWritten (written_as form counted.listener.judging.tables counted.index) out_before out_now
 WritesCounted form counted out_before out_now (Err (halt.Broken fault)) = (counted.fault ≡ Some fault)
-    × WasWritten (written_as form counted.checker.tables (table_of counted.tally)) out_before out_now
+    × WasWritten (written_as form counted.listener.judging.tables counted.index) out_before out_now
 WritesCounted form counted out_before out_now (Err halt.Write) =
-    BreaksText [] (written_as form counted.checker.tables (table_of counted.tally)) out_before out_now
+    BreaksText [] (written_as form counted.listener.judging.tables counted.index) out_before out_now
 WritesCounted form counted out_before out_now (Err halt.Memory) = WasWritten [] out_before out_now
 WritesCounted form counted out_before out_now (Err other) = ⊥

@@ -2,25 +2,25 @@
 ghost use Rattle.std.specs.Prelude.{◌≡◌, ◌≤◌, ◌<◌, ℕ, List, IfOk, IsSome, Ok, OnOk, Some, drop, length, take};
 ghost use Rattle.ao_base.specs.Outside.{Side};
 ghost use Rattle.book_captures.specs.Captures.{CapturePacket};
-ghost use Rattle.book_cmd_check.specs.Captures.{Connection};
 ghost use Rattle.book_pcap.specs.Packets.{longest_datagram};
+ghost use Rattle.book_sessions.specs.Listening.{Listening};
 ghost use Rattle.book_sessions.specs.Sessions.{stored_by};
-ghost use Rattle.capture_check.specs.Checkers.{StandsFor};
+ghost use Rattle.capture_listener.specs.Listeners.{Knows};
 ghost use Rattle.scope_lines.specs.Writes.{found_in};
-ghost use Rattle.scope_sessions.specs.Counting.{CountsPacket, CountsStored, table_of};
+ghost use Rattle.scope_sessions.specs.Counting.{CountsPacket, CountsStored};
 ghost use Rattle.scope_sessions.specs.Reading.{Counts, series_of};
 
 use crate::due::{TextHalt, counted_since, second_of, write_due};
 use crate::heard::hear;
-use crate::holding::checker_of;
-use crate::tally::Tally;
+use crate::holding::listener_of;
 use ao_base::{Sink, Source, Steps};
 use book_sessions::{GivenIsns, PassedOver};
 use book_sessions_json::TableRequest;
-use capture_check::Checker;
+use capture_listener::Listener;
 use capture_reader::FoundDatagram;
 use capture_stream::{CaptureFault, CaptureHalt, CaptureReader, CaptureStep, Skipped};
 use key_table::Tables;
+use session_index::SessionIndex;
 use std::alloc::{AllocError, Global};
 use std::marker::Brand;
 use std::sync::ledger::{Blank, Ledger};
@@ -45,11 +45,11 @@ pub(crate) enum CountHalt {
 }
 
 /// The packets of a capture, counted; the fault that the capture has behind them, if it has one; and the
-/// checker that judged them, with its tables.
+/// listener that judged them, with its tables.
 #[derive(Drop)]
 pub(crate) struct Counted {
-    pub(crate) checker: Checker,
-    pub(crate) tally: Tally,
+    pub(crate) listener: Listener,
+    pub(crate) index: SessionIndex,
     pub(crate) fault: Option<CaptureFault>,
 }
 
@@ -64,27 +64,27 @@ fn judged(frame: &[u8], first: usize) -> &[u8]
 
 // Counts the bytes that were stored at a time, in seconds since 1970.
 fn count_stored<L: Ledger>(
-    checker: &mut Checker,
-    tally: &mut Tally,
+    listener: &mut Listener,
+    index: &mut SessionIndex,
     alloc: Global,
     steps: &mut Steps<L>,
     time: u64,
     bytes: &[u8],
 ) -> Result<(), AllocError>
-    ensures counts { (held : List Connection) (number : ℕ) → StandsFor checker.old.entries held → OnOk result
-        (CountsStored checker.old.tables held checker.new.entries (table_of tally.old) (table_of tally.new) (Ok (record { number = number; time = time; bytes = bytes.now }))) }
-    ensures tables { checker.new.tables ≡ checker.old.tables }
+    ensures counts { (k : Listening) (number : ℕ) → Knows listener.old k → OnOk result
+        (CountsStored listener.old.judging k listener.new index.old index.new (Ok (record { number = number; time = time; bytes = bytes.now }))) }
+    ensures judging { listener.new.judging ≡ listener.old.judging }
 {
-    match hear(checker, alloc, steps, time, bytes) {
-        Ok(seen) => tally.count(&seen),
+    match hear(listener, alloc, steps, time, bytes) {
+        Ok(seen) => index.count(alloc, &seen),
         Err(error) => Err(error),
     }
 }
 
 // Counts a packet whose frame has this datagram, or none for this reason.
 fn count_found<L: Ledger>(
-    checker: &mut Checker,
-    tally: &mut Tally,
+    listener: &mut Listener,
+    index: &mut SessionIndex,
     alloc: Global,
     steps: &mut Steps<L>,
     time: Option<u64>,
@@ -92,17 +92,17 @@ fn count_found<L: Ledger>(
     found: Result<FoundDatagram, Skipped>,
 ) -> Result<(), AllocError>
     requires { IfOk found (λ d. (d.first ≤ d.after) × (d.after ≤ length frame.now)) }
-    ensures counts { (held : List Connection) (number : ℕ) → StandsFor checker.old.entries held → OnOk result
-        (CountsStored checker.old.tables held checker.new.entries (table_of tally.old) (table_of tally.new) (stored_by number time (found_in frame.now found))) }
-    ensures tables { checker.new.tables ≡ checker.old.tables }
+    ensures counts { (k : Listening) (number : ℕ) → Knows listener.old k → OnOk result
+        (CountsStored listener.old.judging k listener.new index.old index.new (stored_by number time (found_in frame.now found))) }
+    ensures judging { listener.new.judging ≡ listener.old.judging }
 {
     match found {
-        Err(why) => tally.count(&Err(PassedOver::NoDatagram(why))),
+        Err(why) => index.count(alloc, &Err(PassedOver::NoDatagram(why))),
         Ok(datagram) => match time {
-            None => tally.count(&Err(PassedOver::NoTime)),
+            None => index.count(alloc, &Err(PassedOver::NoTime)),
             Some(time) => count_stored(
-                checker,
-                tally,
+                listener,
+                index,
                 alloc,
                 steps,
                 time / NANOSECONDS,
@@ -114,20 +114,20 @@ fn count_found<L: Ledger>(
 
 // Counts the packet that the reader shows.
 fn count_packet<L: Ledger>(
-    checker: &mut Checker,
-    tally: &mut Tally,
+    listener: &mut Listener,
+    index: &mut SessionIndex,
     alloc: Global,
     steps: &mut Steps<L>,
     reader: &CaptureReader,
 ) -> Result<(), AllocError>
     requires { IsSome reader.now.packet }
-    ensures counts { (held : List Connection) (p : CapturePacket) → reader.now.packet ≡ Some p → StandsFor checker.old.entries held → OnOk result
-        (CountsPacket checker.old.tables held checker.new.entries (table_of tally.old) (table_of tally.new) p) }
-    ensures tables { checker.new.tables ≡ checker.old.tables }
+    ensures counts { (k : Listening) (p : CapturePacket) → reader.now.packet ≡ Some p → Knows listener.old k → OnOk result
+        (CountsPacket listener.old.judging k listener.new index.old index.new p) }
+    ensures judging { listener.new.judging ≡ listener.old.judging }
 {
     count_found(
-        checker,
-        tally,
+        listener,
+        index,
         alloc,
         steps,
         reader.time(),
@@ -140,6 +140,7 @@ fn count_packet<L: Ledger>(
 fn count_counted<L: Ledger, I: Source, O: Sink>(
     alloc: Global,
     tables: Tables,
+    laps: u32,
     isns: &[GivenIsns],
     request: TableRequest,
     input: &mut I,
@@ -149,18 +150,18 @@ fn count_counted<L: Ledger, I: Source, O: Sink>(
     requires name { blank.name ≡ L.name }
     requires parts { blank.parts ≡ L.parts }
     requires part { 0 < blank.parts }
-    ensures { (given : List ℕ) × Counts (series_of tables isns.now request) given (I.side input.old) (I.side input.new) (O.side out.old) (O.side out.new) result }
+    ensures { (given : List ℕ) × Counts (series_of tables laps isns.now request) given (I.side input.old) (I.side input.new) (O.side out.old) (O.side out.new) result }
 {
     let mut steps = Steps::<L>::new(blank);
     let mut reader = match CaptureReader::new(alloc) {
         Ok(reader) => reader,
         Err(_) => return Err(CountHalt::Memory),
     };
-    let mut checker = match checker_of(alloc, tables, isns) {
-        Ok(checker) => checker,
+    let mut listener = match listener_of(alloc, tables, laps, isns) {
+        Ok(listener) => listener,
         Err(_) => return Err(CountHalt::Memory),
     };
-    let mut tally = Tally::new(alloc);
+    let mut index = SessionIndex::new(alloc);
     let mut since = None;
     'parts: loop {
         match reader.next(input) {
@@ -168,8 +169,8 @@ fn count_counted<L: Ledger, I: Source, O: Sink>(
             Ok(CaptureStep::Block) => continue 'parts,
             Ok(CaptureStep::End) => {
                 return Ok(Counted {
-                    checker,
-                    tally,
+                    listener,
+                    index,
                     fault: None,
                 });
             }
@@ -177,40 +178,50 @@ fn count_counted<L: Ledger, I: Source, O: Sink>(
             Err(CaptureHalt::TooLong) => return Err(CountHalt::TooLong),
             Err(CaptureHalt::Broken(fault)) => {
                 return Ok(Counted {
-                    checker,
-                    tally,
+                    listener,
+                    index,
                     fault: Some(fault),
                 });
             }
         }
         let now = second_of(reader.time());
-        match write_due(alloc, request, checker.tables(), &tally, since, now, out) {
+        match write_due(alloc, request, listener.tables(), &index, since, now, out) {
             Ok(()) => {}
             Err(TextHalt::Write) => return Err(CountHalt::Write),
             Err(TextHalt::Memory) => return Err(CountHalt::Memory),
         }
         since = counted_since(request.every, since, now);
-        match count_packet(&mut checker, &mut tally, alloc, &mut steps, &reader) {
+        match count_packet(&mut listener, &mut index, alloc, &mut steps, &reader) {
             Ok(()) => {}
             Err(_) => return Err(CountHalt::Memory),
         }
     }
 }
 
-/// Counts the packets of a capture, judged by the tables as behind handshakes with the given initial
-/// sequence numbers, up to its end or its fault, and writes each table that is due in front of a packet
+/// Counts the packets of a capture, judged by the tables and over so many laps as behind handshakes with the
+/// given initial sequence numbers, up to its end or its fault, and writes each table that is due in front of a packet
 /// before that packet is counted. Read only where the source's count of faults rose; Write only where the
 /// sink's did; TooLong only where the source gave more than 2^63 bytes; and Memory for want of memory, or
 /// where 2^64 - 1 packets of one kind are counted.
 pub(crate) fn count_capture<I: Source, O: Sink>(
     alloc: Global,
     tables: Tables,
+    laps: u32,
     isns: &[GivenIsns],
     request: TableRequest,
     input: &mut I,
     out: &mut O,
 ) -> Result<Counted, CountHalt>
-    ensures { (given : List ℕ) × Counts (series_of tables isns.now request) given (I.side input.old) (I.side input.new) (O.side out.old) (O.side out.new) result }
+    ensures { (given : List ℕ) × Counts (series_of tables laps isns.now request) given (I.side input.old) (I.side input.new) (O.side out.old) (O.side out.new) result }
 {
-    count_counted::<Brand, I, O>(alloc, tables, isns, request, input, out, Blank::new(1))
+    count_counted::<Brand, I, O>(
+        alloc,
+        tables,
+        laps,
+        isns,
+        request,
+        input,
+        out,
+        Blank::new(1),
+    )
 }

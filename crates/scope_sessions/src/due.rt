@@ -3,16 +3,15 @@ ghost use Rattle.std.specs.Prelude.{◌≡◌, ◌++◌, ◌+◌, ◌/◌, OnOk,
 ghost use Rattle.ao_base.specs.Outside.{Side};
 ghost use Rattle.book_sessions_json.specs.Forms.{written_as};
 ghost use Rattle.book_sessions_json.specs.TableSeries.{counted_since, due_table, is_table_due, time_line};
-ghost use Rattle.scope_sessions.specs.Counting.{table_of};
 ghost use Rattle.scope_sessions.specs.Texts.{WritesText};
 
 use crate::json_table::push_json;
 use crate::session_texts::push_time;
 use crate::table_text::push_table;
-use crate::tally::Tally;
 use ao_base::{Failed, Sink, write_all};
 use book_sessions_json::{TableForm, TableRequest};
 use key_table::Tables;
+use session_index::SessionIndex;
 use std::alloc::{AllocError, Global};
 use text_lines::push_newline;
 
@@ -88,13 +87,13 @@ pub(crate) fn push_form(
     form: TableForm,
     text: &mut Vec<u8>,
     tables: &Tables,
-    tally: &Tally,
+    index: &SessionIndex,
 ) -> Result<(), AllocError>
-    ensures { OnOk result (text.new.items ≡ text.old.items ++ written_as form tables.now (table_of tally.now)) }
+    ensures { OnOk result (text.new.items ≡ text.old.items ++ written_as form tables.now index.now) }
 {
     match form {
-        TableForm::Lines => push_table(text, tables, tally),
-        TableForm::Json => push_json(alloc, text, tables, tally),
+        TableForm::Lines => push_table(alloc, text, tables, index),
+        TableForm::Json => push_json(alloc, text, tables, index),
     }
 }
 
@@ -121,12 +120,12 @@ fn push_due(
     form: TableForm,
     text: &mut Vec<u8>,
     tables: &Tables,
-    tally: &Tally,
+    index: &SessionIndex,
     now: Option<u64>,
 ) -> Result<(), AllocError>
-    ensures { OnOk result (text.new.items ≡ text.old.items ++ (written_as form tables.now (table_of tally.now) ++ time_line form now)) }
+    ensures { OnOk result (text.new.items ≡ text.old.items ++ (written_as form tables.now index.now ++ time_line form now)) }
 {
-    push_form(alloc, form, text, tables, tally)?;
+    push_form(alloc, form, text, tables, index)?;
     push_end(text, form, now)
 }
 
@@ -145,14 +144,14 @@ fn write_table<O: Sink>(
     alloc: Global,
     form: TableForm,
     tables: &Tables,
-    tally: &Tally,
+    index: &SessionIndex,
     now: Option<u64>,
     out: &mut O,
 ) -> Result<(), TextHalt>
-    ensures { WritesText (written_as form tables.now (table_of tally.now) ++ time_line form now) (O.side out.old) (O.side out.new) result }
+    ensures { WritesText (written_as form tables.now index.now ++ time_line form now) (O.side out.old) (O.side out.new) result }
 {
     let mut text = Vec::new(alloc);
-    match push_due(alloc, form, &mut text, tables, tally, now) {
+    match push_due(alloc, form, &mut text, tables, index, now) {
         Ok(()) => write_text(text.as_slice(), out),
         Err(_) => Err(TextHalt::Memory),
     }
@@ -163,15 +162,15 @@ pub(crate) fn write_due<O: Sink>(
     alloc: Global,
     request: TableRequest,
     tables: &Tables,
-    tally: &Tally,
+    index: &SessionIndex,
     since: Option<u64>,
     now: Option<u64>,
     out: &mut O,
 ) -> Result<(), TextHalt>
-    ensures { WritesText (due_table request tables.now (table_of tally.now) since now) (O.side out.old) (O.side out.new) result }
+    ensures { WritesText (due_table request tables.now index.now since now) (O.side out.old) (O.side out.new) result }
 {
     if is_due(request.every, since, now) {
-        write_table(alloc, request.form, tables, tally, now, out)
+        write_table(alloc, request.form, tables, index, now, out)
     } else {
         Ok(())
     }

@@ -75,7 +75,7 @@ fn read_lines(alloc: Global, mut lines: SayingLines) -> Result<Vec<GivenIsns>, T
 
 /// What the lines of a text give: of each line that says something two sockets, each with its initial
 /// sequence number. The fault of the text, unless memory ran out.
-pub(crate) fn read_given(alloc: Global, text: &[u8]) -> Result<Vec<GivenIsns>, TextFault>
+pub fn read_given(alloc: Global, text: &[u8]) -> Result<Vec<GivenIsns>, TextFault>
     ensures { MatchResult result (λ v. given_isns_of text.now ≡ Ok v.items) (λ e. Fails e (given_isns_of text.now)) }
 {
     let _count = count_lines(text)?;

@@ -1,5 +1,6 @@
 //! The keys of a key file in JSON.
-ghost use Rattle.std.specs.Prelude.{◌≡◌, ◌++◌, ◌∷◌, [], ℕ, IfOk, List, OnOk, codes, decimal, false, is_some, true};
+ghost use Rattle.std.specs.Prelude.{◌≡◌, ◌++◌, ◌∷◌, [], ℕ, IfOk, List, OnOk, codes, decimal, false, filter, is_some, true};
+ghost use Rattle.book_sessions.specs.KeyLines.{is_current};
 ghost use Rattle.book_sessions_json.specs.Json.{json_items};
 ghost use Rattle.book_sessions_json.specs.SessionJson.{asked_for_json, key_json, keys_json, last_used_json, may_go_json, rows_json};
 ghost use Rattle.scope_sessions.specs.JsonParts.{id_members, node_members, state_members};
@@ -103,15 +104,17 @@ fn push_key(
     alloc: Global,
     out: &mut Vec<u8>,
     uses: &[KeyUse],
+    currents: &[KeyUse],
     table: &Table,
     number: u64,
     row: &Row,
 ) -> Result<(), AllocError>
+    requires { currents.now ≡ filter (is_current uses.now) uses.now }
     ensures { OnOk result (out.new.items ≡ out.old.items ++ key_json uses.now table.now number row.now) }
 {
     let last = last_carrying(uses, table, row);
-    let wanted = is_wanted(uses, table, row);
-    let asked = asking(uses, table, row);
+    let wanted = is_wanted(currents, table, row);
+    let asked = asking(currents, table, row);
     let may = may_go_word(last, wanted);
     push_node(out, table, number)?;
     push_ids(out, row)?;
@@ -126,34 +129,39 @@ fn push_rows(
     out: &mut Vec<u8>,
     first: bool,
     uses: &[KeyUse],
+    currents: &[KeyUse],
     table: &Table,
     rows: &[Row],
 ) -> Result<bool, AllocError>
+    requires { currents.now ≡ filter (is_current uses.now) uses.now }
     ensures { (others : List (List ℕ)) → IfOk result (λ still. out.new.items ++ json_items still others
         ≡ out.old.items ++ json_items first (rows_json uses.now table.now 1 rows.now ++ others)) }
 {
     let mut still = first;
     for (i, row) in rows.iter().enumerate() {
         push_comma(out, still)?;
-        push_key(alloc, out, uses, table, i as u64 + 1, row)?;
+        push_key(alloc, out, uses, currents, table, i as u64 + 1, row)?;
         still = false;
     }
     Ok(still)
 }
 
-/// Puts the rows of all nodes behind `out`, a comma between each two.
+/// Puts the rows of all nodes behind `out`, a comma between each two, by the segments and those of them
+/// that are current.
 pub(crate) fn push_keys(
     alloc: Global,
     out: &mut Vec<u8>,
     uses: &[KeyUse],
+    currents: &[KeyUse],
     tables: &Tables,
 ) -> Result<(), AllocError>
+    requires { currents.now ≡ filter (is_current uses.now) uses.now }
     ensures { OnOk result (out.new.items ≡ out.old.items ++ json_items true (keys_json uses.now tables.now)) }
 {
     let mut first = true;
     for i in 0..tables.nodes() {
         let table = tables.node(i + 1);
-        let still = push_rows(alloc, out, first, uses, table, table.entries())?;
+        let still = push_rows(alloc, out, first, uses, currents, table, table.entries())?;
         first = still;
     }
     Ok(())

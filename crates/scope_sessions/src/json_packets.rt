@@ -3,15 +3,14 @@ ghost use Rattle.std.specs.Prelude.{◌≡◌, ◌++◌, ◌∷◌, [], OnOk, co
 ghost use Rattle.book_sessions.specs.OutcomeTexts.{passed_text};
 ghost use Rattle.book_sessions_json.specs.Json.{json_array, json_items, json_member, json_string};
 ghost use Rattle.book_sessions_json.specs.SessionJson.{first_json, last_json, packets_json, passed_json};
-ghost use Rattle.scope_sessions.specs.Counting.{table_of};
 
 use crate::json_values::{push_comma, push_name, push_string, push_time};
 use crate::passed_texts::push_passed;
 use crate::session_texts::{earliest_seen, latest_seen};
 use crate::table_text::{all_counted, all_passed};
-use crate::tally::Tally;
 use ao_base::push_decimal;
 use book_sessions::{KeyUse, PassedCount, PassedOver};
+use session_index::SessionIndex;
 use std::alloc::{AllocError, Global};
 
 // Puts why packets are passed over behind `out`.
@@ -117,18 +116,18 @@ fn push_others(
 pub(crate) fn push_packets(
     alloc: Global,
     out: &mut Vec<u8>,
-    tally: &Tally,
+    index: &SessionIndex,
 ) -> Result<(), AllocError>
-    ensures { OnOk result (out.new.items ≡ out.old.items ++ packets_json (table_of tally.now)) }
+    ensures { OnOk result (out.new.items ≡ out.old.items ++ packets_json index.now) }
 {
-    let segments = match all_counted(tally.uses.as_slice()) {
+    let segments = match all_counted(index.uses()) {
         None => return Err(AllocError),
         Some(segments) => segments,
     };
-    let others = match all_passed(tally.passed.as_slice()) {
+    let others = match all_passed(index.passed()) {
         None => return Err(AllocError),
         Some(others) => others,
     };
-    push_seen(alloc, out, segments, tally.uses.as_slice())?;
-    push_others(alloc, out, others, tally.passed.as_slice())
+    push_seen(alloc, out, segments, index.uses())?;
+    push_others(alloc, out, others, index.passed())
 }

@@ -11,10 +11,11 @@ use crate::json_values::{
     push_address_text, push_bool, push_comma, push_id, push_name, push_string, push_time,
 };
 use crate::session_texts::{first_of, is_of_session, is_opened};
-use crate::words::{is_same_socket, outcome_name};
+use crate::words::is_same_socket;
 use ao_base::push_decimal;
 use book_base::Socket;
 use book_sessions::KeyUse;
+use session_index::{SessionIndex, outcome_word};
 use std::alloc::{AllocError, Global};
 
 #[tactic(auto, unfolding(book_sessions_json::specs::SessionJson::end_json))]
@@ -60,7 +61,7 @@ fn push_sender(out: &mut Vec<u8>, heading: &KeyUse, one: &KeyUse) -> Result<(), 
     push_name(out, b',', b"key_id")?;
     push_id(out, one.key_id)?;
     push_name(out, b',', b"outcome")?;
-    push_string(out, outcome_name(one.outcome))
+    push_string(out, outcome_word(one.outcome))
 }
 
 // Puts the next members of segments behind `out`: how many they are, and when they were seen.
@@ -193,18 +194,30 @@ fn push_session(
     }
 }
 
-/// Puts the sessions of all numbers up to this one behind `out`, a comma between each two.
+// Puts the session of this number behind `out`, by its own segments.
+fn push_own(
+    alloc: Global,
+    out: &mut Vec<u8>,
+    index: &SessionIndex,
+    number: u64,
+) -> Result<(), AllocError>
+    ensures { OnOk result (out.new.items ≡ out.old.items ++ session_json index.now.uses number) }
+{
+    let own = index.uses_of(alloc, number)?;
+    push_session(alloc, out, number, own.as_slice())
+}
+
+/// Puts all sessions behind `out`, a comma between each two.
 pub(crate) fn push_sessions(
     alloc: Global,
     out: &mut Vec<u8>,
-    uses: &[KeyUse],
-    last: u64,
+    index: &SessionIndex,
 ) -> Result<(), AllocError>
-    ensures { OnOk result (out.new.items ≡ out.old.items ++ json_items true (map (session_json uses.now) (numbers_to last))) }
+    ensures { OnOk result (out.new.items ≡ out.old.items ++ json_items true (map (session_json index.now.uses) (numbers_to index.now.sessions))) }
 {
-    for i in 0..last {
+    for i in 0..index.sessions() {
         push_comma(out, i == 0)?;
-        push_session(alloc, out, i + 1, uses)?;
+        push_own(alloc, out, index, i + 1)?;
     }
     Ok(())
 }

@@ -1,33 +1,30 @@
 //! The whole table in JSON.
-ghost use Rattle.std.specs.Prelude.{◌≡◌, ◌++◌, ◌∷◌, [], List, OnOk, codes, map};
-ghost use Rattle.book_sessions.specs.declared.uses.KeyUse.{KeyUse as Use};
+ghost use Rattle.std.specs.Prelude.{◌≡◌, ◌++◌, ◌∷◌, [], OnOk, codes, map};
 ghost use Rattle.book_sessions.specs.SessionTexts.{has_amiss};
 ghost use Rattle.book_sessions_json.specs.Json.{json_array, json_bool, json_member};
 ghost use Rattle.book_sessions_json.specs.SessionJson.{keys_json, numbers_to, packets_json, session_json, sessions_json};
-ghost use Rattle.scope_sessions.specs.Counting.{table_of};
 
 use crate::json_keys::push_keys;
 use crate::json_packets::push_packets;
 use crate::json_sessions::push_sessions;
 use crate::json_values::{push_bool, push_name};
+use crate::last_use::currents;
 use crate::table_text::has_amiss;
-use crate::tally::Tally;
-use book_sessions::KeyUse;
 use key_table::Tables;
+use session_index::SessionIndex;
 use std::alloc::{AllocError, Global};
 
-// Puts the sessions of all numbers up to this one behind `out`, as a member.
+// Puts all sessions behind `out`, as a member.
 fn push_all_sessions(
     alloc: Global,
     out: &mut Vec<u8>,
-    uses: &[KeyUse],
-    last: u64,
+    index: &SessionIndex,
 ) -> Result<(), AllocError>
-    ensures { OnOk result (out.new.items ≡ out.old.items ++ (44 ∷ json_member (codes "sessions") (json_array (map (session_json uses.now) (numbers_to last))))) }
+    ensures { OnOk result (out.new.items ≡ out.old.items ++ (44 ∷ json_member (codes "sessions") (json_array (map (session_json index.now.uses) (numbers_to index.now.sessions))))) }
 {
     push_name(out, b',', b"sessions")?;
     out.push(b'[')?;
-    push_sessions(alloc, out, uses, last)?;
+    push_sessions(alloc, out, index)?;
     out.push(b']')?;
     Ok(())
 }
@@ -36,14 +33,15 @@ fn push_all_sessions(
 fn push_all_keys(
     alloc: Global,
     out: &mut Vec<u8>,
-    uses: &[KeyUse],
+    index: &SessionIndex,
     tables: &Tables,
 ) -> Result<(), AllocError>
-    ensures { OnOk result (out.new.items ≡ out.old.items ++ (44 ∷ json_member (codes "keys") (json_array (keys_json uses.now tables.now)))) }
+    ensures { OnOk result (out.new.items ≡ out.old.items ++ (44 ∷ json_member (codes "keys") (json_array (keys_json index.now.uses tables.now)))) }
 {
+    let currents = currents(alloc, index)?;
     push_name(out, b',', b"keys")?;
     out.push(b'[')?;
-    push_keys(alloc, out, uses, tables)?;
+    push_keys(alloc, out, index.uses(), currents.as_slice(), tables)?;
     out.push(b']')?;
     Ok(())
 }
@@ -64,13 +62,13 @@ pub(crate) fn push_json(
     alloc: Global,
     out: &mut Vec<u8>,
     tables: &Tables,
-    tally: &Tally,
+    index: &SessionIndex,
 ) -> Result<(), AllocError>
-    ensures { OnOk result (out.new.items ≡ out.old.items ++ sessions_json tables.now (table_of tally.now)) }
+    ensures { OnOk result (out.new.items ≡ out.old.items ++ sessions_json tables.now index.now) }
 {
     push_name(out, b'{', b"packets")?;
-    push_packets(alloc, out, tally)?;
-    push_all_sessions(alloc, out, tally.uses.as_slice(), tally.sessions)?;
-    push_all_keys(alloc, out, tally.uses.as_slice(), tables)?;
-    push_amiss(out, has_amiss(tally))
+    push_packets(alloc, out, index)?;
+    push_all_sessions(alloc, out, index)?;
+    push_all_keys(alloc, out, index, tables)?;
+    push_amiss(out, has_amiss(index))
 }

@@ -1,8 +1,9 @@
 //! The lines of the keys of a key file.
-ghost use Rattle.std.specs.Prelude.{◌≡◌, ◌++◌, ◌∷◌, [], OnOk, codes, decimal};
+ghost use Rattle.std.specs.Prelude.{◌≡◌, ◌++◌, ◌∷◌, [], OnOk, codes, decimal, filter};
 ghost use Rattle.std.specs.List.{flat_map};
 ghost use Rattle.book_lines.specs.Texts.{spaced};
-ghost use Rattle.book_sessions.specs.KeyLines.{asking_texts, key_line, key_lines, keys_lines, last_texts, may_go_text};
+ghost use Rattle.scope_sessions.specs.KeyRows.{found_line};
+ghost use Rattle.book_sessions.specs.KeyLines.{asking_texts, is_current, key_line, key_lines, keys_lines, last_texts, may_go_text};
 
 use crate::last_use::{asking, is_wanted, last_carrying};
 use crate::session_texts::{push_host, push_time};
@@ -81,46 +82,70 @@ fn push_state(
     Ok(())
 }
 
+// Puts the line of a row behind `out`, of which this was found.
+fn push_found(
+    out: &mut Vec<u8>,
+    table: &Table,
+    number: u64,
+    row: &Row,
+    last: Option<KeyUse>,
+    asking: Option<KeyUse>,
+    wanted: bool,
+) -> Result<(), AllocError>
+    ensures { OnOk result (out.new.items ≡ out.old.items ++ found_line table.now number row.now last asking wanted) }
+{
+    let may = may_go_word(last.is_some(), wanted);
+    push_row(out, table, number, row)?;
+    push_state(out, last, asking, may)
+}
+
 fn push_key(
     out: &mut Vec<u8>,
     uses: &[KeyUse],
+    currents: &[KeyUse],
     table: &Table,
     number: u64,
     row: &Row,
 ) -> Result<(), AllocError>
+    requires { currents.now ≡ filter (is_current uses.now) uses.now }
     ensures { OnOk result (out.new.items ≡ out.old.items ++ key_line uses.now table.now number row.now) }
 {
     let last = last_carrying(uses, table, row);
-    let may = may_go_word(last.is_some(), is_wanted(uses, table, row));
-    push_row(out, table, number, row)?;
-    push_state(out, last, asking(uses, table, row), may)
+    let wanted = is_wanted(currents, table, row);
+    let asked = asking(currents, table, row);
+    push_found(out, table, number, row, last, asked, wanted)
 }
 
 fn push_rows(
     out: &mut Vec<u8>,
     uses: &[KeyUse],
+    currents: &[KeyUse],
     table: &Table,
     rows: &[Row],
 ) -> Result<(), AllocError>
+    requires { currents.now ≡ filter (is_current uses.now) uses.now }
     ensures { OnOk result (out.new.items ≡ out.old.items ++ key_lines uses.now table.now 1 rows.now) }
 {
     for (i, row) in rows.iter().enumerate() {
-        push_key(out, uses, table, i as u64 + 1, row)?;
+        push_key(out, uses, currents, table, i as u64 + 1, row)?;
     }
     Ok(())
 }
 
-/// Puts the lines of the rows of all nodes behind `out`.
+/// Puts the lines of the rows of all nodes behind `out`, by the segments and those of them that are
+/// current.
 pub(crate) fn push_keys(
     out: &mut Vec<u8>,
     uses: &[KeyUse],
+    currents: &[KeyUse],
     tables: &Tables,
 ) -> Result<(), AllocError>
+    requires { currents.now ≡ filter (is_current uses.now) uses.now }
     ensures { OnOk result (out.new.items ≡ out.old.items ++ keys_lines uses.now tables.now) }
 {
     for i in 0..tables.nodes() {
         let table = tables.node(i + 1);
-        push_rows(out, uses, table, table.entries())?;
+        push_rows(out, uses, currents, table, table.entries())?;
     }
     Ok(())
 }

@@ -1,13 +1,17 @@
 //! Who used a key last, and whether anyone asks for it.
-ghost use Rattle.std.specs.Prelude.{◌≡◌, not, Some, if◌then◌else◌};
+ghost use Rattle.std.specs.Prelude.{◌≡◌, ◌++◌, ◌∷◌, ◌||◌, not, IfOk, List, OnOk, Some, cond, filter, if◌then◌else◌};
 ghost use Rattle.std.specs.List.{find, list_any};
 ghost use Rattle.book_segments.specs.Sockets.{same_address};
-ghost use Rattle.book_sessions.specs.KeyLines.{asks_for_row, asks_row_still, between, carries_row, is_current, is_id, is_of_row, is_wanted, last_of, later_of, overtakes, uses_row_still};
+ghost use Rattle.book_sessions.specs.declared.uses.KeyUse.{KeyUse as Use};
+ghost use Rattle.book_sessions.specs.KeyLines.{asks_for_row, asks_row_still, between, carries_row, is_current, is_id, is_of_row, is_wanted, last_of, later_of, overtakes};
+ghost use Rattle.session_index.specs.Places.{number_between};
 
 use crate::words::{is_same_id, is_same_socket, is_verified};
 use book_base::{Address, Pair, Socket};
 use book_sessions::KeyUse;
 use key_table::{Row, Table};
+use session_index::SessionIndex;
+use std::alloc::{AllocError, Global};
 
 fn is_same_address(one: Address, two: Address) -> bool
     ensures { result ≡ same_address one two }
@@ -87,6 +91,7 @@ fn overtakes(later: &KeyUse, earlier: &KeyUse) -> bool
             && earlier.last < later.last)
 }
 
+// Whether no later ones of these go the same way with another KeyID and a right MAC.
 fn is_current(uses: &[KeyUse], one: &KeyUse) -> bool
     ensures { result ≡ is_current uses.now one.now }
 {
@@ -98,47 +103,83 @@ fn is_current(uses: &[KeyUse], one: &KeyUse) -> bool
     true
 }
 
-fn uses_row_still(uses: &[KeyUse], table: &Table, row: &Row, one: &KeyUse) -> bool
-    ensures { result ≡ uses_row_still uses.now table.now row.now one.now }
+// Puts the segments behind others, if they are chosen.
+fn push_chosen(out: &mut Vec<KeyUse>, chosen: bool, one: &KeyUse) -> Result<(), AllocError>
+    ensures { (others : List Use) → OnOk result (out.new.items ++ others ≡ out.old.items ++ cond chosen (one.now ∷ others) others) }
 {
-    carries_row(table, row, one) && is_current(uses, one)
+    if chosen {
+        out.push(*one)?;
+    }
+    Ok(())
 }
 
-fn asks_row_still(uses: &[KeyUse], table: &Table, row: &Row, one: &KeyUse) -> bool
-    ensures { result ≡ asks_row_still uses.now table.now row.now one.now }
+// Puts the segments behind others, if they are current.
+fn push_current(
+    alloc: Global,
+    out: &mut Vec<KeyUse>,
+    index: &SessionIndex,
+    one: &KeyUse,
+) -> Result<(), AllocError>
+    requires { number_between one.now.source one.now.destination index.now.uses ≡ Some one.now.session }
+    ensures { (others : List Use) → OnOk result (out.new.items ++ others ≡ out.old.items ++ cond (is_current index.now.uses one.now) (one.now ∷ others) others) }
 {
-    asks_for_row(table, row, one) && is_current(uses, one)
+    let _uses = index.uses();
+    let own = index.uses_of(alloc, one.session)?;
+    push_chosen(out, is_current(own.as_slice(), one), one)
 }
 
-fn is_used_still(uses: &[KeyUse], table: &Table, row: &Row) -> bool
-    ensures { result ≡ list_any (uses_row_still uses.now table.now row.now) uses.now }
+/// The segments that no later ones of their way overtake, found among those of their own session.
+pub(crate) fn currents(alloc: Global, index: &SessionIndex) -> Result<Vec<KeyUse>, AllocError>
+    ensures { IfOk result (λ v. v.items ≡ filter (is_current index.now.uses) index.now.uses) }
 {
-    uses.iter().any(|one| uses_row_still(uses, table, row, one))
+    let mut out = Vec::new(alloc);
+    for one in index.uses() {
+        push_current(alloc, &mut out, index, one)?;
+    }
+    Ok(out)
 }
 
-fn is_asked_still(uses: &[KeyUse], table: &Table, row: &Row) -> bool
-    ensures { result ≡ list_any (asks_row_still uses.now table.now row.now) uses.now }
+fn is_used(currents: &[KeyUse], table: &Table, row: &Row) -> bool
+    ensures { result ≡ list_any (carries_row table.now row.now) currents.now }
 {
-    uses.iter().any(|one| asks_row_still(uses, table, row, one))
+    currents.iter().any(|one| carries_row(table, row, one))
 }
 
-/// Whether a direction of a session uses the row still, or asks for it.
-pub(crate) fn is_wanted(uses: &[KeyUse], table: &Table, row: &Row) -> bool
-    ensures { result ≡ is_wanted uses.now table.now row.now }
+fn is_asked(currents: &[KeyUse], table: &Table, row: &Row) -> bool
+    ensures { result ≡ list_any (asks_for_row table.now row.now) currents.now }
 {
-    is_used_still(uses, table, row) || is_asked_still(uses, table, row)
+    currents.iter().any(|one| asks_for_row(table, row, one))
 }
 
-/// The first segments of those that ask for the row still, if there are some.
-pub(crate) fn asking(uses: &[KeyUse], table: &Table, row: &Row) -> Option<KeyUse>
-    ensures { result ≡ find (asks_row_still uses.now table.now row.now) uses.now }
+fn is_used_or_asked(currents: &[KeyUse], table: &Table, row: &Row) -> bool
+    ensures { result ≡ (list_any (carries_row table.now row.now) currents.now || list_any (asks_for_row table.now row.now) currents.now) }
 {
-    for one in uses {
-        if asks_row_still(uses, table, row, one) {
+    is_used(currents, table, row) || is_asked(currents, table, row)
+}
+
+/// Whether a direction of a session uses the row still, or asks for it, by the segments that are current.
+pub(crate) fn is_wanted(currents: &[KeyUse], table: &Table, row: &Row) -> bool
+    ensures { (uses : List Use) → currents.now ≡ filter (is_current uses) uses → result ≡ is_wanted uses table.now row.now }
+{
+    is_used_or_asked(currents, table, row)
+}
+
+fn first_asking(currents: &[KeyUse], table: &Table, row: &Row) -> Option<KeyUse>
+    ensures { result ≡ find (asks_for_row table.now row.now) currents.now }
+{
+    for one in currents {
+        if asks_for_row(table, row, one) {
             return Some(*one);
         }
     }
     None
+}
+
+/// The first segments of those that ask for the row still, if there are some, by those that are current.
+pub(crate) fn asking(currents: &[KeyUse], table: &Table, row: &Row) -> Option<KeyUse>
+    ensures { (uses : List Use) → currents.now ≡ filter (is_current uses) uses → result ≡ find (asks_row_still uses table.now row.now) uses }
+{
+    first_asking(currents, table, row)
 }
 
 fn later_of(one: &KeyUse, last: Option<KeyUse>) -> KeyUse

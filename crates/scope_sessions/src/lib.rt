@@ -17,10 +17,12 @@ mod last_use;
 mod passed_texts;
 mod session_texts;
 mod table_text;
-mod tally;
 mod words;
 mod write;
 
 pub use book_lines::LineKind;
 pub use book_sessions_json::{TableForm, TableRequest};
+pub use isns::read_given;
+pub use passed_texts::push_passed;
+pub use session_texts::{push_host, push_time};
 pub use write::{SessionsHalt, write_sessions};

@@ -75,7 +75,7 @@ fn push_fault(out: &mut Vec<u8>, fault: DatagramFault) -> Result<(), AllocError>
 }
 
 /// Puts why a packet is passed over behind `out`. Where memory runs out a part of it may stand there.
-pub(crate) fn push_passed(out: &mut Vec<u8>, why: PassedOver) -> Result<(), AllocError>
+pub fn push_passed(out: &mut Vec<u8>, why: PassedOver) -> Result<(), AllocError>
     ensures { OnOk result (out.new.items ≡ out.old.items ++ passed_text why) }
 {
     match why {

@@ -7,24 +7,25 @@ ghost use Rattle.book_scope_texts.specs.Instants.{instant_text};
 ghost use Rattle.book_sessions.specs.SessionTexts.{capture_line, earliest_seen, heading_line, id_text, is_of_session, latest_seen, lines_of_session, opens_session, passed_line, seen_text, sessions_lines, span_texts, use_line, use_line_in};
 
 use crate::passed_texts::push_passed;
-use crate::words::{is_verified, outcome_name};
+use crate::words::is_verified;
 use ao_base::push_decimal;
 use book_base::{Address, Socket};
 use book_sessions::{KeyUse, PassedCount};
 use scope_texts::{push_address, push_instant};
-use std::alloc::AllocError;
+use session_index::{SessionIndex, outcome_word};
+use std::alloc::{AllocError, Global};
 use text_lines::{push_field, push_newline, push_number, push_text};
 
-/// Puts a space and the address behind `out`.
-pub(crate) fn push_host(out: &mut Vec<u8>, address: &Address) -> Result<(), AllocError>
+/// Puts a space and the address behind `out`. Where memory runs out a part of it may stand there.
+pub fn push_host(out: &mut Vec<u8>, address: &Address) -> Result<(), AllocError>
     ensures { OnOk result (out.new.items ≡ out.old.items ++ 32 ∷ usual_address_text address.now) }
 {
     out.push(b' ')?;
     push_address(out, address)
 }
 
-/// Puts a space and the time, in seconds since 1970, behind `out`.
-pub(crate) fn push_time(out: &mut Vec<u8>, seconds: u64) -> Result<(), AllocError>
+/// Puts a space and the time, in seconds since 1970, behind `out`. Where memory runs out a part of it may stand there.
+pub fn push_time(out: &mut Vec<u8>, seconds: u64) -> Result<(), AllocError>
     ensures { OnOk result (out.new.items ≡ out.old.items ++ 32 ∷ instant_text seconds) }
 {
     out.push(b' ')?;
@@ -222,7 +223,7 @@ fn push_use(out: &mut Vec<u8>, one: &KeyUse) -> Result<(), AllocError>
     ensures { OnOk result (out.new.items ≡ out.old.items ++ use_line one.now) }
 {
     push_direction(out, one)?;
-    push_text(out, outcome_name(one.outcome))?;
+    push_text(out, outcome_word(one.outcome))?;
     push_numbers(out, one)
 }
 
@@ -252,12 +253,28 @@ fn push_session(out: &mut Vec<u8>, number: u64, uses: &[KeyUse]) -> Result<(), A
     push_uses(out, number, uses)
 }
 
-/// Puts the lines of the sessions of all numbers up to this one behind `out`.
-pub(crate) fn push_sessions(out: &mut Vec<u8>, uses: &[KeyUse], last: u64) -> Result<(), AllocError>
-    ensures { OnOk result (out.new.items ≡ out.old.items ++ sessions_lines uses.now last) }
+// Puts the lines of the session of this number behind `out`, by its own segments.
+fn push_own(
+    alloc: Global,
+    out: &mut Vec<u8>,
+    index: &SessionIndex,
+    number: u64,
+) -> Result<(), AllocError>
+    ensures { OnOk result (out.new.items ≡ out.old.items ++ lines_of_session index.now.uses number) }
 {
-    for i in 0..last {
-        push_session(out, i + 1, uses)?;
+    let own = index.uses_of(alloc, number)?;
+    push_session(out, number, own.as_slice())
+}
+
+pub(crate) fn push_sessions(
+    alloc: Global,
+    out: &mut Vec<u8>,
+    index: &SessionIndex,
+) -> Result<(), AllocError>
+    ensures { OnOk result (out.new.items ≡ out.old.items ++ sessions_lines index.now.uses index.now.sessions) }
+{
+    for i in 0..index.sessions() {
+        push_own(alloc, out, index, i + 1)?;
     }
     Ok(())
 }

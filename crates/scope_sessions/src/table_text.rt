@@ -4,16 +4,16 @@ ghost use Rattle.std.specs.List.{list_any};
 ghost use Rattle.book_sessions.specs.Counts.{all_counted, all_passed};
 ghost use Rattle.book_sessions.specs.OutcomeTexts.{is_doubtful, is_verified};
 ghost use Rattle.book_sessions.specs.SessionTexts.{has_amiss, sessions_text};
-ghost use Rattle.scope_sessions.specs.Counting.{table_of};
 
 use crate::key_texts::push_keys;
+use crate::last_use::currents;
 use crate::passed_texts::is_doubtful;
 use crate::session_texts::{push_capture, push_counts, push_sessions};
-use crate::tally::Tally;
 use crate::words::is_verified;
 use book_sessions::{KeyUse, PassedCount};
 use key_table::Tables;
-use std::alloc::AllocError;
+use session_index::SessionIndex;
+use std::alloc::{AllocError, Global};
 
 /// How many segments there are; None where they are more than 2^64 - 1.
 pub(crate) fn all_counted(uses: &[KeyUse]) -> Option<u64>
@@ -67,33 +67,35 @@ fn has_doubtful(passed: &[PassedCount]) -> bool
 
 /// Whether a segment isn't verified, or a packet that is passed over may be one.
 #[tactic(auto, unfolding(book_sessions::specs::SessionTexts::has_amiss))]
-pub(crate) fn has_amiss(tally: &Tally) -> bool
-    ensures { result ≡ has_amiss (table_of tally.now) }
+pub(crate) fn has_amiss(index: &SessionIndex) -> bool
+    ensures { result ≡ has_amiss index.now }
 {
-    has_unverified(tally.uses.as_slice()) || has_doubtful(tally.passed.as_slice())
+    has_unverified(index.uses()) || has_doubtful(index.passed())
 }
 
 /// Puts the text of a table behind `out`, with the keys of these tables. An error for want of memory,
 /// or where more than 2^64 - 1 packets are counted; then a part of it may stand there.
 pub(crate) fn push_table(
+    alloc: Global,
     out: &mut Vec<u8>,
     tables: &Tables,
-    tally: &Tally,
+    index: &SessionIndex,
 ) -> Result<(), AllocError>
-    ensures { OnOk result (out.new.items ≡ out.old.items ++ sessions_text tables.now (table_of tally.now)) }
+    ensures { OnOk result (out.new.items ≡ out.old.items ++ sessions_text tables.now index.now) }
 {
-    let uses = tally.uses.as_slice();
+    let uses = index.uses();
     let segments = match all_counted(uses) {
         None => return Err(AllocError),
         Some(segments) => segments,
     };
-    let others = match all_passed(tally.passed.as_slice()) {
+    let others = match all_passed(index.passed()) {
         None => return Err(AllocError),
         Some(others) => others,
     };
+    let currents = currents(alloc, index)?;
     push_capture(out, segments, others, uses)?;
-    push_counts(out, tally.passed.as_slice())?;
-    push_sessions(out, uses, tally.sessions)?;
-    push_keys(out, uses, tables)?;
+    push_counts(out, index.passed())?;
+    push_sessions(alloc, out, index)?;
+    push_keys(out, uses, currents.as_slice(), tables)?;
     Ok(())
 }

@@ -76,8 +76,8 @@ fn write_counted<O: Sink>(
         alloc,
         form,
         &mut text,
-        counted.checker.tables(),
-        &counted.tally,
+        counted.listener.tables(),
+        &counted.index,
     ) {
         Ok(()) => {}
         Err(_) => return Err(SessionsHalt::Memory),
@@ -87,14 +87,16 @@ fn write_counted<O: Sink>(
         Err(Failed) => return Err(SessionsHalt::Write),
     }
     match counted.fault {
-        None => Ok(has_amiss(&counted.tally)),
+        None => Ok(has_amiss(&counted.index)),
         Some(fault) => Err(SessionsHalt::Broken(fault)),
     }
 }
 
 /// Writes the tables of the sessions of a capture that are asked for, judged by the tables of a key file as
 /// behind handshakes with the initial sequence numbers that lines give, and of each key of these tables who
-/// used it last and whether anyone asks for it. Each table that is due in front of a packet is written before
+/// used it last and whether anyone asks for it. Where a MAC is wrong as it stands the segment is judged over
+/// so many laps of the sequence space more; where no handshake is verified, by initial sequence numbers that
+/// were seen, as unconfirmed. Each table that is due in front of a packet is written before
 /// that packet is counted, the last one at the end. Ok at the capture's end, and whether anything is amiss: a
 /// segment that isn't verified, or a packet that is passed over and may be one.
 ///
@@ -111,12 +113,13 @@ fn write_counted<O: Sink>(
 pub fn write_sessions<I: Source, O: Sink>(
     alloc: Global,
     request: TableRequest,
+    laps: u32,
     keys: &[u8],
     isns: &[u8],
     input: &mut I,
     out: &mut O,
 ) -> Result<bool, SessionsHalt>
-    ensures { (given : List ℕ) × Writes request keys.now isns.now given (I.side input.old) (I.side input.new) (O.side out.old) (O.side out.new) result }
+    ensures { (given : List ℕ) × Writes request laps keys.now isns.now given (I.side input.old) (I.side input.new) (O.side out.old) (O.side out.new) result }
 {
     let tables = match read_tables(alloc, keys) {
         Ok(tables) => tables,
@@ -126,7 +129,7 @@ pub fn write_sessions<I: Source, O: Sink>(
         Ok(given) => given,
         Err(fault) => return Err(halt_of_lines(fault)),
     };
-    match count_capture(alloc, tables, given.as_slice(), request, input, out) {
+    match count_capture(alloc, tables, laps, given.as_slice(), request, input, out) {
         Ok(counted) => write_counted(alloc, request.form, &counted, out),
         Err(CountHalt::TooLong) => Err(SessionsHalt::TooLong),
         Err(CountHalt::Read) => Err(SessionsHalt::Read),

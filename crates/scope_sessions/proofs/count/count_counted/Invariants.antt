@@ -1,13 +1,12 @@
 use Rattle.std.proofs.Common.{ℕ, ◌-◌, List}
 use Rattle.book_captures.specs.Captures.{CapturePacket}
-use Rattle.scope_sessions.specs.Counting.{table_of}
 use Rattle.scope_sessions.specs.Reading.{series_of}
 use Rattle.scope_sessions.proofs.Walk.{Between}
 use Rattle.scope_sessions.proofs.count.count_counted.Given as goal
 
 abbrev pub invariant-parts : goal.invariant-parts
 invariant-parts g l =
-    (given : List ℕ) × (shown : List CapturePacket) × Between (series_of l.fn.tables l.isns l.request) l.reader l.checker (table_of l.tally) l.since given shown (g.I.Source.side l.fn.input) (g.I.Source.side l.input) (g.O.Sink.side l.fn.out) (g.O.Sink.side l.out)
+    (given : List ℕ) × (shown : List CapturePacket) × Between (series_of l.fn.tables l.laps l.isns l.request) l.reader l.listener l.index l.since given shown (g.I.Source.side l.fn.input) (g.I.Source.side l.input) (g.O.Sink.side l.fn.out) (g.O.Sink.side l.out)
 
 abbrev pub decreases-parts : goal.decreases-parts
 decreases-parts g l = 9223372036854775808 - l.reader.counts.bytes

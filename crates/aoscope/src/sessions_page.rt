@@ -1,0 +1,58 @@
+//! The page of help of the word `sessions`.
+
+/// What the word does, in a line.
+pub(crate) const ABOUT: &str =
+    "Says of each session of a capture who used which key, and of each key whether it may go";
+
+/// What its page of help says below its arguments.
+pub(crate) const AFTER: &str =
+    "KEYS is a key file of `aotcp`; the capture is read from standard input. Of each \
+session there is a line with its sockets, and one for the segments of each direction under each KeyID that \
+are verified, and for those that aren't, by the reason. Of each key of the file there is who used it last, \
+whether a peer asks for it, and whether it may go: whether no direction of a session uses it still or asks \
+for it.
+
+FILE gives the initial sequence numbers of sessions that began before the capture: each line is ADDRESS PORT ISN \
+ADDRESS PORT ISN, each number behind the socket that chose it; an empty line and one \
+that begins with # say nothing. The capture is judged as if these sessions' handshakes stood in front of it, one \
+after another.
+
+Where no handshake is verified, a segment is judged by the initial sequence numbers that a SYN with ACK \
+showed, or a SYN and the first ACK behind it. What passes so is unconfirmed: its MAC is right, and nothing \
+verified tells that the session began with these numbers. What doesn't is named unconfirmed- with the reason, \
+as unconfirmed-bad-mac; it may be forged, or the session is an older one.
+
+A MAC covers the upper half of a 64-bit sequence number, of which a segment carries the lower one. Where a \
+session has lived for more than a lap of 4 GiB in a direction before the capture, the upper half isn't that of \
+its initial sequence numbers. With --laps N a segment whose MAC is wrong as it stands, or whose number would \
+be below 0, is judged with up to N laps more, the fewest first, each for the price of a MAC. The laps found \
+hold for what follows.
+
+With --json the same table is an object of JSON on one line, for programs: its members are packets, sessions, keys \
+and amiss. Times are strings of RFC 3339 in UTC; a KeyID that isn't there, a key that was never used, one that \
+nobody asks for, and whether a key may go where nothing is known of it, are null.
+
+With --every N, seconds or with a unit as in 90s, 10m, 2h, a table is written also while the capture is read: in \
+front of the first packet that was seen N or more after the last table, or after the first packet. Behind such a \
+table stands a line with that packet's time; a table in JSON is a line, and has none.
+
+With --draw N session N of the table is drawn instead, as a ladder between its two sockets, as `aoscope draw` draws a \
+link: an arrow for each segment with its flags, the key that it is under and the key that it asks for, its time at \
+the end that sent it, and at the other end what is said of it. A stroke of ~ is of one that isn't verified, and one \
+of dots of one that is unconfirmed. Status 0: it is drawn; 1: no session has the number; the others as above.
+
+With --draw N --svg it is one picture that a browser shows, in which each segment's arrow has the colour of its \
+KeyID and a title with its time to the nanosecond, its sequence number and its acknowledgement. A stroke of long \
+dashes is of a segment that isn't verified, and one of short dashes of one that is unconfirmed. It is written when \
+all is read, and its segments are kept until then.
+
+Status 0: all segments are verified; 1: one isn't, or a packet that can't be read may be one; 3: keys; 4: \
+also FILE; the others as above.
+
+    aoscope sessions KEYS < CAPTURE
+    aoscope sessions KEYS --isn FILE < CAPTURE
+    aoscope sessions KEYS --isn FILE --laps 8 < CAPTURE
+    aoscope sessions KEYS --json < CAPTURE
+    aoscope sessions KEYS --draw 1 < CAPTURE
+    aoscope sessions KEYS --draw 1 --svg < CAPTURE > PICTURE.svg
+    tcpdump -i IFACE -s 0 -U -w - 'tcp port 179' | aoscope sessions KEYS --every 10s";

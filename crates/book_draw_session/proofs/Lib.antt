@@ -1,0 +1,5 @@
+pub mod Heard
+pub mod Numbers
+pub mod Places
+pub mod Steps
+pub mod Table

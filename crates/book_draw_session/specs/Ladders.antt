@@ -1,0 +1,97 @@
+-- The text of a session's ladder: a line for each segment, of at most 100 columns where its sockets
+-- are short, with its two ends as two upright strokes. Its top is `session_ladder`.
+use Rattle.std.specs.Prelude.{ℕ, ◌/◌, ◌==◌, Bool, List, [], ◌∷◌, ◌++◌, codes, decimal}
+use Rattle.std.specs.Prelude.{Option, Some, None, option_map, if◌then◌else◌}
+use Rattle.std.specs.List.{flat_map}
+use Rattle.book_base.specs.declared.address.Socket.{Socket}
+use Rattle.book_base.specs.declared.end.End.{End}
+use Rattle.book_base.specs.declared.end.End.TheVariants.{A, B}
+use Rattle.book_segments.specs.Segments.{FIN, SYN, RST, PSH, ACK}
+use Rattle.book_segments.specs.Sockets.{same_socket}
+use Rattle.book_lines.specs.Texts.{spaced}
+use Rattle.book_link.specs.Reports.{verdict_text}
+use Rattle.book_scope_texts.specs.Addresses.{usual_address_text}
+use Rattle.book_scope_texts.specs.Instants.{instant_text}
+use Rattle.book_draw.specs.Ladders.{Pen, arrowhead, blank_way, length_label, line_at, way_to}
+use Rattle.book_sessions.specs.declared.outcome.SegmentOutcome.{SegmentOutcome}
+use Rattle.book_sessions.specs.declared.outcome.SegmentOutcome.TheVariants as outcome
+use Rattle.book_sessions.specs.declared.uses.KeyIds.{KeyIds}
+use Rattle.book_sessions.specs.OutcomeTexts.{outcome_text}
+use Rattle.book_sessions.specs.SessionTexts.{id_text}
+use Rattle.book_draw_session.specs.declared.rung.SessionEnds.{SessionEnds}
+use Rattle.book_draw_session.specs.declared.rung.SessionRung.{SessionRung}
+use Rattle.book_draw_session.specs.Rungs.{has_flag, rungs_between, session_at, sessions_drawn}
+
+-- the letter of a flag, where it is set (own)
+abbrev pub flag_letter : (flag letter flags : ℕ) → List ℕ
+flag_letter flag letter flags = if has_flag flag flags then letter ∷ [] else []
+
+-- the letters of the flags that are set: SYN, ACK, PSH, FIN, RST, URG, ECE and CWR; a hyphen for
+-- none (RFC 9293, section 3.1, and own)
+unfoldable pub flag_letters : (flags : ℕ) → List ℕ
+flag_letters flags = if flags == 0 then codes "-" else
+    flag_letter SYN 83 flags ++ (flag_letter ACK 65 flags ++ (flag_letter PSH 80 flags
+    ++ (flag_letter FIN 70 flags ++ (flag_letter RST 82 flags ++ (flag_letter 0x20 85 flags
+    ++ (flag_letter 0x40 69 flags ++ flag_letter 0x80 67 flags))))))
+
+-- what is written on the arrow of a segment: its flags, the key that it is under, the key that it
+-- asks for, and how many bytes it carries (own)
+abbrev pub rung_label : SessionRung → List ℕ
+rung_label r =
+    spaced (flag_letters r.flags ∷ codes "key" ∷ id_text (option_map (λ ids. ids.key_id) r.ids)
+    ∷ codes "asks" ∷ id_text (option_map (λ ids. ids.rnext_key_id) r.ids) ∷ [])
+    ++ length_label r.length
+
+-- the byte of which the arrow of a segment is drawn: of one that is verified, of one that is right
+-- under numbers that were only seen, of another one (own)
+abbrev pub rung_stroke : SegmentOutcome → ℕ
+rung_stroke outcome.Verified = 45
+rung_stroke (outcome.Refused why) = 126
+rung_stroke outcome.NoNode = 126
+rung_stroke outcome.TooMany = 126
+rung_stroke outcome.Unconfirmed = 46
+rung_stroke (outcome.UnconfirmedRefused why) = 126
+
+-- the words beside the end that a segment comes to: what is said of it (own)
+abbrev pub said_texts : SegmentOutcome → List (List ℕ)
+said_texts (outcome.Refused why) = codes "refused" ∷ verdict_text why ∷ []
+said_texts said = outcome_text said ∷ []
+
+-- the words beside the end that a segment comes from: when it was seen (own)
+abbrev pub time_margin : (time : ℕ) → List ℕ
+time_margin time = 32 ∷ instant_text (time / 1000000000)
+
+-- the end that a segment comes to: the right one, where it comes from the left one (own)
+abbrev pub reached_end : SessionEnds → SessionRung → End
+reached_end e r = if same_socket r.source e.left then B else A
+
+-- an arrow from one end to the other that is drawn of this byte (own)
+abbrev pub pen_to : End → (stroke : ℕ) → Pen
+pen_to at stroke = record { lead = stroke; stroke = stroke; tip = arrowhead at }
+
+-- the line of an arrow to this end: the words beside it, and beside the other end (own)
+abbrev pub arrow_line : End → (stroke : ℕ) → (label own other : List ℕ) → List ℕ
+arrow_line at stroke label own other = line_at at own (way_to at (pen_to at stroke) label) other
+
+-- the line of a segment between these ends (own)
+unfoldable pub session_rung_text : SessionEnds → SessionRung → List ℕ
+session_rung_text e r = arrow_line (reached_end e r) (rung_stroke r.outcome) (rung_label r)
+    (spaced (said_texts r.outcome)) (time_margin r.time)
+
+-- the name of an end: its address and its port (own)
+abbrev pub end_name : Socket → List ℕ
+end_name s = spaced (usual_address_text s.address ∷ decimal s.port ∷ [])
+
+-- the names of the ends above their strokes (own)
+unfoldable pub ends_text : SessionEnds → List ℕ
+ends_text e = line_at A (end_name e.left) blank_way (end_name e.right)
+
+-- the ladder of the segments between these ends; there is none without ends (own)
+abbrev pub ladder_between : Option SessionEnds → List SessionRung → List ℕ
+ladder_between None rs = []
+ladder_between (Some e) rs =
+    ends_text e ++ flat_map (session_rung_text e) (rungs_between (Some e) rs)
+
+-- the ladder of the session of this number (own)
+abbrev pub session_ladder : (number : ℕ) → List SessionRung → List ℕ
+session_ladder number rs = ladder_between (session_at number (sessions_drawn rs)) rs

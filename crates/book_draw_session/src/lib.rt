@@ -1,0 +1,10 @@
+//! A session of a capture as a ladder: its segments, each with what comes of it, between its two sockets.
+//! Definitions, with the plain types that code shares with them; the empty functions carry theorems about
+//! them.
+#![tactic(auto)]
+
+mod laws;
+mod rung;
+
+pub use laws::{rungs_are_those_of_the_segments, rungs_are_those_of_the_table};
+pub use rung::{SessionEnds, SessionRung};

@@ -1,0 +1,187 @@
+-- The picture of a session in SVG, 800 wide: its two ends as upright strokes, a row of 24 for each
+-- segment with an arrow from the end that sends to the one that receives. Our own format. Its tops
+-- are `session_svg` and `session_as`.
+use Rattle.std.specs.Prelude.{ℕ, ◌+◌, ◌*◌, ◌/◌, ◌%◌, List, [], ◌∷◌, ◌++◌, length, codes, decimal}
+use Rattle.std.specs.Prelude.{true, false, flat_map, Option, Some, None, option_map}
+use Rattle.book_base.specs.declared.end.End.{End}
+use Rattle.book_base.specs.declared.end.End.TheVariants.{A, B}
+use Rattle.book_lines.specs.Texts.{spaced}
+use Rattle.book_link.specs.Worlds.{same_end, other}
+use Rattle.book_scope_texts.specs.Instants.{instant_text}
+use Rattle.book_sessions.specs.declared.outcome.SegmentOutcome.{SegmentOutcome}
+use Rattle.book_sessions.specs.declared.outcome.SegmentOutcome.TheVariants as outcome
+use Rattle.book_draw_session.specs.declared.rung.SessionEnds.{SessionEnds}
+use Rattle.book_draw_session.specs.declared.rung.SessionRung.{SessionRung}
+use Rattle.book_draw_session.specs.Ladders.{end_name, said_texts, reached_end, rung_label}
+use Rattle.book_draw_session.specs.Ladders.{session_ladder, time_margin}
+use Rattle.book_draw_session.specs.Rungs.{rungs_of_session, session_at, sessions_drawn}
+use Rattle.book_draw_session_svg.specs.declared.form.LadderForm.{LadderForm}
+use Rattle.book_draw_session_svg.specs.declared.form.LadderForm.TheVariants.{Text, Picture}
+use Rattle.book_svg.specs.Tags.{colour_text, head_svg, line_tag, titled_tag, words_tag}
+
+-- the height of a row, from above (own)
+abbrev pub rung_height : (row : ℕ) → ℕ
+rung_height row = 24 * row + 92
+
+-- the height of the words on the arrow of a row (own)
+abbrev pub rung_label_height : (row : ℕ) → ℕ
+rung_label_height row = 24 * row + 87
+
+-- the height of the words beside a row (own)
+abbrev pub rung_margin_height : (row : ℕ) → ℕ
+rung_margin_height row = 24 * row + 96
+
+-- the column of an end's stroke (own)
+abbrev pub upright_column : End → ℕ
+upright_column A = 230
+upright_column B = 570
+
+-- the column of the words beside an end (own)
+abbrev pub rung_margin_column : End → ℕ
+rung_margin_column A = 222
+rung_margin_column B = 578
+
+-- the column of the words on an arrow, at the side of this end (own)
+abbrev pub rung_label_column : End → ℕ
+rung_label_column A = 240
+rung_label_column B = 560
+
+-- the dashes of an arrow: none of a segment that is verified, short ones of one that is right under
+-- numbers that were only seen, long ones of another one (SVG 2, section 13.5.6, own)
+abbrev pub outcome_dashes : SegmentOutcome → List ℕ
+outcome_dashes outcome.Verified = []
+outcome_dashes (outcome.Refused why) = codes " stroke-dasharray=\"12 5\""
+outcome_dashes outcome.NoNode = codes " stroke-dasharray=\"12 5\""
+outcome_dashes outcome.TooMany = codes " stroke-dasharray=\"12 5\""
+outcome_dashes outcome.Unconfirmed = codes " stroke-dasharray=\"2 4\""
+outcome_dashes (outcome.UnconfirmedRefused why) = codes " stroke-dasharray=\"12 5\""
+
+-- a segment in its row, from 0 (own)
+pub record RungInRow : Type 0 where
+  pub row : ℕ
+  pub rung : SessionRung
+
+-- a segment in this row (own)
+abbrev pub rung_in_row : (row : ℕ) → SessionRung → RungInRow
+rung_in_row row r = record { row = row; rung = r }
+
+-- segments in their rows, the first one in this row (own)
+abbrev pub rows_from : (row : ℕ) → List SessionRung → List RungInRow
+rows_from row [] = []
+rows_from row (r ∷ rs) = rung_in_row row r ∷ rows_from (row + 1) rs
+
+-- segments in their rows (own)
+abbrev pub session_rows : List SessionRung → List RungInRow
+session_rows rs = rows_from 0 rs
+
+-- the segment of a row (own)
+abbrev pub rung_of_row : RungInRow → SessionRung
+rung_of_row p = p.rung
+
+-- the arrow of a row to this end (own)
+abbrev pub rung_arrow_svg : End → (row : ℕ) → SegmentOutcome → List ℕ
+rung_arrow_svg at row said =
+    line_tag (record { x = upright_column (other at); y = rung_height row })
+    (record { x = upright_column at; y = rung_height row })
+    (codes " marker-end=\"url(#tip)\"" ++ outcome_dashes said)
+
+-- the words on the arrow of a row, at the side of the end that sends (own)
+abbrev pub rung_label_svg : (sender : End) → (row : ℕ) → (words : List ℕ) → List ℕ
+rung_label_svg sender row words =
+    words_tag (record { x = rung_label_column sender; y = rung_label_height row })
+    (same_end sender B) words
+
+-- the words beside an end in a row (own)
+abbrev pub rung_margin_svg : End → (row : ℕ) → (words : List ℕ) → List ℕ
+rung_margin_svg e row words =
+    words_tag (record { x = rung_margin_column e; y = rung_margin_height row }) (same_end e A) words
+
+-- what is drawn of a segment that comes to this end: its arrow with its words, what is said of it,
+-- and when it was seen, beside the end that sends (own)
+unfoldable pub rung_drawing_svg : End → RungInRow → List ℕ
+rung_drawing_svg at p =
+    rung_arrow_svg at p.row p.rung.outcome
+    ++ (rung_label_svg (other at) p.row (rung_label p.rung)
+    ++ (rung_margin_svg at p.row (spaced (said_texts p.rung.outcome))
+    ++ rung_margin_svg (other at) p.row (time_margin p.rung.time)))
+
+-- the numbers of a segment: how many nanoseconds of its second had passed, its sequence number, and
+-- what its acknowledgement field says (RFC 9293, section 3.1, own)
+unfoldable pub rung_numbers : SessionRung → List ℕ
+rung_numbers r =
+    spaced (codes "ns" ∷ decimal (r.time % 1000000000) ∷ codes "seq" ∷ decimal r.sequence
+    ∷ codes "ack" ∷ decimal r.acknowledgement ∷ [])
+
+-- the title of a segment: when it was seen, its numbers, what is on its arrow, and what is said of
+-- it (own)
+unfoldable pub rung_title : SessionRung → List ℕ
+rung_title r =
+    instant_text (r.time / 1000000000)
+    ++ (rung_numbers r ++ (rung_label r ++ spaced (said_texts r.outcome)))
+
+-- the element of a segment between these ends, in the colour of its KeyID (own)
+unfoldable pub rung_svg : SessionEnds → RungInRow → List ℕ
+rung_svg e p =
+    titled_tag (codes "segment") (colour_text (option_map (λ ids. ids.key_id) p.rung.ids))
+    (rung_title p.rung) (rung_drawing_svg (reached_end e p.rung) p)
+
+-- the tip of an arrow (SVG 2, section 13.7, own)
+unfoldable pub arrow_tip_svg : List ℕ
+arrow_tip_svg =
+    codes "<defs><marker id=\"tip\" viewBox=\"0 0 10 10\" refX=\"9\" refY=\"5\" "
+    ++ (codes "markerUnits=\"userSpaceOnUse\" markerWidth=\"10\" markerHeight=\"10\" "
+    ++ codes "orient=\"auto\"><path d=\"M0 0L10 5L0 10z\" stroke=\"none\"/></marker></defs>\n")
+
+-- the sample of a stroke, in this column, with its name (own)
+unfoldable pub outcome_sample_svg : (column : ℕ) → SegmentOutcome → (name : List ℕ) → List ℕ
+outcome_sample_svg column said name =
+    line_tag (record { x = column; y = 20 }) (record { x = column + 50; y = 20 })
+    (codes " stroke=\"#000\"" ++ outcome_dashes said)
+    ++ words_tag (record { x = column + 60; y = 24 }) false name
+
+-- the strokes and their names (own)
+unfoldable pub outcome_samples_svg : List ℕ
+outcome_samples_svg =
+    outcome_sample_svg 20 outcome.Verified (codes "verified")
+    ++ (outcome_sample_svg 170 outcome.Unconfirmed (codes "unconfirmed")
+    ++ outcome_sample_svg 340 outcome.NoNode (codes "refused, or not judged"))
+
+-- the upright stroke of an end, of this height (own)
+abbrev pub session_upright_svg : (height : ℕ) → End → List ℕ
+session_upright_svg height e =
+    line_tag (record { x = upright_column e; y = 70 }) (record { x = upright_column e; y = height })
+    (codes " stroke=\"#000\"")
+
+-- the two ends, of this height, with their names above them (own)
+unfoldable pub session_uprights_svg : SessionEnds → (height : ℕ) → List ℕ
+session_uprights_svg e height =
+    session_upright_svg height A
+    ++ (session_upright_svg height B
+    ++ (words_tag (record { x = 200; y = 48 }) false (end_name e.left)
+    ++ words_tag (record { x = 600; y = 64 }) true (end_name e.right)))
+
+-- what stands in front of the elements of so many segments (own)
+unfoldable pub session_front_svg : SessionEnds → (count : ℕ) → List ℕ
+session_front_svg e count =
+    head_svg (rung_height count)
+    ++ (arrow_tip_svg ++ (outcome_samples_svg ++ session_uprights_svg e (rung_height count)))
+
+-- the picture of the segments of a session between these ends (own)
+unfoldable pub session_picture : SessionEnds → List SessionRung → List ℕ
+session_picture e rs =
+    session_front_svg e (length rs) ++ (flat_map (rung_svg e) (session_rows rs) ++ codes "</svg>\n")
+
+-- the same, where there is a session (own)
+abbrev pub picture_between : Option SessionEnds → List SessionRung → List ℕ
+picture_between None rs = []
+picture_between (Some e) rs = session_picture e rs
+
+-- the picture of the session of this number (own)
+abbrev pub session_svg : (number : ℕ) → List SessionRung → List ℕ
+session_svg number rs =
+    picture_between (session_at number (sessions_drawn rs)) (rungs_of_session number rs)
+
+-- the session of this number, drawn in a form (own)
+abbrev pub session_as : LadderForm → (number : ℕ) → List SessionRung → List ℕ
+session_as Text number rs = session_ladder number rs
+session_as Picture number rs = session_svg number rs

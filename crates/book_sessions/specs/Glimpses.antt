@@ -1,0 +1,98 @@
+-- What segments tell of initial sequence numbers where no handshake is verified (RFC 9293, section
+-- 3.5, and own). Its tops: `openings_after` and `glimpsed`.
+use Rattle.std.specs.Prelude.{ℕ, ◌==◌, Bool, true, false, not, ◌&&◌, List, [], ◌∷◌}
+use Rattle.std.specs.Prelude.{Option, Some, None, if◌then◌else◌, Err}
+use Rattle.std.specs.List.{find}
+use Rattle.book_base.specs.declared.address.Socket.{Socket}
+use Rattle.book_segments.specs.Segments.{Segment, has, SYN, ACK}
+use Rattle.book_segments.specs.Sockets.{same_socket}
+use Rattle.book_endpoint.specs.declared.verdict.Verdict.TheVariants.{NoContext}
+use Rattle.book_cmd_check.specs.declared.given.GivenIsns.{GivenIsns}
+use Rattle.book_cmd_check.specs.Captures.{Connection, Saying, Judged, acknowledged_isn}
+use Rattle.book_cmd_check.specs.Captures.{connection_between}
+use Rattle.book_cmd_check.specs.Handshakes.{and_given}
+
+-- a SYN without ACK: its sockets and its initial sequence number (RFC 9293, section 3.5)
+pub record Opening : Type 0 where
+  pub source : Socket
+  pub destination : Socket
+  pub isn : ℕ
+
+-- what a SYN opens (RFC 9293, section 3.5)
+abbrev pub opening_of : Segment → Opening
+opening_of d = record { source = d.source; destination = d.destination; isn = d.sequence }
+
+-- an opening went from one socket to another (own)
+abbrev pub is_opening_from : (source destination : Socket) → Opening → Bool
+is_opening_from a b o = same_socket o.source a && same_socket o.destination b
+
+-- the openings with this one in the place of that between its sockets, or behind the others (own)
+abbrev pub with_opening : Opening → List Opening → List Opening
+with_opening o [] = o ∷ []
+with_opening o (p ∷ ps) =
+    if is_opening_from o.source o.destination p then o ∷ ps else p ∷ with_opening o ps
+
+-- a node judged the segment (own)
+abbrev pub is_judged : Saying → Bool
+is_judged (Judged judgement right) = true
+is_judged _ = false
+
+-- a node refused the segment (own)
+abbrev pub is_refused : Saying → Bool
+is_refused (Judged (Err why) right) = true
+is_refused _ = false
+
+-- a node knows no context for the segment (RFC 5925, section 5.2)
+abbrev pub is_unknown : Saying → Bool
+is_unknown (Judged (Err NoContext) right) = true
+is_unknown _ = false
+
+-- the openings after a segment of which this is said (own)
+abbrev pub openings_after : Segment → Saying → List Opening → List Opening
+openings_after d said openings = if is_judged said && (has SYN d && not (has ACK d))
+    then with_opening (opening_of d) openings
+    else openings
+
+-- the numbers that a SYN with ACK tells: its own, and the one that it acknowledges (RFC 9293,
+-- section 3.5)
+abbrev pub told_by : Segment → GivenIsns
+told_by d = record {
+  one = d.source;
+  one_isn = d.sequence;
+  other = d.destination;
+  other_isn = acknowledged_isn d;
+}
+
+-- the numbers that the first ACK behind a SYN tells: of the SYN its own, and the one that it
+-- acknowledges (RFC 9293, section 3.5)
+abbrev pub completed_by : Segment → Opening → GivenIsns
+completed_by d o = record {
+  one = d.source;
+  one_isn = o.isn;
+  other = d.destination;
+  other_isn = acknowledged_isn d;
+}
+
+-- the connection began with this opening, as far as is known (own)
+abbrev pub began_with : Opening → Option Connection → Bool
+began_with o None = false
+began_with o (Some c) = c.one.isn == o.isn
+
+-- the connections once an ACK was seen behind the opening of its sender: the first one begins a
+-- connection (RFC 9293, section 3.5, and own)
+abbrev pub acknowledged : Segment → Option Opening → List Connection → List Connection
+acknowledged d None guessed = guessed
+acknowledged d (Some o) guessed = if began_with o (connection_between d guessed)
+    then guessed
+    else and_given (completed_by d o) guessed
+
+-- the connections that are taken to have begun, after a segment of which this is said: with the
+-- numbers of a SYN with ACK that is refused, or of a SYN and the first ACK behind it (own)
+abbrev pub glimpsed : Segment → Saying → List Opening → List Connection → List Connection
+glimpsed d said openings guessed =
+    if not (has ACK d) then guessed
+    else if has SYN d
+    then (if is_refused said then and_given (told_by d) guessed else guessed)
+    else if is_unknown said
+    then acknowledged d (find (is_opening_from d.source d.destination) openings) guessed
+    else guessed

@@ -1,0 +1,6 @@
+pub mod GlimpseLaws
+pub mod LapLaws
+pub mod LineLaws
+pub mod ListenLaws
+pub mod OpeningLaws
+pub mod OverLaws

@@ -1,0 +1,5 @@
+pub mod Begun
+pub mod Lines
+pub mod Listeners
+pub mod Openings
+pub mod Searches

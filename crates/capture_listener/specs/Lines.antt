@@ -1,0 +1,73 @@
+-- What a line of a checker says of a segment (own).
+use Rattle.std.specs.Prelude.{Bool, true, false, ◌||◌}
+use Rattle.book_cmd_check.specs.Captures.{Saying, Unreadable}
+use Rattle.book_endpoint.specs.declared.verdict.Verdict.{Verdict}
+use Rattle.book_endpoint.specs.declared.verdict.Verdict.TheVariants as verdicts
+use Rattle.book_sessions.specs.declared.outcome.SegmentOutcome.{SegmentOutcome}
+use Rattle.book_sessions.specs.declared.outcome.SegmentOutcome.TheVariants as outcome
+use Rattle.capture_check.specs.declared.answer.CheckLine.{CheckLine}
+use Rattle.capture_check.specs.declared.answer.CheckLine.TheVariants as line
+
+-- the bytes are a datagram (own)
+abbrev pub is_readable : Saying → Bool
+is_readable (Unreadable fault) = false
+is_readable _ = true
+
+-- a node judged the segment (own)
+abbrev pub says_judged : CheckLine → Bool
+says_judged (line.Verdict v right) = true
+says_judged _ = false
+
+-- a refusal (own)
+abbrev pub is_refusal : Verdict → Bool
+is_refusal (verdicts.Pass p) = false
+is_refusal _ = true
+
+-- a node refused the segment (own)
+abbrev pub says_refused : CheckLine → Bool
+says_refused (line.Verdict v right) = is_refusal v
+says_refused _ = false
+
+-- a node knows no context for the segment (own)
+abbrev pub says_unknown : CheckLine → Bool
+says_unknown (line.Verdict verdicts.NoContext right) = true
+says_unknown _ = false
+
+-- the MAC of the segment is wrong (own)
+abbrev pub says_bad_mac : CheckLine → Bool
+says_bad_mac (line.Verdict verdicts.BadMac right) = true
+says_bad_mac _ = false
+
+-- the number of the segment is out of range, as one below 0 (own)
+abbrev pub says_range : CheckLine → Bool
+says_range (line.Verdict verdicts.Range right) = true
+says_range _ = false
+
+-- the segment may pass over more laps (own)
+abbrev pub says_searched : CheckLine → Bool
+says_searched l = says_bad_mac l || says_range l
+
+-- what comes of a segment with this verdict (own)
+abbrev pub by_verdict : Verdict → SegmentOutcome
+by_verdict (verdicts.Pass p) = outcome.Verified
+by_verdict why = outcome.Refused why
+
+-- what comes of a segment with this line; none is of bytes that are no datagram (own)
+abbrev pub by_line : CheckLine → SegmentOutcome
+by_line (line.Bad fault) = outcome.NoNode
+by_line line.UnknownNode = outcome.NoNode
+by_line (line.Verdict v right) = by_verdict v
+by_line (line.Full right) = outcome.TooMany
+
+-- what comes of a segment with this verdict, under numbers that were only seen (own)
+abbrev pub by_unconfirmed : Verdict → SegmentOutcome
+by_unconfirmed (verdicts.Pass p) = outcome.Unconfirmed
+by_unconfirmed verdicts.NoContext = outcome.Refused verdicts.NoContext
+by_unconfirmed why = outcome.UnconfirmedRefused why
+
+-- what comes of a segment with this line, under numbers that were only seen (own)
+abbrev pub by_seen_line : CheckLine → SegmentOutcome
+by_seen_line (line.Bad fault) = outcome.NoNode
+by_seen_line line.UnknownNode = outcome.NoNode
+by_seen_line (line.Verdict v right) = by_unconfirmed v
+by_seen_line (line.Full right) = outcome.TooMany

@@ -1,0 +1,16 @@
+//! What is heard of a capture whose beginning may not have been seen: each segment is judged by the
+//! handshakes that passed, as `check` judges it, or else by initial sequence numbers that were only seen
+//! (RFC 9293, section 3.5), and where its MAC is wrong over further laps of the sequence space (RFC 5925,
+//! section 6.2).
+#![tactic(auto)]
+
+mod glimpses;
+mod laps;
+mod lines;
+mod listener;
+mod openings;
+mod outcomes;
+
+pub use book_cmd_check::GivenIsns;
+pub use book_sessions::SegmentOutcome;
+pub use listener::Listener;

@@ -1,0 +1,11 @@
+//! A session of a capture, drawn: the lines of its segments, as the book's `Ladders` says, and its picture in
+//! SVG, as the book's `SessionPictures` says.
+#![tactic(auto)]
+
+mod elements;
+mod heads;
+mod lines;
+mod picture;
+
+pub use lines::{push_ends, push_rung};
+pub use picture::print_session_svg;

@@ -1,0 +1,81 @@
+-- What is drawn of a packet (own).
+use Rattle.std.specs.Prelude.{◌≡◌, ℕ, ◌/◌, List, ◌++◌, Option, Result}
+use Rattle.book_captures.specs.Captures.{CapturePacket}
+use Rattle.book_cmd_check.specs.Captures.{Stored}
+use Rattle.book_cmd_check.specs.declared.given.GivenIsns.{GivenIsns}
+use Rattle.book_keys.specs.Rows.{Table}
+use Rattle.book_segments.specs.Segments.{Reading}
+use Rattle.book_sessions.specs.declared.outcome.PassedOver.{PassedOver}
+use Rattle.book_sessions.specs.Laps.{Judging}
+use Rattle.book_sessions.specs.Listening.{Listening, listen}
+use Rattle.book_sessions.specs.Sessions.{stored_of_packet}
+use Rattle.book_draw_session.specs.declared.rung.SessionEnds.{SessionEnds}
+use Rattle.book_draw_session.specs.declared.rung.SessionRung.{SessionRung}
+use Rattle.book_draw_session.specs.Ladders.{session_ladder}
+use Rattle.book_draw_session.specs.Rungs.{drawn_by, rung_before, rungs_in, session_at, sessions_drawn}
+use Rattle.book_draw_session_svg.specs.declared.form.LadderForm.{LadderForm}
+use Rattle.book_draw_session_svg.specs.declared.form.LadderForm.TheVariants.{Text}
+use Rattle.book_draw_session_svg.specs.SessionPictures.{session_as}
+use Rattle.capture_listener.specs.Listeners.{Knows}
+use Rattle.scope_ladder.specs.declared.drawer.Drawer.{Drawer}
+use Rattle.scope_ladder.specs.Searches.{Seeks, kept_in}
+
+-- what is asked for: in which form, how the capture is judged, behind which handshakes, and the session of
+-- which number
+pub record Request : Type 0 where
+  pub form : LadderForm
+  pub judging : Judging
+  pub given : List GivenIsns
+  pub number : ℕ
+
+-- what is asked for, in this form, over these tables and so many laps
+abbrev pub request_of : LadderForm → List Table → (laps : ℕ) → List GivenIsns → (number : ℕ) → Request
+request_of form tables laps given number = record {
+  form = form;
+  judging = record { tables = tables; laps = laps };
+  given = given;
+  number = number;
+}
+
+-- the rungs of packets
+abbrev pub rungs_for : Request → List CapturePacket → List SessionRung
+rungs_for q packets = rungs_in q.judging q.given packets
+
+-- the session that is asked for, drawn in its form
+abbrev pub drawn_text : Request → List CapturePacket → List ℕ
+drawn_text q packets = session_as q.form q.number (rungs_for q packets)
+
+-- the sockets of the session that is asked for, if there is one
+abbrev pub session_in : Request → List CapturePacket → Option SessionEnds
+session_in q packets = session_at q.number (sessions_drawn (rungs_for q packets))
+
+-- what draws stands behind these segments, where this is known
+pub record Follows (q : Request) (d : Drawer) (rungs : List SessionRung) (k : Listening) : Type 0 where
+  pub form : d.form ≡ q.form
+  pub judging : d.listener.judging ≡ q.judging
+  pub knows : Knows d.listener k
+  pub number : d.search.number ≡ q.number
+  pub seeks : Seeks d.search rungs
+  pub kept : d.kept.items ≡ kept_in q.form q.number rungs
+
+-- what was read of a datagram that was seen at this time was drawn: it added these segments to the rungs, and
+-- the text to the ladder, if one of text is asked for
+pub record AddsRead (q : Request) (d : Drawer) (rungs : List SessionRung) (k : Listening) (time : ℕ) (r : Reading) : Type 0 where
+  pub more : List SessionRung
+  pub after : Listening
+  pub follows : Follows q d (rungs ++ more) after
+  pub comes : (others : Listening → List SessionRung) →
+      (let h = listen q.judging k (time / 1000000000) r in rung_before time r h.outcome (others h.listening)) ≡ more ++ others after
+  pub text : q.form ≡ Text → session_ladder q.number (rungs ++ more) ≡ session_ladder q.number rungs ++ d.text.items
+
+-- the same of a packet seen at this time of which this is judged
+pub record Adds (q : Request) (d : Drawer) (rungs : List SessionRung) (k : Listening) (time : Option ℕ) (stored : Result Stored PassedOver) : Type 0 where
+  pub more : List SessionRung
+  pub after : Listening
+  pub follows : Follows q d (rungs ++ more) after
+  pub comes : (others : Listening → List SessionRung) → drawn_by q.judging k time stored others ≡ more ++ others after
+  pub text : q.form ≡ Text → session_ladder q.number (rungs ++ more) ≡ session_ladder q.number rungs ++ d.text.items
+
+-- the same of this packet
+abbrev pub AddsPacket : Request → Drawer → List SessionRung → Listening → CapturePacket → Type 0
+AddsPacket q d rungs k p = Adds q d rungs k p.frame.time (stored_of_packet p)

@@ -1,0 +1,109 @@
+//! A session of a capture as text, each segment drawn before the next packet is read.
+ghost use Rattle.std.specs.Prelude.{◌≡◌, ◌<◌, [], ℕ, List, Ok, Err, is_some, length};
+ghost use Rattle.ao_base.specs.Outside.{Side};
+ghost use Rattle.book_draw_session.specs.Rungs.{session_at, sessions_drawn};
+ghost use Rattle.book_draw_session.specs.declared.rung.SessionRung.{SessionRung as Segment};
+ghost use Rattle.book_draw_session_svg.specs.declared.form.LadderForm.TheVariants.{Text};
+ghost use Rattle.scope_ladder.specs.Drawing.{request_of};
+ghost use Rattle.scope_ladder.specs.Searches.{Seeks, Tells};
+ghost use Rattle.scope_ladder.specs.Writing.{Writes, WritesText};
+ghost use Rattle.book_sessions.specs.Listening.{listening_behind};
+
+use crate::drawer::Drawer;
+use crate::search::Search;
+use ao_base::{Failed, Sink, Source, Steps, write_all};
+use book_draw_session_svg::LadderForm;
+use book_sessions::GivenIsns;
+use capture_stream::{CaptureFault, CaptureHalt, CaptureReader, CaptureStep};
+use key_table::Tables;
+use std::alloc::Global;
+use std::sync::ledger::{Blank, Ledger};
+
+/// Why not the session of a whole capture was drawn.
+#[derive(Clone, Copy, Debug, PartialEq, Eq)]
+pub enum LadderHalt {
+    /// The capture has so many sessions, and none of this number.
+    NoSession(u64),
+    /// The capture is faulty here. The segments in front of it were drawn.
+    Broken(CaptureFault),
+    /// The source gave more than 2^63 bytes.
+    TooLong,
+    /// A read failed.
+    Read,
+    /// A write failed.
+    Write,
+    /// Memory ran out.
+    Memory,
+}
+
+/// Why a text wasn't written.
+#[derive(Clone, Copy, Debug, PartialEq, Eq)]
+pub(crate) enum TextHalt {
+    Write,
+}
+
+/// Writes this text.
+pub(crate) fn write_text<O: Sink>(text: &[u8], out: &mut O) -> Result<(), TextHalt>
+    ensures { WritesText text.now (O.side out.old) (O.side out.new) result }
+{
+    match write_all(out, text) {
+        Ok(()) => Ok(()),
+        Err(Failed) => Err(TextHalt::Write),
+    }
+}
+
+/// Whether the session was found, at the capture's end.
+pub(crate) fn told(search: &Search) -> Result<(), LadderHalt>
+    ensures { (rs : List Segment) → Seeks search.now rs → Tells search.now.number rs result }
+{
+    match search.found {
+        Some(_) => Ok(()),
+        None => Err(LadderHalt::NoSession(search.known.len() as u64)),
+    }
+}
+
+/// The same as `draw_session` for text, with a counter of derivations.
+pub(crate) fn draw_counted<L: Ledger, I: Source, O: Sink>(
+    alloc: Global,
+    tables: Tables,
+    laps: u32,
+    isns: &[GivenIsns],
+    number: u64,
+    input: &mut I,
+    out: &mut O,
+    blank: Blank,
+) -> Result<(), LadderHalt>
+    requires name { blank.name ≡ L.name }
+    requires parts { blank.parts ≡ L.parts }
+    requires part { 0 < blank.parts }
+    ensures { (given : List ℕ) × Writes (request_of Text tables laps isns.now number) given
+        (I.side input.old) (I.side input.new) (O.side out.old) (O.side out.new) result }
+{
+    let mut steps = Steps::<L>::new(blank);
+    let mut reader = match CaptureReader::new(alloc) {
+        Ok(reader) => reader,
+        Err(_) => return Err(LadderHalt::Memory),
+    };
+    let mut drawer = match Drawer::new(alloc, LadderForm::Text, tables, laps, isns, number) {
+        Ok(drawer) => drawer,
+        Err(_) => return Err(LadderHalt::Memory),
+    };
+    'parts: loop {
+        match reader.next(input) {
+            Ok(CaptureStep::Packet) => {}
+            Ok(CaptureStep::Block) => continue 'parts,
+            Ok(CaptureStep::End) => return told(&drawer.search),
+            Err(CaptureHalt::Read) => return Err(LadderHalt::Read),
+            Err(CaptureHalt::TooLong) => return Err(LadderHalt::TooLong),
+            Err(CaptureHalt::Broken(fault)) => return Err(LadderHalt::Broken(fault)),
+        }
+        match drawer.draw_packet(alloc, &mut steps, &reader) {
+            Ok(()) => {}
+            Err(_) => return Err(LadderHalt::Memory),
+        }
+        match write_text(drawer.text.as_slice(), out) {
+            Ok(()) => {}
+            Err(TextHalt::Write) => return Err(LadderHalt::Write),
+        }
+    }
+}

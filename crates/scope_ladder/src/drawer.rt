@@ -1,0 +1,273 @@
+//! A session of a capture, drawn packet by packet.
+ghost use Rattle.std.specs.Prelude.{◌≡◌, ◌≤◌, ◌<◌, ◌/◌, ◌∷◌, ◌++◌, [], ℕ, List, IfOk, IsSome, Ok, OnOk, Some, drop, length, take};
+ghost use Rattle.book_captures.specs.Captures.{CapturePacket};
+ghost use Rattle.book_cmd_check.specs.Handshakes.{given_after};
+ghost use Rattle.book_pcap.specs.Packets.{longest_datagram};
+ghost use Rattle.book_segments.specs.Options.{find_ao};
+ghost use Rattle.book_segments.specs.Segments.{Read, reading};
+ghost use Rattle.book_sessions.specs.Listening.{Listening, listening_behind};
+ghost use Rattle.book_sessions.specs.Sessions.{ids_found, stored_by};
+ghost use Rattle.book_draw_session.specs.Rungs.{session_rung};
+ghost use Rattle.book_draw_session.specs.declared.rung.SessionRung.{SessionRung as Segment};
+ghost use Rattle.capture_listener.specs.Listeners.{Knows};
+ghost use Rattle.scope_lines.specs.Writes.{found_in};
+ghost use Rattle.scope_ladder.specs.Drawing.{Adds, AddsPacket, AddsRead, Follows, Request, request_of};
+ghost use Rattle.scope_ladder.specs.Searches.{kept_as, shown_as, shown_rungs, shown_text};
+
+use crate::search::{Search, Shown};
+use ao_base::Steps;
+use book_draw_session::SessionRung;
+use book_draw_session_svg::LadderForm;
+use book_sessions::{GivenIsns, KeyIds, SegmentOutcome};
+use capture_listener::Listener;
+use capture_reader::FoundDatagram;
+use capture_stream::{CaptureReader, Skipped};
+use draw_session_rungs::{push_ends, push_rung};
+use key_table::Tables;
+use std::alloc::{AllocError, Global};
+use std::sync::ledger::Ledger;
+use tcp_options::AoFound;
+use tcp_segment::{Datagram, read_datagram};
+
+/// The most bytes that are judged of a datagram: those of the longest one of either version of IP.
+const LONGEST_DATAGRAM: usize = 65_575;
+
+/// How many nanoseconds a second has.
+const NANOSECONDS: u64 = 1_000_000_000;
+
+/// What draws a session in a form: what is heard of the capture, the search for the session, the text that is
+/// drawn of the packet that came last, and the segments that are kept for a picture.
+#[derive(Drop)]
+pub(crate) struct Drawer {
+    pub(crate) form: LadderForm,
+    pub(crate) listener: Listener,
+    pub(crate) search: Search,
+    pub(crate) text: Vec<u8>,
+    pub(crate) kept: Vec<SessionRung>,
+}
+
+// What is judged of the datagram that begins here in a frame.
+fn judged(frame: &[u8], first: usize) -> &[u8]
+    requires { first ≤ length frame.now }
+    ensures { result.now ≡ take longest_datagram (drop first frame.now) }
+{
+    let behind = &frame[first..];
+    &behind[..LONGEST_DATAGRAM.min(behind.len())]
+}
+
+fn ids(datagram: &Datagram<'_>) -> Option<KeyIds>
+    ensures { result ≡ ids_found (find_ao datagram.now.area) }
+{
+    match datagram.options().find_ao() {
+        AoFound::Absent => None,
+        AoFound::One(ao) => Some(KeyIds {
+            key_id: ao.key_id,
+            rnext_key_id: ao.rnext,
+        }),
+        AoFound::Two => None,
+        AoFound::WithMd5 => None,
+    }
+}
+
+fn session_rung(time: u64, datagram: &Datagram<'_>, outcome: SegmentOutcome) -> SessionRung
+    ensures { result ≡ session_rung time datagram.now outcome }
+{
+    SessionRung {
+        time,
+        source: datagram.source(),
+        destination: datagram.destination(),
+        flags: datagram.flags(),
+        sequence: datagram.sequence(),
+        acknowledgement: datagram.acknowledgement(),
+        length: datagram.payload().len() as u64,
+        ids: ids(datagram),
+        outcome,
+    }
+}
+
+fn push_shown_text(out: &mut Vec<u8>, shown: Shown, rung: &SessionRung) -> Result<(), AllocError>
+    ensures { OnOk result (out.new.items ≡ out.old.items ++ shown_text shown rung.now) }
+{
+    match shown {
+        Shown::Nothing => Ok(()),
+        Shown::First(ends) => {
+            push_ends(out, &ends)?;
+            push_rung(out, &ends, rung)
+        }
+        Shown::Later(ends) => push_rung(out, &ends, rung),
+    }
+}
+
+// Puts the text that is drawn of a segment in the form behind `out`.
+fn push_shown(
+    out: &mut Vec<u8>,
+    form: LadderForm,
+    shown: Shown,
+    rung: &SessionRung,
+) -> Result<(), AllocError>
+    ensures { OnOk result (out.new.items ≡ out.old.items ++ shown_as form shown rung.now) }
+{
+    match form {
+        LadderForm::Text => push_shown_text(out, shown, rung),
+        LadderForm::Picture => Ok(()),
+    }
+}
+
+fn keep_shown_rung(
+    kept: &mut Vec<SessionRung>,
+    shown: Shown,
+    rung: &SessionRung,
+) -> Result<(), AllocError>
+    ensures { OnOk result (kept.new.items ≡ kept.old.items ++ shown_rungs shown rung.now) }
+{
+    match shown {
+        Shown::Nothing => Ok(()),
+        Shown::First(_) => {
+            kept.push(*rung)?;
+            Ok(())
+        }
+        Shown::Later(_) => {
+            kept.push(*rung)?;
+            Ok(())
+        }
+    }
+}
+
+// Keeps of a segment what the form needs in the end.
+fn keep_shown(
+    kept: &mut Vec<SessionRung>,
+    form: LadderForm,
+    shown: Shown,
+    rung: &SessionRung,
+) -> Result<(), AllocError>
+    ensures { OnOk result (kept.new.items ≡ kept.old.items ++ kept_as form shown rung.now) }
+{
+    match form {
+        LadderForm::Text => Ok(()),
+        LadderForm::Picture => keep_shown_rung(kept, shown, rung),
+    }
+}
+
+// A listener by these tables, as behind handshakes with the given initial sequence numbers.
+fn listener_of(
+    alloc: Global,
+    tables: Tables,
+    laps: u32,
+    isns: &[GivenIsns],
+) -> Result<Listener, AllocError>
+    ensures judging { IfOk result (λ l. l.judging ≡ record { tables = tables; laps = laps }) }
+    ensures knows { IfOk result (λ l. Knows l (listening_behind isns.now)) }
+{
+    let mut listener = Listener::new(alloc, tables, laps);
+    for given in isns {
+        let _has_room = listener.hold(alloc, *given)?;
+    }
+    Ok(listener)
+}
+
+impl Drawer {
+    /// What draws the session of this number in a form: nothing came yet.
+    pub(crate) fn new(
+        alloc: Global,
+        form: LadderForm,
+        tables: Tables,
+        laps: u32,
+        isns: &[GivenIsns],
+        number: u64,
+    ) -> Result<Drawer, AllocError>
+        ensures { IfOk result (λ d. Follows (request_of form tables laps isns.now number) d [] (listening_behind isns.now)) }
+    {
+        let listener = listener_of(alloc, tables, laps, isns)?;
+        Ok(Drawer {
+            form,
+            listener,
+            search: Search::new(alloc, number),
+            text: Vec::new(alloc),
+            kept: Vec::new(alloc),
+        })
+    }
+
+    // Draws a datagram that was seen at a time, in nanoseconds since 1970.
+    fn draw_datagram<L: Ledger>(
+        &mut self,
+        alloc: Global,
+        steps: &mut Steps<L>,
+        time: u64,
+        datagram: &Datagram<'_>,
+    ) -> Result<(), AllocError>
+        requires { self.old.text.items ≡ [] }
+        ensures { (q : Request) (rungs : List Segment) (k : Listening) → Follows q self.old rungs k
+            → OnOk result (AddsRead q self.new rungs k time (Read datagram.now)) }
+    {
+        let outcome = self
+            .listener
+            .hear(alloc, time / NANOSECONDS, datagram, steps)?;
+        let form = self.form;
+        let rung = session_rung(time, datagram, outcome);
+        let shown = self.search.place(&rung)?;
+        push_shown(&mut self.text, form, shown, &rung)?;
+        keep_shown(&mut self.kept, form, shown, &rung)
+    }
+
+    // Draws the bytes that were seen at a time, in nanoseconds since 1970.
+    fn draw_stored<L: Ledger>(
+        &mut self,
+        alloc: Global,
+        steps: &mut Steps<L>,
+        time: u64,
+        bytes: &[u8],
+    ) -> Result<(), AllocError>
+        requires { self.old.text.items ≡ [] }
+        ensures { (q : Request) (rungs : List Segment) (k : Listening) (number : ℕ) → Follows q self.old rungs k
+            → OnOk result (Adds q self.new rungs k (Some time) (Ok (record { number = number; time = time / 1000000000; bytes = bytes.now }))) }
+    {
+        match read_datagram(bytes) {
+            Err(_) => Ok(()),
+            Ok(datagram) => self.draw_datagram(alloc, steps, time, &datagram),
+        }
+    }
+
+    // Draws a packet whose frame has this datagram, or none for this reason.
+    fn draw_found<L: Ledger>(
+        &mut self,
+        alloc: Global,
+        steps: &mut Steps<L>,
+        time: Option<u64>,
+        frame: &[u8],
+        found: Result<FoundDatagram, Skipped>,
+    ) -> Result<(), AllocError>
+        requires found { IfOk found (λ d. (d.first ≤ d.after) × (d.after ≤ length frame.now)) }
+        requires text { self.old.text.items ≡ [] }
+        ensures { (q : Request) (rungs : List Segment) (k : Listening) (number : ℕ) → Follows q self.old rungs k
+            → OnOk result (Adds q self.new rungs k time (stored_by number time (found_in frame.now found))) }
+    {
+        match found {
+            Err(_) => Ok(()),
+            Ok(datagram) => match time {
+                None => Ok(()),
+                Some(time) => self.draw_stored(alloc, steps, time, judged(frame, datagram.first)),
+            },
+        }
+    }
+
+    /// Draws the packet that the reader shows.
+    pub(crate) fn draw_packet<L: Ledger>(
+        &mut self,
+        alloc: Global,
+        steps: &mut Steps<L>,
+        reader: &CaptureReader,
+    ) -> Result<(), AllocError>
+        requires { IsSome reader.now.packet }
+        ensures { (q : Request) (rungs : List Segment) (k : Listening) (p : CapturePacket) → reader.now.packet ≡ Some p → Follows q self.old rungs k
+            → OnOk result (AddsPacket q self.new rungs k p) }
+    {
+        self.text.clear();
+        self.draw_found(
+            alloc,
+            steps,
+            reader.time(),
+            reader.frame(),
+            reader.datagram(),
+        )
+    }
+}

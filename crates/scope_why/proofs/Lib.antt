@@ -1,0 +1,9 @@
+pub mod EndLaws
+pub mod FrontLaws
+pub mod HoldLaws
+pub mod PacketLaws
+pub mod Parts
+pub mod RowLaws
+pub mod SaidLaws
+pub mod SightLaws
+pub mod Walk

@@ -1,0 +1,32 @@
+-- The answer on one packet, as the machine makes it (own).
+use Rattle.std.specs.Prelude.{◌≡◌, ℕ, Bool, List, ◌++◌, Result}
+use Rattle.toml.specs.View.{table_view}
+use Rattle.book_keys.specs.Rows.{Table}
+use Rattle.book_cmd_check.specs.declared.given.GivenIsns.{GivenIsns}
+use Rattle.book_cmd_check.specs.Captures.{Stored, is_pass}
+use Rattle.book_scope_plan.specs.AdminNames.{KeyFile}
+use Rattle.book_segments.specs.Segments.{Segment}
+use Rattle.book_sessions.specs.declared.outcome.PassedOver.{PassedOver}
+use Rattle.book_why_texts.specs.Answers.{Behind, WhyAsked, answer_behind, passes_behind, said_and_why, said_behind}
+use Rattle.scope_why.specs.declared.asking.Asking.{Asking}
+use Rattle.scope_why.specs.declared.answer.Answered.{Answered}
+
+-- the key file: the document that is asked about, and the tables that the checker judges by
+abbrev pub key_file_of : Asking → List Table → KeyFile
+key_file_of a tables = record { document = table_view a.document.now; tables = tables }
+
+-- the question
+abbrev pub asked_of : Asking → List GivenIsns → ℕ → WhyAsked
+asked_of a given number = record { given = given; number = number; with_key = a.with_key }
+
+-- what is said of a segment, and why, was put behind a text; and whether it passes
+pub record SaysWhy (keys : KeyFile) (b : Behind) (with_key : Bool) (s : Stored) (d : Segment)
+    (before now : List ℕ) (passes : Bool) : Type 0 where
+  pub text : now ≡ before ++ said_and_why keys b with_key s d
+  pub passing : passes ≡ is_pass (said_behind keys.tables b s)
+
+-- this is the answer on a packet of which this is judged
+pub record AnswersBehind (keys : KeyFile) (b : Behind) (with_key : Bool) (number : ℕ)
+    (stored : Result Stored PassedOver) (answered : Answered) : Type 0 where
+  pub text : answered.text.items ≡ answer_behind keys b with_key number stored
+  pub passing : answered.passes ≡ passes_behind keys.tables b stored

@@ -1,0 +1,129 @@
+-- What is read of a capture and written of it (own). Its top is `Writes`.
+use Rattle.std.specs.Prelude.{◌≡◌, ℕ, ◌<◌, Bool, List, [], length, Option, Some, None, Result, Ok, Err}
+use Rattle.std.specs.List.{All}
+use Rattle.toml.specs.Data.{Members}
+use Rattle.ao_base.specs.Outside.{Side, Gave, WasWritten, Rose}
+use Rattle.book_base.specs.Hexadecimal.{IsByte}
+use Rattle.book_captures.specs.Captures.{capture_of}
+use Rattle.book_cmd_check.specs.declared.given.GivenIsns.{GivenIsns}
+use Rattle.book_lines.specs.declared.text_fault.TextFault.{TextFault}
+use Rattle.book_lines.specs.declared.text_fault.TextFault.TheVariants as line_fault
+use Rattle.book_keys.specs.declared.fault.TableFault.{TableFault}
+use Rattle.book_keys.specs.declared.fault.TableFault.TheVariants as fault
+use Rattle.book_keys.specs.Nodes.{document_of, tables_of}
+use Rattle.book_keys.specs.Rows.{Table}
+use Rattle.book_scope_plan.specs.AdminNames.{KeyFile}
+use Rattle.book_sessions.specs.GivenLines.{given_isns_of}
+use Rattle.book_why_texts.specs.Answers.{WhyAsked}
+use Rattle.capture_stream.specs.Reads.{most_read}
+use Rattle.scope_sessions.specs.Texts.{BreaksText}
+use Rattle.scope_why.specs.declared.answer.Answered.{Answered}
+use Rattle.scope_why.specs.declared.write.WhyHalt.{WhyHalt}
+use Rattle.scope_why.specs.declared.write.WhyHalt.TheVariants as halt
+use Rattle.scope_why.specs.declared.write.WhyRequest.{WhyRequest}
+use Rattle.scope_why.specs.Reading.{IsAnswer, Lacks, Refuses, Stops}
+
+-- the question that a request is, behind given initial sequence numbers (own)
+abbrev pub question_of : WhyRequest → List GivenIsns → WhyAsked
+question_of request given =
+    record { given = given; number = request.number; with_key = request.with_key }
+
+-- the answer was written (own)
+pub record Finishes (keys : KeyFile) (asked : WhyAsked) (given : List ℕ)
+    (source_now out_before out_now : Side) (passes : Bool) : Type 0 where
+  pub text : List ℕ
+  pub is : IsAnswer keys asked given source_now text passes
+  pub wrote : WasWritten text out_before out_now
+
+-- a write failed: a front part of the answer was written (own)
+pub record Breaks (keys : KeyFile) (asked : WhyAsked) (given : List ℕ)
+    (source_now out_before out_now : Side) : Type 0 where
+  pub text : List ℕ
+  pub passes : Bool
+  pub is : IsAnswer keys asked given source_now text passes
+  pub breaks : BreaksText [] text out_before out_now
+
+-- how each end comes by a key file and given initial sequence numbers (own)
+abbrev pub Ends : KeyFile → WhyAsked → List ℕ →
+    (source_before source_now out_before out_now : Side) → Result Bool WhyHalt → Type 0
+Ends keys asked given source_before source_now out_before out_now (Ok passes) =
+    Finishes keys asked given source_now out_before out_now passes
+Ends keys asked given source_before source_now out_before out_now (Err halt.Write) =
+    Breaks keys asked given source_now out_before out_now
+Ends keys asked given source_before source_now out_before out_now (Err (halt.Broken fault)) =
+    Refuses asked given source_now fault × WasWritten [] out_before out_now
+Ends keys asked given source_before source_now out_before out_now (Err halt.TooLong) =
+    (most_read < length given) × (Stops asked given × WasWritten [] out_before out_now)
+Ends keys asked given source_before source_now out_before out_now (Err halt.Read) =
+    Rose source_before source_now × (Stops asked given × WasWritten [] out_before out_now)
+Ends keys asked given source_before source_now out_before out_now (Err halt.Memory) =
+    Lacks asked given × WasWritten [] out_before out_now
+Ends keys asked given source_before source_now out_before out_now (Err other) = ⊥
+
+-- nothing was read, and nothing written (own)
+abbrev pub Nothing : List ℕ → (out_before out_now : Side) → Type 0
+Nothing given out_before out_now = (given ≡ []) × WasWritten [] out_before out_now
+
+-- how each end comes by a key file: given lines that are refused end all before the capture is read
+-- (own)
+abbrev pub EndsWith : WhyRequest → KeyFile → Result (List GivenIsns) TextFault → List ℕ →
+    (source_before source_now out_before out_now : Side) → Result Bool WhyHalt → Type 0
+EndsWith request keys (Ok isns) given source_before source_now out_before out_now result =
+    Ends keys (question_of request isns) given source_before source_now out_before out_now result
+EndsWith request keys (Err why) given a c out_before out_now (Err (halt.IsnLine n kind)) =
+    (why ≡ line_fault.Line n kind) × Nothing given out_before out_now
+EndsWith request keys (Err why) given a c out_before out_now (Err halt.TooManyIsns) =
+    (why ≡ line_fault.TooManyLines) × Nothing given out_before out_now
+EndsWith request keys (Err why) given a c out_before out_now (Err halt.Memory) =
+    Nothing given out_before out_now
+EndsWith request keys (Err why) given a c out_before out_now other = ⊥
+
+-- the key file of these tables and this document, or why it is refused (own)
+abbrev pub key_file_by : Result (List Table) TableFault → Option Members → Result KeyFile TableFault
+key_file_by (Ok tables) (Some document) = Ok (record { document = document; tables = tables })
+key_file_by (Ok tables) None = Err fault.Syntax
+key_file_by (Err why) document = Err why
+
+-- the key file that a text is (own)
+abbrev pub key_file_in : List ℕ → Result KeyFile TableFault
+key_file_in text = key_file_by (tables_of text) (document_of text)
+
+-- how each end comes: a key file that is refused ends all before the capture is read (own)
+abbrev pub EndsBy : WhyRequest → Result KeyFile TableFault → Result (List GivenIsns) TextFault →
+    List ℕ → (source_before source_now out_before out_now : Side) → Result Bool WhyHalt → Type 0
+EndsBy request (Ok keys) isns given source_before source_now out_before out_now result =
+    EndsWith request keys isns given source_before source_now out_before out_now result
+EndsBy request (Err why) isns given a c out_before out_now (Err (halt.Keys fault)) =
+    (fault ≡ why) × Nothing given out_before out_now
+EndsBy request (Err why) isns given a c out_before out_now (Err halt.Memory) =
+    Nothing given out_before out_now
+EndsBy request (Err why) isns given a c out_before out_now other = ⊥
+
+-- the answer on a packet of a capture is written, of which the source gave these bytes, by the key
+-- file of this text and the given lines of that one (own)
+pub record Writes (request : WhyRequest) (keys isns given : List ℕ)
+    (source_before source_now out_before out_now : Side) (result : Result Bool WhyHalt)
+    : Type 0 where
+  pub gave : Gave given source_before source_now
+  pub bytes : All IsByte given
+  pub ends : EndsBy request (key_file_in keys) (given_isns_of isns) given source_before source_now
+      out_before out_now result
+
+-- why all ends where the key file has this fault
+abbrev pub halt_of : TableFault → WhyHalt
+halt_of fault.Memory = halt.Memory
+halt_of why = halt.Keys why
+
+-- why all ends where the given lines have this fault
+abbrev pub halt_of_lines : TextFault → WhyHalt
+halt_of_lines line_fault.Memory = halt.Memory
+halt_of_lines line_fault.TooManyLines = halt.TooManyIsns
+halt_of_lines (line_fault.Line n kind) = halt.IsnLine n kind
+
+-- an answer is written
+abbrev pub WritesAnswer : Answered → (out_before out_now : Side) → Result Bool WhyHalt → Type 0
+WritesAnswer answered out_before out_now (Ok passes) =
+    (passes ≡ answered.passes) × WasWritten answered.text.items out_before out_now
+WritesAnswer answered out_before out_now (Err halt.Write) =
+    BreaksText [] answered.text.items out_before out_now
+WritesAnswer answered out_before out_now (Err other) = ⊥

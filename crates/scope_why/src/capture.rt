@@ -1,0 +1,116 @@
+//! A capture, read as far as the packet that is asked for.
+ghost use Rattle.std.specs.Prelude.{◌≡◌, ◌<◌, ℕ, false, IfOk, List};
+ghost use Rattle.ao_base.specs.Outside.{Side};
+ghost use Rattle.book_scope_plan.specs.AdminNames.{KeyFile};
+ghost use Rattle.book_why_texts.specs.Answers.{WhyAsked, no_packet_line};
+ghost use Rattle.scope_why.specs.Reading.{Reads};
+ghost use Rattle.scope_why.specs.Replies.{asked_of, key_file_of};
+
+use crate::answer::{Answered, answer_packet};
+use crate::asking::Asking;
+use crate::front::{hear_packet, told_first};
+use crate::holding::checker_of;
+use crate::segment_line::push_no_packet;
+use crate::shown::stored_shown;
+use crate::write::WhyHalt;
+use ao_base::{Source, Steps};
+use book_sessions::GivenIsns;
+use capture_stream::{CaptureHalt, CaptureReader, CaptureStep};
+use key_table::Tables;
+use std::alloc::{AllocError, Global};
+use std::marker::Brand;
+use std::sync::ledger::{Blank, Ledger};
+
+// The answer where a capture of so many packets has none of this number.
+fn answer_missing(alloc: Global, number: u64, count: u64) -> Result<Answered, AllocError>
+    ensures text { IfOk result (λ a. a.text.items ≡ no_packet_line number count) }
+    ensures passes { IfOk result (λ a. a.passes ≡ false) }
+{
+    let mut text = Vec::new(alloc);
+    push_no_packet(&mut text, number, count)?;
+    Ok(Answered {
+        text,
+        passes: false,
+    })
+}
+
+// The same as `answer_capture`, with a counter of derivations.
+fn answer_counted<L: Ledger, I: Source>(
+    alloc: Global,
+    tables: Tables,
+    given: &[GivenIsns],
+    asking: &Asking<'_>,
+    number: u64,
+    input: &mut I,
+    blank: Blank,
+) -> Result<Answered, WhyHalt>
+    requires name { blank.name ≡ L.name }
+    requires parts { blank.parts ≡ L.parts }
+    requires part { 0 < blank.parts }
+    ensures { (bytes : List ℕ) × Reads (key_file_of asking.now tables) (asked_of asking.now given.now number) bytes (I.side input.old) (I.side input.new) result }
+{
+    let mut steps = Steps::<L>::new(blank);
+    let mut reader = match CaptureReader::new(alloc) {
+        Ok(reader) => reader,
+        Err(_) => return Err(WhyHalt::Memory),
+    };
+    let mut checker = match checker_of(alloc, tables, given) {
+        Ok(checker) => checker,
+        Err(_) => return Err(WhyHalt::Memory),
+    };
+    let mut told = match told_first(alloc, given) {
+        Ok(told) => told,
+        Err(_) => return Err(WhyHalt::Memory),
+    };
+    let mut count: u64 = 0;
+    'parts: loop {
+        match reader.next(input) {
+            Ok(CaptureStep::Packet) => {}
+            Ok(CaptureStep::Block) => continue 'parts,
+            Ok(CaptureStep::End) => match answer_missing(alloc, number, count) {
+                Ok(answered) => return Ok(answered),
+                Err(_) => return Err(WhyHalt::Memory),
+            },
+            Err(CaptureHalt::Read) => return Err(WhyHalt::Read),
+            Err(CaptureHalt::TooLong) => return Err(WhyHalt::TooLong),
+            Err(CaptureHalt::Broken(fault)) => return Err(WhyHalt::Broken(fault)),
+        }
+        let stored = stored_shown(&reader);
+        if reader.number() == number {
+            match answer_packet(
+                &mut checker,
+                told.as_slice(),
+                asking,
+                alloc,
+                &mut steps,
+                number,
+                stored,
+            ) {
+                Ok(answered) => return Ok(answered),
+                Err(_) => return Err(WhyHalt::Memory),
+            }
+        }
+        match hear_packet(&mut checker, &mut told, alloc, &mut steps, stored) {
+            Ok(()) => {}
+            Err(_) => return Err(WhyHalt::Memory),
+        }
+        count += 1;
+    }
+}
+
+/// The answer on the first packet of this number of a capture, which is read as far as that packet: by the
+/// tables, as behind handshakes with the given initial sequence numbers. Broken where the capture has this fault
+/// and no packet in front of it has the number; Read only where the source's count of faults rose; TooLong only
+/// where it gave more than 2^63 bytes; and Memory for want of memory.
+pub(crate) fn answer_capture<I: Source>(
+    alloc: Global,
+    tables: Tables,
+    given: &[GivenIsns],
+    asking: &Asking<'_>,
+    number: u64,
+    input: &mut I,
+) -> Result<Answered, WhyHalt>
+    ensures { (bytes : List ℕ) × Reads (key_file_of asking.now tables) (asked_of asking.now given.now number) bytes (I.side input.old) (I.side input.new) result }
+{
+    answer_counted::<Brand, I>(alloc, tables, given, asking, number, input, Blank::new(1))
+}

@@ -1,0 +1,62 @@
+//! What is judged of the packet that a reader shows.
+ghost use Rattle.std.specs.Prelude.{◌≡◌, ◌≤◌, ℕ, IfOk, IsSome, Some, drop, length, take};
+ghost use Rattle.book_captures.specs.Captures.{CapturePacket};
+ghost use Rattle.book_pcap.specs.Packets.{longest_datagram};
+ghost use Rattle.book_sessions.specs.Sessions.{stored_by, stored_of_packet};
+ghost use Rattle.scope_lines.specs.Writes.{found_in};
+ghost use Rattle.scope_why.specs.Fronts.{stored_as};
+
+use book_sessions::PassedOver;
+use capture_reader::FoundDatagram;
+use capture_stream::{CaptureReader, Skipped};
+
+/// The most bytes that are judged of a datagram: those of the longest one of either version of IP.
+const LONGEST_DATAGRAM: usize = 65_575;
+
+/// How many nanoseconds a second has.
+const NANOSECONDS: u64 = 1_000_000_000;
+
+/// The bytes that were stored at a time, in seconds since 1970.
+#[derive(Clone, Copy)]
+pub(crate) struct StoredBytes<'a> {
+    pub(crate) time: u64,
+    pub(crate) bytes: &'a [u8],
+}
+
+// What is judged of the datagram that begins here in a frame.
+fn judged(frame: &[u8], first: usize) -> &[u8]
+    requires { first ≤ length frame.now }
+    ensures { result.now ≡ take longest_datagram (drop first frame.now) }
+{
+    let behind = &frame[first..];
+    &behind[..LONGEST_DATAGRAM.min(behind.len())]
+}
+
+// What is judged of a packet whose frame has this datagram, or none for this reason.
+fn stored_found(
+    time: Option<u64>,
+    frame: &[u8],
+    found: Result<FoundDatagram, Skipped>,
+) -> Result<StoredBytes<'_>, PassedOver>
+    requires { IfOk found (λ d. (d.first ≤ d.after) × (d.after ≤ length frame.now)) }
+    ensures { (number : ℕ) → stored_as number result ≡ stored_by number time (found_in frame.now found) }
+{
+    match found {
+        Err(why) => Err(PassedOver::NoDatagram(why)),
+        Ok(datagram) => match time {
+            None => Err(PassedOver::NoTime),
+            Some(time) => Ok(StoredBytes {
+                time: time / NANOSECONDS,
+                bytes: judged(frame, datagram.first),
+            }),
+        },
+    }
+}
+
+/// What is judged of the packet that the reader shows, or why it is passed over.
+pub(crate) fn stored_shown(reader: &CaptureReader) -> Result<StoredBytes<'_>, PassedOver>
+    requires { IsSome reader.now.packet }
+    ensures { (p : CapturePacket) → reader.now.packet ≡ Some p → stored_as p.number result ≡ stored_of_packet p }
+{
+    stored_found(reader.time(), reader.frame(), reader.datagram())
+}

@@ -1,0 +1,130 @@
+//! The answer on a packet of a capture, written when the capture was read as far as that packet.
+ghost use Rattle.std.specs.Prelude.{◌≡◌, ℕ, List};
+ghost use Rattle.ao_base.specs.Outside.{Side};
+ghost use Rattle.scope_why.specs.Writing.{Writes, WritesAnswer, halt_of, halt_of_lines};
+
+use crate::answer::Answered;
+use crate::asking::Asking;
+use crate::capture::answer_capture;
+use ao_base::{Failed, Sink, Source, write_all};
+use book_lines::{LineKind, TextFault};
+use capture_stream::CaptureFault;
+use key_table::TableFault;
+use scope_plan::{KeyFile, read_key_file};
+use scope_sessions::read_given;
+use std::alloc::Global;
+
+/// Which packet is asked for, by its number from 1, and whether its traffic key is, which is a secret.
+#[derive(Clone, Copy, Debug, PartialEq, Eq)]
+pub struct WhyRequest {
+    pub number: u64,
+    pub with_key: bool,
+}
+
+/// Why no answer on a packet was written, or not the whole of it.
+#[derive(Clone, Copy, Debug, PartialEq, Eq)]
+pub enum WhyHalt {
+    /// The key file is refused.
+    Keys(TableFault),
+    /// The given line of this number, counted from 1 among all lines, is faulty; with the kind of its
+    /// first faulty word.
+    IsnLine(u32, LineKind),
+    /// More than 20,000 lines are given.
+    TooManyIsns,
+    /// The capture is faulty here, and no packet in front of it has the number.
+    Broken(CaptureFault),
+    /// The source gave more than 2^63 bytes.
+    TooLong,
+    /// A read failed.
+    Read,
+    /// A write failed.
+    Write,
+    /// Memory ran out.
+    Memory,
+}
+
+fn halt_of(fault: TableFault) -> WhyHalt
+    ensures { result ≡ halt_of fault }
+{
+    match fault {
+        TableFault::Memory => WhyHalt::Memory,
+        TableFault::Syntax => WhyHalt::Keys(TableFault::Syntax),
+        TableFault::Field(node, row, column) => {
+            WhyHalt::Keys(TableFault::Field(node, row, column))
+        }
+        TableFault::TooMany(node) => WhyHalt::Keys(TableFault::TooMany(node)),
+        TableFault::Overlap(node, first, second) => {
+            WhyHalt::Keys(TableFault::Overlap(node, first, second))
+        }
+    }
+}
+
+fn halt_of_lines(fault: TextFault) -> WhyHalt
+    ensures { result ≡ halt_of_lines fault }
+{
+    match fault {
+        TextFault::Memory => WhyHalt::Memory,
+        TextFault::TooManyLines => WhyHalt::TooManyIsns,
+        TextFault::Line(number, kind) => WhyHalt::IsnLine(number, kind),
+    }
+}
+
+// Writes an answer.
+fn write_answer<O: Sink>(answered: &Answered, out: &mut O) -> Result<bool, WhyHalt>
+    ensures { WritesAnswer answered.now (O.side out.old) (O.side out.new) result }
+{
+    match write_all(out, answered.text.as_slice()) {
+        Ok(()) => Ok(answered.passes),
+        Err(Failed) => Err(WhyHalt::Write),
+    }
+}
+
+/// Writes why the check says what it says of the first packet of the number that is asked for in a capture:
+/// the lines that `book_why_texts` defines, judged by the tables of a key file as behind handshakes with the
+/// initial sequence numbers that lines give, and behind the packets in front of it; where no packet of the
+/// capture has the number, that. Nothing is read behind the packet, and what follows it doesn't matter. Ok where
+/// the whole answer was written: whether the packet passes.
+///
+/// Each given line that says something is `ADDRESS PORT ISN ADDRESS PORT ISN`: two sockets of one version of
+/// IP that differ, with addresses in their usual form, each with its initial sequence number.
+///
+/// Keys comes exactly where the key file is refused, IsnLine and TooManyIsns exactly where it isn't and the
+/// given lines are, and nothing was read. Broken comes where the capture has this fault and no packet in front of
+/// it has the number; Read only where the source's count of faults rose; TooLong only where it gave more than
+/// 2^63 bytes; Write only where the sink's count of faults rose, with a front part of the answer written; and
+/// Memory for want of memory. With all but Write nothing was written.
+pub fn write_why<I: Source, O: Sink>(
+    alloc: Global,
+    request: WhyRequest,
+    keys: &[u8],
+    isns: &[u8],
+    input: &mut I,
+    out: &mut O,
+) -> Result<bool, WhyHalt>
+    ensures { (given : List ℕ) × Writes request keys.now isns.now given (I.side input.old) (I.side input.new) (O.side out.old) (O.side out.new) result }
+{
+    let file = match read_key_file(alloc, keys) {
+        Ok(file) => file,
+        Err(fault) => return Err(halt_of(fault)),
+    };
+    let given = match read_given(alloc, isns) {
+        Ok(given) => given,
+        Err(fault) => return Err(halt_of_lines(fault)),
+    };
+    let KeyFile { document, tables } = file;
+    let asking = Asking {
+        document: &document,
+        with_key: request.with_key,
+    };
+    match answer_capture(
+        alloc,
+        tables,
+        given.as_slice(),
+        &asking,
+        request.number,
+        input,
+    ) {
+        Ok(answered) => write_answer(&answered, out),
+        Err(halt) => Err(halt),
+    }
+}

@@ -1,0 +1,7 @@
+pub mod EndsLaws
+pub mod FindLaws
+pub mod KeepLaws
+pub mod NumberLaws
+pub mod PlaceLaws
+pub mod ReasonLaws
+pub mod TableLaws

@@ -1,0 +1,58 @@
+//! Words for what comes of a segment, and when two of them are the same.
+ghost use Rattle.std.specs.Prelude.{◌≡◌, ◌++◌, codes};
+ghost use Rattle.book_link.specs.Reports.{verdict_text};
+ghost use Rattle.book_sessions.specs.OutcomeTexts.{outcome_text};
+ghost use Rattle.book_sessions.specs.Sessions.{same_id, same_outcome};
+
+use book_endpoint::Verdict;
+use book_sessions::SegmentOutcome;
+use segment_words::verdict_word;
+
+fn unconfirmed_word(why: Verdict) -> &'static [u8]
+    ensures { result.now ≡ codes "unconfirmed-" ++ verdict_text why }
+{
+    match why {
+        Verdict::Pass(_) => b"unconfirmed-pass",
+        Verdict::NoAo => b"unconfirmed-no-ao",
+        Verdict::TwoAo => b"unconfirmed-two-ao",
+        Verdict::WithMd5 => b"unconfirmed-with-md5",
+        Verdict::NoTuple => b"unconfirmed-no-tuple",
+        Verdict::Expired => b"unconfirmed-expired",
+        Verdict::MacLength => b"unconfirmed-mac-length",
+        Verdict::NoContext => b"unconfirmed-no-context",
+        Verdict::Range => b"unconfirmed-range",
+        Verdict::BadMac => b"unconfirmed-bad-mac",
+    }
+}
+
+/// The word for what comes of a segment: that it is verified or unconfirmed, or why it isn't.
+pub fn outcome_word(outcome: SegmentOutcome) -> &'static [u8]
+    ensures { result.now ≡ outcome_text outcome }
+{
+    match outcome {
+        SegmentOutcome::Verified => b"verified",
+        SegmentOutcome::Refused(why) => verdict_word(why),
+        SegmentOutcome::NoNode => b"unknown-node",
+        SegmentOutcome::TooMany => b"full",
+        SegmentOutcome::Unconfirmed => b"unconfirmed",
+        SegmentOutcome::UnconfirmedRefused(why) => unconfirmed_word(why),
+    }
+}
+
+pub(crate) fn is_same_outcome(one: SegmentOutcome, two: SegmentOutcome) -> bool
+    ensures { result ≡ same_outcome one two }
+{
+    outcome_word(one) == outcome_word(two)
+}
+
+pub(crate) fn is_same_id(one: Option<u8>, two: Option<u8>) -> bool
+    ensures { result ≡ same_id one two }
+{
+    match one {
+        None => two.is_none(),
+        Some(one) => match two {
+            None => false,
+            Some(two) => one == two,
+        },
+    }
+}
