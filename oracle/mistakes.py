@@ -6,7 +6,7 @@ import itertools
 
 from sessions import PLACES, SERVER, Capture, Scene
 from signing import ALGORITHMS, signed
-from single_changes import CHANGES, NAMED, TRIMMED, Question, other_algorithm, other_flag
+from single_changes import CHANGES, NAMED, TRIMMED, Question, cut_sha256, other_algorithm, other_flag
 
 REFUSED = "refused bad-mac checksum good"
 EVERY = tuple(ALGORITHMS)
@@ -121,8 +121,11 @@ def of_flags():
 
 
 def of_algorithms():
-    """The other algorithm whose MAC has the same length, with the key of the row."""
+    """The other algorithm whose MAC has the same length, or HMAC-SHA-256's cut to it, with the key of the row."""
     for n, what, scene in scenes(tuple(OTHER)):
         *front, segment = scene.up_to(PLACES[n % len(PLACES)])
         named = other_algorithm(scene.signing(segment), OTHER[scene.algorithm])
         yield capture(f"algorithm-{what}", scene, scene.signed(front), segment, named)
+    for n, what, scene in scenes(tuple(OTHER), 1):
+        *front, segment = scene.up_to(PLACES[n % len(PLACES)])
+        yield capture(f"algorithm-cut-{what}", scene, scene.signed(front), segment, cut_sha256(scene.signing(segment)))

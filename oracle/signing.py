@@ -87,7 +87,8 @@ class Segment:
 
 @dataclasses.dataclass(frozen=True)
 class Signing:
-    """How a MAC is made. `isns` are the source's and the destination's; `bits` is the output length as the key derivation is told it."""
+    """How a MAC is made. `isns` are the source's and the destination's; `bits` is the output length as the key derivation is told it, and `sends`
+    how many bytes of the MAC are sent, where they aren't as many as the algorithm says."""
 
     algorithm: str
     master: bytes
@@ -101,6 +102,11 @@ class Signing:
     checksum: int = 0
     in_its_place: bytes | None = None
     takes_last: bool = False
+    sends: int | None = None
+
+    @property
+    def mac_length(self):
+        return ALGORITHMS[self.algorithm].mac_length if self.sends is None else self.sends
 
     def traffic_key(self):
         ports = (self.source.port, self.destination.port)
@@ -110,7 +116,7 @@ class Signing:
 
     def message(self, segment):
         """What the MAC is computed over; zeros stand in its place unless something else is given."""
-        zeros = bytes(ALGORITHMS[self.algorithm].mac_length)
+        zeros = bytes(self.mac_length)
         ao = segment.ao(zeros if self.in_its_place is None else self.in_its_place)
         every = segment.front + ao + segment.behind
         pseudo = segment.pseudo(every) if self.has_pseudo else b""
@@ -119,8 +125,7 @@ class Signing:
 
     def mac(self, segment):
         whole = code(self.algorithm, self.traffic_key(), self.message(segment))
-        length = ALGORITHMS[self.algorithm].mac_length
-        return whole[-length:] if self.takes_last else whole[:length]
+        return whole[-self.mac_length :] if self.takes_last else whole[: self.mac_length]
 
     def but(self, **changes):
         """The same, but for these fields."""

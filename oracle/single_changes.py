@@ -49,6 +49,12 @@ CHANGES = {
 }
 
 
+def cut_sha256(right):
+    """The words, and the signing, of HMAC-SHA-256 with the same key, its MAC cut to 96 bits."""
+    bits = 8 * ALGORITHMS["sha256"].key_length
+    return "the other algorithm: HMAC-SHA-256 cut to 96 bits", right.but(algorithm="sha256", bits=bits, sends=12)
+
+
 def row_words(number, node):
     return f"another row: row {number} of {node.name}"
 
@@ -94,11 +100,12 @@ class Question:
                 yield row_words(number, node), right_signing(row, self.segment, self.right.isns)
         yield other_flag(self.right)
         yield from (other_algorithm(self.right, name) for name in ALGORITHMS)
+        yield cut_sha256(self.right)
         yield from ((words, change(self.segment, self.right)) for words, change in CHANGES.items())
         yield kept_checksum(self.right, self.checksum)
         yield from (other_connection(self.right, isns) for isns in self.others)
 
     def lines(self):
         """The lines that `why` is to write: those of the changes under which the MAC is the segment's."""
-        fits = ((words, it) for words, it in self.changed() if ALGORITHMS[it.algorithm].mac_length == len(self.mac))
+        fits = ((words, it) for words, it in self.changed() if it.mac_length == len(self.mac))
         return {NAMED + words for words, it in fits if it.mac(self.segment) == self.mac}
