@@ -7,6 +7,9 @@ use crate::outside::{Failed, Source};
 use std::alloc::{AllocError, Global};
 use std::marker::Model;
 
+/// The most bytes that one read asks for, as many as a pipe holds.
+const LONGEST_READ: usize = 65_536;
+
 /// Bytes that were taken and not yet passed over, with the piece that was handed out last.
 #[derive(Debug, Drop)]
 pub struct Buffer {
@@ -93,7 +96,8 @@ impl Buffer {
 }
 
 // Where the bytes from `from` up to `to` begin afterwards, with room behind them: moved to the
-// front, where they reached to the end.
+// front, where they reached to the end. So they are too where a read's worth was passed, and they
+// are no more than that: a large buffer of which little is kept stays in the nearest memory.
 fn make_room(bytes: &mut [u8], from: usize, to: usize) -> usize
     requires ordered { from ≤ to }
     requires within { to ≤ length bytes.old }
@@ -101,18 +105,25 @@ fn make_room(bytes: &mut [u8], from: usize, to: usize) -> usize
     ensures same { take (to - from) (drop result bytes.new) ≡ slice_range bytes.old from to }
     ensures room { result + (to - from) < length bytes.new }
 {
-    if to < bytes.len() {
+    let is_far = from >= LONGEST_READ && from >= to - from;
+    if to < bytes.len() && !is_far {
         return from;
     }
     bytes.copy_within(from..to, 0);
     0
 }
 
-// Reads into the bytes from `at` on.
+// Reads into the bytes from `at` on, a read's worth at most.
 fn fill<S: Source>(src: &mut S, bytes: &mut [u8], at: usize) -> Result<usize, Failed>
     requires { at ≤ length bytes.old }
     ensures front { take at bytes.new ≡ take at bytes.old }
     ensures reads { Reads (S.side src.old) (S.side src.new) (drop at bytes.new) result }
 {
-    src.read(&mut bytes[at..])
+    let room = bytes.len() - at;
+    let most = if room < LONGEST_READ {
+        room
+    } else {
+        LONGEST_READ
+    };
+    src.read(&mut bytes[at..at + most])
 }

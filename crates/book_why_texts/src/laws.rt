@@ -43,7 +43,9 @@ pub fn told_verdict_is_the_checks()
     ensures { (tables : List Table) (given : List GivenIsns) (before after : List CapturePacket) (p : CapturePacket) (s : Stored) → stored_of_packet p ≡ Ok s
         → sayings_from tables (given_after [] given) (all_stored (before ++ p ∷ after))
         ≡ sayings_from tables (given_after [] given) (all_stored before) ++ (said_behind tables (behind_stored tables given (all_stored before)) s
-        ∷ sayings_from tables (hear tables (connections_after tables (given_after [] given) (all_stored before)) s.time s.bytes).connections (all_stored after)) }
+        ∷ sayings_from tables
+        (hear tables (connections_after tables (given_after [] given) (all_stored before)) s.time s.bytes).connections
+        (all_stored after)) }
 {}
 
 /// A row lacks nothing exactly where it takes a segment: for these sockets, with this KeyID, at this time (RFC 5925, section 7.5).

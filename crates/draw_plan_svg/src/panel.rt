@@ -97,7 +97,9 @@ fn push_nodes(
 ) -> Result<u32, AllocError>
     requires { line ≤ 4001000000 }
     ensures drawn { IfOk result (λ next. Draws (table_view paper.now.document.now) paper.now.plan
-        (planned_lines (option_map (λ t. t.now) panel.now.a) (option_map (λ t. t.now) panel.now.b) paper.now.plan panel.now.pair panel.now.findings.now) out.old.items line out.new.items next) }
+        (planned_lines (option_map (λ t. t.now) panel.now.a) (option_map (λ t. t.now) panel.now.b)
+        paper.now.plan panel.now.pair panel.now.findings.now)
+        out.old.items line out.new.items next) }
     ensures few { IfOk result (λ next. next ≤ line + 258) }
 {
     match (panel.a, panel.b) {
@@ -130,7 +132,9 @@ pub fn push_panel(
 ) -> Result<u32, AllocError>
     requires { line ≤ 4000000000 }
     ensures drawn { IfOk result (λ next. Draws (table_view paper.now.document.now) paper.now.plan
-        (named panel.now.pair ∷ planned_lines (option_map (λ t. t.now) panel.now.a) (option_map (λ t. t.now) panel.now.b) paper.now.plan panel.now.pair panel.now.findings.now) out.old.items line out.new.items next) }
+        (named panel.now.pair ∷ planned_lines (option_map (λ t. t.now) panel.now.a) (option_map (λ t. t.now) panel.now.b)
+        paper.now.plan panel.now.pair panel.now.findings.now)
+        out.old.items line out.new.items next) }
     ensures few { IfOk result (λ next. next ≤ line + 259) }
 {
     let mut words = Vec::new(*out.allocator());

@@ -93,7 +93,8 @@ pub(crate) fn push_wrong_length(
 ) -> Result<(), AllocError>
     requires { IsWithin inquiry.now }
     ensures { OnOk result (out.new.items ≡ out.old.items ++ (row_taking_line (inquiry_of inquiry.now)
-        ++ (if_found (lengths_line (inquiry_of inquiry.now)) (ao_at (sight_of inquiry.now)) ++ if_found (changes_lines (inquiry_of inquiry.now)) (suspect_at (sight_of inquiry.now))))) }
+        ++ (if_found (lengths_line (inquiry_of inquiry.now)) (ao_at (sight_of inquiry.now))
+        ++ if_found (changes_lines (inquiry_of inquiry.now)) (suspect_at (sight_of inquiry.now))))) }
 {
     push_row_taking(out, inquiry)?;
     push_lengths_if(out, inquiry)?;
