@@ -1,7 +1,7 @@
 //! The word `echo`: the report of a link file's run beside the lines of its events.
-use crate::inputs::{Halt, end, input, tables_at};
+use crate::halt::{Halt, end};
+use crate::inputs::{input, tables_at, write};
 use clap::{Arg, ArgAction, ArgMatches, Command};
-use command_report::Report;
 use scope_echo::{answer_echo, answer_echo_keys};
 use std::alloc::{AllocError, Global};
 
@@ -29,21 +29,22 @@ pub(crate) fn command<'a>(alloc: Global) -> Result<Command<'a>, AllocError> {
         .arg(keys)
 }
 
-fn report(rt: &HostRuntime, matches: &ArgMatches<'_>) -> Result<Report, Halt> {
+/// Writes the report of the link file on standard input.
+fn echo(rt: &HostRuntime, matches: &ArgMatches<'_>) -> Result<bool, Halt> {
     match matches.get_str("KEYS") {
         Some(path) => {
             let tables = tables_at(rt, path)?;
             let input = input(rt)?;
-            Ok(answer_echo_keys(rt.alloc(), tables, input.as_slice())?)
+            write(rt, answer_echo_keys(rt.alloc(), tables, input.as_slice())?)
         }
         None => {
             let input = input(rt)?;
-            Ok(answer_echo(rt.alloc(), input.as_slice())?)
+            write(rt, answer_echo(rt.alloc(), input.as_slice())?)
         }
     }
 }
 
 /// What the word asks for.
 pub(crate) fn run(rt: &HostRuntime, matches: &ArgMatches<'_>) -> u8 {
-    end(rt, report(rt, matches))
+    end(rt, echo(rt, matches))
 }

@@ -1,7 +1,7 @@
 //! The word `keys`: all that is wrong with a key file, told to the person who writes it.
-use crate::inputs::{Halt, end, keys_at};
+use crate::halt::{Halt, end};
+use crate::inputs::{keys_at, required, write};
 use clap::{Arg, ArgAction, ArgMatches, Command};
-use command_report::Report;
 use scope_keys::answer_keys;
 use std::alloc::{AllocError, Global};
 
@@ -31,16 +31,13 @@ pub(crate) fn command<'a>(alloc: Global) -> Result<Command<'a>, AllocError> {
         .arg(keys)
 }
 
-fn report(rt: &HostRuntime, matches: &ArgMatches<'_>) -> Result<Report, Halt> {
-    let path = match matches.get_str("KEYS") {
-        Some(path) => path,
-        None => return Err(Halt::Memory),
-    };
-    let text = keys_at(rt, path)?;
-    Ok(answer_keys(rt.alloc(), text.as_slice())?)
+/// Writes what is wrong with the key file.
+fn judge(rt: &HostRuntime, matches: &ArgMatches<'_>) -> Result<bool, Halt> {
+    let text = keys_at(rt, required(matches, "KEYS")?)?;
+    write(rt, answer_keys(rt.alloc(), text.as_slice())?)
 }
 
 /// What the word asks for.
 pub(crate) fn run(rt: &HostRuntime, matches: &ArgMatches<'_>) -> u8 {
-    end(rt, report(rt, matches))
+    end(rt, judge(rt, matches))
 }

@@ -4,23 +4,23 @@
 mod command;
 mod draw;
 mod echo;
+mod halt;
 mod inputs;
 mod keys;
 mod plan;
 mod session_ladder;
 mod sessions;
 mod sessions_page;
-mod told;
 mod why;
 
 use ao_base::{ReadSource, WriteSink};
 use clap::error::ErrorKind;
 use clap::{ArgMatches, Error};
 use command::command;
+use halt::{Halt, end, tell};
 use scope_lines::write_lines;
 use std::process::ExitCode;
 use std::{env, io};
-use told::{Told, tell};
 
 /// The words of the command line, the program's name first; an error where one isn't UTF-8.
 fn words(rt: &HostRuntime) -> io::Result<Vec<String>> {
@@ -31,45 +31,43 @@ fn words(rt: &HostRuntime) -> io::Result<Vec<String>> {
     Ok(words)
 }
 
-/// Writes the lines of the capture on standard input.
-fn lines(rt: &HostRuntime) -> u8 {
+/// Writes the lines of the capture on standard input; nothing is amiss then.
+fn lines(rt: &HostRuntime) -> Result<bool, Halt> {
     let mut input = ReadSource::new(rt.stdin());
     let mut out = WriteSink::new(rt.stdout());
-    match write_lines(rt.alloc(), &mut input, &mut out) {
-        Ok(()) => 0,
-        Err(halt) => tell(rt, Told::Lines(halt)),
-    }
+    write_lines(rt.alloc(), &mut input, &mut out)?;
+    Ok(false)
 }
 
 /// What the words ask for.
 fn run(rt: &HostRuntime, matches: &ArgMatches<'_>) -> u8 {
     match matches.subcommand() {
-        Some(("lines", _)) => lines(rt),
+        Some(("lines", _)) => end(rt, lines(rt)),
         Some(("sessions", matches)) => sessions::run(rt, matches),
         Some(("why", matches)) => why::run(rt, matches),
         Some(("keys", matches)) => keys::run(rt, matches),
         Some(("plan", matches)) => plan::run(rt, matches),
         Some(("draw", matches)) => draw::run(rt, matches),
         Some(("echo", matches)) => echo::run(rt, matches),
-        _ => tell(rt, Told::Memory),
+        _ => tell(rt, &Halt::Memory),
     }
 }
 
 /// Help, or why the words are refused.
 fn explain(rt: &HostRuntime, error: &Error) -> u8 {
     if let ErrorKind::OutOfMemory = error.kind() {
-        return tell(rt, Told::Memory);
+        return tell(rt, &Halt::Memory);
     }
     match error.print(rt) {
         Ok(()) => error.exit_code() as u8,
-        Err(_) => tell(rt, Told::Write),
+        Err(_) => tell(rt, &Halt::Write),
     }
 }
 
 fn answer<'w>(rt: &HostRuntime, words: &'w [String]) -> u8 {
     let command = match command(rt.alloc()) {
         Ok(command) => command,
-        Err(_) => return tell(rt, Told::Memory),
+        Err(_) => return tell(rt, &Halt::Memory),
     };
     match command.try_get_matches_from(words) {
         Ok(matches) => run(rt, &matches),
@@ -82,9 +80,9 @@ fn main(rt: HostRuntime) -> ExitCode {
         Ok(words) => answer(&rt, words.as_slice()),
         Err(error) => {
             if error.kind() == io::ErrorKind::OutOfMemory {
-                tell(&rt, Told::Memory)
+                tell(&rt, &Halt::Memory)
             } else {
-                tell(&rt, Told::Words)
+                tell(&rt, &Halt::Usage("a word is not UTF-8"))
             }
         }
     };

@@ -1,22 +1,12 @@
 //! The word `plan`: what is said of the planned rollovers of connections.
-use ao_base::{ReadProblem, ReadSource, WriteSink, read_all, write_all};
+use crate::halt::{Halt, end};
+use crate::inputs::{duration, input, keys_at, required, write};
 use book_cmd_keys::Plan;
 use book_draw_plan::PlanForm;
 use clap::{Arg, ArgAction, ArgMatches, Command};
-use command_report::{Report, Stop};
-use key_faults::push_key_fault;
-use key_table::TableFault;
-use scope_plan::{KeyFile, answer_plan, read_key_file};
-use scope_texts::{read_duration, read_instant};
+use scope_plan::{answer_plan, read_key_file};
+use scope_texts::read_instant;
 use std::alloc::{AllocError, Global};
-use std::fs::File;
-use text_lines::print_fault;
-
-/// The most bytes of a key file.
-const MOST_KEYS: u64 = 1_048_576;
-
-/// The most bytes of an input.
-const MOST_INPUT: u64 = 33_554_432;
 
 const ABOUT: &str =
     "Says of each connection how its keys change, what is wrong with the plan, and what to set";
@@ -45,28 +35,6 @@ Status 0: all plans are aligned; 1: one isn't, or no node has an address; 3: key
 
     aoscope plan KEYS 60 60 2026-12-01T00:00:00Z 2027-02-01T00:00:00Z < CONNECTIONS
     aoscope plan --draw --svg KEYS 60 60 2026-12-01T00:00:00Z 2027-02-01T00:00:00Z < CONNECTIONS > PICTURE.svg";
-
-/// Why the program ends early.
-#[derive(Debug, Drop)]
-enum Halt {
-    /// This word isn't a length of time.
-    Duration(&'static str),
-    /// This word isn't a time.
-    Instant(&'static str),
-    Keys(TableFault),
-    KeysTooLong,
-    TooLong,
-    Read,
-    Write,
-    Stopped(Stop),
-    Memory,
-}
-
-impl From<AllocError> for Halt {
-    fn from(_e: AllocError) -> Halt {
-        Halt::Memory
-    }
-}
 
 fn word<'a>(alloc: Global, name: &'a str, help: &'a str) -> Arg<'a> {
     Arg::new(alloc, name)
@@ -111,97 +79,19 @@ pub(crate) fn command<'a>(alloc: Global) -> Result<Command<'a>, AllocError> {
         .arg(to)
 }
 
-fn status(halt: &Halt) -> u8 {
-    match halt {
-        Halt::Duration(_) => 2,
-        Halt::Instant(_) => 2,
-        Halt::Keys(TableFault::Memory) => 7,
-        Halt::Keys(_) => 3,
-        Halt::KeysTooLong => 3,
-        Halt::TooLong => 4,
-        Halt::Stopped(Stop::Input(_)) => 4,
-        Halt::Stopped(_) => 7,
-        Halt::Read => 5,
-        Halt::Write => 6,
-        Halt::Memory => 7,
-    }
+/// The time that the word of this name says.
+fn instant(name: &'static str, text: &str) -> Result<u64, Halt> {
+    read_instant(text.as_bytes()).ok_or(Halt::IsNo(name, "time"))
 }
 
-fn push_usage(line: &mut Vec<u8>, name: &str, form: &[u8]) -> Result<(), AllocError> {
-    line.extend_from_slice(b"usage: ")?;
-    line.extend_from_slice(name.as_bytes())?;
-    line.extend_from_slice(form)
-}
-
-/// Puts why the program ends early behind `line`.
-fn push_halt(alloc: Global, line: &mut Vec<u8>, halt: &Halt) -> Result<(), AllocError> {
-    match halt {
-        Halt::Duration(name) => push_usage(line, name, b" is no length of time\n"),
-        Halt::Instant(name) => push_usage(line, name, b" is no time\n"),
-        Halt::Keys(TableFault::Memory) => line.extend_from_slice(b"memory\n"),
-        Halt::Keys(fault) => push_key_fault(line, *fault),
-        Halt::KeysTooLong => line.extend_from_slice(b"keys: too long\n"),
-        Halt::TooLong => line.extend_from_slice(b"input: too long\n"),
-        Halt::Stopped(Stop::Input(fault)) => {
-            let text = print_fault(alloc, fault)?;
-            line.extend_from_slice(text.as_slice())
-        }
-        Halt::Stopped(_) => line.extend_from_slice(b"memory\n"),
-        Halt::Read => line.extend_from_slice(b"read fault\n"),
-        Halt::Write => line.extend_from_slice(b"write fault\n"),
-        Halt::Memory => line.extend_from_slice(b"memory\n"),
-    }
-}
-
-/// Tells on standard error why the program ends early, as far as it takes it, and answers the status.
-fn tell(rt: &HostRuntime, halt: &Halt) -> u8 {
-    let mut err = WriteSink::new(rt.stderr());
-    let mut line = Vec::new(rt.alloc());
-    let _ = match push_halt(rt.alloc(), &mut line, halt) {
-        Ok(()) => write_all(&mut err, line.as_slice()),
-        Err(_) => write_all(&mut err, b"memory\n"),
-    };
-    status(halt)
-}
-
-fn duration(matches: &ArgMatches<'_>, name: &'static str) -> Result<u64, Halt> {
-    match matches.get_str(name) {
-        Some(text) => read_duration(text.as_bytes()).ok_or(Halt::Duration(name)),
-        None => Err(Halt::Memory),
-    }
-}
-
-fn instant(matches: &ArgMatches<'_>, name: &'static str) -> Result<u64, Halt> {
-    match matches.get_str(name) {
-        Some(text) => read_instant(text.as_bytes()).ok_or(Halt::Instant(name)),
-        None => Err(Halt::Memory),
-    }
-}
-
+/// By how much clocks may be behind and ahead, and between which times the plan is looked at.
 fn plan_of(matches: &ArgMatches<'_>) -> Result<Plan, Halt> {
     Ok(Plan {
-        lead: duration(matches, "LEAD")?,
-        lag: duration(matches, "LAG")?,
-        from: instant(matches, "FROM")?,
-        to: instant(matches, "TO")?,
+        lead: duration("LEAD", required(matches, "LEAD")?)?,
+        lag: duration("LAG", required(matches, "LAG")?)?,
+        from: instant("FROM", required(matches, "FROM")?)?,
+        to: instant("TO", required(matches, "TO")?)?,
     })
-}
-
-fn key_file_at(rt: &HostRuntime, path: &str) -> Result<KeyFile, Halt> {
-    let file = match File::open(rt, path) {
-        Ok(file) => file,
-        Err(_) => return Err(Halt::Read),
-    };
-    let text = match read_all(rt.alloc(), &mut ReadSource::new(file), MOST_KEYS) {
-        Ok(text) => text,
-        Err(ReadProblem::Memory) => return Err(Halt::Memory),
-        Err(ReadProblem::Fault) => return Err(Halt::Read),
-        Err(ReadProblem::TooLong) => return Err(Halt::KeysTooLong),
-    };
-    match read_key_file(rt.alloc(), text.as_slice()) {
-        Ok(keys) => Ok(keys),
-        Err(fault) => Err(Halt::Keys(fault)),
-    }
 }
 
 fn form_of(matches: &ArgMatches<'_>) -> PlanForm {
@@ -212,33 +102,20 @@ fn form_of(matches: &ArgMatches<'_>) -> PlanForm {
     }
 }
 
-fn report(rt: &HostRuntime, matches: &ArgMatches<'_>) -> Result<Report, Halt> {
+/// Writes what is said of the connections on standard input.
+fn judge(rt: &HostRuntime, matches: &ArgMatches<'_>) -> Result<bool, Halt> {
     let plan = plan_of(matches)?;
-    let path = match matches.get_str("KEYS") {
-        Some(path) => path,
-        None => return Err(Halt::Memory),
-    };
-    let keys = key_file_at(rt, path)?;
-    let input = match read_all(rt.alloc(), &mut ReadSource::new(rt.stdin()), MOST_INPUT) {
-        Ok(input) => input,
-        Err(ReadProblem::Memory) => return Err(Halt::Memory),
-        Err(ReadProblem::Fault) => return Err(Halt::Read),
-        Err(ReadProblem::TooLong) => return Err(Halt::TooLong),
-    };
-    match answer_plan(rt.alloc(), form_of(matches), &keys, plan, input.as_slice()) {
-        Ok(report) => Ok(report),
-        Err(stop) => Err(Halt::Stopped(stop)),
-    }
+    let text = keys_at(rt, required(matches, "KEYS")?)?;
+    let keys = read_key_file(rt.alloc(), text.as_slice())?;
+    let input = input(rt)?;
+    let form = form_of(matches);
+    write(
+        rt,
+        answer_plan(rt.alloc(), form, &keys, plan, input.as_slice())?,
+    )
 }
 
 /// What the word asks for.
 pub(crate) fn run(rt: &HostRuntime, matches: &ArgMatches<'_>) -> u8 {
-    let report = match report(rt, matches) {
-        Ok(report) => report,
-        Err(halt) => return tell(rt, &halt),
-    };
-    match write_all(&mut WriteSink::new(rt.stdout()), report.text.as_slice()) {
-        Ok(()) => { if report.is_amiss { 1 } else { 0 } }
-        Err(_) => tell(rt, &Halt::Write),
-    }
+    end(rt, judge(rt, matches))
 }

@@ -1,22 +1,12 @@
 //! The word `sessions`: the table of a capture's sessions and of the keys of a key file.
+use crate::halt::{Halt, end};
+use crate::inputs::{duration, isns, keys_at, required};
 use crate::session_ladder;
 use crate::sessions_page::{ABOUT, AFTER};
-use ao_base::{ReadProblem, ReadSource, WriteSink, read_all, read_decimal, write_all};
-use book_base::Bytes;
+use ao_base::{ReadSource, WriteSink, read_decimal};
 use clap::{Arg, ArgAction, ArgMatches, Command};
-use key_faults::push_key_fault;
-use scope_lines::push_fault;
-use scope_sessions::{LineKind, SessionsHalt, TableForm, TableRequest, write_sessions};
-use scope_texts::read_duration;
+use scope_sessions::{TableForm, TableRequest, write_sessions};
 use std::alloc::{AllocError, Global};
-use std::fs::File;
-use text_lines::{push_newline, push_number, push_text};
-
-/// The most bytes of a key file.
-pub(crate) const MOST_KEYS: u64 = 1_048_576;
-
-/// The most bytes of a file of initial sequence numbers.
-const MOST_ISNS: u64 = 4_194_304;
 
 /// The most laps that are searched.
 const MOST_LAPS: u64 = 255;
@@ -58,83 +48,6 @@ pub(crate) fn command<'a>(alloc: Global) -> Result<Command<'a>, AllocError> {
         .arg(laps)
 }
 
-fn status(halt: SessionsHalt) -> u8 {
-    match halt {
-        SessionsHalt::Keys(_) => 3,
-        SessionsHalt::IsnLine(_, _) => 4,
-        SessionsHalt::TooManyIsns => 4,
-        SessionsHalt::Broken(_) => 4,
-        SessionsHalt::TooLong => 4,
-        SessionsHalt::Read => 5,
-        SessionsHalt::Write => 6,
-        SessionsHalt::Memory => 7,
-    }
-}
-
-fn kind_name(kind: LineKind) -> &'static [u8] {
-    match kind {
-        LineKind::Word => b"word",
-        LineKind::Number => b"number",
-        LineKind::Hex => b"hex",
-        LineKind::Range => b"range",
-        LineKind::Header => b"header",
-        LineKind::Shared => b"shared",
-    }
-}
-
-/// Puts which given line is faulty, and the kind of its first faulty word, behind `line`.
-pub(crate) fn push_isn_line(
-    line: &mut Vec<u8>,
-    number: u32,
-    kind: LineKind,
-) -> Result<(), AllocError> {
-    line.extend_from_slice(b"isn: line")?;
-    push_number(line, u64::from(number))?;
-    push_text(line, kind_name(kind))?;
-    push_newline(line)
-}
-
-/// Puts why the program ends early behind `line`.
-fn push_halt(line: &mut Vec<u8>, halt: SessionsHalt) -> Result<(), AllocError> {
-    match halt {
-        SessionsHalt::Keys(fault) => push_key_fault(line, fault),
-        SessionsHalt::IsnLine(number, kind) => push_isn_line(line, number, kind),
-        SessionsHalt::TooManyIsns => line.extend_from_slice(b"isn: too many lines\n"),
-        SessionsHalt::Broken(fault) => push_fault(line, fault),
-        SessionsHalt::TooLong => line.extend_from_slice(b"input: too long\n"),
-        SessionsHalt::Read => line.extend_from_slice(b"read fault\n"),
-        SessionsHalt::Write => line.extend_from_slice(b"write fault\n"),
-        SessionsHalt::Memory => line.extend_from_slice(b"memory\n"),
-    }
-}
-
-/// Tells on standard error why the program ends early, as far as it takes it, and answers the status.
-pub(crate) fn tell(rt: &HostRuntime, halt: SessionsHalt) -> u8 {
-    let mut err = WriteSink::new(rt.stderr());
-    let mut line = Vec::new(rt.alloc());
-    let _ = match push_halt(&mut line, halt) {
-        Ok(()) => write_all(&mut err, line.as_slice()),
-        Err(_) => write_all(&mut err, b"memory\n"),
-    };
-    status(halt)
-}
-
-/// A file of at most so many bytes.
-pub(crate) fn read_file(rt: &HostRuntime, path: &str, most: u64) -> Result<Bytes, ReadProblem> {
-    match File::open(rt, path) {
-        Ok(file) => read_all(rt.alloc(), &mut ReadSource::new(file), most),
-        Err(_) => Err(ReadProblem::Fault),
-    }
-}
-
-/// The lines of the file of initial sequence numbers; without one there are none.
-pub(crate) fn read_isns(rt: &HostRuntime, path: Option<&str>) -> Result<Bytes, ReadProblem> {
-    match path {
-        Some(path) => read_file(rt, path, MOST_ISNS),
-        None => Ok(Bytes::from_vec(Vec::new(rt.alloc()))),
-    }
-}
-
 /// In which form the words ask for the table.
 fn form(matches: &ArgMatches<'_>) -> TableForm {
     if matches.get_flag("json") {
@@ -144,116 +57,60 @@ fn form(matches: &ArgMatches<'_>) -> TableForm {
     }
 }
 
-/// After how long the next table is due, if the words say it; an error where they say no length of time.
-fn every(matches: &ArgMatches<'_>) -> Result<Option<u64>, ()> {
+/// After how long the next table is due, if the words say it.
+fn every(matches: &ArgMatches<'_>) -> Result<Option<u64>, Halt> {
     match matches.get_str("every") {
         None => Ok(None),
-        Some(text) => match read_duration(text.as_bytes()) {
-            Some(every) => Ok(Some(every)),
-            None => Err(()),
-        },
+        Some(text) => {
+            let every = duration("N", text)?;
+            Ok(Some(every))
+        }
     }
 }
 
 /// A number of laps, if the text is one from 0 to 255.
-fn few_laps(text: &[u8]) -> Result<u32, ()> {
+fn few_laps(text: &[u8]) -> Option<u32> {
     match read_decimal(text) {
         Some(laps) => {
             if laps <= MOST_LAPS {
-                Ok(laps as u32)
+                Some(laps as u32)
             } else {
-                Err(())
+                None
             }
         }
-        None => Err(()),
+        None => None,
     }
 }
 
-/// Over how many laps is searched; an error where the words say no number from 0 to 255.
-pub(crate) fn laps(matches: &ArgMatches<'_>) -> Result<u32, ()> {
+/// Over how many laps is searched.
+pub(crate) fn laps(matches: &ArgMatches<'_>) -> Result<u32, Halt> {
     match matches.get_str("laps") {
         None => Ok(0),
-        Some(text) => few_laps(text.as_bytes()),
+        Some(text) => {
+            few_laps(text.as_bytes()).ok_or(Halt::IsNo("N", "number of laps from 0 to 255"))
+        }
     }
 }
 
 /// Writes the tables of the capture on standard input that are asked for.
-fn write(rt: &HostRuntime, request: TableRequest, laps: u32, keys: &[u8], isns: &[u8]) -> u8 {
+fn write_tables(rt: &HostRuntime, matches: &ArgMatches<'_>) -> Result<bool, Halt> {
+    let request = TableRequest {
+        form: form(matches),
+        every: every(matches)?,
+    };
+    let laps = laps(matches)?;
+    let keys = keys_at(rt, required(matches, "KEYS")?)?;
+    let isns = isns(rt, matches)?;
     let mut input = ReadSource::new(rt.stdin());
     let mut out = WriteSink::new(rt.stdout());
-    match write_sessions(rt.alloc(), request, laps, keys, isns, &mut input, &mut out) {
-        Ok(false) => 0,
-        Ok(true) => 1,
-        Err(halt) => tell(rt, halt),
-    }
-}
-
-/// N is no length of time.
-fn tell_every(rt: &HostRuntime) -> u8 {
-    let _ = write_all(
-        &mut WriteSink::new(rt.stderr()),
-        b"usage: N is no length of time\n",
-    );
-    2
-}
-
-/// N is no number of laps.
-pub(crate) fn tell_laps(rt: &HostRuntime) -> u8 {
-    let _ = write_all(
-        &mut WriteSink::new(rt.stderr()),
-        b"usage: N is no number of laps from 0 to 255\n",
-    );
-    2
-}
-
-/// A file isn't read; `long` and `status` are of one of too many bytes.
-pub(crate) fn tell_unread(rt: &HostRuntime, problem: ReadProblem, long: &[u8], status: u8) -> u8 {
-    match problem {
-        ReadProblem::Memory => tell(rt, SessionsHalt::Memory),
-        ReadProblem::Fault => tell(rt, SessionsHalt::Read),
-        ReadProblem::TooLong => {
-            let _ = write_all(&mut WriteSink::new(rt.stderr()), long);
-            status
-        }
-    }
-}
-
-/// What is asked for of the key file at this path and the capture.
-fn run_over(
-    rt: &HostRuntime,
-    matches: &ArgMatches<'_>,
-    request: TableRequest,
-    laps: u32,
-    path: &str,
-) -> u8 {
-    let keys = match read_file(rt, path, MOST_KEYS) {
-        Ok(keys) => keys,
-        Err(problem) => return tell_unread(rt, problem, b"keys: too long\n", 3),
-    };
-    match read_isns(rt, matches.get_str("isn")) {
-        Ok(isns) => write(rt, request, laps, keys.as_slice(), isns.as_slice()),
-        Err(problem) => tell_unread(rt, problem, b"isn: too long\n", 4),
-    }
+    let (keys, isns) = (keys.as_slice(), isns.as_slice());
+    Ok(write_sessions(rt.alloc(), request, laps, keys, isns, &mut input, &mut out)?)
 }
 
 /// What the word asks for.
 pub(crate) fn run(rt: &HostRuntime, matches: &ArgMatches<'_>) -> u8 {
-    if let Some(text) = matches.get_str("draw") {
-        return session_ladder::run(rt, matches, text);
-    }
-    let request = match every(matches) {
-        Ok(every) => TableRequest {
-            form: form(matches),
-            every,
-        },
-        Err(()) => return tell_every(rt),
-    };
-    let laps = match laps(matches) {
-        Ok(laps) => laps,
-        Err(()) => return tell_laps(rt),
-    };
-    match matches.get_str("KEYS") {
-        Some(path) => run_over(rt, matches, request, laps, path),
-        None => tell(rt, SessionsHalt::Memory),
+    match matches.get_str("draw") {
+        Some(text) => end(rt, session_ladder::draw(rt, matches, text)),
+        None => end(rt, write_tables(rt, matches)),
     }
 }

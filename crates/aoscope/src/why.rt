@@ -1,10 +1,9 @@
 //! The word `why`: why the check says what it says of a packet of a capture.
-use crate::sessions::{MOST_KEYS, push_isn_line, read_file, read_isns};
-use ao_base::{ReadProblem, ReadSource, WriteSink, read_decimal, write_all};
+use crate::halt::{Halt, end};
+use crate::inputs::{isns, keys_at, required};
+use ao_base::{ReadSource, WriteSink, read_decimal};
 use clap::{Arg, ArgAction, ArgMatches, Command};
-use key_faults::push_key_fault;
-use scope_lines::push_fault;
-use scope_why::{WhyHalt, WhyRequest, write_why};
+use scope_why::{WhyRequest, write_why};
 use std::alloc::{AllocError, Global};
 
 const ABOUT: &str = "Says of a packet of a capture why it is refused, or what it passes with";
@@ -55,53 +54,12 @@ pub(crate) fn command<'a>(alloc: Global) -> Result<Command<'a>, AllocError> {
         .arg(shown)
 }
 
-fn status(halt: WhyHalt) -> u8 {
-    match halt {
-        WhyHalt::Keys(_) => 3,
-        WhyHalt::IsnLine(_, _) => 4,
-        WhyHalt::TooManyIsns => 4,
-        WhyHalt::Broken(_) => 4,
-        WhyHalt::TooLong => 4,
-        WhyHalt::Read => 5,
-        WhyHalt::Write => 6,
-        WhyHalt::Memory => 7,
-    }
-}
-
-/// Puts why the program ends early behind `line`.
-fn push_halt(line: &mut Vec<u8>, halt: WhyHalt) -> Result<(), AllocError> {
-    match halt {
-        WhyHalt::Keys(fault) => push_key_fault(line, fault),
-        WhyHalt::IsnLine(number, kind) => push_isn_line(line, number, kind),
-        WhyHalt::TooManyIsns => line.extend_from_slice(b"isn: too many lines\n"),
-        WhyHalt::Broken(fault) => push_fault(line, fault),
-        WhyHalt::TooLong => line.extend_from_slice(b"input: too long\n"),
-        WhyHalt::Read => line.extend_from_slice(b"read fault\n"),
-        WhyHalt::Write => line.extend_from_slice(b"write fault\n"),
-        WhyHalt::Memory => line.extend_from_slice(b"memory\n"),
-    }
-}
-
-/// Tells on standard error why the program ends early, as far as it takes it, and answers the status.
-fn tell(rt: &HostRuntime, halt: WhyHalt) -> u8 {
-    let mut err = WriteSink::new(rt.stderr());
-    let mut line = Vec::new(rt.alloc());
-    let _ = match push_halt(&mut line, halt) {
-        Ok(()) => write_all(&mut err, line.as_slice()),
-        Err(_) => write_all(&mut err, b"memory\n"),
-    };
-    status(halt)
-}
-
-/// What the words ask for; an error where N is no number from 1.
-fn request(matches: &ArgMatches<'_>) -> Result<WhyRequest, ()> {
-    let number = match matches.get_str("N") {
-        Some(text) => read_decimal(text.as_bytes()),
-        None => None,
-    };
-    match number {
-        None => Err(()),
-        Some(0) => Err(()),
+/// The packet that the words ask for, and whether its traffic key is shown.
+fn request(matches: &ArgMatches<'_>) -> Result<WhyRequest, Halt> {
+    let text = required(matches, "N")?;
+    match read_decimal(text.as_bytes()) {
+        None => Err(Halt::IsNo("N", "number from 1")),
+        Some(0) => Err(Halt::IsNo("N", "number from 1")),
         Some(number) => Ok(WhyRequest {
             number,
             with_key: matches.get_flag("keys"),
@@ -109,58 +67,19 @@ fn request(matches: &ArgMatches<'_>) -> Result<WhyRequest, ()> {
     }
 }
 
-/// Writes the answer on the packet of the capture on standard input that is asked for.
-fn write(rt: &HostRuntime, request: WhyRequest, keys: &[u8], isns: &[u8]) -> u8 {
+/// Writes the answer on the packet of the capture on standard input that is asked for; whether it is refused.
+fn explain(rt: &HostRuntime, matches: &ArgMatches<'_>) -> Result<bool, Halt> {
+    let request = request(matches)?;
+    let keys = keys_at(rt, required(matches, "KEYS")?)?;
+    let isns = isns(rt, matches)?;
     let mut input = ReadSource::new(rt.stdin());
     let mut out = WriteSink::new(rt.stdout());
-    match write_why(rt.alloc(), request, keys, isns, &mut input, &mut out) {
-        Ok(true) => 0,
-        Ok(false) => 1,
-        Err(halt) => tell(rt, halt),
-    }
-}
-
-/// N is no number of a packet.
-fn tell_number(rt: &HostRuntime) -> u8 {
-    let _ = write_all(
-        &mut WriteSink::new(rt.stderr()),
-        b"usage: N is no number from 1\n",
-    );
-    2
-}
-
-/// A file isn't read; `long` and `status` are of one of too many bytes.
-fn tell_unread(rt: &HostRuntime, problem: ReadProblem, long: &[u8], status: u8) -> u8 {
-    match problem {
-        ReadProblem::Memory => tell(rt, WhyHalt::Memory),
-        ReadProblem::Fault => tell(rt, WhyHalt::Read),
-        ReadProblem::TooLong => {
-            let _ = write_all(&mut WriteSink::new(rt.stderr()), long);
-            status
-        }
-    }
-}
-
-/// What is asked for by the key file at this path of the capture.
-fn run_over(rt: &HostRuntime, matches: &ArgMatches<'_>, request: WhyRequest, path: &str) -> u8 {
-    let keys = match read_file(rt, path, MOST_KEYS) {
-        Ok(keys) => keys,
-        Err(problem) => return tell_unread(rt, problem, b"keys: too long\n", 3),
-    };
-    match read_isns(rt, matches.get_str("isn")) {
-        Ok(isns) => write(rt, request, keys.as_slice(), isns.as_slice()),
-        Err(problem) => tell_unread(rt, problem, b"isn: too long\n", 4),
-    }
+    let (keys, isns) = (keys.as_slice(), isns.as_slice());
+    let passes = write_why(rt.alloc(), request, keys, isns, &mut input, &mut out)?;
+    Ok(!passes)
 }
 
 /// What the word asks for.
 pub(crate) fn run(rt: &HostRuntime, matches: &ArgMatches<'_>) -> u8 {
-    let request = match request(matches) {
-        Ok(request) => request,
-        Err(()) => return tell_number(rt),
-    };
-    match matches.get_str("KEYS") {
-        Some(path) => run_over(rt, matches, request, path),
-        None => tell(rt, WhyHalt::Memory),
-    }
+    end(rt, explain(rt, matches))
 }
