@@ -11,11 +11,11 @@ abbrev pub Same : Buffered → Buffered → Type 0
 Same a b = a ≡ b
 
 -- a part that was passed on
-pub passed : (xs : List ℕ) (from to first after past : ℕ) → from ≤ to → first ≤ after → after ≤ length (slice_range xs from to) → past ≤ length (slice_range xs from to) →
-    Same (record { kept = slice_range xs (from + past) to; piece = slice_range xs (from + first) (from + after); size = length xs })
-    (record { kept = drop past (slice_range xs from to); piece = slice_range (slice_range xs from to) first after; size = length xs })
-passed xs from to first after past le ordered after_in past_in =
-    let size : length (slice_range xs from to) ≡ min (to - from) (length (drop from xs)) = length-take (to - from) (drop from xs) in
+pub passed : (xs : List ℕ) (from to first after past size : ℕ) → from ≤ to → first ≤ after → after ≤ length (slice_range xs from to) → past ≤ length (slice_range xs from to) →
+    Same (record { kept = slice_range xs (from + past) to; piece = slice_range xs (from + first) (from + after); size = size })
+    (record { kept = drop past (slice_range xs from to); piece = slice_range (slice_range xs from to) first after; size = size })
+passed xs from to first after past size le ordered after_in past_in =
+    let len : length (slice_range xs from to) ≡ min (to - from) (length (drop from xs)) = length-take (to - from) (drop from xs) in
     rw (part_later xs from to past (omega arith), part_within xs from to first after ordered (omega arith)) refl
 
 -- a call of `read` that gives bytes

@@ -1,5 +1,6 @@
-//! The bytes that were taken from a source and are still wanted, in memory of a fixed size.
-ghost use Rattle.std.specs.Prelude.{◌≡◌, ℕ, ◌+◌, ◌-◌, ◌<◌, ◌≤◌, List, [], length, take, drop, slice_range, IfOk};
+//! The bytes that were taken from a source and are still wanted, in memory of a fixed size, of which
+//! only as much is touched as they need.
+ghost use Rattle.std.specs.Prelude.{◌≡◌, ℕ, ◌+◌, ◌-◌, ◌<◌, ◌≤◌, List, [], length, take, drop, slice_range, vec_capacity, IfOk};
 ghost use Rattle.ao_base.specs.Outside.{Side, Reads};
 ghost use Rattle.ao_base.specs.Buffered.{Buffered, TakesMore};
 
@@ -14,6 +15,7 @@ const LONGEST_READ: usize = 65_536;
 #[derive(Debug, Drop)]
 pub struct Buffer {
     bytes: Vec<u8>,
+    size: usize,
     first: usize,
     after: usize,
     from: usize,
@@ -21,24 +23,25 @@ pub struct Buffer {
 }
 
 impl Model for Buffer {
-    ghost use Rattle.std.specs.Prelude.{◌≤◌, length, slice_range};
+    ghost use Rattle.std.specs.Prelude.{◌≤◌, length, slice_range, vec_capacity};
     ghost use Rattle.ao_base.specs.Buffered.{Buffered};
 
     ghost Value = { Buffered };
 
-    ghost view = { λ b. record { kept = slice_range b.bytes.items b.from b.to; piece = slice_range b.bytes.items b.first b.after; size = length b.bytes.items } };
+    ghost view = { λ b. record { kept = slice_range b.bytes.items b.from b.to; piece = slice_range b.bytes.items b.first b.after; size = b.size } };
 
-    ghost invariant = { λ b. (b.first ≤ b.after) × (b.after ≤ length b.bytes.items) × (b.from ≤ b.to) × (b.to ≤ length b.bytes.items) };
+    ghost invariant = { λ b. (b.first ≤ b.after) × (b.after ≤ length b.bytes.items) × (b.from ≤ b.to) × (b.to ≤ length b.bytes.items) × (length b.bytes.items ≤ b.size) × (b.size ≤ vec_capacity b.bytes) };
 }
 
 impl Buffer {
-    /// An empty buffer for `size` bytes. It takes all its memory here.
+    /// An empty buffer for `size` bytes. It takes all its memory here, and touches none of it.
     pub fn new(alloc: Global, size: usize) -> Result<Buffer, AllocError>
         ensures { IfOk result (λ b. b ≡ record { kept = []; piece = []; size = size }) }
     {
-        let bytes = vec![in alloc; 0u8; size]?;
+        let bytes = Vec::with_capacity(alloc, size)?;
         Ok(Buffer {
             bytes,
+            size,
             first: 0,
             after: 0,
             from: 0,
@@ -80,13 +83,14 @@ impl Buffer {
         ensures { (given : List ℕ) × TakesMore self.old self.new (S.side src.old) (S.side src.new) given result }
     {
         let len = self.to - self.from;
-        let (from, to) = (self.from, self.to);
-        let front = make_room(self.bytes.as_mut_slice(), from, to);
+        let (from, to, size) = (self.from, self.to, self.size);
+        let front = make_room(self.bytes.as_mut_slice(), from, to, size);
         let at = front + len;
         self.first = 0;
         self.after = 0;
         self.from = front;
         self.to = at;
+        reach(&mut self.bytes, at, size);
         let Ok(n) = fill(src, self.bytes.as_mut_slice(), at) else {
             return Err(Failed);
         };
@@ -95,35 +99,62 @@ impl Buffer {
     }
 }
 
-// Where the bytes from `from` up to `to` begin afterwards, with room behind them: moved to the
-// front, where they reached to the end. So they are too where a read's worth was passed, and they
-// are no more than that: a large buffer of which little is kept stays in the nearest memory.
-fn make_room(bytes: &mut [u8], from: usize, to: usize) -> usize
+// Where the bytes from `from` up to `to` begin afterwards, with room for more of `size` behind them:
+// moved to the front, where they reached to the end. So they are too where a read's worth was passed,
+// and they are no more than that: a large buffer of which little is kept stays in the nearest memory.
+fn make_room(bytes: &mut [u8], from: usize, to: usize, size: usize) -> usize
     requires ordered { from ≤ to }
     requires within { to ≤ length bytes.old }
-    requires room { to - from < length bytes.old }
+    requires fits { length bytes.old ≤ size }
+    requires room { to - from < size }
     ensures same { take (to - from) (drop result bytes.new) ≡ slice_range bytes.old from to }
-    ensures room { result + (to - from) < length bytes.new }
+    ensures within { result + (to - from) ≤ length bytes.new }
+    ensures room { result + (to - from) < size }
 {
     let is_far = from >= LONGEST_READ && from >= to - from;
-    if to < bytes.len() && !is_far {
+    if to < size && !is_far {
         return from;
     }
     bytes.copy_within(from..to, 0);
     0
 }
 
+// Lengthens the bytes, within the memory that they have, to where a read at `at` ends.
+fn reach(bytes: &mut Vec<u8>, at: usize, size: usize)
+    requires room { at < size }
+    requires within { at ≤ length bytes.old.items }
+    requires fits { length bytes.old.items ≤ size }
+    requires memory { size ≤ vec_capacity bytes.old }
+    ensures same { take at bytes.new.items ≡ take at bytes.old.items }
+    ensures room { at < length bytes.new.items }
+    ensures fits { length bytes.new.items ≤ size }
+    ensures memory { size ≤ vec_capacity bytes.new }
+{
+    let end = end_of_read(at, size);
+    if bytes.len() < end {
+        let _ = bytes.resize(end, 0);
+    }
+}
+
+// Where a read at `at` ends at most, in a buffer for `size` bytes.
+fn end_of_read(at: usize, size: usize) -> usize
+    requires { at < size }
+    ensures some { at < result }
+    ensures within { result ≤ size }
+{
+    if size - at < LONGEST_READ {
+        size
+    } else {
+        at + LONGEST_READ
+    }
+}
+
 // Reads into the bytes from `at` on, a read's worth at most.
 fn fill<S: Source>(src: &mut S, bytes: &mut [u8], at: usize) -> Result<usize, Failed>
-    requires { at ≤ length bytes.old }
+    requires { at < length bytes.old }
     ensures front { take at bytes.new ≡ take at bytes.old }
     ensures reads { Reads (S.side src.old) (S.side src.new) (drop at bytes.new) result }
 {
-    let room = bytes.len() - at;
-    let most = if room < LONGEST_READ {
-        room
-    } else {
-        LONGEST_READ
-    };
-    src.read(&mut bytes[at..at + most])
+    let end = end_of_read(at, bytes.len());
+    src.read(&mut bytes[at..end])
 }
