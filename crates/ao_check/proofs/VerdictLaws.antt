@@ -41,19 +41,19 @@ none_else : (o : Option Numbered) (b : Bool) (n : Numbered) → b ≡ false → 
 none_else o true n e f = absurd (cc)
 none_else o false n e f = f
 
-no_row : (pair : Pair) (id now n : ℕ) (rows : List Row) → list_any (accepts_as pair id) rows ≡ false → lowest (acceptable_as pair id now) n rows ≡ None
+pub no_row : (pair : Pair) (id now n : ℕ) (rows : List Row) → list_any (accepts_as pair id) rows ≡ false → lowest (acceptable_as pair id now) n rows ≡ None
 no_row pair id now n [] e = refl
 no_row pair id now n (r ∷ rs) e =
     let both = or_is (accepts_as pair id r) (list_any (accepts_as pair id) rs) e in
     none_else (lowest (acceptable_as pair id now) (n + 1) rs) (acceptable_as pair id now r) (record { number = n; row = r })
     (fails (matches r pair) (receives r.direction) (contains r.accepting now) (r.recv_id == id) both.0) (no_row pair id now (n + 1) rs both.1)
 
-absent_is : (b : Bool) (o : Option Numbered) → found.Absent ≡ accept_answer b o → b ≡ false
+pub absent_is : (b : Bool) (o : Option Numbered) → found.Absent ≡ accept_answer b o → b ≡ false
 absent_is false o e = refl
 absent_is true None e = absurd (cc)
 absent_is true (Some n) e = absurd (cc)
 
-expired_is : (b : Bool) (o : Option Numbered) → found.Expired ≡ accept_answer b o → (b ≡ true) × (o ≡ None)
+pub expired_is : (b : Bool) (o : Option Numbered) → found.Expired ≡ accept_answer b o → (b ≡ true) × (o ≡ None)
 expired_is false o e = absurd (cc)
 expired_is true None e = (refl, refl)
 expired_is true (Some n) e = absurd (cc)

@@ -5,7 +5,7 @@ ghost use Rattle.book_segments.specs.Options.{One, find_ao};
 ghost use Rattle.book_segments.specs.Segments.{has, SYN};
 ghost use Rattle.book_macs.specs.Contexts.{context_of};
 ghost use Rattle.book_macs.specs.Keys.{traffic_key};
-ghost use Rattle.book_keys.specs.Rows.{Row};
+ghost use Rattle.book_keys.specs.Rows.{Row, row_limit};
 ghost use Rattle.book_keys.specs.Coordination.{choose, current_after, follow};
 ghost use Rattle.book_endpoint.specs.Verdicts.{judge};
 ghost use Rattle.tcp_segment.specs.declared.spelling.Head.{Head};
@@ -66,7 +66,7 @@ impl Association {
         rows: u8,
     ) -> Result<Association, AllocError>
         requires room { length table.now.rows ≤ rows }
-        requires most { rows ≤ 64 }
+        requires most { rows ≤ row_limit }
         ensures fresh { IfOk result (λ a. a ≡ fresh pair own_isn rows) }
         ensures fits { IfOk result (λ a. Fits table.now.rows a) }
     {

@@ -1,5 +1,6 @@
 mod CallLaws
 mod HeldLaws
 mod MapLaws
+mod PassedLaws
 mod StandLaws
 mod TurnLaws

@@ -33,6 +33,7 @@ use Rattle.node_ends.specs.declared.answer.NodeRefusal.TheVariants as refusals
 use Rattle.stack_ends.specs.declared.calls.Taken.{Taken}
 use Rattle.ao_stack.specs.Answers as below
 use Rattle.ao_stack.specs.Answers.{IsAdded, IsBegun, IsDone, IsGiven, IsHanded, IsHeard, IsTaken, Reaches}
+use Rattle.ao_stack.specs.Passed.{OptionIn}
 use Rattle.ao_stack.specs.Stands as stack
 use Rattle.ao_stack.specs.Turns.{MadeLast, act_of}
 use Rattle.ao_stack.specs.declared.input.Heard.TheVariants as heard
@@ -45,15 +46,12 @@ use Rattle.ao_counters.specs.Counts.{changed_by}
 use Rattle.ao_counters.specs.Stands.{Stands}
 use Rattle.ao_counters.specs.Tallies.{Becomes, Tallying, tally_at}
 use Rattle.ao_counters.proofs.CallLaws.{add_counts, at_counts, input_knocks, input_told}
+use Rattle.ao_counters.specs.Passed.{ids_passed}
 use Rattle.ao_counters.proofs.HeldLaws.{call_held}
+use Rattle.ao_counters.proofs.PassedLaws.{heard_alike}
 use Rattle.ao_counters.proofs.TurnLaws.{output_hands, output_rests}
 
 -- ---- the tallies of pairs
-
--- a pair that has a tally has another from now on
-pub known_become : (o : Option Tally) (c : Tally) → is_some o ≡ true → option_map (changed_by (happened.Become c)) o ≡ Some c
-known_become None c e = absurd (cc)
-known_become (Some x) c e = refl
 
 -- a pair has what it became
 pub become_there : (before after : Tallying) (p : Pair) (c : Tally) → Becomes before after p (Some c) → is_some (tally_at after p) ≡ true
@@ -184,17 +182,18 @@ module _ (k after : CountedStack) (s : StackState) (n : StackCounts) (S : Stands
       counts_as (Input coming) (IsHeard (reading coming.bytes) (heard.Told (arrivals.Bad fault))) _ (input_told coming s n (runs.DatagramAnswered (Bad fault)) F.answer.0 ∙ ap (λ (r : Reading). answer_counted (Bad fault) r n) F.answer.1) F.answer
       (node_counts (call (Input coming) s).stack (arrival_counted (Bad fault)) F.stands node tallies)
 
-  pub told_so : (coming : Incoming) (p : Pair) (arrived : Arrived) (ids : Option KeyIds) → ids ≡ key_ids_read (reading coming.bytes) → below.Follows after.stack (Input coming) s (IsHeard (reading coming.bytes) (heard.Told (arrivals.At p arrived))) → after.node ≡ arrival_counted arrived.arrival k.node
+  pub told_so : (coming : Incoming) (p : Pair) (arrived : Arrived) (ids : Option KeyIds) → ids ≡ ids_passed arrived.passed → OptionIn (reading coming.bytes) arrived → below.Follows after.stack (Input coming) s (IsHeard (reading coming.bytes) (heard.Told (arrivals.At p arrived))) → after.node ≡ arrival_counted arrived.arrival k.node
       → Becomes k.tallies after.tallies p (option_map (tallied (arrival_counted arrived.arrival) (key_ids_heard arrived.arrival ids)) (tally_at k.tallies p)) → Follows after (Input coming) s n (IsHeard (reading coming.bytes) (heard.Told (arrivals.At p arrived)))
-  told_so coming p arrived ids read F node B =
-      counts_as (Input coming) (IsHeard (reading coming.bytes) (heard.Told (arrivals.At p arrived))) _ (input_told coming s n (runs.DatagramAnswered arrived.arrival) F.answer.0 ∙ reached (reading coming.bytes) F.answer.1 read) F.answer
+  told_so coming p arrived ids same_ids option F node B =
+      counts_as (Input coming) (IsHeard (reading coming.bytes) (heard.Told (arrivals.At p arrived))) _ (input_told coming s n (runs.DatagramAnswered arrived.arrival) F.answer.0 ∙ reached (reading coming.bytes) F.answer.1 option) F.answer
       (counts_more (call (Input coming) s).stack p (arrival_counted arrived.arrival) (key_ids_heard arrived.arrival ids) F.stands node B)
     where
-      reached : (r : Reading) → Reaches r p → ids ≡ key_ids_read r → answer_counted arrived.arrival r n ≡ counted_at p (arrival_counted arrived.arrival) (key_ids_heard arrived.arrival ids) n
-      reached (Read d) is same =
+      reached : (r : Reading) → Reaches r p → OptionIn r arrived → answer_counted arrived.arrival r n ≡ counted_at p (arrival_counted arrived.arrival) (key_ids_heard arrived.arrival ids) n
+      reached (Read d) is told =
           ap (λ (x : Pair). counted_at x (arrival_counted arrived.arrival) (key_ids_heard arrived.arrival (key_ids_read (Read d))) n) (sym is)
-          ∙ ap (λ (x : Option KeyIds). counted_at p (arrival_counted arrived.arrival) (key_ids_heard arrived.arrival x) n) (sym same)
-      reached (Unread fault) is same = absurd is
+          ∙ ap (λ (seen : KeyIdsSeen → KeyIdsSeen). counted_at p (arrival_counted arrived.arrival) seen n) (heard_alike d arrived.arrival arrived.passed told)
+          ∙ ap (λ (x : Option KeyIds). counted_at p (arrival_counted arrived.arrival) (key_ids_heard arrived.arrival x) n) (sym same_ids)
+      reached (Unread fault) is told = absurd is
 
   -- ---- a datagram is handed out
 

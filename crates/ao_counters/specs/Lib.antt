@@ -1,4 +1,5 @@
 pub mod Answers
 pub mod Counts
+pub mod Passed
 pub mod Stands
 pub mod Tallies

@@ -13,24 +13,22 @@ ghost use Rattle.ao_counters.specs.Stands.{Stands};
 
 use crate::counted_stack::CountedStack;
 use crate::counts::{Happened, arrived, knocked, stray};
-use crate::key_ids::ids_read;
+use crate::key_ids::ids_passed;
 use ao_stack::Heard;
 use book_endpoint::Arrival;
 use node_ends::NodeArrival;
-use tcp_segment::read_datagram;
 
 impl CountedStack {
     /// A datagram comes at `now`, in milliseconds since 1970 and at most the last one of the year 9999: to
     /// the end of its pair (RFC 9293, section 3.10.7), which is told, or it knocks. It is counted, and the
     /// key ids of a segment that passed the check are kept. All else is as for `ao_stack::Stack`.
-    pub fn input(&mut self, now: u64, bytes: &[u8]) -> Heard
+    pub fn input<'a>(&mut self, now: u64, bytes: &'a [u8]) -> Heard<'a>
         requires time { now ≤ latest }
         ensures told { (s : StackState) (n : StackCounts) → Stands self.old s n
             → Follows self.new (Input (record { now = now; bytes = bytes.now })) s n (IsHeard (reading bytes.now) result) }
         ensures passed { (s : StackState) (n : StackCounts) → Stands self.old s n → PassesAs (clocked now s).stack (reading bytes.now) result }
     {
-        let read = read_datagram(bytes);
-        match self.stack.input_read(now, &read) {
+        match self.stack.input(now, bytes) {
             Heard::Knocks(pair) => {
                 self.node = knocked(self.node);
                 Heard::Knocks(pair)
@@ -44,7 +42,8 @@ impl CountedStack {
                 Heard::Told(NodeArrival::Bad(fault))
             }
             Heard::Told(NodeArrival::At(pair, answer)) => {
-                self.count(&pair, Happened::Heard(answer.arrival, ids_read(&read)));
+                let ids = ids_passed(answer.passed);
+                self.count(&pair, Happened::Heard(answer.arrival, ids));
                 Heard::Told(NodeArrival::At(pair, answer))
             }
         }

@@ -3,13 +3,14 @@ ghost use Rattle.std.specs.Prelude.{◌≡◌, take};
 ghost use Rattle.book_counters.specs.KeyIds.{key_ids_heard, key_ids_read, key_ids_sent, option_key_ids};
 ghost use Rattle.book_segments.specs.Options.{find_ao};
 ghost use Rattle.book_segments.specs.Segments.{reading};
-ghost use Rattle.ao_stack.specs.Readings.{reading_of};
+ghost use Rattle.ao_counters.specs.Passed.{ids_passed};
 
 use book_counters::{KeyIds, KeyIdsSeen};
 use book_endpoint::Arrival;
 use stack_timers::is_heard;
+use tcp_endpoint::Passing;
 use tcp_options::AoFound;
-use tcp_segment::{Datagram, DatagramFault, read_datagram};
+use tcp_segment::{Datagram, read_datagram};
 
 /// The ids of the one TCP-AO option of a datagram.
 fn ids_of(datagram: &Datagram<'_>) -> Option<KeyIds>
@@ -26,13 +27,16 @@ fn ids_of(datagram: &Datagram<'_>) -> Option<KeyIds>
     }
 }
 
-/// The ids of the datagram that was read, if one was.
-pub(crate) fn ids_read(read: &Result<Datagram<'_>, DatagramFault>) -> Option<KeyIds>
-    ensures { result ≡ key_ids_read (reading_of read.now) }
+/// The ids of a segment that passed the check, and none of what didn't pass.
+pub(crate) fn ids_passed(passed: Option<Passing<'_>>) -> Option<KeyIds>
+    ensures { result ≡ ids_passed passed.entry }
 {
-    match read {
-        Err(_) => None,
-        Ok(datagram) => ids_of(datagram),
+    match passed {
+        None => None,
+        Some(one) => Some(KeyIds {
+            key_id: one.option.key_id,
+            rnext_key_id: one.option.rnext,
+        }),
     }
 }
 
@@ -41,7 +45,10 @@ pub(crate) fn ids_in_front(room: &[u8], length: usize) -> Option<KeyIds>
     ensures { result ≡ key_ids_read (reading (take length room.now)) }
 {
     let end = length.min(room.len());
-    ids_read(&read_datagram(&room[..end]))
+    match read_datagram(&room[..end]) {
+        Err(_) => None,
+        Ok(datagram) => ids_of(&datagram),
+    }
 }
 
 /// The ids that were seen once a segment was sent.

@@ -1,7 +1,6 @@
 //! Rows are added and withdrawn while connections live.
-ghost use Rattle.std.specs.Prelude.{◌≤◌};
 ghost use Rattle.book_counters.specs.Counters.{StackCounts};
-ghost use Rattle.book_keys.specs.Lifetimes.{greatest_time};
+ghost use Rattle.book_keys.specs.Tables.{IsNewRow};
 ghost use Rattle.book_stack.specs.Calls.{Withdraw};
 ghost use Rattle.book_stack.specs.Stacks.{StackState};
 ghost use Rattle.ao_stack.specs.Answers.{IsWithdrawn};
@@ -18,10 +17,7 @@ impl CountedStack {
     /// exactly where a row overlaps the new one, with the least such; `Memory` only for want of memory.
     /// After each of these the stack is as it was. No lifetime ends before it begins or after `LATEST`.
     pub fn add(&mut self, alloc: Global, row: NewRow) -> Result<u8, AddRefusal>
-        requires sending { row.sending.first ≤ row.sending.last }
-        requires sent { row.sending.last ≤ greatest_time }
-        requires accepting { row.accepting.first ≤ row.accepting.last }
-        requires accepted { row.accepting.last ≤ greatest_time }
+        requires row { IsNewRow row }
         ensures { (s : StackState) (n : StackCounts) → Stands self.old s n → AddsAs self.new row s n result }
     {
         self.stack.add(alloc, row)

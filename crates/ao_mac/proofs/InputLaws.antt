@@ -220,6 +220,13 @@ starts false area ao e = (28, (4 + length ao.mac) ∷ ao.key_id ∷ ao.rnext_key
 starts_more : (c p : List ℕ) → Starts c → Starts (c ++ p)
 starts_more c p s = (s.0, s.1 ++ p, ap (λ (l : List ℕ). l ++ p) s.2)
 
+-- one option is found
+pub one_of : (area : List ℕ) (p q : Ao) → find_ao area ≡ One p → find_ao area ≡ One q → p ≡ q
+one_of area p q x y = one_is p q (sym x ∙ y)
+  where
+    one_is : (p q : Ao) → One p ≡ One q → p ≡ q
+    one_is p q h = cc
+
 -- ---- the whole input
 
 -- the parts of two inputs are equal

@@ -1,15 +1,28 @@
 //! Whether the MACs of two segments are computed over the same bytes.
-ghost use Rattle.std.specs.Prelude.{◌≡◌, ◌↔◌, ◌+◌, ◌/◌, ◌≤◌, ◌<◌, ℕ, List, [], length, slice_index, IsTrue};
-ghost use Rattle.book_segments.specs.Options.{Ao, One, find_ao};
+ghost use Rattle.std.specs.Prelude.{◌≡◌, ◌↔◌, ◌+◌, ◌/◌, ◌^◌, ◌≤◌, ◌<◌, ℕ, List, [], length, slice_index, IsTrue};
+ghost use Rattle.book_segments.specs.Options.{One, find_ao};
 ghost use Rattle.book_segments.specs.Segments.{pseudo, header};
 ghost use Rattle.book_macs.specs.MacInput.{covered, mac_input};
-ghost use Rattle.ao_mac.specs.Macs.{HasAo, IsSameInput};
+ghost use Rattle.tcp_options.specs.Views.{view_ao};
+ghost use Rattle.ao_mac.specs.Macs.{IsSameInput};
 
 use crate::front::tcp_length_of;
 use book_base::Address;
 use std::marker::Model;
-use tcp_options::{AO_HEAD, AO_KIND, AoFound, AoOption};
+use tcp_options::{AO_HEAD, AO_KIND, AoOption};
 use tcp_segment::Datagram;
+
+/// What the MAC of a segment is computed over (RFC 5925, section 5.1).
+#[derive(Clone, Copy)]
+pub struct MacInput<'a> {
+    /// The sequence number extension.
+    pub sne: u32,
+    pub datagram: &'a Datagram<'a>,
+    /// The segment's one TCP-AO option; it has none of TCP MD5.
+    pub option: AoOption<'a>,
+    /// Whether all options are covered, or the TCP-AO option alone.
+    pub with_options: bool,
+}
 
 /// The options that are covered, the MAC as zeros; seen as their bytes.
 #[derive(Drop)]
@@ -85,37 +98,27 @@ fn same_covered(one: &Covered<'_>, other: &Covered<'_>) -> bool
     same_front(one, other, len)
 }
 
-/// Whether the same options are covered.
-fn same_options(
-    datagram: &Datagram<'_>,
-    with_options: bool,
-    other: &Datagram<'_>,
-    other_with_options: bool,
-) -> bool
-    requires one { HasAo datagram.now }
-    requires other { HasAo other.now }
-    ensures { (ao other_ao : Ao) → find_ao datagram.now.area ≡ One ao → find_ao other.now.area ≡ One other_ao
-        → (IsTrue result ↔ (covered with_options datagram.now.area ao ≡ covered other_with_options other.now.area other_ao)) }
+/// The options that are covered.
+fn covered_of<'a>(input: &MacInput<'a>) -> Covered<'a>
+    requires found { find_ao input.now.datagram.now.area ≡ One (view_ao input.now.option) }
+    ensures { result ≡ covered input.now.with_options input.now.datagram.now.area (view_ao input.now.option) }
 {
-    let options = datagram.options();
-    let other_options = other.options();
-    let AoFound::One(ao) = options.find_ao() else {
-        unreachable!()
-    };
-    let AoFound::One(other_ao) = other_options.find_ao() else {
-        unreachable!()
-    };
-    let one = Covered {
+    let options = input.datagram.options();
+    Covered {
         area: options.area(),
-        ao,
-        whole: with_options,
-    };
-    let two = Covered {
-        area: other_options.area(),
-        ao: other_ao,
-        whole: other_with_options,
-    };
-    same_covered(&one, &two)
+        ao: input.option,
+        whole: input.with_options,
+    }
+}
+
+/// Whether the same options are covered.
+fn same_options(one: &MacInput<'_>, other: &MacInput<'_>) -> bool
+    requires one { find_ao one.now.datagram.now.area ≡ One (view_ao one.now.option) }
+    requires other { find_ao other.now.datagram.now.area ≡ One (view_ao other.now.option) }
+    ensures { IsTrue result ↔ (covered one.now.with_options one.now.datagram.now.area (view_ao one.now.option)
+        ≡ covered other.now.with_options other.now.datagram.now.area (view_ao other.now.option)) }
+{
+    same_covered(&covered_of(one), &covered_of(other))
 }
 
 /// Whether the bytes are the same.
@@ -130,6 +133,14 @@ fn same_address(one: &Address, other: &Address) -> bool
     ensures { IsTrue result ↔ (one.now ≡ other.now) }
 {
     one == other
+}
+
+/// Whether the sequence number extension is the same.
+fn same_extension(sne: u32, other: u32) -> bool
+    ensures same { IsTrue result ↔ (sne ≡ other) }
+    ensures fits { (sne < 2 ^ 32) × (other < 2 ^ 32) }
+{
+    sne == other
 }
 
 /// Whether the pseudo-header is the same.
@@ -160,36 +171,27 @@ fn same_header(datagram: &Datagram<'_>, other: &Datagram<'_>) -> bool
     same_bytes(&header[18..], &other_header[18..])
 }
 
-/// Whether the MACs of two segments are computed over the same bytes (RFC 5925, section 5.1).
-///
-/// `sne` and `other_sne` are the sequence number extensions; each segment has one TCP-AO option and
-/// none of TCP MD5. With a flag all options of that segment are covered, else its TCP-AO option
-/// alone. What stands in the MAC fields and in the checksums doesn't count. The answer comes at the
-/// first difference.
-pub fn same_input(
-    sne: u32,
-    datagram: &Datagram<'_>,
-    with_options: bool,
-    other_sne: u32,
-    other: &Datagram<'_>,
-    other_with_options: bool,
-) -> bool
-    requires one { HasAo datagram.now }
-    requires other { HasAo other.now }
-    ensures { IsSameInput result sne datagram.now with_options other_sne other.now other_with_options }
+/// Whether the MACs of two segments are computed over the same bytes (RFC 5925, section 5.1). What
+/// stands in the MAC fields and in the checksums doesn't count. The answer comes at the first
+/// difference.
+pub fn same_input(one: &MacInput<'_>, other: &MacInput<'_>) -> bool
+    requires one { find_ao one.now.datagram.now.area ≡ One (view_ao one.now.option) }
+    requires other { find_ao other.now.datagram.now.area ≡ One (view_ao other.now.option) }
+    ensures { IsSameInput result one.now.sne one.now.datagram.now one.now.with_options
+        other.now.sne other.now.datagram.now other.now.with_options }
 {
-    let payload = datagram.payload();
-    let other_payload = other.payload();
-    if sne != other_sne {
+    let payload = one.datagram.payload();
+    let other_payload = other.datagram.payload();
+    if !same_extension(one.sne, other.sne) {
         return false;
     }
-    if !same_header(datagram, other) {
+    if !same_header(one.datagram, other.datagram) {
         return false;
     }
-    if !same_pseudo_header(datagram, other) {
+    if !same_pseudo_header(one.datagram, other.datagram) {
         return false;
     }
-    if !same_options(datagram, with_options, other, other_with_options) {
+    if !same_options(one, other) {
         return false;
     }
     same_bytes(payload, other_payload)

@@ -12,7 +12,7 @@ mod mac_bytes;
 mod macs;
 mod seals;
 
-pub use inputs::same_input;
+pub use inputs::{MacInput, same_input};
 pub use mac_bytes::MacBytes;
 pub use macs::{mac, mac_over};
 pub use seals::seal;

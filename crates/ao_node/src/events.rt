@@ -95,8 +95,8 @@ fn at_pair<L: Ledger>(
 }
 
 /// What it answers that a datagram came.
-fn told_of(arrival: NodeArrival) -> Told
-    ensures { result ≡ told_of arrival }
+fn told_of(arrival: NodeArrival<'_>) -> Told
+    ensures { result ≡ told_of arrival.entry }
 {
     match arrival {
         NodeArrival::Bad(fault) => Told::Answered(Arrival::Bad(fault)),

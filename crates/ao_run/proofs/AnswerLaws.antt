@@ -2,15 +2,16 @@
 use Rattle.std.proofs.Common.{◌≡◌, ◌≢◌, ◌⊎◌, inl, inr, ℕ, ◌<◌, ◌≤◌, ◌==◌, ◌&&◌, nat_lt, Bool, true, false, List, [], length, Option, Some, None, Result, Ok, Err, if◌then◌else◌, refl, sym, ap, arith, ◌∙◌}
 use Rattle.std.proofs.lemmas.Bool.Decides.{nat_tests}
 use Rattle.book_keys.specs.declared.fault.TableFault.{TableFault}
-use Rattle.book_keys.specs.Nodes.{tables_of}
+use Rattle.book_keys.specs.Nodes.{most_keys, tables_of}
 use Rattle.book_keys.specs.Rows.{Table}
 use Rattle.book_lines.specs.declared.text_fault.TextFault.{TextFault}
 use Rattle.book_answer.specs.declared.command.Command.{Command}
 use Rattle.book_answer.specs.declared.command.Command.TheVariants as command
-use Rattle.book_answer.specs.Answers.{Answer, answer_by, answer_of, answer_over, answer_with_keys, answer_within, bgp_over, done, if_read, judged, keys_too_long, linked, linked_by_shared, linted, long_text, most_input, most_keys, node_over, refusal, timed_over, too_long, verified}
+use Rattle.book_answer.specs.Answers.{Answer, answer_by, answer_of, answer_over, answer_with_keys, answer_within, bgp_over, done, if_read, judged, keys_too_long, linked, linked_by_shared, linted, long_text, most_input, node_over, refusal, timed_over, too_long, verified}
 use Rattle.book_cmd_check.specs.Captures.{Stored, capture_run, has_refusal}
 use Rattle.book_answer.specs.Commands.{reads_keys, reads_input}
 use Rattle.book_cmd_keys.specs.KeyTexts.{keys_text, table_fault_line}
+use Rattle.book_cmd_link.specs.declared.script.KeysFrom.TheVariants as keys_from
 use Rattle.book_cmd_link.specs.LinkFiles.{script_of}
 use Rattle.book_cmd_keys.specs.LintTexts.{lint_pair_of}
 use Rattle.book_cmd_node.specs.NodeRuns.{node_script_of}
@@ -107,8 +108,8 @@ judged_plain tables stored None = done_plain (has_refusal tables stored)
 judged_plain tables stored (Some text) = four
 
 pub over_plain : (c : Command) (tables : List Table) (input : List ℕ) → Plain (answer_over c tables input).status
-over_plain command.Link tables input = read_plain linked_by_shared (script_of false input) (λ s. done_plain _)
-over_plain command.LinkKeys tables input = read_plain (linked tables) (script_of true input) (λ s. done_plain _)
+over_plain command.Link tables input = read_plain linked_by_shared (script_of keys_from.LinkFile input) (λ s. done_plain _)
+over_plain command.LinkKeys tables input = read_plain (linked tables) (script_of keys_from.KeyFile input) (λ s. done_plain _)
 over_plain command.Check tables input = judged_plain tables (stored_input input).stored _
 over_plain command.CheckPcap tables input = judged_plain tables _ _
 over_plain command.Show tables input = read_plain (done false) (show_of input) (λ text. done_plain false)
@@ -116,7 +117,7 @@ over_plain command.Vectors tables input = read_plain verified (vectors_of input)
 over_plain (command.Keys time) tables input = done_plain false
 over_plain (command.Lint plan) tables input = read_plain (linted tables plan) (said_in lint_pair_of input) (λ s. done_plain _)
 over_plain (command.Storm seed count) tables input = done_plain _
-over_plain command.Bgp tables input = read_plain (bgp_over tables) (script_of true input) (λ s. done_plain _)
+over_plain command.Bgp tables input = read_plain (bgp_over tables) (script_of keys_from.KeyFile input) (λ s. done_plain _)
 over_plain command.Timed tables input = read_plain (timed_over tables) (timed_script_of input) (λ s. if_plain _ _ _ four (done_plain _))
 over_plain command.Node tables input = read_plain (node_over tables) (node_script_of input) (λ s. done_plain false)
 

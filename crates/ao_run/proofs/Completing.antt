@@ -2,11 +2,11 @@
 use Rattle.std.proofs.Common.{◌≡◌, ◌≢◌, ◌⊎◌, inl, inr, ℕ, zero, suc, ◌<◌, ◌≤◌, List, [], length, take, Option, Some, None, Ok, Bool, true, false, refl, sym, ap, subst, ◌∙◌, arith}
 use Rattle.std.proofs.lemmas.List.{length-take}
 use Rattle.ao_base.specs.Outside.{Gave, WasWritten, Rose, IsAtEnd, Side}
-use Rattle.book_keys.specs.Nodes.{tables_of}
+use Rattle.book_keys.specs.Nodes.{most_keys, tables_of}
 use Rattle.book_keys.specs.Rows.{Table}
 use Rattle.book_answer.specs.declared.command.Command.{Command}
 use Rattle.book_answer.specs.declared.command.Command.TheVariants as commands
-use Rattle.book_answer.specs.Answers.{Answer, answer_of, keys_too_long, most_input, most_keys, refusal}
+use Rattle.book_answer.specs.Answers.{Answer, answer_of, keys_too_long, most_input, refusal}
 use Rattle.book_answer.specs.Commands.{command_of, reads_input, reads_keys}
 use Rattle.ao_run.specs.Completes.{Completes, IsCalm, Tells}
 use Rattle.ao_run.specs.Gathered.{answer_in}

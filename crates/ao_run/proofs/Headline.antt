@@ -4,7 +4,7 @@ use Rattle.std.proofs.lemmas.Bool.Decides.{nat_tests}
 use Rattle.std.proofs.lemmas.List.Elements.{All-from_get_or}
 use Rattle.ao_base.specs.Outside.{Side, WasWritten, IsAtEnd}
 use Rattle.book_keys.specs.declared.fault.TableFault.{TableFault}
-use Rattle.book_keys.specs.Nodes.{tables_of}
+use Rattle.book_keys.specs.Nodes.{most_keys, tables_of}
 use Rattle.book_keys.specs.Plans.{rows_at}
 use Rattle.book_keys.specs.Rows.{Table}
 use Rattle.book_lines.specs.declared.text_fault.TextFault.{TextFault}
@@ -18,12 +18,13 @@ use Rattle.book_answer.specs.declared.command.Command.TheVariants as command
 use Rattle.book_cmd_node.specs.declared.node.NodeScript.{NodeScript}
 use Rattle.book_cmd_link.specs.declared.script.Script.{Script}
 use Rattle.book_cmd_timed.specs.declared.timed.TimedScript.{TimedScript}
-use Rattle.book_answer.specs.Answers.{Answer, answer_by, answer_of, answer_over, answer_with_keys, answer_within, bgp_over, if_read, judged, keys_too_long, linked, linked_by_shared, most_input, most_keys, node_over, packets_checked, pcap_fault_line, refusal, reported, spoken, stormed, timed_over, too_long, too_many_events, long_text}
+use Rattle.book_answer.specs.Answers.{Answer, answer_by, answer_of, answer_over, answer_with_keys, answer_within, bgp_over, if_read, judged, keys_too_long, linked, linked_by_shared, most_input, node_over, packets_checked, pcap_fault_line, refusal, reported, spoken, stormed, timed_over, too_long, too_many_events, long_text}
 use Rattle.book_cmd_timed.specs.TimedRuns.{most_events}
 use Rattle.book_cmd_check.specs.StoredPackets.{stored_packet}
 use Rattle.book_cmd_bgp.specs.BgpRuns.{bgp_faults}
 use Rattle.book_cmd_check.specs.Captures.{Stored}
 use Rattle.book_answer.specs.Commands.{command_of, reads_input, reads_keys}
+use Rattle.book_cmd_link.specs.declared.script.KeysFrom.TheVariants as keys_from
 use Rattle.book_cmd_link.specs.LinkFiles.{script_of}
 use Rattle.book_cmd_node.specs.NodeRuns.{node_script_of}
 use Rattle.book_cmd_timed.specs.TimedRuns.{expand, timed_script_of}
@@ -158,12 +159,12 @@ module _ (words : List (List ℕ)) (k i : List ℕ) (b n : Sides) (s : ℕ) (x :
       }
 
   -- of messages
-  messages_delivered : (tables : List Table) (script : Script) → tables_of k ≡ Ok tables → script_of true i ≡ Ok script →
+  messages_delivered : (tables : List Table) (script : Script) → tables_of k ≡ Ok tables → script_of keys_from.KeyFile i ≡ Ok script →
       answer words k i ≡ bgp_over tables script → MessageFile tables script b n s
   messages_delivered tables script key_file read is =
       let setup = setup_of tables script.a script.b in
       let fits = keyed_fits k i tables script key_file read in
-      let all = events_fit true i script read in
+      let all = events_fit keys_from.KeyFile i script read in
       record {
         written = rw is at (x.whole small);
         counted = both s (forgeries (run setup script.events).history) (bgp_faults (run setup script.events)) (known ∙ ap (λ (y : Answer). y.status) is);
@@ -245,29 +246,29 @@ unfolding command_of
 named_packets name = refl
 
 linked_file : (k i : List ℕ) (b n : Sides) (s : ℕ) → Obeys (codes "link" ∷ []) k i b n s → s < 2 →
-    Says (script_of false) i n.input (λ script. LinkFile (named_tables script) script b n s)
+    Says (script_of keys_from.LinkFile) i n.input (λ script. LinkFile (named_tables script) script b n s)
 linked_file k i b n s x small =
     let ws = codes "link" ∷ [] in
     let is_known : s ≡ (answer ws k i).status = known ws k i b n s x small in
-    let read = if_read linked_by_shared (script_of false i) in
+    let read = if_read linked_by_shared (script_of keys_from.LinkFile i) in
     let is_within : answer ws k i ≡ answer_within command.Link [] i = answer_is ws command.Link k i b n s x small named_link in
     let is : answer ws k i ≡ read =
     is_within ∙ within (nat_lt 33554432 (length i)) read 4 s too_long small (omega arith) (is_known ∙ ap (λ (y : Answer). y.status) is_within) in
-    says (script_of false) linked_by_shared (λ script. LinkFile (named_tables script) script b n s) i n.input (answer ws k i) s small is_known
+    says (script_of keys_from.LinkFile) linked_by_shared (λ script. LinkFile (named_tables script) script b n s) i n.input (answer ws k i) s small is_known
     (input_ended ws command.Link k i b n s x small named_link refl) is
     (λ script found made.
     delivers ws k i b n s x small (setup_of (named_tables script) script.a script.b) script.events made (shared_tables_fit script)
-    (lawful (setup_of (named_tables script) script.a script.b) (shared_fits i script found) script.events (events_fit false i script found)) (shared_through i script found))
+    (lawful (setup_of (named_tables script) script.a script.b) (shared_fits i script found) script.events (events_fit keys_from.LinkFile i script found)) (shared_through i script found))
 
 linked_keys_file : (name k i : List ℕ) (b n : Sides) (s : ℕ) → Obeys (codes "link" ∷ name ∷ []) k i b n s → s < 2 →
-    Keyed k n.keys (λ tables. Says (script_of true) i n.input (λ script. LinkFile tables script b n s))
+    Keyed k n.keys (λ tables. Says (script_of keys_from.KeyFile) i n.input (λ script. LinkFile tables script b n s))
 linked_keys_file name k i b n s x small =
     let ws = codes "link" ∷ name ∷ [] in
     let o = over_tables ws command.LinkKeys k i b n s x small (named_link_keys name) refl in
-    keyed_file ws command.LinkKeys k i b n s x small (named_link_keys name) (script_of true) linked (λ tables script. LinkFile tables script b n s) refl refl o refl
+    keyed_file ws command.LinkKeys k i b n s x small (named_link_keys name) (script_of keys_from.KeyFile) linked (λ tables script. LinkFile tables script b n s) refl refl o refl
     (λ script found made.
     delivers ws k i b n s x small (setup_of o.tables script.a script.b) script.events made (keyed_tables k o.tables script.a script.b o.is_key_file)
-    (lawful (setup_of o.tables script.a script.b) (keyed_fits k i o.tables script o.is_key_file found) script.events (events_fit true i script found))
+    (lawful (setup_of o.tables script.a script.b) (keyed_fits k i o.tables script o.is_key_file found) script.events (events_fit keys_from.KeyFile i script found))
     (keyed_through k i o.tables script o.is_key_file found))
 
 timed_file : (name k i : List ℕ) (b n : Sides) (s : ℕ) → Obeys (codes "timed" ∷ name ∷ []) k i b n s → s < 2 →
@@ -279,11 +280,11 @@ timed_file name k i b n s x small =
     (λ script found made. timed_delivers ws k i b n s x small o.tables script o.is_key_file found made)
 
 message_file : (name k i : List ℕ) (b n : Sides) (s : ℕ) → Obeys (codes "bgp" ∷ name ∷ []) k i b n s → s < 2 →
-    Keyed k n.keys (λ tables. Says (script_of true) i n.input (λ script. MessageFile tables script b n s))
+    Keyed k n.keys (λ tables. Says (script_of keys_from.KeyFile) i n.input (λ script. MessageFile tables script b n s))
 message_file name k i b n s x small =
     let ws = codes "bgp" ∷ name ∷ [] in
     let o = over_tables ws command.Bgp k i b n s x small (named_bgp name) refl in
-    keyed_file ws command.Bgp k i b n s x small (named_bgp name) (script_of true) bgp_over (λ tables script. MessageFile tables script b n s) refl refl o refl
+    keyed_file ws command.Bgp k i b n s x small (named_bgp name) (script_of keys_from.KeyFile) bgp_over (λ tables script. MessageFile tables script b n s) refl refl o refl
     (λ script found made. messages_delivered ws k i b n s x small o.tables script o.is_key_file found made)
 
 -- a storm that words name draws at most 10,000 events

@@ -21,6 +21,7 @@ use Rattle.book_cmd_timed.specs.declared.timed.TimedEvent.{TimedEvent}
 use Rattle.book_cmd_timed.specs.declared.timed.TimedScript.{TimedScript}
 use Rattle.book_answer.specs.Answers.{Answer, answer}
 use Rattle.book_cmd_timed.specs.TimedRuns.{most_events}
+use Rattle.book_cmd_link.specs.declared.script.KeysFrom.TheVariants as keys_from
 use Rattle.book_cmd_link.specs.LinkFiles.{shared_by}
 use Rattle.book_cmd_bgp.specs.BgpRuns.{bgp_faults, bgp_text}
 use Rattle.book_answer.specs.Commands.{command_of}
@@ -28,7 +29,7 @@ use Rattle.book_cmd_link.specs.LinkFiles.{script_of}
 use Rattle.book_cmd_node.specs.NodeRuns.{node_script_of, node_text}
 use Rattle.law_node.specs.Alone.{Alone}
 use Rattle.book_cmd_timed.specs.TimedRuns.{expand, timed_script_of}
-use Rattle.book_pcap.specs.Packets.{packets_of}
+use Rattle.book_pcap.specs.Packets.{most_capture, packets_of}
 use Rattle.cmd_bgp.specs.Tellings.{SpeaksInOrder, TellsMessages}
 use Rattle.law_headline.specs.GetsThrough.{GetsThrough}
 use Rattle.law_headline.specs.Lawful.{Lawful}
@@ -129,7 +130,7 @@ of_lines name keys file = answer (codes "check" ∷ name ∷ []) keys (line_form
 
 -- a file and its line form are within the limit of an input (own)
 abbrev pub IsShort : List ℕ → Type 0
-IsShort file = (length file ≤ 268435456) × (length (line_form file) ≤ 268435456)
+IsShort file = (length file ≤ most_capture) × (length (line_form file) ≤ most_capture)
 
 -- of what was read of a pcap file, with the status of the call: it is judged as its line form is
 -- (own)
@@ -140,7 +141,7 @@ pub record DeliversPackets (name keys file : List ℕ) (status : ℕ) : Type 0 w
   pub whole : IsShort file → (packets_of file).fault ≡ None →
       of_packets name keys file ≡ of_lines name keys file
   -- with 0 and 1 there is none, and the file is within the limit
-  pub faultless : status < 2 → ((packets_of file).fault ≡ None) × (length file ≤ 268435456)
+  pub faultless : status < 2 → ((packets_of file).fault ≡ None) × (length file ≤ most_capture)
 
 -- the tables of the key that a script names (own)
 abbrev pub named_tables : Script → List Table
@@ -171,16 +172,18 @@ NodeFile tables s before now status =
 pub record CommandsDeliver (words : List (List ℕ)) (keys input : List ℕ) (before now : Sides)
     (status : ℕ) : Type 0 where
   pub link : words ≡ codes "link" ∷ [] → status < 2 →
-      Says (script_of false) input now.input (λ s. LinkFile (named_tables s) s before now status)
+      Says (script_of keys_from.LinkFile) input now.input
+      (λ s. LinkFile (named_tables s) s before now status)
   pub link_keys : (name : List ℕ) → words ≡ codes "link" ∷ name ∷ [] → status < 2 →
       Keyed keys now.keys
-      (λ tables. Says (script_of true) input now.input (λ s. LinkFile tables s before now status))
+      (λ tables. Says (script_of keys_from.KeyFile) input now.input
+      (λ s. LinkFile tables s before now status))
   pub timed : (name : List ℕ) → words ≡ codes "timed" ∷ name ∷ [] → status < 2 →
       Keyed keys now.keys
       (λ tables. Says timed_script_of input now.input (λ s. TimedFile tables s before now status))
   pub bgp : (name : List ℕ) → words ≡ codes "bgp" ∷ name ∷ [] → status < 2 →
       Keyed keys now.keys
-      (λ tables. Says (script_of true) input now.input
+      (λ tables. Says (script_of keys_from.KeyFile) input now.input
       (λ s. MessageFile tables s before now status))
   pub storm : (seed count : ℕ) → command_of words ≡ Some (Storm seed count) → status < 2 →
       DeliversStorm (storm_events seed count) before.out now.out status

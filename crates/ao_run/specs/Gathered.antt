@@ -3,11 +3,11 @@ use Rattle.std.specs.Prelude.{◌≡◌, ◌≢◌, ◌⊎◌, ℕ, ◌+◌, ◌
 use Rattle.std.specs.Prelude.{false, List, [], length, Option, Some, None, is_some, Result, Ok}
 use Rattle.std.specs.Prelude.{Err, IfOk, IfErr, if◌then◌else◌}
 use Rattle.ao_base.specs.Outside.{Side, Gave, Rose, IsAtEnd}
-use Rattle.book_keys.specs.Nodes.{tables_of}
+use Rattle.book_keys.specs.Nodes.{most_keys, tables_of}
 use Rattle.book_keys.specs.Rows.{Table}
 use Rattle.book_answer.specs.declared.command.Command.{Command}
 use Rattle.book_answer.specs.declared.command.Command.TheVariants as command
-use Rattle.book_answer.specs.Answers.{Answer, answer_of, answer_over, long_text, most_keys}
+use Rattle.book_answer.specs.Answers.{Answer, answer_of, answer_over, long_text}
 use Rattle.book_answer.specs.Answers.{most_input, refusal}
 use Rattle.book_answer.specs.Commands.{reads_keys, reads_input}
 use Rattle.ao_run.specs.declared.job.Job.{Job}

@@ -8,13 +8,13 @@ use Rattle.cmd_check.specs.CheckedPackets.{Checks as JudgesPackets}
 use Rattle.cmd_check.specs.CheckedPackets.{most_ahead as most_ahead_of_packets}
 use Rattle.cmd_check.specs.declared.halt.Halt.{Halt}
 use Rattle.cmd_check.specs.declared.halt.Halt.TheVariants as halt
-use Rattle.book_keys.specs.Nodes.{tables_of}
+use Rattle.book_keys.specs.Nodes.{most_keys, tables_of}
 use Rattle.book_keys.specs.Rows.{Table}
 use Rattle.book_lines.specs.declared.text_fault.TextFault.TheVariants.{Line}
 use Rattle.book_lines.specs.Faults.{input_fault_text}
 use Rattle.book_answer.specs.declared.command.Command.{Command}
 use Rattle.book_answer.specs.declared.command.Command.TheVariants as commands
-use Rattle.book_answer.specs.Answers.{Answer, answer_of as answer, most_keys, most_input}
+use Rattle.book_answer.specs.Answers.{Answer, answer_of as answer, most_input}
 use Rattle.book_answer.specs.Answers.{pcap_fault_line, too_long, read_fault, write_fault, memory}
 use Rattle.book_answer.specs.Commands.{command_of, reads_keys, reads_input}
 use Rattle.book_pcap.specs.Packets.{BadHead, BadRecord}

@@ -4,7 +4,8 @@ use Rattle.std.specs.Prelude.{◌≡◌, ◌≢◌, ◌⊎◌, ℕ, ◌+◌, ◌
 use Rattle.std.specs.Prelude.{length, take, Option, None}
 use Rattle.ao_base.specs.Outside.{Gave, WasWritten, Rose, IsAtEnd}
 use Rattle.book_answer.specs.declared.command.Command.{Command}
-use Rattle.book_answer.specs.Answers.{Answer, answer_of as answer, most_keys}
+use Rattle.book_keys.specs.Nodes.{most_keys}
+use Rattle.book_answer.specs.Answers.{Answer, answer_of as answer}
 use Rattle.book_answer.specs.Answers.{read_fault, write_fault, memory}
 use Rattle.book_answer.specs.Commands.{command_of, usage}
 use Rattle.ao_run.specs.Obeys.{Sides, asks_keys, asks_input, most_of, writes_along, past_limit}

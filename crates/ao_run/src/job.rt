@@ -10,11 +10,8 @@ use ao_base::{ReadProblem, Source, read_all};
 use book_answer::Command;
 use book_cmd_keys::Plan;
 use cmd_check::Form;
-use key_table::{Tables, read_tables};
+use key_table::{MOST_KEYS, Tables, read_tables};
 use std::alloc::Global;
-
-/// The most bytes of a key file.
-const MOST_KEYS: u64 = 1_048_576;
 
 /// A command that writes when all was read.
 #[derive(Drop)]

@@ -20,7 +20,7 @@ use Rattle.book_stack.specs.Watches.{arrived, end_front, is_heard}
 use Rattle.tcp_endpoint.specs.declared.arrival.Arrived.{Arrived}
 use Rattle.node_ends.specs.declared.answer.NodeArrival.{NodeArrival}
 use Rattle.node_ends.specs.declared.answer.NodeArrival.TheVariants as arrivals
-use Rattle.tcp_endpoint.specs.Arrivals.{TellsPassed}
+use Rattle.tcp_endpoint.specs.Arrivals.{TellsPassed, passed_of}
 use Rattle.stack_ends.specs.declared.ends.Ends.{Ends}
 use Rattle.stack_ends.specs.Arrivals.{Meets, MeetsPair, MeetsRead}
 use Rattle.stack_ends.specs.Stands.{most_of}
@@ -89,7 +89,7 @@ module _ (k mid after : Stack) (s : StackState) (S : Stands k s) (coming : Incom
       let a = arrive s.rows p s.node.clock e (Read d) in
       let c = called a.state (DatagramAnswered a.answer) in
       let t = called_at p c s in
-      let T = moved k mid s S t.node M.4 most w al li (λ r. some_with p r e a.state s.node.ends is) in
+      let T = moved k mid s S t.node M.5 most w al li (λ r. some_with p r e a.state s.node.ends is) in
       let held : held_end p t.node.ends ≡ Some a.state = end_with_same p a.state e s.node.ends is in
       let F = follow t a.state p M.0 T held M.1 in
       let answered : Stands after (after_segment_heard coming.now p a.answer (record { before = before; after = end_front a.state }) t) =
@@ -106,9 +106,9 @@ module _ (k mid after : Stack) (s : StackState) (S : Stands k s) (coming : Incom
 met_found : (k : Ends) (s : StackState) (d : Segment) (p : Pair) (told : NodeArrival) (o : Option EndState) → held_end p s.node.ends ≡ o → MeetsPair k s.rows s.node d p told o → TellsFound s (Read d) told
 met_found k s d p told None is M = subst (λ (x : NodeArrival). TellsFound s (Read d) x) (sym M.0) tt
 met_found k s d p told (Some e) is M =
-    let found : TellsPassed s.rows p (Read d) M.0.passed (found_by s p (Read d) (held_end p s.node.ends)) =
-    subst (λ (o : Option EndState). TellsPassed s.rows p (Read d) M.0.passed (found_by s p (Read d) o)) (sym is) M.3 in
-    subst (λ (x : NodeArrival). TellsFound s (Read d) x) (sym M.1) found
+    let found : TellsPassed s.rows p (Read d) (passed_of M.0) (found_by s p (Read d) (held_end p s.node.ends)) =
+    subst (λ (o : Option EndState). TellsPassed s.rows p (Read d) (passed_of M.0) (found_by s p (Read d) o)) (sym is) M.3 in
+    subst (λ (x : NodeArrival). TellsFound s (Read d) x) (sym M.1) (found, M.4)
 
 pub told_found : (k : Ends) (s : StackState) (d : Segment) (told : NodeArrival) (r : Reading) → Meets k s.rows s.node told r → r ≡ Read d → TellsFound s (Read d) told
 told_found k s d told r meets read = met_found k s d (pair_reached d) told (held_end (pair_reached d) s.node.ends) refl (subst (λ (x : Reading). Meets k s.rows s.node told x) read meets)

@@ -95,10 +95,6 @@ did_begin p a s t none makes plain less few =
 
 -- ---- the clock
 
--- it is there already
-pub clock_stays : (now : ℕ) (s : StackState) → s.node.clock ≡ now / 1000 → (clocked now s).stack ≡ s
-clock_stays now s e = let there : (s.node.clock == now / 1000) ≡ true = grind (arith, nat_tests) in rw there refl
-
 -- it goes there
 pub clock_goes : (now : ℕ) (s : StackState) → (s.node.clock ≡ now / 1000 → ⊥) → (clocked now s).stack ≡ record s { node = record { clock = now / 1000; ends = ends_ticked (now / 1000) s.node.ends } }
 clock_goes now s e = let there : (s.node.clock == now / 1000) ≡ false = grind (arith, nat_tests) in rw there refl

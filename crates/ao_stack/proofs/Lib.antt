@@ -4,8 +4,7 @@ mod BeginLaws
 mod CallLaws
 mod HandLaws
 pub mod LastLaws
-pub mod ReadLaws
-mod RowLaws
+pub mod RowLaws
 mod SendLaws
 pub mod StandLaws
 mod TellLaws

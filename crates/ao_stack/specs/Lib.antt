@@ -1,7 +1,6 @@
 pub mod Answers
 pub mod Checksums
 pub mod Passed
-pub mod Readings
 pub mod Stands
 pub mod Timers
 pub mod Turns

@@ -1,13 +1,14 @@
 -- What is told of a segment that passed the check: what the definitions find of it (own).
 use Rattle.std.specs.Prelude.{Option, Some, None, ⊤}
 use Rattle.book_base.specs.declared.address.Pair.{Pair}
-use Rattle.book_segments.specs.Segments.{Reading}
+use Rattle.book_segments.specs.Segments.{Reading, Read, Bad}
 use Rattle.book_endpoint.specs.States.{EndState}
 use Rattle.book_endpoint.specs.Arrivals.{arrive}
 use Rattle.book_endpoint.specs.Verdicts.{Finding}
 use Rattle.book_cmd_node.specs.NodeRuns.{held_end}
 use Rattle.book_stack.specs.Stacks.{StackState}
-use Rattle.tcp_endpoint.specs.Arrivals.{TellsPassed}
+use Rattle.tcp_endpoint.specs.declared.arrival.Arrived.{Arrived}
+use Rattle.tcp_endpoint.specs.Arrivals.{TellsOption, TellsPassed, passed_of}
 use Rattle.node_ends.specs.declared.answer.NodeArrival.{NodeArrival}
 use Rattle.node_ends.specs.declared.answer.NodeArrival.TheVariants as arrivals
 use Rattle.ao_stack.specs.declared.input.Heard.{Heard}
@@ -23,11 +24,16 @@ found_by s pair r (Some e) = (arrive s.rows pair s.node.clock e r).passed
 abbrev pub found_at : StackState → Pair → Reading → Option Finding
 found_at s pair r = found_by s pair r (held_end pair s.node.ends)
 
--- an end that answers tells the row, the number and the context that were found, and none where
--- nothing passed (own)
+-- an end that answers to bytes that are read so tells the option in them, where it passed (own)
+abbrev pub OptionIn : Reading → Arrived → Type 0
+OptionIn (Read d) told = TellsOption d told
+OptionIn (Bad fault) told = ⊤
+
+-- an end that answers tells the row, the number, the context and the option that were found, and
+-- none where nothing passed (own)
 abbrev pub TellsFound : StackState → Reading → NodeArrival → Type 0
 TellsFound s r (arrivals.At pair arrived) =
-    TellsPassed s.rows pair r arrived.passed (found_at s pair r)
+    TellsPassed s.rows pair r (passed_of arrived) (found_at s pair r) × OptionIn r arrived
 TellsFound s r _ = ⊤
 
 -- the same of a stack, once its clock is set (own)

@@ -1,5 +1,5 @@
 -- What the turns of a stack hand out, and what is told of it (own).
-use Rattle.std.specs.Prelude.{◌≡◌, ℕ, List, [], ◌∷◌, take, Option, Some, None, ⊤}
+use Rattle.std.specs.Prelude.{◌≡◌, ℕ, List, [], ◌∷◌, length, take, Option, Some, None, ⊤}
 use Rattle.book_base.specs.declared.address.Pair.{Pair}
 use Rattle.book_segments.specs.Segments.{spell}
 use Rattle.book_endpoint.specs.Emissions.{Emission}
@@ -7,8 +7,8 @@ use Rattle.book_cmd_node.specs.declared.node.Act.{Act}
 use Rattle.book_cmd_node.specs.declared.node.Act.TheVariants as act
 use Rattle.book_cmd_node.specs.declared.node.NodeEvent.{NodeEvent}
 use Rattle.book_cmd_node.specs.declared.node.NodeEvent.TheVariants as event
-use Rattle.book_stack.specs.Stacks.{handed}
-use Rattle.book_stack.specs.Turns.{Turn}
+use Rattle.book_stack.specs.Stacks.{StackState, handed}
+use Rattle.book_stack.specs.Turns.{Turn, ask, wake}
 use Rattle.ao_stack.specs.declared.outgoing.Outgoing.{Outgoing}
 use Rattle.ao_stack.specs.declared.outgoing.Sending.{Sending}
 use Rattle.ao_stack.specs.declared.outgoing.Sending.TheVariants as sending
@@ -24,6 +24,17 @@ length_of (Some o) = Some o.length
 abbrev pub act_of : Sending → Act
 act_of sending.First = act.Send
 act_of sending.Again = act.Resend
+
+-- a turn at which a segment is sent for the first time, or again: an end is asked, or an alarm goes
+-- off (own)
+abbrev pub turn_of : Sending → ℕ → StackState → Turn
+turn_of sending.First = ask
+turn_of sending.Again = wake
+
+-- how many such turns there are at most (own)
+abbrev pub turn_limit : Sending → StackState → ℕ
+turn_limit sending.First s = length s.line
+turn_limit sending.Again s = length s.alarms
 
 -- the last of some plain events (own)
 abbrev pub last_event : List NodeEvent → Option NodeEvent

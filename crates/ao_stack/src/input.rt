@@ -13,7 +13,6 @@ ghost use Rattle.book_stack.specs.Watches.{end_front};
 ghost use Rattle.stack_timers.specs.Watches.{latest};
 ghost use Rattle.node_ends.specs.declared.answer.NodeArrival.TheVariants.{At};
 ghost use Rattle.tcp_endpoint.specs.declared.arrival.Arrived.{Arrived as OneArrived};
-ghost use Rattle.ao_stack.specs.Readings.{reading_of};
 ghost use Rattle.ao_stack.specs.Answers.{Does, Follows, IsHeard, IsTold};
 ghost use Rattle.ao_stack.specs.Passed.{PassesAs, TellsFound};
 ghost use Rattle.ao_stack.specs.Stands.{Stands};
@@ -27,13 +26,13 @@ use node_ends::NodeArrival;
 use stack_timers::is_heard;
 use std::marker::Brand;
 use std::sync::ledger::{Blank, Ledger};
-use tcp_segment::{Datagram, DatagramFault, Flag, read_datagram};
+use tcp_segment::{Datagram, Flag, read_datagram};
 
 /// What a stack answers to a datagram that comes.
-#[derive(Clone, Copy, Debug, PartialEq, Eq)]
-pub enum Heard {
+#[derive(Clone, Copy, Debug)]
+pub enum Heard<'a> {
     /// The answer of its end, or why none heard it.
-    Told(NodeArrival),
+    Told(NodeArrival<'a>),
     /// A SYN for a pair that is free: not held, or in TIME-WAIT, or closed. Nothing was heard; a user who
     /// wants the connection drops the old one, lets a new one listen, and hands the datagram in again.
     Knocks(Pair),
@@ -95,7 +94,7 @@ impl Stack {
     }
 
     /// The end of the pair, which stood so before, was told of a segment.
-    fn follow_told(&mut self, pair: &Pair, now: u64, before: Front, told: &NodeArrival)
+    fn follow_told(&mut self, pair: &Pair, now: u64, before: Front, told: &NodeArrival<'_>)
         requires { now ≤ latest }
         ensures { (s : StackState) (e : EndState) (p : OnePair) (arrived : OneArrived) → Stands self.old s → held_end pair.now s.node.ends ≡ Some e → told.now ≡ At p arrived
             → Stands self.new (after_segment_heard now pair.now arrived.arrival (record { before = before; after = end_front e }) s) }
@@ -108,13 +107,13 @@ impl Stack {
     }
 
     /// A segment comes for the pair.
-    fn hear<L: Ledger>(
+    fn hear<'a, L: Ledger>(
         &mut self,
         blank: Blank,
         pair: &Pair,
         now: u64,
-        datagram: &Datagram<'_>,
-    ) -> NodeArrival
+        datagram: &Datagram<'a>,
+    ) -> NodeArrival<'a>
         requires name { blank.name ≡ L.name }
         requires parts { blank.parts ≡ L.parts }
         requires part { 0 < blank.parts }
@@ -136,7 +135,7 @@ impl Stack {
     }
 
     /// A segment comes for the pair, and asks for a connection or not.
-    fn meet(&mut self, pair: &Pair, asks: bool, now: u64, datagram: &Datagram<'_>) -> Heard
+    fn meet<'a>(&mut self, pair: &Pair, asks: bool, now: u64, datagram: &Datagram<'a>) -> Heard<'a>
         requires time { now ≤ latest }
         ensures told { (s : StackState) (bytes : List ℕ) → Stands self.old s → reading bytes ≡ Read datagram.now → pair.now ≡ pair_reached datagram.now → asks ≡ (syn_alone datagram.now && good datagram.now)
             → Does self.new (IsHeard (Read datagram.now) result) (met (record { now = now; bytes = bytes }) datagram.now s (held_end (pair_reached datagram.now) s.node.ends)) }
@@ -151,35 +150,24 @@ impl Stack {
 
     /// A datagram comes at `now`, in milliseconds since 1970 and at most the last one of the year 9999: to
     /// the end of its pair (RFC 9293, section 3.10.7), which is told, or it knocks. Of a segment that passed
-    /// the check the answer has the row, the number and the context that were found, and of no other.
-    pub fn input(&mut self, now: u64, bytes: &[u8]) -> Heard
+    /// the check the answer has the row, the number, the context and the TCP-AO option that were found, and
+    /// of no other.
+    pub fn input<'a>(&mut self, now: u64, bytes: &'a [u8]) -> Heard<'a>
         requires time { now ≤ latest }
         ensures told { (s : StackState) → Stands self.old s
             → Follows self.new (Input (record { now = now; bytes = bytes.now })) s (IsHeard (reading bytes.now) result) }
         ensures passed { (s : StackState) → Stands self.old s → PassesAs (clocked now s).stack (reading bytes.now) result }
     {
-        let read = read_datagram(bytes);
-        self.input_read(now, &read)
-    }
-
-    /// Bytes come that were read, into a datagram or the fault that makes them none. All else is as for
-    /// `input`.
-    pub fn input_read(&mut self, now: u64, read: &Result<Datagram<'_>, DatagramFault>) -> Heard
-        requires time { now ≤ latest }
-        ensures told { (s : StackState) (bytes : List ℕ) → Stands self.old s → reading bytes ≡ reading_of read.now
-            → Follows self.new (Input (record { now = now; bytes = bytes })) s (IsHeard (reading bytes) result) }
-        ensures passed { (s : StackState) → Stands self.old s → PassesAs (clocked now s).stack (reading_of read.now) result }
-    {
         self.set_clock(now);
-        match read {
-            Err(fault) => Heard::Told(NodeArrival::Bad(*fault)),
+        match read_datagram(bytes) {
+            Err(fault) => Heard::Told(NodeArrival::Bad(fault)),
             Ok(datagram) => {
                 let pair = Pair {
                     local: datagram.destination(),
                     remote: datagram.source(),
                 };
-                let asks = asks(datagram);
-                self.meet(&pair, asks, now, datagram)
+                let asks = asks(&datagram);
+                self.meet(&pair, asks, now, &datagram)
             }
         }
     }

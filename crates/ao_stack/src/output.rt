@@ -10,7 +10,7 @@ ghost use Rattle.stack_timers.specs.Watches.{latest};
 ghost use Rattle.ao_stack.specs.Answers.{Follows, IsHanded};
 ghost use Rattle.ao_stack.specs.Checksums.{IsFromIf};
 ghost use Rattle.ao_stack.specs.Stands.{Stands};
-ghost use Rattle.ao_stack.specs.Turns.{Makes, MadeLast, Turns, length_of};
+ghost use Rattle.ao_stack.specs.Turns.{Makes, MadeLast, Turns, length_of, turn_limit, turn_of};
 ghost use Rattle.ao_stack.specs.Timers.{asked_by, asked_turn};
 
 use crate::checksum::hand;
@@ -134,42 +134,50 @@ impl Stack {
         }
     }
 
-    /// Each end in line is asked once at most, up to the first that has a segment.
-    fn ask_all<L: Ledger>(
-        &mut self,
-        now: u64,
-        room: &mut [u8],
-        steps: &mut Steps<L>,
-    ) -> Option<Outgoing>
-        requires time { now ≤ latest }
-        requires room { 1500 ≤ length room.old }
-        ensures { (s : StackState) → Stands self.old s → Turns self.new room.old room.new result (turns (length s.line) (ask now) s) }
+    /// How many turns of a kind are taken at most: one for each end in line, or for each alarm.
+    fn turn_limit(&self, kind: Sending) -> usize
+        ensures { (s : StackState) → Stands self.now s → result ≡ turn_limit kind s }
     {
-        let count = self.line.len();
-        for _turn in 0..count {
-            match self.ask(now, room, steps) {
-                None => {}
-                Some(outgoing) => return Some(outgoing),
-            }
+        match kind {
+            Sending::First => self.line.len(),
+            Sending::Again => self.alarms.len(),
         }
-        None
     }
 
-    /// Each alarm whose deadline is reached goes off once at most, up to the first at which a segment is
-    /// made.
-    fn wake_all<L: Ledger>(
+    /// A turn of this kind: an end is asked, or an alarm goes off.
+    fn take_turn<L: Ledger>(
         &mut self,
+        kind: Sending,
         now: u64,
         room: &mut [u8],
         steps: &mut Steps<L>,
     ) -> Option<Outgoing>
         requires time { now ≤ latest }
         requires room { 1500 ≤ length room.old }
-        ensures { (s : StackState) → Stands self.old s → Turns self.new room.old room.new result (turns (length s.alarms) (wake now) s) }
+        ensures { (s : StackState) → Stands self.old s → Turns self.new room.old room.new result (turn_of kind now s) }
     {
-        let count = self.alarms.len();
+        match kind {
+            Sending::First => self.ask(now, room, steps),
+            Sending::Again => self.wake(now, room, steps),
+        }
+    }
+
+    /// Turns of this kind, up to the first at which a segment is made: each end in line is asked once at
+    /// most, or each alarm whose deadline is reached goes off once at most.
+    fn take_turns<L: Ledger>(
+        &mut self,
+        kind: Sending,
+        now: u64,
+        room: &mut [u8],
+        steps: &mut Steps<L>,
+    ) -> Option<Outgoing>
+        requires time { now ≤ latest }
+        requires room { 1500 ≤ length room.old }
+        ensures { (s : StackState) → Stands self.old s → Turns self.new room.old room.new result (turns (turn_limit kind s) (turn_of kind now) s) }
+    {
+        let count = self.turn_limit(kind);
         for _turn in 0..count {
-            match self.wake(now, room, steps) {
+            match self.take_turn(kind, now, room, steps) {
                 None => {}
                 Some(outgoing) => return Some(outgoing),
             }
@@ -189,8 +197,8 @@ impl Stack {
         ensures { (s : StackState) → Stands self.old s → Turns self.new room.old room.new result (output_at now s) }
     {
         self.set_clock(now);
-        match self.ask_all(now, room, steps) {
-            None => self.wake_all(now, room, steps),
+        match self.take_turns(Sending::First, now, room, steps) {
+            None => self.take_turns(Sending::Again, now, room, steps),
             Some(outgoing) => Some(outgoing),
         }
     }

@@ -5,8 +5,7 @@ use command_report::Stop;
 use key_faults::push_key_fault;
 use key_table::TableFault;
 use scope_lines::{CaptureFault, LinesHalt, push_fault};
-use scope_sessions::SessionsHalt;
-use scope_why::WhyHalt;
+use scope_sessions::JudgingHalt;
 use std::alloc::{AllocError, Global};
 use text_lines::{print_fault, push_newline, push_number, push_text};
 
@@ -73,32 +72,17 @@ impl From<LinesHalt> for Halt {
     }
 }
 
-impl From<SessionsHalt> for Halt {
-    fn from(halt: SessionsHalt) -> Halt {
+impl From<JudgingHalt> for Halt {
+    fn from(halt: JudgingHalt) -> Halt {
         match halt {
-            SessionsHalt::Keys(fault) => Halt::Keys(fault),
-            SessionsHalt::IsnLine(number, kind) => Halt::IsnLine(number, kind),
-            SessionsHalt::TooManyIsns => Halt::TooManyIsns,
-            SessionsHalt::Broken(fault) => Halt::Broken(fault),
-            SessionsHalt::TooLong => Halt::TooLong,
-            SessionsHalt::Read => Halt::Read,
-            SessionsHalt::Write => Halt::Write,
-            SessionsHalt::Memory => Halt::Memory,
-        }
-    }
-}
-
-impl From<WhyHalt> for Halt {
-    fn from(halt: WhyHalt) -> Halt {
-        match halt {
-            WhyHalt::Keys(fault) => Halt::Keys(fault),
-            WhyHalt::IsnLine(number, kind) => Halt::IsnLine(number, kind),
-            WhyHalt::TooManyIsns => Halt::TooManyIsns,
-            WhyHalt::Broken(fault) => Halt::Broken(fault),
-            WhyHalt::TooLong => Halt::TooLong,
-            WhyHalt::Read => Halt::Read,
-            WhyHalt::Write => Halt::Write,
-            WhyHalt::Memory => Halt::Memory,
+            JudgingHalt::Keys(fault) => Halt::Keys(fault),
+            JudgingHalt::IsnLine(number, kind) => Halt::IsnLine(number, kind),
+            JudgingHalt::TooManyIsns => Halt::TooManyIsns,
+            JudgingHalt::Broken(fault) => Halt::Broken(fault),
+            JudgingHalt::TooLong => Halt::TooLong,
+            JudgingHalt::Read => Halt::Read,
+            JudgingHalt::Write => Halt::Write,
+            JudgingHalt::Memory => Halt::Memory,
         }
     }
 }

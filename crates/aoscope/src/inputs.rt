@@ -4,12 +4,9 @@ use ao_base::{ReadProblem, ReadSource, WriteSink, read_all, write_all};
 use book_base::Bytes;
 use clap::ArgMatches;
 use command_report::Report;
-use key_table::{Tables, read_tables};
+use key_table::{MOST_KEYS, Tables, read_tables};
 use scope_texts::read_duration;
 use std::fs::File;
-
-/// The most bytes of a key file.
-const MOST_KEYS: u64 = 1_048_576;
 
 /// The most bytes of a file of initial sequence numbers.
 const MOST_ISNS: u64 = 4_194_304;

@@ -2,6 +2,7 @@
 use Rattle.std.specs.Prelude.{◌≡◌, ◌≢◌, ◌≤◌, ◌<◌, ◌⊎◌, ◌&&◌, ℕ, ℤ, Bool, true, false, nat_le, if◌then◌else◌, List, length, Option, Some, None, Result, Ok, Err}
 use Rattle.std.specs.List.{find}
 use Rattle.book_base.specs.declared.address.Address.{Address}
+use Rattle.book_keys.specs.MasterKeys.{longest_master_key}
 use Rattle.book_keys.specs.Nodes.{tables_of}
 use Rattle.book_keys.specs.Rows.{Table, has_address}
 use Rattle.book_cmd_node.specs.NodeRuns.{most_ends}
@@ -67,5 +68,5 @@ FindsAt (Some address) number text told code =
 -- a row is found where there is room for any key (own)
 pub record Finds (room : ℕ) (node : Option Address) (number : ℕ) (text : List ℕ) (told : CFault)
     (code : ℤ) : Type 0 where
-  pub small : room < 255 → code ≡ small_room
-  pub finds : 255 ≤ room → FindsAt node number text told code
+  pub small : room < longest_master_key → code ≡ small_room
+  pub finds : longest_master_key ≤ room → FindsAt node number text told code

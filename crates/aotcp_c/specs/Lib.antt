@@ -1,4 +1,5 @@
 pub mod Held
+pub mod Handles
 pub mod Numbers
 pub mod Codes
 pub mod Shapes

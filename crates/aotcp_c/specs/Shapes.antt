@@ -7,6 +7,7 @@ use Rattle.book_keys.specs.declared.fault.TableFault.{TableFault}
 use Rattle.book_keys.specs.declared.fault.TableFault.TheVariants as fault
 use Rattle.book_endpoint.specs.declared.verdict.Passed.{Passed}
 use Rattle.book_stack.specs.declared.front.Front.{Front}
+use Rattle.tcp_endpoint.specs.Arrivals.{passed_of}
 use Rattle.node_ends.specs.declared.answer.NodeArrival.{NodeArrival}
 use Rattle.node_ends.specs.declared.answer.NodeArrival.TheVariants as told
 use Rattle.ao_stack.specs.declared.input.Heard.{Heard}
@@ -114,12 +115,12 @@ abbrev pub told_of : NodeArrival → CHeard
 told_of (told.Bad fault) = answered 0 (datagram_number fault)
 told_of told.NoConnection = answered 13 0
 told_of (told.At pair arrived) = record {
-  number = number_in arrived.passed;
+  number = number_in (passed_of arrived);
   pair = told_pair pair;
   answer = arrival_number arrived.arrival;
   reason = reason_number arrived.arrival;
   passed = is_some arrived.passed;
-  row = row_in arrived.passed;
+  row = row_in (passed_of arrived);
 }
 
 -- what a stack answers to a datagram, as numbers (own)

@@ -1,30 +1,31 @@
 //! What a datagram was answered, as numbers.
 ghost use Rattle.std.specs.Prelude.{◌≡◌};
+ghost use Rattle.tcp_endpoint.specs.Arrivals.{found_of};
 ghost use Rattle.aotcp_c.specs.Shapes.{answered, heard_of, number_in, row_in, told_of};
 
 use crate::numbers::{arrival_number, datagram_number, reason_number};
 use crate::pairs::{no_pair, told_pair};
 use crate::shapes::CHeard;
 use ao_stack::Heard;
-use book_endpoint::Passed;
 use node_ends::NodeArrival;
+use tcp_endpoint::Passing;
 
 /// The row under which a segment passed, 0 for none.
-fn row_in(passed: Option<Passed>) -> u8
-    ensures { result ≡ row_in passed }
+fn row_in(passed: Option<Passing<'_>>) -> u8
+    ensures { result ≡ row_in (found_of passed.entry) }
 {
     match passed {
-        Some(one) => one.row,
+        Some(one) => one.passed.row,
         None => 0,
     }
 }
 
 /// The number of a segment that passed, 0 for none.
-fn number_in(passed: Option<Passed>) -> u64
-    ensures { result ≡ number_in passed }
+fn number_in(passed: Option<Passing<'_>>) -> u64
+    ensures { result ≡ number_in (found_of passed.entry) }
 {
     match passed {
-        Some(one) => one.number,
+        Some(one) => one.passed.number,
         None => 0,
     }
 }
@@ -44,7 +45,7 @@ fn answered(answer: u8, reason: u8) -> CHeard
 }
 
 /// What a node answered, as numbers.
-fn told_of(told: &NodeArrival) -> CHeard
+fn told_of(told: &NodeArrival<'_>) -> CHeard
     ensures { result ≡ told_of told.now }
 {
     match told {
@@ -62,7 +63,7 @@ fn told_of(told: &NodeArrival) -> CHeard
 }
 
 /// What a stack answered, as numbers.
-pub(crate) fn heard_of(heard: &Heard) -> CHeard
+pub(crate) fn heard_of(heard: &Heard<'_>) -> CHeard
     ensures { result ≡ heard_of heard.now }
 {
     match heard {

@@ -5,7 +5,7 @@ ghost use Rattle.book_counters.specs.Counters.{StackCounts};
 ghost use Rattle.book_stack.specs.Stacks.{StackState};
 ghost use Rattle.ao_counters.specs.Stands.{Stands};
 ghost use Rattle.aotcp_c.specs.Calls.{CallsAt, OnStack};
-ghost use Rattle.aotcp_c.specs.Held.{content};
+ghost use Rattle.aotcp_c.specs.Handles.{stack_in};
 ghost use Rattle.aotcp_c.specs.Shapes.{pair_of};
 
 use crate::codes::{FAMILY, NO_STACK, done_code, given_code};
@@ -59,7 +59,7 @@ fn remove(stack: &mut CountedStack, at: &CPair) -> i32
 /// A piece is given to the connection of the pair, all of it or nothing.
 #[unsafe(no_mangle)]
 pub extern "C" fn aotcp_write(alloc: Global, handle: &mut Handle, pair: &CPair, piece: &[u8]) -> i32
-    ensures { OnStack (content handle.old.place.value) (content handle.new.place.value) result (λ p q. (s : StackState) (n : StackCounts) → Stands p s n
+    ensures { OnStack (stack_in handle.old) (stack_in handle.new) result (λ p q. (s : StackState) (n : StackCounts) → Stands p s n
         → CallsAt q (pair_of pair.now) (act.Give piece.now) s n result) }
 {
     match mem::replace(handle, Handle::none()).into_box(alloc) {
@@ -75,7 +75,7 @@ pub extern "C" fn aotcp_write(alloc: Global, handle: &mut Handle, pair: &CPair, 
 /// The connection of the pair takes no more bytes to send.
 #[unsafe(no_mangle)]
 pub extern "C" fn aotcp_close(alloc: Global, handle: &mut Handle, pair: &CPair) -> i32
-    ensures { OnStack (content handle.old.place.value) (content handle.new.place.value) result (λ p q. (s : StackState) (n : StackCounts) → Stands p s n
+    ensures { OnStack (stack_in handle.old) (stack_in handle.new) result (λ p q. (s : StackState) (n : StackCounts) → Stands p s n
         → CallsAt q (pair_of pair.now) act.Close s n result) }
 {
     match mem::replace(handle, Handle::none()).into_box(alloc) {
@@ -91,7 +91,7 @@ pub extern "C" fn aotcp_close(alloc: Global, handle: &mut Handle, pair: &CPair) 
 /// The connection of the pair is closed at once.
 #[unsafe(no_mangle)]
 pub extern "C" fn aotcp_abort(alloc: Global, handle: &mut Handle, pair: &CPair) -> i32
-    ensures { OnStack (content handle.old.place.value) (content handle.new.place.value) result (λ p q. (s : StackState) (n : StackCounts) → Stands p s n
+    ensures { OnStack (stack_in handle.old) (stack_in handle.new) result (λ p q. (s : StackState) (n : StackCounts) → Stands p s n
         → CallsAt q (pair_of pair.now) act.Abort s n result) }
 {
     match mem::replace(handle, Handle::none()).into_box(alloc) {
@@ -107,7 +107,7 @@ pub extern "C" fn aotcp_abort(alloc: Global, handle: &mut Handle, pair: &CPair) 
 /// The connection of the pair is dropped, with all that is kept of it.
 #[unsafe(no_mangle)]
 pub extern "C" fn aotcp_remove(alloc: Global, handle: &mut Handle, pair: &CPair) -> i32
-    ensures { OnStack (content handle.old.place.value) (content handle.new.place.value) result (λ p q. (s : StackState) (n : StackCounts) → Stands p s n
+    ensures { OnStack (stack_in handle.old) (stack_in handle.new) result (λ p q. (s : StackState) (n : StackCounts) → Stands p s n
         → CallsAt q (pair_of pair.now) act.Remove s n result) }
 {
     match mem::replace(handle, Handle::none()).into_box(alloc) {

@@ -6,7 +6,7 @@ ghost use Rattle.ao_counters.specs.Stands.{Stands};
 ghost use Rattle.aotcp_c.specs.Calls.{OnStack};
 ghost use Rattle.aotcp_c.specs.Codes.{ok};
 ghost use Rattle.aotcp_c.specs.Counters.{IsTally, told_counters, told_ids, TellsNode};
-ghost use Rattle.aotcp_c.specs.Held.{content};
+ghost use Rattle.aotcp_c.specs.Handles.{stack_in};
 ghost use Rattle.aotcp_c.specs.Shapes.{pair_of};
 
 use crate::codes::{FAMILY, NO_CONNECTION, NO_STACK, OK};
@@ -102,8 +102,8 @@ pub extern "C" fn aotcp_counters(
     pair: &CPair,
     told: &mut CCounters,
 ) -> i32
-    ensures unchanged { content handle.new.place.value ≡ content handle.old.place.value }
-    ensures told { OnStack (content handle.old.place.value) (content handle.new.place.value) result (λ p q. (s : StackState) (n : StackCounts) → Stands p s n
+    ensures unchanged { stack_in handle.new ≡ stack_in handle.old }
+    ensures told { OnStack (stack_in handle.old) (stack_in handle.new) result (λ p q. (s : StackState) (n : StackCounts) → Stands p s n
         → IsTally (pair_of pair.now) s n told.new result) }
     ensures kept { result ≢ ok → told.new ≡ told.old }
 {
@@ -124,8 +124,8 @@ pub extern "C" fn aotcp_node_counters(
     handle: &mut Handle,
     told: &mut CCounters,
 ) -> i32
-    ensures unchanged { content handle.new.place.value ≡ content handle.old.place.value }
-    ensures told { OnStack (content handle.old.place.value) (content handle.new.place.value) result (λ p q. (s : StackState) (n : StackCounts) → Stands p s n
+    ensures unchanged { stack_in handle.new ≡ stack_in handle.old }
+    ensures told { OnStack (stack_in handle.old) (stack_in handle.new) result (λ p q. (s : StackState) (n : StackCounts) → Stands p s n
         → TellsNode s n told.new result) }
     ensures kept { result ≢ ok → told.new ≡ told.old }
 {

@@ -5,7 +5,7 @@ ghost use Rattle.book_stack.specs.Stacks.{StackState};
 ghost use Rattle.ao_counters.specs.Stands.{Stands};
 ghost use Rattle.aotcp_c.specs.Calls.{Hears, OnStack, Sends};
 ghost use Rattle.aotcp_c.specs.Codes.{no_stack, ok};
-ghost use Rattle.aotcp_c.specs.Held.{content};
+ghost use Rattle.aotcp_c.specs.Handles.{stack_in};
 
 use crate::answers::heard_of;
 use crate::codes::{NO_STACK, NOTHING, OK, ROOM, TIME};
@@ -63,7 +63,7 @@ pub extern "C" fn aotcp_input(
     bytes: &[u8],
     told: &mut CHeard,
 ) -> i32
-    ensures hears { OnStack (content handle.old.place.value) (content handle.new.place.value) result (λ p q. (s : StackState) (n : StackCounts) → Stands p s n
+    ensures hears { OnStack (stack_in handle.old) (stack_in handle.new) result (λ p q. (s : StackState) (n : StackCounts) → Stands p s n
         → Hears q (record { now = now; bytes = bytes.now }) s n told.new result) }
     ensures kept { result ≢ ok → told.new ≡ told.old }
 {
@@ -86,7 +86,7 @@ pub extern "C" fn aotcp_output(
     room: &mut [u8],
     length: &mut usize,
 ) -> i32
-    ensures sends { OnStack (content handle.old.place.value) (content handle.new.place.value) result (λ p q. (s : StackState) (n : StackCounts) → Stands p s n
+    ensures sends { OnStack (stack_in handle.old) (stack_in handle.new) result (λ p q. (s : StackState) (n : StackCounts) → Stands p s n
         → Sends q now room.old room.new length.new s n result) }
     ensures kept { result ≢ ok → length.new ≡ length.old }
     ensures room { result ≡ no_stack → room.new ≡ room.old }

@@ -1,6 +1,7 @@
 //! A row of a key file is told.
 ghost use Rattle.std.specs.Prelude.{◌≡◌, ◌≢◌, ◌≤◌, true, IfSome, is_some, length};
 ghost use Rattle.std.specs.List.{find, list_any};
+ghost use Rattle.book_keys.specs.MasterKeys.{longest_master_key};
 ghost use Rattle.book_keys.specs.Rows.{has_address};
 ghost use Rattle.aotcp_c.specs.Codes.{bad_keys, ok};
 ghost use Rattle.aotcp_c.specs.KeyFiles.{Finds, row_code};
@@ -12,12 +13,9 @@ use crate::faults::fault_of;
 use crate::pairs::address_of;
 use crate::shapes::{CAddress, CFault, CRow};
 use book_base::{Address, Algorithm};
-use book_keys::Direction;
+use book_keys::{Direction, LONGEST_MASTER_KEY};
 use key_table::{Row, Tables, read_tables};
 use std::alloc::Global;
-
-/// The longest master key.
-const LONGEST_KEY: usize = 255;
 
 /// The number of an algorithm.
 fn algorithm_number(algorithm: Algorithm) -> u8
@@ -85,7 +83,7 @@ fn told_row(row: &Row) -> CRow
 
 /// A row and its key are told.
 fn tell(row: &Row, told: &mut CRow, key: &mut [u8], count: &mut usize)
-    requires { 255 ≤ length key.old }
+    requires { longest_master_key ≤ length key.old }
     ensures { IsToldRow row.now told.new count.new key.new }
 {
     let master = row.master();
@@ -103,7 +101,7 @@ fn find(
     key: &mut [u8],
     count: &mut usize,
 ) -> i32
-    requires { 255 ≤ length key.old }
+    requires { longest_master_key ≤ length key.old }
     ensures code { result ≡ row_code (find (has_address node.now) tables.now) number }
     ensures told { result ≡ ok → IsFound tables.now node.now number told.new count.new key.new }
     ensures row { result ≢ ok → told.new ≡ told.old }
@@ -146,7 +144,7 @@ pub extern "C" fn aotcp_row(
     ensures key { result ≢ ok → key.new ≡ key.old }
     ensures count { result ≢ ok → count.new ≡ count.old }
 {
-    if key.len() < LONGEST_KEY {
+    if key.len() < LONGEST_MASTER_KEY {
         return ROOM;
     }
     match address_of(node) {

@@ -5,7 +5,7 @@ ghost use Rattle.book_counters.specs.Counters.{StackCounts};
 ghost use Rattle.book_stack.specs.Stacks.{StackState};
 ghost use Rattle.ao_counters.specs.Stands.{Stands};
 ghost use Rattle.aotcp_c.specs.Calls.{Begins, OnStack};
-ghost use Rattle.aotcp_c.specs.Held.{content};
+ghost use Rattle.aotcp_c.specs.Handles.{stack_in};
 ghost use Rattle.aotcp_c.specs.Shapes.{pair_of};
 
 use crate::codes::{FAMILY, NO_STACK, begun_code};
@@ -39,7 +39,7 @@ fn listen(alloc: Global, stack: &mut CountedStack, at: &CPair, isn: u32) -> i32
 /// A connection of the pair opens actively, with `isn` as its own initial sequence number.
 #[unsafe(no_mangle)]
 pub extern "C" fn aotcp_open(alloc: Global, handle: &mut Handle, pair: &CPair, isn: u32) -> i32
-    ensures { OnStack (content handle.old.place.value) (content handle.new.place.value) result (λ p q. (s : StackState) (n : StackCounts) → Stands p s n
+    ensures { OnStack (stack_in handle.old) (stack_in handle.new) result (λ p q. (s : StackState) (n : StackCounts) → Stands p s n
         → Begins q (pair_of pair.now) (act.Open isn) s n result) }
 {
     match mem::replace(handle, Handle::none()).into_box(alloc) {
@@ -55,7 +55,7 @@ pub extern "C" fn aotcp_open(alloc: Global, handle: &mut Handle, pair: &CPair, i
 /// A connection of the pair waits for the SYN of its peer. All else is as for `aotcp_open`.
 #[unsafe(no_mangle)]
 pub extern "C" fn aotcp_listen(alloc: Global, handle: &mut Handle, pair: &CPair, isn: u32) -> i32
-    ensures { OnStack (content handle.old.place.value) (content handle.new.place.value) result (λ p q. (s : StackState) (n : StackCounts) → Stands p s n
+    ensures { OnStack (stack_in handle.old) (stack_in handle.new) result (λ p q. (s : StackState) (n : StackCounts) → Stands p s n
         → Begins q (pair_of pair.now) (act.Listen isn) s n result) }
 {
     match mem::replace(handle, Handle::none()).into_box(alloc) {

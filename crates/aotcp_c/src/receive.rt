@@ -5,7 +5,7 @@ ghost use Rattle.book_stack.specs.Stacks.{StackState};
 ghost use Rattle.ao_counters.specs.Stands.{Stands};
 ghost use Rattle.aotcp_c.specs.Calls.{OnStack, Reads};
 ghost use Rattle.aotcp_c.specs.Codes.{ok};
-ghost use Rattle.aotcp_c.specs.Held.{content};
+ghost use Rattle.aotcp_c.specs.Handles.{stack_in};
 ghost use Rattle.aotcp_c.specs.Shapes.{pair_of};
 
 use crate::codes::{FAMILY, NO_CONNECTION, NO_STACK, OK};
@@ -47,7 +47,7 @@ pub extern "C" fn aotcp_read(
     room: &mut [u8],
     told: &mut CTaken,
 ) -> i32
-    ensures reads { OnStack (content handle.old.place.value) (content handle.new.place.value) result (λ p q. (s : StackState) (n : StackCounts) → Stands p s n
+    ensures reads { OnStack (stack_in handle.old) (stack_in handle.new) result (λ p q. (s : StackState) (n : StackCounts) → Stands p s n
         → Reads q (pair_of pair.now) room.old room.new told.new s n result) }
     ensures kept { result ≢ ok → told.new ≡ told.old }
     ensures room { result ≢ ok → room.new ≡ room.old }

@@ -2,13 +2,14 @@
 ghost use Rattle.std.specs.Prelude.{◌≡◌, ◌≢◌, ◌≤◌, true, Some, IfOk, IfSome, List, length};
 ghost use Rattle.book_keys.specs.Lifetimes.{greatest_time};
 ghost use Rattle.book_keys.specs.MasterKeys.{is_master_key};
+ghost use Rattle.book_keys.specs.Tables.{IsNewRow};
 ghost use Rattle.book_stack.specs.Calls.{Withdraw};
 ghost use Rattle.book_counters.specs.Counters.{StackCounts};
 ghost use Rattle.book_stack.specs.Stacks.{StackState};
 ghost use Rattle.ao_counters.specs.Stands.{Stands};
 ghost use Rattle.aotcp_c.specs.Calls.{Adds, Answers, OnStack};
 ghost use Rattle.aotcp_c.specs.Codes.{ok, overlap};
-ghost use Rattle.aotcp_c.specs.Held.{content};
+ghost use Rattle.aotcp_c.specs.Handles.{stack_in};
 ghost use Rattle.aotcp_c.specs.RowShapes.{IsRow, algorithm_number, direction_number, is_lifetime, is_row, number_in};
 
 use crate::codes::{MEMORY, NO_STACK, ROW, added_code, withdrawn_code};
@@ -16,12 +17,9 @@ use crate::handle::Handle;
 use crate::shapes::CRow;
 use ao_counters::CountedStack;
 use book_base::{Algorithm, Bytes};
-use book_keys::{AddRefusal, Direction, LATEST, Lifetime, NewRow};
+use book_keys::{AddRefusal, Direction, LATEST, LONGEST_MASTER_KEY, Lifetime, NewRow};
 use std::alloc::{AllocError, Global};
 use std::mem;
-
-/// The longest master key.
-const LONGEST_KEY: usize = 255;
 
 /// The algorithm of a number below 3.
 fn algorithm_of(number: u8) -> Algorithm
@@ -57,7 +55,7 @@ fn is_lifetime(first: u64, last: u64) -> bool
 fn is_master_key(key: &[u8]) -> bool
     ensures { result ≡ is_master_key key.now }
 {
-    1 <= key.len() && key.len() <= LONGEST_KEY
+    1 <= key.len() && key.len() <= LONGEST_MASTER_KEY
 }
 
 /// Whether a row stands so.
@@ -74,7 +72,8 @@ fn is_row(row: &CRow, key: &[u8]) -> bool
 /// The row that stands so.
 fn new_row(alloc: Global, row: &CRow, key: &[u8]) -> Result<NewRow, AllocError>
     requires { is_row row.now key.now ≡ true }
-    ensures { IfOk result (λ new. IsRow row.now key.now new) }
+    ensures row { IfOk result (λ new. IsRow row.now key.now new) }
+    ensures may { IfOk result (λ new. IsNewRow new) }
 {
     let master = Bytes::from_vec(Vec::from_slice(alloc, key)?);
     Ok(NewRow {
@@ -142,7 +141,7 @@ pub extern "C" fn aotcp_add(
     key: &[u8],
     number: &mut u8,
 ) -> i32
-    ensures adds { OnStack (content handle.old.place.value) (content handle.new.place.value) result (λ p q. (s : StackState) (n : StackCounts) → Stands p s n
+    ensures adds { OnStack (stack_in handle.old) (stack_in handle.new) result (λ p q. (s : StackState) (n : StackCounts) → Stands p s n
         → Adds q row.now key.now s n number.new result) }
     ensures kept { result ≢ ok → result ≢ overlap → number.new ≡ number.old }
 {
@@ -159,7 +158,7 @@ pub extern "C" fn aotcp_add(
 /// Takes a row out of use: it keeps its number, and neither sends nor accepts from now on.
 #[unsafe(no_mangle)]
 pub extern "C" fn aotcp_withdraw(alloc: Global, handle: &mut Handle, number: u8) -> i32
-    ensures { OnStack (content handle.old.place.value) (content handle.new.place.value) result (λ p q. (s : StackState) (n : StackCounts) → Stands p s n
+    ensures { OnStack (stack_in handle.old) (stack_in handle.new) result (λ p q. (s : StackState) (n : StackCounts) → Stands p s n
         → Answers q (Withdraw number) s n result) }
 {
     match mem::replace(handle, Handle::none()).into_box(alloc) {

@@ -9,7 +9,7 @@ ghost use Rattle.book_stack.specs.Stacks.{empty_stack};
 ghost use Rattle.ao_counters.specs.Stands.{Stands};
 ghost use Rattle.aotcp_c.specs.Calls.{Opens};
 ghost use Rattle.aotcp_c.specs.Codes.{bad_keys, no_stack, ok};
-ghost use Rattle.aotcp_c.specs.Held.{content};
+ghost use Rattle.aotcp_c.specs.Handles.{stack_in};
 ghost use Rattle.aotcp_c.specs.KeyFiles.{Makes, MakesAt, MakesOf, ReadsKeys, code_in};
 ghost use Rattle.aotcp_c.specs.Shapes.{address_of};
 
@@ -103,10 +103,10 @@ fn put(
 ) -> i32
     requires low { 1 ≤ most }
     requires high { most ≤ most_ends }
-    ensures opens { result ≡ ok → IfSome (content handle.new.place.value) (λ k. Opens text.now address most k) }
-    ensures held { result ≡ ok → is_some (content handle.new.place.value) ≡ true }
-    ensures stays { result ≢ ok → content handle.new.place.value ≡ content handle.old.place.value }
-    ensures code { MakesAt (Some address) (content handle.old.place.value) text.now fault.new result }
+    ensures opens { result ≡ ok → IfSome (stack_in handle.new) (λ k. Opens text.now address most k) }
+    ensures held { result ≡ ok → is_some (stack_in handle.new) ≡ true }
+    ensures stays { result ≢ ok → stack_in handle.new ≡ stack_in handle.old }
+    ensures code { MakesAt (Some address) (stack_in handle.old) text.now fault.new result }
     ensures fault { result ≢ bad_keys → fault.new ≡ fault.old }
 {
     match mem::replace(handle, Handle::none()).into_box(alloc) {
@@ -135,12 +135,12 @@ pub extern "C" fn aotcp_new(
     most: u16,
     fault: &mut CFault,
 ) -> i32
-    ensures opens { result ≡ ok → IfSome (content handle.new.place.value) (λ k. IfSome (address_of node.now) (λ a. Opens text.now a most k)) }
-    ensures held { result ≡ ok → is_some (content handle.new.place.value) ≡ true }
+    ensures opens { result ≡ ok → IfSome (stack_in handle.new) (λ k. IfSome (address_of node.now) (λ a. Opens text.now a most k)) }
+    ensures held { result ≡ ok → is_some (stack_in handle.new) ≡ true }
     ensures there { result ≡ ok → is_some (address_of node.now) ≡ true }
-    ensures before { result ≡ ok → content handle.old.place.value ≡ None }
-    ensures stays { result ≢ ok → content handle.new.place.value ≡ content handle.old.place.value }
-    ensures code { Makes most (address_of node.now) (content handle.old.place.value) text.now fault.new result }
+    ensures before { result ≡ ok → stack_in handle.old ≡ None }
+    ensures stays { result ≢ ok → stack_in handle.new ≡ stack_in handle.old }
+    ensures code { Makes most (address_of node.now) (stack_in handle.old) text.now fault.new result }
     ensures fault { result ≢ bad_keys → fault.new ≡ fault.old }
 {
     if most < 1 {
@@ -158,8 +158,8 @@ pub extern "C" fn aotcp_new(
 /// Frees the stack, with its connections and its keys.
 #[unsafe(no_mangle)]
 pub extern "C" fn aotcp_free(alloc: Global, handle: &mut Handle) -> i32
-    ensures code { result ≡ (if is_some (content handle.old.place.value) then ok else no_stack) }
-    ensures freed { content handle.new.place.value ≡ None }
+    ensures code { result ≡ (if is_some (stack_in handle.old) then ok else no_stack) }
+    ensures freed { stack_in handle.new ≡ None }
 {
     match mem::replace(handle, Handle::none()).into_box(alloc) {
         None => NO_STACK,

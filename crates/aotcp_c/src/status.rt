@@ -4,7 +4,7 @@ ghost use Rattle.book_cmd_node.specs.NodeRuns.{held_end};
 ghost use Rattle.book_stack.specs.Stacks.{StackState, next_deadline};
 ghost use Rattle.aotcp_c.specs.Calls.{IsAt, IsOverdue, IsState, OnStack, Tells};
 ghost use Rattle.aotcp_c.specs.Codes.{ok};
-ghost use Rattle.aotcp_c.specs.Held.{content};
+ghost use Rattle.aotcp_c.specs.Handles.{stack_in};
 ghost use Rattle.aotcp_c.specs.Shapes.{pair_of, state_of};
 
 use crate::codes::{FAMILY, NO_CONNECTION, NO_STACK, NOTHING, OK};
@@ -77,8 +77,8 @@ fn is_overdue(stack: &CountedStack, at: &CPair, now: u64, told: &mut bool) -> i3
 /// more to hand out.
 #[unsafe(no_mangle)]
 pub extern "C" fn aotcp_deadline(alloc: Global, handle: &mut Handle, at: &mut u64) -> i32
-    ensures unchanged { content handle.new.place.value ≡ content handle.old.place.value }
-    ensures told { OnStack (content handle.old.place.value) (content handle.new.place.value) result (λ p q. (s : StackState) → IsAt p s
+    ensures unchanged { stack_in handle.new ≡ stack_in handle.old }
+    ensures told { OnStack (stack_in handle.old) (stack_in handle.new) result (λ p q. (s : StackState) → IsAt p s
         → Tells (next_deadline s) at.new result) }
     ensures kept { result ≢ ok → at.new ≡ at.old }
 {
@@ -100,8 +100,8 @@ pub extern "C" fn aotcp_state(
     pair: &CPair,
     told: &mut CState,
 ) -> i32
-    ensures unchanged { content handle.new.place.value ≡ content handle.old.place.value }
-    ensures told { OnStack (content handle.old.place.value) (content handle.new.place.value) result (λ p q. (s : StackState) → IsAt p s
+    ensures unchanged { stack_in handle.new ≡ stack_in handle.old }
+    ensures told { OnStack (stack_in handle.old) (stack_in handle.new) result (λ p q. (s : StackState) → IsAt p s
         → IsState (pair_of pair.now) s told.new result) }
     ensures kept { result ≢ ok → told.new ≡ told.old }
 {
@@ -125,8 +125,8 @@ pub extern "C" fn aotcp_is_overdue(
     now: u64,
     told: &mut bool,
 ) -> i32
-    ensures unchanged { content handle.new.place.value ≡ content handle.old.place.value }
-    ensures told { OnStack (content handle.old.place.value) (content handle.new.place.value) result (λ p q. (s : StackState) → IsAt p s
+    ensures unchanged { stack_in handle.new ≡ stack_in handle.old }
+    ensures told { OnStack (stack_in handle.old) (stack_in handle.new) result (λ p q. (s : StackState) → IsAt p s
         → IsOverdue (pair_of pair.now) now s told.new result) }
     ensures kept { result ≢ ok → told.new ≡ told.old }
 {

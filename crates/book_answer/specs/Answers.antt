@@ -5,7 +5,7 @@ use Rattle.std.specs.Prelude.{length, map, codes, decimal, Option, Some, None, o
 use Rattle.std.specs.Prelude.{Ok, Err, if◌then◌else◌}
 use Rattle.book_base.specs.declared.address.Pair.{Pair}
 use Rattle.book_keys.specs.declared.fault.TableFault.{TableFault}
-use Rattle.book_keys.specs.Nodes.{tables_of}
+use Rattle.book_keys.specs.Nodes.{most_keys, tables_of}
 use Rattle.book_keys.specs.Plans.{rows_at}
 use Rattle.book_keys.specs.Rows.{Table}
 use Rattle.book_lines.specs.declared.text_fault.TextFault.{TextFault}
@@ -17,7 +17,7 @@ use Rattle.book_pcap.specs.declared.pcap_head.Head.{Head}
 use Rattle.book_pcap.specs.declared.pcap_head.HeadFault.{HeadFault}
 use Rattle.book_pcap.specs.declared.pcap_head.HeadFault.TheVariants as head_fault
 use Rattle.book_pcap.specs.Packets.{Packet, Packets, FileFault, BadHead, BadRecord, opened}
-use Rattle.book_pcap.specs.Packets.{packets_of}
+use Rattle.book_pcap.specs.Packets.{most_capture, packets_of}
 use Rattle.book_link.specs.declared.event.Event.{Event}
 use Rattle.book_link.specs.Reports.{report, summary}
 use Rattle.book_link.specs.Runs.{run}
@@ -35,6 +35,7 @@ use Rattle.book_cmd_bgp.specs.BgpRuns.{bgp_text, bgp_faults}
 use Rattle.book_cmd_check.specs.Captures.{Stored, capture_run, has_refusal}
 use Rattle.book_answer.specs.Commands.{command_of, reads_keys, reads_input, usage}
 use Rattle.book_cmd_keys.specs.KeyTexts.{keys_text, table_fault_line}
+use Rattle.book_cmd_link.specs.declared.script.KeysFrom.TheVariants as keys_from
 use Rattle.book_cmd_link.specs.LinkFiles.{script_of}
 use Rattle.book_cmd_keys.specs.LintTexts.{lint_pair_of, has_misfit, lint_text}
 use Rattle.book_cmd_node.specs.NodeRuns.{node_script_of, node_text}
@@ -180,8 +181,10 @@ linted tables plan connections =
 
 -- the answer of a command over tables to an input within its limit (own)
 abbrev pub answer_over : Command → List Table → List ℕ → Answer
-answer_over command.Link tables input = if_read linked_by_shared (script_of false input)
-answer_over command.LinkKeys tables input = if_read (linked tables) (script_of true input)
+answer_over command.Link tables input =
+    if_read linked_by_shared (script_of keys_from.LinkFile input)
+answer_over command.LinkKeys tables input =
+    if_read (linked tables) (script_of keys_from.KeyFile input)
 answer_over command.Check tables input = lines_checked tables (stored_input input)
 answer_over command.CheckPcap tables input = packets_checked tables (packets_of input)
 answer_over command.Show tables input = if_read (done false) (show_of input)
@@ -190,17 +193,9 @@ answer_over (command.Keys time) tables input = done false (keys_text time tables
 answer_over (command.Lint plan) tables input =
     if_read (linted tables plan) (said_in lint_pair_of input)
 answer_over (command.Storm seed count) tables input = stormed (storm_events seed count)
-answer_over command.Bgp tables input = if_read (bgp_over tables) (script_of true input)
+answer_over command.Bgp tables input = if_read (bgp_over tables) (script_of keys_from.KeyFile input)
 answer_over command.Timed tables input = if_read (timed_over tables) (timed_script_of input)
 answer_over command.Node tables input = if_read (node_over tables) (node_script_of input)
-
--- the most bytes of a key file (own)
-abbrev pub most_keys : ℕ
-most_keys = 1048576
-
--- the most bytes of a capture that is checked: 2^28 (own)
-abbrev pub most_capture : ℕ
-most_capture = 268435456
 
 -- the most bytes of any other input: 2^25 (own)
 abbrev pub most_text : ℕ

@@ -2,21 +2,18 @@
 use Rattle.std.proofs.Common.{◌≡◌, ℕ, ◌+◌, Bool, true, false, not, nat_le, List, length, Option, Some, None, option_map, refl, sym, ap, ◌∙◌, if◌then◌else◌, Ok, Err}
 use Rattle.std.specs.List.{find}
 use Rattle.book_segments.specs.Sockets.{same_socket}
-use Rattle.book_segments.specs.Segments.{Segment, Reading, Read, reading, good, has, pair_reached, SYN, ACK}
+use Rattle.book_segments.specs.Segments.{Segment, Reading, Read, reading, has, pair_reached, SYN, ACK}
 use Rattle.book_keys.specs.Rows.{Table, has_address}
 use Rattle.book_endpoint.specs.Verdicts.{Judgement}
+use Rattle.book_cmd_show.specs.DatagramTexts.{checksum_in}
 use Rattle.book_cmd_check.specs.declared.given.GivenIsns.{GivenIsns}
 use Rattle.book_cmd_check.specs.Captures.{Connection, Heard, acknowledged_isn, connection_between, fixed, hear, hear_at, hear_judged, hear_later, hear_read, hear_syn_ack, is_pass, judge_stored, most_connections, same_isns, with_connection, Judged, TooManyConnections, UnknownNode}
-use Rattle.book_cmd_check.specs.Handshakes.{EndsHandshake, and_given, given_connection, with_begun}
-
--- what a SYN with ACK tells
-abbrev told_by : Segment → GivenIsns
-told_by d = record { one = d.source; one_isn = d.sequence; other = d.destination; other_isn = acknowledged_isn d }
+use Rattle.book_cmd_check.specs.Handshakes.{EndsHandshake, and_given, given_connection, told_by, with_begun}
 
 abbrev heard_full : Bool → List Connection → Segment → Judgement → Heard
 heard_full full held d j =
-    if full then record { connections = held; saying = TooManyConnections (good d) }
-    else record { connections = with_connection (fixed d) held; saying = Judged j (good d) }
+    if full then record { connections = held; saying = TooManyConnections (checksum_in d) }
+    else record { connections = with_connection (fixed d) held; saying = Judged j (checksum_in d) }
 
 full_fixed : (full : Bool) (held : List Connection) (d : Segment) (j : Judgement) → is_pass (heard_full full held d j).saying ≡ true
     → (heard_full full held d j).connections ≡ (if full then held else with_connection (fixed d) held)

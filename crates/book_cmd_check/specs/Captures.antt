@@ -10,13 +10,14 @@ use Rattle.book_segments.specs.Bytes.{ring}
 use Rattle.book_segments.specs.Faults.{fault_text}
 use Rattle.book_segments.specs.Sockets.{same_socket}
 use Rattle.book_segments.specs.declared.fault.DatagramFault.{DatagramFault}
-use Rattle.book_segments.specs.Segments.{Segment, Reading, Read, Bad, reading, good, has, SYN, ACK}
+use Rattle.book_segments.specs.Segments.{Segment, Reading, Read, Bad, reading, has, SYN, ACK}
 use Rattle.book_segments.specs.Segments.{segment_length}
 use Rattle.book_keys.specs.Rows.{Row, Table, has_address}
 use Rattle.book_endpoint.specs.Verdicts.{Finding, Judgement, Known, judge}
 use Rattle.book_link.specs.Reports.{verdict_text}
 use Rattle.book_lines.specs.Texts.{numbered_text}
-use Rattle.book_cmd_show.specs.DatagramTexts.{checksum_text}
+use Rattle.book_cmd_show.specs.declared.checksum.Checksum.{Checksum}
+use Rattle.book_cmd_show.specs.DatagramTexts.{checksum_in, checksum_text}
 use Rattle.book_segments.specs.Segments.{pair_reached}
 
 -- a datagram that was stored: its number in the input, its time, its bytes (own)
@@ -37,12 +38,12 @@ pub record Connection : Type 0 where
   pub one : KnownSide
   pub two : KnownSide
 
--- what is said of a stored segment; the truth value says whether its TCP checksum is right (own)
+-- what is said of a stored segment, and whether its TCP checksum is right (own)
 pub data Saying : Type 0 where
   Unreadable : (fault : DatagramFault) → Saying
   UnknownNode : Saying
-  Judged : (judgement : Judgement) (right : Bool) → Saying
-  TooManyConnections : (right : Bool) → Saying
+  Judged : (judgement : Judgement) (checksum : Checksum) → Saying
+  TooManyConnections : (checksum : Checksum) → Saying
 
 -- the connections after a segment, and what is said of it (own)
 pub record Heard : Type 0 where
@@ -71,6 +72,10 @@ abbrev pub with_connection : Connection → List Connection → List Connection
 with_connection c [] = c ∷ []
 with_connection c (k ∷ ks) =
     if joins c.one.socket c.two.socket k then c ∷ ks else k ∷ with_connection c ks
+
+-- the connection, where this number is expected of its first side (own)
+abbrev pub expecting : ℕ → Connection → Connection
+expecting n c = record c { one = record (c.one) { expected = n } }
 
 -- the initial sequence number that a SYN with ACK acknowledges (RFC 9293, section 3.5)
 abbrev pub acknowledged_isn : Segment → ℕ
@@ -121,33 +126,33 @@ most_connections = 65536
 abbrev pub hear_syn_ack : List Connection → Segment → Judgement → Option Connection → Heard
 hear_syn_ack held d j (Some c) = record {
   connections = if same_isns c (fixed d) then held else with_connection (fixed d) held;
-  saying = Judged j (good d);
+  saying = Judged j (checksum_in d);
 }
 hear_syn_ack held d j None =
     if nat_le most_connections (length held)
-    then record { connections = held; saying = TooManyConnections (good d) }
-    else record { connections = with_connection (fixed d) held; saying = Judged j (good d) }
+    then record { connections = held; saying = TooManyConnections (checksum_in d) }
+    else record { connections = with_connection (fixed d) held; saying = Judged j (checksum_in d) }
 
 -- a segment without SYN passed at number n: what is expected of its side is at least the number
 -- behind it (own)
 abbrev pub hear_later : List Connection → Segment → ℕ → Judgement → Option Connection → Heard
-hear_later held d n j None = record { connections = held; saying = Judged j (good d) }
+hear_later held d n j None = record { connections = held; saying = Judged j (checksum_in d) }
 hear_later held d n j (Some c) =
     let side = record (c.one) { expected = max c.one.expected (n + segment_length d) } in
     record {
       connections = with_connection (record c { one = side }) held;
-      saying = Judged j (good d);
+      saying = Judged j (checksum_in d);
     }
 
 -- what is said of a segment with its verdict, and the connections after it; a SYN alone fixes
 -- nothing (own)
 abbrev pub hear_judged : List Connection → Segment → Option Connection → Judgement → Heard
 hear_judged held d known (Err why) =
-    record { connections = held; saying = Judged (Err why) (good d) }
+    record { connections = held; saying = Judged (Err why) (checksum_in d) }
 hear_judged held d known (Ok p) =
     if not (has SYN d) then hear_later held d p.number (Ok p) known
     else if has ACK d then hear_syn_ack held d (Ok p) known
-    else record { connections = held; saying = Judged (Ok p) (good d) }
+    else record { connections = held; saying = Judged (Ok p) (checksum_in d) }
 
 -- a segment, judged by the table of its destination; no node has it, or both sockets are one (own)
 abbrev pub hear_at : Option Table → List Connection → ℕ → Segment → Heard
@@ -178,16 +183,17 @@ sayings_from tables held (s ∷ rest) =
 abbrev pub saying_texts : Saying → List (List ℕ)
 saying_texts (Unreadable fault) = codes "bad" ∷ fault_text fault ∷ []
 saying_texts UnknownNode = codes "unknown-node" ∷ []
-saying_texts (Judged (Ok p) right) =
+saying_texts (Judged (Ok p) checksum) =
     codes "pass" ∷ codes "row" ∷ decimal p.row ∷ codes "number" ∷ decimal p.number
-    ∷ codes "checksum" ∷ checksum_text right ∷ []
-saying_texts (Judged (Err why) right) =
-    codes "refused" ∷ verdict_text why ∷ codes "checksum" ∷ checksum_text right ∷ []
-saying_texts (TooManyConnections right) = codes "full" ∷ codes "checksum" ∷ checksum_text right ∷ []
+    ∷ codes "checksum" ∷ checksum_text checksum ∷ []
+saying_texts (Judged (Err why) checksum) =
+    codes "refused" ∷ verdict_text why ∷ codes "checksum" ∷ checksum_text checksum ∷ []
+saying_texts (TooManyConnections checksum) =
+    codes "full" ∷ codes "checksum" ∷ checksum_text checksum ∷ []
 
 -- what is said is a pass, whatever the checksum (own)
 abbrev pub is_pass : Saying → Bool
-is_pass (Judged (Ok p) right) = true
+is_pass (Judged (Ok p) checksum) = true
 is_pass _ = false
 
 -- the lines of stored datagrams with what is said of them (own)

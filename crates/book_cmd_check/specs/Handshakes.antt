@@ -45,6 +45,16 @@ abbrev pub has_room : GivenIsns → List Connection → Bool
 has_room g held = same_socket g.one g.other
     || (is_some (held_between g held) || nat_lt (length held) most_connections)
 
+-- the initial sequence numbers that a SYN with ACK tells: its own sequence number, and that which
+-- it acknowledges (RFC 9293, section 3.5)
+abbrev pub told_by : Segment → GivenIsns
+told_by d = record {
+  one = d.source;
+  one_isn = d.sequence;
+  other = d.destination;
+  other_isn = acknowledged_isn d;
+}
+
 -- a segment ends a handshake with these initial sequence numbers: a SYN with ACK, which tells its
 -- sender's, and acknowledges the other one (RFC 9293, section 3.5)
 pub record EndsHandshake (d : Segment) (g : GivenIsns) : Type 0 where

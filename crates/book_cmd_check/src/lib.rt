@@ -5,6 +5,8 @@
 
 mod given;
 mod laws;
+mod limits;
 
 pub use given::GivenIsns;
 pub use laws::{connections_are_a_map, given_isns_are_those_of_a_handshake};
+pub use limits::MOST_LINE;

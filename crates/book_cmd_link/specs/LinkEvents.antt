@@ -1,9 +1,10 @@
 -- What a line of a link file says of one event. Our own format. Its top is `link_event_of`.
-use Rattle.std.specs.Prelude.{ℕ, nat_le, nat_lt, Bool, true, false, List, codes, Option, Some, None}
+use Rattle.std.specs.Prelude.{ℕ, nat_le, nat_lt, List, codes, Option, Some, None}
 use Rattle.std.specs.Prelude.{Result, Ok, Err, if◌then◌else◌}
 use Rattle.std.specs.Str.{bytes_eq}
 use Rattle.book_lines.specs.declared.line_kind.LineKind.{LineKind}
 use Rattle.book_lines.specs.declared.line_kind.LineKind.TheVariants.{Word, Range}
+use Rattle.book_keys.specs.Columns.{direction_of}
 use Rattle.book_keys.specs.Lifetimes.{greatest_time}
 use Rattle.book_keys.specs.MasterKeys.{longest_master_key}
 use Rattle.book_keys.specs.Rows.{row_limit, greatest_key_id}
@@ -13,6 +14,8 @@ use Rattle.book_base.specs.Results.{◌>>=◌}
 use Rattle.book_pcap.specs.Packets.{longest_datagram}
 use Rattle.book_link.specs.declared.event.Event.{Event}
 use Rattle.book_link.specs.declared.event.Action.{Action}
+use Rattle.book_link.specs.declared.event.Fixing.{Fixing}
+use Rattle.book_link.specs.declared.event.Fixing.TheVariants.{Keep, Fix}
 use Rattle.book_link.specs.declared.event.Event.TheVariants as event
 use Rattle.book_link.specs.declared.event.Action.TheVariants as action
 
@@ -83,6 +86,13 @@ inject_of ws = do
   none ← nothing_in bytes.rest
   Ok (event.At e.value (action.Inject bytes.value))
 
+-- whether the checksum of an altered copy is kept or set, as a word says it (own)
+unfoldable pub fixing_of : List ℕ → Option Fixing
+fixing_of w =
+    if bytes_eq w (codes "keep") then Some Keep
+    else if bytes_eq w (codes "fix") then Some Fix
+    else None
+
 -- the event `alter END N PLACE MASK keep` or `fix` (own)
 unfoldable pub alter_of : List (List ℕ) → Result Event LineKind
 alter_of ws = do
@@ -90,23 +100,9 @@ alter_of ws = do
   segment ← number_in 1 most_segments e.rest
   place ← number_in 0 furthest_place segment.rest
   mask ← byte_in place.rest
-  fixing ← choice_in (codes "keep") (codes "fix") mask.rest
+  fixing ← word_as fixing_of Word mask.rest
   none ← nothing_in fixing.rest
   Ok (event.At e.value (action.Alter segment.value place.value mask.value fixing.value))
-
--- whether a row receives, and whether it sends (RFC 7210, section 2)
-pub record Ways : Type 0 where
-  pub receive : Bool
-  pub send : Bool
-
--- the ways that a word of a Direction names (RFC 7210, section 2)
-abbrev pub ways_of : List ℕ → Option Ways
-ways_of w =
-    if bytes_eq w (codes "in") then Some (record { receive = true; send = false })
-    else if bytes_eq w (codes "out") then Some (record { receive = false; send = true })
-    else if bytes_eq w (codes "both") then Some (record { receive = true; send = true })
-    else if bytes_eq w (codes "disabled") then Some (record { receive = false; send = false })
-    else None
 
 -- the event `add END RECVID SENDID ALGORITHM HEX FLAG DIRECTION SENDFIRST SENDLAST ACCEPTFIRST
 -- ACCEPTLAST`; no lifetime's last second is before its first (RFC 7210, section 2, and own)
@@ -118,8 +114,8 @@ add_of ws = do
   algorithm ← algorithm_in send_id.rest
   master ← sized_hex_in 1 longest_master_key algorithm.rest
   apart ← choice_in (codes "no-options") (codes "options") master.rest
-  ways ← word_as ways_of Word apart.rest
-  send_first ← number_in 0 greatest_time ways.rest
+  direction ← word_as direction_of Word apart.rest
+  send_first ← number_in 0 greatest_time direction.rest
   send_last ← number_in send_first.value greatest_time send_first.rest
   accept_first ← number_in 0 greatest_time send_last.rest
   accept_last ← number_in accept_first.value greatest_time accept_first.rest
@@ -130,12 +126,9 @@ add_of ws = do
     algorithm = algorithm.value;
     master = master.value;
     with_options = apart.value;
-    receive = ways.value.receive;
-    send = ways.value.send;
-    send_first = send_first.value;
-    send_last = send_last.value;
-    accept_first = accept_first.value;
-    accept_last = accept_last.value;
+    direction = direction.value;
+    sending = record { first = send_first.value; last = send_last.value };
+    accepting = record { first = accept_first.value; last = accept_last.value };
   })))
 
 -- the event `dump N` (own)

@@ -17,6 +17,8 @@ use Rattle.book_lines.specs.Said.{at_number, if_few_lines}
 use Rattle.book_lines.specs.Words.{nothing_in, literal_in, socket_in, algorithm_in, sized_hex_in}
 use Rattle.book_base.specs.Results.{◌>>=◌}
 use Rattle.book_link.specs.declared.event.Event.{Event}
+use Rattle.book_cmd_link.specs.declared.script.KeysFrom.{KeysFrom}
+use Rattle.book_cmd_link.specs.declared.script.KeysFrom.TheVariants as keys_from
 use Rattle.book_cmd_link.specs.declared.script.SharedKey.{SharedKey}
 use Rattle.book_cmd_link.specs.declared.script.Script.{Script}
 use Rattle.book_cmd_link.specs.LinkEvents.{link_event_of}
@@ -69,9 +71,9 @@ line_in missing kind meaning [] = Err (fault.Line missing kind)
 line_in missing kind meaning (l ∷ ls) = at_line l.number kind ls (meaning l.words)
 
 -- the shared key that a line says, where there is no key file (own)
-unfoldable pub key_in : Bool → ℕ → List Line → Result (Left (Option SharedKey)) TextFault
-key_in true missing ls = Ok (record { value = None; rest = ls })
-key_in false missing ls = do
+unfoldable pub key_in : KeysFrom → ℕ → List Line → Result (Left (Option SharedKey)) TextFault
+key_in keys_from.KeyFile missing ls = Ok (record { value = None; rest = ls })
+key_in keys_from.LinkFile missing ls = do
   key ← line_in missing kind.Shared shared_key_of ls
   Ok (record { value = Some key.value; rest = key.rest })
 
@@ -109,10 +111,10 @@ link_head_in missing ls = do
   Ok (record { value = record { a = a.value; b = b.value }; rest = b.rest })
 
 -- the script that the lines of a link file make (own)
-unfoldable pub script_in : Bool → ℕ → List Line → Result Script TextFault
-script_in with_keys missing ls = do
+unfoldable pub script_in : KeysFrom → ℕ → List Line → Result Script TextFault
+script_in keys missing ls = do
   head ← link_head_in missing ls
-  key ← key_in with_keys missing head.rest
+  key ← key_in keys missing head.rest
   events ← events_of link_event_of key.rest
   Ok (record { a = head.value.a; b = head.value.b; shared = key.value; events = events })
 
@@ -121,9 +123,13 @@ abbrev pub missing_in : List ℕ → ℕ
 missing_in text = length (lines_of text) + 1
 
 -- the script of a link file, or its first fault (own)
-unfoldable pub script_of : Bool → List ℕ → Result Script TextFault
-script_of with_keys text =
-    if_few_lines text (script_in with_keys (missing_in text) (saying_lines text))
+unfoldable pub script_of : KeysFrom → List ℕ → Result Script TextFault
+script_of keys text = if_few_lines text (script_in keys (missing_in text) (saying_lines text))
+
+-- where the keys come from, as a script's shared key tells (own)
+abbrev pub keys_by : Option SharedKey → KeysFrom
+keys_by None = keys_from.KeyFile
+keys_by (Some key) = keys_from.LinkFile
 
 -- a table for each end of a script, with the key that both share (own)
 abbrev pub shared_by : Script → Option SharedKey → List Table

@@ -4,4 +4,4 @@
 
 mod script;
 
-pub use script::{Script, SharedKey};
+pub use script::{KeysFrom, Script, SharedKey};

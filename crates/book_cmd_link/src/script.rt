@@ -3,6 +3,15 @@
 use book_base::{Algorithm, Bytes, Socket};
 use book_link::Events;
 
+/// Where the keys of a link's ends come from.
+#[derive(Clone, Copy, Debug, PartialEq, Eq)]
+pub enum KeysFrom {
+    /// A key file beside the link file, which then has no `shared` line.
+    KeyFile,
+    /// The `shared` line of the link file.
+    LinkFile,
+}
+
 /// The key that both ends of a link share where there is no key file.
 #[derive(Drop)]
 pub struct SharedKey {

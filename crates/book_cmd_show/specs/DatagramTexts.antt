@@ -1,5 +1,5 @@
 -- The fields of a datagram as text. Our own format. Its top is `datagram_texts`.
-use Rattle.std.specs.Prelude.{ℕ, nat_lt, if◌then◌else◌, Bool, List, [], ◌∷◌, ◌++◌, length, map}
+use Rattle.std.specs.Prelude.{ℕ, nat_lt, if◌then◌else◌, List, [], ◌∷◌, ◌++◌, length, map}
 use Rattle.std.specs.Prelude.{codes, decimal}
 use Rattle.book_base.specs.declared.address.Address.{Address}
 use Rattle.book_base.specs.declared.address.Address.TheVariants.{V4, V6}
@@ -7,15 +7,22 @@ use Rattle.book_base.specs.Hexadecimal.{hex_of}
 use Rattle.book_lines.specs.Texts.{socket_texts}
 use Rattle.book_segments.specs.Options.{Plain, plains, listed, options_of}
 use Rattle.book_segments.specs.Segments.{Segment, good}
+use Rattle.book_cmd_show.specs.declared.checksum.Checksum.{Checksum}
+use Rattle.book_cmd_show.specs.declared.checksum.Checksum.TheVariants.{Good, Wrong}
 
 -- the word for the family of an address (own)
 abbrev pub family_text : Address → List ℕ
 family_text (V4 bytes) = codes "ipv4"
 family_text (V6 bytes) = codes "ipv6"
 
+-- whether the checksum of a segment is right (RFC 9293, section 3.1)
+abbrev pub checksum_in : Segment → Checksum
+checksum_in d = if good d then Good else Wrong
+
 -- the word that says whether a checksum is right (own)
-abbrev pub checksum_text : Bool → List ℕ
-checksum_text right = if right then codes "good" else codes "wrong"
+abbrev pub checksum_text : Checksum → List ℕ
+checksum_text Good = codes "good"
+checksum_text Wrong = codes "wrong"
 
 -- the text of an option: its kind, and from kind 2 on a colon and its body (RFC 9293, section 3.2)
 abbrev pub option_text : Plain → List ℕ
@@ -37,7 +44,7 @@ number_texts d others =
 -- the words for whether a datagram's checksum is right, and for its options (RFC 9293, section 3.1)
 abbrev pub rest_texts : Segment → List (List ℕ)
 rest_texts d =
-    codes "checksum" ∷ checksum_text (good d)
+    codes "checksum" ∷ checksum_text (checksum_in d)
     ∷ codes "options" ∷ options_texts (plains (listed (options_of d.area)))
 
 -- the fields of a datagram: family, sender, receiver, and what it says (RFC 9293, section 3.1)

@@ -10,12 +10,15 @@ use Rattle.book_endpoint.specs.declared.phase.Phase.{Phase}
 use Rattle.book_endpoint.specs.States.{EndState, close, abort, give, gives, room}
 use Rattle.book_endpoint.specs.Arrivals.{Arrived, arrive}
 use Rattle.book_endpoint.specs.Emissions.{Emission, Emitted, Quiet, NoKey, Emits, emit, resend}
+use Rattle.book_link.specs.declared.event.Fixing.{Fixing}
+use Rattle.book_link.specs.declared.event.Transmission.{Transmission}
+use Rattle.book_link.specs.declared.event.Transmission.TheVariants.{New, Again}
 use Rattle.book_link.specs.declared.event.Event.{Event}
 use Rattle.book_link.specs.declared.event.Event.TheVariants as event
 use Rattle.book_link.specs.declared.event.Action.TheVariants as action
 use Rattle.book_link.specs.Alterations.{has_place, altered}
 use Rattle.book_link.specs.Outcomes as outcome
-use Rattle.book_link.specs.RowLines.{added_row}
+use Rattle.book_keys.specs.Tables.{row_of_new}
 use Rattle.book_link.specs.Runs.{empty, run, run_from}
 use Rattle.book_link.specs.Steps.{Act, Stepped, act_on, add, alter, begin, came, come, deliver, given, on_live, put, quietly, send, send_again, sent, step, took, add_row, withdraw, view_of}
 use Rattle.book_link.specs.Worlds.{Setup, Session, Made, World, Happening, Making, Coming, find, pair_of, segment_named, side}
@@ -39,7 +42,7 @@ record Grows (before after : List Happening) (arrows_of : List Arrow) : Type 0 w
 ahead_splits : (r : Option Rung) (rs : List Rung) → arrows (ahead r rs) ≡ of_rung r ++ arrows rs
 ahead_splits None rs = refl
 ahead_splits (Some (Clock e seconds)) rs = refl
-ahead_splits (Some (MadeRung e s again)) rs = refl
+ahead_splits (Some (MadeRung e s transmission)) rs = refl
 ahead_splits (Some (Came e what answer)) rs = refl
 ahead_splits (Some (Call e d reply)) rs = refl
 ahead_splits (Some (Turned e phase)) rs = refl
@@ -47,7 +50,7 @@ ahead_splits (Some (Turned e phase)) rs = refl
 pub arrows_append : (xs ys : List Rung) → arrows (xs ++ ys) ≡ arrows xs ++ arrows ys
 arrows_append [] ys = refl
 arrows_append (Clock e seconds ∷ xs) ys = arrows_append xs ys
-arrows_append (MadeRung e s again ∷ xs) ys = ap (λ (l : List Arrow). Leaves e s ∷ l) (arrows_append xs ys)
+arrows_append (MadeRung e s transmission ∷ xs) ys = ap (λ (l : List Arrow). Leaves e s ∷ l) (arrows_append xs ys)
 arrows_append (Came e what answer ∷ xs) ys = ap (λ (l : List Arrow). Reaches e answer ∷ l) (arrows_append xs ys)
 arrows_append (Call e d reply ∷ xs) ys = arrows_append xs ys
 arrows_append (Turned e phase ∷ xs) ys = arrows_append xs ys
@@ -126,11 +129,11 @@ module _ (w : World) where
   row_withdrawn A (Some rows) = refl
   row_withdrawn B (Some rows) = refl
 
-  made : (setup : Setup) (e : End) (d : Deed) (again : Bool) (s : EndState) (without : outcome.Outcome) (em : Emitted) → of_rung (Some (making_rung e d again without)) ≡ []
-      → of_rung (Some (making_rung e d again (sent (view_of setup w e) s without em).outcome)) ≡ of_happening (sent (view_of setup w e) s without em).happened
-  made setup e d again s without Quiet none = none
-  made setup e d again s without NoKey none = refl
-  made setup e d again s without (Emits out) none = refl
+  made : (setup : Setup) (e : End) (d : Deed) (transmission : Transmission) (s : EndState) (without : outcome.Outcome) (em : Emitted) → of_rung (Some (making_rung e d transmission without)) ≡ []
+      → of_rung (Some (making_rung e d transmission (sent (view_of setup w e) s without em).outcome)) ≡ of_happening (sent (view_of setup w e) s without em).happened
+  made setup e d transmission s without Quiet none = none
+  made setup e d transmission s without NoKey none = refl
+  made setup e d transmission s without (Emits out) none = refl
 
   reached : (setup : Setup) (e : End) (d : Deed) (what : Brought) (bytes : List ℕ) → Leaves_by (λ o. Some (coming_rung e d what o)) (on_live w e (come bytes (view_of setup w e)))
   reached setup e d what bytes = acts e (side w e).sessions (come bytes (view_of setup w e)) (λ o. Some (coming_rung e d what o)) refl (λ s. refl)
@@ -144,10 +147,10 @@ module _ (w : World) where
   placed setup e d what bytes true = reached setup e d what bytes
   placed setup e d what bytes false = stays (λ o. Some (coming_rung e d what o)) (record { world = w; outcome = outcome.NoPlace }) refl refl
 
-  changed : (setup : Setup) (e : End) (d : Deed) (what : Brought) (place mask : ℕ) (fix : Bool) (m : Option Made) →
-      Leaves_by (λ o. Some (coming_rung e d what o)) (alter setup w e (record { place = place; mask = mask; fix = fix }) m)
-  changed setup e d what place mask fix None = stays (λ o. Some (coming_rung e d what o)) (alter setup w e (record { place = place; mask = mask; fix = fix }) None) refl refl
-  changed setup e d what place mask fix (Some m) = placed setup e d what (altered m.bytes (record { place = place; mask = mask; fix = fix })) (has_place m.bytes place)
+  changed : (setup : Setup) (e : End) (d : Deed) (what : Brought) (place mask : ℕ) (fixing : Fixing) (m : Option Made) →
+      Leaves_by (λ o. Some (coming_rung e d what o)) (alter setup w e (record { place = place; mask = mask; fixing = fixing }) m)
+  changed setup e d what place mask fixing None = stays (λ o. Some (coming_rung e d what o)) (alter setup w e (record { place = place; mask = mask; fixing = fixing }) None) refl refl
+  changed setup e d what place mask fixing (Some m) = placed setup e d what (altered m.bytes (record { place = place; mask = mask; fixing = fixing })) (has_place m.bytes place)
 
   clock_set : (e : End) (n : ℕ) (setup : Setup) → (step setup w (event.At e (action.Clock n))).world.history ≡ w.history
   clock_set A n setup = refl
@@ -162,15 +165,15 @@ module _ (w : World) where
   each setup (event.At e (action.Give bytes)) = calls e (deed.Give (length bytes)) (step setup w (event.At e (action.Give bytes))) (quiet e (side w e).sessions (given bytes) (λ s. piece (not (gives s)) (nat_lt (room s) (length bytes)) s (give bytes s)))
   each setup (event.At e (action.Fill count byte)) = calls e (deed.Give count) (step setup w (event.At e (action.Fill count byte)))
       (quiet e (side w e).sessions (given (replicate count byte)) (λ s. piece (not (gives s)) (nat_lt (room s) (length (replicate count byte))) s (give (replicate count byte) s)))
-  each setup (event.At e action.Send) = acts e (side w e).sessions (send (view_of setup w e)) (rung_of (event.At e action.Send)) refl (λ s. made setup e _ false s outcome.Idle _ refl)
-  each setup (event.At e action.Resend) = acts e (side w e).sessions (send_again (view_of setup w e)) (rung_of (event.At e action.Resend)) refl (λ s. made setup e _ true s outcome.Nothing _ refl)
+  each setup (event.At e action.Send) = acts e (side w e).sessions (send (view_of setup w e)) (rung_of (event.At e action.Send)) refl (λ s. made setup e _ New s outcome.Idle _ refl)
+  each setup (event.At e action.Resend) = acts e (side w e).sessions (send_again (view_of setup w e)) (rung_of (event.At e action.Resend)) refl (λ s. made setup e _ Again s outcome.Nothing _ refl)
   each setup (event.At e (action.Deliver n)) = delivered setup e _ _ (segment_named n w.history)
   each setup (event.At e (action.Inject bytes)) = reached setup e _ _ bytes
-  each setup (event.At e (action.Alter n place mask fix)) = changed setup e _ _ place mask fix (segment_named n w.history)
+  each setup (event.At e (action.Alter n place mask fixing)) = changed setup e _ _ place mask fixing (segment_named n w.history)
   each setup (event.At e (action.Take count)) = calls e deed.Take (step setup w (event.At e (action.Take count))) (quiet e (side w e).sessions (took count) (λ s. refl))
   each setup (event.At e action.Close) = calls e deed.Close (step setup w (event.At e action.Close)) (quiet e (side w e).sessions (λ s. quietly (close s) outcome.Done) (λ s. refl))
   each setup (event.At e action.Abort) = calls e deed.Abort (step setup w (event.At e action.Abort)) (quiet e (side w e).sessions (λ s. quietly (abort s) outcome.Done) (λ s. refl))
-  each setup (event.At e (action.AddRow row)) = calls e deed.Add (step setup w (event.At e (action.AddRow row))) (row_added e (adding (side w e).rows (added_row row)))
+  each setup (event.At e (action.AddRow row)) = calls e deed.Add (step setup w (event.At e (action.AddRow row))) (row_added e (adding (side w e).rows (row_of_new row)))
   each setup (event.At e (action.Withdraw n)) = calls e (deed.Withdraw n) (step setup w (event.At e (action.Withdraw n))) (row_withdrawn e (withdrawn (side w e).rows n))
   each setup (event.Dump n) = stays (rung_of (event.Dump n)) (step setup w (event.Dump n)) refl refl
 

@@ -17,7 +17,7 @@ pub data Arrow : Type 0 where
 abbrev pub arrows : List Rung → List Arrow
 arrows [] = []
 arrows (Clock e seconds ∷ rs) = arrows rs
-arrows (Made e sketch again ∷ rs) = Leaves e sketch ∷ arrows rs
+arrows (Made e sketch transmission ∷ rs) = Leaves e sketch ∷ arrows rs
 arrows (Came e what answer ∷ rs) = Reaches e answer ∷ arrows rs
 arrows (Call e d reply ∷ rs) = arrows rs
 arrows (Turned e phase ∷ rs) = arrows rs

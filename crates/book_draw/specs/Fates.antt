@@ -19,7 +19,7 @@ delivery_to e Injected = None
 -- the delivery of a segment in a rung, if there is one (own)
 abbrev pub delivery_of : Rung → Option Delivery
 delivery_of (Clock e seconds) = None
-delivery_of (Made e sketch again) = None
+delivery_of (Made e sketch transmission) = None
 delivery_of (Came e what answer) = delivery_to e what
 delivery_of (Call e d reply) = None
 delivery_of (Turned e phase) = None

@@ -123,7 +123,7 @@ answer_margin answer = spaced (answer_texts answer)
 -- this rung is a clock of the end b (own)
 abbrev pub is_clock_of_b : Rung → Bool
 is_clock_of_b (Clock e seconds) = same_end e B
-is_clock_of_b (Made e s again) = false
+is_clock_of_b (Made e s transmission) = false
 is_clock_of_b (Came e what answer) = false
 is_clock_of_b (Call e d reply) = false
 is_clock_of_b (Turned e phase) = false
@@ -137,7 +137,7 @@ meets e s (Some d) = not (same_end e d.at) && (s.name == d.name)
 -- soon as it is made (own)
 abbrev pub is_one_line : Rung → Rung → Bool
 is_one_line (Clock e seconds) next = same_end e A && is_clock_of_b next
-is_one_line (Made e s again) next = meets e s (delivery_of next)
+is_one_line (Made e s transmission) next = meets e s (delivery_of next)
 is_one_line (Came e what answer) next = false
 is_one_line (Call e d reply) next = false
 is_one_line (Turned e phase) next = false
@@ -160,7 +160,7 @@ is_in_line (Some before) r = is_one_line before r
 -- the end at which a rung happens (own)
 abbrev pub rung_end : Rung → End
 rung_end (Clock e seconds) = e
-rung_end (Made e s again) = e
+rung_end (Made e s transmission) = e
 rung_end (Came e what answer) = e
 rung_end (Call e d reply) = e
 rung_end (Turned e phase) = e
@@ -168,7 +168,7 @@ rung_end (Turned e phase) = e
 -- what a rung makes comes in these rungs; true where it makes none (own)
 abbrev pub rung_comes : (all : List Rung) → Rung → Bool
 rung_comes all (Clock e seconds) = true
-rung_comes all (Made e s again) = has_come s.name all
+rung_comes all (Made e s transmission) = has_come s.name all
 rung_comes all (Came e what answer) = true
 rung_comes all (Call e d reply) = true
 rung_comes all (Turned e phase) = true
@@ -176,7 +176,7 @@ rung_comes all (Turned e phase) = true
 -- the words beside a rung, which makes a segment that comes, or none (own)
 abbrev pub rung_margin : (comes : Bool) → Rung → List ℕ
 rung_margin comes (Clock e seconds) = clock_margin seconds
-rung_margin comes (Made e s again) = making_word again ++ fate_word comes
+rung_margin comes (Made e s transmission) = making_word transmission ++ fate_word comes
 rung_margin comes (Came e what answer) = answer_margin answer
 rung_margin comes (Call e d reply) = call_margin d reply
 rung_margin comes (Turned e phase) = phase_margin phase
@@ -194,7 +194,7 @@ made_pen e comes at_once =
 -- the way of a rung (own)
 abbrev pub rung_way : (comes at_once : Bool) → (earlier : List Rung) → Rung → List ℕ
 rung_way comes at_once earlier (Clock e seconds) = blank_way
-rung_way comes at_once earlier (Made e s again) =
+rung_way comes at_once earlier (Made e s transmission) =
     way_from e (made_pen e comes at_once) (sketch_label s)
 rung_way comes at_once earlier (Came e what answer) =
     way_to e (arriving_pen e what) (arrival_label e earlier what)

@@ -2,6 +2,8 @@
 use Rattle.std.specs.Prelude.{ℕ, Bool, true, false, List, [], ◌∷◌, ◌++◌, codes, decimal}
 use Rattle.book_endpoint.specs.declared.phase.Phase.{Phase}
 use Rattle.book_lines.specs.Texts.{spaced}
+use Rattle.book_link.specs.declared.event.Transmission.{Transmission}
+use Rattle.book_link.specs.declared.event.Transmission.TheVariants.{New, Again}
 use Rattle.book_link.specs.Reports.{answer_texts, end_mark, phase_text}
 use Rattle.book_scope_texts.specs.Instants.{instant_text}
 use Rattle.book_draw.specs.declared.rung.Deed.{Deed}
@@ -49,9 +51,9 @@ abbrev pub call_margin : Deed → Reply → List ℕ
 call_margin d r = spaced (deed_texts d) ++ spaced (reply_texts r)
 
 -- the word for a segment that is made, or made again (own)
-abbrev pub making_word : Bool → List ℕ
-making_word true = codes " resend"
-making_word false = codes " send"
+abbrev pub making_word : Transmission → List ℕ
+making_word Again = codes " resend"
+making_word New = codes " send"
 
 -- the word for a segment that never comes (own)
 abbrev pub fate_word : (comes : Bool) → List ℕ

@@ -10,6 +10,8 @@ use Rattle.book_link.specs.declared.event.Event.{Event}
 use Rattle.book_link.specs.declared.event.Action.{Action}
 use Rattle.book_link.specs.declared.event.Event.TheVariants as event
 use Rattle.book_link.specs.declared.event.Action.TheVariants as action
+use Rattle.book_link.specs.declared.event.Transmission.{Transmission}
+use Rattle.book_link.specs.declared.event.Transmission.TheVariants.{New, Again}
 use Rattle.book_link.specs.Outcomes as outcome
 use Rattle.book_link.specs.Runs.{empty}
 use Rattle.book_link.specs.Steps.{step}
@@ -59,9 +61,9 @@ reply_of (outcome.OverlapWith number) = reply.Overlap number
 reply_of outcome.NoRow = reply.NoRow
 
 -- the rung of a call that makes a segment, or none (own)
-abbrev pub making_rung : End → Deed → (again : Bool) → outcome.Outcome → Rung
-making_rung e d again (outcome.Sent made) = MadeRung e (sketch_of made) again
-making_rung e d again o = Call e d (reply_of o)
+abbrev pub making_rung : End → Deed → Transmission → outcome.Outcome → Rung
+making_rung e d transmission (outcome.Sent made) = MadeRung e (sketch_of made) transmission
+making_rung e d transmission o = Call e d (reply_of o)
 
 -- the rung of an arrival, where there is one (own)
 abbrev pub coming_rung : End → Deed → Brought → outcome.Outcome → Rung
@@ -76,11 +78,11 @@ rung_at e (action.Listen isn) o = Call e deed.Listen (reply_of o)
 rung_at e (action.Start isn peer) o = Call e deed.Start (reply_of o)
 rung_at e (action.Give piece) o = Call e (deed.Give (length piece)) (reply_of o)
 rung_at e (action.Fill count byte) o = Call e (deed.Give count) (reply_of o)
-rung_at e action.Send o = making_rung e deed.Send false o
-rung_at e action.Resend o = making_rung e deed.Resend true o
+rung_at e action.Send o = making_rung e deed.Send New o
+rung_at e action.Resend o = making_rung e deed.Resend Again o
 rung_at e (action.Deliver n) o = coming_rung e (deed.Deliver n) (brought.Segment n) o
 rung_at e (action.Inject bytes) o = coming_rung e deed.Inject brought.Injected o
-rung_at e (action.Alter n place mask fix) o = coming_rung e (deed.Alter n) (brought.Altered n) o
+rung_at e (action.Alter n place mask fixing) o = coming_rung e (deed.Alter n) (brought.Altered n) o
 rung_at e (action.Take count) o = Call e deed.Take (reply_of o)
 rung_at e action.Close o = Call e deed.Close (reply_of o)
 rung_at e action.Abort o = Call e deed.Abort (reply_of o)

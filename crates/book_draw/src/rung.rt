@@ -1,6 +1,7 @@
 //! The rungs of a ladder: what is drawn of a run.
 use book_base::End;
 use book_endpoint::{Arrival, Phase};
+use book_link::Transmission;
 
 /// What is drawn of a segment that was made.
 #[derive(Clone, Copy)]
@@ -92,8 +93,8 @@ pub enum Reply {
 pub enum Rung {
     /// The end's clock was set to so many seconds since 1970-01-01.
     Clock(End, u64),
-    /// The end made this segment; whether it was made again.
-    Made(End, Sketch, bool),
+    /// The end made this segment, for the first time or again.
+    Made(End, Sketch, Transmission),
     /// This came to the end, which answered so.
     Came(End, Brought, Arrival),
     /// This was asked of the end, and what came of it.

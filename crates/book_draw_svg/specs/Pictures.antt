@@ -112,7 +112,7 @@ late_label_svg e p = if is_at_once p.row p.start then [] else label_svg e p
 -- the arrow of a rung with its title, where it has one (own)
 abbrev pub arrow_svg : Placed → Rung → List ℕ
 arrow_svg p (Clock e seconds) = []
-arrow_svg p (Made e s again) =
+arrow_svg p (Made e s transmission) =
     titled_tag (codes "made") (colour_text (Some s.key_id))
     (p.label ++ words_beside p.stroke p.rung) (leaving_svg e p.row p.stroke ++ label_svg e p)
 arrow_svg p (Came e what answer) =

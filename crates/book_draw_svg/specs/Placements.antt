@@ -23,7 +23,7 @@ start_at e row s = record { end = e; row = row; key_id = s.key_id }
 -- the start of the segment of this number, if this rung, in this row, makes it (own)
 abbrev pub start_in : (number row : ℕ) → Rung → Option Start
 start_in n row (Clock e seconds) = None
-start_in n row (Made e s again) = if n == s.name then Some (start_at e row s) else None
+start_in n row (Made e s transmission) = if n == s.name then Some (start_at e row s) else None
 start_in n row (Came e what answer) = None
 start_in n row (Call e d reply) = None
 start_in n row (Turned e phase) = None
@@ -43,7 +43,7 @@ start_of_brought earlier Injected = None
 -- where the arrow of a rung at which something came begins (own)
 abbrev pub start_of_rung : (earlier : List Rung) → Rung → Option Start
 start_of_rung earlier (Clock e seconds) = None
-start_of_rung earlier (Made e s again) = None
+start_of_rung earlier (Made e s transmission) = None
 start_of_rung earlier (Came e what answer) = start_of_brought earlier what
 start_of_rung earlier (Call e d reply) = None
 start_of_rung earlier (Turned e phase) = None
@@ -58,7 +58,7 @@ stroke_of_brought earlier Injected = stroke.Injected
 -- the stroke of a rung (own)
 abbrev pub stroke_of_rung : (all earlier : List Rung) → Rung → Stroke
 stroke_of_rung all earlier (Clock e seconds) = stroke.Whole
-stroke_of_rung all earlier (Made e s again) =
+stroke_of_rung all earlier (Made e s transmission) =
     if has_come s.name all then stroke.Whole else stroke.Lost
 stroke_of_rung all earlier (Came e what answer) = stroke_of_brought earlier what
 stroke_of_rung all earlier (Call e d reply) = stroke.Whole
@@ -67,7 +67,7 @@ stroke_of_rung all earlier (Turned e phase) = stroke.Whole
 -- what is written on the arrow of a rung (own)
 abbrev pub label_of_rung : (earlier : List Rung) → Rung → List ℕ
 label_of_rung earlier (Clock e seconds) = []
-label_of_rung earlier (Made e s again) = sketch_label s
+label_of_rung earlier (Made e s transmission) = sketch_label s
 label_of_rung earlier (Came e what answer) = arrival_label e earlier what
 label_of_rung earlier (Call e d reply) = []
 label_of_rung earlier (Turned e phase) = []

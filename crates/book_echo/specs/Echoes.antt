@@ -3,6 +3,8 @@
 use Rattle.std.specs.Prelude.{ℕ, ◌+◌, Bool, true, false, List, [], ◌∷◌, ◌++◌, drop, filter}
 use Rattle.std.specs.Prelude.{flat_map, codes, decimal, if◌then◌else◌}
 use Rattle.book_base.specs.Lines.{is_newline, lines_of, words_of}
+use Rattle.book_cmd_link.specs.declared.script.KeysFrom.{KeysFrom}
+use Rattle.book_cmd_link.specs.declared.script.KeysFrom.TheVariants as keys_from
 use Rattle.book_cmd_link.specs.declared.script.Script.{Script}
 use Rattle.book_lines.specs.Lines.{says_something}
 use Rattle.book_lines.specs.Texts.{end_text}
@@ -22,13 +24,13 @@ is_saying line = says_something (words_of line)
 
 -- how many lines stand in front of the events of a link file; without a key file one names the key
 -- (own)
-abbrev pub head_count : (with_keys : Bool) → ℕ
-head_count true = 3
-head_count false = 4
+abbrev pub head_count : KeysFrom → ℕ
+head_count keys_from.KeyFile = 3
+head_count keys_from.LinkFile = 4
 
 -- the lines of the events of a link file, as they stand in it (own)
-unfoldable pub lines_of_events : (with_keys : Bool) → List ℕ → List (List ℕ)
-lines_of_events with_keys text = drop (head_count with_keys) (filter is_saying (lines_of text))
+unfoldable pub lines_of_events : KeysFrom → List ℕ → List (List ℕ)
+lines_of_events keys text = drop (head_count keys) (filter is_saying (lines_of text))
 
 -- the first line of a text, with its newline (own)
 unfoldable pub first_line : List ℕ → List ℕ
@@ -75,6 +77,6 @@ told_text es = flat_map (λ e. e.told) es
 
 -- the report of a script that is the text of a link file, with the lines of its events (own)
 unfoldable pub echo_of :
-    (with_keys : Bool) → (text : List ℕ) → List Event → (report : List ℕ) → List ℕ
-echo_of with_keys text events report =
-    echoes_text (echoes_from 1 (lines_of_events with_keys text) events report)
+    KeysFrom → (text : List ℕ) → List Event → (report : List ℕ) → List ℕ
+echo_of keys text events report =
+    echoes_text (echoes_from 1 (lines_of_events keys text) events report)

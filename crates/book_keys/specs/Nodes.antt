@@ -107,6 +107,10 @@ tables_of_document (Some ms) =
 abbrev pub document_of : List ℕ → Option Members
 document_of text = if is_utf8 text then parse_document text else None
 
+-- the most bytes of a key file: 2^20 (own)
+abbrev pub most_keys : ℕ
+most_keys = 1048576
+
 -- the tables that a key file stands for, or the first fault of the walk (RFC 7210, section 2, in
 -- this profile)
 unfoldable pub tables_of : List ℕ → Result (List Table) TableFault

@@ -1,15 +1,26 @@
 -- A row is added to a table, and one is withdrawn (own): `adding` and `withdrawn` are the file's
 -- tops.
-use Rattle.std.specs.Prelude.{◌≡◌, ℕ, zero, suc, ◌+◌, nat_lt, nat_le, List, [], ◌∷◌, ◌++◌, length}
-use Rattle.std.specs.Prelude.{Option, Some, None, Result, Ok, Err, if◌then◌else◌}
+use Rattle.std.specs.Prelude.{◌≡◌, ℕ, zero, suc, ◌+◌, ◌≤◌, nat_lt, nat_le, List, [], ◌∷◌, ◌++◌}
+use Rattle.std.specs.Prelude.{length, Option, Some, None, Result, Ok, Err, if◌then◌else◌}
 use Rattle.std.specs.List.{position_from}
 use Rattle.book_keys.specs.declared.direction.Direction.TheVariants.{Disabled}
 use Rattle.book_keys.specs.declared.new_row.NewRow.{NewRow}
 use Rattle.book_keys.specs.declared.new_row.NoRow.{NoRow}
 use Rattle.book_keys.specs.declared.new_row.AddRefusal.{AddRefusal}
 use Rattle.book_keys.specs.declared.new_row.AddRefusal.TheVariants as refusal
+use Rattle.book_keys.specs.Lifetimes.{greatest_time}
+use Rattle.book_keys.specs.MasterKeys.{IsMasterKey}
 use Rattle.book_keys.specs.Rows.{Row, Table, row_limit}
 use Rattle.book_keys.specs.Overlaps.{overlaps}
+
+-- what may be added: a master key, and two lifetimes of times that can be written, neither of
+-- which ends before it begins (RFC 7210, section 2)
+pub record IsNewRow (r : NewRow) : Type 0 where
+  pub master : IsMasterKey r.master
+  pub sending : r.sending.first ≤ r.sending.last
+  pub sent : r.sending.last ≤ greatest_time
+  pub accepting : r.accepting.first ≤ r.accepting.last
+  pub accepted : r.accepting.last ≤ greatest_time
 
 -- the row that is added, which matches every pair: any peer, any ports (own)
 abbrev pub row_of_new : NewRow → Row

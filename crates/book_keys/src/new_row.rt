@@ -1,6 +1,5 @@
 //! Rows that an operator adds, and why one isn't added or withdrawn.
 ghost use Rattle.book_keys.specs.declared.new_row.AddRefusal.TheVariants.{Memory};
-ghost use Rattle.book_keys.specs.MasterKeys.{IsMasterKey};
 ghost use Rattle.std.specs.Prelude.{◌≡◌};
 
 use crate::direction::Direction;
@@ -9,20 +8,22 @@ use book_base::{Algorithm, Bytes};
 use std::alloc::{AllocError, AllocFailed};
 use thiserror::Error;
 
-/// A row to be added to a table. It is for any peer and any ports (RFC 7210, section 2, and own).
+/// A row to be added to a table, by a call or by a line of a link file. It is for any peer and any
+/// ports (RFC 7210, section 2, and own).
 #[derive(Drop)]
 pub struct NewRow {
+    /// The KeyID that it takes.
     pub recv_id: u8,
+    /// The KeyID that it sends.
     pub send_id: u8,
     pub algorithm: Algorithm,
-    /// The master key.
+    /// The master key, 1 to 255 bytes.
     pub master: Bytes,
     /// Whether the MAC covers the TCP options (RFC 5925, section 5.1).
     pub with_options: bool,
     pub direction: Direction,
     pub sending: Lifetime,
     pub accepting: Lifetime,
-    pub ghost key: { IsMasterKey master },
 }
 
 /// Why a row isn't added.

@@ -6,7 +6,7 @@ use Rattle.book_base.specs.declared.algorithm.Algorithm.TheVariants.{HmacSha1}
 use Rattle.book_keys.specs.declared.direction.Direction.TheVariants.{Both}
 use Rattle.book_keys.specs.Rows.{Row}
 use Rattle.book_keys.specs.Shared.{shared_row}
-use Rattle.book_link.specs.declared.event.RowLine.{RowLine}
+use Rattle.book_keys.specs.declared.new_row.NewRow.{NewRow}
 use Rattle.book_link.specs.Worlds.{Setup}
 
 abbrev pub row_of : ℕ → List ℕ → Algorithm → ℕ → ℕ → ℕ → ℕ → Row
@@ -40,19 +40,16 @@ one_key = setup_of (row_of 1 (replicate 20 11) HmacSha1 0 3600 0 3660 ∷ [])
 abbrev pub two_keys : Setup
 two_keys = setup_of (row_of 1 (replicate 20 11) HmacSha1 0 7200 0 10800 ∷ row_of 2 (replicate 20 12) HmacSha1 3600 latest_time 3000 latest_time ∷ [])
 
-abbrev pub later_row : RowLine
+abbrev pub later_row : NewRow
 later_row = record {
   recv_id = 2;
   send_id = 2;
   algorithm = HmacSha1;
   master = replicate 20 12;
   with_options = true;
-  receive = true;
-  send = true;
-  send_first = 3600;
-  send_last = latest_time;
-  accept_first = 3600;
-  accept_last = latest_time;
+  direction = Both;
+  sending = record { first = 3600; last = latest_time };
+  accepting = record { first = 3600; last = latest_time };
 }
 
 abbrev pub lines : List (List ℕ) → List ℕ

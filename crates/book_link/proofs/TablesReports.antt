@@ -22,6 +22,7 @@ use Rattle.book_endpoint.specs.States.{ready}
 use Rattle.book_endpoint.specs.Arrivals.{arrive}
 use Rattle.book_endpoint.specs.Emissions.{due_next, due_again, emit, resend}
 use Rattle.book_link.specs.declared.event.Event.TheVariants.{At, Dump}
+use Rattle.book_link.specs.declared.event.Fixing.TheVariants.{Keep, Fix}
 use Rattle.book_link.specs.declared.event.Action.TheVariants.{Clock, Connect, Listen, Start, Give, Fill, Send, Resend, Deliver, Inject, Alter, Take, Close, Abort, AddRow, Withdraw}
 use Rattle.book_link.specs.Alterations.{altered}
 use Rattle.book_link.specs.Reports.{summary, report}
@@ -29,7 +30,7 @@ use Rattle.book_link.proofs.Links.{shared_link, one_key, two_keys, later_row, li
 
 -- an altered copy is refused by its MAC or by its checksum
 pub altered_copies : report shared_link
-    (At A (Start 100 200) ∷ At B (Start 200 100) ∷ At A (Give (65 ∷ [])) ∷ At A Send ∷ At B (Alter 1 36 1 true) ∷ At B (Alter 1 36 1 false) ∷ At B (Alter 1 37 1 true) ∷ At B (Deliver 2) ∷ [])
+    (At A (Start 100 200) ∷ At B (Start 200 100) ∷ At A (Give (65 ∷ [])) ∷ At A Send ∷ At B (Alter 1 36 1 Fix) ∷ At B (Alter 1 36 1 Keep) ∷ At B (Alter 1 37 1 Fix) ∷ At B (Deliver 2) ∷ [])
     ≡ lines (
     codes "1 ok" ∷ codes "2 ok" ∷ codes "3 ok" ∷ codes "4 sent 1 AP seq 101 ack 201 len 1 key 0 next 0" ∷ codes "5 refused bad-mac" ∷ codes "6 checksum" ∷
     codes "7 no-place" ∷ codes "8 no-segment" ∷ codes "session a 1 isn 100 peer 200 established given 1 delivered 0 open" ∷

@@ -1,7 +1,8 @@
 -- A copy of a datagram with one byte altered. Its top is `altered`.
 use Rattle.std.specs.Prelude.{ℕ, ◌+◌, nat_lt, Bool, List, length, slice_index, slice_set, bit_xor}
-use Rattle.std.specs.Prelude.{if◌then◌else◌}
 use Rattle.book_segments.specs.Spelling.{ip_length, with_right_checksum}
+use Rattle.book_link.specs.declared.event.Fixing.{Fixing}
+use Rattle.book_link.specs.declared.event.Fixing.TheVariants.{Keep, Fix}
 
 -- the place in the datagram's bytes of a place that is counted from the TCP header (own)
 abbrev pub place_in : List ℕ → ℕ → ℕ
@@ -16,14 +17,18 @@ abbrev pub masked : List ℕ → (place mask : ℕ) → List ℕ
 masked bytes i mask = slice_set bytes i (bit_xor (slice_index bytes i) mask)
 
 -- what is altered in a copy: the byte at a place, counted from the TCP header, is xored with a
--- mask; with fix the TCP checksum is then set right (own)
+-- mask; then the TCP checksum is kept or set right (own)
 pub record Alteration : Type 0 where
   pub place : ℕ
   pub mask : ℕ
-  pub fix : Bool
+  pub fixing : Fixing
+
+-- a datagram whose TCP checksum is kept or set right (own)
+abbrev pub with_fixing : Fixing → List ℕ → List ℕ
+with_fixing Keep bytes = bytes
+with_fixing Fix bytes = with_right_checksum bytes
 
 -- a copy that is altered so (own)
 unfoldable pub altered : List ℕ → Alteration → List ℕ
 altered bytes change =
-    let copy = masked bytes (place_in bytes change.place) change.mask in
-    if change.fix then with_right_checksum copy else copy
+    with_fixing change.fixing (masked bytes (place_in bytes change.place) change.mask)

@@ -7,6 +7,7 @@ use Rattle.book_base.specs.declared.end.End.TheVariants.{A, B}
 use Rattle.book_segments.specs.Segments.{reading, spell}
 use Rattle.book_keys.specs.Rows.{Row}
 use Rattle.book_keys.specs.Tables.{Adding, AddedAs, TooMany, OverlapsRow, adding, withdrawn}
+use Rattle.book_keys.specs.Tables.{row_of_new}
 use Rattle.book_endpoint.specs.States.{EndState, connected, listening, started, offered, taking}
 use Rattle.book_endpoint.specs.States.{take_out, at_end, close, abort, tick}
 use Rattle.book_endpoint.specs.Arrivals.{Arrived, arrive}
@@ -22,7 +23,6 @@ use Rattle.book_link.specs.declared.event.Action.TheVariants.{Withdraw}
 use Rattle.book_link.specs.Outcomes.{Outcome, Done, Sent, Answered, Took, Image, Added, IsnUsed}
 use Rattle.book_link.specs.Outcomes.{NoSession, NoSegment, NoPlace, Full, HasClosed, WithoutKey}
 use Rattle.book_link.specs.Outcomes.{Idle, Nothing, TooManyRows, OverlapWith, NoRow}
-use Rattle.book_link.specs.RowLines.{added_row}
 use Rattle.book_link.specs.Worlds.{Setup, pair_of, Session, LinkSide, Made, Happening, Making}
 use Rattle.book_link.specs.Worlds.{Coming}
 use Rattle.book_link.specs.Worlds.{World, side, find, segments, segment_named}
@@ -247,13 +247,13 @@ step_at setup w e Send = acts setup w e send
 step_at setup w e Resend = acts setup w e send_again
 step_at setup w e (Deliver name) = deliver setup w e (segment_named name w.history)
 step_at setup w e (Inject bytes) = acts setup w e (come bytes)
-step_at setup w e (Alter name place mask fix) =
-    let change : Alteration = record { place = place; mask = mask; fix = fix } in
+step_at setup w e (Alter name place mask fixing) =
+    let change : Alteration = record { place = place; mask = mask; fixing = fixing } in
     alter setup w e change (segment_named name w.history)
 step_at setup w e (Take count) = on_live w e (took count)
 step_at setup w e Close = on_live w e (λ s. quietly (close s) Done)
 step_at setup w e Abort = on_live w e (λ s. quietly (abort s) Done)
-step_at setup w e (AddRow row) = add_row w e (adding (side w e).rows (added_row row))
+step_at setup w e (AddRow row) = add_row w e (adding (side w e).rows (row_of_new row))
 step_at setup w e (Withdraw number) = withdraw w e (withdrawn (side w e).rows number)
 
 -- the world after an event, and the event's outcome (own)

@@ -1,29 +1,26 @@
 //! The events of a link.
 ghost use Rattle.std.specs.Prelude.{◌≡◌};
 
-use book_base::{Algorithm, Bytes, End};
+use book_base::{Bytes, End};
+use book_keys::NewRow;
 use std::marker::Model;
 
-/// A row as a link file writes it; it matches every pair. Neither `receive` nor `send` is a row that
-/// is Disabled (RFC 7210, section 2).
-#[derive(Drop)]
-pub struct RowLine {
-    /// The KeyID that it takes.
-    pub recv_id: u8,
-    /// The KeyID that it sends.
-    pub send_id: u8,
-    pub algorithm: Algorithm,
-    /// The master key, 1 to 255 bytes.
-    pub master: Bytes,
-    /// Whether all TCP options are under the MAC (RFC 5925, section 3.1).
-    pub with_options: bool,
-    pub receive: bool,
-    pub send: bool,
-    /// The first and the last second of its send lifetime, and of its accept lifetime.
-    pub send_first: u64,
-    pub send_last: u64,
-    pub accept_first: u64,
-    pub accept_last: u64,
+/// Whether an end makes a segment for the first time or again.
+#[derive(Clone, Copy, Debug, PartialEq, Eq)]
+pub enum Transmission {
+    /// What is next to be sent.
+    New,
+    /// The oldest of what isn't acknowledged, or a probe.
+    Again,
+}
+
+/// What becomes of the TCP checksum of a copy in which a byte is altered.
+#[derive(Clone, Copy, Debug, PartialEq, Eq)]
+pub enum Fixing {
+    /// It stays as it was made.
+    Keep,
+    /// It is set for the copy.
+    Fix,
 }
 
 /// What happens at a link. Segments are numbered from 1 in the order in which they are made.
@@ -59,8 +56,8 @@ pub enum Action {
     /// A datagram of 1 to 65575 bytes arrives at the end.
     Inject(Bytes),
     /// A copy of the segment of this number arrives at the end, with the byte at the place, counted
-    /// from its TCP header, xored with the mask; whether its TCP checksum is set for the copy.
-    Alter(u32, u16, u8, bool),
+    /// from its TCP header, xored with the mask, and with its TCP checksum kept or set.
+    Alter(u32, u16, u8, Fixing),
     /// The end's user takes at most so many bytes.
     Take(u16),
     /// The end's user has no more bytes to give.
@@ -68,7 +65,7 @@ pub enum Action {
     /// The end's user gives the connection up.
     Abort,
     /// A row is added behind the last one of the end's table.
-    AddRow(RowLine),
+    AddRow(NewRow),
     /// The row of this number, from 1 to 64, of the end's table becomes Disabled.
     Withdraw(u8),
 }

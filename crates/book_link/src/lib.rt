@@ -5,4 +5,4 @@
 
 mod event;
 
-pub use event::{Action, Event, Events, RowLine};
+pub use event::{Action, Event, Events, Fixing, Transmission};

@@ -105,6 +105,10 @@ is_ip bytes =
 abbrev pub longest_datagram : ℕ
 longest_datagram = 40 + 0xffff
 
+-- the most bytes of a capture that is checked: 2^28 (own)
+abbrev pub most_capture : ℕ
+most_capture = 268435456
+
 -- the datagram of a packet; it has no byte where the packet is passed over (own)
 abbrev pub datagram_of : LinkType → List ℕ → List ℕ
 datagram_of Raw bytes = take longest_datagram bytes

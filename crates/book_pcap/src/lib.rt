@@ -3,7 +3,9 @@
 #![tactic(auto)]
 
 mod laws;
+mod limits;
 mod pcap_head;
 
 pub use laws::packets_are_the_grammar;
+pub use limits::{LONGEST_DATAGRAM, MOST_CAPTURE};
 pub use pcap_head::{ByteOrder, Head, HeadFault, LinkType};

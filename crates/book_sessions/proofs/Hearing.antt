@@ -3,11 +3,12 @@ use Rattle.std.proofs.Common.{◌≡◌, ℕ, Bool, true, false, not, nat_le, Li
 use Rattle.std.specs.List.{find}
 use Rattle.std.specs.Option.{unwrap_or}
 use Rattle.book_segments.specs.declared.fault.DatagramFault.{DatagramFault}
-use Rattle.book_segments.specs.Segments.{Segment, Reading, Read, Bad, reading, has, good, SYN, ACK, pair_reached}
+use Rattle.book_segments.specs.Segments.{Segment, Reading, Read, Bad, reading, has, SYN, ACK, pair_reached}
 use Rattle.book_segments.specs.Sockets.{same_socket}
 use Rattle.book_keys.specs.Rows.{Table, has_address}
 use Rattle.book_endpoint.specs.Verdicts.{Finding, Judgement}
 use Rattle.book_endpoint.specs.declared.verdict.Verdict.TheVariants.{Pass, NoAo, TwoAo, WithMd5, NoTuple, Expired, MacLength, NoContext, Range, BadMac}
+use Rattle.book_cmd_show.specs.DatagramTexts.{checksum_in}
 use Rattle.book_cmd_check.specs.Captures.{Stored, Connection, Heard, Saying, Unreadable, UnknownNode, Judged, TooManyConnections, connection_between, with_connection, fixed, most_connections, judge_stored, hear_later, hear_syn_ack, hear_judged, hear_at, hear_read, hear}
 use Rattle.book_sessions.specs.declared.outcome.SegmentOutcome.{SegmentOutcome}
 use Rattle.book_sessions.specs.declared.outcome.SegmentOutcome.TheVariants as outcome
@@ -55,8 +56,8 @@ heard_at_once tables held now d =
 abbrev heard_new : (full : Bool) → List Connection → Segment → Finding → Heard
 heard_new full held d p =
     if full
-    then record { connections = held; saying = TooManyConnections (good d) }
-    else record { connections = with_connection (fixed d) held; saying = Judged (Ok p) (good d) }
+    then record { connections = held; saying = TooManyConnections (checksum_in d) }
+    else record { connections = with_connection (fixed d) held; saying = Judged (Ok p) (checksum_in d) }
 
 full_known : (full : Bool) (held : List Connection) (d : Segment) (p : Finding) → is_unknown (heard_new full held d p).saying ≡ false
 full_known true held d p = refl
@@ -79,7 +80,7 @@ abbrev heard_pass : (syn ack : Bool) → List Connection → Segment → Finding
 heard_pass syn ack held d p c =
     if not syn then hear_later held d p.number (Ok p) c
     else if ack then hear_syn_ack held d (Ok p) c
-    else record { connections = held; saying = Judged (Ok p) (good d) }
+    else record { connections = held; saying = Judged (Ok p) (checksum_in d) }
 
 pass_known : (syn ack : Bool) (held : List Connection) (d : Segment) (p : Finding) (c : Option Connection) → is_unknown (heard_pass syn ack held d p c).saying ≡ false
 pass_known true true held d p c = syn_ack_known held d p c
@@ -126,34 +127,34 @@ judged_by (Some t) held guessed now d unknown =
 guess_checked : (w : Saying) → is_judged w ≡ true → checked (unconfirmed_of w) ≡ Ok (outcome.Refused NoContext)
 guess_checked (Unreadable fault) e = absurd (cc)
 guess_checked UnknownNode e = absurd (cc)
-guess_checked (TooManyConnections right) e = absurd (cc)
-guess_checked (Judged (Ok p) right) e = refl
-guess_checked (Judged (Err (Pass p)) right) e = refl
-guess_checked (Judged (Err NoAo) right) e = refl
-guess_checked (Judged (Err TwoAo) right) e = refl
-guess_checked (Judged (Err WithMd5) right) e = refl
-guess_checked (Judged (Err NoTuple) right) e = refl
-guess_checked (Judged (Err Expired) right) e = refl
-guess_checked (Judged (Err MacLength) right) e = refl
-guess_checked (Judged (Err NoContext) right) e = refl
-guess_checked (Judged (Err Range) right) e = refl
-guess_checked (Judged (Err BadMac) right) e = refl
+guess_checked (TooManyConnections checksum) e = absurd (cc)
+guess_checked (Judged (Ok p) checksum) e = refl
+guess_checked (Judged (Err (Pass p)) checksum) e = refl
+guess_checked (Judged (Err NoAo) checksum) e = refl
+guess_checked (Judged (Err TwoAo) checksum) e = refl
+guess_checked (Judged (Err WithMd5) checksum) e = refl
+guess_checked (Judged (Err NoTuple) checksum) e = refl
+guess_checked (Judged (Err Expired) checksum) e = refl
+guess_checked (Judged (Err MacLength) checksum) e = refl
+guess_checked (Judged (Err NoContext) checksum) e = refl
+guess_checked (Judged (Err Range) checksum) e = refl
+guess_checked (Judged (Err BadMac) checksum) e = refl
 
 unknown_outcome : (w : Saying) → is_unknown w ≡ true → outcome_of w ≡ Ok (outcome.Refused NoContext)
 unknown_outcome (Unreadable fault) e = absurd (cc)
 unknown_outcome UnknownNode e = absurd (cc)
-unknown_outcome (TooManyConnections right) e = absurd (cc)
-unknown_outcome (Judged (Ok p) right) e = absurd (cc)
-unknown_outcome (Judged (Err (Pass p)) right) e = absurd (cc)
-unknown_outcome (Judged (Err NoAo) right) e = absurd (cc)
-unknown_outcome (Judged (Err TwoAo) right) e = absurd (cc)
-unknown_outcome (Judged (Err WithMd5) right) e = absurd (cc)
-unknown_outcome (Judged (Err NoTuple) right) e = absurd (cc)
-unknown_outcome (Judged (Err Expired) right) e = absurd (cc)
-unknown_outcome (Judged (Err MacLength) right) e = absurd (cc)
-unknown_outcome (Judged (Err NoContext) right) e = refl
-unknown_outcome (Judged (Err Range) right) e = absurd (cc)
-unknown_outcome (Judged (Err BadMac) right) e = absurd (cc)
+unknown_outcome (TooManyConnections checksum) e = absurd (cc)
+unknown_outcome (Judged (Ok p) checksum) e = absurd (cc)
+unknown_outcome (Judged (Err (Pass p)) checksum) e = absurd (cc)
+unknown_outcome (Judged (Err NoAo) checksum) e = absurd (cc)
+unknown_outcome (Judged (Err TwoAo) checksum) e = absurd (cc)
+unknown_outcome (Judged (Err WithMd5) checksum) e = absurd (cc)
+unknown_outcome (Judged (Err NoTuple) checksum) e = absurd (cc)
+unknown_outcome (Judged (Err Expired) checksum) e = absurd (cc)
+unknown_outcome (Judged (Err MacLength) checksum) e = absurd (cc)
+unknown_outcome (Judged (Err NoContext) checksum) e = refl
+unknown_outcome (Judged (Err Range) checksum) e = absurd (cc)
+unknown_outcome (Judged (Err BadMac) checksum) e = absurd (cc)
 
 second_hearing : (tables : List Table) (held guessed : List Connection) (now : ℕ) (d : Segment) → is_unknown (hear_read tables held now (Read d)).saying ≡ true →
     checked (unconfirmed_of (hear_read tables guessed now (Read d)).saying) ≡ outcome_of (hear_read tables held now (Read d)).saying
@@ -167,9 +168,9 @@ second_hearing tables held guessed now d unknown =
 outcome_checked : (w : Saying) → checked (outcome_of w) ≡ outcome_of w
 outcome_checked (Unreadable fault) = refl
 outcome_checked UnknownNode = refl
-outcome_checked (Judged (Ok p) right) = refl
-outcome_checked (Judged (Err why) right) = refl
-outcome_checked (TooManyConnections right) = refl
+outcome_checked (Judged (Ok p) checksum) = refl
+outcome_checked (Judged (Err why) checksum) = refl
+outcome_checked (TooManyConnections checksum) = refl
 
 -- what is known after one hearing or two, and what comes of the segment
 abbrev listened : Bool → (h k : Heard) → List Connection → List Opening → Listened

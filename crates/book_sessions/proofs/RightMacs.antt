@@ -18,48 +18,48 @@ use Rattle.book_sessions.specs.Passing.{PassesBehind, AtOnce, Later, FoundAhead,
 verified_passes : (w : Saying) → outcome_of w ≡ Ok outcome.Verified → is_pass w ≡ true
 verified_passes (Unreadable fault) e = absurd (cc)
 verified_passes UnknownNode e = absurd (cc)
-verified_passes (Judged (Ok p) right) e = refl
-verified_passes (Judged (Err why) right) e = absurd (cc)
-verified_passes (TooManyConnections right) e = absurd (cc)
+verified_passes (Judged (Ok p) checksum) e = refl
+verified_passes (Judged (Err why) checksum) e = absurd (cc)
+verified_passes (TooManyConnections checksum) e = absurd (cc)
 
 unconfirmed_never_verified : (w : Saying) → unconfirmed_of w ≡ Ok outcome.Verified → true ≡ false
 unconfirmed_never_verified (Unreadable fault) e = absurd (cc)
 unconfirmed_never_verified UnknownNode e = absurd (cc)
-unconfirmed_never_verified (TooManyConnections right) e = absurd (cc)
-unconfirmed_never_verified (Judged (Ok p) right) e = absurd (cc)
-unconfirmed_never_verified (Judged (Err (Pass p)) right) e = absurd (cc)
-unconfirmed_never_verified (Judged (Err NoAo) right) e = absurd (cc)
-unconfirmed_never_verified (Judged (Err TwoAo) right) e = absurd (cc)
-unconfirmed_never_verified (Judged (Err WithMd5) right) e = absurd (cc)
-unconfirmed_never_verified (Judged (Err NoTuple) right) e = absurd (cc)
-unconfirmed_never_verified (Judged (Err Expired) right) e = absurd (cc)
-unconfirmed_never_verified (Judged (Err MacLength) right) e = absurd (cc)
-unconfirmed_never_verified (Judged (Err NoContext) right) e = absurd (cc)
-unconfirmed_never_verified (Judged (Err Range) right) e = absurd (cc)
-unconfirmed_never_verified (Judged (Err BadMac) right) e = absurd (cc)
+unconfirmed_never_verified (TooManyConnections checksum) e = absurd (cc)
+unconfirmed_never_verified (Judged (Ok p) checksum) e = absurd (cc)
+unconfirmed_never_verified (Judged (Err (Pass p)) checksum) e = absurd (cc)
+unconfirmed_never_verified (Judged (Err NoAo) checksum) e = absurd (cc)
+unconfirmed_never_verified (Judged (Err TwoAo) checksum) e = absurd (cc)
+unconfirmed_never_verified (Judged (Err WithMd5) checksum) e = absurd (cc)
+unconfirmed_never_verified (Judged (Err NoTuple) checksum) e = absurd (cc)
+unconfirmed_never_verified (Judged (Err Expired) checksum) e = absurd (cc)
+unconfirmed_never_verified (Judged (Err MacLength) checksum) e = absurd (cc)
+unconfirmed_never_verified (Judged (Err NoContext) checksum) e = absurd (cc)
+unconfirmed_never_verified (Judged (Err Range) checksum) e = absurd (cc)
+unconfirmed_never_verified (Judged (Err BadMac) checksum) e = absurd (cc)
 
 unconfirmed_passes : (w : Saying) → unconfirmed_of w ≡ Ok outcome.Unconfirmed → is_pass w ≡ true
 unconfirmed_passes (Unreadable fault) e = absurd (cc)
 unconfirmed_passes UnknownNode e = absurd (cc)
-unconfirmed_passes (TooManyConnections right) e = absurd (cc)
-unconfirmed_passes (Judged (Ok p) right) e = refl
-unconfirmed_passes (Judged (Err (Pass p)) right) e = absurd (cc)
-unconfirmed_passes (Judged (Err NoAo) right) e = absurd (cc)
-unconfirmed_passes (Judged (Err TwoAo) right) e = absurd (cc)
-unconfirmed_passes (Judged (Err WithMd5) right) e = absurd (cc)
-unconfirmed_passes (Judged (Err NoTuple) right) e = absurd (cc)
-unconfirmed_passes (Judged (Err Expired) right) e = absurd (cc)
-unconfirmed_passes (Judged (Err MacLength) right) e = absurd (cc)
-unconfirmed_passes (Judged (Err NoContext) right) e = absurd (cc)
-unconfirmed_passes (Judged (Err Range) right) e = absurd (cc)
-unconfirmed_passes (Judged (Err BadMac) right) e = absurd (cc)
+unconfirmed_passes (TooManyConnections checksum) e = absurd (cc)
+unconfirmed_passes (Judged (Ok p) checksum) e = refl
+unconfirmed_passes (Judged (Err (Pass p)) checksum) e = absurd (cc)
+unconfirmed_passes (Judged (Err NoAo) checksum) e = absurd (cc)
+unconfirmed_passes (Judged (Err TwoAo) checksum) e = absurd (cc)
+unconfirmed_passes (Judged (Err WithMd5) checksum) e = absurd (cc)
+unconfirmed_passes (Judged (Err NoTuple) checksum) e = absurd (cc)
+unconfirmed_passes (Judged (Err Expired) checksum) e = absurd (cc)
+unconfirmed_passes (Judged (Err MacLength) checksum) e = absurd (cc)
+unconfirmed_passes (Judged (Err NoContext) checksum) e = absurd (cc)
+unconfirmed_passes (Judged (Err Range) checksum) e = absurd (cc)
+unconfirmed_passes (Judged (Err BadMac) checksum) e = absurd (cc)
 
 once_confirmed : (w : Saying) → outcome_of w ≡ Ok outcome.Unconfirmed → true ≡ false
 once_confirmed (Unreadable fault) e = absurd (cc)
 once_confirmed UnknownNode e = absurd (cc)
-once_confirmed (Judged (Ok p) right) e = absurd (cc)
-once_confirmed (Judged (Err why) right) e = absurd (cc)
-once_confirmed (TooManyConnections right) e = absurd (cc)
+once_confirmed (Judged (Ok p) checksum) e = absurd (cc)
+once_confirmed (Judged (Err why) checksum) e = absurd (cc)
+once_confirmed (TooManyConnections checksum) e = absurd (cc)
 
 -- ---- what is heard over laps passes with so many of them
 

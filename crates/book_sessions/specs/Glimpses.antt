@@ -10,7 +10,7 @@ use Rattle.book_endpoint.specs.declared.verdict.Verdict.TheVariants.{NoContext}
 use Rattle.book_cmd_check.specs.declared.given.GivenIsns.{GivenIsns}
 use Rattle.book_cmd_check.specs.Captures.{Connection, Saying, Judged, acknowledged_isn}
 use Rattle.book_cmd_check.specs.Captures.{connection_between}
-use Rattle.book_cmd_check.specs.Handshakes.{and_given}
+use Rattle.book_cmd_check.specs.Handshakes.{and_given, told_by}
 
 -- a SYN without ACK: its sockets and its initial sequence number (RFC 9293, section 3.5)
 pub record Opening : Type 0 where
@@ -34,17 +34,17 @@ with_opening o (p ∷ ps) =
 
 -- a node judged the segment (own)
 abbrev pub is_judged : Saying → Bool
-is_judged (Judged judgement right) = true
+is_judged (Judged judgement checksum) = true
 is_judged _ = false
 
 -- a node refused the segment (own)
 abbrev pub is_refused : Saying → Bool
-is_refused (Judged (Err why) right) = true
+is_refused (Judged (Err why) checksum) = true
 is_refused _ = false
 
 -- a node knows no context for the segment (RFC 5925, section 5.2)
 abbrev pub is_unknown : Saying → Bool
-is_unknown (Judged (Err NoContext) right) = true
+is_unknown (Judged (Err NoContext) checksum) = true
 is_unknown _ = false
 
 -- the openings after a segment of which this is said (own)
@@ -52,16 +52,6 @@ abbrev pub openings_after : Segment → Saying → List Opening → List Opening
 openings_after d said openings = if is_judged said && (has SYN d && not (has ACK d))
     then with_opening (opening_of d) openings
     else openings
-
--- the numbers that a SYN with ACK tells: its own, and the one that it acknowledges (RFC 9293,
--- section 3.5)
-abbrev pub told_by : Segment → GivenIsns
-told_by d = record {
-  one = d.source;
-  one_isn = d.sequence;
-  other = d.destination;
-  other_isn = acknowledged_isn d;
-}
 
 -- the numbers that the first ACK behind a SYN tells: of the SYN its own, and the one that it
 -- acknowledges (RFC 9293, section 3.5)

@@ -9,17 +9,13 @@ use Rattle.book_keys.specs.Rows.{Table}
 use Rattle.book_endpoint.specs.States.{number_limit}
 use Rattle.book_endpoint.specs.declared.verdict.Verdict.TheVariants.{BadMac, Range}
 use Rattle.book_cmd_check.specs.Captures.{Connection, Heard, Saying, Judged, is_pass}
-use Rattle.book_cmd_check.specs.Captures.{connection_between, with_connection, hear_read}
+use Rattle.book_cmd_check.specs.Captures.{connection_between, expecting, with_connection, hear_read}
 
 -- how a capture is judged: the tables of all nodes, and over how many laps the extension is
 -- searched (own)
 pub record Judging : Type 0 where
   pub tables : List Table
   pub laps : ℕ
-
--- the connection, where this number is expected of its first side (own)
-abbrev pub expecting : ℕ → Connection → Connection
-expecting n c = record c { one = record (c.one) { expected = n } }
 
 -- the connections, where this number is expected of the first side of one (own)
 abbrev pub with_expected : ℕ → Connection → List Connection → List Connection
@@ -52,8 +48,8 @@ heard_further hear laps held (Some c) = first_from (heard_ahead hear held c) lap
 -- a segment is judged over more laps: it isn't a SYN, and as it stands its MAC is wrong, or its
 -- number out of range, as one below 0 (own)
 abbrev pub is_searched : Segment → Saying → Bool
-is_searched d (Judged (Err BadMac) right) = not (has SYN d)
-is_searched d (Judged (Err Range) right) = not (has SYN d)
+is_searched d (Judged (Err BadMac) checksum) = not (has SYN d)
+is_searched d (Judged (Err Range) checksum) = not (has SYN d)
 is_searched d _ = false
 
 -- what is heard of a segment by connections, as they are (own)

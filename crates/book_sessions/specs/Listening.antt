@@ -29,15 +29,15 @@ pub record Listened : Type 0 where
 abbrev pub outcome_of : Saying → Result SegmentOutcome DatagramFault
 outcome_of (Unreadable fault) = Err fault
 outcome_of UnknownNode = Ok outcome.NoNode
-outcome_of (Judged (Ok p) right) = Ok outcome.Verified
-outcome_of (Judged (Err why) right) = Ok (outcome.Refused why)
-outcome_of (TooManyConnections right) = Ok outcome.TooMany
+outcome_of (Judged (Ok p) checksum) = Ok outcome.Verified
+outcome_of (Judged (Err why) checksum) = Ok (outcome.Refused why)
+outcome_of (TooManyConnections checksum) = Ok outcome.TooMany
 
 -- what comes of a segment of which this is said under numbers that were only seen (own)
 abbrev pub unconfirmed_of : Saying → Result SegmentOutcome DatagramFault
-unconfirmed_of (Judged (Ok p) right) = Ok outcome.Unconfirmed
-unconfirmed_of (Judged (Err NoContext) right) = Ok (outcome.Refused NoContext)
-unconfirmed_of (Judged (Err why) right) = Ok (outcome.UnconfirmedRefused why)
+unconfirmed_of (Judged (Ok p) checksum) = Ok outcome.Unconfirmed
+unconfirmed_of (Judged (Err NoContext) checksum) = Ok (outcome.Refused NoContext)
+unconfirmed_of (Judged (Err why) checksum) = Ok (outcome.UnconfirmedRefused why)
 unconfirmed_of said = outcome_of said
 
 -- what is known after a segment that was heard by the connections held alone (own)

@@ -145,7 +145,7 @@ passing_values q = values_lines q ++ if_found (mac_lines q.with_key) (suspect_at
 abbrev pub why_lines : Inquiry → Saying → List ℕ
 why_lines q (Unreadable fault) = []
 why_lines q UnknownNode = codes "source and destination are one socket\n"
-why_lines q (Judged (Ok p) right) = passing_values q
-why_lines q (Judged (Err why) right) = refusal_lines q why
-why_lines q (TooManyConnections right) =
+why_lines q (Judged (Ok p) checksum) = passing_values q
+why_lines q (Judged (Err why) checksum) = refusal_lines q why
+why_lines q (TooManyConnections checksum) =
     codes "connections held " ++ (decimal most_connections ++ (10 ∷ passing_values q))

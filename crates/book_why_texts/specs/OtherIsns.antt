@@ -6,24 +6,15 @@ use Rattle.std.specs.List.{flat_map, list_any}
 use Rattle.book_segments.specs.Segments.{Segment, Reading, Read, Bad, reading, has, SYN, ACK}
 use Rattle.book_segments.specs.Sockets.{same_socket}
 use Rattle.book_cmd_check.specs.declared.given.GivenIsns.{GivenIsns}
-use Rattle.book_cmd_check.specs.Captures.{Stored, acknowledged_isn}
+use Rattle.book_cmd_check.specs.Captures.{Stored}
+use Rattle.book_cmd_check.specs.Handshakes.{told_by}
 use Rattle.book_why.specs.declared.change.IsnPair.{IsnPair}
-
--- the initial sequence numbers that a SYN with ACK tells: its own sequence number, and that which
--- it acknowledges (RFC 9293, section 3.5)
-abbrev pub isns_told : Segment → GivenIsns
-isns_told d = record {
-  one = d.source;
-  one_isn = d.sequence;
-  other = d.destination;
-  other_isn = acknowledged_isn d;
-}
 
 -- what stored bytes tell of initial sequence numbers: a SYN with ACK alone tells both (RFC 9293,
 -- section 3.5)
 abbrev pub told_by_reading : Reading → List GivenIsns
 told_by_reading (Bad fault) = []
-told_by_reading (Read d) = if has SYN d && has ACK d then isns_told d ∷ [] else []
+told_by_reading (Read d) = if has SYN d && has ACK d then told_by d ∷ [] else []
 
 -- the initial sequence numbers of connections, as stored segments tell them, whether they pass or
 -- not (own)

@@ -1,19 +1,18 @@
 -- The key of a connection is the same seen from either socket, and another one for other sockets.
-use Rattle.std.proofs.Common.{◌≡◌, ℕ, Bool, true, false, not, List, [], ◌∷◌, ◌⊎◌, inl, inr, refl, ap, ◌∙◌, arith}
-use Rattle.std.proofs.lemmas.Bool.Decides.{nat_tests}
-use Rattle.std.specs.Prelude.{◌==◌, if◌then◌else◌}
+use Rattle.std.proofs.Common.{◌≡◌, ℕ, Bool, true, false, not, List, ◌⊎◌, inl, inr, refl, ap, ◌∙◌}
+use Rattle.std.specs.Prelude.{if◌then◌else◌}
 use Rattle.std.specs.declared.cmp.Ordering.{Ordering}
 use Rattle.std.specs.declared.cmp.Ordering.TheVariants.{Less, Equal, Greater}
-use Rattle.std.specs.Ordering.{is_lt, is_eq, nat_cmp, ordering_then, ordering_reverse}
+use Rattle.std.specs.Ordering.{is_lt, is_eq, nat_cmp, ordering_reverse}
 use Rattle.std.specs.Cmp.Lexicographic.{slice_cmp}
 use Rattle.std.proofs.lemmas.Cmp.{tied_itself}
 use Rattle.std.proofs.lemmas.Map.Lookups.{exact_unsigned, exact_bytes}
 use Rattle.book_base.specs.declared.address.Address.{Address}
 use Rattle.book_base.specs.declared.address.Address.TheVariants as address
 use Rattle.book_base.specs.declared.address.Socket.{Socket}
-use Rattle.book_segments.specs.Bytes.{same_bytes}
-use Rattle.book_segments.specs.Sockets.{same_address, same_socket}
-use Rattle.book_segments.proofs.Fields.{and_tells, eqb_is, same_bytes_tells}
+use Rattle.book_base.proofs.OrderLaws.{is_equal, then_equal}
+use Rattle.book_segments.specs.Sockets.{same_socket}
+use Rattle.book_segments.proofs.SocketLaws.{same_socket-refl}
 use Rattle.capture_check.specs.declared.ends.Place.{Place}
 use Rattle.capture_check.specs.declared.ends.Place.TheVariants.{V4, V6}
 use Rattle.capture_check.specs.declared.ends.Ends.{Ends}
@@ -21,39 +20,7 @@ use Rattle.capture_check.specs.contracts.ends.PlaceOrd.TheImpl.Laws as place_law
 use Rattle.capture_check.specs.contracts.ends.EndsOrd.TheImpl.Laws as ends_laws
 use Rattle.capture_check.specs.Ends.{placed, place_of, by_place, by_ends, is_low, key_of, way_key}
 
--- ---- sockets
-
-same_address_is : (one two : Address) → same_address one two ≡ true → one ≡ two
-same_address_is (address.V4 a) (address.V4 b) e = ap address.V4 (same_bytes_tells a b e)
-same_address_is (address.V6 a) (address.V6 b) e = ap address.V6 (same_bytes_tells a b e)
-same_address_is (address.V4 a) (address.V6 b) e = absurd (cc)
-same_address_is (address.V6 a) (address.V4 b) e = absurd (cc)
-
-pub same_socket_is : (one two : Socket) → same_socket one two ≡ true → one ≡ two
-same_socket_is one two e =
-    let t = and_tells (same_address one.address two.address) (one.port == two.port) e in
-    let address = same_address_is one.address two.address t.0 in
-    let port = eqb_is one.port two.port t.1 in
-    let half : one ≡ record { address = two.address; port = one.port } = ap (λ (a : Address). let k : Socket = record { address = a; port = one.port } in k) address in
-    half ∙ ap (λ (n : ℕ). let k : Socket = record { address = two.address; port = n } in k) port
-
-same_bytes-refl : (xs : List ℕ) → same_bytes xs xs ≡ true
-same_bytes-refl [] = refl
-same_bytes-refl (x ∷ xs) = let same : (x == x) ≡ true = grind (arith, nat_tests) in rw same (same_bytes-refl xs)
-
-same_address-refl : (a : Address) → same_address a a ≡ true
-same_address-refl (address.V4 a) = same_bytes-refl a
-same_address-refl (address.V6 a) = same_bytes-refl a
-
-pub same_socket-refl : (k : Socket) → same_socket k k ≡ true
-same_socket-refl k = let same : (k.port == k.port) ≡ true = grind (arith, nat_tests) in rw (same_address-refl k.address, same) refl
-
 -- ---- the order of places tells them apart
-
-then_equal : (a b : Ordering) → ordering_then a b ≡ Equal → (a ≡ Equal) × (b ≡ Equal)
-then_equal Less b e = absurd (cc)
-then_equal Equal b e = (refl, e)
-then_equal Greater b e = absurd (cc)
 
 exact_place : (x y : Place) → by_place x y ≡ Equal → x ≡ y
 exact_place (V4 p a) (V4 q b) e =
@@ -75,12 +42,7 @@ pub ends_tied : (x : Ends) → is_eq (by_ends x x) ≡ true
 ends_tied x = ap is_eq (tied_itself ends_laws.total-law x)
 
 pub ends_told : (x y : Ends) → is_eq (by_ends x y) ≡ true → x ≡ y
-ends_told x y e = exact_ends x y (equal (by_ends x y) e)
-  where
-    equal : (o : Ordering) → is_eq o ≡ true → o ≡ Equal
-    equal Less h = absurd (cc)
-    equal Equal h = refl
-    equal Greater h = absurd (cc)
+ends_told x y e = exact_ends x y (is_equal (by_ends x y) e)
 
 -- ---- the key is that of both sockets, in either order
 

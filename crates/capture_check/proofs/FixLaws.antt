@@ -4,14 +4,16 @@ use Rattle.std.proofs.lemmas.Bool.Decides.{nat_tests}
 use Rattle.std.specs.Prelude.{◌==◌, ◌&&◌, ◌||◌, is_some, nat_le, nat_lt, if◌then◌else◌}
 use Rattle.book_base.specs.declared.address.Pair.{Pair}
 use Rattle.book_base.specs.declared.address.Socket.{Socket}
-use Rattle.book_segments.specs.Segments.{Segment, has, good, SYN, ACK}
+use Rattle.book_segments.specs.Segments.{Segment, has, SYN, ACK}
 use Rattle.book_segments.specs.Sockets.{same_socket}
 use Rattle.book_segments.proofs.Fields.{some_is}
 use Rattle.book_keys.specs.Rows.{Row, Table}
 use Rattle.book_endpoint.specs.declared.verdict.Verdict.{Verdict}
 use Rattle.book_endpoint.specs.Verdicts.{Judgement, judge}
+use Rattle.book_cmd_show.specs.declared.checksum.Checksum.{Checksum}
+use Rattle.book_cmd_show.specs.DatagramTexts.{checksum_in}
 use Rattle.book_cmd_check.specs.declared.given.GivenIsns.{GivenIsns}
-use Rattle.book_cmd_check.specs.Handshakes.{and_given, given_connection, has_room, with_begun}
+use Rattle.book_cmd_check.specs.Handshakes.{and_given, given_connection, has_room, told_by, with_begun}
 use Rattle.book_cmd_check.specs.Captures.{Connection, Heard, acknowledged_isn, connection_between, fixed, hear_judged, hear_later, hear_syn_ack, judge_stored, most_connections, same_isns, with_connection}
 use Rattle.book_segments.specs.Segments.{pair_reached}
 use Rattle.ao_kdf.specs.declared.way.Way.TheVariants.{Inbound}
@@ -28,7 +30,7 @@ use Rattle.capture_check.specs.Ends.{is_low, key_of}
 use Rattle.capture_check.specs.Flows.{rows_of, way, both, flow_from, counter_of, new_flow, new_flows, IsFlow, shown}
 use Rattle.wrap_seq.specs.Counter.{number}
 use Rattle.capture_check.specs.Checkers.{found, IsSound, told, StandsFor, Hears, Isns, isns, KeepsKeys}
-use Rattle.capture_check.specs.Judgements.{Puts, key_at, from_low, Alone, Fixed, TooMany, Fixes, has_isns, isns_of, given_flows, fixing_given, fixing, DoesFix}
+use Rattle.capture_check.specs.Judgements.{Puts, key_at, from_low, Alone, Fixed, TooMany, Fixes, has_isns, given_flows, fixing_given, fixing, DoesFix}
 use Rattle.capture_check.proofs.EndsLaws.{low_turned}
 use Rattle.capture_check.proofs.PutLaws.{stands_put, sound_put}
 use Rattle.capture_check.proofs.KeepLaws.{keys_same, keys_renewed}
@@ -80,37 +82,37 @@ same_numbers : (g : GivenIsns) (h : Flows) → same_socket g.one g.other ≡ fal
 same_numbers g h ne = ap (λ (v : Bool). ((flow_from g.one g.other h).isn == g.one_isn) && ((way v h).isn == g.other_isn)) (low_turned g.one g.other ne)
 
 -- what is answered: the verdict, or that there is no room
-abbrev pub fixed_line : Bool → Verdict → Bool → CheckLine
-fixed_line true v right = line.Verdict v right
-fixed_line false v right = line.Full right
+abbrev pub fixed_line : Bool → Verdict → Checksum → CheckLine
+fixed_line true v checksum = line.Verdict v checksum
+fixed_line false v checksum = line.Full checksum
 
 hears_fixed : (tables : List Table) (before after : List (Ends × Flows)) (held : List Connection) (d : Segment) (v : Verdict) (p : Judgement) (o : Option Flows) (result : Bool)
     → StandsFor before held → same_socket d.source d.destination ≡ false → found before (key_at d) ≡ o → IsJudged v p
     → DoesFix (fixing tables d o (length before)) before after (key_at d) result
-    → Hears after (fixed_line result v (good d)) (hear_syn_ack held d p (told d.source d.destination o))
+    → Hears after (fixed_line result v (checksum_in d)) (hear_syn_ack held d p (told d.source d.destination o))
 hears_fixed tables before after held d v p (Some h) result S ne f is D =
-    at (has_isns (from_low d) h d.sequence (acknowledged_isn d)) (same_numbers (isns_of d) h ne) D
+    at (has_isns (from_low d) h d.sequence (acknowledged_isn d)) (same_numbers (told_by d) h ne) D
   where
     new : Flows
     new = new_flows tables d.source d.destination d.sequence (acknowledged_isn d)
 
     at : (b : Bool) → same_isns (shown d.source d.destination h) (fixed d) ≡ b
         → DoesFix (if b then Fixed else Fixes (new_flows tables d.source d.destination d.sequence (acknowledged_isn d))) before after (key_at d) result
-        → Hears after (fixed_line result v (good d)) (hear_syn_ack held d p (Some (shown d.source d.destination h)))
+        → Hears after (fixed_line result v (checksum_in d)) (hear_syn_ack held d p (Some (shown d.source d.destination h)))
     at true e (same, yes_it_is) = rw (yes_it_is, e) (record { says = (p, refl, is); stands = rw same S })
     at false e (puts, yes_it_is) =
         let stands = stands_put before after held d.source d.destination (new_flows tables d.source d.destination d.sequence (acknowledged_isn d)) S puts ne in
-        rw (yes_it_is, e) (record { says = (p, refl, is); stands = subst (λ (c : Connection). StandsFor after (with_connection c held)) (shown_new tables (isns_of d) ne) stands })
+        rw (yes_it_is, e) (record { says = (p, refl, is); stands = subst (λ (c : Connection). StandsFor after (with_connection c held)) (shown_new tables (told_by d) ne) stands })
 hears_fixed tables before after held d v p None result S ne f is D =
     at (nat_le most_connections (length before)) (ap (nat_le most_connections) (sym S.count)) D
   where
     at : (b : Bool) → nat_le most_connections (length held) ≡ b
         → DoesFix (if b then TooMany else Fixes (new_flows tables d.source d.destination d.sequence (acknowledged_isn d))) before after (key_at d) result
-        → Hears after (fixed_line result v (good d)) (hear_syn_ack held d p None)
+        → Hears after (fixed_line result v (checksum_in d)) (hear_syn_ack held d p None)
     at true e (same, no_it_isnt) = rw (no_it_isnt, e) (record { says = refl; stands = rw same S })
     at false e (puts, yes_it_is) =
         let stands = stands_put before after held d.source d.destination (new_flows tables d.source d.destination d.sequence (acknowledged_isn d)) S puts ne in
-        rw (yes_it_is, e) (record { says = (p, refl, is); stands = subst (λ (c : Connection). StandsFor after (with_connection c held)) (shown_new tables (isns_of d) ne) stands })
+        rw (yes_it_is, e) (record { says = (p, refl, is); stands = subst (λ (c : Connection). StandsFor after (with_connection c held)) (shown_new tables (told_by d) ne) stands })
 
 -- a connection that begins stands for the given one
 stands_by : (tables : List Table) (before after : List (Ends × Flows)) (held : List Connection) (g : GivenIsns) (o : Option Flows) (result : Bool)
@@ -248,15 +250,15 @@ second_of true false after l x y z e f h = absurd (cc)
 second_of false c after l x y z e f h = absurd (cc)
 
 heard_refused : (after : List (Ends × Flows)) (held : List Connection) (d : Segment) (k : Option Connection) (v : Verdict) (j : Judgement) → StandsFor after held → is_pass v ≡ false → IsJudged v j
-    → Hears after (line.Verdict v (good d)) (hear_judged held d k j)
+    → Hears after (line.Verdict v (checksum_in d)) (hear_judged held d k j)
 heard_refused after held d k v (Err why) S no_pass is = record { says = (Err why, refl, is); stands = S }
 heard_refused after held d k v (Ok p) S no_pass is = absurd (not_admitted v p is no_pass)
 
 heard_alone : (after : List (Ends × Flows)) (held : List Connection) (d : Segment) (k : Option Connection) (v : Verdict) (j : Judgement) → StandsFor after held → has SYN d ≡ true → has ACK d ≡ false
-    → IsJudged v j → Hears after (line.Verdict v (good d)) (hear_judged held d k j)
+    → IsJudged v j → Hears after (line.Verdict v (checksum_in d)) (hear_judged held d k j)
 heard_alone after held d k v (Err why) S syn ack is = record { says = (Err why, refl, is); stands = S }
 heard_alone after held d k v (Ok p) S syn ack is =
-    first_of (has SYN d) (has ACK d) after (line.Verdict v (good d)) (hear_later held d p.number (Ok p) k) (hear_syn_ack held d (Ok p) k) _ syn ack
+    first_of (has SYN d) (has ACK d) after (line.Verdict v (checksum_in d)) (hear_later held d p.number (Ok p) k) (hear_syn_ack held d (Ok p) k) _ syn ack
     (record { says = (Ok p, refl, is); stands = S })
 
 heard_fixed : (after : List (Ends × Flows)) (held : List Connection) (d : Segment) (k : Option Connection) (v : Verdict) (j : Judgement) (l : CheckLine) → has SYN d ≡ true → has ACK d ≡ true
@@ -271,23 +273,23 @@ judged_first : (rows : List Row) (now own : ℕ) (d : Segment) (k : Option Conne
 judged_first rows now own d k syn e = rw (e, syn) refl
 
 pub first_refused : (rows : List Row) (after : List (Ends × Flows)) (held : List Connection) (now own : ℕ) (d : Segment) (v : Verdict) → StandsFor after held → has SYN d ≡ true → own ≡ acknowledged_isn d
-    → Alone rows now own d v → is_pass v ≡ false → Hears after (line.Verdict v (good d)) (hear_judged held d (connection_between d held) (judge_stored rows (pair_reached d) now d (connection_between d held)))
+    → Alone rows now own d v → is_pass v ≡ false → Hears after (line.Verdict v (checksum_in d)) (hear_judged held d (connection_between d held) (judge_stored rows (pair_reached d) now d (connection_between d held)))
 first_refused rows after held now own d v S syn e A no_pass =
     let is = told_judged rows (pair_reached d) d v (judge rows (pair_reached d) (record { own_isn = own; peer_isn = None; expected = None }) now d) A.tells in
-    subst (λ (j : Judgement). Hears after (line.Verdict v (good d)) (hear_judged held d (connection_between d held) j)) (judged_first rows now own d (connection_between d held) syn e)
+    subst (λ (j : Judgement). Hears after (line.Verdict v (checksum_in d)) (hear_judged held d (connection_between d held) j)) (judged_first rows now own d (connection_between d held) syn e)
     (heard_refused after held d (connection_between d held) v (judge rows (pair_reached d) (record { own_isn = own; peer_isn = None; expected = None }) now d) S no_pass is)
 
 pub first_alone : (rows : List Row) (after : List (Ends × Flows)) (held : List Connection) (now own : ℕ) (d : Segment) (v : Verdict) → StandsFor after held → has SYN d ≡ true → own ≡ acknowledged_isn d
-    → Alone rows now own d v → has ACK d ≡ false → Hears after (line.Verdict v (good d)) (hear_judged held d (connection_between d held) (judge_stored rows (pair_reached d) now d (connection_between d held)))
+    → Alone rows now own d v → has ACK d ≡ false → Hears after (line.Verdict v (checksum_in d)) (hear_judged held d (connection_between d held) (judge_stored rows (pair_reached d) now d (connection_between d held)))
 first_alone rows after held now own d v S syn e A ack =
     let is = told_judged rows (pair_reached d) d v (judge rows (pair_reached d) (record { own_isn = own; peer_isn = None; expected = None }) now d) A.tells in
-    subst (λ (j : Judgement). Hears after (line.Verdict v (good d)) (hear_judged held d (connection_between d held) j)) (judged_first rows now own d (connection_between d held) syn e)
+    subst (λ (j : Judgement). Hears after (line.Verdict v (checksum_in d)) (hear_judged held d (connection_between d held) j)) (judged_first rows now own d (connection_between d held) syn e)
     (heard_alone after held d (connection_between d held) v (judge rows (pair_reached d) (record { own_isn = own; peer_isn = None; expected = None }) now d) S syn ack is)
 
 -- a SYN with ACK passed, and what is to be done with its connection was done
 pub record First (tables : List Table) (rows : List Row) (before after : List (Ends × Flows)) (now : ℕ) (d : Segment) (v : Verdict) (result : Bool) : Type 0 where
   pub heard : (held : List Connection) → StandsFor before held
-      → Hears after (fixed_line result v (good d)) (hear_judged held d (connection_between d held) (judge_stored rows (pair_reached d) now d (connection_between d held)))
+      → Hears after (fixed_line result v (checksum_in d)) (hear_judged held d (connection_between d held) (judge_stored rows (pair_reached d) now d (connection_between d held)))
   pub sound : IsSound tables after
   pub keys : KeepsKeys before after
 
@@ -301,9 +303,9 @@ first tables rows before after now own d v result T ne syn ack e A pass small D 
           let j = judge rows (pair_reached d) (record { own_isn = own; peer_isn = None; expected = None }) now d in
           let is = told_judged rows (pair_reached d) d v j A.tells in
           let done = hears_fixed tables before after held d v j o result S ne refl is D in
-          let known_so = subst (λ (k : Option Connection). Hears after (fixed_line result v (good d)) (hear_syn_ack held d j k)) (sym (met before held d o S ne refl)) done in
-          subst (λ (i : Judgement). Hears after (fixed_line result v (good d)) (hear_judged held d (connection_between d held) i)) (judged_first rows now own d (connection_between d held) syn e)
-          (heard_fixed after held d (connection_between d held) v j (fixed_line result v (good d)) syn ack pass is known_so);
-      sound = sound_fixed tables before after (isns_of d) (found before (key_at d)) result T ne small (omega arith) D;
-      keys = keys_fixed tables before after (isns_of d) (found before (key_at d)) result ne refl D;
+          let known_so = subst (λ (k : Option Connection). Hears after (fixed_line result v (checksum_in d)) (hear_syn_ack held d j k)) (sym (met before held d o S ne refl)) done in
+          subst (λ (i : Judgement). Hears after (fixed_line result v (checksum_in d)) (hear_judged held d (connection_between d held) i)) (judged_first rows now own d (connection_between d held) syn e)
+          (heard_fixed after held d (connection_between d held) v j (fixed_line result v (checksum_in d)) syn ack pass is known_so);
+      sound = sound_fixed tables before after (told_by d) (found before (key_at d)) result T ne small (omega arith) D;
+      keys = keys_fixed tables before after (told_by d) (found before (key_at d)) result ne refl D;
     }

@@ -5,8 +5,8 @@ use Rattle.std.specs.List.{find}
 use Rattle.book_base.specs.declared.address.Socket.{Socket}
 use Rattle.book_segments.specs.Sockets.{same_socket}
 use Rattle.book_segments.proofs.Fields.{and_tells}
+use Rattle.book_segments.proofs.SocketLaws.{same_socket_is, same_socket-refl}
 use Rattle.book_cmd_check.specs.Captures.{Connection, joins, with_connection}
-use Rattle.capture_check.proofs.EndsLaws.{same_socket_is, same_socket-refl}
 
 -- two sockets are these two, in either order
 abbrev pub joined : Socket → Socket → Socket → Socket → Bool

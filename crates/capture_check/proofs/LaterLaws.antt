@@ -3,12 +3,14 @@ use Rattle.std.proofs.Common.{◌≡◌, ◌+◌, ℕ, Bool, true, false, List, 
 use Rattle.std.specs.Prelude.{max, not, if◌then◌else◌}
 use Rattle.std.specs.List.{find}
 use Rattle.book_base.specs.declared.address.Socket.{Socket}
-use Rattle.book_segments.specs.Segments.{Segment, Read, has, segment_length, good, SYN, pair_reached}
+use Rattle.book_segments.specs.Segments.{Segment, Read, has, segment_length, SYN, pair_reached}
 use Rattle.book_segments.specs.Sockets.{same_socket}
+use Rattle.book_segments.proofs.SocketLaws.{same_socket-refl}
 use Rattle.book_keys.specs.Rows.{Row, Table, has_address}
 use Rattle.book_endpoint.specs.declared.verdict.Verdict.{Verdict}
 use Rattle.book_endpoint.specs.Verdicts.{Judgement}
-use Rattle.book_cmd_check.specs.Captures.{Connection, Heard, connection_between, hear_judged, hear_later, hear_read, joins, judge_stored, with_connection}
+use Rattle.book_cmd_show.specs.DatagramTexts.{checksum_in}
+use Rattle.book_cmd_check.specs.Captures.{Connection, Heard, connection_between, expecting, hear_judged, hear_later, hear_read, joins, judge_stored, with_connection}
 use Rattle.wrap_seq.specs.Counter.{number}
 use Rattle.capture_check.specs.declared.answer.CheckLine.{CheckLine}
 use Rattle.capture_check.specs.declared.answer.CheckLine.TheVariants as line
@@ -16,11 +18,10 @@ use Rattle.capture_check.specs.declared.ends.Ends.{Ends}
 use Rattle.capture_check.specs.declared.flows.Flows.{Flows}
 use Rattle.capture_check.specs.Answers.{IsJudged}
 use Rattle.capture_check.specs.Ends.{key_of}
-use Rattle.capture_check.specs.Expecting.{expecting, if_passing, hear_expecting, hear_given}
+use Rattle.capture_check.specs.Expecting.{if_passing, hear_expecting, hear_given}
 use Rattle.capture_check.specs.Flows.{flow_from, shown, judged_on, expected_after}
 use Rattle.capture_check.specs.Checkers.{found, IsSound, StandsFor, Hears, KeepsKeys, Derives}
 use Rattle.capture_check.specs.Judgements.{Puts, key_at, OfKnown, OfUnknown, HearsLater}
-use Rattle.capture_check.proofs.EndsLaws.{same_socket-refl}
 use Rattle.capture_check.proofs.HeldLaws.{joined-refl, find_put}
 use Rattle.capture_check.proofs.PutLaws.{stands_put, stands_same}
 use Rattle.capture_check.proofs.KeepLaws.{keys_same}
@@ -54,7 +55,7 @@ passing_later false held after l x y e h = h
 as_known : (before after : List (Ends × Flows)) (held : List Connection) (n : ℕ) (s t : Socket) (d : Segment) (h next : Flows) (v : Verdict) (j : Judgement)
     → StandsFor before held → same_socket s t ≡ false → found before (key_of s t) ≡ Some h → Puts before after (key_of s t) next → has SYN d ≡ false
     → (flow_from s t next).isn ≡ (flow_from s t h).isn → flow_from t s next ≡ flow_from t s h → IsJudged v j → number (flow_from s t next).expected ≡ expected_after (number (flow_from s t h).expected) n d j
-    → Hears after (line.Verdict v (good d)) (if_passing held (hear_judged (with_connection (expecting n (shown s t h)) held) d (Some (expecting n (shown s t h))) j))
+    → Hears after (line.Verdict v (checksum_in d)) (if_passing held (hear_judged (with_connection (expecting n (shown s t h)) held) d (Some (expecting n (shown s t h))) j))
 as_known before after held n s t d h next v (Err why) S ne f P syn i o is_told e =
     let is = shown_later s t h next (number (flow_from s t h).expected) i o e in
     record { says = (Err why, refl, is_told); stands = stands_same before after held s t h next S P ne f is }
@@ -62,13 +63,13 @@ as_known before after held n s t d h next v (Ok p) S ne f P syn i o is_told e =
     let is = shown_later s t h next (max n (p.number + segment_length d)) i o e in
     let stands : StandsFor after (with_connection (expecting (max n (p.number + segment_length d)) (shown s t h)) held) =
     subst (λ (c : Connection). StandsFor after (with_connection c held)) is (stands_put before after held s t next S P ne) in
-    passing_later (has SYN d) held after (line.Verdict v (good d)) (hear_later (with_connection (expecting n (shown s t h)) held) d p.number (Ok p) (Some (expecting n (shown s t h)))) _ syn
+    passing_later (has SYN d) held after (line.Verdict v (checksum_in d)) (hear_later (with_connection (expecting n (shown s t h)) held) d p.number (Ok p) (Some (expecting n (shown s t h)))) _ syn
     (record { says = (Ok p, refl, is_told); stands = rw (put_twice (shown s t h) n (max n (p.number + segment_length d)) held) stands })
 
 hears_as : (tables : List Table) (t : Table) (before after : List (Ends × Flows)) (held : List Connection) (now n : ℕ) (d : Segment) (h : Flows) (v : Verdict) (old new : ℕ)
     → StandsFor before held → IsSound tables before → same_socket d.source d.destination ≡ false → find (has_address d.destination.address) tables ≡ Some t
     → found before (key_at d) ≡ Some h → OfKnown t.rows now (Some n) d before after h v old new → has SYN d ≡ false
-    → Hears after (line.Verdict v (good d)) (hear_expecting tables held now d n (Some (shown d.source d.destination h)))
+    → Hears after (line.Verdict v (checksum_in d)) (hear_expecting tables held now d n (Some (shown d.source d.destination h)))
 hears_as tables t before after held now n d h v old new S T ne e f K syn =
     let F = T d.source d.destination h ne f in
     let one = flow_from d.source d.destination h in
@@ -78,13 +79,13 @@ hears_as tables t before after held now n d h v old new S T ne e f K syn =
     let is_told = told_judged t.rows one.receiver.pair d v (judged_on t.rows now d one n) H.tells in
     let all = as_known before after held n d.source d.destination d h K.next v (judged_on t.rows now d one n) S ne f K.puts syn H.isn o is_told H.expected in
     let put = between_put d (expecting n (shown d.source d.destination h)) held refl refl in
-    rw (e, ne, put, syn) (subst (λ (j : Judgement). Hears after (line.Verdict v (good d))
+    rw (e, ne, put, syn) (subst (λ (j : Judgement). Hears after (line.Verdict v (checksum_in d))
     (if_passing held (hear_judged (with_connection (expecting n (shown d.source d.destination h)) held) d (Some (expecting n (shown d.source d.destination h))) j))) is all)
 
 -- ---- the answer to a segment without SYN
 
 pub record Later (tables : List Table) (rows : List Row) (before after : List (Ends × Flows)) (now : ℕ) (given : Option ℕ) (d : Segment) (v : Verdict) (old new : ℕ) : Type 0 where
-  pub heard : (held : List Connection) → StandsFor before held → Hears after (line.Verdict v (good d)) (hear_given tables held now d given)
+  pub heard : (held : List Connection) → StandsFor before held → Hears after (line.Verdict v (checksum_in d)) (hear_given tables held now d given)
   pub sound : IsSound tables after
   pub keys : KeepsKeys before after
   pub derives : Derives before after rows now d old new
@@ -96,17 +97,17 @@ pub later : (tables : List Table) (t : Table) (before after : List (Ends × Flow
 later tables t before after now given d v old new T ne e syn H = at (found before (key_at d)) refl H
   where
     -- as `check` hears it
-    plain : (held : List Connection) → Hears after (line.Verdict v (good d)) (hear_judged held d (connection_between d held) (judge_stored t.rows (pair_reached d) now d (connection_between d held)))
-        → Hears after (line.Verdict v (good d)) (hear_read tables held now (Read d))
+    plain : (held : List Connection) → Hears after (line.Verdict v (checksum_in d)) (hear_judged held d (connection_between d held) (judge_stored t.rows (pair_reached d) now d (connection_between d held)))
+        → Hears after (line.Verdict v (checksum_in d)) (hear_read tables held now (Read d))
     plain held all = rw (e, ne) all
 
     by_given : (given : Option ℕ) (h : Flows) → found before (key_at d) ≡ Some h → OfKnown t.rows now given d before after h v old new → (held : List Connection) → StandsFor before held
-        → Hears after (line.Verdict v (good d)) (hear_given tables held now d given)
+        → Hears after (line.Verdict v (checksum_in d)) (hear_given tables held now d given)
     by_given None h f K held S = plain held (hears_known tables t.rows before after held now d h v old new S T ne f K syn)
     by_given (Some n) h f K held S = rw (met before held d (Some h) S ne f) (hears_as tables t before after held now n d h v old new S T ne e f K syn)
 
     unknown : (given : Option ℕ) → found before (key_at d) ≡ None → OfUnknown t.rows now d before after v old new → (held : List Connection) → StandsFor before held
-        → Hears after (line.Verdict v (good d)) (hear_given tables held now d given)
+        → Hears after (line.Verdict v (checksum_in d)) (hear_given tables held now d given)
     unknown None f U held S = plain held (hears_unknown t.rows before after held now d v old new S ne f U syn)
     unknown (Some n) f U held S = rw (met before held d None S ne f) (plain held (hears_unknown t.rows before after held now d v old new S ne f U syn))
 

@@ -1,6 +1,7 @@
 pub mod AloneLaws
 pub mod EndsLaws
 pub mod FixLaws
+pub mod GivenLaws
 pub mod HearLaws
 pub mod HeldLaws
 pub mod KeepLaws

@@ -5,6 +5,7 @@ use Rattle.std.specs.BTreeMap.{is_at}
 use Rattle.std.specs.List.{find}
 use Rattle.book_base.specs.declared.address.Socket.{Socket}
 use Rattle.book_segments.specs.Sockets.{same_socket}
+use Rattle.book_segments.proofs.SocketLaws.{same_socket_is, same_socket-refl}
 use Rattle.book_keys.specs.Rows.{Table}
 use Rattle.book_cmd_check.specs.Captures.{Connection, joins, seen_from, with_connection}
 use Rattle.capture_check.specs.declared.ends.Ends.{Ends}
@@ -13,7 +14,7 @@ use Rattle.capture_check.specs.Ends.{by_ends, key_of}
 use Rattle.capture_check.specs.Flows.{flow_from, shown, IsFlow}
 use Rattle.capture_check.specs.Checkers.{found, IsSound, known, told, StandsFor}
 use Rattle.capture_check.specs.Judgements.{Puts}
-use Rattle.capture_check.proofs.EndsLaws.{same_socket_is, same_socket-refl, ends_tied, ends_told, both_told, key_turned}
+use Rattle.capture_check.proofs.EndsLaws.{ends_tied, ends_told, both_told, key_turned}
 use Rattle.capture_check.proofs.HeldLaws.{joined, joined_told, joined_turned, joined-refl, find_put, find_others, length_put}
 
 -- what is found between two sockets after a put between two others

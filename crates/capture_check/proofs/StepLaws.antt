@@ -4,13 +4,14 @@ use Rattle.std.specs.Prelude.{max, if◌then◌else◌}
 use Rattle.book_base.specs.declared.address.Pair.{Pair}
 use Rattle.book_base.specs.declared.address.Socket.{Socket}
 use Rattle.book_segments.specs.Options.{find_ao}
-use Rattle.book_segments.specs.Segments.{Segment, has, segment_length, good, SYN}
+use Rattle.book_segments.specs.Segments.{Segment, has, segment_length, SYN}
 use Rattle.book_segments.specs.Sockets.{same_socket}
 use Rattle.std.specs.List.{find}
 use Rattle.book_keys.specs.Rows.{Row, Table, has_address}
 use Rattle.book_endpoint.specs.declared.verdict.Verdict.{Verdict}
 use Rattle.book_endpoint.specs.declared.verdict.Verdict.TheVariants.{Pass, NoAo, TwoAo, WithMd5, NoTuple, Expired, MacLength, NoContext, Range, BadMac}
 use Rattle.book_endpoint.specs.Verdicts.{Finding, Judgement, judge}
+use Rattle.book_cmd_show.specs.DatagramTexts.{checksum_in}
 use Rattle.book_cmd_check.specs.Captures.{Connection, Heard, connection_between, hear_judged, hear_later, judge_stored, with_connection}
 use Rattle.book_segments.specs.Segments.{pair_reached}
 use Rattle.ao_kdf.specs.declared.way.Way.TheVariants.{Inbound}
@@ -102,18 +103,18 @@ not_first false after l x y e h = h
 heard_known : (before after : List (Ends × Flows)) (held : List Connection) (s t : Socket) (d : Segment) (h next : Flows) (v : Verdict) (j : Judgement)
     → StandsFor before held → same_socket s t ≡ false → found before (key_of s t) ≡ Some h → Puts before after (key_of s t) next → has SYN d ≡ false
     → (flow_from s t next).isn ≡ (flow_from s t h).isn → flow_from t s next ≡ flow_from t s h → IsJudged v j → number (flow_from s t next).expected ≡ expected_after (number (flow_from s t h).expected) (number (flow_from s t h).expected) d j
-    → Hears after (line.Verdict v (good d)) (hear_judged held d (Some (shown s t h)) j)
+    → Hears after (line.Verdict v (checksum_in d)) (hear_judged held d (Some (shown s t h)) j)
 heard_known before after held s t d h next v (Err why) S ne f P syn i o is_told e =
     let is = shown_later s t h next (number (flow_from s t h).expected) i o e in
     record { says = (Err why, refl, is_told); stands = stands_same before after held s t h next S P ne f is }
 heard_known before after held s t d h next v (Ok p) S ne f P syn i o is_told e =
     let is = shown_later s t h next (max (number (flow_from s t h).expected) (p.number + segment_length d)) i o e in
-    not_first (has SYN d) after (line.Verdict v (good d)) (hear_later held d p.number (Ok p) (Some (shown s t h))) _ syn
+    not_first (has SYN d) after (line.Verdict v (checksum_in d)) (hear_later held d p.number (Ok p) (Some (shown s t h))) _ syn
     (record { says = (Ok p, refl, is_told); stands = subst (λ (c : Connection). StandsFor after (with_connection c held)) is (stands_put before after held s t next S P ne) })
 
 pub hears_known : (tables : List Table) (rows : List Row) (before after : List (Ends × Flows)) (held : List Connection) (now : ℕ) (d : Segment) (h : Flows) (v : Verdict) (old new : ℕ)
     → StandsFor before held → IsSound tables before → same_socket d.source d.destination ≡ false → found before (key_at d) ≡ Some h → OfKnown rows now None d before after h v old new → has SYN d ≡ false
-    → Hears after (line.Verdict v (good d)) (hear_judged held d (connection_between d held) (judge_stored rows (pair_reached d) now d (connection_between d held)))
+    → Hears after (line.Verdict v (checksum_in d)) (hear_judged held d (connection_between d held) (judge_stored rows (pair_reached d) now d (connection_between d held)))
 hears_known tables rows before after held now d h v old new S T ne f K syn =
     let F = T d.source d.destination h ne f in
     let one = flow_from d.source d.destination h in
@@ -122,7 +123,7 @@ hears_known tables rows before after held now d h v old new S T ne f K syn =
     let o = other_stays rows now None d h K.next v old new ne K.hears in
     let is_told = told_judged rows one.receiver.pair d v (judged_on rows now d one (number one.expected)) H.tells in
     let all = heard_known before after held d.source d.destination d h K.next v (judged_on rows now d one (number one.expected)) S ne f K.puts syn H.isn o is_told H.expected in
-    rw (met before held d (Some h) S ne f) (rw syn (subst (λ (j : Judgement). Hears after (line.Verdict v (good d)) (hear_judged held d (Some (shown d.source d.destination h)) j)) is all))
+    rw (met before held d (Some h) S ne f) (rw syn (subst (λ (j : Judgement). Hears after (line.Verdict v (checksum_in d)) (hear_judged held d (Some (shown d.source d.destination h)) j)) is all))
 
 -- the checker stays sound
 pub sound_known : (tables : List Table) (rows : List Row) (before after : List (Ends × Flows)) (now : ℕ) (given : Option ℕ) (d : Segment) (h : Flows) (v : Verdict) (old new : ℕ)
@@ -191,14 +192,14 @@ derives_known tables rows before after now given d h v old new T ne f K =
 -- ---- a segment without SYN of a connection that isn't known
 
 heard_unknown : (after : List (Ends × Flows)) (held : List Connection) (d : Segment) (v : Verdict) (j : Judgement) → StandsFor after held → has SYN d ≡ false → IsJudged v j
-    → Hears after (line.Verdict v (good d)) (hear_judged held d None j)
+    → Hears after (line.Verdict v (checksum_in d)) (hear_judged held d None j)
 heard_unknown after held d v (Err why) S syn is_told = record { says = (Err why, refl, is_told); stands = S }
 heard_unknown after held d v (Ok p) S syn is_told =
-    not_first (has SYN d) after (line.Verdict v (good d)) (hear_later held d p.number (Ok p) None) _ syn (record { says = (Ok p, refl, is_told); stands = S })
+    not_first (has SYN d) after (line.Verdict v (checksum_in d)) (hear_later held d p.number (Ok p) None) _ syn (record { says = (Ok p, refl, is_told); stands = S })
 
 pub hears_unknown : (rows : List Row) (before after : List (Ends × Flows)) (held : List Connection) (now : ℕ) (d : Segment) (v : Verdict) (old new : ℕ)
     → StandsFor before held → same_socket d.source d.destination ≡ false → found before (key_at d) ≡ None → OfUnknown rows now d before after v old new → has SYN d ≡ false
-    → Hears after (line.Verdict v (good d)) (hear_judged held d (connection_between d held) (judge_stored rows (pair_reached d) now d (connection_between d held)))
+    → Hears after (line.Verdict v (checksum_in d)) (hear_judged held d (connection_between d held) (judge_stored rows (pair_reached d) now d (connection_between d held)))
 hears_unknown rows before after held now d v old new S ne f U syn =
     let is_told = told_judged rows (pair_reached d) d v _ U.alone.tells in
     let stands : StandsFor after held = rw U.same S in

@@ -8,6 +8,7 @@ use Rattle.book_endpoint.specs.declared.verdict.Passed.{Passed}
 use Rattle.book_endpoint.specs.declared.verdict.Verdict.{Verdict}
 use Rattle.book_endpoint.specs.declared.verdict.Verdict.TheVariants.{Pass}
 use Rattle.book_cmd_check.specs.Captures as book
+use Rattle.book_cmd_show.specs.declared.checksum.Checksum.{Checksum}
 use Rattle.book_cmd_show.specs.DatagramTexts.{checksum_text}
 use Rattle.ao_check.specs.Verdicts.{is_judged}
 use Rattle.capture_check.specs.declared.answer.CheckLine.{CheckLine}
@@ -28,13 +29,13 @@ IsJudged why j = j ≡ Err why
 abbrev pub Says : CheckLine → book.Saying → Type 0
 Says (line.Bad fault) s = s ≡ book.Unreadable fault
 Says line.UnknownNode s = s ≡ book.UnknownNode
-Says (line.Verdict v right) s = (j : Judgement) × (s ≡ book.Judged j right) × IsJudged v j
-Says (line.Full right) s = s ≡ book.TooManyConnections right
+Says (line.Verdict v checksum) s = (j : Judgement) × (s ≡ book.Judged j checksum) × IsJudged v j
+Says (line.Full checksum) s = s ≡ book.TooManyConnections checksum
 
 -- the segment came as far as its MAC
 abbrev pub is_computed : CheckLine → Bool
-is_computed (line.Verdict v right) = is_judged v
-is_computed (line.Full right) = true
+is_computed (line.Verdict v checksum) = is_judged v
+is_computed (line.Full checksum) = true
 is_computed _ = false
 
 -- a pass
@@ -48,12 +49,12 @@ verdict_texts (Pass p) = codes "pass" ∷ codes "row" ∷ decimal p.row ∷ code
 verdict_texts why = codes "refused" ∷ verdict_text why ∷ []
 
 -- the words for a checksum
-abbrev pub checksum_texts : Bool → List (List ℕ)
-checksum_texts right = codes "checksum" ∷ checksum_text right ∷ []
+abbrev pub checksum_texts : Checksum → List (List ℕ)
+checksum_texts checksum = codes "checksum" ∷ checksum_text checksum ∷ []
 
 -- the words for an answer
 abbrev pub answer_texts : CheckLine → List (List ℕ)
 answer_texts (line.Bad fault) = codes "bad" ∷ fault_text fault ∷ []
 answer_texts line.UnknownNode = codes "unknown-node" ∷ []
-answer_texts (line.Verdict v right) = verdict_texts v ++ checksum_texts right
-answer_texts (line.Full right) = codes "full" ∷ checksum_texts right
+answer_texts (line.Verdict v checksum) = verdict_texts v ++ checksum_texts checksum
+answer_texts (line.Full checksum) = codes "full" ∷ checksum_texts checksum

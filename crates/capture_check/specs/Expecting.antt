@@ -5,13 +5,9 @@ use Rattle.book_base.specs.declared.address.Socket.{Socket}
 use Rattle.book_segments.specs.Segments.{Segment, Read}
 use Rattle.book_keys.specs.Rows.{Table}
 use Rattle.book_cmd_check.specs.Captures.{Connection, Heard, connection_between, hear_read, is_pass}
-use Rattle.book_cmd_check.specs.Captures.{with_connection}
+use Rattle.book_cmd_check.specs.Captures.{expecting, with_connection}
 use Rattle.capture_check.specs.Checkers.{known}
 use Rattle.capture_check.specs.declared.known.KnownConnection.{KnownConnection}
-
--- the connection, where this number is expected of its first side (own)
-abbrev pub expecting : ℕ → Connection → Connection
-expecting n c = record c { one = record (c.one) { expected = n } }
 
 -- what is heard, where it is a pass; else the same is said, and the connections stay (own)
 abbrev pub if_passing : List Connection → Heard → Heard

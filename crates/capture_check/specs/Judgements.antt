@@ -7,7 +7,8 @@ use Rattle.book_keys.specs.Rows.{Row, Table}
 use Rattle.book_endpoint.specs.declared.verdict.Verdict.{Verdict}
 use Rattle.book_endpoint.specs.Verdicts.{judge}
 use Rattle.book_cmd_check.specs.declared.given.GivenIsns.{GivenIsns}
-use Rattle.book_cmd_check.specs.Captures.{acknowledged_isn, most_connections}
+use Rattle.book_cmd_check.specs.Captures.{most_connections}
+use Rattle.book_cmd_check.specs.Handshakes.{told_by}
 use Rattle.book_segments.specs.Segments.{pair_reached}
 use Rattle.ao_check.specs.Verdicts.{Tells, judging}
 use Rattle.capture_check.specs.declared.ends.Ends.{Ends}
@@ -77,10 +78,6 @@ has_isns low h isn other = ((way low h).isn == isn) && ((way (not low) h).isn ==
 abbrev pub numbers_in : Bool → Flows → KnownConnection
 numbers_in low h = record { source_isn = (way low h).isn; destination_isn = (way (not low) h).isn; expected = number (way low h).expected }
 
--- the initial sequence numbers that a SYN with ACK tells
-abbrev pub isns_of : Segment → GivenIsns
-isns_of d = record { one = d.source; one_isn = d.sequence; other = d.destination; other_isn = acknowledged_isn d }
-
 -- both ways as they begin with given initial sequence numbers
 abbrev pub given_flows : List Table → GivenIsns → Flows
 given_flows tables g = new_flows tables g.one g.other g.one_isn g.other_isn
@@ -94,7 +91,7 @@ fixing_given tables g None count =
 
 -- the same of those that a SYN with ACK tells
 abbrev pub fixing : List Table → Segment → Option Flows → ℕ → Fixing
-fixing tables d known count = fixing_given tables (isns_of d) known count
+fixing tables d known count = fixing_given tables (told_by d) known count
 
 -- what was to be done was done; the answer says whether there was room
 abbrev pub DoesFix : Fixing → List (Ends × Flows) → List (Ends × Flows) → Ends → Bool → Type 0

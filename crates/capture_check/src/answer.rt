@@ -1,10 +1,11 @@
 //! What is said of a stored segment.
 
+use book_cmd_show::Checksum;
 use book_endpoint::Verdict;
 use book_segments::DatagramFault;
 
-/// What a checker says of a stored segment. The truth value says whether its TCP checksum is right,
-/// which the verdict doesn't look at.
+/// What a checker says of a stored segment. Whether its TCP checksum is right stands beside the verdict,
+/// which doesn't look at it.
 #[derive(Clone, Copy, Debug, PartialEq, Eq)]
 pub enum CheckLine {
     /// The bytes are no datagram.
@@ -12,7 +13,7 @@ pub enum CheckLine {
     /// No node has the address that the segment goes to, or it goes from a socket to itself.
     UnknownNode,
     /// The verdict of the node that the segment goes to.
-    Verdict(Verdict, bool),
+    Verdict(Verdict, Checksum),
     /// The segment passed and would fix a further connection, but 65,536 are held.
-    Full(bool),
+    Full(Checksum),
 }

@@ -3,7 +3,7 @@ ghost use Rattle.std.specs.Prelude.{◌≡◌, ◌≤◌, ◌+◌, ◌^◌, [], 
 ghost use Rattle.book_segments.specs.Segments.{Segment, Read, reading, has, SYN};
 ghost use Rattle.book_segments.specs.Sockets.{same_socket};
 ghost use Rattle.book_cmd_check.specs.Captures.{Connection, hear, hear_read};
-ghost use Rattle.book_cmd_check.specs.Handshakes.{and_given, has_room};
+ghost use Rattle.book_cmd_check.specs.Handshakes.{and_given, given_after, has_room};
 ghost use Rattle.capture_check.specs.Checkers.{IsSound, StandsFor, Hears, KeepsKeys, Derives};
 ghost use Rattle.capture_check.specs.Answers.{is_computed};
 ghost use Rattle.capture_check.specs.Expecting.{hear_as, known_numbers};
@@ -49,6 +49,18 @@ impl Checker {
             tables,
             connections: Connections::new(alloc),
         })
+    }
+
+    /// A checker behind handshakes with the given initial sequence numbers.
+    pub fn behind(alloc: Global, tables: Tables, isns: &[GivenIsns]) -> Result<Checker, AllocError>
+        ensures tables { IfOk result (λ c. c.tables ≡ tables) }
+        ensures stands { IfOk result (λ c. StandsFor c.entries (given_after [] isns.now)) }
+    {
+        let mut checker = Checker::new(alloc, tables)?;
+        for given in isns {
+            let _has_room = checker.hold(alloc, *given)?;
+        }
+        Ok(checker)
     }
 
     /// The tables of all nodes.

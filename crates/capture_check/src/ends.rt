@@ -1,7 +1,6 @@
 //! Two sockets as a key: those of a connection in their order, which is the same seen from either, or
 //! those of a way from one to the other.
 ghost use Rattle.std.specs.Prelude.{◌≡◌, not};
-ghost use Rattle.book_segments.specs.Sockets.{same_socket};
 ghost use Rattle.capture_check.specs.Ends.{place_of, is_low, key_of, way_key};
 
 use book_base::{Address, Socket};
@@ -29,13 +28,6 @@ fn place_of(socket: Socket) -> Place
         Address::V4(bytes) => Place::V4(socket.port, bytes),
         Address::V6(bytes) => Place::V6(socket.port, bytes),
     }
-}
-
-/// Whether two sockets are the same.
-pub(crate) fn is_same_socket(one: Socket, two: Socket) -> bool
-    ensures { result ≡ same_socket one two }
-{
-    one == two
 }
 
 /// Whether the first socket stands first in the order; where they are the same it does.

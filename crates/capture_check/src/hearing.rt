@@ -13,16 +13,17 @@ ghost use Rattle.capture_check.specs.Expecting.{hear_given, known_numbers};
 ghost use Rattle.capture_check.specs.Flows.{rows_of};
 
 use crate::answer::CheckLine;
-use crate::ends::{Ends, ends_of, is_same_socket};
+use crate::ends::{Ends, ends_of};
 use crate::flows::Flows;
 use crate::judgement::{fix, fix_given, hear_later, judge_alone};
 use crate::known::KnownConnection;
 use crate::segment::acknowledged_isn;
-use ao_base::Steps;
+use ao_base::{Steps, is_same_socket};
 use ao_check::Verdict;
 use book_base::Socket;
 use book_cmd_check::GivenIsns;
 use key_table::{Table, Tables};
+use segment_words::checksum_in;
 use std::alloc::{AllocError, Global};
 use std::collections::BTreeMap;
 use std::sync::ledger::Ledger;
@@ -52,19 +53,19 @@ fn hear_first<L: Ledger>(
     ensures derives { Derives connections.old.entries connections.new.entries table.now.rows time datagram.now steps.old steps.new }
     ensures idle { IfOk result (λ line. is_computed line ≡ false → steps.new ≡ steps.old) }
 {
-    let right = datagram.checksum_ok();
+    let checksum = checksum_in(datagram);
     let own = acknowledged_isn(datagram);
     let verdict = judge_alone(alloc, table, own, time, datagram, steps)?;
     if !is_pass(&verdict) {
-        return Ok(CheckLine::Verdict(verdict, right));
+        return Ok(CheckLine::Verdict(verdict, checksum));
     }
     if !datagram.has(Flag::Ack) {
-        return Ok(CheckLine::Verdict(verdict, right));
+        return Ok(CheckLine::Verdict(verdict, checksum));
     }
     match fix(connections, alloc, tables, datagram) {
         Err(error) => Err(error),
-        Ok(true) => Ok(CheckLine::Verdict(verdict, right)),
-        Ok(false) => Ok(CheckLine::Full(right)),
+        Ok(true) => Ok(CheckLine::Verdict(verdict, checksum)),
+        Ok(false) => Ok(CheckLine::Full(checksum)),
     }
 }
 
@@ -93,7 +94,7 @@ fn hear_next<L: Ledger>(
     ensures derives { Derives connections.old.entries connections.new.entries table.now.rows time datagram.now steps.old steps.new }
     ensures idle { IfOk result (λ line. is_computed line ≡ false → steps.new ≡ steps.old) }
 {
-    let right = datagram.checksum_ok();
+    let checksum = checksum_in(datagram);
     match hear_later(
         connections,
         alloc,
@@ -105,7 +106,7 @@ fn hear_next<L: Ledger>(
         steps,
     ) {
         Err(error) => Err(error),
-        Ok(verdict) => Ok(CheckLine::Verdict(verdict, right)),
+        Ok(verdict) => Ok(CheckLine::Verdict(verdict, checksum)),
     }
 }
 
@@ -129,7 +130,7 @@ pub(crate) fn hold(
     ensures sound { IsSound tables.now connections.new.entries }
     ensures keys { KeepsKeys connections.old.entries connections.new.entries }
 {
-    if is_same_socket(given.one, given.other) {
+    if is_same_socket(&given.one, &given.other) {
         return Ok(true);
     }
     match fix_given(connections, alloc, tables, given) {
@@ -165,7 +166,7 @@ pub(crate) fn hear_datagram<L: Ledger>(
         None => return Ok(CheckLine::UnknownNode),
         Some(table) => table,
     };
-    if is_same_socket(datagram.source(), destination) {
+    if is_same_socket(&datagram.source(), &destination) {
         return Ok(CheckLine::UnknownNode);
     }
     if datagram.has(Flag::Syn) {
@@ -194,7 +195,7 @@ pub(crate) fn known(
     ensures one { same_socket source destination ≡ true → result ≡ None }
     ensures limit { (tables : List Sheet) → IsSound tables connections.now.entries → IfSome result (λ k. k.expected ≤ 2 ^ 63) }
 {
-    if is_same_socket(source, destination) {
+    if is_same_socket(&source, &destination) {
         return None;
     }
     let (low, ends) = ends_of(source, destination);

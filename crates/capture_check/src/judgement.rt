@@ -4,9 +4,10 @@ ghost use Rattle.std.specs.List.{find};
 ghost use Rattle.book_keys.specs.Rows.{has_address};
 ghost use Rattle.book_segments.specs.Sockets.{same_socket};
 ghost use Rattle.std.specs.Prelude.{false};
+ghost use Rattle.book_cmd_check.specs.Handshakes.{told_by};
 ghost use Rattle.ao_check.specs.Verdicts.{is_judged};
 ghost use Rattle.capture_check.specs.Checkers.{found, IsSound};
-ghost use Rattle.capture_check.specs.Judgements.{Alone, AloneCounts, HearsLater, DoesFix, fixing, fixing_given, isns_of, key_at};
+ghost use Rattle.capture_check.specs.Judgements.{Alone, AloneCounts, HearsLater, DoesFix, fixing, fixing_given, key_at};
 ghost use Rattle.capture_check.specs.Ends.{key_of};
 
 use crate::ends::{Ends, ends_of};
@@ -112,9 +113,10 @@ pub(crate) fn fix_given(
     }
 }
 
-/// The initial sequence numbers that a SYN with ACK tells.
-fn isns_of(datagram: &Datagram<'_>) -> GivenIsns
-    ensures { result ≡ isns_of datagram.now }
+/// The initial sequence numbers that a SYN with ACK tells: its own, and the one that it acknowledges (RFC 9293,
+/// section 3.5).
+pub fn isns_told_by(datagram: &Datagram<'_>) -> GivenIsns
+    ensures { result ≡ told_by datagram.now }
 {
     GivenIsns {
         one: datagram.source(),
@@ -137,5 +139,5 @@ pub(crate) fn fix(
     ensures unchanged { OnErr result (connections.new.entries ≡ connections.old.entries) }
     ensures sequence { datagram.now.sequence < 2 ^ 32 }
 {
-    fix_given(connections, alloc, tables, isns_of(datagram))
+    fix_given(connections, alloc, tables, isns_told_by(datagram))
 }

@@ -24,6 +24,8 @@ pub use book_cmd_check::GivenIsns;
 pub use checker::Checker;
 pub use connections::Connections;
 pub use ends::{Ends, way_key};
+pub use judgement::isns_told_by;
 pub use known::KnownConnection;
+pub use segment::{acknowledged_isn, pair_at};
 pub use stored::{LineProblem, Stored, read_line};
 pub use text::push_check_line;

@@ -6,16 +6,12 @@ ghost use Rattle.book_cmd_check.specs.StoredLines.{stored_line, stored_of};
 ghost use Rattle.capture_check.specs.Lines.{IsRead, IsStoredAs};
 
 use book_base::Bytes;
+use book_cmd_check::MOST_LINE;
 use book_keys::LATEST;
 use book_lines::LineKind;
+use book_pcap::LONGEST_DATAGRAM;
 use std::alloc::Global;
 use text_lines::{LineWords, Refusal};
-
-/// The most bytes of a line.
-const MOST_LINE: usize = 131_200;
-
-/// The most bytes of a datagram.
-const MOST_DATAGRAM: usize = 65_575;
 
 /// What a line has.
 #[derive(Debug, Drop)]
@@ -62,7 +58,7 @@ fn read_words(alloc: Global, words: &mut LineWords<'_>) -> Result<Stored, Refusa
     ensures { (n : ℕ) → IsStoredAs n result (stored_of n words.old) }
 {
     let time = words.number(0, LATEST)?;
-    let bytes = words.sized_hex(alloc, 1, MOST_DATAGRAM)?;
+    let bytes = words.sized_hex(alloc, 1, LONGEST_DATAGRAM)?;
     words.nothing()?;
     Ok(Stored::Segment(time, bytes))
 }

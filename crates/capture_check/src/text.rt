@@ -3,29 +3,15 @@ ghost use Rattle.std.specs.Prelude.{◌≡◌, ◌++◌, ◌∷◌, [], OnOk, co
 ghost use Rattle.book_link.specs.Reports.{verdict_text};
 ghost use Rattle.book_lines.specs.Texts.{numbered_text, spaced};
 ghost use Rattle.book_cmd_check.specs.Captures.{Saying, saying_texts};
-ghost use Rattle.book_cmd_show.specs.DatagramTexts.{checksum_text};
 ghost use Rattle.book_cmd_check.specs.Captures as book;
 ghost use Rattle.capture_check.specs.Answers.{Says, answer_texts, verdict_texts};
 
 use crate::answer::CheckLine;
 use ao_base::push_decimal;
 use book_endpoint::{Passed, Verdict};
-use segment_words::{push_fault, verdict_word};
+use segment_words::{push_checksum, push_fault, verdict_word};
 use std::alloc::AllocError;
 use text_lines::{push_field, push_newline, push_text};
-
-fn checksum_name(right: bool) -> &'static [u8]
-    ensures { result.now ≡ checksum_text right }
-{
-    if right { b"good" } else { b"wrong" }
-}
-
-fn push_checksum(out: &mut Vec<u8>, right: bool) -> Result<(), AllocError>
-    ensures { OnOk result (out.new.items ≡ out.old.items ++ spaced (codes "checksum" ∷ checksum_text right ∷ [])) }
-{
-    push_text(out, b"checksum")?;
-    push_text(out, checksum_name(right))
-}
 
 fn push_pass(out: &mut Vec<u8>, passed: &Passed) -> Result<(), AllocError>
     ensures { OnOk result (out.new.items ≡ out.old.items ++ spaced (codes "pass" ∷ codes "row" ∷ decimal passed.now.row ∷ codes "number" ∷ decimal passed.now.number ∷ [])) }
@@ -68,13 +54,13 @@ fn push_answer(out: &mut Vec<u8>, line: &CheckLine) -> Result<(), AllocError>
             push_fault(out, *fault)
         }
         CheckLine::UnknownNode => push_text(out, b"unknown-node"),
-        CheckLine::Verdict(verdict, right) => {
+        CheckLine::Verdict(verdict, checksum) => {
             push_verdict(out, verdict)?;
-            push_checksum(out, *right)
+            push_checksum(out, *checksum)
         }
-        CheckLine::Full(right) => {
+        CheckLine::Full(checksum) => {
             push_text(out, b"full")?;
-            push_checksum(out, *right)
+            push_checksum(out, *checksum)
         }
     }
 }

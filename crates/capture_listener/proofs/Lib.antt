@@ -1,4 +1,5 @@
 pub mod GlimpseLaws
+pub mod HeldLaws
 pub mod LapLaws
 pub mod LineLaws
 pub mod ListenLaws

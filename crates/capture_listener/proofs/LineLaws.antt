@@ -2,6 +2,7 @@
 use Rattle.std.proofs.Common.{◌≡◌, Bool, true, false, not, refl, Ok}
 use Rattle.std.specs.Prelude.{◌&&◌}
 use Rattle.book_segments.specs.Segments.{Segment, has, SYN}
+use Rattle.book_cmd_show.specs.declared.checksum.Checksum.{Checksum}
 use Rattle.book_cmd_check.specs.Captures.{Saying, Judged}
 use Rattle.book_endpoint.specs.Verdicts.{Judgement}
 use Rattle.book_endpoint.specs.declared.verdict.Verdict.{Verdict}
@@ -15,118 +16,118 @@ use Rattle.capture_check.specs.Answers.{IsJudged, Says}
 use Rattle.capture_listener.specs.Lines.{is_readable, is_refusal, says_judged, says_refused, says_unknown, says_searched, by_verdict, by_unconfirmed, by_line, by_seen_line}
 
 -- a verdict is a refusal where its judgement is
-verdict_refused : (v : Verdict) (right : Bool) (j : Judgement) → IsJudged v j → is_refusal v ≡ is_refused (Judged j right)
-verdict_refused (Pass p) right j e = let is = e.1 in rw is refl
-verdict_refused NoAo right j e = rw e refl
-verdict_refused TwoAo right j e = rw e refl
-verdict_refused WithMd5 right j e = rw e refl
-verdict_refused NoTuple right j e = rw e refl
-verdict_refused Expired right j e = rw e refl
-verdict_refused MacLength right j e = rw e refl
-verdict_refused NoContext right j e = rw e refl
-verdict_refused Range right j e = rw e refl
-verdict_refused BadMac right j e = rw e refl
+verdict_refused : (v : Verdict) (checksum : Checksum) (j : Judgement) → IsJudged v j → is_refusal v ≡ is_refused (Judged j checksum)
+verdict_refused (Pass p) checksum j e = let is = e.1 in rw is refl
+verdict_refused NoAo checksum j e = rw e refl
+verdict_refused TwoAo checksum j e = rw e refl
+verdict_refused WithMd5 checksum j e = rw e refl
+verdict_refused NoTuple checksum j e = rw e refl
+verdict_refused Expired checksum j e = rw e refl
+verdict_refused MacLength checksum j e = rw e refl
+verdict_refused NoContext checksum j e = rw e refl
+verdict_refused Range checksum j e = rw e refl
+verdict_refused BadMac checksum j e = rw e refl
 
 pub refused_told : (l : CheckLine) (s : Saying) → Says l s → says_refused l ≡ is_refused s
 refused_told (line.Bad fault) s e = rw e refl
 refused_told line.UnknownNode s e = rw e refl
-refused_told (line.Verdict v right) s (j, e, t) = rw e (verdict_refused v right j t)
-refused_told (line.Full right) s e = rw e refl
+refused_told (line.Verdict v checksum) s (j, e, t) = rw e (verdict_refused v checksum j t)
+refused_told (line.Full checksum) s e = rw e refl
 
 pub judged_told : (l : CheckLine) (s : Saying) → Says l s → says_judged l ≡ is_judged s
 judged_told (line.Bad fault) s e = rw e refl
 judged_told line.UnknownNode s e = rw e refl
-judged_told (line.Verdict v right) s (j, e, t) = rw e refl
-judged_told (line.Full right) s e = rw e refl
+judged_told (line.Verdict v checksum) s (j, e, t) = rw e refl
+judged_told (line.Full checksum) s e = rw e refl
 
 -- a verdict knows no context where its judgement knows none
-verdict_unknown : (v : Verdict) (right : Bool) (j : Judgement) → IsJudged v j → says_unknown (line.Verdict v right) ≡ is_unknown (Judged j right)
-verdict_unknown (Pass p) right j e = let is = e.1 in rw is refl
-verdict_unknown NoAo right j e = rw e refl
-verdict_unknown TwoAo right j e = rw e refl
-verdict_unknown WithMd5 right j e = rw e refl
-verdict_unknown NoTuple right j e = rw e refl
-verdict_unknown Expired right j e = rw e refl
-verdict_unknown MacLength right j e = rw e refl
-verdict_unknown NoContext right j e = rw e refl
-verdict_unknown Range right j e = rw e refl
-verdict_unknown BadMac right j e = rw e refl
+verdict_unknown : (v : Verdict) (checksum : Checksum) (j : Judgement) → IsJudged v j → says_unknown (line.Verdict v checksum) ≡ is_unknown (Judged j checksum)
+verdict_unknown (Pass p) checksum j e = let is = e.1 in rw is refl
+verdict_unknown NoAo checksum j e = rw e refl
+verdict_unknown TwoAo checksum j e = rw e refl
+verdict_unknown WithMd5 checksum j e = rw e refl
+verdict_unknown NoTuple checksum j e = rw e refl
+verdict_unknown Expired checksum j e = rw e refl
+verdict_unknown MacLength checksum j e = rw e refl
+verdict_unknown NoContext checksum j e = rw e refl
+verdict_unknown Range checksum j e = rw e refl
+verdict_unknown BadMac checksum j e = rw e refl
 
 pub unknown_told : (l : CheckLine) (s : Saying) → Says l s → says_unknown l ≡ is_unknown s
 unknown_told (line.Bad fault) s e = rw e refl
 unknown_told line.UnknownNode s e = rw e refl
-unknown_told (line.Verdict v right) s (j, e, t) = rw e (verdict_unknown v right j t)
-unknown_told (line.Full right) s e = rw e refl
+unknown_told (line.Verdict v checksum) s (j, e, t) = rw e (verdict_unknown v checksum j t)
+unknown_told (line.Full checksum) s e = rw e refl
 
 -- a verdict is searched where its judgement is
-verdict_searched : (v : Verdict) (right : Bool) (j : Judgement) → IsJudged v j → (d : Segment) → (says_searched (line.Verdict v right) && not (has SYN d)) ≡ is_searched d (Judged j right)
-verdict_searched (Pass p) right j e d = let is = e.1 in rw is refl
-verdict_searched NoAo right j e d = rw e refl
-verdict_searched TwoAo right j e d = rw e refl
-verdict_searched WithMd5 right j e d = rw e refl
-verdict_searched NoTuple right j e d = rw e refl
-verdict_searched Expired right j e d = rw e refl
-verdict_searched MacLength right j e d = rw e refl
-verdict_searched NoContext right j e d = rw e refl
-verdict_searched Range right j e d = rw e refl
-verdict_searched BadMac right j e d = rw e refl
+verdict_searched : (v : Verdict) (checksum : Checksum) (j : Judgement) → IsJudged v j → (d : Segment) → (says_searched (line.Verdict v checksum) && not (has SYN d)) ≡ is_searched d (Judged j checksum)
+verdict_searched (Pass p) checksum j e d = let is = e.1 in rw is refl
+verdict_searched NoAo checksum j e d = rw e refl
+verdict_searched TwoAo checksum j e d = rw e refl
+verdict_searched WithMd5 checksum j e d = rw e refl
+verdict_searched NoTuple checksum j e d = rw e refl
+verdict_searched Expired checksum j e d = rw e refl
+verdict_searched MacLength checksum j e d = rw e refl
+verdict_searched NoContext checksum j e d = rw e refl
+verdict_searched Range checksum j e d = rw e refl
+verdict_searched BadMac checksum j e d = rw e refl
 
 pub searched_told : (l : CheckLine) (s : Saying) (d : Segment) → Says l s → (says_searched l && not (has SYN d)) ≡ is_searched d s
 searched_told (line.Bad fault) s d e = rw e refl
 searched_told line.UnknownNode s d e = rw e refl
-searched_told (line.Verdict v right) s d (j, e, t) = rw e (verdict_searched v right j t d)
-searched_told (line.Full right) s d e = rw e refl
+searched_told (line.Verdict v checksum) s d (j, e, t) = rw e (verdict_searched v checksum j t d)
+searched_told (line.Full checksum) s d e = rw e refl
 
 -- what comes of a verdict is what comes of its judgement
-verdict_outcome : (v : Verdict) (right : Bool) (j : Judgement) → IsJudged v j → outcome_of (Judged j right) ≡ Ok (by_verdict v)
-verdict_outcome (Pass p) right j e = let is = e.1 in rw is refl
-verdict_outcome NoAo right j e = rw e refl
-verdict_outcome TwoAo right j e = rw e refl
-verdict_outcome WithMd5 right j e = rw e refl
-verdict_outcome NoTuple right j e = rw e refl
-verdict_outcome Expired right j e = rw e refl
-verdict_outcome MacLength right j e = rw e refl
-verdict_outcome NoContext right j e = rw e refl
-verdict_outcome Range right j e = rw e refl
-verdict_outcome BadMac right j e = rw e refl
+verdict_outcome : (v : Verdict) (checksum : Checksum) (j : Judgement) → IsJudged v j → outcome_of (Judged j checksum) ≡ Ok (by_verdict v)
+verdict_outcome (Pass p) checksum j e = let is = e.1 in rw is refl
+verdict_outcome NoAo checksum j e = rw e refl
+verdict_outcome TwoAo checksum j e = rw e refl
+verdict_outcome WithMd5 checksum j e = rw e refl
+verdict_outcome NoTuple checksum j e = rw e refl
+verdict_outcome Expired checksum j e = rw e refl
+verdict_outcome MacLength checksum j e = rw e refl
+verdict_outcome NoContext checksum j e = rw e refl
+verdict_outcome Range checksum j e = rw e refl
+verdict_outcome BadMac checksum j e = rw e refl
 
 pub outcome_told : (l : CheckLine) (s : Saying) → Says l s → is_readable s ≡ true → outcome_of s ≡ Ok (by_line l)
 outcome_told (line.Bad fault) s e r = let no : is_readable s ≡ false = rw e refl in absurd (cc)
 outcome_told line.UnknownNode s e r = rw e refl
-outcome_told (line.Verdict v right) s (j, e, t) r = rw e (verdict_outcome v right j t)
-outcome_told (line.Full right) s e r = rw e refl
+outcome_told (line.Verdict v checksum) s (j, e, t) r = rw e (verdict_outcome v checksum j t)
+outcome_told (line.Full checksum) s e r = rw e refl
 
 -- the same under numbers that were only seen
-verdict_unconfirmed : (v : Verdict) (right : Bool) (j : Judgement) → IsJudged v j → unconfirmed_of (Judged j right) ≡ Ok (by_unconfirmed v)
-verdict_unconfirmed (Pass p) right j e = let is = e.1 in rw is refl
-verdict_unconfirmed NoAo right j e = rw e refl
-verdict_unconfirmed TwoAo right j e = rw e refl
-verdict_unconfirmed WithMd5 right j e = rw e refl
-verdict_unconfirmed NoTuple right j e = rw e refl
-verdict_unconfirmed Expired right j e = rw e refl
-verdict_unconfirmed MacLength right j e = rw e refl
-verdict_unconfirmed NoContext right j e = rw e refl
-verdict_unconfirmed Range right j e = rw e refl
-verdict_unconfirmed BadMac right j e = rw e refl
+verdict_unconfirmed : (v : Verdict) (checksum : Checksum) (j : Judgement) → IsJudged v j → unconfirmed_of (Judged j checksum) ≡ Ok (by_unconfirmed v)
+verdict_unconfirmed (Pass p) checksum j e = let is = e.1 in rw is refl
+verdict_unconfirmed NoAo checksum j e = rw e refl
+verdict_unconfirmed TwoAo checksum j e = rw e refl
+verdict_unconfirmed WithMd5 checksum j e = rw e refl
+verdict_unconfirmed NoTuple checksum j e = rw e refl
+verdict_unconfirmed Expired checksum j e = rw e refl
+verdict_unconfirmed MacLength checksum j e = rw e refl
+verdict_unconfirmed NoContext checksum j e = rw e refl
+verdict_unconfirmed Range checksum j e = rw e refl
+verdict_unconfirmed BadMac checksum j e = rw e refl
 
 pub unconfirmed_told : (l : CheckLine) (s : Saying) → Says l s → is_readable s ≡ true → unconfirmed_of s ≡ Ok (by_seen_line l)
 unconfirmed_told (line.Bad fault) s e r = let no : is_readable s ≡ false = rw e refl in absurd (cc)
 unconfirmed_told line.UnknownNode s e r = rw e refl
-unconfirmed_told (line.Verdict v right) s (j, e, t) r = rw e (verdict_unconfirmed v right j t)
-unconfirmed_told (line.Full right) s e r = rw e refl
+unconfirmed_told (line.Verdict v checksum) s (j, e, t) r = rw e (verdict_unconfirmed v checksum j t)
+unconfirmed_told (line.Full checksum) s e r = rw e refl
 
 -- a segment without context is refused
 pub unknown_refused : (l : CheckLine) → says_unknown l ≡ true → says_refused l ≡ true
 unknown_refused (line.Bad fault) e = absurd (cc)
 unknown_refused line.UnknownNode e = absurd (cc)
-unknown_refused (line.Full right) e = absurd (cc)
-unknown_refused (line.Verdict (Pass p) right) e = absurd (cc)
-unknown_refused (line.Verdict NoAo right) e = absurd (cc)
-unknown_refused (line.Verdict TwoAo right) e = absurd (cc)
-unknown_refused (line.Verdict WithMd5 right) e = absurd (cc)
-unknown_refused (line.Verdict NoTuple right) e = absurd (cc)
-unknown_refused (line.Verdict Expired right) e = absurd (cc)
-unknown_refused (line.Verdict MacLength right) e = absurd (cc)
-unknown_refused (line.Verdict NoContext right) e = refl
-unknown_refused (line.Verdict Range right) e = absurd (cc)
-unknown_refused (line.Verdict BadMac right) e = absurd (cc)
+unknown_refused (line.Full checksum) e = absurd (cc)
+unknown_refused (line.Verdict (Pass p) checksum) e = absurd (cc)
+unknown_refused (line.Verdict NoAo checksum) e = absurd (cc)
+unknown_refused (line.Verdict TwoAo checksum) e = absurd (cc)
+unknown_refused (line.Verdict WithMd5 checksum) e = absurd (cc)
+unknown_refused (line.Verdict NoTuple checksum) e = absurd (cc)
+unknown_refused (line.Verdict Expired checksum) e = absurd (cc)
+unknown_refused (line.Verdict MacLength checksum) e = absurd (cc)
+unknown_refused (line.Verdict NoContext checksum) e = refl
+unknown_refused (line.Verdict Range checksum) e = absurd (cc)
+unknown_refused (line.Verdict BadMac checksum) e = absurd (cc)

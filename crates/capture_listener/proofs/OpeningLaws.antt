@@ -6,10 +6,11 @@ use Rattle.std.specs.List.{find}
 use Rattle.book_base.specs.declared.address.Socket.{Socket}
 use Rattle.book_segments.specs.Sockets.{same_socket}
 use Rattle.book_segments.proofs.Fields.{and_tells}
+use Rattle.book_segments.proofs.SocketLaws.{same_socket_is, same_socket-refl}
 use Rattle.book_sessions.specs.Glimpses.{Opening, is_opening_from, with_opening}
 use Rattle.capture_check.specs.declared.ends.Ends.{Ends}
 use Rattle.capture_check.specs.Ends.{by_ends, way_key}
-use Rattle.capture_check.proofs.EndsLaws.{same_socket_is, same_socket-refl, ends_tied, ends_told, way_told}
+use Rattle.capture_check.proofs.EndsLaws.{ends_tied, ends_told, way_told}
 use Rattle.capture_listener.specs.Openings.{kept_isn, opened_isn, PutsIsn, KeepsOpenings}
 
 -- an opening goes this way: its sockets are these

@@ -4,13 +4,15 @@ use Rattle.std.specs.Prelude.{◌&&◌, nat_le, option_map, if◌then◌else◌}
 use Rattle.std.specs.List.{find}
 use Rattle.std.specs.Option.{option_or, unwrap_or}
 use Rattle.book_segments.specs.Bytes.{ring}
-use Rattle.book_segments.specs.Segments.{Segment, has, good, SYN, ACK, pair_reached}
+use Rattle.book_segments.specs.Segments.{Segment, has, SYN, ACK, pair_reached}
 use Rattle.book_segments.specs.Sockets.{same_socket}
 use Rattle.book_segments.proofs.Fields.{some_is}
 use Rattle.book_keys.specs.Rows.{Table, has_address}
 use Rattle.book_endpoint.specs.States.{number_limit}
 use Rattle.book_endpoint.specs.Verdicts.{Judgement}
 use Rattle.book_endpoint.specs.declared.verdict.Verdict.TheVariants.{Pass, NoAo, TwoAo, WithMd5, NoTuple, Expired, MacLength, NoContext, Range, BadMac}
+use Rattle.book_cmd_show.specs.declared.checksum.Checksum.TheVariants.{Good}
+use Rattle.book_cmd_show.specs.DatagramTexts.{checksum_in}
 use Rattle.book_cmd_check.specs.Captures.{Connection, Heard, Saying, Unreadable, UnknownNode, Judged, TooManyConnections, connection_between, fixed, hear_at, hear_judged, hear_later, hear_syn_ack, is_pass, judge_stored, most_connections, with_connection}
 use Rattle.book_sessions.specs.Glimpses.{is_refused}
 use Rattle.book_sessions.specs.Laps.{Judging, first_from, hear_over, heard_ahead, heard_by, heard_further, is_searched, with_expected}
@@ -34,16 +36,16 @@ pub record Fair (held : List Connection) (d : Segment) (h : Heard) : Type 0 wher
   pub refused : is_refused h.saying ≡ true → h.connections ≡ held
   pub opening : has SYN d ≡ true → has ACK d ≡ false → h.connections ≡ held
 
-fair_later : (held : List Connection) (d : Segment) (n : ℕ) (p : Judgement) (known : Option Connection) → has SYN d ≡ false → is_refused (Judged p false) ≡ false → Fair held d (hear_later held d n p known)
+fair_later : (held : List Connection) (d : Segment) (n : ℕ) (p : Judgement) (known : Option Connection) → has SYN d ≡ false → is_refused (Judged p Good) ≡ false → Fair held d (hear_later held d n p known)
 fair_later held d n (Ok p) None syn r = record { readable = refl; refused = λ e. refl; opening = λ e f. refl }
 fair_later held d n (Ok p) (Some c) syn r = record { readable = refl; refused = λ e. absurd (cc); opening = λ e f. absurd (cc) }
 fair_later held d n (Err why) known syn r = absurd (cc)
 
-fair_syn_ack : (held : List Connection) (d : Segment) (p : Judgement) (known : Option Connection) → has ACK d ≡ true → is_refused (Judged p false) ≡ false → Fair held d (hear_syn_ack held d p known)
+fair_syn_ack : (held : List Connection) (d : Segment) (p : Judgement) (known : Option Connection) → has ACK d ≡ true → is_refused (Judged p Good) ≡ false → Fair held d (hear_syn_ack held d p known)
 fair_syn_ack held d (Ok p) (Some c) ack r = record { readable = refl; refused = λ e. absurd (cc); opening = λ e f. absurd (cc) }
 fair_syn_ack held d (Ok p) None ack r = at (nat_le most_connections (length held))
   where
-    at : (b : Bool) → Fair held d (if b then record { connections = held; saying = TooManyConnections (good d) } else record { connections = with_connection (fixed d) held; saying = Judged (Ok p) (good d) })
+    at : (b : Bool) → Fair held d (if b then record { connections = held; saying = TooManyConnections (checksum_in d) } else record { connections = with_connection (fixed d) held; saying = Judged (Ok p) (checksum_in d) })
     at true = record { readable = refl; refused = λ e. refl; opening = λ e f. refl }
     at false = record { readable = refl; refused = λ e. absurd (cc); opening = λ e f. absurd (cc) }
 fair_syn_ack held d (Err why) known ack r = absurd (cc)
@@ -53,7 +55,7 @@ fair_judged held d known (Err why) = record { readable = refl; refused = λ e. r
 fair_judged held d known (Ok p) = at (has SYN d) (has ACK d) refl refl
   where
     at : (u v : Bool) → has SYN d ≡ u → has ACK d ≡ v
-        → Fair held d (if not u then hear_later held d p.number (Ok p) known else if v then hear_syn_ack held d (Ok p) known else record { connections = held; saying = Judged (Ok p) (good d) })
+        → Fair held d (if not u then hear_later held d p.number (Ok p) known else if v then hear_syn_ack held d (Ok p) known else record { connections = held; saying = Judged (Ok p) (checksum_in d) })
     at false v syn ack = fair_later held d p.number (Ok p) known syn refl
     at true true syn ack = fair_syn_ack held d (Ok p) known ack refl
     at true false syn ack = record { readable = refl; refused = λ e. refl; opening = λ e f. refl }
@@ -76,18 +78,18 @@ fair_read j held now d = at (find (has_address d.destination.address) j.tables)
 not_syn : (d : Segment) (s : Saying) → is_searched d s ≡ true → has SYN d ≡ true → ⊥
 not_syn d (Unreadable fault) e f = absurd (cc)
 not_syn d UnknownNode e f = absurd (cc)
-not_syn d (TooManyConnections right) e f = absurd (cc)
-not_syn d (Judged (Ok p) right) e f = absurd (cc)
-not_syn d (Judged (Err (Pass p)) right) e f = absurd (cc)
-not_syn d (Judged (Err NoAo) right) e f = absurd (cc)
-not_syn d (Judged (Err TwoAo) right) e f = absurd (cc)
-not_syn d (Judged (Err WithMd5) right) e f = absurd (cc)
-not_syn d (Judged (Err NoTuple) right) e f = absurd (cc)
-not_syn d (Judged (Err Expired) right) e f = absurd (cc)
-not_syn d (Judged (Err MacLength) right) e f = absurd (cc)
-not_syn d (Judged (Err NoContext) right) e f = absurd (cc)
-not_syn d (Judged (Err Range) right) e f = absurd (cc)
-not_syn d (Judged (Err BadMac) right) e f = absurd (cc)
+not_syn d (TooManyConnections checksum) e f = absurd (cc)
+not_syn d (Judged (Ok p) checksum) e f = absurd (cc)
+not_syn d (Judged (Err (Pass p)) checksum) e f = absurd (cc)
+not_syn d (Judged (Err NoAo) checksum) e f = absurd (cc)
+not_syn d (Judged (Err TwoAo) checksum) e f = absurd (cc)
+not_syn d (Judged (Err WithMd5) checksum) e f = absurd (cc)
+not_syn d (Judged (Err NoTuple) checksum) e f = absurd (cc)
+not_syn d (Judged (Err Expired) checksum) e f = absurd (cc)
+not_syn d (Judged (Err MacLength) checksum) e f = absurd (cc)
+not_syn d (Judged (Err NoContext) checksum) e f = absurd (cc)
+not_syn d (Judged (Err Range) checksum) e f = absurd (cc)
+not_syn d (Judged (Err BadMac) checksum) e f = absurd (cc)
 
 -- what a search finds is a pass
 ahead_passes : (hear : List Connection → Heard) (held : List Connection) (c : Connection) (n : ℕ) (k : Heard) → heard_ahead hear held c n ≡ Some k → is_pass k.saying ≡ true
@@ -115,15 +117,15 @@ further_passes hear held laps (Some c) k e = first_passes hear held c laps 1 k e
 pass_readable : (s : Saying) → is_pass s ≡ true → is_readable s ≡ true
 pass_readable (Unreadable fault) e = absurd (cc)
 pass_readable UnknownNode e = refl
-pass_readable (TooManyConnections right) e = refl
-pass_readable (Judged p right) e = refl
+pass_readable (TooManyConnections checksum) e = refl
+pass_readable (Judged p checksum) e = refl
 
 pass_refused : (s : Saying) → is_pass s ≡ true → is_refused s ≡ true → ⊥
 pass_refused (Unreadable fault) e f = absurd (cc)
 pass_refused UnknownNode e f = absurd (cc)
-pass_refused (TooManyConnections right) e f = absurd (cc)
-pass_refused (Judged (Ok p) right) e f = absurd (cc)
-pass_refused (Judged (Err why) right) e f = absurd (cc)
+pass_refused (TooManyConnections checksum) e f = absurd (cc)
+pass_refused (Judged (Ok p) checksum) e f = absurd (cc)
+pass_refused (Judged (Err why) checksum) e f = absurd (cc)
 
 pub fair_over : (j : Judging) (held : List Connection) (now : ℕ) (d : Segment) → Fair held d (hear_over j held now d)
 unfolding hear_over
@@ -188,17 +190,17 @@ searched_by l s d u v says e f = sym (searched_told l s d says) ∙ (ap (λ (b :
 searched_refused : (l : CheckLine) → says_searched l ≡ true → says_refused l ≡ true
 searched_refused (line.Bad fault) e = absurd (cc)
 searched_refused line.UnknownNode e = absurd (cc)
-searched_refused (line.Full right) e = absurd (cc)
-searched_refused (line.Verdict (Pass p) right) e = absurd (cc)
-searched_refused (line.Verdict NoAo right) e = refl
-searched_refused (line.Verdict TwoAo right) e = refl
-searched_refused (line.Verdict WithMd5 right) e = refl
-searched_refused (line.Verdict NoTuple right) e = refl
-searched_refused (line.Verdict Expired right) e = refl
-searched_refused (line.Verdict MacLength right) e = refl
-searched_refused (line.Verdict NoContext right) e = refl
-searched_refused (line.Verdict Range right) e = refl
-searched_refused (line.Verdict BadMac right) e = refl
+searched_refused (line.Full checksum) e = absurd (cc)
+searched_refused (line.Verdict (Pass p) checksum) e = absurd (cc)
+searched_refused (line.Verdict NoAo checksum) e = refl
+searched_refused (line.Verdict TwoAo checksum) e = refl
+searched_refused (line.Verdict WithMd5 checksum) e = refl
+searched_refused (line.Verdict NoTuple checksum) e = refl
+searched_refused (line.Verdict Expired checksum) e = refl
+searched_refused (line.Verdict MacLength checksum) e = refl
+searched_refused (line.Verdict NoContext checksum) e = refl
+searched_refused (line.Verdict Range checksum) e = refl
+searched_refused (line.Verdict BadMac checksum) e = refl
 
 -- a segment is heard, and isn't searched
 pub heard_plain : (j : Judging) (held : List Connection) (now : ℕ) (d : Segment) (after : List (Ends × Flows)) (l : CheckLine) (u v : Bool) → Hears after l (heard_by j now d held)

@@ -15,7 +15,7 @@ is_readable _ = true
 
 -- a node judged the segment (own)
 abbrev pub says_judged : CheckLine → Bool
-says_judged (line.Verdict v right) = true
+says_judged (line.Verdict v checksum) = true
 says_judged _ = false
 
 -- a refusal (own)
@@ -25,22 +25,22 @@ is_refusal _ = true
 
 -- a node refused the segment (own)
 abbrev pub says_refused : CheckLine → Bool
-says_refused (line.Verdict v right) = is_refusal v
+says_refused (line.Verdict v checksum) = is_refusal v
 says_refused _ = false
 
 -- a node knows no context for the segment (own)
 abbrev pub says_unknown : CheckLine → Bool
-says_unknown (line.Verdict verdicts.NoContext right) = true
+says_unknown (line.Verdict verdicts.NoContext checksum) = true
 says_unknown _ = false
 
 -- the MAC of the segment is wrong (own)
 abbrev pub says_bad_mac : CheckLine → Bool
-says_bad_mac (line.Verdict verdicts.BadMac right) = true
+says_bad_mac (line.Verdict verdicts.BadMac checksum) = true
 says_bad_mac _ = false
 
 -- the number of the segment is out of range, as one below 0 (own)
 abbrev pub says_range : CheckLine → Bool
-says_range (line.Verdict verdicts.Range right) = true
+says_range (line.Verdict verdicts.Range checksum) = true
 says_range _ = false
 
 -- the segment may pass over more laps (own)
@@ -56,8 +56,8 @@ by_verdict why = outcome.Refused why
 abbrev pub by_line : CheckLine → SegmentOutcome
 by_line (line.Bad fault) = outcome.NoNode
 by_line line.UnknownNode = outcome.NoNode
-by_line (line.Verdict v right) = by_verdict v
-by_line (line.Full right) = outcome.TooMany
+by_line (line.Verdict v checksum) = by_verdict v
+by_line (line.Full checksum) = outcome.TooMany
 
 -- what comes of a segment with this verdict, under numbers that were only seen (own)
 abbrev pub by_unconfirmed : Verdict → SegmentOutcome
@@ -69,5 +69,5 @@ by_unconfirmed why = outcome.UnconfirmedRefused why
 abbrev pub by_seen_line : CheckLine → SegmentOutcome
 by_seen_line (line.Bad fault) = outcome.NoNode
 by_seen_line line.UnknownNode = outcome.NoNode
-by_seen_line (line.Verdict v right) = by_unconfirmed v
-by_seen_line (line.Full right) = outcome.TooMany
+by_seen_line (line.Verdict v checksum) = by_unconfirmed v
+by_seen_line (line.Full checksum) = outcome.TooMany

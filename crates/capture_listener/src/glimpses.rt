@@ -3,7 +3,7 @@ ghost use Rattle.std.specs.Prelude.{◌≡◌, false, true, List, OnErr, OnOk};
 ghost use Rattle.book_segments.specs.Segments.{has, ACK, SYN};
 ghost use Rattle.book_cmd_check.specs.Captures.{Connection, Saying};
 ghost use Rattle.book_cmd_check.specs.Handshakes.{and_given};
-ghost use Rattle.book_sessions.specs.Glimpses.{Opening, glimpsed, openings_after, told_by};
+ghost use Rattle.book_sessions.specs.Glimpses.{Opening, glimpsed, openings_after};
 ghost use Rattle.capture_check.specs.Answers.{Says};
 ghost use Rattle.capture_check.specs.Checkers.{IsSound, StandsFor};
 ghost use Rattle.capture_listener.specs.Begun.{and_begun, completing};
@@ -13,22 +13,10 @@ ghost use Rattle.capture_listener.specs.Openings.{KeepsOpenings};
 use crate::lines::{is_judged, is_refused, is_unknown};
 use crate::openings::Openings;
 use book_cmd_check::GivenIsns;
-use capture_check::{CheckLine, Connections};
+use capture_check::{CheckLine, Connections, isns_told_by};
 use key_table::Tables;
 use std::alloc::{AllocError, Global};
 use tcp_segment::{Datagram, Flag};
-
-/// The numbers that a SYN with ACK tells (RFC 9293, section 3.5).
-fn told_by(datagram: &Datagram<'_>) -> GivenIsns
-    ensures { result ≡ told_by datagram.now }
-{
-    GivenIsns {
-        one: datagram.source(),
-        one_isn: datagram.sequence(),
-        other: datagram.destination(),
-        other_isn: datagram.acknowledgement().wrapping_sub(1),
-    }
-}
 
 /// The numbers that the first ACK behind a SYN of this number tells (RFC 9293, section 3.5).
 fn completing(datagram: &Datagram<'_>, isn: u32) -> GivenIsns
@@ -107,7 +95,7 @@ pub(crate) fn glimpse(
         if !is_refused(line) {
             return Ok(());
         }
-        return begin(guesses, alloc, tables, told_by(datagram));
+        return begin(guesses, alloc, tables, isns_told_by(datagram));
     }
     if !is_unknown(line) {
         return Ok(());

@@ -5,6 +5,7 @@
 #![tactic(auto)]
 
 mod glimpses;
+mod ids;
 mod laps;
 mod lines;
 mod listener;
@@ -13,4 +14,5 @@ mod outcomes;
 
 pub use book_cmd_check::GivenIsns;
 pub use book_sessions::SegmentOutcome;
+pub use ids::key_ids;
 pub use listener::Listener;

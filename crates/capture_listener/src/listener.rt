@@ -58,6 +58,23 @@ impl Listener {
         }
     }
 
+    /// A listener behind handshakes with the given initial sequence numbers.
+    pub fn behind(
+        alloc: Global,
+        tables: Tables,
+        laps: u32,
+        isns: &[GivenIsns],
+    ) -> Result<Listener, AllocError>
+        ensures judging { IfOk result (λ l. l.judging ≡ record { tables = tables; laps = laps }) }
+        ensures knows { IfOk result (λ l. Knows l (listening_behind isns.now)) }
+    {
+        let mut listener = Listener::new(alloc, tables, laps);
+        for given in isns {
+            let _has_room = listener.hold(alloc, *given)?;
+        }
+        Ok(listener)
+    }
+
     /// The tables of all nodes.
     pub fn tables(&self) -> &Tables
         ensures { result.now ≡ self.now.judging.tables }

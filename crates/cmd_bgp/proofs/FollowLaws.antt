@@ -15,13 +15,16 @@ use Rattle.book_link.specs.Runs.{empty, run_from, run}
 use Rattle.book_link.specs.Steps.{Stepped, step}
 use Rattle.book_link.specs.Worlds.{Setup, Session, World, other, side, live}
 use Rattle.book_link.specs.Reports.{summary}
+use Rattle.both_ends.specs.declared.values.BothEnds.{BothEnds}
+use Rattle.both_ends.specs.Values.{at, with_at}
+use Rattle.both_ends.proofs.ValueLaws.{at_with_at, other_stays}
 use Rattle.book_cmd_bgp.specs.BgpRuns.{Place as BookPlace, bgp_text, bgp_faults, bgp_lines_from, event_lines, faults_of, is_faulty, place_at, taken_by, taken_lines}
 use Rattle.link_report.specs.declared.outcome.Outcome.{Outcome}
 use Rattle.link_report.specs.declared.outcome.Outcome.TheVariants as outcome
 use Rattle.link_report.specs.Outcomes.{Shows}
 use Rattle.cmd_bgp.specs.declared.lines.Place.{Place}
 use Rattle.cmd_bgp.specs.Places.{place_of}
-use Rattle.cmd_bgp.specs.Follows.{Follows, IsHeard, is_done, reader_at, renewed, taken_in, turn_of}
+use Rattle.cmd_bgp.specs.Follows.{Follows, IsHeard, is_done, renewed, taken_in, turn_of}
 use Rattle.cmd_bgp.specs.declared.runs.Turn.TheVariants as turn
 use Rattle.cmd_bgp.specs.Streams.{streams_of, streams, newest}
 use Rattle.cmd_bgp.proofs.TakenLaws.{AllSame, Begins, Takes, changes}
@@ -103,30 +106,30 @@ both P B one two A = two
 both P B one two B = one
 
 -- the readers stand for the ends of this world, the text and the count are those of it
-record Reached (setup : Setup) (events : List Event) (event : Event) (v : World) (a b : Reading) (text : List ℕ) (faults : ℕ) : Type 0 where
-  stands : (e : End) → StandsFor (reader_at e a b) (newest (streams v e))
+record Reached (setup : Setup) (events : List Event) (event : Event) (v : World) (readers : BothEnds Reading) (text : List ℕ) (faults : ℕ) : Type 0 where
+  stands : (e : End) → StandsFor (at e readers) (newest (streams v e))
   text_is : text ≡ bgp_lines_from setup 1 (empty setup) events ++ event_lines (suc (length events)) event (run setup events) v
   faults_are : faults ≡ bgp_faults v
 
-reaches : (setup : Setup) (events : List Event) (event : Event) (a b : Reading) (text : List ℕ) (faults : ℕ)
-    → Reached setup events event (step setup (run setup events) event).world a b text faults → Follows setup (events ++ event ∷ []) a b text faults
-reaches setup events event a b text faults r =
+reaches : (setup : Setup) (events : List Event) (event : Event) (readers : BothEnds Reading) (text : List ℕ) (faults : ℕ)
+    → Reached setup events event (step setup (run setup events) event).world readers text faults → Follows setup (events ++ event ∷ []) readers text faults
+reaches setup events event readers text faults r =
     let w = run setup events in
     let v = (step setup w event).world in
     let is : run setup (events ++ event ∷ []) ≡ v = run_more setup (empty setup) events event in
     let lines = lines_more setup 1 (empty setup) events event in
     let number : 1 + length events ≡ suc (length events) = omega arith in
     record {
-      stands = λ e. subst (λ (u : World). StandsFor (reader_at e a b) (newest (streams u e))) (sym is) (r.stands e);
+      stands = λ e. subst (λ (u : World). StandsFor (at e readers) (newest (streams u e))) (sym is) (r.stands e);
       text_is = r.text_is ∙ sym (lines ∙ ap (λ n. bgp_lines_from setup 1 (empty setup) events ++ event_lines n event w v) number);
       faults_are = r.faults_are ∙ sym (ap bgp_faults is);
     }
 
 -- an event that changes nothing that was delivered
-still : (setup : Setup) (events : List Event) (event : Event) (a b : Reading) (text : List ℕ) (faults : ℕ) → Follows setup events a b text faults
+still : (setup : Setup) (events : List Event) (event : Event) (readers : BothEnds Reading) (text : List ℕ) (faults : ℕ) → Follows setup events readers text faults
     → AllSame (run setup events) (step setup (run setup events) event).world
-    → event_lines (suc (length events)) event (run setup events) (step setup (run setup events) event).world ≡ [] → Follows setup (events ++ event ∷ []) a b text faults
-still setup events event a b text faults f same none =
+    → event_lines (suc (length events)) event (run setup events) (step setup (run setup events) event).world ≡ [] → Follows setup (events ++ event ∷ []) readers text faults
+still setup events event readers text faults f same none =
     let w = run setup events in
     let v = (step setup w event).world in
     let ones = faults_both w in
@@ -134,42 +137,42 @@ still setup events event a b text faults f same none =
     let at_a = ap faults_in (same A) in
     let at_b = ap faults_in (same B) in
     let were = f.faults_are in
-    reaches setup events event a b text faults (record {
-      stands = λ e. subst (StandsFor (reader_at e a b)) (ap newest (sym (same e))) (f.stands e);
+    reaches setup events event readers text faults (record {
+      stands = λ e. subst (StandsFor (at e readers)) (ap newest (sym (same e))) (f.stands e);
       text_is = f.text_is ∙ sym (append-nil (bgp_lines_from setup 1 (empty setup) events)) ∙ ap (λ l. bgp_lines_from setup 1 (empty setup) events ++ l) (sym none);
       faults_are = omega (arith, ones, twos, at_a, at_b, were);
     })
 
 -- a session of an end began, or its number was used before
-begun : (setup : Setup) (events : List Event) (event : Event) (e : End) (o : Outcome) (a b next_a next_b : Reading) (text : List ℕ) (faults : ℕ) → Follows setup events a b text faults
+begun : (setup : Setup) (events : List Event) (event : Event) (e : End) (o : Outcome) (readers next : BothEnds Reading) (text : List ℕ) (faults : ℕ) → Follows setup events readers text faults
     → Begins e (run setup events) (step setup (run setup events) event) → Shows o (step setup (run setup events) event).outcome
     → event_lines (suc (length events)) event (run setup events) (step setup (run setup events) event).world ≡ []
-    → reader_at e next_a next_b ≡ renewed (is_done o) (reader_at e a b) → reader_at (other e) next_a next_b ≡ reader_at (other e) a b
-    → Follows setup (events ++ event ∷ []) next_a next_b text faults
-begun setup events event e o a b next_a next_b text faults f k h none here there =
+    → at e next ≡ renewed (is_done o) (at e readers) → at (other e) next ≡ at (other e) readers
+    → Follows setup (events ++ event ∷ []) next text faults
+begun setup events event e o readers next text faults f k h none here there =
     let w = run setup events in
     let s = step setup w event in
     let v = s.world in
-    let P : End → Type 0 = λ x. StandsFor (reader_at x next_a next_b) (newest (streams v x)) in
+    let P : End → Type 0 = λ x. StandsFor (at x next) (newest (streams v x)) in
     let near : P e × (faults_in (streams v e) ≡ faults_in (streams w e)) = elim k.either [
       | inl done ↦
           let is = k.new done in
-          let r : reader_at e next_a next_b ≡ new_reading = here ∙ ap (λ t. renewed t (reader_at e a b)) (shows_done o s.outcome h done) in
+          let r : at e next ≡ new_reading = here ∙ ap (λ t. renewed t (at e readers)) (shows_done o s.outcome h done) in
           let zeros : is_faulty (fault_in []) ≡ 0 = ap is_faulty sound_start in
           let count = ap faults_in is in
           (subst (λ x. StandsFor x (newest (streams v e))) (sym r) (subst (StandsFor new_reading) (ap newest (sym is)) new_stands), omega (arith, count, zeros))
       | inr used ↦
           let is = k.used used in
-          let r : reader_at e next_a next_b ≡ reader_at e a b = here ∙ ap (λ t. renewed t (reader_at e a b)) (shows_used o s.outcome h used) in
-          (subst (λ x. StandsFor x (newest (streams v e))) (sym r) (subst (StandsFor (reader_at e a b)) (ap newest (sym is)) (f.stands e)), ap faults_in is)
+          let r : at e next ≡ at e readers = here ∙ ap (λ t. renewed t (at e readers)) (shows_used o s.outcome h used) in
+          (subst (λ x. StandsFor x (newest (streams v e))) (sym r) (subst (StandsFor (at e readers)) (ap newest (sym is)) (f.stands e)), ap faults_in is)
     ] in
-    let far : P (other e) = subst (λ x. StandsFor x (newest (streams v (other e)))) (sym there) (subst (StandsFor (reader_at (other e) a b)) (ap newest (sym k.others)) (f.stands (other e))) in
+    let far : P (other e) = subst (λ x. StandsFor x (newest (streams v (other e)))) (sym there) (subst (StandsFor (at (other e) readers)) (ap newest (sym k.others)) (f.stands (other e))) in
     let ones = faults_at w e in
     let twos = faults_at v e in
     let same = near.1 in
     let others = ap faults_in k.others in
     let were = f.faults_are in
-    reaches setup events event next_a next_b text faults (record {
+    reaches setup events event next text faults (record {
       stands = both P e near.0 far;
       text_is = f.text_is ∙ sym (append-nil (bgp_lines_from setup 1 (empty setup) events)) ∙ ap (λ l. bgp_lines_from setup 1 (empty setup) events ++ l) (sym none);
       faults_are = omega (arith, ones, twos, same, others, were);
@@ -210,25 +213,25 @@ grown w e s o k h = elim k.either [
 ]
 
 -- the live session of an end was asked for bytes
-taken : (setup : Setup) (events : List Event) (e : End) (count : ℕ) (o : Outcome) (p : Place) (a b next_a next_b : Reading) (text next_text : List ℕ) (faults next_faults : ℕ)
-    → Follows setup events a b text faults → Shows o (step setup (run setup events) (At e (Take count))).outcome → place_of p ≡ place_at (run setup events) e (suc (length events))
-    → IsHeard p (newest (streams (run setup events) e)) (taken_in o) text next_text (reader_at e next_a next_b) faults next_faults
-    → reader_at (other e) next_a next_b ≡ reader_at (other e) a b → Follows setup (events ++ At e (Take count) ∷ []) next_a next_b next_text next_faults
-taken setup events e count o p a b next_a next_b text next_text faults next_faults f h at heard there =
+taken : (setup : Setup) (events : List Event) (e : End) (count : ℕ) (o : Outcome) (p : Place) (readers next : BothEnds Reading) (text next_text : List ℕ) (faults next_faults : ℕ)
+    → Follows setup events readers text faults → Shows o (step setup (run setup events) (At e (Take count))).outcome → place_of p ≡ place_at (run setup events) e (suc (length events))
+    → IsHeard p (newest (streams (run setup events) e)) (taken_in o) text next_text (at e next) faults next_faults
+    → at (other e) next ≡ at (other e) readers → Follows setup (events ++ At e (Take count) ∷ []) next next_text next_faults
+taken setup events e count o p readers next text next_text faults next_faults f h place heard there =
     let w = run setup events in
     let s = step setup w (At e (Take count)) in
     let v = s.world in
     let k : Takes e w s = changes setup w (At e (Take count)) in
     let g = grown w e s o k h in
     let old = newest (streams w e) in
-    let P : End → Type 0 = λ x. StandsFor (reader_at x next_a next_b) (newest (streams v x)) in
-    let near : P e = subst (StandsFor (reader_at e next_a next_b)) (sym g.delivered) heard.stands in
-    let far : P (other e) = subst (λ x. StandsFor x (newest (streams v (other e)))) (sym there) (subst (StandsFor (reader_at (other e) a b)) (ap newest (sym k.others)) (f.stands (other e))) in
+    let P : End → Type 0 = λ x. StandsFor (at x next) (newest (streams v x)) in
+    let near : P e = subst (StandsFor (at e next)) (sym g.delivered) heard.stands in
+    let far : P (other e) = subst (λ x. StandsFor x (newest (streams v (other e)))) (sym there) (subst (StandsFor (at (other e) readers)) (ap newest (sym k.others)) (f.stands (other e))) in
     let n = suc (length events) in
     let was : old ≡ taken_by (live (side w e).sessions) = sym (newest_taken (side w e).sessions) in
     let is : old ++ taken_in o ≡ taken_by (live (side v e).sessions) = sym g.delivered ∙ sym (newest_taken (side v e).sessions) in
     let lines : taken_lines (place_of p) old (old ++ taken_in o) ≡ event_lines n (At e (Take count)) w v =
-    ap (λ q. taken_lines q old (old ++ taken_in o)) at ∙ ap (λ l. taken_lines (place_at w e n) l (old ++ taken_in o)) was
+    ap (λ q. taken_lines q old (old ++ taken_in o)) place ∙ ap (λ l. taken_lines (place_at w e n) l (old ++ taken_in o)) was
     ∙ ap (taken_lines (place_at w e n) (taken_by (live (side w e).sessions))) is in
     let ones = faults_at w e in
     let twos = faults_at v e in
@@ -237,7 +240,7 @@ taken setup events e count o p a b next_a next_b text next_text faults next_faul
     let were = f.faults_are in
     let more = heard.faults in
     let same = ap (λ l. is_faulty (fault_in l)) g.delivered in
-    reaches setup events (At e (Take count)) next_a next_b next_text next_faults (record {
+    reaches setup events (At e (Take count)) next next_text next_faults (record {
       stands = both P e near far;
       text_is = heard.text ∙ ap (λ l. l ++ taken_lines (place_of p) old (old ++ taken_in o)) f.text_is ∙ ap (λ l. bgp_lines_from setup 1 (empty setup) events ++ l) lines;
       faults_are = omega (arith, ones, twos, counted, others, were, more, same);
@@ -287,39 +290,39 @@ leaves_by setup w (At e Send) is = record { same = changes setup w (At e Send); 
 leaves_by setup w (At e Resend) is = record { same = changes setup w (At e Resend); none = λ n v. refl }
 leaves_by setup w (At e (Deliver name)) is = record { same = changes setup w (At e (Deliver name)); none = λ n v. refl }
 leaves_by setup w (At e (Inject bytes)) is = record { same = changes setup w (At e (Inject bytes)); none = λ n v. refl }
-leaves_by setup w (At e (Alter name place mask fix)) is = record { same = changes setup w (At e (Alter name place mask fix)); none = λ n v. refl }
+leaves_by setup w (At e (Alter name place mask fixing)) is = record { same = changes setup w (At e (Alter name place mask fixing)); none = λ n v. refl }
 leaves_by setup w (At e Close) is = record { same = changes setup w (At e Close); none = λ n v. refl }
 leaves_by setup w (At e Abort) is = record { same = changes setup w (At e Abort); none = λ n v. refl }
 leaves_by setup w (At e (AddRow row)) is = record { same = changes setup w (At e (AddRow row)); none = λ n v. refl }
 leaves_by setup w (At e (Withdraw number)) is = record { same = changes setup w (At e (Withdraw number)); none = λ n v. refl }
 leaves_by setup w (Dump name) is = record { same = changes setup w (Dump name); none = λ n v. refl }
 
-pub follows_begin : (setup : Setup) (events : List Event) (event : Event) (e : End) (o : Outcome) (a b next_a next_b : Reading) (text : List ℕ) (faults : ℕ) → Follows setup events a b text faults
+pub follows_begin : (setup : Setup) (events : List Event) (event : Event) (e : End) (o : Outcome) (readers next : BothEnds Reading) (text : List ℕ) (faults : ℕ) → Follows setup events readers text faults
     → turn_of event ≡ turn.Begins e → Shows o (step setup (run setup events) event).outcome
-    → reader_at e next_a next_b ≡ renewed (is_done o) (reader_at e a b) → reader_at (other e) next_a next_b ≡ reader_at (other e) a b
-    → Follows setup (events ++ event ∷ []) next_a next_b text faults
-follows_begin setup events event e o a b next_a next_b text faults f is h here there =
+    → at e next ≡ renewed (is_done o) (at e readers) → at (other e) next ≡ at (other e) readers
+    → Follows setup (events ++ event ∷ []) next text faults
+follows_begin setup events event e o readers next text faults f is h here there =
     let w = run setup events in
     let k = begins_by e setup w event is in
-    begun setup events event e o a b next_a next_b text faults f k.how h (k.none (suc (length events)) (step setup w event).world) here there
+    begun setup events event e o readers next text faults f k.how h (k.none (suc (length events)) (step setup w event).world) here there
 
-pub follows_take : (setup : Setup) (events : List Event) (event : Event) (e : End) (o : Outcome) (p : Place) (a b next_a next_b : Reading) (text next_text : List ℕ) (faults next_faults : ℕ)
-    → Follows setup events a b text faults → turn_of event ≡ turn.Takes e → Shows o (step setup (run setup events) event).outcome
+pub follows_take : (setup : Setup) (events : List Event) (event : Event) (e : End) (o : Outcome) (p : Place) (readers next : BothEnds Reading) (text next_text : List ℕ) (faults next_faults : ℕ)
+    → Follows setup events readers text faults → turn_of event ≡ turn.Takes e → Shows o (step setup (run setup events) event).outcome
     → place_of p ≡ place_at (run setup events) e (suc (length events))
-    → IsHeard p (newest (streams (run setup events) e)) (taken_in o) text next_text (reader_at e next_a next_b) faults next_faults
-    → reader_at (other e) next_a next_b ≡ reader_at (other e) a b → Follows setup (events ++ event ∷ []) next_a next_b next_text next_faults
-follows_take setup events event e o p a b next_a next_b text next_text faults next_faults f is h at heard there =
+    → IsHeard p (newest (streams (run setup events) e)) (taken_in o) text next_text (at e next) faults next_faults
+    → at (other e) next ≡ at (other e) readers → Follows setup (events ++ event ∷ []) next next_text next_faults
+follows_take setup events event e o p readers next text next_text faults next_faults f is h place heard there =
     let t = takes_by e event is in
     let same : event ≡ At e (Take t.0) = t.1 in
-    subst (λ x. Follows setup (events ++ x ∷ []) next_a next_b next_text next_faults) (sym same)
-    (taken setup events e t.0 o p a b next_a next_b text next_text faults next_faults f (subst (λ x. Shows o (step setup (run setup events) x).outcome) same h) at heard there)
+    subst (λ x. Follows setup (events ++ x ∷ []) next next_text next_faults) (sym same)
+    (taken setup events e t.0 o p readers next text next_text faults next_faults f (subst (λ x. Shows o (step setup (run setup events) x).outcome) same h) place heard there)
 
-pub follows_other : (setup : Setup) (events : List Event) (event : Event) (a b : Reading) (text : List ℕ) (faults : ℕ) → Follows setup events a b text faults → turn_of event ≡ turn.Neither
-    → Follows setup (events ++ event ∷ []) a b text faults
-follows_other setup events event a b text faults f is =
+pub follows_other : (setup : Setup) (events : List Event) (event : Event) (readers : BothEnds Reading) (text : List ℕ) (faults : ℕ) → Follows setup events readers text faults → turn_of event ≡ turn.Neither
+    → Follows setup (events ++ event ∷ []) readers text faults
+follows_other setup events event readers text faults f is =
     let w = run setup events in
     let k = leaves_by setup w event is in
-    still setup events event a b text faults f k.same (k.none (suc (length events)) (step setup w event).world)
+    still setup events event readers text faults f k.same (k.none (suc (length events)) (step setup w event).world)
 
 -- ---- what the code asks for
 
@@ -330,17 +333,12 @@ as_many : (ss : List Session) → length (streams_of ss) ≡ length ss
 as_many [] = refl
 as_many (s ∷ ss) = ap suc (as_many ss)
 
-pub begin_at_a : (setup : Setup) (events : List Event) (event : Event) (e : End) (o : Outcome) (began : Bool) (a b next : Reading) (text : List ℕ) (faults : ℕ) → e ≡ A
-    → Follows setup events a b text faults → turn_of event ≡ turn.Begins e → Shows o (step setup (run setup events) event).outcome → began ≡ is_done o → next ≡ renewed began a
-    → Follows setup (events ++ event ∷ []) next b text faults
-begin_at_a setup events event e o began a b next text faults at f is h began_is next_is =
-    follows_begin setup events event A o a b next b text faults f (is ∙ ap turn.Begins at) h (next_is ∙ ap (λ t. renewed t a) began_is) refl
-
-pub begin_at_b : (setup : Setup) (events : List Event) (event : Event) (e : End) (o : Outcome) (began : Bool) (a b next : Reading) (text : List ℕ) (faults : ℕ) → e ≡ B
-    → Follows setup events a b text faults → turn_of event ≡ turn.Begins e → Shows o (step setup (run setup events) event).outcome → began ≡ is_done o → next ≡ renewed began b
-    → Follows setup (events ++ event ∷ []) a next text faults
-begin_at_b setup events event e o began a b next text faults at f is h began_is next_is =
-    follows_begin setup events event B o a b a next text faults f (is ∙ ap turn.Begins at) h (next_is ∙ ap (λ t. renewed t b) began_is) refl
+pub follows_begun : (setup : Setup) (events : List Event) (event : Event) (e : End) (o : Outcome) (began : Bool) (readers : BothEnds Reading) (text : List ℕ) (faults : ℕ)
+    → Follows setup events readers text faults → turn_of event ≡ turn.Begins e → Shows o (step setup (run setup events) event).outcome → began ≡ is_done o
+    → Follows setup (events ++ event ∷ []) (with_at e (renewed began (at e readers)) readers) text faults
+follows_begun setup events event e o began readers text faults f is h began_is =
+    let next = renewed began (at e readers) in
+    follows_begin setup events event e o readers (with_at e next readers) text faults f is h (at_with_at e next readers ∙ ap (λ t. renewed t (at e readers)) began_is) (other_stays e next readers)
 
 -- what is known of a take: where it is from, and how much the session has delivered after it
 pub record IsTake (setup : Setup) (events : List Event) (event : Event) (e : End) (o : Outcome) (p : Place) (piece : List ℕ) (delivered : ℕ) : Type 0 where
@@ -383,49 +381,42 @@ placed setup events event e o p piece delivered t =
     let k = takes_by e event t.is in
     placed_by setup events e k.0 o p piece delivered (subst (λ x. IsTake setup events x e o p piece delivered) k.1 t)
 
-take_at : (setup : Setup) (events : List Event) (event : Event) (e : End) (o : Outcome) (p : Place) (piece : List ℕ) (delivered : ℕ) (a b next_a next_b : Reading) (text next_text : List ℕ) (faults next_faults : ℕ)
-    → IsTake setup events event e o p piece delivered → Follows setup events a b text faults
-    → ((bytes : List ℕ) → StandsFor (reader_at e a b) bytes → length bytes + length piece ≤ greatest_place → IsHeard p bytes piece text next_text (reader_at e next_a next_b) faults next_faults)
-    → reader_at (other e) next_a next_b ≡ reader_at (other e) a b → Follows setup (events ++ event ∷ []) next_a next_b next_text next_faults
-take_at setup events event e o p piece delivered a b next_a next_b text next_text faults next_faults t f heard there =
+take_at : (setup : Setup) (events : List Event) (event : Event) (e : End) (o : Outcome) (p : Place) (piece : List ℕ) (delivered : ℕ) (readers next : BothEnds Reading) (text next_text : List ℕ) (faults next_faults : ℕ)
+    → IsTake setup events event e o p piece delivered → Follows setup events readers text faults
+    → ((bytes : List ℕ) → StandsFor (at e readers) bytes → length bytes + length piece ≤ greatest_place → IsHeard p bytes piece text next_text (at e next) faults next_faults)
+    → at (other e) next ≡ at (other e) readers → Follows setup (events ++ event ∷ []) next next_text next_faults
+take_at setup events event e o p piece delivered readers next text next_text faults next_faults t f heard there =
     let k = placed setup events event e o p piece delivered t in
     let old = newest (streams (run setup events) e) in
-    let h : IsHeard p old (taken_in o) text next_text (reader_at e next_a next_b) faults next_faults =
-    subst (λ l. IsHeard p old l text next_text (reader_at e next_a next_b) faults next_faults) t.piece_is (heard old (f.stands e) k.small) in
-    follows_take setup events event e o p a b next_a next_b text next_text faults next_faults f t.is t.shows k.place h there
+    let h : IsHeard p old (taken_in o) text next_text (at e next) faults next_faults =
+    subst (λ l. IsHeard p old l text next_text (at e next) faults next_faults) t.piece_is (heard old (f.stands e) k.small) in
+    follows_take setup events event e o p readers next text next_text faults next_faults f t.is t.shows k.place h there
 
-pub take_at_a : (setup : Setup) (events : List Event) (event : Event) (e : End) (o : Outcome) (p : Place) (piece : List ℕ) (delivered : ℕ) (a b next : Reading) (text next_text : List ℕ) (faults next_faults : ℕ)
-    → e ≡ A → IsTake setup events event e o p piece delivered → Follows setup events a b text faults
-    → ((bytes : List ℕ) → StandsFor a bytes → length bytes + length piece ≤ greatest_place → IsHeard p bytes piece text next_text next faults next_faults)
-    → Follows setup (events ++ event ∷ []) next b next_text next_faults
-take_at_a setup events event e o p piece delivered a b next text next_text faults next_faults at t f heard =
-    take_at setup events event A o p piece delivered a b next b text next_text faults next_faults (subst (λ x. IsTake setup events event x o p piece delivered) at t) f heard refl
-
-pub take_at_b : (setup : Setup) (events : List Event) (event : Event) (e : End) (o : Outcome) (p : Place) (piece : List ℕ) (delivered : ℕ) (a b next : Reading) (text next_text : List ℕ) (faults next_faults : ℕ)
-    → e ≡ B → IsTake setup events event e o p piece delivered → Follows setup events a b text faults
-    → ((bytes : List ℕ) → StandsFor b bytes → length bytes + length piece ≤ greatest_place → IsHeard p bytes piece text next_text next faults next_faults)
-    → Follows setup (events ++ event ∷ []) a next next_text next_faults
-take_at_b setup events event e o p piece delivered a b next text next_text faults next_faults at t f heard =
-    take_at setup events event B o p piece delivered a b a next text next_text faults next_faults (subst (λ x. IsTake setup events event x o p piece delivered) at t) f heard refl
+pub follows_taken : (setup : Setup) (events : List Event) (event : Event) (e : End) (o : Outcome) (p : Place) (piece : List ℕ) (delivered : ℕ) (readers : BothEnds Reading) (next : Reading) (text next_text : List ℕ) (faults next_faults : ℕ)
+    → IsTake setup events event e o p piece delivered → Follows setup events readers text faults
+    → ((bytes : List ℕ) → StandsFor (at e readers) bytes → length bytes + length piece ≤ greatest_place → IsHeard p bytes piece text next_text next faults next_faults)
+    → Follows setup (events ++ event ∷ []) (with_at e next readers) next_text next_faults
+follows_taken setup events event e o p piece delivered readers next text next_text faults next_faults t f heard =
+    let is = at_with_at e next readers in
+    take_at setup events event e o p piece delivered readers (with_at e next readers) text next_text faults next_faults t f
+    (λ bytes stands small. subst (λ r. IsHeard p bytes piece text next_text r faults next_faults) (sym is) (heard bytes stands small)) (other_stays e next readers)
 
 -- no event yet
-pub starts : (setup : Setup) (a b : Reading) → a ≡ new_reading → b ≡ new_reading → Follows setup [] a b [] 0
-starts setup a b is_a is_b =
+pub starts : (setup : Setup) (readers : BothEnds Reading) → readers.a ≡ new_reading → readers.b ≡ new_reading → Follows setup [] readers [] 0
+starts setup readers is_a is_b =
     record {
-      stands = both (λ e. StandsFor (reader_at e a b) (newest (streams (empty setup) e))) A (subst (λ r. StandsFor r []) (sym is_a) new_stands) (subst (λ r. StandsFor r []) (sym is_b) new_stands);
+      stands = both (λ e. StandsFor (at e readers) (newest (streams (empty setup) e))) A (subst (λ r. StandsFor r []) (sym is_a) new_stands) (subst (λ r. StandsFor r []) (sym is_b) new_stands);
       text_is = refl;
       faults_are = refl;
     }
 
--- the readers after the run
-pub reader_a : (setup : Setup) (events : List Event) (a b : Reading) (text : List ℕ) (faults : ℕ) → Follows setup events a b text faults → StandsFor a (taken_by (live (run setup events).a.sessions))
-reader_a setup events a b text faults f = subst (StandsFor a) (sym (newest_taken (run setup events).a.sessions)) (f.stands A)
-
-pub reader_b : (setup : Setup) (events : List Event) (a b : Reading) (text : List ℕ) (faults : ℕ) → Follows setup events a b text faults → StandsFor b (taken_by (live (run setup events).b.sessions))
-reader_b setup events a b text faults f = subst (StandsFor b) (sym (newest_taken (run setup events).b.sessions)) (f.stands B)
+-- the reader of an end after the run
+pub reader_of : (setup : Setup) (events : List Event) (e : End) (readers : BothEnds Reading) (text : List ℕ) (faults : ℕ) → Follows setup events readers text faults
+    → StandsFor (at e readers) (taken_by (live (side (run setup events) e).sessions))
+reader_of setup events e readers text faults f = subst (StandsFor (at e readers)) (sym (newest_taken (side (run setup events) e).sessions)) (f.stands e)
 
 -- the text of the run
-pub whole_text : (setup : Setup) (events : List Event) (a b : Reading) (text whole end : List ℕ) (faults : ℕ) → Follows setup events a b text faults → whole ≡ text ++ end → end ≡ summary (run setup events)
+pub whole_text : (setup : Setup) (events : List Event) (readers : BothEnds Reading) (text whole end : List ℕ) (faults : ℕ) → Follows setup events readers text faults → whole ≡ text ++ end → end ≡ summary (run setup events)
     → whole ≡ bgp_text setup events
 unfolding bgp_text
-whole_text setup events a b text whole end faults f is end_is = is ∙ ap (λ l. l ++ end) f.text_is ∙ ap (λ l. bgp_lines_from setup 1 (empty setup) events ++ l) end_is
+whole_text setup events readers text whole end faults f is end_is = is ∙ ap (λ l. l ++ end) f.text_is ∙ ap (λ l. bgp_lines_from setup 1 (empty setup) events ++ l) end_is

@@ -25,12 +25,13 @@ use Rattle.endpoint_steps.proofs.Drafting.{emit_by_drafts, resend_by_drafts}
 use Rattle.book_segments.specs.Bytes.{ring}
 use Rattle.book_endpoint.specs.States.{given_end}
 use Rattle.endpoint_steps.proofs.Arriving.{read_by_cases}
+use Rattle.book_link.specs.declared.event.Fixing.{Fixing}
 use Rattle.book_link.specs.Alterations.{has_place, altered}
 use Rattle.book_link.specs.declared.event.Event.{Event}
 use Rattle.book_link.specs.declared.event.Event.TheVariants.{At, Dump}
 use Rattle.book_link.specs.declared.event.Action.TheVariants.{Clock, Connect, Listen as Await, Start, Give, Fill, Send, Resend, Deliver, Inject, Alter, Take, Close, Abort, AddRow, Withdraw}
 use Rattle.book_link.specs.Outcomes.{Outcome, Done, Took, IsnUsed, NoSession, Full, HasClosed, Idle, Nothing}
-use Rattle.book_link.specs.RowLines.{added_row}
+use Rattle.book_keys.specs.Tables.{row_of_new}
 use Rattle.book_link.specs.Worlds.{Setup, pair_of, Session, LinkSide, Made, Happening, World, other, side, find, segment_named}
 use Rattle.book_link.specs.Steps.{View, Stepped, Act, put, with_sessions, with_table, acted, act_on, on_live, quietly, ticked, with_clock, begin, given, sent, send, send_again, come, took, deliver, alter, add_row, withdraw, step, view_of}
 use Rattle.law_link.proofs.Tests.{choose}
@@ -265,10 +266,10 @@ deliver_same : (setup : Setup) (e : End) (w : World) (o : Option Made) → AllSa
 deliver_same setup e w None = λ f. refl
 deliver_same setup e w (Some m) = live_same w e (come m.bytes (view_of setup w e)) (λ s. come_same setup e w m.bytes s)
 
-alter_same : (setup : Setup) (e : End) (w : World) (place mask : ℕ) (fix : Bool) (o : Option Made) → AllSame w (alter setup w e (record { place = place; mask = mask; fix = fix }) o).world
-alter_same setup e w place mask fix None = λ f. refl
-alter_same setup e w place mask fix (Some m) =
-    let bytes = altered m.bytes (record { place = place; mask = mask; fix = fix }) in
+alter_same : (setup : Setup) (e : End) (w : World) (place mask : ℕ) (fixing : Fixing) (o : Option Made) → AllSame w (alter setup w e (record { place = place; mask = mask; fixing = fixing }) o).world
+alter_same setup e w place mask fixing None = λ f. refl
+alter_same setup e w place mask fixing (Some m) =
+    let bytes = altered m.bytes (record { place = place; mask = mask; fixing = fixing }) in
     choose (λ (x : Stepped). AllSame w x.world) (has_place m.bytes place) (on_live w e (come bytes (view_of setup w e))) _
     (λ t. live_same w e (come bytes (view_of setup w e)) (λ s. come_same setup e w bytes s)) (λ t. λ f. refl)
 
@@ -368,10 +369,10 @@ changes setup w (At e Send) = live_same w e (send (view_of setup w e)) (λ s. se
 changes setup w (At e Resend) = live_same w e (send_again (view_of setup w e)) (λ s. send_again_same setup e w s)
 changes setup w (At e (Deliver name)) = deliver_same setup e w (segment_named name w.history)
 changes setup w (At e (Inject bytes)) = live_same w e (come bytes (view_of setup w e)) (λ s. come_same setup e w bytes s)
-changes setup w (At e (Alter name place mask fix)) = alter_same setup e w place mask fix (segment_named name w.history)
+changes setup w (At e (Alter name place mask fixing)) = alter_same setup e w place mask fixing (segment_named name w.history)
 changes setup w (At e (Take count)) = take_streams w e count (side w e).sessions refl
 changes setup w (At e Close) = live_same w e (λ s. quietly (close s) Done) (λ s. close_same s s.phase)
 changes setup w (At e Abort) = live_same w e (λ s. quietly (abort s) Done) (λ s. refl)
-changes setup w (At e (AddRow row)) = add_row_same w e (adding (side w e).rows (added_row row))
+changes setup w (At e (AddRow row)) = add_row_same w e (adding (side w e).rows (row_of_new row))
 changes setup w (At e (Withdraw number)) = withdraw_same w e (withdrawn (side w e).rows number)
 changes setup w (Dump name) = λ f. refl

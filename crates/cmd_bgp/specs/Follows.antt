@@ -1,7 +1,6 @@
 -- What two readers and an output are of a run so far.
 use Rattle.std.specs.Prelude.{◌≡◌, ℕ, ◌+◌, Bool, true, false, List, [], ◌++◌}
 use Rattle.book_base.specs.declared.end.End.{End}
-use Rattle.book_base.specs.declared.end.End.TheVariants.{A, B}
 use Rattle.book_bgp.specs.Messages.{fault_in}
 use Rattle.book_link.specs.declared.event.Event.{Event}
 use Rattle.book_link.specs.declared.event.Event.TheVariants as event
@@ -9,6 +8,8 @@ use Rattle.book_link.specs.declared.event.Action.TheVariants as action
 use Rattle.book_link.specs.Runs.{empty, run}
 use Rattle.book_link.specs.Worlds.{Setup}
 use Rattle.book_cmd_bgp.specs.BgpRuns.{bgp_faults, bgp_lines_from, is_faulty, taken_lines}
+use Rattle.both_ends.specs.declared.values.BothEnds.{BothEnds}
+use Rattle.both_ends.specs.Values.{at}
 use Rattle.bgp_messages.specs.Readers.{Reading, StandsFor, new_reading}
 use Rattle.link_report.specs.declared.outcome.Outcome.{Outcome}
 use Rattle.link_report.specs.declared.outcome.Outcome.TheVariants as outcome
@@ -41,11 +42,6 @@ abbrev pub renewed : Bool → Reading → Reading
 renewed true r = new_reading
 renewed false r = r
 
--- the reader of an end
-abbrev pub reader_at : End → Reading → Reading → Reading
-reader_at A a b = a
-reader_at B a b = b
-
 -- the reader got a piece after these bytes, and the lines and faults are written and counted
 pub record IsHeard (p : Place) (bytes piece before after : List ℕ) (reader : Reading) (old new : ℕ) : Type 0 where
   pub stands : StandsFor reader (bytes ++ piece)
@@ -53,7 +49,7 @@ pub record IsHeard (p : Place) (bytes piece before after : List ℕ) (reader : R
   pub faults : new + is_faulty (fault_in bytes) ≡ old + is_faulty (fault_in (bytes ++ piece))
 
 -- the readers stand for what the live sessions delivered, the text is that of the messages, and the faults are counted
-pub record Follows (setup : Setup) (events : List Event) (a b : Reading) (text : List ℕ) (faults : ℕ) : Type 0 where
-  pub stands : (e : End) → StandsFor (reader_at e a b) (newest (streams (run setup events) e))
+pub record Follows (setup : Setup) (events : List Event) (readers : BothEnds Reading) (text : List ℕ) (faults : ℕ) : Type 0 where
+  pub stands : (e : End) → StandsFor (at e readers) (newest (streams (run setup events) e))
   pub text_is : text ≡ bgp_lines_from setup 1 (empty setup) events
   pub faults_are : faults ≡ bgp_faults (run setup events)

@@ -1,5 +1,5 @@
 //! The answer of `bgp`.
-ghost use Rattle.std.specs.Prelude.{true};
+ghost use Rattle.book_cmd_link.specs.declared.script.KeysFrom.TheVariants as keys_from;
 ghost use Rattle.book_answer.specs.Answers.{bgp_over, if_read};
 ghost use Rattle.book_cmd_link.specs.LinkFiles.{script_of};
 ghost use Rattle.command_report.specs.Reports.{Reports};
@@ -7,9 +7,10 @@ ghost use Rattle.command_report.specs.Reports.{Reports};
 use crate::runs::run_bgp;
 use bgp_messages::BgpReader;
 use book_cmd_link::Script;
+use both_ends::BothEnds;
 use command_report::{Report, Stop};
 use key_table::Tables;
-use link_script::read_script;
+use link_script::{KeysFrom, read_script};
 use link_world::Setup;
 use std::alloc::Global;
 
@@ -21,14 +22,16 @@ use std::alloc::Global;
 /// `link_script::read_script`. `Memory` only for want of memory.
 #[tactic(auto, using(command_report::proofs::Reporting::fails_stops))]
 pub fn answer(alloc: Global, tables: Tables, input: &[u8]) -> Result<Report, Stop>
-    ensures { Reports result (if_read (bgp_over tables) (script_of true input.now)) }
+    ensures { Reports result (if_read (bgp_over tables) (script_of keys_from.KeyFile input.now)) }
 {
-    let script = read_script(alloc, true, input)?;
+    let script = read_script(alloc, KeysFrom::KeyFile, input)?;
     let Script { a, b, events, .. } = script;
-    let mut a_reader = BgpReader::new(alloc)?;
-    let mut b_reader = BgpReader::new(alloc)?;
+    let mut readers = BothEnds {
+        a: BgpReader::new(alloc)?,
+        b: BgpReader::new(alloc)?,
+    };
     let setup = Setup { tables, a, b };
-    let run = run_bgp(alloc, setup, &events, &mut a_reader, &mut b_reader)?;
+    let run = run_bgp(alloc, setup, &events, &mut readers)?;
     let is_amiss = run.forgeries != 0 || run.faults != 0;
     Ok(Report {
         text: run.text,

@@ -1,5 +1,6 @@
 //! A run of a link whose delivered bytes are read as messages.
 ghost use Rattle.std.specs.Prelude.{◌≡◌, ℕ, suc, ◌+◌, ◌<◌, ◌≤◌, true, All, List, [], ◌∷◌, ◌++◌, IfOk, OnOk, length};
+ghost use Rattle.book_lines.specs.Lines.{most_lines};
 ghost use Rattle.bgp_messages.specs.Readers.{StandsFor, new_reading, greatest_place};
 ghost use Rattle.book_cmd_bgp.specs.BgpRuns.{bgp_faults, bgp_text, taken_by};
 ghost use Rattle.book_segments.specs.Sockets.{are_two_of_a_family};
@@ -17,6 +18,7 @@ use crate::pieces::read_piece;
 use bgp_messages::BgpReader;
 use book_base::{Bytes, End};
 use book_link::{Action, Event, Events};
+use both_ends::BothEnds;
 use link_world::{Outcome, Setup, World};
 use std::alloc::{AllocError, Global};
 
@@ -121,16 +123,12 @@ fn delivered(world: &World, end: End) -> u64
 }
 
 /// A session of the end began, or its initial sequence number was used before.
-fn begin(world: &World, end: End, a: &mut BgpReader, b: &mut BgpReader)
+fn begin(world: &World, end: End, readers: &mut BothEnds<BgpReader>)
     requires steps { 0 < steps_taken world.now }
     ensures { (setup : Link) (events : List One) (event : One) (text : List ℕ) (faults : ℕ) → WorldStands world.now setup (events ++ event ∷ [])
-        → turn_of event ≡ Turn.Begins end → Follows setup events a.old b.old text faults → Follows setup (events ++ event ∷ []) a.new b.new text faults }
+        → turn_of event ≡ Turn.Begins end → Follows setup events readers.old text faults → Follows setup (events ++ event ∷ []) readers.new text faults }
 {
-    let began = is_done(world.outcome());
-    match end {
-        End::A => renew(began, a),
-        End::B => renew(began, b),
-    }
+    renew(is_done(world.outcome()), readers.at_mut(end));
 }
 
 /// The live session of the end was asked for bytes, where there is one.
@@ -138,15 +136,14 @@ fn take(
     world: &World,
     number: u32,
     end: End,
-    a: &mut BgpReader,
-    b: &mut BgpReader,
+    readers: &mut BothEnds<BgpReader>,
     said: &mut Said,
 ) -> Result<(), AllocError>
     requires steps { 0 < steps_taken world.now }
     requires few { said.old.faults < 4294967295 }
     ensures follows { OnOk result ((setup : Link) (events : List One) (event : One) → WorldStands world.now setup (events ++ event ∷ [])
-        → turn_of event ≡ Turn.Takes end → number ≡ suc (length events) → Follows setup events a.old b.old said.old.text.items said.old.faults
-        → Follows setup (events ++ event ∷ []) a.new b.new said.new.text.items said.new.faults) }
+        → turn_of event ≡ Turn.Takes end → number ≡ suc (length events) → Follows setup events readers.old said.old.text.items said.old.faults
+        → Follows setup (events ++ event ∷ []) readers.new said.new.text.items said.new.faults) }
     ensures few { OnOk result (said.new.faults ≤ said.old.faults + 1) }
 {
     let place = Place {
@@ -157,10 +154,7 @@ fn take(
     // It fits into 64 bits, so that the reader's place tells all of it.
     let _delivered = delivered(world, end);
     let piece = taken_in(world.outcome());
-    match end {
-        End::A => hear(piece, &place, a, said),
-        End::B => hear(piece, &place, b, said),
-    }
+    hear(piece, &place, readers.at_mut(end), said)
 }
 
 /// Has the readers follow the event that was stepped through last, of this number.
@@ -168,23 +162,22 @@ fn follow(
     world: &World,
     number: u32,
     event: &Event,
-    a: &mut BgpReader,
-    b: &mut BgpReader,
+    readers: &mut BothEnds<BgpReader>,
     said: &mut Said,
 ) -> Result<(), AllocError>
     requires steps { 0 < steps_taken world.now }
     requires few { said.old.faults < 4294967295 }
     ensures follows { OnOk result ((setup : Link) (events : List One) → WorldStands world.now setup (events ++ event.now ∷ [])
-        → number ≡ suc (length events) → Follows setup events a.old b.old said.old.text.items said.old.faults
-        → Follows setup (events ++ event.now ∷ []) a.new b.new said.new.text.items said.new.faults) }
+        → number ≡ suc (length events) → Follows setup events readers.old said.old.text.items said.old.faults
+        → Follows setup (events ++ event.now ∷ []) readers.new said.new.text.items said.new.faults) }
     ensures few { OnOk result (said.new.faults ≤ said.old.faults + 1) }
 {
     match turn_of(event) {
         Turn::Begins(end) => {
-            begin(world, end, a, b);
+            begin(world, end, readers);
             Ok(())
         }
-        Turn::Takes(end) => take(world, number, end, a, b, said),
+        Turn::Takes(end) => take(world, number, end, readers, said),
         Turn::Neither => Ok(()),
     }
 }
@@ -202,20 +195,19 @@ pub fn run_bgp(
     alloc: Global,
     setup: Setup,
     events: &Events,
-    a: &mut BgpReader,
-    b: &mut BgpReader,
+    readers: &mut BothEnds<BgpReader>,
 ) -> Result<BgpRun, AllocError>
     requires family { are_two_of_a_family setup.a.address setup.b.address ≡ true }
     requires events { All CanHappen events.now }
-    requires few { length events.now ≤ 20000 }
-    requires a { a.old ≡ new_reading }
-    requires b { b.old ≡ new_reading }
+    requires few { length events.now ≤ most_lines }
+    requires a { readers.old.a ≡ new_reading }
+    requires b { readers.old.b ≡ new_reading }
     ensures text { IfOk result (λ r. r.text ≡ bgp_text (setup_of setup) events.now) }
     ensures forgeries { IfOk result (λ r. r.forgeries ≡ forgeries (run (setup_of setup) events.now).history) }
     ensures faults { IfOk result (λ r. r.faults ≡ bgp_faults (run (setup_of setup) events.now)) }
     ensures told { IfOk result (λ r. TellsRun (run (setup_of setup) events.now) r.text r.faults) }
-    ensures a { OnOk result (StandsFor a.new (taken_by (live (run (setup_of setup) events.now).a.sessions))) }
-    ensures b { OnOk result (StandsFor b.new (taken_by (live (run (setup_of setup) events.now).b.sessions))) }
+    ensures a { OnOk result (StandsFor readers.new.a (taken_by (live (run (setup_of setup) events.now).a.sessions))) }
+    ensures b { OnOk result (StandsFor readers.new.b (taken_by (live (run (setup_of setup) events.now).b.sessions))) }
 {
     let mut world = World::new(alloc, setup)?;
     let mut said = Said {
@@ -226,7 +218,7 @@ pub fn run_bgp(
     for event in events.as_slice() {
         world.step(alloc, event)?;
         number += 1;
-        follow(&world, number, event, a, b, &mut said)?;
+        follow(&world, number, event, readers, &mut said)?;
     }
     let summary = world.summary(alloc)?;
     let Said { mut text, faults } = said;

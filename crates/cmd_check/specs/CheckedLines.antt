@@ -7,14 +7,11 @@ use Rattle.ao_base.specs.Outside.{Side, Gave, WasWritten, Rose, IsAtEnd}
 use Rattle.book_keys.specs.Rows.{Table}
 use Rattle.book_cmd_check.specs.Captures.{Stored, capture_run, has_refusal}
 use Rattle.book_cmd_check.specs.StoredLines.{stored_from, stored_input, stored_line}
+use Rattle.book_pcap.specs.Packets.{most_capture}
 use Rattle.cmd_check.specs.Judges.{HasHeard, Judging}
 use Rattle.cmd_check.specs.declared.halt.Halt.{Halt}
 use Rattle.cmd_check.specs.declared.halt.Halt.TheVariants.{Line, Head, Record, TooLong, Read, Write}
 use Rattle.cmd_check.specs.declared.halt.Halt.TheVariants.{Memory}
-
--- the most bytes of an input (own)
-abbrev pub most_bytes : ℕ
-most_bytes = 268435456
 
 -- the most bytes that are taken behind the last line that was looked at: those of the longest
 -- line and 65,536 (own)
@@ -44,7 +41,7 @@ pub record HasRead (given : List ℕ) (read : List (List ℕ)) (rest : List ℕ)
 pub record Finishes (tables : List Table) (given : List ℕ) (source_now out_before out_now : Side)
     (amiss : Bool) : Type 0 where
   pub at_end : IsAtEnd source_now
-  pub within : length given ≤ most_bytes
+  pub within : length given ≤ most_capture
   pub faultless : (stored_input given).fault ≡ None
   pub amiss_is : amiss ≡ has_refusal tables (stored_input given).stored
   pub wrote : WasWritten (capture_run tables (stored_input given).stored) out_before out_now
@@ -77,9 +74,9 @@ pub record Stops (tables : List Table) (given : List ℕ) (source_now out_before
 -- (own)
 pub record Exceeds (tables : List Table) (given : List ℕ) (source_now out_before out_now : Side)
     : Type 0 where
-  pub more : most_bytes < length given
+  pub more : most_capture < length given
   pub stops : Stops tables given source_now out_before out_now
-  pub within : length stops.has_read.front ≤ most_bytes
+  pub within : length stops.has_read.front ≤ most_capture
 
 -- a write failed: of the segment of the last line that was read a front part of its line was
 -- written, and nothing was taken behind that line but what the reader keeps (own)
@@ -120,7 +117,7 @@ Ends tables given source_before source_now out_before out_now (Err Memory) =
 pub record Checks (tables : List Table) (given : List ℕ)
     (source_before source_now out_before out_now : Side) (result : Result Bool Halt) : Type 0 where
   pub gave : Gave given source_before source_now
-  pub few : length given ≤ most_bytes + most_ahead
+  pub few : length given ≤ most_capture + most_ahead
   pub ends : Ends tables given source_before source_now out_before out_now result
 
 -- the line of one more segment is written, or a part of it (own)

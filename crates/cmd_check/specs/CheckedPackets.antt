@@ -4,7 +4,8 @@ use Rattle.std.specs.Prelude.{Some, None, Result, Ok, Err, IsOk}
 use Rattle.std.specs.List.{All}
 use Rattle.ao_base.specs.Outside.{Side, Gave, WasWritten, Rose, IsAtEnd, told}
 use Rattle.book_keys.specs.Rows.{Table}
-use Rattle.book_pcap.specs.Packets.{BadHead, BadRecord, FileFault, Packet, opened, packets_of}
+use Rattle.book_pcap.specs.Packets.{BadHead, BadRecord, FileFault, Packet, most_capture, opened}
+use Rattle.book_pcap.specs.Packets.{packets_of}
 use Rattle.book_cmd_check.specs.StoredPackets.{stored_packet}
 use Rattle.book_cmd_check.specs.Captures.{Stored, capture_run, has_refusal}
 use Rattle.pcap_file.specs.declared.packets.PacketStep.{PacketStep}
@@ -16,10 +17,6 @@ use Rattle.cmd_check.specs.declared.halt.Halt.{Halt}
 use Rattle.cmd_check.specs.declared.halt.Halt.TheVariants.{Line, Head, Record, TooLong, Read, Write}
 use Rattle.cmd_check.specs.declared.halt.Halt.TheVariants.{Memory}
 use Rattle.cmd_check.specs.Gatherings.{BreaksLines, Written}
-
--- the most bytes of a file (own)
-abbrev pub most_bytes : ℕ
-most_bytes = 268435456
 
 -- the most bytes that are taken past the record of a packet before its line is written: those of
 -- the longest record and 65,536 (own)
@@ -43,7 +40,7 @@ segments_of file = map stored_packet (packets_of file).list
 pub record Finishes (tables : List Table) (given : List ℕ) (source_now out_before out_now : Side)
     (amiss : Bool) : Type 0 where
   pub at_end : IsAtEnd source_now
-  pub within : length given ≤ most_bytes
+  pub within : length given ≤ most_capture
   pub faultless : (packets_of given).fault ≡ None
   pub amiss_is : amiss ≡ has_refusal tables (segments_of given)
   pub wrote : WasWritten (capture_run tables (segments_of given)) out_before out_now
@@ -77,10 +74,10 @@ pub record Stops (tables : List Table) (given : List ℕ) (out_before out_now : 
 -- more was given than the most bytes of a file, whose header isn't faulty: it ended between two
 -- packets within those bytes (own)
 pub record Exceeds (tables : List Table) (given : List ℕ) (out_before out_now : Side) : Type 0 where
-  pub more : most_bytes < length given
+  pub more : most_capture < length given
   pub header : IsOk (opened given)
   pub stops : Stops tables given out_before out_now
-  pub within : length stops.has_read.front ≤ most_bytes
+  pub within : length stops.has_read.front ≤ most_capture
 
 -- memory ran out: the lines of all packets that were read were written, but for the last one
 -- (own)
@@ -133,7 +130,7 @@ pub record Checks (tables : List Table) (given : List ℕ)
     : Type 0 where
   pub gave : Gave given source_before source_now
   pub bytes : All IsByte given
-  pub few : length given ≤ most_bytes + most_ahead
+  pub few : length given ≤ most_capture + most_ahead
   pub ends : Ends tables given source_before source_now out_before out_now result
 
 -- one more packet is judged, and its line gathered, unless it has no datagram (own)

@@ -8,17 +8,16 @@ use crate::halt::Halt;
 use crate::judge::Judge;
 use crate::writer::write_lines;
 use ao_base::{LineReader, LineStep, Sink, Source, Steps};
+use book_cmd_check::MOST_LINE;
 use book_lines::LineKind;
+use book_pcap::MOST_CAPTURE;
 use capture_check::{LineProblem, Stored, read_line};
 use key_table::Tables;
 use std::alloc::Global;
 use std::sync::ledger::{Blank, Ledger};
 
 /// The most bytes of a line.
-const LONGEST: u32 = 131_200;
-
-/// The most bytes of an input.
-const MOST: u64 = 268_435_456;
+const LONGEST: u32 = MOST_LINE as u32;
 
 /// What becomes of one line behind those that were read before: what is said of its segment is
 /// gathered and written at once.
@@ -67,7 +66,7 @@ pub(crate) fn check_lines<L: Ledger, I: Source, O: Sink>(
     ensures { (given : List ℕ) × Checks tables given (I.side input.old) (I.side input.new) (O.side out.old) (O.side out.new) result }
 {
     let mut steps = Steps::<L>::new(blank);
-    let mut reader = match LineReader::new(alloc, LONGEST, MOST) {
+    let mut reader = match LineReader::new(alloc, LONGEST, MOST_CAPTURE) {
         Ok(reader) => reader,
         Err(_) => return Err(Halt::Memory),
     };

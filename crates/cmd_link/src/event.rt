@@ -3,21 +3,13 @@ ghost use Rattle.std.specs.Prelude.{◌≡◌, ◌<◌, ◌+◌, ◌/◌, ◌%�
 ghost use Rattle.book_link.specs.declared.event.Event.{Event as Happening};
 ghost use Rattle.book_link.specs.Runs.{run};
 ghost use Rattle.book_link.specs.Storm.{drawn_end, event_by, event_of, last_delivered, one_delivered};
-ghost use Rattle.book_link.specs.Worlds.{Setup as Link, other, segment_named, segments};
+ghost use Rattle.book_link.specs.Worlds.{Setup as Link, segment_named, segments};
 ghost use Rattle.link_world.specs.Stands.{StandsFor};
 
 use book_base::End;
 use book_link::{Action, Event};
+use both_ends::other;
 use link_world::World;
-
-fn other(end: End) -> End
-    ensures { result ≡ other end }
-{
-    match end {
-        End::A => End::B,
-        End::B => End::A,
-    }
-}
 
 fn end_of(number: u64) -> End
     ensures { result ≡ drawn_end number }

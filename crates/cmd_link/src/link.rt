@@ -1,6 +1,8 @@
 //! The run of a link file.
-ghost use Rattle.std.specs.Prelude.{◌≡◌, ◌≤◌, IfOk, length, true, false};
+ghost use Rattle.book_cmd_link.specs.declared.script.KeysFrom.TheVariants as keys_from;
+ghost use Rattle.std.specs.Prelude.{◌≡◌, ◌≤◌, IfOk, length, true};
 ghost use Rattle.std.specs.List.{All};
+ghost use Rattle.book_lines.specs.Lines.{most_lines};
 ghost use Rattle.book_answer.specs.Answers.{done, if_read, linked, linked_by_shared, reported};
 ghost use Rattle.book_cmd_link.specs.LinkFiles.{script_of};
 ghost use Rattle.book_segments.specs.Sockets.{are_two_of_a_family};
@@ -11,7 +13,7 @@ ghost use Rattle.link_world.specs.Stands.{StandsFor, setup_of};
 use book_link::Event;
 use command_report::{Report, Stop};
 use key_table::Tables;
-use link_script::{Script, read_script};
+use link_script::{KeysFrom, Script, read_script};
 use link_world::{Setup, World};
 use std::alloc::{AllocError, Global};
 
@@ -20,7 +22,7 @@ use std::alloc::{AllocError, Global};
 fn play(alloc: Global, setup: Setup, events: &[Event]) -> Result<World, AllocError>
     requires family { are_two_of_a_family setup.a.address setup.b.address ≡ true }
     requires events { All CanHappen events.now }
-    requires few { length events.now ≤ 20000 }
+    requires few { length events.now ≤ most_lines }
     ensures { IfOk result (λ w. StandsFor w (setup_of setup) events.now) }
 {
     let mut world = World::new(alloc, setup)?;
@@ -35,7 +37,7 @@ fn play(alloc: Global, setup: Setup, events: &[Event]) -> Result<World, AllocErr
 pub fn report_of(alloc: Global, setup: Setup, events: &[Event]) -> Result<Report, AllocError>
     requires family { are_two_of_a_family setup.a.address setup.b.address ≡ true }
     requires events { All CanHappen events.now }
-    requires few { length events.now ≤ 20000 }
+    requires few { length events.now ≤ most_lines }
     ensures { IfOk result (λ r. reported (setup_of setup) events.now ≡ done r.is_amiss r.text) }
 {
     let world = play(alloc, setup, events)?;
@@ -50,9 +52,9 @@ pub fn report_of(alloc: Global, setup: Setup, events: &[Event]) -> Result<Report
 /// `Memory` only for want of memory.
 #[tactic(auto, using(command_report::proofs::Reporting::fails_stops))]
 pub fn answer_link(alloc: Global, input: &[u8]) -> Result<Report, Stop>
-    ensures { Reports result (if_read linked_by_shared (script_of false input.now)) }
+    ensures { Reports result (if_read linked_by_shared (script_of keys_from.LinkFile input.now)) }
 {
-    let script = read_script(alloc, false, input)?;
+    let script = read_script(alloc, KeysFrom::LinkFile, input)?;
     let Script {
         a,
         b,
@@ -71,9 +73,9 @@ pub fn answer_link(alloc: Global, input: &[u8]) -> Result<Report, Stop>
 /// `link_script::read_script`. `Memory` only for want of memory.
 #[tactic(auto, using(command_report::proofs::Reporting::fails_stops))]
 pub fn answer_link_keys(alloc: Global, tables: Tables, input: &[u8]) -> Result<Report, Stop>
-    ensures { Reports result (if_read (linked tables) (script_of true input.now)) }
+    ensures { Reports result (if_read (linked tables) (script_of keys_from.KeyFile input.now)) }
 {
-    let script = read_script(alloc, true, input)?;
+    let script = read_script(alloc, KeysFrom::KeyFile, input)?;
     let Script { a, b, events, .. } = script;
     let report = report_of(alloc, Setup { tables, a, b }, events.as_slice())?;
     Ok(report)

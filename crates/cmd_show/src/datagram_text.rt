@@ -2,15 +2,15 @@
 ghost use Rattle.std.specs.Prelude.{◌≡◌, ◌++◌, ◌∷◌, [], OnOk, IfOk, codes, decimal, length, map};
 ghost use Rattle.book_base.specs.Hexadecimal.{hex_of};
 ghost use Rattle.book_segments.specs.Options.{plains, listed, options_of};
-ghost use Rattle.book_segments.specs.Segments.{good, reading};
+ghost use Rattle.book_segments.specs.Segments.{reading};
 ghost use Rattle.tcp_options.specs.Views.{view_opt};
 ghost use Rattle.book_lines.specs.Texts.{socket_texts, spaced};
-ghost use Rattle.book_cmd_show.specs.DatagramTexts.{checksum_text, datagram_texts, family_text, number_texts, option_text, options_texts, rest_texts};
+ghost use Rattle.book_cmd_show.specs.DatagramTexts.{datagram_texts, family_text, number_texts, option_text, options_texts, rest_texts};
 ghost use Rattle.book_cmd_show.specs.Show.{reading_texts};
 
 use ao_base::{push_decimal, push_hex};
 use book_base::Address;
-use segment_words::push_fault;
+use segment_words::{checksum_in, push_checksum, push_fault};
 use std::alloc::{AllocError, Global};
 use tcp_options::{Opt, OptionIter};
 use tcp_segment::{Datagram, read_datagram};
@@ -22,16 +22,6 @@ fn family(address: &Address) -> &[u8]
     match address {
         Address::V4(_) => b"ipv4".as_slice(),
         Address::V6(_) => b"ipv6".as_slice(),
-    }
-}
-
-fn checksum(right: bool) -> &'static [u8]
-    ensures { result.now ≡ checksum_text right }
-{
-    if right {
-        b"good".as_slice()
-    } else {
-        b"wrong".as_slice()
     }
 }
 
@@ -97,8 +87,7 @@ pub fn push_numbers(out: &mut Vec<u8>, datagram: &Datagram<'_>) -> Result<(), Al
 fn push_rest(out: &mut Vec<u8>, datagram: &Datagram<'_>) -> Result<(), AllocError>
     ensures { OnOk result (out.new.items ≡ out.old.items ++ spaced (rest_texts datagram.now)) }
 {
-    push_text(out, b"checksum")?;
-    push_text(out, checksum(datagram.checksum_ok()))?;
+    push_checksum(out, checksum_in(datagram))?;
     push_text(out, b"options")?;
     push_options(out, datagram.options().iter())
 }

@@ -14,6 +14,7 @@ use crate::signed::{Making, SignedDatagram, mac_of, signed};
 use crate::vector_words::{block, context, covering, message};
 use aes_cmac::{Aes128, Cmac, prf};
 use book_base::{Algorithm, Bytes};
+use book_keys::LONGEST_MASTER_KEY;
 use book_lines::LineKind;
 use hmac_sha1::{HmacSha1, HmacSha256};
 use std::alloc::Global;
@@ -158,7 +159,7 @@ fn kdf_vector(alloc: Global, words: &mut LineWords) -> Result<Vector, Refusal>
     ensures { Tells result (kdf_vector words.old) }
 {
     let alg = words.algorithm()?;
-    let master = words.sized_hex(alloc, 1, 255)?;
+    let master = words.sized_hex(alloc, 1, LONGEST_MASTER_KEY)?;
     let context = context(alloc, words)?;
     let expected = words.hex(alloc)?;
     words.nothing()?;
@@ -203,7 +204,7 @@ fn segment_vector(alloc: Global, words: &mut LineWords) -> Result<Vector, Refusa
     ensures { Tells result (segment_vector words.old) }
 {
     let algorithm = words.algorithm()?;
-    let master = words.sized_hex(alloc, 1, 255)?;
+    let master = words.sized_hex(alloc, 1, LONGEST_MASTER_KEY)?;
     let making = making(words, algorithm)?;
     let bytes = words.hex(alloc)?;
     let Some(signed) = signed(algorithm, bytes.as_slice()) else {

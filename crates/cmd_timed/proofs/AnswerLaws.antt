@@ -7,7 +7,6 @@ use Rattle.book_lines.specs.declared.text_fault.TextFault.{TextFault}
 use Rattle.book_link.specs.declared.event.Event.{Event}
 use Rattle.book_link.specs.declared.event.Event.TheVariants as event
 use Rattle.book_link.specs.declared.event.Action.TheVariants as action
-use Rattle.book_link.specs.declared.event.RowLine.{RowLine}
 use Rattle.book_link.specs.Worlds.{setup_of}
 use Rattle.book_cmd_timed.specs.declared.timed.TimedEvent.{TimedEvent}
 use Rattle.book_cmd_timed.specs.declared.timed.TimedEvent.TheVariants.{Plain, Wait}
@@ -16,19 +15,16 @@ use Rattle.book_answer.specs.Answers.{done, if_read, refusal, timed_over, too_ma
 use Rattle.book_cmd_timed.specs.TimedRuns.{most_events}
 use Rattle.book_cmd_timed.specs.TimedRuns.{expand, timed_script_of}
 use Rattle.text_lines.specs.Readings.{Fails}
-use Rattle.law_scripts.specs.Scripts.{IsEvent, IsRow}
+use Rattle.law_scripts.specs.Scripts.{IsEvent}
 use Rattle.law_scripts.specs.Timed.{IsTimedEvent}
-use Rattle.link_side.specs.Steps.{IsRowLine}
+use Rattle.law_scripts.proofs.NewRows.{new_row}
 use Rattle.link_world.specs.Events.{CanHappen}
 use Rattle.command_report.specs.Reports.{Stopped, stop_of}
 use Rattle.command_report.proofs.Reporting.{fails_stops}
+use Rattle.both_ends.specs.declared.values.BothEnds.{BothEnds}
 use Rattle.cmd_timed.specs.Answers.{timed_answer}
 use Rattle.cmd_timed.specs.Events.{CanPass}
 use Rattle.cmd_timed.specs.Reports.{IsReport}
-
-row_line : (r : RowLine) → IsRow r → IsRowLine r
-row_line r h =
-    record { least = h.master.least; most = h.master.most; sending = h.send_last.least; sent = h.send_last.most; accepting = h.accept_last.least; accepted = h.accept_last.most }
 
 can_happen : (e : Event) → IsEvent e → CanHappen e
 can_happen (event.At e (action.Clock seconds)) h = h
@@ -45,7 +41,7 @@ can_happen (event.At e (action.Alter name place mask fixing)) h = tt
 can_happen (event.At e (action.Take count)) h = tt
 can_happen (event.At e action.Close) h = tt
 can_happen (event.At e action.Abort) h = tt
-can_happen (event.At e (action.AddRow row)) h = row_line row h
+can_happen (event.At e (action.AddRow row)) h = new_row row h
 can_happen (event.At e (action.Withdraw row)) h = tt
 can_happen (event.Dump name) h = tt
 
@@ -62,10 +58,10 @@ pub answered_fault : (tables : List Table) (text : List ℕ) (f : TextFault) →
 answered_fault tables text f fails = fails_stops (timed_over tables) (timed_script_of text) f fails
 
 -- a script that has a report
-pub answered_report : (tables : List Table) (text : List ℕ) (s : TimedScript) (a b : Timer) (report : List ℕ) (count : ℕ) → timed_script_of text ≡ Ok s
-    → IsReport (setup_of tables s.a s.b) (expand (setup_of tables s.a s.b) s.events) a b report count
+pub answered_report : (tables : List Table) (text : List ℕ) (s : TimedScript) (timers : BothEnds Timer) (report : List ℕ) (count : ℕ) → timed_script_of text ≡ Ok s
+    → IsReport (setup_of tables s.a s.b) (expand (setup_of tables s.a s.b) s.events) timers report count
     → timed_answer tables text ≡ done (not (count == 0)) report
-answered_report tables text s a b report count h r =
+answered_report tables text s timers report count h r =
     let few : nat_lt most_events (length (expand (setup_of tables s.a s.b) s.events).events) ≡ false = le-ltb _ _ r.few in
     ap (if_read (timed_over tables)) h ∙ rw (few, r.text_is, r.count_is) refl
 

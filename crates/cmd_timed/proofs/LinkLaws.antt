@@ -1,6 +1,6 @@
 -- The calls of a link with timers are the expansions of the definitions.
 use Rattle.std.proofs.Common.{◌≡◌, ℕ, zero, suc, ◌+◌, ◌<◌, ◌≤◌, ◌==◌, ◌&&◌, nat_lt, cond, min, Bool, true, false, List, [], ◌∷◌, ◌++◌, length, drop, get_or, Option, Some, None, Ok, Err}
-use Rattle.std.proofs.Common.{refl, sym, ap, ◌∙◌, subst, arith, length-append, add-one}
+use Rattle.std.proofs.Common.{refl, sym, ap, ◌∙◌, arith, length-append, add-one}
 use Rattle.std.proofs.Math.Seq.{drop-cons}
 use Rattle.book_base.specs.declared.end.End.{End}
 use Rattle.book_base.specs.declared.end.End.TheVariants.{A, B}
@@ -17,6 +17,7 @@ use Rattle.book_cmd_timed.specs.declared.timed.TimedEvent.TheVariants.{Wait}
 use Rattle.book_cmd_timed.specs.TimedRuns.{most_events}
 use Rattle.book_cmd_timed.specs.TimedRuns as book
 use Rattle.book_link.specs.SendFronts.{SendFront, front_at}
+use Rattle.both_ends.specs.Values.{at, with_at}
 use Rattle.link_report.specs.declared.outcome.Outcome.{Outcome as ToldOutcome}
 use Rattle.link_report.specs.Outcomes.{AreShown}
 use Rattle.link_world.specs.declared.world.World.{World}
@@ -27,7 +28,7 @@ use Rattle.cmd_timed.specs.declared.unfinished.Unfinished.{Unfinished}
 use Rattle.cmd_timed.specs.declared.unfinished.Unfinished.TheVariants as unfinished
 use Rattle.cmd_timed.specs.declared.watch.Watch.{Watch}
 use Rattle.cmd_timed.specs.Changes.{changed}
-use Rattle.cmd_timed.specs.Links.{Does, Makes, Stands, expands, expires, happens, progress, steps, untils, up_to, waits}
+use Rattle.cmd_timed.specs.Links.{Does, Makes, expands, expires, happens, progress, steps, untils, up_to, waits}
 use Rattle.cmd_timed.specs.Watches.{expired_at, front_seen, seen}
 use Rattle.cmd_timed.proofs.Expansions.{Same, all_left, chained, last_call, nothing, one_more}
 
@@ -81,24 +82,13 @@ change_is c setup past x e w t =
 
 -- the link after an event of an end
 abbrev pub after_at : Link → World → End → Watch → Link
-after_at l world A w = record { world = world; a = w; b = l.b }
-after_at l world B w = record { world = world; a = l.a; b = w }
-
--- the timer of an end
-abbrev pub at : Link → End → Watch
-at l A = l.a
-at l B = l.b
+after_at l world e w = record { world = world; watches = with_at e w l.watches }
 
 plain_at : (l : Link) (setup : Setup) (past : List Event) (x : Event) (e : End) (world : World) (w : Watch) → book.end_of_event x ≡ Some e
-    → seen w ≡ book.watch_after (run setup past) x e (step setup (run setup past) x) (seen (at l e))
+    → seen w ≡ book.watch_after (run setup past) x e (step setup (run setup past) x) (seen (at e l.watches))
     → progress (after_at l world e w) setup (past ++ x ∷ []) ≡ book.plain setup (progress l setup past) x
 plain_at l setup past x A world w here is = rw (here, is, run_more setup past x) refl
 plain_at l setup past x B world w here is = rw (here, is, run_more setup past x) refl
-
-stands_at : (l : Link) (e : End) (world : World) (w : Watch) (setup : Setup) (past : List Event) → StandsFor world setup past
-    → StandsFor (after_at l world e w).world setup past
-stands_at l A world w setup past h = h
-stands_at l B world w setup past h = h
 
 one_longer : (past : List Event) (x : Event) → length past < most_events → length (past ++ x ∷ []) ≤ most_events
 one_longer past x h = omega (arith, length-append past (x ∷ []))
@@ -108,32 +98,22 @@ pub steps_at : (l : Link) (x : Event) (e : End) (world : World) (w : Watch) (c :
     → ((setup : Setup) (past : List Event) → StandsFor l.world setup past → StandsFor world setup (past ++ x ∷ []))
     → ((setup : Setup) (past : List Event) → StandsFor l.world setup past → length past < most_events)
     → ((setup : Setup) (past : List Event) → StandsFor l.world setup past → Tells c setup past x e)
-    → seen w ≡ changed c (seen (at l e)) → Does (steps x) l (after_at l world e w) (Ok tt)
+    → seen w ≡ changed c (seen (at e l.watches)) → Does (steps x) l (after_at l world e w) (Ok tt)
 steps_at l x e world w c here stood few told is = λ setup past h.
     record {
-      stands = record { world_is = stands_at l e world w setup (past ++ x ∷ []) (stood setup past h.world_is); few = one_longer past x (few setup past h.world_is) };
-      progress_is = plain_at l setup past x e world w here (is ∙ change_is c setup past x e (seen (at l e)) (told setup past h.world_is));
+      stands = record { world_is = stood setup past h.world_is; few = one_longer past x (few setup past h.world_is) };
+      progress_is = plain_at l setup past x e world w here (is ∙ change_is c setup past x e (seen (at e l.watches)) (told setup past h.world_is));
     }
 
--- the same, of an end that is known
-pub steps_here : (l : Link) (x : Event) (e here : End) (world : World) (w : Watch) (c : Change) → e ≡ here → book.end_of_event x ≡ Some e
-    → ((setup : Setup) (past : List Event) → StandsFor l.world setup past → StandsFor world setup (past ++ x ∷ []))
-    → ((setup : Setup) (past : List Event) → StandsFor l.world setup past → length past < most_events)
-    → ((setup : Setup) (past : List Event) → StandsFor l.world setup past → Tells c setup past x e)
-    → seen w ≡ changed c (seen (at l here)) → Does (steps x) l (after_at l world here w) (Ok tt)
-steps_here l x e here world w c same of stood few told is =
-    let P : End → Type 0 = λ y. seen w ≡ changed c (seen (at l y)) → Does (steps x) l (after_at l world y w) (Ok tt) in
-    subst P same (steps_at l x e world w c of stood few told) is
-
 plain_nowhere : (l : Link) (setup : Setup) (past : List Event) (x : Event) (world : World) → book.end_of_event x ≡ None
-    → progress (record { world = world; a = l.a; b = l.b }) setup (past ++ x ∷ []) ≡ book.plain setup (progress l setup past) x
+    → progress (record { world = world; watches = l.watches }) setup (past ++ x ∷ []) ≡ book.plain setup (progress l setup past) x
 plain_nowhere l setup past x world here = rw (here, run_more setup past x) refl
 
 -- an event of neither end is stepped through
 pub steps_nowhere : (l : Link) (x : Event) (world : World) → book.end_of_event x ≡ None
     → ((setup : Setup) (past : List Event) → StandsFor l.world setup past → StandsFor world setup (past ++ x ∷ []))
     → ((setup : Setup) (past : List Event) → StandsFor l.world setup past → length past < most_events)
-    → Does (steps x) l (record { world = world; a = l.a; b = l.b }) (Ok tt)
+    → Does (steps x) l (record { world = world; watches = l.watches }) (Ok tt)
 steps_nowhere l x world here stood few = λ setup past h.
     record {
       stands = record { world_is = stood setup past h.world_is; few = one_longer past x (few setup past h.world_is) };
@@ -175,41 +155,29 @@ pub expires_in_two : (e : End) (d : ℕ) (l : Link) → Same (expires e d) (chai
 expires_in_two e d l = record { same = λ setup past h. refl }
 
 expired_progress : (l : Link) (e : End) (w : Watch) (setup : Setup) (past : List Event) (reading : ℕ) → reading ≡ (side (run setup past) e).clock
-    → seen w ≡ expired_at reading (seen (at l e))
+    → seen w ≡ expired_at reading (seen (at e l.watches))
     → progress (after_at l l.world e w) setup past ≡ book.after_expiry e (progress l setup past)
 expired_progress l A w setup past reading same is = rw (is, same) refl
 expired_progress l B w setup past reading same is = rw (is, same) refl
 
-expired_stands : (l : Link) (e : End) (w : Watch) (setup : Setup) (past : List Event) → Stands l setup past → Stands (after_at l l.world e w) setup past
-expired_stands l A w setup past h = record { world_is = h.world_is; few = h.few }
-expired_stands l B w setup past h = record { world_is = h.world_is; few = h.few }
-
 -- the end sent again, and then its timer expired
 pub sends_again_done : (before l : Link) (e : End) (w : Watch) (reading : ℕ) → Does (steps (event.At e action.Resend)) before l (Ok tt) → Reads l e reading
-    → seen w ≡ expired_at reading (seen (at l e)) → Does (sends_again e) before (after_at l l.world e w) (Ok tt)
+    → seen w ≡ expired_at reading (seen (at e l.watches)) → Does (sends_again e) before (after_at l l.world e w) (Ok tt)
 sends_again_done before l e w reading did r is = λ setup past h.
     let reached = did setup past h in
     let here = past ++ event.At e action.Resend ∷ [] in
     record {
-      stands = expired_stands l e w setup here reached.stands;
+      stands = record { world_is = reached.stands.world_is; few = reached.stands.few };
       progress_is = expired_progress l e w setup here reading (r.reads setup here reached.stands.world_is) is ∙ ap (book.after_expiry e) reached.progress_is;
     }
 
 -- the clock went to the expiry, the end sent again, and then its timer expired
-expires_at : (l0 l1 l2 : Link) (e : End) (d : ℕ) (w : Watch) (reading : ℕ) → Does (steps (event.At e (action.Clock d))) l0 l1 (Ok tt)
-    → Does (steps (event.At e action.Resend)) l1 l2 (Ok tt) → Reads l2 e reading → seen w ≡ expired_at reading (seen (at l2 e))
+pub expires_at : (l0 l1 l2 : Link) (e : End) (d : ℕ) (w : Watch) (reading : ℕ) → Does (steps (event.At e (action.Clock d))) l0 l1 (Ok tt)
+    → Does (steps (event.At e action.Resend)) l1 l2 (Ok tt) → Reads l2 e reading → seen w ≡ expired_at reading (seen (at e l2.watches))
     → Does (expires e d) l0 (after_at l2 l2.world e w) (Ok tt)
 expires_at l0 l1 l2 e d w reading one two r is =
     let left = one_more (expires e d) (expires e d) (steps (event.At e (action.Clock d))) (sends_again e) l0 l0 l1 (all_left (expires e d) l0) (expires_in_two e d l0) one in
     last_call (expires e d) (sends_again e) l0 l1 (after_at l2 l2.world e w) (Ok tt) left (sends_again_done l1 l2 e w reading two r is)
-
--- the same, of an end that is known
-pub expires_here : (l0 l1 l2 : Link) (e here : End) (d : ℕ) (w : Watch) (reading : ℕ) → e ≡ here → Does (steps (event.At e (action.Clock d))) l0 l1 (Ok tt)
-    → Does (steps (event.At e action.Resend)) l1 l2 (Ok tt) → Reads l2 e reading → seen w ≡ expired_at reading (seen (at l2 here))
-    → Does (expires e d) l0 (after_at l2 l2.world here w) (Ok tt)
-expires_here l0 l1 l2 e here d w reading same one two r is =
-    let P : End → Type 0 = λ y. seen w ≡ expired_at reading (seen (at l2 y)) → Does (expires e d) l0 (after_at l2 l2.world y w) (Ok tt) in
-    subst P same (expires_at l0 l1 l2 e d w reading one two r) is
 
 pub sends_again_stopped : (before l : Link) (e : End) (s : Unfinished) → Does (steps (event.At e action.Resend)) before l (Err s) → Does (sends_again e) before l (Err s)
 sends_again_stopped before l e (unfinished.Memory error) did = tt

@@ -1,11 +1,13 @@
 -- The run of a link with timers from its beginning.
-use Rattle.std.proofs.Common.{◌≡◌, ℕ, ◌<◌, List, [], length, Ok, Err, refl, ap, subst, lit≤}
+use Rattle.std.proofs.Common.{◌≡◌, ℕ, ◌<◌, List, [], length, Ok, Err, refl, ap, ◌∙◌, subst, lit≤}
 use Rattle.book_link.specs.Reports.{report}
 use Rattle.book_link.specs.Runs.{run}
 use Rattle.book_link.specs.Worlds.{Setup, forgeries}
 use Rattle.book_cmd_timed.specs.declared.timed.TimedEvent.{TimedEvent}
 use Rattle.book_cmd_timed.specs.TimedRuns.{most_events}
 use Rattle.book_cmd_timed.specs.TimedRuns.{Progress, begins_timed, expand, expand_from, new_watch}
+use Rattle.book_timers.specs.declared.timer.Timer.{Timer}
+use Rattle.both_ends.specs.declared.values.BothEnds.{BothEnds}
 use Rattle.link_world.specs.Stands.{StandsFor}
 use Rattle.cmd_timed.specs.declared.link.Link.{Link}
 use Rattle.cmd_timed.specs.declared.unfinished.Unfinished.TheVariants as unfinished
@@ -18,7 +20,7 @@ pub record Begins (l : Link) (setup : Setup) : Type 0 where
   pub stands : Stands l setup []
   pub progress_is : progress l setup [] ≡ begins_timed setup
 
-pub begins : (l : Link) (setup : Setup) → StandsFor l.world setup [] → seen l.a ≡ new_watch → seen l.b ≡ new_watch → Begins l setup
+pub begins : (l : Link) (setup : Setup) → StandsFor l.world setup [] → seen l.watches.a ≡ new_watch → seen l.watches.b ≡ new_watch → Begins l setup
 begins l setup h a b = record { stands = record { world_is = h; few = lit≤ tt }; progress_is = rw (a, b) refl }
 
 -- where all events happened
@@ -38,15 +40,15 @@ ran_too_far l next setup events b did =
     subst P b.progress_is (did setup [] b.stands)
 
 -- the report of what happened
-pub reported : (next : Link) (setup : Setup) (events : List TimedEvent) (text : List ℕ) (count : ℕ)
-    → Reaches next setup (expand setup events).events (expand setup events).progress
+pub reported : (next : Link) (setup : Setup) (events : List TimedEvent) (timers : BothEnds Timer) (text : List ℕ) (count : ℕ)
+    → timers.a ≡ next.watches.a.timer → timers.b ≡ next.watches.b.timer → Reaches next setup (expand setup events).events (expand setup events).progress
     → text ≡ report setup (expand setup events).events → count ≡ forgeries (run setup (expand setup events).events).history
-    → IsReport setup (expand setup events) next.a.timer next.b.timer text count
-reported next setup events text count there is counted =
+    → IsReport setup (expand setup events) timers text count
+reported next setup events timers text count a b there is counted =
     record {
       few = there.stands.few;
       text_is = is;
       count_is = counted;
-      a_is = ap (λ (p : Progress). p.a.timer) there.progress_is;
-      b_is = ap (λ (p : Progress). p.b.timer) there.progress_is;
+      a_is = a ∙ ap (λ (p : Progress). p.a.timer) there.progress_is;
+      b_is = b ∙ ap (λ (p : Progress). p.b.timer) there.progress_is;
     }

@@ -21,7 +21,7 @@ Makes = Setup → Progress → Expanded
 
 -- the progress of a link after these plain events
 abbrev pub progress : Link → Setup → List Event → Progress
-progress l setup past = record { world = run setup past; a = seen l.a; b = seen l.b }
+progress l setup past = record { world = run setup past; a = seen l.watches.a; b = seen l.watches.b }
 
 -- the link stands for these plain events, and they aren't too many
 pub record Stands (l : Link) (setup : Setup) (past : List Event) : Type 0 where

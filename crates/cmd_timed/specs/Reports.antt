@@ -7,18 +7,19 @@ use Rattle.book_link.specs.Worlds.{Setup, forgeries}
 use Rattle.book_cmd_timed.specs.declared.timed.TimedEvent.{TimedEvent}
 use Rattle.book_cmd_timed.specs.TimedRuns.{most_events}
 use Rattle.book_cmd_timed.specs.TimedRuns.{Expanded, expand}
+use Rattle.both_ends.specs.declared.values.BothEnds.{BothEnds}
 use Rattle.cmd_timed.specs.declared.runs.TimedRun.{TimedRun}
 use Rattle.cmd_timed.specs.declared.runs.TimedRun.TheVariants.{Report, TooMany}
 
 -- the report of the plain run and its forgeries, and the timers that are left
-pub record IsReport (setup : Setup) (x : Expanded) (a b : Timer) (text : List ℕ) (count : ℕ) : Type 0 where
+pub record IsReport (setup : Setup) (x : Expanded) (timers : BothEnds Timer) (text : List ℕ) (count : ℕ) : Type 0 where
   pub few : length x.events ≤ most_events
   pub text_is : text ≡ report setup x.events
   pub count_is : count ≡ forgeries (run setup x.events).history
-  pub a_is : a ≡ x.progress.a.timer
-  pub b_is : b ≡ x.progress.b.timer
+  pub a_is : timers.a ≡ x.progress.a.timer
+  pub b_is : timers.b ≡ x.progress.b.timer
 
 -- the report of the plain run that the events are, or that it has too many events
-abbrev pub Reports : Setup → List TimedEvent → Timer → Timer → TimedRun → Type 0
-Reports setup events a b (Report text count) = IsReport setup (expand setup events) a b text count
-Reports setup events a b TooMany = most_events < length (expand setup events).events
+abbrev pub Reports : Setup → List TimedEvent → BothEnds Timer → TimedRun → Type 0
+Reports setup events timers (Report text count) = IsReport setup (expand setup events) timers text count
+Reports setup events timers TooMany = most_events < length (expand setup events).events

@@ -3,6 +3,7 @@ ghost use Rattle.command_report.specs.Reports.{Reports};
 ghost use Rattle.cmd_timed.specs.Answers.{timed_answer};
 
 use crate::runs::{TimedRun, run_timed};
+use both_ends::BothEnds;
 use command_report::{Report, Stop};
 use key_table::Tables;
 use link_script::read_timed;
@@ -10,14 +11,13 @@ use link_world::Setup;
 use rto_timer::Rto;
 use std::alloc::Global;
 
-/// Reads the link file with waits and runs it over the tables; after a report `a` and `b` are the
-/// timers of the two ends.
+/// Reads the link file with waits and runs it over the tables; after a report `timers` are
+/// those of the two ends.
 pub(crate) fn run_text(
     alloc: Global,
     tables: Tables,
     text: &[u8],
-    a: &mut Rto,
-    b: &mut Rto,
+    timers: &mut BothEnds<Rto>,
 ) -> Result<Report, Stop>
     ensures { Reports result (timed_answer tables text.now) }
 {
@@ -27,7 +27,7 @@ pub(crate) fn run_text(
         a: script.a,
         b: script.b,
     };
-    match run_timed(alloc, setup, &script.events, a, b)? {
+    match run_timed(alloc, setup, &script.events, timers)? {
         TimedRun::Report(text, forgeries) => {
             let is_amiss = forgeries != 0;
             Ok(Report { text, is_amiss })
@@ -45,7 +45,9 @@ pub(crate) fn run_text(
 pub fn answer(alloc: Global, tables: Tables, input: &[u8]) -> Result<Report, Stop>
     ensures { Reports result (timed_answer tables input.now) }
 {
-    let mut a = Rto::new();
-    let mut b = Rto::new();
-    run_text(alloc, tables, input, &mut a, &mut b)
+    let mut timers = BothEnds {
+        a: Rto::new(),
+        b: Rto::new(),
+    };
+    run_text(alloc, tables, input, &mut timers)
 }

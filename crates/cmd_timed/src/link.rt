@@ -14,6 +14,7 @@ use crate::unfinished::Unfinished;
 use crate::watch::Watch;
 use book_base::End;
 use book_link::{Action, Event};
+use both_ends::BothEnds;
 use link_world::World;
 use std::alloc::{AllocError, Global};
 
@@ -24,8 +25,7 @@ const MOST_EVENTS: usize = 20_000;
 #[derive(Drop)]
 pub(crate) struct Link {
     pub(crate) world: World,
-    pub(crate) a: Watch,
-    pub(crate) b: Watch,
+    pub(crate) watches: BothEnds<Watch>,
 }
 
 impl Link {
@@ -49,16 +49,8 @@ impl Link {
             old,
             new: self.world.front(end),
         };
-        match end {
-            End::A => {
-                self.a.apply(&change);
-                Ok(())
-            }
-            End::B => {
-                self.b.apply(&change);
-                Ok(())
-            }
-        }
+        self.watches.at_mut(end).apply(&change);
+        Ok(())
     }
 
     /// Steps through a plain event, unless the plain run has all its events.
@@ -100,8 +92,8 @@ impl Link {
     {
         let reading = self.world.reading(end);
         let due = match end {
-            End::A => self.a.due(reading),
-            End::B => self.b.due(reading),
+            End::A => self.watches.a.due(reading),
+            End::B => self.watches.b.due(reading),
         };
         match due {
             None => None,
@@ -118,15 +110,7 @@ impl Link {
         self.step(alloc, &Event::At(end, Action::Clock(at)))?;
         self.step(alloc, &Event::At(end, Action::Resend))?;
         let reading = self.world.reading(end);
-        match end {
-            End::A => {
-                self.a.expire(reading);
-                Ok(())
-            }
-            End::B => {
-                self.b.expire(reading);
-                Ok(())
-            }
-        }
+        self.watches.at_mut(end).expire(reading);
+        Ok(())
     }
 }

@@ -10,6 +10,7 @@ use crate::unfinished::Unfinished;
 use crate::watch::Watch;
 use book_base::Bytes;
 use book_cmd_timed::TimedEvents;
+use both_ends::BothEnds;
 use link_world::{Setup, World};
 use rto_timer::Rto;
 use std::alloc::{AllocError, Global};
@@ -25,8 +26,8 @@ pub enum TimedRun {
 
 /// Runs the events of a link whose ends have retransmission timers (RFC 6298): the report is that of
 /// the plain run that the events are, with `clock` and `resend` for each wait. `TooMany` exactly where
-/// that has more than 20,000 events. After a report `a` and `b` are the timers of the two ends, as the
-/// run leaves them; else no more is said of them.
+/// that has more than 20,000 events. After a report `timers` are those of the two ends, as the run
+/// leaves them; else no more is said of them.
 ///
 /// The addresses of the two ends differ and are of one family, a clock is set to LATEST at most, and
 /// a row that is added is one of a link file.
@@ -34,17 +35,18 @@ pub fn run_timed(
     alloc: Global,
     setup: Setup,
     events: &TimedEvents,
-    a: &mut Rto,
-    b: &mut Rto,
+    timers: &mut BothEnds<Rto>,
 ) -> Result<TimedRun, AllocError>
     requires family { are_two_of_a_family setup.a.address setup.b.address ≡ true }
     requires events { All CanPass events.now }
-    ensures { IfOk result (λ run. Reports (setup_of setup) events.now a.new b.new run) }
+    ensures { IfOk result (λ run. Reports (setup_of setup) events.now timers.new run) }
 {
     let mut link = Link {
         world: World::new(alloc, setup)?,
-        a: Watch::new(),
-        b: Watch::new(),
+        watches: BothEnds {
+            a: Watch::new(),
+            b: Watch::new(),
+        },
     };
     match link.happen_all(alloc, events.as_slice()) {
         Ok(()) => {}
@@ -53,11 +55,12 @@ pub fn run_timed(
     }
     let Link {
         world,
-        a: at_a,
-        b: at_b,
+        watches: BothEnds { a, b },
     } = link;
     let report = world.report(alloc)?;
-    *a = at_a.timer;
-    *b = at_b.timer;
+    *timers = BothEnds {
+        a: a.timer,
+        b: b.timer,
+    };
     Ok(TimedRun::Report(report, world.forgeries()))
 }

@@ -147,7 +147,7 @@ impl Watch {
         requires { reading ≤ greatest_time }
         ensures { seen self.new ≡ expired_at reading (seen self.old) }
     {
-        self.timer.expired();
+        self.timer.back_off();
         self.start_anew(reading);
     }
 }

@@ -1,11 +1,13 @@
 //! What was seen of rungs: which segments came, and which came last.
 ghost use Rattle.std.specs.Prelude.{◌≡◌, ◌∷◌, ◌||◌, ◌==◌, ◌<◌, ◌+◌, max, Some, ℕ, List, [], OnOk, IfOk, false, drop, get_or, length};
-ghost use Rattle.book_base.specs.declared.end.End.TheVariants.{A, B};
+ghost use Rattle.book_base.specs.declared.end.End.{End as OneEnd};
 ghost use Rattle.book_draw.specs.declared.rung.Rung.{Rung as Step};
+ghost use Rattle.both_ends.specs.Values.{at};
 ghost use Rattle.book_draw.specs.Fates.{delivery_of, delivery_to, has_come, newest_at, number_come};
 
 use book_base::End;
 use book_draw::{Brought, Delivery, Rung};
+use both_ends::BothEnds;
 use std::alloc::{AllocError, Global};
 
 /// What was seen of rungs.
@@ -13,9 +15,8 @@ use std::alloc::{AllocError, Global};
 pub struct Seen {
     /// At each number, whether the segment of this number came.
     pub(crate) marks: Vec<bool>,
-    /// The greatest number of the segments that came to the end a, and to b; 0 where none did.
-    pub(crate) newest_a: u32,
-    pub(crate) newest_b: u32,
+    /// The greatest number of the segments that came to an end; 0 where none did.
+    pub(crate) newest: BothEnds<u32>,
     /// The last rung.
     pub(crate) last: Option<Rung>,
 }
@@ -82,8 +83,7 @@ impl Seen {
     {
         Seen {
             marks: Vec::new(alloc),
-            newest_a: 0,
-            newest_b: 0,
+            newest: BothEnds { a: 0, b: 0 },
             last: None,
         }
     }
@@ -102,22 +102,16 @@ impl Seen {
     pub(crate) fn newest(&self, end: End) -> u32
         ensures { (rs : List Step) → Saw self.now rs → result ≡ newest_at end rs }
     {
-        match end {
-            End::A => self.newest_a,
-            End::B => self.newest_b,
-        }
+        *self.newest.at(end)
     }
 
     /// Takes the number of the segment for the greatest of its end, where it is greater.
     fn raise(&mut self, delivery: Delivery)
-        ensures a { self.new.newest_a ≡ max (number_come A (Some delivery)) self.old.newest_a }
-        ensures b { self.new.newest_b ≡ max (number_come B (Some delivery)) self.old.newest_b }
+        ensures newest { (end : OneEnd) → at end self.new.newest ≡ max (number_come end (Some delivery)) (at end self.old.newest) }
         ensures marks { self.new.marks ≡ self.old.marks }
     {
-        match delivery.at {
-            End::A => self.newest_a = delivery.name.max(self.newest_a),
-            End::B => self.newest_b = delivery.name.max(self.newest_b),
-        }
+        let newest = self.newest.at_mut(delivery.at);
+        *newest = delivery.name.max(*newest);
     }
 
     /// Sees one rung more, before those that were seen. An error only for want of memory.

@@ -2,7 +2,6 @@
 ghost use Rattle.std.specs.Prelude.{◌≡◌, ◌<◌, ◌+◌, ◌++◌, List, [], IfOk, OnOk, drop, length};
 ghost use Rattle.book_draw.specs.declared.rung.Rung.{Rung as Step};
 ghost use Rattle.book_draw.specs.Ladders.{arrival_label, arriving_pen, first_rung, is_clock_of_b, is_in_line, is_one_line, is_one_line_next, ladder_head, ladder_text, made_pen, meets, other_margin, rung_comes, rung_end, rung_line, rung_margin, rung_text, rung_way, rungs_text, sketch_label, way_from, way_to};
-ghost use Rattle.book_link.specs.Worlds.{same_end};
 ghost use Rattle.draw_ladder.specs.Sights.{Saw};
 
 use crate::fates::{Seen, delivery_of};
@@ -13,17 +12,8 @@ use crate::lines::{
 use crate::margins::{push_answered, push_call, push_clock, push_making, push_phase};
 use book_base::{Bytes, End};
 use book_draw::{Brought, Delivery, Rung, Sketch};
+use both_ends::is_same_end;
 use std::alloc::{AllocError, Global};
-
-fn same_end(one: End, other: End) -> bool
-    ensures { result ≡ same_end one other }
-{
-    match (one, other) {
-        (End::A, End::A) => true,
-        (End::B, End::B) => true,
-        _ => false,
-    }
-}
 
 /// Whether the delivery is of the segment that the other end made.
 fn meets(end: End, sketch: &Sketch, delivery: Option<Delivery>) -> bool
@@ -31,7 +21,7 @@ fn meets(end: End, sketch: &Sketch, delivery: Option<Delivery>) -> bool
 {
     match delivery {
         None => false,
-        Some(delivery) => !same_end(end, delivery.at) && sketch.name == delivery.name,
+        Some(delivery) => !is_same_end(end, delivery.at) && sketch.name == delivery.name,
     }
 }
 
@@ -39,7 +29,7 @@ fn is_clock_of_b(rung: &Rung) -> bool
     ensures { result ≡ is_clock_of_b rung.now }
 {
     match rung {
-        Rung::Clock(end, _) => same_end(*end, End::B),
+        Rung::Clock(end, _) => is_same_end(*end, End::B),
         _ => false,
     }
 }
@@ -49,7 +39,7 @@ fn is_one_line(rung: &Rung, next: &Rung) -> bool
     ensures { result ≡ is_one_line rung.now next.now }
 {
     match rung {
-        Rung::Clock(end, _) => same_end(*end, End::A) && is_clock_of_b(next),
+        Rung::Clock(end, _) => is_same_end(*end, End::A) && is_clock_of_b(next),
         Rung::Made(end, sketch, _) => meets(*end, sketch, delivery_of(*next)),
         _ => false,
     }
@@ -102,7 +92,7 @@ pub fn push_margin(out: &mut Vec<u8>, comes: bool, rung: &Rung) -> Result<(), Al
 {
     match rung {
         Rung::Clock(_, seconds) => push_clock(out, *seconds),
-        Rung::Made(_, _, again) => push_making(out, *again, comes),
+        Rung::Made(_, _, transmission) => push_making(out, *transmission, comes),
         Rung::Came(_, _, answer) => push_answered(out, *answer),
         Rung::Call(_, deed, reply) => push_call(out, *deed, *reply),
         Rung::Turned(_, phase) => push_phase(out, *phase),

@@ -3,12 +3,14 @@ ghost use Rattle.std.specs.Prelude.{◌≡◌, ◌++◌, ◌∷◌, OnOk, decima
 ghost use Rattle.book_lines.specs.Texts.{spaced};
 ghost use Rattle.book_draw.specs.Ladders.{answer_margin};
 ghost use Rattle.book_draw.specs.Margins.{call_margin, clock_margin, deed_texts, fate_word, making_word, phase_margin, reply_texts};
-ghost use Rattle.book_link.specs.Reports.{end_mark, phase_text};
+ghost use Rattle.book_link.specs.Reports.{end_mark};
 
 use book_draw::{Deed, Reply};
 use book_endpoint::{Arrival, Phase};
+use book_link::Transmission;
 use link_report::push_answer;
 use scope_texts::push_instant;
+use segment_words::phase_word;
 use std::alloc::AllocError;
 use text_lines::{push_field, push_number, push_text};
 
@@ -74,10 +76,13 @@ pub(crate) fn push_call(out: &mut Vec<u8>, deed: Deed, reply: Reply) -> Result<(
     push_reply(out, reply)
 }
 
-fn making_word(again: bool) -> &'static [u8]
-    ensures { result.now ≡ making_word again }
+fn making_word(transmission: Transmission) -> &'static [u8]
+    ensures { result.now ≡ making_word transmission }
 {
-    if again { b" resend" } else { b" send" }
+    match transmission {
+        Transmission::New => b" send",
+        Transmission::Again => b" resend",
+    }
 }
 
 fn fate_word(comes: bool) -> &'static [u8]
@@ -87,10 +92,14 @@ fn fate_word(comes: bool) -> &'static [u8]
 }
 
 /// That a segment is made, or made again, and whether it never comes.
-pub(crate) fn push_making(out: &mut Vec<u8>, again: bool, comes: bool) -> Result<(), AllocError>
-    ensures { OnOk result (out.new.items ≡ out.old.items ++ (making_word again ++ fate_word comes)) }
+pub(crate) fn push_making(
+    out: &mut Vec<u8>,
+    transmission: Transmission,
+    comes: bool,
+) -> Result<(), AllocError>
+    ensures { OnOk result (out.new.items ≡ out.old.items ++ (making_word transmission ++ fate_word comes)) }
 {
-    out.extend_from_slice(making_word(again))?;
+    out.extend_from_slice(making_word(transmission))?;
     out.extend_from_slice(fate_word(comes))
 }
 
@@ -100,24 +109,6 @@ pub(crate) fn push_clock(out: &mut Vec<u8>, seconds: u64) -> Result<(), AllocErr
 {
     out.extend_from_slice(b" clock ")?;
     push_instant(out, seconds)
-}
-
-fn phase_word(phase: Phase) -> &'static [u8]
-    ensures { result.now ≡ phase_text phase }
-{
-    match phase {
-        Phase::Listen => b"listen",
-        Phase::SynSent => b"syn-sent",
-        Phase::SynReceived => b"syn-received",
-        Phase::Established => b"established",
-        Phase::FinWait1 => b"fin-wait-1",
-        Phase::FinWait2 => b"fin-wait-2",
-        Phase::CloseWait => b"close-wait",
-        Phase::Closing => b"closing",
-        Phase::LastAck => b"last-ack",
-        Phase::TimeWait => b"time-wait",
-        Phase::Closed => b"closed",
-    }
 }
 
 /// The phase that a session is in now.

@@ -1,6 +1,7 @@
 //! The bars of the rows of an end.
 ghost use Rattle.std.specs.Prelude.{◌≡◌, ◌++◌, ◌≤◌, OnOk, length};
 ghost use Rattle.book_draw_plan.specs.Bars.{bar_byte, bar_bytes, bar_label, bar_text, duty_id, duty_text, duty_words, end_bars, filling_byte, is_doing_within, row_bars};
+ghost use Rattle.book_keys.specs.Rows.{row_limit};
 ghost use Rattle.draw_plan.specs.Drawn.{drawn_of};
 
 use crate::fillings::{is_filled, row_filling};
@@ -150,7 +151,7 @@ pub(crate) fn push_end_bars(
     end: &DrawnEnd,
     rows: &[Row],
 ) -> Result<(), AllocError>
-    requires { length rows.now ≤ 64 }
+    requires { length rows.now ≤ row_limit }
     ensures { OnOk result (out.new.items ≡ out.old.items ++ end_bars (drawn_of end.now) 1 rows.now) }
 {
     for (i, row) in rows.iter().enumerate() {

@@ -3,12 +3,11 @@ ghost use Rattle.std.specs.Prelude.{◌≡◌};
 ghost use Rattle.book_draw_plan.specs.declared.duty.Duty.TheVariants.{Accepts as accepts, Sends as sends_out};
 ghost use Rattle.book_draw_plan.specs.Bars.{is_filled, row_filling};
 ghost use Rattle.book_draw_plan.specs.Slices.{filled_by};
-ghost use Rattle.book_keys.specs.Rows.{receives, sends};
 ghost use Rattle.draw_plan.specs.Lifetimes.{covers, overlaps};
 
 use book_base::Pair;
 use book_draw_plan::{Duty, Filling, Slice};
-use key_table::{Direction, Lifetime, Row};
+use key_table::{Lifetime, Row};
 
 fn filled_by(some: bool, all: bool) -> Filling
     ensures { result ≡ filled_by some all }
@@ -38,24 +37,12 @@ fn covers(lifetime: &Lifetime, slice: &Slice) -> bool
     lifetime.first <= slice.first && slice.last <= lifetime.last
 }
 
-fn is_receiving(direction: Direction) -> bool
-    ensures { result ≡ receives direction }
-{
-    matches!(direction, Direction::Receive | Direction::Both)
-}
-
-fn is_sending(direction: Direction) -> bool
-    ensures { result ≡ sends direction }
-{
-    matches!(direction, Direction::Send | Direction::Both)
-}
-
 #[tactic(auto, using(crate::proofs::LifetimeLaws::accepting_fills))]
 fn accepting_filling(pair: &Pair, row: &Row, slice: &Slice) -> Filling
     ensures { result ≡ row_filling pair.now accepts row.now slice.now }
 {
     let accepting = row.accepting();
-    let some = row.matches(pair) && (is_receiving(row.direction()) && overlaps(&accepting, slice));
+    let some = row.matches(pair) && (row.direction().receives() && overlaps(&accepting, slice));
     filled_by(some, covers(&accepting, slice))
 }
 
@@ -64,7 +51,7 @@ fn sending_filling(pair: &Pair, row: &Row, slice: &Slice) -> Filling
     ensures { result ≡ row_filling pair.now sends_out row.now slice.now }
 {
     let sending = row.sending();
-    let some = row.matches(pair) && (is_sending(row.direction()) && overlaps(&sending, slice));
+    let some = row.matches(pair) && (row.direction().sends() && overlaps(&sending, slice));
     filled_by(some, covers(&sending, slice))
 }
 

@@ -11,4 +11,4 @@ mod wrong;
 pub use bars::{DrawnEnd, duty_id, is_doing_within, push_duty};
 pub use picture::{push_bars, push_scale_words};
 pub use slices::slices_of;
-pub use wrong::{Connected, mirrored};
+pub use wrong::Connected;

@@ -5,13 +5,13 @@ ghost use Rattle.book_draw_plan.specs.Slices.{slices_of};
 
 use crate::bars::{DrawnEnd, push_end_bars};
 use crate::slices::{slice_width, slices_of};
-use crate::wrong::{Connected, mirrored, push_wrong_bytes};
+use crate::wrong::{Connected, push_wrong_bytes};
 use ao_base::push_decimal;
 use book_base::Pair;
 use book_draw_plan::Slice;
 use book_keys::Plan;
 use book_plans::Finding;
-use key_table::Table;
+use key_table::{Table, mirrored};
 use plan_texts::push_times;
 use std::alloc::{AllocError, Global};
 

@@ -1,14 +1,14 @@
 //! The slices in which something is wrong.
 ghost use Rattle.std.specs.Prelude.{◌≡◌, ◌++◌, OnOk, option_map};
 ghost use Rattle.book_draw_plan.specs.Bars.{is_marked, is_seen, may_send_in, numbered_sends, pair_at, slice_mark, wrong_byte, wrong_bytes};
-ghost use Rattle.book_keys.specs.Plans.{mirrored};
-ghost use Rattle.book_scope_plan.specs.CalendarTexts.{row_numbered, side_of};
+ghost use Rattle.book_scope_plan.specs.CalendarTexts.{side_of};
 
 use crate::fillings::{is_filled, row_filling};
 use book_base::{End, Pair};
 use book_draw_plan::{Duty, Slice};
 use book_plans::Finding;
-use key_table::{Row, Table};
+use key_table::{Row, Table, mirrored};
+use plan_texts::row_numbered;
 use std::alloc::AllocError;
 
 /// The tables of the two ends of a connection, and the pair as end A sees it.
@@ -19,16 +19,6 @@ pub struct Connected<'a> {
     pub pair: Pair,
 }
 
-/// The pair as the other end sees it.
-pub fn mirrored(pair: &Pair) -> Pair
-    ensures { result ≡ mirrored pair.now }
-{
-    Pair {
-        local: pair.remote,
-        remote: pair.local,
-    }
-}
-
 fn pair_at(end: End, pair: &Pair) -> Pair
     ensures { result ≡ pair_at end pair.now }
 {
@@ -36,14 +26,6 @@ fn pair_at(end: End, pair: &Pair) -> Pair
         End::A => *pair,
         End::B => mirrored(pair),
     }
-}
-
-/// The row of this number, from 1.
-fn row_numbered(table: &Table, number: u8) -> Option<&Row>
-    ensures { option_map (λ r. r.now) result ≡ row_numbered table.now.rows number }
-{
-    let rows = table.entries();
-    rows.get(usize::from(number).saturating_sub(1))
 }
 
 /// Whether the row that was found may send at some second of the slice.

@@ -12,8 +12,8 @@ use crate::scale::push_scale;
 use book_base::{Address, Pair};
 use book_keys::Plan;
 use book_plans::Finding;
-use draw_plan::{Connected, mirrored, slices_of};
-use key_table::Table;
+use draw_plan::{Connected, slices_of};
+use key_table::{Table, mirrored};
 use plan_texts::{push_missing_words, push_pair};
 use std::alloc::{AllocError, Global};
 

@@ -4,6 +4,7 @@ ghost use Rattle.toml.specs.View.{table_view};
 ghost use Rattle.book_draw_plan.specs.Bars.{end_drawn};
 ghost use Rattle.book_draw_plan.specs.Slices.{slices_of};
 ghost use Rattle.book_draw_plan_svg.specs.PlanLines.{end_bar_lines, row_bar_lines};
+ghost use Rattle.book_keys.specs.Rows.{row_limit};
 ghost use Rattle.draw_plan.specs.Drawn.{drawn_of};
 ghost use Rattle.draw_plan_svg.specs.Draws.{Draws};
 
@@ -58,7 +59,7 @@ fn push_rows(
     end: &DrawnEnd,
     rows: &[Row],
 ) -> Result<u32, AllocError>
-    requires rows { length rows.now ≤ 64 }
+    requires rows { length rows.now ≤ row_limit }
     requires room { line ≤ 4100000000 }
     ensures drawn { IfOk result (λ next. Draws (table_view paper.now.document.now) paper.now.plan (end_bar_lines (drawn_of end.now) 1 rows.now) out.old.items line out.new.items next) }
     ensures few { IfOk result (λ next. next ≤ line + 128) }

@@ -1,11 +1,10 @@
 //! Where a time stands in the picture, and which seconds a bar shows.
 ghost use Rattle.std.specs.Prelude.{◌≡◌, ◌<◌, ◌≤◌, ◌^◌};
-ghost use Rattle.book_keys.specs.Rows.{receives, sends};
 ghost use Rattle.book_draw_plan_svg.specs.Spans.{bar_span, common_span, does_for, duty_lifetime, span_width, time_column};
 
 use book_base::Pair;
 use book_draw_plan::{Duty, Slice};
-use key_table::{Direction, Lifetime, Row};
+use key_table::{Lifetime, Row};
 
 /// The column of a moment, in seconds since 1970, of a time that is drawn.
 #[tactic(auto, unfolding(book_draw_plan_svg::specs::Spans::time_column))]
@@ -47,25 +46,13 @@ pub(crate) fn duty_lifetime(duty: Duty, row: &Row) -> Lifetime
     }
 }
 
-fn is_receiving(direction: Direction) -> bool
-    ensures { result ≡ receives direction }
-{
-    matches!(direction, Direction::Receive | Direction::Both)
-}
-
-fn is_sending(direction: Direction) -> bool
-    ensures { result ≡ sends direction }
-{
-    matches!(direction, Direction::Send | Direction::Both)
-}
-
 /// Whether the row does this for the pair, at whatever time.
 fn does_for(pair: &Pair, duty: Duty, row: &Row) -> bool
     ensures { result ≡ does_for pair.now duty row.now }
 {
     match duty {
-        Duty::Accepts => row.matches(pair) && is_receiving(row.direction()),
-        Duty::Sends => row.matches(pair) && is_sending(row.direction()),
+        Duty::Accepts => row.matches(pair) && row.direction().receives(),
+        Duty::Sends => row.matches(pair) && row.direction().sends(),
     }
 }
 

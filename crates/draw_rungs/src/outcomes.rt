@@ -8,7 +8,7 @@ ghost use Rattle.link_report.specs.Outcomes.{Shows, TellsMade};
 use book_base::End;
 use book_draw::{Brought, Deed, Reply, Rung, Sketch};
 use book_endpoint::Phase;
-use book_link::{Action, Event};
+use book_link::{Action, Event, Transmission};
 use link_report::Outcome;
 use tcp_endpoint::Made;
 
@@ -51,12 +51,12 @@ fn reply_of(outcome: &Outcome) -> Reply
     }
 }
 
-/// The rung of a call that makes a segment, or none; `again` where it makes one again.
-fn making_rung(end: End, deed: Deed, again: bool, outcome: &Outcome) -> Rung
-    ensures { (is : book.Outcome) → Shows outcome.now is → result ≡ making_rung end deed again is }
+/// The rung of a call that makes a segment, or none.
+fn making_rung(end: End, deed: Deed, transmission: Transmission, outcome: &Outcome) -> Rung
+    ensures { (is : book.Outcome) → Shows outcome.now is → result ≡ making_rung end deed transmission is }
 {
     match outcome {
-        Outcome::Sent(name, made) => Rung::Made(end, sketch_of(*name, made), again),
+        Outcome::Sent(name, made) => Rung::Made(end, sketch_of(*name, made), transmission),
         _ => Rung::Call(end, deed, reply_of(outcome)),
     }
 }
@@ -85,8 +85,8 @@ fn rung_at(end: End, action: &Action, outcome: &Outcome) -> Rung
             Rung::Call(end, Deed::Give(count), reply_of(outcome))
         }
         Action::Fill(count, _) => Rung::Call(end, Deed::Give(u64::from(*count)), reply_of(outcome)),
-        Action::Send => making_rung(end, Deed::Send, false, outcome),
-        Action::Resend => making_rung(end, Deed::Resend, true, outcome),
+        Action::Send => making_rung(end, Deed::Send, Transmission::New, outcome),
+        Action::Resend => making_rung(end, Deed::Resend, Transmission::Again, outcome),
         Action::Deliver(name) => {
             coming_rung(end, Deed::Deliver(*name), Brought::Segment(*name), outcome)
         }

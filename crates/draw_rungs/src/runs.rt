@@ -1,6 +1,7 @@
 //! The rungs of a run.
 ghost use Rattle.std.specs.Prelude.{◌≡◌, ◌<◌, ◌≤◌, ◌+◌, ◌++◌, ◌∷◌, [], IfOk, OnOk, List, length, true};
 ghost use Rattle.std.specs.List.{All};
+ghost use Rattle.book_lines.specs.Lines.{most_lines};
 ghost use Rattle.book_segments.specs.Sockets.{are_two_of_a_family};
 ghost use Rattle.book_draw.specs.Rungs.{ahead, phase_at, rungs, rungs_at};
 ghost use Rattle.book_link.specs.declared.event.Event.{Event as Happening};
@@ -68,7 +69,7 @@ fn step(
 pub fn rungs_of(alloc: Global, setup: Setup, events: &[Event]) -> Result<Vec<Rung>, AllocError>
     requires family { are_two_of_a_family setup.a.address setup.b.address ≡ true }
     requires events { All CanHappen events.now }
-    requires few { length events.now ≤ 20000 }
+    requires few { length events.now ≤ most_lines }
     ensures { IfOk result (λ r. r.items ≡ rungs (setup_of setup) events.now) }
 {
     let mut world = World::new(alloc, setup)?;

@@ -3,13 +3,13 @@ ghost use Rattle.std.specs.Prelude.{◌≡◌, ◌++◌, IfOk, OnOk, codes};
 ghost use Rattle.book_draw_session_svg.specs.SessionPictures.{rung_arrow_svg, outcome_dashes, rung_drawing_svg, rung_svg, upright_column, rung_label_column, rung_label_height, rung_label_svg, rung_margin_column, rung_margin_height, rung_margin_svg, rung_numbers, rung_in_row, rung_height, rung_title};
 ghost use Rattle.book_draw_session.specs.Ladders.{said_texts};
 ghost use Rattle.book_lines.specs.Texts.{spaced};
-ghost use Rattle.book_link.specs.Worlds.{other, same_end};
 
 use crate::lines::{NANOSECONDS, key_id_of, push_label, push_outcome, push_time, reached_end};
 use book_base::End;
 use book_draw_session::{SessionEnds, SessionRung};
 use book_sessions::SegmentOutcome;
 use book_svg::Point;
+use both_ends::{is_same_end, other};
 use scope_texts::push_instant;
 use std::alloc::{AllocError, Global};
 use svg_tags::{push_line, push_titled, push_words};
@@ -62,25 +62,6 @@ fn rung_label_column(end: End) -> u64
     }
 }
 
-fn other_end(end: End) -> End
-    ensures { result ≡ other end }
-{
-    match end {
-        End::A => End::B,
-        End::B => End::A,
-    }
-}
-
-fn same_end(one: End, other: End) -> bool
-    ensures { result ≡ same_end one other }
-{
-    match (one, other) {
-        (End::A, End::A) => true,
-        (End::B, End::B) => true,
-        _ => false,
-    }
-}
-
 /// The dashes of an arrow.
 pub(crate) fn outcome_dashes(said: SegmentOutcome) -> &'static [u8]
     ensures { result.now ≡ outcome_dashes said }
@@ -112,7 +93,7 @@ fn push_arrow(out: &mut Vec<u8>, at: End, row: u32, said: SegmentOutcome) -> Res
     let mut attributes = Vec::new(*out.allocator());
     push_tip(&mut attributes, said)?;
     let from = Point {
-        x: upright_column(other_end(at)),
+        x: upright_column(other(at)),
         y,
     };
     let to = Point {
@@ -135,7 +116,7 @@ fn push_label_words(
         x: rung_label_column(sender),
         y: rung_label_height(row),
     };
-    push_words(out, at, same_end(sender, End::B), words)
+    push_words(out, at, is_same_end(sender, End::B), words)
 }
 
 /// The words beside an end in a row.
@@ -146,7 +127,7 @@ fn push_margin_words(out: &mut Vec<u8>, end: End, row: u32, words: &[u8]) -> Res
         x: rung_margin_column(end),
         y: rung_margin_height(row),
     };
-    push_words(out, at, same_end(end, End::A), words)
+    push_words(out, at, is_same_end(end, End::A), words)
 }
 
 /// What is drawn of a segment that comes to the end.
@@ -162,9 +143,9 @@ fn drawing_of(alloc: Global, at: End, row: u32, rung: &SessionRung) -> Result<Ve
     push_time(&mut time, rung.time)?;
     let mut out = Vec::new(alloc);
     push_arrow(&mut out, at, row, rung.outcome)?;
-    push_label_words(&mut out, other_end(at), row, label.as_slice())?;
+    push_label_words(&mut out, other(at), row, label.as_slice())?;
     push_margin_words(&mut out, at, row, said.as_slice())?;
-    push_margin_words(&mut out, other_end(at), row, time.as_slice())?;
+    push_margin_words(&mut out, other(at), row, time.as_slice())?;
     Ok(out)
 }
 

@@ -1,13 +1,13 @@
 //! The elements of rungs.
 ghost use Rattle.std.specs.Prelude.{◌≡◌, ◌++◌, IfOk, OnOk, Some, codes, option_map};
 ghost use Rattle.book_draw_svg.specs.Pictures.{arrow_svg, dash_attribute, element_svg, end_column, is_at_once, label_column, label_height, label_svg, late_label_svg, leaving_svg, lost_column, lost_height, margin_column, margin_height, margin_svg, reaching_svg, row_height, start_column, start_row, words_beside};
-ghost use Rattle.book_link.specs.Worlds.{same_end};
 ghost use Rattle.book_svg.specs.Tags.{colour_text, titled_tag};
 
 use book_base::End;
 use book_draw::Rung;
 use book_draw_svg::{Placed, Start, Stroke};
 use book_svg::Point;
+use both_ends::is_same_end;
 use draw_ladder::{push_margin, rung_end};
 use std::alloc::{AllocError, Global};
 use svg_tags::{push_dot, push_line, push_titled, push_words};
@@ -74,16 +74,6 @@ fn lost_column(end: End) -> u64
     }
 }
 
-fn same_end(one: End, other: End) -> bool
-    ensures { result ≡ same_end one other }
-{
-    match (one, other) {
-        (End::A, End::A) => true,
-        (End::B, End::B) => true,
-        _ => false,
-    }
-}
-
 /// The column in which the arrow of what comes to the end begins.
 fn start_column(at: End, start: Option<Start>) -> u64
     ensures { result ≡ start_column at start }
@@ -91,7 +81,7 @@ fn start_column(at: End, start: Option<Start>) -> u64
     match start {
         None => 400,
         Some(start) => {
-            if same_end(start.end, at) {
+            if is_same_end(start.end, at) {
                 400
             } else {
                 end_column(start.end)
@@ -154,7 +144,7 @@ fn push_label(out: &mut Vec<u8>, end: End, placed: &Placed) -> Result<(), AllocE
         x: label_column(end),
         y: label_height(placed.row),
     };
-    push_words(out, at, same_end(end, End::B), placed.label.as_slice())
+    push_words(out, at, is_same_end(end, End::B), placed.label.as_slice())
 }
 
 /// What is drawn of a segment that is made.
@@ -306,7 +296,7 @@ fn push_margin_words(out: &mut Vec<u8>, placed: &Placed) -> Result<(), AllocErro
     };
     let mut words = Vec::new(*out.allocator());
     push_beside(&mut words, placed.stroke, &placed.rung)?;
-    push_words(out, at, same_end(end, End::A), words.as_slice())
+    push_words(out, at, is_same_end(end, End::A), words.as_slice())
 }
 
 /// The element of a rung.

@@ -16,7 +16,7 @@ fn a_second_equal_sample_lowers_the_value(rt: HostRuntime) {
 fn a_value_is_doubled_up_to_a_minute_and_no_further(rt: HostRuntime) {
     let mut timer = Rto::new();
     for value in [2000, 4000, 8000, 16_000, 32_000, 60_000, 60_000] {
-        timer.expired();
+        timer.back_off();
         assert!(rt; timer.value() == value);
     }
     timer.sample(0);

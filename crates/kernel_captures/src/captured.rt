@@ -5,11 +5,8 @@ ghost use Rattle.kernel_captures.specs.Captured.{ChecksBy};
 
 use ao_base::{Sink, Source, read_all};
 use cmd_check::{Form, Halt, answer};
-use key_table::read_tables;
+use key_table::{MOST_KEYS, read_tables};
 use std::alloc::Global;
-
-/// The most bytes of a key file.
-const MOST_KEYS: u64 = 1_048_576;
 
 /// Why a capture wasn't checked to its end.
 #[derive(Clone, Copy, Debug, PartialEq, Eq)]

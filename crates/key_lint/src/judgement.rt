@@ -1,29 +1,14 @@
 //! The judgement on the tables of the two ends of a connection.
-ghost use Rattle.std.specs.Prelude.{◌≡◌, ◌≤◌, ◌↔◌, length};
+ghost use Rattle.std.specs.Prelude.{◌≡◌, ◌↔◌};
 ghost use Rattle.book_keys.specs.declared.lint.LintAnswer.TheVariants as answer;
 ghost use Rattle.book_keys.specs.Plans.{lint_of, rows_at};
 ghost use Rattle.key_lint.specs.CarriesThrough.{CarriesThrough};
 
 use crate::gap::gap;
 use crate::way::Way;
-use book_base::{Address, End, Pair};
+use book_base::{End, Pair};
 use book_keys::LintAnswer;
-use key_table::{Row, Tables};
-
-/// The rows of the node with this address; none where no node has it.
-fn rows_at<'a>(tables: &'a Tables, address: &Address) -> &'a [Row]
-    ensures value { result.now ≡ rows_at tables.now address.now }
-    ensures limit { length result.now ≤ 64 }
-{
-    match tables.table(address) {
-        Some(table) => {
-            // It tells that a table has at most 64 rows.
-            let _count = table.rows();
-            table.entries()
-        }
-        None => &[],
-    }
-}
+use key_table::Tables;
 
 /// The judgement: the first row that isn't met, of A and then of B, before a gap of A and then of B.
 #[tactic(auto, unfolding(book_keys::specs::Plans::lint_rows, book_keys::specs::Plans::first_misaligned))]
@@ -31,8 +16,8 @@ fn judge(tables: &Tables, pair: &Pair, lead: u64, lag: u64, from: u64, to: u64) 
     ensures { result ≡ lint_of tables.now pair.now (record { lead = lead; lag = lag; from = from; to = to }) }
 {
     let there = Way {
-        rows: rows_at(tables, &pair.local.address),
-        others: rows_at(tables, &pair.remote.address),
+        rows: tables.rows_at(&pair.local.address),
+        others: tables.rows_at(&pair.remote.address),
         pair: *pair,
         lead,
         lag,

@@ -1,19 +1,14 @@
 //! The rows that send from one end of a connection, and their peers at the other end.
 ghost use Rattle.std.specs.Prelude.{◌≡◌, ◌==◌, ◌&&◌, ◌≤◌, length, map, option_map, take};
 ghost use Rattle.std.specs.List.{list_any};
-ghost use Rattle.book_segments.specs.Bytes.{same_bytes};
-ghost use Rattle.book_keys.specs.Plans.{mirrored, same_flag, same_key, accepts_from, outlasts, accepts_throughout, unmet_reason};
-ghost use Rattle.book_base.specs.Algorithms.{same_algorithm};
+ghost use Rattle.book_keys.specs.Plans.{mirrored, same_key, accepts_from, outlasts, accepts_throughout, unmet_reason};
 ghost use Rattle.book_keys.specs.Plans.{first_unmet, misaligned_answer};
 ghost use Rattle.key_lint.specs.Unmet.{hears, unmet_answer};
-ghost use Rattle.book_keys.specs.Rows.{matches, receives, sends_for};
+ghost use Rattle.book_keys.specs.Rows.{matches, receives, row_limit};
 
-use book_base::{Algorithm, End, Pair};
-use book_keys::{LATEST, LintAnswer};
-use key_table::Row;
-
-/// The most rows of a table.
-pub(crate) const MOST_ROWS: usize = 64;
+use book_base::{End, Pair};
+use book_keys::{LATEST, LintAnswer, ROW_LIMIT};
+use key_table::{Row, mirrored};
 
 /// The rows of one end, which send over the connection as that end sees it, and those of the other
 /// end, which are to accept from `lead` seconds before until `lag` seconds after.
@@ -26,23 +21,6 @@ pub(crate) struct Way<'a> {
     pub(crate) lag: u64,
 }
 
-/// The connection as the other end sees it.
-fn mirrored(pair: &Pair) -> Pair
-    ensures { result ≡ mirrored pair.now }
-{
-    Pair {
-        local: pair.remote,
-        remote: pair.local,
-    }
-}
-
-/// Whether the row sends over the connection, at whatever time.
-pub(crate) fn is_sending_for(row: &Row, pair: &Pair) -> bool
-    ensures { result ≡ sends_for pair.now row.now }
-{
-    row.matches(pair) && row.direction().sends()
-}
-
 /// Whether the row is for what comes in over the connection, at whatever time.
 fn is_hearing(row: &Row, pair: &Pair) -> bool
     ensures { result ≡ (matches row.now pair.now && receives row.now.direction) }
@@ -50,31 +28,11 @@ fn is_hearing(row: &Row, pair: &Pair) -> bool
     row.direction().receives() && row.matches(pair)
 }
 
-fn is_same_algorithm(one: Algorithm, other: Algorithm) -> bool
-    ensures { result ≡ same_algorithm one other }
-{
-    one == other
-}
-
-fn is_same_flag(one: bool, other: bool) -> bool
-    ensures { result ≡ same_flag one other }
-{
-    one == other
-}
-
-fn is_same_master(one: &[u8], other: &[u8]) -> bool
-    ensures { result ≡ same_bytes one.now other.now }
-{
-    one == other
-}
-
 /// Whether the two rows have one key, one algorithm and one option flag.
 fn is_same_key(one: &Row, other: &Row) -> bool
     ensures { result ≡ same_key one.now other.now }
 {
-    is_same_algorithm(one.algorithm(), other.algorithm())
-        && is_same_flag(one.with_options(), other.with_options())
-        && is_same_master(one.master(), other.master())
+    one.has_algorithm_of(other) && one.has_flag_of(other) && one.has_master_of(other)
 }
 
 /// Whether the other end's row has the id and the key that the row's segments name (RFC 5925, section
@@ -105,12 +63,12 @@ impl<'a> Way<'a> {
 
     /// Which rows of the other end are for what comes in over the connection. A row may name many peers,
     /// so they are looked at once for all rows of this end.
-    fn hearing(&self) -> [bool; MOST_ROWS]
-        requires { length self.now.others.now ≤ 64 }
+    fn hearing(&self) -> [bool; ROW_LIMIT]
+        requires { length self.now.others.now ≤ row_limit }
         ensures { take (length self.now.others.now) result ≡ map (hears self.now.pair) self.now.others.now }
     {
         let pair = mirrored(&self.pair);
-        let mut hearing = [false; MOST_ROWS];
+        let mut hearing = [false; ROW_LIMIT];
         for (i, other) in self.others.iter().enumerate() {
             hearing[i] = is_hearing(other, &pair);
         }
@@ -130,7 +88,7 @@ impl<'a> Way<'a> {
 
     /// Whether some row of the other end accepts what this row sends, at whatever time (RFC 5925,
     /// section 3.1).
-    fn is_accepted(&self, hearing: &[bool; MOST_ROWS], row: &Row) -> bool
+    fn is_accepted(&self, hearing: &[bool; ROW_LIMIT], row: &Row) -> bool
         requires { take (length self.now.others.now) hearing.now ≡ map (hears self.now.pair) self.now.others.now }
         ensures { result ≡ list_any (accepts_from self.now.pair row.now) self.now.others.now }
     {
@@ -144,7 +102,7 @@ impl<'a> Way<'a> {
 
     /// Whether some row of the other end does, and accepts for so long. The times are compared first,
     /// since rows with one id that hear the same peer accept at different times.
-    fn is_accepted_throughout(&self, hearing: &[bool; MOST_ROWS], row: &Row) -> bool
+    fn is_accepted_throughout(&self, hearing: &[bool; ROW_LIMIT], row: &Row) -> bool
         requires { take (length self.now.others.now) hearing.now ≡ map (hears self.now.pair) self.now.others.now }
         ensures { result ≡ list_any (accepts_throughout self.now.pair self.now.lead self.now.lag row.now) self.now.others.now }
     {
@@ -161,7 +119,7 @@ impl<'a> Way<'a> {
     #[tactic(auto, using(crate::proofs::JudgedLaws::accepted_too))]
     fn unmet(
         &self,
-        hearing: &[bool; MOST_ROWS],
+        hearing: &[bool; ROW_LIMIT],
         end: End,
         number: u8,
         row: &Row,
@@ -169,7 +127,7 @@ impl<'a> Way<'a> {
         requires { take (length self.now.others.now) hearing.now ≡ map (hears self.now.pair) self.now.others.now }
         ensures { result ≡ unmet_answer end number self.now.others.now self.now.pair self.now.lead self.now.lag row.now }
     {
-        if !is_sending_for(row, &self.pair) || self.is_accepted_throughout(hearing, row) {
+        if !row.is_sending_for(&self.pair) || self.is_accepted_throughout(hearing, row) {
             None
         } else if self.is_accepted(hearing, row) {
             Some(LintAnswer::ShortAccept(end, number))
@@ -180,8 +138,8 @@ impl<'a> Way<'a> {
 
     /// The first row that isn't met at the other end, and why; the rows are those of `end`.
     pub(crate) fn first_unmet(&self, end: End) -> Option<LintAnswer>
-        requires rows { length self.now.rows.now ≤ 64 }
-        requires others { length self.now.others.now ≤ 64 }
+        requires rows { length self.now.rows.now ≤ row_limit }
+        requires others { length self.now.others.now ≤ row_limit }
         ensures { result ≡ option_map misaligned_answer
             (first_unmet (unmet_reason self.now.others.now self.now.pair self.now.lead self.now.lag) end 1 self.now.rows.now) }
     {

@@ -4,7 +4,6 @@ ghost use Rattle.book_keys.specs.Lifetimes.{is_covered};
 ghost use Rattle.book_keys.specs.Plans.{send_lifetimes};
 ghost use Rattle.book_plans.specs.Findings.{failing_spans, gap_finding, gap_findings};
 
-use crate::alike::is_sending_for;
 use book_base::{End, Pair};
 use book_plans::Finding;
 use key_table::{Lifetime, Row, first_gap};
@@ -16,7 +15,7 @@ fn send_lifetimes(alloc: Global, rows: &[Row], pair: &Pair) -> Result<Vec<Lifeti
 {
     let mut lifetimes = Vec::new(alloc);
     for row in rows {
-        if is_sending_for(row, pair) {
+        if row.is_sending_for(pair) {
             lifetimes.push(row.sending())?;
         }
     }

@@ -7,7 +7,6 @@ mod alike;
 mod gaps;
 mod margin;
 mod plan_findings;
-mod tables;
 mod turns;
 mod way;
 

@@ -5,19 +5,17 @@ ghost use Rattle.book_plans.specs.declared.margin.Margin.TheVariants as margin;
 ghost use Rattle.book_plans.specs.Margins.{AreOrdered, AlignedAtLead, AlignedAtLag, IsMargin, narrower, narrowest, lead_margin_of, lag_margin_of};
 ghost use Rattle.key_plan.specs.Asked.{margin_of_row, margin_of_plan};
 
-use crate::alike::mirrored;
-use crate::tables::rows_at;
 use crate::way::{Given, narrower, narrowest};
 use book_base::Pair;
 use book_plans::Margin;
-use key_table::Tables;
+use key_table::{Tables, mirrored};
 
 /// What the tables of both ends leave.
 fn margin_of_plan(given: Given, tables: &Tables, pair: &Pair) -> Option<Margin>
     ensures { result ≡ margin_of_plan given (rows_at tables.now pair.now.local.address) (rows_at tables.now pair.now.remote.address) pair.now }
 {
-    let here = rows_at(tables, &pair.local.address);
-    let there = rows_at(tables, &pair.remote.address);
+    let here = tables.rows_at(&pair.local.address);
+    let there = tables.rows_at(&pair.remote.address);
     let back = mirrored(pair);
     narrower(
         narrowest(given, pair, here, there),

@@ -3,15 +3,15 @@ ghost use Rattle.std.specs.Prelude.{◌≡◌, ◌↔◌, ◌≤◌, ◌++◌, [
 ghost use Rattle.std.specs.List.{list_any};
 ghost use Rattle.book_keys.specs.declared.lint.LintAnswer.TheVariants as answer;
 ghost use Rattle.book_keys.specs.Plans.{mirrored, accepts_from, accepts_throughout, unmet_reason, lint_of};
+ghost use Rattle.book_keys.specs.Rows.{row_limit};
 ghost use Rattle.book_plans.specs.Findings.{finding_by, unmet_findings, findings, findings_of, first_answer, wanted_accepting, widened};
 
-use crate::alike::{is_accepting_from, is_sending_for, mirrored};
+use crate::alike::is_accepting_from;
 use crate::gaps::add_gaps;
-use crate::tables::rows_at;
 use crate::way::is_accepting_throughout;
 use book_base::{End, Pair};
 use book_plans::Finding;
-use key_table::{LATEST, Lifetime, Row, Tables};
+use key_table::{LATEST, Lifetime, Row, Tables, mirrored};
 use std::alloc::{AllocError, Global};
 
 /// The rows of one end, which send over the connection as that end sees it, and those of the other
@@ -63,7 +63,7 @@ impl<'a> Way<'a> {
     fn unmet(&self, end: End, number: u8, row: &Row) -> Option<Finding>
         ensures { result ≡ option_map (finding_by end number) (unmet_reason self.now.others.now self.now.pair self.now.lead self.now.lag row.now) }
     {
-        if !is_sending_for(row, &self.pair) {
+        if !row.is_sending_for(&self.pair) {
             None
         } else if !self.is_accepted(row) {
             Some(Finding::NoPeerRow(end, number))
@@ -76,7 +76,7 @@ impl<'a> Way<'a> {
 
     /// Adds each row that isn't met, in order; the rows are those of `end`.
     fn add_unmet(&self, findings: &mut Vec<Finding>, end: End) -> Result<(), AllocError>
-        requires { length self.now.rows.now ≤ 64 }
+        requires { length self.now.rows.now ≤ row_limit }
         ensures { OnOk result (findings.new.items ≡ findings.old.items ++ unmet_findings (unmet_reason self.now.others.now self.now.pair self.now.lead self.now.lag) end 1 self.now.rows.now) }
     {
         for (i, row) in self.rows.iter().enumerate() {
@@ -96,8 +96,8 @@ fn findings_of_both(
     from: u64,
     to: u64,
 ) -> Result<Vec<Finding>, AllocError>
-    requires rows { length there.now.rows.now ≤ 64 }
-    requires others { length there.now.others.now ≤ 64 }
+    requires rows { length there.now.rows.now ≤ row_limit }
+    requires others { length there.now.others.now ≤ row_limit }
     ensures { IfOk result (λ v. v.items ≡ findings there.now.rows.now there.now.others.now there.now.pair
         (record { lead = there.now.lead; lag = there.now.lag; from = from; to = to })) }
 {
@@ -147,8 +147,8 @@ pub fn findings(
     ensures none { IfOk result (λ v. (v.items ≡ []) ↔ (lint_of tables.now pair.now (record { lead = lead; lag = lag; from = from; to = to }) ≡ answer.Aligned)) }
 {
     let there = Way {
-        rows: rows_at(tables, &pair.local.address),
-        others: rows_at(tables, &pair.remote.address),
+        rows: tables.rows_at(&pair.local.address),
+        others: tables.rows_at(&pair.remote.address),
         pair: *pair,
         lead,
         lag,

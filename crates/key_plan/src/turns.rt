@@ -6,11 +6,9 @@ ghost use Rattle.book_keys.specs.Plans.{mirrored, rows_at};
 ghost use Rattle.book_keys.specs.Rows.{sendable, acceptable};
 ghost use Rattle.book_plans.specs.Calendar.{planned, is_number, has_role, turn_at, turn_by, role_turn, row_turns, turns_from, turns_after, turns_in, calendar_of, Keeps};
 
-use crate::alike::mirrored;
-use crate::tables::rows_at;
 use book_base::{Address, End, Pair};
 use book_plans::{Role, Turn};
-use key_table::{Lifetime, Row, Table, Tables};
+use key_table::{Lifetime, Row, Table, Tables, mirrored};
 use std::alloc::{AllocError, Global};
 
 fn is_sendable(row: &Row, pair: &Pair, time: u64) -> bool
@@ -250,8 +248,8 @@ pub fn calendar(
 ) -> Result<Vec<Turn>, AllocError>
     ensures { IfOk result (λ v. v.items ≡ calendar_of tables.now pair.now from to) }
 {
-    let here = rows_at(tables, &pair.local.address);
-    let there = rows_at(tables, &pair.remote.address);
+    let here = tables.rows_at(&pair.local.address);
+    let there = tables.rows_at(&pair.remote.address);
     let mut turns = Vec::new(alloc);
     let mut time = from;
     while time < to {

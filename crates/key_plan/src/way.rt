@@ -5,7 +5,7 @@ ghost use Rattle.book_plans.specs.declared.margin.Margin.TheVariants as margin;
 ghost use Rattle.book_plans.specs.Margins.{wider, narrower, widest, narrowest, time_before, time_after};
 ghost use Rattle.key_plan.specs.Asked.{margin_by, margin_of_row};
 
-use crate::alike::{is_accepting_from, is_sending_for};
+use crate::alike::is_accepting_from;
 use book_base::Pair;
 use book_plans::Margin;
 use key_table::{LATEST, Row};
@@ -132,7 +132,7 @@ fn widest(given: Given, pair: &Pair, row: &Row, others: &[Row]) -> Option<Margin
 fn margin_of_row(given: Given, pair: &Pair, row: &Row, others: &[Row]) -> Option<Margin>
     ensures { result ≡ margin_of_row given others.now pair.now row.now }
 {
-    if is_sending_for(row, pair) {
+    if row.is_sending_for(pair) {
         widest(given, pair, row, others)
     } else {
         Some(Margin::Any)

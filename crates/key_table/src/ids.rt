@@ -5,10 +5,11 @@ ghost use Rattle.book_keys.specs.Columns.{text_of, is_admin, id_of_text, ids_of}
 
 use crate::columns::{must, text_at};
 use ao_base::read_decimal;
-use book_keys::{Column, Ids, TableFault};
+use book_keys::{Column, GREATEST_KEY_ID, Ids, TableFault};
 use toml::Table;
 
-fn is_admin(table: &Table) -> bool
+/// Whether AdminKeyName is a text of 1 to 255 bytes.
+pub fn is_admin_at(table: &Table) -> bool
     ensures { result ≡ is_admin (text_of (codes "AdminKeyName") (table_view table.now)) }
 {
     match text_at(table, "AdminKeyName") {
@@ -22,7 +23,7 @@ fn read_id(text: &str) -> Option<u8>
 {
     match read_decimal(text.as_bytes()) {
         Some(number) => {
-            if number <= 255 {
+            if number <= GREATEST_KEY_ID {
                 Some(number as u8)
             } else {
                 None
@@ -32,7 +33,8 @@ fn read_id(text: &str) -> Option<u8>
     }
 }
 
-fn id_at(table: &Table, key: &str) -> Option<u8>
+/// The KeyID that the text at a key writes; `None` where it writes none, or no text stands there.
+pub fn id_at(table: &Table, key: &str) -> Option<u8>
     ensures { result ≡ option_and_then id_of_text (text_of key.now (table_view table.now)) }
 {
     match text_at(table, key) {
@@ -46,7 +48,7 @@ pub(crate) fn ids_at(node: u8, row: u8, table: &Table) -> Result<Ids, TableFault
     ensures { result ≡ ids_of node row (table_view table.now) }
 {
     must(
-        is_admin(table),
+        is_admin_at(table),
         TableFault::Field(node, row, Column::AdminKeyName),
     )?;
     let recv_id = id_at(table, "LocalKeyName").ok_or(TableFault::Field(

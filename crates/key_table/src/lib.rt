@@ -8,6 +8,7 @@ mod columns;
 mod gap;
 mod ids;
 mod master_key;
+mod mirror;
 mod new_row;
 mod nodes;
 mod overlap;
@@ -24,11 +25,20 @@ mod time;
 mod want;
 
 pub use book_keys::{
-    Accept, AddRefusal, Column, Direction, LATEST, Lifetime, NewRow, NoRow, TableFault,
+    Accept, AddRefusal, Column, Direction, LATEST, Lifetime, MOST_KEYS, NewRow, NoRow, TableFault,
 };
+pub use columns::{is_word_at, member_at, text_at};
 pub use gap::first_gap;
+pub use ids::{id_at, is_admin_at};
+pub use mirror::mirrored;
+pub use nodes::is_visible;
+pub use peers::peer_of;
+pub use ports::port_at;
+pub use protocol::{is_everywhere, kdf_at, options_at};
 pub use read::read_tables;
-pub use row::Row;
+pub use row::{Row, fits_port, has_peer};
+pub use rows::ROW_KEYS;
 pub use table::Table;
 pub use tables::Tables;
+pub use terms::{direction_at, time_at};
 pub use time::read_time;

@@ -1,6 +1,8 @@
 //! Rows that an operator adds while the table is in use, and rows that are withdrawn.
 ghost use Rattle.std.specs.Prelude.{◌≡◌, ◌≤◌, length, IfOk};
 ghost use Rattle.std.specs.List.{position_from};
+ghost use Rattle.book_keys.specs.MasterKeys.{IsMasterKey};
+ghost use Rattle.book_keys.specs.Rows.{row_limit};
 ghost use Rattle.book_keys.specs.Overlaps.{overlaps};
 ghost use Rattle.book_keys.specs.Tables.{disabled, row_of_new};
 
@@ -12,6 +14,7 @@ use std::alloc::{AllocError, Global};
 
 /// The row that is added.
 pub(crate) fn row_of_new(alloc: Global, new: NewRow) -> Result<Row, AllocError>
+    requires master { IsMasterKey new.master }
     ensures { IfOk result (λ r. r ≡ row_of_new new) }
 {
     let mut peers = Vec::new(alloc);
@@ -35,7 +38,7 @@ pub(crate) fn row_of_new(alloc: Global, new: NewRow) -> Result<Row, AllocError>
 
 /// The number of the first row that overlaps the row.
 pub(crate) fn overlapping(rows: &[Row], row: &Row) -> Option<u8>
-    requires { length rows.now ≤ 64 }
+    requires { length rows.now ≤ row_limit }
     ensures { result ≡ position_from (λ a. overlaps a row.now) 1 rows.now }
 {
     for (i, one) in rows.iter().enumerate() {

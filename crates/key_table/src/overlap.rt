@@ -3,6 +3,7 @@ ghost use Rattle.std.specs.Prelude.{◌≡◌, ◌≤◌, ◌+◌, drop, length,
 ghost use Rattle.std.specs.List.{list_any, position_from};
 ghost use Rattle.book_segments.specs.Sockets.{same_address};
 ghost use Rattle.book_keys.specs.Overlaps.{peer_meets, peers_meet, ports_meet, lifetimes_meet, pairs_meet, accepts_meet, sends_meet, overlaps, first_overlap};
+ghost use Rattle.book_keys.specs.Rows.{node_limit, row_limit};
 ghost use Rattle.book_keys.specs.Nodes.{overlap_in};
 ghost use Rattle.key_table.specs.Pairs.{two_of};
 
@@ -85,7 +86,7 @@ pub(crate) fn overlaps(one: &Row, other: &Row) -> bool
 /// The number of the first row from index `from` on that overlaps the row.
 fn partner(row: &Row, rows: &[Row], from: usize) -> Option<u8>
     requires from { from ≤ length rows.now }
-    requires limit { length rows.now ≤ 64 }
+    requires limit { length rows.now ≤ row_limit }
     ensures { result ≡ position_from (overlaps row.now) (from + 1) (drop from rows.now) }
 {
     for k in from..rows.len() {
@@ -99,7 +100,7 @@ fn partner(row: &Row, rows: &[Row], from: usize) -> Option<u8>
 /// The numbers of the least two rows that overlap.
 #[tactic(auto, unfolding(book_keys::specs::Overlaps::first_overlap))]
 fn first_overlap(rows: &[Row]) -> Option<(u8, u8)>
-    requires { length rows.now ≤ 64 }
+    requires { length rows.now ≤ row_limit }
     ensures { option_map two_of result ≡ first_overlap 1 rows.now }
 {
     for (i, row) in rows.iter().enumerate() {
@@ -113,7 +114,7 @@ fn first_overlap(rows: &[Row]) -> Option<(u8, u8)>
 /// The first overlap of the tables, those of the nodes from 1 on.
 #[tactic(auto, unfolding(book_keys::specs::Nodes::overlap_in))]
 pub(crate) fn overlap_in(tables: &[Table]) -> Option<TableFault>
-    requires { length tables.now ≤ 16 }
+    requires { length tables.now ≤ node_limit }
     ensures { result ≡ overlap_in 1 tables.now }
 {
     for (i, table) in tables.iter().enumerate() {

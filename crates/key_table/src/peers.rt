@@ -7,7 +7,7 @@ ghost use Rattle.book_keys.specs.Reading.{ReadingGives, each};
 use crate::columns::is_text;
 use ao_base::read_address;
 use book_base::Address;
-use book_keys::{Column, TableFault};
+use book_keys::{Column, PEER_LIMIT, TableFault};
 use std::alloc::Global;
 use toml::Value;
 
@@ -23,7 +23,8 @@ fn read_peer(text: &str) -> Option<Option<Address>>
     }
 }
 
-fn peer_of(value: &Value) -> Option<Option<Address>>
+/// The peer that a value writes, `Some(None)` for any; `None` where it writes none.
+pub fn peer_of(value: &Value) -> Option<Option<Address>>
     ensures { result ≡ peer_of (view value.now) }
 {
     match value.as_str() {
@@ -67,7 +68,7 @@ pub(crate) fn peers_at(
     match value {
         Some(value) => match value.as_array() {
             Some(values) => {
-                if !values.is_empty() && values.len() <= 16 {
+                if !values.is_empty() && values.len() <= PEER_LIMIT {
                     each_peer(alloc, node, row, values.as_slice())
                 } else {
                     Err(fault)

@@ -37,7 +37,9 @@ fn port_of(value: &Value) -> Option<Option<u16>>
     }
 }
 
-fn port_at(table: &Table, key: &str) -> Option<Option<u16>>
+/// The port that the value at a key writes, `Some(None)` for any where none stands there; `None` where it writes
+/// none.
+pub fn port_at(table: &Table, key: &str) -> Option<Option<u16>>
     ensures { result ≡ port_of (get_member key.now (table_view table.now)) }
 {
     match member_at(table, key) {

@@ -9,11 +9,12 @@ use crate::columns::{is_text, is_word_at, member_at, must, text_at};
 use crate::master_key::MasterKey;
 use ao_base::{HexProblem, read_hex};
 use book_base::Algorithm;
-use book_keys::{Column, TableFault};
+use book_keys::{Column, LONGEST_MASTER_KEY, TableFault};
 use std::alloc::Global;
 use toml::Table;
 
-fn is_everywhere(table: &Table) -> bool
+/// Whether Interfaces is absent, or the text `all`.
+pub fn is_everywhere(table: &Table) -> bool
     ensures { result ≡ is_absent_or (codes "all") (get_member (codes "Interfaces") (table_view table.now)) }
 {
     match member_at(table, "Interfaces") {
@@ -37,7 +38,8 @@ fn read_options(text: &str) -> Option<bool>
     }
 }
 
-fn options_at(table: &Table) -> Option<bool>
+/// Whether the MAC covers the options, as ProtocolSpecificInfo says it; `None` where it doesn't.
+pub fn options_at(table: &Table) -> Option<bool>
     ensures { result ≡ option_and_then options_flag_of (text_of (codes "ProtocolSpecificInfo") (table_view table.now)) }
 {
     match text_at(table, "ProtocolSpecificInfo") {
@@ -75,7 +77,8 @@ fn read_kdf(text: &str) -> Option<Algorithm>
     }
 }
 
-fn kdf_at(table: &Table) -> Option<Algorithm>
+/// The algorithm to which the function that KDF names belongs; `None` where it names none.
+pub fn kdf_at(table: &Table) -> Option<Algorithm>
     ensures { result ≡ option_and_then kdf_of (text_of (codes "KDF") (table_view table.now)) }
 {
     match text_at(table, "KDF") {
@@ -112,7 +115,7 @@ pub(crate) fn master_at(
     match read_hex(alloc, text.as_bytes()) {
         Ok(bytes) => {
             let bytes = bytes.into_vec();
-            if !bytes.is_empty() && bytes.len() <= 255 {
+            if !bytes.is_empty() && bytes.len() <= LONGEST_MASTER_KEY {
                 Ok(MasterKey { bytes })
             } else {
                 Err(fault)

@@ -1,11 +1,10 @@
 //! The table of a node, and its look-ups.
 ghost use Rattle.std.specs.Prelude.{◌≡◌, ◌≤◌, ◌-◌, [], length, slice_index_or, option_map, is_some};
 ghost use Rattle.std.specs.List.{AllByRecursion};
-ghost use Rattle.book_keys.specs.Rows.{Row as Entry, sendable};
-ghost use Rattle.book_keys.specs.Lifetimes.{greatest_time};
+ghost use Rattle.book_keys.specs.Rows.{Row as Entry, row_limit, sendable};
 ghost use Rattle.book_keys.specs.Coordination.{numbered};
 ghost use Rattle.book_keys.specs.Lookups.{number_of, accept_of};
-ghost use Rattle.book_keys.specs.Tables.{adding, withdrawn, row_of_new, Addition, Withdrawn};
+ghost use Rattle.book_keys.specs.Tables.{IsNewRow, adding, withdrawn, row_of_new, Addition, Withdrawn};
 ghost use Rattle.book_keys.specs.Choices.{latest, lowest, later, send_row, next_row, named_send, has_id};
 ghost use Rattle.key_table.specs.Ranges.{FitsColumns};
 ghost use Rattle.key_table.specs.Wants.{usable, usable_as, wanted_start};
@@ -15,7 +14,7 @@ use crate::new_row::{disable, overlapping, row_of_new};
 use crate::row::{Row, see_columns};
 use crate::want::Want;
 use book_base::{Address, Pair};
-use book_keys::{Accept, AddRefusal, NewRow, NoRow};
+use book_keys::{Accept, AddRefusal, NewRow, NoRow, ROW_LIMIT};
 use std::alloc::Global;
 use std::marker::Model;
 
@@ -30,14 +29,14 @@ pub struct Table {
 impl Model for Table {
     ghost use Rattle.std.specs.Prelude.{◌≤◌, length};
     ghost use Rattle.std.specs.List.{AllByRecursion};
-    ghost use Rattle.book_keys.specs.Rows.{Table as Sheet};
+    ghost use Rattle.book_keys.specs.Rows.{Table as Sheet, row_limit};
     ghost use Rattle.key_table.specs.Ranges.{FitsColumns};
 
     ghost Value = { Sheet };
 
     ghost view = { λ t. record { name = t.name.items; address = t.address; rows = t.rows.items } };
 
-    ghost invariant = { λ t. (length t.rows.items ≤ 64) × AllByRecursion FitsColumns t.rows.items };
+    ghost invariant = { λ t. (length t.rows.items ≤ row_limit) × AllByRecursion FitsColumns t.rows.items };
 }
 
 /// A row with its number.
@@ -65,7 +64,7 @@ fn later<'a>(want: Want, one: Option<Numbered<'a>>, two: Numbered<'a>) -> Number
 
 /// The usable row with the greatest start.
 fn latest(rows: &[Row], want: Want, pair: &Pair, now: u64) -> Option<u8>
-    requires { length rows.now ≤ 64 }
+    requires { length rows.now ≤ row_limit }
     ensures { result ≡ number_of (latest (usable want pair.now now) (wanted_start want) 1 rows.now) }
 {
     let mut found: Option<Numbered> = None;
@@ -89,7 +88,7 @@ fn latest(rows: &[Row], want: Want, pair: &Pair, now: u64) -> Option<u8>
 
 /// The lowest row that is usable under the id.
 fn lowest(rows: &[Row], want: Want, pair: &Pair, id: u8, now: u64) -> Option<u8>
-    requires { length rows.now ≤ 64 }
+    requires { length rows.now ≤ row_limit }
     ensures { result ≡ number_of (lowest (usable_as want pair.now id now) 1 rows.now) }
 {
     for (i, row) in rows.iter().enumerate() {
@@ -118,12 +117,14 @@ impl Table {
         }
     }
 
+    /// The name of the node, none for an empty table.
     pub fn name(&self) -> &[u8]
         ensures { result.now ≡ self.now.name }
     {
         self.name.as_slice()
     }
 
+    /// The address of the node.
     pub fn address(&self) -> Address
         ensures { result ≡ self.now.address }
     {
@@ -133,7 +134,7 @@ impl Table {
     /// How many rows there are, at most 64.
     pub fn rows(&self) -> u8
         ensures value { result ≡ length self.now.rows }
-        ensures limit { result ≤ 64 }
+        ensures limit { result ≤ row_limit }
     {
         self.rows.len() as u8
     }
@@ -172,13 +173,10 @@ impl Table {
     /// it begins or after `LATEST`.
     #[tactic(auto, unfolding(book_keys::specs::Tables::adding))]
     pub fn add(&mut self, alloc: Global, row: NewRow) -> Result<u8, AddRefusal>
-        requires sending { row.sending.first ≤ row.sending.last }
-        requires sent { row.sending.last ≤ greatest_time }
-        requires accepting { row.accepting.first ≤ row.accepting.last }
-        requires accepted { row.accepting.last ≤ greatest_time }
+        requires row { IsNewRow row }
         ensures { Addition self.old self.new result (adding self.old.rows (row_of_new row)) }
     {
-        if self.rows.len() >= 64 {
+        if self.rows.len() >= ROW_LIMIT {
             return Err(AddRefusal::TooMany);
         }
         let row = row_of_new(alloc, row)?;

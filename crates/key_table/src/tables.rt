@@ -2,8 +2,9 @@
 ghost use Rattle.std.specs.Prelude.{◌≡◌, ◌≤◌, ◌-◌, ◌∷◌, [], length, slice_index_or, option_map, IfOk, false};
 ghost use Rattle.std.specs.List.{find};
 ghost use Rattle.book_segments.specs.Sockets.{same_address};
-ghost use Rattle.book_keys.specs.Rows.{Table as Sheet, has_address};
+ghost use Rattle.book_keys.specs.Rows.{Table as Sheet, has_address, node_limit, row_limit};
 ghost use Rattle.book_keys.specs.MasterKeys.{IsMasterKey};
+ghost use Rattle.book_keys.specs.Plans.{rows_at};
 ghost use Rattle.book_keys.specs.Shared.{shared_row, shared_tables};
 ghost use Rattle.std.specs.Borrow.{sem};
 ghost use Rattle.std.specs.Option.{option_copied_mut};
@@ -27,13 +28,13 @@ pub struct Tables {
 
 impl Model for Tables {
     ghost use Rattle.std.specs.Prelude.{◌≤◌, length, List};
-    ghost use Rattle.book_keys.specs.Rows.{Table as Sheet};
+    ghost use Rattle.book_keys.specs.Rows.{Table as Sheet, node_limit};
 
     ghost Value = { List Sheet };
 
     ghost view = { λ t. t.items.items };
 
-    ghost invariant = { λ t. length t.items.items ≤ 16 };
+    ghost invariant = { λ t. length t.items.items ≤ node_limit };
 }
 
 fn shared_row(alloc: Global, algorithm: Algorithm, master: MasterKey) -> Result<Row, AllocError>
@@ -109,6 +110,21 @@ impl Tables {
         None
     }
 
+    /// The rows of the node with this address; none where no node has it.
+    pub fn rows_at(&self, address: &Address) -> &[Row]
+        ensures value { result.now ≡ rows_at self.now address.now }
+        ensures limit { length result.now ≤ row_limit }
+    {
+        match self.table(address) {
+            Some(table) => {
+                // It tells that a table has no more rows.
+                let _count = table.rows();
+                table.entries()
+            }
+            None => &[],
+        }
+    }
+
     /// The place of the first node with this address, from 0; the number of nodes where there is none.
     fn place(&self, address: &Address) -> usize
         ensures { result ≡ place_of address.now self.now }
@@ -143,7 +159,7 @@ impl Tables {
     /// How many nodes there are, at most 16.
     pub fn nodes(&self) -> u8
         ensures value { result ≡ length self.now }
-        ensures limit { result ≤ 16 }
+        ensures limit { result ≤ node_limit }
     {
         self.items.len() as u8
     }

@@ -26,7 +26,8 @@ fn read_direction(text: &str) -> Option<Direction>
     }
 }
 
-fn direction_at(table: &Table) -> Option<Direction>
+/// The direction that Direction names; `None` where it names none.
+pub fn direction_at(table: &Table) -> Option<Direction>
     ensures { result ≡ option_and_then direction_of (text_of (codes "Direction") (table_view table.now)) }
 {
     match text_at(table, "Direction") {
@@ -44,7 +45,9 @@ fn time_of(value: &Value) -> Option<u64>
     }
 }
 
-fn time_at(table: &Table, key: &str, absent: u64) -> Option<u64>
+/// The time that the text at a key writes, in seconds since 1970, or what stands for an absent one; `None`
+/// exactly where a value stands there that writes none.
+pub fn time_at(table: &Table, key: &str, absent: u64) -> Option<u64>
     ensures { result ≡ time_or absent (get_member key.now (table_view table.now)) }
 {
     match member_at(table, key) {

@@ -20,6 +20,8 @@ use Rattle.law_link.specs.Laws.{EventFits, AddressesFit, RowFits, SetupFits, Tab
 use Rattle.book_link.specs.Worlds.{first_rows, setup_of}
 use Rattle.book_cmd_link.specs.declared.script.Script.{Script}
 use Rattle.book_cmd_link.specs.declared.script.SharedKey.{SharedKey}
+use Rattle.book_cmd_link.specs.declared.script.KeysFrom.TheVariants as keys_from
+use Rattle.book_cmd_link.specs.declared.script.KeysFrom.{KeysFrom}
 use Rattle.book_cmd_link.specs.LinkFiles.{shared_by}
 use Rattle.book_cmd_link.specs.LinkFiles.{script_of}
 use Rattle.book_segments.specs.Sockets.{are_two_of_a_family}
@@ -41,7 +43,7 @@ event_fits (At e Send) r = tt
 event_fits (At e Resend) r = tt
 event_fits (At e (Deliver name)) r = tt
 event_fits (At e (Inject bytes)) r = r.small
-event_fits (At e (Alter name place mask fix)) r = r.2
+event_fits (At e (Alter name place mask fixing)) r = r.2
 event_fits (At e (Take count)) r = tt
 event_fits (At e Close) r = tt
 event_fits (At e Abort) r = tt
@@ -56,8 +58,8 @@ all_events : (es : List Event) → All IsEvent es → AllByRecursion EventFits e
 all_events [] all = tt
 all_events (e ∷ es) all = (event_fits e (all 0 e (omega arith)), all_events es (λ k d h. all (suc k) d (omega arith)))
 
-pub events_fit : (with_keys : Bool) (text : List ℕ) (script : Script) → script_of with_keys text ≡ Ok script → AllByRecursion EventFits script.events
-events_fit with_keys text script is = all_events script.events (script_of_ok with_keys text script is).0.events
+pub events_fit : (keys : KeysFrom) (text : List ℕ) (script : Script) → script_of keys text ≡ Ok script → AllByRecursion EventFits script.events
+events_fit keys text script is = all_events script.events (script_of_ok keys text script is).0.events
 
 -- ---- sockets
 
@@ -109,9 +111,9 @@ valid_tables tables a b valid = record { valid = valid_of_end }
 pub keyed_tables : (keys : List ℕ) (tables : List Table) (a b : Socket) → tables_of keys ≡ Ok tables → TablesFit (setup_of tables a b)
 keyed_tables keys tables a b read = valid_tables tables a b (tables_of-valid keys tables read)
 
-pub keyed_fits : (keys text : List ℕ) (tables : List Table) (script : Script) → tables_of keys ≡ Ok tables → script_of true text ≡ Ok script → SetupFits (setup_of tables script.a script.b)
+pub keyed_fits : (keys text : List ℕ) (tables : List Table) (script : Script) → tables_of keys ≡ Ok tables → script_of keys_from.KeyFile text ≡ Ok script → SetupFits (setup_of tables script.a script.b)
 keyed_fits keys text tables script read is =
-    let s : IsScript script = (script_of_ok true text script is).0 in
+    let s : IsScript script = (script_of_ok keys_from.KeyFile text script is).0 in
     fits tables script.a script.b s.a s.b s.two (tables_fit keys tables read)
 
 shared_fit : (script : Script) (shared : Option SharedKey) → IsKey shared → AllByRecursion Fit (shared_by script shared)
@@ -124,9 +126,9 @@ shared_valid : (script : Script) (shared : Option SharedKey) → All (λ (t : Ta
 shared_valid script None = λ k d h. absurd (omega arith)
 shared_valid script (Some key) = shared-valid script.a.address script.b.address key.alg key.master
 
-pub shared_fits : (text : List ℕ) (script : Script) → script_of false text ≡ Ok script → SetupFits (setup_of (shared_by script script.shared) script.a script.b)
+pub shared_fits : (text : List ℕ) (script : Script) → script_of keys_from.LinkFile text ≡ Ok script → SetupFits (setup_of (shared_by script script.shared) script.a script.b)
 shared_fits text script is =
-    let s : IsScript script = (script_of_ok false text script is).0 in
+    let s : IsScript script = (script_of_ok keys_from.LinkFile text script is).0 in
     fits (shared_by script script.shared) script.a script.b s.a s.b s.two (shared_fit script script.shared s.key)
 
 pub shared_tables_fit : (script : Script) → TablesFit (setup_of (shared_by script script.shared) script.a script.b)
@@ -142,5 +144,5 @@ script_few script s =
     length-append (key_lines script.shared) (map event_words script.events) ∙ ap (λ n. length (key_lines script.shared) + n) (length-map script.events event_words) in
     omega arith
 
-pub few_in : (with_keys : Bool) (text : List ℕ) (script : Script) → script_of with_keys text ≡ Ok script → length script.events ≤ 20000
-few_in with_keys text script is = script_few script (script_of_ok with_keys text script is).0
+pub few_in : (keys : KeysFrom) (text : List ℕ) (script : Script) → script_of keys text ≡ Ok script → length script.events ≤ 20000
+few_in keys text script is = script_few script (script_of_ok keys text script is).0

@@ -16,9 +16,7 @@ use Rattle.book_keys.specs.Reading.{must, each}
 use Rattle.book_base.specs.Results.{◌>>=◌, or_fault}
 use Rattle.book_keys.specs.Rows.{Row, Table, node_limit, row_limit}
 use Rattle.law_link.specs.Laws.{RowFits}
-use Rattle.std.specs.Result.{result_ok}
 use Rattle.hex.specs.Hex.{IsBytes, decode_of}
-use Rattle.hex.specs.declared.error.FromHexError.{FromHexError}
 use Rattle.hex.proofs.HexLemmas.{decode_of-ok}
 use Rattle.law_scripts.proofs.WordRanges.{decoded}
 use Rattle.book_keys.proofs.ValidLaws.{ok_is, then_ok}

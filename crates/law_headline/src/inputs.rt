@@ -1,6 +1,8 @@
 //! What a link file and a key file say, and what a storm is made of, fits a link, and each such run
 //! gets through.
-ghost use Rattle.std.specs.Prelude.{◌≡◌, ◌≤◌, ℕ, Bool, List, length, true, false, Ok};
+ghost use Rattle.book_cmd_link.specs.declared.script.KeysFrom.{KeysFrom};
+ghost use Rattle.book_cmd_link.specs.declared.script.KeysFrom.TheVariants as keys_from;
+ghost use Rattle.std.specs.Prelude.{◌≡◌, ◌≤◌, ℕ, List, length, Ok};
 ghost use Rattle.std.specs.List.{AllByRecursion};
 ghost use Rattle.book_base.specs.declared.address.Socket.{Socket};
 ghost use Rattle.book_keys.specs.Nodes.{tables_of};
@@ -19,11 +21,11 @@ ghost use Rattle.law_headline.specs.GetsThrough.{GetsThrough};
 /// The sockets of a link file with the tables of a key file, or with those of the key that the link
 /// file names, fit a link, and so does each event of a link file.
 pub fn link_files_fit()
-    ensures keyed { (keys text : List ℕ) (tables : List Table) (script : Script) → tables_of keys ≡ Ok tables → script_of true text ≡ Ok script
+    ensures keyed { (keys text : List ℕ) (tables : List Table) (script : Script) → tables_of keys ≡ Ok tables → script_of keys_from.KeyFile text ≡ Ok script
         → SetupFits (setup_of tables script.a script.b) }
-    ensures shared { (text : List ℕ) (script : Script) → script_of false text ≡ Ok script
+    ensures shared { (text : List ℕ) (script : Script) → script_of keys_from.LinkFile text ≡ Ok script
         → SetupFits (setup_of (shared_by script script.shared) script.a script.b) }
-    ensures events { (with_keys : Bool) (text : List ℕ) (script : Script) → script_of with_keys text ≡ Ok script → AllByRecursion EventFits script.events }
+    ensures events { (keys : KeysFrom) (text : List ℕ) (script : Script) → script_of keys text ≡ Ok script → AllByRecursion EventFits script.events }
 {}
 
 /// The tables of a key file, at whichever sockets, have no overlap, and neither have those of the key
@@ -36,9 +38,9 @@ pub fn tables_fit()
 /// The run of a link file over a key file gets through, whether `link` or `bgp` makes it, and so does
 /// that of a link file that names its key.
 pub fn link_files_get_through()
-    ensures keyed { (keys text : List ℕ) (tables : List Table) (script : Script) → tables_of keys ≡ Ok tables → script_of true text ≡ Ok script
+    ensures keyed { (keys text : List ℕ) (tables : List Table) (script : Script) → tables_of keys ≡ Ok tables → script_of keys_from.KeyFile text ≡ Ok script
         → GetsThrough (setup_of tables script.a script.b) script.events }
-    ensures shared { (text : List ℕ) (script : Script) → script_of false text ≡ Ok script
+    ensures shared { (text : List ℕ) (script : Script) → script_of keys_from.LinkFile text ≡ Ok script
         → GetsThrough (setup_of (shared_by script script.shared) script.a script.b) script.events }
 {}
 

@@ -13,9 +13,10 @@ use Rattle.book_segments.specs.Spelling.{AreBytes, IsV4, IsV6, FitsIp, Fits, ip_
 use Rattle.book_segments.proofs.ByteLaws.{bytes_drop, bytes_take, nil_bytes}
 use Rattle.book_macs.specs.Contexts.{context}
 use Rattle.book_macs.specs.MacInput.{covered, mac_input}
+use Rattle.book_link.specs.declared.event.Fixing.{Fixing}
+use Rattle.book_link.specs.declared.event.Fixing.TheVariants.{Keep, Fix}
 use Rattle.book_link.specs.Alterations.{masked, place_in, altered}
 use Rattle.law_link.specs.Laws.{AddressesFit}
-use Rattle.law_link.proofs.Tests.{choose}
 
 -- numbers below 256, as a record, so that the list is told by the fact
 pub record Byted (xs : List ℕ) : Type 0 where
@@ -149,8 +150,7 @@ summed b h =
     let tb = dropped b (ip_length b) h in
     join (take (ip_length b) b) _ (taken b (ip_length b) h) (join (take 16 t) _ (taken t 16 tb) (two (complement_of (pseudo_in b (with_sum t 0))) (drop 18 t) (dropped t 18 tb)))
 
-pub altered_bytes : (b : List ℕ) (place mask : ℕ) (fix : Bool) → mask < 256 → Byted b → Byted (altered b (record { place = place; mask = mask; fix = fix }))
+pub altered_bytes : (b : List ℕ) (place mask : ℕ) (fixing : Fixing) → mask < 256 → Byted b → Byted (altered b (record { place = place; mask = mask; fixing = fixing }))
 unfolding altered
-altered_bytes b place mask fix low h =
-    let copy = masked_bytes b (place_in b place) mask low h in
-    choose Byted fix (with_right_checksum (masked b (place_in b place) mask)) (masked b (place_in b place) mask) (λ t. summed (masked b (place_in b place) mask) copy) (λ t. copy)
+altered_bytes b place mask Keep low h = masked_bytes b (place_in b place) mask low h
+altered_bytes b place mask Fix low h = summed (masked b (place_in b place) mask) (masked_bytes b (place_in b place) mask low h)

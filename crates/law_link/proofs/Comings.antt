@@ -1,7 +1,7 @@
 -- Which events are arrivals, and of what.
 use Rattle.std.proofs.Common.{◌≡◌, ℕ, suc, ◌<◌, Bool, true, false, not, List, [], ◌∷◌, length, replicate, Option, Some, None, if◌then◌else◌, refl, sym, ap, ◌∙◌, subst, arith, nat_lt}
 use Rattle.std.specs.Prelude.{⊤}
-use Rattle.book_link.specs.RowLines.{added_row}
+use Rattle.book_keys.specs.Tables.{row_of_new}
 use Rattle.book_base.specs.declared.end.End.{End}
 use Rattle.book_base.specs.declared.end.End.TheVariants.{A, B}
 use Rattle.book_segments.specs.Segments.{reading}
@@ -13,6 +13,7 @@ use Rattle.book_endpoint.specs.Arrivals.{arrive}
 use Rattle.book_endpoint.specs.Emissions.{Emitted, Quiet, NoKey, Emits, emit, resend}
 use Rattle.law_link.proofs.ByteLists.{altered_bytes}
 use Rattle.law_link.proofs.Tests.{choose}
+use Rattle.book_link.specs.declared.event.Fixing.{Fixing}
 use Rattle.book_link.specs.Alterations.{has_place, altered}
 use Rattle.book_link.specs.declared.event.Event.{Event}
 use Rattle.book_link.specs.declared.event.Event.TheVariants.{At, Dump}
@@ -96,16 +97,16 @@ module _ (setup : Setup) (fits : SetupFits setup) where
   deliver_came w e None r all is = absurd (longer (Coming r) w.history is)
   deliver_came w e (Some m) r all is = come_came setup w e (side w e).sessions m.bytes r refl (all m refl) is
 
-  alter_if : (w : World) (e : End) (place mask : ℕ) (fix : Bool) (m : Made) (r : Came) (b : Bool) → mask < 256 → AreBytes m.bytes
-      → (if b then on_live w e (come (altered m.bytes (record { place = place; mask = mask; fix = fix })) (view_of setup w e)) else record { world = w; outcome = NoPlace }).world.history ≡ Coming r ∷ w.history → CameBy setup w r
-  alter_if w e place mask fix m r true low all is =
-      come_came setup w e (side w e).sessions (altered m.bytes (record { place = place; mask = mask; fix = fix })) r refl (altered_bytes m.bytes place mask fix low (record { at = all })).at is
-  alter_if w e place mask fix m r false low all is = absurd (longer (Coming r) w.history is)
+  alter_if : (w : World) (e : End) (place mask : ℕ) (fixing : Fixing) (m : Made) (r : Came) (b : Bool) → mask < 256 → AreBytes m.bytes
+      → (if b then on_live w e (come (altered m.bytes (record { place = place; mask = mask; fixing = fixing })) (view_of setup w e)) else record { world = w; outcome = NoPlace }).world.history ≡ Coming r ∷ w.history → CameBy setup w r
+  alter_if w e place mask fixing m r true low all is =
+      come_came setup w e (side w e).sessions (altered m.bytes (record { place = place; mask = mask; fixing = fixing })) r refl (altered_bytes m.bytes place mask fixing low (record { at = all })).at is
+  alter_if w e place mask fixing m r false low all is = absurd (longer (Coming r) w.history is)
 
-  alter_came : (w : World) (e : End) (place mask : ℕ) (fix : Bool) (o : Option Made) (r : Came) → mask < 256 → ((m : Made) → o ≡ Some m → AreBytes m.bytes)
-      → (alter setup w e (record { place = place; mask = mask; fix = fix }) o).world.history ≡ Coming r ∷ w.history → CameBy setup w r
-  alter_came w e place mask fix None r low all is = absurd (longer (Coming r) w.history is)
-  alter_came w e place mask fix (Some m) r low all is = alter_if w e place mask fix m r (has_place m.bytes place) low (all m refl) is
+  alter_came : (w : World) (e : End) (place mask : ℕ) (fixing : Fixing) (o : Option Made) (r : Came) → mask < 256 → ((m : Made) → o ≡ Some m → AreBytes m.bytes)
+      → (alter setup w e (record { place = place; mask = mask; fixing = fixing }) o).world.history ≡ Coming r ∷ w.history → CameBy setup w r
+  alter_came w e place mask fixing None r low all is = absurd (longer (Coming r) w.history is)
+  alter_came w e place mask fixing (Some m) r low all is = alter_if w e place mask fixing m r (has_place m.bytes place) low (all m refl) is
 
   pub came_by : (w : World) (event : Event) (r : Came) → EventFits event → Inv setup w → (step setup w event).world.history ≡ Coming r ∷ w.history → CameBy setup w r
   came_by w (At e (Clock seconds)) r f inv is = absurd (put_quiet w e (with_clock (side w e) seconds) r is)
@@ -118,10 +119,10 @@ module _ (setup : Setup) (fits : SetupFits setup) where
   came_by w (At e Resend) r f inv is = absurd (live_quiet w e (side w e).sessions (send_again (view_of setup w e)) r (λ s. sent_quiet (view_of setup w e) s Nothing (resend (side w e).rows (pair_of setup e) (side w e).clock s)) is)
   came_by w (At e (Deliver name)) r f inv is = deliver_came w e (segment_named name w.history) r (λ m named. named_bytes setup fits w name m inv named) is
   came_by w (At e (Inject bytes)) r f inv is = come_came setup w e (side w e).sessions bytes r refl f is
-  came_by w (At e (Alter name place mask fix)) r f inv is = alter_came w e place mask fix (segment_named name w.history) r f (λ m named. named_bytes setup fits w name m inv named) is
+  came_by w (At e (Alter name place mask fixing)) r f inv is = alter_came w e place mask fixing (segment_named name w.history) r f (λ m named. named_bytes setup fits w name m inv named) is
   came_by w (At e (Take count)) r f inv is = absurd (live_quiet w e (side w e).sessions (took count) r (λ s. tt) is)
   came_by w (At e Close) r f inv is = absurd (live_quiet w e (side w e).sessions _ r (λ s. tt) is)
   came_by w (At e Abort) r f inv is = absurd (live_quiet w e (side w e).sessions _ r (λ s. tt) is)
-  came_by w (At e (AddRow row)) r f inv is = absurd (add_quiet w e (adding (side w e).rows (added_row row)) r is)
+  came_by w (At e (AddRow row)) r f inv is = absurd (add_quiet w e (adding (side w e).rows (row_of_new row)) r is)
   came_by w (At e (Withdraw n)) r f inv is = absurd (withdraw_quiet w e (withdrawn (side w e).rows n) r is)
   came_by w (Dump name) r f inv is = absurd (longer (Coming r) w.history is)

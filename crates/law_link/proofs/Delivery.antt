@@ -9,8 +9,9 @@ use Rattle.book_endpoint.specs.States.{EndState, connected, listening, started, 
 use Rattle.law_link.proofs.Tests.{choose}
 use Rattle.law_link.proofs.Sound.{Sound, steady_sound}
 use Rattle.law_link.proofs.Whole.{Whole}
-use Rattle.book_link.specs.RowLines.{added_row}
+use Rattle.book_keys.specs.Tables.{row_of_new}
 use Rattle.law_link.proofs.ByteLists.{altered_bytes, repeated}
+use Rattle.book_link.specs.declared.event.Fixing.{Fixing}
 use Rattle.book_link.specs.Alterations.{has_place, altered}
 use Rattle.book_link.specs.declared.event.Event.{Event}
 use Rattle.book_link.specs.declared.event.Event.TheVariants.{At, Dump}
@@ -80,12 +81,12 @@ module _ (setup : Setup) (fits : SetupFits setup) where
   deliver_heard w e None all inv h = h
   deliver_heard w e (Some m) all inv h = arrive_heard w e m.bytes (all m refl) inv h
 
-  alter_heard : (w : World) (e : End) (place mask : ℕ) (fix : Bool) (o : Option Made) → mask < 256 → ((m : Made) → o ≡ Some m → AreBytes m.bytes) → Inv setup w → Heard w
-      → Heard (alter setup w e (record { place = place; mask = mask; fix = fix }) o).world
-  alter_heard w e place mask fix None low all inv h = h
-  alter_heard w e place mask fix (Some m) low all inv h =
+  alter_heard : (w : World) (e : End) (place mask : ℕ) (fixing : Fixing) (o : Option Made) → mask < 256 → ((m : Made) → o ≡ Some m → AreBytes m.bytes) → Inv setup w → Heard w
+      → Heard (alter setup w e (record { place = place; mask = mask; fixing = fixing }) o).world
+  alter_heard w e place mask fixing None low all inv h = h
+  alter_heard w e place mask fixing (Some m) low all inv h =
       choose (λ (x : Stepped). Heard x.world) (has_place m.bytes place) _ _
-      (λ t. arrive_heard w e (altered m.bytes (record { place = place; mask = mask; fix = fix })) (altered_bytes m.bytes place mask fix low (record { at = all m refl })).at inv h) (λ t. h)
+      (λ t. arrive_heard w e (altered m.bytes (record { place = place; mask = mask; fixing = fixing })) (altered_bytes m.bytes place mask fixing low (record { at = all m refl })).at inv h) (λ t. h)
 
   add_heard : (w : World) (e : End) (o : Adding) → Heard w → Heard (add_row w e o).world
   add_heard w e (AddedAs n rows) h = quiet_heard w e (with_table (side w e) rows) refl h
@@ -107,11 +108,11 @@ module _ (setup : Setup) (fits : SetupFits setup) where
   step_heard w (At e Resend) f inv h = act_heard w e (side w e).sessions _ refl inv (λ s a b. resend_act_ok setup e w (inv.rows e) s a b) h
   step_heard w (At e (Deliver name)) f inv h = deliver_heard w e (segment_named name w.history) (λ m is. named_bytes setup fits w name m inv is) inv h
   step_heard w (At e (Inject bytes)) f inv h = arrive_heard w e bytes f inv h
-  step_heard w (At e (Alter name place mask fix)) f inv h = alter_heard w e place mask fix (segment_named name w.history) f (λ m is. named_bytes setup fits w name m inv is) inv h
+  step_heard w (At e (Alter name place mask fixing)) f inv h = alter_heard w e place mask fixing (segment_named name w.history) f (λ m is. named_bytes setup fits w name m inv is) inv h
   step_heard w (At e (Take count)) f inv h = act_heard w e (side w e).sessions _ refl inv (λ s a b. took_ok setup e count s a b) h
   step_heard w (At e Close) f inv h = act_heard w e (side w e).sessions _ refl inv (λ s a b. close_ok setup e s s.phase a b) h
   step_heard w (At e Abort) f inv h = act_heard w e (side w e).sessions _ refl inv (λ s a b. abort_ok setup e s a b) h
-  step_heard w (At e (AddRow row)) f inv h = add_heard w e (adding (side w e).rows (added_row row)) h
+  step_heard w (At e (AddRow row)) f inv h = add_heard w e (adding (side w e).rows (row_of_new row)) h
   step_heard w (At e (Withdraw n)) f inv h = withdraw_heard w e (withdrawn (side w e).rows n) h
   step_heard w (Dump name) f inv h = h
 

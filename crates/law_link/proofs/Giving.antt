@@ -11,12 +11,13 @@ use Rattle.book_endpoint.specs.declared.phase.Phase.{Phase}
 use Rattle.book_endpoint.specs.declared.phase.Phase.TheVariants.{Listen as Listening, SynSent, Closed}
 use Rattle.book_endpoint.specs.Emissions.{Emitted, Quiet, NoKey, Emits, emit, resend}
 use Rattle.book_endpoint.specs.States.{EndState, connected, listening, started, room, gives, give, close_in, abort, tick}
+use Rattle.book_link.specs.declared.event.Fixing.{Fixing}
 use Rattle.book_link.specs.Alterations.{has_place, altered}
 use Rattle.book_link.specs.declared.event.Event.{Event}
 use Rattle.book_link.specs.declared.event.Event.TheVariants.{At, Dump}
 use Rattle.book_link.specs.declared.event.Action.TheVariants.{Clock, Connect, Listen, Start, Give, Fill, Send, Resend, Deliver, Inject, Alter, Take, Close, Abort, AddRow, Withdraw}
 use Rattle.book_link.specs.Outcomes.{Outcome, Done, Full, HasClosed, Idle, Nothing}
-use Rattle.book_link.specs.RowLines.{added_row}
+use Rattle.book_keys.specs.Tables.{row_of_new}
 use Rattle.book_link.specs.Runs.{empty, run_from, run}
 use Rattle.book_link.specs.Steps.{View, Stepped, Act, quietly, put, with_clock, with_table, with_sessions, ticked, acted, act_on, on_live, begin, given, sent, took, come, deliver, alter, add_row, withdraw, step, view_of}
 use Rattle.book_link.specs.Worlds.{Setup, pair_of, Session, LinkSide, Made, Happening, World, side, find, segment_named}
@@ -105,11 +106,11 @@ deliver_most : (n : ℕ) (setup : Setup) (w : World) (e : End) (o : Option Made)
 deliver_most n setup w e None h = stays n w h
 deliver_most n setup w e (Some m) h = live_most n w e (come m.bytes (view_of setup w e)) (come_gives setup e w m.bytes) h
 
-alter_most : (n : ℕ) (setup : Setup) (w : World) (e : End) (place mask : ℕ) (fix : Bool) (o : Option Made) → EachAtMost n w → EachAtMost (n + 65535) (alter setup w e (record { place = place; mask = mask; fix = fix }) o).world
-alter_most n setup w e place mask fix None h = stays n w h
-alter_most n setup w e place mask fix (Some m) h =
-    choose (λ (x : Stepped). EachAtMost (n + 65535) x.world) (has_place m.bytes place) (on_live w e (come (altered m.bytes (record { place = place; mask = mask; fix = fix })) (view_of setup w e))) _
-    (λ t. live_most n w e (come (altered m.bytes (record { place = place; mask = mask; fix = fix })) (view_of setup w e)) (come_gives setup e w (altered m.bytes (record { place = place; mask = mask; fix = fix }))) h) (λ t. stays n w h)
+alter_most : (n : ℕ) (setup : Setup) (w : World) (e : End) (place mask : ℕ) (fixing : Fixing) (o : Option Made) → EachAtMost n w → EachAtMost (n + 65535) (alter setup w e (record { place = place; mask = mask; fixing = fixing }) o).world
+alter_most n setup w e place mask fixing None h = stays n w h
+alter_most n setup w e place mask fixing (Some m) h =
+    choose (λ (x : Stepped). EachAtMost (n + 65535) x.world) (has_place m.bytes place) (on_live w e (come (altered m.bytes (record { place = place; mask = mask; fixing = fixing })) (view_of setup w e))) _
+    (λ t. live_most n w e (come (altered m.bytes (record { place = place; mask = mask; fixing = fixing })) (view_of setup w e)) (come_gives setup e w (altered m.bytes (record { place = place; mask = mask; fixing = fixing }))) h) (λ t. stays n w h)
 
 row_most : (n : ℕ) (w : World) (e : End) (o : Adding) → EachAtMost n w → EachAtMost (n + 65535) (add_row w e o).world
 row_most n w e (AddedAs k rows) h = put_most n w e (with_table (side w e) rows) None (stays n w h e) h
@@ -131,11 +132,11 @@ step_most n setup w (At e Send) h = live_most n w e _ (λ s. sent_gives (view_of
 step_most n setup w (At e Resend) h = live_most n w e _ (λ s. sent_gives (view_of setup w e) s Nothing (resend (side w e).rows (pair_of setup e) (side w e).clock s) (resend_emitting (side w e).rows (pair_of setup e) (side w e).clock s)) h
 step_most n setup w (At e (Deliver name)) h = deliver_most n setup w e (segment_named name w.history) h
 step_most n setup w (At e (Inject bytes)) h = live_most n w e _ (come_gives setup e w bytes) h
-step_most n setup w (At e (Alter name place mask fix)) h = alter_most n setup w e place mask fix (segment_named name w.history) h
+step_most n setup w (At e (Alter name place mask fixing)) h = alter_most n setup w e place mask fixing (segment_named name w.history) h
 step_most n setup w (At e (Take count)) h = live_most n w e (took count) (λ s. same_gives s (took count s) refl) h
 step_most n setup w (At e Close) h = live_most n w e _ (λ s. close_gives s s.phase) h
 step_most n setup w (At e Abort) h = live_most n w e _ (λ s. same_gives s (quietly (abort s) Done) refl) h
-step_most n setup w (At e (AddRow row)) h = row_most n w e (adding (side w e).rows (added_row row)) h
+step_most n setup w (At e (AddRow row)) h = row_most n w e (adding (side w e).rows (row_of_new row)) h
 step_most n setup w (At e (Withdraw k)) h = withdraw_most n w e (withdrawn (side w e).rows k) h
 step_most n setup w (Dump name) h = stays n w h
 

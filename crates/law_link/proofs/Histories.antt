@@ -5,13 +5,14 @@ use Rattle.book_base.specs.declared.end.End.TheVariants.{A, B}
 use Rattle.book_keys.specs.Rows.{Row}
 use Rattle.book_keys.specs.Tables.{Adding, AddedAs, TooMany, OverlapsRow, adding, withdrawn}
 use Rattle.book_endpoint.specs.States.{EndState, connected, listening, started}
+use Rattle.book_link.specs.declared.event.Fixing.{Fixing}
 use Rattle.book_link.specs.Alterations.{has_place, altered}
 use Rattle.book_link.specs.declared.event.Event.{Event}
 use Rattle.book_link.specs.declared.event.Event.TheVariants.{At, Dump}
 use Rattle.book_link.specs.declared.event.Action.TheVariants.{Clock, Connect, Listen, Start, Give, Fill, Send, Resend, Deliver, Inject, Alter, Take, Close, Abort, AddRow, Withdraw}
 use Rattle.book_link.specs.Outcomes.{Outcome}
 use Rattle.book_link.specs.Reports.{outcome_line, lines_from, summary, report}
-use Rattle.book_link.specs.RowLines.{added_row}
+use Rattle.book_keys.specs.Tables.{row_of_new}
 use Rattle.book_link.specs.Runs.{empty, run_from, run, outcomes_from}
 use Rattle.book_link.specs.Worlds.{Setup, pair_of, Session, LinkSide, Made, Happening, World, side, find, segment_named}
 use Rattle.book_link.specs.Steps.{Stepped, Act, put, with_clock, with_table, act_on, on_live, begin, come, deliver, alter, add_row, withdraw, step, view_of}
@@ -96,11 +97,11 @@ deliver_adds : (setup : Setup) (w : World) (e : End) (o : Option Made) → Adds 
 deliver_adds setup w e None = adds_none w
 deliver_adds setup w e (Some m) = live_adds w e (come m.bytes (view_of setup w e))
 
-alter_adds : (setup : Setup) (w : World) (e : End) (place mask : ℕ) (fix : Bool) (o : Option Made) → Adds w (alter setup w e (record { place = place; mask = mask; fix = fix }) o).world
-alter_adds setup w e place mask fix None = adds_none w
-alter_adds setup w e place mask fix (Some m) =
-    choose (λ (x : Stepped). Adds w x.world) (has_place m.bytes place) (on_live w e (come (altered m.bytes (record { place = place; mask = mask; fix = fix })) (view_of setup w e))) _
-    (λ t. live_adds w e (come (altered m.bytes (record { place = place; mask = mask; fix = fix })) (view_of setup w e))) (λ t. adds_none w)
+alter_adds : (setup : Setup) (w : World) (e : End) (place mask : ℕ) (fixing : Fixing) (o : Option Made) → Adds w (alter setup w e (record { place = place; mask = mask; fixing = fixing }) o).world
+alter_adds setup w e place mask fixing None = adds_none w
+alter_adds setup w e place mask fixing (Some m) =
+    choose (λ (x : Stepped). Adds w x.world) (has_place m.bytes place) (on_live w e (come (altered m.bytes (record { place = place; mask = mask; fixing = fixing })) (view_of setup w e))) _
+    (λ t. live_adds w e (come (altered m.bytes (record { place = place; mask = mask; fixing = fixing })) (view_of setup w e))) (λ t. adds_none w)
 
 row_adds : (w : World) (e : End) (o : Adding) → Adds w (add_row w e o).world
 row_adds w e (AddedAs n rows) = put_adds w e (with_table (side w e) rows) None
@@ -122,11 +123,11 @@ step_adds setup w (At e Send) = live_adds w e _
 step_adds setup w (At e Resend) = live_adds w e _
 step_adds setup w (At e (Deliver name)) = deliver_adds setup w e (segment_named name w.history)
 step_adds setup w (At e (Inject bytes)) = live_adds w e _
-step_adds setup w (At e (Alter name place mask fix)) = alter_adds setup w e place mask fix (segment_named name w.history)
+step_adds setup w (At e (Alter name place mask fixing)) = alter_adds setup w e place mask fixing (segment_named name w.history)
 step_adds setup w (At e (Take count)) = live_adds w e _
 step_adds setup w (At e Close) = live_adds w e _
 step_adds setup w (At e Abort) = live_adds w e _
-step_adds setup w (At e (AddRow row)) = row_adds w e (adding (side w e).rows (added_row row))
+step_adds setup w (At e (AddRow row)) = row_adds w e (adding (side w e).rows (row_of_new row))
 step_adds setup w (At e (Withdraw n)) = withdraw_adds w e (withdrawn (side w e).rows n)
 step_adds setup w (Dump name) = adds_none w
 

@@ -7,11 +7,12 @@ use Rattle.book_segments.specs.Spelling.{AreBytes}
 use Rattle.book_keys.specs.Rows.{Row}
 use Rattle.book_keys.specs.Tables.{Adding, AddedAs, TooMany, OverlapsRow, adding, withdrawn}
 use Rattle.book_endpoint.specs.States.{EndState, connected, listening, started}
+use Rattle.book_link.specs.declared.event.Fixing.{Fixing}
 use Rattle.book_link.specs.Alterations.{has_place, altered}
 use Rattle.book_link.specs.declared.event.Event.{Event}
 use Rattle.book_link.specs.declared.event.Event.TheVariants.{At, Dump}
 use Rattle.book_link.specs.declared.event.Action.TheVariants.{Clock, Connect, Listen, Start, Give, Fill, Send, Resend, Deliver, Inject, Alter, Take, Close, Abort, AddRow, Withdraw}
-use Rattle.book_link.specs.RowLines.{added_row}
+use Rattle.book_keys.specs.Tables.{row_of_new}
 use Rattle.book_link.specs.Runs.{empty, run_from, run}
 use Rattle.book_link.specs.Steps.{Stepped, Act, put, with_clock, with_table, with_sessions, acted, act_on, on_live, begin, come, deliver, alter, add_row, withdraw, step, view_of}
 use Rattle.book_link.specs.Worlds.{Setup, pair_of, Session, LinkSide, Made, Happening, World, side, find, segment_named}
@@ -83,12 +84,12 @@ module _ (setup : Setup) (fits : SetupFits setup) where
   deliver_grow w e None all inv = still w
   deliver_grow w e (Some m) all inv = arrival_grow w e m.bytes (all m refl) inv
 
-  alter_grow : (w : World) (e : End) (place mask : ℕ) (fix : Bool) (o : Option Made) → mask < 256 → ((m : Made) → o ≡ Some m → AreBytes m.bytes) → Inv setup w
-      → BothGrow w (alter setup w e (record { place = place; mask = mask; fix = fix }) o).world
-  alter_grow w e place mask fix None low all inv = still w
-  alter_grow w e place mask fix (Some m) low all inv =
+  alter_grow : (w : World) (e : End) (place mask : ℕ) (fixing : Fixing) (o : Option Made) → mask < 256 → ((m : Made) → o ≡ Some m → AreBytes m.bytes) → Inv setup w
+      → BothGrow w (alter setup w e (record { place = place; mask = mask; fixing = fixing }) o).world
+  alter_grow w e place mask fixing None low all inv = still w
+  alter_grow w e place mask fixing (Some m) low all inv =
       choose (λ (x : Stepped). BothGrow w x.world) (has_place m.bytes place) _ _
-      (λ t. arrival_grow w e (altered m.bytes (record { place = place; mask = mask; fix = fix })) (altered_bytes m.bytes place mask fix low (record { at = all m refl })).at inv) (λ t. still w)
+      (λ t. arrival_grow w e (altered m.bytes (record { place = place; mask = mask; fixing = fixing })) (altered_bytes m.bytes place mask fixing low (record { at = all m refl })).at inv) (λ t. still w)
 
   pub step_grow : (w : World) (event : Event) → EventFits event → Inv setup w → BothGrow w (step setup w event).world
   step_grow w (At e (Clock seconds)) f inv = put_grow w e (with_clock (side w e) seconds) None (ticked_grows seconds (side w e).sessions)
@@ -101,11 +102,11 @@ module _ (setup : Setup) (fits : SetupFits setup) where
   step_grow w (At e Resend) f inv = act_grow setup w e (side w e).sessions _ refl inv (λ s a b. resend_act_ok setup e w (inv.rows e) s a b)
   step_grow w (At e (Deliver name)) f inv = deliver_grow w e (segment_named name w.history) (λ m is. named_bytes setup fits w name m inv is) inv
   step_grow w (At e (Inject bytes)) f inv = arrival_grow w e bytes f inv
-  step_grow w (At e (Alter name place mask fix)) f inv = alter_grow w e place mask fix (segment_named name w.history) f (λ m is. named_bytes setup fits w name m inv is) inv
+  step_grow w (At e (Alter name place mask fixing)) f inv = alter_grow w e place mask fixing (segment_named name w.history) f (λ m is. named_bytes setup fits w name m inv is) inv
   step_grow w (At e (Take count)) f inv = act_grow setup w e (side w e).sessions _ refl inv (λ s a b. took_ok setup e count s a b)
   step_grow w (At e Close) f inv = act_grow setup w e (side w e).sessions _ refl inv (λ s a b. close_ok setup e s s.phase a b)
   step_grow w (At e Abort) f inv = act_grow setup w e (side w e).sessions _ refl inv (λ s a b. abort_ok setup e s a b)
-  step_grow w (At e (AddRow row)) f inv = add_grow w e (adding (side w e).rows (added_row row))
+  step_grow w (At e (AddRow row)) f inv = add_grow w e (adding (side w e).rows (row_of_new row))
   step_grow w (At e (Withdraw n)) f inv = withdraw_grow w e (withdrawn (side w e).rows n)
   step_grow w (Dump name) f inv = still w
 

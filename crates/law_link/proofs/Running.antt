@@ -25,7 +25,8 @@ use Rattle.law_link.proofs.Gains.{Brings, BringsFin, BringsAck, Gains}
 use Rattle.book_endpoint.specs.Emissions.{is_silent}
 use Rattle.law_link.proofs.ByteLists.{repeated, altered_bytes}
 use Rattle.book_base.specs.declared.address.Pair.{Pair}
-use Rattle.book_link.specs.RowLines.{added_row}
+use Rattle.book_keys.specs.Tables.{row_of_new}
+use Rattle.book_link.specs.declared.event.Fixing.{Fixing}
 use Rattle.book_link.specs.Alterations.{has_place, altered}
 use Rattle.book_link.specs.declared.event.Event.{Event}
 use Rattle.book_link.specs.declared.event.Event.TheVariants.{At, Dump}
@@ -208,12 +209,12 @@ module _ (setup : Setup) (fits : SetupFits setup) where
   deliver_keeps w e None all inv = inv
   deliver_keeps w e (Some m) all inv = arrives w e m.bytes (all m refl) inv
 
-  alter_keeps : (w : World) (e : End) (place mask : ℕ) (fix : Bool) (o : Option Made) → mask < 256 → ((m : Made) → o ≡ Some m → AreBytes m.bytes) → Inv setup w
-      → Inv setup (alter setup w e (record { place = place; mask = mask; fix = fix }) o).world
-  alter_keeps w e place mask fix None low all inv = inv
-  alter_keeps w e place mask fix (Some m) low all inv =
+  alter_keeps : (w : World) (e : End) (place mask : ℕ) (fixing : Fixing) (o : Option Made) → mask < 256 → ((m : Made) → o ≡ Some m → AreBytes m.bytes) → Inv setup w
+      → Inv setup (alter setup w e (record { place = place; mask = mask; fixing = fixing }) o).world
+  alter_keeps w e place mask fixing None low all inv = inv
+  alter_keeps w e place mask fixing (Some m) low all inv =
       choose (λ (x : Stepped). Inv setup x.world) (has_place m.bytes place) _ _
-      (λ t. arrives w e (altered m.bytes (record { place = place; mask = mask; fix = fix })) (altered_bytes m.bytes place mask fix low (record { at = all m refl })).at inv) (λ t. inv)
+      (λ t. arrives w e (altered m.bytes (record { place = place; mask = mask; fixing = fixing })) (altered_bytes m.bytes place mask fixing low (record { at = all m refl })).at inv) (λ t. inv)
 
   add_keeps : (w : World) (e : End) (row : Row) (o : Adding) → adding (side w e).rows row ≡ o → RowFits row → Inv setup w → Inv setup (add_row w e o).world
   add_keeps w e row TooMany is f inv = inv
@@ -249,11 +250,11 @@ module _ (setup : Setup) (fits : SetupFits setup) where
   step_keeps w (At e Resend) f inv = act_keeps setup w e (side w e).sessions _ refl inv (λ s h k. resend_act_ok setup e w (inv.rows e) s h k)
   step_keeps w (At e (Deliver name)) f inv = deliver_keeps w e (segment_named name w.history) (λ m is. named_bytes w name m inv is) inv
   step_keeps w (At e (Inject bytes)) f inv = arrives w e bytes f inv
-  step_keeps w (At e (Alter name place mask fix)) f inv = alter_keeps w e place mask fix (segment_named name w.history) f (λ m is. named_bytes w name m inv is) inv
+  step_keeps w (At e (Alter name place mask fixing)) f inv = alter_keeps w e place mask fixing (segment_named name w.history) f (λ m is. named_bytes w name m inv is) inv
   step_keeps w (At e (Take count)) f inv = act_keeps setup w e (side w e).sessions _ refl inv (λ s h k. took_ok setup e count s h k)
   step_keeps w (At e Close) f inv = act_keeps setup w e (side w e).sessions _ refl inv (λ s h k. close_ok setup e s s.phase h k)
   step_keeps w (At e Abort) f inv = act_keeps setup w e (side w e).sessions _ refl inv (λ s h k. abort_ok setup e s h k)
-  step_keeps w (At e (AddRow row)) f inv = add_keeps w e (added_row row) (adding (side w e).rows (added_row row)) refl f inv
+  step_keeps w (At e (AddRow row)) f inv = add_keeps w e (row_of_new row) (adding (side w e).rows (row_of_new row)) refl f inv
   step_keeps w (At e (Withdraw n)) f inv = withdraw_keeps w e n (withdrawn (side w e).rows n) refl inv
   step_keeps w (Dump name) f inv = inv
 

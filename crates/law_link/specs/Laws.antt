@@ -27,7 +27,7 @@ use Rattle.book_link.specs.declared.event.Action.TheVariants.{Fill, Send, Resend
 use Rattle.book_link.specs.declared.event.Action.TheVariants.{Alter, Take, Close, Abort, AddRow}
 use Rattle.book_link.specs.declared.event.Action.TheVariants.{Withdraw}
 use Rattle.book_link.specs.Outcomes.{Outcome, Answered}
-use Rattle.book_link.specs.RowLines.{added_row}
+use Rattle.book_keys.specs.Tables.{row_of_new}
 use Rattle.book_link.specs.Worlds.{other, Setup, pair_of, first_rows, Session, Made, Came, Happening}
 use Rattle.book_link.specs.Worlds.{Making, Coming, World, side, find, live, partner, addressed}
 use Rattle.book_link.specs.Worlds.{forgeries, segment_named}
@@ -72,11 +72,11 @@ EventFits (At e Send) = ⊤
 EventFits (At e Resend) = ⊤
 EventFits (At e (Deliver name)) = ⊤
 EventFits (At e (Inject bytes)) = AreBytes bytes
-EventFits (At e (Alter name place mask fix)) = mask < 256
+EventFits (At e (Alter name place mask fixing)) = mask < 256
 EventFits (At e (Take count)) = ⊤
 EventFits (At e Close) = ⊤
 EventFits (At e Abort) = ⊤
-EventFits (At e (AddRow row)) = RowFits (added_row row)
+EventFits (At e (AddRow row)) = RowFits (row_of_new row)
 EventFits (At e (Withdraw number)) = ⊤
 EventFits (Dump name) = ⊤
 

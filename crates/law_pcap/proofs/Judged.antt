@@ -2,13 +2,13 @@
 use Rattle.std.proofs.Common.{◌≡◌, ℕ, ◌≤◌, Bool, true, false, nat_lt, if◌then◌else◌, List, [], ◌∷◌, length, map, codes, Option, Some, None, option_map, Result, Ok, Err, refl}
 use Rattle.std.proofs.lemmas.Bool.{le-ltb}
 use Rattle.book_keys.specs.declared.fault.TableFault.{TableFault}
-use Rattle.book_keys.specs.Nodes.{tables_of}
+use Rattle.book_keys.specs.Nodes.{most_keys, tables_of}
 use Rattle.book_keys.specs.Rows.{Table}
 use Rattle.book_pcap.specs.Packets.{Packets, FileFault, packets_of}
 use Rattle.book_answer.specs.declared.command.Command.TheVariants as command
 use Rattle.book_cmd_check.specs.Captures.{Stored}
 use Rattle.book_answer.specs.Commands.{command_of}
-use Rattle.book_answer.specs.Answers.{Answer, answer, answer_by, answer_within, judged, most_keys, packets_checked, pcap_fault_line, refusal, keys_too_long, lines_checked}
+use Rattle.book_answer.specs.Answers.{Answer, answer, answer_by, answer_within, judged, packets_checked, pcap_fault_line, refusal, keys_too_long, lines_checked}
 use Rattle.book_cmd_check.specs.StoredPackets.{stored_packet}
 use Rattle.book_cmd_check.specs.StoredLines.{StoredInput, stored_input}
 use Rattle.law_pcap.proofs.Records.{shows}

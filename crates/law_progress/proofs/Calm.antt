@@ -26,12 +26,13 @@ use Rattle.book_endpoint.specs.Emissions.{Draft, Emitted, Quiet, NoKey, is_sendi
 use Rattle.endpoint_steps.specs.Drafting.{to_emit, unacknowledged, probe, to_resend, keyed, emitted}
 use Rattle.endpoint_steps.proofs.Drafting.{emit_by_drafts, resend_by_drafts}
 use Rattle.endpoint_steps.proofs.Arriving.{read_by_cases}
+use Rattle.book_link.specs.declared.event.Fixing.{Fixing}
 use Rattle.book_link.specs.Alterations.{has_place, altered}
 use Rattle.book_link.specs.declared.event.Event.{Event}
 use Rattle.book_link.specs.declared.event.Event.TheVariants.{At, Dump}
 use Rattle.book_link.specs.declared.event.Action.TheVariants.{Clock, Connect, Listen as Await, Start, Give, Fill, Send, Resend, Deliver, Inject, Alter, Take, Close, Abort, AddRow, Withdraw}
 use Rattle.book_link.specs.Outcomes.{Outcome, Idle, Nothing}
-use Rattle.book_link.specs.RowLines.{added_row}
+use Rattle.book_keys.specs.Tables.{row_of_new}
 use Rattle.book_link.specs.Worlds.{Setup, pair_of, Session, Made, LinkSide, Happening, World, side, find, segment_named}
 use Rattle.book_link.specs.Steps.{View, Act, Stepped, put, with_sessions, with_table, ticked, with_clock, begin, sent, send, send_again, come, given, acted, act_on, on_live, deliver, alter, add_row, withdraw, step, view_of}
 use Rattle.law_link.proofs.Drafts.{sends_data_says, sends_fin_says}
@@ -323,10 +324,10 @@ module _ (setup : Setup) where
   deliver_calm w e None h = h
   deliver_calm w e (Some m) h = arrival_calm w e m.bytes h
 
-  alter_calm : (w : World) (e : End) (place mask : ℕ) (fix : Bool) (o : Option Made) → AllCalms w → AllCalms (alter setup w e (record { place = place; mask = mask; fix = fix }) o).world
-  alter_calm w e place mask fix None h = h
-  alter_calm w e place mask fix (Some m) h =
-      choose (λ (x : Stepped). AllCalms x.world) (has_place m.bytes place) _ _ (λ t. arrival_calm w e (altered m.bytes (record { place = place; mask = mask; fix = fix })) h) (λ t. h)
+  alter_calm : (w : World) (e : End) (place mask : ℕ) (fixing : Fixing) (o : Option Made) → AllCalms w → AllCalms (alter setup w e (record { place = place; mask = mask; fixing = fixing }) o).world
+  alter_calm w e place mask fixing None h = h
+  alter_calm w e place mask fixing (Some m) h =
+      choose (λ (x : Stepped). AllCalms x.world) (has_place m.bytes place) _ _ (λ t. arrival_calm w e (altered m.bytes (record { place = place; mask = mask; fixing = fixing })) h) (λ t. h)
 
   add_calm : (w : World) (e : End) (o : Adding) → AllCalms w → AllCalms (add_row w e o).world
   add_calm w e (AddedAs n rows) h = put_calm w e (with_table (side w e) rows) None (h e) h
@@ -348,10 +349,10 @@ module _ (setup : Setup) where
   calm_step w (At e Resend) h = act_calm w e (side w e).sessions _ refl (λ s c. again_calm setup e w s c) h
   calm_step w (At e (Deliver name)) h = deliver_calm w e (segment_named name w.history) h
   calm_step w (At e (Inject bytes)) h = arrival_calm w e bytes h
-  calm_step w (At e (Alter name place mask fix)) h = alter_calm w e place mask fix (segment_named name w.history) h
+  calm_step w (At e (Alter name place mask fixing)) h = alter_calm w e place mask fixing (segment_named name w.history) h
   calm_step w (At e (Take count)) h = act_calm w e (side w e).sessions _ refl (λ s c. c) h
   calm_step w (At e Close) h = act_calm w e (side w e).sessions _ refl (λ s c. close_calm s s.phase refl c) h
   calm_step w (At e Abort) h = act_calm w e (side w e).sessions _ refl (λ s c. past_calm (abort s) refl) h
-  calm_step w (At e (AddRow row)) h = add_calm w e (adding (side w e).rows (added_row row)) h
+  calm_step w (At e (AddRow row)) h = add_calm w e (adding (side w e).rows (row_of_new row)) h
   calm_step w (At e (Withdraw n)) h = withdraw_calm w e (withdrawn (side w e).rows n) h
   calm_step w (Dump name) h = h

@@ -7,8 +7,9 @@ use Rattle.book_keys.specs.Tables.{Adding, AddedAs, TooMany, OverlapsRow, adding
 use Rattle.book_keys.specs.Rows.{Row}
 use Rattle.book_endpoint.specs.declared.phase.Phase.TheVariants.{Listen, SynSent}
 use Rattle.book_endpoint.specs.States.{EndState, connected, listening, started}
+use Rattle.book_link.specs.declared.event.Fixing.{Fixing}
 use Rattle.book_link.specs.Alterations.{has_place, altered}
-use Rattle.book_link.specs.RowLines.{added_row}
+use Rattle.book_keys.specs.Tables.{row_of_new}
 use Rattle.book_link.specs.declared.event.Event.{Event}
 use Rattle.book_link.specs.declared.event.Event.TheVariants.{At, Dump}
 use Rattle.book_link.specs.declared.event.Action.TheVariants.{Clock, Connect, Listen as Await, Start, Give, Fill, Send, Resend, Deliver, Inject, Alter, Take, Close, Abort, AddRow, Withdraw}
@@ -45,10 +46,10 @@ module _ (setup : Setup) where
   deliver_fit w e None inv h = h
   deliver_fit w e (Some m) inv h = arrival_fit w e m.bytes inv h
 
-  alter_fit : (w : World) (e : End) (place mask : ℕ) (fix : Bool) (o : Option Made) → Inv setup w → AllFits w → AllFits (alter setup w e (record { place = place; mask = mask; fix = fix }) o).world
-  alter_fit w e place mask fix None inv h = h
-  alter_fit w e place mask fix (Some m) inv h =
-      choose (λ (x : Stepped). AllFits x.world) (has_place m.bytes place) _ _ (λ t. arrival_fit w e (altered m.bytes (record { place = place; mask = mask; fix = fix })) inv h) (λ t. h)
+  alter_fit : (w : World) (e : End) (place mask : ℕ) (fixing : Fixing) (o : Option Made) → Inv setup w → AllFits w → AllFits (alter setup w e (record { place = place; mask = mask; fixing = fixing }) o).world
+  alter_fit w e place mask fixing None inv h = h
+  alter_fit w e place mask fixing (Some m) inv h =
+      choose (λ (x : Stepped). AllFits x.world) (has_place m.bytes place) _ _ (λ t. arrival_fit w e (altered m.bytes (record { place = place; mask = mask; fixing = fixing })) inv h) (λ t. h)
 
   add_fit : (w : World) (e : End) (o : Adding) → AllFits w → AllFits (add_row w e o).world
   add_fit w e (AddedAs n rows) h = put_fit w e (with_table (side w e) rows) None (h e) h
@@ -70,11 +71,11 @@ module _ (setup : Setup) where
   fit_step w (At e Resend) inv h = act_fit setup w e (side w e).sessions _ refl inv (λ s a b fit. again_fit setup e w s fit) h
   fit_step w (At e (Deliver name)) inv h = deliver_fit w e (segment_named name w.history) inv h
   fit_step w (At e (Inject bytes)) inv h = arrival_fit w e bytes inv h
-  fit_step w (At e (Alter name place mask fix)) inv h = alter_fit w e place mask fix (segment_named name w.history) inv h
+  fit_step w (At e (Alter name place mask fixing)) inv h = alter_fit w e place mask fixing (segment_named name w.history) inv h
   fit_step w (At e (Take count)) inv h = act_fit setup w e (side w e).sessions _ refl inv (λ s a b fit. fit) h
   fit_step w (At e Close) inv h = act_fit setup w e (side w e).sessions _ refl inv (λ s a b fit. close_fit s s.phase fit) h
   fit_step w (At e Abort) inv h = act_fit setup w e (side w e).sessions _ refl inv (λ s a b fit. abort_fit s fit) h
-  fit_step w (At e (AddRow row)) inv h = add_fit w e (adding (side w e).rows (added_row row)) h
+  fit_step w (At e (AddRow row)) inv h = add_fit w e (adding (side w e).rows (row_of_new row)) h
   fit_step w (At e (Withdraw n)) inv h = withdraw_fit w e (withdrawn (side w e).rows n) h
   fit_step w (Dump name) inv h = h
 
@@ -87,11 +88,11 @@ module _ (setup : Setup) (fits : SetupFits setup) where
   deliver_telling w e None all h = h.telling
   deliver_telling w e (Some m) all h = arrival_telling w e m.bytes (all m refl) h
 
-  alter_telling : (w : World) (e : End) (place mask : ℕ) (fix : Bool) (o : Option Made) → mask < 256 → ((m : Made) → o ≡ Some m → AreBytes m.bytes) → Facts setup w → Telling (alter setup w e (record { place = place; mask = mask; fix = fix }) o).world
-  alter_telling w e place mask fix None low all h = h.telling
-  alter_telling w e place mask fix (Some m) low all h =
+  alter_telling : (w : World) (e : End) (place mask : ℕ) (fixing : Fixing) (o : Option Made) → mask < 256 → ((m : Made) → o ≡ Some m → AreBytes m.bytes) → Facts setup w → Telling (alter setup w e (record { place = place; mask = mask; fixing = fixing }) o).world
+  alter_telling w e place mask fixing None low all h = h.telling
+  alter_telling w e place mask fixing (Some m) low all h =
       choose (λ (x : Stepped). Telling x.world) (has_place m.bytes place) _ _
-      (λ t. arrival_telling w e (altered m.bytes (record { place = place; mask = mask; fix = fix })) (altered_bytes m.bytes place mask fix low (record { at = all m refl })).at h) (λ t. h.telling)
+      (λ t. arrival_telling w e (altered m.bytes (record { place = place; mask = mask; fixing = fixing })) (altered_bytes m.bytes place mask fixing low (record { at = all m refl })).at h) (λ t. h.telling)
 
   add_telling : (w : World) (e : End) (o : Adding) → Telling w → Telling (add_row w e o).world
   add_telling w e (AddedAs n rows) h = quiet_telling w e (with_table (side w e) rows) refl h
@@ -113,11 +114,11 @@ module _ (setup : Setup) (fits : SetupFits setup) where
   telling_step w (At e Resend) f h = act_telling setup fits w e (side w e).sessions _ refl h.inv h.heard h.fit (λ s a b c. resend_act_ok setup e w (h.inv.rows e) s a b) (λ s a b c. again_told setup e w s a) h.telling
   telling_step w (At e (Deliver name)) f h = deliver_telling w e (segment_named name w.history) (λ m is. named_bytes setup fits w name m h.inv is) h
   telling_step w (At e (Inject bytes)) f h = arrival_telling w e bytes f h
-  telling_step w (At e (Alter name place mask fix)) f h = alter_telling w e place mask fix (segment_named name w.history) f (λ m is. named_bytes setup fits w name m h.inv is) h
+  telling_step w (At e (Alter name place mask fixing)) f h = alter_telling w e place mask fixing (segment_named name w.history) f (λ m is. named_bytes setup fits w name m h.inv is) h
   telling_step w (At e (Take count)) f h = act_telling setup fits w e (side w e).sessions _ refl h.inv h.heard h.fit (λ s a b c. took_ok setup e count s a b) (λ s a b c. took_told setup e count s) h.telling
   telling_step w (At e Close) f h = act_telling setup fits w e (side w e).sessions _ refl h.inv h.heard h.fit (λ s a b c. close_ok setup e s s.phase a b) (λ s a b c. close_told setup e s s.phase) h.telling
   telling_step w (At e Abort) f h = act_telling setup fits w e (side w e).sessions _ refl h.inv h.heard h.fit (λ s a b c. abort_ok setup e s a b) (λ s a b c. abort_told setup e s) h.telling
-  telling_step w (At e (AddRow row)) f h = add_telling w e (adding (side w e).rows (added_row row)) h.telling
+  telling_step w (At e (AddRow row)) f h = add_telling w e (adding (side w e).rows (row_of_new row)) h.telling
   telling_step w (At e (Withdraw n)) f h = withdraw_telling w e (withdrawn (side w e).rows n) h.telling
   telling_step w (Dump name) f h = h.telling
 

@@ -23,12 +23,13 @@ use Rattle.endpoint_steps.proofs.Drafting.{emit_by_drafts, resend_by_drafts}
 use Rattle.book_endpoint.specs.States.{given_end}
 use Rattle.endpoint_steps.proofs.Arriving.{read_by_cases}
 use Rattle.book_macs.specs.Contexts.{context_of}
+use Rattle.book_link.specs.declared.event.Fixing.{Fixing}
 use Rattle.book_link.specs.Alterations.{has_place, altered}
 use Rattle.book_link.specs.declared.event.Event.{Event}
 use Rattle.book_link.specs.declared.event.Event.TheVariants as event
 use Rattle.book_link.specs.declared.event.Action.TheVariants as action
 use Rattle.book_link.specs.Outcomes.{Outcome, Idle, Nothing}
-use Rattle.book_link.specs.RowLines.{added_row}
+use Rattle.book_keys.specs.Tables.{row_of_new}
 use Rattle.book_link.specs.Runs.{empty}
 use Rattle.book_link.specs.Steps.{View, Act, Stepped, acted, act_on, on_live, begin, given, sent, send, send_again, come, took, deliver, alter, add_row, withdraw, ticked, step, view_of}
 use Rattle.book_link.specs.Worlds.{other, Setup, pair_of, Session, Made, World, side, find, live, segment_named}
@@ -200,10 +201,10 @@ module _ (setup : Setup) (w : World) (calm : AllCalms w) where
   deliver_steps e None = still w e
   deliver_steps e (Some m) = on_steps e (come m.bytes (view_of setup w e)) (come_holds setup e w m.bytes)
 
-  alter_steps : (e : End) (place mask : ℕ) (fix : Bool) (o : Option Made) → Steps_on w (alter setup w e (record { place = place; mask = mask; fix = fix }) o).world e
-  alter_steps e place mask fix None = still w e
-  alter_steps e place mask fix (Some m) =
-      choose (λ (x : Stepped). Steps_on w x.world e) (has_place m.bytes place) _ _ (λ t. on_steps e (come (altered m.bytes (record { place = place; mask = mask; fix = fix })) (view_of setup w e)) (come_holds setup e w (altered m.bytes (record { place = place; mask = mask; fix = fix })))) (λ t. still w e)
+  alter_steps : (e : End) (place mask : ℕ) (fixing : Fixing) (o : Option Made) → Steps_on w (alter setup w e (record { place = place; mask = mask; fixing = fixing }) o).world e
+  alter_steps e place mask fixing None = still w e
+  alter_steps e place mask fixing (Some m) =
+      choose (λ (x : Stepped). Steps_on w x.world e) (has_place m.bytes place) _ _ (λ t. on_steps e (come (altered m.bytes (record { place = place; mask = mask; fixing = fixing })) (view_of setup w e)) (come_holds setup e w (altered m.bytes (record { place = place; mask = mask; fixing = fixing })))) (λ t. still w e)
 
   add_steps : (e : End) (o : Adding) → Steps_on w (add_row w e o).world e
   add_steps A (AddedAs n rows) = record { there = refl; here = goes_refl (live w.a.sessions) }
@@ -352,11 +353,11 @@ module _ (setup : Setup) where
   plain_watched p (event.At e action.Resend) h = by_event p (event.At e action.Resend) e h (on_steps setup p.world h.calm e (send_again (view_of setup p.world e)) (λ s c. again_holds setup e p.world s))
   plain_watched p (event.At e (action.Deliver n)) h = by_event p (event.At e (action.Deliver n)) e h (deliver_steps setup p.world h.calm e (segment_named n p.world.history))
   plain_watched p (event.At e (action.Inject bytes)) h = by_event p (event.At e (action.Inject bytes)) e h (on_steps setup p.world h.calm e (come bytes (view_of setup p.world e)) (come_holds setup e p.world bytes))
-  plain_watched p (event.At e (action.Alter n place mask fix)) h = by_event p (event.At e (action.Alter n place mask fix)) e h (alter_steps setup p.world h.calm e place mask fix (segment_named n p.world.history))
+  plain_watched p (event.At e (action.Alter n place mask fixing)) h = by_event p (event.At e (action.Alter n place mask fixing)) e h (alter_steps setup p.world h.calm e place mask fixing (segment_named n p.world.history))
   plain_watched p (event.At e (action.Take count)) h = by_event p (event.At e (action.Take count)) e h (on_steps setup p.world h.calm e (took count) (λ s c. record { una = omega arith; shut = λ g. g }))
   plain_watched p (event.At e action.Close) h = by_event p (event.At e action.Close) e h (on_steps setup p.world h.calm e _ (λ s c. close_holds s s.phase))
   plain_watched p (event.At e action.Abort) h = by_event p (event.At e action.Abort) e h (on_steps setup p.world h.calm e _ (λ s c. record { una = omega arith; shut = λ g. refl }))
-  plain_watched p (event.At e (action.AddRow row)) h = by_event p (event.At e (action.AddRow row)) e h (add_steps setup p.world h.calm e (adding (side p.world e).rows (added_row row)))
+  plain_watched p (event.At e (action.AddRow row)) h = by_event p (event.At e (action.AddRow row)) e h (add_steps setup p.world h.calm e (adding (side p.world e).rows (row_of_new row)))
   plain_watched p (event.At e (action.Withdraw n)) h = by_event p (event.At e (action.Withdraw n)) e h (withdraw_steps setup p.world h.calm e (withdrawn (side p.world e).rows n))
   plain_watched p (event.Dump n) h = h
 

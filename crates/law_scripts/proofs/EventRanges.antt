@@ -11,7 +11,8 @@ use Rattle.book_link.specs.declared.event.Event.{Event}
 use Rattle.book_link.specs.declared.event.Action.{Action}
 use Rattle.book_link.specs.declared.event.Event.TheVariants as event
 use Rattle.book_link.specs.declared.event.Action.TheVariants as action
-use Rattle.book_cmd_link.specs.LinkEvents.{greatest_isn, most_segments, event_of_end, event_of_number, start_of, give_of, fill_of, inject_of, alter_of, ways_of}
+use Rattle.book_keys.specs.Columns.{direction_of}
+use Rattle.book_cmd_link.specs.LinkEvents.{greatest_isn, most_segments, event_of_end, event_of_number, start_of, give_of, fill_of, inject_of, alter_of, fixing_of}
 use Rattle.book_cmd_link.specs.LinkEvents.{add_of, dump_of, event_named, link_event_of}
 use Rattle.law_scripts.specs.Scripts.{IsEvent, IsWithin}
 use Rattle.law_scripts.proofs.WordRanges.{bind_ok, number_ok, hex_ok, some_hex_ok, byte_ok}
@@ -77,7 +78,7 @@ alter_ok ws x h =
     let s = bind_ok (number_in 1 most_segments e.0.rest) _ x e.2 in
     let p = bind_ok (number_in 0 65535 s.0.rest) _ x s.2 in
     let m = bind_ok (byte_in p.0.rest) _ x p.2 in
-    let f = bind_ok (choice_in (codes "keep") (codes "fix") m.0.rest) _ x m.2 in
+    let f = bind_ok (word_as fixing_of Word m.0.rest) _ x m.2 in
     let n = bind_ok (nothing_in f.0.rest) _ x f.2 in
     let is : event.At e.0.value (action.Alter s.0.value p.0.value m.0.value f.0.value) ≡ x = cc n.2 in
     rw (← is) (number_ok 1 most_segments e.0.rest s.0 s.1, (number_ok 0 65535 s.0.rest p.0 p.1).most, byte_ok p.0.rest m.0 m.1)
@@ -127,27 +128,22 @@ add_ok ws x h =
     after_ok (IsEvent x) (algorithm_in send.rest) _ x h3 (λ alg is_alg h4.
     after_ok (IsEvent x) (sized_hex_in 1 255 alg.rest) _ x h4 (λ key is_key h5.
     after_ok (IsEvent x) (choice_in (codes "no-options") (codes "options") key.rest) _ x h5 (λ flag is_flag h6.
-    after_ok (IsEvent x) (word_as ways_of Word flag.rest) _ x h6 (λ ways is_ways h7.
+    after_ok (IsEvent x) (word_as direction_of Word flag.rest) _ x h6 (λ direction is_direction h7.
     lifetimes_ok (λ sf sl af al. event.At e.value (action.AddRow (record {
       recv_id = recv.value;
       send_id = send.value;
       algorithm = alg.value;
       master = key.value;
       with_options = flag.value;
-      receive = ways.value.receive;
-      send = ways.value.send;
-      send_first = sf;
-      send_last = sl;
-      accept_first = af;
-      accept_last = al;
-    }))) ways.rest x (λ sf sl af al small_sf small_sl small_af small_al. record {
+      direction = direction.value;
+      sending = record { first = sf; last = sl };
+      accepting = record { first = af; last = al };
+    }))) direction.rest x (λ sf sl af al small_sf small_sl small_af small_al. record {
       recv_id = (number_ok 0 255 e.rest recv is_recv).most;
       send_id = (number_ok 0 255 recv.rest send is_send).most;
       master = hex_ok 1 255 alg.rest key is_key;
-      send_first = small_sf;
-      send_last = small_sl;
-      accept_first = small_af;
-      accept_last = small_al;
+      sending = record { first = small_sf; last = small_sl };
+      accepting = record { first = small_af; last = small_al };
     }) h7)))))))
 
 either : (b : Bool) (r q : Result Event LineKind) (x : Event) (P : Type 0) → (r ≡ Ok x → P) → (q ≡ Ok x → P) → cond b r q ≡ Ok x → P

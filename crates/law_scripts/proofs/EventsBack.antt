@@ -1,12 +1,13 @@
 -- A printed event is read back from its words.
-use Rattle.std.proofs.Common.{◌≡◌, ℕ, ◌≤◌, ◌^◌, ◌<◌, Bool, List, [], ◌∷◌, decimal, Ok, refl, arith, lit<}
+use Rattle.std.proofs.Common.{◌≡◌, ℕ, ◌≤◌, ◌^◌, ◌<◌, List, [], ◌∷◌, decimal, Ok, refl, arith, lit<}
 use Rattle.book_base.specs.declared.end.End.{End}
 use Rattle.book_base.specs.Algorithms.{name_of}
 use Rattle.book_base.specs.Hexadecimal.{hex_of}
 use Rattle.book_keys.specs.Lifetimes.{greatest_time}
 use Rattle.book_lines.specs.Texts.{end_text}
 use Rattle.book_lines.specs.Words.{word_in, nothing_in}
-use Rattle.book_link.specs.declared.event.RowLine.{RowLine}
+use Rattle.book_keys.specs.declared.new_row.NewRow.{NewRow}
+use Rattle.book_link.specs.declared.event.Fixing.{Fixing}
 use Rattle.book_link.specs.declared.event.Event.{Event}
 use Rattle.book_link.specs.declared.event.Action.{Action}
 use Rattle.book_link.specs.declared.event.Event.TheVariants as event
@@ -48,7 +49,7 @@ fill_back e count byte few small = rw (
   byte_back byte [] small,
 ) refl
 
-alter_back : (e : End) (segment place mask : ℕ) (fixing : Bool) → IsWithin 1 most_segments segment → place ≤ 65535 → mask < 256 →
+alter_back : (e : End) (segment place mask : ℕ) (fixing : Fixing) → IsWithin 1 most_segments segment → place ≤ 65535 → mask < 256 →
     alter_of (end_text e ∷ decimal segment ∷ decimal place ∷ hex_of (mask ∷ []) ∷ fixing_text fixing ∷ []) ≡ Ok (event.At e (action.Alter segment place mask fixing))
 unfolding alter_of nothing_in
 alter_back e segment place mask fixing made near small = rw (
@@ -60,10 +61,10 @@ alter_back e segment place mask fixing made near small = rw (
 ) refl
 
 -- the words of a row from its Direction on
-abbrev late_texts : RowLine → List (List ℕ)
-late_texts r = direction_text r.receive r.send ∷ decimal r.send_first ∷ decimal r.send_last ∷ decimal r.accept_first ∷ decimal r.accept_last ∷ []
+abbrev late_texts : NewRow → List (List ℕ)
+late_texts r = direction_text r.direction ∷ decimal r.sending.first ∷ decimal r.sending.last ∷ decimal r.accepting.first ∷ decimal r.accepting.last ∷ []
 
-add_back : (e : End) (r : RowLine) → IsRow r → add_of (end_text e ∷ row_texts r) ≡ Ok (event.At e (action.AddRow r))
+add_back : (e : End) (r : NewRow) → IsRow r → add_of (end_text e ∷ row_texts r) ≡ Ok (event.At e (action.AddRow r))
 unfolding add_of row_texts use_texts nothing_in
 add_back e r h = rw (
   end_back e (decimal r.recv_id ∷ decimal r.send_id ∷ name_of r.algorithm ∷ hex_of r.master ∷ flag_text r.with_options ∷ late_texts r),
@@ -72,11 +73,11 @@ add_back e r h = rw (
   algorithm_back r.algorithm (hex_of r.master ∷ flag_text r.with_options ∷ late_texts r),
   hex_back 1 255 r.master (flag_text r.with_options ∷ late_texts r) h.master,
   flag_back r.with_options (late_texts r),
-  direction_back r.receive r.send (decimal r.send_first ∷ decimal r.send_last ∷ decimal r.accept_first ∷ decimal r.accept_last ∷ []),
-  number_back greatest_time r.send_first (decimal r.send_last ∷ decimal r.accept_first ∷ decimal r.accept_last ∷ []) h.send_first (lit< tt),
-  within_back r.send_first greatest_time r.send_last (decimal r.accept_first ∷ decimal r.accept_last ∷ []) h.send_last (lit< tt),
-  number_back greatest_time r.accept_first (decimal r.accept_last ∷ []) h.accept_first (lit< tt),
-  within_back r.accept_first greatest_time r.accept_last [] h.accept_last (lit< tt),
+  direction_back r.direction (decimal r.sending.first ∷ decimal r.sending.last ∷ decimal r.accepting.first ∷ decimal r.accepting.last ∷ []),
+  number_back greatest_time r.sending.first (decimal r.sending.last ∷ decimal r.accepting.first ∷ decimal r.accepting.last ∷ []) h.sending.first (lit< tt),
+  within_back r.sending.first greatest_time r.sending.last (decimal r.accepting.first ∷ decimal r.accepting.last ∷ []) h.sending.last (lit< tt),
+  number_back greatest_time r.accepting.first (decimal r.accepting.last ∷ []) h.accepting.first (lit< tt),
+  within_back r.accepting.first greatest_time r.accepting.last [] h.accepting.last (lit< tt),
 ) refl
 
 pub event_back : (e : Event) → IsEvent e → link_event_of (event_words e) ≡ Ok e

@@ -8,5 +8,6 @@ pub mod WordRanges
 pub mod EventRanges
 pub mod EventLines
 pub mod ScriptRanges
+pub mod NewRows
 pub mod TimedRanges
 pub mod Counts

@@ -10,7 +10,11 @@ use Rattle.book_base.specs.Algorithms.{name_of}
 use Rattle.book_base.specs.Hexadecimal.{hex_of}
 use Rattle.book_lines.specs.Lines.{is_comment, says_something}
 use Rattle.book_lines.specs.Texts.{end_text}
-use Rattle.book_link.specs.declared.event.RowLine.{RowLine}
+use Rattle.book_keys.specs.declared.direction.Direction.{Direction}
+use Rattle.book_keys.specs.declared.direction.Direction.TheVariants.{Receive, Send, Both, Disabled}
+use Rattle.book_keys.specs.declared.new_row.NewRow.{NewRow}
+use Rattle.book_link.specs.declared.event.Fixing.{Fixing}
+use Rattle.book_link.specs.declared.event.Fixing.TheVariants.{Keep, Fix}
 use Rattle.book_link.specs.declared.event.Event.{Event}
 use Rattle.book_link.specs.declared.event.Event.TheVariants as event
 use Rattle.book_link.specs.declared.event.Action.TheVariants as action
@@ -33,19 +37,19 @@ end_word : (e : End) → IsWord (end_text e)
 end_word A = word_by_test (codes "a") (lit< tt) refl
 end_word B = word_by_test (codes "b") (lit< tt) refl
 
-fixing_word : (b : Bool) → IsWord (fixing_text b)
-fixing_word false = word_by_test (codes "keep") (lit< tt) refl
-fixing_word true = word_by_test (codes "fix") (lit< tt) refl
+fixing_word : (f : Fixing) → IsWord (fixing_text f)
+fixing_word Keep = word_by_test (codes "keep") (lit< tt) refl
+fixing_word Fix = word_by_test (codes "fix") (lit< tt) refl
 
 flag_word : (b : Bool) → IsWord (flag_text b)
 flag_word false = word_by_test (codes "no-options") (lit< tt) refl
 flag_word true = word_by_test (codes "options") (lit< tt) refl
 
-direction_word : (receive send : Bool) → IsWord (direction_text receive send)
-direction_word true true = word_by_test (codes "both") (lit< tt) refl
-direction_word true false = word_by_test (codes "in") (lit< tt) refl
-direction_word false true = word_by_test (codes "out") (lit< tt) refl
-direction_word false false = word_by_test (codes "disabled") (lit< tt) refl
+direction_word : (d : Direction) → IsWord (direction_text d)
+direction_word Both = word_by_test (codes "both") (lit< tt) refl
+direction_word Receive = word_by_test (codes "in") (lit< tt) refl
+direction_word Send = word_by_test (codes "out") (lit< tt) refl
+direction_word Disabled = word_by_test (codes "disabled") (lit< tt) refl
 
 algorithm_word : (a : Algorithm) → IsWord (name_of a)
 algorithm_word HmacSha1 = word_by_test (codes "HMAC-SHA-1-96") (lit< tt) refl
@@ -125,15 +129,15 @@ withdraw_name = record { word = word_by_test (codes "withdraw") (lit< tt) refl; 
 dump_name : IsName (codes "dump")
 dump_name = record { word = word_by_test (codes "dump") (lit< tt) refl; no_comment = refl }
 
-row_words : (r : RowLine) → IsRow r → AreWords (row_texts r)
+row_words : (r : NewRow) → IsRow r → AreWords (row_texts r)
 unfolding row_texts use_texts
 row_words r h =
     let recv_id : r.recv_id ≤ 255 = h.recv_id in
     let send_id : r.send_id ≤ 255 = h.send_id in
-    let send_first : r.send_first ≤ 253402300799 = h.send_first in
-    let send_last : r.send_last ≤ 253402300799 = h.send_last.most in
-    let accept_first : r.accept_first ≤ 253402300799 = h.accept_first in
-    let accept_last : r.accept_last ≤ 253402300799 = h.accept_last.most in
+    let send_first : r.sending.first ≤ 253402300799 = h.sending.first in
+    let send_last : r.sending.last ≤ 253402300799 = h.sending.last.most in
+    let accept_first : r.accepting.first ≤ 253402300799 = h.accepting.first in
+    let accept_last : r.accepting.last ≤ 253402300799 = h.accepting.last.most in
     let some : 1 ≤ length r.master = h.master.least in (
       decimal_word r.recv_id (omega arith),
       (
@@ -145,10 +149,10 @@ row_words r h =
             (
               flag_word r.with_options,
               (
-                direction_word r.receive r.send,
+                direction_word r.direction,
                 (
-                  decimal_word r.send_first (omega arith),
-                  (decimal_word r.send_last (omega arith), (decimal_word r.accept_first (omega arith), (decimal_word r.accept_last (omega arith), tt))),
+                  decimal_word r.sending.first (omega arith),
+                  (decimal_word r.sending.last (omega arith), (decimal_word r.accepting.first (omega arith), (decimal_word r.accepting.last (omega arith), tt))),
                 ),
               ),
             ),

@@ -1,7 +1,6 @@
 -- A printed script is read back.
 use Rattle.std.proofs.Common.{◌≡◌, ℕ, ◌+◌, nat_lt, true, false, List, [], ◌∷◌, ◌++◌, length, map, decimal, codes, Option, Some, None, Result, Ok, refl}
 use Rattle.std.proofs.Common.{lit<, All}
-use Rattle.std.specs.Option.{is_none}
 use Rattle.std.proofs.lemmas.Bool.{le-ltb}
 use Rattle.book_base.specs.declared.address.Socket.{Socket}
 use Rattle.book_base.specs.Lines.{lines_of}
@@ -16,7 +15,7 @@ use Rattle.book_link.specs.declared.event.Action.TheVariants as action
 use Rattle.book_cmd_link.specs.declared.script.SharedKey.{SharedKey}
 use Rattle.book_cmd_link.specs.declared.script.Script.{Script}
 use Rattle.book_cmd_link.specs.LinkEvents.{link_event_of}
-use Rattle.book_cmd_link.specs.LinkFiles.{Left, event_at, events_of, link_head_in, is_shared, key_in, line_in, peer_socket_of, script_in, script_of}
+use Rattle.book_cmd_link.specs.LinkFiles.{Left, keys_by, event_at, events_of, link_head_in, is_shared, key_in, line_in, peer_socket_of, script_in, script_of}
 use Rattle.book_segments.specs.Sockets.{are_two_of_a_family}
 use Rattle.book_cmd_link.specs.LinkFiles.{shared_key_of, socket_of, title_of}
 use Rattle.law_scripts.specs.Printed.{event_words, title_words, socket_words, key_lines, script_lines, lines_text, text_of}
@@ -86,18 +85,18 @@ after_key x y key = do
   Ok (built x y k.value events)
 
 rest_back : (key : Option SharedKey) (es : List Event) (missing n : ℕ) (x y : Socket) → IsKey key → All IsEvent es →
-    after_key x y (key_in (is_none key) missing (numbered_from n (key_lines key ++ map event_words es))) ≡ Ok (built x y key es)
+    after_key x y (key_in (keys_by key) missing (numbered_from n (key_lines key ++ map event_words es))) ≡ Ok (built x y key es)
 unfolding key_in key_lines line_in
 rest_back None es missing n x y h all = rw (events_of-printed n es all) refl
 rest_back (Some k) es missing n x y h all = rw (key_back k h, events_of-printed (n + 1) es all) refl
 
-script_in-printed : (s : Script) (missing : ℕ) → IsScript s → script_in (is_none s.shared) missing (numbered_from 1 (script_lines s)) ≡ Ok s
+script_in-printed : (s : Script) (missing : ℕ) → IsScript s → script_in (keys_by s.shared) missing (numbered_from 1 (script_lines s)) ≡ Ok s
 unfolding script_in link_head_in script_lines line_in
 script_in-printed s missing h =
     rw (title_back, socket_a_back s.a h.a, peer_back s.a s.b h.b h.two) (rest_back s.shared s.events missing 4 s.a s.b h.key h.events)
 
 -- a printed script is read again as this script
-pub script_of-text_of : (s : Script) → IsScript s → script_of (is_none s.shared) (text_of s) ≡ Ok s
+pub script_of-text_of : (s : Script) → IsScript s → script_of (keys_by s.shared) (text_of s) ≡ Ok s
 unfolding script_of text_of
 script_of-text_of s h =
     let lines = are_lines s h in

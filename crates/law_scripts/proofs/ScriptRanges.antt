@@ -1,7 +1,6 @@
 -- A script that a text says is one of the grammar.
-use Rattle.std.proofs.Common.{◌≡◌, ℕ, zero, suc, ◌+◌, ◌≤◌, cond, nat_lt, Bool, true, false, List, [], ◌∷◌, ◌++◌, length, map, codes, Option, Some, None}
-use Rattle.std.proofs.Common.{Result, Ok, Err, refl, ap, subst, ◌∙◌, arith, All}
-use Rattle.std.specs.Option.{is_none}
+use Rattle.std.proofs.Common.{◌≡◌, ℕ, ◌+◌, ◌≤◌, cond, nat_lt, Bool, true, false, List, [], ◌∷◌, ◌++◌, length, map, codes, Option, Some, None}
+use Rattle.std.proofs.Common.{Result, Ok, Err, refl, ap, subst, ◌∙◌, arith}
 use Rattle.std.proofs.lemmas.Bool.{ltb-false}
 use Rattle.std.proofs.lemmas.List.{length-append, length-map}
 use Rattle.book_base.specs.declared.address.Socket.{Socket}
@@ -11,15 +10,15 @@ use Rattle.book_base.specs.Lines.{lines_of}
 use Rattle.book_lines.specs.declared.text_fault.TextFault.{TextFault}
 use Rattle.book_lines.specs.declared.text_fault.TextFault.TheVariants as fault
 use Rattle.book_lines.specs.Lines.{Line, saying_from}
-use Rattle.book_lines.specs.Said.{at_number}
 use Rattle.book_lines.specs.Words.{Taken, address_in, algorithm_in, sized_hex_in, literal_in, nothing_in, number_in, socket_in}
-use Rattle.book_link.specs.declared.event.Event.{Event}
 use Rattle.book_cmd_link.specs.declared.script.SharedKey.{SharedKey}
 use Rattle.book_cmd_link.specs.declared.script.Script.{Script}
 use Rattle.book_cmd_link.specs.LinkEvents.{link_event_of}
-use Rattle.book_cmd_link.specs.LinkFiles.{Head, Left, at_line, event_at, events_of, link_head_in, is_shared, key_in, line_in, peer_socket_of}
+use Rattle.book_cmd_link.specs.declared.script.KeysFrom.{KeysFrom}
+use Rattle.book_cmd_link.specs.LinkFiles.{Head, Left, at_line, events_of, link_head_in, key_in, line_in, peer_socket_of}
 use Rattle.book_segments.specs.Sockets.{are_two_of_a_family}
-use Rattle.book_cmd_link.specs.LinkFiles.{script_in, script_of, shared_key_of, socket_of, title_of}
+use Rattle.book_cmd_link.specs.declared.script.KeysFrom.TheVariants as keys_from
+use Rattle.book_cmd_link.specs.LinkFiles.{keys_by, script_in, script_of, shared_key_of, socket_of, title_of}
 use Rattle.book_lines.proofs.SayingLaws.{saying_length}
 use Rattle.law_scripts.specs.Printed.{event_words, key_lines, script_lines}
 use Rattle.law_scripts.specs.Scripts.{IsEvent, IsKey, IsScript, IsSocket}
@@ -103,27 +102,27 @@ head_ok missing ls t h =
     let is : record { value = record { a = a.0.value; b = b.0.value }; rest = b.0.rest } ≡ t = cc b.2 in
     rw (← is) (record { a = socket_ok (codes "a") la.0 a.0.value la.1; b = p.0; two = p.1; three = omega (arith, li.2, la.2, lb.2) })
 
-key_lines_ok : (with_keys : Bool) (missing : ℕ) (ls : List Line) (t : Left (Option SharedKey)) → key_in with_keys missing ls ≡ Ok t →
-    IsKey t.value × (length ls ≡ length (key_lines t.value) + length t.rest) × (is_none t.value ≡ with_keys)
+key_lines_ok : (keys : KeysFrom) (missing : ℕ) (ls : List Line) (t : Left (Option SharedKey)) → key_in keys missing ls ≡ Ok t →
+    IsKey t.value × (length ls ≡ length (key_lines t.value) + length t.rest) × (keys_by t.value ≡ keys)
 unfolding key_in key_lines
-key_lines_ok true missing ls t h =
+key_lines_ok keys_from.KeyFile missing ls t h =
     let is : record { value = None; rest = ls } ≡ t = cc h in
     rw (← is) (tt, omega arith, refl)
-key_lines_ok false missing ls t h =
+key_lines_ok keys_from.LinkFile missing ls t h =
     let k = bind_ok (line_in missing kind.Shared shared_key_of ls) _ t h in
     let l = line_ok missing kind.Shared shared_key_of ls k.0 k.1 in
     let is : record { value = Some k.0.value; rest = k.0.rest } ≡ t = cc k.2 in
     rw (← is) (key_ok l.0 k.0.value l.1, l.2, refl)
 
-script_in_ok : (with_keys : Bool) (missing : ℕ) (ls : List Line) (s : Script) → length ls ≤ 20000 → script_in with_keys missing ls ≡ Ok s →
-    IsScript s × (is_none s.shared ≡ with_keys)
+script_in_ok : (keys : KeysFrom) (missing : ℕ) (ls : List Line) (s : Script) → length ls ≤ 20000 → script_in keys missing ls ≡ Ok s →
+    IsScript s × (keys_by s.shared ≡ keys)
 unfolding script_in script_lines
-script_in_ok with_keys missing ls s few h =
+script_in_ok keys missing ls s few h =
     let t = bind_ok (link_head_in missing ls) _ s h in
-    let k = bind_ok (key_in with_keys missing t.0.rest) _ s t.2 in
+    let k = bind_ok (key_in keys missing t.0.rest) _ s t.2 in
     let e = bind_ok (events_of link_event_of k.0.rest) _ s k.2 in
     let lh = head_ok missing ls t.0 t.1 in
-    let lk = key_lines_ok with_keys missing t.0.rest k.0 k.1 in
+    let lk = key_lines_ok keys missing t.0.rest k.0 k.1 in
     let le = events_ok link_event_of IsEvent event_ok k.0.rest e.0 e.1 in
     let is : record { a = t.0.value.a; b = t.0.value.b; shared = k.0.value; events = e.0 } ≡ s = cc e.2 in
     let all : length (key_lines k.0.value ++ map event_words e.0) ≡ length (key_lines k.0.value) + length e.0 =
@@ -135,9 +134,9 @@ few_case true r x h = absurd (cc h)
 few_case false r x h = (refl, h)
 
 -- a script that is read is one of the grammar, and has a shared key where there is no key file
-pub script_of_ok : (with_keys : Bool) (text : List ℕ) (s : Script) → script_of with_keys text ≡ Ok s → IsScript s × (is_none s.shared ≡ with_keys)
+pub script_of_ok : (keys : KeysFrom) (text : List ℕ) (s : Script) → script_of keys text ≡ Ok s → IsScript s × (keys_by s.shared ≡ keys)
 unfolding script_of
-script_of_ok with_keys text s h =
+script_of_ok keys text s h =
     let c = few_case (nat_lt 20000 (length (lines_of text))) _ s h in
     let few : length (lines_of text) ≤ 20000 = ltb-false _ _ c.0 in
-    script_in_ok with_keys (length (lines_of text) + 1) (saying_from 1 (lines_of text)) s (omega (arith, saying_length 1 (lines_of text))) c.1
+    script_in_ok keys (length (lines_of text) + 1) (saying_from 1 (lines_of text)) s (omega (arith, saying_length 1 (lines_of text))) c.1

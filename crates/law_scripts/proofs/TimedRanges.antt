@@ -1,22 +1,16 @@
 -- A script with waits that a text says is one of the grammar.
-use Rattle.std.proofs.Common.{◌≡◌, ℕ, zero, suc, ◌+◌, ◌≤◌, cond, nat_lt, Bool, true, false, List, [], ◌∷◌, length, codes}
-use Rattle.std.proofs.Common.{Result, Ok, Err, refl, arith, All}
+use Rattle.std.proofs.Common.{◌≡◌, ℕ, ◌+◌, ◌≤◌, cond, nat_lt, Bool, true, false, List, ◌∷◌, length, codes}
+use Rattle.std.proofs.Common.{Ok, arith}
 use Rattle.std.specs.Str.{bytes_eq}
 use Rattle.std.proofs.lemmas.Bool.{ltb-false}
-use Rattle.book_lines.specs.declared.line_kind.LineKind.{LineKind}
-use Rattle.book_lines.specs.declared.line_kind.LineKind.TheVariants as kind
 use Rattle.book_base.specs.Lines.{lines_of}
-use Rattle.book_lines.specs.declared.text_fault.TextFault.{TextFault}
-use Rattle.book_lines.specs.declared.text_fault.TextFault.TheVariants as fault
 use Rattle.book_lines.specs.Lines.{Line, saying_from}
-use Rattle.book_lines.specs.Said.{at_number}
 use Rattle.book_lines.specs.Words.{end_in, nothing_in, number_in, word_in}
-use Rattle.book_base.specs.Results.{◌>>=◌}
 use Rattle.book_cmd_timed.specs.declared.timed.TimedEvent.{TimedEvent}
 use Rattle.book_cmd_timed.specs.declared.timed.TimedEvent.TheVariants.{Plain, Wait}
 use Rattle.book_cmd_timed.specs.declared.timed.TimedScript.{TimedScript}
 use Rattle.book_cmd_link.specs.LinkEvents.{event_named, link_event_of}
-use Rattle.book_cmd_link.specs.LinkFiles.{event_at, events_of, link_head_in, is_shared}
+use Rattle.book_cmd_link.specs.LinkFiles.{events_of, link_head_in}
 use Rattle.book_cmd_timed.specs.TimedRuns.{plain_named, timed_event_of, timed_script_in, timed_script_of, wait_of}
 use Rattle.book_lines.proofs.SayingLaws.{saying_length}
 use Rattle.law_scripts.specs.Timed.{IsTimedEvent, IsTimedScript}

@@ -1,6 +1,6 @@
 -- Printed words are read back.
 use Rattle.std.proofs.Common.{◌≡◌, ℕ, zero, suc, lit<, ◌<◌, ◌≤◌, ◌^◌, nat_le, nat_lt, Bool, true, false, List, [], ◌∷◌, length, decimal, codes}
-use Rattle.std.proofs.Common.{Some, Ok, refl, arith}
+use Rattle.std.proofs.Common.{Option, Some, Ok, refl, arith}
 use Rattle.std.proofs.lemmas.Bool.{le-leb, lt-ltb}
 use Rattle.hex.specs.Hex.{IsBytes}
 use Rattle.book_base.specs.declared.address.Address.{Address}
@@ -18,8 +18,13 @@ use Rattle.book_base.proofs.HexadecimalLaws.{bytes_of_hex-hex_of}
 use Rattle.book_lines.specs.Words.{word_in, word_as, choice_of, choice_in, end_of, end_in, address_in, algorithm_in, number_in, hex_in, sized_hex_in}
 use Rattle.book_lines.specs.Words.{some_hex_in, byte_in}
 use Rattle.book_lines.specs.Texts.{end_text}
-use Rattle.book_cmd_link.specs.LinkEvents.{ways_of}
-use Rattle.law_scripts.specs.Printed.{choice_text, direction_text, fixing_text, flag_text}
+use Rattle.book_keys.specs.declared.direction.Direction.{Direction}
+use Rattle.book_keys.specs.declared.direction.Direction.TheVariants.{Receive, Send, Both, Disabled}
+use Rattle.book_keys.specs.Columns.{direction_of}
+use Rattle.book_link.specs.declared.event.Fixing.{Fixing}
+use Rattle.book_link.specs.declared.event.Fixing.TheVariants.{Keep, Fix}
+use Rattle.book_cmd_link.specs.LinkEvents.{fixing_of}
+use Rattle.law_scripts.specs.Printed.{direction_text, fixing_text, flag_text}
 use Rattle.law_scripts.specs.Scripts.{AreBytes, IsAddress, IsWithin}
 
 end_of-end_text : (e : End) → end_of (end_text e) ≡ Some e
@@ -31,35 +36,37 @@ pub end_back : (e : End) (ws : List (List ℕ)) → end_in (end_text e ∷ ws) �
 unfolding end_in word_in
 end_back e ws = rw (end_of-end_text e) refl
 
-choice_back : (one other : List ℕ) (b : Bool) (ws : List (List ℕ)) → choice_of one other (choice_text one other b) ≡ Some b →
-    choice_in one other (choice_text one other b ∷ ws) ≡ Ok (record { value = b; rest = ws })
-unfolding choice_in word_in
-choice_back one other b ws h = rw h refl
+-- a word that says this value is read as this value
+word_back : {A : Type 0} (meaning : List ℕ → Option A) (w : List ℕ) (x : A) (ws : List (List ℕ)) → meaning w ≡ Some x →
+    word_as meaning Word (w ∷ ws) ≡ Ok (record { value = x; rest = ws })
+unfolding word_in
+word_back meaning w x ws h = rw h refl
 
-choice_of-fixing_text : (b : Bool) → choice_of (codes "keep") (codes "fix") (fixing_text b) ≡ Some b
-choice_of-fixing_text false = refl
-choice_of-fixing_text true = refl
+fixing_of-fixing_text : (f : Fixing) → fixing_of (fixing_text f) ≡ Some f
+unfolding fixing_of
+fixing_of-fixing_text Keep = refl
+fixing_of-fixing_text Fix = refl
 
-pub fixing_back : (b : Bool) (ws : List (List ℕ)) → choice_in (codes "keep") (codes "fix") (fixing_text b ∷ ws) ≡ Ok (record { value = b; rest = ws })
-fixing_back b ws = choice_back (codes "keep") (codes "fix") b ws (choice_of-fixing_text b)
+pub fixing_back : (f : Fixing) (ws : List (List ℕ)) → word_as fixing_of Word (fixing_text f ∷ ws) ≡ Ok (record { value = f; rest = ws })
+fixing_back f ws = word_back fixing_of (fixing_text f) f ws (fixing_of-fixing_text f)
 
 choice_of-flag_text : (b : Bool) → choice_of (codes "no-options") (codes "options") (flag_text b) ≡ Some b
 choice_of-flag_text false = refl
 choice_of-flag_text true = refl
 
 pub flag_back : (b : Bool) (ws : List (List ℕ)) → choice_in (codes "no-options") (codes "options") (flag_text b ∷ ws) ≡ Ok (record { value = b; rest = ws })
-flag_back b ws = choice_back (codes "no-options") (codes "options") b ws (choice_of-flag_text b)
+unfolding choice_in
+flag_back b ws = word_back (choice_of (codes "no-options") (codes "options")) (flag_text b) b ws (choice_of-flag_text b)
 
-ways_of-direction_text : (receive send : Bool) → ways_of (direction_text receive send) ≡ Some (record { receive = receive; send = send })
-ways_of-direction_text true true = refl
-ways_of-direction_text true false = refl
-ways_of-direction_text false true = refl
-ways_of-direction_text false false = refl
+direction_of-direction_text : (d : Direction) → direction_of (direction_text d) ≡ Some d
+unfolding direction_of
+direction_of-direction_text Receive = refl
+direction_of-direction_text Send = refl
+direction_of-direction_text Both = refl
+direction_of-direction_text Disabled = refl
 
-pub direction_back : (receive send : Bool) (ws : List (List ℕ)) →
-    word_as ways_of Word (direction_text receive send ∷ ws) ≡ Ok (record { value = record { receive = receive; send = send }; rest = ws })
-unfolding word_in
-direction_back receive send ws = rw (ways_of-direction_text receive send) refl
+pub direction_back : (d : Direction) (ws : List (List ℕ)) → word_as direction_of Word (direction_text d ∷ ws) ≡ Ok (record { value = d; rest = ws })
+direction_back d ws = word_back direction_of (direction_text d) d ws (direction_of-direction_text d)
 
 pub address_back : (a : Address) (ws : List (List ℕ)) → IsAddress a → address_in (address_text a ∷ ws) ≡ Ok (record { value = a; rest = ws })
 unfolding address_in word_in

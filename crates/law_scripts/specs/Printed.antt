@@ -5,7 +5,11 @@ use Rattle.book_base.specs.declared.end.End.{End}
 use Rattle.book_base.specs.Algorithms.{name_of}
 use Rattle.book_base.specs.Hexadecimal.{hex_of}
 use Rattle.book_lines.specs.Texts.{end_text, line_text, socket_texts}
-use Rattle.book_link.specs.declared.event.RowLine.{RowLine}
+use Rattle.book_keys.specs.declared.direction.Direction.{Direction}
+use Rattle.book_keys.specs.declared.direction.Direction.TheVariants.{Receive, Send, Both, Disabled}
+use Rattle.book_keys.specs.declared.new_row.NewRow.{NewRow}
+use Rattle.book_link.specs.declared.event.Fixing.{Fixing}
+use Rattle.book_link.specs.declared.event.Fixing.TheVariants.{Keep, Fix}
 use Rattle.book_link.specs.declared.event.Event.{Event}
 use Rattle.book_link.specs.declared.event.Event.TheVariants as event
 use Rattle.book_link.specs.declared.event.Action.TheVariants as action
@@ -17,39 +21,36 @@ unfoldable pub lines_text : List (List (List ℕ)) → List ℕ
 lines_text [] = []
 lines_text (l ∷ ls) = line_text l ++ lines_text ls
 
--- one of two texts: the other one where this is true
-abbrev pub choice_text : List ℕ → List ℕ → Bool → List ℕ
-choice_text one other false = one
-choice_text one other true = other
-
--- whether the checksum of an altered copy is set
-abbrev pub fixing_text : Bool → List ℕ
-fixing_text fixing = choice_text (codes "keep") (codes "fix") fixing
+-- whether the checksum of an altered copy is kept or set
+abbrev pub fixing_text : Fixing → List ℕ
+fixing_text Keep = codes "keep"
+fixing_text Fix = codes "fix"
 
 -- whether TCP options are under the MAC (RFC 5925, section 3.1)
 abbrev pub flag_text : Bool → List ℕ
-flag_text with_options = choice_text (codes "no-options") (codes "options") with_options
+flag_text false = codes "no-options"
+flag_text true = codes "options"
 
--- the Direction of a row that receives, sends, does both or neither (RFC 7210, section 2)
-abbrev pub direction_text : (receive send : Bool) → List ℕ
-direction_text true false = codes "in"
-direction_text false true = codes "out"
-direction_text true true = codes "both"
-direction_text false false = codes "disabled"
+-- the word of a Direction (RFC 7210, section 2)
+abbrev pub direction_text : Direction → List ℕ
+direction_text Receive = codes "in"
+direction_text Send = codes "out"
+direction_text Both = codes "both"
+direction_text Disabled = codes "disabled"
 
 -- the words of a row behind its key: how it is used, and when
-unfoldable pub use_texts : RowLine → List (List ℕ)
+unfoldable pub use_texts : NewRow → List (List ℕ)
 use_texts r =
     flag_text r.with_options
-    ∷ direction_text r.receive r.send
-    ∷ decimal r.send_first
-    ∷ decimal r.send_last
-    ∷ decimal r.accept_first
-    ∷ decimal r.accept_last
+    ∷ direction_text r.direction
+    ∷ decimal r.sending.first
+    ∷ decimal r.sending.last
+    ∷ decimal r.accepting.first
+    ∷ decimal r.accepting.last
     ∷ []
 
 -- the words of a row, behind the end whose table it joins
-unfoldable pub row_texts : RowLine → List (List ℕ)
+unfoldable pub row_texts : NewRow → List (List ℕ)
 row_texts r = decimal r.recv_id ∷ decimal r.send_id ∷ name_of r.algorithm ∷ hex_of r.master ∷ use_texts r
 
 -- the words of an event of this name and of an end alone

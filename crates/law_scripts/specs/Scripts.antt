@@ -5,14 +5,18 @@ use Rattle.book_base.specs.declared.address.Address.{Address}
 use Rattle.book_base.specs.declared.address.Address.TheVariants.{V4, V6}
 use Rattle.book_base.specs.declared.address.Socket.{Socket}
 use Rattle.book_keys.specs.Lifetimes.{greatest_time}
+use Rattle.book_keys.specs.MasterKeys.{longest_master_key}
+use Rattle.book_keys.specs.Rows.{greatest_key_id, row_limit}
 use Rattle.book_lines.specs.Lines.{most_lines}
-use Rattle.book_link.specs.declared.event.RowLine.{RowLine}
+use Rattle.book_keys.specs.declared.lifetime.Lifetime.{Lifetime}
+use Rattle.book_keys.specs.declared.new_row.NewRow.{NewRow}
 use Rattle.book_link.specs.declared.event.Event.{Event}
 use Rattle.book_link.specs.declared.event.Event.TheVariants as event
 use Rattle.book_link.specs.declared.event.Action.TheVariants as action
 use Rattle.book_cmd_link.specs.declared.script.SharedKey.{SharedKey}
 use Rattle.book_cmd_link.specs.declared.script.Script.{Script}
 use Rattle.book_cmd_link.specs.LinkEvents.{greatest_isn, most_segments}
+use Rattle.book_pcap.specs.Packets.{longest_datagram}
 use Rattle.book_segments.specs.Sockets.{are_two_of_a_family}
 use Rattle.law_scripts.specs.Printed.{script_lines}
 
@@ -27,15 +31,18 @@ pub record IsWithin (low high n : ℕ) : Type 0 where
   pub least : low ≤ n
   pub most : n ≤ high
 
--- ids of one byte, a master key of 1 to 255 bytes, and no lifetime that ends before it begins (RFC 7210, section 2)
-pub record IsRow (r : RowLine) : Type 0 where
-  pub recv_id : r.recv_id ≤ 255
-  pub send_id : r.send_id ≤ 255
-  pub master : AreBytes 1 255 r.master
-  pub send_first : r.send_first ≤ greatest_time
-  pub send_last : IsWithin r.send_first greatest_time r.send_last
-  pub accept_first : r.accept_first ≤ greatest_time
-  pub accept_last : IsWithin r.accept_first greatest_time r.accept_last
+-- times that can be written, and an end that isn't before the beginning (RFC 7210, section 2)
+pub record IsLifetime (l : Lifetime) : Type 0 where
+  pub first : l.first ≤ greatest_time
+  pub last : IsWithin l.first greatest_time l.last
+
+-- ids of one byte, a master key of 1 to 255 bytes, and two lifetimes (RFC 7210, section 2)
+pub record IsRow (r : NewRow) : Type 0 where
+  pub recv_id : r.recv_id ≤ greatest_key_id
+  pub send_id : r.send_id ≤ greatest_key_id
+  pub master : AreBytes 1 longest_master_key r.master
+  pub sending : IsLifetime r.sending
+  pub accepting : IsLifetime r.accepting
 
 -- the numbers and lengths of an event are in their ranges
 abbrev pub IsEvent : Event → Type 0
@@ -48,14 +55,14 @@ IsEvent (event.At e (action.Fill count byte)) = (count ≤ 65535) × (byte < 256
 IsEvent (event.At e action.Send) = Unit {0}
 IsEvent (event.At e action.Resend) = Unit {0}
 IsEvent (event.At e (action.Deliver segment)) = IsWithin 1 most_segments segment
-IsEvent (event.At e (action.Inject bytes)) = AreBytes 1 65575 bytes
+IsEvent (event.At e (action.Inject bytes)) = AreBytes 1 longest_datagram bytes
 IsEvent (event.At e (action.Alter segment place mask fixing)) =
     IsWithin 1 most_segments segment × (place ≤ 65535) × (mask < 256)
 IsEvent (event.At e (action.Take count)) = count ≤ 65535
 IsEvent (event.At e action.Close) = Unit {0}
 IsEvent (event.At e action.Abort) = Unit {0}
 IsEvent (event.At e (action.AddRow row)) = IsRow row
-IsEvent (event.At e (action.Withdraw row)) = IsWithin 1 64 row
+IsEvent (event.At e (action.Withdraw row)) = IsWithin 1 row_limit row
 IsEvent (event.Dump segment) = IsWithin 1 most_segments segment
 
 -- four bytes, or sixteen
@@ -71,7 +78,7 @@ pub record IsSocket (s : Socket) : Type 0 where
 -- a master key of 1 to 255 bytes, where there is one
 abbrev pub IsKey : Option SharedKey → Type 0
 IsKey None = Unit {0}
-IsKey (Some k) = AreBytes 1 255 k.master
+IsKey (Some k) = AreBytes 1 longest_master_key k.master
 
 -- addresses that differ and are of one family, numbers and lengths in their ranges, and at most 20,000 lines
 pub record IsScript (s : Script) : Type 0 where

@@ -1,8 +1,8 @@
 //! What a link file says, and the text of a script.
-ghost use Rattle.std.specs.Prelude.{◌≡◌, ℕ, Bool, List, Ok};
-ghost use Rattle.std.specs.Option.{is_none};
+ghost use Rattle.book_cmd_link.specs.declared.script.KeysFrom.{KeysFrom};
+ghost use Rattle.std.specs.Prelude.{◌≡◌, ℕ, List, Ok};
 ghost use Rattle.book_cmd_link.specs.declared.script.Script.{Script};
-ghost use Rattle.book_cmd_link.specs.LinkFiles.{script_of};
+ghost use Rattle.book_cmd_link.specs.LinkFiles.{keys_by, script_of};
 ghost use Rattle.book_cmd_timed.specs.declared.timed.TimedScript.{TimedScript};
 ghost use Rattle.book_cmd_timed.specs.TimedRuns.{timed_script_of};
 ghost use Rattle.law_scripts.specs.Printed.{text_of};
@@ -12,9 +12,9 @@ ghost use Rattle.law_scripts.specs.Timed.{IsTimedScript};
 /// What a link file says is a script whose numbers and lengths are in their ranges, with a shared key
 /// exactly where it stands alone.
 pub fn files_say_scripts()
-    ensures ranges { (with_keys : Bool) (text : List ℕ) (script : Script) → script_of with_keys text ≡ Ok script → IsScript script }
-    ensures shared { (with_keys : Bool) (text : List ℕ) (script : Script) → script_of with_keys text ≡ Ok script
-        → is_none script.shared ≡ with_keys }
+    ensures ranges { (keys : KeysFrom) (text : List ℕ) (script : Script) → script_of keys text ≡ Ok script → IsScript script }
+    ensures shared { (keys : KeysFrom) (text : List ℕ) (script : Script) → script_of keys text ≡ Ok script
+        → keys_by script.shared ≡ keys }
 {}
 
 /// What a link file with waits says is a script whose numbers and lengths are in their ranges.
@@ -24,5 +24,5 @@ pub fn timed_files_say_scripts()
 
 /// Each script in its ranges has a text that says it.
 pub fn scripts_have_texts()
-    ensures { (script : Script) → IsScript script → script_of (is_none script.shared) (text_of script) ≡ Ok script }
+    ensures { (script : Script) → IsScript script → script_of (keys_by script.shared) (text_of script) ≡ Ok script }
 {}

@@ -3,6 +3,7 @@ use Rattle.std.specs.Prelude.{◌≡◌, ℕ, suc, ◌<◌, ◌≤◌, List, [],
 use Rattle.std.specs.HashMap.{spare}
 use Rattle.std.specs.Option.{IsSomeAnd}
 use Rattle.book_base.specs.declared.end.End.{End}
+use Rattle.book_keys.specs.MasterKeys.{longest_master_key}
 use Rattle.book_link.specs.Worlds.{Made, Happening, Making, Coming, forgeries}
 use Rattle.link_log.specs.declared.kept.Kept.{Kept}
 use Rattle.link_log.specs.declared.log.Log.{Log}
@@ -37,4 +38,4 @@ MadeBy e (Some m) = m.maker ≡ e
 pub record HasRoom (log : Log) : Type 0 where
   pub entries : vec_len log.kept < vec_capacity log.kept
   pub numbers : 0 < spare log.latest
-  pub master : IsSomeAnd log.master (λ m. (m.items ≡ []) × (255 ≤ vec_capacity m))
+  pub master : IsSomeAnd log.master (λ m. (m.items ≡ []) × (longest_master_key ≤ vec_capacity m))

@@ -1,7 +1,6 @@
-//! What a log keeps of a segment, and what it is told of one that passed.
+//! What a log keeps of a segment.
 use book_base::{Algorithm, Bytes, End};
 use book_macs::Context;
-use key_table::Row;
 
 /// A segment that was made.
 #[derive(Drop)]
@@ -18,13 +17,4 @@ pub struct Entry {
     pub context: Context,
     /// Its datagram.
     pub bytes: Bytes,
-}
-
-/// What the check found of a segment that passed: the row that it passed under, its number in the
-/// stream and the context of its traffic key (RFC 5925, section 7.5).
-#[derive(Clone, Copy)]
-pub struct Entrance<'a> {
-    pub row: &'a Row,
-    pub number: u64,
-    pub context: Context,
 }

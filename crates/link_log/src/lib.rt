@@ -9,5 +9,5 @@ mod entry;
 mod kept;
 mod log;
 
-pub use entry::{Entrance, Entry};
+pub use entry::Entry;
 pub use log::Log;

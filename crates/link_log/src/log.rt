@@ -1,24 +1,25 @@
 //! Everything that was made, and how many forgeries were counted.
 ghost use Rattle.std.specs.Prelude.{◌≡◌, ◌↔◌, ◌+◌, ◌<◌, ◌≤◌, ℕ, suc, List, [], ◌∷◌, length, Option, Some, None, IsTrue, true, MatchOption, OnOk};
 ghost use Rattle.book_endpoint.specs.Verdicts.{Finding};
+ghost use Rattle.book_segments.specs.Options.{One, find_ao};
 ghost use Rattle.book_segments.specs.Segments.{bit_of};
 ghost use Rattle.book_segments.specs.Spelling.{AreBytes, Fits};
 ghost use Rattle.book_link.specs.Worlds.{Made, Came, Happening, Making, Coming, segment_named, segments, forged as forged_by, forgeries, was_made};
+ghost use Rattle.tcp_options.specs.Views.{view_ao};
 ghost use Rattle.link_log.specs.Entries.{IsEntry, IsMade, PassesUnder};
 ghost use Rattle.link_log.specs.Numbers.{AreLinked};
 
 use crate::accounts::{accounts_for, sought};
-use crate::entry::{Entrance, Entry};
+use crate::entry::Entry;
 use crate::kept::Kept;
+use ao_check::Passing;
 use book_base::{Bytes, End};
+use book_keys::LONGEST_MASTER_KEY;
 use book_macs::Context;
 use key_table::Row;
 use std::alloc::{AllocError, Global};
 use std::collections::HashMap;
 use tcp_segment::Datagram;
-
-/// The most bytes of a master key.
-const LONGEST_MASTER: usize = 255;
 
 /// What the proof of `push` asks of a datagram's bytes: each is below 256. It does nothing.
 fn see_bytes(bytes: &[u8])
@@ -64,7 +65,7 @@ impl Log {
         ensures made { made_count self.new ≡ made_count self.old }
         ensures forgeries { forgery_count self.new ≡ forgery_count self.old }
     {
-        self.master = Some(Vec::with_capacity(alloc, LONGEST_MASTER)?);
+        self.master = Some(Vec::with_capacity(alloc, LONGEST_MASTER_KEY)?);
         self.kept.reserve(1)?;
         self.latest.reserve(1)
     }
@@ -161,17 +162,18 @@ impl Log {
 
     /// Whether the other end made what passed at an end: only the entries with the number that it
     /// would have are looked at.
-    fn was_made(&self, at: End, entrance: &Entrance<'_>, datagram: &Datagram<'_>) -> bool
-        requires { Fits datagram.now }
+    fn was_made(&self, at: End, datagram: &Datagram<'_>, row: &Row, passing: &Passing<'_>) -> bool
+        requires fits { Fits datagram.now }
+        requires option { find_ao datagram.now.area ≡ One (view_ao passing.now.option) }
         ensures { (history : List Happening) (f : Finding) → StandsLog self.now history
-            → PassesUnder entrance.now.row.now datagram.now entrance.now.number entrance.now.context f → result ≡ was_made at f history }
+            → PassesUnder row.now datagram.now passing.now.passed.number passing.now.passed.context f → result ≡ was_made at f history }
     {
         let kept = self.kept.as_slice();
-        let number = sought(entrance, datagram);
+        let number = sought(passing.passed.number, datagram);
         let mut next = self.latest.get(&number).copied();
         while let Some(place) = next {
             let candidate = &kept[place as usize];
-            if accounts_for(&candidate.entry, at, entrance, datagram) {
+            if accounts_for(&candidate.entry, at, datagram, row, passing) {
                 return true;
             }
             next = candidate.earlier;
@@ -184,20 +186,22 @@ impl Log {
         &self,
         name: u32,
         at: End,
-        entrance: &Entrance<'_>,
         datagram: &Datagram<'_>,
+        row: &Row,
+        passing: &Passing<'_>,
     ) -> bool
-        requires { Fits datagram.now }
+        requires fits { Fits datagram.now }
+        requires option { find_ao datagram.now.area ≡ One (view_ao passing.now.option) }
         ensures { (history : List Happening) (f : Finding) → StandsLog self.now history
-            → PassesUnder entrance.now.row.now datagram.now entrance.now.number entrance.now.context f → IsTrue result → true ≡ was_made at f history }
+            → PassesUnder row.now datagram.now passing.now.passed.number passing.now.passed.context f → IsTrue result → true ≡ was_made at f history }
     {
         match self.segment(name) {
             None => false,
             Some(entry) => {
-                if entry.number != sought(entrance, datagram) {
+                if entry.number != sought(passing.passed.number, datagram) {
                     return false;
                 }
-                accounts_for(entry, at, entrance, datagram)
+                accounts_for(entry, at, datagram, row, passing)
             }
         }
     }
@@ -208,41 +212,45 @@ impl Log {
         &self,
         name: Option<u32>,
         at: End,
-        entrance: &Entrance<'_>,
         datagram: &Datagram<'_>,
+        row: &Row,
+        passing: &Passing<'_>,
     ) -> bool
-        requires { Fits datagram.now }
+        requires fits { Fits datagram.now }
+        requires option { find_ao datagram.now.area ≡ One (view_ao passing.now.option) }
         ensures { (history : List Happening) (f : Finding) → StandsLog self.now history
-            → PassesUnder entrance.now.row.now datagram.now entrance.now.number entrance.now.context f → result ≡ was_made at f history }
+            → PassesUnder row.now datagram.now passing.now.passed.number passing.now.passed.context f → result ≡ was_made at f history }
     {
         match name {
-            None => self.was_made(at, entrance, datagram),
+            None => self.was_made(at, datagram, row, passing),
             Some(name) => {
-                if self.is_accounted_by(name, at, entrance, datagram) {
+                if self.is_accounted_by(name, at, datagram, row, passing) {
                     return true;
                 }
-                self.was_made(at, entrance, datagram)
+                self.was_made(at, datagram, row, passing)
             }
         }
     }
 
-    /// Whether a datagram that passed at an end, with what the check found, is a forgery: the other end
-    /// had made no segment with the same algorithm, master key, context and MAC input. Of a copy, `name`
-    /// is the segment's that it is one of, which makes the answer no other, but mostly quick.
+    /// Whether a datagram that passed at an end under a row, with what the check found, is a forgery: the
+    /// other end had made no segment with the same algorithm, master key, context and MAC input. Of a copy,
+    /// `name` is the segment's that it is one of, which makes the answer no other, but mostly quick.
     pub fn is_forged(
         &self,
         at: End,
         name: Option<u32>,
         datagram: &Datagram<'_>,
-        entrance: &Entrance<'_>,
+        row: &Row,
+        passing: &Passing<'_>,
     ) -> bool
+        requires option { find_ao datagram.now.area ≡ One (view_ao passing.now.option) }
         ensures { (history : List Happening) (f : Finding) → StandsLog self.now history
-            → PassesUnder entrance.now.row.now datagram.now entrance.now.number entrance.now.context f
+            → PassesUnder row.now datagram.now passing.now.passed.number passing.now.passed.context f
             → forged_by at (Some f) history ≡ bit_of result }
     {
         // A call on the datagram shows that its fields are in range.
         let _length = datagram.length();
-        !self.was_made_as(name, at, entrance, datagram)
+        !self.was_made_as(name, at, datagram, row, passing)
     }
 
     /// Takes notice of a datagram that came to an end, and whether it is a forgery. Fewer than 2^32 - 1

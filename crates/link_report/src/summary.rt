@@ -2,35 +2,17 @@
 ghost use Rattle.std.specs.Prelude.{◌≡◌, ◌++◌, ◌∷◌, [], map, reverse, OnOk, codes, decimal};
 ghost use Rattle.book_base.specs.declared.end.End.TheVariants.{A, B};
 ghost use Rattle.book_lines.specs.Texts.{end_text, line_text, spaced};
-ghost use Rattle.book_link.specs.Reports.{number_text, phase_text, session_lines, shown_text, summary};
+ghost use Rattle.book_link.specs.Reports.{number_text, session_lines, shown_text, summary};
 ghost use Rattle.book_link.specs.Worlds.{LinkSide as EndSide, World, forgeries as count_of_forgeries, segments as count_of_segments};
 ghost use Rattle.link_report.specs.Lines.{facts_line, kept_lines};
 ghost use Rattle.link_side.specs.Sides.{StandsSide, kept_facts};
 
 use crate::outcome::push_known;
 use book_base::End;
-use book_endpoint::Phase;
 use link_side::{Ended, Side};
+use segment_words::phase_word;
 use std::alloc::AllocError;
 use text_lines::{push_end, push_field, push_newline, push_number, push_text};
-
-fn phase_word(phase: Phase) -> &'static [u8]
-    ensures { result.now ≡ phase_text phase }
-{
-    match phase {
-        Phase::Listen => b"listen",
-        Phase::SynSent => b"syn-sent",
-        Phase::SynReceived => b"syn-received",
-        Phase::Established => b"established",
-        Phase::FinWait1 => b"fin-wait-1",
-        Phase::FinWait2 => b"fin-wait-2",
-        Phase::CloseWait => b"close-wait",
-        Phase::Closing => b"closing",
-        Phase::LastAck => b"last-ack",
-        Phase::TimeWait => b"time-wait",
-        Phase::Closed => b"closed",
-    }
-}
 
 /// Puts whether the end of a session's stream was shown behind `out`.
 fn push_shown(out: &mut Vec<u8>, end_shown: bool) -> Result<(), AllocError>

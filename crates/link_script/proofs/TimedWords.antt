@@ -1,16 +1,11 @@
 -- A line whose first word is `wait`, and one whose first word isn't.
-use Rattle.std.proofs.Common.{◌≡◌, ℕ, cond, Bool, true, false, List, [], ◌∷◌, codes, Option, Some, None, Result, Ok, Err, refl, sym, ap}
+use Rattle.std.proofs.Common.{◌≡◌, ℕ, cond, Bool, true, false, List, [], ◌∷◌, codes, Some, None, Result, Ok, Err, refl, sym, ap}
 use Rattle.std.specs.Str.{bytes_eq}
 use Rattle.book_lines.specs.declared.line_kind.LineKind.{LineKind}
 use Rattle.book_lines.specs.declared.line_kind.LineKind.TheVariants.{Word}
 use Rattle.book_lines.specs.Words.{Taken, literal_in, word_in}
 use Rattle.book_base.specs.Results.{◌>>=◌, or_fault}
-use Rattle.text_lines.specs.Readings.{Tells}
-use Rattle.text_lines.specs.declared.refusal.Refusal.{Refusal}
-use Rattle.text_lines.specs.declared.refusal.Refusal.TheVariants as refusal
-use Rattle.book_link.specs.declared.event.Event.{Event}
 use Rattle.book_cmd_timed.specs.declared.timed.TimedEvent.{TimedEvent}
-use Rattle.book_cmd_timed.specs.declared.timed.TimedEvent.TheVariants.{Plain}
 use Rattle.book_cmd_link.specs.LinkEvents.{link_event_of}
 use Rattle.book_cmd_timed.specs.TimedRuns.{plain_named, timed_event_of, wait_of}
 use Rattle.law_scripts.specs.Timed.{plain_of}

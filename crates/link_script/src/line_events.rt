@@ -1,16 +1,19 @@
 //! The events of a link, each read from the words of its line.
 ghost use Rattle.std.specs.Prelude.{◌≡◌, ◌≤◌, ℕ};
 ghost use Rattle.book_link.specs.declared.event.Action.{Action as OneAction};
-ghost use Rattle.text_lines.specs.Readings.{Tells};
-ghost use Rattle.book_cmd_link.specs.LinkEvents.{event_of_end, event_of_number, start_of, give_of, fill_of, inject_of, alter_of, dump_of, event_named, link_event_of};
+ghost use Rattle.book_lines.specs.declared.line_kind.LineKind.TheVariants as line_kind;
+ghost use Rattle.book_lines.specs.Words.{word_as};
+ghost use Rattle.text_lines.specs.Readings.{gives, Tells};
+ghost use Rattle.book_cmd_link.specs.LinkEvents.{event_of_end, event_of_number, start_of, give_of, fill_of, inject_of, fixing_of, alter_of, dump_of, event_named, link_event_of};
 ghost use Rattle.link_script.specs.Made.{MakesOf};
 ghost use Rattle.link_script.specs.Names.{name_text};
 
 use super::name::Name;
 use super::row_lines::add;
-use book_keys::LATEST;
+use book_keys::{LATEST, ROW_LIMIT};
 use book_lines::LineKind;
-use book_link::{Action, Event};
+use book_link::{Action, Event, Fixing};
+use book_pcap::LONGEST_DATAGRAM;
 use std::alloc::Global;
 use text_lines::{LineWords, Refusal};
 
@@ -20,11 +23,8 @@ const MOST_ISN: u64 = 4_294_967_295;
 /// The most segments of a link: as many as a link file has lines.
 const SEGMENTS: u64 = 20_000;
 
-/// The longest datagram: the 40 bytes of an IPv6 header and 65,535 bytes (RFC 8200, section 3).
-const MOST_DATAGRAM: usize = 65_575;
-
 /// The most rows of a table.
-const MOST_ROWS: u64 = 64;
+const MOST_ROWS: u64 = ROW_LIMIT as u64;
 
 /// The event of an end alone, which does this.
 fn end_alone(words: &mut LineWords, action: Action) -> Result<Event, LineKind>
@@ -88,9 +88,33 @@ fn inject(alloc: Global, words: &mut LineWords) -> Result<Event, Refusal>
     ensures { Tells result (inject_of words.old) }
 {
     let end = words.end()?;
-    let datagram = words.sized_hex(alloc, 1, MOST_DATAGRAM)?;
+    let datagram = words.sized_hex(alloc, 1, LONGEST_DATAGRAM)?;
     words.nothing()?;
     Ok(Event::At(end, Action::Inject(datagram)))
+}
+
+/// What a word says of the TCP checksum of an altered copy.
+#[tactic(auto, unfolding(book_cmd_link::specs::LinkEvents::fixing_of))]
+fn fixing_named(word: &[u8]) -> Option<Fixing>
+    ensures { result ≡ fixing_of word.now }
+{
+    if word == b"keep".as_slice() {
+        Some(Fixing::Keep)
+    } else if word == b"fix".as_slice() {
+        Some(Fixing::Fix)
+    } else {
+        None
+    }
+}
+
+/// A word that says whether a TCP checksum is kept or set.
+fn fixing(words: &mut LineWords) -> Result<Fixing, LineKind>
+    ensures { gives result words.new ≡ word_as fixing_of line_kind.Word words.old }
+{
+    match fixing_named(words.word()?) {
+        Some(fixing) => Ok(fixing),
+        None => Err(LineKind::Word),
+    }
 }
 
 #[tactic(auto, unfolding(book_cmd_link::specs::LinkEvents::alter_of))]
@@ -101,7 +125,7 @@ fn alter(alloc: Global, words: &mut LineWords) -> Result<Event, Refusal>
     let segment = words.number(1, SEGMENTS)? as u32;
     let place = words.short()?;
     let mask = words.byte(alloc)?;
-    let fixing = words.choice(b"keep", b"fix")?;
+    let fixing = fixing(words)?;
     words.nothing()?;
     Ok(Event::At(end, Action::Alter(segment, place, mask, fixing)))
 }

@@ -1,19 +1,18 @@
 //! A script, printed as a link file.
 ghost use Rattle.std.specs.Prelude.{◌≡◌, ◌++◌, ◌∷◌, [], OnOk, IfOk, codes, decimal, map, option_map, Ok};
-ghost use Rattle.std.specs.Option.{is_none};
 ghost use Rattle.book_base.specs.Hexadecimal.{hex_of};
 ghost use Rattle.book_lines.specs.Texts.{end_text, line_text};
 ghost use Rattle.book_link.specs.declared.event.Event.TheVariants.{At};
-ghost use Rattle.book_cmd_link.specs.LinkFiles.{script_of};
+ghost use Rattle.book_cmd_link.specs.LinkFiles.{keys_by, script_of};
 ghost use Rattle.link_script.specs.Names.{name_text};
 ghost use Rattle.law_scripts.specs.Scripts.{IsScript};
-ghost use Rattle.law_scripts.specs.Printed.{event_words, key_lines, lines_text, socket_words, text_of, title_words};
+ghost use Rattle.law_scripts.specs.Printed.{event_words, fixing_text, key_lines, lines_text, socket_words, text_of, title_words};
 
 use super::name::Name;
-use super::row_texts::{chosen, push_row};
+use super::row_texts::push_row;
 use book_base::{Bytes, End, Socket};
 use book_cmd_link::{Script, SharedKey};
-use book_link::{Action, Event};
+use book_link::{Action, Event, Fixing};
 use std::alloc::{AllocError, Global};
 use text_lines::{push_bytes, push_end, push_newline, push_number, push_socket, push_text};
 
@@ -39,6 +38,16 @@ fn push_load(out: &mut Vec<u8>, name: Name, end: End, bytes: &Bytes) -> Result<(
 {
     push_alone(out, name, end)?;
     push_bytes(out, bytes.as_slice())
+}
+
+/// Whether the TCP checksum of an altered copy is kept or set.
+fn fixing_word(fixing: Fixing) -> &'static [u8]
+    ensures { result.now ≡ fixing_text fixing }
+{
+    match fixing {
+        Fixing::Keep => b"keep",
+        Fixing::Fix => b"fix",
+    }
 }
 
 /// The words of an action at an end.
@@ -67,7 +76,7 @@ fn push_action(out: &mut Vec<u8>, end: End, action: &Action) -> Result<(), Alloc
             push_numbered(out, Name::Alter, end, u64::from(*segment))?;
             push_number(out, u64::from(*place))?;
             push_bytes(out, &[*mask])?;
-            push_text(out, chosen(b"keep", b"fix", *fixing))
+            push_text(out, fixing_word(*fixing))
         }
         Action::Take(count) => push_numbered(out, Name::Take, end, u64::from(*count)),
         Action::Close => push_alone(out, Name::Close, end),
@@ -149,12 +158,12 @@ fn push_events(out: &mut Vec<u8>, events: &[Event]) -> Result<(), AllocError>
 /// hexadecimal in lower case.
 ///
 /// The script is one that a link file can say: `IsScript` tells the ranges. The text is read again
-/// as this script, `with_keys` where it has no shared key. An error is want of memory.
+/// as this script, with keys from a key file where it has no shared key. An error is want of memory.
 #[tactic(auto, unfolding(law_scripts::specs::Printed::text_of, law_scripts::specs::Printed::script_lines, law_scripts::specs::Printed::lines_text))]
 pub fn print_script(alloc: Global, script: &Script) -> Result<Bytes, AllocError>
     requires { IsScript script.now }
     ensures text { IfOk result (λ text. text ≡ text_of script.now) }
-    ensures read_again { IfOk result (λ text. script_of (is_none script.now.shared) text ≡ Ok script.now) }
+    ensures read_again { IfOk result (λ text. script_of (keys_by script.now.shared) text ≡ Ok script.now) }
 {
     let mut out = Vec::new(alloc);
     push_title(&mut out)?;

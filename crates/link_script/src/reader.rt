@@ -1,16 +1,16 @@
 //! A link file, read from its first line to its last.
 ghost use Rattle.std.specs.Prelude.{◌≡◌, IfOk};
-ghost use Rattle.std.specs.Option.{is_none};
 ghost use Rattle.book_lines.specs.declared.line_kind.LineKind.TheVariants as line_kind;
 ghost use Rattle.text_lines.specs.Readings.{Answers, Tells};
 ghost use Rattle.book_cmd_link.specs.LinkEvents.{link_event_of};
-ghost use Rattle.book_cmd_link.specs.LinkFiles.{event_at, events_of, is_shared, key_in, line_in, script_of, shared_key_of};
+ghost use Rattle.book_cmd_link.specs.LinkFiles.{event_at, events_of, is_shared, key_in, keys_by, line_in, script_of, shared_key_of};
 ghost use Rattle.law_scripts.specs.Left.{leaves};
 ghost use Rattle.law_scripts.specs.Scripts.{IsScript};
 
 use super::head::{next_line, read_head};
 use super::line_events::read_event;
-use book_cmd_link::{Script, SharedKey};
+use book_cmd_link::{KeysFrom, Script, SharedKey};
+use book_keys::LONGEST_MASTER_KEY;
 use book_lines::{LineKind, TextFault};
 use book_link::{Event, Events};
 use std::alloc::Global;
@@ -22,7 +22,7 @@ fn shared_key(alloc: Global, words: &mut LineWords) -> Result<SharedKey, Refusal
 {
     words.literal(b"shared")?;
     let alg = words.algorithm()?;
-    let master = words.sized_hex(alloc, 1, 255)?;
+    let master = words.sized_hex(alloc, 1, LONGEST_MASTER_KEY)?;
     words.nothing()?;
     Ok(SharedKey { alg, master })
 }
@@ -44,16 +44,16 @@ fn key_line(alloc: Global, lines: &mut SayingLines, missing: u32) -> Result<Shar
 #[tactic(auto, unfolding(book_cmd_link::specs::LinkFiles::key_in))]
 fn key(
     alloc: Global,
-    with_keys: bool,
+    keys: KeysFrom,
     lines: &mut SayingLines,
     missing: u32,
 ) -> Result<Option<SharedKey>, TextFault>
-    ensures { Answers (leaves result lines.new) (key_in with_keys missing lines.old) }
+    ensures { Answers (leaves result lines.new) (key_in keys missing lines.old) }
 {
-    if with_keys {
-        return Ok(None);
+    match keys {
+        KeysFrom::KeyFile => Ok(None),
+        KeysFrom::LinkFile => Ok(Some(key_line(alloc, lines, missing)?)),
     }
-    Ok(Some(key_line(alloc, lines, missing)?))
 }
 
 /// Whether the line's first word is `shared`.
@@ -93,13 +93,13 @@ fn events(alloc: Global, lines: &mut SayingLines) -> Result<Events, TextFault>
 }
 
 #[tactic(auto, unfolding(book_cmd_link::specs::LinkFiles::script_of, book_cmd_link::specs::LinkFiles::script_in))]
-fn read(alloc: Global, with_keys: bool, text: &[u8]) -> Result<Script, TextFault>
-    ensures { Answers result (script_of with_keys text.now) }
+fn read(alloc: Global, keys: KeysFrom, text: &[u8]) -> Result<Script, TextFault>
+    ensures { Answers result (script_of keys text.now) }
 {
     let missing = count_lines(text)? + 1;
     let mut lines = SayingLines::new(text);
     let head = read_head(&mut lines, missing)?;
-    let shared = key(alloc, with_keys, &mut lines, missing)?;
+    let shared = key(alloc, keys, &mut lines, missing)?;
     let events = events(alloc, &mut lines)?;
     Ok(Script {
         a: head.a,
@@ -109,17 +109,17 @@ fn read(alloc: Global, with_keys: bool, text: &[u8]) -> Result<Script, TextFault
     })
 }
 
-/// The script of a link file, `with_keys` where its keys come from a key file.
+/// The script of a link file.
 ///
 /// `Ok` exactly where the text is in the grammar. `TooManyLines` exactly where it has more than
 /// 20,000 lines; else `Line` is the first faulty line, counted from 1 among all lines, with the
 /// kind of its first faulty word: `Header` for the three lines of the head, `Shared` for the line of
 /// the shared key and for one that stands elsewhere. A line of these that is missing has the number
 /// after all lines. `Memory` only for want of memory.
-pub fn read_script(alloc: Global, with_keys: bool, text: &[u8]) -> Result<Script, TextFault>
-    ensures read { Answers result (script_of with_keys text.now) }
+pub fn read_script(alloc: Global, keys: KeysFrom, text: &[u8]) -> Result<Script, TextFault>
+    ensures read { Answers result (script_of keys text.now) }
     ensures grammar { IfOk result IsScript }
-    ensures key { IfOk result (λ script. is_none script.shared ≡ with_keys) }
+    ensures key { IfOk result (λ script. keys_by script.shared ≡ keys) }
 {
-    read(alloc, with_keys, text)
+    read(alloc, keys, text)
 }

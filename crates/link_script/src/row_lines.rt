@@ -1,56 +1,50 @@
 //! The line that adds a row to a table.
 ghost use Rattle.std.specs.Prelude.{◌≡◌};
+ghost use Rattle.book_keys.specs.Columns.{direction_of};
+ghost use Rattle.book_keys.specs.Rows.{greatest_key_id};
 ghost use Rattle.book_lines.specs.declared.line_kind.LineKind.TheVariants as line_kind;
 ghost use Rattle.book_lines.specs.Words.{number_in, word_as};
 ghost use Rattle.text_lines.specs.Readings.{gives, Tells};
-ghost use Rattle.book_cmd_link.specs.LinkEvents.{add_of, ways_of};
-ghost use Rattle.link_script.specs.Made.{named_ways, said_ways};
+ghost use Rattle.book_cmd_link.specs.LinkEvents.{add_of};
 
-use book_keys::LATEST;
+use book_keys::{Direction, GREATEST_KEY_ID, LATEST, LONGEST_MASTER_KEY, Lifetime, NewRow};
 use book_lines::LineKind;
-use book_link::{Action, Event, RowLine};
+use book_link::{Action, Event};
 use std::alloc::Global;
 use text_lines::{LineWords, Refusal};
 
-/// Whether a row receives, and whether it sends (RFC 7210, section 2).
-#[derive(Clone, Copy)]
-pub(crate) struct Ways {
-    receive: bool,
-    send: bool,
-}
-
-/// The ways that a word of a Direction names.
-fn ways_named(word: &[u8]) -> Option<Ways>
-    ensures { named_ways result ≡ ways_of word.now }
+/// The Direction that a word names.
+#[tactic(auto, unfolding(book_keys::specs::Columns::direction_of))]
+fn direction_named(word: &[u8]) -> Option<Direction>
+    ensures { result ≡ direction_of word.now }
 {
-    let (receive, send) = if word == b"in".as_slice() {
-        (true, false)
+    if word == b"in".as_slice() {
+        Some(Direction::Receive)
     } else if word == b"out".as_slice() {
-        (false, true)
+        Some(Direction::Send)
     } else if word == b"both".as_slice() {
-        (true, true)
+        Some(Direction::Both)
     } else if word == b"disabled".as_slice() {
-        (false, false)
+        Some(Direction::Disabled)
     } else {
-        return None;
-    };
-    Some(Ways { receive, send })
+        None
+    }
 }
 
 /// A word of a Direction.
-fn direction(words: &mut LineWords) -> Result<Ways, LineKind>
-    ensures { gives (said_ways result) words.new ≡ word_as ways_of line_kind.Word words.old }
+fn direction(words: &mut LineWords) -> Result<Direction, LineKind>
+    ensures { gives result words.new ≡ word_as direction_of line_kind.Word words.old }
 {
-    match ways_named(words.word()?) {
-        Some(ways) => Ok(ways),
+    match direction_named(words.word()?) {
+        Some(direction) => Ok(direction),
         None => Err(LineKind::Word),
     }
 }
 
 fn key_id(words: &mut LineWords) -> Result<u8, LineKind>
-    ensures { gives result words.new ≡ number_in 0 255 words.old }
+    ensures { gives result words.new ≡ number_in 0 greatest_key_id words.old }
 {
-    Ok(words.number(0, 255)? as u8)
+    Ok(words.number(0, GREATEST_KEY_ID)? as u8)
 }
 
 /// The row that `add` adds, of the words after the name.
@@ -62,26 +56,29 @@ pub(crate) fn add(alloc: Global, words: &mut LineWords) -> Result<Event, Refusal
     let recv_id = key_id(words)?;
     let send_id = key_id(words)?;
     let algorithm = words.algorithm()?;
-    let master = words.sized_hex(alloc, 1, 255)?;
+    let master = words.sized_hex(alloc, 1, LONGEST_MASTER_KEY)?;
     let with_options = words.choice(b"no-options", b"options")?;
-    let ways = direction(words)?;
-    let send_first = words.number(0, LATEST)?;
-    let send_last = words.number(send_first, LATEST)?;
-    let accept_first = words.number(0, LATEST)?;
-    let accept_last = words.number(accept_first, LATEST)?;
+    let direction = direction(words)?;
+    let first_sent = words.number(0, LATEST)?;
+    let last_sent = words.number(first_sent, LATEST)?;
+    let first_accepted = words.number(0, LATEST)?;
+    let last_accepted = words.number(first_accepted, LATEST)?;
     words.nothing()?;
-    let row = RowLine {
+    let row = NewRow {
         recv_id,
         send_id,
         algorithm,
         master,
         with_options,
-        receive: ways.receive,
-        send: ways.send,
-        send_first,
-        send_last,
-        accept_first,
-        accept_last,
+        direction,
+        sending: Lifetime {
+            first: first_sent,
+            last: last_sent,
+        },
+        accepting: Lifetime {
+            first: first_accepted,
+            last: last_accepted,
+        },
     };
     Ok(Event::At(end, Action::AddRow(row)))
 }

@@ -10,6 +10,8 @@ use Rattle.book_endpoint.specs.Arrivals as arrivals
 use Rattle.book_endpoint.specs.Emissions.{Emitted, Quiet, NoKey, Emits}
 use Rattle.book_endpoint.specs.States.{EndState}
 use Rattle.book_link.specs.declared.event.Event.TheVariants.{At}
+use Rattle.book_link.specs.declared.event.Transmission.{Transmission}
+use Rattle.book_link.specs.declared.event.Transmission.TheVariants.{New, Again}
 use Rattle.book_link.specs.Outcomes.{NoSession}
 use Rattle.book_link.specs.Steps.{View, Act, Stepped, act_on, acted, came, come, made_of, on_live, put, sent, step, with_sessions, view_of}
 use Rattle.book_link.specs.Worlds.{Setup, pair_of, Session, World, LinkSide as EndSide, other, side as side_of}
@@ -43,19 +45,19 @@ stands_after d d' m l l' k act h now clock rows dropped same stands hidden =
     }
 
 -- what is told where the session's call makes this
-tells_sent : (setup : Setup) (w : World) (again : Bool) (e : End) (d : Side) (m : EndSide) (s : EndState) (before out : List ℕ) (a : Emission) (b : Emitted)
-    → (side_of w e).clock ≡ d.clock → (side_of w e).rows ≡ d.table.rows → made_by again d.table.rows d.pair d.clock s ≡ b → AnswersAs before out a b
-    → TellsSent w (record { world = put w e m (sent (view_of setup w e) s (quiet again) b).happened; outcome = (sent (view_of setup w e) s (quiet again) b).outcome })
-    again e d before out (Some a)
-tells_sent setup w again e d m s before out emissions.Idle Quiet clock rows is h = record { outcome_is = refl; history = put_history w e m None; buffer = h }
-tells_sent setup w again e d m s before out emissions.Idle NoKey clock rows is h = absurd h
-tells_sent setup w again e d m s before out emissions.Idle (Emits x) clock rows is h = absurd h
-tells_sent setup w again e d m s before out emissions.NoKey Quiet clock rows is h = absurd h
-tells_sent setup w again e d m s before out emissions.NoKey NoKey clock rows is h = record { outcome_is = refl; history = put_history w e m None; buffer = h }
-tells_sent setup w again e d m s before out emissions.NoKey (Emits x) clock rows is h = absurd h
-tells_sent setup w again e d m s before out (emissions.Segment n) Quiet clock rows is h = absurd h
-tells_sent setup w again e d m s before out (emissions.Segment n) NoKey clock rows is h = absurd h
-tells_sent setup w again e d m s before out (emissions.Segment n) (Emits x) clock rows is h = (
+tells_sent : (setup : Setup) (w : World) (which : Transmission) (e : End) (d : Side) (m : EndSide) (s : EndState) (before out : List ℕ) (a : Emission) (b : Emitted)
+    → (side_of w e).clock ≡ d.clock → (side_of w e).rows ≡ d.table.rows → made_by which d.table.rows d.pair d.clock s ≡ b → AnswersAs before out a b
+    → TellsSent w (record { world = put w e m (sent (view_of setup w e) s (quiet which) b).happened; outcome = (sent (view_of setup w e) s (quiet which) b).outcome })
+    which e d before out (Some a)
+tells_sent setup w which e d m s before out emissions.Idle Quiet clock rows is h = record { outcome_is = refl; history = put_history w e m None; buffer = h }
+tells_sent setup w which e d m s before out emissions.Idle NoKey clock rows is h = absurd h
+tells_sent setup w which e d m s before out emissions.Idle (Emits x) clock rows is h = absurd h
+tells_sent setup w which e d m s before out emissions.NoKey Quiet clock rows is h = absurd h
+tells_sent setup w which e d m s before out emissions.NoKey NoKey clock rows is h = record { outcome_is = refl; history = put_history w e m None; buffer = h }
+tells_sent setup w which e d m s before out emissions.NoKey (Emits x) clock rows is h = absurd h
+tells_sent setup w which e d m s before out (emissions.Segment n) Quiet clock rows is h = absurd h
+tells_sent setup w which e d m s before out (emissions.Segment n) NoKey clock rows is h = absurd h
+tells_sent setup w which e d m s before out (emissions.Segment n) (Emits x) clock rows is h = (
   made_of (view_of setup w e) s x,
   refl,
   put_history w e m _,
@@ -72,53 +74,53 @@ tells_sent setup w again e d m s before out (emissions.Segment n) (Emits x) cloc
   },
 )
 
-state_sent : (v : View) (again : Bool) (s : EndState) (b : Emitted) → (sent v s (quiet again) b).state ≡ state_after s b
-state_sent v again s Quiet = refl
-state_sent v again s NoKey = refl
-state_sent v again s (Emits x) = refl
+state_sent : (v : View) (which : Transmission) (s : EndState) (b : Emitted) → (sent v s (quiet which) b).state ≡ state_after s b
+state_sent v which s Quiet = refl
+state_sent v which s NoKey = refl
+state_sent v which s (Emits x) = refl
 
-hidden_sent : (v : View) (again : Bool) (s : EndState) (b : Emitted) → (sent v s (quiet again) b).shown ≡ false
-hidden_sent v again s Quiet = refl
-hidden_sent v again s NoKey = refl
-hidden_sent v again s (Emits x) = refl
+hidden_sent : (v : View) (which : Transmission) (s : EndState) (b : Emitted) → (sent v s (quiet which) b).shown ≡ false
+hidden_sent v which s Quiet = refl
+hidden_sent v which s NoKey = refl
+hidden_sent v which s (Emits x) = refl
 
 -- the step of a send is a call on the live session
-step_sends : (setup : Setup) (w : World) (again : Bool) (e : End) (t : Session) (older : List Session) → (side_of w e).sessions ≡ t ∷ older
-    → step setup w (At e (sending again))
-    ≡ act_on w e (t ∷ older) (λ s. sent (view_of setup w e) s (quiet again) (made_by again (side_of w e).rows (pair_of setup e) (side_of w e).clock s))
-step_sends setup w true e t older is = rw is refl
-step_sends setup w false e t older is = rw is refl
+step_sends : (setup : Setup) (w : World) (which : Transmission) (e : End) (t : Session) (older : List Session) → (side_of w e).sessions ≡ t ∷ older
+    → step setup w (At e (sending which))
+    ≡ act_on w e (t ∷ older) (λ s. sent (view_of setup w e) s (quiet which) (made_by which (side_of w e).rows (pair_of setup e) (side_of w e).clock s))
+step_sends setup w New e t older is = rw is refl
+step_sends setup w Again e t older is = rw is refl
 
-made_at : (rows rows' : List Row) (p p' : Pair) (n n' : ℕ) (again : Bool) (s : EndState) → rows ≡ rows' → p ≡ p' → n ≡ n'
-    → made_by again rows p n s ≡ made_by again rows' p' n' s
-made_at rows rows' p p' n n' again s x y z = rw (x, y, z) refl
+made_at : (rows rows' : List Row) (p p' : Pair) (n n' : ℕ) (which : Transmission) (s : EndState) → rows ≡ rows' → p ≡ p' → n ≡ n'
+    → made_by which rows p n s ≡ made_by which rows' p' n' s
+made_at rows rows' p p' n n' which s x y z = rw (x, y, z) refl
 
-emits_at : (rows rows' : List Row) (p p' : Pair) (n n' : ℕ) (again : Bool) (s : EndState) (l : Live) (before out : List ℕ) (a : Emission)
-    → rows ≡ rows' → p ≡ p' → n ≡ n' → EmitsAs s l.endpoint before out a (made_by again rows p n s)
-    → EmitsAs s l.endpoint before out a (made_by again rows' p' n' s)
-emits_at rows rows' p p' n n' again s l before out a x y z h = rw (sym x, sym y, sym z) h
+emits_at : (rows rows' : List Row) (p p' : Pair) (n n' : ℕ) (which : Transmission) (s : EndState) (l : Live) (before out : List ℕ) (a : Emission)
+    → rows ≡ rows' → p ≡ p' → n ≡ n' → EmitsAs s l.endpoint before out a (made_by which rows p n s)
+    → EmitsAs s l.endpoint before out a (made_by which rows' p' n' s)
+emits_at rows rows' p p' n n' which s l before out a x y z h = rw (sym x, sym y, sym z) h
 
 -- a live session sends
-pub has_sent : (setup : Setup) (w : World) (again : Bool) (e : End) (d d' : Side) (l l' : Live) (before out : List ℕ) (a : Emission) (p : Pair) → p ≡ d.pair
+pub has_sent : (setup : Setup) (w : World) (which : Transmission) (e : End) (d d' : Side) (l l' : Live) (before out : List ℕ) (a : Emission) (p : Pair) → p ≡ d.pair
     → pair_of setup e ≡ d.pair → StandsSide d (side_of w e) → d.live ≡ Some l → d'.live ≡ Some l' → d'.pair ≡ d.pair → d'.clock ≡ d.clock
     → d'.table ≡ d.table → d'.dropped.items ≡ d.dropped.items → l'.end_shown ≡ l.end_shown
-    → ((s : EndState) → Stands l.endpoint s → EmitsAs s l'.endpoint before out a (made_by again d.table.rows p d.clock s))
-    → HasSent w (step setup w (At e (sending again))) again e d' before out (Some a)
-has_sent setup w again e d d' l l' before out a p bound pair h was now pairs clock table dropped same emits =
+    → ((s : EndState) → Stands l.endpoint s → EmitsAs s l'.endpoint before out a (made_by which d.table.rows p d.clock s))
+    → HasSent w (step setup w (At e (sending which))) which e d' before out (Some a)
+has_sent setup w which e d d' l l' before out a p bound pair h was now pairs clock table dropped same emits =
     let k = live_is d (side_of w e) l was h in
     let s = k.session.state in
-    let b = made_by again (side_of w e).rows (pair_of setup e) (side_of w e).clock s in
+    let b = made_by which (side_of w e).rows (pair_of setup e) (side_of w e).clock s in
     let rows = ap (λ t. t.rows) table in
-    let g : EmitsAs s l'.endpoint before out a b = emits_at _ _ _ _ _ _ again s l' before out a (sym h.rows) (bound ∙ sym pair) (sym h.clock) (emits s k.stands) in
-    let is : made_by again d'.table.rows d'.pair d'.clock s ≡ b =
-    made_at _ _ _ _ _ _ again s (rows ∙ sym h.rows) (pairs ∙ sym pair) (clock ∙ sym h.clock) in
-    let act = sent (view_of setup w e) s (quiet again) b in
+    let g : EmitsAs s l'.endpoint before out a b = emits_at _ _ _ _ _ _ which s l' before out a (sym h.rows) (bound ∙ sym pair) (sym h.clock) (emits s k.stands) in
+    let is : made_by which d'.table.rows d'.pair d'.clock s ≡ b =
+    made_at _ _ _ _ _ _ which s (rows ∙ sym h.rows) (pairs ∙ sym pair) (clock ∙ sym h.clock) in
+    let act = sent (view_of setup w e) s (quiet which) b in
     let m = with_sessions (side_of w e) (acted k.session act ∷ k.older) in
-    rw (step_sends setup w again e k.session k.older k.are) (record {
+    rw (step_sends setup w which e k.session k.older k.are) (record {
       stands = rw (put_at w e m act.happened) (stands_after d d' (side_of w e) l l' k act h now clock rows dropped same
-          (subst (λ x. Stands l'.endpoint x) (sym (state_sent (view_of setup w e) again s b)) g.stands) (hidden_sent (view_of setup w e) again s b));
+          (subst (λ x. Stands l'.endpoint x) (sym (state_sent (view_of setup w e) which s b)) g.stands) (hidden_sent (view_of setup w e) which s b));
       others = put_other w e m act.happened;
-      tells = tells_sent setup w again e d' m s before out a b (h.clock ∙ sym clock) (h.rows ∙ sym rows) is g.answer_is;
+      tells = tells_sent setup w which e d' m s before out a b (h.clock ∙ sym clock) (h.rows ∙ sym rows) is g.answer_is;
     })
 
 arrives_at : (rows seen rows' : List Row) (p from p' : Pair) (n n' : ℕ) (s : EndState) (r : Reading) (l : Live) (a : Arrived) → rows ≡ seen → p ≡ from

@@ -1,10 +1,28 @@
 -- What an end with all its sessions stands for.
 use Rattle.std.specs.Prelude.{◌≡◌, ℕ, Bool, List, [], ◌∷◌, length, map, reverse, Option, Some, None}
+use Rattle.book_base.specs.declared.address.Pair.{Pair}
+use Rattle.book_keys.specs.Rows.{Table}
 use Rattle.book_link.specs.Worlds.{Session, LinkSide as EndSide}
 use Rattle.link_side.specs.declared.sessions.Ended.{Ended}
 use Rattle.link_side.specs.declared.sessions.Live.{Live}
 use Rattle.link_side.specs.declared.side.Side.{Side}
 use Rattle.tcp_endpoint.specs.Ends.{Stands}
+
+-- the sockets of an end, its own and its peer's
+abbrev pub sockets_of : Side → Pair
+sockets_of d = d.pair
+
+-- the table of an end, as it is now
+abbrev pub table_of : Side → Table
+table_of d = d.table
+
+-- the live session of an end, if there is one
+abbrev pub live_of : Side → Option Live
+live_of d = d.live
+
+-- what is kept of the sessions of an end before the live one, the oldest first
+abbrev pub dropped_of : Side → List Ended
+dropped_of d = d.dropped.items
 
 -- what the report says of a session
 pub record Facts : Type 0 where

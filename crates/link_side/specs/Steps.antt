@@ -1,11 +1,9 @@
 -- A side after an event at its end by which no segment is made and nothing comes.
-use Rattle.std.specs.Prelude.{◌≡◌, ℕ, ◌≤◌, length}
+use Rattle.std.specs.Prelude.{◌≡◌}
 use Rattle.book_base.specs.declared.end.End.{End}
-use Rattle.book_keys.specs.Lifetimes.{greatest_time}
 use Rattle.book_endpoint.specs.States.{EndState}
 use Rattle.book_link.specs.declared.event.Action.{Action}
 use Rattle.book_link.specs.declared.event.Event.TheVariants.{At}
-use Rattle.book_link.specs.declared.event.RowLine.{RowLine}
 use Rattle.book_link.specs.Outcomes.{Outcome}
 use Rattle.book_link.specs.Steps.{Act, Stepped, on_live, step}
 use Rattle.book_link.specs.Worlds.{Setup, pair_of, World, other, side as side_of}
@@ -31,12 +29,3 @@ Steps before after action told =
 abbrev pub StepsBy : Side → Side → (EndState → Act) → Answer → Type 0
 StepsBy before after call told =
     (w : World) (e : End) → StandsSide before (side_of w e) → Moved w (on_live w e call) e after (outcome_of told)
-
--- the columns of a row are in the ranges of a link file: a master key of 1 to 255 bytes, lifetimes that don't end before they begin, and times of a key file
-pub record IsRowLine (l : RowLine) : Type 0 where
-  pub least : 1 ≤ length l.master
-  pub most : length l.master ≤ 255
-  pub sending : l.send_first ≤ l.send_last
-  pub sent : l.send_last ≤ greatest_time
-  pub accepting : l.accept_first ≤ l.accept_last
-  pub accepted : l.accept_last ≤ greatest_time

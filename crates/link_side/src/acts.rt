@@ -4,6 +4,7 @@ ghost use Rattle.book_keys.specs.Lifetimes.{greatest_time};
 ghost use Rattle.book_link.specs.declared.event.Action.TheVariants.{Clock, Give, Fill, Take, Close, Abort};
 ghost use Rattle.link_side.specs.Outcomes.{answer_given};
 ghost use Rattle.book_link.specs.Steps.{given, took};
+ghost use Rattle.link_side.specs.Sides.{sockets_of};
 ghost use Rattle.link_side.specs.Steps.{Steps, StepsBy};
 
 use crate::answer::Answer;
@@ -27,7 +28,7 @@ impl Side {
     /// The clock reads so many seconds since 1970, at most LATEST, and the live session ticks.
     pub fn set_clock(&mut self, seconds: u64) -> Answer
         requires { seconds ≤ greatest_time }
-        ensures pair { self.new.pair ≡ self.old.pair }
+        ensures pair { sockets_of self.new ≡ sockets_of self.old }
         ensures step { Steps self.old self.new (Clock seconds) result }
     {
         self.clock = seconds;
@@ -39,7 +40,7 @@ impl Side {
 
     /// The live session is offered a piece.
     fn offer(&mut self, piece: &[u8]) -> Answer
-        ensures pair { self.new.pair ≡ self.old.pair }
+        ensures pair { sockets_of self.new ≡ sockets_of self.old }
         ensures step { StepsBy self.old self.new (given piece.now) result }
     {
         match &mut self.live {
@@ -50,7 +51,7 @@ impl Side {
 
     /// The live session's ready bytes are taken into `bytes`, as many as it has room for.
     fn take_into(&mut self, mut bytes: Vec<u8>) -> Answer
-        ensures pair { self.new.pair ≡ self.old.pair }
+        ensures pair { sockets_of self.new ≡ sockets_of self.old }
         ensures step { StepsBy self.old self.new (took (length bytes.items)) result }
     {
         match &mut self.live {
@@ -67,7 +68,7 @@ impl Side {
 
     /// The live session's user gives it a piece: all of it, or none.
     pub fn give(&mut self, piece: &Bytes) -> Answer
-        ensures pair { self.new.pair ≡ self.old.pair }
+        ensures pair { sockets_of self.new ≡ sockets_of self.old }
         ensures step { Steps self.old self.new (Give piece.now) result }
     {
         self.offer(piece.as_slice())
@@ -76,7 +77,7 @@ impl Side {
     /// The live session's user gives it a byte so many times: all, or none. Out of memory all is as it
     /// was.
     pub fn fill(&mut self, alloc: Global, count: u16, byte: u8) -> Result<Answer, AllocError>
-        ensures pair { self.new.pair ≡ self.old.pair }
+        ensures pair { sockets_of self.new ≡ sockets_of self.old }
         ensures step { IfOk result (λ told. Steps self.old self.new (Fill count byte) told) }
         ensures same { OnErr result (self.new ≡ self.old) }
     {
@@ -91,7 +92,7 @@ impl Side {
     /// The live session's user takes so many of the ready bytes, or all. Out of memory all is as it
     /// was.
     pub fn take(&mut self, alloc: Global, count: u16) -> Result<Answer, AllocError>
-        ensures pair { self.new.pair ≡ self.old.pair }
+        ensures pair { sockets_of self.new ≡ sockets_of self.old }
         ensures step { IfOk result (λ told. Steps self.old self.new (Take count) told) }
         ensures same { OnErr result (self.new ≡ self.old) }
     {
@@ -105,7 +106,7 @@ impl Side {
 
     /// The live session's user has no more bytes to give.
     pub fn close(&mut self) -> Answer
-        ensures pair { self.new.pair ≡ self.old.pair }
+        ensures pair { sockets_of self.new ≡ sockets_of self.old }
         ensures step { Steps self.old self.new Close result }
     {
         match &mut self.live {
@@ -119,7 +120,7 @@ impl Side {
 
     /// The live session's user gives the connection up.
     pub fn abort(&mut self) -> Answer
-        ensures pair { self.new.pair ≡ self.old.pair }
+        ensures pair { sockets_of self.new ≡ sockets_of self.old }
         ensures step { Steps self.old self.new Abort result }
     {
         match &mut self.live {

@@ -3,7 +3,7 @@ ghost use Rattle.std.specs.Prelude.{◌≡◌, ◌∷◌, false, OnOk, OnErr, If
 ghost use Rattle.book_endpoint.specs.States.{EndState};
 ghost use Rattle.book_link.specs.declared.event.Action.TheVariants.{Connect, Listen, Start};
 ghost use Rattle.book_link.specs.Worlds.{LinkSide as EndSide};
-ghost use Rattle.link_side.specs.Sides.{StandsSide};
+ghost use Rattle.link_side.specs.Sides.{StandsSide, sockets_of};
 ghost use Rattle.link_side.specs.Steps.{Steps};
 ghost use Rattle.tcp_endpoint.specs.Ends.{Stands, FitsEnd};
 
@@ -18,7 +18,7 @@ impl Side {
     fn begin(&mut self, endpoint: Endpoint) -> Result<(), AllocError>
         requires bound { endpoint.pair ≡ self.old.pair }
         requires fits { FitsEnd self.old.table.rows endpoint }
-        ensures pair { self.new.pair ≡ self.old.pair }
+        ensures pair { sockets_of self.new ≡ sockets_of self.old }
         ensures begun { OnOk result ((m : EndSide) (s : EndState) → StandsSide self.old m → Stands endpoint s
             → StandsSide self.new (record { clock = m.clock; rows = m.rows; sessions = record { state = s; end_shown = false } ∷ m.sessions })) }
         ensures same { OnErr result ((m : EndSide) → StandsSide self.old m → StandsSide self.new m) }
@@ -40,7 +40,7 @@ impl Side {
     /// A session opens actively (RFC 9293, section 3.10.1), unless the end used the initial sequence
     /// number before; the one before it is dropped. Out of memory all is as it was.
     pub fn connect(&mut self, alloc: Global, isn: u32) -> Result<Answer, AllocError>
-        ensures pair { self.new.pair ≡ self.old.pair }
+        ensures pair { sockets_of self.new ≡ sockets_of self.old }
         ensures step { IfOk result (λ told. Steps self.old self.new (Connect isn) told) }
         ensures same { OnErr result ((m : EndSide) → StandsSide self.old m → StandsSide self.new m) }
     {
@@ -54,7 +54,7 @@ impl Side {
 
     /// A session waits for its peer (RFC 9293, section 3.10.1), as for `connect`.
     pub fn listen(&mut self, alloc: Global, isn: u32) -> Result<Answer, AllocError>
-        ensures pair { self.new.pair ≡ self.old.pair }
+        ensures pair { sockets_of self.new ≡ sockets_of self.old }
         ensures step { IfOk result (λ told. Steps self.old self.new (Listen isn) told) }
         ensures same { OnErr result ((m : EndSide) → StandsSide self.old m → StandsSide self.new m) }
     {
@@ -68,7 +68,7 @@ impl Side {
 
     /// A session is established without a handshake, as for `connect`.
     pub fn start(&mut self, alloc: Global, isn: u32, peer_isn: u32) -> Result<Answer, AllocError>
-        ensures pair { self.new.pair ≡ self.old.pair }
+        ensures pair { sockets_of self.new ≡ sockets_of self.old }
         ensures step { IfOk result (λ told. Steps self.old self.new (Start isn peer_isn) told) }
         ensures same { OnErr result ((m : EndSide) → StandsSide self.old m → StandsSide self.new m) }
     {

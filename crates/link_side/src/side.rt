@@ -27,13 +27,13 @@ pub struct Side {
 }
 
 impl Side {
-    ghost use Rattle.link_side.specs.Sides.{StandsSide};
+    ghost use Rattle.link_side.specs.Sides.{StandsSide, dropped_of, live_of, sockets_of};
 
     /// An end without a session, its clock at 0. The two addresses are of one family.
     pub fn new(alloc: Global, pair: Pair, table: Table) -> Side
         requires family { IsOneFamily pair.local.address pair.remote.address }
         ensures stands { StandsSide result (record { clock = 0; rows = table.rows; sessions = [] }) }
-        ensures pair { result.pair ≡ pair }
+        ensures pair { sockets_of result ≡ pair }
     {
         Side {
             pair,
@@ -54,8 +54,8 @@ impl Side {
 
     /// The live session, if there is one.
     pub fn live(&self) -> Option<&Live>
-        ensures some { IfSome result (λ l. self.now.live ≡ Some l.now) }
-        ensures none { result ≡ None → self.now.live ≡ None }
+        ensures some { IfSome result (λ l. live_of self.now ≡ Some l.now) }
+        ensures none { result ≡ None → live_of self.now ≡ None }
     {
         match &self.live {
             Some(live) => Some(live),
@@ -65,7 +65,7 @@ impl Side {
 
     /// The sessions before the live one, the oldest first.
     pub fn dropped(&self) -> &[Ended]
-        ensures { result.now ≡ self.now.dropped.items }
+        ensures { result.now ≡ dropped_of self.now }
     {
         self.dropped.as_slice()
     }

@@ -2,12 +2,15 @@
 ghost use Rattle.std.specs.Prelude.{◌≡◌, ◌+◌, ◌<◌, ◌≤◌, length, IfOk, OnOk};
 ghost use Rattle.link_log.specs.Logs.{made_count};
 
+use ao_check::Passing;
 use book_base::{Address, Algorithm, Bytes, End, Socket};
+use book_endpoint::Passed;
 use book_macs::Context;
 use key_table::{AddRefusal, Direction, Lifetime, NewRow, Row, Table};
-use link_log::{Entrance, Log};
+use link_log::Log;
 use std::alloc::{AllocError, Global};
 use std::test::Fail;
+use tcp_options::AoFound;
 use tcp_segment::read_datagram;
 
 const SOCKET: Socket = Socket {
@@ -80,38 +83,49 @@ fn two_segments(alloc: Global, row: &Row) -> Result<Log, AllocError> {
     Ok(log)
 }
 
-/// What passes at b under a row of these two, with a number and a context that the segments have too.
-fn entrance(table: &Table, row: u8, number: u64) -> Option<Entrance<'_>> {
+/// The row of this number.
+fn row_of(table: &Table, row: u8) -> Option<&Row> {
     if row < 1 || row > table.rows() {
         return None;
     }
-    Some(Entrance {
-        row: table.row(row),
-        number,
-        context: CONTEXT,
-    })
+    Some(table.row(row))
 }
 
-/// Whether a datagram that passed so at an end is a forgery; none where the bytes are no datagram. A
-/// name is a hint alone.
+/// Whether a datagram that passed at an end under a row, with this number and the context that the
+/// segments have too, is a forgery; none where the bytes are no datagram with one TCP-AO option. A name
+/// is a hint alone.
 fn is_forged(
     log: &Log,
     at: End,
     name: Option<u32>,
     bytes: &[u8],
-    entrance: &Entrance<'_>,
+    row: &Row,
+    number: u64,
 ) -> Option<bool> {
-    match read_datagram(bytes) {
-        Ok(datagram) => Some(log.is_forged(at, name, &datagram, entrance)),
-        Err(_) => None,
+    let datagram = match read_datagram(bytes) {
+        Ok(datagram) => datagram,
+        Err(_) => return None,
+    };
+    let options = datagram.options();
+    match options.find_ao() {
+        AoFound::One(option) => {
+            let passed = Passed {
+                row: 1,
+                number,
+                context: CONTEXT,
+            };
+            let passing = Passing { passed, option };
+            Some(log.is_forged(at, name, &datagram, row, &passing))
+        }
+        _ => None,
     }
 }
 
 #[test]
 fn only_what_the_other_end_made_is_no_forgery(rt: HostRuntime) -> Result<(), Fail> {
     let table = two_rows(rt.alloc())?;
-    let first = entrance(&table, 1, 7).ok_or("no row")?;
-    let log = two_segments(rt.alloc(), first.row)?;
+    let first = row_of(&table, 1).ok_or("no row")?;
+    let log = two_segments(rt.alloc(), first)?;
     let number = (1 << 32) + 7;
     let cases = [
         // The first of two with one number, and one with another MAC, which doesn't count.
@@ -128,9 +142,9 @@ fn only_what_the_other_end_made_is_no_forgery(rt: HostRuntime) -> Result<(), Fai
         (End::B, Some(9), 2, 4, 1, 7, false),
     ];
     for (at, name, acknowledgement, mac, row, number, forged) in cases {
-        let passed = entrance(&table, row, number).ok_or("no row")?;
+        let row = row_of(&table, row).ok_or("no row")?;
         let bytes = datagram(acknowledgement, mac);
-        assert!(rt; is_forged(&log, at, name, &bytes, &passed) == Some(forged));
+        assert!(rt; is_forged(&log, at, name, &bytes, row, number) == Some(forged));
     }
     Ok(())
 }

@@ -1,7 +1,7 @@
 //! Link files that are printed, which no command does. What is read of them, and each of their faults,
 //! stands in the examples of `link` and `timed`.
 use book_base::Bytes;
-use link_script::{print_script, read_script};
+use link_script::{KeysFrom, print_script, read_script};
 use std::alloc::Global;
 use std::test::Fail;
 
@@ -73,7 +73,7 @@ fn lines() -> &'static [u8] {
 
 /// What is printed of a file with its shared key, once it is read.
 fn printed(alloc: Global, text: &[u8]) -> Result<Bytes, Fail> {
-    let script = read_script(alloc, false, text)?;
+    let script = read_script(alloc, KeysFrom::LinkFile, text)?;
     Ok(print_script(alloc, &script)?)
 }
 

@@ -4,6 +4,8 @@ use Rattle.std.specs.Prelude.{slice_index, bit_xor, ◌==◌, if◌then◌else�
 use Rattle.std.proofs.lemmas.List.{length-set, get_or-set_other}
 use Rattle.book_segments.specs.Spelling.{ip_length, with_right_checksum}
 use Rattle.tcp_segment.specs.Sums.{HasPlainHeader}
+use Rattle.book_link.specs.declared.event.Fixing.{Fixing}
+use Rattle.book_link.specs.declared.event.Fixing.TheVariants.{Keep, Fix}
 use Rattle.book_link.specs.Alterations.{altered, masked, place_in}
 
 some_length : (four : Bool) → 20 ≤ (if four then 20 else 40)
@@ -39,14 +41,14 @@ copy_plain b copy header behind place mask e p is h =
     subst HasPlainHeader (sym (masked_in b copy header behind place mask e p is)) (masked_plain b place mask h)
 
 -- the copy once it was fixed
-pub copy_fixed : (b copy : List ℕ) (header behind place mask : ℕ) (fix : Bool) → header ≡ ip_length b → behind ≡ place → copy ≡ masked b (header + behind) mask
-    → fix ≡ true → with_right_checksum copy ≡ altered b (record { place = place; mask = mask; fix = fix })
+pub copy_fixed : (b copy : List ℕ) (header behind place mask : ℕ) (fixing : Fixing) → header ≡ ip_length b → behind ≡ place → copy ≡ masked b (header + behind) mask
+    → fixing ≡ Fix → with_right_checksum copy ≡ altered b (record { place = place; mask = mask; fixing = fixing })
 unfolding altered
-copy_fixed b copy header behind place mask fix e p is on =
+copy_fixed b copy header behind place mask fixing e p is on =
     rw on (ap with_right_checksum (masked_in b copy header behind place mask e p is))
 
 -- the copy that stays
-pub copy_left : (b copy : List ℕ) (header behind place mask : ℕ) (fix : Bool) → header ≡ ip_length b → behind ≡ place → copy ≡ masked b (header + behind) mask
-    → fix ≡ false → copy ≡ altered b (record { place = place; mask = mask; fix = fix })
+pub copy_left : (b copy : List ℕ) (header behind place mask : ℕ) (fixing : Fixing) → header ≡ ip_length b → behind ≡ place → copy ≡ masked b (header + behind) mask
+    → fixing ≡ Keep → copy ≡ altered b (record { place = place; mask = mask; fixing = fixing })
 unfolding altered
-copy_left b copy header behind place mask fix e p is off = rw off (masked_in b copy header behind place mask e p is)
+copy_left b copy header behind place mask fixing e p is off = rw off (masked_in b copy header behind place mask e p is)

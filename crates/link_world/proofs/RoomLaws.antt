@@ -7,12 +7,13 @@ use Rattle.book_keys.specs.Tables.{Adding, AddedAs, TooMany, OverlapsRow, adding
 use Rattle.book_keys.specs.Rows.{Row}
 use Rattle.book_endpoint.specs.States.{EndState, connected, listening, started, taking, gives, room, ready, give, close, abort}
 use Rattle.book_endpoint.specs.Emissions.{Emitted, Quiet, NoKey, Emits, emit, resend}
+use Rattle.book_link.specs.declared.event.Fixing.{Fixing}
 use Rattle.book_link.specs.Alterations.{altered, has_place}
 use Rattle.book_link.specs.declared.event.Event.{Event}
 use Rattle.book_link.specs.declared.event.Event.TheVariants.{At, Dump}
 use Rattle.book_link.specs.declared.event.Action.TheVariants.{Clock, Connect, Listen, Start, Give, Fill, Send, Resend, Deliver, Inject, Alter, Take, Close, Abort, AddRow, Withdraw}
 use Rattle.book_link.specs.Outcomes as book
-use Rattle.book_link.specs.RowLines.{added_row}
+use Rattle.book_keys.specs.Tables.{row_of_new}
 use Rattle.book_link.specs.Steps.{View, Act, act_on, add_row, begin, come, deliver, alter, given, image_of, on_live, quietly, send, send_again, sent, step, took, withdraw, view_of}
 use Rattle.book_link.specs.Worlds.{Setup, World, Session, Made, pair_of, side, find, segment_named}
 use Rattle.link_report.specs.declared.outcome.Outcome.{Outcome}
@@ -80,14 +81,14 @@ delivered_none : (setup : Setup) (w : World) (e : End) (o : Option Made) → car
 delivered_none setup w e None = refl
 delivered_none setup w e (Some m) = come_none setup w e m.bytes
 
-placed_none : (setup : Setup) (w : World) (e : End) (m : Made) (place mask : ℕ) (fix b : Bool)
-    → carried (if b then on_live w e (come (altered m.bytes (record { place = place; mask = mask; fix = fix })) (view_of setup w e)) else record { world = w; outcome = book.NoPlace }).outcome ≡ []
-placed_none setup w e m place mask fix true = come_none setup w e (altered m.bytes (record { place = place; mask = mask; fix = fix }))
-placed_none setup w e m place mask fix false = refl
+placed_none : (setup : Setup) (w : World) (e : End) (m : Made) (place mask : ℕ) (fixing : Fixing) (b : Bool)
+    → carried (if b then on_live w e (come (altered m.bytes (record { place = place; mask = mask; fixing = fixing })) (view_of setup w e)) else record { world = w; outcome = book.NoPlace }).outcome ≡ []
+placed_none setup w e m place mask fixing true = come_none setup w e (altered m.bytes (record { place = place; mask = mask; fixing = fixing }))
+placed_none setup w e m place mask fixing false = refl
 
-altered_none : (setup : Setup) (w : World) (e : End) (place mask : ℕ) (fix : Bool) (o : Option Made) → carried (alter setup w e (record { place = place; mask = mask; fix = fix }) o).outcome ≡ []
-altered_none setup w e place mask fix None = refl
-altered_none setup w e place mask fix (Some m) = placed_none setup w e m place mask fix (has_place m.bytes place)
+altered_none : (setup : Setup) (w : World) (e : End) (place mask : ℕ) (fixing : Fixing) (o : Option Made) → carried (alter setup w e (record { place = place; mask = mask; fixing = fixing }) o).outcome ≡ []
+altered_none setup w e place mask fixing None = refl
+altered_none setup w e place mask fixing (Some m) = placed_none setup w e m place mask fixing (has_place m.bytes place)
 
 added_none : (w : World) (e : End) (a : Adding) → carried (add_row w e a).outcome ≡ []
 added_none w e (AddedAs number rows) = refl
@@ -128,11 +129,11 @@ step_fits setup w (At e Resend) =
     (λ s. sent_none (view_of setup w e) s book.Nothing (resend (side w e).rows (pair_of setup e) (side w e).clock s) refl))
 step_fits setup w (At e (Deliver name)) = fits_none _ 0 (delivered_none setup w e (segment_named name w.history))
 step_fits setup w (At e (Inject bytes)) = fits_none _ 0 (come_none setup w e bytes)
-step_fits setup w (At e (Alter name place mask fix)) = fits_none _ 0 (altered_none setup w e place mask fix (segment_named name w.history))
+step_fits setup w (At e (Alter name place mask fixing)) = fits_none _ 0 (altered_none setup w e place mask fixing (segment_named name w.history))
 step_fits setup w (At e (Take count)) = took_fits w e (side w e).sessions count
 step_fits setup w (At e Close) = fits_none _ 0 (on_sessions w e (side w e).sessions (λ s. quietly (close s) book.Done) (λ s. refl))
 step_fits setup w (At e Abort) = fits_none _ 0 (on_sessions w e (side w e).sessions (λ s. quietly (abort s) book.Done) (λ s. refl))
-step_fits setup w (At e (AddRow row)) = fits_none _ 0 (added_none w e (adding (side w e).rows (added_row row)))
+step_fits setup w (At e (AddRow row)) = fits_none _ 0 (added_none w e (adding (side w e).rows (row_of_new row)))
 step_fits setup w (At e (Withdraw number)) = fits_none _ 0 (withdrawn_none w e (withdrawn (side w e).rows number))
 step_fits setup w (Dump name) = image_fits (segment_named name w.history)
 

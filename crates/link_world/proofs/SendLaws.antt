@@ -1,10 +1,11 @@
 -- Segments that an end makes.
-use Rattle.std.proofs.Common.{◌≡◌, ◌+◌, ◌-◌, ◌≤◌, ℕ, suc, Bool, List, [], ◌∷◌, ◌++◌, length, take, get_or, Option, Some, None, refl, sym, ap, ◌∙◌, subst, arith}
+use Rattle.std.proofs.Common.{◌≡◌, ◌+◌, ◌-◌, ◌≤◌, ℕ, suc, List, [], ◌∷◌, ◌++◌, length, take, get_or, Option, Some, None, refl, sym, ap, ◌∙◌, subst, arith}
 use Rattle.std.proofs.lemmas.List.{take-append-le, take-take}
 use Rattle.book_base.specs.declared.end.End.{End}
 use Rattle.ao_check.proofs.KeyLaws.{same_row}
 use Rattle.book_keys.specs.Rows.{Row}
 use Rattle.book_link.specs.declared.event.Event.TheVariants.{At}
+use Rattle.book_link.specs.declared.event.Transmission.{Transmission}
 use Rattle.book_link.specs.Outcomes as book
 use Rattle.book_link.specs.Steps.{Stepped, step}
 use Rattle.book_link.specs.Worlds.{Setup, World, Made, Happening, Making, pair_of, segments, side as side_of}
@@ -26,18 +27,18 @@ use Rattle.link_world.specs.Links.{AreOfEnd, StandsAt}
 use Rattle.link_world.proofs.WholeLaws.{HasRow, sent_made, sent_row}
 
 -- what holds of an end that sends
-abbrev pub Sends : Bool → Side → Side → List ℕ → List ℕ → Option Emission → Type 0
-Sends again before after bytes out told =
+abbrev pub Sends : Transmission → Side → Side → List ℕ → List ℕ → Option Emission → Type 0
+Sends which before after bytes out told =
     (setup : Setup) (w : World) (e : End) → pair_of setup e ≡ before.pair → StandsSide before (side_of w e)
-    → HasSent w (step setup w (At e (sending again))) again e after bytes out told
+    → HasSent w (step setup w (At e (sending which))) which e after bytes out told
 
 -- nothing was made
-pub sent_none : (again : Bool) (e : End) (before after : Side) (old new : Log) (bytes out : List ℕ) (told : Option Emission) (x : book.Outcome) (o : Outcome)
+pub sent_none : (which : Transmission) (e : End) (before after : Side) (old new : Log) (bytes out : List ℕ) (told : Option Emission) (x : book.Outcome) (o : Outcome)
     → after.pair ≡ before.pair → made_count new ≡ made_count old → forgery_count new ≡ forgery_count old
-    → ((history : List Happening) → StandsLog old history → StandsLog new history) → Sends again before after bytes out told
-    → ((setup : Setup) (w : World) → HasSent w (step setup w (At e (sending again))) again e after bytes out told → IsQuiet w (step setup w (At e (sending again))) bytes out x)
-    → Shows o x → HasStepped e before after old new (by_event (At e (sending again))) o
-sent_none again e before after old new bytes out told x o pair made forged logs sends quiet shows =
+    → ((history : List Happening) → StandsLog old history → StandsLog new history) → Sends which before after bytes out told
+    → ((setup : Setup) (w : World) → HasSent w (step setup w (At e (sending which))) which e after bytes out told → IsQuiet w (step setup w (At e (sending which))) bytes out x)
+    → Shows o x → HasStepped e before after old new (by_event (At e (sending which))) o
+sent_none which e before after old new bytes out told x o pair made forged logs sends quiet shows =
     record {
       pair = pair;
       made = omega (arith, made);
@@ -54,16 +55,16 @@ sent_none again e before after old new bytes out told x o pair made forged logs 
     }
 
 -- the row of what was made is one of the table
-pub row_made : (again : Bool) (e : End) (before after : Side) (log : Log) (bytes out : List ℕ) (told : Told) → AreOfEnd e before log
-    → Sends again before after bytes out (Some (emissions.Segment told)) → (row : Row) × HasRow after.table.rows told.sending.row row
-row_made again e before after log bytes out told known sends =
+pub row_made : (which : Transmission) (e : End) (before after : Side) (log : Log) (bytes out : List ℕ) (told : Told) → AreOfEnd e before log
+    → Sends which before after bytes out (Some (emissions.Segment told)) → (row : Row) × HasRow after.table.rows told.sending.row row
+row_made which e before after log bytes out told known sends =
     let s = sends known.setup known.world e known.stands.pair_is known.stands.side_is in
     (s.tells.0.emission.sending.row, sent_row after.table.rows refl s.tells.3)
 
 -- what is told of a segment that was kept under this name
-tells_made : {w : World} {again : Bool} {e : End} {d : Side} {before after : List ℕ} {told : Told} {made : Made} (name : ℕ)
-    → IsSent w again e d before after told made → name ≡ suc (segments w.history) → TellsMade name told made
-tells_made {w} {again} {e} {d} {before} {after} {told} {made} name h is =
+tells_made : {w : World} {which : Transmission} {e : End} {d : Side} {before after : List ℕ} {told : Told} {made : Made} (name : ℕ)
+    → IsSent w which e d before after told made → name ≡ suc (segments w.history) → TellsMade name told made
+tells_made {w} {which} {e} {d} {before} {after} {told} {made} name h is =
     record {
       name_is = h.name ∙ sym is;
       long = h.told.written.long ∙ ap length (sym h.bytes);
@@ -76,13 +77,13 @@ tells_made {w} {again} {e} {d} {before} {after} {told} {made} name h is =
     }
 
 -- a segment was made and kept
-pub sent_some : (again : Bool) (e : End) (before after : Side) (old kept new : Log) (bytes out : List ℕ) (told : Told) (name : ℕ) → after.pair ≡ before.pair
+pub sent_some : (which : Transmission) (e : End) (before after : Side) (old kept new : Log) (bytes out : List ℕ) (told : Told) (name : ℕ) → after.pair ≡ before.pair
     → made_count kept ≡ made_count old → made_count new ≡ made_count kept + 1 → forgery_count new ≡ forgery_count old
-    → ((history : List Happening) → StandsLog old history → StandsLog kept history) → Sends again before after bytes out (Some (emissions.Segment told))
-    → ((w : World) (made : Made) → IsSent w again e after bytes out told made → (history : List Happening) → StandsLog kept history
+    → ((history : List Happening) → StandsLog old history → StandsLog kept history) → Sends which before after bytes out (Some (emissions.Segment told))
+    → ((w : World) (made : Made) → IsSent w which e after bytes out told made → (history : List Happening) → StandsLog kept history
     → made.name ≡ suc (segments history) → StandsLog new (Making made ∷ history))
-    → name ≡ made_count kept + 1 → HasStepped e before after old new (by_event (At e (sending again))) (outcome.Sent name told)
-sent_some again e before after old kept new bytes out told name pair reserved made forged logs sends push is =
+    → name ≡ made_count kept + 1 → HasStepped e before after old new (by_event (At e (sending which))) (outcome.Sent name told)
+sent_some which e before after old kept new bytes out told name pair reserved made forged logs sends push is =
     record {
       pair = pair;
       made = omega (arith, reserved, made);
@@ -107,9 +108,9 @@ pub front_bytes : (n l : ℕ) (xs ys : List ℕ) → n ≤ l → n ≤ length xs
 front_bytes n l xs ys most within = take-take n l (xs ++ ys) most ∙ take-append-le n xs ys within
 
 -- the row that is lent is the one under which it was made
-pub row_lent : {w : World} {again : Bool} {e : End} {d : Side} {before after : List ℕ} {told : Told} {made : Made} (row : Row)
-    → IsSent w again e d before after told made → ((x : Row) → row ≡ get_or d.table.rows (told.sending.row - 1) x) → row ≡ made.emission.sending.row
-row_lent {w} {again} {e} {d} {before} {after} {told} {made} row h at =
+pub row_lent : {w : World} {which : Transmission} {e : End} {d : Side} {before after : List ℕ} {told : Told} {made : Made} (row : Row)
+    → IsSent w which e d before after told made → ((x : Row) → row ≡ get_or d.table.rows (told.sending.row - 1) x) → row ≡ made.emission.sending.row
+row_lent {w} {which} {e} {d} {before} {after} {told} {made} row h at =
     let there : HasRow d.table.rows told.sending.row made.emission.sending.row = sent_row d.table.rows refl h in
     same_row d.table.rows told.sending.row made.emission.sending.row row
     (record { low = there.low; high = there.high; here = there.here }) at

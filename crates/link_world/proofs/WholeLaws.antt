@@ -29,6 +29,8 @@ use Rattle.endpoint_steps.specs.Drafting.{keyed, emitted, to_emit, to_resend}
 use Rattle.endpoint_steps.proofs.Drafting.{emit_by_drafts, resend_by_drafts}
 use Rattle.segment_writer.specs.Drafts.{IsWritten}
 use Rattle.tcp_endpoint.specs.declared.emission.Made.{Made as Told}
+use Rattle.book_link.specs.declared.event.Transmission.{Transmission}
+use Rattle.book_link.specs.declared.event.Transmission.TheVariants.{New, Again}
 use Rattle.book_link.specs.Worlds.{Made, World}
 use Rattle.law_link.proofs.Tests.{choose}
 use Rattle.book_base.proofs.TestLaws.{by_bool}
@@ -74,9 +76,9 @@ module _ (rows : List Row) (pair : Pair) (now : ℕ) (s : EndState) (x : Emissio
   emitted_sealed draft (Some sending) picked e = keyed_sealed sending (draft (most_bytes pair s sending)) picked e
 
   -- what an end makes, or makes again
-  pub made_sealed : (again : Bool) → made_by again rows pair now s ≡ Emits x → IsSealed rows pair now s x
-  made_sealed true e = emitted_sealed (to_resend s) (choose_row s.current rows pair now) refl (sym (resend_by_drafts rows pair now s) ∙ e)
-  made_sealed false e = emitted_sealed (to_emit s) (choose_row s.current rows pair now) refl (sym (emit_by_drafts rows pair now s) ∙ e)
+  pub made_sealed : (which : Transmission) → made_by which rows pair now s ≡ Emits x → IsSealed rows pair now s x
+  made_sealed New e = emitted_sealed (to_emit s) (choose_row s.current rows pair now) refl (sym (emit_by_drafts rows pair now s) ∙ e)
+  made_sealed Again e = emitted_sealed (to_resend s) (choose_row s.current rows pair now) refl (sym (resend_by_drafts rows pair now s) ∙ e)
 
 -- ---- its row
 
@@ -181,30 +183,30 @@ whole_sealed pair s out sending context m count before after e bytes w few =
     }
 
 -- a segment that was made is whole
-pub made_whole : (again : Bool) (rows : List Row) (pair : Pair) (now : ℕ) (s : EndState) (m : Made) (count : ℕ) (before after : List ℕ)
-    → made_by again rows pair now s ≡ Emits m.emission → m.bytes ≡ spell m.emission.segment → IsWritten m.emission.segment count before after → count ≤ 1500
+pub made_whole : (which : Transmission) (rows : List Row) (pair : Pair) (now : ℕ) (s : EndState) (m : Made) (count : ℕ) (before after : List ℕ)
+    → made_by which rows pair now s ≡ Emits m.emission → m.bytes ≡ spell m.emission.segment → IsWritten m.emission.segment count before after → count ≤ 1500
     → IsWhole m
-made_whole again rows pair now s m count before after is bytes w few =
-    let h = made_sealed rows pair now s m.emission again is in
+made_whole which rows pair now s m count before after is bytes w few =
+    let h = made_sealed rows pair now s m.emission which is in
     whole_sealed pair s h.out h.sending h.context m count before after h.is bytes w few
 
 -- ---- what is told of a segment that was sent
 
 -- the row that is told is one of the table
-pub sent_row : {w : World} {again : Bool} {e : End} {d : Side} {before after : List ℕ} {told : Told} {made : Made} (rows : List Row) → rows ≡ d.table.rows
-    → IsSent w again e d before after told made → HasRow rows told.sending.row made.emission.sending.row
-sent_row {w} {again} {e} {d} {before} {after} {told} {made} rows same h =
+pub sent_row : {w : World} {which : Transmission} {e : End} {d : Side} {before after : List ℕ} {told : Told} {made : Made} (rows : List Row) → rows ≡ d.table.rows
+    → IsSent w which e d before after told made → HasRow rows told.sending.row made.emission.sending.row
+sent_row {w} {which} {e} {d} {before} {after} {told} {made} rows same h =
     let number : made.emission.sending.number ≡ told.sending.row = ap (λ y. y.row) (sym h.told.sending) in
-    let there = chosen_row d.table.rows d.pair d.clock h.state made.emission (made_sealed d.table.rows d.pair d.clock h.state made.emission again h.is) in
+    let there = chosen_row d.table.rows d.pair d.clock h.state made.emission (made_sealed d.table.rows d.pair d.clock h.state made.emission which h.is) in
     subst (λ (n : ℕ). HasRow rows n made.emission.sending.row) number
     (subst (λ (l : List Row). HasRow l made.emission.sending.number made.emission.sending.row) (sym same) there)
 
 -- it is as the log is told of it
-pub sent_made : {w : World} {again : Bool} {e : End} {d : Side} {before after : List ℕ} {told : Told} {made : Made}
-    (maker : End) (number : ℕ) (row : Row) (context : Context) (bytes : List ℕ) → IsSent w again e d before after told made → told.length ≤ 1500
+pub sent_made : {w : World} {which : Transmission} {e : End} {d : Side} {before after : List ℕ} {told : Told} {made : Made}
+    (maker : End) (number : ℕ) (row : Row) (context : Context) (bytes : List ℕ) → IsSent w which e d before after told made → told.length ≤ 1500
     → maker ≡ e → number ≡ told.number → row ≡ made.emission.sending.row → context ≡ told.context → bytes ≡ take told.length after
     → IsMade maker number row context bytes made
-sent_made {w} {again} {e} {d} {before} {after} {told} {made} maker number row context bytes h few is_maker is_number is_row is_context is_bytes =
+sent_made {w} {which} {e} {d} {before} {after} {told} {made} maker number row context bytes h few is_maker is_number is_row is_context is_bytes =
     let written = h.told.written in
     record {
       maker_is = h.maker ∙ sym is_maker;
@@ -212,5 +214,5 @@ sent_made {w} {again} {e} {d} {before} {after} {told} {made} maker number row co
       row_is = sym is_row;
       context_is = sym h.told.context ∙ ap bytes_of (sym is_context);
       bytes_are = h.bytes ∙ sym (written_front made.emission.segment told.length before after written) ∙ sym is_bytes;
-      whole = made_whole again d.table.rows d.pair d.clock h.state made told.length before after h.is h.bytes written few;
+      whole = made_whole which d.table.rows d.pair d.clock h.state made told.length before after h.is h.bytes written few;
     }

@@ -1,22 +1,15 @@
 -- A datagram that came to an end.
-use Rattle.std.specs.Prelude.{◌≡◌, ◌-◌, List, ◌∷◌, Option, Some, None, slice_get}
+use Rattle.std.specs.Prelude.{◌≡◌, List, ◌∷◌, Option, Some, None}
 use Rattle.book_base.specs.declared.end.End.{End}
 use Rattle.book_segments.specs.Segments.{bit_of}
-use Rattle.book_keys.specs.Rows.{Row}
-use Rattle.book_endpoint.specs.declared.verdict.Passed.{Passed}
 use Rattle.book_link.specs.Steps.{Stepped}
 use Rattle.book_link.specs.Worlds.{World, Came, Happening, Coming, forged, other, side as side_of}
-use Rattle.link_log.specs.declared.entry.Entrance.{Entrance}
 use Rattle.link_report.specs.declared.outcome.Outcome.{Outcome}
 use Rattle.link_report.specs.declared.outcome.Outcome.TheVariants as outcome
 use Rattle.link_report.specs.Outcomes.{Shows}
 use Rattle.link_side.specs.declared.side.Side.{Side}
 use Rattle.link_side.specs.Sides.{StandsSide}
 use Rattle.link_world.specs.declared.arrivals.Answered.{Answered}
-
--- what a log is told of what passed: the row of that number, the number in the stream and the context
-abbrev pub EntersAs : List Row → Passed → Entrance → Type 0
-EntersAs rows p e = (slice_get rows (p.row - 1) ≡ Some e.row.now) × (e.number ≡ p.number) × (e.context ≡ p.context)
 
 -- the outcome where bytes came, or there was no session
 abbrev pub outcome_come : Option Answered → Outcome

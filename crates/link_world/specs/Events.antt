@@ -1,16 +1,16 @@
 -- What an event asks of the numbers in it, and of the room for its outcome.
 use Rattle.std.specs.Prelude.{ℕ, ◌≤◌, List, [], length, Option, Some, None, ⊤}
 use Rattle.book_keys.specs.Lifetimes.{greatest_time}
+use Rattle.book_keys.specs.Tables.{IsNewRow}
 use Rattle.book_link.specs.declared.event.Event.{Event}
 use Rattle.book_link.specs.declared.event.Event.TheVariants.{At, Dump}
 use Rattle.book_link.specs.declared.event.Action.TheVariants.{Clock, Take, AddRow}
 use Rattle.book_link.specs.Worlds.{Happening, Made, segment_named}
-use Rattle.link_side.specs.Steps.{IsRowLine}
 
--- a clock reads at most the greatest time, and a row that is added is one of a link file
+-- a clock reads at most the greatest time, and a row is one that may be added
 abbrev pub CanHappen : Event → Type 0
 CanHappen (At e (Clock seconds)) = seconds ≤ greatest_time
-CanHappen (At e (AddRow row)) = IsRowLine row
+CanHappen (At e (AddRow row)) = IsNewRow row
 CanHappen _ = ⊤
 
 -- the bytes of a segment, none where there is none (own)

@@ -4,36 +4,40 @@ ghost use Rattle.std.specs.Option.{ForSome};
 ghost use Rattle.book_link.specs.declared.event.Event.TheVariants.{At};
 ghost use Rattle.book_link.specs.declared.event.Action.TheVariants.{Alter, Deliver};
 ghost use Rattle.book_base.specs.declared.address.Pair.{Pair};
+ghost use Rattle.book_segments.specs.Options.{One, find_ao};
 ghost use Rattle.book_segments.specs.Segments.{Bad, Read, bit_of, reading};
 ghost use Rattle.book_endpoint.specs.Verdicts.{Finding};
-ghost use Rattle.tcp_endpoint.specs.Arrivals.{TellsPassed};
+ghost use Rattle.tcp_options.specs.Views.{view_ao};
+ghost use Rattle.tcp_endpoint.specs.Arrivals.{TellsPassed, found_of};
 ghost use Rattle.book_link.specs.Worlds.{Happening, Setup, World, forged, pair_of, side as side_of};
 ghost use Rattle.link_side.specs.Sides.{StandsSide};
 ghost use Rattle.link_log.specs.Logs.{StandsLog, forgery_count, made_count};
 ghost use Rattle.link_world.specs.Changes.{Acts, by_bytes, by_event};
 ghost use Rattle.link_world.specs.Links.{AreOfEnd, StandsAt};
-ghost use Rattle.link_world.specs.Arrivals.{Counts, EntersAs, HasReceived, outcome_come};
+ghost use Rattle.link_world.specs.Arrivals.{Counts, HasReceived, outcome_come};
 
 use crate::copies::altered;
 use ao_base::Steps;
 use book_base::End;
-use book_endpoint::{Arrival, Passed};
+use book_endpoint::Arrival;
+use book_link::Fixing;
 use key_table::Table;
-use link_log::{Entrance, Log};
+use link_log::Log;
 use link_report::Outcome;
 use link_side::Side;
 use std::alloc::{AllocError, Global};
 use std::marker::Brand;
 use std::sync::ledger::{Blank, Ledger};
+use tcp_endpoint::Passing;
 use tcp_segment::{Datagram, DatagramFault, read_datagram};
 
 /// What is altered in a copy of a segment: the byte at this place, counted from the TCP header, is
-/// xored with this mask; with `fix` the TCP checksum is then set right.
+/// xored with this mask; its TCP checksum is then kept or set right.
 #[derive(Clone, Copy)]
 pub(crate) struct Change {
     pub(crate) place: u16,
     pub(crate) mask: u8,
-    pub(crate) fix: bool,
+    pub(crate) fixing: Fixing,
 }
 
 /// The answer to a datagram that came, and whether it is a forgery.
@@ -43,19 +47,6 @@ pub(crate) struct Answered {
     pub(crate) forged: bool,
 }
 
-/// What passed, with the row that it passed under.
-fn entrance(table: &Table, passed: Passed) -> Entrance<'_>
-    requires low { 1 ≤ passed.row }
-    requires high { passed.row ≤ length table.now.rows }
-    ensures { EntersAs table.now.rows passed result }
-{
-    Entrance {
-        row: table.row(passed.row),
-        number: passed.number,
-        context: passed.context,
-    }
-}
-
 /// Whether a datagram that came is a forgery: the log is asked of one that passed.
 fn is_forged(
     table: &Table,
@@ -63,16 +54,20 @@ fn is_forged(
     at: End,
     name: Option<u32>,
     datagram: &Datagram<'_>,
-    passed: Option<Passed>,
+    passed: Option<Passing<'_>>,
 ) -> bool
-    requires low { ForSome passed (λ p. 1 ≤ p.row) }
-    requires high { ForSome passed (λ p. p.row ≤ length table.now.rows) }
+    requires low { ForSome passed (λ p. 1 ≤ p.passed.row) }
+    requires high { ForSome passed (λ p. p.passed.row ≤ length table.now.rows) }
+    requires option { ForSome passed (λ p. find_ao datagram.now.area ≡ One (view_ao p.option)) }
     ensures { (pair : Pair) (history : List Happening) (found : Option Finding) → StandsLog log.now history
-        → TellsPassed table.now.rows pair (Read datagram.now) passed found → forged at found history ≡ bit_of result }
+        → TellsPassed table.now.rows pair (Read datagram.now) (found_of passed.entry) found → forged at found history ≡ bit_of result }
 {
     match passed {
         None => false,
-        Some(passed) => log.is_forged(at, name, datagram, &entrance(table, passed)),
+        Some(passing) => {
+            let row = table.row(passing.passed.row);
+            log.is_forged(at, name, datagram, row, &passing)
+        }
     }
 }
 
@@ -185,13 +180,13 @@ pub(crate) fn alter(
 ) -> Result<Outcome, AllocError>
     requires at { ∥ AreOfEnd at side.old log.old ∥₁ }
     requires forged { forgery_count log.old < 4294967295 }
-    ensures { Acts at side.old side.new log.old log.new (by_event (At at (Alter name change.place change.mask change.fix))) result }
+    ensures { Acts at side.old side.new log.old log.new (by_event (At at (Alter name change.place change.mask change.fixing))) result }
 {
     match log.segment(name) {
         None => Ok(Outcome::NoSegment),
         Some(entry) => {
             let bytes = entry.bytes.as_slice();
-            let copy = altered(alloc, bytes, change.place, change.mask, change.fix)?;
+            let copy = altered(alloc, bytes, change.place, change.mask, change.fixing)?;
             match copy {
                 None => Ok(Outcome::NoPlace),
                 Some(copy) => Ok(inject(side, log, at, Some(name), copy.as_slice())),

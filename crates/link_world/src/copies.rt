@@ -4,6 +4,7 @@ ghost use Rattle.book_link.specs.Alterations.{has_place, masked as masked_at, al
 ghost use Rattle.book_segments.specs.Spelling.{ip_length};
 ghost use Rattle.tcp_segment.specs.Sums.{HasPlainHeader};
 
+use book_link::Fixing;
 use std::alloc::{AllocError, Global};
 use tcp_segment::fix_checksum;
 
@@ -27,27 +28,28 @@ fn masked(alloc: Global, bytes: &[u8], at: usize, mask: u8) -> Result<Vec<u8>, A
     Ok(copy)
 }
 
-/// A copy whose byte at `place`, counted from the TCP header, is xored with `mask`; with `fix` the
-/// TCP checksum is then set right. None where the place is past the bytes. The IP header has no options.
+/// A copy whose byte at `place`, counted from the TCP header, is xored with `mask`; its TCP checksum
+/// is then kept or set right. None where the place is past the bytes. The IP header has no options.
 pub(crate) fn altered(
     alloc: Global,
     bytes: &[u8],
     place: u16,
     mask: u8,
-    fix: bool,
+    fixing: Fixing,
 ) -> Result<Option<Vec<u8>>, AllocError>
     requires { HasPlainHeader bytes.now }
     ensures some { IfOk result (λ c. is_some c ≡ has_place bytes.now place) }
     ensures copy { IfOk result (λ c. IfSome c (λ v.
-        v.items ≡ altered_so bytes.now (record { place = place; mask = mask; fix = fix }))) }
+        v.items ≡ altered_so bytes.now (record { place = place; mask = mask; fixing = fixing }))) }
 {
     let at = header_length(bytes) + usize::from(place);
     if at >= bytes.len() {
         return Ok(None);
     }
     let mut copy = masked(alloc, bytes, at, mask)?;
-    if fix {
-        fix_checksum(copy.as_mut_slice());
+    match fixing {
+        Fixing::Keep => {}
+        Fixing::Fix => fix_checksum(copy.as_mut_slice()),
     }
     Ok(Some(copy))
 }

@@ -12,7 +12,7 @@ use crate::arrivals::{Change, alter, deliver, inject};
 use crate::send::send;
 use crate::texts::dump;
 use book_base::End;
-use book_link::{Action, Event};
+use book_link::{Action, Event, Transmission};
 use link_log::Log;
 use link_report::Outcome;
 use link_side::Side;
@@ -39,15 +39,15 @@ fn act(
         Action::Start(isn, peer_isn) => Ok(told(side.start(alloc, *isn, *peer_isn)?)),
         Action::Give(piece) => Ok(told(side.give(piece))),
         Action::Fill(count, byte) => Ok(told(side.fill(alloc, *count, *byte)?)),
-        Action::Send => send(side, log, alloc, end, false),
-        Action::Resend => send(side, log, alloc, end, true),
+        Action::Send => send(side, log, alloc, end, Transmission::New),
+        Action::Resend => send(side, log, alloc, end, Transmission::Again),
         Action::Deliver(name) => Ok(deliver(side, log, end, *name)),
         Action::Inject(bytes) => Ok(inject(side, log, end, None, bytes.as_slice())),
-        Action::Alter(name, place, mask, fix) => {
+        Action::Alter(name, place, mask, fixing) => {
             let change = Change {
                 place: *place,
                 mask: *mask,
-                fix: *fix,
+                fixing: *fixing,
             };
             alter(side, log, alloc, end, *name, change)
         }

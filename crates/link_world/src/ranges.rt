@@ -5,13 +5,13 @@ ghost use Rattle.std.specs.List.{AllByRecursion};
 ghost use Rattle.book_segments.specs.Sockets.{are_two_of_a_family};
 ghost use Rattle.book_segments.specs.Spelling.{AreBytes};
 ghost use Rattle.law_link.specs.Laws.{EventFits, RowFits};
-ghost use Rattle.book_link.specs.RowLines.{added_row};
+ghost use Rattle.book_keys.specs.Tables.{row_of_new};
 ghost use Rattle.link_world.specs.Events.{CanHappen};
 ghost use Rattle.link_world.specs.Ranges.{IsPlace, SocketsFit};
 
 use book_base::{Address, Socket};
-use book_link::{Action, Event, RowLine};
-use key_table::Table;
+use book_link::{Action, Event};
+use key_table::{NewRow, Table};
 
 fn see_byte(byte: u8)
     ensures { byte < 256 }
@@ -56,8 +56,8 @@ pub(crate) fn see_rows(table: &Table)
 }
 
 /// Ids of a row are below 256, and its key is of bytes.
-fn see_row(row: &RowLine)
-    ensures { RowFits (added_row row.now) }
+fn see_row(row: &NewRow)
+    ensures { RowFits (row_of_new row.now) }
 {
     see_byte(row.recv_id);
     see_byte(row.send_id);

@@ -13,6 +13,7 @@ ghost use Rattle.link_world.specs.Links.{AreOfEnd};
 
 use ao_base::Steps;
 use book_base::{Bytes, End};
+use book_link::Transmission;
 use link_log::Log;
 use link_report::Outcome;
 use link_side::Side;
@@ -25,13 +26,12 @@ use tcp_endpoint::Emission;
 const MOST_SEGMENT: usize = 1_500;
 
 /// The outcome where nothing is to be sent, or to be sent again.
-fn quiet(again: bool) -> Outcome
-    ensures { Shows result (quiet again) }
+fn quiet(transmission: Transmission) -> Outcome
+    ensures { Shows result (quiet transmission) }
 {
-    if again {
-        Outcome::Nothing
-    } else {
-        Outcome::Idle
+    match transmission {
+        Transmission::New => Outcome::Idle,
+        Transmission::Again => Outcome::Nothing,
     }
 }
 
@@ -39,7 +39,7 @@ fn quiet(again: bool) -> Outcome
 fn send_counted<L: Ledger>(
     blank: Blank,
     side: &mut Side,
-    again: bool,
+    transmission: Transmission,
     out: &mut [u8],
 ) -> Option<Emission>
     requires name { blank.name ≡ L.name }
@@ -48,33 +48,33 @@ fn send_counted<L: Ledger>(
     requires room { 1500 ≤ length out.old }
     ensures pair { side.new.pair ≡ side.old.pair }
     ensures sent { (setup : Setup) (w : World) (e : End) → pair_of setup e ≡ side.old.pair → StandsSide side.old (side_of w e)
-        → HasSent w (step setup w (At e (sending again))) again e side.new out.old out.new result }
+        → HasSent w (step setup w (At e (sending transmission))) transmission e side.new out.old out.new result }
     ensures short { length_sent result ≤ 1500 }
 {
     let mut steps = Steps::<L>::new(blank);
-    side.send(again, out, &mut steps)
+    side.send(transmission, out, &mut steps)
 }
 
-/// The live session of the end makes its next segment, or, if `again`, makes one again; it is kept.
-/// All memory is taken before.
+/// The live session of the end makes its next segment, or makes one again; it is kept. All memory is
+/// taken before.
 pub(crate) fn send(
     side: &mut Side,
     log: &mut Log,
     alloc: Global,
     at: End,
-    again: bool,
+    transmission: Transmission,
 ) -> Result<Outcome, AllocError>
     requires at { ∥ AreOfEnd at side.old log.old ∥₁ }
     requires made { made_count log.old < 4294967295 }
-    ensures { Acts at side.old side.new log.old log.new (by_event (At at (sending again))) result }
+    ensures { Acts at side.old side.new log.old log.new (by_event (At at (sending transmission))) result }
 {
     log.reserve(alloc)?;
     let mut bytes = Vec::new(alloc);
     bytes.resize(MOST_SEGMENT, 0)?;
-    match send_counted::<Brand>(Blank::new(1), side, again, bytes.as_mut_slice()) {
+    match send_counted::<Brand>(Blank::new(1), side, transmission, bytes.as_mut_slice()) {
         None => Ok(Outcome::NoSession),
         Some(emission) => match emission {
-            Emission::Idle => Ok(quiet(again)),
+            Emission::Idle => Ok(quiet(transmission)),
             Emission::NoKey => Ok(Outcome::NoKey),
             Emission::Segment(made) => {
                 bytes.truncate(made.length);

@@ -4,13 +4,15 @@ ghost use Rattle.std.specs.Prelude.{◌≡◌, ◌<◌, ◌≤◌, length, IfSom
 ghost use Rattle.book_base.specs.Algorithms.{mac_length_of};
 ghost use Rattle.book_macs.specs.Keys.{key_length};
 ghost use Rattle.tcp_segment.specs.Layout.{IsHead};
+ghost use Rattle.book_segments.specs.Options.{One, find_ao};
+ghost use Rattle.tcp_options.specs.Views.{view_ao};
 ghost use Rattle.ao_mac.specs.Macs.{HasAo};
 
 mod segments;
 
 use ao_base::Steps;
 use ao_kdf::{Context, TrafficKey, traffic_key};
-use ao_mac::{mac, same_input, seal};
+use ao_mac::{MacInput, mac, same_input, seal};
 use book_base::{Address, Algorithm, Socket};
 use segments::{ALONE, SYN_HMAC};
 use std::marker::Brand;
@@ -185,6 +187,22 @@ fn sealed_by_hmac_sha256_has_its_mac_when_read_again(rt: HostRuntime) {
     assert!(rt; is_sealed(Algorithm::HmacSha256, false, 89, &expected));
 }
 
+/// What the MAC of a segment with one TCP-AO option is computed over.
+fn input_of<'a>(datagram: &'a Datagram<'a>, with_options: bool) -> Option<MacInput<'a>>
+    ensures { IfSome result (λ input. find_ao input.datagram.now.area ≡ One (view_ao input.option)) }
+{
+    let options = datagram.options();
+    match options.find_ao() {
+        AoFound::One(option) => Some(MacInput {
+            sne: 1,
+            datagram,
+            option,
+            with_options,
+        }),
+        _ => None,
+    }
+}
+
 /// Whether the MACs of two segments are computed over the same bytes, with these flags.
 fn same(bytes: &[u8], with_options: bool, other: &[u8], other_with_options: bool) -> bool {
     let Ok(datagram) = read_datagram(bytes) else {
@@ -193,20 +211,13 @@ fn same(bytes: &[u8], with_options: bool, other: &[u8], other_with_options: bool
     let Ok(other_datagram) = read_datagram(other) else {
         return false;
     };
-    if mac_field(&datagram).is_none() {
+    let Some(one) = input_of(&datagram, with_options) else {
         return false;
-    }
-    if mac_field(&other_datagram).is_none() {
+    };
+    let Some(two) = input_of(&other_datagram, other_with_options) else {
         return false;
-    }
-    same_input(
-        1,
-        &datagram,
-        with_options,
-        1,
-        &other_datagram,
-        other_with_options,
-    )
+    };
+    same_input(&one, &two)
 }
 
 /// Whether a segment has the same input once a byte of it is altered.

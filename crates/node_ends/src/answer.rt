@@ -27,13 +27,13 @@ impl From<AllocError> for NodeRefusal {
 }
 
 /// What a node answers to an arrival.
-#[derive(Clone, Copy, Debug, PartialEq, Eq)]
-pub enum NodeArrival {
+#[derive(Clone, Copy, Debug)]
+pub enum NodeArrival<'a> {
     /// The bytes are no datagram.
     Bad(DatagramFault),
     /// No end is held whose local socket is the datagram's destination, and whose remote one its
     /// source.
     NoConnection,
     /// The end of this pair answered.
-    At(Pair, Arrived),
+    At(Pair, Arrived<'a>),
 }

@@ -174,13 +174,13 @@ impl Node {
     /// destination as its local socket and the source as its remote one; after these two nothing has
     /// changed. Else the end of this pair answers, and all others stay. The table fits each end. At
     /// most 66 steps are counted.
-    pub fn arrive<L: Ledger>(
+    pub fn arrive<'a, L: Ledger>(
         &mut self,
         table: &Table,
         now: u64,
-        bytes: &[u8],
+        bytes: &'a [u8],
         steps: &mut Steps<L>,
-    ) -> NodeArrival
+    ) -> NodeArrival<'a>
         requires fits { FitsAll table.now.rows self.old }
         requires now { now ≤ greatest_time }
         ensures comes { Comes table.now.rows now self.old self.new result (reading bytes.now) }
@@ -194,13 +194,13 @@ impl Node {
     }
 
     /// A datagram that was read arrives, so the answer is not `Bad`. All else is as for `arrive`.
-    pub fn hear_datagram<L: Ledger>(
+    pub fn hear_datagram<'a, L: Ledger>(
         &mut self,
         table: &Table,
         now: u64,
-        datagram: &Datagram<'_>,
+        datagram: &Datagram<'a>,
         steps: &mut Steps<L>,
-    ) -> NodeArrival
+    ) -> NodeArrival<'a>
         requires fits { FitsAll table.now.rows self.old }
         requires now { now ≤ greatest_time }
         ensures comes { Comes table.now.rows now self.old self.new result (Read datagram.now) }

@@ -11,6 +11,7 @@ use Rattle.book_cmd_node.specs.declared.node.NodeEvent.{NodeEvent}
 use Rattle.book_cmd_node.specs.declared.node.NodeEvent.TheVariants as event
 use Rattle.book_cmd_node.specs.declared.node.NodeScript.{NodeScript}
 use Rattle.book_cmd_link.specs.LinkEvents.{greatest_isn}
+use Rattle.book_pcap.specs.Packets.{longest_datagram}
 use Rattle.book_segments.specs.Sockets.{are_two_of_a_family}
 use Rattle.law_scripts.specs.Scripts.{AreBytes, IsAddress, IsSocket}
 
@@ -37,7 +38,7 @@ IsAct act.Remove = Unit {0}
 -- the same of an event, whose connection is one of the node with this address
 abbrev pub IsEvent : Address → NodeEvent → Type 0
 IsEvent own (event.Clock seconds) = seconds ≤ greatest_time
-IsEvent own (event.Inject bytes) = AreBytes 1 65575 bytes
+IsEvent own (event.Inject bytes) = AreBytes 1 longest_datagram bytes
 IsEvent own (event.On pair a) = IsPair own pair × IsAct a
 
 -- connections of the node, numbers and lengths in their ranges, and at most 20,000 lines

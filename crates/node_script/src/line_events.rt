@@ -12,11 +12,9 @@ use book_base::{Address, Pair, Socket};
 use book_cmd_node::{Act, NodeEvent};
 use book_keys::LATEST;
 use book_lines::LineKind;
+use book_pcap::LONGEST_DATAGRAM;
 use std::alloc::Global;
 use text_lines::{LineWords, Refusal};
-
-/// The longest datagram: the 40 bytes of an IPv6 header and 65,535 bytes (RFC 8200, section 3).
-const MOST_DATAGRAM: usize = 65_575;
 
 /// The sockets of a connection: the port at the node, and the other end's address and port.
 fn pair(own: &Address, words: &mut LineWords) -> Result<Pair, LineKind>
@@ -103,7 +101,7 @@ fn clock(words: &mut LineWords) -> Result<NodeEvent, LineKind>
 fn inject(alloc: Global, words: &mut LineWords) -> Result<NodeEvent, Refusal>
     ensures { Tells result (node_inject_of words.old) }
 {
-    let bytes = words.sized_hex(alloc, 1, MOST_DATAGRAM)?;
+    let bytes = words.sized_hex(alloc, 1, LONGEST_DATAGRAM)?;
     words.nothing()?;
     Ok(NodeEvent::Inject(bytes))
 }

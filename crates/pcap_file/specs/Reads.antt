@@ -6,7 +6,7 @@ use Rattle.ao_base.specs.Outside.{Side, Gave, Rose, IsAtEnd, told}
 use Rattle.book_pcap.specs.declared.pcap_head.Head.{Head}
 use Rattle.book_pcap.specs.declared.pcap_head.HeadFault.{HeadFault}
 use Rattle.book_base.specs.Fronts.{Front, Ends, Faulted, Leads}
-use Rattle.book_pcap.specs.Packets.{opened, Kept, RecordFault, Broken, record_at, datagram_of, Packet, Packets, with_packet, packets_in, packets_of}
+use Rattle.book_pcap.specs.Packets.{opened, Kept, RecordFault, Broken, record_at, datagram_of, most_capture, Packet, Packets, with_packet, packets_in, packets_of}
 use Rattle.book_pcap.specs.Packets.{BadHead as head_refused, BadRecord as record_refused}
 use Rattle.pcap_file.specs.declared.packets.PacketStep.{PacketStep}
 use Rattle.pcap_file.specs.declared.packets.PacketStep.TheVariants as step
@@ -45,7 +45,7 @@ pub record Shows (before now : Reading) (source_now : Side) (text : List ℕ) : 
   pub known : now.head ≡ Some head
   pub shown : now.packet ≡ Some (record { number = before.count + 1; seconds = packet.seconds; datagram = datagram_of head.link packet.bytes })
   pub count : now.count ≡ before.count + 1
-  pub within : now.taken - length now.kept ≤ 268435456
+  pub within : now.taken - length now.kept ≤ most_capture
   pub going : now.over ≡ false
 
 -- no packet is shown, and no call may follow; all is kept but a header that was read
@@ -63,9 +63,9 @@ Opening before now text P = (head : Head) × (body : List ℕ) × (opened_from b
 abbrev pub Answers : Reading → Reading → Side → Side → List ℕ → List ℕ → PacketStep → Type 0
 Answers before now source_before source_now given text step.Packet = Shows before now source_now text
 Answers before now source_before source_now given text step.End =
-    Stops before now given × Opening before now text (λ head body. body ≡ []) × IsAtEnd source_now × (now.kept ≡ []) × (now.taken ≤ 268435456)
+    Stops before now given × Opening before now text (λ head body. body ≡ []) × IsAtEnd source_now × (now.kept ≡ []) × (now.taken ≤ most_capture)
 Answers before now source_before source_now given text step.Fault = Stops before now given × Rose source_before source_now
-Answers before now source_before source_now given text step.TooLong = Stops before now given × (268435456 < now.taken) × Opening before now text (λ head body. Unit {0})
+Answers before now source_before source_now given text step.TooLong = Stops before now given × (most_capture < now.taken) × Opening before now text (λ head body. Unit {0})
 Answers before now source_before source_now given text (step.BadHead fault) =
     Stops before now given × (before.head ≡ None) × (now.head ≡ None) × (opened_from before.head text ≡ Err fault) × (opened_from before.head (before.kept ++ given) ≡ Err fault)
 Answers before now source_before source_now given text (step.BadRecord n) =
@@ -82,7 +82,7 @@ is_whole (Leads packet rest) = true
 abbrev pub ends_within : ℕ → Front Kept RecordFault → Bool
 ends_within taken Ends = false
 ends_within taken (Faulted Broken) = false
-ends_within taken (Leads packet rest) = nat_le (taken - length rest) 268435456
+ends_within taken (Leads packet rest) = nat_le (taken - length rest) most_capture
 
 -- the next packet needs no source: the header was read, and the next record is kept whole and ends
 -- within the most bytes of a file
@@ -168,7 +168,7 @@ IsPacketOrEnd _ = ⊥
 -- with these bytes left the limit isn't passed, nothing is faulty and the count doesn't rise
 pub record IsQuiet (reading : Reading) (source_before source_now : Side) (left : List ℕ) : Type 0 where
   pub told : source_before.bytes ≡ Some left
-  pub most : reading.taken + length left ≤ 268435456
+  pub most : reading.taken + length left ≤ most_capture
   pub sound : IsPacketOrEnd (wanted_step reading left)
   pub quiet : ¬ Rose source_before source_now
 

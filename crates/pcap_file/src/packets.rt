@@ -9,7 +9,7 @@ use crate::records::{
     Found, MOST_KEPT, Opened, RECORD, find_datagram, find_record, kept_record, open,
 };
 use ao_base::{Buffer, Source};
-use book_pcap::{Head, HeadFault};
+use book_pcap::{Head, HeadFault, MOST_CAPTURE};
 use std::alloc::{AllocError, Global};
 use std::marker::Model;
 
@@ -30,9 +30,6 @@ pub enum PacketStep {
     BadRecord(u32),
 }
 
-/// The most bytes that a file may have.
-const MOST: u64 = 268_435_456;
-
 /// How many bytes are kept besides the longest record.
 const SPARE: usize = 65_536;
 
@@ -51,13 +48,14 @@ pub struct Packets {
 
 impl Model for Packets {
     ghost use Rattle.std.specs.Prelude.{◌≡◌, ◌+◌, ◌*◌, ◌≤◌, cond, Some, None, length};
+    ghost use Rattle.book_pcap.specs.Packets.{most_capture};
     ghost use Rattle.pcap_file.specs.Reads.{Reading, header_length};
 
     ghost Value = { Reading };
 
     ghost view = { λ r. record { kept = r.buffer.kept; taken = r.handed + length r.buffer.kept; count = r.count; head = r.head; over = r.over; packet = cond r.shown (Some (record { number = r.count; seconds = r.seconds; datagram = r.buffer.piece })) None } };
 
-    ghost invariant = { λ r. (r.handed + header_length r.head ≤ 268435456) × (16 * r.count ≤ r.handed) × (r.buffer.size ≡ 327696) };
+    ghost invariant = { λ r. (r.handed + header_length r.head ≤ most_capture) × (16 * r.count ≤ r.handed) × (r.buffer.size ≡ 327696) };
 }
 
 impl Packets {
@@ -127,7 +125,7 @@ impl Packets {
             None => return false,
         };
         let past = RECORD + len;
-        if past as u64 > MOST - self.handed {
+        if past as u64 > MOST_CAPTURE - self.handed {
             return false;
         }
         let number = self.count + 1;
@@ -158,7 +156,7 @@ impl Packets {
         match find_record(&mut self.buffer, src, head.order) {
             Found::Whole(seconds, len) => {
                 let past = RECORD + len;
-                if past as u64 > MOST - self.handed {
+                if past as u64 > MOST_CAPTURE - self.handed {
                     return self.stop(PacketStep::TooLong);
                 }
                 let cut = find_datagram(head.link, &self.buffer.kept()[RECORD..past]);

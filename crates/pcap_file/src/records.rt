@@ -9,7 +9,7 @@ ghost use Rattle.pcap_file.specs.Reads.{is_whole};
 use crate::head::{HEAD, read_head};
 use crate::numbers::four;
 use ao_base::{Buffer, Cut, Filled, Source, fill};
-use book_pcap::{ByteOrder, Head, HeadFault, LinkType};
+use book_pcap::{ByteOrder, Head, HeadFault, LONGEST_DATAGRAM, LinkType};
 
 /// How many bytes of a record stand before its kept bytes (pcap-savefile).
 pub(crate) const RECORD: usize = 16;
@@ -19,9 +19,6 @@ pub(crate) const MOST_KEPT: usize = 262_144;
 
 /// The header of Ethernet: two addresses of six bytes, and the type (RFC 894).
 const ETHERNET: usize = 14;
-
-/// No datagram is longer: the header of IPv6 and 65,535 bytes (RFC 8200, section 3).
-const LONGEST_DATAGRAM: usize = 65_575;
 
 /// What reading the header gives.
 #[derive(Clone, Copy, Debug)]

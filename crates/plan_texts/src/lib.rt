@@ -8,4 +8,4 @@ mod rows;
 
 pub use lines::{push_missing, push_missing_words, push_pair, push_pair_line, push_times};
 pub use names::admin_name;
-pub use rows::{push_admin, push_row_name, row_name};
+pub use rows::{push_admin, push_row_name, row_name, row_numbered};

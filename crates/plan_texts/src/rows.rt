@@ -2,12 +2,13 @@
 ghost use Rattle.std.specs.Prelude.{◌≡◌, ◌++◌, IfOk, OnOk, option_map};
 ghost use Rattle.toml.specs.View.{table_view};
 ghost use Rattle.book_scope_plan.specs.FindingTexts.{admin_text, row_name};
+ghost use Rattle.book_scope_plan.specs.CalendarTexts.{row_numbered};
 
 use crate::names::admin_name;
 use ao_base::push_decimal;
+use key_table::{Row, Table};
 use scope_key_texts::push_shown_text;
 use std::alloc::{AllocError, Global};
-use toml::Table;
 
 /// Puts what the operator calls a row behind `out`, where it is named. Where memory runs out a part of it may
 /// stand there.
@@ -30,7 +31,7 @@ pub fn push_admin(out: &mut Vec<u8>, name: Option<&str>) -> Result<(), AllocErro
 #[tactic(auto, unfolding(book_scope_plan::specs::FindingTexts::row_name))]
 pub fn push_row_name(
     out: &mut Vec<u8>,
-    document: &Table,
+    document: &toml::Table,
     name: &[u8],
     number: u8,
 ) -> Result<(), AllocError>
@@ -45,7 +46,7 @@ pub fn push_row_name(
 /// The same as a text of its own.
 pub fn row_name(
     alloc: Global,
-    document: &Table,
+    document: &toml::Table,
     name: &[u8],
     number: u8,
 ) -> Result<Vec<u8>, AllocError>
@@ -54,4 +55,12 @@ pub fn row_name(
     let mut text = Vec::new(alloc);
     push_row_name(&mut text, document, name, number)?;
     Ok(text)
+}
+
+/// The row of this number, from 1.
+pub fn row_numbered(table: &Table, number: u8) -> Option<&Row>
+    ensures { option_map (λ r. r.now) result ≡ row_numbered table.now.rows number }
+{
+    let rows = table.entries();
+    rows.get(usize::from(number).saturating_sub(1))
 }

@@ -98,7 +98,7 @@ impl Rto {
 
     /// Doubles the value, up to 60,000, after it went by without an acknowledgement (RFC 6298, section
     /// 5.5).
-    pub fn expired(&mut self)
+    pub fn back_off(&mut self)
         ensures { self.new ≡ expired self.old }
     {
         self.timer.value = (2 * self.timer.value).min(GREATEST);

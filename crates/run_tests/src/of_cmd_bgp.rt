@@ -4,9 +4,10 @@ ghost use Rattle.bgp_messages.specs.Readers.{new_reading};
 
 use bgp_messages::BgpReader;
 use book_base::{Address, Algorithm};
+use both_ends::BothEnds;
 use cmd_bgp::run_bgp;
 use key_table::Tables;
-use link_script::read_script;
+use link_script::{KeysFrom, read_script};
 use link_world::Setup;
 use std::alloc::{AllocError, Global};
 use std::test::Fail;
@@ -46,17 +47,17 @@ fn shared_key(alloc: Global) -> Result<Tables, AllocError> {
 }
 
 /// Runs a link file with these readers: whether a KEEPALIVE is told, and neither forgery nor fault.
-fn run(alloc: Global, text: &[u8], a: &mut BgpReader, b: &mut BgpReader) -> Result<bool, Fail>
-    requires a { a.old ≡ new_reading }
-    requires b { b.old ≡ new_reading }
+fn run(alloc: Global, text: &[u8], readers: &mut BothEnds<BgpReader>) -> Result<bool, Fail>
+    requires a { readers.old.a ≡ new_reading }
+    requires b { readers.old.b ≡ new_reading }
 {
-    let script = read_script(alloc, true, text)?;
+    let script = read_script(alloc, KeysFrom::KeyFile, text)?;
     let setup = Setup {
         tables: shared_key(alloc)?,
         a: script.a,
         b: script.b,
     };
-    let run = run_bgp(alloc, setup, &script.events, a, b)?;
+    let run = run_bgp(alloc, setup, &script.events, readers)?;
     Ok(run.forgeries == 0 && run.faults == 0 && is_spoken(run.text.as_slice()))
 }
 
@@ -66,9 +67,11 @@ fn place(reader: &BgpReader) -> u64 {
 
 #[test]
 fn the_readers_follow_the_live_sessions(rt: HostRuntime) -> Result<(), Fail> {
-    let mut a = BgpReader::new(rt.alloc())?;
-    let mut b = BgpReader::new(rt.alloc())?;
-    assert!(rt; run(rt.alloc(), keepalive(), &mut a, &mut b)?);
-    assert!(rt; place(&a) == 0 && place(&b) == 19);
+    let mut readers = BothEnds {
+        a: BgpReader::new(rt.alloc())?,
+        b: BgpReader::new(rt.alloc())?,
+    };
+    assert!(rt; run(rt.alloc(), keepalive(), &mut readers)?);
+    assert!(rt; place(&readers.a) == 0 && place(&readers.b) == 19);
     Ok(())
 }

@@ -1,5 +1,6 @@
 //! The timers that a run was lent, and how many plain events a run has at most.
 use book_base::{Address, Algorithm};
+use both_ends::BothEnds;
 use cmd_timed::{TimedRun, answer, run_timed};
 use command_report::Stop;
 use key_table::Tables;
@@ -45,14 +46,14 @@ fn tables(alloc: Global) -> Result<Tables, AllocError> {
 }
 
 /// Whether a link file has a report, with these timers.
-fn run(alloc: Global, text: &[u8], a: &mut Rto, b: &mut Rto) -> Result<bool, Fail> {
+fn run(alloc: Global, text: &[u8], timers: &mut BothEnds<Rto>) -> Result<bool, Fail> {
     let script = read_timed(alloc, text)?;
     let setup = Setup {
         tables: tables(alloc)?,
         a: script.a,
         b: script.b,
     };
-    match run_timed(alloc, setup, &script.events, a, b)? {
+    match run_timed(alloc, setup, &script.events, timers)? {
         TimedRun::Report(..) => Ok(true),
         TimedRun::TooMany => Ok(false),
     }
@@ -69,10 +70,12 @@ fn byte_and(alloc: Global, events: &[u8]) -> Result<Vec<u8>, AllocError> {
 #[test]
 fn a_sample_makes_the_value(rt: HostRuntime) -> Result<(), Fail> {
     let text = byte_and(rt.alloc(), sampled())?;
-    let mut a = Rto::new();
-    let mut b = Rto::new();
-    assert!(rt; run(rt.alloc(), text.as_slice(), &mut a, &mut b)?);
-    assert!(rt; a.value() == 6000 && b.value() == 1000);
+    let mut timers = BothEnds {
+        a: Rto::new(),
+        b: Rto::new(),
+    };
+    assert!(rt; run(rt.alloc(), text.as_slice(), &mut timers)?);
+    assert!(rt; timers.a.value() == 6000 && timers.b.value() == 1000);
     Ok(())
 }
 

@@ -1,6 +1,8 @@
 //! The ladder of a link file.
-ghost use Rattle.std.specs.Prelude.{◌≡◌, ◌≤◌, IfOk, length, true, false};
+ghost use Rattle.book_cmd_link.specs.declared.script.KeysFrom.TheVariants as keys_from;
+ghost use Rattle.std.specs.Prelude.{◌≡◌, ◌≤◌, IfOk, length, true};
 ghost use Rattle.std.specs.List.{All};
+ghost use Rattle.book_lines.specs.Lines.{most_lines};
 ghost use Rattle.book_answer.specs.Answers.{done, if_read};
 ghost use Rattle.book_cmd_link.specs.LinkFiles.{script_of};
 ghost use Rattle.book_segments.specs.Sockets.{are_two_of_a_family};
@@ -15,7 +17,7 @@ use command_report::{Report, Stop};
 use draw_rungs::rungs_of;
 use draw_svg::draw_rungs_as;
 use key_table::Tables;
-use link_script::{Script, read_script};
+use link_script::{KeysFrom, Script, read_script};
 use link_world::Setup;
 use std::alloc::{AllocError, Global};
 
@@ -29,7 +31,7 @@ fn report_of(
 ) -> Result<Report, AllocError>
     requires family { are_two_of_a_family setup.a.address setup.b.address ≡ true }
     requires events { All CanHappen events.now }
-    requires few { length events.now ≤ 20000 }
+    requires few { length events.now ≤ most_lines }
     ensures { IfOk result (λ r. drawing form (setup_of setup) events.now ≡ done r.is_amiss r.text) }
 {
     let rungs = rungs_of(alloc, setup, events)?;
@@ -48,9 +50,9 @@ fn report_of(
 /// `Memory` only for want of memory.
 #[tactic(auto, using(command_report::proofs::Reporting::fails_stops))]
 pub fn answer_draw(alloc: Global, form: Form, input: &[u8]) -> Result<Report, Stop>
-    ensures { Reports result (if_read (drawn_by_shared form) (script_of false input.now)) }
+    ensures { Reports result (if_read (drawn_by_shared form) (script_of keys_from.LinkFile input.now)) }
 {
-    let script = read_script(alloc, false, input)?;
+    let script = read_script(alloc, KeysFrom::LinkFile, input)?;
     let Script {
         a,
         b,
@@ -75,9 +77,9 @@ pub fn answer_draw_keys(
     tables: Tables,
     input: &[u8],
 ) -> Result<Report, Stop>
-    ensures { Reports result (if_read (drawn form tables) (script_of true input.now)) }
+    ensures { Reports result (if_read (drawn form tables) (script_of keys_from.KeyFile input.now)) }
 {
-    let script = read_script(alloc, true, input)?;
+    let script = read_script(alloc, KeysFrom::KeyFile, input)?;
     let Script { a, b, events, .. } = script;
     let report = report_of(alloc, form, Setup { tables, a, b }, events.as_slice())?;
     Ok(report)

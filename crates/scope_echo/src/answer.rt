@@ -1,6 +1,8 @@
 //! The answer of `echo`.
-ghost use Rattle.std.specs.Prelude.{◌≡◌, ◌≤◌, IfOk, length, true, false};
+ghost use Rattle.book_cmd_link.specs.declared.script.KeysFrom.TheVariants as keys_from;
+ghost use Rattle.std.specs.Prelude.{◌≡◌, ◌≤◌, IfOk, length, true};
 ghost use Rattle.std.specs.List.{All};
+ghost use Rattle.book_lines.specs.Lines.{most_lines};
 ghost use Rattle.book_answer.specs.Answers.{done, if_read, reported};
 ghost use Rattle.book_cmd_link.specs.LinkFiles.{script_of};
 ghost use Rattle.book_segments.specs.Sockets.{are_two_of_a_family};
@@ -14,7 +16,7 @@ use book_link::Event;
 use cmd_link::report_of;
 use command_report::{Report, Stop};
 use key_table::Tables;
-use link_script::{Script, read_script};
+use link_script::{KeysFrom, Script, read_script};
 use link_world::Setup;
 use std::alloc::{AllocError, Global};
 
@@ -22,18 +24,18 @@ use std::alloc::{AllocError, Global};
 /// here.
 fn echo_report(
     alloc: Global,
-    with_keys: bool,
+    keys: KeysFrom,
     text: &[u8],
     setup: Setup,
     events: &[Event],
 ) -> Result<Report, AllocError>
     requires family { are_two_of_a_family setup.a.address setup.b.address ≡ true }
     requires events { All CanHappen events.now }
-    requires few { length events.now ≤ 20000 }
-    ensures { IfOk result (λ r. echoed with_keys text.now events.now (reported (setup_of setup) events.now) ≡ done r.is_amiss r.text) }
+    requires few { length events.now ≤ most_lines }
+    ensures { IfOk result (λ r. echoed keys text.now events.now (reported (setup_of setup) events.now) ≡ done r.is_amiss r.text) }
 {
     let report = report_of(alloc, setup, events)?;
-    let text = print_echo(alloc, with_keys, text, events, report.text.as_slice())?;
+    let text = print_echo(alloc, keys, text, events, report.text.as_slice())?;
     Ok(Report {
         text,
         is_amiss: report.is_amiss,
@@ -47,9 +49,9 @@ fn echo_report(
 /// `Memory` only for want of memory.
 #[tactic(auto, using(command_report::proofs::Reporting::fails_stops))]
 pub fn answer_echo(alloc: Global, input: &[u8]) -> Result<Report, Stop>
-    ensures { Reports result (if_read (echoed_by_shared input.now) (script_of false input.now)) }
+    ensures { Reports result (if_read (echoed_by_shared input.now) (script_of keys_from.LinkFile input.now)) }
 {
-    let script = read_script(alloc, false, input)?;
+    let script = read_script(alloc, KeysFrom::LinkFile, input)?;
     let Script {
         a,
         b,
@@ -60,7 +62,7 @@ pub fn answer_echo(alloc: Global, input: &[u8]) -> Result<Report, Stop>
     let tables = Tables::shared(alloc, a.address, b.address, key.alg, key.master.as_slice())?;
     let report = echo_report(
         alloc,
-        false,
+        KeysFrom::LinkFile,
         input,
         Setup { tables, a, b },
         events.as_slice(),
@@ -75,13 +77,13 @@ pub fn answer_echo(alloc: Global, input: &[u8]) -> Result<Report, Stop>
 /// `link_script::read_script`. `Memory` only for want of memory.
 #[tactic(auto, using(command_report::proofs::Reporting::fails_stops))]
 pub fn answer_echo_keys(alloc: Global, tables: Tables, input: &[u8]) -> Result<Report, Stop>
-    ensures { Reports result (if_read (echoed_over tables input.now) (script_of true input.now)) }
+    ensures { Reports result (if_read (echoed_over tables input.now) (script_of keys_from.KeyFile input.now)) }
 {
-    let script = read_script(alloc, true, input)?;
+    let script = read_script(alloc, KeysFrom::KeyFile, input)?;
     let Script { a, b, events, .. } = script;
     let report = echo_report(
         alloc,
-        true,
+        KeysFrom::KeyFile,
         input,
         Setup { tables, a, b },
         events.as_slice(),

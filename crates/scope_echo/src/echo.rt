@@ -6,6 +6,7 @@ use crate::event_lines::EventLines;
 use crate::report_lines::ReportLines;
 use ao_base::push_decimal;
 use book_base::Bytes;
+use book_cmd_link::KeysFrom;
 use book_link::{Action, Event};
 use scope_texts::push_instant;
 use std::alloc::{AllocError, Global};
@@ -76,15 +77,15 @@ fn push_echoes(
 #[tactic(auto, unfolding(book_echo::specs::Echoes::echo_of))]
 pub(crate) fn print_echo(
     alloc: Global,
-    with_keys: bool,
+    keys: KeysFrom,
     text: &[u8],
     events: &[Event],
     report: &[u8],
 ) -> Result<Bytes, AllocError>
-    ensures { IfOk result (λ echo. echo ≡ echo_of with_keys text.now events.now report.now) }
+    ensures { IfOk result (λ echo. echo ≡ echo_of keys text.now events.now report.now) }
 {
     let mut out = Vec::new(alloc);
-    let mut lines = EventLines::of(with_keys, text);
+    let mut lines = EventLines::of(keys, text);
     let mut report = ReportLines::new(report);
     push_echoes(&mut out, &mut lines, events, &mut report)?;
     Ok(Bytes::from_vec(out))

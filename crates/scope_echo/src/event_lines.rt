@@ -5,6 +5,7 @@ ghost use Rattle.book_echo.specs.Echoes.{is_saying, lines_of_events};
 ghost use Rattle.book_lines.specs.Lines.{is_comment};
 
 use ao_base::{next_line, past_line};
+use book_cmd_link::KeysFrom;
 use std::marker::Model;
 use text_lines::LineWords;
 
@@ -56,12 +57,12 @@ impl<'a> EventLines<'a> {
 
     /// Those of the events of a link file, whose key stands in a file of its own or in one of its lines.
     #[tactic(auto, unfolding(book_echo::specs::Echoes::lines_of_events))]
-    pub(crate) fn of(with_keys: bool, text: &'a [u8]) -> EventLines<'a>
-        ensures { result ≡ lines_of_events with_keys text.now }
+    pub(crate) fn of(keys: KeysFrom, text: &'a [u8]) -> EventLines<'a>
+        ensures { result ≡ lines_of_events keys text.now }
     {
         let mut lines = EventLines::new(text);
         lines.skip_head();
-        if !with_keys {
+        if keys == KeysFrom::LinkFile {
             lines.next();
         }
         lines

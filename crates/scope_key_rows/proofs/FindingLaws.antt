@@ -1,5 +1,5 @@
 -- Findings put behind others, part by part.
-use Rattle.std.proofs.Common.{◌≡◌, ℕ, Bool, true, false, List, [], ◌∷◌, ◌++◌, Option, Some, Result, Ok, Err, ap, ◌∙◌, append_assoc, length, ◌&&◌}
+use Rattle.std.proofs.Common.{◌≡◌, Bool, true, false, List, [], ◌∷◌, ◌++◌, Option, Some, Result, Ok, Err, ap, ◌∙◌, append_assoc, length, ◌&&◌}
 use Rattle.std.specs.Prelude.{OnOk, nat_le, codes}
 use Rattle.toml.specs.Data.{Data, array}
 use Rattle.toml.specs.View.{items_view}
@@ -8,16 +8,16 @@ use Rattle.key_table.proofs.ItemLaws.{count_view}
 use Rattle.book_scope_keys.specs.declared.finding.KeyFinding.{KeyFinding}
 use Rattle.book_scope_keys.specs.declared.finding.KeyPlace.{KeyPlace}
 use Rattle.book_scope_keys.specs.FieldTexts.{finding_at}
-use Rattle.book_scope_keys.specs.RowFindings.{KeyField, count_said, each_peer_finding, field_unless, peers_findings, peers_wanted}
-
--- a field is found by what its test is, and by what it is
-pub unless_is : {A B : Type 0} (r : Result A B) (old after : List KeyFinding) (good test : Bool) (f field : KeyField) (hint wanted : List ℕ) → good ≡ test → f ≡ field →
-    OnOk r (after ≡ old ++ field_unless good f hint wanted) → OnOk r (after ≡ old ++ field_unless test field hint wanted)
-unless_is r old after good test f field hint wanted is same h = rw (← is, ← same) h
+use Rattle.book_scope_keys.specs.RowFindings.{count_said, each_peer_finding, peers_findings, peers_wanted}
 
 -- what is found in a value that is this one
 pub found_in : (find : Option Data → List KeyFinding) (value same : Option Data) (before after : List KeyFinding) → value ≡ same → after ≡ before ++ find value → after ≡ before ++ find same
 found_in find value same before after is h = h ∙ ap (λ (d : Option Data). before ++ find d) is
+
+-- two parts, unless memory ran out for the last
+pub two_found : {A B X : Type 0} (r : Result A B) (old first after x y : List X) → first ≡ old ++ x → OnOk r (after ≡ first ++ y) → OnOk r (after ≡ old ++ (x ++ y))
+two_found (Ok u) old first after x y one two = two ∙ (rw one (append_assoc old x y))
+two_found (Err e) old first after x y one two = tt
 
 -- three parts, unless memory ran out for the last
 pub three_found : {A B X : Type 0} (r : Result A B) (old first second after x y z : List X) → first ≡ old ++ x → second ≡ first ++ y → OnOk r (after ≡ second ++ z) → OnOk r (after ≡ old ++ (x ++ (y ++ z)))

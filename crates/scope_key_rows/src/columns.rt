@@ -5,11 +5,12 @@ ghost use Rattle.toml.specs.View.{table_view};
 ghost use Rattle.book_keys.specs.Columns.{is_absent_or, is_admin, is_word, kdf_of, options_flag_of, text_of};
 ghost use Rattle.book_scope_keys.specs.RowFindings.{alg_id_findings, algorithm_findings, algorithm_wanted, field_at, field_unless, id_findings, is_algorithm_with, name_findings, port_findings, protocol_findings};
 
-use crate::field::{field_at, push_unless};
-use crate::forms::{is_admin_at, is_everywhere, is_id_at, is_options_at, is_port_at, kdf_at};
-use crate::values::{is_word_at, text_at};
+use crate::field::push_column;
 use book_base::Algorithm;
 use book_scope_keys::{KeyFinding, KeyPlace};
+use key_table::{
+    id_at, is_admin_at, is_everywhere, is_word_at, kdf_at, options_at, port_at, text_at,
+};
 use std::alloc::AllocError;
 use toml::Table;
 
@@ -22,28 +23,13 @@ fn push_id(
 ) -> Result<(), AllocError>
     ensures { OnOk result (findings.new.items ≡ findings.old.items ++ id_findings place.now key.now (table_view table.now)) }
 {
-    push_unless(
+    push_column(
         findings,
-        is_id_at(table, key),
-        field_at(place, key, table),
-        b"",
+        id_at(table, key).is_some(),
+        place,
+        table,
+        key,
         b"a KeyID, a text from \"0\" to \"255\"",
-    )
-}
-
-fn push_admin(
-    findings: &mut Vec<KeyFinding>,
-    place: &KeyPlace,
-    table: &Table,
-) -> Result<(), AllocError>
-    ensures { OnOk result (findings.new.items ≡ findings.old.items ++ field_unless (is_admin (text_of (codes "AdminKeyName") (table_view table.now))) (field_at place.now (codes "AdminKeyName") (table_view table.now)) [] (codes "a text of 1 to 255 bytes")) }
-{
-    push_unless(
-        findings,
-        is_admin_at(table),
-        field_at(place, "AdminKeyName", table),
-        b"",
-        b"a text of 1 to 255 bytes",
     )
 }
 
@@ -56,57 +42,16 @@ pub(crate) fn push_names(
 ) -> Result<(), AllocError>
     ensures { OnOk result (findings.new.items ≡ findings.old.items ++ name_findings place.now (table_view table.now)) }
 {
-    push_admin(findings, place, table)?;
+    push_column(
+        findings,
+        is_admin_at(table),
+        place,
+        table,
+        "AdminKeyName",
+        b"a text of 1 to 255 bytes",
+    )?;
     push_id(findings, place, "LocalKeyName", table)?;
     push_id(findings, place, "PeerKeyName", table)
-}
-
-fn push_interfaces(
-    findings: &mut Vec<KeyFinding>,
-    place: &KeyPlace,
-    table: &Table,
-) -> Result<(), AllocError>
-    ensures { OnOk result (findings.new.items ≡ findings.old.items ++ field_unless (is_absent_or (codes "all") (get_member (codes "Interfaces") (table_view table.now))) (field_at place.now (codes "Interfaces") (table_view table.now)) [] (codes "\"all\", or no such field")) }
-{
-    push_unless(
-        findings,
-        is_everywhere(table),
-        field_at(place, "Interfaces", table),
-        b"",
-        b"\"all\", or no such field",
-    )
-}
-
-fn push_protocol_name(
-    findings: &mut Vec<KeyFinding>,
-    place: &KeyPlace,
-    table: &Table,
-) -> Result<(), AllocError>
-    ensures { OnOk result (findings.new.items ≡ findings.old.items ++ field_unless (is_word (codes "TCP-AO") (text_of (codes "Protocol") (table_view table.now))) (field_at place.now (codes "Protocol") (table_view table.now)) [] (codes "\"TCP-AO\"")) }
-{
-    push_unless(
-        findings,
-        is_word_at(table, "Protocol", b"TCP-AO"),
-        field_at(place, "Protocol", table),
-        b"",
-        b"\"TCP-AO\"",
-    )
-}
-
-fn push_options(
-    findings: &mut Vec<KeyFinding>,
-    place: &KeyPlace,
-    table: &Table,
-) -> Result<(), AllocError>
-    ensures { OnOk result (findings.new.items ≡ findings.old.items ++ field_unless (is_some (option_and_then options_flag_of (text_of (codes "ProtocolSpecificInfo") (table_view table.now)))) (field_at place.now (codes "ProtocolSpecificInfo") (table_view table.now)) [] (codes "\"options\" or \"no-options\"")) }
-{
-    push_unless(
-        findings,
-        is_options_at(table),
-        field_at(place, "ProtocolSpecificInfo", table),
-        b"",
-        b"\"options\" or \"no-options\"",
-    )
 }
 
 /// Interfaces, Protocol and ProtocolSpecificInfo.
@@ -118,9 +63,30 @@ pub(crate) fn push_protocol(
 ) -> Result<(), AllocError>
     ensures { OnOk result (findings.new.items ≡ findings.old.items ++ protocol_findings place.now (table_view table.now)) }
 {
-    push_interfaces(findings, place, table)?;
-    push_protocol_name(findings, place, table)?;
-    push_options(findings, place, table)
+    push_column(
+        findings,
+        is_everywhere(table),
+        place,
+        table,
+        "Interfaces",
+        b"\"all\", or no such field",
+    )?;
+    push_column(
+        findings,
+        is_word_at(table, "Protocol", b"TCP-AO"),
+        place,
+        table,
+        "Protocol",
+        b"\"TCP-AO\"",
+    )?;
+    push_column(
+        findings,
+        options_at(table).is_some(),
+        place,
+        table,
+        "ProtocolSpecificInfo",
+        b"\"options\" or \"no-options\"",
+    )
 }
 
 /// Whether AlgID names the algorithm to which the key derivation function belongs, or any where that isn't
@@ -164,28 +130,13 @@ fn push_alg_id(
 {
     let mut wanted = Vec::new(*findings.allocator());
     push_algorithm_wanted(&mut wanted, kdf)?;
-    push_unless(
+    push_column(
         findings,
         is_algorithm_at(table, kdf),
-        field_at(place, "AlgID", table),
-        b"",
+        place,
+        table,
+        "AlgID",
         wanted.as_slice(),
-    )
-}
-
-fn push_kdf(
-    findings: &mut Vec<KeyFinding>,
-    place: &KeyPlace,
-    table: &Table,
-) -> Result<(), AllocError>
-    ensures { OnOk result (findings.new.items ≡ findings.old.items ++ field_unless (is_some (option_and_then kdf_of (text_of (codes "KDF") (table_view table.now)))) (field_at place.now (codes "KDF") (table_view table.now)) [] (codes "\"HMAC-SHA-1\", \"AES-128-CMAC\" or \"HMAC-SHA-256\"")) }
-{
-    push_unless(
-        findings,
-        kdf_at(table).is_some(),
-        field_at(place, "KDF", table),
-        b"",
-        b"\"HMAC-SHA-1\", \"AES-128-CMAC\" or \"HMAC-SHA-256\"",
     )
 }
 
@@ -198,8 +149,16 @@ pub(crate) fn push_algorithm(
 ) -> Result<(), AllocError>
     ensures { OnOk result (findings.new.items ≡ findings.old.items ++ algorithm_findings place.now (table_view table.now)) }
 {
-    push_kdf(findings, place, table)?;
-    push_alg_id(findings, place, kdf_at(table), table)
+    let kdf = kdf_at(table);
+    push_column(
+        findings,
+        kdf.is_some(),
+        place,
+        table,
+        "KDF",
+        b"\"HMAC-SHA-1\", \"AES-128-CMAC\" or \"HMAC-SHA-256\"",
+    )?;
+    push_alg_id(findings, place, kdf, table)
 }
 
 /// A port.
@@ -212,11 +171,12 @@ pub(crate) fn push_port(
 ) -> Result<(), AllocError>
     ensures { OnOk result (findings.new.items ≡ findings.old.items ++ port_findings place.now key.now (table_view table.now)) }
 {
-    push_unless(
+    push_column(
         findings,
-        is_port_at(table, key),
-        field_at(place, key, table),
-        b"",
+        port_at(table, key).is_some(),
+        place,
+        table,
+        key,
         b"a text from \"0\" to \"65535\", or no such field",
     )
 }

@@ -1,12 +1,13 @@
 //! The findings of fields.
-ghost use Rattle.std.specs.Prelude.{◌≡◌, ◌++◌, ◌∷◌, [], OnOk};
-ghost use Rattle.toml.specs.View.{table_view};
-ghost use Rattle.book_scope_keys.specs.FieldTexts.{finding_at};
-ghost use Rattle.book_scope_keys.specs.RowFindings.{field_at, field_unless};
+ghost use Rattle.std.specs.Prelude.{◌≡◌, ◌++◌, ◌∷◌, [], OnOk, option_map};
+ghost use Rattle.toml.specs.View.{table_view, view};
+ghost use Rattle.book_scope_keys.specs.FieldTexts.{field_said, finding_at};
+ghost use Rattle.book_scope_keys.specs.RowFindings.{count_said, field_at, field_unless};
 ghost use Rattle.scope_key_rows.specs.Fields.{field_of};
 
-use crate::values::member_at;
+use ao_base::push_decimal;
 use book_scope_keys::{KeyFinding, KeyPlace};
+use key_table::member_at;
 use scope_key_texts::push_field_said;
 use std::alloc::AllocError;
 use toml::{Table, Value};
@@ -44,8 +45,22 @@ pub fn push_finding(
     Ok(())
 }
 
-/// Puts what is found at a field that isn't good behind the findings: its value, a hint, and what is wanted.
-/// An error only for want of memory.
+/// Puts that a value isn't what is wanted at a key behind the findings. An error only for want of memory.
+pub fn push_misfit(
+    findings: &mut Vec<KeyFinding>,
+    place: &KeyPlace,
+    key: &str,
+    value: Option<&Value>,
+    wanted: &[u8],
+) -> Result<(), AllocError>
+    ensures { OnOk result (findings.new.items ≡ findings.old.items ++ finding_at place.now key.now (field_said (option_map (λ v. view v.now) value.entry) [] wanted.now) ∷ []) }
+{
+    let mut said = Vec::new(*findings.allocator());
+    push_field_said(&mut said, value, b"", wanted)?;
+    push_finding(findings, place, key.as_bytes(), said.as_slice())
+}
+
+/// Puts a field that isn't good behind the findings: its value, a hint, and what is wanted. An error only for want of memory.
 #[tactic(auto, unfolding(book_scope_keys::specs::RowFindings::field_unless))]
 pub fn push_unless(
     findings: &mut Vec<KeyFinding>,
@@ -62,4 +77,43 @@ pub fn push_unless(
     let mut said = Vec::new(*findings.allocator());
     push_field_said(&mut said, field.value, hint, wanted)?;
     push_finding(findings, field.place, field.key.as_bytes(), said.as_slice())
+}
+
+/// The same of the field at a key of a table, without a hint.
+pub(crate) fn push_column(
+    findings: &mut Vec<KeyFinding>,
+    is_good: bool,
+    place: &KeyPlace,
+    table: &Table,
+    key: &str,
+    wanted: &[u8],
+) -> Result<(), AllocError>
+    ensures { OnOk result (findings.new.items ≡ findings.old.items ++ field_unless is_good (field_at place.now key.now (table_view table.now)) [] wanted.now) }
+{
+    push_unless(findings, is_good, field_at(place, key, table), b"", wanted)
+}
+
+#[tactic(auto, unfolding(book_scope_keys::specs::RowFindings::count_said))]
+fn push_count_said(out: &mut Vec<u8>, count: usize, wanted: &[u8]) -> Result<(), AllocError>
+    ensures { OnOk result (out.new.items ≡ out.old.items ++ count_said count wanted.now) }
+{
+    out.extend_from_slice(b"an array of ")?;
+    push_decimal(out, count as u64)?;
+    out.extend_from_slice(b"; wanted: ")?;
+    out.extend_from_slice(wanted)
+}
+
+/// Puts that an array has too few or too many items behind the findings. An error only for want of memory.
+pub fn push_count(
+    findings: &mut Vec<KeyFinding>,
+    place: &KeyPlace,
+    key: &str,
+    count: usize,
+    wanted: &[u8],
+) -> Result<(), AllocError>
+    ensures { OnOk result (findings.new.items ≡ findings.old.items ++ finding_at place.now key.now (count_said count wanted.now) ∷ []) }
+{
+    let mut said = Vec::new(*findings.allocator());
+    push_count_said(&mut said, count, wanted)?;
+    push_finding(findings, place, key.as_bytes(), said.as_slice())
 }

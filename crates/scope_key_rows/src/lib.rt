@@ -4,16 +4,12 @@
 
 mod columns;
 mod field;
-mod forms;
 mod peers;
 mod row;
 mod secret;
 mod times;
 mod unknown;
-mod values;
 
-pub use field::{Field, field_at, push_finding, push_unless};
-pub use peers::push_count_said;
+pub use field::{Field, field_at, push_count, push_finding, push_misfit, push_unless};
 pub use row::push_row;
 pub use unknown::push_unknown;
-pub use values::{member_at, text_at};

@@ -6,10 +6,11 @@ ghost use Rattle.book_keys.specs.Columns.{master_of};
 ghost use Rattle.book_scope_keys.specs.FieldTexts.{field_said, finding_at};
 ghost use Rattle.book_scope_keys.specs.RowFindings.{secret_findings, secret_said, secret_wanted};
 
-use crate::field::push_finding;
+use crate::field::{push_finding, push_misfit};
 use ao_base::{HexProblem, read_hex};
+use book_keys::LONGEST_MASTER_KEY;
 use book_scope_keys::{KeyFinding, KeyPlace};
-use scope_key_texts::{push_field_said, push_shown_secret};
+use scope_key_texts::push_shown_secret;
 use std::alloc::{AllocError, Global};
 use toml::Value;
 
@@ -24,7 +25,7 @@ fn is_secret(alloc: Global, text: &[u8]) -> Result<bool, AllocError>
     match read_hex(alloc, text) {
         Ok(bytes) => {
             let bytes = bytes.into_vec();
-            Ok(!bytes.is_empty() && bytes.len() <= 255)
+            Ok(!bytes.is_empty() && bytes.len() <= LONGEST_MASTER_KEY)
         }
         Err(HexProblem::NotHex) => Ok(false),
         Err(HexProblem::Memory) => Err(AllocError),
@@ -64,9 +65,7 @@ fn push_no_text(
 ) -> Result<(), AllocError>
     ensures { OnOk result (findings.new.items ≡ findings.old.items ++ finding_at place.now (codes "Key") (field_said (option_map (λ v. view v.now) value.entry) [] secret_wanted) ∷ []) }
 {
-    let mut said = Vec::new(*findings.allocator());
-    push_field_said(&mut said, value, b"", WANTED)?;
-    push_finding(findings, place, b"Key", said.as_slice())
+    push_misfit(findings, place, "Key", value, WANTED)
 }
 
 /// Puts what is found in Key behind the findings. An error only for want of memory.

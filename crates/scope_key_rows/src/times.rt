@@ -5,11 +5,9 @@ ghost use Rattle.book_keys.specs.Columns.{direction_of, text_of};
 ghost use Rattle.book_scope_keys.specs.RowFindings.{field_at, field_unless, lifetime_findings, order_findings, term_findings, time_findings, time_hint_of};
 ghost use Rattle.scope_key_rows.specs.Fields.{field_of};
 
-use crate::field::{Field, field_at, push_unless};
-use crate::forms::{is_direction_at, time_at};
-use crate::values::member_at;
+use crate::field::{Field, field_at, push_column, push_unless};
 use book_scope_keys::{KeyFinding, KeyPlace};
-use key_table::LATEST;
+use key_table::{LATEST, direction_at, member_at, time_at};
 use scope_key_texts::push_time_hint;
 use std::alloc::AllocError;
 use toml::{Table, Value};
@@ -96,22 +94,6 @@ fn push_lifetime(
     )
 }
 
-fn push_direction(
-    findings: &mut Vec<KeyFinding>,
-    place: &KeyPlace,
-    table: &Table,
-) -> Result<(), AllocError>
-    ensures { OnOk result (findings.new.items ≡ findings.old.items ++ field_unless (is_some (option_and_then direction_of (text_of (codes "Direction") (table_view table.now)))) (field_at place.now (codes "Direction") (table_view table.now)) [] (codes "\"in\", \"out\", \"both\" or \"disabled\"")) }
-{
-    push_unless(
-        findings,
-        is_direction_at(table),
-        field_at(place, "Direction", table),
-        b"",
-        b"\"in\", \"out\", \"both\" or \"disabled\"",
-    )
-}
-
 /// Direction and the two lifetimes.
 #[tactic(auto, unfolding(book_scope_keys::specs::RowFindings::term_findings))]
 pub(crate) fn push_terms(
@@ -121,7 +103,14 @@ pub(crate) fn push_terms(
 ) -> Result<(), AllocError>
     ensures { OnOk result (findings.new.items ≡ findings.old.items ++ term_findings place.now (table_view table.now)) }
 {
-    push_direction(findings, place, table)?;
+    push_column(
+        findings,
+        direction_at(table).is_some(),
+        place,
+        table,
+        "Direction",
+        b"\"in\", \"out\", \"both\" or \"disabled\"",
+    )?;
     push_lifetime(
         findings,
         place,

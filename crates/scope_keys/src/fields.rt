@@ -2,17 +2,17 @@
 ghost use Rattle.std.specs.Prelude.{◌≡◌, ◌≤◌, ◌++◌, ◌∷◌, [], OnOk, Some, codes, length, option_map};
 ghost use Rattle.toml.specs.Data.{array};
 ghost use Rattle.toml.specs.View.{items_view, table_view, view};
+ghost use Rattle.book_keys.specs.Rows.{row_limit};
 ghost use Rattle.book_scope_keys.specs.FieldTexts.{field_said, finding_at};
 ghost use Rattle.book_scope_keys.specs.FileFindings.{key_place, node_address_findings, node_fields_findings, node_name_findings, rows_findings, rows_findings_from, rows_wanted, used_hint};
 ghost use Rattle.book_scope_keys.specs.RowFindings.{count_said, row_findings};
 
 use crate::node::NodeName;
 use crate::seen::{Seen, address_at, name_at};
+use book_keys::ROW_LIMIT;
 use book_scope_keys::{KeyFinding, KeyPlace};
-use scope_key_rows::{
-    field_at, member_at, push_count_said, push_finding, push_row, push_unknown, push_unless,
-};
-use scope_key_texts::push_field_said;
+use key_table::member_at;
+use scope_key_rows::{field_at, push_count, push_misfit, push_row, push_unknown, push_unless};
 use std::alloc::AllocError;
 use toml::{Table, Value};
 
@@ -82,7 +82,7 @@ fn push_each_row(
     node: &NodeName,
     values: &[Value],
 ) -> Result<(), AllocError>
-    requires { length values.now ≤ 64 }
+    requires { length values.now ≤ row_limit }
     ensures { OnOk result (findings.new.items ≡ findings.old.items ++ rows_findings_from node.now.number 1 node.now.called (items_view values.now)) }
 {
     for (i, value) in values.iter().enumerate() {
@@ -99,9 +99,7 @@ fn push_row_count(
     ensures { OnOk result (findings.new.items ≡ findings.old.items ++ finding_at (key_place node.now.number 0 node.now.called) (codes "key") (count_said count rows_wanted) ∷ []) }
 {
     let place = node.place(*findings.allocator(), 0)?;
-    let mut said = Vec::new(*findings.allocator());
-    push_count_said(&mut said, count, ROWS_WANTED)?;
-    push_finding(findings, &place, b"key", said.as_slice())
+    push_count(findings, &place, "key", count, ROWS_WANTED)
 }
 
 fn push_no_rows(
@@ -112,9 +110,7 @@ fn push_no_rows(
     ensures { OnOk result (findings.new.items ≡ findings.old.items ++ finding_at (key_place node.now.number 0 node.now.called) (codes "key") (field_said (Some (view value.now)) [] rows_wanted) ∷ []) }
 {
     let place = node.place(*findings.allocator(), 0)?;
-    let mut said = Vec::new(*findings.allocator());
-    push_field_said(&mut said, Some(value), b"", ROWS_WANTED)?;
-    push_finding(findings, &place, b"key", said.as_slice())
+    push_misfit(findings, &place, "key", Some(value), ROWS_WANTED)
 }
 
 #[tactic(auto, unfolding(book_scope_keys::specs::FileFindings::rows_findings), using(key_table::proofs::ItemLaws::count_view))]
@@ -125,7 +121,7 @@ fn push_row_array(
 ) -> Result<(), AllocError>
     ensures { OnOk result (findings.new.items ≡ findings.old.items ++ rows_findings node.now.number node.now.called (Some (array (items_view values.now)))) }
 {
-    if values.len() <= 64 {
+    if values.len() <= ROW_LIMIT {
         return push_each_row(findings, node, values);
     }
     push_row_count(findings, node, values.len())

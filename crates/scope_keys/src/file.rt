@@ -1,6 +1,7 @@
 //! All that is found in a file, and its lines.
 ghost use Rattle.std.specs.Prelude.{◌≡◌, ◌≤◌, ◌++◌, Err, IfOk, OnOk, flat_map, length};
 ghost use Rattle.toml.specs.View.{table_view};
+ghost use Rattle.book_keys.specs.Rows.{row_limit};
 ghost use Rattle.book_scope_keys.specs.FileFindings.{field_findings, first_or_further, no_faults_line, refused_findings, row_total, syntax_line};
 ghost use Rattle.book_scope_keys.specs.Places.{key_finding_line};
 
@@ -66,7 +67,7 @@ pub(crate) fn push_syntax(out: &mut Vec<u8>, at: usize, text: &[u8]) -> Result<(
 
 fn row_count(table: &Table) -> u64
     ensures value { result ≡ length table.now.rows }
-    ensures limit { result ≤ 64 }
+    ensures limit { result ≤ row_limit }
 {
     u64::from(table.rows())
 }

@@ -6,7 +6,7 @@ ghost use Rattle.book_scope_keys.specs.FileFindings.{called_by, data_called, fil
 use ao_base::push_decimal;
 use book_base::Bytes;
 use book_scope_keys::KeyPlace;
-use scope_key_rows::text_at;
+use key_table::text_at;
 use scope_key_texts::push_shown_text;
 use std::alloc::{AllocError, Global};
 use toml::{Table, Value};

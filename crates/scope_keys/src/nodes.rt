@@ -2,6 +2,7 @@
 ghost use Rattle.std.specs.Prelude.{◌≡◌, ◌≤◌, ◌++◌, ◌∷◌, [], OnOk, None, Some, codes, length, option_map};
 ghost use Rattle.toml.specs.Data.{array};
 ghost use Rattle.toml.specs.View.{items_view, table_view, view};
+ghost use Rattle.book_keys.specs.Rows.{node_limit};
 ghost use Rattle.book_scope_keys.specs.FieldTexts.{field_said, finding_at};
 ghost use Rattle.book_scope_keys.specs.FileFindings.{called_by, field_findings, file_place, key_place, node_called, node_fields_findings, node_findings, nodes_findings, nodes_findings_from, nodes_wanted};
 ghost use Rattle.book_scope_keys.specs.RowFindings.{count_said};
@@ -9,9 +10,10 @@ ghost use Rattle.book_scope_keys.specs.RowFindings.{count_said};
 use crate::fields::push_fields;
 use crate::node::{file_place, named, node_of};
 use crate::seen::Seen;
+use book_keys::NODE_LIMIT;
 use book_scope_keys::KeyFinding;
-use scope_key_rows::{member_at, push_count_said, push_finding, push_unknown};
-use scope_key_texts::push_field_said;
+use key_table::member_at;
+use scope_key_rows::{push_count, push_misfit, push_unknown};
 use std::alloc::AllocError;
 use toml::{Table, Value};
 
@@ -39,9 +41,7 @@ fn push_no_table(
 {
     let node = named(*findings.allocator(), number, None)?;
     let place = node.place(*findings.allocator(), 0)?;
-    let mut said = Vec::new(*findings.allocator());
-    push_field_said(&mut said, Some(value), b"", b"a table, [[node]]")?;
-    push_finding(findings, &place, b"node", said.as_slice())
+    push_misfit(findings, &place, "node", Some(value), b"a table, [[node]]")
 }
 
 #[tactic(auto, unfolding(book_scope_keys::specs::FileFindings::node_findings))]
@@ -60,7 +60,7 @@ fn push_node(
 }
 
 fn push_each_node(findings: &mut Vec<KeyFinding>, values: &[Value]) -> Result<(), AllocError>
-    requires { length values.now ≤ 16 }
+    requires { length values.now ≤ node_limit }
     ensures { OnOk result (findings.new.items ≡ findings.old.items ++ nodes_findings_from 1 [] [] (items_view values.now)) }
 {
     let mut seen = Seen::new(*findings.allocator());
@@ -75,25 +75,21 @@ fn push_node_count(findings: &mut Vec<KeyFinding>, count: usize) -> Result<(), A
     ensures { OnOk result (findings.new.items ≡ findings.old.items ++ finding_at file_place (codes "node") (count_said count nodes_wanted) ∷ []) }
 {
     let place = file_place(*findings.allocator());
-    let mut said = Vec::new(*findings.allocator());
-    push_count_said(&mut said, count, NODES_WANTED)?;
-    push_finding(findings, &place, b"node", said.as_slice())
+    push_count(findings, &place, "node", count, NODES_WANTED)
 }
 
 fn push_no_nodes(findings: &mut Vec<KeyFinding>, value: &Value) -> Result<(), AllocError>
     ensures { OnOk result (findings.new.items ≡ findings.old.items ++ finding_at file_place (codes "node") (field_said (Some (view value.now)) [] nodes_wanted) ∷ []) }
 {
     let place = file_place(*findings.allocator());
-    let mut said = Vec::new(*findings.allocator());
-    push_field_said(&mut said, Some(value), b"", NODES_WANTED)?;
-    push_finding(findings, &place, b"node", said.as_slice())
+    push_misfit(findings, &place, "node", Some(value), NODES_WANTED)
 }
 
 #[tactic(auto, unfolding(book_scope_keys::specs::FileFindings::nodes_findings), using(key_table::proofs::ItemLaws::count_view))]
 fn push_node_array(findings: &mut Vec<KeyFinding>, values: &[Value]) -> Result<(), AllocError>
     ensures { OnOk result (findings.new.items ≡ findings.old.items ++ nodes_findings (Some (array (items_view values.now)))) }
 {
-    if values.len() <= 16 {
+    if values.len() <= NODE_LIMIT {
         return push_each_node(findings, values);
     }
     push_node_count(findings, values.len())

@@ -8,8 +8,8 @@ ghost use Rattle.book_scope_keys.specs.FileFindings.{data_called, file_place, ke
 use crate::node::{file_place, node_at};
 use ao_base::push_decimal;
 use book_scope_keys::KeyFinding;
-use key_table::TableFault;
-use scope_key_rows::{member_at, push_finding};
+use key_table::{TableFault, member_at};
+use scope_key_rows::push_finding;
 use std::alloc::AllocError;
 use toml::{Table, Value};
 

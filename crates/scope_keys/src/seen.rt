@@ -1,15 +1,15 @@
 //! The names and addresses of the nodes that stand in front of a further one.
 ghost use Rattle.std.specs.Prelude.{◌≡◌, ◌++◌, [], OnOk, map, option_map, option_to_list};
-ghost use Rattle.std.specs.List.{list_all, list_any};
+ghost use Rattle.std.specs.List.{list_any};
 ghost use Rattle.std.specs.Str.{bytes_eq};
 ghost use Rattle.toml.specs.View.{table_view, view};
-ghost use Rattle.book_keys.specs.Nodes.{is_visible, node_address_of, node_name_of};
+ghost use Rattle.book_keys.specs.Nodes.{node_address_of, node_name_of};
 ghost use Rattle.book_segments.specs.Sockets.{same_address};
 ghost use Rattle.book_scope_keys.specs.FileFindings.{addresses_with, bare_table, names_with, new_address, new_name, table_named};
 
-use ao_base::read_address;
+use ao_base::{is_same_address, read_address};
 use book_base::{Address, Bytes};
-use scope_key_rows::text_at;
+use key_table::{is_visible, text_at};
 use std::alloc::{AllocError, Global};
 use toml::{Table, Value};
 
@@ -18,12 +18,6 @@ use toml::{Table, Value};
 pub(crate) struct Seen {
     pub(crate) names: Vec<Bytes>,
     pub(crate) addresses: Vec<Address>,
-}
-
-fn is_visible(text: &[u8]) -> bool
-    ensures { result ≡ list_all is_visible text.now }
-{
-    text.iter().all(|byte| *byte >= 0x21 && *byte <= 0x7e)
 }
 
 fn is_name(name: &Bytes, text: &[u8]) -> bool
@@ -58,16 +52,6 @@ pub(crate) fn name_at<'a>(names: &[Bytes], table: &'a Table) -> Option<&'a str>
     match text_at(table, "name") {
         Some(text) => unused_name(names, text),
         None => None,
-    }
-}
-
-fn is_same_address(one: &Address, other: &Address) -> bool
-    ensures { result ≡ same_address one.now other.now }
-{
-    match (one, other) {
-        (Address::V4(a), Address::V4(b)) => a == b,
-        (Address::V6(a), Address::V6(b)) => a == b,
-        _ => false,
     }
 }
 

@@ -1,14 +1,12 @@
 -- From one part of a capture to the next where a picture is asked for, and to each end.
-use Rattle.std.proofs.Common.{◌≡◌, inl, inr, ℕ, ◌+◌, ◌-◌, ◌<◌, ◌≤◌, true, false, List, [], ◌++◌, length, Option, Some, None, Result, Ok, Err, IsSome, refl, sym, ap, subst, ◌∙◌, append_assoc, arith}
-use Rattle.std.proofs.lemmas.List.{length-append}
-use Rattle.std.proofs.lemmas.List.Elements.{All-append}
+use Rattle.std.proofs.Common.{◌≡◌, inl, inr, ℕ, ◌+◌, ◌-◌, ◌<◌, ◌≤◌, true, false, List, [], ◌++◌, Option, Some, None, Result, Ok, Err, IsSome, refl, sym, ap, subst, ◌∙◌}
 use Rattle.std.specs.List.{All}
-use Rattle.ao_base.specs.Outside.{Side, Gave, WasWritten, told}
-use Rattle.ao_base.proofs.Sides.{gave_more, gave_none, rose_after, took_none}
+use Rattle.ao_base.specs.Outside.{Side, Gave, WasWritten}
+use Rattle.ao_base.proofs.Sides.{gave_none, took_none}
 use Rattle.book_base.specs.Hexadecimal.{IsByte}
 use Rattle.book_captures.specs.declared.capture_parts.CaptureFault.{CaptureFault}
 use Rattle.book_captures.specs.Parts.{PartSaid}
-use Rattle.book_captures.specs.Captures.{Capture, CapturePacket, capture_of}
+use Rattle.book_captures.specs.Captures.{Capture, CapturePacket}
 use Rattle.book_draw_session.specs.declared.rung.SessionEnds.{SessionEnds}
 use Rattle.book_draw_session.specs.declared.rung.SessionRung.{SessionRung}
 use Rattle.book_draw_session.specs.Rungs.{rungs_of_session, session_at, sessions_drawn}
@@ -20,14 +18,15 @@ use Rattle.capture_stream.specs.declared.reader.CaptureStep.TheVariants as step
 use Rattle.capture_stream.specs.declared.reader.CaptureHalt.TheVariants as stream_halt
 use Rattle.capture_stream.specs.Reads.{Reading, new_reading, ShowsNone, Passes, Steps}
 use Rattle.scope_lines.specs.Writes.{HasRead}
-use Rattle.scope_lines.proofs.Showing.{HasShown, listed, none_listed, read_before, read_now, shown_all, shown_more, shown_none}
+use Rattle.scope_lines.proofs.Taken.{HasTaken, all_broken, all_ended, all_none, bytes_all, gave_all, has_read, none_shown, read_more, rose_read, stays_broken, taken_more, taken_none, too_many}
+use Rattle.scope_lines.proofs.Showing.{listed, read_now, shown_none}
 use Rattle.scope_ladder.specs.declared.draw.LadderHalt.{LadderHalt}
 use Rattle.scope_ladder.specs.declared.draw.LadderHalt.TheVariants as halt
 use Rattle.scope_ladder.specs.declared.drawer.Drawer.{Drawer}
 use Rattle.scope_ladder.specs.Drawing.{AddsPacket, Follows, Request, drawn_text, rungs_for}
 use Rattle.scope_ladder.specs.Searches.{Seeks, SeeksBy, Tells, kept_in}
 use Rattle.scope_ladder.specs.Writing.{BreaksAs, BreaksText, Ends, LacksAs, Writes, WritesKept}
-use Rattle.scope_ladder.proofs.Walk.{HasDrawn, all_none, drawn_none, drawn_one, drawn_still, ends_told, rungs_are}
+use Rattle.scope_ladder.proofs.Walk.{HasDrawn, drawn_none, drawn_one, drawn_still, ends_told, rungs_are}
 
 -- ---- the picture of what was kept
 
@@ -73,22 +72,14 @@ from_start q given a c start o p result same writes = subst (λ (s : Side). Writ
 -- these bytes were given, these packets shown, and what is drawn of them kept
 pub record Stands (q : Request) (reader : Reading) (drawer : Drawer) (given : List ℕ) (shown : List CapturePacket) (source_before source_now : Side) : Type 0 where
   pub form : q.form ≡ Picture
-  pub gave : Gave given source_before source_now
-  pub bytes : All IsByte given
-  pub shows : HasShown reader given shown
-  pub within : reader.counts.bytes ≤ 9223372036854775808
-  pub going : reader.over ≡ false
+  pub taken : HasTaken reader given shown source_before source_now
   pub drawn : HasDrawn q drawer shown
 
 -- before the first part
 pub stands_new : (q : Request) (reader : Reading) (drawer : Drawer) (source : Side) → q.form ≡ Picture → reader ≡ new_reading → Follows q drawer [] (listening_behind q.given) → Stands q reader drawer [] [] source source
 stands_new q reader drawer source form is follows = rw is (record {
   form = form;
-  gave = gave_none source;
-  bytes = all_none;
-  shows = shown_none;
-  within = omega arith;
-  going = refl;
+  taken = taken_none source;
   drawn = drawn_none q drawer follows;
 })
 
@@ -101,29 +92,20 @@ picture_none q source out form = record {
 }
 
 module _ (q : Request) (before : Reading) (drawer : Drawer) (given next : List ℕ) (shown : List CapturePacket) (a b c : Side) (stands : Stands q before drawer given shown a b) where
-  gave_all : Gave next b c → Gave (given ++ next) a c
-  gave_all gave = gave_more given next a b c stands.gave gave
-
-  bytes_all : All IsByte next → All IsByte (given ++ next)
-  bytes_all bytes = All-append IsByte given next stands.bytes bytes
-
-  has_read : HasRead (given ++ next) shown
-  has_read = read_before before given next shown stands.shows
-
   module _ (o p : Side) (after result : Result (Unit {0}) LadderHalt) (kept : WritesKept (picture_between drawer.search.found drawer.kept.items) o p after result) where
     by_kept : (WasWritten (drawn_text q shown) o p → Ends q (given ++ next) a c o p after) → Ends q (given ++ next) a c o p result
-    by_kept ends = ends_by q (given ++ next) a c o p shown (picture_between drawer.search.found drawer.kept.items) after result stands.form has_read (kept_is q drawer shown stands.form stands.drawn) ends kept
+    by_kept ends = ends_by q (given ++ next) a c o p shown (picture_between drawer.search.found drawer.kept.items) after result stands.form (has_read stands.taken next) (kept_is q drawer shown stands.form stands.drawn) ends kept
 
     -- the capture's end
     pub picture_done : (now : Reading) → ((rs : List SessionRung) → Seeks drawer.search rs → Tells drawer.search.number rs after)
         → Steps before now b c next (Ok step.End) → Writes q (given ++ next) a c o p result
     picture_done now tells steps =
-        let all : capture_of (given ++ next) ≡ record { packets = shown; passed = before.passed; fault = None } = shown_all before given next shown stands.shows None (steps.answers.2) in
+        let all = all_ended stands.taken steps in
         let h = stands.drawn in
         let said : Tells q.number h.rungs after = subst (λ (n : ℕ). Tells n h.rungs after) h.follows.number (tells h.rungs h.follows.seeks) in
         record {
-          gave = gave_all steps.gave;
-          bytes = bytes_all steps.bytes;
+          gave = gave_all stands.taken steps.gave;
+          bytes = bytes_all stands.taken next steps.bytes;
           ends = by_kept (λ wrote. ends_told q (given ++ next) a c o p shown after (ap (λ c. c.packets) all) (ap (λ c. c.fault) all) steps.answers.1 wrote (subst (λ (rs : List SessionRung). Tells q.number rs after) (sym (rungs_are q drawer shown h)) said));
         }
 
@@ -131,18 +113,14 @@ module _ (q : Request) (before : Reading) (drawer : Drawer) (given next : List �
   pub picture_broken : (o p : Side) (now : Reading) (fault : CaptureFault) (result : Result (Unit {0}) LadderHalt) → WritesKept (picture_between drawer.search.found drawer.kept.items) o p (Err (halt.Broken fault)) result
       → Steps before now b c next (Err (stream_halt.Broken fault)) → Writes q (given ++ next) a c o p result
   picture_broken o p now fault result kept steps =
-      let left = told c.bytes in
-      let all : capture_of (given ++ next) ≡ record { packets = shown; passed = before.passed; fault = Some fault } = shown_all before given next shown stands.shows (Some fault) (steps.answers.1) in
-      let group : (before.kept ++ next) ++ left ≡ before.kept ++ (next ++ left) = append_assoc before.kept next left in
-      let more : capture_of (given ++ (next ++ left)) ≡ record { packets = shown; passed = before.passed; fault = Some fault } =
-      shown_all before given (next ++ left) shown stands.shows (Some fault) (rw group at (steps.answers.2)) in
+      let all = all_broken stands.taken steps in
       record {
-        gave = gave_all steps.gave;
-        bytes = bytes_all steps.bytes;
+        gave = gave_all stands.taken steps.gave;
+        bytes = bytes_all stands.taken next steps.bytes;
         ends = by_kept o p (Err (halt.Broken fault)) result kept (λ wrote. record {
-          has_read = rw all has_read;
+          has_read = rw all (has_read stands.taken next);
           fault_is = ap (λ c. c.fault) all;
-          all = ap capture_of (append_assoc given next left) ∙ (more ∙ sym all);
+          all = stays_broken stands.taken steps;
           wrote = subst (λ (c : Capture). WasWritten (drawn_text q c.packets) o p) (sym all) wrote;
         });
       }
@@ -151,11 +129,11 @@ module _ (q : Request) (before : Reading) (drawer : Drawer) (given next : List �
   pub picture_read : (o p : Side) (now : Reading) (result : Result (Unit {0}) LadderHalt) → WritesKept (picture_between drawer.search.found drawer.kept.items) o p (Err halt.Read) result
       → Steps before now b c next (Err stream_halt.Read) → Writes q (given ++ next) a c o p result
   picture_read o p now result kept steps = record {
-    gave = gave_all steps.gave;
-    bytes = bytes_all steps.bytes;
+    gave = gave_all stands.taken steps.gave;
+    bytes = bytes_all stands.taken next steps.bytes;
     ends = by_kept o p (Err halt.Read) result kept (λ wrote. (
-      rose_after (length given) a b c stands.gave.counts (steps.answers.1),
-      record { read = shown; has_read = has_read; wrote = wrote },
+      rose_read stands.taken steps,
+      record { read = shown; has_read = has_read stands.taken next; wrote = wrote },
     ));
   }
 
@@ -163,41 +141,25 @@ module _ (q : Request) (before : Reading) (drawer : Drawer) (given next : List �
   pub picture_long : (o p : Side) (now : Reading) (result : Result (Unit {0}) LadderHalt) → WritesKept (picture_between drawer.search.found drawer.kept.items) o p (Err halt.TooLong) result
       → Steps before now b c next (Err stream_halt.TooLong) → Writes q (given ++ next) a c o p result
   picture_long o p now result kept steps =
-      let split : length (given ++ next) ≡ length (stands.shows.front ++ (before.kept ++ next)) =
-      ap length (ap (λ xs. xs ++ next) stands.shows.split ∙ append_assoc stands.shows.front before.kept next) in
-      let sum = length-append stands.shows.front (before.kept ++ next) in
-      let counted = stands.shows.bytes in
-      let many = steps.answers.1 in
       record {
-        gave = gave_all steps.gave;
-        bytes = bytes_all steps.bytes;
-        ends = by_kept o p (Err halt.TooLong) result kept (λ wrote. (omega arith, record { read = shown; has_read = has_read; wrote = wrote }));
+        gave = gave_all stands.taken steps.gave;
+        bytes = bytes_all stands.taken next steps.bytes;
+        ends = by_kept o p (Err halt.TooLong) result kept (λ wrote. (too_many stands.taken steps, record { read = shown; has_read = has_read stands.taken next; wrote = wrote }));
       }
 
   -- one more part was read, which says this
   module _ (now : Reading) (said : PartSaid) (passes : Passes before now (before.kept ++ next) said) (gave : Gave next b c) (bytes : All IsByte next) where
-    pub stands_smaller : 9223372036854775808 - now.counts.bytes < 9223372036854775808 - before.counts.bytes
-    stands_smaller =
-        let some = passes.some in
-        let more = passes.bytes in
-        let most = passes.within in
-        omega arith
-
     stands_listed : (drawer_now : Drawer) → HasDrawn q drawer_now (shown ++ listed now.packet) → Stands q now drawer_now (given ++ next) (shown ++ listed now.packet) a c
     stands_listed drawer_now drawn = record {
       form = stands.form;
-      gave = gave_all gave;
-      bytes = bytes_all bytes;
-      shows = shown_more before given next shown stands.shows now said passes;
-      within = passes.within;
-      going = passes.going;
+      taken = taken_more stands.taken gave bytes passes;
       drawn = drawn;
     }
 
     -- which showed no packet
     pub stands_block : ShowsNone said → Stands q now drawer (given ++ next) (shown ++ listed now.packet) a c
     stands_block none =
-        let nothing : listed now.packet ≡ [] = ap listed passes.shown ∙ none_listed said before.counts.packets none in
+        let nothing : listed now.packet ≡ [] = none_shown passes none in
         stands_listed drawer (drawn_still q drawer shown now.packet nothing stands.drawn)
 
     stands_by : (drawer_now : Drawer) (packet : Option CapturePacket) → now.packet ≡ packet → ((x : CapturePacket) → packet ≡ Some x → AddsPacket q drawer_now stands.drawn.rungs stands.drawn.known x) → IsSome packet
@@ -213,7 +175,7 @@ module _ (q : Request) (before : Reading) (drawer : Drawer) (given next : List �
     -- for whose segment memory ran out
     pub picture_memory : (out : Side) → Writes q (given ++ next) a c out out (Err halt.Memory)
     picture_memory out = record {
-      gave = gave_all gave;
-      bytes = bytes_all bytes;
-      ends = lacks_picture q (given ++ next) out out (shown ++ listed now.packet) stands.form (read_now now (given ++ next) (shown ++ listed now.packet) (shown_more before given next shown stands.shows now said passes)) (took_none out);
+      gave = gave_all stands.taken gave;
+      bytes = bytes_all stands.taken next bytes;
+      ends = lacks_picture q (given ++ next) out out (shown ++ listed now.packet) stands.form (read_more stands.taken next passes) (took_none out);
     }

@@ -3,10 +3,9 @@ use Rattle.std.proofs.Common.{◌≡◌, ℕ, zero, suc, ◌+◌, ◌-◌, ◌<�
 use Rattle.std.specs.Prelude.{is_some}
 use Rattle.std.proofs.Math.Seq.{take-append-add}
 use Rattle.std.proofs.lemmas.List.{append-nil, length-append}
-use Rattle.std.proofs.lemmas.List.Elements.{All-append, All-from_get_or}
 use Rattle.std.specs.List.{All}
-use Rattle.ao_base.specs.Outside.{IsAtEnd, Side, Gave, WasWritten, told}
-use Rattle.ao_base.proofs.Sides.{gave_more, gave_none, rose_after, took_more, took_none}
+use Rattle.ao_base.specs.Outside.{IsAtEnd, Side, Gave, WasWritten}
+use Rattle.ao_base.proofs.Sides.{gave_none, rose_after, took_more, took_none}
 use Rattle.book_base.specs.Hexadecimal.{IsByte}
 use Rattle.book_captures.specs.declared.capture_parts.CaptureFault.{CaptureFault}
 use Rattle.book_captures.specs.Parts.{PartSaid}
@@ -21,7 +20,8 @@ use Rattle.book_sessions.specs.Listening.{Listening, listening_behind}
 use Rattle.capture_stream.specs.declared.reader.CaptureStep.TheVariants as step
 use Rattle.capture_stream.specs.declared.reader.CaptureHalt.TheVariants as stream_halt
 use Rattle.capture_stream.specs.Reads.{Reading, new_reading, ShowsNone, Passes, Steps}
-use Rattle.scope_lines.proofs.Showing.{HasShown, listed, none_listed, one_listed, read_before, read_now, shown_all, shown_more, shown_none}
+use Rattle.scope_lines.proofs.Taken.{HasTaken, all_broken, all_ended, all_none, bytes_all, gave_all, has_read, no_more, none_shown, read_more, rose_read, stays_broken, taken_more, taken_none, too_many}
+use Rattle.scope_lines.proofs.Showing.{listed, one_listed, read_now, shown_none}
 use Rattle.scope_ladder.specs.declared.draw.LadderHalt.{LadderHalt}
 use Rattle.scope_ladder.specs.declared.draw.LadderHalt.TheVariants as halt
 use Rattle.scope_ladder.specs.declared.draw.TextHalt.{TextHalt}
@@ -93,8 +93,7 @@ text_one q form before now shown p h adds =
 -- no packet more
 pub drawn_still : (q : Request) (d : Drawer) (shown : List CapturePacket) (packet : Option CapturePacket) → listed packet ≡ [] → HasDrawn q d shown → HasDrawn q d (shown ++ listed packet)
 drawn_still q d shown packet none h =
-    let same : shown ++ listed packet ≡ shown = ap (λ (ps : List CapturePacket). shown ++ ps) none ∙ append-nil shown in
-    rw same h
+    rw (no_more shown packet none) h
 
 -- a text that wasn't written whole
 pub broke : (text : List ℕ) (p r : Side) (why : TextHalt) → WritesText text p r (Err why) → BreaksText text p r
@@ -105,16 +104,9 @@ broke text p r text_halt.Write breaks = breaks
 -- these bytes were given, these packets shown, and drawn
 pub record Between (q : Request) (reader : Reading) (drawer : Drawer) (given : List ℕ) (shown : List CapturePacket) (source_before source_now out_before out_now : Side) : Type 0 where
   pub form : q.form ≡ Text
-  pub gave : Gave given source_before source_now
-  pub bytes : All IsByte given
-  pub shows : HasShown reader given shown
-  pub within : reader.counts.bytes ≤ 9223372036854775808
-  pub going : reader.over ≡ false
+  pub taken : HasTaken reader given shown source_before source_now
   pub drawn : HasDrawn q drawer shown
   pub wrote : WasWritten (drawn_text q shown) out_before out_now
-
-pub all_none : All IsByte []
-all_none = All-from_get_or IsByte [] 0 (λ i within. absurd (omega arith))
 
 written_none : (q : Request) (out : Side) → WasWritten (drawn_text q []) out out
 written_none q out = subst (λ (t : List ℕ). WasWritten t out out) (sym (no_text q)) (took_none out)
@@ -123,11 +115,7 @@ written_none q out = subst (λ (t : List ℕ). WasWritten t out out) (sym (no_te
 pub between_new : (q : Request) (reader : Reading) (drawer : Drawer) (source out : Side) → q.form ≡ Text → reader ≡ new_reading → Follows q drawer [] (listening_behind q.given) → Between q reader drawer [] [] source source out out
 between_new q reader drawer source out form is follows = rw is (record {
   form = form;
-  gave = gave_none source;
-  bytes = all_none;
-  shows = shown_none;
-  within = omega arith;
-  going = refl;
+  taken = taken_none source;
   drawn = drawn_none q drawer follows;
   wrote = written_none q out;
 })
@@ -171,40 +159,30 @@ longer : (m n k size : ℕ) → n < k → size ≡ m + k → m + n < size
 longer m n k size low is = omega arith
 
 module _ (q : Request) (before : Reading) (drawer : Drawer) (given next : List ℕ) (shown : List CapturePacket) (a b c o p : Side) (between : Between q before drawer given shown a b o p) where
-  gave_all : Gave next b c → Gave (given ++ next) a c
-  gave_all gave = gave_more given next a b c between.gave gave
-
-  bytes_all : All IsByte next → All IsByte (given ++ next)
-  bytes_all bytes = All-append IsByte given next between.bytes bytes
-
   -- the capture's end
   pub ends_done : (now : Reading) (result : Result (Unit {0}) LadderHalt) → ((rs : List SessionRung) → Seeks drawer.search rs → Tells drawer.search.number rs result)
       → Steps before now b c next (Ok step.End) → Writes q (given ++ next) a c o p result
   ends_done now result tells steps =
-      let all : capture_of (given ++ next) ≡ record { packets = shown; passed = before.passed; fault = None } = shown_all before given next shown between.shows None (steps.answers.2) in
+      let all = all_ended between.taken steps in
       let h = between.drawn in
       let said : Tells q.number h.rungs result = subst (λ (n : ℕ). Tells n h.rungs result) h.follows.number (tells h.rungs h.follows.seeks) in
       record {
-        gave = gave_all steps.gave;
-        bytes = bytes_all steps.bytes;
+        gave = gave_all between.taken steps.gave;
+        bytes = bytes_all between.taken next steps.bytes;
         ends = ends_told q (given ++ next) a c o p shown result (ap (λ c. c.packets) all) (ap (λ c. c.fault) all) steps.answers.1 between.wrote (subst (λ (rs : List SessionRung). Tells q.number rs result) (sym (rungs_are q drawer shown h)) said);
       }
 
   -- a fault of the capture
   pub ends_broken : (now : Reading) (fault : CaptureFault) → Steps before now b c next (Err (stream_halt.Broken fault)) → Writes q (given ++ next) a c o p (Err (halt.Broken fault))
   ends_broken now fault steps =
-      let left = told c.bytes in
-      let all : capture_of (given ++ next) ≡ record { packets = shown; passed = before.passed; fault = Some fault } = shown_all before given next shown between.shows (Some fault) (steps.answers.1) in
-      let group : (before.kept ++ next) ++ left ≡ before.kept ++ (next ++ left) = append_assoc before.kept next left in
-      let more : capture_of (given ++ (next ++ left)) ≡ record { packets = shown; passed = before.passed; fault = Some fault } =
-      shown_all before given (next ++ left) shown between.shows (Some fault) (rw group at (steps.answers.2)) in
+      let all = all_broken between.taken steps in
       record {
-        gave = gave_all steps.gave;
-        bytes = bytes_all steps.bytes;
+        gave = gave_all between.taken steps.gave;
+        bytes = bytes_all between.taken next steps.bytes;
         ends = record {
-          has_read = rw all (read_before before given next shown between.shows);
+          has_read = rw all (has_read between.taken next);
           fault_is = ap (λ c. c.fault) all;
-          all = ap capture_of (append_assoc given next left) ∙ (more ∙ sym all);
+          all = stays_broken between.taken steps;
           wrote = subst (λ (c : Capture). WasWritten (drawn_text q c.packets) o p) (sym all) between.wrote;
         };
       }
@@ -212,46 +190,30 @@ module _ (q : Request) (before : Reading) (drawer : Drawer) (given next : List �
   -- a read that failed
   pub ends_read : (now : Reading) → Steps before now b c next (Err stream_halt.Read) → Writes q (given ++ next) a c o p (Err halt.Read)
   ends_read now steps = record {
-    gave = gave_all steps.gave;
-    bytes = bytes_all steps.bytes;
+    gave = gave_all between.taken steps.gave;
+    bytes = bytes_all between.taken next steps.bytes;
     ends = (
-      rose_after (length given) a b c between.gave.counts (steps.answers.1),
-      record { read = shown; has_read = read_before before given next shown between.shows; wrote = between.wrote },
+      rose_read between.taken steps,
+      record { read = shown; has_read = has_read between.taken next; wrote = between.wrote },
     );
   }
 
   -- more bytes than any file has
   pub ends_long : (now : Reading) → Steps before now b c next (Err stream_halt.TooLong) → Writes q (given ++ next) a c o p (Err halt.TooLong)
   ends_long now steps =
-      let split : length (given ++ next) ≡ length (between.shows.front ++ (before.kept ++ next)) =
-      ap length (ap (λ xs. xs ++ next) between.shows.split ∙ append_assoc between.shows.front before.kept next) in
-      let sum = length-append between.shows.front (before.kept ++ next) in
-      let counted = between.shows.bytes in
-      let many = steps.answers.1 in
       record {
-        gave = gave_all steps.gave;
-        bytes = bytes_all steps.bytes;
-        ends = (omega arith, record { read = shown; has_read = read_before before given next shown between.shows; wrote = between.wrote });
+        gave = gave_all between.taken steps.gave;
+        bytes = bytes_all between.taken next steps.bytes;
+        ends = (too_many between.taken steps, record { read = shown; has_read = has_read between.taken next; wrote = between.wrote });
       }
 
   -- one more part was read, which says this
   module _ (now : Reading) (said : PartSaid) (passes : Passes before now (before.kept ++ next) said) (gave : Gave next b c) (bytes : All IsByte next) where
-    pub between_smaller : 9223372036854775808 - now.counts.bytes < 9223372036854775808 - before.counts.bytes
-    between_smaller =
-        let some = passes.some in
-        let more = passes.bytes in
-        let most = passes.within in
-        omega arith
-
     between_listed : (drawer_now : Drawer) (r : Side) → HasDrawn q drawer_now (shown ++ listed now.packet) → WasWritten (drawn_text q (shown ++ listed now.packet)) o r
         → Between q now drawer_now (given ++ next) (shown ++ listed now.packet) a c o r
     between_listed drawer_now r drawn wrote = record {
       form = between.form;
-      gave = gave_all gave;
-      bytes = bytes_all bytes;
-      shows = shown_more before given next shown between.shows now said passes;
-      within = passes.within;
-      going = passes.going;
+      taken = taken_more between.taken gave bytes passes;
       drawn = drawn;
       wrote = wrote;
     }
@@ -259,8 +221,8 @@ module _ (q : Request) (before : Reading) (drawer : Drawer) (given next : List �
     -- which showed no packet
     pub between_block : ShowsNone said → Between q now drawer (given ++ next) (shown ++ listed now.packet) a c o p
     between_block none =
-        let nothing : listed now.packet ≡ [] = ap listed passes.shown ∙ none_listed said before.counts.packets none in
-        let same : shown ++ listed now.packet ≡ shown = ap (λ (ps : List CapturePacket). shown ++ ps) nothing ∙ append-nil shown in
+        let nothing : listed now.packet ≡ [] = none_shown passes none in
+        let same = no_more shown now.packet nothing in
         between_listed drawer p (drawn_still q drawer shown now.packet nothing between.drawn) (subst (λ (ps : List CapturePacket). WasWritten (drawn_text q ps) o p) (sym same) between.wrote)
 
     -- which showed a packet, whose lines were written
@@ -281,13 +243,13 @@ module _ (q : Request) (before : Reading) (drawer : Drawer) (given next : List �
     -- for whose lines memory ran out
     pub ends_memory : Writes q (given ++ next) a c o p (Err halt.Memory)
     ends_memory = record {
-      gave = gave_all gave;
-      bytes = bytes_all bytes;
+      gave = gave_all between.taken gave;
+      bytes = bytes_all between.taken next bytes;
       ends = lacks_as q (given ++ next) o p between.form (record {
         read = shown;
         later = listed now.packet;
         one = one_listed now.packet;
-        has_read = read_now now (given ++ next) (shown ++ listed now.packet) (shown_more before given next shown between.shows now said passes);
+        has_read = read_more between.taken next passes;
         wrote = between.wrote;
       });
     }
@@ -307,7 +269,7 @@ module _ (q : Request) (before : Reading) (drawer : Drawer) (given next : List �
           read = shown;
           last = x;
           n = length front + breaks.n;
-          has_read = read_now now (given ++ next) (shown ++ x ∷ []) (rw same at (shown_more before given next shown between.shows now said passes));
+          has_read = rw same at (read_more between.taken next passes);
           at_least = omega arith;
           not_all = subst (λ (t : List ℕ). length front + breaks.n < length t) (sym whole) (longer (length front) breaks.n (length text) (length (front ++ text)) low size);
           wrote = subst (λ (t : List ℕ). WasWritten (take (length front + breaks.n) t) o r) (sym whole) (subst (λ (t : List ℕ). WasWritten t o r) (sym cut) (took_more front (take breaks.n text) o p r between.wrote breaks.wrote));
@@ -317,4 +279,4 @@ module _ (q : Request) (before : Reading) (drawer : Drawer) (given next : List �
     -- whose lines weren't written whole
     pub ends_stuck : (drawer_now : Drawer) (r : Side) → IsSome now.packet → ((x : CapturePacket) → now.packet ≡ Some x → AddsPacket q drawer_now between.drawn.rungs between.drawn.known x)
         → BreaksText drawer_now.text.items p r → Writes q (given ++ next) a c o r (Err halt.Write)
-    ends_stuck drawer_now r some adds breaks = record { gave = gave_all gave; bytes = bytes_all bytes; ends = subst (λ (f : LadderForm). BreaksAs f q (given ++ next) o r) (sym between.form) (breaks_by drawer_now r now.packet refl some adds breaks) }
+    ends_stuck drawer_now r some adds breaks = record { gave = gave_all between.taken gave; bytes = bytes_all between.taken next bytes; ends = subst (λ (f : LadderForm). BreaksAs f q (given ++ next) o r) (sym between.form) (breaks_by drawer_now r now.packet refl some adds breaks) }

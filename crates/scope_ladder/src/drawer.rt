@@ -1,15 +1,11 @@
 //! A session of a capture, drawn packet by packet.
-ghost use Rattle.std.specs.Prelude.{◌≡◌, ◌≤◌, ◌<◌, ◌/◌, ◌∷◌, ◌++◌, [], ℕ, List, IfOk, IsSome, Ok, OnOk, Some, drop, length, take};
+ghost use Rattle.std.specs.Prelude.{◌≡◌, ◌≤◌, ◌<◌, ◌/◌, ◌∷◌, ◌++◌, [], ℕ, List, IfOk, IsSome, Ok, OnOk, Some, length};
 ghost use Rattle.book_captures.specs.Captures.{CapturePacket};
-ghost use Rattle.book_cmd_check.specs.Handshakes.{given_after};
-ghost use Rattle.book_pcap.specs.Packets.{longest_datagram};
-ghost use Rattle.book_segments.specs.Options.{find_ao};
 ghost use Rattle.book_segments.specs.Segments.{Read, reading};
 ghost use Rattle.book_sessions.specs.Listening.{Listening, listening_behind};
-ghost use Rattle.book_sessions.specs.Sessions.{ids_found, stored_by};
+ghost use Rattle.book_sessions.specs.Sessions.{stored_by};
 ghost use Rattle.book_draw_session.specs.Rungs.{session_rung};
 ghost use Rattle.book_draw_session.specs.declared.rung.SessionRung.{SessionRung as Segment};
-ghost use Rattle.capture_listener.specs.Listeners.{Knows};
 ghost use Rattle.scope_lines.specs.Writes.{found_in};
 ghost use Rattle.scope_ladder.specs.Drawing.{Adds, AddsPacket, AddsRead, Follows, Request, request_of};
 ghost use Rattle.scope_ladder.specs.Searches.{kept_as, shown_as, shown_rungs, shown_text};
@@ -18,19 +14,16 @@ use crate::search::{Search, Shown};
 use ao_base::Steps;
 use book_draw_session::SessionRung;
 use book_draw_session_svg::LadderForm;
-use book_sessions::{GivenIsns, KeyIds, SegmentOutcome};
-use capture_listener::Listener;
+use book_sessions::{GivenIsns, SegmentOutcome};
+use capture_listener::{Listener, key_ids};
 use capture_reader::FoundDatagram;
 use capture_stream::{CaptureReader, Skipped};
 use draw_session_rungs::{push_ends, push_rung};
 use key_table::Tables;
+use scope_lines::judged;
 use std::alloc::{AllocError, Global};
 use std::sync::ledger::Ledger;
-use tcp_options::AoFound;
 use tcp_segment::{Datagram, read_datagram};
-
-/// The most bytes that are judged of a datagram: those of the longest one of either version of IP.
-const LONGEST_DATAGRAM: usize = 65_575;
 
 /// How many nanoseconds a second has.
 const NANOSECONDS: u64 = 1_000_000_000;
@@ -46,29 +39,6 @@ pub(crate) struct Drawer {
     pub(crate) kept: Vec<SessionRung>,
 }
 
-// What is judged of the datagram that begins here in a frame.
-fn judged(frame: &[u8], first: usize) -> &[u8]
-    requires { first ≤ length frame.now }
-    ensures { result.now ≡ take longest_datagram (drop first frame.now) }
-{
-    let behind = &frame[first..];
-    &behind[..LONGEST_DATAGRAM.min(behind.len())]
-}
-
-fn ids(datagram: &Datagram<'_>) -> Option<KeyIds>
-    ensures { result ≡ ids_found (find_ao datagram.now.area) }
-{
-    match datagram.options().find_ao() {
-        AoFound::Absent => None,
-        AoFound::One(ao) => Some(KeyIds {
-            key_id: ao.key_id,
-            rnext_key_id: ao.rnext,
-        }),
-        AoFound::Two => None,
-        AoFound::WithMd5 => None,
-    }
-}
-
 fn session_rung(time: u64, datagram: &Datagram<'_>, outcome: SegmentOutcome) -> SessionRung
     ensures { result ≡ session_rung time datagram.now outcome }
 {
@@ -80,7 +50,7 @@ fn session_rung(time: u64, datagram: &Datagram<'_>, outcome: SegmentOutcome) -> 
         sequence: datagram.sequence(),
         acknowledgement: datagram.acknowledgement(),
         length: datagram.payload().len() as u64,
-        ids: ids(datagram),
+        ids: key_ids(datagram),
         outcome,
     }
 }
@@ -148,23 +118,6 @@ fn keep_shown(
     }
 }
 
-// A listener by these tables, as behind handshakes with the given initial sequence numbers.
-fn listener_of(
-    alloc: Global,
-    tables: Tables,
-    laps: u32,
-    isns: &[GivenIsns],
-) -> Result<Listener, AllocError>
-    ensures judging { IfOk result (λ l. l.judging ≡ record { tables = tables; laps = laps }) }
-    ensures knows { IfOk result (λ l. Knows l (listening_behind isns.now)) }
-{
-    let mut listener = Listener::new(alloc, tables, laps);
-    for given in isns {
-        let _has_room = listener.hold(alloc, *given)?;
-    }
-    Ok(listener)
-}
-
 impl Drawer {
     /// What draws the session of this number in a form: nothing came yet.
     pub(crate) fn new(
@@ -177,7 +130,7 @@ impl Drawer {
     ) -> Result<Drawer, AllocError>
         ensures { IfOk result (λ d. Follows (request_of form tables laps isns.now number) d [] (listening_behind isns.now)) }
     {
-        let listener = listener_of(alloc, tables, laps, isns)?;
+        let listener = Listener::behind(alloc, tables, laps, isns)?;
         Ok(Drawer {
             form,
             listener,

@@ -1,3 +1,4 @@
 pub mod Lines
 pub mod Showing
+pub mod Taken
 pub mod Walk

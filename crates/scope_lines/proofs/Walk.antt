@@ -1,15 +1,13 @@
 -- From one part of a capture to the next, and to each end.
-use Rattle.std.proofs.Common.{◌≡◌, ℕ, ◌-◌, ◌<◌, ◌≤◌, false, List, [], ◌∷◌, ◌++◌, length, take, Option, Some, None, Ok, Err, refl, sym, ap, ◌∙◌, arith}
-use Rattle.std.proofs.lemmas.List.{append-nil, length-append}
-use Rattle.std.proofs.lemmas.List.Elements.{All-append, All-from_get_or}
+use Rattle.std.proofs.Common.{◌≡◌, ℕ, ◌-◌, ◌<◌, ◌≤◌, List, [], ◌∷◌, ◌++◌, length, take, Option, Some, None, Ok, Err, refl, ap, ◌∙◌, arith}
+use Rattle.std.proofs.lemmas.List.{append-nil}
 use Rattle.std.proofs.lemmas.Grind.{flat_map-append}
 use Rattle.std.specs.List.{All}
-use Rattle.ao_base.specs.Outside.{Side, Gave, WasWritten, told}
-use Rattle.ao_base.proofs.Sides.{gave_more, gave_none, rose_after, took_more, took_none}
-use Rattle.std.proofs.Common.{append_assoc}
+use Rattle.ao_base.specs.Outside.{Side, Gave, WasWritten}
+use Rattle.ao_base.proofs.Sides.{gave_none, rose_after, took_more, took_none}
 use Rattle.book_captures.specs.declared.capture_parts.CaptureFault.{CaptureFault}
 use Rattle.book_captures.specs.Parts.{PartSaid}
-use Rattle.book_captures.specs.Captures.{CapturePacket, capture_of}
+use Rattle.book_captures.specs.Captures.{CapturePacket}
 use Rattle.book_scope.specs.PacketLines.{packet_line, packet_lines}
 use Rattle.capture_stream.specs.declared.reader.CaptureStep.TheVariants as step
 use Rattle.capture_stream.specs.declared.reader.CaptureHalt.TheVariants as stream_halt
@@ -18,30 +16,20 @@ use Rattle.capture_stream.specs.Reads.{Reading, new_reading, ShowsNone, Passes, 
 use Rattle.scope_lines.specs.declared.write.LinesHalt.TheVariants as halt
 use Rattle.scope_lines.specs.declared.write.LineHalt.TheVariants as line_halt
 use Rattle.scope_lines.specs.Writes.{Breaks, Writes, WritesPacket}
-use Rattle.scope_lines.proofs.Showing.{HasShown, listed, none_listed, one_listed, read_before, read_now, shown_all, shown_more, shown_none}
+use Rattle.scope_lines.proofs.Taken.{HasTaken, all_broken, all_ended, all_none, bytes_all, gave_all, has_read, none_shown, read_more, rose_read, shows_more, stays_broken, taken_more, taken_none, too_many}
+use Rattle.scope_lines.proofs.Showing.{listed, one_listed, read_now, shown_none}
 
 -- between two parts: these bytes were given, these packets shown, and their lines written
 pub record Between (reader : Reading) (given : List ℕ) (shown : List CapturePacket) (source_before source_now out_before out_now : Side) : Type 0 where
-  pub gave : Gave given source_before source_now
-  pub bytes : All IsByte given
-  pub shows : HasShown reader given shown
+  pub taken : HasTaken reader given shown source_before source_now
   pub near : length reader.kept ≤ 16842752
-  pub within : reader.counts.bytes ≤ 9223372036854775808
-  pub going : reader.over ≡ false
   pub wrote : WasWritten (packet_lines shown) out_before out_now
-
-all_none : All IsByte []
-all_none = All-from_get_or IsByte [] 0 (λ i within. absurd (omega arith))
 
 -- before the first part
 pub between_new : (reader : Reading) (source out : Side) → reader ≡ new_reading → Between reader [] [] source source out out
 between_new reader source out is = rw is (record {
-  gave = gave_none source;
-  bytes = all_none;
-  shows = shown_none;
+  taken = taken_none source;
   near = omega arith;
-  within = omega arith;
-  going = refl;
   wrote = took_none out;
 })
 
@@ -66,37 +54,27 @@ nothing_listed None b c wrote = absurd wrote
 nothing_listed (Some p) b c wrote = wrote
 
 module _ (before : Reading) (given next : List ℕ) (shown : List CapturePacket) (a b c o q : Side) (between : Between before given shown a b o q) where
-  gave_all : Gave next b c → Gave (given ++ next) a c
-  gave_all gave = gave_more given next a b c between.gave gave
-
-  bytes_all : All IsByte next → All IsByte (given ++ next)
-  bytes_all bytes = All-append IsByte given next between.bytes bytes
-
   -- the capture's end
   pub ends_done : (now : Reading) (done : Unit {0}) → Steps before now b c next (Ok step.End) → Writes (given ++ next) a c o q (Ok done)
   ends_done now done steps =
-      let all : capture_of (given ++ next) ≡ record { packets = shown; passed = before.passed; fault = None } = shown_all before given next shown between.shows None (steps.answers.2) in
+      let all = all_ended between.taken steps in
       record {
-        gave = gave_all steps.gave;
-        bytes = bytes_all steps.bytes;
+        gave = gave_all between.taken steps.gave;
+        bytes = bytes_all between.taken next steps.bytes;
         ends = record { at_end = steps.answers.1; faultless = ap (λ c. c.fault) all; wrote = rw all between.wrote };
       }
 
   -- a fault of the capture
   pub ends_broken : (now : Reading) (fault : CaptureFault) → Steps before now b c next (Err (stream_halt.Broken fault)) → Writes (given ++ next) a c o q (Err (halt.Broken fault))
   ends_broken now fault steps =
-      let left = told c.bytes in
-      let all : capture_of (given ++ next) ≡ record { packets = shown; passed = before.passed; fault = Some fault } = shown_all before given next shown between.shows (Some fault) (steps.answers.1) in
-      let group : (before.kept ++ next) ++ left ≡ before.kept ++ (next ++ left) = append_assoc before.kept next left in
-      let more : capture_of (given ++ (next ++ left)) ≡ record { packets = shown; passed = before.passed; fault = Some fault } =
-      shown_all before given (next ++ left) shown between.shows (Some fault) (rw group at (steps.answers.2)) in
+      let all = all_broken between.taken steps in
       record {
-        gave = gave_all steps.gave;
-        bytes = bytes_all steps.bytes;
+        gave = gave_all between.taken steps.gave;
+        bytes = bytes_all between.taken next steps.bytes;
         ends = record {
-          has_read = rw all (read_before before given next shown between.shows);
+          has_read = rw all (has_read between.taken next);
           fault_is = ap (λ c. c.fault) all;
-          all = ap capture_of (append_assoc given next left) ∙ (more ∙ sym all);
+          all = stays_broken between.taken steps;
           wrote = rw all between.wrote;
         };
       }
@@ -104,52 +82,36 @@ module _ (before : Reading) (given next : List ℕ) (shown : List CapturePacket)
   -- a read that failed
   pub ends_read : (now : Reading) → Steps before now b c next (Err stream_halt.Read) → Writes (given ++ next) a c o q (Err halt.Read)
   ends_read now steps = record {
-    gave = gave_all steps.gave;
-    bytes = bytes_all steps.bytes;
+    gave = gave_all between.taken steps.gave;
+    bytes = bytes_all between.taken next steps.bytes;
     ends = (
-      rose_after (length given) a b c between.gave.counts (steps.answers.1),
-      record { read = shown; has_read = read_before before given next shown between.shows; wrote = between.wrote },
+      rose_read between.taken steps,
+      record { read = shown; has_read = has_read between.taken next; wrote = between.wrote },
     );
   }
 
   -- more bytes than any file has
   pub ends_long : (now : Reading) → Steps before now b c next (Err stream_halt.TooLong) → Writes (given ++ next) a c o q (Err halt.TooLong)
   ends_long now steps =
-      let split : length (given ++ next) ≡ length (between.shows.front ++ (before.kept ++ next)) =
-      ap length (ap (λ xs. xs ++ next) between.shows.split ∙ append_assoc between.shows.front before.kept next) in
-      let sum = length-append between.shows.front (before.kept ++ next) in
-      let counted = between.shows.bytes in
-      let many = steps.answers.1 in
       record {
-        gave = gave_all steps.gave;
-        bytes = bytes_all steps.bytes;
-        ends = (omega arith, record { read = shown; has_read = read_before before given next shown between.shows; wrote = between.wrote });
+        gave = gave_all between.taken steps.gave;
+        bytes = bytes_all between.taken next steps.bytes;
+        ends = (too_many between.taken steps, record { read = shown; has_read = has_read between.taken next; wrote = between.wrote });
       }
 
   -- one more part was read, which says this
   module _ (now : Reading) (said : PartSaid) (passes : Passes before now (before.kept ++ next) said) (gave : Gave next b c) (bytes : All IsByte next) (near : length now.kept ≤ 16842752) where
-    pub between_smaller : 9223372036854775808 - now.counts.bytes < 9223372036854775808 - before.counts.bytes
-    between_smaller =
-        let some = passes.some in
-        let more = passes.bytes in
-        let most = passes.within in
-        omega arith
-
     between_listed : (r : Side) → WasWritten (packet_lines (listed now.packet)) q r → Between now (given ++ next) (shown ++ listed now.packet) a c o r
     between_listed r wrote = record {
-      gave = gave_all gave;
-      bytes = bytes_all bytes;
-      shows = shown_more before given next shown between.shows now said passes;
+      taken = taken_more between.taken gave bytes passes;
       near = near;
-      within = passes.within;
-      going = passes.going;
       wrote = rw (lines_more shown now.packet) (took_more (packet_lines shown) (packet_lines (listed now.packet)) o q r between.wrote wrote);
     }
 
     -- which showed no packet
     pub between_block : ShowsNone said → Between now (given ++ next) (shown ++ listed now.packet) a c o q
     between_block none =
-        let nothing : listed now.packet ≡ [] = ap listed passes.shown ∙ none_listed said before.counts.packets none in
+        let nothing : listed now.packet ≡ [] = none_shown passes none in
         between_listed q (rw nothing (took_none q))
 
     -- which showed a packet, whose line was written
@@ -161,13 +123,13 @@ module _ (before : Reading) (given next : List ℕ) (shown : List CapturePacket)
     ends_memory r wrote =
         let same : packet_lines shown ++ [] ≡ packet_lines shown = append-nil (packet_lines shown) in
         record {
-          gave = gave_all gave;
-          bytes = bytes_all bytes;
+          gave = gave_all between.taken gave;
+          bytes = bytes_all between.taken next bytes;
           ends = record {
             read = shown;
             later = listed now.packet;
             one = one_listed now.packet;
-            has_read = read_now now (given ++ next) (shown ++ listed now.packet) (shown_more before given next shown between.shows now said passes);
+            has_read = read_more between.taken next passes;
             near = near;
             wrote = rw same at (took_more (packet_lines shown) [] o q r between.wrote (nothing_listed now.packet q r wrote));
           };
@@ -181,7 +143,7 @@ module _ (before : Reading) (given next : List ℕ) (shown : List CapturePacket)
           read = shown;
           last = p;
           n = wrote.n;
-          has_read = read_now now (given ++ next) (shown ++ p ∷ []) (rw same at (shown_more before given next shown between.shows now said passes));
+          has_read = read_now now (given ++ next) (shown ++ p ∷ []) (rw same at (shows_more between.taken next passes));
           near = near;
           not_all = wrote.not_all;
           wrote = took_more (packet_lines shown) (take wrote.n (packet_line p ++ 10 ∷ [])) o q r between.wrote wrote.wrote;
@@ -190,4 +152,4 @@ module _ (before : Reading) (given next : List ℕ) (shown : List CapturePacket)
 
     -- whose line wasn't written whole
     pub ends_stuck : (r : Side) → WritesPacket now.packet q r (Err line_halt.Write) → Writes (given ++ next) a c o r (Err halt.Write)
-    ends_stuck r wrote = record { gave = gave_all gave; bytes = bytes_all bytes; ends = breaks_by now.packet refl r wrote }
+    ends_stuck r wrote = record { gave = gave_all between.taken gave; bytes = bytes_all between.taken next bytes; ends = breaks_by now.packet refl r wrote }

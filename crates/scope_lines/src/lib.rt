@@ -7,4 +7,5 @@ mod write;
 
 pub use capture_stream::{CaptureFault, Cause, RecordFault};
 pub use fault::push_fault;
+pub use line::{judged, push_reason};
 pub use write::{LinesHalt, write_lines};

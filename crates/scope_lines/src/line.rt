@@ -6,12 +6,10 @@ ghost use Rattle.book_scope.specs.PacketLines.{header_text, reason_text, remark,
 ghost use Rattle.scope_lines.specs.Writes.{found_in};
 
 use ao_base::{push_decimal, push_hex};
+use book_pcap::LONGEST_DATAGRAM;
 use capture_reader::FoundDatagram;
 use capture_stream::{CaptureReader, Header, Skipped};
 use std::alloc::AllocError;
-
-/// The most bytes that are judged of a datagram: those of the longest one of either version of IP.
-const LONGEST_DATAGRAM: usize = 65_575;
 
 /// How many nanoseconds a second has.
 const NANOSECONDS: u64 = 1_000_000_000;
@@ -44,8 +42,8 @@ fn push_link(out: &mut Vec<u8>, number: u32) -> Result<(), AllocError>
     push_decimal(out, u64::from(number))
 }
 
-// Puts why a packet is passed over behind `out`.
-fn push_reason(out: &mut Vec<u8>, why: Skipped) -> Result<(), AllocError>
+/// Puts why a packet is passed over behind `out`. Where memory runs out a part of it may stand there.
+pub fn push_reason(out: &mut Vec<u8>, why: Skipped) -> Result<(), AllocError>
     ensures { OnOk result (out.new.items ≡ out.old.items ++ reason_text why) }
 {
     match why {
@@ -93,8 +91,9 @@ fn push_stored(out: &mut Vec<u8>, time: u64, bytes: &[u8]) -> Result<(), AllocEr
     push_hex(out, bytes)
 }
 
-// What is judged of the datagram that begins here in a frame.
-fn judged(frame: &[u8], first: usize) -> &[u8]
+/// What is judged of the datagram that begins here in a frame: its bytes there, but no more than those of the
+/// longest datagram of either version of IP.
+pub fn judged(frame: &[u8], first: usize) -> &[u8]
     requires { first ≤ length frame.now }
     ensures { result.now ≡ take longest_datagram (drop first frame.now) }
 {

@@ -1,6 +1,6 @@
 //! The two ends of a connection.
-ghost use Rattle.std.specs.Prelude.{◌≡◌, option_map};
-ghost use Rattle.book_scope_plan.specs.CalendarTexts.{row_numbered, side_of};
+ghost use Rattle.std.specs.Prelude.{◌≡◌};
+ghost use Rattle.book_scope_plan.specs.CalendarTexts.{side_of};
 ghost use Rattle.book_scope_plan.specs.FindingTexts.{facing_at};
 ghost use Rattle.book_scope_plan.specs.PlanTexts.{facing};
 ghost use Rattle.scope_plan.specs.Facings.{facing_of};
@@ -8,7 +8,7 @@ ghost use Rattle.scope_plan.specs.KeyFiles.{key_file_of};
 
 use crate::key_file::KeyFile;
 use book_base::{End, Pair};
-use key_table::{Row, Table};
+use key_table::{Table, mirrored};
 
 /// The tables of the two ends of a connection.
 #[derive(Clone, Copy)]
@@ -62,19 +62,8 @@ impl<'a> Facing<'a> {
                 document: self.document,
                 node: self.other,
                 other: self.node,
-                pair: Pair {
-                    local: self.pair.remote,
-                    remote: self.pair.local,
-                },
+                pair: mirrored(&self.pair),
             },
         }
     }
-}
-
-/// The row of this number, from 1.
-pub(crate) fn row_numbered(table: &Table, number: u8) -> Option<&Row>
-    ensures { option_map (λ r. r.now) result ≡ row_numbered table.now.rows number }
-{
-    let rows = table.entries();
-    rows.get(usize::from(number).saturating_sub(1))
 }

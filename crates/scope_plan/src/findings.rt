@@ -5,13 +5,13 @@ ghost use Rattle.book_scope_plan.specs.FindingTexts.{finding_text, gap_text, ref
 ghost use Rattle.scope_plan.specs.Facings.{facing_of};
 
 use crate::differences::{fewest, push_nearest, push_sent};
-use crate::ends::{Facing, row_numbered};
+use crate::ends::Facing;
 use crate::lifetimes::push_short;
 use ao_base::push_decimal;
 use book_cmd_keys::Plan;
 use key_plan::Finding;
 use key_table::Row;
-use plan_texts::{push_row_name, push_times};
+use plan_texts::{push_row_name, push_times, row_numbered};
 use std::alloc::AllocError;
 
 /// With which id a row sends.

@@ -40,7 +40,7 @@ fn plan_lines(
     plan: &Plan,
     mut lines: SayingLines,
 ) -> Result<Planned, TextFault>
-    requires { length lines ≤ 20000 }
+    requires { length lines ≤ most_lines }
     ensures { Answers result (planned_from form (key_file_of keys.now) plan.now [] 0 false (said_by plan_pair_of lines.entry)) }
 {
     let mut out = Vec::new(alloc);

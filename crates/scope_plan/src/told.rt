@@ -1,14 +1,14 @@
 //! The turns of a calendar as they are told.
 ghost use Rattle.std.specs.Prelude.{◌≡◌, ◌++◌, option_map, IfOk, OnOk};
-ghost use Rattle.book_keys.specs.Rows.{receives, sends};
 ghost use Rattle.book_scope_plan.specs.CalendarTexts.{id_for, is_spent, row_numbered, row_turn_text, side_of, spent_text, told_turns, told_with, turn_words};
 
-use crate::ends::{Ends, row_numbered};
+use crate::ends::Ends;
 use ao_base::push_decimal;
 use book_base::Bytes;
 use book_scope_plan::Told;
 use key_plan::{Role, Turn};
-use key_table::{Direction, Row};
+use key_table::Row;
+use plan_texts::row_numbered;
 use std::alloc::{AllocError, Global};
 
 /// What is said of a turn in front of the row's number; None where it follows from others.
@@ -37,24 +37,12 @@ fn id_for(role: Role, row: &Row) -> u8
     }
 }
 
-fn is_sending(direction: Direction) -> bool
-    ensures { result ≡ sends direction }
-{
-    matches!(direction, Direction::Send | Direction::Both)
-}
-
-fn is_receiving(direction: Direction) -> bool
-    ensures { result ≡ receives direction }
-{
-    matches!(direction, Direction::Receive | Direction::Both)
-}
-
 /// Whether at the time the row has ended to send, and to accept.
 fn is_spent(time: u64, row: &Row) -> bool
     ensures { result ≡ is_spent time row.now }
 {
-    (!is_sending(row.direction()) || row.sending().last < time)
-        && (!is_receiving(row.direction()) || row.accepting().last < time)
+    (!row.direction().sends() || row.sending().last < time)
+        && (!row.direction().receives() || row.accepting().last < time)
 }
 
 fn spent_text(is_spent: bool) -> &'static [u8]

@@ -24,11 +24,13 @@ use Rattle.book_sessions_json.specs.Forms.{written_as}
 use Rattle.book_sessions_json.specs.TableSeries.{Series, early_text, last_text, series_text}
 use Rattle.scope_sessions.specs.declared.count.Counted.{Counted}
 use Rattle.scope_sessions.specs.declared.count.CountHalt.TheVariants as count_halt
-use Rattle.scope_sessions.specs.declared.write.SessionsHalt.{SessionsHalt}
-use Rattle.scope_sessions.specs.declared.write.SessionsHalt.TheVariants as halt
+use Rattle.scope_sessions.specs.declared.halt.JudgingHalt.{JudgingHalt}
+use Rattle.scope_sessions.specs.declared.halt.JudgingHalt.TheVariants as halt
 use Rattle.scope_sessions.specs.Reading.{Counts, HasCounted, series_of}
-use Rattle.scope_sessions.specs.Writing.{Ends, EndsBy, EndsWith, halt_of, halt_of_lines, Writes, WritesCounted}
-use Rattle.scope_sessions.proofs.Walk.{all_none, breaks_more, ends_none}
+use Rattle.scope_sessions.specs.Halts.{halt_of, halt_of_lines}
+use Rattle.scope_sessions.specs.Writing.{Ends, EndsBy, EndsWith, Writes, WritesCounted}
+use Rattle.scope_lines.proofs.Taken.{all_none}
+use Rattle.scope_sessions.proofs.Walk.{breaks_more, ends_none}
 
 module _ (s : Series) (given : List ℕ) (a c o p q : Side) (counted : Counted) (has : HasCounted s given c counted) (before : WasWritten (early_text s (capture_of given).packets) o p) where
   text_is : written_as s.request.form counted.listener.judging.tables counted.index ≡ last_text s (capture_of given).packets
@@ -37,7 +39,7 @@ module _ (s : Series) (given : List ℕ) (a c o p q : Side) (counted : Counted) 
   all_written : WasWritten (written_as s.request.form counted.listener.judging.tables counted.index) p q → WasWritten (series_text s (capture_of given).packets) o q
   all_written wrote = took_more (early_text s (capture_of given).packets) (last_text s (capture_of given).packets) o p q before (rw text_is at wrote)
 
-  pub ends_written : (result : Result Bool SessionsHalt) → WritesCounted s.request.form counted p q result → Ends s given a c o q result
+  pub ends_written : (result : Result Bool JudgingHalt) → WritesCounted s.request.form counted p q result → Ends s given a c o q result
   ends_written (Ok amiss) wrote = record {
     at_end = rw (wrote.0) at has.whole;
     faultless = sym has.fault_is ∙ wrote.0;
@@ -67,16 +69,16 @@ module _ (s : Series) (given : List ℕ) (a c o p q : Side) (counted : Counted) 
     wrote = took_and_none (early_text s (capture_of given).packets) o p q before wrote;
   }
 
-by_both : (request : TableRequest) (laps : ℕ) (read : Result (List Table) TableFault) (said : Result (List GivenIsns) TextFault) (tables : List Table) (isns : List GivenIsns) (given : List ℕ) (a c o q : Side) (result : Result Bool SessionsHalt)
+by_both : (request : TableRequest) (laps : ℕ) (read : Result (List Table) TableFault) (said : Result (List GivenIsns) TextFault) (tables : List Table) (isns : List GivenIsns) (given : List ℕ) (a c o q : Side) (result : Result Bool JudgingHalt)
     → read ≡ Ok tables → said ≡ Ok isns → Ends (series_of tables laps isns request) given a c o q result → EndsBy request laps read said given a c o q result
 by_both request laps read said tables isns given a c o q result is also ends = rw (is, also) ends
 
 module _ (request : TableRequest) (laps : ℕ) (keys lines : List ℕ) (tables : List Table) (isns : List GivenIsns) (is : tables_of keys ≡ Ok tables) (also : given_isns_of lines ≡ Ok isns) (given : List ℕ) (a c o q : Side) where
-  by_all : (result : Result Bool SessionsHalt) (now : Side) → Ends (series_of tables laps isns request) given a c o now result → EndsBy request laps (tables_of keys) (given_isns_of lines) given a c o now result
+  by_all : (result : Result Bool JudgingHalt) (now : Side) → Ends (series_of tables laps isns request) given a c o now result → EndsBy request laps (tables_of keys) (given_isns_of lines) given a c o now result
   by_all result now ends = by_both request laps (tables_of keys) (given_isns_of lines) tables isns given a c o now result is also ends
 
   -- what was counted was written, or not
-  pub writes_counted : (counted : Counted) (p : Side) (result : Result Bool SessionsHalt) → Counts (series_of tables laps isns request) given a c o p (Ok counted) → WritesCounted request.form counted p q result → Writes request laps keys lines given a c o q result
+  pub writes_counted : (counted : Counted) (p : Side) (result : Result Bool JudgingHalt) → Counts (series_of tables laps isns request) given a c o p (Ok counted) → WritesCounted request.form counted p q result → Writes request laps keys lines given a c o q result
   writes_counted counted p result counts wrote = record {
     gave = counts.gave;
     bytes = counts.bytes;

@@ -1,7 +1,6 @@
 pub mod Counting
 pub mod Ends
 pub mod GivenLaws
-pub mod HoldLaws
 pub mod JsonItems
 pub mod KeyWords
 pub mod OwnLaws

@@ -2,13 +2,12 @@
 use Rattle.std.proofs.Common.{◌≡◌, ℕ, ◌+◌, ◌-◌, ◌/◌, ◌<◌, ◌≤◌, false, List, [], ◌∷◌, ◌++◌, length, take, true, Option, Some, None, Ok, Err, IfSome, IsSome, refl, sym, ap, ◌∙◌, append_assoc, arith, option_map}
 use Rattle.std.proofs.Math.Seq.{take-append-add}
 use Rattle.std.proofs.lemmas.List.{append-nil, length-append}
-use Rattle.std.proofs.lemmas.List.Elements.{All-append, All-from_get_or}
 use Rattle.std.specs.List.{All}
-use Rattle.ao_base.specs.Outside.{Side, Gave, WasWritten, told}
-use Rattle.ao_base.proofs.Sides.{gave_more, gave_none, rose_after, took_and_none, took_more, took_none}
+use Rattle.ao_base.specs.Outside.{Side, Gave, WasWritten}
+use Rattle.ao_base.proofs.Sides.{gave_none, rose_after, took_and_none, took_more, took_none}
 use Rattle.book_captures.specs.declared.capture_parts.CaptureFault.{CaptureFault}
 use Rattle.book_captures.specs.Parts.{PartSaid}
-use Rattle.book_captures.specs.Captures.{CapturePacket, capture_of}
+use Rattle.book_captures.specs.Captures.{CapturePacket}
 use Rattle.book_sessions.specs.Laps.{Judging}
 use Rattle.book_sessions.specs.Listening.{Listening, listening_behind}
 use Rattle.book_sessions.specs.Sessions.{SessionTable, no_sessions, sessions_from, sessions_of}
@@ -18,7 +17,8 @@ use Rattle.capture_stream.specs.declared.reader.CaptureStep.TheVariants as step
 use Rattle.capture_stream.specs.declared.reader.CaptureHalt.TheVariants as stream_halt
 use Rattle.book_base.specs.Hexadecimal.{IsByte}
 use Rattle.capture_stream.specs.Reads.{Reading, new_reading, ShowsNone, Passes, Steps}
-use Rattle.scope_lines.proofs.Showing.{HasShown, listed, none_listed, one_listed, read_before, read_now, shown_all, shown_more, shown_none}
+use Rattle.scope_lines.proofs.Taken.{HasTaken, all_broken, all_ended, all_none, bytes_all, gave_all, has_read, no_more, none_shown, read_more, rose_read, stays_broken, taken_more, taken_none, too_many}
+use Rattle.scope_lines.proofs.Showing.{listed, one_listed, read_now, shown_none}
 use Rattle.scope_sessions.specs.declared.count.Counted.{Counted}
 use Rattle.scope_sessions.specs.declared.count.CountHalt.TheVariants as halt
 use Rattle.scope_sessions.specs.Counting.{CountsPacket}
@@ -87,31 +87,19 @@ written_one s shown since o p q packet last is w due = rw is (record {
 -- no packet more
 written_still : (s : Series) (shown : List CapturePacket) (packet : Option CapturePacket) (since : Option ℕ) (o p : Side) → listed packet ≡ [] → HasWritten s shown since o p → HasWritten s (shown ++ listed packet) since o p
 written_still s shown packet since o p none w =
-    let same : shown ++ listed packet ≡ shown = ap (λ (ps : List CapturePacket). shown ++ ps) none ∙ append-nil shown in
-    rw same w
+    rw (no_more shown packet none) w
 
 -- between two parts: these bytes were given, these packets shown and counted
 pub record Between (s : Series) (reader : Reading) (hearing : Hearing) (table : SessionTable) (since : Option ℕ) (given : List ℕ) (shown : List CapturePacket) (source_before source_now out_before out_now : Side) : Type 0 where
-  pub gave : Gave given source_before source_now
-  pub bytes : All IsByte given
-  pub shows : HasShown reader given shown
-  pub within : reader.counts.bytes ≤ 9223372036854775808
-  pub going : reader.over ≡ false
+  pub taken : HasTaken reader given shown source_before source_now
   pub heard : HasHeard s hearing table shown
   pub writes : HasWritten s shown since out_before out_now
-
-pub all_none : All IsByte []
-all_none = All-from_get_or IsByte [] 0 (λ i within. absurd (omega arith))
 
 -- before the first part
 pub between_new : (s : Series) (reader : Reading) (hearing : Hearing) (table : SessionTable) (source out : Side) → reader ≡ new_reading → hearing.judging ≡ s.judging → Knows hearing (listening_behind s.given) → table ≡ no_sessions →
     Between s reader hearing table None [] [] source source out out
 between_new s reader hearing table source out is same stands none = rw (is, none) (record {
-  gave = gave_none source;
-  bytes = all_none;
-  shows = shown_none;
-  within = omega arith;
-  going = refl;
+  taken = taken_none source;
   heard = record { known = listening_behind s.given; same = same; knows = stands; comes = λ ps. refl };
   writes = written_none s out;
 })
@@ -127,8 +115,7 @@ ends_none s source out = record {
 -- no packet more
 heard_none : (s : Series) (hearing : Hearing) (table : SessionTable) (shown : List CapturePacket) (packet : Option CapturePacket) → listed packet ≡ [] → HasHeard s hearing table shown → HasHeard s hearing table (shown ++ listed packet)
 heard_none s hearing table shown packet none heard =
-    let same : shown ++ listed packet ≡ shown = ap (λ (ps : List CapturePacket). shown ++ ps) none ∙ append-nil shown in
-    rw same heard
+    rw (no_more shown packet none) heard
 
 -- a packet more
 heard_one : (s : Series) (before now : Hearing) (table table_now : SessionTable) (shown : List CapturePacket) (packet : Option CapturePacket) (p : CapturePacket) → packet ≡ Some p → now.judging ≡ before.judging →
@@ -148,29 +135,23 @@ heard_all s hearing table shown heard =
     sym (ap (sessions_from s.judging (listening_behind s.given) no_sessions) (sym (append-nil shown)) ∙ heard.comes [])
 
 module _ (s : Series) (before : Reading) (hearing : Hearing) (table : SessionTable) (since : Option ℕ) (given next : List ℕ) (shown : List CapturePacket) (a b c o q : Side) (between : Between s before hearing table since given shown a b o q) where
-  gave_all : Gave next b c → Gave (given ++ next) a c
-  gave_all gave = gave_more given next a b c between.gave gave
-
-  bytes_all : All IsByte next → All IsByte (given ++ next)
-  bytes_all bytes = All-append IsByte given next between.bytes bytes
-
   wrote_before : WasWritten (early_text s shown) o q
   wrote_before = early_written s shown since o q between.writes
 
   -- the capture's end
   pub ends_done : (now : Reading) (counted : Counted) → counted.listener ≡ hearing → counted.index ≡ table → counted.fault ≡ None → Steps before now b c next (Ok step.End) → Counts s (given ++ next) a c o q (Ok counted)
   ends_done now counted by is none steps =
-      let all : capture_of (given ++ next) ≡ record { packets = shown; passed = before.passed; fault = None } = shown_all before given next shown between.shows None (steps.answers.2) in
+      let all = all_ended between.taken steps in
       record {
-        gave = gave_all steps.gave;
-        bytes = bytes_all steps.bytes;
+        gave = gave_all between.taken steps.gave;
+        bytes = bytes_all between.taken next steps.bytes;
         ends = (
           record {
             tables_are = ap (λ (k : Hearing). k.judging.tables) by ∙ ap (λ (j : Judging). j.tables) between.heard.same;
             table_is = rw all (is ∙ heard_all s hearing table shown between.heard);
             fault_is = none ∙ sym (ap (λ c. c.fault) all);
             whole = rw none (steps.answers.1);
-            has_read = rw all (read_before before given next shown between.shows);
+            has_read = rw all (has_read between.taken next);
           },
           rw all wrote_before,
         );
@@ -179,22 +160,18 @@ module _ (s : Series) (before : Reading) (hearing : Hearing) (table : SessionTab
   -- a fault of the capture
   pub ends_broken : (now : Reading) (fault : CaptureFault) (counted : Counted) → counted.listener ≡ hearing → counted.index ≡ table → counted.fault ≡ Some fault → Steps before now b c next (Err (stream_halt.Broken fault)) → Counts s (given ++ next) a c o q (Ok counted)
   ends_broken now fault counted by is some steps =
-      let left = told c.bytes in
-      let all : capture_of (given ++ next) ≡ record { packets = shown; passed = before.passed; fault = Some fault } = shown_all before given next shown between.shows (Some fault) (steps.answers.1) in
-      let group : (before.kept ++ next) ++ left ≡ before.kept ++ (next ++ left) = append_assoc before.kept next left in
-      let more : capture_of (given ++ (next ++ left)) ≡ record { packets = shown; passed = before.passed; fault = Some fault } =
-      shown_all before given (next ++ left) shown between.shows (Some fault) (rw group at (steps.answers.2)) in
-      let whole : capture_of ((given ++ next) ++ left) ≡ capture_of (given ++ next) = ap capture_of (append_assoc given next left) ∙ (more ∙ sym all) in
+      let all = all_broken between.taken steps in
+      let whole = stays_broken between.taken steps in
       record {
-        gave = gave_all steps.gave;
-        bytes = bytes_all steps.bytes;
+        gave = gave_all between.taken steps.gave;
+        bytes = bytes_all between.taken next steps.bytes;
         ends = (
           record {
             tables_are = ap (λ (k : Hearing). k.judging.tables) by ∙ ap (λ (j : Judging). j.tables) between.heard.same;
             table_is = rw all (is ∙ heard_all s hearing table shown between.heard);
             fault_is = some ∙ sym (ap (λ c. c.fault) all);
             whole = rw some whole;
-            has_read = rw all (read_before before given next shown between.shows);
+            has_read = rw all (has_read between.taken next);
           },
           rw all wrote_before,
         );
@@ -203,45 +180,29 @@ module _ (s : Series) (before : Reading) (hearing : Hearing) (table : SessionTab
   -- a read that failed
   pub ends_read : (now : Reading) → Steps before now b c next (Err stream_halt.Read) → Counts s (given ++ next) a c o q (Err halt.Read)
   ends_read now steps = record {
-    gave = gave_all steps.gave;
-    bytes = bytes_all steps.bytes;
+    gave = gave_all between.taken steps.gave;
+    bytes = bytes_all between.taken next steps.bytes;
     ends = (
-      rose_after (length given) a b c between.gave.counts (steps.answers.1),
-      record { read = shown; has_read = read_before before given next shown between.shows; wrote = wrote_before },
+      rose_read between.taken steps,
+      record { read = shown; has_read = has_read between.taken next; wrote = wrote_before },
     );
   }
 
   -- more bytes than any file has
   pub ends_long : (now : Reading) → Steps before now b c next (Err stream_halt.TooLong) → Counts s (given ++ next) a c o q (Err halt.TooLong)
   ends_long now steps =
-      let split : length (given ++ next) ≡ length (between.shows.front ++ (before.kept ++ next)) =
-      ap length (ap (λ xs. xs ++ next) between.shows.split ∙ append_assoc between.shows.front before.kept next) in
-      let sum = length-append between.shows.front (before.kept ++ next) in
-      let counted = between.shows.bytes in
-      let many = steps.answers.1 in
       record {
-        gave = gave_all steps.gave;
-        bytes = bytes_all steps.bytes;
-        ends = (omega arith, record { read = shown; has_read = read_before before given next shown between.shows; wrote = wrote_before });
+        gave = gave_all between.taken steps.gave;
+        bytes = bytes_all between.taken next steps.bytes;
+        ends = (too_many between.taken steps, record { read = shown; has_read = has_read between.taken next; wrote = wrote_before });
       }
 
   -- one more part was read, which says this
   module _ (now : Reading) (said : PartSaid) (passes : Passes before now (before.kept ++ next) said) (gave : Gave next b c) (bytes : All IsByte next) where
-    pub between_smaller : 9223372036854775808 - now.counts.bytes < 9223372036854775808 - before.counts.bytes
-    between_smaller =
-        let some = passes.some in
-        let more = passes.bytes in
-        let most = passes.within in
-        omega arith
-
     between_listed : (hearing_now : Hearing) (table_now : SessionTable) (since_now : Option ℕ) (r : Side) → HasHeard s hearing_now table_now (shown ++ listed now.packet) → HasWritten s (shown ++ listed now.packet) since_now o r
         → Between s now hearing_now table_now since_now (given ++ next) (shown ++ listed now.packet) a c o r
     between_listed hearing_now table_now since_now r heard writes = record {
-      gave = gave_all gave;
-      bytes = bytes_all bytes;
-      shows = shown_more before given next shown between.shows now said passes;
-      within = passes.within;
-      going = passes.going;
+      taken = taken_more between.taken gave bytes passes;
       heard = heard;
       writes = writes;
     }
@@ -249,7 +210,7 @@ module _ (s : Series) (before : Reading) (hearing : Hearing) (table : SessionTab
     -- which showed no packet
     pub between_block : ShowsNone said → Between s now hearing table since (given ++ next) (shown ++ listed now.packet) a c o q
     between_block none =
-        let gone = ap listed passes.shown ∙ none_listed said before.counts.packets none in
+        let gone = none_shown passes none in
         between_listed hearing table since q (heard_none s hearing table shown now.packet gone between.heard) (written_still s shown now.packet since o q gone between.writes)
 
     -- what is due in front of the packet that it showed
@@ -308,13 +269,13 @@ module _ (s : Series) (before : Reading) (hearing : Hearing) (table : SessionTab
         → seconds ≡ option_map (λ nanoseconds. nanoseconds / 1000000000) time → WasWritten (due_table s.request hearing.judging.tables table since seconds) q r
         → Counts s (given ++ next) a c o r (Err halt.Memory)
     ends_memory time seconds r some time_is seconds_are wrote = record {
-      gave = gave_all gave;
-      bytes = bytes_all bytes;
+      gave = gave_all between.taken gave;
+      bytes = bytes_all between.taken next bytes;
       ends = record {
         read = shown ++ listed now.packet;
         later = [];
         one = omega arith;
-        has_read = rw (append-nil (shown ++ listed now.packet)) (read_now now (given ++ next) (shown ++ listed now.packet) (shown_more before given next shown between.shows now said passes));
+        has_read = rw (append-nil (shown ++ listed now.packet)) (read_more between.taken next passes);
         wrote = memory_behind time seconds r now.packet refl some time_is seconds_are wrote;
       };
     }
@@ -322,13 +283,13 @@ module _ (s : Series) (before : Reading) (hearing : Hearing) (table : SessionTab
     -- memory ran out for what was due
     pub ends_lacking : (r : Side) → WasWritten [] q r → Counts s (given ++ next) a c o r (Err halt.Memory)
     ends_lacking r none = record {
-      gave = gave_all gave;
-      bytes = bytes_all bytes;
+      gave = gave_all between.taken gave;
+      bytes = bytes_all between.taken next bytes;
       ends = record {
         read = shown;
         later = listed now.packet;
         one = one_listed now.packet;
-        has_read = read_now now (given ++ next) (shown ++ listed now.packet) (shown_more before given next shown between.shows now said passes);
+        has_read = read_more between.taken next passes;
         wrote = took_and_none (early_text s shown) o q r wrote_before none;
       };
     }
@@ -341,7 +302,7 @@ module _ (s : Series) (before : Reading) (hearing : Hearing) (table : SessionTab
     breaks_by time seconds r (Some p) is some time_is seconds_are breaks = record {
       read = shown;
       last = p;
-      has_read = rw is at (read_now now (given ++ next) (shown ++ listed now.packet) (shown_more before given next shown between.shows now said passes));
+      has_read = rw is at (read_more between.taken next passes);
       breaks = rw (early_more s shown since o q p between.writes)
           (breaks_more (early_text s shown) (due_text s shown since (second_seen p)) o q r wrote_before (rw (due_is time seconds p is time_is seconds_are) at breaks));
     }
@@ -350,7 +311,7 @@ module _ (s : Series) (before : Reading) (hearing : Hearing) (table : SessionTab
         → seconds ≡ option_map (λ nanoseconds. nanoseconds / 1000000000) time → BreaksText [] (due_table s.request hearing.judging.tables table since seconds) q r
         → Counts s (given ++ next) a c o r (Err halt.Write)
     ends_stuck time seconds r some time_is seconds_are breaks = record {
-      gave = gave_all gave;
-      bytes = bytes_all bytes;
+      gave = gave_all between.taken gave;
+      bytes = bytes_all between.taken next bytes;
       ends = breaks_by time seconds r now.packet refl some time_is seconds_are breaks;
     }

@@ -8,7 +8,6 @@ use Rattle.book_cmd_check.specs.declared.given.GivenIsns.{GivenIsns}
 use Rattle.book_lines.specs.declared.text_fault.TextFault.{TextFault}
 use Rattle.book_lines.specs.declared.text_fault.TextFault.TheVariants as line_fault
 use Rattle.book_keys.specs.declared.fault.TableFault.{TableFault}
-use Rattle.book_keys.specs.declared.fault.TableFault.TheVariants as fault
 use Rattle.book_keys.specs.Rows.{Table}
 use Rattle.book_keys.specs.Nodes.{tables_of}
 use Rattle.book_sessions.specs.GivenLines.{given_isns_of}
@@ -23,8 +22,9 @@ use Rattle.book_base.specs.Hexadecimal.{IsByte}
 use Rattle.capture_stream.specs.Reads.{most_read}
 use Rattle.scope_lines.specs.Writes.{HasRead}
 use Rattle.scope_sessions.specs.declared.count.Counted.{Counted}
-use Rattle.scope_sessions.specs.declared.write.SessionsHalt.{SessionsHalt}
-use Rattle.scope_sessions.specs.declared.write.SessionsHalt.TheVariants as halt
+use Rattle.scope_sessions.specs.declared.halt.JudgingHalt.{JudgingHalt}
+use Rattle.scope_sessions.specs.declared.halt.JudgingHalt.TheVariants as halt
+use Rattle.scope_sessions.specs.Halts.{Nothing}
 use Rattle.scope_sessions.specs.Reading.{BreaksEarly, IsWhole, Lacks, Stops, series_of}
 use Rattle.scope_sessions.specs.Texts.{BreaksText}
 
@@ -52,7 +52,7 @@ pub record BreaksLast (s : Series) (given : List ℕ) (source_now out_before out
   pub breaks : BreaksText (early_text s (capture_of given).packets) (series_text s (capture_of given).packets) out_before out_now
 
 -- how each end comes, where these tables are asked for (own)
-abbrev pub Ends : Series → List ℕ → (source_before source_now out_before out_now : Side) → Result Bool SessionsHalt → Type 0
+abbrev pub Ends : Series → List ℕ → (source_before source_now out_before out_now : Side) → Result Bool JudgingHalt → Type 0
 Ends s given source_before source_now out_before out_now (Ok amiss) = Finishes s given source_now out_before out_now amiss
 Ends s given source_before source_now out_before out_now (Err (halt.Keys fault)) = ⊥
 Ends s given source_before source_now out_before out_now (Err (halt.IsnLine n kind)) = ⊥
@@ -63,12 +63,8 @@ Ends s given source_before source_now out_before out_now (Err halt.Read) = Rose 
 Ends s given source_before source_now out_before out_now (Err halt.Write) = BreaksEarly s given out_before out_now ⊎ BreaksLast s given source_now out_before out_now
 Ends s given source_before source_now out_before out_now (Err halt.Memory) = Lacks s given out_before out_now
 
--- nothing was read, and nothing written (own)
-abbrev pub Nothing : List ℕ → (out_before out_now : Side) → Type 0
-Nothing given out_before out_now = (given ≡ []) × WasWritten [] out_before out_now
-
 -- how each end comes by a key file's tables: given lines that are refused end all before the capture is read (own)
-abbrev pub EndsWith : TableRequest → (laps : ℕ) → List Table → Result (List GivenIsns) TextFault → List ℕ → (source_before source_now out_before out_now : Side) → Result Bool SessionsHalt → Type 0
+abbrev pub EndsWith : TableRequest → (laps : ℕ) → List Table → Result (List GivenIsns) TextFault → List ℕ → (source_before source_now out_before out_now : Side) → Result Bool JudgingHalt → Type 0
 EndsWith request laps tables (Ok isns) given source_before source_now out_before out_now result = Ends (series_of tables laps isns request) given source_before source_now out_before out_now result
 EndsWith request laps tables (Err why) given source_before source_now out_before out_now (Err (halt.IsnLine n kind)) = (why ≡ line_fault.Line n kind) × Nothing given out_before out_now
 EndsWith request laps tables (Err why) given source_before source_now out_before out_now (Err halt.TooManyIsns) = (why ≡ line_fault.TooManyLines) × Nothing given out_before out_now
@@ -76,31 +72,20 @@ EndsWith request laps tables (Err why) given source_before source_now out_before
 EndsWith request laps tables (Err why) given source_before source_now out_before out_now other = ⊥
 
 -- how each end comes: a key file that is refused ends all before the capture is read (own)
-abbrev pub EndsBy : TableRequest → (laps : ℕ) → Result (List Table) TableFault → Result (List GivenIsns) TextFault → List ℕ → (source_before source_now out_before out_now : Side) → Result Bool SessionsHalt → Type 0
+abbrev pub EndsBy : TableRequest → (laps : ℕ) → Result (List Table) TableFault → Result (List GivenIsns) TextFault → List ℕ → (source_before source_now out_before out_now : Side) → Result Bool JudgingHalt → Type 0
 EndsBy request laps (Ok tables) isns given source_before source_now out_before out_now result = EndsWith request laps tables isns given source_before source_now out_before out_now result
 EndsBy request laps (Err why) isns given source_before source_now out_before out_now (Err (halt.Keys fault)) = (fault ≡ why) × Nothing given out_before out_now
 EndsBy request laps (Err why) isns given source_before source_now out_before out_now (Err halt.Memory) = Nothing given out_before out_now
 EndsBy request laps (Err why) isns given source_before source_now out_before out_now other = ⊥
 
 -- the tables of a capture are written that are asked for, of which the source gave these bytes, by the key file of this text and the given lines of that one (own)
-pub record Writes (request : TableRequest) (laps : ℕ) (keys isns given : List ℕ) (source_before source_now out_before out_now : Side) (result : Result Bool SessionsHalt) : Type 0 where
+pub record Writes (request : TableRequest) (laps : ℕ) (keys isns given : List ℕ) (source_before source_now out_before out_now : Side) (result : Result Bool JudgingHalt) : Type 0 where
   pub gave : Gave given source_before source_now
   pub bytes : All IsByte given
   pub ends : EndsBy request laps (tables_of keys) (given_isns_of isns) given source_before source_now out_before out_now result
 
--- why all ends where the key file has this fault
-abbrev pub halt_of : TableFault → SessionsHalt
-halt_of fault.Memory = halt.Memory
-halt_of why = halt.Keys why
-
--- why all ends where the given lines have this fault
-abbrev pub halt_of_lines : TextFault → SessionsHalt
-halt_of_lines line_fault.Memory = halt.Memory
-halt_of_lines line_fault.TooManyLines = halt.TooManyIsns
-halt_of_lines (line_fault.Line n kind) = halt.IsnLine n kind
-
 -- the last table, that of what was counted, is written
-abbrev pub WritesCounted : TableForm → Counted → (out_before out_now : Side) → Result Bool SessionsHalt → Type 0
+abbrev pub WritesCounted : TableForm → Counted → (out_before out_now : Side) → Result Bool JudgingHalt → Type 0
 WritesCounted form counted out_before out_now (Ok amiss) = (counted.fault ≡ None) × (amiss ≡ has_amiss counted.index)
     × WasWritten (written_as form counted.listener.judging.tables counted.index) out_before out_now
 WritesCounted form counted out_before out_now (Err (halt.Broken fault)) = (counted.fault ≡ Some fault)

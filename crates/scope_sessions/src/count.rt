@@ -1,8 +1,7 @@
 //! The packets of a capture, counted one after another.
-ghost use Rattle.std.specs.Prelude.{◌≡◌, ◌≤◌, ◌<◌, ℕ, List, IfOk, IsSome, Ok, OnOk, Some, drop, length, take};
+ghost use Rattle.std.specs.Prelude.{◌≡◌, ◌≤◌, ◌<◌, ℕ, List, IfOk, IsSome, Ok, OnOk, Some, length};
 ghost use Rattle.ao_base.specs.Outside.{Side};
 ghost use Rattle.book_captures.specs.Captures.{CapturePacket};
-ghost use Rattle.book_pcap.specs.Packets.{longest_datagram};
 ghost use Rattle.book_sessions.specs.Listening.{Listening};
 ghost use Rattle.book_sessions.specs.Sessions.{stored_by};
 ghost use Rattle.capture_listener.specs.Listeners.{Knows};
@@ -12,7 +11,6 @@ ghost use Rattle.scope_sessions.specs.Reading.{Counts, series_of};
 
 use crate::due::{TextHalt, counted_since, second_of, write_due};
 use crate::heard::hear;
-use crate::holding::listener_of;
 use ao_base::{Sink, Source, Steps};
 use book_sessions::{GivenIsns, PassedOver};
 use book_sessions_json::TableRequest;
@@ -20,13 +18,11 @@ use capture_listener::Listener;
 use capture_reader::FoundDatagram;
 use capture_stream::{CaptureFault, CaptureHalt, CaptureReader, CaptureStep, Skipped};
 use key_table::Tables;
+use scope_lines::judged;
 use session_index::SessionIndex;
 use std::alloc::{AllocError, Global};
 use std::marker::Brand;
 use std::sync::ledger::{Blank, Ledger};
-
-/// The most bytes that are judged of a datagram: those of the longest one of either version of IP.
-const LONGEST_DATAGRAM: usize = 65_575;
 
 /// How many nanoseconds a second has.
 const NANOSECONDS: u64 = 1_000_000_000;
@@ -51,15 +47,6 @@ pub(crate) struct Counted {
     pub(crate) listener: Listener,
     pub(crate) index: SessionIndex,
     pub(crate) fault: Option<CaptureFault>,
-}
-
-// What is judged of the datagram that begins here in a frame.
-fn judged(frame: &[u8], first: usize) -> &[u8]
-    requires { first ≤ length frame.now }
-    ensures { result.now ≡ take longest_datagram (drop first frame.now) }
-{
-    let behind = &frame[first..];
-    &behind[..LONGEST_DATAGRAM.min(behind.len())]
 }
 
 // Counts the bytes that were stored at a time, in seconds since 1970.
@@ -157,7 +144,7 @@ fn count_counted<L: Ledger, I: Source, O: Sink>(
         Ok(reader) => reader,
         Err(_) => return Err(CountHalt::Memory),
     };
-    let mut listener = match listener_of(alloc, tables, laps, isns) {
+    let mut listener = match Listener::behind(alloc, tables, laps, isns) {
         Ok(listener) => listener,
         Err(_) => return Err(CountHalt::Memory),
     };

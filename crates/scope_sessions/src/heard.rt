@@ -1,33 +1,17 @@
 //! What comes of a stored datagram, as a segment that was seen.
 ghost use Rattle.std.specs.Prelude.{◌≡◌, ◌&&◌, IfOk, OnOk};
-ghost use Rattle.book_segments.specs.Options.{find_ao};
 ghost use Rattle.book_segments.specs.Segments.{Read, has, reading, ACK, SYN};
 ghost use Rattle.book_sessions.specs.Listening.{Listening, listen};
-ghost use Rattle.book_sessions.specs.Sessions.{ids_found, seen_segment};
+ghost use Rattle.book_sessions.specs.Sessions.{seen_segment};
 ghost use Rattle.capture_listener.specs.Listeners.{Knows};
 ghost use Rattle.scope_sessions.specs.Counting.{IsHeard, IsSeen};
 
 use ao_base::Steps;
-use book_sessions::{KeyIds, PassedOver, SeenSegment, SegmentOutcome};
-use capture_listener::Listener;
+use book_sessions::{PassedOver, SeenSegment, SegmentOutcome};
+use capture_listener::{Listener, key_ids};
 use std::alloc::{AllocError, Global};
 use std::sync::ledger::Ledger;
-use tcp_options::AoFound;
 use tcp_segment::{Datagram, Flag, read_datagram};
-
-fn ids(datagram: &Datagram<'_>) -> Option<KeyIds>
-    ensures { result ≡ ids_found (find_ao datagram.now.area) }
-{
-    match datagram.options().find_ao() {
-        AoFound::Absent => None,
-        AoFound::One(ao) => Some(KeyIds {
-            key_id: ao.key_id,
-            rnext_key_id: ao.rnext,
-        }),
-        AoFound::Two => None,
-        AoFound::WithMd5 => None,
-    }
-}
 
 fn seen_segment(time: u64, datagram: &Datagram<'_>, outcome: SegmentOutcome) -> SeenSegment
     ensures { result ≡ seen_segment time datagram.now outcome }
@@ -36,7 +20,7 @@ fn seen_segment(time: u64, datagram: &Datagram<'_>, outcome: SegmentOutcome) -> 
         time,
         source: datagram.source(),
         destination: datagram.destination(),
-        ids: ids(datagram),
+        ids: key_ids(datagram),
         opens: datagram.has(Flag::Syn) && datagram.has(Flag::Ack),
         outcome,
     }

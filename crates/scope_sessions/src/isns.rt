@@ -5,8 +5,7 @@ ghost use Rattle.book_sessions.specs.GivenLines.{can_connect, given_isns_in, giv
 ghost use Rattle.text_lines.specs.Readings.{Fails, gives};
 ghost use Rattle.scope_sessions.specs.Given.{given_from};
 
-use crate::words::is_same_socket;
-use ao_base::is_one_family;
+use ao_base::{is_one_family, is_same_socket};
 use book_base::Socket;
 use book_lines::{LineKind, TextFault};
 use book_sessions::GivenIsns;
@@ -17,7 +16,7 @@ use text_lines::{LineWords, Saying, SayingLines, count_lines};
 fn can_connect(one: Socket, other: Socket) -> bool
     ensures { result ≡ can_connect one other }
 {
-    is_one_family(&one.address, &other.address) && !is_same_socket(one, other)
+    is_one_family(&one.address, &other.address) && !is_same_socket(&one, &other)
 }
 
 /// A socket that can connect with this one; `Range` for another one.

@@ -11,8 +11,7 @@ use crate::json_values::{
     push_address_text, push_bool, push_comma, push_id, push_name, push_string, push_time,
 };
 use crate::session_texts::{first_of, is_of_session, is_opened};
-use crate::words::is_same_socket;
-use ao_base::push_decimal;
+use ao_base::{is_same_socket, push_decimal};
 use book_base::Socket;
 use book_sessions::KeyUse;
 use session_index::{SessionIndex, outcome_word};
@@ -44,7 +43,7 @@ fn push_ends(alloc: Global, out: &mut Vec<u8>, first: &KeyUse) -> Result<(), All
 fn sender_place(heading: &KeyUse, one: &KeyUse) -> u64
     ensures { result ≡ sender_place heading.now one.now }
 {
-    if is_same_socket(one.source, heading.source) {
+    if is_same_socket(&one.source, &heading.source) {
         0
     } else {
         1

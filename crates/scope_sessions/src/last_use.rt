@@ -1,23 +1,17 @@
 //! Who used a key last, and whether anyone asks for it.
 ghost use Rattle.std.specs.Prelude.{◌≡◌, ◌++◌, ◌∷◌, ◌||◌, not, IfOk, List, OnOk, Some, cond, filter, if◌then◌else◌};
 ghost use Rattle.std.specs.List.{find, list_any};
-ghost use Rattle.book_segments.specs.Sockets.{same_address};
 ghost use Rattle.book_sessions.specs.declared.uses.KeyUse.{KeyUse as Use};
 ghost use Rattle.book_sessions.specs.KeyLines.{asks_for_row, asks_row_still, between, carries_row, is_current, is_id, is_of_row, is_wanted, last_of, later_of, overtakes};
 ghost use Rattle.session_index.specs.Places.{number_between};
 
-use crate::words::{is_same_id, is_same_socket, is_verified};
-use book_base::{Address, Pair, Socket};
+use crate::words::{is_same_id, is_verified};
+use ao_base::{is_same_address, is_same_socket};
+use book_base::{Pair, Socket};
 use book_sessions::KeyUse;
 use key_table::{Row, Table};
 use session_index::SessionIndex;
 use std::alloc::{AllocError, Global};
-
-fn is_same_address(one: Address, two: Address) -> bool
-    ensures { result ≡ same_address one two }
-{
-    one == two
-}
 
 fn is_id(found: Option<u8>, id: u8) -> bool
     ensures { result ≡ is_id found id }
@@ -43,7 +37,8 @@ fn between(own: Socket, other: Socket) -> Pair
 fn is_of_row(table: &Table, row: &Row, pair: Pair, found: Option<u8>, id: u8) -> bool
     ensures { result ≡ is_of_row table.now row.now pair found id }
 {
-    is_same_address(pair.local.address, table.address()) && (row.matches(&pair) && is_id(found, id))
+    is_same_address(&pair.local.address, &table.address())
+        && (row.matches(&pair) && is_id(found, id))
 }
 
 fn carries_row(table: &Table, row: &Row, one: &KeyUse) -> bool
@@ -85,8 +80,8 @@ fn asks_for_row(table: &Table, row: &Row, one: &KeyUse) -> bool
 fn overtakes(later: &KeyUse, earlier: &KeyUse) -> bool
     ensures { result ≡ overtakes later.now earlier.now }
 {
-    (is_same_socket(later.source, earlier.source)
-        && is_same_socket(later.destination, earlier.destination))
+    (is_same_socket(&later.source, &earlier.source)
+        && is_same_socket(&later.destination, &earlier.destination))
         && ((is_verified(later.outcome) && !is_same_id(later.key_id, earlier.key_id))
             && earlier.last < later.last)
 }

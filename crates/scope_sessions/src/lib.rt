@@ -4,8 +4,8 @@
 
 mod count;
 mod due;
+mod halt;
 mod heard;
-mod holding;
 mod isns;
 mod json_keys;
 mod json_packets;
@@ -22,7 +22,8 @@ mod write;
 
 pub use book_lines::LineKind;
 pub use book_sessions_json::{TableForm, TableRequest};
+pub use halt::{JudgingHalt, halt_of, halt_of_lines};
 pub use isns::read_given;
 pub use passed_texts::push_passed;
 pub use session_texts::{push_host, push_time};
-pub use write::{SessionsHalt, write_sessions};
+pub use write::write_sessions;

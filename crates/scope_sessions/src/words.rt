@@ -1,22 +1,14 @@
-//! Which segments are verified, and when sockets and KeyIDs are the same.
+//! Which segments are verified, and when KeyIDs are the same.
 ghost use Rattle.std.specs.Prelude.{◌≡◌};
-ghost use Rattle.book_segments.specs.Sockets.{same_socket};
 ghost use Rattle.book_sessions.specs.OutcomeTexts.{is_verified};
 ghost use Rattle.book_sessions.specs.Sessions.{same_id};
 
-use book_base::Socket;
 use book_sessions::SegmentOutcome;
 
 pub(crate) fn is_verified(outcome: SegmentOutcome) -> bool
     ensures { result ≡ is_verified outcome }
 {
     matches!(outcome, SegmentOutcome::Verified)
-}
-
-pub(crate) fn is_same_socket(one: Socket, two: Socket) -> bool
-    ensures { result ≡ same_socket one two }
-{
-    one == two
 }
 
 pub(crate) fn is_same_id(one: Option<u8>, two: Option<u8>) -> bool

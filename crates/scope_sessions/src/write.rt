@@ -1,66 +1,17 @@
 //! A capture's table of sessions, written when the capture is read.
 ghost use Rattle.std.specs.Prelude.{◌≡◌, ℕ, List};
 ghost use Rattle.ao_base.specs.Outside.{Side};
-ghost use Rattle.scope_sessions.specs.Writing.{halt_of, halt_of_lines, Writes, WritesCounted};
+ghost use Rattle.scope_sessions.specs.Writing.{Writes, WritesCounted};
 
 use crate::count::{CountHalt, Counted, count_capture};
 use crate::due::push_form;
+use crate::halt::{JudgingHalt, halt_of, halt_of_lines};
 use crate::isns::read_given;
 use crate::table_text::has_amiss;
 use ao_base::{Failed, Sink, Source, write_all};
-use book_lines::{LineKind, TextFault};
 use book_sessions_json::{TableForm, TableRequest};
-use capture_stream::CaptureFault;
-use key_table::{TableFault, read_tables};
+use key_table::read_tables;
 use std::alloc::Global;
-
-/// Why not the table of a whole capture was written.
-#[derive(Clone, Copy, Debug, PartialEq, Eq)]
-pub enum SessionsHalt {
-    /// The key file is refused.
-    Keys(TableFault),
-    /// The given line of this number, counted from 1 among all lines, is faulty; with the kind of its
-    /// first faulty word.
-    IsnLine(u32, LineKind),
-    /// More than 20,000 lines are given.
-    TooManyIsns,
-    /// The capture is faulty here. The table of the packets in front was written.
-    Broken(CaptureFault),
-    /// The source gave more than 2^63 bytes.
-    TooLong,
-    /// A read failed.
-    Read,
-    /// A write failed.
-    Write,
-    /// Memory ran out.
-    Memory,
-}
-
-fn halt_of(fault: TableFault) -> SessionsHalt
-    ensures { result ≡ halt_of fault }
-{
-    match fault {
-        TableFault::Memory => SessionsHalt::Memory,
-        TableFault::Syntax => SessionsHalt::Keys(TableFault::Syntax),
-        TableFault::Field(node, row, column) => {
-            SessionsHalt::Keys(TableFault::Field(node, row, column))
-        }
-        TableFault::TooMany(node) => SessionsHalt::Keys(TableFault::TooMany(node)),
-        TableFault::Overlap(node, first, second) => {
-            SessionsHalt::Keys(TableFault::Overlap(node, first, second))
-        }
-    }
-}
-
-fn halt_of_lines(fault: TextFault) -> SessionsHalt
-    ensures { result ≡ halt_of_lines fault }
-{
-    match fault {
-        TextFault::Memory => SessionsHalt::Memory,
-        TextFault::TooManyLines => SessionsHalt::TooManyIsns,
-        TextFault::Line(number, kind) => SessionsHalt::IsnLine(number, kind),
-    }
-}
 
 // Writes the table of what was counted.
 fn write_counted<O: Sink>(
@@ -68,7 +19,7 @@ fn write_counted<O: Sink>(
     form: TableForm,
     counted: &Counted,
     out: &mut O,
-) -> Result<bool, SessionsHalt>
+) -> Result<bool, JudgingHalt>
     ensures { WritesCounted form counted.now (O.side out.old) (O.side out.new) result }
 {
     let mut text = Vec::new(alloc);
@@ -80,15 +31,15 @@ fn write_counted<O: Sink>(
         &counted.index,
     ) {
         Ok(()) => {}
-        Err(_) => return Err(SessionsHalt::Memory),
+        Err(_) => return Err(JudgingHalt::Memory),
     }
     match write_all(out, text.as_slice()) {
         Ok(()) => {}
-        Err(Failed) => return Err(SessionsHalt::Write),
+        Err(Failed) => return Err(JudgingHalt::Write),
     }
     match counted.fault {
         None => Ok(has_amiss(&counted.index)),
-        Some(fault) => Err(SessionsHalt::Broken(fault)),
+        Some(fault) => Err(JudgingHalt::Broken(fault)),
     }
 }
 
@@ -118,7 +69,7 @@ pub fn write_sessions<I: Source, O: Sink>(
     isns: &[u8],
     input: &mut I,
     out: &mut O,
-) -> Result<bool, SessionsHalt>
+) -> Result<bool, JudgingHalt>
     ensures { (given : List ℕ) × Writes request laps keys.now isns.now given (I.side input.old) (I.side input.new) (O.side out.old) (O.side out.new) result }
 {
     let tables = match read_tables(alloc, keys) {
@@ -131,9 +82,9 @@ pub fn write_sessions<I: Source, O: Sink>(
     };
     match count_capture(alloc, tables, laps, given.as_slice(), request, input, out) {
         Ok(counted) => write_counted(alloc, request.form, &counted, out),
-        Err(CountHalt::TooLong) => Err(SessionsHalt::TooLong),
-        Err(CountHalt::Read) => Err(SessionsHalt::Read),
-        Err(CountHalt::Write) => Err(SessionsHalt::Write),
-        Err(CountHalt::Memory) => Err(SessionsHalt::Memory),
+        Err(CountHalt::TooLong) => Err(JudgingHalt::TooLong),
+        Err(CountHalt::Read) => Err(JudgingHalt::Read),
+        Err(CountHalt::Write) => Err(JudgingHalt::Write),
+        Err(CountHalt::Memory) => Err(JudgingHalt::Memory),
     }
 }

@@ -15,13 +15,14 @@ use Rattle.book_keys.specs.Rows.{Table}
 use Rattle.book_scope_plan.specs.AdminNames.{KeyFile}
 use Rattle.book_sessions.specs.GivenLines.{given_isns_of}
 use Rattle.text_lines.specs.Readings as readings
-use Rattle.scope_sessions.proofs.Walk.{all_none}
+use Rattle.scope_lines.proofs.Taken.{all_none}
 use Rattle.scope_why.specs.declared.answer.Answered.{Answered}
-use Rattle.scope_why.specs.declared.write.WhyHalt.{WhyHalt}
-use Rattle.scope_why.specs.declared.write.WhyHalt.TheVariants as halt
+use Rattle.scope_sessions.specs.declared.halt.JudgingHalt.{JudgingHalt}
+use Rattle.scope_sessions.specs.declared.halt.JudgingHalt.TheVariants as halt
 use Rattle.scope_why.specs.declared.write.WhyRequest.{WhyRequest}
 use Rattle.scope_why.specs.Reading.{IsAnswer, Reads}
-use Rattle.scope_why.specs.Writing.{Ends, EndsBy, EndsWith, Writes, WritesAnswer, halt_of, halt_of_lines, key_file_by, key_file_in, question_of}
+use Rattle.scope_sessions.specs.Halts.{halt_of, halt_of_lines}
+use Rattle.scope_why.specs.Writing.{Ends, EndsBy, EndsWith, Writes, WritesAnswer, key_file_by, key_file_in, question_of}
 use Rattle.scope_why.proofs.Walk.{ends_none}
 
 file_is : (tables : Result (List Table) TableFault) (document : Option Members) (ts : List Table) (d : Members) → tables ≡ Ok ts → document ≡ Some d → key_file_by tables document ≡ Ok (record { document = d; tables = ts })
@@ -30,15 +31,15 @@ file_is tables document ts d is also = rw (is, also) refl
 pub file_in : (text : List ℕ) (ts : List Table) (d : Members) → tables_of text ≡ Ok ts → document_of text ≡ Some d → key_file_in text ≡ Ok (record { document = d; tables = ts })
 file_in text ts d is also = file_is (tables_of text) (document_of text) ts d is also
 
-by_both : (request : WhyRequest) (read : Result KeyFile TableFault) (said : Result (List GivenIsns) TextFault) (keys : KeyFile) (isns : List GivenIsns) (given : List ℕ) (a c o q : Side) (result : Result Bool WhyHalt)
+by_both : (request : WhyRequest) (read : Result KeyFile TableFault) (said : Result (List GivenIsns) TextFault) (keys : KeyFile) (isns : List GivenIsns) (given : List ℕ) (a c o q : Side) (result : Result Bool JudgingHalt)
     → read ≡ Ok keys → said ≡ Ok isns → Ends keys (question_of request isns) given a c o q result → EndsBy request read said given a c o q result
 by_both request read said keys isns given a c o q result is also ends = rw (is, also) ends
 
 module _ (request : WhyRequest) (text lines : List ℕ) (keys : KeyFile) (isns : List GivenIsns) (is : key_file_in text ≡ Ok keys) (also : given_isns_of lines ≡ Ok isns) (given : List ℕ) (a c o : Side) where
-  by_all : (result : Result Bool WhyHalt) (now : Side) → Ends keys (question_of request isns) given a c o now result → EndsBy request (key_file_in text) (given_isns_of lines) given a c o now result
+  by_all : (result : Result Bool JudgingHalt) (now : Side) → Ends keys (question_of request isns) given a c o now result → EndsBy request (key_file_in text) (given_isns_of lines) given a c o now result
   by_all result now ends = by_both request (key_file_in text) (given_isns_of lines) keys isns given a c o now result is also ends
 
-  ends_written : (answered : Answered) (q : Side) (result : Result Bool WhyHalt) → IsAnswer keys (question_of request isns) given c answered.text.items answered.passes → WritesAnswer answered o q result
+  ends_written : (answered : Answered) (q : Side) (result : Result Bool JudgingHalt) → IsAnswer keys (question_of request isns) given c answered.text.items answered.passes → WritesAnswer answered o q result
       → Ends keys (question_of request isns) given a c o q result
   ends_written answered q (Ok passes) answer wrote = record { text = answered.text.items; is = rw (wrote.0) answer; wrote = wrote.1 }
   ends_written answered q (Err (halt.Keys fault)) answer wrote = wrote
@@ -51,11 +52,11 @@ module _ (request : WhyRequest) (text lines : List ℕ) (keys : KeyFile) (isns :
   ends_written answered q (Err halt.Memory) answer wrote = absurd wrote
 
   -- the answer was written, or not
-  pub writes_answered : (answered : Answered) (q : Side) (result : Result Bool WhyHalt) → Reads keys (question_of request isns) given a c (Ok answered) → WritesAnswer answered o q result → Writes request text lines given a c o q result
+  pub writes_answered : (answered : Answered) (q : Side) (result : Result Bool JudgingHalt) → Reads keys (question_of request isns) given a c (Ok answered) → WritesAnswer answered o q result → Writes request text lines given a c o q result
   writes_answered answered q result reads wrote =
       record { gave = reads.gave; bytes = reads.bytes; ends = by_all result q (ends_written answered q result reads.ends wrote) }
 
-  ends_halted : (h : WhyHalt) → Reads keys (question_of request isns) given a c (Err h) → Ends keys (question_of request isns) given a c o o (Err h)
+  ends_halted : (h : JudgingHalt) → Reads keys (question_of request isns) given a c (Err h) → Ends keys (question_of request isns) given a c o o (Err h)
   ends_halted (halt.Keys fault) reads = absurd reads.ends
   ends_halted (halt.IsnLine n kind) reads = absurd reads.ends
   ends_halted halt.TooManyIsns reads = absurd reads.ends
@@ -66,7 +67,7 @@ module _ (request : WhyRequest) (text lines : List ℕ) (keys : KeyFile) (isns :
   ends_halted halt.Memory reads = (reads.ends, took_none o)
 
   -- there is no answer
-  pub writes_halted : (h : WhyHalt) → Reads keys (question_of request isns) given a c (Err h) → Writes request text lines given a c o o (Err h)
+  pub writes_halted : (h : JudgingHalt) → Reads keys (question_of request isns) given a c (Err h) → Writes request text lines given a c o o (Err h)
   writes_halted h reads = record { gave = reads.gave; bytes = reads.bytes; ends = by_all (Err h) o (ends_halted h reads) }
 
 memory_with : (request : WhyRequest) (keys : KeyFile) (said : Result (List GivenIsns) TextFault) (a o : Side) → EndsWith request keys said [] a a o o (Err halt.Memory)

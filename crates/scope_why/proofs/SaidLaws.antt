@@ -4,6 +4,7 @@ use Rattle.std.specs.Prelude.{codes, decimal, option_map, if◌then◌else◌}
 use Rattle.std.specs.List.{find}
 use Rattle.toml.specs.Data.{Members}
 use Rattle.toml.specs.View.{table_view}
+use Rattle.book_cmd_show.specs.declared.checksum.Checksum.{Checksum}
 use Rattle.book_cmd_check.specs.declared.given.GivenIsns.{GivenIsns}
 use Rattle.book_cmd_check.specs.Captures.{Connection, Heard, most_connections, Saying, Judged, TooManyConnections, Unreadable, UnknownNode, Stored, connection_between, hear, hear_at, hear_read, is_pass, saying_texts}
 use Rattle.book_endpoint.specs.declared.verdict.Verdict.{Verdict}
@@ -39,23 +40,23 @@ use Rattle.scope_why.proofs.Parts.{on_two, on_same}
 
 -- ---- what was answered is what is said
 
-judged_is : (q : Inquiry) (v : Verdict) (j : Judgement) (right : Bool) → IsJudged v j → lines_of_verdict q v ≡ why_lines q (Judged j right)
-judged_is q (verdict.Pass p) j right judged = rw (judged.1) refl
-judged_is q verdict.NoAo j right is = rw is refl
-judged_is q verdict.TwoAo j right is = rw is refl
-judged_is q verdict.WithMd5 j right is = rw is refl
-judged_is q verdict.NoTuple j right is = rw is refl
-judged_is q verdict.Expired j right is = rw is refl
-judged_is q verdict.MacLength j right is = rw is refl
-judged_is q verdict.NoContext j right is = rw is refl
-judged_is q verdict.Range j right is = rw is refl
-judged_is q verdict.BadMac j right is = rw is refl
+judged_is : (q : Inquiry) (v : Verdict) (j : Judgement) (checksum : Checksum) → IsJudged v j → lines_of_verdict q v ≡ why_lines q (Judged j checksum)
+judged_is q (verdict.Pass p) j checksum judged = rw (judged.1) refl
+judged_is q verdict.NoAo j checksum is = rw is refl
+judged_is q verdict.TwoAo j checksum is = rw is refl
+judged_is q verdict.WithMd5 j checksum is = rw is refl
+judged_is q verdict.NoTuple j checksum is = rw is refl
+judged_is q verdict.Expired j checksum is = rw is refl
+judged_is q verdict.MacLength j checksum is = rw is refl
+judged_is q verdict.NoContext j checksum is = rw is refl
+judged_is q verdict.Range j checksum is = rw is refl
+judged_is q verdict.BadMac j checksum is = rw is refl
 
 said_is : (q : Inquiry) (l : CheckLine) (s : Saying) → Says l s → lines_of_said q l ≡ why_lines q s
 said_is q (line.Bad fault) s says = rw says refl
 said_is q line.UnknownNode s says = rw says refl
-said_is q (line.Verdict v right) s says = rw (says.1) (judged_is q v (says.0) right (says.2))
-said_is q (line.Full right) s says = rw says refl
+said_is q (line.Verdict v checksum) s says = rw (says.1) (judged_is q v (says.0) checksum (says.2))
+said_is q (line.Full checksum) s says = rw says refl
 
 -- ---- of the connection that is held only three numbers matter
 
@@ -120,9 +121,9 @@ module _ (document : Members) (tables : List Table) (told : List GivenIsns) (wit
   same_known : (s : Saying) → why_lines one s ≡ why_lines two s
   same_known (Unreadable fault) = refl
   same_known UnknownNode = refl
-  same_known (Judged (Ok p) right) = passing
-  same_known (Judged (Err why) right) = refused why
-  same_known (TooManyConnections right) = ap (λ (x : List ℕ). codes "connections held " ++ (decimal most_connections ++ (10 ∷ x))) passing
+  same_known (Judged (Ok p) checksum) = passing
+  same_known (Judged (Err why) checksum) = refused why
+  same_known (TooManyConnections checksum) = ap (λ (x : List ℕ). codes "connections held " ++ (decimal most_connections ++ (10 ∷ x))) passing
 
 same_held : (document : Members) (tables : List Table) (told : List GivenIsns) (with_key : Bool) (now : ℕ) (d : Segment) (t : Table) (h : Option Connection) (s : Saying)
     → why_lines (inquiry_at document tables told with_key now d t (option_map (connection_of d) (option_map numbers_of h))) s ≡ why_lines (inquiry_at document tables told with_key now d t h) s

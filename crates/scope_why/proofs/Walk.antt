@@ -6,7 +6,7 @@ use Rattle.std.proofs.lemmas.List.Elements.{All-append, All-from_get_or}
 use Rattle.std.specs.Prelude.{if◌then◌else◌}
 use Rattle.std.specs.List.{All, find}
 use Rattle.ao_base.specs.Outside.{Side, Gave, told}
-use Rattle.ao_base.proofs.Sides.{gave_more, gave_none, rose_after}
+use Rattle.ao_base.proofs.Sides.{gave_none}
 use Rattle.book_base.specs.Hexadecimal.{IsByte}
 use Rattle.book_captures.specs.declared.capture_parts.CaptureFault.{CaptureFault}
 use Rattle.book_captures.specs.Parts.{PartSaid}
@@ -30,10 +30,10 @@ use Rattle.capture_stream.specs.declared.reader.CaptureStep.TheVariants as step
 use Rattle.capture_stream.specs.declared.reader.CaptureHalt.TheVariants as stream_halt
 use Rattle.capture_stream.specs.Reads.{Reading, new_reading, ShowsNone, Passes, Steps, to_come}
 use Rattle.scope_lines.specs.Writes.{HasRead}
-use Rattle.scope_lines.proofs.Showing.{HasShown, listed, none_listed, read_before, read_now, shown_all, shown_more, shown_none}
-use Rattle.scope_sessions.proofs.Walk.{all_none}
+use Rattle.scope_lines.proofs.Taken.{HasTaken, all_broken, all_ended, all_none, bytes_all, gave_all, has_read, no_more, none_shown, read_more, rose_read, stays_broken, taken_more, taken_none, too_many}
+use Rattle.scope_lines.proofs.Showing.{listed, read_now, shown_none}
 use Rattle.scope_why.specs.declared.answer.Answered.{Answered}
-use Rattle.scope_why.specs.declared.write.WhyHalt.TheVariants as halt
+use Rattle.scope_sessions.specs.declared.halt.JudgingHalt.TheVariants as halt
 use Rattle.scope_why.specs.Fronts.{StandsBehind, behind_one, stored_as}
 use Rattle.scope_why.specs.declared.shown.StoredBytes.{StoredBytes}
 use Rattle.scope_why.specs.Reading.{IsAnswer, Lacks, Misses, NoneHas, Reaches, Reads, Stops}
@@ -136,11 +136,7 @@ pub record HasHeard (keys : KeyFile) (asked : WhyAsked) (checking : Checking) (t
   pub many : count ≡ length shown
 
 pub record Between (keys : KeyFile) (asked : WhyAsked) (reader : Reading) (checking : Checking) (told_now : List GivenIsns) (count : ℕ) (given : List ℕ) (shown : List CapturePacket) (source_before source_now : Side) : Type 0 where
-  pub gave : Gave given source_before source_now
-  pub bytes : All IsByte given
-  pub shows : HasShown reader given shown
-  pub within : reader.counts.bytes ≤ 9223372036854775808
-  pub going : reader.over ≡ false
+  pub taken : HasTaken reader given shown source_before source_now
   pub few : count ≤ reader.counts.bytes
   pub heard : HasHeard keys asked checking told_now count shown
 
@@ -159,11 +155,7 @@ stands_first keys asked entries told_now stands is = record { stands = stands; t
 pub between_new : (keys : KeyFile) (asked : WhyAsked) (reader : Reading) (checking : Checking) (told_now : List GivenIsns) (source : Side) → reader ≡ new_reading → checking.tables ≡ keys.tables
     → StandsFor checking.entries (given_after [] asked.given) → told_now ≡ asked.given → Between keys asked reader checking told_now 0 [] [] source source
 between_new keys asked reader checking told_now source is same stands told_is = rw is (record {
-  gave = gave_none source;
-  bytes = all_none;
-  shows = shown_none;
-  within = omega arith;
-  going = refl;
+  taken = taken_none source;
   few = omega arith;
   heard = record { same = same; stands = stands_first keys asked checking.entries told_now stands told_is; none = no_packets asked.number; many = refl };
 })
@@ -178,31 +170,25 @@ ends_none keys asked source = record {
 
 module _ (keys : KeyFile) (asked : WhyAsked) (before : Reading) (checking : Checking) (told_now : List GivenIsns) (count : ℕ) (given next : List ℕ) (shown : List CapturePacket) (a b c : Side)
     (between : Between keys asked before checking told_now count given shown a b) where
-  gave_all : Gave next b c → Gave (given ++ next) a c
-  gave_all gave = gave_more given next a b c between.gave gave
-
-  bytes_all : All IsByte next → All IsByte (given ++ next)
-  bytes_all bytes = All-append IsByte given next between.bytes bytes
-
   stops : Stops asked (given ++ next)
-  stops = record { read = shown; has_read = read_before before given next shown between.shows; none = between.heard.none }
+  stops = record { read = shown; has_read = has_read between.taken next; none = between.heard.none }
 
   -- memory ran out behind the last part
   pub ends_memory : (now : Reading) → Steps before now b c next (Ok step.End) → Reads keys asked (given ++ next) a c (Err halt.Memory)
   ends_memory now steps = record {
-    gave = gave_all steps.gave;
-    bytes = bytes_all steps.bytes;
-    ends = record { read = shown; later = []; one = omega arith; has_read = rw (append-nil shown) (read_before before given next shown between.shows); none = between.heard.none };
+    gave = gave_all between.taken steps.gave;
+    bytes = bytes_all between.taken next steps.bytes;
+    ends = record { read = shown; later = []; one = omega arith; has_read = rw (append-nil shown) (has_read between.taken next); none = between.heard.none };
   }
 
   -- the capture's end
   pub ends_done : (now : Reading) (answered : Answered) → answered.text.items ≡ no_packet_line asked.number count → answered.passes ≡ false → Steps before now b c next (Ok step.End)
       → Reads keys asked (given ++ next) a c (Ok answered)
   ends_done now answered text passes steps =
-      let all : capture_of (given ++ next) ≡ record { packets = shown; passed = before.passed; fault = None } = shown_all before given next shown between.shows None (steps.answers.2) in
+      let all = all_ended between.taken steps in
       record {
-        gave = gave_all steps.gave;
-        bytes = bytes_all steps.bytes;
+        gave = gave_all between.taken steps.gave;
+        bytes = bytes_all between.taken next steps.bytes;
         ends = inr (record {
           at_end = steps.answers.1;
           faultless = rw all refl;
@@ -215,17 +201,13 @@ module _ (keys : KeyFile) (asked : WhyAsked) (before : Reading) (checking : Chec
   -- a fault of the capture
   pub ends_broken : (now : Reading) (fault : CaptureFault) → Steps before now b c next (Err (stream_halt.Broken fault)) → Reads keys asked (given ++ next) a c (Err (halt.Broken fault))
   ends_broken now fault steps =
-      let left = told c.bytes in
-      let all : capture_of (given ++ next) ≡ record { packets = shown; passed = before.passed; fault = Some fault } = shown_all before given next shown between.shows (Some fault) (steps.answers.1) in
-      let group : (before.kept ++ next) ++ left ≡ before.kept ++ (next ++ left) = append_assoc before.kept next left in
-      let more : capture_of (given ++ (next ++ left)) ≡ record { packets = shown; passed = before.passed; fault = Some fault } =
-      shown_all before given (next ++ left) shown between.shows (Some fault) (rw group at (steps.answers.2)) in
-      let whole : capture_of ((given ++ next) ++ left) ≡ capture_of (given ++ next) = ap capture_of (append_assoc given next left) ∙ (more ∙ sym all) in
+      let all = all_broken between.taken steps in
+      let whole = stays_broken between.taken steps in
       record {
-        gave = gave_all steps.gave;
-        bytes = bytes_all steps.bytes;
+        gave = gave_all between.taken steps.gave;
+        bytes = bytes_all between.taken next steps.bytes;
         ends = record {
-          has_read = rw all (read_before before given next shown between.shows);
+          has_read = rw all (has_read between.taken next);
           fault_is = rw all refl;
           all = whole;
           none = rw all between.heard.none;
@@ -235,30 +217,18 @@ module _ (keys : KeyFile) (asked : WhyAsked) (before : Reading) (checking : Chec
   -- a read that failed
   pub ends_read : (now : Reading) → Steps before now b c next (Err stream_halt.Read) → Reads keys asked (given ++ next) a c (Err halt.Read)
   ends_read now steps = record {
-    gave = gave_all steps.gave;
-    bytes = bytes_all steps.bytes;
-    ends = (rose_after (length given) a b c between.gave.counts (steps.answers.1), stops);
+    gave = gave_all between.taken steps.gave;
+    bytes = bytes_all between.taken next steps.bytes;
+    ends = (rose_read between.taken steps, stops);
   }
 
   -- more bytes than any file has
   pub ends_long : (now : Reading) → Steps before now b c next (Err stream_halt.TooLong) → Reads keys asked (given ++ next) a c (Err halt.TooLong)
   ends_long now steps =
-      let split : length (given ++ next) ≡ length (between.shows.front ++ (before.kept ++ next)) =
-      ap length (ap (λ xs. xs ++ next) between.shows.split ∙ append_assoc between.shows.front before.kept next) in
-      let sum = length-append between.shows.front (before.kept ++ next) in
-      let counted = between.shows.bytes in
-      let many = steps.answers.1 in
-      record { gave = gave_all steps.gave; bytes = bytes_all steps.bytes; ends = (omega arith, stops) }
+      record { gave = gave_all between.taken steps.gave; bytes = bytes_all between.taken next steps.bytes; ends = (too_many between.taken steps, stops) }
 
   -- one more part was read, which says this
   module _ (now : Reading) (said : PartSaid) (passes : Passes before now (before.kept ++ next) said) (gave : Gave next b c) (bytes : All IsByte next) where
-    pub between_smaller : 9223372036854775808 - now.counts.bytes < 9223372036854775808 - before.counts.bytes
-    between_smaller =
-        let some = passes.some in
-        let more = passes.bytes in
-        let most = passes.within in
-        omega arith
-
     pub count_low : count + 1 ≤ now.counts.bytes
     count_low =
         let some = passes.some in
@@ -272,21 +242,14 @@ module _ (keys : KeyFile) (asked : WhyAsked) (before : Reading) (checking : Chec
         let most = passes.within in
         omega arith
 
-    shows_more : HasShown now (given ++ next) (shown ++ listed now.packet)
-    shows_more = shown_more before given next shown between.shows now said passes
-
     -- it showed no packet
     pub between_block : ShowsNone said → Between keys asked now checking told_now count (given ++ next) (shown ++ listed now.packet) a c
     between_block none =
-        let nothing : listed now.packet ≡ [] = ap listed passes.shown ∙ none_listed said before.counts.packets none in
-        let same : shown ++ listed now.packet ≡ shown = ap (λ (ps : List CapturePacket). shown ++ ps) nothing ∙ append-nil shown in
+        let nothing : listed now.packet ≡ [] = none_shown passes none in
+        let same = no_more shown now.packet nothing in
         let low = count_low in
         record {
-          gave = gave_all gave;
-          bytes = bytes_all bytes;
-          shows = shows_more;
-          within = passes.within;
-          going = passes.going;
+          taken = taken_more between.taken gave bytes passes;
           few = omega arith;
           heard = rw same between.heard;
         }
@@ -294,9 +257,9 @@ module _ (keys : KeyFile) (asked : WhyAsked) (before : Reading) (checking : Chec
     -- memory ran out for a packet
     pub ends_lacking : Reads keys asked (given ++ next) a c (Err halt.Memory)
     ends_lacking = record {
-      gave = gave_all gave;
-      bytes = bytes_all bytes;
-      ends = record { read = shown; later = listed now.packet; one = few_listed now.packet; has_read = read_now now (given ++ next) (shown ++ listed now.packet) shows_more; none = between.heard.none };
+      gave = gave_all between.taken gave;
+      bytes = bytes_all between.taken next bytes;
+      ends = record { read = shown; later = listed now.packet; one = few_listed now.packet; has_read = read_more between.taken next passes; none = between.heard.none };
     }
 
     -- it showed this packet, of another number, which was heard
@@ -317,11 +280,7 @@ module _ (keys : KeyFile) (asked : WhyAsked) (before : Reading) (checking : Chec
           many = omega arith;
         } in
         record {
-          gave = gave_all gave;
-          bytes = bytes_all bytes;
-          shows = shows_more;
-          within = passes.within;
-          going = passes.going;
+          taken = taken_more between.taken gave bytes passes;
           few = count_low;
           heard = rw put front;
         }
@@ -332,10 +291,10 @@ module _ (keys : KeyFile) (asked : WhyAsked) (before : Reading) (checking : Chec
         → Reads keys asked (given ++ next) a c (Ok answered)
     ends_here answered p is here answers =
         let put : shown ++ listed now.packet ≡ shown ++ p ∷ [] = ap (λ o. shown ++ listed o) is in
-        let has : HasRead (given ++ next) (shown ++ p ∷ []) = rw put at (read_now now (given ++ next) (shown ++ listed now.packet) shows_more) in
+        let has : HasRead (given ++ next) (shown ++ p ∷ []) = rw put at (read_more between.taken next passes) in
         record {
-          gave = gave_all gave;
-          bytes = bytes_all bytes;
+          gave = gave_all between.taken gave;
+          bytes = bytes_all between.taken next bytes;
           ends = inl (record {
             before = shown;
             last = p;

@@ -37,6 +37,6 @@ lines_of_verdict q why = refusal_lines q why
 abbrev pub lines_of_said : Inquiry → CheckLine → List ℕ
 lines_of_said q (line.Bad fault) = []
 lines_of_said q line.UnknownNode = codes "source and destination are one socket\n"
-lines_of_said q (line.Verdict v right) = lines_of_verdict q v
-lines_of_said q (line.Full right) =
+lines_of_said q (line.Verdict v checksum) = lines_of_verdict q v
+lines_of_said q (line.Full checksum) =
     codes "connections held " ++ (decimal most_connections ++ (10 ∷ passing_values q))

@@ -10,8 +10,8 @@ use Rattle.book_why_texts.specs.Answers.{WhyAsked, has_number, why_passes, why_t
 use Rattle.capture_stream.specs.Reads.{most_read}
 use Rattle.scope_lines.specs.Writes.{HasRead}
 use Rattle.scope_why.specs.declared.answer.Answered.{Answered}
-use Rattle.scope_why.specs.declared.write.WhyHalt.{WhyHalt}
-use Rattle.scope_why.specs.declared.write.WhyHalt.TheVariants as halt
+use Rattle.scope_sessions.specs.declared.halt.JudgingHalt.{JudgingHalt}
+use Rattle.scope_sessions.specs.declared.halt.JudgingHalt.TheVariants as halt
 
 -- none of these packets has this number
 abbrev pub NoneHas : ℕ → List CapturePacket → Type 0
@@ -69,7 +69,7 @@ pub record Lacks (asked : WhyAsked) (given : List ℕ) : Type 0 where
 
 -- how each end comes
 abbrev pub ReadEnds : KeyFile → WhyAsked → List ℕ → (source_before source_now : Side) →
-    Result Answered WhyHalt → Type 0
+    Result Answered JudgingHalt → Type 0
 ReadEnds keys asked given source_before source_now (Ok answered) =
     IsAnswer keys asked given source_now answered.text.items answered.passes
 ReadEnds keys asked given source_before source_now (Err (halt.Broken fault)) =
@@ -83,7 +83,7 @@ ReadEnds keys asked given source_before source_now (Err other) = ⊥
 
 -- a capture is answered on, of which the source gave these bytes
 pub record Reads (keys : KeyFile) (asked : WhyAsked) (given : List ℕ)
-    (source_before source_now : Side) (result : Result Answered WhyHalt) : Type 0 where
+    (source_before source_now : Side) (result : Result Answered JudgingHalt) : Type 0 where
   pub gave : Gave given source_before source_now
   pub bytes : All IsByte given
   pub ends : ReadEnds keys asked given source_before source_now result

@@ -16,10 +16,11 @@ use Rattle.book_scope_plan.specs.AdminNames.{KeyFile}
 use Rattle.book_sessions.specs.GivenLines.{given_isns_of}
 use Rattle.book_why_texts.specs.Answers.{WhyAsked}
 use Rattle.capture_stream.specs.Reads.{most_read}
+use Rattle.scope_sessions.specs.Halts.{Nothing}
 use Rattle.scope_sessions.specs.Texts.{BreaksText}
 use Rattle.scope_why.specs.declared.answer.Answered.{Answered}
-use Rattle.scope_why.specs.declared.write.WhyHalt.{WhyHalt}
-use Rattle.scope_why.specs.declared.write.WhyHalt.TheVariants as halt
+use Rattle.scope_sessions.specs.declared.halt.JudgingHalt.{JudgingHalt}
+use Rattle.scope_sessions.specs.declared.halt.JudgingHalt.TheVariants as halt
 use Rattle.scope_why.specs.declared.write.WhyRequest.{WhyRequest}
 use Rattle.scope_why.specs.Reading.{IsAnswer, Lacks, Refuses, Stops}
 
@@ -45,7 +46,7 @@ pub record Breaks (keys : KeyFile) (asked : WhyAsked) (given : List ℕ)
 
 -- how each end comes by a key file and given initial sequence numbers (own)
 abbrev pub Ends : KeyFile → WhyAsked → List ℕ →
-    (source_before source_now out_before out_now : Side) → Result Bool WhyHalt → Type 0
+    (source_before source_now out_before out_now : Side) → Result Bool JudgingHalt → Type 0
 Ends keys asked given source_before source_now out_before out_now (Ok passes) =
     Finishes keys asked given source_now out_before out_now passes
 Ends keys asked given source_before source_now out_before out_now (Err halt.Write) =
@@ -60,14 +61,10 @@ Ends keys asked given source_before source_now out_before out_now (Err halt.Memo
     Lacks asked given × WasWritten [] out_before out_now
 Ends keys asked given source_before source_now out_before out_now (Err other) = ⊥
 
--- nothing was read, and nothing written (own)
-abbrev pub Nothing : List ℕ → (out_before out_now : Side) → Type 0
-Nothing given out_before out_now = (given ≡ []) × WasWritten [] out_before out_now
-
 -- how each end comes by a key file: given lines that are refused end all before the capture is read
 -- (own)
 abbrev pub EndsWith : WhyRequest → KeyFile → Result (List GivenIsns) TextFault → List ℕ →
-    (source_before source_now out_before out_now : Side) → Result Bool WhyHalt → Type 0
+    (source_before source_now out_before out_now : Side) → Result Bool JudgingHalt → Type 0
 EndsWith request keys (Ok isns) given source_before source_now out_before out_now result =
     Ends keys (question_of request isns) given source_before source_now out_before out_now result
 EndsWith request keys (Err why) given a c out_before out_now (Err (halt.IsnLine n kind)) =
@@ -90,7 +87,7 @@ key_file_in text = key_file_by (tables_of text) (document_of text)
 
 -- how each end comes: a key file that is refused ends all before the capture is read (own)
 abbrev pub EndsBy : WhyRequest → Result KeyFile TableFault → Result (List GivenIsns) TextFault →
-    List ℕ → (source_before source_now out_before out_now : Side) → Result Bool WhyHalt → Type 0
+    List ℕ → (source_before source_now out_before out_now : Side) → Result Bool JudgingHalt → Type 0
 EndsBy request (Ok keys) isns given source_before source_now out_before out_now result =
     EndsWith request keys isns given source_before source_now out_before out_now result
 EndsBy request (Err why) isns given a c out_before out_now (Err (halt.Keys fault)) =
@@ -102,26 +99,15 @@ EndsBy request (Err why) isns given a c out_before out_now other = ⊥
 -- the answer on a packet of a capture is written, of which the source gave these bytes, by the key
 -- file of this text and the given lines of that one (own)
 pub record Writes (request : WhyRequest) (keys isns given : List ℕ)
-    (source_before source_now out_before out_now : Side) (result : Result Bool WhyHalt)
+    (source_before source_now out_before out_now : Side) (result : Result Bool JudgingHalt)
     : Type 0 where
   pub gave : Gave given source_before source_now
   pub bytes : All IsByte given
   pub ends : EndsBy request (key_file_in keys) (given_isns_of isns) given source_before source_now
       out_before out_now result
 
--- why all ends where the key file has this fault
-abbrev pub halt_of : TableFault → WhyHalt
-halt_of fault.Memory = halt.Memory
-halt_of why = halt.Keys why
-
--- why all ends where the given lines have this fault
-abbrev pub halt_of_lines : TextFault → WhyHalt
-halt_of_lines line_fault.Memory = halt.Memory
-halt_of_lines line_fault.TooManyLines = halt.TooManyIsns
-halt_of_lines (line_fault.Line n kind) = halt.IsnLine n kind
-
 -- an answer is written
-abbrev pub WritesAnswer : Answered → (out_before out_now : Side) → Result Bool WhyHalt → Type 0
+abbrev pub WritesAnswer : Answered → (out_before out_now : Side) → Result Bool JudgingHalt → Type 0
 WritesAnswer answered out_before out_now (Ok passes) =
     (passes ≡ answered.passes) × WasWritten answered.text.items out_before out_now
 WritesAnswer answered out_before out_now (Err halt.Write) =

@@ -9,14 +9,14 @@ ghost use Rattle.scope_why.specs.Replies.{asked_of, key_file_of};
 use crate::answer::{Answered, answer_packet};
 use crate::asking::Asking;
 use crate::front::{hear_packet, told_first};
-use crate::holding::checker_of;
 use crate::segment_line::push_no_packet;
 use crate::shown::stored_shown;
-use crate::write::WhyHalt;
 use ao_base::{Source, Steps};
 use book_sessions::GivenIsns;
+use capture_check::Checker;
 use capture_stream::{CaptureHalt, CaptureReader, CaptureStep};
 use key_table::Tables;
+use scope_sessions::JudgingHalt;
 use std::alloc::{AllocError, Global};
 use std::marker::Brand;
 use std::sync::ledger::{Blank, Ledger};
@@ -43,7 +43,7 @@ fn answer_counted<L: Ledger, I: Source>(
     number: u64,
     input: &mut I,
     blank: Blank,
-) -> Result<Answered, WhyHalt>
+) -> Result<Answered, JudgingHalt>
     requires name { blank.name ≡ L.name }
     requires parts { blank.parts ≡ L.parts }
     requires part { 0 < blank.parts }
@@ -52,15 +52,15 @@ fn answer_counted<L: Ledger, I: Source>(
     let mut steps = Steps::<L>::new(blank);
     let mut reader = match CaptureReader::new(alloc) {
         Ok(reader) => reader,
-        Err(_) => return Err(WhyHalt::Memory),
+        Err(_) => return Err(JudgingHalt::Memory),
     };
-    let mut checker = match checker_of(alloc, tables, given) {
+    let mut checker = match Checker::behind(alloc, tables, given) {
         Ok(checker) => checker,
-        Err(_) => return Err(WhyHalt::Memory),
+        Err(_) => return Err(JudgingHalt::Memory),
     };
     let mut told = match told_first(alloc, given) {
         Ok(told) => told,
-        Err(_) => return Err(WhyHalt::Memory),
+        Err(_) => return Err(JudgingHalt::Memory),
     };
     let mut count: u64 = 0;
     'parts: loop {
@@ -69,11 +69,11 @@ fn answer_counted<L: Ledger, I: Source>(
             Ok(CaptureStep::Block) => continue 'parts,
             Ok(CaptureStep::End) => match answer_missing(alloc, number, count) {
                 Ok(answered) => return Ok(answered),
-                Err(_) => return Err(WhyHalt::Memory),
+                Err(_) => return Err(JudgingHalt::Memory),
             },
-            Err(CaptureHalt::Read) => return Err(WhyHalt::Read),
-            Err(CaptureHalt::TooLong) => return Err(WhyHalt::TooLong),
-            Err(CaptureHalt::Broken(fault)) => return Err(WhyHalt::Broken(fault)),
+            Err(CaptureHalt::Read) => return Err(JudgingHalt::Read),
+            Err(CaptureHalt::TooLong) => return Err(JudgingHalt::TooLong),
+            Err(CaptureHalt::Broken(fault)) => return Err(JudgingHalt::Broken(fault)),
         }
         let stored = stored_shown(&reader);
         if reader.number() == number {
@@ -87,12 +87,12 @@ fn answer_counted<L: Ledger, I: Source>(
                 stored,
             ) {
                 Ok(answered) => return Ok(answered),
-                Err(_) => return Err(WhyHalt::Memory),
+                Err(_) => return Err(JudgingHalt::Memory),
             }
         }
         match hear_packet(&mut checker, &mut told, alloc, &mut steps, stored) {
             Ok(()) => {}
-            Err(_) => return Err(WhyHalt::Memory),
+            Err(_) => return Err(JudgingHalt::Memory),
         }
         count += 1;
     }
@@ -109,7 +109,7 @@ pub(crate) fn answer_capture<I: Source>(
     asking: &Asking<'_>,
     number: u64,
     input: &mut I,
-) -> Result<Answered, WhyHalt>
+) -> Result<Answered, JudgingHalt>
     ensures { (bytes : List ℕ) × Reads (key_file_of asking.now tables) (asked_of asking.now given.now number) bytes (I.side input.old) (I.side input.new) result }
 {
     answer_counted::<Brand, I>(alloc, tables, given, asking, number, input, Blank::new(1))

@@ -1,13 +1,11 @@
 //! What a row lacks to take a segment.
 ghost use Rattle.std.specs.Prelude.{◌≡◌, ◌++◌, ◌==◌, nat_le, OnOk, codes, decimal};
-ghost use Rattle.std.specs.List.{list_any};
-ghost use Rattle.book_keys.specs.Rows.{fits_port, names, receives};
 ghost use Rattle.book_scope_texts.specs.Instants.{instant_text};
 ghost use Rattle.book_why_texts.specs.Lacks.{lack, lacks, lifetime_lacks, pair_lacks};
 
-use ao_base::{is_same_address, push_decimal};
-use book_base::{Address, Pair};
-use key_table::{Direction, Lifetime, Row};
+use ao_base::push_decimal;
+use book_base::Pair;
+use key_table::{Lifetime, Row, fits_port, has_peer};
 use scope_texts::push_instant;
 use std::alloc::AllocError;
 
@@ -48,30 +46,6 @@ fn push_lifetime_lacks(out: &mut Vec<u8>, lifetime: Lifetime, now: u64) -> Resul
     push_ended(out, lifetime.last, now)
 }
 
-fn is_named(peer: &Option<Address>, address: &Address) -> bool
-    ensures { result ≡ names peer.now address.now }
-{
-    match peer {
-        Some(one) => is_same_address(one, address),
-        None => true,
-    }
-}
-
-fn has_peer(peers: &[Option<Address>], address: &Address) -> bool
-    ensures { result ≡ list_any (λ peer. names peer address.now) peers.now }
-{
-    peers.iter().any(|peer| is_named(peer, address))
-}
-
-fn fits_port(wanted: Option<u16>, port: u16) -> bool
-    ensures { result ≡ fits_port wanted port }
-{
-    match wanted {
-        Some(one) => one == port,
-        None => true,
-    }
-}
-
 fn push_pair_lacks(out: &mut Vec<u8>, row: &Row, pair: &Pair) -> Result<(), AllocError>
     ensures { OnOk result (out.new.items ≡ out.old.items ++ pair_lacks row.now pair.now) }
 {
@@ -90,17 +64,6 @@ fn push_pair_lacks(out: &mut Vec<u8>, row: &Row, pair: &Pair) -> Result<(), Allo
         fits_port(row.peer_port(), pair.remote.port),
         b"for another peer port",
     )
-}
-
-fn receives(direction: Direction) -> bool
-    ensures { result ≡ receives direction }
-{
-    match direction {
-        Direction::Receive => true,
-        Direction::Both => true,
-        Direction::Send => false,
-        Direction::Disabled => false,
-    }
 }
 
 fn push_id(out: &mut Vec<u8>, id: u8) -> Result<(), AllocError>
@@ -132,7 +95,7 @@ pub(crate) fn push_lacks(
     ensures { OnOk result (out.new.items ≡ out.old.items ++ lacks pair.now id now row.now) }
 {
     push_pair_lacks(out, row, pair)?;
-    push_lack(out, receives(row.direction()), b"not for what comes in")?;
+    push_lack(out, row.direction().receives(), b"not for what comes in")?;
     push_id_lack(out, row.recv_id(), id)?;
     push_lifetime_lacks(out, row.accepting(), now)
 }

@@ -7,7 +7,6 @@ mod asking;
 mod capture;
 mod facts;
 mod front;
-mod holding;
 mod inquiry;
 mod lacking;
 mod macs;
@@ -21,4 +20,4 @@ mod sight;
 mod values;
 mod write;
 
-pub use write::{WhyHalt, WhyRequest, write_why};
+pub use write::{WhyRequest, write_why};

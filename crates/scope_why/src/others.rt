@@ -3,13 +3,13 @@ ghost use Rattle.std.specs.Prelude.{◌≡◌, ◌++◌, ◌&&◌, IfOk, OnOk, S
 ghost use Rattle.std.specs.List.{list_any};
 ghost use Rattle.book_segments.specs.Segments.{Read, reading};
 ghost use Rattle.book_segments.specs.Sockets.{same_socket};
-ghost use Rattle.book_why_texts.specs.OtherIsns.{are_own, isns_seen_from, isns_told, other_isns, same_isn_pair, told_by_reading, with_isn_pair};
+ghost use Rattle.book_why_texts.specs.OtherIsns.{are_own, isns_seen_from, other_isns, same_isn_pair, told_by_reading, with_isn_pair};
 
-use crate::sight::acknowledged_isn;
 use ao_base::is_same_socket;
 use book_base::Socket;
 use book_sessions::GivenIsns;
 use book_why::IsnPair;
+use capture_check::isns_told_by;
 use std::alloc::{AllocError, Global};
 use tcp_segment::{Datagram, Flag, read_datagram};
 
@@ -101,22 +101,11 @@ pub(crate) fn other_isns(
     Ok(pairs)
 }
 
-fn isns_told(datagram: &Datagram<'_>) -> GivenIsns
-    ensures { result ≡ isns_told datagram.now }
-{
-    GivenIsns {
-        one: datagram.source(),
-        one_isn: datagram.sequence(),
-        other: datagram.destination(),
-        other_isn: acknowledged_isn(datagram),
-    }
-}
-
 fn push_told_by(told: &mut Vec<GivenIsns>, datagram: &Datagram<'_>) -> Result<(), AllocError>
     ensures { OnOk result (told.new.items ≡ told.old.items ++ told_by_reading (Read datagram.now)) }
 {
     if datagram.has(Flag::Syn) && datagram.has(Flag::Ack) {
-        told.push(isns_told(datagram))?;
+        told.push(isns_told_by(datagram))?;
     }
     Ok(())
 }

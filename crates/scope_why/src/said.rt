@@ -1,67 +1,60 @@
 //! The line of what the check says.
 ghost use Rattle.std.specs.Prelude.{◌≡◌, ◌++◌, ◌∷◌, [], OnOk, codes, decimal};
 ghost use Rattle.book_cmd_check.specs.Captures.{Saying, saying_texts};
-ghost use Rattle.book_cmd_show.specs.DatagramTexts.{checksum_text};
 ghost use Rattle.book_lines.specs.Texts.{line_text, spaced};
 ghost use Rattle.book_link.specs.Reports.{verdict_text};
 ghost use Rattle.capture_check.specs.declared.answer.CheckLine.TheVariants as line;
 ghost use Rattle.capture_check.specs.Answers.{Says, answer_texts, checksum_texts, verdict_texts};
 
 use ao_base::push_decimal;
+use book_cmd_show::Checksum;
 use book_endpoint::{Passed, Verdict};
 use book_segments::DatagramFault;
 use capture_check::CheckLine;
-use segment_words::{push_fault, verdict_word};
+use segment_words::{push_checksum, push_fault, verdict_word};
 use std::alloc::AllocError;
-use text_lines::{push_newline, push_text};
-
-fn checksum_name(right: bool) -> &'static [u8]
-    ensures { result.now ≡ checksum_text right }
-{
-    if right { b"good" } else { b"wrong" }
-}
+use text_lines::push_newline;
 
 // What is said of the checksum, and the line's end.
-fn push_checksum(out: &mut Vec<u8>, right: bool) -> Result<(), AllocError>
-    ensures { OnOk result (out.new.items ≡ out.old.items ++ (spaced (checksum_texts right) ++ 10 ∷ [])) }
+fn push_end(out: &mut Vec<u8>, checksum: Checksum) -> Result<(), AllocError>
+    ensures { OnOk result (out.new.items ≡ out.old.items ++ (spaced (checksum_texts checksum) ++ 10 ∷ [])) }
 {
-    push_text(out, b"checksum")?;
-    push_text(out, checksum_name(right))?;
+    push_checksum(out, checksum)?;
     push_newline(out)
 }
 
-fn push_pass(out: &mut Vec<u8>, passed: &Passed, right: bool) -> Result<(), AllocError>
-    ensures { OnOk result (out.new.items ≡ out.old.items ++ line_text (codes "pass" ∷ codes "row" ∷ decimal passed.now.row ∷ codes "number" ∷ decimal passed.now.number ∷ checksum_texts right)) }
+fn push_pass(out: &mut Vec<u8>, passed: &Passed, checksum: Checksum) -> Result<(), AllocError>
+    ensures { OnOk result (out.new.items ≡ out.old.items ++ line_text (codes "pass" ∷ codes "row" ∷ decimal passed.now.row ∷ codes "number" ∷ decimal passed.now.number ∷ checksum_texts checksum)) }
 {
     out.extend_from_slice(b"pass row ")?;
     push_decimal(out, u64::from(passed.row))?;
     out.extend_from_slice(b" number ")?;
     push_decimal(out, passed.number)?;
-    push_checksum(out, right)
+    push_end(out, checksum)
 }
 
-fn push_refused(out: &mut Vec<u8>, verdict: &Verdict, right: bool) -> Result<(), AllocError>
-    ensures { OnOk result (out.new.items ≡ out.old.items ++ line_text (codes "refused" ∷ verdict_text verdict.now ∷ checksum_texts right)) }
+fn push_refused(out: &mut Vec<u8>, verdict: &Verdict, checksum: Checksum) -> Result<(), AllocError>
+    ensures { OnOk result (out.new.items ≡ out.old.items ++ line_text (codes "refused" ∷ verdict_text verdict.now ∷ checksum_texts checksum)) }
 {
     out.extend_from_slice(b"refused ")?;
     out.extend_from_slice(verdict_word(*verdict))?;
-    push_checksum(out, right)
+    push_end(out, checksum)
 }
 
-fn push_verdict(out: &mut Vec<u8>, verdict: &Verdict, right: bool) -> Result<(), AllocError>
-    ensures { OnOk result (out.new.items ≡ out.old.items ++ line_text (verdict_texts verdict.now ++ checksum_texts right)) }
+fn push_verdict(out: &mut Vec<u8>, verdict: &Verdict, checksum: Checksum) -> Result<(), AllocError>
+    ensures { OnOk result (out.new.items ≡ out.old.items ++ line_text (verdict_texts verdict.now ++ checksum_texts checksum)) }
 {
     match verdict {
-        Verdict::Pass(passed) => push_pass(out, passed, right),
-        Verdict::NoAo => push_refused(out, verdict, right),
-        Verdict::TwoAo => push_refused(out, verdict, right),
-        Verdict::WithMd5 => push_refused(out, verdict, right),
-        Verdict::NoTuple => push_refused(out, verdict, right),
-        Verdict::Expired => push_refused(out, verdict, right),
-        Verdict::MacLength => push_refused(out, verdict, right),
-        Verdict::NoContext => push_refused(out, verdict, right),
-        Verdict::Range => push_refused(out, verdict, right),
-        Verdict::BadMac => push_refused(out, verdict, right),
+        Verdict::Pass(passed) => push_pass(out, passed, checksum),
+        Verdict::NoAo => push_refused(out, verdict, checksum),
+        Verdict::TwoAo => push_refused(out, verdict, checksum),
+        Verdict::WithMd5 => push_refused(out, verdict, checksum),
+        Verdict::NoTuple => push_refused(out, verdict, checksum),
+        Verdict::Expired => push_refused(out, verdict, checksum),
+        Verdict::MacLength => push_refused(out, verdict, checksum),
+        Verdict::NoContext => push_refused(out, verdict, checksum),
+        Verdict::Range => push_refused(out, verdict, checksum),
+        Verdict::BadMac => push_refused(out, verdict, checksum),
     }
 }
 
@@ -73,11 +66,11 @@ fn push_bad(out: &mut Vec<u8>, fault: DatagramFault) -> Result<(), AllocError>
     push_newline(out)
 }
 
-fn push_full(out: &mut Vec<u8>, right: bool) -> Result<(), AllocError>
-    ensures { OnOk result (out.new.items ≡ out.old.items ++ line_text (codes "full" ∷ checksum_texts right)) }
+fn push_full(out: &mut Vec<u8>, checksum: Checksum) -> Result<(), AllocError>
+    ensures { OnOk result (out.new.items ≡ out.old.items ++ line_text (codes "full" ∷ checksum_texts checksum)) }
 {
     out.extend_from_slice(b"full")?;
-    push_checksum(out, right)
+    push_end(out, checksum)
 }
 
 fn push_answer(out: &mut Vec<u8>, line: &CheckLine) -> Result<(), AllocError>
@@ -86,8 +79,8 @@ fn push_answer(out: &mut Vec<u8>, line: &CheckLine) -> Result<(), AllocError>
     match line {
         CheckLine::Bad(fault) => push_bad(out, *fault),
         CheckLine::UnknownNode => out.extend_from_slice(b"unknown-node\n"),
-        CheckLine::Verdict(verdict, right) => push_verdict(out, verdict, *right),
-        CheckLine::Full(right) => push_full(out, *right),
+        CheckLine::Verdict(verdict, checksum) => push_verdict(out, verdict, *checksum),
+        CheckLine::Full(checksum) => push_full(out, *checksum),
     }
 }
 

@@ -1,7 +1,6 @@
 //! What is judged of the packet that a reader shows.
-ghost use Rattle.std.specs.Prelude.{◌≡◌, ◌≤◌, ℕ, IfOk, IsSome, Some, drop, length, take};
+ghost use Rattle.std.specs.Prelude.{◌≡◌, ◌≤◌, ℕ, IfOk, IsSome, Some, length};
 ghost use Rattle.book_captures.specs.Captures.{CapturePacket};
-ghost use Rattle.book_pcap.specs.Packets.{longest_datagram};
 ghost use Rattle.book_sessions.specs.Sessions.{stored_by, stored_of_packet};
 ghost use Rattle.scope_lines.specs.Writes.{found_in};
 ghost use Rattle.scope_why.specs.Fronts.{stored_as};
@@ -9,9 +8,7 @@ ghost use Rattle.scope_why.specs.Fronts.{stored_as};
 use book_sessions::PassedOver;
 use capture_reader::FoundDatagram;
 use capture_stream::{CaptureReader, Skipped};
-
-/// The most bytes that are judged of a datagram: those of the longest one of either version of IP.
-const LONGEST_DATAGRAM: usize = 65_575;
+use scope_lines::judged;
 
 /// How many nanoseconds a second has.
 const NANOSECONDS: u64 = 1_000_000_000;
@@ -21,15 +18,6 @@ const NANOSECONDS: u64 = 1_000_000_000;
 pub(crate) struct StoredBytes<'a> {
     pub(crate) time: u64,
     pub(crate) bytes: &'a [u8],
-}
-
-// What is judged of the datagram that begins here in a frame.
-fn judged(frame: &[u8], first: usize) -> &[u8]
-    requires { first ≤ length frame.now }
-    ensures { result.now ≡ take longest_datagram (drop first frame.now) }
-{
-    let behind = &frame[first..];
-    &behind[..LONGEST_DATAGRAM.min(behind.len())]
 }
 
 // What is judged of a packet whose frame has this datagram, or none for this reason.

@@ -2,7 +2,7 @@
 ghost use Rattle.std.specs.Prelude.{◌≡◌, ◌≤◌, ◌^◌, IfSome, if◌then◌else◌};
 ghost use Rattle.book_cmd_check.specs.Captures.{acknowledged_isn};
 ghost use Rattle.book_segments.specs.Options.{One, find_ao};
-ghost use Rattle.book_segments.specs.Segments.{ACK, has, pair_reached};
+ghost use Rattle.book_segments.specs.Segments.{ACK, has};
 ghost use Rattle.book_why_texts.specs.Sights.{ao_at, isns_at, isns_of_syn, known_at, number_at, row_at, suspect_at};
 ghost use Rattle.tcp_options.specs.Views.{view_ao};
 ghost use Rattle.why_macs.specs.Views.{suspect_view};
@@ -10,8 +10,8 @@ ghost use Rattle.scope_why.specs.Finding.{Finds, IsWithin, numbered_of};
 ghost use Rattle.scope_why.specs.Views.{sight_of};
 
 use crate::inquiry::Inquiry;
-use book_base::Pair;
 use book_why::IsnPair;
+use capture_check::{acknowledged_isn, pair_at};
 use key_table::{Accept, Row};
 use tcp_options::{AoFound, AoOption};
 use tcp_segment::{Datagram, Flag};
@@ -23,23 +23,6 @@ use wrap_seq::extend;
 pub(crate) struct NumberedRow<'a> {
     pub(crate) number: u8,
     pub(crate) row: &'a Row,
-}
-
-/// The sockets of a segment as its destination sees them.
-pub(crate) fn pair_at(datagram: &Datagram<'_>) -> Pair
-    ensures { result ≡ pair_reached datagram.now }
-{
-    Pair {
-        local: datagram.destination(),
-        remote: datagram.source(),
-    }
-}
-
-/// The initial sequence number that a SYN with ACK acknowledges (RFC 9293, section 3.5).
-pub(crate) fn acknowledged_isn(datagram: &Datagram<'_>) -> u32
-    ensures { result ≡ acknowledged_isn datagram.now }
-{
-    datagram.acknowledgement().wrapping_sub(1)
 }
 
 // The initial sequence number of a SYN's destination, 0 where it isn't known.

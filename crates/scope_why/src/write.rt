@@ -1,17 +1,14 @@
 //! The answer on a packet of a capture, written when the capture was read as far as that packet.
 ghost use Rattle.std.specs.Prelude.{◌≡◌, ℕ, List};
 ghost use Rattle.ao_base.specs.Outside.{Side};
-ghost use Rattle.scope_why.specs.Writing.{Writes, WritesAnswer, halt_of, halt_of_lines};
+ghost use Rattle.scope_why.specs.Writing.{Writes, WritesAnswer};
 
 use crate::answer::Answered;
 use crate::asking::Asking;
 use crate::capture::answer_capture;
 use ao_base::{Failed, Sink, Source, write_all};
-use book_lines::{LineKind, TextFault};
-use capture_stream::CaptureFault;
-use key_table::TableFault;
 use scope_plan::{KeyFile, read_key_file};
-use scope_sessions::read_given;
+use scope_sessions::{JudgingHalt, halt_of, halt_of_lines, read_given};
 use std::alloc::Global;
 
 /// Which packet is asked for, by its number from 1, and whether its traffic key is, which is a secret.
@@ -21,61 +18,13 @@ pub struct WhyRequest {
     pub with_key: bool,
 }
 
-/// Why no answer on a packet was written, or not the whole of it.
-#[derive(Clone, Copy, Debug, PartialEq, Eq)]
-pub enum WhyHalt {
-    /// The key file is refused.
-    Keys(TableFault),
-    /// The given line of this number, counted from 1 among all lines, is faulty; with the kind of its
-    /// first faulty word.
-    IsnLine(u32, LineKind),
-    /// More than 20,000 lines are given.
-    TooManyIsns,
-    /// The capture is faulty here, and no packet in front of it has the number.
-    Broken(CaptureFault),
-    /// The source gave more than 2^63 bytes.
-    TooLong,
-    /// A read failed.
-    Read,
-    /// A write failed.
-    Write,
-    /// Memory ran out.
-    Memory,
-}
-
-fn halt_of(fault: TableFault) -> WhyHalt
-    ensures { result ≡ halt_of fault }
-{
-    match fault {
-        TableFault::Memory => WhyHalt::Memory,
-        TableFault::Syntax => WhyHalt::Keys(TableFault::Syntax),
-        TableFault::Field(node, row, column) => {
-            WhyHalt::Keys(TableFault::Field(node, row, column))
-        }
-        TableFault::TooMany(node) => WhyHalt::Keys(TableFault::TooMany(node)),
-        TableFault::Overlap(node, first, second) => {
-            WhyHalt::Keys(TableFault::Overlap(node, first, second))
-        }
-    }
-}
-
-fn halt_of_lines(fault: TextFault) -> WhyHalt
-    ensures { result ≡ halt_of_lines fault }
-{
-    match fault {
-        TextFault::Memory => WhyHalt::Memory,
-        TextFault::TooManyLines => WhyHalt::TooManyIsns,
-        TextFault::Line(number, kind) => WhyHalt::IsnLine(number, kind),
-    }
-}
-
 // Writes an answer.
-fn write_answer<O: Sink>(answered: &Answered, out: &mut O) -> Result<bool, WhyHalt>
+fn write_answer<O: Sink>(answered: &Answered, out: &mut O) -> Result<bool, JudgingHalt>
     ensures { WritesAnswer answered.now (O.side out.old) (O.side out.new) result }
 {
     match write_all(out, answered.text.as_slice()) {
         Ok(()) => Ok(answered.passes),
-        Err(Failed) => Err(WhyHalt::Write),
+        Err(Failed) => Err(JudgingHalt::Write),
     }
 }
 
@@ -100,7 +49,7 @@ pub fn write_why<I: Source, O: Sink>(
     isns: &[u8],
     input: &mut I,
     out: &mut O,
-) -> Result<bool, WhyHalt>
+) -> Result<bool, JudgingHalt>
     ensures { (given : List ℕ) × Writes request keys.now isns.now given (I.side input.old) (I.side input.new) (O.side out.old) (O.side out.new) result }
 {
     let file = match read_key_file(alloc, keys) {

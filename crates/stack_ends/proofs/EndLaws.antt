@@ -138,12 +138,6 @@ module _ (k after : Ends) (q : Asking) (S : Stands k q.rows q.node) (table : aft
       let some : CallsAt after q (Some a) does (Some s) = (fourth.1, stands) in
       subst (λ (m : Option EndState). CallsAt after q r does m) (sym F.is) (subst (λ (o : Option A). CallsAt after q o does (Some s)) (sym is) some)
 
-  pub uncalled : {A : Type 0} (does : A → EndState → Called → Type 0) (r : Option A) → r ≡ None → None ≡ end_at k.node q.pair → after.node ≡ k.node → CallsAt after q r does (held_end q.pair q.node.ends)
-  uncalled {A} does r is none same =
-      let m = at_none q.rows q.pair (end_at k.node q.pair) (held_end q.pair q.node.ends) (S.holds.each q.pair) none in
-      let stays : CallsAt after q None does None = stands_same k after q.rows q.node q.pair S table clock same in
-      subst (λ (o : Option EndState). CallsAt after q r does o) (sym m) (subst (λ (o : Option A). CallsAt after q o does None) (sym is) stays)
-
 -- ---- a datagram came
 
 module _ (k after : Ends) (rows : List Row) (n : NodeState) (S : Stands k rows n) (table : after.table ≡ k.table) (clock : after.clock ≡ k.clock) where
@@ -171,7 +165,7 @@ module _ (k after : Ends) (rows : List Row) (n : NodeState) (S : Stands k rows n
       let holds = put_holds rows k.node after.node p h.next s (arrive rows p n.clock s (Read d)).state n.ends S.holds F.is finds h.count
       (record { stands = A.stands; fits = subst (λ (rs : List Row). FitsEnd rs h.next) S.rows_are H.fits; pair_is = H.pair ∙ F.stands.pair_is }) in
       let stands = stands_with k after rows n p S table clock _ holds (λ q. once_with q p (arrive rows p n.clock s (Read d)).state n.ends (S.once q)) in
-      let some : MeetsPair after rows n d p told (Some s) = (arrived, answer, A.answer, A.passed, stands) in
+      let some : MeetsPair after rows n d p told (Some s) = (arrived, answer, A.answer, A.passed, H.option, stands) in
       subst (λ (o : Option EndState). MeetsPair after rows n d p told o) (sym F.is) some
 
   met : (d : Segment) (told : NodeArrival) (o : Option Endpoint) → o ≡ end_at k.node (pair_reached d) → ComesTo k.table.rows k.clock d k.node after.node told o

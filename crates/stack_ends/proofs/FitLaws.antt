@@ -60,15 +60,3 @@ pub fits_opened : {A : Type 0} (rows : List Row) (before after : Holding) (p : P
     → OnOk r ((e : Endpoint) × Adds before after p e × Begins rows p s e) → FitsAll rows after
 fits_opened rows before after p s (Ok x) fit same added = fits_put rows before after p added.0 fit added.1.finds added.2.fits
 fits_opened rows before after p s (Err why) fit same added = fits_same rows before after fit same
-
--- the same, where the rows are those of the table that was passed
-pub fits_come_at : (rows seen : List Row) → seen ≡ rows → (now : ℕ) (before after : Holding) (told : NodeArrival) (r : Reading) → FitsAll rows before
-    → Comes seen now before after told r → FitsAll rows after
-fits_come_at rows seen e now before after told r fit c = subst (λ (rs : List Row). FitsAll rs after) e (fits_come seen now before after told r (subst (λ (rs : List Row). FitsAll rs before) (sym e) fit) c)
-
-pub fits_opened_at : {A : Type 0} (rows seen : List Row) → seen ≡ rows → (before after : Holding) (p : Pair) (s : EndState) (r : Result A NodeRefusal) → FitsAll rows before → OnErr r (after ≡ before)
-    → OnOk r ((e : Endpoint) × Adds before after p e × Begins seen p s e) → FitsAll rows after
-fits_opened_at rows seen e before after p s r fit same added = subst (λ (rs : List Row). FitsAll rs after) e (fits_opened seen before after p s r (subst (λ (rs : List Row). FitsAll rs before) (sym e) fit) same added)
-
-pub fits_written_at : (rows seen : List Row) → seen ≡ rows → (before : Holding) (p : Pair) (e f : Endpoint) → FitsAll rows before → end_at before p ≡ Some e → FitsEnd seen f → FitsAll rows (written p before f)
-fits_written_at rows seen same before p e f fit is one = fits_written rows before p e f fit is (subst (λ (rs : List Row). FitsEnd rs f) same one)

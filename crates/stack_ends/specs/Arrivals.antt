@@ -9,18 +9,18 @@ use Rattle.book_cmd_node.specs.NodeRuns.{NodeState, DatagramAnswered, after_call
 use Rattle.book_segments.specs.Segments.{pair_reached}
 use Rattle.node_ends.specs.declared.answer.NodeArrival.{NodeArrival}
 use Rattle.node_ends.specs.declared.answer.NodeArrival.TheVariants as answers
-use Rattle.tcp_endpoint.specs.Arrivals.{TellsPassed}
+use Rattle.tcp_endpoint.specs.Arrivals.{TellsOption, TellsPassed, passed_of}
 use Rattle.tcp_endpoint.specs.declared.arrival.Arrived.{Arrived}
 use Rattle.stack_ends.specs.declared.ends.Ends.{Ends}
 use Rattle.stack_ends.specs.Stands.{Stands}
 
 -- a segment comes to the end of a pair, where it is held, and what is told of a segment that passed
--- is what was found of it (RFC 9293, section 3.10.7)
+-- is what was found of it, with its option (RFC 9293, section 3.10.7)
 abbrev pub MeetsPair : Ends → List Row → NodeState → Segment → Pair → NodeArrival → Option EndState → Type 0
 MeetsPair k rows n d pair told None = (told ≡ answers.NoConnection) × Stands k rows n
 MeetsPair k rows n d pair told (Some s) = let a = arrive rows pair n.clock s (Read d) in
     (arrived : Arrived) × (told ≡ answers.At pair arrived) × (arrived.arrival ≡ a.answer)
-    × TellsPassed rows pair (Read d) arrived.passed a.passed
+    × TellsPassed rows pair (Read d) (passed_of arrived) a.passed × TellsOption d arrived
     × Stands k rows (after_call n pair (called a.state (DatagramAnswered a.answer))).node
 
 -- a segment comes to the end of its pair (own)

@@ -14,12 +14,13 @@ use tcp_segment::Datagram;
 
 impl Ends {
     /// A datagram that was read comes: `NoConnection` exactly where no end is held for its pair; else the
-    /// end of the pair answers (RFC 9293, section 3.10.7). At most 66 steps are counted.
-    pub fn hear_datagram<L: Ledger>(
+    /// end of the pair answers (RFC 9293, section 3.10.7), and tells the TCP-AO option of a segment that
+    /// passed. At most 66 steps are counted.
+    pub fn hear_datagram<'a, L: Ledger>(
         &mut self,
-        datagram: &Datagram<'_>,
+        datagram: &Datagram<'a>,
         steps: &mut Steps<L>,
-    ) -> NodeArrival
+    ) -> NodeArrival<'a>
         ensures meets { (rows : List Row) (n : NodeState) → Stands self.old rows n
             → Meets self.new rows n result (Read datagram.now) }
         ensures most { most_of self.new ≡ most_of self.old }

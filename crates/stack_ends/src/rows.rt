@@ -1,8 +1,7 @@
 //! Rows are added and withdrawn while ends live.
-ghost use Rattle.std.specs.Prelude.{◌≡◌, ◌≤◌, List};
-ghost use Rattle.book_keys.specs.Lifetimes.{greatest_time};
+ghost use Rattle.std.specs.Prelude.{◌≡◌, List};
 ghost use Rattle.book_keys.specs.Rows.{Row};
-ghost use Rattle.book_keys.specs.Tables.{adding, row_of_new, withdrawn};
+ghost use Rattle.book_keys.specs.Tables.{IsNewRow, adding, row_of_new, withdrawn};
 ghost use Rattle.book_cmd_node.specs.NodeRuns.{NodeState};
 ghost use Rattle.stack_ends.specs.Rows.{RowAdded, RowWithdrawn};
 ghost use Rattle.stack_ends.specs.Stands.{Stands, most_of};
@@ -18,10 +17,7 @@ impl Ends {
     /// where a row overlaps the new one, with the least such; `Memory` only for want of memory. After each
     /// of these it stands for what it stood for. No lifetime ends before it begins or after `LATEST`.
     pub fn add(&mut self, alloc: Global, row: NewRow) -> Result<u8, AddRefusal>
-        requires sending { row.sending.first ≤ row.sending.last }
-        requires sent { row.sending.last ≤ greatest_time }
-        requires accepting { row.accepting.first ≤ row.accepting.last }
-        requires accepted { row.accepting.last ≤ greatest_time }
+        requires row { IsNewRow row }
         ensures added { (rows : List Row) (n : NodeState) → Stands self.old rows n
             → RowAdded self.new n rows result (adding rows (row_of_new row)) }
         ensures most { most_of self.new ≡ most_of self.old }

@@ -121,7 +121,7 @@ pub(crate) fn drain(
 }
 
 /// A datagram comes.
-fn input(stack: &mut Stack, now: u64, bytes: &[u8]) -> Heard
+fn input<'a>(stack: &mut Stack, now: u64, bytes: &'a [u8]) -> Heard<'a>
     requires { now ≤ latest }
 {
     stack.input(now, bytes)

@@ -204,7 +204,7 @@ impl Watch {
         requires { now ≤ latest }
         ensures { seen self.new ≡ book.expired_at now phase (seen self.old) }
     {
-        self.timer.expired();
+        self.timer.back_off();
         self.timed = None;
         self.syn_again |= is_opening(phase);
         self.start(now);

@@ -4,13 +4,13 @@ use Rattle.book_base.specs.declared.address.Pair.{Pair}
 use Rattle.book_segments.specs.Options.{find_ao}
 use Rattle.book_segments.specs.Segments.{Segment, Reading, Read, has, SYN}
 use Rattle.book_keys.specs.Rows.{Row}
-use Rattle.book_endpoint.specs.declared.verdict.Passed.{Passed}
 use Rattle.book_endpoint.specs.declared.verdict.Verdict.{Verdict}
 use Rattle.book_endpoint.specs.declared.arrival.Arrival.{Arrival}
 use Rattle.book_endpoint.specs.declared.arrival.Arrival.TheVariants as answers
 use Rattle.ao_kdf.specs.Cache.{Cache}
 use Rattle.ao_kdf.specs.declared.way.Way.TheVariants.{Inbound}
 use Rattle.ao_check.specs.Bonds.{Counted}
+use Rattle.ao_check.specs.declared.passing.Passing.{Passing}
 use Rattle.ao_check.specs.Verdicts.{is_judged, judging}
 use Rattle.tcp_endpoint.specs.declared.arrival.Arrived.{Arrived}
 use Rattle.tcp_endpoint.specs.declared.endpoint.Endpoint.{Endpoint}
@@ -92,11 +92,11 @@ refused_costs {after} rows now e d w told pair old new q p k =
 pub untold : (w : Verdict) (told : Arrived) → told ≡ record { arrival = answers.Refused w; passed = None } → IsBeforeCheck told.arrival → ⊥
 untold w told q b = subst (λ (z : Arrived). IsBeforeCheck z.arrival) q b
 
-no_pass : (p : Passed) → Some p ≡ None → ⊥
+no_pass : (p : Passing) → Some p ≡ None → ⊥
 no_pass p e = absurd (cc)
 
 -- a segment that passed costs what the check does, and the links that its payload walks
-pub passed_costs : {after : Endpoint} (rows : List Row) (now : ℕ) (e : Endpoint) (d : Segment) (p : Passed) (a : Arrival) (pair : Pair) (keys : Cache) (old checked new : ℕ)
+pub passed_costs : {after : Endpoint} (rows : List Row) (now : ℕ) (e : Endpoint) (d : Segment) (p : Passing) (a : Arrival) (pair : Pair) (keys : Cache) (old checked new : ℕ)
     → pair ≡ e.pair → is_computed a ≡ true → after.association.keys ≡ keys → new ≤ checked + 65 → (length d.payload ≡ 0 → new ≡ checked)
     → Counted e.association.keys keys (judging rows pair now (find_ao d.area)) true Inbound (has SYN d) old checked
     → Costs rows now d e after (record { arrival = a; passed = Some p }) old new

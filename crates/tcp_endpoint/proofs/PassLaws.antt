@@ -12,6 +12,7 @@ use Rattle.book_endpoint.specs.Verdicts as v
 use Rattle.book_endpoint.specs.Arrivals as book
 use Rattle.endpoint_steps.specs.Arriving as stages
 use Rattle.ao_check.specs.Bonds.{Bond}
+use Rattle.ao_check.specs.declared.passing.Passing.{Passing}
 use Rattle.ao_check.specs.Verdicts.{IsRefusal, Names, Tells}
 use Rattle.book_endpoint.specs.declared.verdict.Passed.{Passed}
 use Rattle.book_endpoint.specs.declared.verdict.Verdict.{Verdict}
@@ -23,7 +24,7 @@ use Rattle.tcp_endpoint.specs.declared.arrival.Arrived.{Arrived}
 use Rattle.tcp_endpoint.specs.declared.endpoint.Endpoint.{Endpoint}
 use Rattle.tcp_endpoint.specs.Numbers.{expected_in}
 use Rattle.tcp_endpoint.specs.Ends.{Stands}
-use Rattle.tcp_endpoint.specs.Arrivals.{Reaches, Arrives}
+use Rattle.tcp_endpoint.specs.Arrivals.{Reaches, Arrives, IsStopped, TellsOption}
 
 third : {X : Type 0} (a b c : Bool) (w x y z : X) → a ≡ true → b ≡ true → c ≡ false → (if not a then w else (if not b then x else (if c then y else z))) ≡ z
 third a b c w x y z p q r = rw (p, q, r) refl
@@ -40,9 +41,9 @@ check_move : (pair : Pair) (rows : List Row) (s : states.EndState) (d : Segment)
 check_move pair rows s d now id key n number p q =
     ap (λ z. stages.after_check pair s (book.heard rows pair now s z) d n now s.phase) p ∙ ap (λ z. stages.after_check pair s (book.heard rows pair now s key) d z now s.phase) q
 
-pub arrives_pass : (rows : List Row) (pair : Pair) (now : ℕ) (s : states.EndState) (d : Segment) (entry : v.Finding) (e : Endpoint) (a : Arrival) (p : Passed) (id n : ℕ)
+pub arrives_pass : (rows : List Row) (pair : Pair) (now : ℕ) (s : states.EndState) (d : Segment) (entry : v.Finding) (e : Endpoint) (a : Arrival) (p : Passing) (id n : ℕ)
     → book.from_peer pair d ≡ true → good d ≡ true → states.is_closed s.phase ≡ false → book.judged_by rows pair now s d ≡ Ok entry → id ≡ entry.rnext_key_id → n ≡ entry.number
-    → Reaches e a (stages.after_check pair s (book.heard rows pair now s id) d n now s.phase) → Names rows pair d p entry
+    → Reaches e a (stages.after_check pair s (book.heard rows pair now s id) d n now s.phase) → Names rows pair d p.passed entry
     → Arrives rows pair (Read d) e (record { arrival = a; passed = Some p }) (book.arrive rows pair now s (Read d))
 arrives_pass rows pair now s d entry e a p id n peer right alive j i m reach names =
     let there = subst (λ z. Reaches e a z) (check_move pair rows s d now id entry.rnext_key_id n entry.number i m) reach in
@@ -107,3 +108,7 @@ number_is rows pair d p entry names = sym (ap (λ z. z.number) names.entry_is)
 
 pub checked_stands : (e : Endpoint) (a : Bond) (s : states.EndState) → Stands e s → a.current ≡ e.association.current → a.current ≡ s.current
 checked_stands e a s h c = c ∙ h.current
+
+-- where nothing passed, no option is told
+pub stopped : (d : Segment) (a : Arrival) (told : Arrived) → told ≡ record { arrival = a; passed = None } → IsStopped a → TellsOption d told
+stopped d a told e h = subst (λ z. TellsOption d z) (sym e) h

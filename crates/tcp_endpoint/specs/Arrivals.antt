@@ -12,7 +12,9 @@ use Rattle.book_endpoint.specs.Arrivals as book
 use Rattle.book_endpoint.specs.Hearing as hearing
 use Rattle.ao_kdf.specs.declared.way.Way.TheVariants.{Inbound}
 use Rattle.ao_check.specs.Bonds.{Counted}
+use Rattle.ao_check.specs.declared.passing.Passing.{Passing}
 use Rattle.ao_check.specs.Verdicts.{Names, is_judged, judging}
+use Rattle.tcp_options.specs.Views.{view_ao}
 use Rattle.tcp_endpoint.specs.declared.arrival.Arrived.{Arrived}
 use Rattle.tcp_endpoint.specs.declared.endpoint.Endpoint.{Endpoint}
 use Rattle.tcp_endpoint.specs.Ends.{Stands}
@@ -34,11 +36,20 @@ TellsPassed rows pair r None None = ⊤
 TellsPassed rows pair (Read d) (Some p) (Some found) = Names rows pair d p found
 TellsPassed rows pair r _ _ = ⊥
 
+-- what the check found of a segment that passed, without its option
+abbrev pub found_of : Option Passing → Option Passed
+found_of None = None
+found_of (Some p) = Some p.passed
+
+-- the same of what an end told
+abbrev pub passed_of : Arrived → Option Passed
+passed_of told = found_of told.passed
+
 -- the end stands for the state after the arrival, answers as it is answered, and tells what passed
 pub record Arrives (rows : List Row) (pair : Pair) (r : Reading) (e : Endpoint) (told : Arrived) (m : book.Arrived) : Type 0 where
   pub stands : Stands e m.state
   pub answer : told.arrival ≡ m.answer
-  pub passed : TellsPassed rows pair r told.passed m.passed
+  pub passed : TellsPassed rows pair r (passed_of told) m.passed
 
 -- the answers that come before the check (RFC 9293, section 3.10.7)
 abbrev pub IsBeforeCheck : Arrival → Type 0
@@ -47,6 +58,21 @@ IsBeforeCheck answers.Foreign = ⊤
 IsBeforeCheck answers.Checksum = ⊤
 IsBeforeCheck answers.Closed = ⊤
 IsBeforeCheck _ = ⊥
+
+-- the answers to what didn't pass the check (RFC 9293, section 3.10.7; RFC 5925, section 7.5)
+abbrev pub IsStopped : Arrival → Type 0
+IsStopped (answers.Refused why) = ⊤
+IsStopped answer = IsBeforeCheck answer
+
+-- the option that is told is the one that was found in the segment; where none is told, the segment
+-- didn't pass (RFC 5925, section 7.5)
+abbrev pub OptionIs : Segment → Arrival → Option Passing → Type 0
+OptionIs d answer None = IsStopped answer
+OptionIs d answer (Some p) = options.find_ao d.area ≡ options.One (view_ao p.option)
+
+-- the same of what an end told
+abbrev pub TellsOption : Segment → Arrived → Type 0
+TellsOption d told = OptionIs d told.arrival told.passed
 
 -- the segment came as far as its MAC (RFC 5925, section 7.5)
 abbrev pub is_computed : Arrival → Bool

@@ -1,8 +1,10 @@
 -- Which state an end stands for, and which tables fit it.
 use Rattle.std.specs.Prelude.{◌≡◌, ℕ, ◌+◌, ◌-◌, ◌≤◌, drop, length, List}
 use Rattle.wrap_seq.specs.Counter.{number}
+use Rattle.book_base.specs.declared.address.Pair.{Pair}
 use Rattle.book_keys.specs.Rows.{Row}
 use Rattle.book_endpoint.specs.States.{EndState, ready_at}
+use Rattle.ao_kdf.specs.Cache.{Cache}
 use Rattle.ao_check.specs.Bonds.{Bond, Fits}
 use Rattle.stream_buffers.specs.Kept.{byte_at}
 use Rattle.tcp_endpoint.specs.declared.endpoint.Endpoint.{Endpoint}
@@ -30,6 +32,14 @@ pub record Stands (e : Endpoint) (s : EndState) : Type 0 where
   pub mss : e.mss ≡ s.mss
   pub deadline : e.deadline ≡ s.deadline
   pub current : e.association.current ≡ s.current
+
+-- the sockets of the end, its own and its peer's
+abbrev pub pair_at_end : Endpoint → Pair
+pair_at_end e = e.pair
+
+-- the traffic keys that the end keeps
+abbrev pub keys_kept : Endpoint → Cache
+keys_kept e = e.association.keys
 
 -- the table fits the end: there is room for its rows, and each kept key and the current row are those of its rows
 abbrev pub FitsEnd : List Row → Endpoint → Type 0

@@ -3,6 +3,7 @@ use Rattle.std.specs.Prelude.{◌≡◌, ℕ, ◌+◌, ◌^◌, ◌<◌, ◌≤�
 use Rattle.book_base.specs.declared.address.Pair.{Pair}
 use Rattle.book_base.specs.Addresses.{IsOneFamily}
 use Rattle.book_segments.specs.Received.{below_limit}
+use Rattle.book_keys.specs.Rows.{row_limit}
 use Rattle.book_endpoint.specs.declared.phase.Phase.{Phase}
 use Rattle.book_endpoint.specs.declared.phase.Phase.TheVariants.{Listen, SynSent, Established, FinWait1, FinWait2, CloseWait, Closing, LastAck, TimeWait, Closed}
 use Rattle.book_endpoint.specs.States.{first}
@@ -61,12 +62,12 @@ before_fin TimeWait = false
 before_fin Closed = false
 before_fin _ = true
 
--- the association is that of this end, with room for the keys of 64 rows, and both addresses are of one family
+-- the association is that of this end, with room for the keys of as many rows as a table has at most, and both addresses are of one family
 pub record Bound (a : Bond) (sockets : Pair) (isn : ℕ) (peer_isn : Option ℕ) : Type 0 where
   pub pair : a.pair ≡ sockets
   pub own : a.own ≡ isn
   pub peer : a.peer ≡ peer_isn
-  pub room : a.keys.rows ≡ 64
+  pub room : a.keys.rows ≡ row_limit
   pub family : IsOneFamily sockets.local.address sockets.remote.address
 
 -- a RST is owed only where the peer's initial sequence number is known

@@ -7,8 +7,8 @@ ghost use Rattle.book_endpoint.specs.Arrivals as book;
 ghost use Rattle.book_keys.specs.Lifetimes.{greatest_time};
 ghost use Rattle.ao_check.specs.Verdicts.{IsExpected};
 ghost use Rattle.tcp_endpoint.specs.Numbers.{expected_in};
-ghost use Rattle.tcp_endpoint.specs.Ends.{Stands, FitsEnd, IsUnmoved};
-ghost use Rattle.tcp_endpoint.specs.Arrivals.{Arrives, Costs, IsBeforeCheck, LeavesAll};
+ghost use Rattle.tcp_endpoint.specs.Ends.{Stands, FitsEnd, IsUnmoved, pair_at_end};
+ghost use Rattle.tcp_endpoint.specs.Arrivals.{Arrives, Costs, IsBeforeCheck, LeavesAll, TellsOption};
 
 use crate::arrival::Arrived;
 use crate::endpoint::Endpoint;
@@ -46,26 +46,28 @@ impl Endpoint {
     /// A datagram arrives at `now`, in seconds since 1970 and at most LATEST: the first answer that
     /// holds (RFC 9293, section 3.10.7; RFC 5925, section 7.5). After `Bad`, `Foreign`, `Checksum` and
     /// `Closed` nothing has changed, and no step is counted. After `Refused` and `Unexpected` all that
-    /// the end stands for is as before; a traffic key that the check derived may be kept.
+    /// the end stands for is as before; a traffic key that the check derived may be kept. What passed is
+    /// told with the TCP-AO option that was found in it, which nobody has to look for again.
     ///
     /// At most 66 steps are counted: one derivation, as for the check, and the links that a piece walks
     /// among the received runs. No kept key is dropped.
     #[tactic(auto, unfolding(book_endpoint::specs::Arrivals::arrive))]
-    pub fn arrive<L: Ledger>(
+    pub fn arrive<'a, L: Ledger>(
         &mut self,
         table: &Table,
         now: u64,
-        bytes: &[u8],
+        bytes: &'a [u8],
         steps: &mut Steps<L>,
-    ) -> Arrived
+    ) -> Arrived<'a>
         requires fits { FitsEnd table.now.rows self.old }
         requires now { now ≤ greatest_time }
         ensures arrives { (s : EndState) → Stands self.old s
-            → Arrives table.now.rows self.old.pair (reading bytes.now) self.new result (book.arrive table.now.rows self.old.pair now s (reading bytes.now)) }
+            → Arrives table.now.rows (pair_at_end self.old) (reading bytes.now) self.new result (book.arrive table.now.rows (pair_at_end self.old) now s (reading bytes.now)) }
+        ensures option { (d : Segment) → reading bytes.now ≡ Read d → TellsOption d result }
         ensures untouched { IsBeforeCheck result.arrival → (self.new ≡ self.old) × (steps.new ≡ steps.old) }
         ensures unchanged { LeavesAll result.arrival → IsUnmoved self.old self.new }
         ensures costs { (d : Segment) → reading bytes.now ≡ Read d → Costs table.now.rows now d self.old self.new result steps.old steps.new }
-        ensures pair { self.new.pair ≡ self.old.pair }
+        ensures pair { pair_at_end self.new ≡ pair_at_end self.old }
         ensures fits { FitsEnd table.now.rows self.new }
         ensures steps { steps.new ≤ steps.old + 66 }
     {
@@ -79,21 +81,22 @@ impl Endpoint {
     /// A datagram that was read arrives: the first answer that holds, which is not `Bad`. All else is
     /// as for `arrive`.
     #[tactic(auto, unfolding(book_endpoint::specs::Arrivals::arrive))]
-    pub fn hear_datagram<L: Ledger>(
+    pub fn hear_datagram<'a, L: Ledger>(
         &mut self,
         table: &Table,
         now: u64,
-        datagram: &Datagram<'_>,
+        datagram: &Datagram<'a>,
         steps: &mut Steps<L>,
-    ) -> Arrived
+    ) -> Arrived<'a>
         requires fits { FitsEnd table.now.rows self.old }
         requires now { now ≤ greatest_time }
         ensures arrives { (s : EndState) → Stands self.old s
-            → Arrives table.now.rows self.old.pair (Read datagram.now) self.new result (book.arrive table.now.rows self.old.pair now s (Read datagram.now)) }
+            → Arrives table.now.rows (pair_at_end self.old) (Read datagram.now) self.new result (book.arrive table.now.rows (pair_at_end self.old) now s (Read datagram.now)) }
+        ensures option { TellsOption datagram.now result }
         ensures untouched { IsBeforeCheck result.arrival → (self.new ≡ self.old) × (steps.new ≡ steps.old) }
         ensures unchanged { LeavesAll result.arrival → IsUnmoved self.old self.new }
         ensures costs { Costs table.now.rows now datagram.now self.old self.new result steps.old steps.new }
-        ensures pair { self.new.pair ≡ self.old.pair }
+        ensures pair { pair_at_end self.new ≡ pair_at_end self.old }
         ensures fits { FitsEnd table.now.rows self.new }
         ensures steps { steps.new ≤ steps.old + 66 }
     {
@@ -114,12 +117,12 @@ impl Endpoint {
             Ok(passing) => passing,
             Err(verdict) => return Arrived::without(Arrival::Refused(verdict)),
         };
-        let passed = passing.passed;
+        let number = passing.passed.number;
         let rnext = passing.option.rnext;
-        let arrival = self.hear(table, datagram, passed.number, rnext, now, steps);
+        let arrival = self.hear(table, datagram, number, rnext, now, steps);
         Arrived {
             arrival,
-            passed: Some(passed),
+            passed: Some(passing),
         }
     }
 }

@@ -29,6 +29,7 @@ mod status;
 mod transmission;
 mod windows;
 
+pub use ao_check::Passing;
 pub use arrival::Arrived;
 pub use book_endpoint::{Arrival, Phase};
 pub use emission::{Emission, Made, Resent};

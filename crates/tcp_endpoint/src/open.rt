@@ -3,13 +3,14 @@ ghost use Rattle.std.specs.Prelude.{◌≡◌, true, IfOk};
 ghost use Rattle.book_endpoint.specs.States.{beginning, connected, listening, started, default_mss};
 ghost use Rattle.book_base.specs.Addresses.{IsOneFamily};
 ghost use Rattle.tcp_endpoint.specs.Halves.{waits};
-ghost use Rattle.tcp_endpoint.specs.Ends.{Stands, FitsEnd};
+ghost use Rattle.tcp_endpoint.specs.Ends.{Stands, FitsEnd, pair_at_end};
 
 use crate::endpoint::Endpoint;
 use crate::sequence::{Received, SequenceState};
 use ao_check::Association;
 use book_base::{Address, Pair};
 use book_endpoint::Phase;
+use book_keys::ROW_LIMIT;
 use key_table::Table;
 use segment_writer::own_mss;
 use std::alloc::{AllocError, Global};
@@ -17,7 +18,7 @@ use stream_buffers::{Reassembly, SendQueue};
 use wrap_seq::Counter;
 
 /// For how many rows keys are kept: as many as a table has at most.
-const ROWS: u8 = 64;
+const ROWS: u8 = ROW_LIMIT as u8;
 
 /// What a SYN without the option counts as (RFC 9293, section 3.7.1).
 pub(crate) fn default_mss(address: &Address) -> u16
@@ -86,7 +87,7 @@ impl Endpoint {
         requires family { IsOneFamily pair.local.address pair.remote.address }
         ensures stands { IfOk result (λ e. Stands e (connected pair isn)) }
         ensures fits { IfOk result (λ e. FitsEnd table.now.rows e) }
-        ensures pair { IfOk result (λ e. e.pair ≡ pair) }
+        ensures pair { IfOk result (λ e. pair_at_end e ≡ pair) }
     {
         begin(alloc, table, pair, isn, Phase::SynSent)
     }
@@ -102,7 +103,7 @@ impl Endpoint {
         requires family { IsOneFamily pair.local.address pair.remote.address }
         ensures stands { IfOk result (λ e. Stands e (listening pair isn)) }
         ensures fits { IfOk result (λ e. FitsEnd table.now.rows e) }
-        ensures pair { IfOk result (λ e. e.pair ≡ pair) }
+        ensures pair { IfOk result (λ e. pair_at_end e ≡ pair) }
     {
         begin(alloc, table, pair, isn, Phase::Listen)
     }
@@ -119,7 +120,7 @@ impl Endpoint {
         requires family { IsOneFamily pair.local.address pair.remote.address }
         ensures stands { IfOk result (λ e. Stands e (started pair own_isn peer_isn)) }
         ensures fits { IfOk result (λ e. FitsEnd table.now.rows e) }
-        ensures pair { IfOk result (λ e. e.pair ≡ pair) }
+        ensures pair { IfOk result (λ e. pair_at_end e ≡ pair) }
     {
         // It tells that a table has at most as many rows.
         let _rows = table.rows();

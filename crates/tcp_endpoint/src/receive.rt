@@ -2,7 +2,7 @@
 ghost use Rattle.std.specs.Prelude.{◌≡◌, ◌==◌, ◌&&◌, nat_lt, ◌++◌, List, length, drop};
 ghost use Rattle.book_keys.specs.Rows.{Row};
 ghost use Rattle.book_endpoint.specs.States.{EndState, taking, take_out, at_end, hears};
-ghost use Rattle.tcp_endpoint.specs.Ends.{Stands, FitsEnd};
+ghost use Rattle.tcp_endpoint.specs.Ends.{Stands, FitsEnd, pair_at_end};
 
 use crate::endpoint::Endpoint;
 use crate::phases::hears;
@@ -23,7 +23,7 @@ impl Endpoint {
         ensures count { (s : EndState) → Stands self.old s → result ≡ length (taking (length out.old) s) }
         ensures taken { (s : EndState) → Stands self.old s → out.new ≡ taking (length out.old) s ++ drop result out.old }
         ensures stands { (s : EndState) → Stands self.old s → Stands self.new (take_out (length out.old) s) }
-        ensures pair { self.new.pair ≡ self.old.pair }
+        ensures pair { pair_at_end self.new ≡ pair_at_end self.old }
         ensures fits { (rows : List Row) → FitsEnd rows self.old → FitsEnd rows self.new }
     {
         // It tells that the reassembly is sound, of which `take` says nothing.

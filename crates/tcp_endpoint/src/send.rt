@@ -3,7 +3,7 @@ ghost use Rattle.std.specs.Prelude.{◌≡◌, ◌+◌, ◌-◌, ◌≤◌, min,
 ghost use Rattle.book_keys.specs.Rows.{Row};
 ghost use Rattle.book_endpoint.specs.States.{EndState, room};
 ghost use Rattle.tcp_endpoint.specs.declared.send.GiveAnswer.TheVariants as answers;
-ghost use Rattle.tcp_endpoint.specs.Ends.{Stands, FitsEnd};
+ghost use Rattle.tcp_endpoint.specs.Ends.{Stands, FitsEnd, pair_at_end};
 ghost use Rattle.tcp_endpoint.specs.Answers.{give_answer, offered, IsRefused};
 
 use crate::endpoint::Endpoint;
@@ -48,7 +48,7 @@ impl Endpoint {
         ensures answer { (s : EndState) → Stands self.old s → result ≡ give_answer s piece.now }
         ensures stands { (s : EndState) → Stands self.old s → Stands self.new (offered piece.now s) }
         ensures unchanged { IsRefused result → self.new ≡ self.old }
-        ensures pair { self.new.pair ≡ self.old.pair }
+        ensures pair { pair_at_end self.new ≡ pair_at_end self.old }
         ensures fits { (rows : List Row) → FitsEnd rows self.old → FitsEnd rows self.new }
     {
         if self.closing || is_closed(self.phase) {

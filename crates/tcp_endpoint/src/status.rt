@@ -1,7 +1,7 @@
 //! Looking at an end.
 ghost use Rattle.std.specs.Prelude.{◌≡◌, length};
 ghost use Rattle.book_endpoint.specs.States.{EndState};
-ghost use Rattle.tcp_endpoint.specs.Ends.{Stands};
+ghost use Rattle.tcp_endpoint.specs.Ends.{Stands, pair_at_end};
 ghost use Rattle.tcp_endpoint.specs.Numbers.{HasNumbersOf};
 
 use crate::endpoint::Endpoint;
@@ -12,7 +12,7 @@ use book_endpoint::Phase;
 impl Endpoint {
     /// The sockets of the connection.
     pub fn pair(&self) -> Pair
-        ensures { result ≡ self.now.pair }
+        ensures { result ≡ pair_at_end self.now }
     {
         self.pair
     }

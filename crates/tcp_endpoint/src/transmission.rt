@@ -2,7 +2,7 @@
 ghost use Rattle.std.specs.Prelude.{◌≡◌, ◌+◌, ◌≤◌, length};
 ghost use Rattle.book_endpoint.specs.States.{EndState};
 ghost use Rattle.book_endpoint.specs.Emissions as book;
-ghost use Rattle.tcp_endpoint.specs.Ends.{Stands, FitsEnd, IsUnchanged};
+ghost use Rattle.tcp_endpoint.specs.Ends.{Stands, FitsEnd, IsUnchanged, keys_kept, pair_at_end};
 ghost use Rattle.tcp_endpoint.specs.Emissions.{Emits, EmitCosts, Resends, ResendCosts, MakesNone, ResendsNone, length_made, length_made_again};
 
 use crate::emission::{Emission, Resent};
@@ -30,11 +30,11 @@ impl Endpoint {
         requires fits { FitsEnd table.now.rows self.old }
         requires room { 1500 ≤ length out.old }
         ensures emits { (s : EndState) → Stands self.old s
-            → Emits s self.new out.old out.new result (book.emit table.now.rows self.old.pair now s) }
-        ensures costs { EmitCosts self.old.association.keys self.new.association.keys result steps.old steps.new }
+            → Emits s self.new out.old out.new result (book.emit table.now.rows (pair_at_end self.old) now s) }
+        ensures costs { EmitCosts (keys_kept self.old) (keys_kept self.new) result steps.old steps.new }
         ensures short { length_made result ≤ 1500 }
         ensures unchanged { MakesNone result → IsUnchanged self.old self.new × (out.new ≡ out.old) }
-        ensures pair { self.new.pair ≡ self.old.pair }
+        ensures pair { pair_at_end self.new ≡ pair_at_end self.old }
         ensures fits { FitsEnd table.now.rows self.new }
         ensures steps { steps.new ≤ steps.old + 1 }
     {
@@ -61,11 +61,11 @@ impl Endpoint {
         requires fits { FitsEnd table.now.rows self.old }
         requires room { 1500 ≤ length out.old }
         ensures resends { (s : EndState) → Stands self.old s
-            → Resends s self.new out.old out.new result (book.resend table.now.rows self.old.pair now s) }
-        ensures costs { ResendCosts self.old.association.keys self.new.association.keys result steps.old steps.new }
+            → Resends s self.new out.old out.new result (book.resend table.now.rows (pair_at_end self.old) now s) }
+        ensures costs { ResendCosts (keys_kept self.old) (keys_kept self.new) result steps.old steps.new }
         ensures short { length_made_again result ≤ 1500 }
         ensures unchanged { ResendsNone result → IsUnchanged self.old self.new × (out.new ≡ out.old) }
-        ensures pair { self.new.pair ≡ self.old.pair }
+        ensures pair { pair_at_end self.new ≡ pair_at_end self.old }
         ensures fits { FitsEnd table.now.rows self.new }
         ensures steps { steps.new ≤ steps.old + 1 }
     {

@@ -1,7 +1,6 @@
 //! How the MAC of a segment is made, and under which changes it would be right, as lines.
 ghost use Rattle.std.specs.Prelude.{◌≡◌, ◌++◌, ◌∷◌, [], OnOk, codes, decimal, length};
 ghost use Rattle.book_lines.specs.Texts.{line_text};
-ghost use Rattle.book_segments.specs.Bytes.{same_bytes};
 ghost use Rattle.book_segments.specs.Options.{One, find_ao};
 ghost use Rattle.book_why.specs.ChangeTexts.{passing_lines};
 ghost use Rattle.book_why.specs.Judging.{suspect_context};
@@ -11,7 +10,7 @@ ghost use Rattle.tcp_options.specs.Views.{view_ao};
 ghost use Rattle.why_macs.specs.Views.{both_view, recipe_view, suspect_view};
 
 use crate::parts::{push_extension_part, push_header_part, push_options_part, push_pseudo_part};
-use crate::passes::would_pass;
+use crate::passes::{is_same_mac, would_pass};
 use crate::recipe::{Recipe, mac_made};
 use crate::right::{key_made, right_recipe, suspect_context};
 use crate::suspect::{BothTables, Suspect};
@@ -125,18 +124,12 @@ fn agrees_text(same: bool) -> &'static [u8]
     if same { b"agrees" } else { b"differs" }
 }
 
-fn is_same(one: &[u8], other: &[u8]) -> bool
-    ensures { result ≡ same_bytes one.now other.now }
-{
-    one == other
-}
-
 fn push_computed_line(out: &mut Vec<u8>, found: &[u8], computed: &[u8]) -> Result<(), AllocError>
     ensures { OnOk result (out.new.items ≡ out.old.items ++ computed_line found.now computed.now) }
 {
     out.extend_from_slice(b"  computed")?;
     push_bytes(out, computed)?;
-    push_text(out, agrees_text(is_same(found, computed)))?;
+    push_text(out, agrees_text(is_same_mac(found, computed)))?;
     push_newline(out)
 }
 

@@ -106,7 +106,8 @@ fn all_changes(
     Ok(out)
 }
 
-fn is_same(one: &[u8], other: &[u8]) -> bool
+/// Whether the bytes are one MAC.
+pub(crate) fn is_same_mac(one: &[u8], other: &[u8]) -> bool
     ensures { result ≡ same_bytes one.now other.now }
 {
     one == other
@@ -125,7 +126,7 @@ fn passes_changed(
     let choices = changed_choices(alloc, change, both, suspect)?;
     let recipe = recipe_by(alloc, choices, suspect.datagram, suspect.ao)?;
     let mac = mac_made(alloc, &recipe)?;
-    Ok(is_same(suspect.ao.mac, mac.as_slice()))
+    Ok(is_same_mac(suspect.ao.mac, mac.as_slice()))
 }
 
 // Puts a change behind `out`, where the MAC of the segment is right under it.

@@ -7,7 +7,7 @@ returns-in-Ok-clause-adds c = λ s n stands. let a = c.add-added.ensures s n sta
   stays = λ same. added_stays c.add-added.new.self c.in-Ok.new s n c.add-added.result c.added_code.result c.added_code.ensures a same;
   adds = λ _ differ. record {
     new = c.in-Ok.new;
-    is = c.in-Ok.ensures;
+    is = c.in-Ok.ensures.row;
     follows = added_does c.add-added.new.self c.in-Ok.new s n c.add-added.result c.args.number.now c.number_in.result c.added_code.result c.added_code.ensures c.number_in.ensures a differ;
   };
 }

@@ -11,7 +11,7 @@ pub returns-then-is_same_socket-clause-heard : goal.returns-then-is_same_socket-
 returns-then-is_same_socket-clause-heard g c = λ held S.
     one_socket c.args.tables.now c.args.connections.now.entries held c.args.time c.args.datagram.now c.args.given c.in-Some.table.now S
     (rw (← c.destination-destination.ensures.value) (sym c.in-Some.ensures))
-    (rw (← c.source.ensures.value, ← c.destination-destination.ensures.value) (sym c.is_same_socket.ensures ∙ c.if-is_same_socket.true))
+    (rw (← c.source.ensures.value, ← c.destination-destination.ensures.value) (sym c.is_same_socket.ensures.told ∙ c.if-is_same_socket.true))
 
 pub returns-then-has-clause-heard : goal.returns-then-has-clause-heard
 returns-then-has-clause-heard g c = λ held S.

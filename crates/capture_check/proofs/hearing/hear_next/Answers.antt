@@ -5,7 +5,7 @@ pub returns-in-Ok-clause-heard : goal.returns-in-Ok-clause-heard
 returns-in-Ok-clause-heard g c =
     let all = later c.args.tables.now c.args.table.now c.args.connections.now.entries c.hear_later.new.connections.entries c.args.time c.args.given c.args.datagram.now c.in-Ok.verdict c.args.steps.now c.hear_later.new.steps
     c.requires.sound c.requires.differ c.requires.table c.requires.later c.in-Ok.ensures.heard in
-    λ held S. rw c.checksum_ok-right.ensures (all.heard held S)
+    λ held S. rw c.checksum_in-checksum.ensures (all.heard held S)
 
 pub returns-in-Ok-clause-sound : goal.returns-in-Ok-clause-sound
 returns-in-Ok-clause-sound g c =

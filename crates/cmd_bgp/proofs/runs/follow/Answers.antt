@@ -8,4 +8,4 @@ returns-in-Begins-clause-follows c = λ setup events stands number f.
 
 pub returns-in-Neither-clause-follows : goal.returns-in-Neither-clause-follows
 returns-in-Neither-clause-follows c = λ setup events stands number f.
-    follows_other setup events c.args.event.now c.args.a.now c.args.b.now c.args.said.now.text.items c.args.said.now.faults f (sym c.turn_of.ensures ∙ c.in-Neither.is)
+    follows_other setup events c.args.event.now c.args.readers.now c.args.said.now.text.items c.args.said.now.faults f (sym c.turn_of.ensures ∙ c.in-Neither.is)

@@ -3,4 +3,4 @@ use Rattle.cmd_bgp.proofs.RunLaws.{Reached}
 use Rattle.cmd_bgp.proofs.runs.run_bgp.Given as goal
 
 abbrev pub invariant-loop-event : goal.invariant-loop-event
-invariant-loop-event l = Reached l.world (setup_of l.fn.setup) l.events l.event-index l.number l.a l.b l.said.text.items l.said.faults
+invariant-loop-event l = Reached l.world (setup_of l.fn.setup) l.events l.event-index l.number l.readers l.said.text.items l.said.faults

@@ -1,6 +1,5 @@
-use Rattle.std.proofs.Common.{◌≡◌, sym, ◌∙◌}
+use Rattle.std.proofs.Common.{sym, ◌∙◌}
 use Rattle.std.proofs.lemmas.Result.{err_from_is_err_and}
-use Rattle.book_cmd_timed.specs.TimedRuns.{timed_event_of, wait_of}
 use Rattle.link_script.proofs.TimedWords.{is_wait, isnt_wait}
 use Rattle.link_script.proofs.timed.timed_event.Goals as goal
 

@@ -5,5 +5,7 @@ use Rattle.scope_key_rows.proofs.columns.push_protocol.Goals as goal
 pub returns : goal.returns
 unfolding protocol_findings
 returns c =
-    three_found c.push_options.result c.args.findings.now.items c.push_interfaces.new.findings.items c.push_protocol_name.new.findings.items c.push_options.new.findings.items _ _ _
-    c.in_ok-push_interfaces.ensures c.in_ok-push_protocol_name.ensures c.push_options.ensures
+    three_found c.push_column-3.result c.args.findings.now.items c.push_column.new.findings.items c.push_column-2.new.findings.items c.push_column-3.new.findings.items _ _ _
+    (rw c.is_everywhere.ensures at c.in_ok-push_column.ensures)
+    (rw c.is_word_at.ensures at c.in_ok-push_column-2.ensures)
+    (rw (c.is_some.ensures, c.options_at.ensures) at c.push_column-3.ensures)

@@ -8,5 +8,5 @@ returns-then-are_few c =
 
 pub returns : goal.returns
 returns c =
-    many_found c.push_peer_count.result c.args.place.now c.args.values.now c.args.findings.now.items c.push_peer_count.new.findings.items c.are_few.result
-    c.are_few.ensures c.if-are_few.false c.push_peer_count.ensures
+    many_found c.push_count.result c.args.place.now c.args.values.now c.args.findings.now.items c.push_count.new.findings.items c.are_few.result
+    c.are_few.ensures c.if-are_few.false c.push_count.ensures

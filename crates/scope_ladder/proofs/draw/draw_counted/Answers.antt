@@ -1,8 +1,9 @@
 use Rattle.std.proofs.Common.{[], ◌++◌, refl}
 use Rattle.book_draw_session_svg.specs.declared.form.LadderForm.TheVariants.{Text}
 use Rattle.scope_lines.proofs.Showing.{listed}
+use Rattle.scope_lines.proofs.Taken.{smaller}
 use Rattle.scope_ladder.specs.Drawing.{request_of}
-use Rattle.scope_ladder.proofs.Walk.{broke, between_block, between_new, between_packet, between_smaller, ends_broken, ends_done, ends_long, ends_memory, ends_none, ends_read, ends_stuck}
+use Rattle.scope_ladder.proofs.Walk.{broke, between_block, between_new, between_packet, ends_broken, ends_done, ends_long, ends_memory, ends_none, ends_read, ends_stuck}
 use Rattle.scope_ladder.proofs.draw.draw_counted.Goals as goal
 
 pub returns-in-Err : goal.returns-in-Err
@@ -15,13 +16,13 @@ pub parts-init : goal.parts-init
 parts-init g c = ([], [], between_new (request_of Text c.args.tables c.args.laps c.args.isns.now c.args.number) c.in-Ok.reader c.in-Ok-new.drawer _ _ refl c.in-Ok.ensures c.in-Ok-new.ensures)
 
 pub next-requires : goal.next-requires
-next-requires g c = c.parts.invariant.2.going
+next-requires g c = c.parts.invariant.2.taken.going
 
 pub parts-smaller-in-Ok-Block : goal.parts-smaller-in-Ok-Block
 parts-smaller-in-Ok-Block g c =
     let more = rw c.in-Ok-Block.field-0-is at c.in-Ok-Block.ensures.steps in
     let step = more.1 in
-    between_smaller (request_of Text c.args.tables c.args.laps c.args.isns.now c.args.number) c.parts.reader c.parts.drawer c.parts.invariant.0 more.0 c.parts.invariant.1 _ _ _ _ _ c.parts.invariant.2 c.next.new.self step.answers.0 step.answers.1 step.gave step.bytes
+    smaller {said = step.answers.0} step.answers.1
 
 pub parts-preserved-in-Ok-Block : goal.parts-preserved-in-Ok-Block
 parts-preserved-in-Ok-Block g c =
@@ -56,7 +57,7 @@ pub parts-smaller : goal.parts-smaller
 parts-smaller g c =
     let more = rw c.in-Ok-Packet.field-0-is at c.in-Ok-Packet.ensures.steps in
     let step = more.1 in
-    between_smaller (request_of Text c.args.tables c.args.laps c.args.isns.now c.args.number) c.parts.reader c.parts.drawer c.parts.invariant.0 more.0 c.parts.invariant.1 _ _ _ _ _ c.parts.invariant.2 c.next.new.self step.answers.0 step.answers.1 step.gave step.bytes
+    smaller {said = step.answers.0} step.answers.1
 
 pub parts-preserved : goal.parts-preserved
 parts-preserved g c =

@@ -1,26 +1,27 @@
 use Rattle.std.proofs.Common.{[], ◌++◌, Some, None, refl}
 use Rattle.scope_lines.proofs.Showing.{listed}
+use Rattle.scope_lines.proofs.Taken.{smaller}
 use Rattle.scope_sessions.specs.Reading.{series_of}
-use Rattle.scope_sessions.proofs.Walk.{between_block, between_counted, between_new, between_smaller, ends_broken, ends_done, ends_long, ends_lacking, ends_memory, ends_none, ends_read, ends_stuck}
+use Rattle.scope_sessions.proofs.Walk.{between_block, between_counted, between_new, ends_broken, ends_done, ends_long, ends_lacking, ends_memory, ends_none, ends_read, ends_stuck}
 use Rattle.scope_sessions.proofs.count.count_counted.Goals as goal
 
 pub returns-in-Err : goal.returns-in-Err
 returns-in-Err g c = ([], ends_none (series_of c.args.tables c.args.laps c.args.isns.now c.args.request) _ _)
 
-pub returns-in-Err-listener_of : goal.returns-in-Err-listener_of
-returns-in-Err-listener_of g c = ([], ends_none (series_of c.args.tables c.args.laps c.args.isns.now c.args.request) _ _)
+pub returns-in-Err-behind : goal.returns-in-Err-behind
+returns-in-Err-behind g c = ([], ends_none (series_of c.args.tables c.args.laps c.args.isns.now c.args.request) _ _)
 
 pub parts-init : goal.parts-init
-parts-init g c = ([], [], between_new (series_of c.args.tables c.args.laps c.args.isns.now c.args.request) c.in-Ok.reader c.in-Ok-listener_of.listener c.new-index.result _ _ c.in-Ok.ensures c.in-Ok-listener_of.ensures.judging c.in-Ok-listener_of.ensures.knows c.new-index.ensures)
+parts-init g c = ([], [], between_new (series_of c.args.tables c.args.laps c.args.isns.now c.args.request) c.in-Ok.reader c.in-Ok-behind.listener c.new-index.result _ _ c.in-Ok.ensures c.in-Ok-behind.ensures.judging c.in-Ok-behind.ensures.knows c.new-index.ensures)
 
 pub next-requires : goal.next-requires
-next-requires g c = c.parts.invariant.2.going
+next-requires g c = c.parts.invariant.2.taken.going
 
 pub parts-smaller-in-Ok-Block : goal.parts-smaller-in-Ok-Block
 parts-smaller-in-Ok-Block g c =
     let more = rw c.in-Ok-Block.field-0-is at c.in-Ok-Block.ensures.steps in
     let step = more.1 in
-    between_smaller (series_of c.args.tables c.args.laps c.args.isns.now c.args.request) c.parts.reader c.parts.listener c.parts.index c.parts.since c.parts.invariant.0 more.0 c.parts.invariant.1 _ _ _ _ _ c.parts.invariant.2 c.next.new.self step.answers.0 step.answers.1 step.gave step.bytes
+    smaller {said = step.answers.0} step.answers.1
 
 pub parts-preserved-in-Ok-Block : goal.parts-preserved-in-Ok-Block
 parts-preserved-in-Ok-Block g c =
@@ -55,7 +56,7 @@ pub parts-smaller : goal.parts-smaller
 parts-smaller g c =
     let more = rw c.in-Ok-Packet.field-0-is at c.in-Ok-Packet.ensures.steps in
     let step = more.1 in
-    between_smaller (series_of c.args.tables c.args.laps c.args.isns.now c.args.request) c.parts.reader c.parts.listener c.parts.index c.parts.since c.parts.invariant.0 more.0 c.parts.invariant.1 _ _ _ _ _ c.parts.invariant.2 c.next.new.self step.answers.0 step.answers.1 step.gave step.bytes
+    smaller {said = step.answers.0} step.answers.1
 
 pub parts-preserved : goal.parts-preserved
 parts-preserved g c =

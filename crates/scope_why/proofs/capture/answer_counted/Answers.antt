@@ -3,31 +3,32 @@ use Rattle.book_cmd_check.specs.declared.given.GivenIsns.{GivenIsns}
 use Rattle.book_sessions.specs.Sessions.{all_stored}
 use Rattle.book_why_texts.specs.Answers.{behind_stored}
 use Rattle.scope_lines.proofs.Showing.{listed}
+use Rattle.scope_lines.proofs.Taken.{smaller}
 use Rattle.scope_why.specs.Fronts.{StandsBehind}
 use Rattle.scope_why.specs.Replies.{asked_of, key_file_of}
-use Rattle.scope_why.proofs.Walk.{between_block, between_new, between_smaller, ends_broken, ends_done, ends_found, ends_lacking, ends_long, ends_memory, ends_none, ends_read, heard_found}
+use Rattle.scope_why.proofs.Walk.{between_block, between_new, ends_broken, ends_done, ends_found, ends_lacking, ends_long, ends_memory, ends_none, ends_read, heard_found}
 use Rattle.scope_why.proofs.capture.answer_counted.Goals as goal
 
 pub returns-in-Err : goal.returns-in-Err
 returns-in-Err g c = ([], ends_none (key_file_of c.args.asking.now c.args.tables) (asked_of c.args.asking.now c.args.given.now c.args.number) _)
 
-pub returns-in-Err-checker_of : goal.returns-in-Err-checker_of
-returns-in-Err-checker_of g c = ([], ends_none (key_file_of c.args.asking.now c.args.tables) (asked_of c.args.asking.now c.args.given.now c.args.number) _)
+pub returns-in-Err-behind : goal.returns-in-Err-behind
+returns-in-Err-behind g c = ([], ends_none (key_file_of c.args.asking.now c.args.tables) (asked_of c.args.asking.now c.args.given.now c.args.number) _)
 
 pub returns-in-Err-told_first : goal.returns-in-Err-told_first
 returns-in-Err-told_first g c = ([], ends_none (key_file_of c.args.asking.now c.args.tables) (asked_of c.args.asking.now c.args.given.now c.args.number) _)
 
 pub parts-init : goal.parts-init
-parts-init g c = ([], [], between_new (key_file_of c.args.asking.now c.args.tables) (asked_of c.args.asking.now c.args.given.now c.args.number) c.in-Ok.reader c.in-Ok-checker_of.checker c.in-Ok-told_first.told.items _ c.in-Ok.ensures c.in-Ok-checker_of.ensures.tables c.in-Ok-checker_of.ensures.stands c.in-Ok-told_first.ensures)
+parts-init g c = ([], [], between_new (key_file_of c.args.asking.now c.args.tables) (asked_of c.args.asking.now c.args.given.now c.args.number) c.in-Ok.reader c.in-Ok-behind.checker c.in-Ok-told_first.told.items _ c.in-Ok.ensures c.in-Ok-behind.ensures.tables c.in-Ok-behind.ensures.stands c.in-Ok-told_first.ensures)
 
 pub next-requires : goal.next-requires
-next-requires g c = c.parts.invariant.2.going
+next-requires g c = c.parts.invariant.2.taken.going
 
 pub parts-smaller-in-Ok-Block : goal.parts-smaller-in-Ok-Block
 parts-smaller-in-Ok-Block g c =
     let more = rw c.in-Ok-Block.field-0-is at c.in-Ok-Block.ensures.steps in
     let step = more.1 in
-    between_smaller _ _ _ _ _ _ c.parts.invariant.0 more.0 c.parts.invariant.1 _ _ _ c.parts.invariant.2 c.next.new.self step.answers.0 step.answers.1 step.gave step.bytes
+    smaller {said = step.answers.0} step.answers.1
 
 pub parts-preserved-in-Ok-Block : goal.parts-preserved-in-Ok-Block
 parts-preserved-in-Ok-Block g c =

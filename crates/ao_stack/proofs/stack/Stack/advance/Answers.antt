@@ -12,7 +12,7 @@ returns-in-None g c s S =
     let u = turns (length t.stack.line) (ask c.args.now) t.stack in
     let later : StackState → Turn = λ x. turns (length x.alarms) (wake c.args.now) x in
     let then : StackState → Turn = λ x. then_turn (turns (length x.line) (ask c.args.now) x) later in
-    turned_none _ _ _ _ t then (clocked_hands c.args.now s) (turned_none _ _ _ _ u later (none_of _ _ _ u T) (earlier _ _ _ _ _ _ T.stays (c.wake_all.ensures u.stack T.stands)))
+    turned_none _ _ _ _ t then (clocked_hands c.args.now s) (turned_none _ _ _ _ u later (none_of _ _ _ u T) (earlier _ _ _ _ _ _ T.stays (c.take_turns-in-None.ensures u.stack T.stands)))
 
 pub returns-in-Some : goal.returns-in-Some
 returns-in-Some g c s S =

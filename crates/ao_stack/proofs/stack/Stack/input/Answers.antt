@@ -1,16 +1,35 @@
-use Rattle.std.proofs.Common.{sym, subst}
-use Rattle.book_segments.specs.Segments.{Reading}
+use Rattle.std.proofs.Common.{◌≡◌, sym, ap, ◌∙◌, subst}
+use Rattle.book_base.specs.declared.address.Pair.{Pair}
+use Rattle.book_base.specs.declared.address.Socket.{Socket}
+use Rattle.book_segments.specs.Segments.{Reading, Read, Bad, pair_reached}
+use Rattle.book_stack.specs.Calls.{Incoming}
 use Rattle.book_stack.specs.Turns.{clocked}
-use Rattle.ao_stack.proofs.ReadLaws.{read_is}
+use Rattle.node_ends.specs.declared.answer.NodeArrival.TheVariants as arrivals
+use Rattle.ao_stack.specs.declared.input.Heard.TheVariants as heards
 use Rattle.ao_stack.specs.Passed.{PassesAs}
+use Rattle.ao_stack.proofs.ArriveLaws.{came_bad, inputs}
 use Rattle.ao_stack.proofs.stack.Stack.input.Goals as goal
 
-pub returns-clause-told : goal.returns-clause-told
-returns-clause-told c s S =
-    let r = c.read_datagram-read in
-    c.input_read.ensures.told s c.args.bytes.now S (read_is c.args.bytes.now r.result r.ensures.read r.ensures.refused)
+pub returns-in-Err-clause-told : goal.returns-in-Err-clause-told
+returns-in-Err-clause-told c s S =
+    let coming : Incoming = record { now = c.args.now; bytes = c.args.bytes.now } in
+    inputs _ coming s (Bad c.in-Err.fault) (heards.Told (arrivals.Bad c.in-Err.fault)) c.in-Err.ensures.refused (came_bad _ coming c.in-Err.fault _ (c.set_clock.ensures s S))
 
-pub returns-clause-passed : goal.returns-clause-passed
-returns-clause-passed c s S =
-    let r = c.read_datagram-read in
-    subst (λ (x : Reading). PassesAs (clocked c.args.now s).stack x c.input_read.result) (sym (read_is c.args.bytes.now r.result r.ensures.read r.ensures.refused)) (c.input_read.ensures.passed s S)
+pub returns-in-Err-clause-passed : goal.returns-in-Err-clause-passed
+returns-in-Err-clause-passed c s S = tt
+
+pub returns-in-Ok-clause-told : goal.returns-in-Ok-clause-told
+returns-in-Ok-clause-told c s S =
+    let d = c.in-Ok.datagram in
+    let q : Pair = record { local = c.destination.result; remote = c.source.result } in
+    let seen : q ≡ pair_reached d =
+    ap (λ (x : Socket). let k : Pair = record { local = x; remote = c.source.result } in k) c.destination.ensures.value
+    ∙ ap (λ (x : Socket). let k : Pair = record { local = d.destination; remote = x } in k) c.source.ensures.value in
+    let coming : Incoming = record { now = c.args.now; bytes = c.args.bytes.now } in
+    let came = c.in-Ok.ensures.read in
+    inputs _ coming s (Read d) c.meet.result came (c.meet.ensures.told _ coming.bytes (c.set_clock.ensures s S) came seen c.asks-asks.ensures)
+
+pub returns-in-Ok-clause-passed : goal.returns-in-Ok-clause-passed
+returns-in-Ok-clause-passed c s S =
+    subst (λ (x : Reading). PassesAs (clocked c.args.now s).stack x c.meet.result) (sym c.in-Ok.ensures.read)
+    (c.meet.ensures.passed (clocked c.args.now s).stack (c.set_clock.ensures s S))

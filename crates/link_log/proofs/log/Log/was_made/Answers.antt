@@ -8,11 +8,11 @@ use Rattle.link_log.proofs.log.Log.was_made.Goals as goal
 pub loop-next-init : goal.loop-next-init
 loop-next-init c =
     let own = c.args.self.now in
-    let e = c.args.entrance.now in
+    let e = c.args.passing.now.passed in
     let number = c.sought-number.result in
     rw (c.as_slice-kept.ensures.value, c.copied-next.ensures, c.get.ensures.value)
-    (search_begins (Rejected c.args.at e.row.now c.args.datagram.now e.number e.context) own.kept.items number _
-    (others_rejected c.args.at e.row.now c.args.datagram.now e.number number e.context c.requires c.sought-number.ensures.small c.sought-number.ensures.number)
+    (search_begins (Rejected c.args.at c.args.row.now c.args.datagram.now e.number e.context) own.kept.items number _
+    (others_rejected c.args.at c.args.row.now c.args.datagram.now e.number number e.context c.requires.fits c.sought-number.ensures.small c.sought-number.ensures.number)
     (own.linked.last number))
 
 pub accounts_for-requires-clause-number : goal.accounts_for-requires-clause-number
@@ -39,7 +39,7 @@ pub loop-next-smaller : goal.loop-next-smaller
 loop-next-smaller c =
     let kept = c.as_slice-kept.result.now in
     let own = c.args.self.now in
-    let e = c.args.entrance.now in
+    let e = c.args.passing.now.passed in
     let number = c.sought-number.result in
     let place : past c.loop-next.next ≡ suc c.in-Some.place = ap past c.in-Some.is in
     let most = c.loop-next.invariant.within in
@@ -47,15 +47,15 @@ loop-next-smaller c =
     let x = c.index-kept-place.result in
     let at = slice_get_read kept (length kept) c.in-Some.place x refl within c.index-kept-place.is in
     let linked : AreLinked kept own.latest = subst (λ xs. AreLinked xs own.latest) (sym c.as_slice-kept.ensures.value) own.linked in
-    (search_goes_on (Rejected c.args.at e.row.now c.args.datagram.now e.number e.context) kept number c.in-Some.place c.loop-next.next x
-    (others_rejected c.args.at e.row.now c.args.datagram.now e.number number e.context c.requires c.sought-number.ensures.small c.sought-number.ensures.number)
+    (search_goes_on (Rejected c.args.at c.args.row.now c.args.datagram.now e.number e.context) kept number c.in-Some.place c.loop-next.next x
+    (others_rejected c.args.at c.args.row.now c.args.datagram.now e.number number e.context c.requires.fits c.sought-number.ensures.small c.sought-number.ensures.number)
     c.loop-next.invariant c.in-Some.is at (λ f m is passes. sym c.if-accounts_for.false ∙ c.accounts_for.ensures f m is passes) (linked.earlier c.in-Some.place x at)).1
 
 pub loop-next-preserved : goal.loop-next-preserved
 loop-next-preserved c =
     let kept = c.as_slice-kept.result.now in
     let own = c.args.self.now in
-    let e = c.args.entrance.now in
+    let e = c.args.passing.now.passed in
     let number = c.sought-number.result in
     let place : past c.loop-next.next ≡ suc c.in-Some.place = ap past c.in-Some.is in
     let most = c.loop-next.invariant.within in
@@ -63,8 +63,8 @@ loop-next-preserved c =
     let x = c.index-kept-place.result in
     let at = slice_get_read kept (length kept) c.in-Some.place x refl within c.index-kept-place.is in
     let linked : AreLinked kept own.latest = subst (λ xs. AreLinked xs own.latest) (sym c.as_slice-kept.ensures.value) own.linked in
-    (search_goes_on (Rejected c.args.at e.row.now c.args.datagram.now e.number e.context) kept number c.in-Some.place c.loop-next.next x
-    (others_rejected c.args.at e.row.now c.args.datagram.now e.number number e.context c.requires c.sought-number.ensures.small c.sought-number.ensures.number)
+    (search_goes_on (Rejected c.args.at c.args.row.now c.args.datagram.now e.number e.context) kept number c.in-Some.place c.loop-next.next x
+    (others_rejected c.args.at c.args.row.now c.args.datagram.now e.number number e.context c.requires.fits c.sought-number.ensures.small c.sought-number.ensures.number)
     c.loop-next.invariant c.in-Some.is at (λ f m is passes. sym c.if-accounts_for.false ∙ c.accounts_for.ensures f m is passes) (linked.earlier c.in-Some.place x at)).0
 
 pub returns : goal.returns

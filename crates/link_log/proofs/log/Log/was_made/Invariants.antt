@@ -4,7 +4,7 @@ use Rattle.link_log.proofs.NumberLaws.{Search}
 use Rattle.link_log.proofs.log.Log.was_made.Given as goal
 
 abbrev pub invariant-loop-next : goal.invariant-loop-next
-invariant-loop-next l = Search (Rejected l.at l.entrance.row.now l.datagram l.entrance.number l.entrance.context) l.kept l.number l.next
+invariant-loop-next l = Search (Rejected l.at l.row l.datagram l.passing.passed.number l.passing.passed.context) l.kept l.number l.next
 
 abbrev pub decreases-loop-next : goal.decreases-loop-next
 decreases-loop-next l = past l.next

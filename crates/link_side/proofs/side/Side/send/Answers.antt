@@ -8,5 +8,5 @@ returns-in-Some-clause-sent g c = λ setup w e pair h.
     let d = c.args.self.now in
     let l = c.in-Some.live in
     let k : Live = record { endpoint = c.make-made.new.endpoint; end_shown = l.end_shown } in
-    has_sent setup w c.args.again e d _ l k c.args.out.now c.make-made.new.out c.make-made.result _ (d.bound l c.in-Some.is) pair h
+    has_sent setup w c.args.transmission e d _ l k c.args.out.now c.make-made.new.out c.make-made.result _ (d.bound l c.in-Some.is) pair h
     c.in-Some.is refl refl refl refl refl refl c.make-made.ensures.emits

@@ -37,6 +37,7 @@ returns-clause-comes g c =
           (rw w.self-inside-is (subst (λ (x : Pair). of_entries most (c.get_mut.follows.lender f).entries ≡ written x c.args.self.now f) seen new))
           (record {
             arrives = w.hear_datagram.ensures.arrives;
+            option = w.hear_datagram.ensures.option;
             untouched = λ b. (w.hear_datagram.ensures.untouched b).0;
             unchanged = w.hear_datagram.ensures.unchanged;
             pair = w.hear_datagram.ensures.pair;

@@ -3,10 +3,10 @@ use Rattle.book_endpoint.specs.Verdicts as v
 use Rattle.ao_check.specs.Verdicts.{Names}
 use Rattle.tcp_endpoint.specs.Numbers.{expected_in}
 use Rattle.tcp_endpoint.proofs.ReadyLaws.{nothing_known, something_known}
-use Rattle.book_endpoint.specs.declared.arrival.Arrival.TheVariants.{Foreign, Closed}
+use Rattle.book_endpoint.specs.declared.arrival.Arrival.TheVariants.{Foreign, Closed, Refused}
 use Rattle.tcp_endpoint.proofs.CostLaws.{early_costs, refused_costs, untold, none_before, passed_costs}
 use Rattle.tcp_endpoint.proofs.JudgeLaws.{number_first, number_near}
-use Rattle.tcp_endpoint.proofs.PassLaws.{arrives_pass, arrives_refused, refused_by, judged_is, rnext_is, number_is}
+use Rattle.tcp_endpoint.proofs.PassLaws.{arrives_pass, arrives_refused, refused_by, judged_is, rnext_is, number_is, stopped}
 use Rattle.tcp_endpoint.proofs.endpoint.Endpoint.hear_datagram.Goals as goal
 
 pub returns-in-Err-clause-arrives : goal.returns-in-Err-clause-arrives
@@ -81,7 +81,7 @@ returns-clause-untouched g c = λ b. absurd (none_before c.hear-arrival.result c
 pub returns-clause-costs : goal.returns-clause-costs
 returns-clause-costs g c =
     let e = c.args.self.now in
-    passed_costs c.args.table.now.rows c.args.now e c.args.datagram.now c.in-Ok.passing.passed c.hear-arrival.result e.association.pair _ _ _ _ e.bound.pair
+    passed_costs c.args.table.now.rows c.args.now e c.args.datagram.now c.in-Ok.passing c.hear-arrival.result e.association.pair _ _ _ _ e.bound.pair
     c.hear-arrival.ensures.checked c.hear-arrival.ensures.keys c.hear-arrival.ensures.steps c.hear-arrival.ensures.bare c.in-Ok.ensures.counted
 
 pub returns-clause-arrives : goal.returns-clause-arrives
@@ -113,9 +113,21 @@ returns-clause-arrives g c = λ s h.
       deadline = h.deadline;
       current = ap (λ b. b.current) c.check_with_option.ensures.same ∙ h.current;
     }) in
-    arrives_pass rows e.pair c.args.now s d told.0 c.hear-arrival.new.self c.hear-arrival.result c.in-Ok.passing.passed c.in-Ok.passing.option.rnext c.in-Ok.passing.passed.number
+    arrives_pass rows e.pair c.args.now s d told.0 c.hear-arrival.new.self c.hear-arrival.result c.in-Ok.passing c.in-Ok.passing.option.rnext c.in-Ok.passing.passed.number
     (sym c.if-not-is_from_peer.ensures.told) (sym c.if-not-checksum_ok.ensures) (ap Rattle.book_endpoint.specs.States.is_closed (sym h.phase) ∙ sym c.if-is_closed.ensures) judged
     (rnext_is rows e.association.pair d c.in-Ok.passing.passed c.in-Ok.passing.option told.0 told.2 c.in-Ok.ensures.option)
     (number_is rows e.association.pair d c.in-Ok.passing.passed told.0 told.2)
     reach
     (subst (λ z. Names rows z d c.in-Ok.passing.passed told.0) e.bound.pair told.2)
+
+pub returns-clause-option : goal.returns-clause-option
+returns-clause-option g c = c.in-Ok.ensures.option
+
+pub returns-in-Err-clause-option : goal.returns-in-Err-clause-option
+returns-in-Err-clause-option g c = stopped c.args.datagram.now (Refused c.in-Err.verdict) c.without-in-Err.result c.without-in-Err.ensures tt
+
+pub returns-then-not-is_from_peer-clause-option : goal.returns-then-not-is_from_peer-clause-option
+returns-then-not-is_from_peer-clause-option g c = stopped c.args.datagram.now Foreign c.without.result c.without.ensures tt
+
+pub returns-then-is_closed-clause-option : goal.returns-then-is_closed-clause-option
+returns-then-is_closed-clause-option g c = stopped c.args.datagram.now Closed c.without-then-is_closed.result c.without-then-is_closed.ensures tt

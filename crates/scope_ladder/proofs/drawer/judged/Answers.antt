@@ -1,5 +1,0 @@
-use Rattle.scope_lines.proofs.Lines.{end_taken}
-use Rattle.scope_ladder.proofs.drawer.judged.Goals as goal
-
-pub returns : goal.returns
-returns c = end_taken c.min.result c.args.first c.args.frame.now c.requires c.min.ensures
