@@ -38,7 +38,7 @@ use Rattle.ao_stack.specs.Stands as stack
 use Rattle.ao_stack.specs.Turns.{MadeLast, act_of}
 use Rattle.ao_stack.specs.declared.input.Heard.TheVariants as heard
 use Rattle.ao_stack.specs.declared.outgoing.Outgoing.{Outgoing}
-use Rattle.ao_stack.specs.declared.outgoing.Sending.{Sending}
+use Rattle.book_link.specs.declared.event.Transmission.{Transmission}
 use Rattle.ao_counters.specs.declared.counted_stack.CountedStack.{CountedStack}
 use Rattle.ao_counters.specs.declared.counts.Happened.TheVariants as happened
 use Rattle.ao_counters.specs.Answers.{AddsAs, BeginsAs, Follows}
@@ -209,5 +209,5 @@ module _ (k after : CountedStack) (s : StackState) (n : StackCounts) (S : Stands
       (output_hands now s n X.0 (event.On o.pair (act_of o.kind)) X.1 last ∙ sent o.kind X.0 made) F.answer
       (counts_more (call (Output now) s).stack o.pair (sending_counted (act_of o.kind)) (key_ids_sent ids) F.stands node B)
     where
-      sent : (kind : Sending) (x : Emission) → ids ≡ key_ids_made x → event_counted (event.On o.pair (act_of kind)) (runs.Transmitted x) n ≡ counted_at o.pair (sending_counted (act_of kind)) (key_ids_sent ids) n
+      sent : (kind : Transmission) (x : Emission) → ids ≡ key_ids_made x → event_counted (event.On o.pair (act_of kind)) (runs.Transmitted x) n ≡ counted_at o.pair (sending_counted (act_of kind)) (key_ids_sent ids) n
       sent kind x is = ap (λ (i : Option KeyIds). counted_at o.pair (sending_counted (act_of kind)) (key_ids_sent i) n) (sym is)

@@ -5,9 +5,9 @@ ghost use Rattle.ao_counters.specs.Counts.{changed_by, counted_by};
 ghost use Rattle.ao_stack.specs.Turns.{act_of};
 
 use crate::key_ids;
-use ao_stack::Sending;
 use book_counters::{Counters, KeyIds, KeyIdsSeen, Tally};
 use book_endpoint::{Arrival, Verdict};
+use book_link::Transmission;
 
 /// What happened at a connection.
 #[derive(Clone, Copy, Debug, PartialEq, Eq)]
@@ -15,7 +15,7 @@ pub(crate) enum Happened {
     /// A segment with these key ids came, and was answered so.
     Heard(Arrival, Option<KeyIds>),
     /// A segment with these key ids was sent.
-    Sent(Sending, Option<KeyIds>),
+    Sent(Transmission, Option<KeyIds>),
     /// It begins, or doesn't: its tally becomes this one.
     Become(Tally),
 }
@@ -155,15 +155,15 @@ pub(crate) fn arrived(counters: Counters, arrival: Arrival) -> Counters
 }
 
 /// One segment more was sent.
-fn sent(counters: Counters, kind: Sending) -> Counters
+fn sent(counters: Counters, kind: Transmission) -> Counters
     ensures { result ≡ sending_counted (act_of kind) counters }
 {
     match kind {
-        Sending::First => Counters {
+        Transmission::New => Counters {
             sent: one_more(counters.sent),
             ..counters
         },
-        Sending::Again => Counters {
+        Transmission::Again => Counters {
             sent_again: one_more(counters.sent_again),
             ..counters
         },

@@ -21,8 +21,8 @@ use Rattle.ao_stack.specs.Stands.{Stands}
 use Rattle.ao_stack.specs.Timers.{asked_by, asked_turn, woken_by}
 use Rattle.ao_stack.specs.Turns.{IsBy, Makes, MadeLast, Turns, act_of}
 use Rattle.ao_stack.specs.declared.outgoing.Outgoing.{Outgoing}
-use Rattle.ao_stack.specs.declared.outgoing.Sending.{Sending}
-use Rattle.ao_stack.specs.declared.outgoing.Sending.TheVariants as sending
+use Rattle.book_link.specs.declared.event.Transmission.{Transmission}
+use Rattle.book_link.specs.declared.event.Transmission.TheVariants as transmission
 use Rattle.ao_stack.proofs.ActLaws.{HasCalled}
 use Rattle.ao_stack.proofs.TellLaws.{asked_line_is, asked_watch_is, woken_watch_is}
 
@@ -36,7 +36,7 @@ held_before s p e is = ap is_some is
 -- ---- an end is asked
 
 -- what a connection is told to send was made at the event by which it was asked
-made_last : (p : Pair) (kind : Sending) (r : Option Outgoing) → IsBy p kind r → MadeLast r (event.On p (act_of kind) ∷ [])
+made_last : (p : Pair) (kind : Transmission) (r : Option Outgoing) → IsBy p kind r → MadeLast r (event.On p (act_of kind) ∷ [])
 made_last p kind None by = tt
 made_last p kind (Some o) by = rw (by.0, by.1) refl
 
@@ -48,7 +48,7 @@ asked_none k before room now s p S none same =
 module _ (mid after : Stack) (s : StackState) (p : Pair) (now : ℕ) (before room left : List ℕ) (spoken : Spoken) (r : Option Outgoing) where
   pub asked_so : (H : HasCalled mid s p act.Send (Tells room) spoken)
       → Stands after (asked_turn p spoken.says (watched p (asked_by now spoken (s.watches p)) (called_at p (spoken_by s p H.state) s)))
-      → Makes p sending.First before left r (segment_in (spoken_by s p H.state).outcome) → Turns after before left r (asked_pair now p s (held_end p s.node.ends))
+      → Makes p transmission.New before left r (segment_in (spoken_by s p H.state).outcome) → Turns after before left r (asked_pair now p s (held_end p s.node.ends))
   asked_so H stands made =
       let e = H.state in
       let T = H.done in
@@ -60,12 +60,12 @@ module _ (mid after : Stack) (s : StackState) (p : Pair) (now : ℕ) (before roo
       let u = watched p (asked_watch now (change_by e c) (awaits c.state) c.outcome w) (called_at p c s) in
       let first : Stands after (asked_turn p spoken.says u) = subst (λ (x : ConnectionWatch). Stands after (asked_turn p spoken.says (watched p x (called_at p c s)))) watch stands in
       let second : Stands after (asked_line p c.outcome u) = subst (λ (x : StackState). Stands after x) (asked_line_is room p u e b spoken.says T.says_as) first in
-      let some : Turns after before left r (asked_pair now p s (Some e)) = record { stands = second; hands = made.hands; last = made_last p sending.First r made.by; stays = made.stays } in
+      let some : Turns after before left r (asked_pair now p s (Some e)) = record { stands = second; hands = made.hands; last = made_last p transmission.New r made.by; stays = made.stays } in
       subst (λ (o : Option EndState). Turns after before left r (asked_pair now p s o)) (sym H.held) some
 
   pub woken_so : (H : HasCalled mid s p act.Resend (Tells room) spoken)
       → Stands after (touched p (watched p (woken_by now spoken.change.before.phase spoken.says (s.watches p)) (called_at p (repeated_by s p H.state) s)))
-      → Makes p sending.Again before left r (segment_in (repeated_by s p H.state).outcome) → Turns after before left r (woken_pair now p s (held_end p s.node.ends))
+      → Makes p transmission.Again before left r (segment_in (repeated_by s p H.state).outcome) → Turns after before left r (woken_pair now p s (held_end p s.node.ends))
   woken_so H stands made =
       let e = H.state in
       let T = H.done in
@@ -76,7 +76,7 @@ module _ (mid after : Stack) (s : StackState) (p : Pair) (now : ℕ) (before roo
       woken_watch_is now room spoken.change.before.phase e w b spoken.says T.says_as ∙ ap (λ (x : Change). woken_watch now x.before.phase c.outcome w) T.change in
       let first : Stands after (touched p (watched p (woken_watch now e.phase c.outcome w) (called_at p c s))) =
       subst (λ (x : ConnectionWatch). Stands after (touched p (watched p x (called_at p c s)))) watch stands in
-      let some : Turns after before left r (woken_pair now p s (Some e)) = record { stands = first; hands = made.hands; last = made_last p sending.Again r made.by; stays = made.stays } in
+      let some : Turns after before left r (woken_pair now p s (Some e)) = record { stands = first; hands = made.hands; last = made_last p transmission.Again r made.by; stays = made.stays } in
       subst (λ (o : Option EndState). Turns after before left r (woken_pair now p s o)) (sym H.held) some
 
 pub woken_none : (k : Stack) (before room : List ℕ) (now : ℕ) (s : StackState) (p : Pair) → Stands k s → held_end p s.node.ends ≡ None → room ≡ before

@@ -21,7 +21,7 @@ use Rattle.ao_stack.specs.Checksums.{IsFrom, IsFromIf}
 use Rattle.ao_stack.specs.Timers.{asked_saying, asked_turn, woken_by}
 use Rattle.ao_stack.specs.Turns.{Makes}
 use Rattle.ao_stack.specs.declared.outgoing.Outgoing.{Outgoing}
-use Rattle.ao_stack.specs.declared.outgoing.Sending.{Sending as Kind}
+use Rattle.book_link.specs.declared.event.Transmission.{Transmission}
 
 -- ---- the segment of an answer
 
@@ -155,7 +155,7 @@ repeated_from rows p now e = answered_from p e node.NothingToResend (resend rows
 
 -- ---- what is handed out
 
-pub made_segment : (p : Pair) (kind : Kind) (before room after : List ℕ) (n : ℕ) (o : NodeOutcome) → SaysAs room (says.Segment n) o → IsFromIf p (segment_in o)
+pub made_segment : (p : Pair) (kind : Transmission) (before room after : List ℕ) (n : ℕ) (o : NodeOutcome) → SaysAs room (says.Segment n) o → IsFromIf p (segment_in o)
     → ((m : ℕ) (d : Segment) → IsFrom p d → take m room ≡ spell d → take m after ≡ spell (handed d)) → Makes p kind before after (Some (record { length = n; pair = p; kind = kind })) (segment_in o)
 made_segment p kind before room after n o h from change =
     let X = said_segment room n o h in
@@ -163,5 +163,5 @@ made_segment p kind before room after n o h from change =
     let told : Outgoing = record { length = n; pair = p; kind = kind } in
     subst (λ (z : Option Emission). Makes p kind before after (Some told) z) (sym X.is) (record { hands = change n X.emission.segment F X.bytes; by = (refl, refl); stays = tt })
 
-pub made_none : (p : Pair) (kind : Kind) (before after : List ℕ) (o : NodeOutcome) → segment_in o ≡ None → after ≡ before → Makes p kind before after None (segment_in o)
+pub made_none : (p : Pair) (kind : Transmission) (before after : List ℕ) (o : NodeOutcome) → segment_in o ≡ None → after ≡ before → Makes p kind before after None (segment_in o)
 made_none p kind before after o e same = subst (λ (z : Option Emission). Makes p kind before after None z) (sym e) (record { hands = tt; by = tt; stays = same })

@@ -10,8 +10,8 @@ use Rattle.book_cmd_node.specs.declared.node.NodeEvent.TheVariants as event
 use Rattle.book_stack.specs.Stacks.{StackState, handed}
 use Rattle.book_stack.specs.Turns.{Turn, ask, wake}
 use Rattle.ao_stack.specs.declared.outgoing.Outgoing.{Outgoing}
-use Rattle.ao_stack.specs.declared.outgoing.Sending.{Sending}
-use Rattle.ao_stack.specs.declared.outgoing.Sending.TheVariants as sending
+use Rattle.book_link.specs.declared.event.Transmission.{Transmission}
+use Rattle.book_link.specs.declared.event.Transmission.TheVariants as transmission
 use Rattle.ao_stack.specs.declared.stack.Stack.{Stack}
 use Rattle.ao_stack.specs.Stands.{Stands}
 
@@ -21,20 +21,20 @@ length_of None = None
 length_of (Some o) = Some o.length
 
 -- the act at an end by which its segment is made: for the first time, or again (own)
-abbrev pub act_of : Sending → Act
-act_of sending.First = act.Send
-act_of sending.Again = act.Resend
+abbrev pub act_of : Transmission → Act
+act_of transmission.New = act.Send
+act_of transmission.Again = act.Resend
 
 -- a turn at which a segment is sent for the first time, or again: an end is asked, or an alarm goes
 -- off (own)
-abbrev pub turn_of : Sending → ℕ → StackState → Turn
-turn_of sending.First = ask
-turn_of sending.Again = wake
+abbrev pub turn_of : Transmission → ℕ → StackState → Turn
+turn_of transmission.New = ask
+turn_of transmission.Again = wake
 
 -- how many such turns there are at most (own)
-abbrev pub turn_limit : Sending → StackState → ℕ
-turn_limit sending.First s = length s.line
-turn_limit sending.Again s = length s.alarms
+abbrev pub turn_limit : Transmission → StackState → ℕ
+turn_limit transmission.New s = length s.line
+turn_limit transmission.Again s = length s.alarms
 
 -- the last of some plain events (own)
 abbrev pub last_event : List NodeEvent → Option NodeEvent
@@ -60,12 +60,12 @@ Stays before after None = after ≡ before
 Stays before after (Some o) = ⊤
 
 -- what is told of a datagram is that this connection sends it so (own)
-abbrev pub IsBy : Pair → Sending → Option Outgoing → Type 0
+abbrev pub IsBy : Pair → Transmission → Option Outgoing → Type 0
 IsBy pair kind None = ⊤
 IsBy pair kind (Some o) = (o.pair ≡ pair) × (o.kind ≡ kind)
 
 -- the connection made the segment, and it is as it is handed out (own)
-pub record Makes (pair : Pair) (kind : Sending) (before after : List ℕ) (out : Option Outgoing) (x : Option Emission) : Type 0 where
+pub record Makes (pair : Pair) (kind : Transmission) (before after : List ℕ) (out : Option Outgoing) (x : Option Emission) : Type 0 where
   pub hands : HandsAs after out x
   pub by : IsBy pair kind out
   pub stays : Stays before after out

@@ -14,6 +14,7 @@ mod stack;
 mod status;
 mod timers;
 
+pub use book_link::Transmission;
 pub use input::Heard;
-pub use outgoing::{Outgoing, Sending};
+pub use outgoing::Outgoing;
 pub use stack::Stack;

@@ -1,15 +1,7 @@
 //! What is told of a datagram that is handed out.
 
 use book_base::Pair;
-
-/// Whether a segment is sent for the first time.
-#[derive(Clone, Copy, Debug, PartialEq, Eq)]
-pub enum Sending {
-    /// It is the next segment of its end.
-    First,
-    /// A timer sends it again (RFC 6298, section 5.4).
-    Again,
-}
+use book_link::Transmission;
 
 /// A datagram that is handed out.
 #[derive(Clone, Copy, Debug, PartialEq, Eq)]
@@ -18,5 +10,6 @@ pub struct Outgoing {
     pub length: usize,
     /// The connection that sends it.
     pub pair: Pair,
-    pub kind: Sending,
+    /// Whether it is the next segment of its end, or a timer sends it again (RFC 6298, section 5.4).
+    pub kind: Transmission,
 }

@@ -14,16 +14,17 @@ ghost use Rattle.ao_stack.specs.Turns.{Makes, MadeLast, Turns, length_of, turn_l
 ghost use Rattle.ao_stack.specs.Timers.{asked_by, asked_turn};
 
 use crate::checksum::hand;
-use crate::outgoing::{Outgoing, Sending};
+use crate::outgoing::Outgoing;
 use crate::stack::Stack;
 use ao_base::Steps;
 use book_base::Pair;
+use book_link::Transmission;
 use stack_ends::{Says, Spoken};
 use std::marker::Brand;
 use std::sync::ledger::{Blank, Ledger};
 
 /// What is told of the datagram, where one was made, and it is as it is handed out.
-fn made(pair: &Pair, kind: Sending, says: Says, room: &mut [u8]) -> Option<Outgoing>
+fn made(pair: &Pair, kind: Transmission, says: Says, room: &mut [u8]) -> Option<Outgoing>
     requires { 1500 ≤ length room.old }
     ensures { (before : List ℕ) (o : NodeOutcome) → IsOneFamily pair.now.local.address pair.now.remote.address → SaysAs room.old says o → IsFromIf pair.now (segment_in o)
         → Leaves before room.old says → Makes pair.now kind before room.new result (segment_in o) }
@@ -73,7 +74,7 @@ impl Stack {
             None => None,
             Some(spoken) => {
                 self.follow_asked(pair, now, &spoken);
-                made(pair, Sending::First, spoken.says, room)
+                made(pair, Transmission::New, spoken.says, room)
             }
         }
     }
@@ -112,7 +113,7 @@ impl Stack {
             Some(spoken) => {
                 self.time_woken(pair, now, spoken.change.before.phase, spoken.says);
                 self.touch(pair);
-                made(pair, Sending::Again, spoken.says, room)
+                made(pair, Transmission::Again, spoken.says, room)
             }
         }
     }
@@ -135,19 +136,19 @@ impl Stack {
     }
 
     /// How many turns of a kind are taken at most: one for each end in line, or for each alarm.
-    fn turn_limit(&self, kind: Sending) -> usize
+    fn turn_limit(&self, kind: Transmission) -> usize
         ensures { (s : StackState) → Stands self.now s → result ≡ turn_limit kind s }
     {
         match kind {
-            Sending::First => self.line.len(),
-            Sending::Again => self.alarms.len(),
+            Transmission::New => self.line.len(),
+            Transmission::Again => self.alarms.len(),
         }
     }
 
     /// A turn of this kind: an end is asked, or an alarm goes off.
     fn take_turn<L: Ledger>(
         &mut self,
-        kind: Sending,
+        kind: Transmission,
         now: u64,
         room: &mut [u8],
         steps: &mut Steps<L>,
@@ -157,8 +158,8 @@ impl Stack {
         ensures { (s : StackState) → Stands self.old s → Turns self.new room.old room.new result (turn_of kind now s) }
     {
         match kind {
-            Sending::First => self.ask(now, room, steps),
-            Sending::Again => self.wake(now, room, steps),
+            Transmission::New => self.ask(now, room, steps),
+            Transmission::Again => self.wake(now, room, steps),
         }
     }
 
@@ -166,7 +167,7 @@ impl Stack {
     /// most, or each alarm whose deadline is reached goes off once at most.
     fn take_turns<L: Ledger>(
         &mut self,
-        kind: Sending,
+        kind: Transmission,
         now: u64,
         room: &mut [u8],
         steps: &mut Steps<L>,
@@ -197,8 +198,8 @@ impl Stack {
         ensures { (s : StackState) → Stands self.old s → Turns self.new room.old room.new result (output_at now s) }
     {
         self.set_clock(now);
-        match self.take_turns(Sending::First, now, room, steps) {
-            None => self.take_turns(Sending::Again, now, room, steps),
+        match self.take_turns(Transmission::New, now, room, steps) {
+            None => self.take_turns(Transmission::Again, now, room, steps),
             Some(outgoing) => Some(outgoing),
         }
     }

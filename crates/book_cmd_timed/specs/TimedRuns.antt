@@ -19,6 +19,8 @@ use Rattle.book_timers.specs.Timers.{new_timer, sampled, expired}
 use Rattle.book_link.specs.declared.event.Event.{Event}
 use Rattle.book_link.specs.declared.event.Event.TheVariants as event
 use Rattle.book_link.specs.declared.event.Action.TheVariants as action
+use Rattle.book_link.specs.declared.event.Transmission.{Transmission}
+use Rattle.book_link.specs.declared.event.Transmission.TheVariants.{New, Again}
 use Rattle.book_link.specs.Outcomes.{Outcome, Done, Sent}
 use Rattle.book_link.specs.SendFronts.{SendFront, front_at}
 use Rattle.book_link.specs.Worlds.{Setup, World, side}
@@ -82,22 +84,26 @@ sampled_by una reading w (Some t) =
     then record w { timer = sampled w.timer (reading - t.reading); timed = None }
     else w
 
+-- what is timed of new numbers up to this one; none where they are sent again (RFC 6298, section 3)
+abbrev pub newly_timed : Transmission → (number reading : ℕ) → Option Timed
+newly_timed New number reading = Some (record { number = number; reading = reading })
+newly_timed Again number reading = None
+
 -- the timer of an end at this reading, by its front before an event and after it: with no front it
 -- doesn't run; else it stops, runs anew or starts, a sample is taken or a number timed, by the
 -- rules whose sections stand beside the cases (RFC 6298, sections 3 and 5)
-abbrev pub watch_by : ℕ → (again : Bool) → (old new : Option SendFront) → Watch → Watch
-watch_by reading again old None w = stopped w
-watch_by reading again None (Some new) w = w
-watch_by reading again (Some old) (Some new) w =
+abbrev pub watch_by : ℕ → Transmission → (old new : Option SendFront) → Watch → Watch
+watch_by reading which old None w = stopped w
+watch_by reading which None (Some new) w = w
+watch_by reading which (Some old) (Some new) w =
     let sample = sampled_by new.una reading w w.timed in  -- 3
-    let sending = if again then None else Some (record { number = new.next; reading = reading }) in
     if nat_lt old.una new.una  -- new data was acknowledged
     then (if nat_lt new.una new.next then started_anew reading sample  -- 5.3
     else stopped sample)  -- 5.2
     else if nat_lt old.next new.next  -- new numbers were sent
     then record w {
       deadline = option_or w.deadline (started_anew reading w).deadline;  -- 5.1
-      timed = option_or w.timed sending;  -- 3, Karn's algorithm
+      timed = option_or w.timed (newly_timed which new.next reading);  -- 3, Karn's algorithm
     }
     else w
 
@@ -108,10 +114,10 @@ is_begin (event.At e (action.Listen isn)) = true
 is_begin (event.At e (action.Start isn peer)) = true
 is_begin _ = false
 
--- an event sends again (own)
-abbrev pub is_again : Event → Bool
-is_again (event.At e action.Resend) = true
-is_again _ = false
+-- whether an event sends for the first time or again (own)
+abbrev pub transmission_of : Event → Transmission
+transmission_of (event.At e action.Resend) = Again
+transmission_of _ = New
 
 -- an outcome is of an event that did something (own)
 abbrev pub is_done : Outcome → Bool
@@ -123,15 +129,20 @@ abbrev pub is_sent : Outcome → Bool
 is_sent (Sent made) = true
 is_sent _ = false
 
+-- nothing is timed where a segment was sent again (RFC 6298, section 3)
+abbrev pub untimed_by : Transmission → (sent : Bool) → Watch → Watch
+untimed_by New sent w = w
+untimed_by Again sent w = if sent then record w { timed = None } else w
+
 -- the timer of the end of an event, after it: a new session has a new timer, and what was sent
 -- again isn't timed (RFC 6298, sections 2 and 3)
 abbrev pub watch_after : World → Event → End → Stepped → Watch → Watch
 watch_after before event e after w =
-    let fronts = watch_by (side after.world e).clock (is_again event) in
+    let which = transmission_of event in
+    let fronts = watch_by (side after.world e).clock which in
     let now = fronts (front_at before e) (front_at after.world e) w in
     if is_begin event && is_done after.outcome then new_watch  -- 2.1
-    else if is_again event && is_sent after.outcome then record now { timed = None }  -- 3
-    else now
+    else untimed_by which (is_sent after.outcome) now  -- 3
 
 -- the end of an event; `dump` has none (own)
 abbrev pub end_of_event : Event → Option End

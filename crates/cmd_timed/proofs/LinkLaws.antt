@@ -8,6 +8,7 @@ use Rattle.book_keys.specs.Lifetimes.{greatest_time}
 use Rattle.book_link.specs.declared.event.Event.{Event}
 use Rattle.book_link.specs.declared.event.Event.TheVariants as event
 use Rattle.book_link.specs.declared.event.Action.TheVariants as action
+use Rattle.book_link.specs.declared.event.Transmission.{Transmission}
 use Rattle.book_link.specs.Outcomes.{Outcome}
 use Rattle.book_link.specs.Runs.{outcomes_from, run, run_from, empty}
 use Rattle.book_link.specs.Steps.{step}
@@ -59,25 +60,23 @@ past_length setup past shown h = sym (outcomes_length setup (empty setup) past) 
 pub record Tells (c : Change) (setup : Setup) (past : List Event) (x : Event) (e : End) : Type 0 where
   pub begins : c.begins ≡ book.is_begin x
   pub done : c.done ≡ book.is_done (step setup (run setup past) x).outcome
-  pub again : c.again ≡ book.is_again x
+  pub transmission : c.transmission ≡ book.transmission_of x
   pub sent : c.sent ≡ book.is_sent (step setup (run setup past) x).outcome
   pub reading : c.reading ≡ (side (run setup (past ++ x ∷ [])) e).clock
   pub old : front_seen c.old ≡ front_at (run setup past) e
   pub new : front_seen c.new ≡ front_at (run setup (past ++ x ∷ [])) e
 
-change_by : (begins done again sent begins' done' again' sent' : Bool) (r r' : ℕ) (old new old' new' : Option SendFront) (w : book.Watch)
-    → begins ≡ begins' → done ≡ done' → again ≡ again' → sent ≡ sent' → r ≡ r' → old ≡ old' → new ≡ new'
-    → (let now : book.Watch = book.watch_by r again old new w in
-    cond (begins && done) book.new_watch (cond (again && sent) (record now { timed = None }) now))
-    ≡ (let now : book.Watch = book.watch_by r' again' old' new' w in
-    cond (begins' && done') book.new_watch (cond (again' && sent') (record now { timed = None }) now))
-change_by begins done again sent begins' done' again' sent' r r' old new old' new' w a b c d e f g = rw (a, b, c, d, e, f, g) refl
+change_by : (begins done sent begins' done' sent' : Bool) (which which' : Transmission) (r r' : ℕ) (old new old' new' : Option SendFront) (w : book.Watch)
+    → begins ≡ begins' → done ≡ done' → which ≡ which' → sent ≡ sent' → r ≡ r' → old ≡ old' → new ≡ new'
+    → cond (begins && done) book.new_watch (book.untimed_by which sent (book.watch_by r which old new w))
+    ≡ cond (begins' && done') book.new_watch (book.untimed_by which' sent' (book.watch_by r' which' old' new' w))
+change_by begins done sent begins' done' sent' which which' r r' old new old' new' w a b c d e f g = rw (a, b, c, d, e, f, g) refl
 
 change_is : (c : Change) (setup : Setup) (past : List Event) (x : Event) (e : End) (w : book.Watch) → Tells c setup past x e
     → changed c w ≡ book.watch_after (run setup past) x e (step setup (run setup past) x) w
 change_is c setup past x e w t =
     let more = run_more setup past x in
-    change_by c.begins c.done c.again c.sent _ _ _ _ c.reading _ (front_seen c.old) (front_seen c.new) _ _ w t.begins t.done t.again t.sent
+    change_by c.begins c.done c.sent _ _ _ c.transmission _ c.reading _ (front_seen c.old) (front_seen c.new) _ _ w t.begins t.done t.transmission t.sent
     (t.reading ∙ ap (λ (v : BookWorld). (side v e).clock) more) t.old (t.new ∙ ap (λ (v : BookWorld). front_at v e) more)
 
 -- the link after an event of an end

@@ -1,7 +1,8 @@
 -- What the timer of an end stands for.
-use Rattle.std.specs.Prelude.{ℕ, nat_lt, Bool, Option, Some, None, option_map, if◌then◌else◌}
+use Rattle.std.specs.Prelude.{ℕ, nat_lt, Option, option_map, if◌then◌else◌}
 use Rattle.std.specs.Option.{option_or}
 use Rattle.book_cmd_timed.specs.TimedRuns as book
+use Rattle.book_link.specs.declared.event.Transmission.{Transmission}
 use Rattle.book_link.specs.SendFronts.{SendFront}
 use Rattle.link_world.specs.declared.front.Front.{Front}
 use Rattle.link_world.specs.Fronts.{front_of}
@@ -28,10 +29,12 @@ acknowledged_at reading f w =
     if nat_lt f.una f.next then book.started_anew reading sample else book.stopped sample
 
 -- new numbers were sent, which are timed unless others are, or they were sent before (RFC 6298, sections 3 and 5.1)
-abbrev pub sent_more : ℕ → SendFront → (again : Bool) → book.Watch → book.Watch
-sent_more reading f again w =
-    let sending = if again then None else Some (record { number = f.next; reading = reading }) in
-    record w { deadline = option_or w.deadline (book.started_anew reading w).deadline; timed = option_or w.timed sending }
+abbrev pub sent_more : ℕ → SendFront → Transmission → book.Watch → book.Watch
+sent_more reading f which w =
+    record w {
+      deadline = option_or w.deadline (book.started_anew reading w).deadline;
+      timed = option_or w.timed (book.newly_timed which f.next reading);
+    }
 
 -- the timer expired at this reading (RFC 6298, sections 5.5 and 5.6)
 abbrev pub expired_at : ℕ → book.Watch → book.Watch

@@ -1,6 +1,6 @@
 //! What an event changes at its end.
 ghost use Rattle.std.specs.Prelude.{◌≡◌, ◌≤◌};
-ghost use Rattle.book_cmd_timed.specs.TimedRuns.{end_of_event, is_again, is_begin, is_done, is_sent};
+ghost use Rattle.book_cmd_timed.specs.TimedRuns.{end_of_event, is_begin, is_done, is_sent, transmission_of};
 ghost use Rattle.book_keys.specs.Lifetimes.{greatest_time};
 ghost use Rattle.book_link.specs.Outcomes.{Outcome as OneOutcome};
 ghost use Rattle.link_report.specs.Outcomes.{Shows};
@@ -9,7 +9,7 @@ ghost use Rattle.cmd_timed.specs.Watches.{seen};
 
 use crate::watch::Watch;
 use book_base::End;
-use book_link::{Action, Event};
+use book_link::{Action, Event, Transmission};
 use link_report::Outcome;
 use link_world::Front;
 
@@ -19,8 +19,8 @@ pub(crate) struct Change {
     /// The event begins a session, and that was done.
     pub(crate) begins: bool,
     pub(crate) done: bool,
-    /// The event sends again, and a segment was made.
-    pub(crate) again: bool,
+    /// The event sends for the first time or again, and a segment was made.
+    pub(crate) transmission: Transmission,
     pub(crate) sent: bool,
     /// The end's clock after it, in seconds since 1970.
     pub(crate) reading: u64,
@@ -43,21 +43,22 @@ pub(crate) fn end_of(event: &Event) -> Option<End>
 pub(crate) fn is_begin(event: &Event) -> bool
     ensures { result ≡ is_begin event.now }
 {
-    match event {
-        Event::At(_, Action::Connect(..)) => true,
-        Event::At(_, Action::Listen(..)) => true,
-        Event::At(_, Action::Start(..)) => true,
-        _ => false,
-    }
+    matches!(
+        event,
+        Event::At(
+            _,
+            Action::Connect(..) | Action::Listen(..) | Action::Start(..)
+        )
+    )
 }
 
-/// Whether the event sends again.
-pub(crate) fn is_again(event: &Event) -> bool
-    ensures { result ≡ is_again event.now }
+/// Whether the event sends for the first time or again.
+pub(crate) fn transmission_of(event: &Event) -> Transmission
+    ensures { result ≡ transmission_of event.now }
 {
     match event {
-        Event::At(_, Action::Resend) => true,
-        _ => false,
+        Event::At(_, Action::Resend) => Transmission::Again,
+        _ => Transmission::New,
     }
 }
 
@@ -65,20 +66,14 @@ pub(crate) fn is_again(event: &Event) -> bool
 pub(crate) fn is_done(outcome: &Outcome) -> bool
     ensures { (is : OneOutcome) → Shows outcome.now is → result ≡ is_done is }
 {
-    match outcome {
-        Outcome::Done => true,
-        _ => false,
-    }
+    matches!(outcome, Outcome::Done)
 }
 
 /// Whether a segment was made.
 pub(crate) fn is_sent(outcome: &Outcome) -> bool
     ensures { (is : OneOutcome) → Shows outcome.now is → result ≡ is_sent is }
 {
-    match outcome {
-        Outcome::Sent(..) => true,
-        _ => false,
-    }
+    matches!(outcome, Outcome::Sent(..))
 }
 
 impl Watch {
@@ -92,8 +87,8 @@ impl Watch {
             *self = Watch::new();
             return;
         }
-        self.follow(change.reading, change.again, change.old, change.new);
-        if change.again && change.sent {
+        self.follow(change.reading, change.transmission, change.old, change.new);
+        if change.sent && matches!(change.transmission, Transmission::Again) {
             self.sending = None;
         }
     }

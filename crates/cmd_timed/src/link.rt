@@ -9,7 +9,7 @@ ghost use Rattle.link_world.specs.Events.{CanHappen};
 ghost use Rattle.link_world.specs.Stands.{StandsFor, steps_taken};
 ghost use Rattle.cmd_timed.specs.Links.{Does, expires, progress, steps, untils, up_to};
 
-use crate::change::{Change, end_of, is_again, is_begin, is_done, is_sent};
+use crate::change::{Change, end_of, is_begin, is_done, is_sent, transmission_of};
 use crate::unfinished::Unfinished;
 use crate::watch::Watch;
 use book_base::End;
@@ -43,7 +43,7 @@ impl Link {
         let change = Change {
             begins: is_begin(event),
             done: is_done(outcome),
-            again: is_again(event),
+            transmission: transmission_of(event),
             sent: is_sent(outcome),
             reading: self.world.reading(end),
             old,
@@ -91,14 +91,7 @@ impl Link {
         ensures early { IfSome result (λ at. at ≤ to) }
     {
         let reading = self.world.reading(end);
-        let due = match end {
-            End::A => self.watches.a.due(reading),
-            End::B => self.watches.b.due(reading),
-        };
-        match due {
-            None => None,
-            Some(at) => if at <= to { Some(at) } else { None },
-        }
+        self.watches.at(end).due(reading).filter(|at| *at <= to)
     }
 
     /// The end's timer expires at this reading: the clock goes to it, the end sends again, and the timer

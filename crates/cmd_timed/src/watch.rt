@@ -5,6 +5,7 @@ ghost use Rattle.book_keys.specs.Lifetimes.{greatest_time};
 ghost use Rattle.link_world.specs.Fronts.{front_of};
 ghost use Rattle.cmd_timed.specs.Watches.{acknowledged_at, expired_at, front_seen, seen, sent_more};
 
+use book_link::Transmission;
 use link_world::Front;
 use rto_timer::Rto;
 
@@ -47,10 +48,7 @@ impl Watch {
         requires { reading ≤ greatest_time }
         ensures { result ≡ due reading (seen self.now).deadline }
     {
-        match self.deadline {
-            None => None,
-            Some(deadline) => Some(deadline.max(reading + 1)),
-        }
+        self.deadline.map(|deadline| deadline.max(reading + 1))
     }
 
     /// The timer runs anew: its value in seconds, rounded up, after the reading.
@@ -96,15 +94,15 @@ impl Watch {
         }
     }
 
-    /// New numbers were sent, `again` where they were sent before (RFC 6298, section 5.1).
-    fn send_more(&mut self, reading: u64, front: Front, again: bool)
+    /// New numbers were sent, for the first time or again (RFC 6298, section 5.1).
+    fn send_more(&mut self, reading: u64, front: Front, transmission: Transmission)
         requires { reading ≤ greatest_time }
-        ensures { seen self.new ≡ sent_more reading (front_of front) again (seen self.old) }
+        ensures { seen self.new ≡ sent_more reading (front_of front) transmission (seen self.old) }
     {
         if self.deadline.is_none() {
             self.start_anew(reading);
         }
-        if self.sending.is_none() && !again {
+        if self.sending.is_none() && matches!(transmission, Transmission::New) {
             self.sending = Some(Sending {
                 number: front.next,
                 reading,
@@ -113,14 +111,14 @@ impl Watch {
     }
 
     /// The end got from one front to another.
-    fn advance(&mut self, reading: u64, again: bool, old: Front, new: Front)
+    fn advance(&mut self, reading: u64, transmission: Transmission, old: Front, new: Front)
         requires { reading ≤ greatest_time }
-        ensures { seen self.new ≡ watch_by reading again (Some (front_of old)) (Some (front_of new)) (seen self.old) }
+        ensures { seen self.new ≡ watch_by reading transmission (Some (front_of old)) (Some (front_of new)) (seen self.old) }
     {
         if old.una < new.una {
             self.acknowledge(reading, new);
         } else if old.next < new.next {
-            self.send_more(reading, new, again);
+            self.send_more(reading, new, transmission);
         }
     }
 
@@ -128,17 +126,17 @@ impl Watch {
     pub(crate) fn follow(
         &mut self,
         reading: u64,
-        again: bool,
+        transmission: Transmission,
         old: Option<Front>,
         new: Option<Front>,
     )
         requires { reading ≤ greatest_time }
-        ensures { seen self.new ≡ watch_by reading again (front_seen old) (front_seen new) (seen self.old) }
+        ensures { seen self.new ≡ watch_by reading transmission (front_seen old) (front_seen new) (seen self.old) }
     {
         match (old, new) {
             (_, None) => self.stop(),
             (None, Some(_)) => {}
-            (Some(old), Some(new)) => self.advance(reading, again, old, new),
+            (Some(old), Some(new)) => self.advance(reading, transmission, old, new),
         }
     }
 

@@ -24,6 +24,8 @@ use Rattle.book_endpoint.specs.States.{given_end}
 use Rattle.endpoint_steps.proofs.Arriving.{read_by_cases}
 use Rattle.book_macs.specs.Contexts.{context_of}
 use Rattle.book_link.specs.declared.event.Fixing.{Fixing}
+use Rattle.book_link.specs.declared.event.Transmission.{Transmission}
+use Rattle.book_link.specs.declared.event.Transmission.TheVariants.{New, Again}
 use Rattle.book_link.specs.Alterations.{has_place, altered}
 use Rattle.book_link.specs.declared.event.Event.{Event}
 use Rattle.book_link.specs.declared.event.Event.TheVariants as event
@@ -42,7 +44,7 @@ use Rattle.book_cmd_timed.specs.declared.timed.TimedEvent.{TimedEvent}
 use Rattle.book_cmd_timed.specs.declared.timed.TimedEvent.TheVariants.{Plain, Wait}
 use Rattle.std.specs.Option.{option_or}
 use Rattle.book_link.specs.SendFronts.{SendFront, front_of, front_at}
-use Rattle.book_cmd_timed.specs.TimedRuns.{Watch, new_watch, Progress, watch_of, with_watch, started_anew, stopped, sampled_by, watch_by, is_again, is_done, is_sent, plain, Expanded, before, reading_at, until, due, after_expiry, expiry, waited, timed_event, expand_from, begins_timed, expand, by_expiry, due_at, expired_then}
+use Rattle.book_cmd_timed.specs.TimedRuns.{Watch, new_watch, Progress, watch_of, with_watch, started_anew, stopped, sampled_by, watch_by, newly_timed, untimed_by, transmission_of, is_done, is_sent, plain, Expanded, before, reading_at, until, due, after_expiry, expiry, waited, timed_event, expand_from, begins_timed, expand, by_expiry, due_at, expired_then}
 use Rattle.law_progress.specs.Waits.{WaitsResend}
 use Rattle.law_progress.proofs.Calm.{Calm, AllCalm, AllCalms, is_before, calm_step}
 use Rattle.law_progress.proofs.Finishing.{LeavesIf, closed_arrives, emits_leave, resends_leave}
@@ -231,13 +233,10 @@ module _ (setup : Setup) (w : World) (calm : AllCalms w) where
 abbrev Watched : Option SendFront → Watch → Type 0
 Watched o w = (f : SendFront) → o ≡ Some f → f.una < f.next → (d : ℕ) × (w.deadline ≡ Some d)
 
--- nothing is timed, where this holds
-abbrev untimed : Bool → Watch → Watch
-untimed again w = if again then record w { timed = None } else w
-
-untimed_same : (again : Bool) (w : Watch) → (untimed again w).deadline ≡ w.deadline
-untimed_same true w = refl
-untimed_same false w = refl
+untimed_same : (which : Transmission) (sent : Bool) (w : Watch) → (untimed_by which sent w).deadline ≡ w.deadline
+untimed_same New sent w = refl
+untimed_same Again true w = refl
+untimed_same Again false w = refl
 
 first_runs : (o : Option ℕ) (d : ℕ) → (k : ℕ) × (option_or o (Some d) ≡ Some k)
 first_runs None d = (d, refl)
@@ -247,13 +246,13 @@ acknowledged_runs : (now : ℕ) (f : SendFront) (s : Watch) → f.una < f.next �
 acknowledged_runs now f s low =
     choose (λ (x : Watch). (d : ℕ) × (x.deadline ≡ Some d)) (nat_lt f.una f.next) (started_anew now s) (stopped s) (λ e. (_, refl)) (λ e. let no = lt_not f.una f.next e in absurd (omega arith))
 
-moved_watched : (now : ℕ) (again : Bool) (old new : SendFront) (w : Watch) → old.una ≤ new.una → Watched (Some old) w → new.una < new.next → (d : ℕ) × ((watch_by now again (Some old) (Some new) w).deadline ≡ Some d)
-moved_watched now again old new w up h low =
+moved_watched : (now : ℕ) (which : Transmission) (old new : SendFront) (w : Watch) → old.una ≤ new.una → Watched (Some old) w → new.una < new.next → (d : ℕ) × ((watch_by now which (Some old) (Some new) w).deadline ≡ Some d)
+moved_watched now which old new w up h low =
     let P : Watch → Type 0 = λ x. (d : ℕ) × (x.deadline ≡ Some d) in
     let sample : Watch = sampled_by new.una now w w.timed in
     let more : Watch = record w {
       deadline = option_or w.deadline (started_anew now w).deadline;
-      timed = option_or w.timed (if again then None else Some (record { number = new.next; reading = now }));
+      timed = option_or w.timed (newly_timed which new.next now);
     } in
     choose P (nat_lt old.una new.una) (if nat_lt new.una new.next then started_anew now sample else stopped sample) _ (λ e. acknowledged_runs now new sample low) (λ e1.
     choose P (nat_lt old.next new.next) more w (λ e. first_runs w.deadline _) (λ e2.
@@ -265,27 +264,27 @@ moved_watched now again old new w up h low =
 abbrev front_if : Bool → Session → Option SendFront
 front_if shut s = if shut then None else Some (record { una = s.state.una; next = s.state.next })
 
-pair_watched : (now : ℕ) (again : Bool) (s t : Session) (w : Watch) (bs bt : Bool) → (bs ≡ true → bt ≡ true) → s.state.una ≤ t.state.una → Watched (front_if bs s) w → Watched (front_if bt t) (watch_by now again (front_if bs s) (front_if bt t) w)
-pair_watched now again s t w bs true shut up h f is low = absurd (cc)
-pair_watched now again s t w true false shut up h f is low = let off = shut refl in absurd (cc)
-pair_watched now again s t w false false shut up h f is low =
+pair_watched : (now : ℕ) (which : Transmission) (s t : Session) (w : Watch) (bs bt : Bool) → (bs ≡ true → bt ≡ true) → s.state.una ≤ t.state.una → Watched (front_if bs s) w → Watched (front_if bt t) (watch_by now which (front_if bs s) (front_if bt t) w)
+pair_watched now which s t w bs true shut up h f is low = absurd (cc)
+pair_watched now which s t w true false shut up h f is low = let off = shut refl in absurd (cc)
+pair_watched now which s t w false false shut up h f is low =
     let old : SendFront = record { una = s.state.una; next = s.state.next } in
     let new : SendFront = record { una = t.state.una; next = t.state.next } in
     let same : new ≡ f = some_is new f is in
-    moved_watched now again old new w up h (subst (λ (k : SendFront). k.una < k.next) (sym same) low)
+    moved_watched now which old new w up h (subst (λ (k : SendFront). k.una < k.next) (sym same) low)
 
-between_watched : (now : ℕ) (again : Bool) (o k : Option Session) (w : Watch) → Goes_on o k → Watched (front_of o) w → Watched (front_of k) (watch_by now again (front_of o) (front_of k) w)
-between_watched now again None None w g h f is low = absurd (cc)
-between_watched now again None (Some t) w g h f is low = absurd g
-between_watched now again (Some s) None w g h f is low = absurd g
-between_watched now again (Some s) (Some t) w g h f is low = pair_watched now again s t w (is_closed s.state.phase) (is_closed t.state.phase) g.shut g.una h f is low
+between_watched : (now : ℕ) (which : Transmission) (o k : Option Session) (w : Watch) → Goes_on o k → Watched (front_of o) w → Watched (front_of k) (watch_by now which (front_of o) (front_of k) w)
+between_watched now which None None w g h f is low = absurd (cc)
+between_watched now which None (Some t) w g h f is low = absurd g
+between_watched now which (Some s) None w g h f is low = absurd g
+between_watched now which (Some s) (Some t) w g h f is low = pair_watched now which s t w (is_closed s.state.phase) (is_closed t.state.phase) g.shut g.una h f is low
 
-untimed_watched : (o : Option SendFront) (again : Bool) (w : Watch) → Watched o w → Watched o (untimed again w)
-untimed_watched o again w h f is low = let k = h f is low in (k.0, untimed_same again w ∙ k.1)
+untimed_watched : (o : Option SendFront) (which : Transmission) (sent : Bool) (w : Watch) → Watched o w → Watched o (untimed_by which sent w)
+untimed_watched o which sent w h f is low = let k = h f is low in (k.0, untimed_same which sent w ∙ k.1)
 
-steps_watched : (w v : World) (e : End) (now : ℕ) (again made : Bool) (x : Watch) → Steps_on w v e → Watched (front_at w e) x → Watched (front_at v e) (untimed made (watch_by now again (front_at w e) (front_at v e) x))
-steps_watched w v e now again made x h watched =
-    untimed_watched (front_at v e) made (watch_by now again (front_at w e) (front_at v e) x) (between_watched now again (live (side w e).sessions) (live (side v e).sessions) x h.here watched)
+steps_watched : (w v : World) (e : End) (now : ℕ) (which : Transmission) (made : Bool) (x : Watch) → Steps_on w v e → Watched (front_at w e) x → Watched (front_at v e) (untimed_by which made (watch_by now which (front_at w e) (front_at v e) x))
+steps_watched w v e now which made x h watched =
+    untimed_watched (front_at v e) which made (watch_by now which (front_at w e) (front_at v e) x) (between_watched now which (live (side w e).sessions) (live (side v e).sessions) x h.here watched)
 
 -- ---- a timed link
 
@@ -305,12 +304,12 @@ with_watched p v B x h calm there here = record {
 }
 
 -- an event that begins no session
-plain_steps : (setup : Setup) (p : Progress) (ev : Event) (e : End) (now : ℕ) (again made : Bool) → IsWatched p → Steps_on p.world (step setup p.world ev).world e
-    → IsWatched (with_watch (record p { world = (step setup p.world ev).world }) e (untimed made (watch_by now again (front_at p.world e) (front_at (step setup p.world ev).world e) (watch_of p e))))
-plain_steps setup p ev e now again made h steps =
+plain_steps : (setup : Setup) (p : Progress) (ev : Event) (e : End) (now : ℕ) (which : Transmission) (made : Bool) → IsWatched p → Steps_on p.world (step setup p.world ev).world e
+    → IsWatched (with_watch (record p { world = (step setup p.world ev).world }) e (untimed_by which made (watch_by now which (front_at p.world e) (front_at (step setup p.world ev).world e) (watch_of p e))))
+plain_steps setup p ev e now which made h steps =
     let v = (step setup p.world ev).world in
-    with_watched p v e (untimed made (watch_by now again (front_at p.world e) (front_at v e) (watch_of p e))) h (calm_step setup p.world ev h.calm) steps.there
-    (steps_watched p.world v e now again made (watch_of p e) steps (h.watched e))
+    with_watched p v e (untimed_by which made (watch_by now which (front_at p.world e) (front_at v e) (watch_of p e))) h (calm_step setup p.world ev h.calm) steps.there
+    (steps_watched p.world v e now which made (watch_of p e) steps (h.watched e))
 
 -- a new session has nothing unacknowledged
 begun_watched : (s : Session) (w : Watch) → s.state.una ≡ s.state.next → Watched (front_of (Some s)) w
@@ -326,9 +325,9 @@ begun_watched s w same f is low = by_front (is_closed s.state.phase) is
 
 begin_watched : (setup : Setup) (p : Progress) (ev : Event) (e : End) (s : EndState) (o : Option Session) (now : ℕ) → IsWatched p → AllCalms (begin p.world e s o).world → s.una ≡ s.next
     → let r = begin p.world e s o in
-    IsWatched (with_watch (record p { world = r.world }) e (if is_done r.outcome then new_watch else untimed false (watch_by now false (front_at p.world e) (front_at r.world e) (watch_of p e))))
+    IsWatched (with_watch (record p { world = r.world }) e (if is_done r.outcome then new_watch else watch_by now New (front_at p.world e) (front_at r.world e) (watch_of p e)))
 begin_watched setup p ev e s (Some used) now h calm same =
-    with_watched p p.world e (watch_by now false (front_at p.world e) (front_at p.world e) (watch_of p e)) h calm refl (steps_watched p.world p.world e now false false (watch_of p e) (still p.world e) (h.watched e))
+    with_watched p p.world e (watch_by now New (front_at p.world e) (front_at p.world e) (watch_of p e)) h calm refl (steps_watched p.world p.world e now New false (watch_of p e) (still p.world e) (h.watched e))
 begin_watched setup p ev A s None now h calm same =
     let u : Session = record { state = s; end_shown = false } in
     with_watched p (begin p.world A s None).world A new_watch h calm refl (begun_watched u new_watch same)
@@ -339,11 +338,11 @@ begin_watched setup p ev B s None now h calm same =
 module _ (setup : Setup) where
   by_event : (p : Progress) (ev : Event) (e : End) → IsWatched p → Steps_on p.world (step setup p.world ev).world e
       → let s = step setup p.world ev in
-      IsWatched (with_watch (record p { world = s.world }) e (untimed (is_again ev && is_sent s.outcome) (watch_by (side s.world e).clock (is_again ev) (front_at p.world e) (front_at s.world e) (watch_of p e))))
-  by_event p ev e h steps = let s = step setup p.world ev in plain_steps setup p ev e (side s.world e).clock (is_again ev) (is_again ev && is_sent s.outcome) h steps
+      IsWatched (with_watch (record p { world = s.world }) e (untimed_by (transmission_of ev) (is_sent s.outcome) (watch_by (side s.world e).clock (transmission_of ev) (front_at p.world e) (front_at s.world e) (watch_of p e))))
+  by_event p ev e h steps = let s = step setup p.world ev in plain_steps setup p ev e (side s.world e).clock (transmission_of ev) (is_sent s.outcome) h steps
 
   plain_watched : (p : Progress) (ev : Event) → IsWatched p → IsWatched (plain setup p ev)
-  plain_watched p (event.At e (action.Clock seconds)) h = plain_steps setup p (event.At e (action.Clock seconds)) e (side (step setup p.world (event.At e (action.Clock seconds))).world e).clock false false h (clock_steps setup p.world h.calm e seconds)
+  plain_watched p (event.At e (action.Clock seconds)) h = plain_steps setup p (event.At e (action.Clock seconds)) e (side (step setup p.world (event.At e (action.Clock seconds))).world e).clock New false h (clock_steps setup p.world h.calm e seconds)
   plain_watched p (event.At e (action.Connect isn)) h = begin_watched setup p (event.At e (action.Connect isn)) e (connected (pair_of setup e) isn) (find (side p.world e).sessions isn) (side (step setup p.world (event.At e (action.Connect isn))).world e).clock h (calm_step setup p.world (event.At e (action.Connect isn)) h.calm) refl
   plain_watched p (event.At e (action.Listen isn)) h = begin_watched setup p (event.At e (action.Listen isn)) e (listening (pair_of setup e) isn) (find (side p.world e).sessions isn) (side (step setup p.world (event.At e (action.Listen isn))).world e).clock h (calm_step setup p.world (event.At e (action.Listen isn)) h.calm) refl
   plain_watched p (event.At e (action.Start isn peer)) h = begin_watched setup p (event.At e (action.Start isn peer)) e (started (pair_of setup e) isn peer) (find (side p.world e).sessions isn) (side (step setup p.world (event.At e (action.Start isn peer))).world e).clock h (calm_step setup p.world (event.At e (action.Start isn peer)) h.calm) refl

@@ -1,10 +1,10 @@
 use Rattle.std.proofs.Common.{sym, subst}
-use Rattle.ao_stack.specs.declared.outgoing.Sending.{Sending}
+use Rattle.book_link.specs.declared.event.Transmission.{Transmission}
 use Rattle.ao_stack.specs.Turns.{Turns, turn_of}
 use Rattle.ao_stack.proofs.stack.Stack.take_turn.Goals as goal
 
-pub returns-in-First : goal.returns-in-First
-returns-in-First g c s S = subst (λ (k : Sending). Turns c.ask.new.self c.args.room.now c.ask.new.room c.ask.result (turn_of k c.args.now s)) (sym c.in-First.is) (c.ask.ensures s S)
+pub returns-in-New : goal.returns-in-New
+returns-in-New g c s S = subst (λ (k : Transmission). Turns c.ask.new.self c.args.room.now c.ask.new.room c.ask.result (turn_of k c.args.now s)) (sym c.in-New.is) (c.ask.ensures s S)
 
 pub returns-in-Again : goal.returns-in-Again
-returns-in-Again g c s S = subst (λ (k : Sending). Turns c.wake.new.self c.args.room.now c.wake.new.room c.wake.result (turn_of k c.args.now s)) (sym c.in-Again.is) (c.wake.ensures s S)
+returns-in-Again g c s S = subst (λ (k : Transmission). Turns c.wake.new.self c.args.room.now c.wake.new.room c.wake.result (turn_of k c.args.now s)) (sym c.in-Again.is) (c.wake.ensures s S)

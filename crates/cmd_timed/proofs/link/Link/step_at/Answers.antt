@@ -9,7 +9,7 @@ returns c =
     record {
       begins = c.is_begin.ensures;
       done = c.is_done.ensures _ (c.outcome-outcome.ensures setup past c.args.event.now after);
-      again = c.is_again.ensures;
+      transmission = c.transmission_of.ensures;
       sent = c.is_sent.ensures _ (c.outcome-outcome.ensures setup past c.args.event.now after);
       reading = c.reading.ensures.reads setup _ after;
       old = c.front-old.ensures setup past h;
