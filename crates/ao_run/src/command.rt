@@ -157,11 +157,8 @@ pub(crate) fn named(words: &Words) -> Option<Command>
 pub(crate) fn reads_keys(command: Command) -> bool
     ensures { result ≡ reads_keys command }
 {
-    match command {
-        Command::Link => false,
-        Command::Show => false,
-        Command::Vectors => false,
-        Command::Storm(_, _) => false,
-        _ => true,
-    }
+    !matches!(
+        command,
+        Command::Link | Command::Show | Command::Vectors | Command::Storm(..)
+    )
 }

@@ -52,11 +52,7 @@ impl Whole {
     pub(crate) fn reads_input(&self) -> bool
         ensures { result ≡ reads_input (whole_command self.now) }
     {
-        match self {
-            Whole::Keys(_, _) => false,
-            Whole::Storm(_, _) => false,
-            _ => true,
-        }
+        !matches!(self, Whole::Keys(..) | Whole::Storm(..))
     }
 }
 

@@ -18,9 +18,5 @@ pub fn other(end: End) -> End
 pub fn is_same_end(one: End, other: End) -> bool
     ensures { result ≡ same_end one other }
 {
-    match (one, other) {
-        (End::A, End::A) => true,
-        (End::B, End::B) => true,
-        _ => false,
-    }
+    matches!((one, other), (End::A, End::A) | (End::B, End::B))
 }

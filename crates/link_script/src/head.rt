@@ -28,10 +28,7 @@ pub(crate) fn next_line<'a>(
     ensures next { IfOk result (λ line. lines.old ≡ record { number = line.number; words = line.words } ∷ lines.new) }
     ensures none { IfErr result (λ e. (lines.old ≡ []) × (e ≡ fault.Line missing kind)) }
 {
-    match lines.next() {
-        Some(line) => Ok(line),
-        None => Err(TextFault::Line(missing, kind)),
-    }
+    lines.next().ok_or(TextFault::Line(missing, kind))
 }
 
 #[tactic(auto, unfolding(book_cmd_link::specs::LinkFiles::title_of))]
@@ -71,10 +68,7 @@ fn title_line(lines: &mut SayingLines, missing: u32) -> Result<(), TextFault>
     ensures { leaves result lines.new ≡ line_in missing line_kind.Header (title_of (codes "aotcp-link")) lines.old }
 {
     let mut line = next_line(lines, missing, LineKind::Header)?;
-    match title(&mut line.words) {
-        Ok(()) => Ok(()),
-        Err(_) => Err(TextFault::Line(line.number, LineKind::Header)),
-    }
+    title(&mut line.words).map_err(|_| TextFault::Line(line.number, LineKind::Header))
 }
 
 /// The line of a's socket.
@@ -83,10 +77,7 @@ fn socket_line(lines: &mut SayingLines, missing: u32) -> Result<Socket, TextFaul
     ensures { leaves result lines.new ≡ line_in missing line_kind.Header (socket_of (codes "a")) lines.old }
 {
     let mut line = next_line(lines, missing, LineKind::Header)?;
-    match socket(b"a", &mut line.words) {
-        Ok(socket) => Ok(socket),
-        Err(_) => Err(TextFault::Line(line.number, LineKind::Header)),
-    }
+    socket(b"a", &mut line.words).map_err(|_| TextFault::Line(line.number, LineKind::Header))
 }
 
 /// The line of b's socket, beside a's.
@@ -95,10 +86,7 @@ fn peer_line(lines: &mut SayingLines, missing: u32, a: &Socket) -> Result<Socket
     ensures { leaves result lines.new ≡ line_in missing line_kind.Header (peer_socket_of a.now) lines.old }
 {
     let mut line = next_line(lines, missing, LineKind::Header)?;
-    match peer(a, &mut line.words) {
-        Ok(socket) => Ok(socket),
-        Err(_) => Err(TextFault::Line(line.number, LineKind::Header)),
-    }
+    peer(a, &mut line.words).map_err(|_| TextFault::Line(line.number, LineKind::Header))
 }
 
 /// The three lines in front: the title, the socket of a and that of b.

@@ -111,10 +111,7 @@ fn fixing_named(word: &[u8]) -> Option<Fixing>
 fn fixing(words: &mut LineWords) -> Result<Fixing, LineKind>
     ensures { gives result words.new ≡ word_as fixing_of line_kind.Word words.old }
 {
-    match fixing_named(words.word()?) {
-        Some(fixing) => Ok(fixing),
-        None => Err(LineKind::Word),
-    }
+    fixing_named(words.word()?).ok_or(LineKind::Word)
 }
 
 #[tactic(auto, unfolding(book_cmd_link::specs::LinkEvents::alter_of))]

@@ -61,10 +61,10 @@ fn key(
 pub(crate) fn is_shared(words: &LineWords) -> bool
     ensures { result ≡ is_shared words.now }
 {
-    match words.ahead().word() {
-        Ok(word) => word == b"shared".as_slice(),
-        Err(_) => false,
-    }
+    words
+        .ahead()
+        .word()
+        .is_ok_and(|word| word == b"shared".as_slice())
 }
 
 /// The event of a line.
@@ -74,10 +74,7 @@ fn event_line(alloc: Global, mut line: Saying) -> Result<Event, TextFault>
     if is_shared(&line.words) {
         return Err(TextFault::Line(line.number, LineKind::Shared));
     }
-    match read_event(alloc, &mut line.words) {
-        Ok(event) => Ok(event),
-        Err(refusal) => Err(refusal.at(line.number)),
-    }
+    read_event(alloc, &mut line.words).map_err(|refusal| refusal.at(line.number))
 }
 
 /// The events of the lines that are left.

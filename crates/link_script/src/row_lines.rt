@@ -35,10 +35,7 @@ fn direction_named(word: &[u8]) -> Option<Direction>
 fn direction(words: &mut LineWords) -> Result<Direction, LineKind>
     ensures { gives result words.new ≡ word_as direction_of line_kind.Word words.old }
 {
-    match direction_named(words.word()?) {
-        Some(direction) => Ok(direction),
-        None => Err(LineKind::Word),
-    }
+    direction_named(words.word()?).ok_or(LineKind::Word)
 }
 
 fn key_id(words: &mut LineWords) -> Result<u8, LineKind>

@@ -52,10 +52,7 @@ fn timed_line(alloc: Global, mut line: Saying) -> Result<TimedEvent, TextFault>
     if is_shared(&line.words) {
         return Err(TextFault::Line(line.number, LineKind::Shared));
     }
-    match timed_event(alloc, &mut line.words) {
-        Ok(event) => Ok(event),
-        Err(refusal) => Err(refusal.at(line.number)),
-    }
+    timed_event(alloc, &mut line.words).map_err(|refusal| refusal.at(line.number))
 }
 
 /// The events of the lines that are left.

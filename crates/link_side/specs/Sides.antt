@@ -6,6 +6,7 @@ use Rattle.book_link.specs.Worlds.{Session, LinkSide as EndSide}
 use Rattle.link_side.specs.declared.sessions.Ended.{Ended}
 use Rattle.link_side.specs.declared.sessions.Live.{Live}
 use Rattle.link_side.specs.declared.side.Side.{Side}
+use Rattle.tcp_endpoint.specs.declared.endpoint.Endpoint.{Endpoint}
 use Rattle.tcp_endpoint.specs.Ends.{Stands}
 
 -- the sockets of an end, its own and its peer's
@@ -23,6 +24,14 @@ live_of d = d.live
 -- what is kept of the sessions of an end before the live one, the oldest first
 abbrev pub dropped_of : Side → List Ended
 dropped_of d = d.dropped.items
+
+-- the end of the connection of a session
+abbrev pub endpoint_of : Live → Endpoint
+endpoint_of l = l.endpoint
+
+-- whether a take of a session showed the end of its stream
+abbrev pub is_end_shown : Live → Bool
+is_end_shown l = l.end_shown
 
 -- what the report says of a session
 pub record Facts : Type 0 where

@@ -5,7 +5,7 @@ ghost use Rattle.book_link.specs.declared.event.Action.TheVariants.{Connect, Lis
 ghost use Rattle.book_link.specs.Worlds.{LinkSide as EndSide};
 ghost use Rattle.link_side.specs.Sides.{StandsSide, sockets_of};
 ghost use Rattle.link_side.specs.Steps.{Steps};
-ghost use Rattle.tcp_endpoint.specs.Ends.{Stands, FitsEnd};
+ghost use Rattle.tcp_endpoint.specs.Ends.{Stands, FitsEnd, pair_at_end};
 
 use crate::answer::Answer;
 use crate::sessions::Live;
@@ -16,7 +16,7 @@ use tcp_endpoint::Endpoint;
 impl Side {
     /// A session becomes the live one; the one before it is dropped. All memory is taken before.
     fn begin(&mut self, endpoint: Endpoint) -> Result<(), AllocError>
-        requires bound { endpoint.pair ≡ self.old.pair }
+        requires bound { pair_at_end endpoint ≡ sockets_of self.old }
         requires fits { FitsEnd self.old.table.rows endpoint }
         ensures pair { sockets_of self.new ≡ sockets_of self.old }
         ensures begun { OnOk result ((m : EndSide) (s : EndState) → StandsSide self.old m → Stands endpoint s

@@ -12,7 +12,7 @@ ghost use Rattle.link_side.specs.Segments.{emission_of, HasCome, HasSent, length
 ghost use Rattle.link_side.specs.Sides.{StandsSide, sockets_of, table_of};
 ghost use Rattle.tcp_endpoint.specs.Arrivals.{TellsOption};
 ghost use Rattle.tcp_endpoint.specs.Emissions.{Emits};
-ghost use Rattle.tcp_endpoint.specs.Ends.{FitsEnd, Stands};
+ghost use Rattle.tcp_endpoint.specs.Ends.{FitsEnd, Stands, pair_at_end};
 
 use crate::side::Side;
 use ao_base::Steps;
@@ -45,9 +45,9 @@ fn make<L: Ledger>(
     requires fits { FitsEnd table.now.rows endpoint.old }
     requires room { 1500 ≤ length out.old }
     ensures emits { (s : EndState) → Stands endpoint.old s
-        → Emits s endpoint.new out.old out.new result (made_by transmission table.now.rows endpoint.old.pair now s) }
+        → Emits s endpoint.new out.old out.new result (made_by transmission table.now.rows (pair_at_end endpoint.old) now s) }
     ensures short { length_sent (Some result) ≤ 1500 }
-    ensures pair { endpoint.new.pair ≡ endpoint.old.pair }
+    ensures pair { pair_at_end endpoint.new ≡ pair_at_end endpoint.old }
     ensures fits { FitsEnd table.now.rows endpoint.new }
     ensures steps { steps.new ≤ steps.old + 1 }
 {

@@ -28,7 +28,7 @@ pub struct Ended {
 
 impl Live {
     ghost use Rattle.book_link.specs.Worlds.{Session};
-    ghost use Rattle.link_side.specs.Sides.{facts_of, kept_facts};
+    ghost use Rattle.link_side.specs.Sides.{endpoint_of, facts_of, is_end_shown, kept_facts};
     ghost use Rattle.tcp_endpoint.specs.Ends.{Stands};
 
     /// A session that begins: no take showed the end of its stream.
@@ -43,21 +43,21 @@ impl Live {
 
     /// The end of the connection.
     pub fn endpoint(&self) -> &Endpoint
-        ensures { result.now ≡ self.now.endpoint }
+        ensures { result.now ≡ endpoint_of self.now }
     {
         &self.endpoint
     }
 
     /// Whether a take showed the end of the stream.
     pub fn end_shown(&self) -> bool
-        ensures { result ≡ self.now.end_shown }
+        ensures { result ≡ is_end_shown self.now }
     {
         self.end_shown
     }
 
     /// What the report says of the session beside its phase.
     pub fn ended(&self) -> Ended
-        ensures { (s : Session) → Stands self.now.endpoint s.state → self.now.end_shown ≡ s.end_shown → kept_facts result ≡ facts_of s }
+        ensures { (s : Session) → Stands (endpoint_of self.now) s.state → is_end_shown self.now ≡ s.end_shown → kept_facts result ≡ facts_of s }
     {
         Ended {
             isn: self.endpoint.isn(),

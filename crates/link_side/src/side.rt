@@ -3,7 +3,7 @@ ghost use Rattle.std.specs.Prelude.{◌≡◌, ◌≤◌, true, [], Some, None, 
 ghost use Rattle.std.specs.Option.{ForSome};
 ghost use Rattle.book_keys.specs.Lifetimes.{greatest_time};
 ghost use Rattle.book_link.specs.Worlds.{LinkSide as EndSide, find};
-ghost use Rattle.tcp_endpoint.specs.Ends.{FitsEnd};
+ghost use Rattle.tcp_endpoint.specs.Ends.{FitsEnd, pair_at_end};
 ghost use Rattle.book_base.specs.Addresses.{IsOneFamily};
 
 use crate::sessions::{Ended, Live, has_isn};
@@ -22,7 +22,7 @@ pub struct Side {
     pub(crate) dropped: Vec<Ended>,
     ghost family: { IsOneFamily pair.local.address pair.remote.address },
     ghost time: { clock ≤ greatest_time },
-    ghost bound: { ForSome live (λ l. l.endpoint.pair ≡ pair) },
+    ghost bound: { ForSome live (λ l. pair_at_end l.endpoint ≡ pair) },
     ghost fits: { ForSome live (λ l. FitsEnd table.rows l.endpoint) },
 }
 

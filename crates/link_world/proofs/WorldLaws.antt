@@ -14,13 +14,15 @@ use Rattle.book_link.specs.declared.event.Event.TheVariants.{Dump}
 use Rattle.book_link.specs.Outcomes as book
 use Rattle.book_link.specs.Runs.{begins, empty, outcomes_from, run}
 use Rattle.book_link.specs.Steps.{Stepped, image_of, step}
-use Rattle.book_link.specs.Worlds.{Happening, Setup, World as Both, pair_of, first_rows, segment_named}
+use Rattle.book_link.specs.Worlds.{Happening, Setup, World as Both, other, pair_of, first_rows, segment_named, side as side_of}
+use Rattle.both_ends.specs.declared.values.BothEnds.{BothEnds}
+use Rattle.both_ends.specs.Values.{at, with_at}
 use Rattle.link_log.specs.declared.log.Log.{Log}
 use Rattle.link_log.specs.Logs.{StandsLog}
 use Rattle.link_report.specs.declared.outcome.Outcome.{Outcome}
 use Rattle.link_report.specs.Outcomes.{AreShown, Shows}
 use Rattle.link_side.specs.declared.side.Side.{Side}
-use Rattle.link_side.specs.Sides.{StandsSide}
+use Rattle.link_side.specs.Sides.{StandsSide, sockets_of}
 use Rattle.link_world.specs.declared.world.World.{World}
 use Rattle.law_link.specs.Laws.{EventFits, AddressesFit, RowFits, SetupFits}
 use Rattle.link_world.specs.Ranges.{IsPlace, SocketsFit}
@@ -36,114 +38,76 @@ on_err (Err e) P h = h
 
 -- ---- the two ends
 
-at_a : (a b : Side) (log : Log) (setup : Setup) (w : Both) → StandsLink a b log setup w → StandsAt A a log setup w
-at_a a b log setup w h = record { pair_is = h.a_pair; side_is = h.a_is; log_is = h.log_is }
+-- what holds of either end holds of each
+each : (P : End → Side → Type 0) (sides : BothEnds Side) → P A sides.a → P B sides.b → (e : End) → P e (at e sides)
+each P sides a b A = a
+each P sides a b B = b
 
-at_b : (a b : Side) (log : Log) (setup : Setup) (w : Both) → StandsLink a b log setup w → StandsAt B b log setup w
-at_b a b log setup w h = record { pair_is = h.b_pair; side_is = h.b_is; log_is = h.log_is }
+-- so also where an end became another one
+where_changed : (P : End → Side → Type 0) (e : End) (after : Side) (sides : BothEnds Side) → P e after → P (other e) (at (other e) sides)
+    → (x : End) → P x (at x (with_at e after sides))
+where_changed P A after sides here there = each P (with_at A after sides) here there
+where_changed P B after sides here there = each P (with_at B after sides) there here
 
 -- each end of a link is an end
-pub end_a : (a b : Side) (log : Log) (e : End) → e ≡ A → AreOfLink a b log → AreOfEnd e a log
-end_a a b log e is l =
-    subst (λ (x : End). AreOfEnd x a log) (sym is)
-    (record { setup = l.setup; world = l.world; stands = at_a a b log l.setup l.world l.stands })
+at_end : (e : End) (sides : BothEnds Side) (log : Log) (setup : Setup) (w : Both) → StandsLink sides log setup w → StandsAt e (at e sides) log setup w
+at_end e sides log setup w h = record { pair_is = h.pair_is e; side_is = h.side_is e; log_is = h.log_is }
 
-pub end_b : (a b : Side) (log : Log) (e : End) → e ≡ B → AreOfLink a b log → AreOfEnd e b log
-end_b a b log e is l =
-    subst (λ (x : End). AreOfEnd x b log) (sym is)
-    (record { setup = l.setup; world = l.world; stands = at_b a b log l.setup l.world l.stands })
-
-acts_a : (a a' b : Side) (old new : Log) (s : Setup → Both → Stepped) (r : Result Outcome AllocError) → Acts A a a' old new s r → Happens a b a' b old new s r
-acts_a a a' b old new s (Ok told) h =
-    record {
-      made = h.made;
-      forged = h.forged;
-      stands = λ setup w l.
-          let f = h.follows setup w (at_a a b old setup w l) in
-          record {
-            a_pair = l.a_pair ∙ sym h.pair;
-            b_pair = l.b_pair;
-            a_is = f.side_is;
-            b_is = subst (StandsSide b) (sym f.others) l.b_is;
-            log_is = f.log_is;
-          };
-      shows = λ setup w l. (h.follows setup w (at_a a b old setup w l)).shows;
-    }
-acts_a a a' b old new s (Err error) h =
-    record {
-      made = h.made;
-      forged = h.forged;
-      stands = λ setup w l.
-          record {
-            a_pair = l.a_pair ∙ sym h.pair;
-            b_pair = l.b_pair;
-            a_is = h.side_is w.a l.a_is;
-            b_is = l.b_is;
-            log_is = h.log_is w.history l.log_is;
-          };
-    }
-
-acts_b : (a b b' : Side) (old new : Log) (s : Setup → Both → Stepped) (r : Result Outcome AllocError) → Acts B b b' old new s r → Happens a b a b' old new s r
-acts_b a b b' old new s (Ok told) h =
-    record {
-      made = h.made;
-      forged = h.forged;
-      stands = λ setup w l.
-          let f = h.follows setup w (at_b a b old setup w l) in
-          record {
-            a_pair = l.a_pair;
-            b_pair = l.b_pair ∙ sym h.pair;
-            a_is = subst (StandsSide a) (sym f.others) l.a_is;
-            b_is = f.side_is;
-            log_is = f.log_is;
-          };
-      shows = λ setup w l. (h.follows setup w (at_b a b old setup w l)).shows;
-    }
-acts_b a b b' old new s (Err error) h =
-    record {
-      made = h.made;
-      forged = h.forged;
-      stands = λ setup w l.
-          record {
-            a_pair = l.a_pair;
-            b_pair = l.b_pair ∙ sym h.pair;
-            a_is = l.a_is;
-            b_is = h.side_is w.b l.b_is;
-            log_is = h.log_is w.history l.log_is;
-          };
-    }
+pub end_of : (e : End) (sides : BothEnds Side) (log : Log) → AreOfLink sides log → AreOfEnd e (at e sides) log
+end_of e sides log l = record { setup = l.setup; world = l.world; stands = at_end e sides log l.setup l.world l.stands }
 
 -- what an event does to an end, it does to the link
-pub happens_a : (a a' b : Side) (old new : Log) (s : Setup → Both → Stepped) (r : Result Outcome AllocError) (e : End) → e ≡ A → Acts e a a' old new s r
-    → Happens a b a' b old new s r
-happens_a a a' b old new s r e is h = acts_a a a' b old new s r (subst (λ (x : End). Acts x a a' old new s r) is h)
-
-pub happens_b : (a b b' : Side) (old new : Log) (s : Setup → Both → Stepped) (r : Result Outcome AllocError) (e : End) → e ≡ B → Acts e b b' old new s r
-    → Happens a b a b' old new s r
-happens_b a b b' old new s r e is h = acts_b a b b' old new s r (subst (λ (x : End). Acts x b b' old new s r) is h)
+pub acts_on : (e : End) (sides : BothEnds Side) (after : Side) (old new : Log) (s : Setup → Both → Stepped) (r : Result Outcome AllocError)
+    → Acts e (at e sides) after old new s r → Happens sides (with_at e after sides) old new s r
+acts_on e sides after old new s (Ok told) h =
+    record {
+      made = h.made;
+      forged = h.forged;
+      stands = λ setup w l.
+          let f = h.follows setup w (at_end e sides old setup w l) in
+          let there = subst (StandsSide (at (other e) sides)) (sym f.others) (l.side_is (other e)) in
+          record {
+            pair_is = where_changed (λ x d. pair_of setup x ≡ sockets_of d) e after sides (l.pair_is e ∙ sym h.pair) (l.pair_is (other e));
+            side_is = where_changed (λ x d. StandsSide d (side_of (s setup w).world x)) e after sides f.side_is there;
+            log_is = f.log_is;
+          };
+      shows = λ setup w l. (h.follows setup w (at_end e sides old setup w l)).shows;
+    }
+acts_on e sides after old new s (Err error) h =
+    record {
+      made = h.made;
+      forged = h.forged;
+      stands = λ setup w l.
+          record {
+            pair_is = where_changed (λ x d. pair_of setup x ≡ sockets_of d) e after sides (l.pair_is e ∙ sym h.pair) (l.pair_is (other e));
+            side_is = where_changed (λ x d. StandsSide d (side_of w x)) e after sides (h.side_is (side_of w e) (l.side_is e)) (l.side_is (other e));
+            log_is = h.log_is w.history l.log_is;
+          };
+    }
 
 -- ---- the link
 
 -- to show a segment moves nothing, and memory may run out
-pub looks : (a b : Side) (log : Log) (name : ℕ) (r : Result Outcome AllocError)
+pub looks : (sides : BothEnds Side) (log : Log) (name : ℕ) (r : Result Outcome AllocError)
     → IfOk r (λ told. (history : List Happening) → StandsLog log history → Shows told (image_of (segment_named name history)))
-    → Happens a b a b log log (by_event (Dump name)) r
-looks a b log name (Ok told) h =
+    → Happens sides sides log log (by_event (Dump name)) r
+looks sides log name (Ok told) h =
     record {
       made = omega arith;
       forged = omega arith;
       stands = λ setup w l. l;
       shows = λ setup w l. h w.history l.log_is;
     }
-looks a b log name (Err error) h = record { made = refl; forged = refl; stands = λ setup w l. l }
+looks sides log name (Err error) h = record { made = refl; forged = refl; stands = λ setup w l. l }
 
 -- after an event the ends and the log are still those of a link
-pub moved_of : (a b a' b' : Side) (old new : Log) (event : Event) (o : Outcome) → Moves a b a' b' old new (by_event event) o → AreOfLink a b old → AreOfLink a' b' new
-moved_of a b a' b' old new event o h l =
+pub moved_of : (before after : BothEnds Side) (old new : Log) (event : Event) (o : Outcome) → Moves before after old new (by_event event) o → AreOfLink before old
+    → AreOfLink after new
+moved_of before after old new event o h l =
     record { setup = l.setup; world = (step l.setup l.world event).world; stands = h.stands l.setup l.world l.stands }
 
-pub rested_of : (a b a' b' : Side) (old new : Log) → Rests a b a' b' old new → AreOfLink a b old → AreOfLink a' b' new
-rested_of a b a' b' old new h l = record { setup = l.setup; world = l.world; stands = h.stands l.setup l.world l.stands }
+pub rested_of : (before after : BothEnds Side) (old new : Log) → Rests before after old new → AreOfLink before old → AreOfLink after new
+rested_of before after old new h l = record { setup = l.setup; world = l.world; stands = h.stands l.setup l.world l.stands }
 
 -- ---- the outcomes
 
@@ -181,12 +145,12 @@ setup_fits setup sockets a b = record { family = sockets.family; a_port = socket
 
 -- a world that goes on stands for one more event
 pub stepped : (old new : World) (setup : Setup) (events : List Event) (event : Event) (o : Outcome) → StandsFor old setup events
-    → Moves old.a old.b new.a new.b old.log new.log (by_event event) o → new.outcomes.items ≡ old.outcomes.items ++ o ∷ []
+    → Moves old.sides new.sides old.log new.log (by_event event) o → new.outcomes.items ≡ old.outcomes.items ++ o ∷ []
     → EventFits event → StandsFor new setup (events ++ event ∷ [])
 stepped old new setup events event o h moves items fits =
     let w = run setup events in
     record {
-      link = subst (λ (x : Both). StandsLink new.a new.b new.log setup x) (sym (run_more setup events event)) (moves.stands setup w h.link);
+      link = subst (λ (x : Both). StandsLink new.sides new.log setup x) (sym (run_more setup events event)) (moves.stands setup w h.link);
       shown = subst (λ (os : List Outcome). AreShown os (outcomes_from setup (empty setup) (events ++ event ∷ []))) (sym items)
           (subst (λ (xs : List book.Outcome). AreShown (old.outcomes.items ++ o ∷ []) xs) (sym (outcomes_more setup events event))
           (shown_more old.outcomes.items (outcomes_from setup (empty setup) events) o (step setup w event).outcome h.shown (moves.shows setup w h.link)));
@@ -195,7 +159,7 @@ stepped old new setup events event o h moves items fits =
     }
 
 -- a world that rests stands for the same events
-pub rested : (old new : World) (setup : Setup) (events : List Event) → StandsFor old setup events → Rests old.a old.b new.a new.b old.log new.log
+pub rested : (old new : World) (setup : Setup) (events : List Event) → StandsFor old setup events → Rests old.sides new.sides old.log new.log
     → new.outcomes.items ≡ old.outcomes.items → StandsFor new setup events
 rested old new setup events h rests items =
     record {
@@ -227,6 +191,11 @@ last_is w setup events event d h =
 -- ---- the beginning
 
 -- two ends without a session, and a log of nothing, stand for the link as it begins
-pub begun : (setup : Setup) (a b : Side) (log : Log) → a.pair ≡ pair_of setup A → b.pair ≡ pair_of setup B
-    → StandsSide a (begins setup A) → StandsSide b (begins setup B) → StandsLog log [] → StandsLink a b log setup (empty setup)
-begun setup a b log a_pair b_pair a_is b_is log_is = record { a_pair = sym a_pair; b_pair = sym b_pair; a_is = a_is; b_is = b_is; log_is = log_is }
+pub begun : (setup : Setup) (sides : BothEnds Side) (log : Log) → sockets_of sides.a ≡ pair_of setup A → sockets_of sides.b ≡ pair_of setup B
+    → StandsSide sides.a (begins setup A) → StandsSide sides.b (begins setup B) → StandsLog log [] → StandsLink sides log setup (empty setup)
+begun setup sides log a_pair b_pair a_is b_is log_is =
+    record {
+      pair_is = each (λ x d. pair_of setup x ≡ sockets_of d) sides (sym a_pair) (sym b_pair);
+      side_is = each (λ x d. StandsSide d (side_of (empty setup) x)) sides a_is b_is;
+      log_is = log_is;
+    }

@@ -5,12 +5,13 @@ use Rattle.book_base.specs.declared.end.End.{End}
 use Rattle.book_link.specs.declared.event.Event.{Event}
 use Rattle.book_link.specs.Steps.{Stepped, come, on_live, step, view_of}
 use Rattle.book_link.specs.Worlds.{Setup, World, LinkSide as EndSide, Happening, other, side as side_of}
+use Rattle.both_ends.specs.declared.values.BothEnds.{BothEnds}
 use Rattle.link_log.specs.declared.log.Log.{Log}
 use Rattle.link_log.specs.Logs.{StandsLog, forgery_count, made_count}
 use Rattle.link_report.specs.declared.outcome.Outcome.{Outcome}
 use Rattle.link_report.specs.Outcomes.{Shows}
 use Rattle.link_side.specs.declared.side.Side.{Side}
-use Rattle.link_side.specs.Sides.{StandsSide}
+use Rattle.link_side.specs.Sides.{StandsSide, sockets_of}
 use Rattle.link_world.specs.Links.{StandsAt, StandsLink}
 
 -- the step of an event
@@ -30,14 +31,14 @@ pub record Follows (w : World) (after : Stepped) (e : End) (d : Side) (log : Log
 
 -- whatever end of whatever link the side and the log stood for, they follow this step; at most one segment was made, at most one forgery counted
 pub record HasStepped (e : End) (before after : Side) (old new : Log) (step : Setup → World → Stepped) (told : Outcome) : Type 0 where
-  pub pair : after.pair ≡ before.pair
+  pub pair : sockets_of after ≡ sockets_of before
   pub made : made_count new ≤ made_count old + 1
   pub forged : forgery_count new ≤ forgery_count old + 1
   pub follows : (setup : Setup) (w : World) → StandsAt e before old setup w → Follows w (step setup w) e after new told
 
 -- the side and the log stand for what they stood for
 pub record Stays (before after : Side) (old new : Log) : Type 0 where
-  pub pair : after.pair ≡ before.pair
+  pub pair : sockets_of after ≡ sockets_of before
   pub made : made_count new ≡ made_count old
   pub forged : forgery_count new ≡ forgery_count old
   pub side_is : (m : EndSide) → StandsSide before m → StandsSide after m
@@ -49,19 +50,19 @@ Acts e before after old new step (Ok told) = HasStepped e before after old new s
 Acts e before after old new step (Err error) = Stays before after old new
 
 -- whatever world the ends and the log stood for, they stand for the one after the step, whose outcome it is; at most one segment was made, at most one forgery counted
-pub record Moves (a b a' b' : Side) (old new : Log) (step : Setup → World → Stepped) (told : Outcome) : Type 0 where
+pub record Moves (before after : BothEnds Side) (old new : Log) (step : Setup → World → Stepped) (told : Outcome) : Type 0 where
   pub made : made_count new ≤ made_count old + 1
   pub forged : forgery_count new ≤ forgery_count old + 1
-  pub stands : (setup : Setup) (w : World) → StandsLink a b old setup w → StandsLink a' b' new setup (step setup w).world
-  pub shows : (setup : Setup) (w : World) → StandsLink a b old setup w → Shows told (step setup w).outcome
+  pub stands : (setup : Setup) (w : World) → StandsLink before old setup w → StandsLink after new setup (step setup w).world
+  pub shows : (setup : Setup) (w : World) → StandsLink before old setup w → Shows told (step setup w).outcome
 
 -- the ends and the log stand for what they stood for
-pub record Rests (a b a' b' : Side) (old new : Log) : Type 0 where
+pub record Rests (before after : BothEnds Side) (old new : Log) : Type 0 where
   pub made : made_count new ≡ made_count old
   pub forged : forgery_count new ≡ forgery_count old
-  pub stands : (setup : Setup) (w : World) → StandsLink a b old setup w → StandsLink a' b' new setup w
+  pub stands : (setup : Setup) (w : World) → StandsLink before old setup w → StandsLink after new setup w
 
 -- an event was stepped through, or memory ran out and all stands for what it stood for
-abbrev pub Happens : Side → Side → Side → Side → Log → Log → (Setup → World → Stepped) → Result Outcome AllocError → Type 0
-Happens a b a' b' old new step (Ok told) = Moves a b a' b' old new step told
-Happens a b a' b' old new step (Err error) = Rests a b a' b' old new
+abbrev pub Happens : BothEnds Side → BothEnds Side → Log → Log → (Setup → World → Stepped) → Result Outcome AllocError → Type 0
+Happens before after old new step (Ok told) = Moves before after old new step told
+Happens before after old new step (Err error) = Rests before after old new

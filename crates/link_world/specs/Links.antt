@@ -1,30 +1,29 @@
 -- What two ends and a log stand for.
 use Rattle.std.specs.Prelude.{◌≡◌}
 use Rattle.book_base.specs.declared.end.End.{End}
-use Rattle.book_base.specs.declared.end.End.TheVariants.{A, B}
 use Rattle.book_link.specs.Worlds.{Setup, World, pair_of, side as side_of}
+use Rattle.both_ends.specs.declared.values.BothEnds.{BothEnds}
+use Rattle.both_ends.specs.Values.{at}
 use Rattle.link_log.specs.declared.log.Log.{Log}
 use Rattle.link_log.specs.Logs.{StandsLog}
 use Rattle.link_side.specs.declared.side.Side.{Side}
-use Rattle.link_side.specs.Sides.{StandsSide}
+use Rattle.link_side.specs.Sides.{StandsSide, sockets_of}
 
 -- two ends and a log stand for a world of a link: its two ends, and its history
-pub record StandsLink (a b : Side) (log : Log) (setup : Setup) (w : World) : Type 0 where
-  pub a_pair : pair_of setup A ≡ a.pair
-  pub b_pair : pair_of setup B ≡ b.pair
-  pub a_is : StandsSide a w.a
-  pub b_is : StandsSide b w.b
+pub record StandsLink (sides : BothEnds Side) (log : Log) (setup : Setup) (w : World) : Type 0 where
+  pub pair_is : (e : End) → pair_of setup e ≡ sockets_of (at e sides)
+  pub side_is : (e : End) → StandsSide (at e sides) (side_of w e)
   pub log_is : StandsLog log w.history
 
 -- two ends and a log are those of a link: they stand for some world of it
-pub record AreOfLink (a b : Side) (log : Log) : Type 0 where
+pub record AreOfLink (sides : BothEnds Side) (log : Log) : Type 0 where
   pub setup : Setup
   pub world : World
-  pub stands : StandsLink a b log setup world
+  pub stands : StandsLink sides log setup world
 
 -- a side and a log stand for one end of a world of a link, and for its history
 pub record StandsAt (e : End) (d : Side) (log : Log) (setup : Setup) (w : World) : Type 0 where
-  pub pair_is : pair_of setup e ≡ d.pair
+  pub pair_is : pair_of setup e ≡ sockets_of d
   pub side_is : StandsSide d (side_of w e)
   pub log_is : StandsLog log w.history
 

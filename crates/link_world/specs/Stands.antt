@@ -26,7 +26,7 @@ segments_made w = made_count w.log
 -- a world stands for the run of these events: its ends, its history, and its outcomes; the setup and
 -- each event are what their types and the calls let be
 pub record StandsFor (w : World) (setup : book.Setup) (events : List Event) : Type 0 where
-  pub link : StandsLink w.a w.b w.log setup (run setup events)
+  pub link : StandsLink w.sides w.log setup (run setup events)
   pub shown : AreShown w.outcomes.items (outcomes_from setup (empty setup) events)
   pub setup_fits : SetupFits setup
   pub events_fit : AllByRecursion EventFits events

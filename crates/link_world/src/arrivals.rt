@@ -10,7 +10,7 @@ ghost use Rattle.book_endpoint.specs.Verdicts.{Finding};
 ghost use Rattle.tcp_options.specs.Views.{view_ao};
 ghost use Rattle.tcp_endpoint.specs.Arrivals.{TellsPassed, found_of};
 ghost use Rattle.book_link.specs.Worlds.{Happening, Setup, World, forged, pair_of, side as side_of};
-ghost use Rattle.link_side.specs.Sides.{StandsSide};
+ghost use Rattle.link_side.specs.Sides.{StandsSide, sockets_of};
 ghost use Rattle.link_log.specs.Logs.{StandsLog, forgery_count, made_count};
 ghost use Rattle.link_world.specs.Changes.{Acts, by_bytes, by_event};
 ghost use Rattle.link_world.specs.Links.{AreOfEnd, StandsAt};
@@ -74,7 +74,7 @@ fn is_forged(
 /// Bytes that are no datagram, by this fault, come to the live session of the end: they are no
 /// forgery. None where there is no session.
 fn unread(side: &Side, fault: DatagramFault) -> Option<Answered>
-    ensures { (setup : Setup) (w : World) (at : End) (bytes : List ℕ) → reading bytes ≡ Bad fault → pair_of setup at ≡ side.now.pair → StandsSide side.now (side_of w at)
+    ensures { (setup : Setup) (w : World) (at : End) (bytes : List ℕ) → reading bytes ≡ Bad fault → pair_of setup at ≡ sockets_of side.now → StandsSide side.now (side_of w at)
         → HasReceived w (by_bytes at bytes setup w) at side.now result }
 {
     match side.come_unread(fault) {
@@ -100,7 +100,7 @@ fn come<L: Ledger>(
     requires parts { blank.parts ≡ L.parts }
     requires part { 0 < blank.parts }
     requires at { ∥ AreOfEnd at side.old log.now ∥₁ }
-    ensures pair { side.new.pair ≡ side.old.pair }
+    ensures pair { sockets_of side.new ≡ sockets_of side.old }
     ensures received { (setup : Setup) (w : World) → StandsAt at side.old log.now setup w → HasReceived w (by_bytes at bytes.now setup w) at side.new result }
 {
     let datagram = match read_datagram(bytes) {

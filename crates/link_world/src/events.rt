@@ -13,6 +13,7 @@ use crate::send::send;
 use crate::texts::dump;
 use book_base::End;
 use book_link::{Action, Event, Transmission};
+use both_ends::BothEnds;
 use link_log::Log;
 use link_report::Outcome;
 use link_side::Side;
@@ -61,23 +62,19 @@ fn act(
 
 /// An event of a link: an action at its end, or a look at the log.
 pub(crate) fn happen(
-    a: &mut Side,
-    b: &mut Side,
+    sides: &mut BothEnds<Side>,
     log: &mut Log,
     alloc: Global,
     event: &Event,
 ) -> Result<Outcome, AllocError>
-    requires link { ∥ AreOfLink a.old b.old log.old ∥₁ }
+    requires link { ∥ AreOfLink sides.old log.old ∥₁ }
     requires made { made_count log.old < 4294967295 }
     requires forged { forgery_count log.old < 4294967295 }
     requires event { CanHappen event.now }
-    ensures { Happens a.old b.old a.new b.new log.old log.new (by_event event.now) result }
+    ensures { Happens sides.old sides.new log.old log.new (by_event event.now) result }
 {
     match event {
-        Event::At(end, action) => match end {
-            End::A => act(a, log, alloc, *end, action),
-            End::B => act(b, log, alloc, *end, action),
-        },
+        Event::At(end, action) => act(sides.at_mut(*end), log, alloc, *end, action),
         Event::Dump(name) => dump(log, alloc, *name),
     }
 }

@@ -7,7 +7,7 @@ ghost use Rattle.book_link.specs.Steps.{step};
 ghost use Rattle.book_link.specs.Worlds.{Setup, World, pair_of, side as side_of};
 ghost use Rattle.link_report.specs.Outcomes.{Shows};
 ghost use Rattle.link_side.specs.Segments.{HasSent, length_sent, quiet, sending};
-ghost use Rattle.link_side.specs.Sides.{StandsSide};
+ghost use Rattle.link_side.specs.Sides.{StandsSide, sockets_of};
 ghost use Rattle.link_world.specs.Changes.{Acts, by_event};
 ghost use Rattle.link_world.specs.Links.{AreOfEnd};
 
@@ -46,8 +46,8 @@ fn send_counted<L: Ledger>(
     requires parts { blank.parts ≡ L.parts }
     requires part { 0 < blank.parts }
     requires room { 1500 ≤ length out.old }
-    ensures pair { side.new.pair ≡ side.old.pair }
-    ensures sent { (setup : Setup) (w : World) (e : End) → pair_of setup e ≡ side.old.pair → StandsSide side.old (side_of w e)
+    ensures pair { sockets_of side.new ≡ sockets_of side.old }
+    ensures sent { (setup : Setup) (w : World) (e : End) → pair_of setup e ≡ sockets_of side.old → StandsSide side.old (side_of w e)
         → HasSent w (step setup w (At e (sending transmission))) transmission e side.new out.old out.new result }
     ensures short { length_sent result ≤ 1500 }
 {

@@ -24,10 +24,7 @@ impl World {
         ensures { (setup : Link) (events : List Happening) → StandsFor self.now setup events
             → StandsSide result.now (side (run setup events) end) }
     {
-        match end {
-            End::A => &self.a,
-            End::B => &self.b,
-        }
+        self.sides.at(end)
     }
 
     /// The end's clock, in seconds since 1970, at most LATEST.

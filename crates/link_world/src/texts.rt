@@ -35,7 +35,8 @@ impl World {
         ensures { IfOk result (λ text. (setup : Link) (events : List Happening) → StandsFor self.now setup events → text ≡ summary (run setup events)) }
     {
         let mut out = Vec::new(alloc);
-        push_summary(&mut out, &self.a, &self.b, self.made(), self.forgeries())?;
+        let sides = &self.sides;
+        push_summary(&mut out, &sides.a, &sides.b, self.made(), self.forgeries())?;
         Ok(Bytes::from_vec(out))
     }
 
@@ -46,7 +47,8 @@ impl World {
     {
         let mut out = Vec::new(alloc);
         push_outcomes(&mut out, self.outcomes.as_slice())?;
-        push_summary(&mut out, &self.a, &self.b, self.made(), self.forgeries())?;
+        let sides = &self.sides;
+        push_summary(&mut out, &sides.a, &sides.b, self.made(), self.forgeries())?;
         Ok(Bytes::from_vec(out))
     }
 }

@@ -21,6 +21,7 @@ use crate::room::room_for;
 use crate::setup::{Setup, take_table};
 use book_base::Pair;
 use book_link::Event;
+use both_ends::BothEnds;
 use link_log::Log;
 use link_report::Outcome;
 use link_side::Side;
@@ -29,11 +30,10 @@ use std::alloc::{AllocError, Global};
 /// A link between two ends: all that happened, and what each event answered.
 #[derive(Drop)]
 pub struct World {
-    pub(crate) a: Side,
-    pub(crate) b: Side,
+    pub(crate) sides: BothEnds<Side>,
     pub(crate) log: Log,
     pub(crate) outcomes: Vec<Outcome>,
-    ghost link: { ∥ AreOfLink a b log ∥₁ },
+    ghost link: { ∥ AreOfLink sides log ∥₁ },
     ghost few: { length outcomes.items < 2 ^ 32 },
     ghost made: { made_count log ≤ length outcomes.items },
     ghost forged: { forgery_count log ≤ length outcomes.items },
@@ -64,8 +64,10 @@ impl World {
             remote: a,
         };
         Ok(World {
-            a: Side::new(alloc, a_pair, a_table),
-            b: Side::new(alloc, b_pair, b_table),
+            sides: BothEnds {
+                a: Side::new(alloc, a_pair, a_table),
+                b: Side::new(alloc, b_pair, b_table),
+            },
             log: Log::new(alloc),
             outcomes: Vec::new(alloc),
         })
@@ -97,7 +99,7 @@ impl World {
         see_event(event);
         self.outcomes.reserve(1)?;
         let room = room_for(&self.log, alloc, event)?;
-        let outcome = happen(&mut self.a, &mut self.b, &mut self.log, alloc, event)?;
+        let outcome = happen(&mut self.sides, &mut self.log, alloc, event)?;
         let told = outcome.copied(room);
         let pushed: Result<_, _> = self.outcomes.push(outcome);
         pushed.unwrap();

@@ -4,6 +4,8 @@ use Rattle.book_keys.specs.Rows.{Row}
 use Rattle.book_link.specs.Runs.{empty}
 use Rattle.link_report.specs.declared.outcome.Outcome.{Outcome}
 use Rattle.link_report.specs.Outcomes.{AreShown}
+use Rattle.both_ends.specs.declared.values.BothEnds.{BothEnds}
+use Rattle.link_side.specs.declared.side.Side.{Side}
 use Rattle.link_side.specs.Sides.{StandsSide}
 use Rattle.link_world.specs.Stands.{setup_of}
 use Rattle.link_world.proofs.SetupLaws.{apart}
@@ -23,11 +25,12 @@ invariant_of-result c =
     let none = ap length c.new-4.ensures.items in
     let made = c.new-3.ensures.made in
     let forged = c.new-3.ensures.forgeries in
+    let sides : BothEnds Side = record { a = c.new.result; b = c.new-2.result } in
     record {
       link = ∣ record {
         setup = setup;
         world = empty setup;
-        stands = begun setup c.new.result c.new-2.result c.new-3.result c.new.ensures.pair c.new-2.ensures.pair a_is b_is c.new-3.ensures.stands;
+        stands = begun setup sides c.new-3.result c.new.ensures.pair c.new-2.ensures.pair a_is b_is c.new-3.ensures.stands;
       } ∣₁;
       few = omega (arith, none);
       made = omega (arith, made);
@@ -42,8 +45,9 @@ returns-clause-stands c =
     c.take_table-b_table.ensures.taken ∙ c.take_table-a_table.ensures.others s.b.address (apart s.a.address s.b.address c.requires.family) in
     let a_is = subst (λ (rows : List Row). StandsSide c.new.result (record { clock = 0; rows = rows; sessions = [] })) c.take_table-a_table.ensures.taken c.new.ensures.stands in
     let b_is = subst (λ (rows : List Row). StandsSide c.new-2.result (record { clock = 0; rows = rows; sessions = [] })) b_rows c.new-2.ensures.stands in
+    let sides : BothEnds Side = record { a = c.new.result; b = c.new-2.result } in
     record {
-      link = begun setup c.new.result c.new-2.result c.new-3.result c.new.ensures.pair c.new-2.ensures.pair a_is b_is c.new-3.ensures.stands;
+      link = begun setup sides c.new-3.result c.new.ensures.pair c.new-2.ensures.pair a_is b_is c.new-3.ensures.stands;
       shown = subst (λ (os : List Outcome). AreShown os []) (sym c.new-4.ensures.items) tt;
       setup_fits = setup_fits setup c.see_sockets.ensures
           (subst (AllByRecursion RowFits) c.take_table-a_table.ensures.taken c.see_rows.ensures)

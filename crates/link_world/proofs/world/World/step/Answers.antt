@@ -20,7 +20,7 @@ invariant_of-self-in-Break-branch-3 c =
     let old_made = w.made in
     let old_forged = w.forged in
     record {
-      link = ∥∥₁_map w.link (rested_of w.a w.b c.happen.new.a c.happen.new.b w.log c.happen.new.log c.in_err-outcome.ensures);
+      link = ∥∥₁_map w.link (rested_of w.sides c.happen.new.sides w.log c.happen.new.log c.in_err-outcome.ensures);
       few = omega (arith, few, same);
       made = omega (arith, made, old_made, same);
       forged = omega (arith, forged, old_forged, same);
@@ -55,7 +55,7 @@ invariant_of-self-2 c =
     let old_made = w.made in
     let old_forged = w.forged in
     record {
-      link = ∥∥₁_map w.link (moved_of w.a w.b c.happen.new.a c.happen.new.b w.log c.happen.new.log c.args.event.now o c.in_ok-outcome.ensures);
+      link = ∥∥₁_map w.link (moved_of w.sides c.happen.new.sides w.log c.happen.new.log c.args.event.now o c.in_ok-outcome.ensures);
       few = omega (arith, few, long);
       made = omega (arith, made, old_made, long);
       forged = omega (arith, forged, old_forged, long);
