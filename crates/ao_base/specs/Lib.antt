@@ -1,3 +1,4 @@
+pub mod Adapters
 pub mod Buffered
 pub mod Cuts
 pub mod Fillings

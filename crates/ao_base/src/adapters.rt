@@ -1,6 +1,7 @@
 //! Readers and writers of std as sources and sinks.
 ghost use Rattle.std.specs.Prelude.{◌≡◌, ℕ};
-ghost use Rattle.ao_base.specs.Outside.{Side, Reads, Writes, CountsOnce, wary};
+ghost use Rattle.ao_base.specs.Adapters.{side_of_sink, side_of_source, sink_over, source_over};
+ghost use Rattle.ao_base.specs.Outside.{Side, Reads, Writes, CountsOnce};
 
 use crate::outside::{Failed, Sink, Source};
 use std::io::{Read, Write};
@@ -16,19 +17,19 @@ pub struct ReadSource<R> {
 impl<R: Read> ReadSource<R> {
     /// The source that gives what the reader has left.
     pub fn new(reader: R) -> ReadSource<R>
-        ensures { result ≡ record { reader = reader; faults = 0 } }
+        ensures { result ≡ source_over reader }
     {
         ReadSource { reader, faults: 0 }
     }
 }
 
 impl<R: Read> Source for ReadSource<R> {
-    ghost side = { λ s. wary (R.remaining s.reader) s.faults };
+    ghost side = { side_of_source R.remaining };
 
     /// What the reader gives. The count rises by one at Failed, and stays as it was at Ok.
     fn read(&mut self, buf: &mut [u8]) -> Result<usize, Failed>
-        ensures reads { Reads (wary (R.remaining self.old.reader) self.old.faults) (wary (R.remaining self.new.reader) self.new.faults) buf.new result }
-        ensures counts { CountsOnce self.old.faults self.new.faults result }
+        ensures reads { Reads (side_of_source R.remaining self.old) (side_of_source R.remaining self.new) buf.new result }
+        ensures counts { CountsOnce (side_of_source R.remaining self.old).faults (side_of_source R.remaining self.new).faults result }
     {
         match self.reader.read(buf) {
             Ok(n) => Ok(n),
@@ -52,19 +53,19 @@ pub struct WriteSink<W> {
 impl<W: Write> WriteSink<W> {
     /// The sink that puts what it takes into the writer.
     pub fn new(writer: W) -> WriteSink<W>
-        ensures { result ≡ record { writer = writer; faults = 0 } }
+        ensures { result ≡ sink_over writer }
     {
         WriteSink { writer, faults: 0 }
     }
 }
 
 impl<W: Write> Sink for WriteSink<W> {
-    ghost side = { λ s. wary (W.contents s.writer) s.faults };
+    ghost side = { side_of_sink W.contents };
 
     /// What the writer takes. The count rises by one at Failed, and stays as it was at Ok.
     fn write(&mut self, buf: &[u8]) -> Result<usize, Failed>
-        ensures writes { Writes (wary (W.contents self.old.writer) self.old.faults) (wary (W.contents self.new.writer) self.new.faults) buf.now result }
-        ensures counts { CountsOnce self.old.faults self.new.faults result }
+        ensures writes { Writes (side_of_sink W.contents self.old) (side_of_sink W.contents self.new) buf.now result }
+        ensures counts { CountsOnce (side_of_sink W.contents self.old).faults (side_of_sink W.contents self.new).faults result }
     {
         match self.writer.write(buf) {
             Ok(n) => {

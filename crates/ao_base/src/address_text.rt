@@ -51,25 +51,13 @@ fn read_octet(word: &[u8]) -> Option<u8>
     if has_leading_zero(word) {
         return None;
     }
-    match read_decimal(word) {
-        Some(number) => {
-            if number < 256 {
-                Some(number as u8)
-            } else {
-                None
-            }
-        }
-        None => None,
-    }
+    u8::try_from(read_decimal(word)?).ok()
 }
 
 fn has_leading_zero(word: &[u8]) -> bool
     ensures { result ≡ has_leading_zero word.now }
 {
-    match word {
-        [first, _, ..] => *first == b'0',
-        _ => false,
-    }
+    matches!(word, [b'0', _, ..])
 }
 
 // What stands before and after the first dot.

@@ -9,11 +9,10 @@ use book_base::{Address, Socket};
 pub fn is_one_family(one: &Address, other: &Address) -> bool
     ensures { result ≡ same_family one.now other.now }
 {
-    match (one, other) {
-        (Address::V4(_), Address::V4(_)) => true,
-        (Address::V6(_), Address::V6(_)) => true,
-        _ => false,
-    }
+    matches!(
+        (one, other),
+        (Address::V4(_), Address::V4(_)) | (Address::V6(_), Address::V6(_))
+    )
 }
 
 /// Whether the two are one address: of one family, with the same bytes.

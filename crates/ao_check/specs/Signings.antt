@@ -10,7 +10,7 @@ use Rattle.book_keys.specs.Rows.{Row}
 use Rattle.tcp_segment.specs.declared.spelling.Head.{Head}
 use Rattle.book_segments.specs.Options.{Ao}
 use Rattle.tcp_segment.specs.Layout.{drafted, mss_length}
-use Rattle.tcp_segment.specs.Drafts.{DatagramMut, Drafted}
+use Rattle.tcp_segment.specs.Drafts.{DatagramMut, Drafted, HasMacField}
 use Rattle.ao_check.specs.Bonds.{Bond}
 use Rattle.ao_check.specs.Contexts.{IsPlanned}
 
@@ -27,7 +27,7 @@ pub record IsToSign (d : DatagramMut) (a : Bond) : Type 0 where
 
 -- the MAC field has the length of the row's MACs
 abbrev pub has_field : DatagramMut → Row → Type 0
-has_field d r = d.mac + mac_length_of r.algorithm ≡ d.payload
+has_field d r = HasMacField d (mac_length_of r.algorithm)
 
 -- a row of the other end takes what this row signs: the same algorithm, key and flag (RFC 5925, section 3.1)
 pub record SameTuple (r o : Row) : Type 0 where

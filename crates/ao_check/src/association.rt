@@ -10,7 +10,7 @@ ghost use Rattle.book_keys.specs.Coordination.{choose, current_after, follow};
 ghost use Rattle.book_endpoint.specs.Verdicts.{judge};
 ghost use Rattle.tcp_segment.specs.declared.spelling.Head.{Head};
 ghost use Rattle.tcp_segment.specs.Layout.{drafted};
-ghost use Rattle.tcp_segment.specs.Drafts.{Drafted};
+ghost use Rattle.tcp_segment.specs.Drafts.{Drafted, InOneBuffer};
 ghost use Rattle.ao_mac.specs.Sealed.{IsSealed};
 ghost use Rattle.book_macs.specs.Contexts.{bytes_of};
 ghost use Rattle.ao_kdf.specs.declared.way.Way.TheVariants.{Inbound, Outbound};
@@ -204,7 +204,7 @@ impl Association {
         requires draft { IsToSign datagram.old self.old }
         requires field { (d : Row) → has_field datagram.old (slice_index_or table.now.rows (sending.now.row - 1) d) }
         requires number { number ≤ 2 ^ 63 }
-        ensures same_buffer { datagram.new.out.ghost_name ≡ datagram.old.out.ghost_name }
+        ensures same_buffer { InOneBuffer datagram.old datagram.new }
         ensures context { (h : Head) (old payload rest : List ℕ) → Drafted datagram.old h old payload rest
             → context_of (drafted h old payload) (Some self.old.own) self.old.peer ≡ Some (bytes_of result) }
         ensures sealed { (h : Head) (old payload rest : List ℕ) (r : Row) → Drafted datagram.old h old payload rest

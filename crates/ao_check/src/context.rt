@@ -37,18 +37,9 @@ pub(crate) fn context_of(
         if !datagram.has(Flag::Ack) {
             return Some(between(datagram, datagram.sequence(), 0));
         }
-        return match dest_isn {
-            Some(dest_isn) => Some(between(datagram, datagram.sequence(), dest_isn)),
-            None => None,
-        };
+        return Some(between(datagram, datagram.sequence(), dest_isn?));
     }
-    match source_isn {
-        Some(source_isn) => match dest_isn {
-            Some(dest_isn) => Some(between(datagram, source_isn, dest_isn)),
-            None => None,
-        },
-        None => None,
-    }
+    Some(between(datagram, source_isn?, dest_isn?))
 }
 
 /// The number of a segment: with SYN its sequence, else what that means near the number expected

@@ -1,7 +1,7 @@
 //! The MAC of a segment that is being written.
-ghost use Rattle.std.specs.Prelude.{◌≡◌, ◌+◌, ℕ, List, length};
+ghost use Rattle.std.specs.Prelude.{◌≡◌, ℕ, List, length};
 ghost use Rattle.book_base.specs.Algorithms.{mac_length_of};
-ghost use Rattle.tcp_segment.specs.Drafts.{Drafted};
+ghost use Rattle.tcp_segment.specs.Drafts.{Drafted, HasMacField, InOneBuffer};
 ghost use Rattle.tcp_segment.specs.declared.spelling.Head.{Head};
 ghost use Rattle.book_base.specs.declared.algorithm.Algorithm.TheVariants.{AesCmac};
 ghost use Rattle.ao_mac.specs.Sealed.{IsSealed};
@@ -23,9 +23,9 @@ pub fn seal(
     datagram: &mut DatagramMut<'_>,
     with_options: bool,
 )
-    requires field { datagram.old.mac + mac_length_of alg ≡ datagram.old.payload }
+    requires field { HasMacField datagram.old (mac_length_of alg) }
     requires key { alg ≡ AesCmac → length key.now ≡ 16 }
-    ensures same_buffer { datagram.new.out.ghost_name ≡ datagram.old.out.ghost_name }
+    ensures same_buffer { InOneBuffer datagram.old datagram.new }
     ensures sealed { (h : Head) (old payload rest : List ℕ) → Drafted datagram.old h old payload rest
         → IsSealed datagram.new h old payload rest alg key.now sne with_options }
 {

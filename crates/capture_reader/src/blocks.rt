@@ -4,9 +4,9 @@ ghost use Rattle.book_captures.specs.Blocks.{told_order as order_told, order_at 
 ghost use Rattle.capture_reader.specs.Found.{Gives, seen_block, as_it_is};
 ghost use Rattle.capture_reader.specs.Places.{placed};
 
-use crate::numbers::four;
 use book_captures::BlockFault;
 use book_pcap::ByteOrder;
+use pcap_file::u32_at;
 
 /// The type of the header of a section, in either order (section 4.1 of the format).
 pub(crate) const SECTION_HEADER: u32 = 0x0a0d_0d0a;
@@ -70,7 +70,7 @@ pub(crate) fn place_block(section: Option<ByteOrder>, text: &[u8]) -> Result<Blo
         return Err(BlockFault::Short);
     }
     let order = order_at(section, text)?;
-    let len = four(order, text, 4);
+    let len = u32_at(order, text, 4);
     match length_fault(len) {
         Some(why) => Err(why),
         None => whole_block(order, len as usize, text),
@@ -82,16 +82,16 @@ pub(crate) fn order_at(section: Option<ByteOrder>, text: &[u8]) -> Result<ByteOr
     requires { 12 ≤ length text.now }
     ensures { Gives as_it_is result (order_in section text.now) }
 {
-    if four(ByteOrder::Big, text, 0) != SECTION_HEADER {
+    if u32_at(ByteOrder::Big, text, 0) != SECTION_HEADER {
         return match section {
             Some(order) => Ok(order),
             None => Err(BlockFault::NoSection),
         };
     }
-    if four(ByteOrder::Big, text, 8) == BYTE_ORDER_MAGIC {
+    if u32_at(ByteOrder::Big, text, 8) == BYTE_ORDER_MAGIC {
         return Ok(ByteOrder::Big);
     }
-    if four(ByteOrder::Little, text, 8) == BYTE_ORDER_MAGIC {
+    if u32_at(ByteOrder::Little, text, 8) == BYTE_ORDER_MAGIC {
         return Ok(ByteOrder::Little);
     }
     Err(BlockFault::Order)
@@ -123,9 +123,9 @@ fn whole_block(order: ByteOrder, len: usize, text: &[u8]) -> Result<BlockPlace, 
     if text.len() < len {
         return Err(BlockFault::Short);
     }
-    if four(order, text, len - 4) as usize != len {
+    if u32_at(order, text, len - 4) as usize != len {
         return Err(BlockFault::Trailer);
     }
-    let kind = four(order, text, 0);
+    let kind = u32_at(order, text, 0);
     Ok(BlockPlace { order, kind, len })
 }

@@ -3,9 +3,9 @@ ghost use Rattle.std.specs.Prelude.{◌≡◌, ◌<◌, ◌==◌, ◌&&◌, leng
 ghost use Rattle.book_captures.specs.BlockContents.{resolution_of as resolution_of_byte, resolution_told as resolution_told_by, option_in as value_of_option, eight_at, offset_of as offset_told, offset_by as offset_told_by, interface_in, stamped_in, enhanced_in, old_in, simple_length as length_of_simple, simple_in, padded_length};
 ghost use Rattle.capture_reader.specs.Found.{Gives, as_it_is, seen_stamped, seen_plain};
 
-use crate::numbers::{four, two};
 use book_captures::{BodyFault, Interface, TimeOffset, TimeResolution};
 use book_pcap::ByteOrder;
+use pcap_file::{u16_at, u32_at};
 
 /// A packet with its time, as a block keeps it.
 #[derive(Clone, Copy, Debug)]
@@ -39,8 +39,8 @@ pub fn read_interface(order: ByteOrder, body: &[u8]) -> Result<Interface, BodyFa
     }
     let (_fields, options) = body.split_at(8);
     Ok(Interface {
-        link: two(order, body, 0) as u32,
-        snapshot: four(order, body, 4),
+        link: u16_at(order, body, 0) as u32,
+        snapshot: u32_at(order, body, 4),
         resolution: resolution_in(order, options, body.len()),
         offset: offset_in(order, options, body.len()),
     })
@@ -57,11 +57,11 @@ fn option_in(order: ByteOrder, code: u16, size: usize, options: &[u8], most: usi
         if options.len() < 4 + size {
             return None;
         }
-        let kind = two(order, options, 0);
+        let kind = u16_at(order, options, 0);
         if kind == 0 {
             return None;
         }
-        let len = two(order, options, 2);
+        let len = u16_at(order, options, 2);
         if is_option(kind, len, code, size) {
             return Some(&options[4..4 + size]);
         }
@@ -113,8 +113,8 @@ fn eight(order: ByteOrder, bytes: &[u8]) -> u64
     requires { length bytes.now ≡ 8 }
     ensures { result ≡ eight_at order bytes.now }
 {
-    let first = four(order, bytes, 0) as u64;
-    let second = four(order, bytes, 4) as u64;
+    let first = u32_at(order, bytes, 0) as u64;
+    let second = u32_at(order, bytes, 4) as u64;
     match order {
         ByteOrder::Big => first * 0x1_0000_0000 + second,
         ByteOrder::Little => first + second * 0x1_0000_0000,
@@ -158,7 +158,7 @@ pub fn read_enhanced(order: ByteOrder, body: &[u8]) -> Result<Stamped<'_>, BodyF
     if body.len() < 20 {
         return Err(BodyFault::Short);
     }
-    packet_in(order, four(order, body, 0), body)
+    packet_in(order, u32_at(order, body, 0), body)
 }
 
 /// The packet in the body of an old block, of type 2. Short: the body has no room for it.
@@ -169,7 +169,7 @@ pub fn read_old(order: ByteOrder, body: &[u8]) -> Result<Stamped<'_>, BodyFault>
     if body.len() < 20 {
         return Err(BodyFault::Short);
     }
-    packet_in(order, two(order, body, 0) as u32, body)
+    packet_in(order, u16_at(order, body, 0) as u32, body)
 }
 
 // The packet in the body of a block, of the interface of this number.
@@ -179,13 +179,13 @@ fn packet_in(order: ByteOrder, interface: u32, body: &[u8]) -> Result<Stamped<'_
     if body.len() < 20 {
         return Err(BodyFault::Short);
     }
-    let kept = four(order, body, 12) as usize;
+    let kept = u32_at(order, body, 12) as usize;
     if body.len() < 20 + kept {
         return Err(BodyFault::Short);
     }
-    let high = four(order, body, 4) as u64;
-    let count = high * 0x1_0000_0000 + four(order, body, 8) as u64;
-    let original = four(order, body, 16);
+    let high = u32_at(order, body, 4) as u64;
+    let count = high * 0x1_0000_0000 + u32_at(order, body, 8) as u64;
+    let original = u32_at(order, body, 16);
     let (_fields, behind) = body.split_at(20);
     let (bytes, _padding) = behind.split_at(kept);
     Ok(Stamped {
@@ -205,7 +205,7 @@ pub fn read_simple(order: ByteOrder, snapshot: u32, body: &[u8]) -> Result<Plain
     if body.len() < 4 {
         return Err(BodyFault::Short);
     }
-    let original = four(order, body, 0);
+    let original = u32_at(order, body, 0);
     let kept = simple_length(snapshot, original) as usize;
     if body.len() < 4 + kept {
         return Err(BodyFault::Short);

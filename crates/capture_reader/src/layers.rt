@@ -5,9 +5,9 @@ ghost use Rattle.book_pcap.specs.Packets.{four_at};
 ghost use Rattle.capture_reader.specs.Found.{Gives, layer};
 
 use crate::numbered::{ethertype, family, ppp};
-use crate::numbers::{four, two};
 use book_captures::{Header, LinkType, Protocol, Skipped};
 use book_pcap::ByteOrder;
+use pcap_file::{u16_at, u32_at};
 
 /// What follows the headers so far.
 #[derive(Clone, Copy, Debug)]
@@ -61,9 +61,9 @@ fn protocol_in(link: LinkType, frame: &[u8]) -> Protocol
     ensures { result ≡ protocol_told link frame.now }
 {
     match link {
-        LinkType::Ethernet => ethertype(two(ByteOrder::Big, frame, 12)),
-        LinkType::LinuxCooked => ethertype(two(ByteOrder::Big, frame, 14)),
-        LinkType::LinuxCookedV2 => ethertype(two(ByteOrder::Big, frame, 0)),
+        LinkType::Ethernet => ethertype(u16_at(ByteOrder::Big, frame, 12)),
+        LinkType::LinuxCooked => ethertype(u16_at(ByteOrder::Big, frame, 14)),
+        LinkType::LinuxCookedV2 => ethertype(u16_at(ByteOrder::Big, frame, 0)),
         LinkType::BsdLoopback => loopback_protocol(frame),
         LinkType::RawIp => Protocol::Ip,
         LinkType::RawIpv4 => Protocol::Ipv4,
@@ -76,8 +76,8 @@ fn loopback_protocol(frame: &[u8]) -> Protocol
     requires { 4 ≤ length frame.now }
     ensures { result ≡ or_else (family (four_at ByteOrder.Big frame.now 0)) (family (four_at ByteOrder.Little frame.now 0)) }
 {
-    match family(four(ByteOrder::Big, frame, 0)) {
-        Protocol::Other => family(four(ByteOrder::Little, frame, 0)),
+    match family(u32_at(ByteOrder::Big, frame, 0)) {
+        Protocol::Other => family(u32_at(ByteOrder::Little, frame, 0)),
         known => known,
     }
 }
@@ -93,7 +93,7 @@ fn pass_tags(protocol: Protocol, body: &[u8]) -> Result<Follows<'_>, Skipped>
         if body.len() < 4 {
             return Err(Skipped::Short(Header::Tag));
         }
-        protocol = ethertype(two(ByteOrder::Big, body, 2));
+        protocol = ethertype(u16_at(ByteOrder::Big, body, 2));
         let (_tag, rest) = body.split_at(4);
         body = rest;
     }
@@ -111,10 +111,10 @@ fn pass_session(protocol: Protocol, body: &[u8]) -> Result<Follows<'_>, Skipped>
     if body.len() < 8 {
         return Err(Skipped::Short(Header::Session));
     }
-    if two(ByteOrder::Big, body, 0) != 0x1100 {
+    if u16_at(ByteOrder::Big, body, 0) != 0x1100 {
         return Err(Skipped::NotSession);
     }
-    let protocol = ppp(two(ByteOrder::Big, body, 6));
+    let protocol = ppp(u16_at(ByteOrder::Big, body, 6));
     let (_header, body) = body.split_at(8);
     Ok(Follows { protocol, body })
 }

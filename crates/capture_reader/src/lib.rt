@@ -11,7 +11,6 @@ mod frames;
 mod layers;
 mod measures;
 mod numbered;
-mod numbers;
 mod parts;
 mod pcap_files;
 mod sizes;

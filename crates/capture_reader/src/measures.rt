@@ -2,9 +2,9 @@
 ghost use Rattle.std.specs.Prelude.{◌≡◌, ◌+◌, ◌<◌, ◌^◌, ◌≤◌, length};
 ghost use Rattle.book_captures.specs.Frames.{is_zero as zero_at, told_length as length_told, full_length as length_in_full, extent_of as extent_wanted};
 
-use crate::numbers::two;
 use book_captures::{Extent, IpVersion};
 use book_pcap::ByteOrder;
+use pcap_file::u16_at;
 
 /// Whether the field of IPv4 at this place is 0.
 pub(crate) fn is_zero(version: IpVersion, at: usize, bytes: &[u8]) -> bool
@@ -13,13 +13,7 @@ pub(crate) fn is_zero(version: IpVersion, at: usize, bytes: &[u8]) -> bool
 {
     match version {
         IpVersion::V6 => false,
-        IpVersion::V4 => {
-            if bytes.len() < 20 {
-                false
-            } else {
-                two(ByteOrder::Big, bytes, at) == 0
-            }
-        }
+        IpVersion::V4 => bytes.len() >= 20 && u16_at(ByteOrder::Big, bytes, at) == 0,
     }
 }
 
@@ -32,14 +26,14 @@ fn told_length(version: IpVersion, bytes: &[u8]) -> usize
             if bytes.len() < 20 {
                 20
             } else {
-                two(ByteOrder::Big, bytes, 2) as usize
+                u16_at(ByteOrder::Big, bytes, 2) as usize
             }
         }
         IpVersion::V6 => {
             if bytes.len() < 40 {
                 40
             } else {
-                40 + two(ByteOrder::Big, bytes, 4) as usize
+                40 + u16_at(ByteOrder::Big, bytes, 4) as usize
             }
         }
     }

@@ -7,11 +7,11 @@ ghost use Rattle.capture_reader.specs.FoundParts.{seen_said, seen_part, block_sa
 
 use crate::blocks::{BlockPlace, SECTION_HEADER, place_block};
 use crate::contents::{Stamped, read_enhanced, read_interface, read_old, read_simple};
-use crate::numbers::two;
 use crate::pcap_files::{RECORD_HEAD, read_record};
 use crate::times::nanoseconds;
 use book_captures::{BodyFault, Cause, Format, Interface, PcapHead};
 use book_pcap::ByteOrder;
+use pcap_file::u16_at;
 
 /// The most interfaces that a section may describe.
 pub const MOST_INTERFACES: usize = 4_096;
@@ -167,7 +167,7 @@ fn section_said(
     if body.len() < 16 {
         return Err(BodyFault::Short);
     }
-    if two(order, body, 4) == 1 {
+    if u16_at(order, body, 4) == 1 {
         Ok(PartSays::Section)
     } else {
         Err(BodyFault::Version)

@@ -3,9 +3,9 @@ ghost use Rattle.std.specs.Prelude.{◌≡◌, ◌≤◌, length, IfOk};
 ghost use Rattle.book_captures.specs.PcapFiles.{resolution_by as resolution_told, head_by as head_in, pcap_head, record_time as time_of_record, pcap_record_at};
 ghost use Rattle.capture_reader.specs.Found.{Gives, seen_record};
 
-use crate::numbers::{four, two};
 use book_captures::{PcapHead, PcapHeadFault, RecordFault, Resolution};
 use book_pcap::ByteOrder;
+use pcap_file::{u16_at, u32_at};
 
 /// How many bytes the header has (libpcap, pcap-savefile).
 pub const PCAP_HEAD: usize = 24;
@@ -50,7 +50,7 @@ fn resolution_by(order: ByteOrder, file: &[u8]) -> Option<Resolution>
     requires { 24 ≤ length file.now }
     ensures { result ≡ resolution_told order file.now }
 {
-    match four(order, file, 0) {
+    match u32_at(order, file, 0) {
         0xa1b2_c3d4 => Some(Resolution::Microseconds),
         0xa1b2_3c4d => Some(Resolution::Nanoseconds),
         _ => None,
@@ -62,10 +62,10 @@ fn head_by(order: ByteOrder, resolution: Resolution, file: &[u8]) -> Result<Pcap
     requires { 24 ≤ length file.now }
     ensures { result ≡ head_in order resolution file.now }
 {
-    if two(order, file, 4) != 2 || two(order, file, 6) != 4 {
+    if u16_at(order, file, 4) != 2 || u16_at(order, file, 6) != 4 {
         return Err(PcapHeadFault::Version);
     }
-    let link = four(order, file, 20) % 65_536;
+    let link = u32_at(order, file, 20) % 65_536;
     Ok(PcapHead {
         order,
         resolution,
@@ -84,7 +84,7 @@ pub fn read_record<'a>(
     if text.len() < RECORD_HEAD {
         return Err(RecordFault::Short);
     }
-    let len = four(head.order, text, 8) as usize;
+    let len = u32_at(head.order, text, 8) as usize;
     if MOST_KEPT < len {
         return Err(RecordFault::TooLong);
     }
@@ -92,7 +92,7 @@ pub fn read_record<'a>(
         return Err(RecordFault::Short);
     }
     let time = record_time(head, text);
-    let original = four(head.order, text, 12);
+    let original = u32_at(head.order, text, 12);
     let bytes = &text[RECORD_HEAD..RECORD_HEAD + len];
     let (_record, rest) = text.split_at(RECORD_HEAD + len);
     Ok((
@@ -114,7 +114,7 @@ fn record_time(head: PcapHead, text: &[u8]) -> u64
         Resolution::Microseconds => 1_000,
         Resolution::Nanoseconds => 1,
     };
-    let seconds = four(head.order, text, 0) as u64;
-    let units = four(head.order, text, 4) as u64;
+    let seconds = u32_at(head.order, text, 0) as u64;
+    let units = u32_at(head.order, text, 4) as u64;
     seconds * 1_000_000_000 + units * unit
 }

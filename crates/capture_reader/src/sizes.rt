@@ -7,10 +7,10 @@ ghost use Rattle.capture_reader.specs.Found.{Gives, as_it_is};
 ghost use Rattle.capture_reader.specs.Sizes.{seen_front, needed, head_length, short_of, told_size, record_size as size_of_record, block_size as size_of_block};
 
 use crate::blocks::{LEAST_IN_BLOCK, SECTION_HEADER, length_fault, order_at};
-use crate::numbers::four;
 use crate::pcap_files::{MOST_KEPT, PCAP_HEAD, RECORD_HEAD, read_pcap_head};
 use book_captures::{BlockFault, Cause, Format, RecordFault};
 use book_pcap::ByteOrder;
+use pcap_file::u32_at;
 
 /// How a file begins.
 #[derive(Clone, Copy, Debug, PartialEq, Eq)]
@@ -52,7 +52,7 @@ fn is_pcapng(file: &[u8]) -> bool
     if file.len() < 4 {
         return false;
     }
-    four(ByteOrder::Big, file, 0) == SECTION_HEADER
+    u32_at(ByteOrder::Big, file, 0) == SECTION_HEADER
 }
 
 /// How many bytes of a part tell how many it has.
@@ -84,9 +84,9 @@ pub fn part_size(format: Format, text: &[u8]) -> Result<usize, Cause>
     ensures most { IfOk result (λ n. n ≤ 16777216) }
 {
     match format {
-        Format::Pcap(head) => record_size(four(head.order, text, 8)),
+        Format::Pcap(head) => record_size(u32_at(head.order, text, 8)),
         Format::Pcapng(section) => match order_at(section, text) {
-            Ok(order) => block_size(four(order, text, 4)),
+            Ok(order) => block_size(u32_at(order, text, 4)),
             Err(why) => Err(Cause::Block(why)),
         },
     }

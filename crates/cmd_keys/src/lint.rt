@@ -28,10 +28,7 @@ fn connection_in(mut line: Saying) -> Result<Pair, TextFault>
     ensures { result ≡ at_number line.entry.number (lint_pair_of line.entry.words) }
 {
     let number = line.number;
-    match read_connection(&mut line.words) {
-        Ok(pair) => Ok(pair),
-        Err(kind) => Err(TextFault::Line(number, kind)),
-    }
+    read_connection(&mut line.words).map_err(|kind| TextFault::Line(number, kind))
 }
 
 fn is_aligned(answer: LintAnswer) -> bool

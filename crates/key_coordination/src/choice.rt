@@ -87,10 +87,7 @@ impl Choice {
         ensures low { IfSome result (λ s. 1 ≤ s.row) }
         ensures high { IfSome result (λ s. s.row ≤ length table.now.rows) }
     {
-        let number = match self.row_to_send(table, pair, now) {
-            Some(number) => number,
-            None => return None,
-        };
+        let number = self.row_to_send(table, pair, now)?;
         let row = table.row(number);
         let rnext = rnext_key_id(table, pair, now, row);
         self.current = Some(number);

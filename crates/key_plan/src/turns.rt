@@ -26,10 +26,7 @@ fn is_acceptable(row: &Row, pair: &Pair, time: u64) -> bool
 fn is_number(number: u8, found: Option<u8>) -> bool
     ensures { result ≡ is_number number found }
 {
-    match found {
-        Some(found) => found == number,
-        None => false,
-    }
+    found == Some(number)
 }
 
 /// The second after a time, at an end of a connection that has a table.

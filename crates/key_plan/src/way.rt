@@ -36,13 +36,11 @@ fn wider(one: Option<Margin>, two: Option<Margin>) -> Option<Margin>
 pub(crate) fn narrower(one: Option<Margin>, two: Option<Margin>) -> Option<Margin>
     ensures { result ≡ narrower one two }
 {
-    match one {
-        None => None,
-        Some(Margin::Any) => two,
-        Some(Margin::UpTo(one)) => match two {
-            None => None,
-            Some(Margin::Any) => Some(Margin::UpTo(one)),
-            Some(Margin::UpTo(two)) => Some(Margin::UpTo(one.min(two))),
+    match one? {
+        Margin::Any => two,
+        Margin::UpTo(one) => match two? {
+            Margin::Any => Some(Margin::UpTo(one)),
+            Margin::UpTo(two) => Some(Margin::UpTo(one.min(two))),
         },
     }
 }

@@ -12,24 +12,17 @@ use toml::Table;
 pub fn is_admin_at(table: &Table) -> bool
     ensures { result ≡ is_admin (text_of (codes "AdminKeyName") (table_view table.now)) }
 {
-    match text_at(table, "AdminKeyName") {
-        Some(text) => !text.is_empty() && text.len() <= 255,
-        None => false,
-    }
+    text_at(table, "AdminKeyName").is_some_and(|text| !text.is_empty() && text.len() <= 255)
 }
 
 fn read_id(text: &str) -> Option<u8>
     ensures { result ≡ id_of_text text.now }
 {
-    match read_decimal(text.as_bytes()) {
-        Some(number) => {
-            if number <= GREATEST_KEY_ID {
-                Some(number as u8)
-            } else {
-                None
-            }
-        }
-        None => None,
+    let number = read_decimal(text.as_bytes())?;
+    if number <= GREATEST_KEY_ID {
+        Some(number as u8)
+    } else {
+        None
     }
 }
 
@@ -37,10 +30,7 @@ fn read_id(text: &str) -> Option<u8>
 pub fn id_at(table: &Table, key: &str) -> Option<u8>
     ensures { result ≡ option_and_then id_of_text (text_of key.now (table_view table.now)) }
 {
-    match text_at(table, key) {
-        Some(text) => read_id(text),
-        None => None,
-    }
+    read_id(text_at(table, key)?)
 }
 
 #[tactic(auto, unfolding(book_keys::specs::Columns::ids_of))]

@@ -4,7 +4,7 @@ ghost use Rattle.toml.specs.View.{view, items_view};
 ghost use Rattle.book_keys.specs.Columns.{peer_of_text, peer_of, peer_at, peers_of};
 ghost use Rattle.book_keys.specs.Reading.{ReadingGives, each};
 
-use crate::columns::is_text;
+use crate::columns::{is_text, must};
 use ao_base::read_address;
 use book_base::Address;
 use book_keys::{Column, PEER_LIMIT, TableFault};
@@ -17,20 +17,14 @@ fn read_peer(text: &str) -> Option<Option<Address>>
     if is_text(text, "any") {
         return Some(None);
     }
-    match read_address(text.as_bytes()) {
-        Some(address) => Some(Some(address)),
-        None => None,
-    }
+    read_address(text.as_bytes()).map(Some)
 }
 
 /// The peer that a value writes, `Some(None)` for any; `None` where it writes none.
 pub fn peer_of(value: &Value) -> Option<Option<Address>>
     ensures { result ≡ peer_of (view value.now) }
 {
-    match value.as_str() {
-        Some(text) => read_peer(text),
-        None => None,
-    }
+    read_peer(value.as_str()?)
 }
 
 fn peer_at(node: u8, row: u8, value: &Value) -> Result<Option<Address>, TableFault>
@@ -65,17 +59,7 @@ pub(crate) fn peers_at(
     ensures { ReadingGives (λ v. v.items) result (peers_of node row (option_map (λ v. view v.now) value.entry)) }
 {
     let fault = TableFault::Field(node, row, Column::Peers);
-    match value {
-        Some(value) => match value.as_array() {
-            Some(values) => {
-                if !values.is_empty() && values.len() <= PEER_LIMIT {
-                    each_peer(alloc, node, row, values.as_slice())
-                } else {
-                    Err(fault)
-                }
-            }
-            None => Err(fault),
-        },
-        None => Err(fault),
-    }
+    let values = value.ok_or(fault)?.as_array().ok_or(fault)?;
+    must(!values.is_empty() && values.len() <= PEER_LIMIT, fault)?;
+    each_peer(alloc, node, row, values.as_slice())
 }

@@ -13,28 +13,13 @@ use toml::{Table, Value};
 fn read_port(text: &str) -> Option<u16>
     ensures { result ≡ up_to 65535 (option_and_then decimal_of (Some text.now)) }
 {
-    match read_decimal(text.as_bytes()) {
-        Some(number) => {
-            if number <= 65535 {
-                Some(number as u16)
-            } else {
-                None
-            }
-        }
-        None => None,
-    }
+    u16::try_from(read_decimal(text.as_bytes())?).ok()
 }
 
 fn port_of(value: &Value) -> Option<Option<u16>>
     ensures { result ≡ port_of (Some (view value.now)) }
 {
-    match value.as_str() {
-        Some(text) => match read_port(text) {
-            Some(port) => Some(Some(port)),
-            None => None,
-        },
-        None => None,
-    }
+    read_port(value.as_str()?).map(Some)
 }
 
 /// The port that the value at a key writes, `Some(None)` for any where none stands there; `None` where it writes

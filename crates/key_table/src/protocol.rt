@@ -18,10 +18,7 @@ pub fn is_everywhere(table: &Table) -> bool
     ensures { result ≡ is_absent_or (codes "all") (get_member (codes "Interfaces") (table_view table.now)) }
 {
     match member_at(table, "Interfaces") {
-        Some(value) => match value.as_str() {
-            Some(text) => is_text(text, "all"),
-            None => false,
-        },
+        Some(value) => value.as_str().is_some_and(|text| is_text(text, "all")),
         None => true,
     }
 }
@@ -42,10 +39,7 @@ fn read_options(text: &str) -> Option<bool>
 pub fn options_at(table: &Table) -> Option<bool>
     ensures { result ≡ option_and_then options_flag_of (text_of (codes "ProtocolSpecificInfo") (table_view table.now)) }
 {
-    match text_at(table, "ProtocolSpecificInfo") {
-        Some(text) => read_options(text),
-        None => None,
-    }
+    read_options(text_at(table, "ProtocolSpecificInfo")?)
 }
 
 #[tactic(auto, unfolding(book_keys::specs::Columns::protocol_of))]
@@ -81,10 +75,7 @@ fn read_kdf(text: &str) -> Option<Algorithm>
 pub fn kdf_at(table: &Table) -> Option<Algorithm>
     ensures { result ≡ option_and_then kdf_of (text_of (codes "KDF") (table_view table.now)) }
 {
-    match text_at(table, "KDF") {
-        Some(text) => read_kdf(text),
-        None => None,
-    }
+    read_kdf(text_at(table, "KDF")?)
 }
 
 #[tactic(auto, unfolding(book_keys::specs::Columns::algorithm_at))]

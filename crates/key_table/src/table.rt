@@ -80,10 +80,7 @@ fn latest(rows: &[Row], want: Want, pair: &Pair, now: u64) -> Option<u8>
             ));
         }
     }
-    match found {
-        Some(one) => Some(one.number),
-        None => None,
-    }
+    found.map(|one| one.number)
 }
 
 /// The lowest row that is usable under the id.

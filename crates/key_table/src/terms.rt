@@ -30,19 +30,13 @@ fn read_direction(text: &str) -> Option<Direction>
 pub fn direction_at(table: &Table) -> Option<Direction>
     ensures { result ≡ option_and_then direction_of (text_of (codes "Direction") (table_view table.now)) }
 {
-    match text_at(table, "Direction") {
-        Some(text) => read_direction(text),
-        None => None,
-    }
+    read_direction(text_at(table, "Direction")?)
 }
 
 fn time_of(value: &Value) -> Option<u64>
     ensures { result ≡ time_or 0 (Some (view value.now)) }
 {
-    match value.as_str() {
-        Some(text) => read_time(text),
-        None => None,
-    }
+    read_time(value.as_str()?)
 }
 
 /// The time that the text at a key writes, in seconds since 1970, or what stands for an absent one; `None`

@@ -2,7 +2,7 @@
 ghost use Rattle.std.specs.Prelude.{◌≡◌, length};
 ghost use Rattle.book_pcap.specs.Packets.{order_of, head_of, link_of};
 
-use crate::numbers::{four, two};
+use crate::numbers::{u16_at, u32_at};
 use book_pcap::{ByteOrder, Head, HeadFault, LinkType};
 
 /// How many bytes the header has (pcap-savefile).
@@ -20,20 +20,20 @@ pub(crate) fn read_head(head: &[u8]) -> Result<Head, HeadFault>
     let Some(order) = read_order(head) else {
         return Err(HeadFault::Magic);
     };
-    if two(order, head, 4) != 2 || two(order, head, 6) != 4 {
+    if u16_at(order, head, 4) != 2 || u16_at(order, head, 6) != 4 {
         return Err(HeadFault::Version);
     }
-    read_link(order, four(order, head, 20) % 65536)
+    read_link(order, u32_at(order, head, 20) % 65536)
 }
 
 fn read_order(head: &[u8]) -> Option<ByteOrder>
     requires { length head.now ≡ 24 }
     ensures { result ≡ order_of head.now }
 {
-    if four(ByteOrder::Big, head, 0) == MAGIC {
+    if u32_at(ByteOrder::Big, head, 0) == MAGIC {
         return Some(ByteOrder::Big);
     }
-    if four(ByteOrder::Little, head, 0) == MAGIC {
+    if u32_at(ByteOrder::Little, head, 0) == MAGIC {
         return Some(ByteOrder::Little);
     }
     None

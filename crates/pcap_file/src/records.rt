@@ -7,7 +7,7 @@ ghost use Rattle.pcap_file.specs.Parts.{Opens, Finds};
 ghost use Rattle.pcap_file.specs.Reads.{is_whole};
 
 use crate::head::{HEAD, read_head};
-use crate::numbers::four;
+use crate::numbers::u32_at;
 use ao_base::{Buffer, Cut, Filled, Source, fill};
 use book_pcap::{ByteOrder, Head, HeadFault, LONGEST_DATAGRAM, LinkType};
 
@@ -68,8 +68,8 @@ pub(crate) fn find_record<S: Source>(buffer: &mut Buffer, src: &mut S, order: By
         Filled::Ended => return none_or_broken(buffer.kept()),
         Filled::Enough => {}
     }
-    let seconds = four(order, buffer.kept(), 0);
-    let len = four(order, buffer.kept(), 8) as usize;
+    let seconds = u32_at(order, buffer.kept(), 0);
+    let len = u32_at(order, buffer.kept(), 8) as usize;
     if len > MOST_KEPT {
         return Found::Broken;
     }
@@ -89,8 +89,8 @@ pub(crate) fn kept_record(kept: &[u8], order: ByteOrder) -> Option<(u32, usize)>
     if kept.len() < RECORD {
         return None;
     }
-    let seconds = four(order, kept, 0);
-    let len = four(order, kept, 8) as usize;
+    let seconds = u32_at(order, kept, 0);
+    let len = u32_at(order, kept, 8) as usize;
     if len > MOST_KEPT {
         return None;
     }

@@ -33,11 +33,7 @@ fn sequence_of(number: Counter) -> u32
 fn mss_of(flags: u8, address: &Address) -> Option<u16>
     ensures { result ≡ mss_with flags address.now }
 {
-    if Flag::Syn.is_in(flags) {
-        Some(own_mss(address))
-    } else {
-        None
-    }
+    Flag::Syn.is_in(flags).then_some(own_mss(address))
 }
 
 /// The acknowledgement field: the number expected with ACK, else 0.

@@ -44,10 +44,8 @@ pub fn read_datagram(bytes: &[u8]) -> Result<Datagram<'_>, DatagramFault>
     ensures spelled { IfOk result (λ datagram. Spells datagram (take (length (spell datagram)) bytes.now)) }
     ensures only { (d : Segment) (rest : List ℕ) → Fits d → bytes.now ≡ spell d ++ rest → IsOkAnd result (λ datagram. datagram ≡ d) }
 {
-    match places_in(bytes) {
-        Ok(places) => Ok(Datagram { bytes, places }),
-        Err(fault) => Err(fault),
-    }
+    let places = places_in(bytes)?;
+    Ok(Datagram { bytes, places })
 }
 
 /// The datagram whose parts are at these places.

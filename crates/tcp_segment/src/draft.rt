@@ -1,5 +1,5 @@
 //! A datagram that is being written.
-ghost use Rattle.std.specs.Prelude.{◌≡◌, ◌-◌, ◌≤◌, List, ℕ, length, take, drop};
+ghost use Rattle.std.specs.Prelude.{◌≡◌, ◌≤◌, List, ℕ, length, take};
 ghost use Rattle.std.specs.Borrow.{sem};
 ghost use Rattle.tcp_segment.specs.Layout.{IsFront};
 
@@ -31,11 +31,11 @@ impl<'a> Draft<&'a mut [u8]> {
     ghost use Rattle.book_segments.specs.Spelling.{Fits};
     ghost use Rattle.tcp_segment.specs.declared.spelling.Head.{Head};
     ghost use Rattle.tcp_segment.specs.Layout.{drafted, IsFinished};
-    ghost use Rattle.tcp_segment.specs.Drafts.{Drafted};
+    ghost use Rattle.tcp_segment.specs.Drafts.{Drafted, draft_length};
 
     /// How many bytes the datagram has.
     pub fn len(&self) -> usize
-        ensures { result ≡ self.now.len }
+        ensures { result ≡ draft_length self.now }
     {
         self.len
     }
@@ -57,7 +57,7 @@ impl<'a> Draft<&'a mut [u8]> {
     /// Sets the TCP checksum, and gives the datagram's length. What then stands in front of the
     /// buffer is good, and is read again as the same head, MAC and payload, whatever follows.
     pub fn finish(self) -> usize
-        ensures len { result ≡ self.entry.len }
+        ensures len { result ≡ draft_length self.entry }
         ensures finished { (h : Head) (mac payload rest : List ℕ) → Drafted self.entry h mac payload rest → IsFinished h mac payload rest self.exit.0.now }
     {
         let Draft {
@@ -73,11 +73,12 @@ impl<'a> Draft<&'a mut [u8]> {
 
 impl<B: Room> Draft<B> {
     ghost use Rattle.tcp_segment.specs.Loans.{LendsPayload, LendsMac};
+    ghost use Rattle.tcp_segment.specs.Drafts.{mac_field, payload_field};
 
     /// The payload, for writing.
     pub fn payload_mut(&mut self) -> &mut [u8]
         ensures* writes { sem 𝓛 (LendsPayload B.row B.Room self.entry result) }
-        ensures part { result.now ≡ take (self.old.len - self.old.payload) (drop self.old.payload (B.bytes self.old.out)) }
+        ensures part { result.now ≡ payload_field self.old }
     {
         let from = self.payload;
         let to = self.len;
@@ -87,7 +88,7 @@ impl<B: Room> Draft<B> {
     /// The MAC, for writing.
     pub fn mac_mut(&mut self) -> &mut [u8]
         ensures* writes { sem 𝓛 (LendsMac B.row B.Room self.entry result) }
-        ensures part { result.now ≡ take (self.old.payload - self.old.mac) (drop self.old.mac (B.bytes self.old.out)) }
+        ensures part { result.now ≡ mac_field self.old }
     {
         let from = self.mac;
         let to = self.payload;

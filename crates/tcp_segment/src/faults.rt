@@ -32,10 +32,8 @@ fn tcp_header_length(tcp: &[u8]) -> Result<usize, DatagramFault>
     if tcp.len() < length {
         return Err(DatagramFault::DataOffset);
     }
-    match read_options(&tcp[TCP_HEADER..length]) {
-        Ok(_) => Ok(length),
-        Err(fault) => Err(DatagramFault::BadOption(fault)),
-    }
+    read_options(&tcp[TCP_HEADER..length]).map_err(DatagramFault::BadOption)?;
+    Ok(length)
 }
 
 fn read_v4(bytes: &[u8]) -> Result<Places, DatagramFault>
@@ -64,14 +62,12 @@ fn read_v4(bytes: &[u8]) -> Result<Places, DatagramFault>
     if bytes[9] != TCP_PROTOCOL {
         return Err(DatagramFault::NotTcp);
     }
-    match tcp_header_length(&bytes[header..end]) {
-        Ok(length) => Ok(Places {
-            header,
-            payload: header + length,
-            end,
-        }),
-        Err(fault) => Err(fault),
-    }
+    let length = tcp_header_length(&bytes[header..end])?;
+    Ok(Places {
+        header,
+        payload: header + length,
+        end,
+    })
 }
 
 fn is_extension_header(next: u8) -> bool
@@ -98,14 +94,12 @@ fn read_v6(bytes: &[u8]) -> Result<Places, DatagramFault>
     if extension {
         return Err(DatagramFault::ExtensionHeader);
     }
-    match tcp_header_length(&bytes[IPV6_HEADER..end]) {
-        Ok(length) => Ok(Places {
-            header: IPV6_HEADER,
-            payload: IPV6_HEADER + length,
-            end,
-        }),
-        Err(fault) => Err(fault),
-    }
+    let length = tcp_header_length(&bytes[IPV6_HEADER..end])?;
+    Ok(Places {
+        header: IPV6_HEADER,
+        payload: IPV6_HEADER + length,
+        end,
+    })
 }
 
 /// The places of the datagram that a prefix of the bytes is, by the nine tests in their order.

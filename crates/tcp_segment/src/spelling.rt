@@ -5,7 +5,7 @@ ghost use Rattle.book_segments.specs.Sockets.{octets};
 ghost use Rattle.book_segments.specs.Segments.{complement_of};
 ghost use Rattle.tcp_segment.specs.Written.{ip_words};
 ghost use Rattle.tcp_segment.specs.Layout.{ip_start, ip_size, tcp_start, mss_length, option_heads, header_length, IsSized, HasNumbers, IsHead, HoldsDraft};
-ghost use Rattle.tcp_segment.specs.Drafts.{Drafted};
+ghost use Rattle.tcp_segment.specs.Drafts.{Drafted, InBuffer};
 
 use crate::draft::{DatagramMut, Draft};
 use crate::headers::{
@@ -208,7 +208,7 @@ fn lay_out(out: &mut [u8], head: &Head, payload_len: usize) -> Layout
 pub fn write_datagram<'a>(out: &'a mut [u8], head: &Head, payload_len: usize) -> DatagramMut<'a>
     requires head { IsHead head.now payload_len }
     requires room { 1500 ≤ length out.old }
-    ensures same_buffer { result.out.ghost_name ≡ out.entry.ghost_name }
+    ensures same_buffer { InBuffer out.entry result }
     ensures drafted { Drafted result head.now (replicate head.now.mac_length 0) (replicate payload_len 0) (drop (header_length head.now + payload_len) out.old) }
 {
     let Layout {

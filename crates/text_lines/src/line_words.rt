@@ -52,13 +52,9 @@ impl<'a> LineWords<'a> {
     pub fn word(&mut self) -> Result<&'a [u8], LineKind>
         ensures { MatchResult result (λ w. word_in self.old ≡ Ok (record { value = w.now; rest = self.new })) (λ kind. word_in self.old ≡ Err kind) }
     {
-        match next_word(self.line, self.from) {
-            None => Err(LineKind::Word),
-            Some(cut) => {
-                self.from = cut.after;
-                Ok(&self.line[cut.first..cut.after])
-            }
-        }
+        let cut = next_word(self.line, self.from).ok_or(LineKind::Word)?;
+        self.from = cut.after;
+        Ok(&self.line[cut.first..cut.after])
     }
 
     /// The end of the line; `Word` for a surplus word.
@@ -223,9 +219,6 @@ fn read_choice(word: &[u8], one: &[u8], other: &[u8]) -> Option<bool>
 fn read_end(word: &[u8]) -> Option<End>
     ensures { result ≡ end_of word.now }
 {
-    match read_choice(word, b"a", b"b") {
-        Some(false) => Some(End::A),
-        Some(true) => Some(End::B),
-        None => None,
-    }
+    let is_b = read_choice(word, b"a", b"b")?;
+    Some(if is_b { End::B } else { End::A })
 }

@@ -67,10 +67,7 @@ impl<'a> SayingLines<'a> {
 fn begins_comment(word: &[u8]) -> bool
     ensures { result ≡ is_comment word.now }
 {
-    match word {
-        [byte, ..] => *byte == b'#',
-        [] => false,
-    }
+    matches!(word, [b'#', ..])
 }
 
 /// Whether a line says something.
@@ -78,8 +75,7 @@ fn begins_comment(word: &[u8]) -> bool
 fn says(line: &[u8]) -> bool
     ensures { result ≡ says_something (words_of line.now) }
 {
-    match LineWords::new(line).word() {
-        Ok(word) => !begins_comment(word),
-        Err(_) => false,
-    }
+    LineWords::new(line)
+        .word()
+        .is_ok_and(|word| !begins_comment(word))
 }

@@ -5,13 +5,13 @@ pub returns-then-kept-lt-RECORD : goal.returns-then-kept-lt-RECORD
 returns-then-kept-lt-RECORD c = none_short c.args.order c.args.kept.now c.if-kept-lt-RECORD.true
 
 pub returns-then-len-gt-MOST_KEPT : goal.returns-then-len-gt-MOST_KEPT
-returns-then-len-gt-MOST_KEPT c = none_over c.args.order c.args.kept.now c.four-len.result c.if-kept-lt-RECORD.false c.four-len.ensures c.if-len-gt-MOST_KEPT.true
+returns-then-len-gt-MOST_KEPT c = none_over c.args.order c.args.kept.now c.u32_at-len.result c.if-kept-lt-RECORD.false c.u32_at-len.ensures c.if-len-gt-MOST_KEPT.true
 
 pub returns-then-len-kept : goal.returns-then-len-kept
-returns-then-len-kept c = none_part c.args.order c.args.kept.now c.four-len.result c.if-kept-lt-RECORD.false c.four-len.ensures c.if-len-gt-MOST_KEPT.false c.if-len-kept.true
+returns-then-len-kept c = none_part c.args.order c.args.kept.now c.u32_at-len.result c.if-kept-lt-RECORD.false c.u32_at-len.ensures c.if-len-gt-MOST_KEPT.false c.if-len-kept.true
 
 pub returns : goal.returns
 returns c = (
   c.if-len-kept.false,
-  stays_whole c.args.order c.args.kept.now c.four-seconds.result c.four-len.result c.if-kept-lt-RECORD.false c.four-seconds.ensures c.four-len.ensures c.if-len-gt-MOST_KEPT.false c.if-len-kept.false,
+  stays_whole c.args.order c.args.kept.now c.u32_at-seconds.result c.u32_at-len.result c.if-kept-lt-RECORD.false c.u32_at-seconds.ensures c.u32_at-len.ensures c.if-len-gt-MOST_KEPT.false c.if-len-kept.false,
 )
