@@ -2,7 +2,7 @@
 ghost use Rattle.std.specs.Prelude.{◌≡◌, ◌≤◌, ℕ, List, length, IfOk};
 ghost use Rattle.book_keys.specs.Rows.{Row};
 ghost use Rattle.book_endpoint.specs.States.{EndState};
-ghost use Rattle.tcp_endpoint.specs.Ends.{Stands, FitsEnd};
+ghost use Rattle.tcp_endpoint.specs.Ends.{Stands, FitsEnd, pair_at_end};
 ghost use Rattle.book_cmd_node.specs.NodeRuns.{take_called};
 ghost use Rattle.ao_node.specs.Calls.{Follows, HasActed, told_given, told_made, told_again};
 ghost use Rattle.ao_node.specs.Told.{length_told};
@@ -53,7 +53,7 @@ fn told_again(resent: Resent) -> Told
 fn take(alloc: Global, end: &mut Endpoint, count: u16) -> Result<Told, AllocError>
     ensures took { IfOk result (λ told. (s : EndState) (room : List ℕ) → Stands end.old s → Follows end.new room told (take_called count s)) }
     ensures short { IfOk result (λ told. length_told told ≡ 0) }
-    ensures pair { end.new.pair ≡ end.old.pair }
+    ensures pair { pair_at_end end.new ≡ pair_at_end end.old }
     ensures fits { (rows : List Row) → FitsEnd rows end.old → FitsEnd rows end.new }
 {
     let mut bytes = Vec::new(alloc);
@@ -77,9 +77,9 @@ pub(crate) fn act_on<L: Ledger>(
 ) -> Result<Told, AllocError>
     requires fits { FitsEnd table.now.rows end.old }
     requires room { 1500 ≤ length room.old }
-    ensures acted { IfOk result (λ told. (s : EndState) → Stands end.old s → HasActed table.now.rows end.old.pair now s act.now end.new room.new told) }
+    ensures acted { IfOk result (λ told. (s : EndState) → Stands end.old s → HasActed table.now.rows (pair_at_end end.old) now s act.now end.new room.new told) }
     ensures short { IfOk result (λ told. length_told told ≤ 1500) }
-    ensures pair { end.new.pair ≡ end.old.pair }
+    ensures pair { pair_at_end end.new ≡ pair_at_end end.old }
     ensures fits { FitsEnd table.now.rows end.new }
 {
     match act {

@@ -11,9 +11,9 @@ ghost use Rattle.capture_check.specs.Expecting.{hear_as, known_numbers};
 ghost use Rattle.capture_check.specs.Flows.{rows_of};
 
 use crate::answer::CheckLine;
+use crate::datagrams::{hear_datagram, hold, known};
 use crate::ends::Ends;
 use crate::flows::Flows;
-use crate::hearing::{hear_datagram, hold, known};
 use crate::known::KnownConnection;
 use ao_base::Steps;
 use book_base::Socket;

@@ -107,10 +107,8 @@ pub(crate) fn fix_given(
         given.one_isn,
         given.other_isn,
     )?;
-    match connections.insert(ends, flows) {
-        Ok(_) => Ok(true),
-        Err(_) => Err(AllocError),
-    }
+    connections.insert(ends, flows)?;
+    Ok(true)
 }
 
 /// The initial sequence numbers that a SYN with ACK tells: its own, and the one that it acknowledges (RFC 9293,

@@ -9,10 +9,10 @@
 mod answer;
 mod checker;
 mod connections;
+mod datagrams;
 mod ends;
 mod flow;
 mod flows;
-mod hearing;
 mod judgement;
 mod known;
 mod segment;

@@ -35,10 +35,7 @@ pub enum LineProblem {
 fn begins_comment(word: &[u8]) -> bool
     ensures { result ≡ is_comment word.now }
 {
-    match word {
-        [byte, ..] => *byte == b'#',
-        [] => false,
-    }
+    matches!(word, [b'#', ..])
 }
 
 /// Whether a line says something.

@@ -29,10 +29,7 @@ fn line_bytes(alloc: Global, words: &mut LineWords) -> Result<Bytes, Refusal>
 fn bytes_in(alloc: Global, mut line: Saying) -> Result<Bytes, TextFault>
     ensures { Answers result (at_number line.entry.number (bytes_of_line line.entry.words)) }
 {
-    match line_bytes(alloc, &mut line.words) {
-        Ok(bytes) => Ok(bytes),
-        Err(refusal) => Err(refusal.at(line.number)),
-    }
+    line_bytes(alloc, &mut line.words).map_err(|refusal| refusal.at(line.number))
 }
 
 #[tactic(auto, unfolding(book_cmd_show::specs::Show::shown_line))]

@@ -32,10 +32,7 @@ struct Totals {
 fn vector_in(alloc: Global, mut line: Saying) -> Result<Vector, TextFault>
     ensures { Answers result (at_number line.entry.number (vector_of line.entry.words)) }
 {
-    match read_vector(alloc, &mut line.words) {
-        Ok(vector) => Ok(vector),
-        Err(refusal) => Err(refusal.at(line.number)),
-    }
+    read_vector(alloc, &mut line.words).map_err(|refusal| refusal.at(line.number))
 }
 
 fn agrees(vector: &Vector) -> bool

@@ -10,7 +10,7 @@ use Rattle.book_segments.specs.Segments.{pair_reached}
 use Rattle.tcp_endpoint.specs.declared.arrival.Arrived.{Arrived}
 use Rattle.tcp_endpoint.specs.declared.endpoint.Endpoint.{Endpoint}
 use Rattle.tcp_endpoint.specs.Arrivals.{Arrives, IsBeforeCheck, LeavesAll, TellsOption}
-use Rattle.tcp_endpoint.specs.Ends.{Stands, FitsEnd, IsUnmoved}
+use Rattle.tcp_endpoint.specs.Ends.{Stands, FitsEnd, IsUnmoved, pair_at_end}
 use Rattle.node_ends.specs.declared.answer.NodeArrival.{NodeArrival}
 use Rattle.node_ends.specs.declared.answer.NodeArrival.TheVariants as answers
 use Rattle.node_ends.specs.Held.{Holding, end_at, ends}
@@ -18,11 +18,11 @@ use Rattle.node_ends.specs.Held.{Holding, end_at, ends}
 -- what a datagram does to an end: the step of the definitions, of whatever state it stands for, and
 -- what passes is told with its option
 pub record Hears (rows : List Row) (now : ℕ) (d : Segment) (before after : Endpoint) (told : Arrived) : Type 0 where
-  pub arrives : (s : EndState) → Stands before s → Arrives rows before.pair (Read d) after told (arrive rows before.pair now s (Read d))
+  pub arrives : (s : EndState) → Stands before s → Arrives rows (pair_at_end before) (Read d) after told (arrive rows (pair_at_end before) now s (Read d))
   pub option : TellsOption d told
   pub untouched : IsBeforeCheck told.arrival → after ≡ before
   pub unchanged : LeavesAll told.arrival → IsUnmoved before after
-  pub pair : after.pair ≡ before.pair
+  pub pair : pair_at_end after ≡ pair_at_end before
   pub fits : FitsEnd rows after
 
 -- the end of a pair hears a datagram, and all others stay

@@ -8,7 +8,7 @@ use Rattle.book_keys.specs.Rows.{Row}
 use Rattle.book_endpoint.specs.States.{EndState, tick}
 use Rattle.book_cmd_node.specs.NodeRuns.{same_pair}
 use Rattle.tcp_endpoint.specs.declared.endpoint.Endpoint.{Endpoint}
-use Rattle.tcp_endpoint.specs.Ends.{Stands, FitsEnd}
+use Rattle.tcp_endpoint.specs.Ends.{Stands, FitsEnd, pair_at_end}
 use Rattle.node_ends.specs.declared.answer.NodeRefusal.{NodeRefusal}
 use Rattle.node_ends.specs.declared.answer.NodeRefusal.TheVariants as refusals
 
@@ -55,7 +55,7 @@ pub record Removes (before after : Holding) (pair : Pair) : Type 0 where
 pub record Begins (rows : List Row) (pair : Pair) (s : EndState) (e : Endpoint) : Type 0 where
   pub stands : Stands e s
   pub fits : FitsEnd rows e
-  pub pair_is : e.pair ≡ pair
+  pub pair_is : pair_at_end e ≡ pair
 
 -- the table fits each end
 abbrev pub FitsAll : List Row → Holding → Type 0
@@ -64,7 +64,7 @@ FitsAll rows n = (q : Pair) (e : Endpoint) → end_at n q ≡ Some e → FitsEnd
 -- an end ticks
 pub record TicksEnd (now : ℕ) (before after : Endpoint) : Type 0 where
   pub stands : (s : EndState) → Stands before s → Stands after (tick now s)
-  pub pair : after.pair ≡ before.pair
+  pub pair : pair_at_end after ≡ pair_at_end before
   pub fits : (rows : List Row) → FitsEnd rows before → FitsEnd rows after
 
 -- what is held for a pair ticks

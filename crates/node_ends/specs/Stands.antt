@@ -5,14 +5,14 @@ use Rattle.book_keys.specs.Rows.{Row}
 use Rattle.book_endpoint.specs.States.{EndState}
 use Rattle.book_cmd_node.specs.NodeRuns.{Held, held_end}
 use Rattle.tcp_endpoint.specs.declared.endpoint.Endpoint.{Endpoint}
-use Rattle.tcp_endpoint.specs.Ends.{Stands, FitsEnd}
+use Rattle.tcp_endpoint.specs.Ends.{Stands, FitsEnd, pair_at_end}
 use Rattle.node_ends.specs.Held.{Holding, end_at, ends}
 
 -- an end stands for the state of its connection, has its sockets, and the table fits it
 pub record StandsFor (rows : List Row) (pair : Pair) (e : Endpoint) (s : EndState) : Type 0 where
   pub stands : Stands e s
   pub fits : FitsEnd rows e
-  pub pair_is : e.pair ≡ pair
+  pub pair_is : pair_at_end e ≡ pair
 
 -- what is held for a pair stands for what the definitions hold there
 abbrev pub StandsAt : List Row → Pair → Option Endpoint → Option EndState → Type 0

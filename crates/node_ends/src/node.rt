@@ -74,10 +74,8 @@ impl Node {
         ensures added { OnOk result (Adds self.old self.new pair.now endpoint) }
         ensures unchanged { OnErr result (self.new ≡ self.old) }
     {
-        match self.ends.insert(*pair, endpoint) {
-            Ok(_) => Ok(()),
-            Err(_) => Err(AllocError),
-        }
+        self.ends.insert(*pair, endpoint)?;
+        Ok(())
     }
 
     /// An end for the pair opens actively (RFC 9293, section 3.10.1), with `isn` as its own initial

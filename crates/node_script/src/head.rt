@@ -16,10 +16,9 @@ fn next_line<'a>(lines: &mut SayingLines<'a>, missing: u32) -> Result<Saying<'a>
     ensures next { IfOk result (λ line. lines.old ≡ record { number = line.number; words = line.words } ∷ lines.new) }
     ensures none { IfErr result (λ e. (lines.old ≡ []) × (e ≡ fault.Line missing line_kind.Header)) }
 {
-    match lines.next() {
-        Some(line) => Ok(line),
-        None => Err(TextFault::Line(missing, LineKind::Header)),
-    }
+    lines
+        .next()
+        .ok_or(TextFault::Line(missing, LineKind::Header))
 }
 
 #[tactic(auto, unfolding(book_cmd_link::specs::LinkFiles::title_of))]
@@ -46,10 +45,7 @@ pub(crate) fn title_line(lines: &mut SayingLines, missing: u32) -> Result<(), Te
     ensures { leaves result lines.new ≡ line_in missing line_kind.Header (title_of (codes "aotcp-node")) lines.old }
 {
     let mut line = next_line(lines, missing)?;
-    match title(&mut line.words) {
-        Ok(()) => Ok(()),
-        Err(_) => Err(TextFault::Line(line.number, LineKind::Header)),
-    }
+    title(&mut line.words).map_err(|_| TextFault::Line(line.number, LineKind::Header))
 }
 
 /// The line of the node's address.
@@ -58,8 +54,5 @@ pub(crate) fn address_line(lines: &mut SayingLines, missing: u32) -> Result<Addr
     ensures { leaves result lines.new ≡ line_in missing line_kind.Header own_address_of lines.old }
 {
     let mut line = next_line(lines, missing)?;
-    match address(&mut line.words) {
-        Ok(address) => Ok(address),
-        Err(_) => Err(TextFault::Line(line.number, LineKind::Header)),
-    }
+    address(&mut line.words).map_err(|_| TextFault::Line(line.number, LineKind::Header))
 }

@@ -141,8 +141,6 @@ pub(crate) fn read_event(
 ) -> Result<NodeEvent, Refusal>
     ensures { Tells result (node_event_of own.now words.old) }
 {
-    match Name::read(words.word()?) {
-        Some(name) => named(alloc, own, name, words),
-        None => Err(Refusal::Kind(LineKind::Word)),
-    }
+    let name = Name::read(words.word()?).ok_or(LineKind::Word)?;
+    named(alloc, own, name, words)
 }

@@ -19,10 +19,7 @@ use text_lines::{Saying, SayingLines, count_lines};
 fn event_line(alloc: Global, own: &Address, mut line: Saying) -> Result<NodeEvent, TextFault>
     ensures { Answers result (at_number line.entry.number (node_event_of own.now line.entry.words)) }
 {
-    match read_event(alloc, own, &mut line.words) {
-        Ok(event) => Ok(event),
-        Err(refusal) => Err(refusal.at(line.number)),
-    }
+    read_event(alloc, own, &mut line.words).map_err(|refusal| refusal.at(line.number))
 }
 
 /// The events of the lines that are left.

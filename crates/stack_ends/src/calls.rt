@@ -1,7 +1,7 @@
 //! The end of a pair is called.
 ghost use Rattle.std.specs.Prelude.{◌≡◌, ◌≤◌, ◌++◌, List, None, length, drop};
 ghost use Rattle.book_endpoint.specs.States.{EndState, at_end, take_out, taking};
-ghost use Rattle.tcp_endpoint.specs.Ends.{FitsEnd, Stands as EndStands};
+ghost use Rattle.tcp_endpoint.specs.Ends.{FitsEnd, Stands as EndStands, pair_at_end};
 ghost use Rattle.book_keys.specs.Rows.{Row};
 ghost use Rattle.book_cmd_node.specs.declared.node.Act.TheVariants as act;
 ghost use Rattle.book_cmd_node.specs.NodeRuns.{NodeState, held_end};
@@ -31,7 +31,7 @@ fn take(end: &mut Endpoint, room: &mut [u8]) -> Taken
     ensures count { (s : EndState) → EndStands end.old s → result.count ≡ length (taking (length room.old) s) }
     ensures filled { (s : EndState) → EndStands end.old s → room.new ≡ taking (length room.old) s ++ drop result.count room.old }
     ensures at_end { (s : EndState) → EndStands end.old s → result.at_end ≡ at_end (take_out (length room.old) s) }
-    ensures pair { end.new.pair ≡ end.old.pair }
+    ensures pair { pair_at_end end.new ≡ pair_at_end end.old }
     ensures fits { (rows : List Row) → FitsEnd rows end.old → FitsEnd rows end.new }
 {
     let count = end.take(room);

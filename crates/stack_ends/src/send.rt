@@ -5,7 +5,7 @@ ghost use Rattle.book_endpoint.specs.States.{EndState, gives};
 ghost use Rattle.book_endpoint.specs.Emissions.{unsent};
 ghost use Rattle.book_cmd_node.specs.declared.node.Act.TheVariants as act;
 ghost use Rattle.node_ends.specs.Calls.{act_on};
-ghost use Rattle.tcp_endpoint.specs.Ends.{Stands, FitsEnd};
+ghost use Rattle.tcp_endpoint.specs.Ends.{Stands, FitsEnd, pair_at_end};
 ghost use Rattle.book_stack.specs.Watches.{awaits, end_front};
 ghost use Rattle.stack_ends.specs.Said.{Leaves, Speaks, said, said_again};
 
@@ -52,7 +52,7 @@ pub(crate) fn front_of(end: &Endpoint) -> Front
 fn is_finished(end: &mut Endpoint) -> bool
     ensures finished { (s : EndState) → Stands end.old s → result ≡ not (gives s) }
     ensures stands { (s : EndState) → Stands end.old s → Stands end.new s }
-    ensures pair { end.new.pair ≡ end.old.pair }
+    ensures pair { pair_at_end end.new ≡ pair_at_end end.old }
     ensures fits { (rows : List Row) → FitsEnd rows end.old → FitsEnd rows end.new }
 {
     match end.give(&[]) {
@@ -73,7 +73,7 @@ fn has_unsent(end: &Endpoint) -> bool
 fn waits(end: &mut Endpoint) -> bool
     ensures waits { (s : EndState) → Stands end.old s → result ≡ awaits s }
     ensures stands { (s : EndState) → Stands end.old s → Stands end.new s }
-    ensures pair { end.new.pair ≡ end.old.pair }
+    ensures pair { pair_at_end end.new ≡ pair_at_end end.old }
     ensures fits { (rows : List Row) → FitsEnd rows end.old → FitsEnd rows end.new }
 {
     match end.phase() {
@@ -124,9 +124,9 @@ pub(crate) fn speak<L: Ledger>(
     requires fits { FitsEnd table.now.rows end.old }
     requires room { 1500 ≤ length room.old }
     ensures speaks { (s : EndState) → Stands end.old s
-        → Speaks end.new room.new result s (act_on table.now.rows end.old.pair clock s act.Send) }
+        → Speaks end.new room.new result s (act_on table.now.rows (pair_at_end end.old) clock s act.Send) }
     ensures room { Leaves room.old room.new result.says }
-    ensures pair { end.new.pair ≡ end.old.pair }
+    ensures pair { pair_at_end end.new ≡ pair_at_end end.old }
     ensures fits { FitsEnd table.now.rows end.new }
     ensures steps { steps.new ≤ steps.old + 1 }
 {
@@ -152,9 +152,9 @@ pub(crate) fn repeat<L: Ledger>(
     requires fits { FitsEnd table.now.rows end.old }
     requires room { 1500 ≤ length room.old }
     ensures speaks { (s : EndState) → Stands end.old s
-        → Speaks end.new room.new result s (act_on table.now.rows end.old.pair clock s act.Resend) }
+        → Speaks end.new room.new result s (act_on table.now.rows (pair_at_end end.old) clock s act.Resend) }
     ensures room { Leaves room.old room.new result.says }
-    ensures pair { end.new.pair ≡ end.old.pair }
+    ensures pair { pair_at_end end.new ≡ pair_at_end end.old }
     ensures fits { FitsEnd table.now.rows end.new }
     ensures steps { steps.new ≤ steps.old + 1 }
 {

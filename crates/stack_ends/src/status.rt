@@ -15,9 +15,6 @@ impl Ends {
     pub fn front(&self, pair: &Pair) -> Option<Front>
         ensures { (rows : List Row) (n : NodeState) → Stands self.now rows n → result ≡ option_map end_front (held_end pair.now n.ends) }
     {
-        match self.node.end(pair) {
-            Some(end) => Some(front_of(end)),
-            None => None,
-        }
+        self.node.end(pair).map(front_of)
     }
 }

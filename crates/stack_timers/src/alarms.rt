@@ -85,10 +85,7 @@ impl Alarms {
     pub fn earliest(&self) -> Option<u64>
         ensures { result ≡ earliest self.now.alarms }
     {
-        match self.items.as_slice().first() {
-            Some(alarm) => Some(alarm.deadline),
-            None => None,
-        }
+        self.items.as_slice().first().map(|alarm| alarm.deadline)
     }
 
     /// Takes the earliest out, where its deadline is reached.
@@ -97,16 +94,10 @@ impl Alarms {
         ensures left { self.new.alarms ≡ left_due now self.old.alarms }
         ensures most { self.new.most ≡ self.old.most }
     {
-        match self.earliest() {
-            Some(deadline) => {
-                if deadline <= now {
-                    Some(self.items.remove(0).pair)
-                } else {
-                    None
-                }
-            }
-            None => None,
+        if now < self.earliest()? {
+            return None;
         }
+        Some(self.items.remove(0).pair)
     }
 
     /// The pair has no deadline any more.

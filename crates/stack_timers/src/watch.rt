@@ -41,21 +41,14 @@ fn is_time_wait(phase: Phase) -> bool
 pub fn is_heard(arrival: Arrival) -> bool
     ensures { result ≡ book.is_heard arrival }
 {
-    match arrival {
-        Arrival::Bad(_) => false,
-        Arrival::Foreign => false,
-        Arrival::Checksum => false,
-        Arrival::Closed => false,
-        Arrival::Refused(_) => false,
-        Arrival::Unexpected => true,
-        Arrival::Window => true,
-        Arrival::Challenge => true,
-        Arrival::NoAck => true,
-        Arrival::BadAck => true,
-        Arrival::TooManyRuns => true,
-        Arrival::Reset => true,
-        Arrival::Taken => true,
-    }
+    !matches!(
+        arrival,
+        Arrival::Bad(_)
+            | Arrival::Foreign
+            | Arrival::Checksum
+            | Arrival::Closed
+            | Arrival::Refused(_)
+    )
 }
 
 impl Watch {

@@ -40,10 +40,8 @@ impl Watches {
         ensures kept { OnOk result (KeepsNew self.old self.new pair.now) }
         ensures unchanged { OnErr result (self.new ≡ self.old) }
     {
-        match self.items.insert(*pair, Watch::new()) {
-            Ok(_) => Ok(()),
-            Err(_) => Err(AllocError),
-        }
+        self.items.insert(*pair, Watch::new())?;
+        Ok(())
     }
 
     /// The pair has no timer.

@@ -36,10 +36,7 @@ fn expected_of(received: Option<Received>) -> Option<u64>
     ensures some { is_some received ≡ true → result ≡ Some (expected_in received) }
     ensures none { is_some received ≡ false → result ≡ None }
 {
-    match received {
-        Some(received) => Some(received.expected.value()),
-        None => None,
-    }
+    received.map(|received| received.expected.value())
 }
 
 impl Endpoint {

@@ -9,79 +9,55 @@ use book_endpoint::Phase;
 pub(crate) fn is_closed(phase: Phase) -> bool
     ensures { result ≡ is_closed phase }
 {
-    match phase {
-        Phase::Closed => true,
-        _ => false,
-    }
+    matches!(phase, Phase::Closed)
 }
 
 /// Data is heard (RFC 9293, section 3.10.7.4).
 pub(crate) fn hears(phase: Phase) -> bool
     ensures { result ≡ hears phase }
 {
-    match phase {
-        Phase::Established => true,
-        Phase::FinWait1 => true,
-        Phase::FinWait2 => true,
-        _ => false,
-    }
+    matches!(
+        phase,
+        Phase::Established | Phase::FinWait1 | Phase::FinWait2
+    )
 }
 
 /// Data is sent (RFC 9293, section 3.10.2).
 pub(crate) fn is_sending(phase: Phase) -> bool
     ensures { result ≡ is_sending phase }
 {
-    match phase {
-        Phase::Established => true,
-        Phase::CloseWait => true,
-        _ => false,
-    }
+    matches!(phase, Phase::Established | Phase::CloseWait)
 }
 
 /// No ACK is sent.
 pub(crate) fn is_silent(phase: Phase) -> bool
     ensures { result ≡ is_silent phase }
 {
-    match phase {
-        Phase::Listen => true,
-        Phase::SynSent => true,
-        Phase::Closed => true,
-        _ => false,
-    }
+    matches!(phase, Phase::Listen | Phase::SynSent | Phase::Closed)
 }
 
 /// The own SYN is sent, and the peer's is waited for.
 pub(crate) fn is_syn_sent(phase: Phase) -> bool
     ensures { result ≡ is_syn_sent phase }
 {
-    match phase {
-        Phase::SynSent => true,
-        _ => false,
-    }
+    matches!(phase, Phase::SynSent)
 }
 
 /// The peer's SYN came, and the acknowledgement of the own one is waited for.
 pub(crate) fn is_syn_received(phase: Phase) -> bool
     ensures { result ≡ is_syn_received phase }
 {
-    match phase {
-        Phase::SynReceived => true,
-        _ => false,
-    }
+    matches!(phase, Phase::SynReceived)
 }
 
 /// What was sent may be sent again (RFC 9293, section 3.10.8).
 pub(crate) fn resends(phase: Phase) -> bool
     ensures { result ≡ resends phase }
 {
-    match phase {
-        Phase::Established => true,
-        Phase::CloseWait => true,
-        Phase::FinWait1 => true,
-        Phase::Closing => true,
-        Phase::LastAck => true,
-        _ => false,
-    }
+    matches!(
+        phase,
+        Phase::Established | Phase::CloseWait | Phase::FinWait1 | Phase::Closing | Phase::LastAck
+    )
 }
 
 /// An abort makes a RST owed, where `sent` tells that the own SYN was sent (RFC 9293, section

@@ -37,10 +37,7 @@ fn carries(datagram: &Datagram<'_>) -> bool
 fn is_above(number: Option<u64>, bound: u64) -> bool
     ensures { result ≡ hearing.above number bound }
 {
-    match number {
-        Some(number) => bound < number,
-        None => false,
-    }
+    number.is_some_and(|number| bound < number)
 }
 
 /// The number that an acknowledgement means near the oldest one that isn't acknowledged: as far

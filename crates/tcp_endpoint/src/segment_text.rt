@@ -26,40 +26,28 @@ const TIME_WAIT_SECONDS: u64 = 240;
 fn value_in(counter: Option<Counter>) -> Option<u64>
     ensures { result ≡ value_in counter }
 {
-    match counter {
-        Some(counter) => Some(counter.value()),
-        None => None,
-    }
+    counter.map(|counter| counter.value())
 }
 
 /// A counter at a value, where there is one.
 fn counter_in(value: Option<u64>) -> Option<Counter>
     ensures { value_in result ≡ value }
 {
-    match value {
-        Some(value) => Some(Counter::of(value)),
-        None => None,
-    }
+    value.map(Counter::of)
 }
 
 /// The FIN that is recorded: the first stays.
 fn fin_then(fin: Option<u64>, records: bool, new: u64) -> Option<u64>
     ensures { result ≡ hearing.fin_of fin records new }
 {
-    match fin {
-        Some(fin) => Some(fin),
-        None => { if records { Some(new) } else { None } }
-    }
+    fin.or(records.then_some(new))
 }
 
 /// Whether a FIN stands at a number.
 fn is_at(fin: Option<u64>, number: u64) -> bool
     ensures { result ≡ is_at fin number }
 {
-    match fin {
-        Some(fin) => fin == number,
-        None => false,
-    }
+    fin == Some(number)
 }
 
 /// The number behind one, where it is passed.

@@ -1,6 +1,6 @@
 use Rattle.std.proofs.Common.{sym, ◌∙◌}
 use Rattle.capture_check.proofs.HearLaws.{no_node, one_socket, none_given}
-use Rattle.capture_check.proofs.hearing.hear_datagram.Goals as goal
+use Rattle.capture_check.proofs.datagrams.hear_datagram.Goals as goal
 
 pub returns-in-None-clause-heard : goal.returns-in-None-clause-heard
 returns-in-None-clause-heard g c = λ held S.

@@ -95,7 +95,7 @@ fn hear_next<L: Ledger>(
     ensures idle { IfOk result (λ line. is_computed line ≡ false → steps.new ≡ steps.old) }
 {
     let checksum = checksum_in(datagram);
-    match hear_later(
+    let verdict = hear_later(
         connections,
         alloc,
         tables,
@@ -104,10 +104,8 @@ fn hear_next<L: Ledger>(
         given,
         datagram,
         steps,
-    ) {
-        Err(error) => Err(error),
-        Ok(verdict) => Ok(CheckLine::Verdict(verdict, checksum)),
-    }
+    )?;
+    Ok(CheckLine::Verdict(verdict, checksum))
 }
 
 fn is_pass(verdict: &Verdict) -> bool
@@ -199,8 +197,6 @@ pub(crate) fn known(
         return None;
     }
     let (low, ends) = ends_of(source, destination);
-    match connections.get(&ends) {
-        None => None,
-        Some(flows) => Some(flows.numbers(low)),
-    }
+    let flows = connections.get(&ends)?;
+    Some(flows.numbers(low))
 }

@@ -1,7 +1,7 @@
 use Rattle.std.proofs.Common.{true, false, sym, ◌∙◌}
 use Rattle.capture_check.proofs.StepLaws.{differing}
 use Rattle.capture_check.proofs.FixLaws.{first, first_refused, first_alone}
-use Rattle.capture_check.proofs.hearing.hear_first.Goals as goal
+use Rattle.capture_check.proofs.datagrams.hear_first.Goals as goal
 
 pub returns-then-not-is_pass-clause-heard : goal.returns-then-not-is_pass-clause-heard
 returns-then-not-is_pass-clause-heard g c = λ held S.

@@ -2,7 +2,7 @@ use Rattle.std.proofs.Common.{arith, refl, sym, ◌∙◌}
 use Rattle.capture_check.specs.Checkers.{found}
 use Rattle.capture_check.specs.Ends.{key_of}
 use Rattle.capture_check.proofs.FixLaws.{keys_fixed, sound_fixed, stands_given}
-use Rattle.capture_check.proofs.hearing.hold.Goals as goal
+use Rattle.capture_check.proofs.datagrams.hold.Goals as goal
 
 pub returns-in-Ok-clause-stands : goal.returns-in-Ok-clause-stands
 returns-in-Ok-clause-stands c = λ held S.
