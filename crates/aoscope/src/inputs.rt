@@ -19,10 +19,7 @@ pub(crate) fn required<'m>(
     matches: &'m ArgMatches<'_>,
     name: &'static str,
 ) -> Result<&'m str, Halt> {
-    match matches.get_str(name) {
-        Some(word) => Ok(word),
-        None => Err(Halt::Memory),
-    }
+    matches.get_str(name).ok_or(Halt::Memory)
 }
 
 /// The length of time that the word of this name says.
@@ -42,10 +39,8 @@ fn read_or(read: Result<Bytes, ReadProblem>, long: Halt) -> Result<Bytes, Halt> 
 
 /// The bytes of the file at this path, so many at most.
 fn file_at(rt: &HostRuntime, path: &str, most: u64) -> Result<Bytes, ReadProblem> {
-    match File::open(rt, path) {
-        Ok(file) => read_all(rt.alloc(), &mut ReadSource::new(file), most),
-        Err(_) => Err(ReadProblem::Fault),
-    }
+    let file = File::open(rt, path).map_err(|_| ReadProblem::Fault)?;
+    read_all(rt.alloc(), &mut ReadSource::new(file), most)
 }
 
 /// The text of the key file at this path.

@@ -9,7 +9,7 @@ use scope_sessions::{TableForm, TableRequest, write_sessions};
 use std::alloc::{AllocError, Global};
 
 /// The most laps that are searched.
-const MOST_LAPS: u64 = 255;
+const MOST_LAPS: u32 = 255;
 
 /// The word with its page of help.
 pub(crate) fn command<'a>(alloc: Global) -> Result<Command<'a>, AllocError> {
@@ -70,16 +70,8 @@ fn every(matches: &ArgMatches<'_>) -> Result<Option<u64>, Halt> {
 
 /// A number of laps, if the text is one from 0 to 255.
 fn few_laps(text: &[u8]) -> Option<u32> {
-    match read_decimal(text) {
-        Some(laps) => {
-            if laps <= MOST_LAPS {
-                Some(laps as u32)
-            } else {
-                None
-            }
-        }
-        None => None,
-    }
+    let laps = u32::try_from(read_decimal(text)?).ok()?;
+    (laps <= MOST_LAPS).then_some(laps)
 }
 
 /// Over how many laps is searched.

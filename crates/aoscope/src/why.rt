@@ -57,14 +57,13 @@ pub(crate) fn command<'a>(alloc: Global) -> Result<Command<'a>, AllocError> {
 /// The packet that the words ask for, and whether its traffic key is shown.
 fn request(matches: &ArgMatches<'_>) -> Result<WhyRequest, Halt> {
     let text = required(matches, "N")?;
-    match read_decimal(text.as_bytes()) {
-        None => Err(Halt::IsNo("N", "number from 1")),
-        Some(0) => Err(Halt::IsNo("N", "number from 1")),
-        Some(number) => Ok(WhyRequest {
-            number,
-            with_key: matches.get_flag("keys"),
-        }),
-    }
+    let number = read_decimal(text.as_bytes())
+        .filter(|number| *number > 0)
+        .ok_or(Halt::IsNo("N", "number from 1"))?;
+    Ok(WhyRequest {
+        number,
+        with_key: matches.get_flag("keys"),
+    })
 }
 
 /// Writes the answer on the packet of the capture on standard input that is asked for; whether it is refused.

@@ -1,7 +1,7 @@
 -- A search over laps, and what is heard by it.
 use Rattle.std.proofs.Common.{◌≡◌, ◌+◌, ◌*◌, ◌-◌, ◌<◌, ◌≤◌, ◌^◌, ℕ, suc, zero, Bool, true, false, List, Option, Some, None, refl, sym, ap, ◌∙◌, subst, arith}
 use Rattle.std.proofs.lemmas.Bool.Decides.{nat_tests}
-use Rattle.std.specs.Prelude.{nat_le, if◌then◌else◌}
+use Rattle.std.specs.Prelude.{nat_le, if◌then◌else◌, Result, Ok, Err, OnErr}
 use Rattle.std.specs.Option.{option_or}
 use Rattle.book_segments.specs.Bytes.{ring}
 use Rattle.book_segments.specs.Segments.{Segment, Read}
@@ -175,3 +175,8 @@ is_found tables laps now expected d before after next n m ahead l v S low is_m l
         ahead_is (heard_by (record { tables = tables; laps = laps }) now d) held c (ahead + 1) m (omega (arith, is_m, number, e)) limit
         ∙ ap (λ (b : Bool). if b then Some (H held c) else None) (passes held c stands is) in
         S.rest held c stands is e ∙ (tried F laps ahead low ∙ ap (λ (o : Option Heard). option_or o (first_from F (laps - (ahead + 1)) (ahead + 1 + 1))) here)
+
+-- what holds in any case holds after an error
+pub on_err : {T E : Type 0} (r : Result T E) (P : Type 0) → P → OnErr r P
+on_err (Ok v) P h = tt
+on_err (Err e) P h = h

@@ -42,10 +42,8 @@ fn begin(
     ensures unchanged { OnErr result (guesses.new ≡ guesses.old) }
     ensures sound { IsSound tables.now guesses.new }
 {
-    match guesses.hold(alloc, tables, given) {
-        Err(error) => Err(error),
-        Ok(_room) => Ok(()),
-    }
+    guesses.hold(alloc, tables, given)?;
+    Ok(())
 }
 
 /// Takes it that a connection began with these numbers, unless it is known with the first of them.

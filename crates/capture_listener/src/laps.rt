@@ -47,13 +47,9 @@ fn search<L: Ledger>(
             return Ok(None);
         }
         number += LAP;
-        match connections.hear_as(alloc, tables, time, datagram, number, steps) {
-            Err(error) => return Err(error),
-            Ok(line) => {
-                if line.is_pass() {
-                    return Ok(Some(line));
-                }
-            }
+        let line = connections.hear_as(alloc, tables, time, datagram, number, steps)?;
+        if line.is_pass() {
+            return Ok(Some(line));
         }
         ahead += 1;
     }
@@ -78,10 +74,7 @@ pub(crate) fn hear_over<L: Ledger>(
     ensures stands { (held : List Connection) → StandsFor connections.old held → OnErr result (StandsFor connections.new held) }
     ensures sound { IsSound tables.now connections.new }
 {
-    let line = match connections.hear(alloc, tables, time, datagram, steps) {
-        Err(error) => return Err(error),
-        Ok(line) => line,
-    };
+    let line = connections.hear(alloc, tables, time, datagram, steps)?;
     if datagram.has(Flag::Syn) {
         return Ok(line);
     }

@@ -22,12 +22,7 @@ fn is_refusal(verdict: &Verdict) -> bool
 pub(crate) fn is_refused(line: &CheckLine) -> bool
     ensures { result ≡ says_refused line.now }
 {
-    match line {
-        CheckLine::Bad(_) => false,
-        CheckLine::UnknownNode => false,
-        CheckLine::Verdict(verdict, _) => is_refusal(verdict),
-        CheckLine::Full(_) => false,
-    }
+    matches!(line, CheckLine::Verdict(verdict, _) if is_refusal(verdict))
 }
 
 /// Whether a node knows no context for the segment.

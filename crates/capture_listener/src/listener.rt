@@ -109,7 +109,7 @@ impl Listener {
         ensures still { (k : Listening) → Knows self.old k → OnErr result (KnowsStill self.new self.old.judging k time datagram.now) }
         ensures judging { self.new.judging ≡ self.old.judging }
     {
-        let line = match hear_over(
+        let line = hear_over(
             &mut self.held,
             alloc,
             &self.tables,
@@ -117,29 +117,20 @@ impl Listener {
             time,
             datagram,
             steps,
-        ) {
-            Err(error) => return Err(error),
-            Ok(line) => line,
-        };
-        match glimpse(
+        )?;
+        glimpse(
             &mut self.guesses,
             alloc,
             &self.tables,
             &self.openings,
             datagram,
             &line,
-        ) {
-            Err(error) => return Err(error),
-            Ok(()) => {}
-        }
-        match note_opening(&mut self.openings, datagram, &line) {
-            Err(error) => return Err(error),
-            Ok(()) => {}
-        }
+        )?;
+        note_opening(&mut self.openings, datagram, &line)?;
         if !is_unknown(&line) {
             return Ok(by_line(&line));
         }
-        let further = match hear_over(
+        let further = hear_over(
             &mut self.guesses,
             alloc,
             &self.tables,
@@ -147,10 +138,7 @@ impl Listener {
             time,
             datagram,
             steps,
-        ) {
-            Err(error) => return Err(error),
-            Ok(further) => further,
-        };
+        )?;
         Ok(by_seen_line(&further))
     }
 }

@@ -28,10 +28,7 @@ impl Openings {
     pub(crate) fn isn(&self, source: Socket, destination: Socket) -> Option<u32>
         ensures { result ≡ kept_isn self.now.isns.entries (way_key source destination) }
     {
-        match self.isns.get(&way_key(source, destination)) {
-            None => None,
-            Some(isn) => Some(*isn),
-        }
+        self.isns.get(&way_key(source, destination)).copied()
     }
 
     /// Keeps an opening in the place of the one that goes the same way. After want of memory all is as it
@@ -45,9 +42,7 @@ impl Openings {
         ensures put { OnOk result (PutsIsn self.old.isns.entries self.new.isns.entries (way_key source destination) isn) }
         ensures unchanged { OnErr result (self.new.isns.entries ≡ self.old.isns.entries) }
     {
-        match self.isns.insert(way_key(source, destination), isn) {
-            Ok(_) => Ok(()),
-            Err(_) => Err(AllocError),
-        }
+        self.isns.insert(way_key(source, destination), isn)?;
+        Ok(())
     }
 }

@@ -92,10 +92,7 @@ impl Seen {
     pub fn has_come(&self, name: u32) -> bool
         ensures { (rs : List Step) → Saw self.now rs → result ≡ has_come name rs }
     {
-        match self.marks.get(name as usize) {
-            Some(mark) => *mark,
-            None => false,
-        }
+        self.marks.get(name as usize).is_some_and(|mark| *mark)
     }
 
     /// The greatest number of the segments that came to the end, 0 where none did.

@@ -19,10 +19,7 @@ use std::alloc::{AllocError, Global};
 fn meets(end: End, sketch: &Sketch, delivery: Option<Delivery>) -> bool
     ensures { result ≡ meets end sketch.now delivery }
 {
-    match delivery {
-        None => false,
-        Some(delivery) => !is_same_end(end, delivery.at) && sketch.name == delivery.name,
-    }
+    delivery.is_some_and(|delivery| !is_same_end(end, delivery.at) && sketch.name == delivery.name)
 }
 
 fn is_clock_of_b(rung: &Rung) -> bool
@@ -48,19 +45,13 @@ fn is_one_line(rung: &Rung, next: &Rung) -> bool
 fn is_one_line_next(rung: &Rung, next: Option<Rung>) -> bool
     ensures { result ≡ is_one_line_next rung.now next }
 {
-    match next {
-        Some(next) => is_one_line(rung, &next),
-        None => false,
-    }
+    next.is_some_and(|next| is_one_line(rung, &next))
 }
 
 fn is_in_line(before: Option<Rung>, rung: &Rung) -> bool
     ensures { result ≡ is_in_line before rung.now }
 {
-    match before {
-        Some(before) => is_one_line(&before, rung),
-        None => false,
-    }
+    before.is_some_and(|before| is_one_line(&before, rung))
 }
 
 /// The end at which a rung happens.

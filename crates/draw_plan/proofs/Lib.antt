@@ -1,2 +1,3 @@
 pub mod LifetimeLaws
+mod SideLaws
 mod SliceWalk

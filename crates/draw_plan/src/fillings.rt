@@ -69,9 +69,5 @@ pub(crate) fn row_filling(pair: &Pair, duty: Duty, row: &Row, slice: &Slice) -> 
 pub(crate) fn is_filled(filling: Filling) -> bool
     ensures { result ≡ is_filled filling }
 {
-    match filling {
-        Filling::Never => false,
-        Filling::Partly => true,
-        Filling::Wholly => true,
-    }
+    !matches!(filling, Filling::Never)
 }

@@ -11,6 +11,7 @@ use book_base::Pair;
 use book_draw_plan::Slice;
 use book_keys::Plan;
 use book_plans::Finding;
+use both_ends::BothEnds;
 use key_table::{Table, mirrored};
 use plan_texts::push_times;
 use std::alloc::{AllocError, Global};
@@ -71,7 +72,7 @@ fn push_wrong(
     findings: &[Finding],
     slices: &[Slice],
 ) -> Result<(), AllocError>
-    ensures { OnOk result (out.new.items ≡ out.old.items ++ bar_line (wrong_bytes ends.now.a.now ends.now.b.now ends.now.pair findings.now slices.now) (codes "wrong")) }
+    ensures { OnOk result (out.new.items ≡ out.old.items ++ bar_line (wrong_bytes ends.now.tables.a.now ends.now.tables.b.now ends.now.pair findings.now slices.now) (codes "wrong")) }
 {
     out.extend_from_slice(b"  |")?;
     push_wrong_bytes(out, ends, findings, slices)?;
@@ -102,6 +103,9 @@ pub fn push_bars(
     push_scale(out, plan)?;
     push_node_bars(out, a, pair, plan, slices.as_slice())?;
     push_node_bars(out, b, &mirrored(pair), plan, slices.as_slice())?;
-    let ends = Connected { a, b, pair: *pair };
+    let ends = Connected {
+        tables: BothEnds { a, b },
+        pair: *pair,
+    };
     push_wrong(out, &ends, findings, slices.as_slice())
 }

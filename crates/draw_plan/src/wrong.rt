@@ -7,6 +7,7 @@ use crate::fillings::{is_filled, row_filling};
 use book_base::{End, Pair};
 use book_draw_plan::{Duty, Slice};
 use book_plans::Finding;
+use both_ends::BothEnds;
 use key_table::{Row, Table, mirrored};
 use plan_texts::row_numbered;
 use std::alloc::AllocError;
@@ -14,8 +15,7 @@ use std::alloc::AllocError;
 /// The tables of the two ends of a connection, and the pair as end A sees it.
 #[derive(Clone, Copy)]
 pub struct Connected<'a> {
-    pub a: &'a Table,
-    pub b: &'a Table,
+    pub tables: BothEnds<&'a Table>,
     pub pair: Pair,
 }
 
@@ -32,26 +32,21 @@ fn pair_at(end: End, pair: &Pair) -> Pair
 fn may_send_in(pair: &Pair, slice: &Slice, row: Option<&Row>) -> bool
     ensures { result ≡ may_send_in pair.now slice.now (option_map (λ r. r.now) row.entry) }
 {
-    match row {
-        None => false,
-        Some(row) => is_filled(row_filling(pair, Duty::Sends, row, slice)),
-    }
+    row.is_some_and(|row| is_filled(row_filling(pair, Duty::Sends, row, slice)))
 }
 
 impl<'a> Connected<'a> {
     /// The table of an end.
-    fn table(&self, end: End) -> &'a Table
-        ensures { result.now ≡ side_of end self.now.a.now self.now.b.now }
+    #[tactic(auto, using(crate::proofs::SideLaws::table_at))]
+    pub fn table(&self, end: End) -> &'a Table
+        ensures { result.now ≡ side_of end self.now.tables.a.now self.now.tables.b.now }
     {
-        match end {
-            End::A => self.a,
-            End::B => self.b,
-        }
+        *self.tables.at(end)
     }
 
     /// Whether the row of this end and number may send at some second of the slice.
     fn is_sending(&self, slice: &Slice, end: End, number: u8) -> bool
-        ensures { result ≡ numbered_sends (side_of end self.now.a.now self.now.b.now).rows (pair_at end self.now.pair) slice.now number }
+        ensures { result ≡ numbered_sends (side_of end self.now.tables.a.now self.now.tables.b.now).rows (pair_at end self.now.pair) slice.now number }
     {
         let pair = pair_at(end, &self.pair);
         may_send_in(&pair, slice, row_numbered(self.table(end), number))
@@ -59,7 +54,7 @@ impl<'a> Connected<'a> {
 
     /// Whether the finding is seen in the slice.
     fn is_seen(&self, slice: &Slice, finding: Finding) -> bool
-        ensures { result ≡ is_seen self.now.a.now self.now.b.now self.now.pair slice.now finding }
+        ensures { result ≡ is_seen self.now.tables.a.now self.now.tables.b.now self.now.pair slice.now finding }
     {
         match finding {
             Finding::NoPeerRow(end, number) => self.is_sending(slice, end, number),
@@ -71,7 +66,7 @@ impl<'a> Connected<'a> {
     /// Whether one of the findings is seen in the slice: a row that isn't met at the other end may send in it, or
     /// a gap has a second of it.
     pub fn is_marked(&self, slice: &Slice, findings: &[Finding]) -> bool
-        ensures { result ≡ is_marked self.now.a.now self.now.b.now self.now.pair findings.now slice.now }
+        ensures { result ≡ is_marked self.now.tables.a.now self.now.tables.b.now self.now.pair findings.now slice.now }
     {
         findings.iter().any(|finding| self.is_seen(slice, *finding))
     }
@@ -90,7 +85,7 @@ fn push_slice_mark(
     findings: &[Finding],
     slice: &Slice,
 ) -> Result<(), AllocError>
-    ensures { OnOk result (out.new.items ≡ out.old.items ++ slice_mark ends.now.a.now ends.now.b.now ends.now.pair findings.now slice.now) }
+    ensures { OnOk result (out.new.items ≡ out.old.items ++ slice_mark ends.now.tables.a.now ends.now.tables.b.now ends.now.pair findings.now slice.now) }
 {
     out.push(wrong_byte(ends.is_marked(slice, findings)))?;
     Ok(())
@@ -103,7 +98,7 @@ pub(crate) fn push_wrong_bytes(
     findings: &[Finding],
     slices: &[Slice],
 ) -> Result<(), AllocError>
-    ensures { OnOk result (out.new.items ≡ out.old.items ++ wrong_bytes ends.now.a.now ends.now.b.now ends.now.pair findings.now slices.now) }
+    ensures { OnOk result (out.new.items ≡ out.old.items ++ wrong_bytes ends.now.tables.a.now ends.now.tables.b.now ends.now.pair findings.now slices.now) }
 {
     for slice in slices {
         push_slice_mark(out, ends, findings, slice)?;

@@ -17,7 +17,7 @@ bar_of b = record { end = drawn_of b.end.now; number = b.number; row = b.row.now
 
 -- the book's form of a connection between two nodes, of whose plan this doesn't hold
 abbrev pub judged_of : Connected → List Finding → book.PlannedPair
-judged_of ends fs = record { a = ends.a.now; b = ends.b.now; pair = ends.pair; findings = fs }
+judged_of ends fs = record { a = ends.tables.a.now; b = ends.tables.b.now; pair = ends.pair; findings = fs }
 
 -- the mark of a slice, where one of the findings is seen in it
 abbrev pub mark_if : (line : ℕ) → Slice → book.PlannedPair → Slice → List ℕ

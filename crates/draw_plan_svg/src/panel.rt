@@ -12,6 +12,7 @@ use crate::scale::push_scale;
 use book_base::{Address, Pair};
 use book_keys::Plan;
 use book_plans::Finding;
+use both_ends::BothEnds;
 use draw_plan::{Connected, slices_of};
 use key_table::{Table, mirrored};
 use plan_texts::{push_missing_words, push_pair};
@@ -50,12 +51,19 @@ fn push_both(
 {
     let slices = slices_of(alloc, paper.plan.from, paper.plan.to)?;
     push_scale(out, &paper.plan, line, slices.as_slice())?;
-    let middle = push_node(out, paper, line + 1, ends.a, &ends.pair, slices.as_slice())?;
+    let middle = push_node(
+        out,
+        paper,
+        line + 1,
+        ends.tables.a,
+        &ends.pair,
+        slices.as_slice(),
+    )?;
     let last = push_node(
         out,
         paper,
         middle,
-        ends.b,
+        ends.tables.b,
         &mirrored(&ends.pair),
         slices.as_slice(),
     )?;
@@ -105,8 +113,7 @@ fn push_nodes(
     match (panel.a, panel.b) {
         (Some(a), Some(b)) => {
             let ends = Connected {
-                a,
-                b,
+                tables: BothEnds { a, b },
                 pair: panel.pair,
             };
             push_both(alloc, out, paper, line, &ends, panel.findings)

@@ -50,19 +50,13 @@ fn push_flags(out: &mut Vec<u8>, flags: u8) -> Result<(), AllocError>
 pub(crate) fn key_id_of(ids: Option<KeyIds>) -> Option<u8>
     ensures { result ≡ option_map (λ ids. ids.key_id) ids }
 {
-    match ids {
-        None => None,
-        Some(ids) => Some(ids.key_id),
-    }
+    ids.map(|ids| ids.key_id)
 }
 
 fn asked_of(ids: Option<KeyIds>) -> Option<u8>
     ensures { result ≡ option_map (λ ids. ids.rnext_key_id) ids }
 {
-    match ids {
-        None => None,
-        Some(ids) => Some(ids.rnext_key_id),
-    }
+    ids.map(|ids| ids.rnext_key_id)
 }
 
 // Puts a space and the KeyID behind `out`, or a dash where there is none.

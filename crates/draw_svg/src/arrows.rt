@@ -1,8 +1,12 @@
 //! The elements of rungs.
 ghost use Rattle.std.specs.Prelude.{◌≡◌, ◌++◌, IfOk, OnOk, Some, codes, option_map};
-ghost use Rattle.book_draw_svg.specs.Pictures.{arrow_svg, dash_attribute, element_svg, end_column, is_at_once, label_column, label_height, label_svg, late_label_svg, leaving_svg, lost_column, lost_height, margin_column, margin_height, margin_svg, reaching_svg, row_height, start_column, start_row, words_beside};
+ghost use Rattle.book_draw_svg.specs.Pictures.{arrow_svg, dash_attribute, element_svg, label_svg, late_label_svg, leaving_svg, margin_svg, reaching_svg, words_beside};
 ghost use Rattle.book_svg.specs.Tags.{colour_text, titled_tag};
 
+use crate::positions::{
+    end_column, is_at_once, label_column, label_height, lost_column, lost_height, margin_column,
+    margin_height, row_height, start_column, start_row,
+};
 use book_base::End;
 use book_draw::Rung;
 use book_draw_svg::{Placed, Start, Stroke};
@@ -11,104 +15,6 @@ use both_ends::is_same_end;
 use draw_ladder::{push_margin, rung_end};
 use std::alloc::{AllocError, Global};
 use svg_tags::{push_dot, push_line, push_titled, push_words};
-
-/// The height of a row.
-pub(crate) fn row_height(row: u32) -> u64
-    ensures { result ≡ row_height row }
-{
-    22 * u64::from(row) + 90
-}
-
-fn label_height(row: u32) -> u64
-    ensures { result ≡ label_height row }
-{
-    22 * u64::from(row) + 85
-}
-
-fn margin_height(row: u32) -> u64
-    ensures { result ≡ margin_height row }
-{
-    22 * u64::from(row) + 94
-}
-
-fn lost_height(row: u32) -> u64
-    ensures { result ≡ lost_height row }
-{
-    22 * u64::from(row) + 93
-}
-
-/// The column of an end's stroke.
-pub(crate) fn end_column(end: End) -> u64
-    ensures { result ≡ end_column end }
-{
-    match end {
-        End::A => 222,
-        End::B => 578,
-    }
-}
-
-fn margin_column(end: End) -> u64
-    ensures { result ≡ margin_column end }
-{
-    match end {
-        End::A => 212,
-        End::B => 588,
-    }
-}
-
-fn label_column(end: End) -> u64
-    ensures { result ≡ label_column end }
-{
-    match end {
-        End::A => 232,
-        End::B => 568,
-    }
-}
-
-fn lost_column(end: End) -> u64
-    ensures { result ≡ lost_column end }
-{
-    match end {
-        End::A => 470,
-        End::B => 330,
-    }
-}
-
-/// The column in which the arrow of what comes to the end begins.
-fn start_column(at: End, start: Option<Start>) -> u64
-    ensures { result ≡ start_column at start }
-{
-    match start {
-        None => 400,
-        Some(start) => {
-            if is_same_end(start.end, at) {
-                400
-            } else {
-                end_column(start.end)
-            }
-        }
-    }
-}
-
-/// The row in which the arrow of what comes in this one begins.
-fn start_row(row: u32, start: Option<Start>) -> u32
-    ensures { result ≡ start_row row start }
-{
-    match start {
-        None => row,
-        Some(start) => start.row,
-    }
-}
-
-/// Whether what was made comes in the row behind it.
-fn is_at_once(row: u32, start: Option<Start>) -> bool
-    ensures { result ≡ is_at_once row start }
-{
-    match start {
-        None => false,
-        Some(start) => u64::from(start.row) + 1 == u64::from(row),
-    }
-}
 
 /// The dashes of a stroke.
 pub(crate) fn dash_attribute(stroke: Stroke) -> &'static [u8]
@@ -239,10 +145,7 @@ fn came_drawing(alloc: Global, end: End, placed: &Placed) -> Result<Vec<u8>, All
 fn key_of(start: Option<Start>) -> Option<u8>
     ensures { result ≡ option_map (λ s. s.key_id) start }
 {
-    match start {
-        Some(start) => Some(start.key_id),
-        None => None,
-    }
+    start.map(|start| start.key_id)
 }
 
 /// The arrow of what is made, with its title.

@@ -2,7 +2,8 @@
 ghost use Rattle.std.specs.Prelude.{◌≡◌, ◌++◌, OnOk, codes};
 ghost use Rattle.book_draw_svg.specs.Pictures.{dash_attribute, lost_tip_svg, sample_svg, samples_svg, tip_svg, tips_svg, upright_svg};
 
-use crate::arrows::{dash_attribute, end_column};
+use crate::arrows::dash_attribute;
+use crate::positions::end_column;
 use book_base::End;
 use book_draw_svg::Stroke;
 use book_svg::Point;

@@ -7,5 +7,6 @@ mod heads;
 mod past;
 mod picture;
 mod places;
+mod positions;
 
 pub use picture::{draw_rungs_as, print_svg};

@@ -67,10 +67,7 @@ impl Past {
     fn arrow_start(&self, number: u32) -> Option<Start>
         ensures { (row : ℕ) (rs : List Step) → Keeps self.now row rs → result ≡ arrow_start number rs }
     {
-        match self.starts.get(number as usize) {
-            Some(start) => *start,
-            None => None,
-        }
+        *self.starts.get(number as usize)?
     }
 
     /// Where the arrow of what came begins.

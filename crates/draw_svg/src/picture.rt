@@ -5,10 +5,11 @@ ghost use Rattle.book_draw_svg.specs.Pictures.{drawn_as, element_svg, front_svg,
 ghost use Rattle.book_draw_svg.specs.Placements.{placements_from};
 ghost use Rattle.draw_ladder.specs.Sights.{Saw};
 
-use crate::arrows::{push_element, row_height};
+use crate::arrows::push_element;
 use crate::heads::{push_samples, push_tips, push_upright};
 use crate::past::Past;
 use crate::places::placed_at;
+use crate::positions::row_height;
 use book_base::{Bytes, End};
 use book_draw::Rung;
 use book_draw_svg::Form;

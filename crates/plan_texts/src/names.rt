@@ -11,19 +11,13 @@ use toml::{Table, Value};
 fn text_in<'a>(value: &'a Value, key: &str) -> Option<&'a str>
     ensures { option_map (λ s. s.now) result ≡ text_in key.now (view value.now) }
 {
-    match value.get(key) {
-        Some(value) => value.as_str(),
-        None => None,
-    }
+    value.get(key)?.as_str()
 }
 
 fn is_named(node: &Value, name: &[u8]) -> bool
     ensures { result ≡ is_word name.now (text_in (codes "name") (view node.now)) }
 {
-    match text_in(node, "name") {
-        Some(text) => text.as_bytes() == name,
-        None => false,
-    }
+    text_in(node, "name").is_some_and(|text| text.as_bytes() == name)
 }
 
 /// What stands at a node's key `key`.
@@ -56,11 +50,7 @@ fn node_value(document: &Table) -> Option<&Value>
 fn nodes_in(value: Option<&Value>) -> &[Value]
     ensures { items_view result.now ≡ nodes_in (option_map (λ v. view v.now) value.entry) }
 {
-    let node = match value {
-        Some(node) => node,
-        None => return &[],
-    };
-    match node.as_array() {
+    match value.and_then(|node| node.as_array()) {
         Some(nodes) => nodes.as_slice(),
         None => &[],
     }
@@ -72,12 +62,7 @@ fn nodes_in(value: Option<&Value>) -> &[Value]
 pub fn admin_name<'a>(document: &'a Table, name: &[u8], number: u8) -> Option<&'a str>
     ensures { option_map (λ s. s.now) result ≡ admin_name (table_view document.now) name.now number }
 {
-    let rows = match rows_named(nodes_in(node_value(document)), name) {
-        Some(rows) => rows,
-        None => return None,
-    };
-    match rows.get(usize::from(number).saturating_sub(1)) {
-        Some(row) => text_in(row, "AdminKeyName"),
-        None => None,
-    }
+    let rows = rows_named(nodes_in(node_value(document)), name)?;
+    let row = rows.get(usize::from(number).saturating_sub(1))?;
+    text_in(row, "AdminKeyName")
 }

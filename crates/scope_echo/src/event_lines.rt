@@ -12,10 +12,7 @@ use text_lines::LineWords;
 fn begins_comment(word: &[u8]) -> bool
     ensures { result ≡ is_comment word.now }
 {
-    match word {
-        [byte, ..] => *byte == b'#',
-        [] => false,
-    }
+    matches!(word, [b'#', ..])
 }
 
 /// Whether a line says something.
@@ -23,10 +20,9 @@ fn begins_comment(word: &[u8]) -> bool
 fn is_saying(line: &[u8]) -> bool
     ensures { result ≡ is_saying line.now }
 {
-    match LineWords::new(line).word() {
-        Ok(word) => !begins_comment(word),
-        Err(_) => false,
-    }
+    LineWords::new(line)
+        .word()
+        .is_ok_and(|word| !begins_comment(word))
 }
 
 /// The lines of a text that say something and aren't read yet.

@@ -96,10 +96,9 @@ fn is_algorithm_at(table: &Table, kdf: Option<Algorithm>) -> bool
 {
     match kdf {
         Some(algorithm) => is_word_at(table, "AlgID", algorithm.name()),
-        None => match text_at(table, "AlgID") {
-            Some(text) => Algorithm::named(text.as_bytes()).is_some(),
-            None => false,
-        },
+        None => text_at(table, "AlgID").is_some_and(|text| Algorithm::named(
+            text.as_bytes(),
+        ).is_some()),
     }
 }
 

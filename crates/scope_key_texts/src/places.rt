@@ -81,10 +81,7 @@ fn finding_place(text: &[u8], finding: &KeyFinding) -> Option<TextPlace>
         node: u64::from(finding.node),
         row: u64::from(finding.row),
     };
-    match spot_place(spot, Some(finding.field.as_slice()), text) {
-        Some(place) => Some(place),
-        None => spot_place(spot, None, text),
-    }
+    spot_place(spot, Some(finding.field.as_slice()), text).or_else(|| spot_place(spot, None, text))
 }
 
 /// Puts the place behind `out`, with what stands between it and what is said there. Where memory runs out a

@@ -98,8 +98,5 @@ fn two_edits_away<'a>(known: &[&'a str], word: &[u8]) -> Option<&'a str>
 pub fn meant_word<'a>(known: &[&'a str], word: &[u8]) -> Option<&'a str>
     ensures { option_map (λ s. s.now) result ≡ meant_word (map (λ w. w.now) known.now) word.now }
 {
-    match one_edit_away(known, word) {
-        Some(meant) => Some(meant),
-        None => two_edits_away(known, word),
-    }
+    one_edit_away(known, word).or_else(|| two_edits_away(known, word))
 }

@@ -17,10 +17,7 @@ use toml::{Table, Value};
 fn node_numbered(document: &Table, number: u8) -> Option<&Value>
     ensures { option_map (λ v. view v.now) result ≡ node_data number (get_member (codes "node") (table_view document.now)) }
 {
-    match member_at(document, "node") {
-        Some(nodes) => nodes.get(usize::from(number).saturating_sub(1)),
-        None => None,
-    }
+    member_at(document, "node")?.get(usize::from(number).saturating_sub(1))
 }
 
 #[tactic(auto, unfolding(book_scope_keys::specs::FileFindings::overlap_said))]

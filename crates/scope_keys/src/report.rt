@@ -51,13 +51,7 @@ fn faulty_text(
 fn is_memory(fault: TableFault) -> bool
     ensures { result ≡ is_memory fault }
 {
-    match fault {
-        TableFault::Memory => true,
-        TableFault::Syntax => false,
-        TableFault::Field(_, _, _) => false,
-        TableFault::TooMany(_) => false,
-        TableFault::Overlap(_, _, _) => false,
-    }
+    matches!(fault, TableFault::Memory)
 }
 
 /// The report of a file without a fault.

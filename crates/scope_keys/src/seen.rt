@@ -49,10 +49,7 @@ fn unused_name<'a>(names: &[Bytes], text: &'a str) -> Option<&'a str>
 pub(crate) fn name_at<'a>(names: &[Bytes], table: &'a Table) -> Option<&'a str>
     ensures { option_map (λ s. s.now) result ≡ new_name names.now (table_view table.now) }
 {
-    match text_at(table, "name") {
-        Some(text) => unused_name(names, text),
-        None => None,
-    }
+    unused_name(names, text_at(table, "name")?)
 }
 
 fn has_address(addresses: &[Address], address: &Address) -> bool
@@ -66,26 +63,18 @@ fn has_address(addresses: &[Address], address: &Address) -> bool
 fn unused_address(addresses: &[Address], text: &str) -> Option<Address>
     ensures { result ≡ node_address_of (map bare_table addresses.now) text.now }
 {
-    match read_address(text.as_bytes()) {
-        Some(address) => {
-            if has_address(addresses, &address) {
-                None
-            } else {
-                Some(address)
-            }
-        }
-        None => None,
+    let address = read_address(text.as_bytes())?;
+    if has_address(addresses, &address) {
+        return None;
     }
+    Some(address)
 }
 
 /// The address of a node, which no node in front has.
 pub(crate) fn address_at(addresses: &[Address], table: &Table) -> Option<Address>
     ensures { result ≡ new_address addresses.now (table_view table.now) }
 {
-    match text_at(table, "address") {
-        Some(text) => unused_address(addresses, text),
-        None => None,
-    }
+    unused_address(addresses, text_at(table, "address")?)
 }
 
 fn add_name(names: &mut Vec<Bytes>, table: &Table) -> Result<(), AllocError>

@@ -1,7 +1,7 @@
 -- A connection as one of its ends sees it, as the book has it.
 use Rattle.toml.specs.View.{table_view}
 use Rattle.book_scope_plan.specs.FindingTexts as book
-use Rattle.scope_plan.specs.declared.ends.Facing.{Facing}
+use Rattle.scope_plan.specs.declared.facing.Facing.{Facing}
 
 -- the book's form of what the code holds
 abbrev pub facing_of : Facing → book.Facing

@@ -4,10 +4,10 @@ ghost use Rattle.std.specs.List.{list_any};
 ghost use Rattle.book_segments.specs.Bytes.{same_bytes};
 ghost use Rattle.book_scope_plan.specs.CalendarTexts.{are_both_ends, calendar_line, calendar_lines, calendar_text, is_twin, told_line, turning_name};
 
-use crate::ends::Ends;
 use crate::told::told_turns;
 use book_base::End;
 use book_scope_plan::Told;
+use draw_plan::Connected;
 use key_plan::Turn;
 use scope_texts::push_instant;
 use std::alloc::{AllocError, Global};
@@ -42,20 +42,20 @@ fn has_twin(told: &Told, all: &[Told]) -> bool
 }
 
 /// The name of the node, or those of both.
-fn push_name(out: &mut Vec<u8>, ends: &Ends, end: End, both: bool) -> Result<(), AllocError>
-    ensures { OnOk result (out.new.items ≡ out.old.items ++ turning_name ends.now.a.now ends.now.b.now end both) }
+fn push_name(out: &mut Vec<u8>, ends: &Connected, end: End, both: bool) -> Result<(), AllocError>
+    ensures { OnOk result (out.new.items ≡ out.old.items ++ turning_name ends.now.tables.a.now ends.now.tables.b.now end both) }
 {
     if both {
-        out.extend_from_slice(ends.a.name())?;
+        out.extend_from_slice(ends.tables.a.name())?;
         out.extend_from_slice(b", ")?;
-        out.extend_from_slice(ends.b.name())
+        out.extend_from_slice(ends.tables.b.name())
     } else {
         out.extend_from_slice(ends.table(end).name())
     }
 }
 
-fn push_told(out: &mut Vec<u8>, ends: &Ends, told: &Told, both: bool) -> Result<(), AllocError>
-    ensures { OnOk result (out.new.items ≡ out.old.items ++ told_line (turning_name ends.now.a.now ends.now.b.now told.now.end both) told.now) }
+fn push_told(out: &mut Vec<u8>, ends: &Connected, told: &Told, both: bool) -> Result<(), AllocError>
+    ensures { OnOk result (out.new.items ≡ out.old.items ++ told_line (turning_name ends.now.tables.a.now ends.now.tables.b.now told.now.end both) told.now) }
 {
     out.extend_from_slice(b"  ")?;
     push_instant(out, told.time)?;
@@ -65,8 +65,13 @@ fn push_told(out: &mut Vec<u8>, ends: &Ends, told: &Told, both: bool) -> Result<
 }
 
 /// The line of a turn; of two alike at both ends the one at a has it.
-fn push_line(out: &mut Vec<u8>, ends: &Ends, all: &[Told], told: &Told) -> Result<(), AllocError>
-    ensures { OnOk result (out.new.items ≡ out.old.items ++ calendar_line ends.now.a.now ends.now.b.now all.now told.now) }
+fn push_line(
+    out: &mut Vec<u8>,
+    ends: &Connected,
+    all: &[Told],
+    told: &Told,
+) -> Result<(), AllocError>
+    ensures { OnOk result (out.new.items ≡ out.old.items ++ calendar_line ends.now.tables.a.now ends.now.tables.b.now all.now told.now) }
 {
     let both = has_twin(told, all);
     match told.end {
@@ -81,8 +86,8 @@ fn push_line(out: &mut Vec<u8>, ends: &Ends, all: &[Told], told: &Told) -> Resul
     }
 }
 
-fn push_lines(out: &mut Vec<u8>, ends: &Ends, all: &[Told]) -> Result<(), AllocError>
-    ensures { OnOk result (out.new.items ≡ out.old.items ++ calendar_lines ends.now.a.now ends.now.b.now all.now all.now) }
+fn push_lines(out: &mut Vec<u8>, ends: &Connected, all: &[Told]) -> Result<(), AllocError>
+    ensures { OnOk result (out.new.items ≡ out.old.items ++ calendar_lines ends.now.tables.a.now ends.now.tables.b.now all.now all.now) }
 {
     for told in all {
         push_line(out, ends, all, told)?;
@@ -94,10 +99,10 @@ fn push_lines(out: &mut Vec<u8>, ends: &Ends, all: &[Told]) -> Result<(), AllocE
 pub(crate) fn push_calendar(
     alloc: Global,
     out: &mut Vec<u8>,
-    ends: &Ends,
+    ends: &Connected,
     turns: &[Turn],
 ) -> Result<(), AllocError>
-    ensures { OnOk result (out.new.items ≡ out.old.items ++ calendar_text ends.now.a.now ends.now.b.now turns.now) }
+    ensures { OnOk result (out.new.items ≡ out.old.items ++ calendar_text ends.now.tables.a.now ends.now.tables.b.now turns.now) }
 {
     let told = told_turns(alloc, ends, turns)?;
     push_lines(out, ends, told.as_slice())

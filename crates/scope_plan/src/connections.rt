@@ -6,12 +6,14 @@ ghost use Rattle.scope_plan.specs.Facings.{facing_of};
 ghost use Rattle.scope_plan.specs.KeyFiles.{key_file_of};
 
 use crate::calendar::push_calendar;
-use crate::ends::{Ends, Facing};
+use crate::facing::Facing;
 use crate::findings::push_findings;
 use crate::key_file::KeyFile;
 use ao_base::push_decimal;
 use book_base::Pair;
 use book_cmd_keys::Plan;
+use both_ends::BothEnds;
+use draw_plan::Connected;
 use key_plan::{Finding, Margin, calendar, findings, lag_margin, lead_margin};
 use key_table::Tables;
 use plan_texts::{push_missing, push_pair_line};
@@ -58,10 +60,7 @@ fn push_aligned(
 pub(crate) fn has_none(findings: &[Finding]) -> bool
     ensures { result ≡ has_none findings.now }
 {
-    match findings {
-        [] => true,
-        [_, ..] => false,
-    }
+    findings.is_empty()
 }
 
 /// What is said of all findings, or that there is none.
@@ -100,21 +99,20 @@ pub(crate) fn findings_by(
 fn push_both(
     alloc: Global,
     out: &mut Vec<u8>,
-    ends: &Ends,
+    ends: &Connected,
     keys: &KeyFile,
     plan: &Plan,
-    pair: &Pair,
 ) -> Result<bool, AllocError>
-    ensures text { OnOk result (out.new.items ≡ out.old.items ++ both_text (facing (key_file_of keys.now) ends.now.a.now ends.now.b.now pair.now) keys.now.tables plan.now) }
-    ensures good { IfOk result (λ good. good ≡ has_none (plan_findings keys.now.tables plan.now pair.now)) }
+    ensures text { OnOk result (out.new.items ≡ out.old.items ++ both_text (facing (key_file_of keys.now) ends.now.tables.a.now ends.now.tables.b.now ends.now.pair) keys.now.tables plan.now) }
+    ensures good { IfOk result (λ good. good ≡ has_none (plan_findings keys.now.tables plan.now ends.now.pair)) }
 {
     let tables = &keys.tables;
-    let turns = calendar(alloc, tables, pair, plan.from, plan.to)?;
+    let turns = calendar(alloc, tables, &ends.pair, plan.from, plan.to)?;
     push_calendar(alloc, out, ends, turns.as_slice())?;
-    let findings = findings_by(alloc, tables, pair, plan)?;
+    let findings = findings_by(alloc, tables, &ends.pair, plan)?;
     push_judgement(
         out,
-        &ends.facing(keys, pair),
+        &Facing::new(keys, ends),
         tables,
         plan,
         findings.as_slice(),
@@ -138,7 +136,13 @@ pub(crate) fn push_connection(
     let a = keys.tables.table(&pair.local.address);
     let b = keys.tables.table(&pair.remote.address);
     match (a, b) {
-        (Some(a), Some(b)) => push_both(alloc, out, &Ends { a, b }, keys, plan, pair),
+        (Some(a), Some(b)) => {
+            let ends = Connected {
+                tables: BothEnds { a, b },
+                pair: *pair,
+            };
+            push_both(alloc, out, &ends, keys, plan)
+        }
         _ => {
             push_missing(out, a, &pair.local.address)?;
             push_missing(out, b, &pair.remote.address)?;

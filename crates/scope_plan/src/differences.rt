@@ -6,7 +6,7 @@ ghost use Rattle.book_plans.specs.Differences.{differences};
 ghost use Rattle.book_scope_plan.specs.FindingTexts.{algorithms_text, connection_words, difference_count, difference_head, difference_lines, direction_words, fewest, ids_text, key_column_lines, key_words, nearest_lines, one_if, options_words, row_name, text_if, use_column_lines};
 ghost use Rattle.scope_plan.specs.Facings.{facing_of};
 
-use crate::ends::Facing;
+use crate::facing::Facing;
 use ao_base::push_decimal;
 use book_base::Pair;
 use key_plan::{Differences, differences};

@@ -8,14 +8,14 @@ ghost use Rattle.draw_plan_svg.specs.Draws.{Draws};
 ghost use Rattle.scope_plan.specs.Plannings.{connection_as, framed, lines_as};
 
 use crate::connections::{findings_by, has_none, push_connection};
-use crate::ends::Ends;
 use crate::key_file::KeyFile;
 use crate::planned::Written;
 use book_base::{Bytes, Pair};
 use book_cmd_keys::Plan;
 use book_draw_plan::PlanForm;
 use book_plans::Finding;
-use draw_plan::push_bars;
+use both_ends::BothEnds;
+use draw_plan::{Connected, push_bars};
 use draw_plan_svg::{Panel, Paper, push_end, push_front, push_panel};
 use key_table::{Table, Tables};
 use plan_texts::{push_missing, push_pair_line};
@@ -25,16 +25,23 @@ use std::alloc::{AllocError, Global};
 fn push_both(
     alloc: Global,
     out: &mut Vec<u8>,
-    ends: &Ends,
+    ends: &Connected,
     tables: &Tables,
     plan: &Plan,
-    pair: &Pair,
 ) -> Result<bool, AllocError>
-    ensures text { OnOk result (out.new.items ≡ out.old.items ++ both_bars ends.now.a.now ends.now.b.now pair.now plan.now (plan_findings tables.now plan.now pair.now)) }
-    ensures good { IfOk result (λ good. good ≡ has_none (plan_findings tables.now plan.now pair.now)) }
+    ensures text { OnOk result (out.new.items ≡ out.old.items ++ both_bars ends.now.tables.a.now ends.now.tables.b.now ends.now.pair plan.now (plan_findings tables.now plan.now ends.now.pair)) }
+    ensures good { IfOk result (λ good. good ≡ has_none (plan_findings tables.now plan.now ends.now.pair)) }
 {
-    let findings = findings_by(alloc, tables, pair, plan)?;
-    push_bars(alloc, out, ends.a, ends.b, pair, plan, findings.as_slice())?;
+    let findings = findings_by(alloc, tables, &ends.pair, plan)?;
+    push_bars(
+        alloc,
+        out,
+        ends.tables.a,
+        ends.tables.b,
+        &ends.pair,
+        plan,
+        findings.as_slice(),
+    )?;
     Ok(has_none(findings.as_slice()))
 }
 
@@ -54,7 +61,13 @@ fn push_drawing(
     let a = tables.table(&pair.local.address);
     let b = tables.table(&pair.remote.address);
     match (a, b) {
-        (Some(a), Some(b)) => push_both(alloc, out, &Ends { a, b }, tables, plan, pair),
+        (Some(a), Some(b)) => {
+            let ends = Connected {
+                tables: BothEnds { a, b },
+                pair: *pair,
+            };
+            push_both(alloc, out, &ends, tables, plan)
+        }
         _ => {
             push_missing(out, a, &pair.local.address)?;
             push_missing(out, b, &pair.remote.address)?;

@@ -5,7 +5,7 @@ ghost use Rattle.book_scope_plan.specs.FindingTexts.{finding_text, gap_text, ref
 ghost use Rattle.scope_plan.specs.Facings.{facing_of};
 
 use crate::differences::{fewest, push_nearest, push_sent};
-use crate::ends::Facing;
+use crate::facing::Facing;
 use crate::lifetimes::push_short;
 use ao_base::push_decimal;
 use book_cmd_keys::Plan;

@@ -7,7 +7,7 @@ mod connection;
 mod connections;
 mod differences;
 mod drawn;
-mod ends;
+mod facing;
 mod findings;
 mod key_file;
 mod lifetimes;

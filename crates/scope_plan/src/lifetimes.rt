@@ -5,7 +5,7 @@ ghost use Rattle.book_plans.specs.Differences.{differences, is_alike};
 ghost use Rattle.book_scope_plan.specs.FindingTexts.{accepting_lines, accepting_row, accepts_text, early_line, late_line, lifetime_lines, planned_accepting, row_name, sends_text, set_text, text_if, wanted_text};
 ghost use Rattle.scope_plan.specs.Facings.{facing_of};
 
-use crate::ends::Facing;
+use crate::facing::Facing;
 use ao_base::push_decimal;
 use book_cmd_keys::Plan;
 use key_plan::{differences, wanted_accepting};

@@ -2,10 +2,10 @@
 ghost use Rattle.std.specs.Prelude.{◌≡◌, ◌++◌, option_map, IfOk, OnOk};
 ghost use Rattle.book_scope_plan.specs.CalendarTexts.{id_for, is_spent, row_numbered, row_turn_text, side_of, spent_text, told_turns, told_with, turn_words};
 
-use crate::ends::Ends;
 use ao_base::push_decimal;
 use book_base::Bytes;
 use book_scope_plan::Told;
+use draw_plan::Connected;
 use key_plan::{Role, Turn};
 use key_table::Row;
 use plan_texts::row_numbered;
@@ -70,8 +70,13 @@ fn push_row_turn(out: &mut Vec<u8>, words: &[u8], turn: &Turn, row: &Row) -> Res
 }
 
 /// Adds the turn as it is told, where it is.
-fn add_told(alloc: Global, told: &mut Vec<Told>, ends: &Ends, turn: &Turn) -> Result<(), AllocError>
-    ensures { OnOk result (told.new.items ≡ told.old.items ++ told_with (turn_words turn.now.role turn.now.begins) (row_numbered (side_of turn.now.end ends.now.a.now ends.now.b.now).rows turn.now.row) turn.now) }
+fn add_told(
+    alloc: Global,
+    told: &mut Vec<Told>,
+    ends: &Connected,
+    turn: &Turn,
+) -> Result<(), AllocError>
+    ensures { OnOk result (told.new.items ≡ told.old.items ++ told_with (turn_words turn.now.role turn.now.begins) (row_numbered (side_of turn.now.end ends.now.tables.a.now ends.now.tables.b.now).rows turn.now.row) turn.now) }
 {
     let words = match turn_words(turn.role, turn.begins) {
         Some(words) => words,
@@ -94,10 +99,10 @@ fn add_told(alloc: Global, told: &mut Vec<Told>, ends: &Ends, turn: &Turn) -> Re
 /// The turns of the tables of two ends as they are told.
 pub(crate) fn told_turns(
     alloc: Global,
-    ends: &Ends,
+    ends: &Connected,
     turns: &[Turn],
 ) -> Result<Vec<Told>, AllocError>
-    ensures { IfOk result (λ v. v.items ≡ told_turns ends.now.a.now ends.now.b.now turns.now) }
+    ensures { IfOk result (λ v. v.items ≡ told_turns ends.now.tables.a.now ends.now.tables.b.now turns.now) }
 {
     let mut told = Vec::new(alloc);
     for turn in turns {

@@ -90,11 +90,6 @@ pub heard_bad : (j : Judging) (k : Listening) (after : Hearing) (time : ℕ) (by
 unfolding listen
 heard_bad j k after time bytes fault is knows = rw is (record { seen = refl; knows = knows })
 
--- what is heard of a datagram
-pub heard_read : (j : Judging) (k : Listening) (after : Hearing) (time : ℕ) (bytes : Reading) (d : Segment) (s : SeenSegment) → bytes ≡ Read d
-    → IsSeen time d s (listen j k time (Read d)) → Knows after (listen j k time (Read d)).listening → IsHeard time bytes (Ok s) after (listen j k time bytes)
-heard_read j k after time bytes d s is seen knows = rw is (record { seen = sym seen; knows = knows })
-
 -- bytes that were stored, unless memory ran out
 pub stored_on : {E : Type 0} (result : Result (Unit {0}) E) (j : Judging) (k : Listening) (after : Hearing) (before now : SessionTable) (s : Stored) (seen : Result SeenSegment PassedOver)
     → IsHeard s.time (reading s.bytes) seen after (listen j k s.time (reading s.bytes)) → OnOk result (now ≡ and_counted seen before) → OnOk result (CountsStored j k after before now (Ok s))

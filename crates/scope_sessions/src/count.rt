@@ -62,10 +62,8 @@ fn count_stored<L: Ledger>(
         (CountsStored listener.old.judging k listener.new index.old index.new (Ok (record { number = number; time = time; bytes = bytes.now }))) }
     ensures judging { listener.new.judging ≡ listener.old.judging }
 {
-    match hear(listener, alloc, steps, time, bytes) {
-        Ok(seen) => index.count(alloc, &seen),
-        Err(error) => Err(error),
-    }
+    let seen = hear(listener, alloc, steps, time, bytes)?;
+    index.count(alloc, &seen)
 }
 
 // Counts a packet whose frame has this datagram, or none for this reason.

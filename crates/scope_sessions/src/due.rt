@@ -31,34 +31,22 @@ pub(crate) enum TextHalt {
 pub(crate) fn second_of(time: Option<u64>) -> Option<u64>
     ensures { result ≡ option_map (λ nanoseconds. nanoseconds / 1000000000) time }
 {
-    match time {
-        None => None,
-        Some(time) => Some(time / NANOSECONDS),
-    }
+    time.map(|time| time / NANOSECONDS)
 }
 
 fn is_past(every: u64, since: u64, now: u64) -> bool
     ensures { result ≡ nat_le (since + every) now }
 {
-    match since.checked_add(every) {
-        None => false,
-        Some(due) => due <= now,
-    }
+    since.checked_add(every).is_some_and(|due| due <= now)
 }
 
 /// Whether a table is due now.
 pub(crate) fn is_due(every: Option<u64>, since: Option<u64>, now: Option<u64>) -> bool
     ensures { result ≡ is_table_due every since now }
 {
-    match every {
-        None => false,
-        Some(every) => match since {
-            None => false,
-            Some(since) => match now {
-                None => false,
-                Some(now) => is_past(every, since, now),
-            },
-        },
+    match (every, since, now) {
+        (Some(every), Some(since), Some(now)) => is_past(every, since, now),
+        _ => false,
     }
 }
 

@@ -38,10 +38,8 @@ fn listen<L: Ledger>(
     ensures knows { (k : Listening) → Knows listener.old k → OnOk result (Knows listener.new (listen listener.old.judging k time (Read datagram.now)).listening) }
     ensures judging { listener.new.judging ≡ listener.old.judging }
 {
-    match listener.hear(alloc, time, datagram, steps) {
-        Ok(outcome) => Ok(seen_segment(time, datagram, outcome)),
-        Err(error) => Err(error),
-    }
+    let outcome = listener.hear(alloc, time, datagram, steps)?;
+    Ok(seen_segment(time, datagram, outcome))
 }
 
 /// What is seen of the bytes that were stored at a time, in seconds since 1970, by what was heard before.
@@ -58,9 +56,9 @@ pub(crate) fn hear<L: Ledger>(
 {
     match read_datagram(bytes) {
         Err(fault) => Ok(Err(PassedOver::Faulty(fault))),
-        Ok(datagram) => match listen(listener, alloc, steps, time, &datagram) {
-            Ok(seen) => Ok(Ok(seen)),
-            Err(error) => Err(error),
-        },
+        Ok(datagram) => {
+            let seen = listen(listener, alloc, steps, time, &datagram)?;
+            Ok(Ok(seen))
+        }
     }
 }

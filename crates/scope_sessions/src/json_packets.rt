@@ -120,14 +120,8 @@ pub(crate) fn push_packets(
 ) -> Result<(), AllocError>
     ensures { OnOk result (out.new.items ≡ out.old.items ++ packets_json index.now) }
 {
-    let segments = match all_counted(index.uses()) {
-        None => return Err(AllocError),
-        Some(segments) => segments,
-    };
-    let others = match all_passed(index.passed()) {
-        None => return Err(AllocError),
-        Some(others) => others,
-    };
+    let segments = all_counted(index.uses()).ok_or(AllocError)?;
+    let others = all_passed(index.passed()).ok_or(AllocError)?;
     push_seen(alloc, out, segments, index.uses())?;
     push_others(alloc, out, others, index.passed())
 }

@@ -16,10 +16,7 @@ use std::alloc::{AllocError, Global};
 fn is_id(found: Option<u8>, id: u8) -> bool
     ensures { result ≡ is_id found id }
 {
-    match found {
-        None => false,
-        Some(one) => one == id,
-    }
+    found == Some(id)
 }
 
 // What goes between the node's socket and the other one.

@@ -23,30 +23,13 @@ pub fn push_passed(out: &mut Vec<u8>, why: PassedOver) -> Result<(), AllocError>
 fn is_unread(why: Skipped) -> bool
     ensures { result ≡ is_unread why }
 {
-    match why {
-        Skipped::UnknownLink(_) => true,
-        Skipped::NotIp => false,
-        Skipped::Version => true,
-        Skipped::NotSession => false,
-        Skipped::Short(_) => true,
-        Skipped::Cut(_) => true,
-    }
+    !matches!(why, Skipped::NotIp | Skipped::NotSession)
 }
 
 fn is_broken(fault: DatagramFault) -> bool
     ensures { result ≡ is_broken fault }
 {
-    match fault {
-        DatagramFault::Truncated => true,
-        DatagramFault::Version => true,
-        DatagramFault::HeaderLength => true,
-        DatagramFault::HeaderChecksum => true,
-        DatagramFault::Fragment => true,
-        DatagramFault::NotTcp => false,
-        DatagramFault::ExtensionHeader => true,
-        DatagramFault::DataOffset => true,
-        DatagramFault::BadOption(_) => true,
-    }
+    !matches!(fault, DatagramFault::NotTcp)
 }
 
 /// Whether a packet that is passed over for this reason may be one of TCP.

@@ -21,10 +21,7 @@ pub(crate) fn all_counted(uses: &[KeyUse]) -> Option<u64>
 {
     let mut count: u64 = 0;
     for one in uses {
-        match count.checked_add(one.segments) {
-            None => return None,
-            Some(more) => count = more,
-        }
+        count = count.checked_add(one.segments)?;
     }
     Some(count)
 }
@@ -35,10 +32,7 @@ pub(crate) fn all_passed(passed: &[PassedCount]) -> Option<u64>
 {
     let mut count: u64 = 0;
     for one in passed {
-        match count.checked_add(one.packets) {
-            None => return None,
-            Some(more) => count = more,
-        }
+        count = count.checked_add(one.packets)?;
     }
     Some(count)
 }
@@ -46,23 +40,13 @@ pub(crate) fn all_passed(passed: &[PassedCount]) -> Option<u64>
 fn has_unverified(uses: &[KeyUse]) -> bool
     ensures { result ≡ list_any (λ u. not (is_verified u.outcome)) uses.now }
 {
-    for one in uses {
-        if !is_verified(one.outcome) {
-            return true;
-        }
-    }
-    false
+    uses.iter().any(|one| !is_verified(one.outcome))
 }
 
 fn has_doubtful(passed: &[PassedCount]) -> bool
     ensures { result ≡ list_any (λ c. is_doubtful c.why) passed.now }
 {
-    for count in passed {
-        if is_doubtful(count.why) {
-            return true;
-        }
-    }
-    false
+    passed.iter().any(|count| is_doubtful(count.why))
 }
 
 /// Whether a segment isn't verified, or a packet that is passed over may be one.
@@ -84,14 +68,8 @@ pub(crate) fn push_table(
     ensures { OnOk result (out.new.items ≡ out.old.items ++ sessions_text tables.now index.now) }
 {
     let uses = index.uses();
-    let segments = match all_counted(uses) {
-        None => return Err(AllocError),
-        Some(segments) => segments,
-    };
-    let others = match all_passed(index.passed()) {
-        None => return Err(AllocError),
-        Some(others) => others,
-    };
+    let segments = all_counted(uses).ok_or(AllocError)?;
+    let others = all_passed(index.passed()).ok_or(AllocError)?;
     let currents = currents(alloc, index)?;
     push_capture(out, segments, others, uses)?;
     push_counts(out, index.passed())?;

@@ -8,15 +8,15 @@ use Rattle.book_scope_plan.specs.AdminNames.{KeyFile}
 use Rattle.book_segments.specs.Segments.{Segment}
 use Rattle.book_sessions.specs.declared.outcome.PassedOver.{PassedOver}
 use Rattle.book_why_texts.specs.Answers.{Behind, WhyAsked, answer_behind, passes_behind, said_and_why, said_behind}
-use Rattle.scope_why.specs.declared.asking.Asking.{Asking}
+use Rattle.scope_why.specs.declared.question.Question.{Question}
 use Rattle.scope_why.specs.declared.answer.Answered.{Answered}
 
 -- the key file: the document that is asked about, and the tables that the checker judges by
-abbrev pub key_file_of : Asking → List Table → KeyFile
+abbrev pub key_file_of : Question → List Table → KeyFile
 key_file_of a tables = record { document = table_view a.document.now; tables = tables }
 
 -- the question
-abbrev pub asked_of : Asking → List GivenIsns → ℕ → WhyAsked
+abbrev pub asked_of : Question → List GivenIsns → ℕ → WhyAsked
 asked_of a given number = record { given = given; number = number; with_key = a.with_key }
 
 -- what is said of a segment, and why, was put behind a text; and whether it passes

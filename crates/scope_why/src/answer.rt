@@ -13,10 +13,10 @@ ghost use Rattle.scope_why.specs.Fronts.{StandsBehind, stored_as};
 ghost use Rattle.scope_why.specs.Replies.{AnswersBehind, SaysWhy, key_file_of};
 ghost use Rattle.scope_why.specs.Views.{inquiry_of};
 
-use crate::asking::Asking;
 use crate::facts::Facts;
 use crate::inquiry::Inquiry;
 use crate::others::other_isns;
+use crate::question::Question;
 use crate::reasons::push_why;
 use crate::said::push_said;
 use crate::segment_line::{push_no_segment, push_segment_line};
@@ -112,7 +112,7 @@ fn push_reason(
 fn push_said_and_why<L: Ledger>(
     checker: &mut Checker,
     told: &[GivenIsns],
-    asking: &Asking<'_>,
+    question: &Question<'_>,
     alloc: Global,
     steps: &mut Steps<L>,
     time: u64,
@@ -120,20 +120,17 @@ fn push_said_and_why<L: Ledger>(
     out: &mut Vec<u8>,
 ) -> Result<bool, AllocError>
     ensures { (b : Behind) (number : ℕ) (bytes : List ℕ) → StandsBehind checker.old.entries told.now b → reading bytes ≡ Read datagram.now
-        → IfOk result (λ passes. SaysWhy (key_file_of asking.now checker.old.tables) b asking.now.with_key (record { number = number; time = time; bytes = bytes }) datagram.now out.old.items out.new.items passes) }
+        → IfOk result (λ passes. SaysWhy (key_file_of question.now checker.old.tables) b question.now.with_key (record { number = number; time = time; bytes = bytes }) datagram.now out.old.items out.new.items passes) }
 {
     let facts = Facts {
-        document: asking.document,
-        with_key: asking.with_key,
+        document: question.document,
+        with_key: question.with_key,
         told,
         known: checker.known(datagram.source(), datagram.destination()),
         time,
         datagram,
     };
-    let line = match checker.hear(alloc, time, datagram, steps) {
-        Ok(line) => line,
-        Err(error) => return Err(error),
-    };
+    let line = checker.hear(alloc, time, datagram, steps)?;
     push_said(out, &line)?;
     push_reason(alloc, out, &facts, checker.tables(), &line)?;
     Ok(line.is_pass())
@@ -156,7 +153,7 @@ fn answer_other(alloc: Global, number: u64, why: PassedOver) -> Result<Answered,
 fn answer_segment<L: Ledger>(
     checker: &mut Checker,
     told: &[GivenIsns],
-    asking: &Asking<'_>,
+    question: &Question<'_>,
     alloc: Global,
     steps: &mut Steps<L>,
     number: u64,
@@ -164,12 +161,12 @@ fn answer_segment<L: Ledger>(
     datagram: &Datagram<'_>,
 ) -> Result<Answered, AllocError>
     ensures { (b : Behind) (bytes : List ℕ) → StandsBehind checker.old.entries told.now b → reading bytes ≡ Read datagram.now
-        → IfOk result (λ a. AnswersBehind (key_file_of asking.now checker.old.tables) b asking.now.with_key number (Ok (record { number = number; time = time; bytes = bytes })) a) }
+        → IfOk result (λ a. AnswersBehind (key_file_of question.now checker.old.tables) b question.now.with_key number (Ok (record { number = number; time = time; bytes = bytes })) a) }
 {
     let mut text = Vec::new(alloc);
     push_segment_line(&mut text, number, time, datagram)?;
     let passes = push_said_and_why(
-        checker, told, asking, alloc, steps, time, datagram, &mut text,
+        checker, told, question, alloc, steps, time, datagram, &mut text,
     )?;
     Ok(Answered { text, passes })
 }
@@ -178,21 +175,21 @@ fn answer_segment<L: Ledger>(
 fn answer_stored<L: Ledger>(
     checker: &mut Checker,
     told: &[GivenIsns],
-    asking: &Asking<'_>,
+    question: &Question<'_>,
     alloc: Global,
     steps: &mut Steps<L>,
     number: u64,
     stored: StoredBytes<'_>,
 ) -> Result<Answered, AllocError>
     ensures { (b : Behind) → StandsBehind checker.old.entries told.now b
-        → IfOk result (λ a. AnswersBehind (key_file_of asking.now checker.old.tables) b asking.now.with_key number (stored_as number (Ok stored.entry)) a) }
+        → IfOk result (λ a. AnswersBehind (key_file_of question.now checker.old.tables) b question.now.with_key number (stored_as number (Ok stored.entry)) a) }
 {
     match read_datagram(stored.bytes) {
         Err(fault) => answer_other(alloc, number, PassedOver::Faulty(fault)),
         Ok(datagram) => answer_segment(
             checker,
             told,
-            asking,
+            question,
             alloc,
             steps,
             number,
@@ -207,17 +204,17 @@ fn answer_stored<L: Ledger>(
 pub(crate) fn answer_packet<L: Ledger>(
     checker: &mut Checker,
     told: &[GivenIsns],
-    asking: &Asking<'_>,
+    question: &Question<'_>,
     alloc: Global,
     steps: &mut Steps<L>,
     number: u64,
     stored: Result<StoredBytes<'_>, PassedOver>,
 ) -> Result<Answered, AllocError>
     ensures { (b : Behind) → StandsBehind checker.old.entries told.now b
-        → IfOk result (λ a. AnswersBehind (key_file_of asking.now checker.old.tables) b asking.now.with_key number (stored_as number stored.entry) a) }
+        → IfOk result (λ a. AnswersBehind (key_file_of question.now checker.old.tables) b question.now.with_key number (stored_as number stored.entry) a) }
 {
     match stored {
         Err(why) => answer_other(alloc, number, why),
-        Ok(stored) => answer_stored(checker, told, asking, alloc, steps, number, stored),
+        Ok(stored) => answer_stored(checker, told, question, alloc, steps, number, stored),
     }
 }

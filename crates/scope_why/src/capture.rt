@@ -7,8 +7,8 @@ ghost use Rattle.scope_why.specs.Reading.{Reads};
 ghost use Rattle.scope_why.specs.Replies.{asked_of, key_file_of};
 
 use crate::answer::{Answered, answer_packet};
-use crate::asking::Asking;
 use crate::front::{hear_packet, told_first};
+use crate::question::Question;
 use crate::segment_line::push_no_packet;
 use crate::shown::stored_shown;
 use ao_base::{Source, Steps};
@@ -39,7 +39,7 @@ fn answer_counted<L: Ledger, I: Source>(
     alloc: Global,
     tables: Tables,
     given: &[GivenIsns],
-    asking: &Asking<'_>,
+    question: &Question<'_>,
     number: u64,
     input: &mut I,
     blank: Blank,
@@ -47,7 +47,7 @@ fn answer_counted<L: Ledger, I: Source>(
     requires name { blank.name ≡ L.name }
     requires parts { blank.parts ≡ L.parts }
     requires part { 0 < blank.parts }
-    ensures { (bytes : List ℕ) × Reads (key_file_of asking.now tables) (asked_of asking.now given.now number) bytes (I.side input.old) (I.side input.new) result }
+    ensures { (bytes : List ℕ) × Reads (key_file_of question.now tables) (asked_of question.now given.now number) bytes (I.side input.old) (I.side input.new) result }
 {
     let mut steps = Steps::<L>::new(blank);
     let mut reader = match CaptureReader::new(alloc) {
@@ -80,7 +80,7 @@ fn answer_counted<L: Ledger, I: Source>(
             match answer_packet(
                 &mut checker,
                 told.as_slice(),
-                asking,
+                question,
                 alloc,
                 &mut steps,
                 number,
@@ -106,11 +106,11 @@ pub(crate) fn answer_capture<I: Source>(
     alloc: Global,
     tables: Tables,
     given: &[GivenIsns],
-    asking: &Asking<'_>,
+    question: &Question<'_>,
     number: u64,
     input: &mut I,
 ) -> Result<Answered, JudgingHalt>
-    ensures { (bytes : List ℕ) × Reads (key_file_of asking.now tables) (asked_of asking.now given.now number) bytes (I.side input.old) (I.side input.new) result }
+    ensures { (bytes : List ℕ) × Reads (key_file_of question.now tables) (asked_of question.now given.now number) bytes (I.side input.old) (I.side input.new) result }
 {
-    answer_counted::<Brand, I>(alloc, tables, given, asking, number, input, Blank::new(1))
+    answer_counted::<Brand, I>(alloc, tables, given, question, number, input, Blank::new(1))
 }

@@ -24,10 +24,8 @@ fn hear_stored<L: Ledger>(
     ensures tables { checker.new.tables ≡ checker.old.tables }
 {
     push_told(told, stored.bytes)?;
-    match checker.next(alloc, stored.time, stored.bytes, steps) {
-        Ok(_) => Ok(()),
-        Err(error) => Err(error),
-    }
+    checker.next(alloc, stored.time, stored.bytes, steps)?;
+    Ok(())
 }
 
 /// Hears a packet of which this is judged, and keeps what it tells. With want of memory what it tells may be

@@ -3,14 +3,14 @@
 #![tactic(auto)]
 
 mod answer;
-mod asking;
 mod capture;
 mod facts;
 mod front;
 mod inquiry;
-mod lacking;
+mod lacks;
 mod macs;
 mod others;
+mod question;
 mod reasons;
 mod rows;
 mod said;

@@ -48,10 +48,7 @@ fn is_same_pair(one: IsnPair, other: IsnPair) -> bool
 fn is_own(own: Option<IsnPair>, pair: IsnPair) -> bool
     ensures { result ≡ are_own own pair }
 {
-    match own {
-        None => false,
-        Some(own) => is_same_pair(own, pair),
-    }
+    own.is_some_and(|own| is_same_pair(own, pair))
 }
 
 fn is_among(pairs: &[IsnPair], pair: IsnPair) -> bool

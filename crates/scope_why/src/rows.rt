@@ -8,7 +8,7 @@ ghost use Rattle.book_scope_plan.specs.FindingTexts.{admin_text};
 ghost use Rattle.book_why.specs.ChangeTexts.{options_text};
 ghost use Rattle.book_why_texts.specs.Lacks.{lacks, lifetime_texts, row_and_lacks, row_shown, row_shown_line, rows_and_lacks};
 
-use crate::lacking::push_lacks;
+use crate::lacks::push_lacks;
 use book_base::Pair;
 use key_table::{Lifetime, Row, Table};
 use plan_texts::{admin_name, push_admin};

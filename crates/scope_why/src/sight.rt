@@ -52,13 +52,10 @@ pub(crate) fn isns_at(inquiry: &Inquiry<'_>) -> Option<IsnPair>
     if inquiry.datagram.has(Flag::Syn) {
         return Some(isns_of_syn(inquiry.datagram));
     }
-    match inquiry.known {
-        None => None,
-        Some(known) => Some(IsnPair {
-            source_isn: known.source_isn,
-            destination_isn: known.destination_isn,
-        }),
-    }
+    inquiry.known.map(|known| IsnPair {
+        source_isn: known.source_isn,
+        destination_isn: known.destination_isn,
+    })
 }
 
 /// The number that is expected of the source of a segment, where it is known; none at a SYN.
@@ -70,10 +67,7 @@ pub(crate) fn expected_at(inquiry: &Inquiry<'_>) -> Option<u64>
     if inquiry.datagram.has(Flag::Syn) {
         return None;
     }
-    match inquiry.known {
-        None => None,
-        Some(known) => Some(known.expected),
-    }
+    inquiry.known.map(|known| known.expected)
 }
 
 /// The number of a segment, where it isn't below 0.
@@ -104,10 +98,7 @@ pub(crate) fn ao_at<'a>(inquiry: &Inquiry<'a>) -> Option<AoOption<'a>>
 pub(crate) fn row_at<'a>(inquiry: &Inquiry<'a>) -> Option<NumberedRow<'a>>
     ensures { Finds numbered_of result (row_at (sight_of inquiry.now)) }
 {
-    let ao = match ao_at(inquiry) {
-        Some(ao) => ao,
-        None => return None,
-    };
+    let ao = ao_at(inquiry)?;
     match inquiry
         .table
         .accept_row(&pair_at(inquiry.datagram), ao.key_id, inquiry.time)
@@ -128,22 +119,10 @@ pub(crate) fn suspect_at<'a>(inquiry: &Inquiry<'a>) -> Option<Suspect<'a>>
     ensures found { Finds suspect_view result (suspect_at (sight_of inquiry.now)) }
     ensures one { IfSome result (λ s. find_ao s.datagram.now.area ≡ One (view_ao s.ao)) }
 {
-    let ao = match ao_at(inquiry) {
-        Some(ao) => ao,
-        None => return None,
-    };
-    let found = match row_at(inquiry) {
-        Some(found) => found,
-        None => return None,
-    };
-    let isns = match isns_at(inquiry) {
-        Some(isns) => isns,
-        None => return None,
-    };
-    let number = match number_at(inquiry) {
-        Some(number) => number,
-        None => return None,
-    };
+    let ao = ao_at(inquiry)?;
+    let found = row_at(inquiry)?;
+    let isns = isns_at(inquiry)?;
+    let number = number_at(inquiry)?;
     Some(Suspect {
         datagram: inquiry.datagram,
         ao,

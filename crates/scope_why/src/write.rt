@@ -4,8 +4,8 @@ ghost use Rattle.ao_base.specs.Outside.{Side};
 ghost use Rattle.scope_why.specs.Writing.{Writes, WritesAnswer};
 
 use crate::answer::Answered;
-use crate::asking::Asking;
 use crate::capture::answer_capture;
+use crate::question::Question;
 use ao_base::{Failed, Sink, Source, write_all};
 use scope_plan::{KeyFile, read_key_file};
 use scope_sessions::{JudgingHalt, halt_of, halt_of_lines, read_given};
@@ -61,7 +61,7 @@ pub fn write_why<I: Source, O: Sink>(
         Err(fault) => return Err(halt_of_lines(fault)),
     };
     let KeyFile { document, tables } = file;
-    let asking = Asking {
+    let question = Question {
         document: &document,
         with_key: request.with_key,
     };
@@ -69,7 +69,7 @@ pub fn write_why<I: Source, O: Sink>(
         alloc,
         tables,
         given.as_slice(),
-        &asking,
+        &question,
         request.number,
         input,
     ) {

@@ -9,11 +9,7 @@ use std::cmp::Ordering;
 fn is_low(one: Socket, other: Socket) -> bool
     ensures { result ≡ is_low one other }
 {
-    match other.cmp(&one) {
-        Ordering::Less => false,
-        Ordering::Equal => true,
-        Ordering::Greater => true,
-    }
+    !matches!(other.cmp(&one), Ordering::Less)
 }
 
 /// The two sockets in their order: the lower one in the place of the local one.

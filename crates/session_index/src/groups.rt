@@ -20,10 +20,7 @@ use std::collections::BTreeMap;
 fn is_use_at(segment: &SeenSegment, uses: &[KeyUse], place: usize) -> bool
     ensures { result ≡ is_use_found segment.now (slice_get uses.now place) }
 {
-    match uses.get(place) {
-        None => false,
-        Some(one) => is_use_of(segment, one),
-    }
+    uses.get(place).is_some_and(|one| is_use_of(segment, one))
 }
 
 // The first of these places at which a segment is one of the use.
@@ -48,13 +45,9 @@ fn count_again(
     ensures counted { OnOk result (CountsAgain segment.now place uses.old.items uses.new.items) }
     ensures unchanged { OnErr result (uses.new.items ≡ uses.old.items) }
 {
-    match used_again(segment, &uses[place]) {
-        None => Err(AllocError),
-        Some(again) => {
-            uses[place] = again;
-            Ok(())
-        }
-    }
+    let again = used_again(segment, &uses[place]).ok_or(AllocError)?;
+    uses[place] = again;
+    Ok(())
 }
 
 // The first of its kind, in a session that has uses at these places. After want of memory nothing has
@@ -68,14 +61,8 @@ fn count_next(
     ensures counted { OnOk result (CountsNext number segment.now uses.old.items uses.new.items places.old.items places.new.items) }
     ensures unchanged { OnErr result ((uses.new.items ≡ uses.old.items) × (places.new.items ≡ places.old.items)) }
 {
-    match uses.reserve(1) {
-        Ok(()) => {}
-        Err(_) => return Err(AllocError),
-    }
-    match places.push(uses.len()) {
-        Ok(()) => {}
-        Err(_) => return Err(AllocError),
-    }
+    uses.reserve(1)?;
+    places.push(uses.len())?;
     uses.push_reserved(first_use(number, segment));
     Ok(())
 }
@@ -127,23 +114,11 @@ pub(crate) fn count_first(
     ensures unchanged { OnErr result ((uses.new.items ≡ uses.old.items) × ((groups.new.items ≡ groups.old.items) × (numbers.new.entries ≡ numbers.old.entries))) }
 {
     let mut places = Vec::new(alloc);
-    match places.push(uses.len()) {
-        Ok(()) => {}
-        Err(_) => return Err(AllocError),
-    }
-    match uses.reserve(1) {
-        Ok(()) => {}
-        Err(_) => return Err(AllocError),
-    }
-    match groups.reserve(1) {
-        Ok(()) => {}
-        Err(_) => return Err(AllocError),
-    }
+    places.push(uses.len())?;
+    uses.reserve(1)?;
+    groups.reserve(1)?;
     let number = groups.len() + 1;
-    match numbers.insert(ends_of(segment.source, segment.destination), number) {
-        Ok(_) => {}
-        Err(_) => return Err(AllocError),
-    }
+    numbers.insert(ends_of(segment.source, segment.destination), number)?;
     groups.push_reserved(places);
     uses.push_reserved(first_use(number as u64, segment));
     Ok(())

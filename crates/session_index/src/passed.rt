@@ -32,20 +32,14 @@ pub(crate) fn count_passed(passed: &mut Vec<PassedCount>, why: PassedOver) -> Re
 {
     let place = place_of_reason(why, passed.as_slice());
     if place >= passed.len() {
-        match passed.push(PassedCount { why, packets: 1 }) {
-            Ok(()) => return Ok(()),
-            Err(_) => return Err(AllocError),
-        }
+        passed.push(PassedCount { why, packets: 1 })?;
+        return Ok(());
     }
     let before = passed[place];
-    match before.packets.checked_add(1) {
-        None => Err(AllocError),
-        Some(packets) => {
-            passed[place] = PassedCount {
-                why: before.why,
-                packets,
-            };
-            Ok(())
-        }
-    }
+    let packets = before.packets.checked_add(1).ok_or(AllocError)?;
+    passed[place] = PassedCount {
+        why: before.why,
+        packets,
+    };
+    Ok(())
 }

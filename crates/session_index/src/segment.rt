@@ -16,19 +16,13 @@ fn is_same_way(source: Socket, destination: Socket, one: Socket, two: Socket) ->
 fn key_id_of(segment: &SeenSegment) -> Option<u8>
     ensures { result ≡ key_id_of segment.now }
 {
-    match segment.ids {
-        None => None,
-        Some(ids) => Some(ids.key_id),
-    }
+    segment.ids.map(|ids| ids.key_id)
 }
 
 fn asked_by(segment: &SeenSegment) -> Option<u8>
     ensures { result ≡ asked_by segment.now }
 {
-    match segment.ids {
-        None => None,
-        Some(ids) => Some(ids.rnext_key_id),
-    }
+    segment.ids.map(|ids| ids.rnext_key_id)
 }
 
 /// Whether a segment is one of these.
@@ -66,19 +60,17 @@ pub(crate) fn first_use(session: u64, segment: &SeenSegment) -> KeyUse
 pub(crate) fn used_again(segment: &SeenSegment, one: &KeyUse) -> Option<KeyUse>
     ensures { IfSome result (λ now. now ≡ used_again segment.now one.now) }
 {
-    match one.segments.checked_add(1) {
-        None => None,
-        Some(segments) => Some(KeyUse {
-            session: one.session,
-            source: one.source,
-            destination: one.destination,
-            key_id: one.key_id,
-            outcome: one.outcome,
-            opens: one.opens || segment.opens,
-            segments,
-            first: one.first.min(segment.time),
-            last: one.last.max(segment.time),
-            asked: asked_by(segment),
-        }),
-    }
+    let segments = one.segments.checked_add(1)?;
+    Some(KeyUse {
+        session: one.session,
+        source: one.source,
+        destination: one.destination,
+        key_id: one.key_id,
+        outcome: one.outcome,
+        opens: one.opens || segment.opens,
+        segments,
+        first: one.first.min(segment.time),
+        last: one.last.max(segment.time),
+        asked: asked_by(segment),
+    })
 }

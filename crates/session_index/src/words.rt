@@ -48,11 +48,5 @@ pub(crate) fn is_same_outcome(one: SegmentOutcome, two: SegmentOutcome) -> bool
 pub(crate) fn is_same_id(one: Option<u8>, two: Option<u8>) -> bool
     ensures { result ≡ same_id one two }
 {
-    match one {
-        None => two.is_none(),
-        Some(one) => match two {
-            None => false,
-            Some(two) => one == two,
-        },
-    }
+    one == two
 }

@@ -1,5 +1,5 @@
 //! What a MAC is computed over in front of the payload.
-ghost use Rattle.std.specs.Prelude.{◌≡◌, ◌≤◌, ◌+◌, [], ◌∷◌, ◌++◌, OnOk, IfOk, true, false, length};
+ghost use Rattle.std.specs.Prelude.{◌≡◌, ◌≤◌, ◌<◌, ◌+◌, [], ◌∷◌, ◌++◌, OnOk, IfOk, true, false, length};
 ghost use Rattle.book_segments.specs.Bytes.{put2, put4};
 ghost use Rattle.book_segments.specs.Options.{One, find_ao};
 ghost use Rattle.book_segments.specs.Segments.{header, pseudo, tcp_length};
@@ -54,53 +54,23 @@ pub(crate) fn push_four(out: &mut Vec<u8>, number: u64) -> Result<(), AllocError
 fn tcp_length_of(datagram: &Datagram<'_>) -> u16
     ensures length { result ≡ tcp_length datagram.now }
     ensures fits { Fits datagram.now }
+    ensures short { result < 65536 }
 {
     (20 + datagram.options().area().len() + datagram.payload().len()) as u16
 }
 
-fn push_tail_v4(out: &mut Vec<u8>, total: u16) -> Result<(), AllocError>
-    ensures { OnOk result (out.new.items ≡ out.old.items ++ (0 ∷ 6 ∷ put2 total [])) }
-{
-    push_piece(out, &[0, TCP_PROTOCOL])?;
-    push_two(out, total)?;
-    Ok(())
-}
-
-fn push_tail_v6(out: &mut Vec<u8>, total: u16) -> Result<(), AllocError>
-    ensures { OnOk result (out.new.items ≡ out.old.items ++ put4 total (0 ∷ 0 ∷ 0 ∷ 6 ∷ [])) }
-{
-    push_four(out, total as u64)?;
-    push_piece(out, &[0, 0, 0, TCP_PROTOCOL])?;
-    Ok(())
-}
-
-// The pseudo-header of IPv4 (RFC 9293, section 3.1).
-fn push_pseudo_v4(
+// A pseudo-header: two addresses, and what stands behind them.
+fn push_addressed(
     out: &mut Vec<u8>,
-    source: &[u8; 4],
-    destination: &[u8; 4],
-    total: u16,
+    source: &[u8],
+    destination: &[u8],
+    tail: &[u8],
 ) -> Result<(), AllocError>
-    ensures { OnOk result (out.new.items ≡ out.old.items ++ (source.now ++ (destination.now ++ (0 ∷ 6 ∷ put2 total [])))) }
+    ensures { OnOk result (out.new.items ≡ out.old.items ++ (source.now ++ (destination.now ++ tail.now))) }
 {
     push_piece(out, source)?;
     push_piece(out, destination)?;
-    push_tail_v4(out, total)?;
-    Ok(())
-}
-
-// The pseudo-header of IPv6 (RFC 8200, section 8.1).
-fn push_pseudo_v6(
-    out: &mut Vec<u8>,
-    source: &[u8; 16],
-    destination: &[u8; 16],
-    total: u16,
-) -> Result<(), AllocError>
-    ensures { OnOk result (out.new.items ≡ out.old.items ++ (source.now ++ (destination.now ++ put4 total (0 ∷ 0 ∷ 0 ∷ 6 ∷ [])))) }
-{
-    push_piece(out, source)?;
-    push_piece(out, destination)?;
-    push_tail_v6(out, total)?;
+    push_piece(out, tail)?;
     Ok(())
 }
 
@@ -109,12 +79,14 @@ pub(crate) fn push_pseudo(out: &mut Vec<u8>, datagram: &Datagram<'_>) -> Result<
     ensures { OnOk result (out.new.items ≡ out.old.items ++ pseudo datagram.now []) }
 {
     let length = tcp_length_of(datagram);
+    let [high, low] = length.to_be_bytes();
     match (datagram.source().address, datagram.destination().address) {
         (Address::V4(source), Address::V4(destination)) => {
-            push_pseudo_v4(out, &source, &destination, length)
+            push_addressed(out, &source, &destination, &[0, TCP_PROTOCOL, high, low])
         }
         (Address::V6(source), Address::V6(destination)) => {
-            push_pseudo_v6(out, &source, &destination, length)
+            let tail = [0, 0, high, low, 0, 0, 0, TCP_PROTOCOL];
+            push_addressed(out, &source, &destination, &tail)
         }
         _ => unreachable!(),
     }

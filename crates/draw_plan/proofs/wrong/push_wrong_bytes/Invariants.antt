@@ -5,5 +5,5 @@ use Rattle.draw_plan.proofs.wrong.push_wrong_bytes.Given as goal
 
 abbrev pub invariant-loop-slice : goal.invariant-loop-slice
 invariant-loop-slice l =
-    l.out.items ++ flat_map (slice_mark l.ends.a.now l.ends.b.now l.ends.pair l.findings) (drop l.slice-index l.slices)
-    ≡ l.fn.out.items ++ flat_map (slice_mark l.ends.a.now l.ends.b.now l.ends.pair l.findings) l.slices
+    l.out.items ++ flat_map (slice_mark l.ends.tables.a.now l.ends.tables.b.now l.ends.pair l.findings) (drop l.slice-index l.slices)
+    ≡ l.fn.out.items ++ flat_map (slice_mark l.ends.tables.a.now l.ends.tables.b.now l.ends.pair l.findings) l.slices

@@ -22,8 +22,8 @@ returns-clause-drawn c =
     let middle = c.in_ok-middle.middle in
     let last = c.in_ok-last.last in
     let j = judged_of ends c.args.findings.now in
-    let rows_a = end_bar_lines (end_drawn ends.a.now.name ends.pair plan) 1 ends.a.now.rows in
-    let rows_b = end_bar_lines (end_drawn ends.b.now.name (mirrored ends.pair) plan) 1 ends.b.now.rows in
+    let rows_a = end_bar_lines (end_drawn ends.tables.a.now.name ends.pair plan) 1 ends.tables.a.now.rows in
+    let rows_b = end_bar_lines (end_drawn ends.tables.b.now.name (mirrored ends.pair) plan) 1 ends.tables.b.now.rows in
     draws_then document plan (Scale ∷ []) (rows_a ++ (rows_b ++ Wrong j ∷ [])) out line one (line + 1) new (last + 1)
     (draws_one document plan Scale out one line c.in_ok-push_scale.ensures)
     (draws_then document plan rows_a (rows_b ++ Wrong j ∷ []) one (line + 1) two middle new (last + 1)

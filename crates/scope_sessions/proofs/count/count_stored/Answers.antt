@@ -1,7 +1,7 @@
 use Rattle.scope_sessions.proofs.Counting.{stored_on}
 use Rattle.scope_sessions.proofs.count.count_stored.Goals as goal
 
-pub returns-in-Ok-clause-counts : goal.returns-in-Ok-clause-counts
-returns-in-Ok-clause-counts g c = λ k number knows.
-    stored_on c.count.result c.args.listener.now.judging k c.hear.new.listener c.args.index.now c.count.new.self (record { number = number; time = c.args.time; bytes = c.args.bytes.now }) c.in-Ok.seen
-    (c.in-Ok.ensures.heard k knows) c.count.ensures.counted
+pub returns-clause-counts : goal.returns-clause-counts
+returns-clause-counts g c = λ k number knows.
+    stored_on c.count.result c.args.listener.now.judging k c.hear.new.listener c.args.index.now c.count.new.self (record { number = number; time = c.args.time; bytes = c.args.bytes.now }) c.in_ok-seen.seen
+    (c.in_ok-seen.ensures.heard k knows) c.count.ensures.counted

@@ -4,5 +4,5 @@ use Rattle.scope_why.proofs.answer.answer_stored.Goals as goal
 
 pub returns-in-Err : goal.returns-in-Err
 returns-in-Err g c = λ b stands.
-    bad_found c.answer_other.result (key_file_of c.args.asking.now c.args.checker.now.tables) b c.args.asking.now.with_key (record { number = c.args.number; time = c.args.stored.time; bytes = c.args.stored.bytes.now }) c.in-Err.fault
+    bad_found c.answer_other.result (key_file_of c.args.question.now c.args.checker.now.tables) b c.args.question.now.with_key (record { number = c.args.number; time = c.args.stored.time; bytes = c.args.stored.bytes.now }) c.in-Err.fault
     c.in-Err.ensures.refused c.answer_other.ensures.text c.answer_other.ensures.passes

@@ -10,16 +10,16 @@ use Rattle.scope_why.proofs.Walk.{between_block, between_new, ends_broken, ends_
 use Rattle.scope_why.proofs.capture.answer_counted.Goals as goal
 
 pub returns-in-Err : goal.returns-in-Err
-returns-in-Err g c = ([], ends_none (key_file_of c.args.asking.now c.args.tables) (asked_of c.args.asking.now c.args.given.now c.args.number) _)
+returns-in-Err g c = ([], ends_none (key_file_of c.args.question.now c.args.tables) (asked_of c.args.question.now c.args.given.now c.args.number) _)
 
 pub returns-in-Err-behind : goal.returns-in-Err-behind
-returns-in-Err-behind g c = ([], ends_none (key_file_of c.args.asking.now c.args.tables) (asked_of c.args.asking.now c.args.given.now c.args.number) _)
+returns-in-Err-behind g c = ([], ends_none (key_file_of c.args.question.now c.args.tables) (asked_of c.args.question.now c.args.given.now c.args.number) _)
 
 pub returns-in-Err-told_first : goal.returns-in-Err-told_first
-returns-in-Err-told_first g c = ([], ends_none (key_file_of c.args.asking.now c.args.tables) (asked_of c.args.asking.now c.args.given.now c.args.number) _)
+returns-in-Err-told_first g c = ([], ends_none (key_file_of c.args.question.now c.args.tables) (asked_of c.args.question.now c.args.given.now c.args.number) _)
 
 pub parts-init : goal.parts-init
-parts-init g c = ([], [], between_new (key_file_of c.args.asking.now c.args.tables) (asked_of c.args.asking.now c.args.given.now c.args.number) c.in-Ok.reader c.in-Ok-behind.checker c.in-Ok-told_first.told.items _ c.in-Ok.ensures c.in-Ok-behind.ensures.tables c.in-Ok-behind.ensures.stands c.in-Ok-told_first.ensures)
+parts-init g c = ([], [], between_new (key_file_of c.args.question.now c.args.tables) (asked_of c.args.question.now c.args.given.now c.args.number) c.in-Ok.reader c.in-Ok-behind.checker c.in-Ok-told_first.told.items _ c.in-Ok.ensures c.in-Ok-behind.ensures.tables c.in-Ok-behind.ensures.stands c.in-Ok-told_first.ensures)
 
 pub next-requires : goal.next-requires
 next-requires g c = c.parts.invariant.2.taken.going

@@ -6,7 +6,7 @@ use Rattle.scope_why.proofs.capture.answer_counted.Given as goal
 
 abbrev pub invariant-parts : goal.invariant-parts
 invariant-parts g l =
-    (given : List ℕ) × (shown : List CapturePacket) × Between (key_file_of l.asking l.fn.tables) (asked_of l.asking l.given l.number) l.reader l.checker l.told.items l.count given shown (g.I.Source.side l.fn.input) (g.I.Source.side l.input)
+    (given : List ℕ) × (shown : List CapturePacket) × Between (key_file_of l.question l.fn.tables) (asked_of l.question l.given l.number) l.reader l.checker l.told.items l.count given shown (g.I.Source.side l.fn.input) (g.I.Source.side l.input)
 
 abbrev pub decreases-parts : goal.decreases-parts
 decreases-parts g l = 9223372036854775808 - l.reader.counts.bytes

@@ -3,7 +3,7 @@ use Rattle.std.proofs.lemmas.Bool.Decides.{nat_tests}
 use Rattle.std.specs.Prelude.{nat_le, codes}
 use Rattle.book_scope_texts.specs.Instants.{instant_text}
 use Rattle.scope_why.proofs.Parts.{lacked}
-use Rattle.scope_why.proofs.lacking.push_begins.Goals as goal
+use Rattle.scope_why.proofs.lacks.push_begins.Goals as goal
 
 pub returns : goal.returns
 returns c =

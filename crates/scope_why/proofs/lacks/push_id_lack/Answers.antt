@@ -2,7 +2,7 @@ use Rattle.std.proofs.Common.{arith}
 use Rattle.std.proofs.lemmas.Bool.Decides.{nat_tests}
 use Rattle.std.specs.Prelude.{◌==◌, codes, decimal}
 use Rattle.scope_why.proofs.Parts.{lacked}
-use Rattle.scope_why.proofs.lacking.push_id_lack.Goals as goal
+use Rattle.scope_why.proofs.lacks.push_id_lack.Goals as goal
 
 pub returns : goal.returns
 returns c =
