@@ -177,13 +177,13 @@ impl Association {
         self.choice.for_sending(table, &self.pair, now)
     }
 
-    /// An RNextKeyID was heard: the sendable row with this SendID becomes current; where there is
+    /// Follows an RNextKeyID that was heard: the sendable row with this SendID becomes current; where there is
     /// none, nothing changes (RFC 5925, sections 6.1 and 7.5).
-    pub fn heard(&mut self, table: &Table, rnext: u8, now: u64)
+    pub fn follow(&mut self, table: &Table, rnext: u8, now: u64)
         ensures current { self.new ≡ record self.old { current = follow self.old.current table.now.rows self.old.pair rnext now } }
         ensures fits { Fits table.now.rows self.old → Fits table.now.rows self.new }
     {
-        self.choice.heard(table, &self.pair, rnext, now);
+        self.choice.follow(table, &self.pair, rnext, now);
     }
 
     /// Seals a segment to the peer under the key of the row, with the extension of its number, and

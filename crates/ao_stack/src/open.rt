@@ -35,8 +35,8 @@ impl Stack {
         })
     }
 
-    /// What follows where an end began for the pair, or didn't.
-    fn begun(&mut self, pair: &Pair, began: Result<(), NodeRefusal>) -> Result<(), NodeRefusal>
+    /// Settles what was put for the pair, where its end began or didn't.
+    fn settle(&mut self, pair: &Pair, began: Result<(), NodeRefusal>) -> Result<(), NodeRefusal>
         ensures answer { result ≡ began }
         ensures ok { OnOk began ((s : StackState) → Stands self.old s → Stands self.new (touched pair.now s)) }
         ensures err { OnErr began (TakesBack self.old self.new pair.now) }
@@ -68,7 +68,7 @@ impl Stack {
         }
         self.watches.put(&pair)?;
         let began = self.ends.open(alloc, pair, isn);
-        self.begun(&pair, began)
+        self.settle(&pair, began)
     }
 
     /// A connection of the pair waits for the SYN of its peer (RFC 9293, section 3.10.1). All else is as
@@ -82,7 +82,7 @@ impl Stack {
         }
         self.watches.put(&pair)?;
         let began = self.ends.listen(alloc, pair, isn);
-        self.begun(&pair, began)
+        self.settle(&pair, began)
     }
     /// A connection of the pair begins with both initial sequence numbers known, without a handshake
     /// (own). All else is as for `open`.
@@ -101,6 +101,6 @@ impl Stack {
         }
         self.watches.put(&pair)?;
         let began = self.ends.start(alloc, pair, isn, peer_isn);
-        self.begun(&pair, began)
+        self.settle(&pair, began)
     }
 }

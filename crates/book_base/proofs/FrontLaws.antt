@@ -1,5 +1,5 @@
 -- Items one after another are those of the front and then those behind it: the bound on how many are looked at is no bound where each item takes a byte or more.
-use Rattle.std.proofs.Common.{◌≡◌, ℕ, zero, suc, ◌+◌, ◌<◌, ◌≤◌, List, [], ◌∷◌, length, Option, Some, None, refl, ap, arith}
+use Rattle.std.proofs.Common.{◌≡◌, ℕ, zero, suc, ◌<◌, List, ◌∷◌, length, refl, ap, arith}
 use Rattle.book_base.specs.Fronts.{Front, Ends, Faulted, Leads, Fronted, fronted_by, fronted_within, fronted}
 
 -- each item takes a byte or more

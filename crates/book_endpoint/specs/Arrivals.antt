@@ -6,7 +6,7 @@ use Rattle.std.specs.Prelude.{◌||◌, List, length, Option, Some, None, Ok, Er
 use Rattle.book_base.specs.declared.address.Pair.{Pair}
 use Rattle.book_segments.specs.Bytes.{ring}
 use Rattle.book_segments.specs.Meant.{meant}
-use Rattle.book_segments.specs.Received.{Piece, keep, first_missing, runs, below_limit}
+use Rattle.book_segments.specs.Received.{Piece, keep, first_missing, runs, most_runs, below_limit}
 use Rattle.book_segments.specs.Sockets.{same_socket}
 use Rattle.book_segments.specs.Segments.{Segment, Reading, Read, Bad as Unread, good, has, FIN, SYN}
 use Rattle.book_segments.specs.Segments.{RST, ACK, segment_length}
@@ -118,10 +118,6 @@ acknowledged_state i =
     let moved = record (acked i.after (acknowledges i)) { phase = past_handshake i.after.phase } in
     let told = windowed moved i.after.una i.segment i.number (acknowledges i) in
     acked_fin told (acknowledges i)
-
--- The most separate runs of bytes that are kept past the first that is missing (own).
-abbrev pub most_runs : ℕ
-most_runs = 64
 
 -- Text and FIN are heard by an end: the bytes in the window, and before a FIN that is recorded,
 -- that aren't kept yet are kept, unless too many separate runs would arise; a FIN is recorded where

@@ -54,10 +54,14 @@ row_keys =
     ∷ codes "SendLifetimeEnd" ∷ codes "AcceptLifetimeStart" ∷ codes "AcceptLifetimeEnd"
     ∷ codes "LocalPort" ∷ codes "PeerPort" ∷ []
 
--- a text is an AdminKeyName: 1 to 255 bytes (own)
+-- how many bytes an AdminKeyName has at most (own)
+abbrev pub longest_admin_name : ℕ
+longest_admin_name = 255
+
+-- a text is an AdminKeyName: at least one byte and at most 255 (own)
 abbrev pub is_admin : Option (List ℕ) → Bool
 is_admin None = false
-is_admin (Some text) = nat_le 1 (length text) && nat_le (length text) 255
+is_admin (Some text) = nat_le 1 (length text) && nat_le (length text) longest_admin_name
 
 -- the number, where there is one and it is at most this (own)
 abbrev pub up_to : ℕ → Option ℕ → Option ℕ

@@ -22,11 +22,16 @@ use Rattle.book_keys.specs.Columns.{text_of, only, count, row_of}
 abbrev pub is_visible : ℕ → Bool
 is_visible byte = nat_le 0x21 byte && nat_le byte 0x7e
 
--- the name of a node that a text writes: 1 to 64 bytes that are printed, and no earlier node has it
--- (own)
+-- how many bytes the name of a node has at most (own)
+abbrev pub longest_node_name : ℕ
+longest_node_name = 64
+
+-- the name of a node that a text writes: at least one byte and at most 64, all printed, and no
+-- earlier node has it (own)
 abbrev pub node_name_of : List Table → List ℕ → Option (List ℕ)
 node_name_of seen text =
-    if (nat_le 1 (length text) && nat_le (length text) 64) && list_all is_visible text
+    if (nat_le 1 (length text) && nat_le (length text) longest_node_name)
+    && list_all is_visible text
     then (if list_any (λ t. bytes_eq t.name text) seen then None else Some text)
     else None
 

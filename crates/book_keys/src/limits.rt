@@ -17,3 +17,9 @@ pub const GREATEST_KEY_ID: u64 = 255;
 
 /// The most bytes of a master key.
 pub const LONGEST_MASTER_KEY: usize = 255;
+
+/// The most bytes of an AdminKeyName.
+pub const LONGEST_ADMIN_NAME: usize = 255;
+
+/// The most bytes of the name of a node.
+pub const LONGEST_NODE_NAME: usize = 64;

@@ -1,10 +1,12 @@
 -- Tests of bytes, addresses and sockets are equality.
-use Rattle.std.proofs.Common.{◌≡◌, ℕ, true, List, [], ◌∷◌, refl, ap, ◌∙◌, arith}
+use Rattle.std.proofs.Common.{◌≡◌, ℕ, true, false, not, List, [], ◌∷◌, refl, ap, ◌∙◌, arith}
 use Rattle.std.proofs.lemmas.Bool.Decides.{nat_tests}
 use Rattle.std.specs.Prelude.{◌==◌}
 use Rattle.book_base.specs.declared.address.Address.{Address}
 use Rattle.book_base.specs.declared.address.Address.TheVariants.{V4, V6}
 use Rattle.book_base.specs.declared.address.Socket.{Socket}
+use Rattle.book_base.specs.Orders.{is_low}
+use Rattle.book_base.proofs.OrderLaws.{low_turned}
 use Rattle.book_segments.specs.Bytes.{same_bytes}
 use Rattle.book_segments.specs.Sockets.{same_address, same_socket}
 use Rattle.book_segments.proofs.Fields.{and_tells, eqb_is, same_bytes_tells}
@@ -36,3 +38,7 @@ same_address-refl (V6 a) = same_bytes-refl a
 
 pub same_socket-refl : (k : Socket) → same_socket k k ≡ true
 same_socket-refl k = let same : (k.port == k.port) ≡ true = grind (arith, nat_tests) in rw (same_address-refl k.address, same) refl
+
+-- of two sockets that differ, the first is low exactly where the second isn't
+pub low_apart : (a b : Socket) → same_socket a b ≡ false → is_low b a ≡ not (is_low a b)
+low_apart a b e = low_turned a b (λ same. let told : same_socket a a ≡ false = ap (same_socket a) same ∙ e in let is = same_socket-refl a in cc)

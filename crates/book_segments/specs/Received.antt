@@ -43,6 +43,10 @@ runs m inside p zero = 0
 runs m inside p (suc k) =
     (if is_some (m p) && not inside then 1 else 0) + runs m (is_some (m p)) (suc p) k
 
+-- the most separate runs of bytes that are kept past the first that is missing (own)
+abbrev pub most_runs : ℕ
+most_runs = 64
+
 -- a number, but not past the limit, where there is one (own)
 abbrev pub below_limit : Option ℕ → ℕ → ℕ
 below_limit None high = high

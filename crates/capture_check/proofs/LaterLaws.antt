@@ -3,6 +3,8 @@ use Rattle.std.proofs.Common.{◌≡◌, ◌+◌, ℕ, Bool, true, false, List, 
 use Rattle.std.specs.Prelude.{max, not, if◌then◌else◌}
 use Rattle.std.specs.List.{find}
 use Rattle.book_base.specs.declared.address.Socket.{Socket}
+use Rattle.book_base.specs.declared.address.Pair.{Pair}
+use Rattle.book_base.specs.Orders.{sorted_pair}
 use Rattle.book_segments.specs.Segments.{Segment, Read, has, segment_length, SYN, pair_reached}
 use Rattle.book_segments.specs.Sockets.{same_socket}
 use Rattle.book_segments.proofs.SocketLaws.{same_socket-refl}
@@ -14,10 +16,8 @@ use Rattle.book_cmd_check.specs.Captures.{Connection, Heard, connection_between,
 use Rattle.wrap_seq.specs.Counter.{number}
 use Rattle.capture_check.specs.declared.answer.CheckLine.{CheckLine}
 use Rattle.capture_check.specs.declared.answer.CheckLine.TheVariants as line
-use Rattle.capture_check.specs.declared.ends.Ends.{Ends}
 use Rattle.capture_check.specs.declared.flows.Flows.{Flows}
 use Rattle.capture_check.specs.Answers.{IsJudged}
-use Rattle.capture_check.specs.Ends.{key_of}
 use Rattle.capture_check.specs.Expecting.{if_passing, hear_expecting, hear_given}
 use Rattle.capture_check.specs.Flows.{flow_from, shown, judged_on, expected_after}
 use Rattle.capture_check.specs.Checkers.{found, IsSound, StandsFor, Hears, KeepsKeys, Derives}
@@ -48,12 +48,12 @@ between_put d c held e f =
 -- ---- a segment without SYN of a connection that is known
 
 -- what is done without SYN
-passing_later : (b : Bool) (held : List Connection) (after : List (Ends × Flows)) (l : CheckLine) (x y : Heard) → b ≡ false → Hears after l (if_passing held x) → Hears after l (if_passing held (if not b then x else y))
+passing_later : (b : Bool) (held : List Connection) (after : List (Pair × Flows)) (l : CheckLine) (x y : Heard) → b ≡ false → Hears after l (if_passing held x) → Hears after l (if_passing held (if not b then x else y))
 passing_later true held after l x y e h = absurd (cc)
 passing_later false held after l x y e h = h
 
-as_known : (before after : List (Ends × Flows)) (held : List Connection) (n : ℕ) (s t : Socket) (d : Segment) (h next : Flows) (v : Verdict) (j : Judgement)
-    → StandsFor before held → same_socket s t ≡ false → found before (key_of s t) ≡ Some h → Puts before after (key_of s t) next → has SYN d ≡ false
+as_known : (before after : List (Pair × Flows)) (held : List Connection) (n : ℕ) (s t : Socket) (d : Segment) (h next : Flows) (v : Verdict) (j : Judgement)
+    → StandsFor before held → same_socket s t ≡ false → found before (sorted_pair s t) ≡ Some h → Puts before after (sorted_pair s t) next → has SYN d ≡ false
     → (flow_from s t next).isn ≡ (flow_from s t h).isn → flow_from t s next ≡ flow_from t s h → IsJudged v j → number (flow_from s t next).expected ≡ expected_after (number (flow_from s t h).expected) n d j
     → Hears after (line.Verdict v (checksum_in d)) (if_passing held (hear_judged (with_connection (expecting n (shown s t h)) held) d (Some (expecting n (shown s t h))) j))
 as_known before after held n s t d h next v (Err why) S ne f P syn i o is_told e =
@@ -66,7 +66,7 @@ as_known before after held n s t d h next v (Ok p) S ne f P syn i o is_told e =
     passing_later (has SYN d) held after (line.Verdict v (checksum_in d)) (hear_later (with_connection (expecting n (shown s t h)) held) d p.number (Ok p) (Some (expecting n (shown s t h)))) _ syn
     (record { says = (Ok p, refl, is_told); stands = rw (put_twice (shown s t h) n (max n (p.number + segment_length d)) held) stands })
 
-hears_as : (tables : List Table) (t : Table) (before after : List (Ends × Flows)) (held : List Connection) (now n : ℕ) (d : Segment) (h : Flows) (v : Verdict) (old new : ℕ)
+hears_as : (tables : List Table) (t : Table) (before after : List (Pair × Flows)) (held : List Connection) (now n : ℕ) (d : Segment) (h : Flows) (v : Verdict) (old new : ℕ)
     → StandsFor before held → IsSound tables before → same_socket d.source d.destination ≡ false → find (has_address d.destination.address) tables ≡ Some t
     → found before (key_at d) ≡ Some h → OfKnown t.rows now (Some n) d before after h v old new → has SYN d ≡ false
     → Hears after (line.Verdict v (checksum_in d)) (hear_expecting tables held now d n (Some (shown d.source d.destination h)))
@@ -84,13 +84,13 @@ hears_as tables t before after held now n d h v old new S T ne e f K syn =
 
 -- ---- the answer to a segment without SYN
 
-pub record Later (tables : List Table) (rows : List Row) (before after : List (Ends × Flows)) (now : ℕ) (given : Option ℕ) (d : Segment) (v : Verdict) (old new : ℕ) : Type 0 where
+pub record Later (tables : List Table) (rows : List Row) (before after : List (Pair × Flows)) (now : ℕ) (given : Option ℕ) (d : Segment) (v : Verdict) (old new : ℕ) : Type 0 where
   pub heard : (held : List Connection) → StandsFor before held → Hears after (line.Verdict v (checksum_in d)) (hear_given tables held now d given)
   pub sound : IsSound tables after
   pub keys : KeepsKeys before after
   pub derives : Derives before after rows now d old new
 
-pub later : (tables : List Table) (t : Table) (before after : List (Ends × Flows)) (now : ℕ) (given : Option ℕ) (d : Segment) (v : Verdict) (old new : ℕ) → IsSound tables before
+pub later : (tables : List Table) (t : Table) (before after : List (Pair × Flows)) (now : ℕ) (given : Option ℕ) (d : Segment) (v : Verdict) (old new : ℕ) → IsSound tables before
     → same_socket d.source d.destination ≡ false → find (has_address d.destination.address) tables ≡ Some t → has SYN d ≡ false
     → HearsLater t.rows now given d before after (found before (key_at d)) v old new
     → Later tables t.rows before after now given d v old new

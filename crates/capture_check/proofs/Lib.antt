@@ -1,5 +1,4 @@
 pub mod AloneLaws
-pub mod EndsLaws
 pub mod FixLaws
 pub mod GivenLaws
 pub mod HearLaws

@@ -2,6 +2,7 @@
 use Rattle.std.specs.Prelude.{◌≡◌, ◌≤◌, ◌+◌, ◌%◌, ◌/◌, ◌^◌, ℕ, max, Bool, true, false, List, [], length, Option, Some, None, Ok, Err}
 use Rattle.std.specs.List.{find}
 use Rattle.book_base.specs.declared.address.Socket.{Socket}
+use Rattle.book_base.specs.Orders.{is_low}
 use Rattle.book_segments.specs.Bytes.{ring}
 use Rattle.book_segments.specs.Options.{find_ao}
 use Rattle.book_segments.specs.Segments.{Segment, has, segment_length, SYN}
@@ -17,7 +18,6 @@ use Rattle.ao_check.specs.Bonds.{Fits, Counted}
 use Rattle.ao_check.specs.Verdicts.{Tells, is_judged, judging}
 use Rattle.capture_check.specs.declared.flow.Flow.{Flow}
 use Rattle.capture_check.specs.declared.flows.Flows.{Flows}
-use Rattle.capture_check.specs.Ends.{is_low}
 
 -- the rows of a table, if there is one
 abbrev pub rows_in : Option Table → List Row

@@ -1,6 +1,8 @@
 -- What a checker does with a segment (own).
 use Rattle.std.specs.Prelude.{◌≡◌, ◌≤◌, ◌+◌, ◌==◌, ◌&&◌, nat_le, ℕ, Bool, true, false, not, is_some, List, length, Option, Some, None, cond, if◌then◌else◌}
 use Rattle.std.specs.BTreeMap.{is_at}
+use Rattle.book_base.specs.declared.address.Pair.{Pair}
+use Rattle.book_base.specs.Orders.{by_pair, is_low, sorted_pair}
 use Rattle.book_segments.specs.Options.{find_ao}
 use Rattle.book_segments.specs.Segments.{Segment, has, SYN}
 use Rattle.book_keys.specs.Rows.{Row, Table}
@@ -11,22 +13,20 @@ use Rattle.book_cmd_check.specs.Captures.{most_connections}
 use Rattle.book_cmd_check.specs.Handshakes.{told_by}
 use Rattle.book_segments.specs.Segments.{pair_reached}
 use Rattle.ao_check.specs.Verdicts.{Tells, judging}
-use Rattle.capture_check.specs.declared.ends.Ends.{Ends}
 use Rattle.capture_check.specs.declared.flows.Flows.{Flows}
 use Rattle.capture_check.specs.declared.known.KnownConnection.{KnownConnection}
 use Rattle.wrap_seq.specs.Counter.{number}
 use Rattle.capture_check.specs.Checkers.{found}
-use Rattle.capture_check.specs.Ends.{by_ends, is_low, key_of}
 use Rattle.capture_check.specs.Flows.{way, FlowHears, new_flows}
 
 -- this is known of the connection with this key from now on, and the same as before of all others
-pub record Puts (before after : List (Ends × Flows)) (k : Ends) (h : Flows) : Type 0 where
-  pub finds : (q : Ends) → found after q ≡ cond (is_at (by_ends k) q) (Some h) (found before q)
+pub record Puts (before after : List (Pair × Flows)) (k : Pair) (h : Flows) : Type 0 where
+  pub finds : (q : Pair) → found after q ≡ cond (is_at (by_pair k) q) (Some h) (found before q)
   pub count : length after ≡ (if is_some (found before k) then length before else length before + 1)
 
 -- the key of the connection of a segment
-abbrev pub key_at : Segment → Ends
-key_at d = key_of d.source d.destination
+abbrev pub key_at : Segment → Pair
+key_at d = sorted_pair d.source d.destination
 
 -- the segment comes from the lower socket of its connection
 abbrev pub from_low : Segment → Bool
@@ -48,19 +48,19 @@ pub record AloneCounts (rows : List Row) (now : ℕ) (d : Segment) (old new : �
   pub free : (n : ℕ) → has SYN d ≡ false → judging rows (pair_reached d) now (find_ao d.area) ≡ Some n → new ≡ old
 
 -- a segment without SYN of a connection that is known, by a given number or by the one that is expected
-pub record OfKnown (rows : List Row) (now : ℕ) (given : Option ℕ) (d : Segment) (before after : List (Ends × Flows)) (h : Flows) (result : Verdict) (old new : ℕ) : Type 0 where
+pub record OfKnown (rows : List Row) (now : ℕ) (given : Option ℕ) (d : Segment) (before after : List (Pair × Flows)) (h : Flows) (result : Verdict) (old new : ℕ) : Type 0 where
   pub next : Flows
   pub puts : Puts before after (key_at d) next
   pub hears : FlowsHear rows now given d (from_low d) h next result old new
 
 -- a segment without SYN of a connection that isn't known
-pub record OfUnknown (rows : List Row) (now : ℕ) (d : Segment) (before after : List (Ends × Flows)) (result : Verdict) (old new : ℕ) : Type 0 where
+pub record OfUnknown (rows : List Row) (now : ℕ) (d : Segment) (before after : List (Pair × Flows)) (result : Verdict) (old new : ℕ) : Type 0 where
   pub same : after ≡ before
   pub alone : Alone rows now 0 d result
   pub counts : AloneCounts rows now d old new
 
 -- a segment without SYN, by what is known of its connection
-abbrev pub HearsLater : List Row → ℕ → Option ℕ → Segment → List (Ends × Flows) → List (Ends × Flows) → Option Flows → Verdict → ℕ → ℕ → Type 0
+abbrev pub HearsLater : List Row → ℕ → Option ℕ → Segment → List (Pair × Flows) → List (Pair × Flows) → Option Flows → Verdict → ℕ → ℕ → Type 0
 HearsLater rows now given d before after (Some h) result old new = OfKnown rows now given d before after h result old new
 HearsLater rows now given d before after None result old new = OfUnknown rows now d before after result old new
 
@@ -94,7 +94,7 @@ abbrev pub fixing : List Table → Segment → Option Flows → ℕ → Fixing
 fixing tables d known count = fixing_given tables (told_by d) known count
 
 -- what was to be done was done; the answer says whether there was room
-abbrev pub DoesFix : Fixing → List (Ends × Flows) → List (Ends × Flows) → Ends → Bool → Type 0
+abbrev pub DoesFix : Fixing → List (Pair × Flows) → List (Pair × Flows) → Pair → Bool → Type 0
 DoesFix Fixed before after k result = (after ≡ before) × (result ≡ true)
 DoesFix TooMany before after k result = (after ≡ before) × (result ≡ false)
 DoesFix (Fixes h) before after k result = Puts before after k h × (result ≡ true)

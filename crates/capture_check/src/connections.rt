@@ -12,11 +12,10 @@ ghost use Rattle.capture_check.specs.Flows.{rows_of};
 
 use crate::answer::CheckLine;
 use crate::datagrams::{hear_datagram, hold, known};
-use crate::ends::Ends;
 use crate::flows::Flows;
 use crate::known::KnownConnection;
 use ao_base::Steps;
-use book_base::Socket;
+use book_base::{Pair, Socket};
 use book_cmd_check::GivenIsns;
 use key_table::Tables;
 use std::alloc::{AllocError, Global};
@@ -29,12 +28,12 @@ use tcp_segment::Datagram;
 /// connection. It fits the tables of all nodes that each call is given, which are the same ones.
 #[derive(Drop)]
 pub struct Connections {
-    flows: BTreeMap<Ends, Flows>,
+    flows: BTreeMap<Pair, Flows>,
 }
 
 impl Model for Connections {
     ghost use Rattle.std.specs.Prelude.{List};
-    ghost use Rattle.capture_check.specs.declared.ends.Ends.{Ends as Key};
+    ghost use Rattle.book_base.specs.declared.address.Pair.{Pair as Key};
     ghost use Rattle.capture_check.specs.declared.flows.Flows.{Flows as Ways};
 
     ghost Value = { List (Key × Ways) };

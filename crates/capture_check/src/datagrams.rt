@@ -13,14 +13,13 @@ ghost use Rattle.capture_check.specs.Expecting.{hear_given, known_numbers};
 ghost use Rattle.capture_check.specs.Flows.{rows_of};
 
 use crate::answer::CheckLine;
-use crate::ends::{Ends, ends_of};
 use crate::flows::Flows;
 use crate::judgement::{fix, fix_given, hear_later, judge_alone};
 use crate::known::KnownConnection;
 use crate::segment::acknowledged_isn;
 use ao_base::{Steps, is_same_socket};
 use ao_check::Verdict;
-use book_base::Socket;
+use book_base::{Pair, Socket};
 use book_cmd_check::GivenIsns;
 use key_table::{Table, Tables};
 use segment_words::checksum_in;
@@ -33,7 +32,7 @@ use tcp_segment::{Datagram, Flag};
 /// other one (RFC 5925, section 5.2), and with ACK it fixes them where it passes. After want of
 /// memory nothing has changed.
 fn hear_first<L: Ledger>(
-    connections: &mut BTreeMap<Ends, Flows>,
+    connections: &mut BTreeMap<Pair, Flows>,
     alloc: Global,
     tables: &Tables,
     table: &Table,
@@ -72,7 +71,7 @@ fn hear_first<L: Ledger>(
 /// The answer to a segment without SYN, judged as if the given number, at most 2^63, were expected of
 /// its sender if there is one.
 fn hear_next<L: Ledger>(
-    connections: &mut BTreeMap<Ends, Flows>,
+    connections: &mut BTreeMap<Pair, Flows>,
     alloc: Global,
     tables: &Tables,
     table: &Table,
@@ -116,7 +115,7 @@ fn is_pass(verdict: &Verdict) -> bool
 
 /// Takes it that a handshake with these initial sequence numbers passed; whether there was room.
 pub(crate) fn hold(
-    connections: &mut BTreeMap<Ends, Flows>,
+    connections: &mut BTreeMap<Pair, Flows>,
     alloc: Global,
     tables: &Tables,
     given: GivenIsns,
@@ -140,7 +139,7 @@ pub(crate) fn hold(
 /// The answer to a datagram, as if the given number, at most 2^63, were expected of its sender if there
 /// is one; none is given of a SYN. After want of memory nothing has changed.
 pub(crate) fn hear_datagram<L: Ledger>(
-    connections: &mut BTreeMap<Ends, Flows>,
+    connections: &mut BTreeMap<Pair, Flows>,
     alloc: Global,
     tables: &Tables,
     time: u64,
@@ -185,7 +184,7 @@ pub(crate) fn hear_datagram<L: Ledger>(
 
 /// The numbers of the connection between two sockets; None where none is known, or the sockets are one.
 pub(crate) fn known(
-    connections: &BTreeMap<Ends, Flows>,
+    connections: &BTreeMap<Pair, Flows>,
     source: Socket,
     destination: Socket,
 ) -> Option<KnownConnection>
@@ -196,7 +195,8 @@ pub(crate) fn known(
     if is_same_socket(&source, &destination) {
         return None;
     }
-    let (low, ends) = ends_of(source, destination);
+    let low = source.is_low(destination);
+    let ends = Pair::sorted(source, destination);
     let flows = connections.get(&ends)?;
     Some(flows.numbers(low))
 }

@@ -5,7 +5,6 @@ ghost use Rattle.ao_check.specs.Bonds.{Fits};
 ghost use Rattle.capture_check.specs.Flows.{new_flows, rows_of, flow_from, way};
 ghost use Rattle.capture_check.specs.Judgements.{FlowsHear, has_isns, numbers_in};
 
-use crate::ends::is_low;
 use crate::flow::Flow;
 use crate::known::KnownConnection;
 use ao_base::Steps;
@@ -37,7 +36,7 @@ impl Flows {
     {
         let from_one = Flow::new(alloc, tables, one, two, isn, other)?;
         let from_two = Flow::new(alloc, tables, two, one, other, isn)?;
-        if is_low(one, two) {
+        if one.is_low(two) {
             Ok(Flows {
                 low: from_one,
                 high: from_two,

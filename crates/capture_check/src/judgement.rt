@@ -1,6 +1,7 @@
 //! What a checker does with a segment.
 ghost use Rattle.std.specs.Prelude.{◌≡◌, length, Some, IfOk, IfSome, OnErr, ◌<◌, ◌≤◌, ◌^◌};
 ghost use Rattle.std.specs.List.{find};
+ghost use Rattle.book_base.specs.Orders.{sorted_pair};
 ghost use Rattle.book_keys.specs.Rows.{has_address};
 ghost use Rattle.book_segments.specs.Sockets.{same_socket};
 ghost use Rattle.std.specs.Prelude.{false};
@@ -8,13 +9,12 @@ ghost use Rattle.book_cmd_check.specs.Handshakes.{told_by};
 ghost use Rattle.ao_check.specs.Verdicts.{is_judged};
 ghost use Rattle.capture_check.specs.Checkers.{found, IsSound};
 ghost use Rattle.capture_check.specs.Judgements.{Alone, AloneCounts, HearsLater, DoesFix, fixing, fixing_given, key_at};
-ghost use Rattle.capture_check.specs.Ends.{key_of};
 
-use crate::ends::{Ends, ends_of};
 use crate::flows::Flows;
 use crate::segment::{acknowledged_isn, pair_at};
 use ao_base::Steps;
 use ao_check::{Association, Verdict};
+use book_base::Pair;
 use book_cmd_check::GivenIsns;
 use key_table::{Table, Tables};
 use std::alloc::{AllocError, Global};
@@ -47,7 +47,7 @@ pub(crate) fn judge_alone<L: Ledger>(
 /// most 2^63, were expected of its sender if there is one; where it passes, more is expected of its
 /// sender. After want of memory nothing has changed.
 pub(crate) fn hear_later<L: Ledger>(
-    connections: &mut BTreeMap<Ends, Flows>,
+    connections: &mut BTreeMap<Pair, Flows>,
     alloc: Global,
     tables: &Tables,
     table: &Table,
@@ -67,8 +67,8 @@ pub(crate) fn hear_later<L: Ledger>(
 {
     let source = datagram.source();
     let destination = datagram.destination();
-    let (low, ends) = ends_of(source, destination);
-    match connections.get_mut(&ends) {
+    let low = source.is_low(destination);
+    match connections.get_mut(&Pair::sorted(source, destination)) {
         Some(flows) => Ok(flows.hear(low, table, time, given, datagram, steps)),
         None => judge_alone(alloc, table, 0, time, datagram, steps),
     }
@@ -78,17 +78,18 @@ pub(crate) fn hear_later<L: Ledger>(
 /// where the connection isn't known and 65,536 others are; then, and after want of memory, nothing has
 /// changed.
 pub(crate) fn fix_given(
-    connections: &mut BTreeMap<Ends, Flows>,
+    connections: &mut BTreeMap<Pair, Flows>,
     alloc: Global,
     tables: &Tables,
     given: GivenIsns,
 ) -> Result<bool, AllocError>
-    ensures fixed { IfOk result (λ b. DoesFix (fixing_given tables.now given (found connections.old.entries (key_of given.one given.other)) (length connections.old.entries)) connections.old.entries connections.new.entries (key_of given.one given.other) b) }
+    ensures fixed { IfOk result (λ b. DoesFix (fixing_given tables.now given (found connections.old.entries (sorted_pair given.one given.other)) (length connections.old.entries)) connections.old.entries connections.new.entries (sorted_pair given.one given.other) b) }
     ensures unchanged { OnErr result (connections.new.entries ≡ connections.old.entries) }
 {
-    let (low, ends) = ends_of(given.one, given.other);
+    let ends = Pair::sorted(given.one, given.other);
     match connections.get(&ends) {
         Some(flows) => {
+            let low = given.one.is_low(given.other);
             if flows.has_isns(low, given.one_isn, given.other_isn) {
                 return Ok(true);
             }
@@ -128,7 +129,7 @@ pub fn isns_told_by(datagram: &Datagram<'_>) -> GivenIsns
 /// fixed already. False exactly where the connection isn't known and 65,536 others are; then, and
 /// after want of memory, nothing has changed.
 pub(crate) fn fix(
-    connections: &mut BTreeMap<Ends, Flows>,
+    connections: &mut BTreeMap<Pair, Flows>,
     alloc: Global,
     tables: &Tables,
     datagram: &Datagram<'_>,

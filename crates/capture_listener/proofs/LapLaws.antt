@@ -3,6 +3,7 @@ use Rattle.std.proofs.Common.{◌≡◌, ◌+◌, ◌*◌, ◌-◌, ◌<◌, ◌
 use Rattle.std.proofs.lemmas.Bool.Decides.{nat_tests}
 use Rattle.std.specs.Prelude.{nat_le, if◌then◌else◌, Result, Ok, Err, OnErr}
 use Rattle.std.specs.Option.{option_or}
+use Rattle.book_base.specs.declared.address.Pair.{Pair}
 use Rattle.book_segments.specs.Bytes.{ring}
 use Rattle.book_segments.specs.Segments.{Segment, Read}
 use Rattle.book_keys.specs.Rows.{Table}
@@ -10,7 +11,6 @@ use Rattle.book_endpoint.specs.States.{number_limit}
 use Rattle.book_cmd_check.specs.Captures.{Connection, Heard, connection_between, hear_read, is_pass}
 use Rattle.book_sessions.specs.Laps.{first_from, heard_ahead, heard_by, if_pass, with_expected}
 use Rattle.capture_check.specs.declared.answer.CheckLine.{CheckLine}
-use Rattle.capture_check.specs.declared.ends.Ends.{Ends}
 use Rattle.capture_check.specs.declared.flows.Flows.{Flows}
 use Rattle.capture_check.specs.Answers.{Says}
 use Rattle.capture_check.specs.Checkers.{Hears, IsSound, StandsFor}
@@ -45,7 +45,7 @@ tried F laps a low = at (laps - a) (laps - (a + 1)) (omega arith)
 -- ---- a search
 
 -- so many laps were tried, and none of them passed
-pub record Searching (tables : List Table) (laps now expected : ℕ) (d : Segment) (before after : List (Ends × Flows)) (n ahead : ℕ) : Type 0 where
+pub record Searching (tables : List Table) (laps now expected : ℕ) (d : Segment) (before after : List (Pair × Flows)) (n ahead : ℕ) : Type 0 where
   pub sound : IsSound tables after
   pub number : n ≡ expected + ahead * ring
   pub limit : n ≤ 2 ^ 63
@@ -55,18 +55,18 @@ pub record Searching (tables : List Table) (laps now expected : ℕ) (d : Segmen
       → first_from (heard_ahead (heard_by (record { tables = tables; laps = laps }) now d) held c) laps 1
       ≡ first_from (heard_ahead (heard_by (record { tables = tables; laps = laps }) now d) held c) (laps - ahead) (ahead + 1)
 
-pub begins : (tables : List Table) (laps now expected : ℕ) (d : Segment) (es : List (Ends × Flows)) → IsSound tables es → expected ≤ 2 ^ 63 → Searching tables laps now expected d es es expected 0
+pub begins : (tables : List Table) (laps now expected : ℕ) (d : Segment) (es : List (Pair × Flows)) → IsSound tables es → expected ≤ 2 ^ 63 → Searching tables laps now expected d es es expected 0
 begins tables laps now expected d es sound low =
     let none : laps - 0 ≡ laps = omega arith in
     record { sound = sound; number = omega arith; limit = low; within = omega arith; stands = λ held c S is. S; rest = λ held c S is e. rw none refl }
 
-pub record Found (tables : List Table) (laps now expected : ℕ) (d : Segment) (before after : List (Ends × Flows)) (found : Option CheckLine) : Type 0 where
+pub record Found (tables : List Table) (laps now expected : ℕ) (d : Segment) (before after : List (Pair × Flows)) (found : Option CheckLine) : Type 0 where
   pub sound : IsSound tables after
   pub finds : (held : List Connection) (c : Connection) → StandsFor before held → connection_between d held ≡ Some c → c.one.expected ≡ expected
       → Finds after held found (first_from (heard_ahead (heard_by (record { tables = tables; laps = laps }) now d) held c) laps 1)
 
 -- all laps were tried
-pub none_left : (tables : List Table) (laps now expected : ℕ) (d : Segment) (before after : List (Ends × Flows)) (n ahead : ℕ) → Searching tables laps now expected d before after n ahead
+pub none_left : (tables : List Table) (laps now expected : ℕ) (d : Segment) (before after : List (Pair × Flows)) (n ahead : ℕ) → Searching tables laps now expected d before after n ahead
     → laps ≤ ahead → Found tables laps now expected d before after None
 none_left tables laps now expected d before after n ahead S all =
     record {
@@ -79,7 +79,7 @@ none_left tables laps now expected d before after n ahead S all =
     none F (suc m) e = absurd (omega arith)
 
 -- the next number is too great
-pub none_further : (tables : List Table) (laps now expected : ℕ) (d : Segment) (before after : List (Ends × Flows)) (n ahead : ℕ) → Searching tables laps now expected d before after n ahead
+pub none_further : (tables : List Table) (laps now expected : ℕ) (d : Segment) (before after : List (Pair × Flows)) (n ahead : ℕ) → Searching tables laps now expected d before after n ahead
     → 2 ^ 63 < n + ring → Found tables laps now expected d before after None
 none_further tables laps now expected d before after n ahead S far =
     let number = S.number in
@@ -108,7 +108,7 @@ pass_isnt : (held : List Connection) (h : Heard) → is_pass h.saying ≡ false 
 pass_isnt held h e = rw e refl
 
 -- a try didn't pass
-pub goes_on : (tables : List Table) (laps now expected : ℕ) (d : Segment) (before after next : List (Ends × Flows)) (n m ahead : ℕ) (l : CheckLine) (v : Bool)
+pub goes_on : (tables : List Table) (laps now expected : ℕ) (d : Segment) (before after next : List (Pair × Flows)) (n m ahead : ℕ) (l : CheckLine) (v : Bool)
     → Searching tables laps now expected d before after n ahead → ahead < laps → m ≡ n + ring → m ≤ 2 ^ 63 → IsSound tables next
     → ((held : List Connection) → StandsFor after held → Hears next l (hear_as tables held now d m)) → ((h : Heard) → Says l h.saying → v ≡ is_pass h.saying) → v ≡ false
     → Searching tables laps now expected d before next m (ahead + 1)
@@ -147,7 +147,7 @@ goes_on tables laps now expected d before after next n m ahead l v S low is_m li
         S.rest held c stands is e ∙ (tried F laps ahead low ∙ ap (λ (o : Option Heard). option_or o (first_from F (laps - (ahead + 1)) (ahead + 1 + 1))) here)
 
 -- a try passed
-pub is_found : (tables : List Table) (laps now expected : ℕ) (d : Segment) (before after next : List (Ends × Flows)) (n m ahead : ℕ) (l : CheckLine) (v : Bool)
+pub is_found : (tables : List Table) (laps now expected : ℕ) (d : Segment) (before after next : List (Pair × Flows)) (n m ahead : ℕ) (l : CheckLine) (v : Bool)
     → Searching tables laps now expected d before after n ahead → ahead < laps → m ≡ n + ring → m ≤ 2 ^ 63 → IsSound tables next
     → ((held : List Connection) → StandsFor after held → Hears next l (hear_as tables held now d m)) → ((h : Heard) → Says l h.saying → v ≡ is_pass h.saying) → v ≡ true
     → Found tables laps now expected d before next (Some l)

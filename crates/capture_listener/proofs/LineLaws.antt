@@ -1,5 +1,5 @@
 -- What a line of a checker says is what the definitions say of its segment.
-use Rattle.std.proofs.Common.{◌≡◌, Bool, true, false, not, refl, Ok}
+use Rattle.std.proofs.Common.{◌≡◌, true, false, not, refl, Ok}
 use Rattle.std.specs.Prelude.{◌&&◌}
 use Rattle.book_segments.specs.Segments.{Segment, has, SYN}
 use Rattle.book_cmd_show.specs.declared.checksum.Checksum.{Checksum}

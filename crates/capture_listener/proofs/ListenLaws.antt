@@ -1,13 +1,13 @@
 -- What a listener says of a segment, and what it knows afterwards.
 use Rattle.std.proofs.Common.{◌≡◌, ℕ, Bool, true, false, List, ◌⊎◌, sym, ◌∙◌, subst}
 use Rattle.std.specs.Prelude.{if◌then◌else◌}
+use Rattle.book_base.specs.declared.address.Pair.{Pair}
 use Rattle.book_segments.specs.Segments.{Segment, Read, has, SYN, ACK}
 use Rattle.book_cmd_check.specs.Captures.{Connection}
 use Rattle.book_sessions.specs.Glimpses.{Opening, is_unknown}
 use Rattle.book_sessions.specs.Laps.{Judging, hear_over}
 use Rattle.book_sessions.specs.Listening.{Listening, heard_once, heard_twice, listen}
 use Rattle.capture_check.specs.declared.answer.CheckLine.{CheckLine}
-use Rattle.capture_check.specs.declared.ends.Ends.{Ends}
 use Rattle.capture_check.specs.declared.flows.Flows.{Flows}
 use Rattle.capture_check.specs.Checkers.{Hears, StandsFor}
 use Rattle.capture_listener.specs.Lines.{by_line, by_seen_line, says_refused, says_unknown}
@@ -45,13 +45,13 @@ listens_twice after j k now d l more H e G O =
 -- ---- want of memory
 
 -- where a segment is refused, the connections held stay
-pub refused_stands : (es : List (Ends × Flows)) (j : Judging) (k : Listening) (now : ℕ) (d : Segment) (l : CheckLine) → Hears es l (hear_over j k.held now d) → says_refused l ≡ true → StandsFor es k.held
+pub refused_stands : (es : List (Pair × Flows)) (j : Judging) (k : Listening) (now : ℕ) (d : Segment) (l : CheckLine) → Hears es l (hear_over j k.held now d) → says_refused l ≡ true → StandsFor es k.held
 refused_stands es j k now d l H e =
     let refused = sym (refused_told l (hear_over j k.held now d).saying H.says) ∙ e in
     subst (λ (cs : List Connection). StandsFor es cs) ((fair_over j k.held now d).refused refused) H.stands
 
 -- and where it is a SYN without ACK
-pub opening_stands : (es : List (Ends × Flows)) (j : Judging) (k : Listening) (now : ℕ) (d : Segment) (l : CheckLine) → Hears es l (hear_over j k.held now d) → has SYN d ≡ true → has ACK d ≡ false → StandsFor es k.held
+pub opening_stands : (es : List (Pair × Flows)) (j : Judging) (k : Listening) (now : ℕ) (d : Segment) (l : CheckLine) → Hears es l (hear_over j k.held now d) → has SYN d ≡ true → has ACK d ≡ false → StandsFor es k.held
 opening_stands es j k now d l H syn ack = subst (λ (cs : List Connection). StandsFor es cs) ((fair_over j k.held now d).opening syn ack) H.stands
 
 pub still : (after : Hearing) (j : Judging) (k : Listening) (now : ℕ) (d : Segment) (guessed : List Connection) (openings : List Opening) → StandsFor after.held k.held

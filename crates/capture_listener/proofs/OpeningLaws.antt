@@ -4,14 +4,14 @@ use Rattle.std.specs.Prelude.{cond, option_map, if◌then◌else◌}
 use Rattle.std.specs.BTreeMap.{is_at}
 use Rattle.std.specs.List.{find}
 use Rattle.book_base.specs.declared.address.Socket.{Socket}
+use Rattle.book_base.specs.declared.address.Pair.{Pair}
+use Rattle.book_base.specs.Orders.{by_pair}
+use Rattle.book_base.proofs.OrderLaws.{pair_tied, pair_told}
 use Rattle.book_segments.specs.Sockets.{same_socket}
 use Rattle.book_segments.proofs.Fields.{and_tells}
 use Rattle.book_segments.proofs.SocketLaws.{same_socket_is, same_socket-refl}
 use Rattle.book_sessions.specs.Glimpses.{Opening, is_opening_from, with_opening}
-use Rattle.capture_check.specs.declared.ends.Ends.{Ends}
-use Rattle.capture_check.specs.Ends.{by_ends, way_key}
-use Rattle.capture_check.proofs.EndsLaws.{ends_tied, ends_told, way_told}
-use Rattle.capture_listener.specs.Openings.{kept_isn, opened_isn, PutsIsn, KeepsOpenings}
+use Rattle.capture_listener.specs.Openings.{kept_isn, opened_isn, PutsIsn, KeepsOpenings, way_between}
 
 -- an opening goes this way: its sockets are these
 from_told : (a b : Socket) (o : Opening) → is_opening_from a b o ≡ true → (o.source ≡ a) × (o.destination ≡ b)
@@ -46,24 +46,24 @@ find_opening a b o (p ∷ ps) = at (find_opening a b o ps) (is_opening_from o.so
     at i false false false e f g = rw f (i ∙ rw g refl)
 
 -- a number that is kept stands for its opening among the others
-pub keeps_put : (before after : List (Ends × ℕ)) (os : List Opening) (o : Opening) → KeepsOpenings before os → PutsIsn before after (way_key o.source o.destination) o.isn
+pub keeps_put : (before after : List (Pair × ℕ)) (os : List Opening) (o : Opening) → KeepsOpenings before os → PutsIsn before after (way_between o.source o.destination) o.isn
     → KeepsOpenings after (with_opening o os)
 keeps_put before after os o K P = record { same = λ a b. at a b (is_opening_from a b o) refl }
   where
-    other : (a b : Socket) → is_opening_from a b o ≡ false → (v : Bool) → is_at (by_ends (way_key o.source o.destination)) (way_key a b) ≡ v → v ≡ false
+    other : (a b : Socket) → is_opening_from a b o ≡ false → (v : Bool) → is_at (by_pair (way_between o.source o.destination)) (way_between a b) ≡ v → v ≡ false
     other a b n false e = refl
     other a b n true e =
-        let t = way_told o.source o.destination a b (ends_told (way_key o.source o.destination) (way_key a b) e) in
-        let is = from_is a b o t.0 t.1 in
+        let same = pair_told (way_between o.source o.destination) (way_between a b) e in
+        let is = from_is a b o (ap (λ (k : Pair). k.local) same) (ap (λ (k : Pair). k.remote) same) in
         absurd (cc)
 
-    at : (a b : Socket) (v : Bool) → is_opening_from a b o ≡ v → kept_isn after (way_key a b) ≡ opened_isn a b (with_opening o os)
+    at : (a b : Socket) (v : Bool) → is_opening_from a b o ≡ v → kept_isn after (way_between a b) ≡ opened_isn a b (with_opening o os)
     at a b true e =
         let t = from_told a b o e in
-        let same : is_at (by_ends (way_key o.source o.destination)) (way_key a b) ≡ true = rw (t.0, t.1) (ends_tied (way_key a b)) in
+        let same : is_at (by_pair (way_between o.source o.destination)) (way_between a b) ≡ true = rw (t.0, t.1) (pair_tied (way_between a b)) in
         let found : find (is_opening_from a b) (with_opening o os) ≡ Some o = find_opening a b o os ∙ rw e refl in
-        P.finds (way_key a b) ∙ (ap (λ (v : Bool). cond v (Some o.isn) (kept_isn before (way_key a b))) same ∙ sym (ap (option_map (λ (p : Opening). p.isn)) found))
+        P.finds (way_between a b) ∙ (ap (λ (v : Bool). cond v (Some o.isn) (kept_isn before (way_between a b))) same ∙ sym (ap (option_map (λ (p : Opening). p.isn)) found))
     at a b false e =
-        let apart = other a b e (is_at (by_ends (way_key o.source o.destination)) (way_key a b)) refl in
+        let apart = other a b e (is_at (by_pair (way_between o.source o.destination)) (way_between a b)) refl in
         let found : find (is_opening_from a b) (with_opening o os) ≡ find (is_opening_from a b) os = find_opening a b o os ∙ rw e refl in
-        P.finds (way_key a b) ∙ (ap (λ (v : Bool). cond v (Some o.isn) (kept_isn before (way_key a b))) apart ∙ (K.same a b ∙ sym (ap (option_map (λ (p : Opening). p.isn)) found)))
+        P.finds (way_between a b) ∙ (ap (λ (v : Bool). cond v (Some o.isn) (kept_isn before (way_between a b))) apart ∙ (K.same a b ∙ sym (ap (option_map (λ (p : Opening). p.isn)) found)))

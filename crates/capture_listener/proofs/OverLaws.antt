@@ -3,6 +3,7 @@ use Rattle.std.proofs.Common.{◌≡◌, ◌+◌, ◌*◌, ℕ, zero, suc, lengt
 use Rattle.std.specs.Prelude.{◌&&◌, nat_le, option_map, if◌then◌else◌}
 use Rattle.std.specs.List.{find}
 use Rattle.std.specs.Option.{option_or, unwrap_or}
+use Rattle.book_base.specs.declared.address.Pair.{Pair}
 use Rattle.book_segments.specs.Bytes.{ring}
 use Rattle.book_segments.specs.Segments.{Segment, has, SYN, ACK, pair_reached}
 use Rattle.book_segments.specs.Sockets.{same_socket}
@@ -18,7 +19,6 @@ use Rattle.book_sessions.specs.Glimpses.{is_refused}
 use Rattle.book_sessions.specs.Laps.{Judging, first_from, hear_over, heard_ahead, heard_by, heard_further, is_searched, with_expected}
 use Rattle.capture_check.specs.declared.answer.CheckLine.{CheckLine}
 use Rattle.capture_check.specs.declared.answer.CheckLine.TheVariants as line
-use Rattle.capture_check.specs.declared.ends.Ends.{Ends}
 use Rattle.capture_check.specs.declared.flows.Flows.{Flows}
 use Rattle.capture_check.specs.declared.known.KnownConnection.{KnownConnection}
 use Rattle.capture_check.specs.Answers.{Says}
@@ -203,17 +203,17 @@ searched_refused (line.Verdict Range checksum) e = refl
 searched_refused (line.Verdict BadMac checksum) e = refl
 
 -- a segment is heard, and isn't searched
-pub heard_plain : (j : Judging) (held : List Connection) (now : ℕ) (d : Segment) (after : List (Ends × Flows)) (l : CheckLine) (u v : Bool) → Hears after l (heard_by j now d held)
+pub heard_plain : (j : Judging) (held : List Connection) (now : ℕ) (d : Segment) (after : List (Pair × Flows)) (l : CheckLine) (u v : Bool) → Hears after l (heard_by j now d held)
     → says_searched l ≡ u → has SYN d ≡ v → (u && not v) ≡ false → Hears after l (hear_over j held now d)
 heard_plain j held now d after l u v H e f no_search =
     subst (λ (h : Heard). Hears after l h) (over_plain j held now d (searched_by l (heard_by j now d held).saying d u v H.says e f ∙ no_search)) H
 
 -- a segment that is searched is refused, and the connections stay
-pub searched_stays : (j : Judging) (held : List Connection) (now : ℕ) (d : Segment) (after : List (Ends × Flows)) (l : CheckLine) → Hears after l (heard_by j now d held) → says_searched l ≡ true
+pub searched_stays : (j : Judging) (held : List Connection) (now : ℕ) (d : Segment) (after : List (Pair × Flows)) (l : CheckLine) → Hears after l (heard_by j now d held) → says_searched l ≡ true
     → (heard_by j now d held).connections ≡ held
 searched_stays j held now d after l H e = (fair_read j held now d).refused (sym (refused_told l (heard_by j now d held).saying H.says) ∙ searched_refused l e)
 
-pub searched_stands : (j : Judging) (held : List Connection) (now : ℕ) (d : Segment) (after : List (Ends × Flows)) (l : CheckLine) → Hears after l (heard_by j now d held) → says_searched l ≡ true
+pub searched_stands : (j : Judging) (held : List Connection) (now : ℕ) (d : Segment) (after : List (Pair × Flows)) (l : CheckLine) → Hears after l (heard_by j now d held) → says_searched l ≡ true
     → StandsFor after held
 searched_stands j held now d after l H e = subst (λ (cs : List Connection). StandsFor after cs) (searched_stays j held now d after l H e) H.stands
 
@@ -230,7 +230,7 @@ none_told None e = refl
 none_told (Some c) e = absurd (cc)
 
 -- no connection is known between its sockets
-pub heard_unknown : (j : Judging) (held : List Connection) (now : ℕ) (d : Segment) (after : List (Ends × Flows)) (l : CheckLine) → Hears after l (heard_by j now d held)
+pub heard_unknown : (j : Judging) (held : List Connection) (now : ℕ) (d : Segment) (after : List (Pair × Flows)) (l : CheckLine) → Hears after l (heard_by j now d held)
     → (same_socket d.source d.destination ≡ false → None ≡ known_numbers d.source d.destination held) → Hears after l (hear_over j held now d)
 heard_unknown j held now d after l H none = subst (λ (h : Heard). Hears after l h) (at (same_socket d.source d.destination) refl) H
   where
@@ -257,7 +257,7 @@ between_told d held k one none = at (same_socket d.source d.destination) refl
     at false e = told (connection_between d held) refl (one e)
 
 -- a search found nothing
-pub heard_none : (j : Judging) (held : List Connection) (now : ℕ) (d : Segment) (before after : List (Ends × Flows)) (l : CheckLine) (n : ℕ) → Hears before l (heard_by j now d held) → says_searched l ≡ true
+pub heard_none : (j : Judging) (held : List Connection) (now : ℕ) (d : Segment) (before after : List (Pair × Flows)) (l : CheckLine) (n : ℕ) → Hears before l (heard_by j now d held) → says_searched l ≡ true
     → (B : Between d held n) → Finds after held None (first_from (heard_ahead (heard_by j now d) held B.connection) j.laps 1) → Hears after l (hear_over j held now d)
 heard_none j held now d before after l n H e B F =
     let stays = searched_stays j held now d before l H e in
@@ -265,13 +265,13 @@ heard_none j held now d before after l n H e B F =
     (record { says = H.says; stands = subst (λ (cs : List Connection). StandsFor after cs) (sym stays) F.1 })
 
 -- a search found this
-pub heard_found : (j : Judging) (held : List Connection) (now : ℕ) (d : Segment) (before after : List (Ends × Flows)) (l more : CheckLine) (n : ℕ) → Hears before l (heard_by j now d held) → says_searched l ≡ true
+pub heard_found : (j : Judging) (held : List Connection) (now : ℕ) (d : Segment) (before after : List (Pair × Flows)) (l more : CheckLine) (n : ℕ) → Hears before l (heard_by j now d held) → says_searched l ≡ true
     → has SYN d ≡ false → (B : Between d held n) → Finds after held (Some more) (first_from (heard_ahead (heard_by j now d) held B.connection) j.laps 1) → Hears after more (hear_over j held now d)
 heard_found j held now d before after l more n H e syn B (k, is, found) =
     subst (λ (h : Heard). Hears after more h) (over_found j held now d B.connection k (searched_by l (heard_by j now d held).saying d true false H.says e syn) B.is is) found
 
 -- a SYN is heard once
-pub heard_syn : (j : Judging) (held : List Connection) (now : ℕ) (d : Segment) (after : List (Ends × Flows)) (l : CheckLine) → Hears after l (heard_by j now d held) → has SYN d ≡ true
+pub heard_syn : (j : Judging) (held : List Connection) (now : ℕ) (d : Segment) (after : List (Pair × Flows)) (l : CheckLine) → Hears after l (heard_by j now d held) → has SYN d ≡ true
     → Hears after l (hear_over j held now d)
 heard_syn j held now d after l H syn = at (says_searched l) refl
   where

@@ -1,12 +1,12 @@
 -- A listener: how it judges, and what it knows while a capture is heard (own).
 use Rattle.std.specs.Prelude.{◌≡◌, ℕ, ◌⊎◌, List, Ok}
+use Rattle.book_base.specs.declared.address.Pair.{Pair}
 use Rattle.book_segments.specs.Segments.{Segment}
 use Rattle.book_cmd_check.specs.Captures.{Connection}
 use Rattle.book_sessions.specs.declared.outcome.SegmentOutcome.{SegmentOutcome}
 use Rattle.book_sessions.specs.Glimpses.{Opening, glimpsed, openings_after}
 use Rattle.book_sessions.specs.Laps.{Judging, hear_over}
 use Rattle.book_sessions.specs.Listening.{Listened, Listening}
-use Rattle.capture_check.specs.declared.ends.Ends.{Ends}
 use Rattle.capture_check.specs.declared.flows.Flows.{Flows}
 use Rattle.capture_check.specs.Checkers.{StandsFor}
 use Rattle.capture_listener.specs.Openings.{KeepsOpenings}
@@ -15,9 +15,9 @@ use Rattle.capture_listener.specs.Openings.{KeepsOpenings}
 -- to have begun, and the openings (own)
 pub record Hearing : Type 0 where
   pub judging : Judging
-  pub held : List (Ends × Flows)
-  pub guessed : List (Ends × Flows)
-  pub openings : List (Ends × ℕ)
+  pub held : List (Pair × Flows)
+  pub guessed : List (Pair × Flows)
+  pub openings : List (Pair × ℕ)
 
 -- the listener knows what is known (own)
 pub record Knows (l : Hearing) (k : Listening) : Type 0 where

@@ -3,7 +3,7 @@ use Rattle.std.proofs.Common.{◌≡◌, ℕ, ◌+◌, ◌-◌, ◌%◌, ◌==�
 use Rattle.book_base.specs.declared.address.Pair.{Pair}
 use Rattle.book_segments.specs.Meant.{meant}
 use Rattle.book_segments.specs.Bytes.{ring}
-use Rattle.book_segments.specs.Received.{keep, first_missing, runs, below_limit}
+use Rattle.book_segments.specs.Received.{keep, first_missing, runs, most_runs, below_limit}
 use Rattle.book_segments.specs.Segments.{Segment, Reading, Read, Bad as Unread, good, has, SYN, RST, ACK, segment_length}
 use Rattle.book_keys.specs.Rows.{Row}
 use Rattle.book_endpoint.specs.declared.arrival.Arrival.TheVariants.{Window, BadAck, TooManyRuns, Unexpected}
@@ -13,7 +13,7 @@ use Rattle.book_endpoint.specs.Verdicts.{Finding, Judgement}
 use Rattle.book_endpoint.specs.States.{EndState, window, is_closed}
 use Rattle.book_endpoint.specs.Emissions.{is_syn_received}
 use Rattle.book_endpoint.specs.Hearing.{Moved, answered, owing, above, fits_window, acked, windowed, acked_fin, pass_fin, finish, fin_of, records_fin}
-use Rattle.book_endpoint.specs.Arrivals.{Arrived, Admitted, most_runs, passes, from_peer, heard, judged_by, syn_alone, syn_ack_alone, past_handshake, hear_text, has_text, other_cases, cases_in, checked, arrive}
+use Rattle.book_endpoint.specs.Arrivals.{Arrived, Admitted, passes, from_peer, heard, judged_by, syn_alone, syn_ack_alone, past_handshake, hear_text, has_text, other_cases, cases_in, checked, arrive}
 use Rattle.endpoint_steps.specs.Arriving.{heard_runs, hear_data, go_on, acknowledged, ordinary, after_check, arrive_judged, arrive_read, arrive_by_steps}
 
 -- ---- text and FIN

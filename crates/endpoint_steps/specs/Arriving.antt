@@ -4,7 +4,7 @@ use Rattle.std.specs.Prelude.{ℕ, ◌+◌, ◌-◌, ◌%◌, ◌==◌, nat_lt, 
 use Rattle.book_base.specs.declared.address.Pair.{Pair}
 use Rattle.book_segments.specs.Bytes.{ring}
 use Rattle.book_segments.specs.Meant.{meant}
-use Rattle.book_segments.specs.Received.{keep, first_missing, runs, below_limit}
+use Rattle.book_segments.specs.Received.{keep, first_missing, runs, most_runs, below_limit}
 use Rattle.book_segments.specs.Segments.{Segment, Reading, Read, Bad as Unread, good, has, FIN, SYN, RST, ACK, segment_length}
 use Rattle.book_keys.specs.Rows.{Row}
 use Rattle.book_endpoint.specs.declared.arrival.Arrival.TheVariants.{Bad, Foreign, Checksum, Closed as AtClosed, Refused, Unexpected, Window, Challenge}
@@ -14,7 +14,7 @@ use Rattle.book_endpoint.specs.declared.phase.Phase.TheVariants.{Listen, SynSent
 use Rattle.book_endpoint.specs.Verdicts.{Judgement}
 use Rattle.book_endpoint.specs.States.{EndState, window, is_closed, hears}
 use Rattle.book_endpoint.specs.Hearing.{Moved, answered, owing, above, fits_window, finish, fin_of, pass_fin, records_fin, acked, windowed, acked_fin, told_by_syn}
-use Rattle.book_endpoint.specs.Arrivals.{Arrived, most_runs, unmoved, passes, heard, judged_by, from_peer, syn_alone, syn_ack_alone}
+use Rattle.book_endpoint.specs.Arrivals.{Arrived, unmoved, passes, heard, judged_by, from_peer, syn_alone, syn_ack_alone}
 
 -- The bytes are kept and a FIN is recorded, unless too many separate runs would arise; RCV.NXT
 -- moves to the first missing number (RFC 9293, section 3.10.7.4; the limit of runs: own).

@@ -98,10 +98,10 @@ impl Choice {
         })
     }
 
-    /// An RNextKeyID was heard: the sendable row with this SendID becomes current; where there is
+    /// Follows an RNextKeyID that was heard: the sendable row with this SendID becomes current; where there is
     /// none, nothing changes (RFC 5925, sections 6.1 and 7.5).
     #[tactic(auto, unfolding(book_keys::specs::Coordination::follow))]
-    pub fn heard(&mut self, table: &Table, pair: &Pair, rnext: u8, now: u64)
+    pub fn follow(&mut self, table: &Table, pair: &Pair, rnext: u8, now: u64)
         ensures { self.new ≡ follow self.old table.now.rows pair.now rnext now }
     {
         if let Some(number) = table.named_send(pair, rnext, now) {

@@ -5,14 +5,15 @@ ghost use Rattle.book_keys.specs.Columns.{text_of, is_admin, id_of_text, ids_of}
 
 use crate::columns::{must, text_at};
 use ao_base::read_decimal;
-use book_keys::{Column, GREATEST_KEY_ID, Ids, TableFault};
+use book_keys::{Column, GREATEST_KEY_ID, Ids, LONGEST_ADMIN_NAME, TableFault};
 use toml::Table;
 
 /// Whether AdminKeyName is a text of 1 to 255 bytes.
 pub fn is_admin_at(table: &Table) -> bool
     ensures { result ≡ is_admin (text_of (codes "AdminKeyName") (table_view table.now)) }
 {
-    text_at(table, "AdminKeyName").is_some_and(|text| !text.is_empty() && text.len() <= 255)
+    text_at(table, "AdminKeyName").is_some_and(|text| !text.is_empty()
+        && text.len() <= LONGEST_ADMIN_NAME)
 }
 
 fn read_id(text: &str) -> Option<u8>

@@ -1,7 +1,7 @@
 -- An arrival that isn't taken leaves an end, case by case of the table.
 use Rattle.std.proofs.Common.{◌≡◌, ℕ, ◌+◌, ◌-◌, ◌==◌, nat_lt, Bool, true, false, not, ◌&&◌, List, length, Option, Ok, Err, if◌then◌else◌, refl}
 use Rattle.book_base.specs.declared.address.Pair.{Pair}
-use Rattle.book_segments.specs.Received.{keep, first_missing, runs, below_limit}
+use Rattle.book_segments.specs.Received.{keep, first_missing, runs, most_runs, below_limit}
 use Rattle.book_segments.specs.Segments.{Segment, Reading, Read, Bad as Unread, good, has, SYN, RST, ACK}
 use Rattle.book_keys.specs.Rows.{Row}
 use Rattle.book_endpoint.specs.declared.arrival.Arrival.{Arrival}
@@ -12,7 +12,7 @@ use Rattle.book_endpoint.specs.Verdicts.{Judgement}
 use Rattle.book_endpoint.specs.States.{EndState, window, is_closed}
 use Rattle.book_endpoint.specs.Emissions.{is_syn_received}
 use Rattle.book_endpoint.specs.Hearing.{Moved, answered, owing, finish, fin_of, pass_fin, records_fin, told_by_syn}
-use Rattle.book_endpoint.specs.Arrivals.{Arrived, Admitted, arrive, checked, cases_in, other_cases, is_acceptable, acknowledges_syn, acknowledges_sent, acknowledged_state, has_text, hear_text, heard, most_runs, judged_by, from_peer, unmoved, syn_alone, syn_ack_alone}
+use Rattle.book_endpoint.specs.Arrivals.{Arrived, Admitted, arrive, checked, cases_in, other_cases, is_acceptable, acknowledges_syn, acknowledges_sent, acknowledged_state, has_text, hear_text, heard, judged_by, from_peer, unmoved, syn_alone, syn_ack_alone}
 use Rattle.law_endpoint.specs.Moving.{moves}
 
 -- an answer that moves nothing comes with the state as it was, but for the current key, and an ACK that is owed

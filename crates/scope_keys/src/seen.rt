@@ -9,6 +9,7 @@ ghost use Rattle.book_scope_keys.specs.FileFindings.{addresses_with, bare_table,
 
 use ao_base::{is_same_address, read_address};
 use book_base::{Address, Bytes};
+use book_keys::LONGEST_NODE_NAME;
 use key_table::{is_visible, text_at};
 use std::alloc::{AllocError, Global};
 use toml::{Table, Value};
@@ -38,7 +39,11 @@ fn unused_name<'a>(names: &[Bytes], text: &'a str) -> Option<&'a str>
     ensures { option_map (λ s. s.now) result ≡ node_name_of (map table_named names.now) text.now }
 {
     let bytes = text.as_bytes();
-    if !bytes.is_empty() && bytes.len() <= 64 && is_visible(bytes) && !has_name(names, bytes) {
+    if !bytes.is_empty()
+        && bytes.len() <= LONGEST_NODE_NAME
+        && is_visible(bytes)
+        && !has_name(names, bytes)
+    {
         Some(text)
     } else {
         None

@@ -1,7 +1,7 @@
 -- What was answered and what was written of it.
-use Rattle.std.proofs.Common.{◌≡◌, ℕ, Bool, List, [], Option, Some, None, Result, Ok, Err, refl, sym, ap, ◌∙◌}
+use Rattle.std.proofs.Common.{◌≡◌, ℕ, Bool, List, [], Option, Some, Result, Ok, Err, refl}
 use Rattle.toml.specs.Data.{Members}
-use Rattle.ao_base.specs.Outside.{Side, WasWritten}
+use Rattle.ao_base.specs.Outside.{Side}
 use Rattle.ao_base.proofs.Sides.{gave_none, took_none}
 use Rattle.book_lines.specs.declared.line_kind.LineKind.{LineKind}
 use Rattle.book_cmd_check.specs.declared.given.GivenIsns.{GivenIsns}

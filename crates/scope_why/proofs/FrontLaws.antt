@@ -1,5 +1,5 @@
 -- What stands behind one packet more, and what is said of bytes that are no segment.
-use Rattle.std.proofs.Common.{◌≡◌, ℕ, Bool, false, List, ◌++◌, Result, Ok, Err, IfOk, OnOk, refl, sym, ap, ◌∙◌}
+use Rattle.std.proofs.Common.{◌≡◌, ℕ, Bool, false, List, ◌++◌, Result, Ok, Err, IfOk, refl, sym, ap, ◌∙◌}
 use Rattle.book_cmd_check.specs.declared.given.GivenIsns.{GivenIsns}
 use Rattle.book_cmd_check.specs.Captures.{Connection, Stored, hear, hear_read, is_pass}
 use Rattle.book_keys.specs.Rows.{Table}
@@ -8,17 +8,17 @@ use Rattle.book_segments.specs.declared.fault.DatagramFault.{DatagramFault}
 use Rattle.book_segments.specs.Segments.{Bad, Read, Reading, Segment, reading}
 use Rattle.book_sessions.specs.declared.outcome.PassedOver.{PassedOver}
 use Rattle.book_sessions.specs.declared.outcome.PassedOver.TheVariants as passed
-use Rattle.book_why_texts.specs.Answers.{Behind, answer_behind, no_segment_line, passes_behind, said_and_why, said_behind, segment_line}
+use Rattle.book_why_texts.specs.Answers.{Behind, no_segment_line, said_and_why, segment_line}
 use Rattle.book_why_texts.specs.OtherIsns.{told_by_reading}
 use Rattle.capture_check.specs.declared.answer.CheckLine.{CheckLine}
-use Rattle.capture_check.specs.declared.ends.Ends.{Ends}
+use Rattle.book_base.specs.declared.address.Pair.{Pair}
 use Rattle.capture_check.specs.declared.flows.Flows.{Flows}
 use Rattle.capture_check.specs.Checkers.{Hears}
 use Rattle.scope_why.specs.declared.answer.Answered.{Answered}
 use Rattle.scope_why.specs.Fronts.{StandsBehind, behind_one}
 use Rattle.scope_why.specs.Replies.{AnswersBehind, SaysWhy}
 
-pub heard_front : (tables : List Table) (entries entries_now : List (Ends × Flows)) (told told_now : List GivenIsns) (b : Behind) (s : Stored) (line : CheckLine) → StandsBehind entries told b
+pub heard_front : (tables : List Table) (entries entries_now : List (Pair × Flows)) (told told_now : List GivenIsns) (b : Behind) (s : Stored) (line : CheckLine) → StandsBehind entries told b
     → told_now ≡ told ++ told_by_reading (reading s.bytes) → Hears entries_now line (hear tables b.held s.time s.bytes) → StandsBehind entries_now told_now (behind_one tables b (Ok s))
 heard_front tables entries entries_now told told_now b s line stands is hears =
     record { stands = hears.stands; tells = is ∙ ap (λ (x : List GivenIsns). x ++ told_by_reading (reading s.bytes)) stands.tells }

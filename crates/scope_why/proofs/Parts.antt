@@ -1,6 +1,5 @@
 -- Texts put behind one another, part by part.
 use Rattle.std.proofs.Common.{◌≡◌, ℕ, Bool, false, List, [], ◌∷◌, ◌++◌, ◌∙◌, append_assoc, Result, Ok, Err, OnOk, refl, ap, sym}
-use Rattle.std.proofs.lemmas.List.{append-nil}
 use Rattle.book_lines.specs.Texts.{spaced}
 use Rattle.book_why_texts.specs.Lacks.{lack}
 

@@ -1,15 +1,15 @@
 -- What decided what is said of a segment, as the definitions have it.
-use Rattle.std.proofs.Common.{◌≡◌, ℕ, Bool, true, false, List, [], ◌∷◌, ◌++◌, Option, Some, None, Result, Ok, Err, OnOk, refl, sym, ap, ◌∙◌, append_assoc}
+use Rattle.std.proofs.Common.{◌≡◌, ℕ, Bool, true, false, List, ◌∷◌, ◌++◌, Option, Some, None, Result, Ok, Err, OnOk, refl, sym, ap, ◌∙◌}
 use Rattle.std.specs.Prelude.{codes, decimal, option_map, if◌then◌else◌}
 use Rattle.std.specs.List.{find}
 use Rattle.toml.specs.Data.{Members}
 use Rattle.toml.specs.View.{table_view}
 use Rattle.book_cmd_show.specs.declared.checksum.Checksum.{Checksum}
 use Rattle.book_cmd_check.specs.declared.given.GivenIsns.{GivenIsns}
-use Rattle.book_cmd_check.specs.Captures.{Connection, Heard, most_connections, Saying, Judged, TooManyConnections, Unreadable, UnknownNode, Stored, connection_between, hear, hear_at, hear_read, is_pass, saying_texts}
+use Rattle.book_cmd_check.specs.Captures.{Connection, Heard, most_connections, Saying, Judged, TooManyConnections, Unreadable, UnknownNode, connection_between, hear_at, hear_read, is_pass, saying_texts}
 use Rattle.book_endpoint.specs.declared.verdict.Verdict.{Verdict}
 use Rattle.book_endpoint.specs.declared.verdict.Verdict.TheVariants as verdict
-use Rattle.book_endpoint.specs.Verdicts.{Finding, Judgement}
+use Rattle.book_endpoint.specs.Verdicts.{Judgement}
 use Rattle.book_keys.specs.Choices.{Numbered}
 use Rattle.book_keys.specs.Rows.{Table, has_address}
 use Rattle.book_lines.specs.Texts.{line_text}

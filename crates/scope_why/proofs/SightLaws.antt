@@ -1,10 +1,9 @@
 -- What is found of a value through several steps.
-use Rattle.std.proofs.Common.{◌≡◌, ℕ, ◌≤◌, ◌^◌, Bool, true, false, List, [], ◌++◌, Option, Some, None, refl, sym, ap, ◌∙◌, Result, Ok, Err, IfSome, OnOk}
+use Rattle.std.proofs.Common.{◌≡◌, ℕ, ◌≤◌, ◌^◌, Bool, true, false, List, ◌++◌, Option, Some, None, refl, sym, Result, Ok, Err, IfSome, OnOk}
 use Rattle.std.proofs.lemmas.List.{append-nil}
 use Rattle.book_base.specs.Results.{◌>>=◌, or_fault}
 use Rattle.book_segments.specs.Meant.{meant}
-use Rattle.book_segments.specs.Segments.{Segment, has, SYN}
-use Rattle.book_endpoint.specs.Verdicts.{segment_number}
+use Rattle.book_segments.specs.Segments.{has, SYN}
 use Rattle.book_why_texts.specs.Inquiries.{if_found}
 use Rattle.book_why.specs.declared.change.IsnPair.{IsnPair}
 use Rattle.book_keys.specs.Choices.{Numbered}

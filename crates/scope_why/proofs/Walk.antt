@@ -1,11 +1,11 @@
 -- From one part of a capture to the next, and to each end.
-use Rattle.std.proofs.Common.{◌≡◌, ℕ, zero, suc, ◌+◌, ◌-◌, ◌<◌, ◌≤◌, ◌==◌, Bool, true, false, List, [], ◌∷◌, ◌++◌, length, Option, Some, None, Result, Ok, Err, IfSome, IfOk, OnOk, IsSome, refl, sym, ap, subst, ◌∙◌, append_assoc, arith, inl, inr}
+use Rattle.std.proofs.Common.{◌≡◌, ℕ, zero, suc, ◌+◌, ◌<◌, ◌≤◌, Bool, true, false, List, [], ◌∷◌, ◌++◌, length, Option, Some, None, Result, Ok, Err, IfSome, IsSome, refl, sym, ap, subst, ◌∙◌, append_assoc, arith, inl, inr}
 use Rattle.std.proofs.lemmas.Bool.Decides.{nat_tests}
 use Rattle.std.proofs.lemmas.List.{append-nil, length-append}
-use Rattle.std.proofs.lemmas.List.Elements.{All-append, All-from_get_or}
+use Rattle.std.proofs.lemmas.List.Elements.{All-append}
 use Rattle.std.specs.Prelude.{if◌then◌else◌}
 use Rattle.std.specs.List.{All, find}
-use Rattle.ao_base.specs.Outside.{Side, Gave, told}
+use Rattle.ao_base.specs.Outside.{Side, Gave}
 use Rattle.ao_base.proofs.Sides.{gave_none}
 use Rattle.book_base.specs.Hexadecimal.{IsByte}
 use Rattle.book_captures.specs.declared.capture_parts.CaptureFault.{CaptureFault}
@@ -20,11 +20,11 @@ use Rattle.book_scope_plan.specs.AdminNames.{KeyFile}
 use Rattle.book_segments.specs.Segments.{reading}
 use Rattle.book_sessions.specs.declared.outcome.PassedOver.{PassedOver}
 use Rattle.book_sessions.specs.Sessions.{all_stored, stored_before, stored_of_packet}
-use Rattle.book_why_texts.specs.Answers.{Behind, WhyAsked, answer_behind, behind_stored, has_number, no_packet_line, passes_behind, why_passes, why_text}
+use Rattle.book_why_texts.specs.Answers.{Behind, WhyAsked, behind_stored, has_number, no_packet_line, why_passes, why_text}
 use Rattle.book_why_texts.specs.OtherIsns.{told_by_reading, told_by_stored}
 use Rattle.book_why_texts.proofs.AnswerLaws.{missing_told, pass_told, text_told}
 use Rattle.capture_check.specs.Checkers.{Checking, StandsFor}
-use Rattle.capture_check.specs.declared.ends.Ends.{Ends}
+use Rattle.book_base.specs.declared.address.Pair.{Pair}
 use Rattle.capture_check.specs.declared.flows.Flows.{Flows}
 use Rattle.capture_stream.specs.declared.reader.CaptureStep.TheVariants as step
 use Rattle.capture_stream.specs.declared.reader.CaptureHalt.TheVariants as stream_halt
@@ -36,7 +36,7 @@ use Rattle.scope_why.specs.declared.answer.Answered.{Answered}
 use Rattle.scope_sessions.specs.declared.halt.JudgingHalt.TheVariants as halt
 use Rattle.scope_why.specs.Fronts.{StandsBehind, behind_one, stored_as}
 use Rattle.scope_why.specs.declared.shown.StoredBytes.{StoredBytes}
-use Rattle.scope_why.specs.Reading.{IsAnswer, Lacks, Misses, NoneHas, Reaches, Reads, Stops}
+use Rattle.scope_why.specs.Reading.{NoneHas, Reads, Stops}
 use Rattle.scope_why.specs.Replies.{AnswersBehind}
 
 -- the first of these packets that has the number
@@ -147,7 +147,7 @@ few_listed (Some p) = omega arith
 no_packets : (n : ℕ) → NoneHas n []
 no_packets n i d low = absurd (omega (arith, low))
 
-stands_first : (keys : KeyFile) (asked : WhyAsked) (entries : List (Ends × Flows)) (told_now : List GivenIsns) → StandsFor entries (given_after [] asked.given) → told_now ≡ asked.given
+stands_first : (keys : KeyFile) (asked : WhyAsked) (entries : List (Pair × Flows)) (told_now : List GivenIsns) → StandsFor entries (given_after [] asked.given) → told_now ≡ asked.given
     → StandsBehind entries told_now (behind_stored keys.tables asked.given [])
 stands_first keys asked entries told_now stands is = record { stands = stands; tells = is ∙ sym (append-nil asked.given) }
 

@@ -5,7 +5,6 @@ use Rattle.toml.specs.View.{table_view}
 use Rattle.book_keys.specs.Rows.{Table, has_address}
 use Rattle.book_lines.specs.Texts.{line_text}
 use Rattle.book_scope_texts.specs.Addresses.{usual_address_text}
-use Rattle.book_segments.specs.Segments.{Segment}
 use Rattle.book_why.specs.declared.change.IsnPair.{IsnPair}
 use Rattle.book_why_texts.specs.Inquiries.{Inquiry}
 use Rattle.book_why_texts.specs.OtherIsns.{other_isns}

@@ -7,7 +7,7 @@ use Rattle.book_cmd_check.specs.Captures.{Stored, hear}
 use Rattle.book_sessions.specs.declared.outcome.PassedOver.{PassedOver}
 use Rattle.book_why_texts.specs.Answers.{Behind}
 use Rattle.book_why_texts.specs.OtherIsns.{told_by_reading}
-use Rattle.capture_check.specs.declared.ends.Ends.{Ends}
+use Rattle.book_base.specs.declared.address.Pair.{Pair}
 use Rattle.capture_check.specs.declared.flows.Flows.{Flows}
 use Rattle.capture_check.specs.Checkers.{StandsFor}
 use Rattle.scope_why.specs.declared.shown.StoredBytes.{StoredBytes}
@@ -18,7 +18,7 @@ stored_as n (Ok s) = Ok (record { number = n; time = s.time; bytes = s.bytes.now
 stored_as n (Err why) = Err why
 
 -- the checker knows the connections that are held, and all that was told was kept
-pub record StandsBehind (entries : List (Ends × Flows)) (told : List GivenIsns) (b : Behind) : Type 0 where
+pub record StandsBehind (entries : List (Pair × Flows)) (told : List GivenIsns) (b : Behind) : Type 0 where
   pub stands : StandsFor entries b.held
   pub tells : told ≡ b.told
 

@@ -1,5 +1,5 @@
 -- The values of this crate as those of the definitions (own).
-use Rattle.std.specs.Prelude.{ℕ, Option, option_map}
+use Rattle.std.specs.Prelude.{option_map}
 use Rattle.toml.specs.View.{table_view}
 use Rattle.book_segments.specs.Segments.{Segment}
 use Rattle.book_cmd_check.specs.Captures.{Connection}

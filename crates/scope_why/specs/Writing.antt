@@ -4,7 +4,6 @@ use Rattle.std.specs.List.{All}
 use Rattle.toml.specs.Data.{Members}
 use Rattle.ao_base.specs.Outside.{Side, Gave, WasWritten, Rose}
 use Rattle.book_base.specs.Hexadecimal.{IsByte}
-use Rattle.book_captures.specs.Captures.{capture_of}
 use Rattle.book_cmd_check.specs.declared.given.GivenIsns.{GivenIsns}
 use Rattle.book_lines.specs.declared.text_fault.TextFault.{TextFault}
 use Rattle.book_lines.specs.declared.text_fault.TextFault.TheVariants as line_fault

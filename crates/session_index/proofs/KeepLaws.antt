@@ -7,16 +7,15 @@ use Rattle.std.specs.BTreeMap.{is_at}
 use Rattle.std.specs.Map.{lookup}
 use Rattle.std.specs.List.{slice_get, AllByRecursion}
 use Rattle.std.specs.declared.vec.Vec.{Vec}
-use Rattle.book_base.specs.declared.address.Pair.{Pair}
 use Rattle.book_base.specs.declared.address.Socket.{Socket}
-use Rattle.book_base.specs.Orders.{by_pair}
+use Rattle.book_base.specs.declared.address.Pair.{Pair}
+use Rattle.book_base.specs.Orders.{by_pair, sorted_pair}
 use Rattle.book_base.proofs.OrderLaws.{pair_tied, pair_told}
 use Rattle.book_segments.proofs.Fields.{eqb_is}
 use Rattle.book_sessions.specs.declared.uses.KeyUse.{KeyUse}
 use Rattle.book_sessions.specs.declared.uses.SeenSegment.{SeenSegment}
 use Rattle.book_sessions.specs.Sessions.{first_use, is_use_of, used_again}
 use Rattle.book_sessions.specs.SessionTexts.{is_of_session}
-use Rattle.session_index.specs.Ends.{ends_of}
 use Rattle.session_index.specs.Groups.{CountsAgain, CountsNext, CountsSegment, HaveOneSession, IsIndexed, lists_of}
 use Rattle.session_index.specs.Places.{is_between, is_use_found, number_between, place_among, places_of}
 use Rattle.session_index.proofs.EndsLaws.{ends_joined, joined_ends, joined-refl}
@@ -133,7 +132,7 @@ module _ (uses : List KeyUse) (groups : List (List ℕ)) (numbers : List (Pair �
   -- ---- the first of another session
 
   module _ (e : number_between s.source s.destination uses ≡ None) (after : List (Pair × ℕ))
-      (puts : (q : Pair) → lookup (is_at (by_pair q)) after ≡ cond (is_at (by_pair (ends_of s.source s.destination)) q) (Some (length groups + 1)) (lookup (is_at (by_pair q)) numbers)) where
+      (puts : (q : Pair) → lookup (is_at (by_pair q)) after ≡ cond (is_at (by_pair (sorted_pair s.source s.destination)) q) (Some (length groups + 1)) (lookup (is_at (by_pair q)) numbers)) where
     count : ℕ
     count = length groups + 1
 
@@ -146,26 +145,26 @@ module _ (uses : List KeyUse) (groups : List (List ℕ)) (numbers : List (Pair �
     unfolding begun count
     known_stays a b m f = number_push a b uses (first_use count s) ∙ ap (or_of a b (first_use count s)) f
 
-    numbered_first : (a b : Socket) → lookup (is_at (by_pair (ends_of a b))) after ≡ number_between a b begun
+    numbered_first : (a b : Socket) → lookup (is_at (by_pair (sorted_pair a b))) after ≡ number_between a b begun
     unfolding begun count
-    numbered_first a b = puts (ends_of a b) ∙ (at (is_between a b (first_use count s)) (is_at (by_pair (ends_of s.source s.destination)) (ends_of a b)) refl refl ∙ sym (number_push a b uses (first_use count s)))
+    numbered_first a b = puts (sorted_pair a b) ∙ (at (is_between a b (first_use count s)) (is_at (by_pair (sorted_pair s.source s.destination)) (sorted_pair a b)) refl refl ∙ sym (number_push a b uses (first_use count s)))
       where
-        joins : is_between a b (first_use count s) ≡ true → (number_between a b uses ≡ None) × (is_at (by_pair (ends_of s.source s.destination)) (ends_of a b) ≡ true)
+        joins : is_between a b (first_use count s) ≡ true → (number_between a b uses ≡ None) × (is_at (by_pair (sorted_pair s.source s.destination)) (sorted_pair a b) ≡ true)
         joins j =
             let ends = joined_ends a b s.source s.destination j in
-            (number_alike a b s.source s.destination uses ends ∙ e, rw ends (pair_tied (ends_of s.source s.destination)))
+            (number_alike a b s.source s.destination uses ends ∙ e, rw ends (pair_tied (sorted_pair s.source s.destination)))
 
         by : (v : Bool) → is_between a b (first_use count s) ≡ v → (o : Option ℕ) → v ≡ false → o ≡ or_of a b (first_use count s) o
         by true j o x = absurd (cc)
         by false j None x = ap (λ (w : Bool). if w then Some count else None) (sym j)
         by false j (Some m) x = refl
 
-        at : (v w : Bool) → is_between a b (first_use count s) ≡ v → is_at (by_pair (ends_of s.source s.destination)) (ends_of a b) ≡ w
-            → cond w (Some count) (lookup (is_at (by_pair (ends_of a b))) numbers) ≡ or_of a b (first_use count s) (number_between a b uses)
+        at : (v w : Bool) → is_between a b (first_use count s) ≡ v → is_at (by_pair (sorted_pair s.source s.destination)) (sorted_pair a b) ≡ w
+            → cond w (Some count) (lookup (is_at (by_pair (sorted_pair a b))) numbers) ≡ or_of a b (first_use count s) (number_between a b uses)
         at true true j k = let h = joins j in rw (h.0) (ap (λ (w : Bool). if w then Some count else None) (sym j))
         at true false j k = let h = joins j in let x = h.1 in absurd (cc)
         at false true j k =
-            let ends = pair_told (ends_of s.source s.destination) (ends_of a b) k in
+            let ends = pair_told (sorted_pair s.source s.destination) (sorted_pair a b) k in
             let is = ends_joined a b s.source s.destination (sym ends) in
             absurd (cc)
         at false false j k = I.numbered a b ∙ by false j (number_between a b uses) refl
@@ -283,7 +282,7 @@ module _ {Z : Type 0} (uses : List KeyUse) (groups : List (Vec ℕ Z)) (numbers 
           absurd (cc)
 
   pub counts_first : (now : List KeyUse) (v : Vec ℕ Z) (next : List (Vec ℕ Z)) (after : List (Pair × ℕ)) → number_between s.source s.destination uses ≡ None
-      → ((q : Pair) → lookup (is_at (by_pair q)) after ≡ cond (is_at (by_pair (ends_of s.source s.destination)) q) (Some (length groups + 1)) (lookup (is_at (by_pair q)) numbers))
+      → ((q : Pair) → lookup (is_at (by_pair q)) after ≡ cond (is_at (by_pair (sorted_pair s.source s.destination)) q) (Some (length groups + 1)) (lookup (is_at (by_pair q)) numbers))
       → now ≡ uses ++ first_use (length groups + 1) s ∷ [] → v.items ≡ length uses ∷ [] → next ≡ groups ++ v ∷ [] → CountsSegment (length groups + 1) s uses now (lists_of next) after
   counts_first now v next after e puts is places w =
       let lists : lists_of next ≡ lists_of groups ++ (length uses ∷ []) ∷ [] = rw w (lists_push groups v) ∙ ap (λ (l : List ℕ). lists_of groups ++ l ∷ []) places in

@@ -3,10 +3,11 @@ use Rattle.std.proofs.Common.{◌≡◌, ℕ, ◌<◌, Bool, true, false, List, 
 use Rattle.std.specs.Prelude.{cond, option_map, slice_set, if◌then◌else◌}
 use Rattle.std.specs.List.{find, AllByRecursion}
 use Rattle.book_base.specs.declared.address.Socket.{Socket}
+use Rattle.book_base.specs.Orders.{sorted_pair}
+use Rattle.book_base.proofs.OrderLaws.{sorted_told}
 use Rattle.book_sessions.specs.declared.uses.KeyUse.{KeyUse}
-use Rattle.session_index.specs.Ends.{ends_of}
 use Rattle.session_index.specs.Places.{is_between, number_between}
-use Rattle.session_index.proofs.EndsLaws.{ends_told, joined_turned}
+use Rattle.session_index.proofs.EndsLaws.{joined_turned}
 
 -- the number that is found, or else that of a use, if it is between the sockets
 abbrev pub or_of : Socket → Socket → KeyUse → Option ℕ → Option ℕ
@@ -40,12 +41,12 @@ number_turned a b (u ∷ us) = at (is_between b a u) (is_between a b u) (joined_
     at false true e h = absurd (cc)
 
 -- sockets with the same ends have the same session
-pub number_alike : (a b s t : Socket) (us : List KeyUse) → ends_of a b ≡ ends_of s t → number_between a b us ≡ number_between s t us
+pub number_alike : (a b s t : Socket) (us : List KeyUse) → sorted_pair a b ≡ sorted_pair s t → number_between a b us ≡ number_between s t us
 number_alike a b s t us e =
     ⊎_elim
     (λ h. rw (h.0, h.1) refl)
     (λ h. rw (h.0, h.1) (number_turned s t us))
-    (ends_told a b s t e)
+    (sorted_told a b s t e)
 
 -- a use is of the same session between the same sockets
 pub record Alike (u v : KeyUse) : Type 0 where

@@ -1,17 +1,16 @@
 -- What an index keeps of a table of sessions (own).
-use Rattle.std.specs.Prelude.{◌≡◌, ◌≤◌, ◌<◌, ◌+◌, ℕ, suc, List, [], ◌∷◌, ◌++◌, length, get_or}
+use Rattle.std.specs.Prelude.{◌≡◌, ◌≤◌, ◌<◌, ℕ, suc, List, [], ◌∷◌, ◌++◌, length, get_or}
 use Rattle.std.specs.Prelude.{Some, slice_set}
 use Rattle.std.specs.declared.vec.Vec.{Vec}
 use Rattle.std.specs.Map.{lookup}
 use Rattle.std.specs.BTreeMap.{is_at}
 use Rattle.std.specs.List.{AllByRecursion}
-use Rattle.book_base.specs.declared.address.Pair.{Pair}
 use Rattle.book_base.specs.declared.address.Socket.{Socket}
-use Rattle.book_base.specs.Orders.{by_pair}
+use Rattle.book_base.specs.declared.address.Pair.{Pair}
+use Rattle.book_base.specs.Orders.{by_pair, sorted_pair}
 use Rattle.book_sessions.specs.declared.uses.KeyUse.{KeyUse}
 use Rattle.book_sessions.specs.declared.uses.SeenSegment.{SeenSegment}
 use Rattle.book_sessions.specs.Sessions.{first_use, used_again, with_use}
-use Rattle.session_index.specs.Ends.{ends_of}
 use Rattle.session_index.specs.Places.{places_of, number_between}
 
 -- each use is of the session that is known between its sockets (own)
@@ -21,7 +20,7 @@ HaveOneSession uses = AllByRecursion (λ u. number_between u.source u.destinatio
 -- the number of the session between two sockets is found, the sessions have the numbers from 1 on, and the places of
 -- the uses of each are kept (own)
 pub record IsIndexed (uses : List KeyUse) (groups : List (List ℕ)) (numbers : List (Pair × ℕ)) : Type 0 where
-  pub numbered : (a b : Socket) → lookup (is_at (by_pair (ends_of a b))) numbers ≡ number_between a b uses
+  pub numbered : (a b : Socket) → lookup (is_at (by_pair (sorted_pair a b))) numbers ≡ number_between a b uses
   pub counted : (a b : Socket) (n : ℕ) → number_between a b uses ≡ Some n → (1 ≤ n) × (n ≤ length groups)
   pub one : HaveOneSession uses
   pub placed : (n : ℕ) → n < length groups → get_or groups n [] ≡ places_of (suc n) uses

@@ -4,13 +4,11 @@ ghost use Rattle.std.specs.BTreeMap.{is_at};
 ghost use Rattle.std.specs.List.{slice_get};
 ghost use Rattle.std.specs.Map.{lookup};
 ghost use Rattle.book_base.specs.declared.address.Pair.{Pair as Ends};
-ghost use Rattle.book_base.specs.Orders.{by_pair};
+ghost use Rattle.book_base.specs.Orders.{by_pair, sorted_pair};
 ghost use Rattle.book_sessions.specs.declared.uses.KeyUse.{KeyUse as Use};
-ghost use Rattle.session_index.specs.Ends.{ends_of};
 ghost use Rattle.session_index.specs.Groups.{CountsAgain, CountsNext, CountsSegment, IsIndexed, lists_of};
 ghost use Rattle.session_index.specs.Places.{and_found, is_use_found, number_between, place_among, uses_at};
 
-use crate::ends::ends_of;
 use crate::segment::{first_use, is_use_of, used_again};
 use book_base::Pair;
 use book_sessions::{KeyUse, SeenSegment};
@@ -69,10 +67,10 @@ fn count_next(
 
 /// The number that is kept for the two sockets of a segment.
 pub(crate) fn number_of(numbers: &BTreeMap<Pair, usize>, segment: &SeenSegment) -> Option<usize>
-    ensures { result ≡ lookup (is_at (by_pair (ends_of segment.now.source segment.now.destination))) numbers.now.entries }
+    ensures { result ≡ lookup (is_at (by_pair (sorted_pair segment.now.source segment.now.destination))) numbers.now.entries }
 {
     numbers
-        .get(&ends_of(segment.source, segment.destination))
+        .get(&Pair::sorted(segment.source, segment.destination))
         .copied()
 }
 
@@ -118,7 +116,7 @@ pub(crate) fn count_first(
     uses.reserve(1)?;
     groups.reserve(1)?;
     let number = groups.len() + 1;
-    numbers.insert(ends_of(segment.source, segment.destination), number)?;
+    numbers.insert(Pair::sorted(segment.source, segment.destination), number)?;
     groups.push_reserved(places);
     uses.push_reserved(first_use(number as u64, segment));
     Ok(())

@@ -2,7 +2,6 @@
 //! a segment is counted by one look-up and a walk over the uses of its own session.
 #![tactic(auto)]
 
-mod ends;
 mod groups;
 mod index;
 mod passed;

@@ -9,7 +9,7 @@ use Rattle.slot_list.specs.Pool.{Pool}
 use Rattle.book_segments.specs.Bytes.{ring}
 use Rattle.stream_buffers.specs.declared.run.Run.{Run}
 use Rattle.stream_buffers.specs.declared.run.Span.{Span}
-use Rattle.book_segments.specs.Received.{bytes_from}
+use Rattle.book_segments.specs.Received.{most_runs, bytes_from}
 use Rattle.stream_buffers.specs.Kept.{Kept, byte_at, Shows, RunsFrom, forgotten_below}
 use Rattle.stream_buffers.specs.Spans.{span, span_of, spans_of, all_spans, in_span, in_spans, Apart, AreNumbered, IsSound, seen}
 use Rattle.stream_buffers.proofs.SpanLaws.{is_within, below, above, or_skip, or_none, none_below}
@@ -53,7 +53,7 @@ shows_none buffer first slots h e = record {
     nothing : (a p : ℕ) → (nat_le a p && nat_lt p a) ≡ false
     nothing a p = grind (arith, nat_tests)
 
-pub sound_none : (buffer : List ℕ) (first : ℕ) (slots : Pool Run) → length buffer ≡ 65536 → slots.capacity ≡ 64 → slots.pairs ≡ [] → first ≤ 2 ^ 63 → IsSound buffer first first first slots
+pub sound_none : (buffer : List ℕ) (first : ℕ) (slots : Pool Run) → length buffer ≡ 65536 → slots.capacity ≡ most_runs → slots.pairs ≡ [] → first ≤ 2 ^ 63 → IsSound buffer first first first slots
 sound_none buffer first slots size cap e le = record {
   size = size;
   capacity = cap;

@@ -7,7 +7,7 @@ use Rattle.slot_list.specs.declared.slot.Slot.{Slot}
 use Rattle.slot_list.specs.Pool.{Pool, pool}
 use Rattle.stream_buffers.specs.declared.run.Run.{Run}
 use Rattle.stream_buffers.specs.declared.run.Span.{Span}
-use Rattle.book_segments.specs.Received.{first_known}
+use Rattle.book_segments.specs.Received.{most_runs, first_known}
 use Rattle.stream_buffers.specs.Kept.{Kept, grown, missing_then, runs_then, Shows}
 use Rattle.stream_buffers.specs.Spans.{span, span_of, run_of, spans_of, all_spans, in_span, in_spans, Apart, EndBelow, AreNumbered, Grown, Writes, IsSound}
 use Rattle.stream_buffers.specs.Walks.{touching_of, IsReached, IsAbsorbed}
@@ -39,7 +39,7 @@ module _ {buffer : List ℕ} {from expected end : ℕ} {slots : Pool Run} {now :
       let pairs_are : slots2.pairs ≡ before ++ (slot, run_of made) ∷ a.rest = ap (λ (q : Pool Run). q.pairs) s2 in
       let spans2 : spans_of expected slots2.pairs ≡ spans_of expected before ++ made ∷ spans_of expected a.rest = ap (spans_of expected) pairs_are ∙ (spans_of-append expected before ((slot, run_of made) ∷ a.rest) ∙ ap (λ s. spans_of expected before ++ s ∷ spans_of expected a.rest) back) in
       let P : List Span → Type 0 = λ ss. Apart expected ss top in
-      let cap : slots2.capacity ≡ 64 = ap (λ (q : Pool Run). q.capacity) s2 ∙ o.sound.capacity in
+      let cap : slots2.capacity ≡ most_runs = ap (λ (q : Pool Run). q.capacity) s2 ∙ o.sound.capacity in
       let sound : IsSound left from expected top slots2 = record {
         size = a.size ∙ o.sound.size;
         capacity = cap;
@@ -72,7 +72,7 @@ module _ {buffer : List ℕ} {from expected end : ℕ} {slots : Pool Run} {now :
       let pairs_are : slots2.pairs ≡ a.rest = ap (λ (q : Pool Run). q.pairs) s2 ∙ ap (λ qs. qs ++ a.rest) empty in
       let spans2 : spans_of made.end slots2.pairs ≡ spans_of expected a.rest = ap (spans_of made.end) pairs_are ∙ moves in
       let P : List Span → Type 0 = λ ss. Apart made.end ss top in
-      let cap : slots2.capacity ≡ 64 = ap (λ (q : Pool Run). q.capacity) s2 ∙ o.sound.capacity in
+      let cap : slots2.capacity ≡ most_runs = ap (λ (q : Pool Run). q.capacity) s2 ∙ o.sound.capacity in
       let sound : IsSound left from made.end top slots2 = record {
         size = a.size ∙ o.sound.size;
         capacity = cap;
@@ -160,7 +160,7 @@ module _ {buffer : List ℕ} {from expected end : ℕ} {slots : Pool Run} {now :
       let spans2 : spans_of expected slots2.pairs ≡ spans_of expected before ++ span low high ∷ spans_of expected after = ap (λ (q : Pool Run). spans_of expected q.pairs) s2 ∙ (spans_of-append expected before ((slot, run_of (span low high)) ∷ after) ∙ ap (λ s. spans_of expected before ++ s ∷ spans_of expected after) back) in
       let P : List Span → Type 0 = λ ss. Apart expected ss top in
       let R : ℕ → Type 0 = λ k. Apart expected (spans_of expected before ++ span low high ∷ spans_of expected after) k in
-      let cap : slots2.capacity ≡ 64 = ap (λ (q : Pool Run). q.capacity) s2 ∙ o.sound.capacity in
+      let cap : slots2.capacity ≡ most_runs = ap (λ (q : Pool Run). q.capacity) s2 ∙ o.sound.capacity in
       let sound : IsSound left from expected top slots2 = record {
         size = size ∙ o.sound.size;
         capacity = cap;

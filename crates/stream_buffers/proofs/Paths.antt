@@ -3,7 +3,7 @@ use Rattle.std.proofs.Common.{◌≡◌, ℕ, ◌+◌, ◌-◌, ◌^◌, ◌<◌
 use Rattle.std.proofs.lemmas.Bool.{cases_lt}
 use Rattle.slot_list.specs.declared.slot.Slot.{Slot}
 use Rattle.slot_list.specs.Pool.{Pool, pool, At, IsPool, last_slot}
-use Rattle.book_segments.specs.Received.{below_limit}
+use Rattle.book_segments.specs.Received.{most_runs, below_limit}
 use Rattle.stream_buffers.specs.declared.run.Run.{Run}
 use Rattle.stream_buffers.specs.declared.run.Span.{Span}
 use Rattle.stream_buffers.specs.declared.walk.Placed.{Placed}
@@ -31,7 +31,7 @@ IsLeftAs after from x top slots now m = (held : List ℕ) → held ≡ after →
 left_as : {after : List ℕ} {from x top : ℕ} {slots : Pool Run} {now : Kept} {m : ℕ → Option ℕ} → IsLeft after from x top slots now m → IsLeftAs after from x top slots now m
 left_as {from = from} {x = x} {top = top} {slots = slots} {now = now} {m = m} l held e = let P : List ℕ → Type 0 = λ xs. IsLeft xs from x top slots now m in subst P (sym e) l
 
-pub few_left : {after : List ℕ} {from x top : ℕ} {slots : Pool Run} {now : Kept} {m : ℕ → Option ℕ} → IsLeft after from x top slots now m → runs_then now m ≤ 64
+pub few_left : {after : List ℕ} {from x top : ℕ} {slots : Pool Run} {now : Kept} {m : ℕ → Option ℕ} → IsLeft after from x top slots now m → runs_then now m ≤ most_runs
 few_left l = omega (arith, l.runs_then_is, l.sound.few)
 
 -- the run that the piece touches first, and the steps up to it

@@ -1,6 +1,6 @@
 //! The bytes received, in order or not.
 ghost use Rattle.std.specs.Prelude.{◌≡◌, ℕ, ◌+◌, ◌^◌, ◌≤◌, ◌↔◌, ◌++◌, None, IsTrue, IsSome, IsOk, IfOk, OnOk, OnErr, length, min, drop};
-ghost use Rattle.book_segments.specs.Received.{below_limit, bytes_from};
+ghost use Rattle.book_segments.specs.Received.{below_limit, bytes_from, most_runs};
 ghost use Rattle.stream_buffers.specs.Kept.{IsKept, RunsFrom, Shows, byte_at, forgotten_below, grown, missing_then, ready_count, runs_then, window};
 
 use crate::buffer::{BUFFER_LENGTH, write};
@@ -109,7 +109,7 @@ impl Reassembly {
     ) -> Result<(), TooManyRuns>
         requires { number + length bytes.now ≤ 2 ^ 63 }
         ensures variant { IsOk result ↔
-            (runs_then self.old (grown self.old number bytes.now limit) ≤ 64) }
+            (runs_then self.old (grown self.old number bytes.now limit) ≤ most_runs) }
         ensures ok { OnOk result (Shows self.new self.old.from
             (missing_then self.old (grown self.old number bytes.now limit))
             (grown self.old number bytes.now limit)) }
@@ -196,7 +196,7 @@ impl Reassembly {
     /// The pool of 64 places in which the runs are kept. Its items are, in order, the separate runs
     /// of bytes past the first missing position.
     pub fn runs(&self) -> &Slots<Run>
-        ensures places { result.now.capacity ≡ 64 }
+        ensures places { result.now.capacity ≡ most_runs }
         ensures runs { RunsFrom (byte_at self.now) self.now.expected result.now.pairs }
     {
         &self.runs

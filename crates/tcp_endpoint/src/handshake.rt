@@ -82,7 +82,7 @@ impl Endpoint {
             return Arrival::Unexpected;
         }
         let peer = datagram.sequence();
-        self.association.heard(table, rnext, now);
+        self.association.follow(table, rnext, now);
         self.association.learn(peer);
         self.reassembly.restart(u64::from(peer) + 1);
         self.peer_isn = Some(peer);
@@ -127,7 +127,7 @@ impl Endpoint {
             return Arrival::BadAck;
         }
         let peer = datagram.sequence();
-        self.association.heard(table, rnext, now);
+        self.association.follow(table, rnext, now);
         self.association.learn(peer);
         self.reassembly.restart(u64::from(peer) + 1);
         self.peer_isn = Some(peer);

@@ -168,7 +168,7 @@ impl Endpoint {
             self.ack_owed = true;
             return Arrival::Challenge;
         }
-        self.association.heard(table, rnext, now);
+        self.association.follow(table, rnext, now);
         if datagram.has(Flag::Syn) {
             self.ack_owed = true;
             return Arrival::Challenge;

@@ -1,5 +1,5 @@
 //! Sums of 16-bit words, and the checksums that they make (RFC 1071).
-ghost use Rattle.std.specs.Prelude.{◌≡◌, ℕ, ◌+◌, ◌-◌, ◌*◌, ◌%◌, ◌<◌, ◌≤◌, ◌++◌, List, [], length, take, drop, slice_index};
+ghost use Rattle.std.specs.Prelude.{◌≡◌, ℕ, ◌+◌, ◌-◌, ◌*◌, ◌%◌, ◌^◌, ◌<◌, ◌≤◌, ◌++◌, List, [], length, take, drop, slice_index};
 ghost use Rattle.book_segments.specs.Segments.{words_sum, sums, two_octets_at, four_octets_at, Segment, spell_as, pseudo, tcp_length, complement_of};
 ghost use Rattle.book_segments.specs.Bytes.{put2};
 ghost use Rattle.book_segments.specs.Spelling.{AreBytes, with_right_checksum, addresses_in, ip_length};
@@ -27,7 +27,7 @@ pub(crate) fn four(bytes: &[u8], at: usize) -> u32
 
 /// The sum of the big-endian words, an odd length filled with a zero byte.
 pub(crate) fn words(bytes: &[u8]) -> u64
-    requires { length bytes.now ≤ 131200 }
+    requires { length bytes.now < 2 ^ 32 }
     ensures sum { result ≡ words_sum bytes.now }
     ensures small { result ≤ 65535 * length bytes.now }
 {
@@ -46,7 +46,7 @@ pub(crate) fn words(bytes: &[u8]) -> u64
 /// The sum of the big-endian words modulo 65535. Numbers of four bytes are added, of which the upper
 /// half counts once, since 65536 leaves 1: that takes half as many steps.
 pub(crate) fn words_modulo(bytes: &[u8]) -> u64
-    requires { length bytes.now ≤ 131200 }
+    requires { length bytes.now < 2 ^ 32 }
     ensures sum { result % 65535 ≡ words_sum bytes.now % 65535 }
     ensures small { result ≤ 4294967295 * length bytes.now }
 {
@@ -62,7 +62,7 @@ pub(crate) fn words_modulo(bytes: &[u8]) -> u64
 /// Whether the one's complement sum is ffff.
 #[tactic(auto, using(book_segments::proofs::Folding::sums_by))]
 pub(crate) fn is_right(bytes: &[u8]) -> bool
-    requires { length bytes.now ≤ 131200 }
+    requires { length bytes.now < 2 ^ 32 }
     ensures { result ≡ sums bytes.now }
 {
     let sum = words(bytes);

@@ -1,5 +1,5 @@
 use Rattle.std.specs.Prelude.{[], ◌∷◌, ◌++◌, codes, List, ℕ}
-use Rattle.std.proofs.Common.{sym, ◌∙◌, ap}
+use Rattle.std.proofs.Common.{sym, ap}
 use Rattle.book_lines.specs.Texts.{spaced}
 use Rattle.book_why_texts.specs.Lacks.{lifetime_texts}
 use Rattle.scope_why.proofs.Parts.{on_four, on_same, spaced_more}

@@ -1,4 +1,4 @@
-use Rattle.std.proofs.Common.{ap, sym, ◌∙◌, Some, ℕ, Option}
+use Rattle.std.proofs.Common.{ap, sym, ◌∙◌, Some, ℕ}
 use Rattle.book_segments.specs.Meant.{meant}
 use Rattle.ao_check.proofs.NumberLaws.{extended}
 use Rattle.scope_why.specs.Views.{sight_of}

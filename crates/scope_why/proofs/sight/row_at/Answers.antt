@@ -1,4 +1,4 @@
-use Rattle.std.proofs.Common.{ap, sym, ◌∙◌}
+use Rattle.std.proofs.Common.{ap, ◌∙◌}
 use Rattle.book_endpoint.specs.Verdicts.{row_taking}
 use Rattle.book_keys.specs.Lookups.{accept_of}
 use Rattle.book_segments.specs.Options.{Ao}

@@ -1,6 +1,4 @@
-use Rattle.std.proofs.Common.{ap, sym, ◌∙◌, Some, None}
-use Rattle.book_base.specs.Results.{or_fault}
-use Rattle.book_why_texts.specs.Sights.{ao_at, isns_at, number_at, row_at, suspect_at}
+use Rattle.std.proofs.Common.{sym}
 use Rattle.tcp_options.specs.Views.{view_ao}
 use Rattle.scope_why.specs.Finding.{numbered_of}
 use Rattle.scope_why.specs.Views.{sight_of}

@@ -1,5 +1,4 @@
 use Rattle.std.proofs.Common.{sym, ◌∙◌}
-use Rattle.session_index.specs.Places.{place_among}
 use Rattle.session_index.proofs.KeepLaws.{known_again, known_next, known_same, place_low}
 use Rattle.session_index.proofs.groups.count_known.Goals as goal
 

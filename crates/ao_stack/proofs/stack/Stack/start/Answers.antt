@@ -13,4 +13,4 @@ returns c s S =
     let k = c.args.self.now in
     let mid : Stack = record { ends = c.start-began.new.self; watches = c.put.new.self; alarms = k.alarms; line = k.line } in
     let none = isnt_held _ (sym (c.holds.ensures s S) ∙ c.if-holds.false) in
-    rw c.begun.ensures.answer (begins_as k mid c.begun.new.self s S c.args.pair c.requires.family none c.in_ok-put.ensures.kept c.start-began.ensures.most refl refl (act.Start c.args.isn c.args.peer_isn) (started c.args.pair c.args.isn c.args.peer_isn) c.start-began.result refl refl (c.start-began.ensures.begun s.rows s.node S.ends) c.begun.ensures.ok c.begun.ensures.err)
+    rw c.settle.ensures.answer (begins_as k mid c.settle.new.self s S c.args.pair c.requires.family none c.in_ok-put.ensures.kept c.start-began.ensures.most refl refl (act.Start c.args.isn c.args.peer_isn) (started c.args.pair c.args.isn c.args.peer_isn) c.start-began.result refl refl (c.start-began.ensures.begun s.rows s.node S.ends) c.settle.ensures.ok c.settle.ensures.err)

@@ -29,7 +29,7 @@ returns-clause-reaches g c = λ s h.
       rst_owed = h.rst_owed;
       mss = h.mss;
       deadline = h.deadline;
-      current = current_heard e.association c.heard.new.self c.args.table.now.rows e.pair c.args.rnext c.args.now s.current c.heard.ensures.current e.bound.pair h.current;
+      current = current_heard e.association c.follow.new.self c.args.table.now.rows e.pair c.args.rnext c.args.now s.current c.follow.ensures.current e.bound.pair h.current;
     }) in
     let eq = ordinary_ack s f c.args.datagram.now c.args.number c.args.now (sym c.if-has.ensures) (sym c.if-has-2.ensures) (sym c.if-not-has.ensures) in
     subst (λ m. Reaches c.hear_ack.new.self c.hear_ack.result m) (sym eq) go
