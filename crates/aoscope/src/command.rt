@@ -24,12 +24,6 @@ pub(crate) fn command<'a>(alloc: Global) -> Result<Command<'a>, AllocError> {
     let lines = Command::new(alloc, "lines")
         .about(LINES_ABOUT)
         .after_help(LINES_AFTER);
-    let sessions = sessions::command(alloc)?;
-    let why = why::command(alloc)?;
-    let keys = keys::command(alloc)?;
-    let plan = plan::command(alloc)?;
-    let draw = draw::command(alloc)?;
-    let echo = echo::command(alloc)?;
     Command::new(alloc, "aoscope")
         .version("0.1.0")
         .about(ABOUT)
@@ -37,10 +31,10 @@ pub(crate) fn command<'a>(alloc: Global) -> Result<Command<'a>, AllocError> {
         .subcommand_required(true)
         .arg_required_else_help(true)
         .subcommand(lines)?
-        .subcommand(sessions)?
-        .subcommand(why)?
-        .subcommand(keys)?
-        .subcommand(plan)?
-        .subcommand(draw)?
-        .subcommand(echo)
+        .subcommand(sessions::command(alloc)?)?
+        .subcommand(why::command(alloc)?)?
+        .subcommand(keys::command(alloc)?)?
+        .subcommand(plan::command(alloc)?)?
+        .subcommand(draw::command(alloc)?)?
+        .subcommand(echo::command(alloc)?)
 }

@@ -1,8 +1,9 @@
 //! The word `draw`: the run of a link file as a ladder.
+use crate::arguments::{flag, key_file_if_any};
 use crate::halt::{Halt, end};
 use crate::inputs::{input, tables_at, write};
 use book_draw_svg::Form;
-use clap::{Arg, ArgAction, ArgMatches, Command};
+use clap::{ArgMatches, Command};
 use scope_draw::{answer_draw, answer_draw_keys};
 use std::alloc::{AllocError, Global};
 
@@ -28,19 +29,11 @@ Status 0: done; 3: keys; the others as above.
 
 /// The word with its page of help.
 pub(crate) fn command<'a>(alloc: Global) -> Result<Command<'a>, AllocError> {
-    let keys = Arg::new(alloc, "KEYS")
-        .required(false)
-        .help("The key file")
-        .action(ArgAction::Set);
-    let svg = Arg::new(alloc, "svg")
-        .long("svg")
-        .help("Draw a picture in SVG")
-        .action(ArgAction::SetTrue);
     Command::new(alloc, "draw")
         .about(ABOUT)
         .after_help(AFTER)
-        .arg(keys)?
-        .arg(svg)
+        .arg(key_file_if_any(alloc))?
+        .arg(flag(alloc, "svg", "Draw a picture in SVG"))
 }
 
 fn form_of(matches: &ArgMatches<'_>) -> Form {

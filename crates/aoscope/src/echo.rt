@@ -1,7 +1,8 @@
 //! The word `echo`: the report of a link file's run beside the lines of its events.
+use crate::arguments::key_file_if_any;
 use crate::halt::{Halt, end};
 use crate::inputs::{input, tables_at, write};
-use clap::{Arg, ArgAction, ArgMatches, Command};
+use clap::{ArgMatches, Command};
 use scope_echo::{answer_echo, answer_echo_keys};
 use std::alloc::{AllocError, Global};
 
@@ -19,14 +20,10 @@ Status 0: done; 1: a forgery is counted; 3: keys; the others as above.
 
 /// The word with its page of help.
 pub(crate) fn command<'a>(alloc: Global) -> Result<Command<'a>, AllocError> {
-    let keys = Arg::new(alloc, "KEYS")
-        .required(false)
-        .help("The key file")
-        .action(ArgAction::Set);
     Command::new(alloc, "echo")
         .about(ABOUT)
         .after_help(AFTER)
-        .arg(keys)
+        .arg(key_file_if_any(alloc))
 }
 
 /// Writes the report of the link file on standard input.

@@ -1,7 +1,8 @@
 //! The word `keys`: all that is wrong with a key file, told to the person who writes it.
+use crate::arguments::key_file;
 use crate::halt::{Halt, end};
 use crate::inputs::{keys_at, required, write};
-use clap::{Arg, ArgAction, ArgMatches, Command};
+use clap::{ArgMatches, Command};
 use scope_keys::answer_keys;
 use std::alloc::{AllocError, Global};
 
@@ -21,14 +22,10 @@ Status 0: no faults; 1: faults; 3: the file is too long; 5: it can't be read; th
 
 /// The word with its page of help.
 pub(crate) fn command<'a>(alloc: Global) -> Result<Command<'a>, AllocError> {
-    let keys = Arg::new(alloc, "KEYS")
-        .required(true)
-        .help("The key file")
-        .action(ArgAction::Set);
     Command::new(alloc, "keys")
         .about(ABOUT)
         .after_help(AFTER)
-        .arg(keys)
+        .arg(key_file(alloc))
 }
 
 /// Writes what is wrong with the key file.

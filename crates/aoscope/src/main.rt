@@ -1,6 +1,7 @@
 //! `aoscope`: hands the standard streams to what the words ask for, and ends with its status.
 #![tactic(auto)]
 
+mod arguments;
 mod command;
 mod draw;
 mod echo;

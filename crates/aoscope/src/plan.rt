@@ -1,9 +1,10 @@
 //! The word `plan`: what is said of the planned rollovers of connections.
+use crate::arguments::{flag, key_file, required_word, svg_of_drawn};
 use crate::halt::{Halt, end};
 use crate::inputs::{duration, input, keys_at, required, write};
 use book_cmd_keys::Plan;
 use book_draw_plan::PlanForm;
-use clap::{Arg, ArgAction, ArgMatches, Command};
+use clap::{ArgMatches, Command};
 use scope_plan::{answer_plan, read_key_file};
 use scope_texts::read_instant;
 use std::alloc::{AllocError, Global};
@@ -36,47 +37,21 @@ Status 0: all plans are aligned; 1: one isn't, or no node has an address; 3: key
     aoscope plan KEYS 60 60 2026-12-01T00:00:00Z 2027-02-01T00:00:00Z < CONNECTIONS
     aoscope plan --draw --svg KEYS 60 60 2026-12-01T00:00:00Z 2027-02-01T00:00:00Z < CONNECTIONS > PICTURE.svg";
 
-fn word<'a>(alloc: Global, name: &'a str, help: &'a str) -> Arg<'a> {
-    Arg::new(alloc, name)
-        .required(true)
-        .help(help)
-        .action(ArgAction::Set)
-}
-
 /// The word with its page of help.
 pub(crate) fn command<'a>(alloc: Global) -> Result<Command<'a>, AllocError> {
-    let keys = word(alloc, "KEYS", "The key file");
-    let lead = word(
-        alloc,
-        "LEAD",
-        "By how much a receiver's clock may be behind",
-    );
-    let lag = word(alloc, "LAG", "By how much a receiver's clock may be ahead");
-    let from = word(
-        alloc,
-        "FROM",
-        "The time from which on the plan is looked at",
-    );
-    let to = word(alloc, "TO", "The last time at which it is");
-    let draw = Arg::new(alloc, "draw")
-        .long("draw")
-        .help("Draw the use of each row over time, as bars")
-        .action(ArgAction::SetTrue);
-    let svg = Arg::new(alloc, "svg")
-        .long("svg")
-        .requires_arg("draw")?
-        .help("Draw them as a picture in SVG")
-        .action(ArgAction::SetTrue);
+    let lead = "By how much a receiver's clock may be behind";
+    let lag = "By how much a receiver's clock may be ahead";
+    let from = "The time from which on the plan is looked at";
     Command::new(alloc, "plan")
         .about(ABOUT)
         .after_help(AFTER)
-        .arg(draw)?
-        .arg(svg)?
-        .arg(keys)?
-        .arg(lead)?
-        .arg(lag)?
-        .arg(from)?
-        .arg(to)
+        .arg(flag(alloc, "draw", "Draw the use of each row over time, as bars"))?
+        .arg(svg_of_drawn(alloc, "Draw them as a picture in SVG")?)?
+        .arg(key_file(alloc))?
+        .arg(required_word(alloc, "LEAD", lead))?
+        .arg(required_word(alloc, "LAG", lag))?
+        .arg(required_word(alloc, "FROM", from))?
+        .arg(required_word(alloc, "TO", "The last time at which it is"))
 }
 
 /// The time that the word of this name says.

@@ -1,31 +1,20 @@
 //! `sessions --draw`: a session of a capture as a ladder, in text or as a picture.
+use crate::arguments::option;
 use crate::halt::Halt;
 use crate::inputs::{isns, keys_at, required};
 use crate::sessions::laps;
 use ao_base::{ReadSource, WriteSink, read_decimal};
 use book_draw_session_svg::LadderForm;
-use clap::{Arg, ArgAction, ArgMatches};
+use clap::{Arg, ArgMatches};
 use key_table::read_tables;
 use scope_ladder::{LadderHalt, draw_session};
 use scope_sessions::read_given;
-use std::alloc::{AllocError, Global};
+use std::alloc::Global;
 
 /// The argument that asks for a session.
 pub(crate) fn argument<'a>(alloc: Global) -> Arg<'a> {
-    Arg::new(alloc, "draw")
-        .long("draw")
-        .value_name("N")
-        .help("Draw session N as a ladder, in place of the table")
-        .action(ArgAction::Set)
-}
-
-/// The argument that asks for a picture of it.
-pub(crate) fn svg_argument<'a>(alloc: Global) -> Result<Arg<'a>, AllocError> {
-    let svg = Arg::new(alloc, "svg").long("svg").requires_arg("draw")?;
-    Ok(
-        svg.help("Draw it as a picture in SVG")
-            .action(ArgAction::SetTrue),
-    )
+    let help = "Draw session N as a ladder, in place of the table";
+    option(alloc, "draw", "N", help)
 }
 
 /// In which form a session is drawn.

@@ -1,10 +1,11 @@
 //! The word `sessions`: the table of a capture's sessions and of the keys of a key file.
+use crate::arguments::{flag, isns_file, key_file, option, svg_of_drawn};
 use crate::halt::{Halt, end};
 use crate::inputs::{duration, isns, keys_at, required};
 use crate::session_ladder;
 use crate::sessions_page::{ABOUT, AFTER};
 use ao_base::{ReadSource, WriteSink, read_decimal};
-use clap::{Arg, ArgAction, ArgMatches, Command};
+use clap::{ArgMatches, Command};
 use scope_sessions::{TableForm, TableRequest, write_sessions};
 use std::alloc::{AllocError, Global};
 
@@ -13,39 +14,18 @@ const MOST_LAPS: u32 = 255;
 
 /// The word with its page of help.
 pub(crate) fn command<'a>(alloc: Global) -> Result<Command<'a>, AllocError> {
-    let keys = Arg::new(alloc, "KEYS")
-        .required(true)
-        .help("The key file")
-        .action(ArgAction::Set);
-    let isn = Arg::new(alloc, "isn")
-        .long("isn")
-        .value_name("FILE")
-        .help("Initial sequence numbers of sessions that began before the capture")
-        .action(ArgAction::Set);
-    let json = Arg::new(alloc, "json")
-        .long("json")
-        .help("Write the table as one line of JSON")
-        .action(ArgAction::SetTrue);
-    let every = Arg::new(alloc, "every")
-        .long("every")
-        .value_name("N")
-        .help("Write a table also each N of the capture's own time")
-        .action(ArgAction::Set);
-    let laps = Arg::new(alloc, "laps")
-        .long("laps")
-        .value_name("N")
-        .help("Search up to N laps of 4 GiB, 0 to 255, where a MAC is wrong; else 0")
-        .action(ArgAction::Set);
+    let every = "Write a table also each N of the capture's own time";
+    let laps = "Search up to N laps of 4 GiB, 0 to 255, where a MAC is wrong; else 0";
     Command::new(alloc, "sessions")
         .about(ABOUT)
         .after_help(AFTER)
         .arg(session_ladder::argument(alloc))?
-        .arg(session_ladder::svg_argument(alloc)?)?
-        .arg(keys)?
-        .arg(isn)?
-        .arg(json)?
-        .arg(every)?
-        .arg(laps)
+        .arg(svg_of_drawn(alloc, "Draw it as a picture in SVG")?)?
+        .arg(key_file(alloc))?
+        .arg(isns_file(alloc))?
+        .arg(flag(alloc, "json", "Write the table as one line of JSON"))?
+        .arg(option(alloc, "every", "N", every))?
+        .arg(option(alloc, "laps", "N", laps))
 }
 
 /// In which form the words ask for the table.

@@ -1,8 +1,9 @@
 //! The word `why`: why the check says what it says of a packet of a capture.
+use crate::arguments::{flag, isns_file, key_file, required_word};
 use crate::halt::{Halt, end};
 use crate::inputs::{isns, keys_at, required};
 use ao_base::{ReadSource, WriteSink, read_decimal};
-use clap::{Arg, ArgAction, ArgMatches, Command};
+use clap::{ArgMatches, Command};
 use scope_why::{WhyRequest, write_why};
 use std::alloc::{AllocError, Global};
 
@@ -28,30 +29,14 @@ Status 0: the packet passes; 1: it doesn't, or isn't there; 3: keys; 4: also FIL
 
 /// The word with its page of help.
 pub(crate) fn command<'a>(alloc: Global) -> Result<Command<'a>, AllocError> {
-    let keys = Arg::new(alloc, "KEYS")
-        .required(true)
-        .help("The key file")
-        .action(ArgAction::Set);
-    let isn = Arg::new(alloc, "isn")
-        .long("isn")
-        .value_name("FILE")
-        .help("Initial sequence numbers of sessions that began before the capture")
-        .action(ArgAction::Set);
-    let number = Arg::new(alloc, "N")
-        .required(true)
-        .help("The packet's number in the capture, from 1")
-        .action(ArgAction::Set);
-    let shown = Arg::new(alloc, "keys")
-        .long("keys")
-        .help("Write the traffic key too, which is a secret")
-        .action(ArgAction::SetTrue);
+    let shown = "Write the traffic key too, which is a secret";
     Command::new(alloc, "why")
         .about(ABOUT)
         .after_help(AFTER)
-        .arg(keys)?
-        .arg(number)?
-        .arg(isn)?
-        .arg(shown)
+        .arg(key_file(alloc))?
+        .arg(required_word(alloc, "N", "The packet's number in the capture, from 1"))?
+        .arg(isns_file(alloc))?
+        .arg(flag(alloc, "keys", shown))
 }
 
 /// The packet that the words ask for, and whether its traffic key is shown.

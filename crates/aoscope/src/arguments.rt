@@ -1,0 +1,52 @@
+//! The arguments of the words, by kind, and those that more than one word has.
+use clap::{Arg, ArgAction};
+use std::alloc::{AllocError, Global};
+
+/// A word that the command line requires.
+pub(crate) fn required_word<'a>(alloc: Global, name: &'a str, help: &'a str) -> Arg<'a> {
+    Arg::new(alloc, name)
+        .required(true)
+        .help(help)
+        .action(ArgAction::Set)
+}
+
+/// An option `--NAME` without a value.
+pub(crate) fn flag<'a>(alloc: Global, name: &'a str, help: &'a str) -> Arg<'a> {
+    Arg::new(alloc, name)
+        .long(name)
+        .help(help)
+        .action(ArgAction::SetTrue)
+}
+
+/// An option `--NAME VALUE`.
+pub(crate) fn option<'a>(alloc: Global, name: &'a str, value: &'a str, help: &'a str) -> Arg<'a> {
+    Arg::new(alloc, name)
+        .long(name)
+        .value_name(value)
+        .help(help)
+        .action(ArgAction::Set)
+}
+
+/// The key file, which must be named.
+pub(crate) fn key_file<'a>(alloc: Global) -> Arg<'a> {
+    required_word(alloc, "KEYS", "The key file")
+}
+
+/// The key file, where the link file names no key.
+pub(crate) fn key_file_if_any<'a>(alloc: Global) -> Arg<'a> {
+    Arg::new(alloc, "KEYS")
+        .required(false)
+        .help("The key file")
+        .action(ArgAction::Set)
+}
+
+/// The file of initial sequence numbers.
+pub(crate) fn isns_file<'a>(alloc: Global) -> Arg<'a> {
+    let help = "Initial sequence numbers of sessions that began before the capture";
+    option(alloc, "isn", "FILE", help)
+}
+
+/// What makes a picture in SVG of what `--draw` draws.
+pub(crate) fn svg_of_drawn<'a>(alloc: Global, help: &'a str) -> Result<Arg<'a>, AllocError> {
+    flag(alloc, "svg", help).requires_arg("draw")
+}
