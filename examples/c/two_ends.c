@@ -92,6 +92,7 @@ static void check_codes(struct world *w) {
     CHECK(aotcp_new(&none, (const uint8_t *)KEYS, sizeof KEYS - 1, &node, 0, &fault) == AOTCP_BAD_MOST);
     CHECK(aotcp_new(&none, (const uint8_t *)KEYS, sizeof KEYS - 1, &node, 1, &fault) == AOTCP_NO_NODE);
     CHECK(aotcp_new(&none, (const uint8_t *)"[[nod", 5, &node, 1, &fault) == AOTCP_BAD_KEYS && fault.kind == AOTCP_FAULT_SYNTAX);
+    CHECK(aotcp_free(&none) == AOTCP_NO_STACK);
     CHECK(aotcp_new(&w->stacks[CLIENT], (const uint8_t *)KEYS, sizeof KEYS - 1, &node, 1, &fault) == AOTCP_HELD);
 }
 

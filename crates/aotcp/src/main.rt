@@ -3,8 +3,6 @@
 #![tactic(auto)]
 
 mod own_text;
-#[cfg(test)]
-mod tests;
 
 use ao_base::{Failed, QuietSource, ReadSource, Source, WriteSink, write_all};
 use ao_run::Asked;

@@ -19,5 +19,3 @@ mod rows;
 mod shapes;
 mod stacks;
 mod status;
-#[cfg(test)]
-mod tests;

@@ -1,5 +1,5 @@
 use Rattle.std.proofs.Common.{rules, inl, inr}
-use Rattle.aotcp.proofs.tests.completeness.over_memory.Goals as goal
+use Rattle.run_tests.proofs.of_ao_run.completeness.over_memory.Goals as goal
 
 pub returns : goal.returns
 returns c =
