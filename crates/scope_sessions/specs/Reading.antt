@@ -6,10 +6,12 @@ use Rattle.book_captures.specs.declared.capture_parts.CaptureFault.{CaptureFault
 use Rattle.book_captures.specs.Captures.{CapturePacket, capture_of}
 use Rattle.book_cmd_check.specs.declared.given.GivenIsns.{GivenIsns}
 use Rattle.book_keys.specs.Rows.{Table}
-use Rattle.book_sessions.specs.Sessions.{sessions_of}
+use Rattle.book_sessions.specs.Laps.{Judging}
+use Rattle.book_sessions.specs.Sessions.{SessionTable, sessions_of}
 use Rattle.book_sessions_json.specs.declared.form.TableRequest.{TableRequest}
 use Rattle.book_sessions_json.specs.TableSeries.{Series, early_text}
 use Rattle.book_base.specs.Hexadecimal.{IsByte}
+use Rattle.capture_listener.specs.Listeners.{Hearing}
 use Rattle.capture_stream.specs.Reads.{most_read}
 use Rattle.scope_lines.specs.Writes.{HasRead}
 use Rattle.scope_sessions.specs.declared.count.Counted.{Counted}
@@ -24,9 +26,20 @@ IsWhole given source_now None = IsAtEnd source_now
 IsWhole given source_now (Some fault) = capture_of (given ++ told source_now.bytes) ≡ capture_of given
 
 -- the tables that are asked for of a capture
+abbrev pub series_behind : Judging → List GivenIsns → TableRequest → Series
+series_behind judging given request =
+    record { judging = judging; given = given; request = request }
+
+-- the same, of tables and laps
 abbrev pub series_of : List Table → (laps : ℕ) → List GivenIsns → TableRequest → Series
-series_of tables laps given request =
-    record { judging = record { tables = tables; laps = laps }; given = given; request = request }
+series_of tables laps = series_behind (record { tables = tables; laps = laps })
+
+-- what was counted, where that ended so
+abbrev pub counted_with : Hearing → SessionTable → Result (Option CaptureFault) CountHalt →
+    Result Counted CountHalt
+counted_with listener index (Ok fault) =
+    Ok (record { listener = listener; index = index; fault = fault })
+counted_with listener index (Err why) = Err why
 
 -- all packets of the capture were counted
 pub record HasCounted (s : Series) (given : List ℕ) (source_now : Side) (counted : Counted) : Type 0 where

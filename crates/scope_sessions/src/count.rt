@@ -2,12 +2,14 @@
 ghost use Rattle.std.specs.Prelude.{◌≡◌, ◌≤◌, ◌<◌, ℕ, List, IfOk, IsSome, Ok, OnOk, Some, length};
 ghost use Rattle.ao_base.specs.Outside.{Side};
 ghost use Rattle.book_captures.specs.Captures.{CapturePacket};
-ghost use Rattle.book_sessions.specs.Listening.{Listening};
-ghost use Rattle.book_sessions.specs.Sessions.{stored_by};
+ghost use Rattle.book_sessions.specs.Listening.{Listening, listening_behind};
+ghost use Rattle.book_sessions.specs.Sessions.{no_sessions, stored_by};
+ghost use Rattle.book_cmd_check.specs.declared.given.GivenIsns.{GivenIsns};
 ghost use Rattle.capture_listener.specs.Listeners.{Knows};
+ghost use Rattle.capture_stream.specs.Reads.{new_reading};
 ghost use Rattle.scope_lines.specs.Writes.{found_in};
 ghost use Rattle.scope_sessions.specs.Counting.{CountsPacket, CountsStored};
-ghost use Rattle.scope_sessions.specs.Reading.{Counts, series_of};
+ghost use Rattle.scope_sessions.specs.Reading.{Counts, counted_with, series_behind, series_of};
 
 use crate::due::{TextHalt, counted_since, second_of, write_due};
 use crate::heard::hear;
@@ -28,7 +30,7 @@ use std::sync::ledger::{Blank, Ledger};
 const NANOSECONDS: u64 = 1_000_000_000;
 
 /// Why not all packets of a capture were counted.
-#[derive(Clone, Copy, Debug, PartialEq, Eq)]
+#[derive(Clone, Copy)]
 pub(crate) enum CountHalt {
     /// The source gave more than 2^63 bytes.
     TooLong,
@@ -121,7 +123,49 @@ fn count_packet<L: Ledger>(
     )
 }
 
-// The same as `count_capture`, with a counter of derivations.
+// Counts all packets that a new reader shows, into an index that has none, and writes the tables that are due in
+// front of them. The fault that the capture has behind its packets, if it has one.
+fn count_all<L: Ledger, I: Source, O: Sink>(
+    reader: &mut CaptureReader,
+    listener: &mut Listener,
+    index: &mut SessionIndex,
+    alloc: Global,
+    steps: &mut Steps<L>,
+    request: TableRequest,
+    input: &mut I,
+    out: &mut O,
+) -> Result<Option<CaptureFault>, CountHalt>
+    requires reader { reader.old ≡ new_reading }
+    requires index { index.old ≡ no_sessions }
+    ensures { (isns : List GivenIsns) → Knows listener.old (listening_behind isns) → (given : List ℕ) ×
+        Counts (series_behind listener.old.judging isns request) given (I.side input.old) (I.side input.new) (O.side out.old) (O.side out.new) (counted_with listener.new index.new result) }
+{
+    let mut since = None;
+    'parts: loop {
+        match reader.next(input) {
+            Ok(CaptureStep::Packet) => {}
+            Ok(CaptureStep::Block) => continue 'parts,
+            Ok(CaptureStep::End) => return Ok(None),
+            Err(CaptureHalt::Read) => return Err(CountHalt::Read),
+            Err(CaptureHalt::TooLong) => return Err(CountHalt::TooLong),
+            Err(CaptureHalt::Broken(fault)) => return Ok(Some(fault)),
+        }
+        let now = second_of(reader.time());
+        match write_due(alloc, request, listener.tables(), index, since, now, out) {
+            Ok(()) => {}
+            Err(TextHalt::Write) => return Err(CountHalt::Write),
+            Err(TextHalt::Memory) => return Err(CountHalt::Memory),
+        }
+        since = counted_since(request.every, since, now);
+        match count_packet(listener, index, alloc, steps, reader) {
+            Ok(()) => {}
+            Err(_) => return Err(CountHalt::Memory),
+        }
+    }
+}
+
+// The same as `count_capture`, with a counter of derivations. The loop stands apart, over what it borrows: each of
+// its ends would drop what was made here.
 fn count_counted<L: Ledger, I: Source, O: Sink>(
     alloc: Global,
     tables: Tables,
@@ -147,40 +191,21 @@ fn count_counted<L: Ledger, I: Source, O: Sink>(
         Err(_) => return Err(CountHalt::Memory),
     };
     let mut index = SessionIndex::new(alloc);
-    let mut since = None;
-    'parts: loop {
-        match reader.next(input) {
-            Ok(CaptureStep::Packet) => {}
-            Ok(CaptureStep::Block) => continue 'parts,
-            Ok(CaptureStep::End) => {
-                return Ok(Counted {
-                    listener,
-                    index,
-                    fault: None,
-                });
-            }
-            Err(CaptureHalt::Read) => return Err(CountHalt::Read),
-            Err(CaptureHalt::TooLong) => return Err(CountHalt::TooLong),
-            Err(CaptureHalt::Broken(fault)) => {
-                return Ok(Counted {
-                    listener,
-                    index,
-                    fault: Some(fault),
-                });
-            }
-        }
-        let now = second_of(reader.time());
-        match write_due(alloc, request, listener.tables(), &index, since, now, out) {
-            Ok(()) => {}
-            Err(TextHalt::Write) => return Err(CountHalt::Write),
-            Err(TextHalt::Memory) => return Err(CountHalt::Memory),
-        }
-        since = counted_since(request.every, since, now);
-        match count_packet(&mut listener, &mut index, alloc, &mut steps, &reader) {
-            Ok(()) => {}
-            Err(_) => return Err(CountHalt::Memory),
-        }
-    }
+    let fault = count_all(
+        &mut reader,
+        &mut listener,
+        &mut index,
+        alloc,
+        &mut steps,
+        request,
+        input,
+        out,
+    )?;
+    Ok(Counted {
+        listener,
+        index,
+        fault,
+    })
 }
 
 /// Counts the packets of a capture, judged by the tables and over so many laps as behind handshakes with the

@@ -1,8 +1,11 @@
 //! A capture, read as far as the packet that is asked for.
-ghost use Rattle.std.specs.Prelude.{◌≡◌, ◌<◌, ℕ, false, IfOk, List};
+ghost use Rattle.std.specs.Prelude.{◌≡◌, ◌<◌, [], ℕ, false, IfOk, List};
 ghost use Rattle.ao_base.specs.Outside.{Side};
+ghost use Rattle.book_cmd_check.specs.Handshakes.{given_after};
 ghost use Rattle.book_scope_plan.specs.AdminNames.{KeyFile};
 ghost use Rattle.book_why_texts.specs.Answers.{WhyAsked, no_packet_line};
+ghost use Rattle.capture_check.specs.Checkers.{StandsFor};
+ghost use Rattle.capture_stream.specs.Reads.{new_reading};
 ghost use Rattle.scope_why.specs.Reading.{Reads};
 ghost use Rattle.scope_why.specs.Replies.{asked_of, key_file_of};
 
@@ -34,7 +37,60 @@ fn answer_missing(alloc: Global, number: u64, count: u64) -> Result<Answered, Al
     })
 }
 
-// The same as `answer_capture`, with a counter of derivations.
+// The answer on the first packet of this number that a new reader shows: by the tables that the checker has, and
+// behind what was told, of which it knows the connections and no others.
+fn answer_behind<L: Ledger, I: Source>(
+    reader: &mut CaptureReader,
+    checker: &mut Checker,
+    told: &mut Vec<GivenIsns>,
+    alloc: Global,
+    steps: &mut Steps<L>,
+    question: &Question<'_>,
+    number: u64,
+    input: &mut I,
+) -> Result<Answered, JudgingHalt>
+    requires reader { reader.old ≡ new_reading }
+    requires stands { StandsFor checker.old.entries (given_after [] told.old.items) }
+    ensures { (bytes : List ℕ) × Reads (key_file_of question.now checker.old.tables) (asked_of question.now told.old.items number) bytes (I.side input.old) (I.side input.new) result }
+{
+    let mut count: u64 = 0;
+    'parts: loop {
+        match reader.next(input) {
+            Ok(CaptureStep::Packet) => {}
+            Ok(CaptureStep::Block) => continue 'parts,
+            Ok(CaptureStep::End) => match answer_missing(alloc, number, count) {
+                Ok(answered) => return Ok(answered),
+                Err(_) => return Err(JudgingHalt::Memory),
+            },
+            Err(CaptureHalt::Read) => return Err(JudgingHalt::Read),
+            Err(CaptureHalt::TooLong) => return Err(JudgingHalt::TooLong),
+            Err(CaptureHalt::Broken(fault)) => return Err(JudgingHalt::Broken(fault)),
+        }
+        let stored = stored_shown(reader);
+        if reader.number() == number {
+            match answer_packet(
+                checker,
+                told.as_slice(),
+                question,
+                alloc,
+                steps,
+                number,
+                stored,
+            ) {
+                Ok(answered) => return Ok(answered),
+                Err(_) => return Err(JudgingHalt::Memory),
+            }
+        }
+        match hear_packet(checker, told, alloc, steps, stored) {
+            Ok(()) => {}
+            Err(_) => return Err(JudgingHalt::Memory),
+        }
+        count += 1;
+    }
+}
+
+// The same as `answer_capture`, with a counter of derivations. The loop stands apart, over what it borrows: each of
+// its ends would drop what was made here.
 fn answer_counted<L: Ledger, I: Source>(
     alloc: Global,
     tables: Tables,
@@ -62,40 +118,16 @@ fn answer_counted<L: Ledger, I: Source>(
         Ok(told) => told,
         Err(_) => return Err(JudgingHalt::Memory),
     };
-    let mut count: u64 = 0;
-    'parts: loop {
-        match reader.next(input) {
-            Ok(CaptureStep::Packet) => {}
-            Ok(CaptureStep::Block) => continue 'parts,
-            Ok(CaptureStep::End) => match answer_missing(alloc, number, count) {
-                Ok(answered) => return Ok(answered),
-                Err(_) => return Err(JudgingHalt::Memory),
-            },
-            Err(CaptureHalt::Read) => return Err(JudgingHalt::Read),
-            Err(CaptureHalt::TooLong) => return Err(JudgingHalt::TooLong),
-            Err(CaptureHalt::Broken(fault)) => return Err(JudgingHalt::Broken(fault)),
-        }
-        let stored = stored_shown(&reader);
-        if reader.number() == number {
-            match answer_packet(
-                &mut checker,
-                told.as_slice(),
-                question,
-                alloc,
-                &mut steps,
-                number,
-                stored,
-            ) {
-                Ok(answered) => return Ok(answered),
-                Err(_) => return Err(JudgingHalt::Memory),
-            }
-        }
-        match hear_packet(&mut checker, &mut told, alloc, &mut steps, stored) {
-            Ok(()) => {}
-            Err(_) => return Err(JudgingHalt::Memory),
-        }
-        count += 1;
-    }
+    answer_behind(
+        &mut reader,
+        &mut checker,
+        &mut told,
+        alloc,
+        &mut steps,
+        question,
+        number,
+        input,
+    )
 }
 
 /// The answer on the first packet of this number of a capture, which is read as far as that packet: by the

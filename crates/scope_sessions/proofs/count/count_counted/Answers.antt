@@ -1,8 +1,6 @@
-use Rattle.std.proofs.Common.{[], ◌++◌, Some, None, refl}
-use Rattle.scope_lines.proofs.Showing.{listed}
-use Rattle.scope_lines.proofs.Taken.{smaller}
+use Rattle.std.proofs.Common.{[]}
 use Rattle.scope_sessions.specs.Reading.{series_of}
-use Rattle.scope_sessions.proofs.Walk.{between_block, between_counted, between_new, ends_broken, ends_done, ends_long, ends_lacking, ends_memory, ends_none, ends_read, ends_stuck}
+use Rattle.scope_sessions.proofs.Walk.{ends_none}
 use Rattle.scope_sessions.proofs.count.count_counted.Goals as goal
 
 pub returns-in-Err : goal.returns-in-Err
@@ -11,88 +9,11 @@ returns-in-Err g c = ([], ends_none (series_of c.args.tables c.args.laps c.args.
 pub returns-in-Err-behind : goal.returns-in-Err-behind
 returns-in-Err-behind g c = ([], ends_none (series_of c.args.tables c.args.laps c.args.isns.now c.args.request) _ _)
 
-pub parts-init : goal.parts-init
-parts-init g c = ([], [], between_new (series_of c.args.tables c.args.laps c.args.isns.now c.args.request) c.in-Ok.reader c.in-Ok-behind.listener c.new-index.result _ _ c.in-Ok.ensures c.in-Ok-behind.ensures.judging c.in-Ok-behind.ensures.knows c.new-index.ensures)
+pub count_all-requires-clause-reader : goal.count_all-requires-clause-reader
+count_all-requires-clause-reader g c = c.in-Ok.ensures
 
-pub next-requires : goal.next-requires
-next-requires g c = c.parts.invariant.2.taken.going
+pub count_all-requires-clause-index : goal.count_all-requires-clause-index
+count_all-requires-clause-index g c = c.new-index.ensures
 
-pub parts-smaller-in-Ok-Block : goal.parts-smaller-in-Ok-Block
-parts-smaller-in-Ok-Block g c =
-    let more = rw c.in-Ok-Block.field-0-is at c.in-Ok-Block.ensures.steps in
-    let step = more.1 in
-    smaller {said = step.answers.0} step.answers.1
-
-pub parts-preserved-in-Ok-Block : goal.parts-preserved-in-Ok-Block
-parts-preserved-in-Ok-Block g c =
-    let more = rw c.in-Ok-Block.field-0-is at c.in-Ok-Block.ensures.steps in
-    let step = more.1 in (
-      c.parts.invariant.0 ++ more.0,
-      c.parts.invariant.1 ++ listed c.next.new.self.packet,
-      between_block (series_of c.args.tables c.args.laps c.args.isns.now c.args.request) c.parts.reader c.parts.listener c.parts.index c.parts.since c.parts.invariant.0 more.0 c.parts.invariant.1 _ _ _ _ _ c.parts.invariant.2 c.next.new.self step.answers.0 step.answers.1 step.gave step.bytes step.answers.2,
-    )
-
-pub returns-in-Ok-End : goal.returns-in-Ok-End
-returns-in-Ok-End g c =
-    let more = rw c.in-Ok-End.field-0-is at c.in-Ok-End.ensures.steps in
-    (c.parts.invariant.0 ++ more.0, ends_done (series_of c.args.tables c.args.laps c.args.isns.now c.args.request) c.parts.reader c.parts.listener c.parts.index c.parts.since c.parts.invariant.0 more.0 c.parts.invariant.1 _ _ _ _ _ c.parts.invariant.2 c.next.new.self (record { listener = c.parts.listener; index = c.parts.index; fault = None }) refl refl refl more.1)
-
-pub returns-in-Err-Read : goal.returns-in-Err-Read
-returns-in-Err-Read g c =
-    let more = rw c.in-Err-Read.field-0-is at c.in-Err-Read.ensures.steps in
-    (c.parts.invariant.0 ++ more.0, ends_read (series_of c.args.tables c.args.laps c.args.isns.now c.args.request) c.parts.reader c.parts.listener c.parts.index c.parts.since c.parts.invariant.0 more.0 c.parts.invariant.1 _ _ _ _ _ c.parts.invariant.2 c.next.new.self more.1)
-
-pub returns-in-Err-TooLong : goal.returns-in-Err-TooLong
-returns-in-Err-TooLong g c =
-    let more = rw c.in-Err-TooLong.field-0-is at c.in-Err-TooLong.ensures.steps in
-    (c.parts.invariant.0 ++ more.0, ends_long (series_of c.args.tables c.args.laps c.args.isns.now c.args.request) c.parts.reader c.parts.listener c.parts.index c.parts.since c.parts.invariant.0 more.0 c.parts.invariant.1 _ _ _ _ _ c.parts.invariant.2 c.next.new.self more.1)
-
-pub returns-in-Err-Broken : goal.returns-in-Err-Broken
-returns-in-Err-Broken g c =
-    let more = rw c.in-Err-Broken.field-0-is at c.in-Err-Broken.ensures.steps in
-    (c.parts.invariant.0 ++ more.0, rw c.in-Err-Broken.field-0-is (ends_broken (series_of c.args.tables c.args.laps c.args.isns.now c.args.request) c.parts.reader c.parts.listener c.parts.index c.parts.since c.parts.invariant.0 more.0 c.parts.invariant.1 _ _ _ _ _ c.parts.invariant.2 c.next.new.self c.in-Err-Broken.fault (record { listener = c.parts.listener; index = c.parts.index; fault = Some c.in-Err-Broken.fault }) refl refl refl more.1))
-
-pub parts-smaller : goal.parts-smaller
-parts-smaller g c =
-    let more = rw c.in-Ok-Packet.field-0-is at c.in-Ok-Packet.ensures.steps in
-    let step = more.1 in
-    smaller {said = step.answers.0} step.answers.1
-
-pub parts-preserved : goal.parts-preserved
-parts-preserved g c =
-    let more = rw c.in-Ok-Packet.field-0-is at c.in-Ok-Packet.ensures.steps in
-    let step = more.1 in
-    let between = c.parts.invariant.2 in (
-      c.parts.invariant.0 ++ more.0,
-      c.parts.invariant.1 ++ listed c.next.new.self.packet,
-      between_counted (series_of c.args.tables c.args.laps c.args.isns.now c.args.request) c.parts.reader c.parts.listener c.parts.index c.parts.since c.parts.invariant.0 more.0 c.parts.invariant.1 _ _ _ _ _ between c.next.new.self step.answers.0 step.answers.1 step.gave step.bytes
-          c.count_packet.new.listener c.count_packet.new.index c.time.result c.second_of-now.result c.counted_since-since.result _ (c.in-Ok-Packet.ensures.shown (rw c.in-Ok-Packet.field-0-is refl)) c.time.ensures c.second_of-now.ensures c.counted_since-since.ensures
-          (rw c.tables-in-parts.ensures at c.in-Ok-write_due.ensures) c.in-Ok-count_packet.ensures.judging (λ p is. c.in-Ok-count_packet.ensures.counts between.heard.known p is between.heard.knows),
-    )
-
-pub returns-in-Err-count_packet : goal.returns-in-Err-count_packet
-returns-in-Err-count_packet g c =
-    let more = rw c.in-Ok-Packet.field-0-is at c.in-Ok-Packet.ensures.steps in
-    let step = more.1 in (
-      c.parts.invariant.0 ++ more.0,
-      ends_memory (series_of c.args.tables c.args.laps c.args.isns.now c.args.request) c.parts.reader c.parts.listener c.parts.index c.parts.since c.parts.invariant.0 more.0 c.parts.invariant.1 _ _ _ _ _ c.parts.invariant.2 c.next.new.self step.answers.0 step.answers.1 step.gave step.bytes
-          c.time.result c.second_of-now.result _ (c.in-Ok-Packet.ensures.shown (rw c.in-Ok-Packet.field-0-is refl)) c.time.ensures c.second_of-now.ensures (rw c.tables-in-parts.ensures at c.in-Ok-write_due.ensures),
-    )
-
-pub returns-in-Err-Write : goal.returns-in-Err-Write
-returns-in-Err-Write g c =
-    let more = rw c.in-Ok-Packet.field-0-is at c.in-Ok-Packet.ensures.steps in
-    let step = more.1 in (
-      c.parts.invariant.0 ++ more.0,
-      ends_stuck (series_of c.args.tables c.args.laps c.args.isns.now c.args.request) c.parts.reader c.parts.listener c.parts.index c.parts.since c.parts.invariant.0 more.0 c.parts.invariant.1 _ _ _ _ _ c.parts.invariant.2 c.next.new.self step.answers.0 step.answers.1 step.gave step.bytes
-          c.time.result c.second_of-now.result _ (c.in-Ok-Packet.ensures.shown (rw c.in-Ok-Packet.field-0-is refl)) c.time.ensures c.second_of-now.ensures (rw c.tables-in-parts.ensures at (rw c.in-Err-Write.field-0-is at c.in-Err-Write.ensures)),
-    )
-
-pub returns-in-Err-Memory : goal.returns-in-Err-Memory
-returns-in-Err-Memory g c =
-    let more = rw c.in-Ok-Packet.field-0-is at c.in-Ok-Packet.ensures.steps in
-    let step = more.1 in (
-      c.parts.invariant.0 ++ more.0,
-      ends_lacking (series_of c.args.tables c.args.laps c.args.isns.now c.args.request) c.parts.reader c.parts.listener c.parts.index c.parts.since c.parts.invariant.0 more.0 c.parts.invariant.1 _ _ _ _ _ c.parts.invariant.2 c.next.new.self step.answers.0 step.answers.1 step.gave step.bytes
-          _ (rw c.in-Err-Memory.field-0-is at c.in-Err-Memory.ensures),
-    )
+pub returns : goal.returns
+returns g c = rw c.in-Ok-behind.ensures.judging at (c.in_ok-fault.ensures c.args.isns.now c.in-Ok-behind.ensures.knows)
