@@ -1,5 +1,5 @@
 //! The arguments of the words, by kind, and those that more than one word has.
-use clap::{Arg, ArgAction};
+use clap::{Arg, ArgAction, Command};
 use std::alloc::{AllocError, Global};
 
 /// A word that the command line requires.
@@ -46,7 +46,11 @@ pub(crate) fn isns_file<'a>(alloc: Global) -> Arg<'a> {
     option(alloc, "isn", "FILE", help)
 }
 
-/// What makes a picture in SVG of what `--draw` draws.
-pub(crate) fn svg_of_drawn<'a>(alloc: Global, help: &'a str) -> Result<Arg<'a>, AllocError> {
-    flag(alloc, "svg", help).requires_arg("draw")
+/// The word with what makes a picture in SVG of what `--draw` draws.
+pub(crate) fn with_svg<'a>(
+    word: Command<'a>,
+    alloc: Global,
+    help: &'a str,
+) -> Result<Command<'a>, AllocError> {
+    word.arg(flag(alloc, "svg", help).requires_arg("draw")?)
 }

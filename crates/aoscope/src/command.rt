@@ -19,22 +19,31 @@ numbers are the packets' numbers in the capture.
 
     aoscope lines < CAPTURE | aotcp check KEYS";
 
+/// The program's command line with a word more. A word that can't be had ends it here, where alone the words so far
+/// have to be dropped then.
+fn with_word<'a>(
+    program: Command<'a>,
+    word: Result<Command<'a>, AllocError>,
+) -> Result<Command<'a>, AllocError> {
+    program.subcommand(word?)
+}
+
 /// The program's command line.
 pub(crate) fn command<'a>(alloc: Global) -> Result<Command<'a>, AllocError> {
     let lines = Command::new(alloc, "lines")
         .about(LINES_ABOUT)
         .after_help(LINES_AFTER);
-    Command::new(alloc, "aoscope")
+    let program = Command::new(alloc, "aoscope")
         .version("0.1.0")
         .about(ABOUT)
         .after_help(AFTER)
         .subcommand_required(true)
         .arg_required_else_help(true)
-        .subcommand(lines)?
-        .subcommand(sessions::command(alloc)?)?
-        .subcommand(why::command(alloc)?)?
-        .subcommand(keys::command(alloc)?)?
-        .subcommand(plan::command(alloc)?)?
-        .subcommand(draw::command(alloc)?)?
-        .subcommand(echo::command(alloc)?)
+        .subcommand(lines)?;
+    let program = with_word(program, sessions::command(alloc))?;
+    let program = with_word(program, why::command(alloc))?;
+    let program = with_word(program, keys::command(alloc))?;
+    let program = with_word(program, plan::command(alloc))?;
+    let program = with_word(program, draw::command(alloc))?;
+    with_word(program, echo::command(alloc))
 }

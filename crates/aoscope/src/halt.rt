@@ -10,7 +10,7 @@ use std::alloc::{AllocError, Global};
 use text_lines::{print_fault, push_newline, push_number, push_text};
 
 /// Why a word ends early.
-#[derive(Debug, Drop)]
+#[derive(Drop)]
 pub(crate) enum Halt {
     /// The words can't be taken so.
     Usage(&'static str),

@@ -1,5 +1,5 @@
 //! The word `plan`: what is said of the planned rollovers of connections.
-use crate::arguments::{flag, key_file, required_word, svg_of_drawn};
+use crate::arguments::{flag, key_file, required_word, with_svg};
 use crate::halt::{Halt, end};
 use crate::inputs::{duration, input, keys_at, required, write};
 use book_cmd_keys::Plan;
@@ -42,11 +42,11 @@ pub(crate) fn command<'a>(alloc: Global) -> Result<Command<'a>, AllocError> {
     let lead = "By how much a receiver's clock may be behind";
     let lag = "By how much a receiver's clock may be ahead";
     let from = "The time from which on the plan is looked at";
-    Command::new(alloc, "plan")
+    let word = Command::new(alloc, "plan")
         .about(ABOUT)
         .after_help(AFTER)
-        .arg(flag(alloc, "draw", "Draw the use of each row over time, as bars"))?
-        .arg(svg_of_drawn(alloc, "Draw them as a picture in SVG")?)?
+        .arg(flag(alloc, "draw", "Draw the use of each row over time, as bars"))?;
+    with_svg(word, alloc, "Draw them as a picture in SVG")?
         .arg(key_file(alloc))?
         .arg(required_word(alloc, "LEAD", lead))?
         .arg(required_word(alloc, "LAG", lag))?

@@ -38,6 +38,34 @@ fn halt_of(number: u64, halt: LadderHalt) -> Halt {
     }
 }
 
+/// Draws the session of this number of the capture on standard input, by the texts of a key file and of a file of
+/// initial sequence numbers.
+fn draw_by(
+    rt: &HostRuntime,
+    form: LadderForm,
+    laps: u32,
+    number: u64,
+    keys: &[u8],
+    isns: &[u8],
+) -> Result<(), Halt> {
+    let tables = read_tables(rt.alloc(), keys)?;
+    let given = read_given(rt.alloc(), isns)?;
+    let mut input = ReadSource::new(rt.stdin());
+    let mut out = WriteSink::new(rt.stdout());
+    let given = given.as_slice();
+    draw_session(
+        rt.alloc(),
+        form,
+        tables,
+        laps,
+        given,
+        number,
+        &mut input,
+        &mut out,
+    )
+    .map_err(|halt| halt_of(number, halt))
+}
+
 /// Draws the session of the capture on standard input that the words ask for by this text; nothing is amiss then.
 pub(crate) fn draw(rt: &HostRuntime, matches: &ArgMatches<'_>, text: &str) -> Result<bool, Halt> {
     if matches.get_flag("json") || matches.get_str("every").is_some() {
@@ -47,21 +75,13 @@ pub(crate) fn draw(rt: &HostRuntime, matches: &ArgMatches<'_>, text: &str) -> Re
     let laps = laps(matches)?;
     let keys = keys_at(rt, required(matches, "KEYS")?)?;
     let isns = isns(rt, matches)?;
-    let tables = read_tables(rt.alloc(), keys.as_slice())?;
-    let given = read_given(rt.alloc(), isns.as_slice())?;
-    let mut input = ReadSource::new(rt.stdin());
-    let mut out = WriteSink::new(rt.stdout());
-    match draw_session(
-        rt.alloc(),
+    draw_by(
+        rt,
         form(matches),
-        tables,
         laps,
-        given.as_slice(),
         number,
-        &mut input,
-        &mut out,
-    ) {
-        Ok(()) => Ok(false),
-        Err(halt) => Err(halt_of(number, halt)),
-    }
+        keys.as_slice(),
+        isns.as_slice(),
+    )?;
+    Ok(false)
 }

@@ -1,5 +1,5 @@
 //! The word `sessions`: the table of a capture's sessions and of the keys of a key file.
-use crate::arguments::{flag, isns_file, key_file, option, svg_of_drawn};
+use crate::arguments::{flag, isns_file, key_file, option, with_svg};
 use crate::halt::{Halt, end};
 use crate::inputs::{duration, isns, keys_at, required};
 use crate::session_ladder;
@@ -16,11 +16,11 @@ const MOST_LAPS: u32 = 255;
 pub(crate) fn command<'a>(alloc: Global) -> Result<Command<'a>, AllocError> {
     let every = "Write a table also each N of the capture's own time";
     let laps = "Search up to N laps of 4 GiB, 0 to 255, where a MAC is wrong; else 0";
-    Command::new(alloc, "sessions")
+    let word = Command::new(alloc, "sessions")
         .about(ABOUT)
         .after_help(AFTER)
-        .arg(session_ladder::argument(alloc))?
-        .arg(svg_of_drawn(alloc, "Draw it as a picture in SVG")?)?
+        .arg(session_ladder::argument(alloc))?;
+    with_svg(word, alloc, "Draw it as a picture in SVG")?
         .arg(key_file(alloc))?
         .arg(isns_file(alloc))?
         .arg(flag(alloc, "json", "Write the table as one line of JSON"))?
