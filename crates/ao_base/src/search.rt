@@ -11,7 +11,7 @@ use crate::outside::Source;
 use memchr::memchr;
 
 /// What a search for the next line finds: its length, or why there is none.
-#[derive(Clone, Copy, Debug)]
+#[derive(Clone, Copy)]
 pub(crate) enum Found {
     Line(usize),
     End,

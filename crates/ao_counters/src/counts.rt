@@ -10,7 +10,7 @@ use book_endpoint::{Arrival, Verdict};
 use book_link::Transmission;
 
 /// What happened at a connection.
-#[derive(Clone, Copy, Debug, PartialEq, Eq)]
+#[derive(Clone, Copy)]
 pub(crate) enum Happened {
     /// A segment with these key ids came, and was answered so.
     Heard(Arrival, Option<KeyIds>),

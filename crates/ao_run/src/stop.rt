@@ -18,7 +18,7 @@ const USAGE: &[u8] =
 storm SEED COUNT | check --pcap KEYS | bgp KEYS | timed KEYS | node KEYS\n";
 
 /// The whole output of a command.
-#[derive(Debug, Drop)]
+#[derive(Drop)]
 pub(crate) struct Output {
     /// 0, or 1 where the output has something amiss.
     pub(crate) status: u8,
@@ -26,7 +26,7 @@ pub(crate) struct Output {
 }
 
 /// Why a command wrote no output, or not all of it.
-#[derive(Debug, Drop)]
+#[derive(Drop)]
 pub(crate) enum Stop {
     /// The words are in no command's form.
     Usage,

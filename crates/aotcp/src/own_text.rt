@@ -22,7 +22,7 @@ Status 0: done; 1: done, with something amiss; 2: usage; 3: key file; 4: input;
 ";
 
 /// What the words may ask of the program itself.
-#[derive(Clone, Copy, Debug, PartialEq, Eq)]
+#[derive(Clone, Copy)]
 pub(crate) enum OwnText {
     Help,
     Version,

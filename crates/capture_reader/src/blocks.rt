@@ -32,7 +32,7 @@ pub struct Block<'a> {
 }
 
 /// A block by its place at the front of bytes.
-#[derive(Clone, Copy, Debug)]
+#[derive(Clone, Copy)]
 pub(crate) struct BlockPlace {
     pub(crate) order: ByteOrder,
     pub(crate) kind: u32,

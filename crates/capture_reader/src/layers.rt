@@ -10,7 +10,7 @@ use book_pcap::ByteOrder;
 use pcap_file::{u16_at, u32_at};
 
 /// What follows the headers so far.
-#[derive(Clone, Copy, Debug)]
+#[derive(Clone, Copy)]
 pub(crate) struct Follows<'a> {
     pub(crate) protocol: Protocol,
     pub(crate) body: &'a [u8],

@@ -11,7 +11,7 @@ use capture_reader::{
 };
 
 /// What reading the front of a file gives.
-#[derive(Clone, Copy, Debug)]
+#[derive(Clone, Copy)]
 pub(crate) enum Opened {
     At(FileFront),
     Bad(Cause),
@@ -19,7 +19,7 @@ pub(crate) enum Opened {
 }
 
 /// What reading a part gives, or why there is none.
-#[derive(Clone, Copy, Debug)]
+#[derive(Clone, Copy)]
 pub(crate) enum Found {
     Whole(FoundPart),
     Done,

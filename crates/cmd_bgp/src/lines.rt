@@ -12,7 +12,7 @@ use std::alloc::AllocError;
 use text_lines::{push_end, push_field, push_newline, push_number, push_text};
 
 /// Where the lines of a take are from.
-#[derive(Clone, Copy, Debug, PartialEq, Eq)]
+#[derive(Clone, Copy)]
 pub(crate) struct Place {
     /// The number of the event, from 1.
     pub number: u32,

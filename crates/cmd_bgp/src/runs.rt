@@ -34,7 +34,7 @@ pub struct BgpRun {
 }
 
 /// What an event may bring a reader.
-#[derive(Clone, Copy, Debug, PartialEq, Eq)]
+#[derive(Clone, Copy)]
 enum Turn {
     /// A session of the end begins, unless its initial sequence number was used before.
     Begins(End),

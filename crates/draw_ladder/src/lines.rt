@@ -10,7 +10,7 @@ use std::alloc::AllocError;
 
 /// What an arrow is drawn with: a byte for the first three columns of its way, for its stroke and for its
 /// last column.
-#[derive(Clone, Copy, Debug)]
+#[derive(Clone, Copy)]
 pub(crate) struct Pen {
     lead: u8,
     stroke: u8,

@@ -21,7 +21,7 @@ pub(crate) const MOST_KEPT: usize = 262_144;
 const ETHERNET: usize = 14;
 
 /// What reading the header gives.
-#[derive(Clone, Copy, Debug)]
+#[derive(Clone, Copy)]
 pub(crate) enum Opened {
     Head(Head),
     Bad(HeadFault),
@@ -29,7 +29,7 @@ pub(crate) enum Opened {
 }
 
 /// What reading a record gives: its seconds and its kept length, or why there is none.
-#[derive(Clone, Copy, Debug)]
+#[derive(Clone, Copy)]
 pub(crate) enum Found {
     Whole(u32, usize),
     Done,

@@ -8,7 +8,7 @@ use std::alloc::Global;
 use toml::Table;
 
 /// Why a text gave no document.
-#[derive(Clone, Copy, Debug)]
+#[derive(Clone, Copy)]
 pub(crate) enum Unread {
     /// From the byte with this index on it is no TOML.
     NotToml(usize),

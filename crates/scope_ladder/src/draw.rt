@@ -37,7 +37,7 @@ pub enum LadderHalt {
 }
 
 /// Why a text wasn't written.
-#[derive(Clone, Copy, Debug, PartialEq, Eq)]
+#[derive(Clone, Copy)]
 pub(crate) enum TextHalt {
     Write,
 }

@@ -19,7 +19,7 @@ pub(crate) struct Search {
 }
 
 /// What is drawn of a segment.
-#[derive(Clone, Copy, Debug)]
+#[derive(Clone, Copy)]
 pub(crate) enum Shown {
     /// It is of another session.
     Nothing,

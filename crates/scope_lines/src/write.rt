@@ -24,7 +24,7 @@ pub enum LinesHalt {
 }
 
 /// Why a packet's line wasn't written.
-#[derive(Clone, Copy, Debug, PartialEq, Eq)]
+#[derive(Clone, Copy)]
 pub(crate) enum LineHalt {
     Write,
     Memory,

@@ -4,7 +4,7 @@ use book_base::Bytes;
 
 /// What is said of the planned rollover of each connection, without what stands around a picture, how many
 /// lines of a picture that is, and whether something is wrong with one.
-#[derive(Debug, Drop)]
+#[derive(Drop)]
 pub(crate) struct Planned {
     pub(crate) text: Bytes,
     pub(crate) lines: u32,

@@ -19,7 +19,7 @@ use text_lines::push_newline;
 const NANOSECONDS: u64 = 1_000_000_000;
 
 /// Why a text wasn't written.
-#[derive(Clone, Copy, Debug, PartialEq, Eq)]
+#[derive(Clone, Copy)]
 pub(crate) enum TextHalt {
     /// A write failed.
     Write,

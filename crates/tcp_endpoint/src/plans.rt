@@ -13,7 +13,7 @@ use book_endpoint::Phase;
 
 /// A segment that is about to be made. How many bytes it carries is known once the row to send with
 /// is chosen.
-#[derive(Clone, Copy, Debug, PartialEq, Eq)]
+#[derive(Clone, Copy)]
 pub(crate) enum Plan {
     /// The RST that is owed.
     Reset,
