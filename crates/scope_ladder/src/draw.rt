@@ -4,7 +4,8 @@ ghost use Rattle.ao_base.specs.Outside.{Side};
 ghost use Rattle.book_draw_session.specs.Rungs.{session_at, sessions_drawn};
 ghost use Rattle.book_draw_session.specs.declared.rung.SessionRung.{SessionRung as Segment};
 ghost use Rattle.book_draw_session_svg.specs.declared.form.LadderForm.TheVariants.{Text};
-ghost use Rattle.scope_ladder.specs.Drawing.{request_of};
+ghost use Rattle.capture_stream.specs.Reads.{new_reading};
+ghost use Rattle.scope_ladder.specs.Drawing.{Follows, Request, request_of};
 ghost use Rattle.scope_ladder.specs.Searches.{Seeks, Tells};
 ghost use Rattle.scope_ladder.specs.Writing.{Writes, WritesText};
 ghost use Rattle.book_sessions.specs.Listening.{listening_behind};
@@ -62,7 +63,41 @@ pub(crate) fn told(search: &Search) -> Result<(), LadderHalt>
     }
 }
 
-/// The same as `draw_session` for text, with a counter of derivations.
+// Draws the session that a drawer of text to which nothing came is asked for, of what a new reader shows.
+fn draw_all<L: Ledger, I: Source, O: Sink>(
+    reader: &mut CaptureReader,
+    drawer: &mut Drawer,
+    alloc: Global,
+    steps: &mut Steps<L>,
+    input: &mut I,
+    out: &mut O,
+) -> Result<(), LadderHalt>
+    requires { reader.old ≡ new_reading }
+    ensures { (q : Request) → q.form ≡ Text → Follows q drawer.old [] (listening_behind q.given) → (given : List ℕ) × Writes q given
+        (I.side input.old) (I.side input.new) (O.side out.old) (O.side out.new) result }
+{
+    'parts: loop {
+        match reader.next(input) {
+            Ok(CaptureStep::Packet) => {}
+            Ok(CaptureStep::Block) => continue 'parts,
+            Ok(CaptureStep::End) => return told(&drawer.search),
+            Err(CaptureHalt::Read) => return Err(LadderHalt::Read),
+            Err(CaptureHalt::TooLong) => return Err(LadderHalt::TooLong),
+            Err(CaptureHalt::Broken(fault)) => return Err(LadderHalt::Broken(fault)),
+        }
+        match drawer.draw_packet(alloc, steps, reader) {
+            Ok(()) => {}
+            Err(_) => return Err(LadderHalt::Memory),
+        }
+        match write_text(drawer.text.as_slice(), out) {
+            Ok(()) => {}
+            Err(TextHalt::Write) => return Err(LadderHalt::Write),
+        }
+    }
+}
+
+/// The same as `draw_session` for text, with a counter of derivations. The loop stands apart, over what it borrows:
+/// each of its ends would drop what was made here.
 pub(crate) fn draw_counted<L: Ledger, I: Source, O: Sink>(
     alloc: Global,
     tables: Tables,
@@ -88,22 +123,5 @@ pub(crate) fn draw_counted<L: Ledger, I: Source, O: Sink>(
         Ok(drawer) => drawer,
         Err(_) => return Err(LadderHalt::Memory),
     };
-    'parts: loop {
-        match reader.next(input) {
-            Ok(CaptureStep::Packet) => {}
-            Ok(CaptureStep::Block) => continue 'parts,
-            Ok(CaptureStep::End) => return told(&drawer.search),
-            Err(CaptureHalt::Read) => return Err(LadderHalt::Read),
-            Err(CaptureHalt::TooLong) => return Err(LadderHalt::TooLong),
-            Err(CaptureHalt::Broken(fault)) => return Err(LadderHalt::Broken(fault)),
-        }
-        match drawer.draw_packet(alloc, &mut steps, &reader) {
-            Ok(()) => {}
-            Err(_) => return Err(LadderHalt::Memory),
-        }
-        match write_text(drawer.text.as_slice(), out) {
-            Ok(()) => {}
-            Err(TextHalt::Write) => return Err(LadderHalt::Write),
-        }
-    }
+    draw_all(&mut reader, &mut drawer, alloc, &mut steps, input, out)
 }

@@ -1,10 +1,11 @@
 //! A session of a capture as a picture, which is drawn when all is read; and the choice between the forms.
-ghost use Rattle.std.specs.Prelude.{◌≡◌, ◌<◌, ℕ, List, IfOk};
+ghost use Rattle.std.specs.Prelude.{◌≡◌, ◌<◌, [], ℕ, List, IfOk};
 ghost use Rattle.ao_base.specs.Outside.{Side};
 ghost use Rattle.book_draw_session_svg.specs.SessionPictures.{picture_between};
 ghost use Rattle.book_draw_session_svg.specs.declared.form.LadderForm.TheVariants.{Picture};
 ghost use Rattle.book_sessions.specs.Listening.{listening_behind};
-ghost use Rattle.scope_ladder.specs.Drawing.{request_of};
+ghost use Rattle.capture_stream.specs.Reads.{new_reading};
+ghost use Rattle.scope_ladder.specs.Drawing.{Follows, Request, request_of};
 ghost use Rattle.scope_ladder.specs.Writing.{Writes, WritesKept};
 
 use crate::draw::{LadderHalt, TextHalt, draw_counted, told, write_text};
@@ -48,7 +49,44 @@ fn write_kept<O: Sink>(
     }
 }
 
-// The same as `draw_session` for a picture, with a counter of derivations.
+// Draws the session that a drawer of a picture to which nothing came is asked for, of what a new reader shows.
+fn picture_all<L: Ledger, I: Source, O: Sink>(
+    reader: &mut CaptureReader,
+    drawer: &mut Drawer,
+    alloc: Global,
+    steps: &mut Steps<L>,
+    input: &mut I,
+    out: &mut O,
+) -> Result<(), LadderHalt>
+    requires { reader.old ≡ new_reading }
+    ensures { (q : Request) → q.form ≡ Picture → Follows q drawer.old [] (listening_behind q.given) → (given : List ℕ) × Writes q given
+        (I.side input.old) (I.side input.new) (O.side out.old) (O.side out.new) result }
+{
+    'parts: loop {
+        match reader.next(input) {
+            Ok(CaptureStep::Packet) => {}
+            Ok(CaptureStep::Block) => continue 'parts,
+            Ok(CaptureStep::End) => {
+                return write_kept(alloc, drawer, out, told(&drawer.search));
+            }
+            Err(CaptureHalt::Read) => {
+                return write_kept(alloc, drawer, out, Err(LadderHalt::Read));
+            }
+            Err(CaptureHalt::TooLong) => {
+                return write_kept(alloc, drawer, out, Err(LadderHalt::TooLong));
+            }
+            Err(CaptureHalt::Broken(fault)) => {
+                return write_kept(alloc, drawer, out, Err(LadderHalt::Broken(fault)));
+            }
+        }
+        match drawer.draw_packet(alloc, steps, reader) {
+            Ok(()) => {}
+            Err(_) => return Err(LadderHalt::Memory),
+        }
+    }
+}
+
+// The same as `draw_session` for a picture, with a counter of derivations; the loop stands apart as that of text does.
 fn picture_counted<L: Ledger, I: Source, O: Sink>(
     alloc: Global,
     tables: Tables,
@@ -74,28 +112,7 @@ fn picture_counted<L: Ledger, I: Source, O: Sink>(
         Ok(drawer) => drawer,
         Err(_) => return Err(LadderHalt::Memory),
     };
-    'parts: loop {
-        match reader.next(input) {
-            Ok(CaptureStep::Packet) => {}
-            Ok(CaptureStep::Block) => continue 'parts,
-            Ok(CaptureStep::End) => {
-                return write_kept(alloc, &drawer, out, told(&drawer.search));
-            }
-            Err(CaptureHalt::Read) => {
-                return write_kept(alloc, &drawer, out, Err(LadderHalt::Read));
-            }
-            Err(CaptureHalt::TooLong) => {
-                return write_kept(alloc, &drawer, out, Err(LadderHalt::TooLong));
-            }
-            Err(CaptureHalt::Broken(fault)) => {
-                return write_kept(alloc, &drawer, out, Err(LadderHalt::Broken(fault)));
-            }
-        }
-        match drawer.draw_packet(alloc, &mut steps, &reader) {
-            Ok(()) => {}
-            Err(_) => return Err(LadderHalt::Memory),
-        }
-    }
+    picture_all(&mut reader, &mut drawer, alloc, &mut steps, input, out)
 }
 
 /// Draws the session of this number of a capture in a form, judged by the tables as behind handshakes with the

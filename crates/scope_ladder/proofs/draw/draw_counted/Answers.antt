@@ -1,9 +1,7 @@
-use Rattle.std.proofs.Common.{[], ◌++◌, refl}
+use Rattle.std.proofs.Common.{[], refl}
 use Rattle.book_draw_session_svg.specs.declared.form.LadderForm.TheVariants.{Text}
-use Rattle.scope_lines.proofs.Showing.{listed}
-use Rattle.scope_lines.proofs.Taken.{smaller}
 use Rattle.scope_ladder.specs.Drawing.{request_of}
-use Rattle.scope_ladder.proofs.Walk.{broke, between_block, between_new, between_packet, ends_broken, ends_done, ends_long, ends_memory, ends_none, ends_read, ends_stuck}
+use Rattle.scope_ladder.proofs.Walk.{ends_none}
 use Rattle.scope_ladder.proofs.draw.draw_counted.Goals as goal
 
 pub returns-in-Err : goal.returns-in-Err
@@ -12,80 +10,8 @@ returns-in-Err g c = ([], ends_none (request_of Text c.args.tables c.args.laps c
 pub returns-in-Err-new : goal.returns-in-Err-new
 returns-in-Err-new g c = ([], ends_none (request_of Text c.args.tables c.args.laps c.args.isns.now c.args.number) _ _ refl)
 
-pub parts-init : goal.parts-init
-parts-init g c = ([], [], between_new (request_of Text c.args.tables c.args.laps c.args.isns.now c.args.number) c.in-Ok.reader c.in-Ok-new.drawer _ _ refl c.in-Ok.ensures c.in-Ok-new.ensures)
+pub draw_all-requires : goal.draw_all-requires
+draw_all-requires g c = c.in-Ok.ensures
 
-pub next-requires : goal.next-requires
-next-requires g c = c.parts.invariant.2.taken.going
-
-pub parts-smaller-in-Ok-Block : goal.parts-smaller-in-Ok-Block
-parts-smaller-in-Ok-Block g c =
-    let more = rw c.in-Ok-Block.field-0-is at c.in-Ok-Block.ensures.steps in
-    let step = more.1 in
-    smaller {said = step.answers.0} step.answers.1
-
-pub parts-preserved-in-Ok-Block : goal.parts-preserved-in-Ok-Block
-parts-preserved-in-Ok-Block g c =
-    let more = rw c.in-Ok-Block.field-0-is at c.in-Ok-Block.ensures.steps in
-    let step = more.1 in (
-      c.parts.invariant.0 ++ more.0,
-      c.parts.invariant.1 ++ listed c.next.new.self.packet,
-      between_block (request_of Text c.args.tables c.args.laps c.args.isns.now c.args.number) c.parts.reader c.parts.drawer c.parts.invariant.0 more.0 c.parts.invariant.1 _ _ _ _ _ c.parts.invariant.2 c.next.new.self step.answers.0 step.answers.1 step.gave step.bytes step.answers.2,
-    )
-
-pub returns-in-Ok-End : goal.returns-in-Ok-End
-returns-in-Ok-End g c =
-    let more = rw c.in-Ok-End.field-0-is at c.in-Ok-End.ensures.steps in
-    (c.parts.invariant.0 ++ more.0, ends_done (request_of Text c.args.tables c.args.laps c.args.isns.now c.args.number) c.parts.reader c.parts.drawer c.parts.invariant.0 more.0 c.parts.invariant.1 _ _ _ _ _ c.parts.invariant.2 c.next.new.self c.told.result c.told.ensures more.1)
-
-pub returns-in-Err-Read : goal.returns-in-Err-Read
-returns-in-Err-Read g c =
-    let more = rw c.in-Err-Read.field-0-is at c.in-Err-Read.ensures.steps in
-    (c.parts.invariant.0 ++ more.0, ends_read (request_of Text c.args.tables c.args.laps c.args.isns.now c.args.number) c.parts.reader c.parts.drawer c.parts.invariant.0 more.0 c.parts.invariant.1 _ _ _ _ _ c.parts.invariant.2 c.next.new.self more.1)
-
-pub returns-in-Err-TooLong : goal.returns-in-Err-TooLong
-returns-in-Err-TooLong g c =
-    let more = rw c.in-Err-TooLong.field-0-is at c.in-Err-TooLong.ensures.steps in
-    (c.parts.invariant.0 ++ more.0, ends_long (request_of Text c.args.tables c.args.laps c.args.isns.now c.args.number) c.parts.reader c.parts.drawer c.parts.invariant.0 more.0 c.parts.invariant.1 _ _ _ _ _ c.parts.invariant.2 c.next.new.self more.1)
-
-pub returns-in-Err-Broken : goal.returns-in-Err-Broken
-returns-in-Err-Broken g c =
-    let more = rw c.in-Err-Broken.field-0-is at c.in-Err-Broken.ensures.steps in
-    (c.parts.invariant.0 ++ more.0, rw c.in-Err-Broken.field-0-is (ends_broken (request_of Text c.args.tables c.args.laps c.args.isns.now c.args.number) c.parts.reader c.parts.drawer c.parts.invariant.0 more.0 c.parts.invariant.1 _ _ _ _ _ c.parts.invariant.2 c.next.new.self c.in-Err-Broken.fault more.1))
-
-pub parts-smaller : goal.parts-smaller
-parts-smaller g c =
-    let more = rw c.in-Ok-Packet.field-0-is at c.in-Ok-Packet.ensures.steps in
-    let step = more.1 in
-    smaller {said = step.answers.0} step.answers.1
-
-pub parts-preserved : goal.parts-preserved
-parts-preserved g c =
-    let more = rw c.in-Ok-Packet.field-0-is at c.in-Ok-Packet.ensures.steps in
-    let step = more.1 in
-    let between = c.parts.invariant.2 in
-    let wrote = rw c.as_slice.ensures.value at c.in-Ok-write_text.ensures in (
-      c.parts.invariant.0 ++ more.0,
-      c.parts.invariant.1 ++ listed c.next.new.self.packet,
-      between_packet (request_of Text c.args.tables c.args.laps c.args.isns.now c.args.number) c.parts.reader c.parts.drawer c.parts.invariant.0 more.0 c.parts.invariant.1 _ _ _ _ _ between c.next.new.self step.answers.0 step.answers.1 step.gave step.bytes
-          c.draw_packet.new.self _ (c.in-Ok-Packet.ensures.shown (rw c.in-Ok-Packet.field-0-is refl)) (λ x is. c.in-Ok-draw_packet.ensures (request_of Text c.args.tables c.args.laps c.args.isns.now c.args.number) between.drawn.rungs between.drawn.known x is between.drawn.follows) wrote,
-    )
-
-pub returns-in-Err-Write : goal.returns-in-Err-Write
-returns-in-Err-Write g c =
-    let more = rw c.in-Ok-Packet.field-0-is at c.in-Ok-Packet.ensures.steps in
-    let step = more.1 in
-    let between = c.parts.invariant.2 in
-    let breaks = rw c.as_slice.ensures.value at (broke c.as_slice.result.now _ _ c.in-Err-Write.field-0 c.in-Err-Write.ensures) in (
-      c.parts.invariant.0 ++ more.0,
-      ends_stuck (request_of Text c.args.tables c.args.laps c.args.isns.now c.args.number) c.parts.reader c.parts.drawer c.parts.invariant.0 more.0 c.parts.invariant.1 _ _ _ _ _ between c.next.new.self step.answers.0 step.answers.1 step.gave step.bytes
-          c.draw_packet.new.self _ (c.in-Ok-Packet.ensures.shown (rw c.in-Ok-Packet.field-0-is refl)) (λ x is. c.in-Ok-draw_packet.ensures (request_of Text c.args.tables c.args.laps c.args.isns.now c.args.number) between.drawn.rungs between.drawn.known x is between.drawn.follows) breaks,
-    )
-
-pub returns-in-Err-draw_packet : goal.returns-in-Err-draw_packet
-returns-in-Err-draw_packet g c =
-    let more = rw c.in-Ok-Packet.field-0-is at c.in-Ok-Packet.ensures.steps in
-    let step = more.1 in (
-      c.parts.invariant.0 ++ more.0,
-      ends_memory (request_of Text c.args.tables c.args.laps c.args.isns.now c.args.number) c.parts.reader c.parts.drawer c.parts.invariant.0 more.0 c.parts.invariant.1 _ _ _ _ _ c.parts.invariant.2 c.next.new.self step.answers.0 step.answers.1 step.gave step.bytes,
-    )
+pub returns : goal.returns
+returns g c = c.draw_all.ensures (request_of Text c.args.tables c.args.laps c.args.isns.now c.args.number) refl c.in-Ok-new.ensures
