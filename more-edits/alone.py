@@ -1,4 +1,5 @@
-"""Tries an edit on the functions alone that it changes: `rattle check --only`, which asks for their proofs and those of what they call.
+"""Tries an edit on the functions alone that it changes: `rattle check --only`, which asks for their proofs and those of what they call. Where
+that lets it through, as it must where a function has no clause, on all functions of the files that it changes, which call those.
 
 What is refused so the whole check refuses too, since it asks for the same proofs and more. What isn't is for the whole check to judge."""
 import pathlib
@@ -35,15 +36,19 @@ def changes_of(edit):
     return found
 
 
+def module_of(file):
+    """The path below the crate of the module that a file has, as the compiler names it; the crate's root has none."""
+    return [it for it in file.removeprefix("src/").removesuffix(".rt").split("/") if it not in ("lib", "main", "mod")]
+
+
 def function_at(file, text):
     """The path below the crate of the function that a file's text ends in, as the compiler names it, or None where it ends in none."""
-    module = [it for it in file.removeprefix("src/").removesuffix(".rt").split("/") if it not in ("lib", "main", "mod")]
     found = list(FUNCTION.finditer(text))
     if not found:
         return None
     indent, name = found[-1].groups()
     types = TYPE_OF.findall(text[: found[-1].start()]) if indent else []
-    return "::".join([*module, *types[-1:], name])
+    return "::".join([*module_of(file), *types[-1:], name])
 
 
 def copy_with(crate, changes, room):
@@ -77,17 +82,24 @@ def refusal_in(ran):
 
 
 def refusal_of(crate, edit, under):
-    """How the prover refuses the functions alone that an edit changes, or None: it doesn't, or the libraries below aren't built as they stand."""
+    """How the prover refuses the functions alone that an edit changes, or all of the files that they are in; None: it doesn't, or the libraries
+    below aren't built as they stand."""
     if not all(compiler.is_built(it) for it in compiler.below(crate, under)):
         return None
     with tempfile.TemporaryDirectory(prefix="more-edit-") as room:
         try:
-            functions = copy_with(crate, changes_of(MORE / crate / edit), pathlib.Path(room))
+            changes = changes_of(MORE / crate / edit)
+            functions = copy_with(crate, changes, pathlib.Path(room))
         except (OSError, UnicodeError):
             return None
         if not functions:
             return None
-        only = [word for it in functions for word in ("--only", it)]
-        how = {"cwd": room, "stdin": subprocess.DEVNULL, "stdout": subprocess.PIPE, "stderr": subprocess.STDOUT}
-        told = [compiler.KIT / "bin" / "rattle", *compiler.words("check", crate, under), "--jobs", "1", *only]
-        return refusal_in(subprocess.run(told, text=True, errors="replace", **how))
+        modules = {"::".join(module_of(file)) for file, _, _ in changes}
+        for asked in [functions] if "" in modules else [functions, modules]:
+            only = [word for it in asked for word in ("--only", it)]
+            how = {"cwd": room, "stdin": subprocess.DEVNULL, "stdout": subprocess.PIPE, "stderr": subprocess.STDOUT}
+            told = [compiler.KIT / "bin" / "rattle", *compiler.words("check", crate, under), "--jobs", "1", *only]
+            said = refusal_in(subprocess.run(told, text=True, errors="replace", **how))
+            if said:
+                return said
+        return None
