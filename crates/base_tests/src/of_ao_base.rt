@@ -155,17 +155,42 @@ fn hand_out(buffer: &mut Buffer, len: usize) -> Result<(), Fail>
     Ok(())
 }
 
+/// Takes so many more into a buffer of four bytes, which then keeps these.
+fn expect_more(
+    buffer: &mut Buffer,
+    src: &mut MemSource,
+    count: usize,
+    kept: &[u8],
+) -> Result<(), Fail>
+    requires { buffer.old.size ≡ 4 }
+    ensures { buffer.new.size ≡ 4 }
+{
+    let taken = more(buffer, src)?;
+    if taken != count || buffer.kept() != kept {
+        return Err(Fail::from("other bytes are kept"));
+    }
+    Ok(())
+}
+
+/// Hands out two of the six bytes that come in pieces of three, and then takes the others.
+fn expect_moved(buffer: &mut Buffer, src: &mut MemSource) -> Result<(), Fail>
+    requires { buffer.old.size ≡ 4 }
+{
+    expect_more(buffer, src, 3, b"abc".as_slice())?;
+    hand_out(buffer, 2)?;
+    if buffer.piece() != b"ab".as_slice() {
+        return Err(Fail::from("another piece is handed out"));
+    }
+    expect_more(buffer, src, 1, b"cd".as_slice())?;
+    expect_more(buffer, src, 2, b"cdef".as_slice())
+}
+
 #[test]
 fn a_full_buffer_moves_its_bytes(rt: HostRuntime) -> Result<(), Fail> {
     let failing = numbers_of(rt.alloc(), [].as_slice())?;
     let mut src = MemSource::new(bytes_of(rt.alloc(), b"abcdef")?, 3, failing);
     let mut buffer = Buffer::new(rt.alloc(), 4)?;
-    assert!(rt; more(&mut buffer, &mut src)? == 3 && buffer.kept() == b"abc".as_slice());
-    hand_out(&mut buffer, 2)?;
-    assert!(rt; buffer.piece() == b"ab".as_slice());
-    assert!(rt; more(&mut buffer, &mut src)? == 1 && buffer.kept() == b"cd".as_slice());
-    assert!(rt; more(&mut buffer, &mut src)? == 2 && buffer.kept() == b"cdef".as_slice());
-    Ok(())
+    expect_moved(&mut buffer, &mut src)
 }
 
 #[test]

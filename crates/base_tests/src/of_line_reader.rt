@@ -112,21 +112,39 @@ fn a_line_is_moved_to_the_front(rt: HostRuntime) -> Result<(), Fail> {
     Ok(())
 }
 
-/// The line that is shown next, and whether it lacks its newline.
-fn next_of(
-    alloc: Global,
+/// Shows the next line; fails where it is another than this, or lacks its newline and shouldn't.
+fn expect_next(
     reader: &mut LineReader,
     src: &mut MemSource,
-) -> Result<(Vec<u8>, bool), Fail>
+    line: &[u8],
+    is_lacking: bool,
+) -> Result<(), Fail>
     requires { reader.old.over ≡ false }
     ensures { OnOk result (reader.new.over ≡ false) }
 {
     match show_next(reader, src) {
-        Ok(()) => Ok((
-            Vec::from_slice(alloc, reader.line())?,
-            reader.lacks_newline(),
-        )),
-        Err(_step) => Err(Fail::from("no line")),
+        Ok(()) => {}
+        Err(_step) => return Err(Fail::from("no line")),
+    }
+    if reader.line() != line || reader.lacks_newline() != is_lacking {
+        return Err(Fail::from("another line"));
+    }
+    Ok(())
+}
+
+/// Shows the line of the first source, which lacks its newline, and then the only one of the second.
+fn expect_both(
+    reader: &mut LineReader,
+    first: &mut MemSource,
+    second: &mut MemSource,
+) -> Result<(), Fail>
+    requires { reader.old.over ≡ false }
+{
+    expect_next(reader, first, b"one".as_slice(), true)?;
+    expect_next(reader, second, b"two".as_slice(), false)?;
+    match show_next(reader, second) {
+        Err(LineStep::End) => Ok(()),
+        _ => Err(Fail::from("the second source doesn't end")),
     }
 }
 
@@ -135,10 +153,5 @@ fn behind_a_last_line_the_source_is_asked_again(rt: HostRuntime) -> Result<(), F
     let mut first = source(rt.alloc(), b"one".as_slice(), 2, &[])?;
     let mut second = source(rt.alloc(), b"two\n".as_slice(), 2, &[])?;
     let mut reader = LineReader::new(rt.alloc(), 4, 9)?;
-    let (_, lacking) = next_of(rt.alloc(), &mut reader, &mut first)?;
-    assert!(rt; lacking);
-    let (line, lacking) = next_of(rt.alloc(), &mut reader, &mut second)?;
-    assert!(rt; line.as_slice() == b"two".as_slice() && !lacking);
-    assert!(rt; show_next(&mut reader, &mut second) == Err(LineStep::End));
-    Ok(())
+    expect_both(&mut reader, &mut first, &mut second)
 }

@@ -4,37 +4,42 @@ ghost use Rattle.slot_list.specs.Pool.{Holds};
 
 use ao_base::Steps;
 use slot_list::{Slot, Slots};
-use std::alloc::Global;
 use std::marker::Brand;
-use std::process::Abort;
 use std::sync::ledger::{Blank, Ledger};
 use std::test::Fail;
 
 #[test]
 fn three_places_are_used_again_and_read_both_ways(rt: HostRuntime) -> Result<(), Fail> {
-    use_three_places::<Brand>(&rt, rt.alloc(), Blank::new(1))
+    let mut list = Slots::new(rt.alloc(), 3)?;
+    assert!(rt; are_used_again::<Brand>(&mut list, Blank::new(1)));
+    Ok(())
 }
 
-fn use_three_places<L: Ledger>(rt: &impl Abort, alloc: Global, blank: Blank) -> Result<(), Fail>
+/// Whether three places are filled, and one that is left is filled again.
+fn are_used_again<L: Ledger>(list: &mut Slots<u8>, blank: Blank) -> bool
     requires name { blank.name ≡ L.name }
     requires parts { blank.parts ≡ L.parts }
     requires part { 0 < blank.parts }
 {
     let mut steps = Steps::<L>::new(blank);
-    let mut list: Slots<u8> = Slots::new(alloc, 3)?;
-    assert!(rt; reads(&list, &[], &mut steps));
-    assert!(rt; insert_first(&mut list, 1) == Ok(()));
-    assert!(rt; insert_behind(&mut list, 0, 3, &mut steps));
-    assert!(rt; insert_behind(&mut list, 0, 2, &mut steps));
-    assert!(rt; reads(&list, &[1, 2, 3], &mut steps));
-    assert!(rt; insert_first(&mut list, 4) == Err(4));
-    assert!(rt; reads(&list, &[1, 2, 3], &mut steps));
-    assert!(rt; remove_at(&mut list, 1, &mut steps) == Some(2));
-    assert!(rt; reads(&list, &[1, 3], &mut steps));
-    assert!(rt; insert_first(&mut list, 0) == Ok(()));
-    assert!(rt; set_at(&mut list, 2, 5, &mut steps));
-    assert!(rt; reads(&list, &[0, 1, 5], &mut steps));
-    Ok(())
+    let steps = &mut steps;
+    are_filled(list, steps)
+        && remove_at(list, 1, steps) == Some(2)
+        && reads(list, &[1, 3], steps)
+        && insert_first(list, 0) == Ok(())
+        && set_at(list, 2, 5, steps)
+        && reads(list, &[0, 1, 5], steps)
+}
+
+/// Whether a new list of three places takes three items, in their order, and hands a fourth back.
+fn are_filled<L: Ledger>(list: &mut Slots<u8>, steps: &mut Steps<L>) -> bool {
+    reads(list, &[], steps)
+        && insert_first(list, 1) == Ok(())
+        && insert_behind(list, 0, 3, steps)
+        && insert_behind(list, 0, 2, steps)
+        && reads(list, &[1, 2, 3], steps)
+        && insert_first(list, 4) == Err(4)
+        && reads(list, &[1, 2, 3], steps)
 }
 
 /// The slot of an item by its place, counted from 0.

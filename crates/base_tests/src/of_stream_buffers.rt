@@ -82,43 +82,61 @@ fn restart_at_7(received: &mut Reassembly) {
     received.restart(7);
 }
 
+/// Whether a piece over three runs is kept behind them, and then the first byte.
+fn fills_the_holes(received: &mut Reassembly) -> bool {
+    keeps(received, 103, b"c", None)
+        && keeps(received, 105, b"e", None)
+        && keeps(received, 107, b"g", None)
+        && keeps(received, 102, b"bXdXfXh", None)
+        && has_runs(received, &[(102, 7)])
+        && keeps(received, 101, b"aXX", None)
+        && has_runs(received, &[])
+        && state(received) == (109, 8, 65_527)
+}
+
 #[test]
 fn a_piece_over_three_runs_fills_the_holes_alone(rt: HostRuntime) -> Result<(), Fail> {
     let mut received = Reassembly::new(rt.alloc(), 101)?;
-    assert!(rt; keeps(&mut received, 103, b"c", None));
-    assert!(rt; keeps(&mut received, 105, b"e", None));
-    assert!(rt; keeps(&mut received, 107, b"g", None));
-    assert!(rt; keeps(&mut received, 102, b"bXdXfXh", None));
-    assert!(rt; has_runs(&received, &[(102, 7)]));
-    assert!(rt; keeps(&mut received, 101, b"aXX", None));
-    assert!(rt; has_runs(&received, &[]));
-    assert!(rt; state(&received) == (109, 8, 65_527));
+    assert!(rt; fills_the_holes(&mut received));
     let mut out = [0; 9];
     assert!(rt; take(&mut received, &mut out) == 8 && out == *b"abcdefgh\0");
     Ok(())
 }
 
+/// Whether the last position is kept, and then the two before it.
+fn keeps_the_last(received: &mut Reassembly) -> bool {
+    keeps(received, 0x7fff_ffff_ffff_ffff, b"c", None)
+        && has_runs(received, &[(0xffff_ffff, 1)])
+        && keeps(received, 0x7fff_ffff_ffff_fffd, b"ab", None)
+        && state(received) == (END, 3, 65_532)
+}
+
 #[test]
 fn the_last_positions_are_kept(rt: HostRuntime) -> Result<(), Fail> {
     let mut received = Reassembly::new(rt.alloc(), 0x7fff_ffff_ffff_fffd)?;
-    assert!(rt; keeps(&mut received, 0x7fff_ffff_ffff_ffff, b"c", None));
-    assert!(rt; has_runs(&received, &[(0xffff_ffff, 1)]));
-    assert!(rt; keeps(&mut received, 0x7fff_ffff_ffff_fffd, b"ab", None));
-    assert!(rt; state(&received) == (END, 3, 65_532));
+    assert!(rt; keeps_the_last(&mut received));
     let mut out = [0; 3];
     assert!(rt; take(&mut received, &mut out) == 3 && out == *b"abc");
     Ok(())
 }
 
+/// Whether of two pieces what is within the window and the limit is kept, and nothing after a restart.
+fn keeps_within(received: &mut Reassembly) -> bool {
+    let is_kept = keeps(received, 65_534, b"yz", None)
+        && keeps(received, 10, b"klm", Some(12))
+        && has_runs(received, &[(10, 2), (65_534, 1)])
+        && is_kept_from(received, 65_534)
+        && !is_kept_from(received, 65_535);
+    restart_at_7(received);
+    is_kept
+        && has_runs(received, &[])
+        && !is_kept_from(received, 0)
+        && state(received) == (7, 0, 65_535)
+}
+
 #[test]
 fn nothing_is_kept_past_the_window_or_the_limit(rt: HostRuntime) -> Result<(), Fail> {
     let mut received = Reassembly::new(rt.alloc(), 0)?;
-    assert!(rt; keeps(&mut received, 65_534, b"yz", None));
-    assert!(rt; keeps(&mut received, 10, b"klm", Some(12)));
-    assert!(rt; has_runs(&received, &[(10, 2), (65_534, 1)]));
-    assert!(rt; is_kept_from(&received, 65_534) && !is_kept_from(&received, 65_535));
-    restart_at_7(&mut received);
-    assert!(rt; has_runs(&received, &[]) && !is_kept_from(&received, 0));
-    assert!(rt; state(&received) == (7, 0, 65_535));
+    assert!(rt; keeps_within(&mut received));
     Ok(())
 }

@@ -1,5 +1,5 @@
 -- One more segment is judged.
-use Rattle.std.proofs.Common.{◌≡◌, ℕ, ◌<◌, Bool, false, not, ◌||◌, List, [], ◌∷◌, ◌++◌, length, take, Ok, Err, sym, ap, subst, ◌∙◌}
+use Rattle.std.proofs.Common.{◌≡◌, ℕ, Bool, false, not, ◌||◌, List, [], ◌∷◌, ◌++◌, Ok, sym, ap, ◌∙◌}
 use Rattle.book_keys.specs.Rows.{Table}
 use Rattle.book_lines.specs.Texts.{numbered_text}
 use Rattle.book_cmd_check.specs.Captures.{Connection, Saying, Stored, has_refusal, hear, is_pass, saying_texts}

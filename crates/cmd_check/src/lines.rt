@@ -1,5 +1,5 @@
 //! Lines of stored segments, each read, judged and answered before the next.
-ghost use Rattle.std.specs.Prelude.{◌≡◌, ◌+◌, ◌<◌, ℕ, List, [], None, length};
+ghost use Rattle.std.specs.Prelude.{◌≡◌, ◌+◌, ◌<◌, ℕ, List, [], None, false, length};
 ghost use Rattle.book_cmd_check.specs.StoredLines.{stored_from};
 ghost use Rattle.cmd_check.specs.CheckedLines.{Checks, JudgesLine, segments_of};
 ghost use Rattle.cmd_check.specs.Judges.{HasHeard};
@@ -52,7 +52,47 @@ fn judge_line<L: Ledger, O: Sink>(
     }
 }
 
-/// Judges the stored segments of the lines of an input, and writes the line of each before it reads on.
+/// Judges the stored segments of all lines that a new reader shows, by a judge that has heard none, and writes the
+/// line of each before it reads on.
+fn check_all<L: Ledger, I: Source, O: Sink>(
+    reader: &mut LineReader,
+    judge: &mut Judge,
+    alloc: Global,
+    steps: &mut Steps<L>,
+    gathered: &mut Vec<u8>,
+    input: &mut I,
+    out: &mut O,
+) -> Result<bool, Halt>
+    requires reader { reader.old ≡
+        record { longest = 131200; most = 268435456; kept = []; taken = 0; lacks_newline = false; over = false; line = None } }
+    requires heard { HasHeard judge.old [] }
+    requires gathered { gathered.old.items ≡ [] }
+    ensures { (given : List ℕ) ×
+        Checks judge.old.checking.tables given (I.side input.old) (I.side input.new) (O.side out.old) (O.side out.new) result }
+{
+    let mut number: u32 = 0;
+    'lines: loop {
+        match reader.next(input) {
+            LineStep::Line => {}
+            LineStep::End => return Ok(judge.is_amiss()),
+            LineStep::Fault => return Err(Halt::Read),
+            LineStep::TooLong => return Err(Halt::TooLong),
+            LineStep::LongLine => return Err(Halt::Line(number + 1, LineKind::Range)),
+        }
+        number += 1;
+        match judge_line(judge, alloc, steps, number, reader.line(), gathered, out) {
+            Ok(()) => {}
+            Err(halt) => return Err(halt),
+        }
+        // The source was at its end, and isn't asked again.
+        if reader.lacks_newline() {
+            return Ok(judge.is_amiss());
+        }
+    }
+}
+
+/// Judges the stored segments of the lines of an input, and writes the line of each before it reads on. The loop
+/// stands apart, over what it borrows: each of its ends would drop what is made here.
 pub(crate) fn check_lines<L: Ledger, I: Source, O: Sink>(
     alloc: Global,
     tables: Tables,
@@ -75,31 +115,13 @@ pub(crate) fn check_lines<L: Ledger, I: Source, O: Sink>(
         Err(_) => return Err(Halt::Memory),
     };
     let mut gathered = Vec::new(alloc);
-    let mut number: u32 = 0;
-    'lines: loop {
-        match reader.next(input) {
-            LineStep::Line => {}
-            LineStep::End => return Ok(judge.is_amiss()),
-            LineStep::Fault => return Err(Halt::Read),
-            LineStep::TooLong => return Err(Halt::TooLong),
-            LineStep::LongLine => return Err(Halt::Line(number + 1, LineKind::Range)),
-        }
-        number += 1;
-        match judge_line(
-            &mut judge,
-            alloc,
-            &mut steps,
-            number,
-            reader.line(),
-            &mut gathered,
-            out,
-        ) {
-            Ok(()) => {}
-            Err(halt) => return Err(halt),
-        }
-        // The source was at its end, and isn't asked again.
-        if reader.lacks_newline() {
-            return Ok(judge.is_amiss());
-        }
-    }
+    check_all(
+        &mut reader,
+        &mut judge,
+        alloc,
+        &mut steps,
+        &mut gathered,
+        input,
+        out,
+    )
 }

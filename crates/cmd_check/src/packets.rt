@@ -1,5 +1,5 @@
 //! Packets of a pcap file, each judged before the next is read, and answered before more is asked for.
-ghost use Rattle.std.specs.Prelude.{◌≡◌, ◌<◌, ℕ, List, IsSome, Some, false, map};
+ghost use Rattle.std.specs.Prelude.{◌≡◌, ◌<◌, ℕ, List, [], IsSome, None, Some, false, map};
 ghost use Rattle.book_pcap.specs.Packets.{Packet};
 ghost use Rattle.book_cmd_check.specs.StoredPackets.{stored_packet};
 ghost use Rattle.cmd_check.specs.Judges.{HasHeard};
@@ -56,7 +56,43 @@ fn next_packet<I: Source, O: Sink>(
     }
 }
 
-/// Judges the packets of a pcap file, and writes the lines of those that it keeps before it asks for more.
+/// Judges all packets that a new reader shows, by a judge that has heard none, and writes the lines of those that the
+/// reader keeps before it asks for more.
+fn check_all<L: Ledger, I: Source, O: Sink>(
+    packets: &mut Packets,
+    judge: &mut Judge,
+    alloc: Global,
+    steps: &mut Steps<L>,
+    lines: &mut Vec<u8>,
+    input: &mut I,
+    out: &mut O,
+) -> Result<bool, Halt>
+    requires packets { packets.old ≡
+        record { kept = []; taken = 0; count = 0; head = None; over = false; packet = None } }
+    requires heard { HasHeard judge.old [] }
+    requires lines { lines.old.items ≡ [] }
+    ensures { (given : List ℕ) ×
+        Checks judge.old.checking.tables given (I.side input.old) (I.side input.new) (O.side out.old) (O.side out.new) result }
+{
+    'packets: loop {
+        match next_packet(packets, input, lines, out) {
+            Ok(PacketStep::Packet) => {}
+            Ok(PacketStep::End) => return Ok(judge.is_amiss()),
+            Ok(PacketStep::Fault) => return Err(Halt::Read),
+            Ok(PacketStep::TooLong) => return Err(Halt::TooLong),
+            Ok(PacketStep::BadHead(fault)) => return Err(Halt::Head(fault)),
+            Ok(PacketStep::BadRecord(number)) => return Err(Halt::Record(number)),
+            Err(_) => return Err(Halt::Write),
+        }
+        match judge_packet(judge, alloc, steps, packets, lines) {
+            Ok(()) => {}
+            Err(_) => return Err(run_out(lines, out)),
+        }
+    }
+}
+
+/// Judges the packets of a pcap file, and writes the lines of those that it keeps before it asks for more. The loop
+/// stands apart, over what it borrows: each of its ends would drop what is made here.
 pub(crate) fn check_packets<L: Ledger, I: Source, O: Sink>(
     alloc: Global,
     tables: Tables,
@@ -79,19 +115,13 @@ pub(crate) fn check_packets<L: Ledger, I: Source, O: Sink>(
         Err(_) => return Err(Halt::Memory),
     };
     let mut lines = Vec::new(alloc);
-    'packets: loop {
-        match next_packet(&mut packets, input, &mut lines, out) {
-            Ok(PacketStep::Packet) => {}
-            Ok(PacketStep::End) => return Ok(judge.is_amiss()),
-            Ok(PacketStep::Fault) => return Err(Halt::Read),
-            Ok(PacketStep::TooLong) => return Err(Halt::TooLong),
-            Ok(PacketStep::BadHead(fault)) => return Err(Halt::Head(fault)),
-            Ok(PacketStep::BadRecord(number)) => return Err(Halt::Record(number)),
-            Err(_) => return Err(Halt::Write),
-        }
-        match judge_packet(&mut judge, alloc, &mut steps, &packets, &mut lines) {
-            Ok(()) => {}
-            Err(_) => return Err(run_out(&mut lines, out)),
-        }
-    }
+    check_all(
+        &mut packets,
+        &mut judge,
+        alloc,
+        &mut steps,
+        &mut lines,
+        input,
+        out,
+    )
 }

@@ -1,6 +1,7 @@
 //! The lines of a capture, each written before the next packet is read.
 ghost use Rattle.std.specs.Prelude.{◌≡◌, ℕ, List, IsSome};
 ghost use Rattle.ao_base.specs.Outside.{Side};
+ghost use Rattle.capture_stream.specs.Reads.{new_reading};
 ghost use Rattle.scope_lines.specs.Writes.{Writes, WritesBytes, WritesPacket};
 
 use crate::line::print_line;
@@ -55,6 +56,34 @@ fn write_packet<O: Sink>(
     }
 }
 
+// Writes the line of each packet that a new reader shows, before the next packet is read.
+fn write_each<I: Source, O: Sink>(
+    reader: &mut CaptureReader,
+    line: &mut Vec<u8>,
+    input: &mut I,
+    out: &mut O,
+) -> Result<(), LinesHalt>
+    requires { reader.old ≡ new_reading }
+    ensures { (given : List ℕ) ×
+        Writes given (I.side input.old) (I.side input.new) (O.side out.old) (O.side out.new) result }
+{
+    'parts: loop {
+        match reader.next(input) {
+            Ok(CaptureStep::Packet) => {}
+            Ok(CaptureStep::Block) => continue 'parts,
+            Ok(CaptureStep::End) => return Ok(()),
+            Err(CaptureHalt::Read) => return Err(LinesHalt::Read),
+            Err(CaptureHalt::TooLong) => return Err(LinesHalt::TooLong),
+            Err(CaptureHalt::Broken(fault)) => return Err(LinesHalt::Broken(fault)),
+        }
+        match write_packet(reader, line, out) {
+            Ok(()) => {}
+            Err(LineHalt::Write) => return Err(LinesHalt::Write),
+            Err(LineHalt::Memory) => return Err(LinesHalt::Memory),
+        }
+    }
+}
+
 /// Writes the line of each packet of a capture, in its order, before the next packet is read. Ok at the
 /// capture's end.
 ///
@@ -74,20 +103,5 @@ pub fn write_lines<I: Source, O: Sink>(
         Ok(reader) => reader,
         Err(_) => return Err(LinesHalt::Memory),
     };
-    let mut line = Vec::new(alloc);
-    'parts: loop {
-        match reader.next(input) {
-            Ok(CaptureStep::Packet) => {}
-            Ok(CaptureStep::Block) => continue 'parts,
-            Ok(CaptureStep::End) => return Ok(()),
-            Err(CaptureHalt::Read) => return Err(LinesHalt::Read),
-            Err(CaptureHalt::TooLong) => return Err(LinesHalt::TooLong),
-            Err(CaptureHalt::Broken(fault)) => return Err(LinesHalt::Broken(fault)),
-        }
-        match write_packet(&reader, &mut line, out) {
-            Ok(()) => {}
-            Err(LineHalt::Write) => return Err(LinesHalt::Write),
-            Err(LineHalt::Memory) => return Err(LinesHalt::Memory),
-        }
-    }
+    write_each(&mut reader, &mut Vec::new(alloc), input, out)
 }

@@ -1,6 +1,5 @@
-use Rattle.std.proofs.Common.{[], ◌++◌}
-use Rattle.pcap_file.specs.Reads.{and_packet}
-use Rattle.cmd_check.proofs.Walk.{between_more, between_new, between_smaller, ends_done, ends_head, ends_long, ends_none, ends_read, ends_record, ends_stuck, ends_without}
+use Rattle.std.proofs.Common.{[]}
+use Rattle.cmd_check.proofs.Walk.{ends_none}
 use Rattle.cmd_check.proofs.packets.check_packets.Goals as goal
 
 pub returns-in-Err : goal.returns-in-Err
@@ -9,61 +8,14 @@ returns-in-Err g c = ([], ends_none c.args.tables _ _)
 pub returns-in-Err-new : goal.returns-in-Err-new
 returns-in-Err-new g c = ([], ends_none c.args.tables _ _)
 
-pub packets-init : goal.packets-init
-packets-init g c = ([], [], between_new c.args.tables c.in-Ok.packets c.in-Ok-new.judge c.new-lines.result.items _ _ c.new-lines.ensures.items c.in-Ok.ensures c.in-Ok-new.ensures.tables c.in-Ok-new.ensures.heard)
+pub check_all-requires-clause-packets : goal.check_all-requires-clause-packets
+check_all-requires-clause-packets g c = c.in-Ok.ensures
 
-pub returns-in-Ok-End : goal.returns-in-Ok-End
-returns-in-Ok-End g c =
-    let more = rw c.in-Ok-End.field-0-is at c.in-Ok-End.ensures in
-    (c.packets.invariant.0 ++ more.0, rw c.is_amiss.ensures (ends_done c.args.tables c.packets.packets c.next_packet.new.packets c.packets.judge c.packets.invariant.0 more.0 c.packets.invariant.1 c.packets.lines.items _ _ _ _ _ c.packets.invariant.2 _ _ more.1.in_time more.1.steps more.1.goes))
+pub check_all-requires-clause-heard : goal.check_all-requires-clause-heard
+check_all-requires-clause-heard g c = c.in-Ok-new.ensures.heard
 
-pub returns-in-Ok-Fault : goal.returns-in-Ok-Fault
-returns-in-Ok-Fault g c =
-    let more = rw c.in-Ok-Fault.field-0-is at c.in-Ok-Fault.ensures in
-    (c.packets.invariant.0 ++ more.0, ends_read c.args.tables c.packets.packets c.next_packet.new.packets c.packets.judge c.packets.invariant.0 more.0 c.packets.invariant.1 c.packets.lines.items _ _ _ _ _ c.packets.invariant.2 _ _ more.1.in_time more.1.steps)
+pub check_all-requires-clause-lines : goal.check_all-requires-clause-lines
+check_all-requires-clause-lines g c = c.new-lines.ensures.items
 
-pub returns-in-Ok-TooLong : goal.returns-in-Ok-TooLong
-returns-in-Ok-TooLong g c =
-    let more = rw c.in-Ok-TooLong.field-0-is at c.in-Ok-TooLong.ensures in
-    (c.packets.invariant.0 ++ more.0, ends_long c.args.tables c.packets.packets c.next_packet.new.packets c.packets.judge c.packets.invariant.0 more.0 c.packets.invariant.1 c.packets.lines.items _ _ _ _ _ c.packets.invariant.2 _ _ more.1.in_time more.1.steps)
-
-pub returns-in-Ok-BadHead : goal.returns-in-Ok-BadHead
-returns-in-Ok-BadHead g c =
-    let more = rw c.in-Ok-BadHead.field-0-is at c.in-Ok-BadHead.ensures in
-    (c.packets.invariant.0 ++ more.0, ends_head c.args.tables c.packets.packets c.next_packet.new.packets c.packets.judge c.packets.invariant.0 more.0 c.packets.invariant.1 c.packets.lines.items _ _ _ _ _ c.packets.invariant.2 _ _ more.1.in_time c.in-Ok-BadHead.fault more.1.steps more.1.goes)
-
-pub returns-in-Ok-BadRecord : goal.returns-in-Ok-BadRecord
-returns-in-Ok-BadRecord g c =
-    let more = rw c.in-Ok-BadRecord.field-0-is at c.in-Ok-BadRecord.ensures in
-    (c.packets.invariant.0 ++ more.0, ends_record c.args.tables c.packets.packets c.next_packet.new.packets c.packets.judge c.packets.invariant.0 more.0 c.packets.invariant.1 c.packets.lines.items _ _ _ _ _ c.packets.invariant.2 _ _ more.1.in_time c.in-Ok-BadRecord.number more.1.steps more.1.goes)
-
-pub packets-smaller : goal.packets-smaller
-packets-smaller g c =
-    let more = rw c.in-Ok-Packet.field-0-is at c.in-Ok-Packet.ensures in
-    between_smaller c.args.tables c.packets.packets c.next_packet.new.packets c.packets.judge c.packets.invariant.0 more.0 c.packets.invariant.1 c.packets.lines.items _ _ _ _ _ c.packets.invariant.2 more.1.steps more.1.goes
-
-pub packets-preserved : goal.packets-preserved
-packets-preserved g c =
-    let more = rw c.in-Ok-Packet.field-0-is at c.in-Ok-Packet.ensures in
-    let between = c.packets.invariant.2 in
-    let goes = more.1.goes in
-    let judged = c.in-Ok-judge_packet.ensures goes.1 c.packets.invariant.1 goes.3 between.heard in (
-      c.packets.invariant.0 ++ more.0,
-      and_packet c.packets.invariant.1 goes.1,
-      between_more c.args.tables c.packets.packets c.next_packet.new.packets c.packets.judge c.packets.invariant.0 more.0 c.packets.invariant.1 c.packets.lines.items _ _ _ _ _ between goes.1 more.1.steps goes goes.3 _ _ more.1.in_time c.judge_packet.new.judge _ judged,
-    )
-
-pub returns-in-Err-next_packet : goal.returns-in-Err-next_packet
-returns-in-Err-next_packet g c =
-    let more = c.in-Err-next_packet.ensures in
-    (c.packets.invariant.0 ++ more.0, ends_stuck c.args.tables c.packets.packets c.packets.judge c.packets.invariant.0 more.0 c.packets.invariant.1 c.packets.lines.items _ _ _ _ _ _ c.packets.invariant.2 more.1)
-
-pub returns-in-Err-judge_packet : goal.returns-in-Err-judge_packet
-returns-in-Err-judge_packet g c =
-    let more = rw c.in-Ok-Packet.field-0-is at c.in-Ok-Packet.ensures in
-    let between = c.packets.invariant.2 in
-    let goes = more.1.goes in
-    let same = c.in-Err-judge_packet.ensures goes.1 c.packets.invariant.1 goes.3 between.heard in (
-      c.packets.invariant.0 ++ more.0,
-      ends_without c.args.tables c.packets.packets c.next_packet.new.packets c.packets.judge c.packets.invariant.0 more.0 c.packets.invariant.1 c.packets.lines.items _ _ _ _ _ between goes.1 more.1.steps goes goes.3 _ _ more.1.in_time _ _ (rw same at c.run_out.ensures),
-    )
+pub returns : goal.returns
+returns g c = rw c.in-Ok-new.ensures.tables at c.check_all.ensures

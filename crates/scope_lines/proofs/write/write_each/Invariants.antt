@@ -1,7 +1,7 @@
 use Rattle.std.proofs.Common.{ℕ, ◌-◌, List}
 use Rattle.book_captures.specs.Captures.{CapturePacket}
 use Rattle.scope_lines.proofs.Walk.{Between}
-use Rattle.scope_lines.proofs.write.write_lines.Given as goal
+use Rattle.scope_lines.proofs.write.write_each.Given as goal
 
 abbrev pub invariant-parts : goal.invariant-parts
 invariant-parts g l =
