@@ -52,8 +52,8 @@ def function_at(file, text):
 
 
 def copy_with(crate, changes, room):
-    """Makes the crate in a new folder with the changes, and returns the functions that these are in; None where a change can't be made, or
-    isn't one of a function in src."""
+    """Makes the crate in a new folder with the changes, and returns the functions that these are in, but for changes in front of a file's first
+    one, of its imports and constants; None where a change can't be made, or isn't one of src."""
     for part in compiler.PARTS:
         for it in (compiler.TOP / "crates" / crate / part).rglob("*"):
             if it.is_file():
@@ -67,7 +67,7 @@ def copy_with(crate, changes, room):
             return None
         functions.append(function_at(file, text[: text.index(old) + len(old)]))
         (room / file).write_text(text.replace(old, new), encoding="utf-8")
-    return None if None in functions else functions
+    return [it for it in functions if it]
 
 
 def refusal_in(ran):
@@ -92,10 +92,13 @@ def refusal_of(crate, edit, under):
             functions = copy_with(crate, changes, pathlib.Path(room))
         except (OSError, UnicodeError):
             return None
-        if not functions:
+        if functions is None:
             return None
         modules = {"::".join(module_of(file)) for file, _, _ in changes}
-        for asked in [functions] if "" in modules else [functions, modules]:
+        # (nothing can be asked of the module that is the crate's root)
+        for asked in [functions, [] if "" in modules else modules]:
+            if not asked:
+                continue
             only = [word for it in asked for word in ("--only", it)]
             how = {"cwd": room, "stdin": subprocess.DEVNULL, "stdout": subprocess.PIPE, "stderr": subprocess.STDOUT}
             told = [compiler.KIT / "bin" / "rattle", *compiler.words("check", crate, under), "--jobs", "1", *only]
