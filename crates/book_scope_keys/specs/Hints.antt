@@ -2,8 +2,12 @@
 use Rattle.std.specs.Prelude.{ℕ, ◌+◌, ◌*◌, ◌%◌, ◌==◌, nat_le, nat_lt, not, ◌&&◌, ◌||◌, ◌++◌, Bool}
 use Rattle.std.specs.Prelude.{true, false, List, [], ◌∷◌, length, codes, decimal}
 use Rattle.std.specs.Prelude.{slice_index, unwrap_or, is_some, if◌then◌else◌}
+use Rattle.std.specs.Prelude.{Option, Some, None}
 use Rattle.std.specs.List.{list_all}
+use Rattle.book_base.specs.Lines.{is_blank}
 use Rattle.book_keys.specs.Times.{two_digits_at}
+use Rattle.book_scope_keys.specs.declared.finding.SecretFault.{SecretFault}
+use Rattle.book_scope_keys.specs.declared.finding.SecretFault.TheVariants as fault
 
 -- the byte is a hexadecimal digit of either case (own)
 abbrev pub is_hex_digit : ℕ → Bool
@@ -11,21 +15,52 @@ is_hex_digit byte =
     (nat_le 0x30 byte && nat_le byte 0x39)
     || ((nat_le 0x41 byte && nat_le byte 0x46) || (nat_le 0x61 byte && nat_le byte 0x66))
 
--- how the bytes of a text are written as a key (own)
-abbrev pub hex_hint : List ℕ
-hex_hint = codes ", not all hexadecimal (which is printf %s SECRET | xxd -p -c 256)"
+-- the byte is a hexadecimal digit or a colon (own)
+abbrev pub is_digit_or_colon : ℕ → Bool
+is_digit_or_colon byte = is_hex_digit byte || byte == 0x3a
 
--- why a text is no master key (RFC 7210, section 2, Key, and own)
-unfoldable pub secret_hint : List ℕ → List ℕ
-secret_hint text =
-    if not (list_all is_hex_digit text) then hex_hint
-    else if length text % 2 == 1 then codes ", an odd number of digits"
-    else []
+-- the byte is a hexadecimal digit, a colon, or a space, a tab or the end of a line (own)
+abbrev pub is_digit_or_gap : ℕ → Bool
+is_digit_or_gap byte = is_digit_or_colon byte || (is_blank byte || byte == 0x0a)
+
+-- a text is digits behind 0x (own)
+abbrev pub is_prefixed : List ℕ → Bool
+is_prefixed (a ∷ (b ∷ text)) =
+    (a == 0x30 && (b == 0x78 || b == 0x58)) && list_all is_digit_or_gap text
+is_prefixed _ = false
+
+-- why digits are no master key: one is missing (own)
+abbrev pub digits_fault : List ℕ → Option SecretFault
+digits_fault text = if length text % 2 == 1 then Some fault.OddLength else None
+
+-- why a text that isn't all digits is no master key (own)
+unfoldable pub writing_fault : List ℕ → SecretFault
+writing_fault text =
+    if is_prefixed text then fault.Prefixed
+    else if list_all is_digit_or_colon text then fault.WithColons
+    else if list_all is_digit_or_gap text then fault.WithBlanks
+    else fault.NotHex
+
+-- why a text is no master key, apart from how long it is (RFC 7210, section 2, Key, and own)
+unfoldable pub secret_fault : List ℕ → Option SecretFault
+secret_fault text =
+    if list_all is_hex_digit text then digits_fault text else Some (writing_fault text)
+
+-- what is said of why a text is no master key, and how it would be one (own)
+abbrev pub fault_hint : Option SecretFault → List ℕ
+fault_hint None = []
+fault_hint (Some fault.Prefixed) = codes ", hexadecimal behind 0x: leave the 0x out"
+fault_hint (Some fault.WithColons) = codes ", hexadecimal with colons: leave the colons out"
+fault_hint (Some fault.WithBlanks) = codes ", hexadecimal with blanks: leave the blanks out"
+fault_hint (Some fault.NotHex) =
+    codes ", not all hexadecimal (which is printf %s SECRET | xxd -p -c 256)"
+fault_hint (Some fault.OddLength) = codes ", an odd number of digits"
 
 -- what is shown of a key: how long it is, since it is a secret (own)
 unfoldable pub shown_secret : List ℕ → List ℕ
 shown_secret text =
-    codes "a text of " ++ (decimal (length text) ++ (codes " bytes" ++ secret_hint text))
+    codes "a text of "
+    ++ (decimal (length text) ++ (codes " bytes" ++ fault_hint (secret_fault text)))
 
 -- the number that two digits from an index on write, and 0 where they are none (own)
 abbrev pub digits_at : List ℕ → ℕ → ℕ

@@ -3,7 +3,7 @@ ghost use Rattle.std.specs.Prelude.{◌≡◌, ◌≤◌, ◌++◌, ◌∷◌, [
 ghost use Rattle.toml.specs.Data.{array};
 ghost use Rattle.toml.specs.View.{items_view, table_view, view};
 ghost use Rattle.book_keys.specs.Rows.{row_limit};
-ghost use Rattle.book_scope_keys.specs.FieldTexts.{field_said, finding_at};
+ghost use Rattle.book_scope_keys.specs.FieldTexts.{finding_at, hidden_said};
 ghost use Rattle.book_scope_keys.specs.FileFindings.{key_place, node_address_findings, node_fields_findings, node_name_findings, rows_findings, rows_findings_from, rows_wanted, used_hint};
 ghost use Rattle.book_scope_keys.specs.RowFindings.{count_said, row_findings};
 
@@ -12,7 +12,7 @@ use crate::seen::{Seen, address_at, name_at};
 use book_keys::ROW_LIMIT;
 use book_scope_keys::{KeyFinding, KeyPlace};
 use key_table::member_at;
-use scope_key_rows::{field_at, push_count, push_misfit, push_row, push_unknown, push_unless};
+use scope_key_rows::{field_at, push_count, push_hidden, push_row, push_unknown, push_unless};
 use std::alloc::AllocError;
 use toml::{Table, Value};
 
@@ -107,10 +107,10 @@ fn push_no_rows(
     node: &NodeName,
     value: &Value,
 ) -> Result<(), AllocError>
-    ensures { OnOk result (findings.new.items ≡ findings.old.items ++ finding_at (key_place node.now.number 0 node.now.called) (codes "key") (field_said (Some (view value.now)) [] rows_wanted) ∷ []) }
+    ensures { OnOk result (findings.new.items ≡ findings.old.items ++ finding_at (key_place node.now.number 0 node.now.called) (codes "key") (hidden_said (Some (view value.now)) rows_wanted) ∷ []) }
 {
     let place = node.place(*findings.allocator(), 0)?;
-    push_misfit(findings, &place, "key", Some(value), ROWS_WANTED)
+    push_hidden(findings, &place, "key", Some(value), ROWS_WANTED)
 }
 
 #[tactic(auto, unfolding(book_scope_keys::specs::FileFindings::rows_findings), using(key_table::proofs::ItemLaws::count_view))]
