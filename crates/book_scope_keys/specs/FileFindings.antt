@@ -18,7 +18,8 @@ use Rattle.book_scope_keys.specs.declared.finding.KeyPlace.{KeyPlace}
 use Rattle.book_scope_keys.specs.declared.finding.TomlFault.{TomlFault}
 use Rattle.book_scope_keys.specs.FieldTexts.{field_said, finding_at, hidden_said, text_shown}
 use Rattle.book_scope_keys.specs.Places.{key_finding_line, place_text, text_place}
-use Rattle.book_scope_keys.specs.RowFindings.{keys_in, unknown_findings, field_at, field_unless}
+use Rattle.book_scope_keys.specs.RowFindings.{address_hint_of, keys_in, unknown_findings, field_at}
+use Rattle.book_scope_keys.specs.RowFindings.{field_unless}
 use Rattle.book_scope_keys.specs.RowFindings.{count_said, row_findings}
 use Rattle.book_scope_keys.specs.TomlFaults.{toml_fault_text}
 
@@ -63,7 +64,8 @@ node_name_findings p names ms =
 unfoldable pub node_address_findings : KeyPlace → List Address → Members → List KeyFinding
 node_address_findings p seen ms =
     field_unless (is_some (new_address seen ms)) (field_at p (codes "address") ms)
-    (used_hint (is_some (new_address [] ms)))
+    (used_hint (is_some (new_address [] ms))
+    ++ address_hint_of (get_member (codes "address") ms))
     (codes "a text, an address, 192.0.2.1 or 32 hexadecimal digits")
 
 -- the rows from number r on of a node of this number and name (own)

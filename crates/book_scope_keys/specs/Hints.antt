@@ -3,11 +3,19 @@ use Rattle.std.specs.Prelude.{ℕ, ◌+◌, ◌*◌, ◌%◌, ◌==◌, nat_le, 
 use Rattle.std.specs.Prelude.{true, false, List, [], ◌∷◌, length, codes, decimal}
 use Rattle.std.specs.Prelude.{slice_index, unwrap_or, is_some, if◌then◌else◌}
 use Rattle.std.specs.Prelude.{Option, Some, None}
-use Rattle.std.specs.List.{list_all}
+use Rattle.std.specs.List.{list_all, list_any}
+use Rattle.book_base.specs.declared.address.Address.{Address}
+use Rattle.book_base.specs.declared.address.Address.TheVariants.{V6}
+use Rattle.book_base.specs.Hexadecimal.{hex_of}
+use Rattle.book_scope_texts.specs.Addresses.{usual_address_of}
+use Rattle.std.specs.Str.{bytes_eq}
+use Rattle.toml_datetime.specs.Parse.{parse_datetime}
+use Rattle.toml_datetime.specs.declared.datetime.Datetime.{Datetime}
 use Rattle.book_base.specs.Lines.{is_blank}
 use Rattle.book_keys.specs.Times.{two_digits_at}
 use Rattle.book_scope_keys.specs.declared.finding.SecretFault.{SecretFault}
 use Rattle.book_scope_keys.specs.declared.finding.SecretFault.TheVariants as fault
+use Rattle.book_scope_keys.specs.Moments.{moment_hint}
 
 -- the byte is a hexadecimal digit of either case (own)
 abbrev pub is_hex_digit : ℕ → Bool
@@ -103,6 +111,27 @@ range_hint text =
     clock_hint (digits_at text 8) (digits_at text 10) (digits_at text 12)
     (date_hint (100 * digits_at text 0 + digits_at text 2) (digits_at text 4) (digits_at text 6))
 
--- why a text is no time: it hasn't the form, or a part of it is out of its range (own)
+-- what is said of a text that may be another form of a time (RFC 3339, section 5.6, and own)
+abbrev pub form_hint : Option Datetime → List ℕ
+form_hint None = []
+form_hint (Some dt) = moment_hint dt
+
+-- why a text is no time: a part of it is out of its range, it says that there is no end, or it is
+-- of another form (own)
 unfoldable pub time_hint : List ℕ → List ℕ
-time_hint text = if has_time_form text then range_hint text else []
+time_hint text =
+    if has_time_form text then range_hint text
+    else if bytes_eq text (codes "infinite") then codes ", without an end: leave the field out"
+    else form_hint (parse_datetime text)
+
+-- how a key file writes an address of IPv6 (own)
+abbrev pub written_address_hint : Option Address → List ℕ
+written_address_hint (Some (V6 bytes)) =
+    codes ", which is written \"" ++ (hex_of bytes ++ codes "\"")
+written_address_hint _ = []
+
+-- why a text is no address: a prefix stands for many, and IPv6 is written otherwise (own)
+unfoldable pub address_hint : List ℕ → List ℕ
+address_hint text =
+    if list_any (λ b. b == 0x2f) text then codes ", a prefix: each address stands for itself"
+    else written_address_hint (usual_address_of text)

@@ -5,3 +5,4 @@ pub mod Places
 pub mod RowFindings
 pub mod Suggestions
 pub mod TomlFaults
+pub mod Moments

@@ -3,7 +3,8 @@
 -- and each field at the front of a line of its own; of any other text none is. Its top is
 -- `finding_place`.
 use Rattle.std.specs.Prelude.{ℕ, ◌+◌, ◌==◌, nat_le, ◌&&◌, ◌||◌, not, Bool, false, List, [], ◌∷◌}
-use Rattle.std.specs.Prelude.{◌≡◌, true, length, ◌++◌, take, drop, cond, codes, decimal, Option, Some, None}
+use Rattle.std.specs.Prelude.{◌≡◌, true, length, ◌++◌, take, drop, cond, codes, decimal}
+use Rattle.std.specs.Prelude.{Option, Some, None}
 use Rattle.std.specs.Prelude.{if◌then◌else◌}
 use Rattle.std.specs.List.{list_all, list_any, position_or_len, prefix_len}
 use Rattle.std.specs.Option.{option_or}
@@ -51,7 +52,8 @@ line_key line = take (line_key_length (without_blanks line)) (without_blanks lin
 
 -- what stands behind the key of a line (own)
 abbrev pub behind_key : List ℕ → List ℕ
-behind_key line = without_blanks (drop (line_key_length (without_blanks line)) (without_blanks line))
+behind_key line =
+    without_blanks (drop (line_key_length (without_blanks line)) (without_blanks line))
 
 -- the byte may stand in a key without quotes (own)
 abbrev pub is_bare : ℕ → Bool
@@ -142,7 +144,8 @@ finding_spot f = record { node = f.node; row = f.row }
 abbrev pub is_field_or_header : (field key : List ℕ) → Bool
 is_field_or_header field key = bytes_eq key field || is_header key
 
--- the place of a finding in a plain text: that of its key, or of the header of its row or node (own)
+-- the place of a finding in a plain text: that of its key, or of the header of its row or node
+-- (own)
 abbrev pub plain_place : List ℕ → KeyFinding → Option TextPlace
 plain_place text f =
     option_or (spot_place (finding_spot f) (Some f.field) text)
@@ -153,8 +156,8 @@ unfoldable pub finding_place : List ℕ → KeyFinding → Option TextPlace
 finding_place text f =
     if is_plain_text text && list_all is_bare f.field then plain_place text f else None
 
--- the place of a finding is a line of a plain text, among the others: it belongs to the node and the
--- row of the finding, and its key is that of the finding, or it is their header (own)
+-- the place of a finding is a line of a plain text, among the others: it belongs to the node and
+-- the row of the finding, and its key is that of the finding, or it is their header (own)
 pub record IsPlaceOf (text : List ℕ) (f : KeyFinding) (p : TextPlace) : Type 0 where
   pub front : List (List ℕ)
   pub line : List ℕ

@@ -1,11 +1,12 @@
 -- What is found wrong with a row of a key file (RFC 7210, section 2, in this profile): a field is
 -- found exactly where the reading of that field refuses it. Its top is `row_findings`.
-use Rattle.std.specs.Prelude.{◌≡◌, ℕ, ◌==◌, nat_le, nat_lt, not, true, false, length, ◌&&◌, ◌++◌, Bool, List, [], ◌∷◌, codes}
+use Rattle.std.specs.Prelude.{◌≡◌, ℕ, ◌==◌, nat_le, nat_lt, not, ◌&&◌, ◌++◌, Bool, true, false}
+use Rattle.std.specs.Prelude.{List, [], ◌∷◌, length, codes}
 use Rattle.std.specs.Prelude.{decimal, Option, Some, None, is_some, option_and_then, flat_map}
 use Rattle.std.specs.Prelude.{is_ok, if◌then◌else◌}
 use Rattle.std.specs.List.{list_any}
 use Rattle.std.specs.Str.{bytes_eq}
-use Rattle.toml.specs.Data.{Data, string, array, table, Items, no_items, item}
+use Rattle.toml.specs.Data.{Data, string, datetime, array, table, Items, no_items, item}
 use Rattle.toml.specs.Data.{Members, no_members, member, get_member}
 use Rattle.book_base.specs.declared.algorithm.Algorithm.{Algorithm}
 use Rattle.book_base.specs.Algorithms.{name_of, algorithm_of}
@@ -19,7 +20,8 @@ use Rattle.book_scope_keys.specs.declared.finding.KeyPlace.{KeyPlace}
 use Rattle.book_scope_keys.specs.declared.finding.SecretFault.{SecretFault}
 use Rattle.book_scope_keys.specs.FieldTexts.{field_said, finding_at, finding_unless, hidden_said}
 use Rattle.book_scope_keys.specs.FieldTexts.{text_shown, type_shown}
-use Rattle.book_scope_keys.specs.Hints.{secret_fault, shown_secret, time_hint}
+use Rattle.book_scope_keys.specs.Hints.{address_hint, secret_fault, shown_secret, time_hint}
+use Rattle.book_scope_keys.specs.Moments.{moment_hint}
 use Rattle.book_scope_keys.specs.Suggestions.{meant_word}
 
 -- the keys of a table, in their order (own)
@@ -87,10 +89,16 @@ abbrev pub peers_wanted : List ℕ
 peers_wanted =
     codes "an array of 1 to 16 texts: \"any\", or an address, 192.0.2.1 or 32 hexadecimal digits"
 
+-- why a value is no address (own)
+abbrev pub address_hint_of : Option Data → List ℕ
+address_hint_of (Some (string s)) = address_hint s
+address_hint_of _ = []
+
 -- what is found of a peer (RFC 7210, section 2)
 unfoldable pub peer_finding : KeyPlace → Data → List KeyFinding
 peer_finding p d =
-    finding_unless (is_some (peer_of d)) p (codes "Peers") (field_said (Some d) [] peers_wanted)
+    finding_unless (is_some (peer_of d)) p (codes "Peers")
+    (field_said (Some d) (address_hint_of (Some d)) peers_wanted)
 
 -- the peers that are none (RFC 7210, section 2)
 abbrev pub each_peer_finding : KeyPlace → Items → List KeyFinding
@@ -168,7 +176,13 @@ pub record SecretLook : Type 0 where
 
 -- how a Key looks (own)
 unfoldable pub secret_look : Option Data → SecretLook
-secret_look None = record { is_there = false; type_text = []; size = 0; is_good = false; fault = None }
+secret_look None = record {
+  is_there = false;
+  type_text = [];
+  size = 0;
+  is_good = false;
+  fault = None;
+}
 secret_look (Some (string s)) = record {
   is_there = true;
   type_text = type_shown (string s);
@@ -187,6 +201,7 @@ secret_look (Some d) = record {
 -- why a value is no time (own)
 abbrev pub time_hint_of : Option Data → List ℕ
 time_hint_of (Some (string s)) = time_hint s
+time_hint_of (Some (datetime dt)) = moment_hint dt
 time_hint_of _ = []
 
 -- a time of a row, by what stands for an absent one (RFC 7210, section 2)
@@ -250,4 +265,5 @@ pub record AlikeButKey (one other : Members) : Type 0 where
   pub values :
       (key : List ℕ) → bytes_eq key (codes "Key") ≡ false →
       get_member key one ≡ get_member key other
-  pub looks : secret_look (get_member (codes "Key") one) ≡ secret_look (get_member (codes "Key") other)
+  pub looks :
+      secret_look (get_member (codes "Key") one) ≡ secret_look (get_member (codes "Key") other)

@@ -15,8 +15,8 @@ pub fn findings_are_of_the_walk()
 {}
 
 /// A place that is told is a line of the text that belongs to the node and the row of the finding, by the
-/// headers in front of it, and begins with the finding's field or is their header. The text is plain there: no
-/// line of it lies in a text of three quotes or in a table in braces.
+/// headers in front of it, and begins with the finding's field or is their header. The text is plain: but for
+/// comments no line of it has three quotes side by side or an opening brace.
 pub fn told_places_are_theirs()
     ensures { (text : List ℕ) (finding : KeyFinding) (place : TextPlace) → finding_place text finding ≡ Some place → IsPlaceOf text finding place }
 {}

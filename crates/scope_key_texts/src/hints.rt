@@ -1,8 +1,10 @@
 //! Why a value is no time.
 ghost use Rattle.std.specs.Prelude.{◌≡◌, ◌+◌, ◌≤◌, ◌++◌, ◌&&◌, IsTrue, OnOk, length};
+ghost use Rattle.toml_datetime.specs.Parse.{parse_datetime};
 ghost use Rattle.book_keys.specs.Times.{two_digits_at};
-ghost use Rattle.book_scope_keys.specs.Hints.{date_hint, digits_at, has_digits_at, has_time_form, part_hint, range_hint, time_hint};
+ghost use Rattle.book_scope_keys.specs.Hints.{date_hint, digits_at, form_hint, has_digits_at, has_time_form, part_hint, range_hint, time_hint};
 
+use crate::moments::{push_moment_hint, read_moment};
 use ao_base::push_decimal;
 use std::alloc::AllocError;
 
@@ -115,15 +117,28 @@ fn push_range_hint(out: &mut Vec<u8>, text: &[u8]) -> Result<(), AllocError>
     push_date_hint(out, year, month, u64::from(digits_at(text, 6)))
 }
 
-/// Puts behind `out` why a text is no time, where it has the form of one: a part of it that is out of its
-/// range. Where memory runs out a part of that may stand there.
+fn push_form_hint(out: &mut Vec<u8>, text: &str) -> Result<(), AllocError>
+    ensures { OnOk result (out.new.items ≡ out.old.items ++ form_hint (parse_datetime text.now)) }
+{
+    match read_moment(text) {
+        Some(moment) => push_moment_hint(out, &moment),
+        None => Ok(()),
+    }
+}
+
+/// Puts behind `out` why a text is no time: a part of it that is out of its range, that it names no end, or
+/// how a key file writes it where it is of another form. Where memory runs out a part of that may stand
+/// there.
 #[tactic(auto, unfolding(book_scope_keys::specs::Hints::time_hint))]
-pub fn push_time_hint(out: &mut Vec<u8>, text: &[u8]) -> Result<(), AllocError>
+pub fn push_time_hint(out: &mut Vec<u8>, text: &str) -> Result<(), AllocError>
     ensures { OnOk result (out.new.items ≡ out.old.items ++ time_hint text.now) }
 {
-    if has_time_form(text) {
-        push_range_hint(out, text)
-    } else {
-        Ok(())
+    let bytes = text.as_bytes();
+    if has_time_form(bytes) {
+        return push_range_hint(out, bytes);
     }
+    if bytes == b"infinite".as_slice() {
+        return out.extend_from_slice(b", without an end: leave the field out");
+    }
+    push_form_hint(out, text)
 }
