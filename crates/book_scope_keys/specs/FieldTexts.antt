@@ -1,5 +1,5 @@
 -- What is said of a field of a key file: whose it is, the value that stands there, and what is
--- wanted. Our own format. Its tops are `field_said` and `finding_unless`.
+-- wanted. Our own format. Its tops are `field_said`, `hidden_said` and `finding_unless`.
 use Rattle.std.specs.Prelude.{ℕ, zero, suc, nat_le, nat_lt, ◌&&◌, ◌++◌, Bool, true, false, List, []}
 use Rattle.std.specs.Prelude.{◌∷◌, length, take, map, codes, decimal, Option, Some, None}
 use Rattle.std.specs.Prelude.{if◌then◌else◌, pos, int_lt, unsigned_abs}
@@ -37,6 +37,21 @@ shown_value (boolean false) = codes "false, a boolean"
 shown_value (datetime dt) = codes "a date or time"
 shown_value (array ds) = codes "an array"
 shown_value (table ms) = codes "a table"
+
+-- the type of a value, of which nothing more is shown (own)
+unfoldable pub type_shown : Data → List ℕ
+type_shown (string s) = codes "a text"
+type_shown (integer z) = codes "an integer"
+type_shown (float x) = codes "a float"
+type_shown (boolean b) = codes "a boolean"
+type_shown (datetime dt) = codes "a date or time"
+type_shown (array ds) = codes "an array"
+type_shown (table ms) = codes "a table"
+
+-- what is said of a field whose value may be a secret: its type, and what is wanted (own)
+unfoldable pub hidden_said : Option Data → (wanted : List ℕ) → List ℕ
+hidden_said None wanted = codes "missing; wanted: " ++ wanted
+hidden_said (Some d) wanted = type_shown d ++ (codes "; wanted: " ++ wanted)
 
 -- what is said of a field: the value that stands there, a hint, and what is wanted (own)
 unfoldable pub field_said : Option Data → (hint wanted : List ℕ) → List ℕ

@@ -1,7 +1,7 @@
 -- What is found wrong with a key file, and what is written of it. Our own format. Its tops are
 -- `key_findings` and `key_report`.
-use Rattle.std.specs.Prelude.{ℕ, ◌+◌, ◌-◌, nat_le, ◌++◌, Bool, List, [], ◌∷◌, length, map}
-use Rattle.std.specs.Prelude.{codes, decimal, flat_map}
+use Rattle.std.specs.Prelude.{ℕ, ◌+◌, ◌-◌, nat_le, ◌++◌, Bool, true, false, List, [], ◌∷◌, length}
+use Rattle.std.specs.Prelude.{codes, decimal, flat_map, map}
 use Rattle.std.specs.Prelude.{Option, Some, None, is_some, option_and_then, option_to_list}
 use Rattle.std.specs.Prelude.{Result, Ok, Err, if◌then◌else◌}
 use Rattle.toml.specs.Data.{Data, array, table, Items, no_items, item, at}
@@ -15,10 +15,13 @@ use Rattle.book_keys.specs.Nodes.{node_name_of, node_address_of, document_of, ta
 use Rattle.book_keys.specs.Rows.{Table, node_limit, row_limit}
 use Rattle.book_scope_keys.specs.declared.finding.KeyFinding.{KeyFinding}
 use Rattle.book_scope_keys.specs.declared.finding.KeyPlace.{KeyPlace}
-use Rattle.book_scope_keys.specs.FieldTexts.{field_said, finding_at, text_shown}
+use Rattle.book_scope_keys.specs.declared.finding.TomlFault.{TomlFault}
+use Rattle.book_scope_keys.specs.FieldTexts.{field_said, finding_at, hidden_said, text_shown}
 use Rattle.book_scope_keys.specs.Places.{key_finding_line, place_text, text_place}
-use Rattle.book_scope_keys.specs.RowFindings.{keys_in, unknown_findings, field_at, field_unless}
+use Rattle.book_scope_keys.specs.RowFindings.{address_hint_of, keys_in, unknown_findings, field_at}
+use Rattle.book_scope_keys.specs.RowFindings.{field_unless}
 use Rattle.book_scope_keys.specs.RowFindings.{count_said, row_findings}
+use Rattle.book_scope_keys.specs.TomlFaults.{toml_fault_text}
 
 -- a place of a key file (own)
 abbrev pub key_place : (node row : ℕ) → (name : List ℕ) → KeyPlace
@@ -61,7 +64,8 @@ node_name_findings p names ms =
 unfoldable pub node_address_findings : KeyPlace → List Address → Members → List KeyFinding
 node_address_findings p seen ms =
     field_unless (is_some (new_address seen ms)) (field_at p (codes "address") ms)
-    (used_hint (is_some (new_address [] ms)))
+    (used_hint (is_some (new_address [] ms))
+    ++ address_hint_of (get_member (codes "address") ms))
     (codes "a text, an address, 192.0.2.1 or 32 hexadecimal digits")
 
 -- the rows from number r on of a node of this number and name (own)
@@ -81,7 +85,7 @@ rows_findings n name (Some (array ds)) =
     if nat_le (count ds) row_limit then rows_findings_from n 1 name ds
     else finding_at (key_place n 0 name) (codes "key") (count_said (count ds) rows_wanted) ∷ []
 rows_findings n name (Some d) =
-    finding_at (key_place n 0 name) (codes "key") (field_said (Some d) [] rows_wanted) ∷ []
+    finding_at (key_place n 0 name) (codes "key") (hidden_said (Some d) rows_wanted) ∷ []
 
 -- the keys of a node (own)
 abbrev pub node_keys : List (List ℕ)
@@ -189,9 +193,11 @@ document_findings text (Some ms) =
 unfoldable pub key_findings : List ℕ → List KeyFinding
 key_findings text = document_findings text (document_of text)
 
--- the line of a text that is no TOML from the byte with this index on (own)
-unfoldable pub syntax_line : ℕ → List ℕ → List ℕ
-syntax_line i text = place_text (text_place i text) ++ codes "no TOML from here on\n"
+-- the line of a text that is no TOML from the byte with this index on, for this reason (own)
+unfoldable pub syntax_line : ℕ → TomlFault → List ℕ → List ℕ
+syntax_line i why text =
+    place_text (text_place i text)
+    ++ (codes "no TOML from here on: " ++ (toml_fault_text why ++ codes "\n"))
 
 -- how many rows tables have (own)
 abbrev pub row_total : List Table → ℕ
@@ -204,14 +210,29 @@ no_faults_line tables =
     codes "no faults: " ++ (decimal (length tables) ++ (codes " nodes, "
     ++ (decimal (row_total tables) ++ codes " rows\n")))
 
--- what is written of a key file that stands for these tables, or has this fault; where it is no
--- TOML, it is none from the byte with an index on (own)
-abbrev pub key_report_of : ℕ → List ℕ → Result (List Table) TableFault → List ℕ
-key_report_of i text (Ok tables) = no_faults_line tables
-key_report_of i text (Err fault.Syntax) = syntax_line i text
-key_report_of i text (Err e) = flat_map (key_finding_line text) (key_findings text)
+-- the line of a file without a node, which is of no use (own)
+abbrev pub no_nodes_line : List ℕ
+no_nodes_line = codes "no nodes: a key file has a table, [[node]], for each router\n"
 
--- what is written of a key file; where it is no TOML, it is none from the byte with an index on
--- (own)
-unfoldable pub key_report : ℕ → List ℕ → List ℕ
-key_report i text = key_report_of i text (tables_of text)
+-- the line of a file that is read (own)
+abbrev pub tables_line : List Table → List ℕ
+tables_line [] = no_nodes_line
+tables_line (t ∷ ts) = no_faults_line (t ∷ ts)
+
+-- a key file is read, and has a node (own)
+abbrev pub has_nodes : Result (List Table) TableFault → Bool
+has_nodes (Ok (t ∷ ts)) = true
+has_nodes _ = false
+
+-- what is written of a key file that stands for these tables, or has this fault; where it is no
+-- TOML, it is none from the byte with an index on, for a reason (own)
+abbrev pub key_report_of :
+    ℕ → TomlFault → List ℕ → Result (List Table) TableFault → List ℕ
+key_report_of i why text (Ok tables) = tables_line tables
+key_report_of i why text (Err fault.Syntax) = syntax_line i why text
+key_report_of i why text (Err e) = flat_map (key_finding_line text) (key_findings text)
+
+-- what is written of a key file; where it is no TOML, it is none from the byte with an index on,
+-- for a reason (own)
+unfoldable pub key_report : ℕ → TomlFault → List ℕ → List ℕ
+key_report i why text = key_report_of i why text (tables_of text)

@@ -4,3 +4,5 @@ pub mod Hints
 pub mod Places
 pub mod RowFindings
 pub mod Suggestions
+pub mod TomlFaults
+pub mod Moments

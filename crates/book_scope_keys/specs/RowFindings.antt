@@ -1,11 +1,12 @@
 -- What is found wrong with a row of a key file (RFC 7210, section 2, in this profile): a field is
 -- found exactly where the reading of that field refuses it. Its top is `row_findings`.
-use Rattle.std.specs.Prelude.{ℕ, nat_le, nat_lt, not, ◌&&◌, ◌++◌, Bool, List, [], ◌∷◌, codes}
+use Rattle.std.specs.Prelude.{◌≡◌, ℕ, ◌==◌, nat_le, nat_lt, not, ◌&&◌, ◌++◌, Bool, true, false}
+use Rattle.std.specs.Prelude.{List, [], ◌∷◌, length, codes}
 use Rattle.std.specs.Prelude.{decimal, Option, Some, None, is_some, option_and_then, flat_map}
 use Rattle.std.specs.Prelude.{is_ok, if◌then◌else◌}
 use Rattle.std.specs.List.{list_any}
 use Rattle.std.specs.Str.{bytes_eq}
-use Rattle.toml.specs.Data.{Data, string, array, table, Items, no_items, item}
+use Rattle.toml.specs.Data.{Data, string, datetime, array, table, Items, no_items, item}
 use Rattle.toml.specs.Data.{Members, no_members, member, get_member}
 use Rattle.book_base.specs.declared.algorithm.Algorithm.{Algorithm}
 use Rattle.book_base.specs.Algorithms.{name_of, algorithm_of}
@@ -16,8 +17,11 @@ use Rattle.book_keys.specs.Lifetimes.{greatest_time}
 use Rattle.book_keys.specs.Rows.{peer_limit}
 use Rattle.book_scope_keys.specs.declared.finding.KeyFinding.{KeyFinding}
 use Rattle.book_scope_keys.specs.declared.finding.KeyPlace.{KeyPlace}
-use Rattle.book_scope_keys.specs.FieldTexts.{field_said, finding_at, finding_unless, text_shown}
-use Rattle.book_scope_keys.specs.Hints.{shown_secret, time_hint}
+use Rattle.book_scope_keys.specs.declared.finding.SecretFault.{SecretFault}
+use Rattle.book_scope_keys.specs.FieldTexts.{field_said, finding_at, finding_unless, hidden_said}
+use Rattle.book_scope_keys.specs.FieldTexts.{text_shown, type_shown}
+use Rattle.book_scope_keys.specs.Hints.{address_hint, secret_fault, shown_secret, time_hint}
+use Rattle.book_scope_keys.specs.Moments.{moment_hint}
 use Rattle.book_scope_keys.specs.Suggestions.{meant_word}
 
 -- the keys of a table, in their order (own)
@@ -30,11 +34,17 @@ abbrev pub meant_text : Option (List ℕ) → List ℕ
 meant_text None = codes "no such field"
 meant_text (Some word) = codes "no such field; did you mean " ++ (word ++ codes "?")
 
+-- which known key is meant at a place: rows that stand in no node are those of one (own)
+abbrev pub meant_at : KeyPlace → (known : List (List ℕ)) → (key : List ℕ) → Option (List ℕ)
+meant_at p known key =
+    if p.node == 0 && bytes_eq key (codes "key") then Some (codes "[[node.key]]")
+    else meant_word known key
+
 -- what is found of a key by the known ones (own)
 unfoldable pub key_finding : (known : List (List ℕ)) → KeyPlace → (key : List ℕ) → List KeyFinding
 key_finding known p key =
     finding_unless (list_any (bytes_eq key) known) p (text_shown key)
-    (meant_text (meant_word known key))
+    (meant_text (meant_at p known key))
 
 -- the keys of a table that are none of the known ones (own)
 abbrev pub unknown_findings :
@@ -79,10 +89,16 @@ abbrev pub peers_wanted : List ℕ
 peers_wanted =
     codes "an array of 1 to 16 texts: \"any\", or an address, 192.0.2.1 or 32 hexadecimal digits"
 
+-- why a value is no address (own)
+abbrev pub address_hint_of : Option Data → List ℕ
+address_hint_of (Some (string s)) = address_hint s
+address_hint_of _ = []
+
 -- what is found of a peer (RFC 7210, section 2)
 unfoldable pub peer_finding : KeyPlace → Data → List KeyFinding
 peer_finding p d =
-    finding_unless (is_some (peer_of d)) p (codes "Peers") (field_said (Some d) [] peers_wanted)
+    finding_unless (is_some (peer_of d)) p (codes "Peers")
+    (field_said (Some d) (address_hint_of (Some d)) peers_wanted)
 
 -- the peers that are none (RFC 7210, section 2)
 abbrev pub each_peer_finding : KeyPlace → Items → List KeyFinding
@@ -143,15 +159,49 @@ secret_wanted = codes "a text of hexadecimal digits, two for each of 1 to 255 by
 unfoldable pub secret_said : List ℕ → List ℕ
 secret_said text = shown_secret text ++ (codes "; wanted: " ++ secret_wanted)
 
--- Key (RFC 7210, section 2)
+-- Key: of a text its length and why it is none, of any other value its type (RFC 7210, section 2)
 unfoldable pub secret_findings : KeyPlace → Option Data → List KeyFinding
 secret_findings p (Some (string s)) =
     finding_unless (is_ok (master_of 0 0 (Some s))) p (codes "Key") (secret_said s)
-secret_findings p d = finding_at p (codes "Key") (field_said d [] secret_wanted) ∷ []
+secret_findings p d = finding_at p (codes "Key") (hidden_said d secret_wanted) ∷ []
+
+-- all that a Key shows: whether it is there, the type of a value that is no text, and of a text how
+-- many bytes it has, whether it is a key, and why it is none (own)
+pub record SecretLook : Type 0 where
+  pub is_there : Bool
+  pub type_text : List ℕ
+  pub size : ℕ
+  pub is_good : Bool
+  pub fault : Option SecretFault
+
+-- how a Key looks (own)
+unfoldable pub secret_look : Option Data → SecretLook
+secret_look None = record {
+  is_there = false;
+  type_text = [];
+  size = 0;
+  is_good = false;
+  fault = None;
+}
+secret_look (Some (string s)) = record {
+  is_there = true;
+  type_text = type_shown (string s);
+  size = length s;
+  is_good = is_ok (master_of 0 0 (Some s));
+  fault = secret_fault s;
+}
+secret_look (Some d) = record {
+  is_there = true;
+  type_text = type_shown d;
+  size = 0;
+  is_good = false;
+  fault = None;
+}
 
 -- why a value is no time (own)
 abbrev pub time_hint_of : Option Data → List ℕ
 time_hint_of (Some (string s)) = time_hint s
+time_hint_of (Some (datetime dt)) = moment_hint dt
 time_hint_of _ = []
 
 -- a time of a row, by what stands for an absent one (RFC 7210, section 2)
@@ -207,4 +257,13 @@ column_findings p ms =
 unfoldable pub row_findings : KeyPlace → Data → List KeyFinding
 row_findings p (table ms) =
     unknown_findings row_keys p (keys_in ms) ++ column_findings p ms
-row_findings p d = finding_at p (codes "key") (field_said (Some d) [] (codes "a table")) ∷ []
+row_findings p d = finding_at p (codes "key") (hidden_said (Some d) (codes "a table")) ∷ []
+
+-- two rows have the same keys and the same values but for Key, and their Keys look alike (own)
+pub record AlikeButKey (one other : Members) : Type 0 where
+  pub keys : keys_in one ≡ keys_in other
+  pub values :
+      (key : List ℕ) → bytes_eq key (codes "Key") ≡ false →
+      get_member key one ≡ get_member key other
+  pub looks :
+      secret_look (get_member (codes "Key") one) ≡ secret_look (get_member (codes "Key") other)

@@ -24,6 +24,60 @@ pub struct KeyFinding {
     pub said: Bytes,
 }
 
+/// Why a text is no master key, or how it was written.
+#[derive(Clone, Copy, Debug, PartialEq, Eq)]
+pub enum SecretFault {
+    /// `0x` stands in front of its digits.
+    Prefixed,
+    WithColons,
+    WithBlanks,
+    /// A byte of it is no hexadecimal digit.
+    NotHex,
+    /// A digit is missing.
+    OddLength,
+}
+
+/// Why a text is no TOML.
+#[derive(Clone, Copy, Debug, PartialEq, Eq)]
+pub enum TomlFault {
+    /// A byte is no UTF-8.
+    Utf8,
+    /// No key stands where one is to.
+    Key,
+    /// No equals sign stands behind a key.
+    MissingEquals,
+    /// A header of a table isn't closed.
+    OpenTable,
+    /// A header of an array of tables isn't closed.
+    OpenArrayTable,
+    /// More stands on a line than it may.
+    EndOfLine,
+    /// More stands behind a value than may.
+    Content,
+    /// A comma or the end of an array is missing.
+    Array,
+    /// A comma or the end of an inline table is missing.
+    InlineTable,
+    /// A text isn't closed, or has a byte that it can't have.
+    Text,
+    /// An escape in a text is none.
+    Escape,
+    /// No value stands where one is to.
+    Value,
+    /// An underscore stands elsewhere than between digits.
+    Underscore,
+    /// A number is out of its range.
+    Overflow,
+    /// A date or time is none.
+    Datetime,
+    /// A key or a table stands twice.
+    Twice,
+    /// A dotted key goes into a value that is no table.
+    Extend,
+    /// Values lie in one another too deep.
+    Depth,
+}
+
 /// A place in a text: its line, and its byte in that line, both counted from 1.
 #[derive(Clone, Copy, Debug, PartialEq, Eq)]
 pub struct TextPlace {

@@ -1,14 +1,14 @@
 //! The findings of fields.
 ghost use Rattle.std.specs.Prelude.{◌≡◌, ◌++◌, ◌∷◌, [], OnOk, option_map};
 ghost use Rattle.toml.specs.View.{table_view, view};
-ghost use Rattle.book_scope_keys.specs.FieldTexts.{field_said, finding_at};
+ghost use Rattle.book_scope_keys.specs.FieldTexts.{field_said, finding_at, hidden_said};
 ghost use Rattle.book_scope_keys.specs.RowFindings.{count_said, field_at, field_unless};
 ghost use Rattle.scope_key_rows.specs.Fields.{field_of};
 
 use ao_base::push_decimal;
 use book_scope_keys::{KeyFinding, KeyPlace};
 use key_table::member_at;
-use scope_key_texts::push_field_said;
+use scope_key_texts::{push_field_said, push_hidden_said};
 use std::alloc::AllocError;
 use toml::{Table, Value};
 
@@ -60,7 +60,24 @@ pub fn push_misfit(
     push_finding(findings, place, key.as_bytes(), said.as_slice())
 }
 
-/// Puts a field that isn't good behind the findings: its value, a hint, and what is wanted. An error only for want of memory.
+/// Puts that a value isn't what is wanted at a key behind the findings, and of the value, which may be a
+/// secret, its type alone. An error only for want of memory.
+pub fn push_hidden(
+    findings: &mut Vec<KeyFinding>,
+    place: &KeyPlace,
+    key: &str,
+    value: Option<&Value>,
+    wanted: &[u8],
+) -> Result<(), AllocError>
+    ensures { OnOk result (findings.new.items ≡ findings.old.items ++ finding_at place.now key.now (hidden_said (option_map (λ v. view v.now) value.entry) wanted.now) ∷ []) }
+{
+    let mut said = Vec::new(*findings.allocator());
+    push_hidden_said(&mut said, value, wanted)?;
+    push_finding(findings, place, key.as_bytes(), said.as_slice())
+}
+
+/// Puts a field that isn't good behind the findings: its value, a hint, and what is wanted. An error only for
+/// want of memory.
 #[tactic(auto, unfolding(book_scope_keys::specs::RowFindings::field_unless))]
 pub fn push_unless(
     findings: &mut Vec<KeyFinding>,

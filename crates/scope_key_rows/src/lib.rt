@@ -10,6 +10,6 @@ mod secret;
 mod times;
 mod unknown;
 
-pub use field::{Field, field_at, push_count, push_finding, push_misfit, push_unless};
+pub use field::{Field, field_at, push_count, push_finding, push_hidden, push_misfit, push_unless};
 pub use row::push_row;
 pub use unknown::push_unknown;

@@ -4,18 +4,27 @@ ghost use Rattle.toml.specs.Data.{array};
 ghost use Rattle.toml.specs.View.{items_view, view};
 ghost use Rattle.book_keys.specs.Rows.{peer_limit};
 ghost use Rattle.book_scope_keys.specs.FieldTexts.{field_said, finding_at};
-ghost use Rattle.book_scope_keys.specs.RowFindings.{count_said, each_peer_finding, peer_finding, peers_findings, peers_wanted};
+ghost use Rattle.book_scope_keys.specs.RowFindings.{address_hint_of, count_said, each_peer_finding, peer_finding, peers_findings, peers_wanted};
 
-use crate::field::{push_count, push_misfit};
+use crate::field::{push_count, push_finding, push_misfit};
 use book_keys::PEER_LIMIT;
 use book_scope_keys::{KeyFinding, KeyPlace};
 use key_table::peer_of;
+use scope_key_texts::{push_address_hint, push_field_said};
 use std::alloc::AllocError;
 use toml::Value;
 
 /// What is wanted of peers.
 const WANTED: &[u8] =
     b"an array of 1 to 16 texts: \"any\", or an address, 192.0.2.1 or 32 hexadecimal digits";
+
+fn push_peer_said(out: &mut Vec<u8>, value: &Value) -> Result<(), AllocError>
+    ensures { OnOk result (out.new.items ≡ out.old.items ++ field_said (Some (view value.now)) (address_hint_of (Some (view value.now))) peers_wanted) }
+{
+    let mut hint = Vec::new(*out.allocator());
+    push_address_hint(&mut hint, Some(value))?;
+    push_field_said(out, Some(value), hint.as_slice(), WANTED)
+}
 
 #[tactic(auto, unfolding(book_scope_keys::specs::RowFindings::peer_finding))]
 fn push_peer(
@@ -28,7 +37,9 @@ fn push_peer(
     if peer_of(value).is_some() {
         return Ok(());
     }
-    push_misfit(findings, place, "Peers", Some(value), WANTED)
+    let mut said = Vec::new(*findings.allocator());
+    push_peer_said(&mut said, value)?;
+    push_finding(findings, place, b"Peers", said.as_slice())
 }
 
 /// Puts the values of an array that are no peers behind the findings. An error only for want of memory.

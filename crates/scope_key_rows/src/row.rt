@@ -1,11 +1,11 @@
 //! What is found in a row.
 ghost use Rattle.std.specs.Prelude.{◌≡◌, ◌++◌, ◌∷◌, [], OnOk, Some, codes};
 ghost use Rattle.toml.specs.View.{table_view, view};
-ghost use Rattle.book_scope_keys.specs.FieldTexts.{field_said, finding_at};
+ghost use Rattle.book_scope_keys.specs.FieldTexts.{finding_at, hidden_said};
 ghost use Rattle.book_scope_keys.specs.RowFindings.{column_findings, row_findings};
 
 use crate::columns::{push_algorithm, push_names, push_port, push_protocol};
-use crate::field::push_misfit;
+use crate::field::push_hidden;
 use crate::peers::push_peers;
 use crate::secret::push_secret;
 use crate::times::push_terms;
@@ -50,6 +50,6 @@ pub fn push_row(
             push_unknown(findings, ROW_KEYS, place, table)?;
             push_columns(findings, place, table)
         }
-        None => push_misfit(findings, place, "key", Some(value), b"a table"),
+        None => push_hidden(findings, place, "key", Some(value), b"a table"),
     }
 }

@@ -3,10 +3,10 @@ ghost use Rattle.std.specs.Prelude.{◌≡◌, ◌++◌, ◌∷◌, [], IfOk, On
 ghost use Rattle.toml.specs.Data.{string};
 ghost use Rattle.toml.specs.View.{view};
 ghost use Rattle.book_keys.specs.Columns.{master_of};
-ghost use Rattle.book_scope_keys.specs.FieldTexts.{field_said, finding_at};
+ghost use Rattle.book_scope_keys.specs.FieldTexts.{finding_at, hidden_said};
 ghost use Rattle.book_scope_keys.specs.RowFindings.{secret_findings, secret_said, secret_wanted};
 
-use crate::field::{push_finding, push_misfit};
+use crate::field::{push_finding, push_hidden};
 use ao_base::{HexProblem, read_hex};
 use book_keys::LONGEST_MASTER_KEY;
 use book_scope_keys::{KeyFinding, KeyPlace};
@@ -63,9 +63,9 @@ fn push_no_text(
     place: &KeyPlace,
     value: Option<&Value>,
 ) -> Result<(), AllocError>
-    ensures { OnOk result (findings.new.items ≡ findings.old.items ++ finding_at place.now (codes "Key") (field_said (option_map (λ v. view v.now) value.entry) [] secret_wanted) ∷ []) }
+    ensures { OnOk result (findings.new.items ≡ findings.old.items ++ finding_at place.now (codes "Key") (hidden_said (option_map (λ v. view v.now) value.entry) secret_wanted) ∷ []) }
 {
-    push_misfit(findings, place, "Key", value, WANTED)
+    push_hidden(findings, place, "Key", value, WANTED)
 }
 
 /// Puts what is found in Key behind the findings. An error only for want of memory.

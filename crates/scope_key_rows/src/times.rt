@@ -8,7 +8,7 @@ ghost use Rattle.scope_key_rows.specs.Fields.{field_of};
 use crate::field::{Field, field_at, push_column, push_unless};
 use book_scope_keys::{KeyFinding, KeyPlace};
 use key_table::{LATEST, direction_at, member_at, time_at};
-use scope_key_texts::push_time_hint;
+use scope_key_texts::{push_moment_hint, push_time_hint};
 use std::alloc::AllocError;
 use toml::{Table, Value};
 
@@ -17,7 +17,8 @@ fn push_hint(out: &mut Vec<u8>, value: Option<&Value>) -> Result<(), AllocError>
     ensures { OnOk result (out.new.items ≡ out.old.items ++ time_hint_of (option_map (λ v. view v.now) value.entry)) }
 {
     match value {
-        Some(Value::String(text)) => push_time_hint(out, text.as_bytes()),
+        Some(Value::String(text)) => push_time_hint(out, text.as_str()),
+        Some(Value::Datetime(moment)) => push_moment_hint(out, moment),
         _ => Ok(()),
     }
 }

@@ -3,7 +3,7 @@ ghost use Rattle.std.specs.Prelude.{◌≡◌, ◌++◌, OnOk, map, option_map};
 ghost use Rattle.std.specs.List.{list_any};
 ghost use Rattle.std.specs.Str.{bytes_eq};
 ghost use Rattle.toml.specs.View.{table_view};
-ghost use Rattle.book_scope_keys.specs.RowFindings.{key_finding, keys_in, meant_text, unknown_findings};
+ghost use Rattle.book_scope_keys.specs.RowFindings.{key_finding, keys_in, meant_at, meant_text, unknown_findings};
 
 use crate::field::push_finding;
 use book_scope_keys::{KeyFinding, KeyPlace};
@@ -42,6 +42,17 @@ fn push_meant(out: &mut Vec<u8>, word: Option<&str>) -> Result<(), AllocError>
     }
 }
 
+/// The known key that is meant by another one at a place.
+fn meant_at<'a>(place: &KeyPlace, known: &[&'a str], key: &[u8]) -> Option<&'a str>
+    ensures { option_map (λ w. w.now) result ≡ meant_at place.now (map (λ w. w.now) known.now) key.now }
+{
+    if place.node == 0 && key == b"key".as_slice() {
+        Some("[[node.key]]")
+    } else {
+        meant_word(known, key)
+    }
+}
+
 #[tactic(auto, unfolding(book_scope_keys::specs::RowFindings::key_finding))]
 fn push_key(
     findings: &mut Vec<KeyFinding>,
@@ -57,7 +68,7 @@ fn push_key(
     let mut shown = Vec::new(*findings.allocator());
     push_shown_text(&mut shown, key)?;
     let mut said = Vec::new(*findings.allocator());
-    push_meant(&mut said, meant_word(known, key))?;
+    push_meant(&mut said, meant_at(place, known, key))?;
     push_finding(findings, place, shown.as_slice(), said.as_slice())
 }
 

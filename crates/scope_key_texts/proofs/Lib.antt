@@ -1,3 +1,4 @@
+mod MomentLaws
 pub mod PlaceLaws
 pub mod ShownLaws
 pub mod WordLaws

@@ -1,52 +1,12 @@
-//! Why a value is none that is wanted.
+//! Why a value is no time.
 ghost use Rattle.std.specs.Prelude.{◌≡◌, ◌+◌, ◌≤◌, ◌++◌, ◌&&◌, IsTrue, OnOk, length};
-ghost use Rattle.std.specs.List.{list_all};
+ghost use Rattle.toml_datetime.specs.Parse.{parse_datetime};
 ghost use Rattle.book_keys.specs.Times.{two_digits_at};
-ghost use Rattle.book_scope_keys.specs.Hints.{date_hint, digits_at, has_digits_at, has_time_form, is_hex_digit, part_hint, range_hint, secret_hint, shown_secret, time_hint};
+ghost use Rattle.book_scope_keys.specs.Hints.{date_hint, digits_at, form_hint, has_digits_at, has_time_form, part_hint, range_hint, time_hint};
 
+use crate::moments::{push_moment_hint, read_moment};
 use ao_base::push_decimal;
 use std::alloc::AllocError;
-
-fn is_hex_digit(byte: u8) -> bool
-    ensures { result ≡ is_hex_digit byte }
-{
-    (byte >= b'0' && byte <= b'9')
-        || ((byte >= b'A' && byte <= b'F') || (byte >= b'a' && byte <= b'f'))
-}
-
-fn are_hex_digits(text: &[u8]) -> bool
-    ensures { result ≡ list_all is_hex_digit text.now }
-{
-    text.iter().all(|byte| is_hex_digit(*byte))
-}
-
-/// Puts behind `out` why a text is no master key.
-#[tactic(auto, unfolding(book_scope_keys::specs::Hints::secret_hint))]
-fn push_secret_hint(out: &mut Vec<u8>, text: &[u8]) -> Result<(), AllocError>
-    ensures { OnOk result (out.new.items ≡ out.old.items ++ secret_hint text.now) }
-{
-    if !are_hex_digits(text) {
-        return out.extend_from_slice(
-            b", not all hexadecimal (which is printf %s SECRET | xxd -p -c 256)",
-        );
-    }
-    if text.len() % 2 == 1 {
-        return out.extend_from_slice(b", an odd number of digits");
-    }
-    Ok(())
-}
-
-/// Puts behind `out` what is shown of a key, which is a secret: how long it is, and why it is none. Where
-/// memory runs out a part of it may stand there.
-#[tactic(auto, unfolding(book_scope_keys::specs::Hints::shown_secret))]
-pub fn push_shown_secret(out: &mut Vec<u8>, text: &[u8]) -> Result<(), AllocError>
-    ensures { OnOk result (out.new.items ≡ out.old.items ++ shown_secret text.now) }
-{
-    out.extend_from_slice(b"a text of ")?;
-    push_decimal(out, text.len() as u64)?;
-    out.extend_from_slice(b" bytes")?;
-    push_secret_hint(out, text)
-}
 
 /// The number that two digits from an index on write.
 #[tactic(auto, unfolding(book_keys::specs::Times::two_digits_at))]
@@ -157,15 +117,28 @@ fn push_range_hint(out: &mut Vec<u8>, text: &[u8]) -> Result<(), AllocError>
     push_date_hint(out, year, month, u64::from(digits_at(text, 6)))
 }
 
-/// Puts behind `out` why a text is no time, where it has the form of one: a part of it that is out of its
-/// range. Where memory runs out a part of that may stand there.
+fn push_form_hint(out: &mut Vec<u8>, text: &str) -> Result<(), AllocError>
+    ensures { OnOk result (out.new.items ≡ out.old.items ++ form_hint (parse_datetime text.now)) }
+{
+    match read_moment(text) {
+        Some(moment) => push_moment_hint(out, &moment),
+        None => Ok(()),
+    }
+}
+
+/// Puts behind `out` why a text is no time: a part of it that is out of its range, that it names no end, or
+/// how a key file writes it where it is of another form. Where memory runs out a part of that may stand
+/// there.
 #[tactic(auto, unfolding(book_scope_keys::specs::Hints::time_hint))]
-pub fn push_time_hint(out: &mut Vec<u8>, text: &[u8]) -> Result<(), AllocError>
+pub fn push_time_hint(out: &mut Vec<u8>, text: &str) -> Result<(), AllocError>
     ensures { OnOk result (out.new.items ≡ out.old.items ++ time_hint text.now) }
 {
-    if has_time_form(text) {
-        push_range_hint(out, text)
-    } else {
-        Ok(())
+    let bytes = text.as_bytes();
+    if has_time_form(bytes) {
+        return push_range_hint(out, bytes);
     }
+    if bytes == b"infinite".as_slice() {
+        return out.extend_from_slice(b", without an end: leave the field out");
+    }
+    push_form_hint(out, text)
 }

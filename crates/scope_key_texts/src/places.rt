@@ -1,7 +1,8 @@
 //! Where in the text of a key file a field stands.
 ghost use Rattle.std.specs.Prelude.{◌≡◌, ◌<◌, ◌≤◌, ◌+◌, ◌++◌, ◌∷◌, [], ◌^◌, OnOk, length, option_map};
-ghost use Rattle.book_scope_keys.specs.Places.{finding_place, key_finding_line, past_byte, place_if, place_past, place_text, spot_place, text_place};
+ghost use Rattle.book_scope_keys.specs.Places.{finding_place, is_plain_text, key_finding_line, past_byte, place_if, place_past, place_text, plain_place, spot_place, text_place};
 
+use crate::plain::is_bare;
 use crate::spots::{blanks_length, is_spot, line_key, spot_past};
 use ao_base::{next_line, past_line, push_decimal};
 use book_scope_keys::{KeyFinding, KeySpot, TextPlace};
@@ -48,7 +49,7 @@ pub fn text_place(index: usize, text: &[u8]) -> TextPlace
     place_behind(&text[..index])
 }
 
-/// The first line of the spot, or its first with the key.
+/// The header of the spot, or its first line with the key.
 #[tactic(auto, unfolding(book_scope_keys::specs::Places::spot_place))]
 fn spot_place(wanted: KeySpot, field: Option<&[u8]>, text: &[u8]) -> Option<TextPlace>
     ensures { result ≡ spot_place wanted (option_map (λ f. f.now) field.entry) text.now }
@@ -72,16 +73,28 @@ fn spot_place(wanted: KeySpot, field: Option<&[u8]>, text: &[u8]) -> Option<Text
     None
 }
 
-/// The place of a finding: that of its key, or of the header of its row or node.
-#[tactic(auto, unfolding(book_scope_keys::specs::Places::finding_place))]
-fn finding_place(text: &[u8], finding: &KeyFinding) -> Option<TextPlace>
-    ensures { result ≡ finding_place text.now finding.now }
+/// The place of a finding in a plain text: that of its key, or of the header of its row or node.
+fn plain_place(text: &[u8], finding: &KeyFinding) -> Option<TextPlace>
+    ensures { result ≡ plain_place text.now finding.now }
 {
     let spot = KeySpot {
         node: u64::from(finding.node),
         row: u64::from(finding.row),
     };
     spot_place(spot, Some(finding.field.as_slice()), text).or_else(|| spot_place(spot, None, text))
+}
+
+/// The place of a finding in a text of which it is known whether it is plain.
+#[tactic(auto, unfolding(book_scope_keys::specs::Places::finding_place))]
+fn finding_place(text: &[u8], text_is_plain: bool, finding: &KeyFinding) -> Option<TextPlace>
+    requires { text_is_plain ≡ is_plain_text text.now }
+    ensures { result ≡ finding_place text.now finding.now }
+{
+    if text_is_plain && is_bare(finding.field.as_slice()) {
+        plain_place(text, finding)
+    } else {
+        None
+    }
 }
 
 /// Puts the place behind `out`, with what stands between it and what is said there. Where memory runs out a
@@ -107,16 +120,19 @@ fn push_place_if(out: &mut Vec<u8>, place: Option<TextPlace>) -> Result<(), Allo
 }
 
 /// Puts the line of a finding in this text behind `out`: its place, where that is found, its field and what
-/// is said of it. Where memory runs out a part of it may stand there.
+/// is said of it; `text_is_plain` tells whether the text is plain. Where memory runs out a part of it may stand
+/// there.
 #[tactic(auto, unfolding(book_scope_keys::specs::Places::key_finding_line))]
 pub fn push_finding_line(
     out: &mut Vec<u8>,
     text: &[u8],
+    text_is_plain: bool,
     finding: &KeyFinding,
 ) -> Result<(), AllocError>
+    requires { text_is_plain ≡ is_plain_text text.now }
     ensures { OnOk result (out.new.items ≡ out.old.items ++ key_finding_line text.now finding.now) }
 {
-    push_place_if(out, finding_place(text, finding))?;
+    push_place_if(out, finding_place(text, text_is_plain, finding))?;
     out.extend_from_slice(finding.field.as_slice())?;
     out.extend_from_slice(finding.said.as_slice())?;
     out.extend_from_slice(b"\n")

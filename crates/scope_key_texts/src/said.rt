@@ -1,9 +1,9 @@
 //! What is said of a field, and a finding of it.
 ghost use Rattle.std.specs.Prelude.{◌≡◌, ◌++◌, [], OnOk, IfOk, Some, None, option_map};
 ghost use Rattle.toml.specs.View.{view};
-ghost use Rattle.book_scope_keys.specs.FieldTexts.{field_said, finding_at, whose_text};
+ghost use Rattle.book_scope_keys.specs.FieldTexts.{field_said, finding_at, hidden_said, whose_text};
 
-use crate::shown::push_shown_value;
+use crate::shown::{push_shown_value, type_shown};
 use ao_base::push_decimal;
 use book_base::Bytes;
 use book_scope_keys::{KeyFinding, KeyPlace};
@@ -46,6 +46,31 @@ pub fn push_field_said(
 {
     match value {
         Some(value) => push_given(out, value, hint, wanted),
+        None => push_missing(out, wanted),
+    }
+}
+
+#[tactic(auto, unfolding(book_scope_keys::specs::FieldTexts::hidden_said))]
+fn push_type_said(out: &mut Vec<u8>, value: &Value, wanted: &[u8]) -> Result<(), AllocError>
+    ensures { OnOk result (out.new.items ≡ out.old.items ++ hidden_said (Some (view value.now)) wanted.now) }
+{
+    out.extend_from_slice(type_shown(value))?;
+    out.extend_from_slice(b"; wanted: ")?;
+    out.extend_from_slice(wanted)
+}
+
+/// Puts behind `out` what is said of a field whose value may be a secret: its type alone, and what is
+/// wanted. Where memory runs out a part of it may stand there.
+#[tactic(auto, unfolding(book_scope_keys::specs::FieldTexts::hidden_said, book_scope_keys::specs::FieldTexts::field_said))]
+pub fn push_hidden_said(
+    out: &mut Vec<u8>,
+    value: Option<&Value>,
+    wanted: &[u8],
+) -> Result<(), AllocError>
+    ensures { OnOk result (out.new.items ≡ out.old.items ++ hidden_said (option_map (λ v. view v.now) value.entry) wanted.now) }
+{
+    match value {
+        Some(value) => push_type_said(out, value, wanted),
         None => push_missing(out, wanted),
     }
 }

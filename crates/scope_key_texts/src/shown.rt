@@ -2,7 +2,7 @@
 ghost use Rattle.std.specs.Prelude.{◌≡◌, ◌++◌, OnOk, codes, decimal, int_lt, map, pos, take, unsigned_abs};
 ghost use Rattle.toml.specs.Data.{boolean};
 ghost use Rattle.toml.specs.View.{view};
-ghost use Rattle.book_scope_keys.specs.FieldTexts.{minus_if, shown_byte, shown_value, text_shown};
+ghost use Rattle.book_scope_keys.specs.FieldTexts.{minus_if, shown_byte, shown_value, text_shown, type_shown};
 
 use ao_base::push_decimal;
 use std::alloc::AllocError;
@@ -78,6 +78,22 @@ fn push_boolean(out: &mut Vec<u8>, is_true: bool) -> Result<(), AllocError>
         out.extend_from_slice(b"true, a boolean")
     } else {
         out.extend_from_slice(b"false, a boolean")
+    }
+}
+
+/// The type of a value, of which nothing more is shown.
+#[tactic(auto, unfolding(book_scope_keys::specs::FieldTexts::type_shown))]
+pub(crate) fn type_shown(value: &Value) -> &'static [u8]
+    ensures { result.now ≡ type_shown (view value.now) }
+{
+    match value {
+        Value::String(_) => b"a text",
+        Value::Integer(_) => b"an integer",
+        Value::Float(_) => b"a float",
+        Value::Boolean(_) => b"a boolean",
+        Value::Datetime(_) => b"a date or time",
+        Value::Array(_) => b"an array",
+        Value::Table(_) => b"a table",
     }
 }
 

@@ -1,6 +1,7 @@
 -- Findings and rows one after the other, as loops go over them, and what is reported of a file.
 use Rattle.std.proofs.Common.{◌≡◌, ℕ, suc, ◌+◌, ◌-◌, ◌<◌, ◌≤◌, Bool, false, not, List, [], ◌∷◌, ◌++◌, Option, Some, None, Result, Ok, Err, length, drop, get_or, refl, sym, ap, ◌∙◌, append_assoc, ◌↔◌, arith, add-one, subst}
-use Rattle.std.specs.Prelude.{IsOk, is_ok, flat_map}
+use Rattle.std.specs.Prelude.{IsOk, flat_map, true, ◌==◌}
+use Rattle.std.proofs.lemmas.Bool.Decides.{nat_tests}
 use Rattle.std.proofs.lemmas.List.{append-nil, drop_all}
 use Rattle.std.proofs.Math.Seq.{drop-cons}
 use Rattle.toml.specs.Data.{Members}
@@ -14,7 +15,8 @@ use Rattle.book_keys.specs.Nodes.{document_of, tables_of, tables_of_document}
 use Rattle.book_keys.specs.Reading.{Fails}
 use Rattle.book_keys.specs.Rows.{Table}
 use Rattle.book_scope_keys.specs.declared.finding.KeyFinding.{KeyFinding}
-use Rattle.book_scope_keys.specs.FileFindings.{addresses_with, field_findings, first_or_further, key_findings, key_place, key_report, key_report_of, names_with, no_faults_line, node_findings, nodes_findings_from, refused_findings, row_total, rows_findings_from, syntax_line}
+use Rattle.book_scope_keys.specs.declared.finding.TomlFault.{TomlFault}
+use Rattle.book_scope_keys.specs.FileFindings.{addresses_with, field_findings, first_or_further, has_nodes, key_findings, key_place, key_report, key_report_of, names_with, no_faults_line, no_nodes_line, node_findings, nodes_findings_from, refused_findings, row_total, rows_findings_from, syntax_line, tables_line}
 use Rattle.book_scope_keys.specs.Places.{key_finding_line}
 use Rattle.book_scope_keys.specs.RowFindings.{row_findings}
 use Rattle.book_scope_keys.proofs.WalkLaws.{findings_exact}
@@ -70,48 +72,69 @@ pub text_found : (text : List ℕ) (ms : Members) (e : TableFault) (start writte
 text_found text ms e start written shown found none same is document refused put = rw (put, none, same, is, found_of text ms e document refused) refl
 
 -- the report of a file with a fault
-report_by : (text : List ℕ) (r : Result (List Table) TableFault) (e : TableFault) → (e ≡ fault.Syntax → ⊥) → r ≡ Err e → key_report_of 0 text r ≡ flat_map (key_finding_line text) (key_findings text)
-report_by text r fault.Memory other is = rw is refl
-report_by text r fault.Syntax other is = absurd (other refl)
-report_by text r (fault.Field n row c) other is = rw is refl
-report_by text r (fault.TooMany n) other is = rw is refl
-report_by text r (fault.Overlap n one two) other is = rw is refl
+report_by : (why : TomlFault) (text : List ℕ) (r : Result (List Table) TableFault) (e : TableFault) → (e ≡ fault.Syntax → ⊥) → r ≡ Err e → key_report_of 0 why text r ≡ flat_map (key_finding_line text) (key_findings text)
+report_by why text r fault.Memory other is = rw is refl
+report_by why text r fault.Syntax other is = absurd (other refl)
+report_by why text r (fault.Field n row c) other is = rw is refl
+report_by why text r (fault.TooMany n) other is = rw is refl
+report_by why text r (fault.Overlap n one two) other is = rw is refl
 
 no_syntax : (text : List ℕ) (ms : Members) (e : TableFault) → document_of text ≡ Some ms → ((tables_of text ≡ Err fault.Syntax) ↔ (document_of text ≡ None)) → tables_of text ≡ Err e → e ≡ fault.Syntax → ⊥
 no_syntax text ms e is only refused syntax = let none : document_of text ≡ None = only.0 (refused ∙ ap (λ (f : TableFault). Err f) syntax) in let both : ◌≡◌ {A = Option Members} (Some ms) None = sym is ∙ none in absurd (cc)
 
-pub report_faulty : (text : List ℕ) (ms : Members) (e : TableFault) → document_of text ≡ Some ms → ((tables_of text ≡ Err fault.Syntax) ↔ (document_of text ≡ None)) → tables_of text ≡ Err e →
-    key_report 0 text ≡ flat_map (key_finding_line text) (key_findings text)
+pub report_faulty : (why : TomlFault) (text : List ℕ) (ms : Members) (e : TableFault) → document_of text ≡ Some ms → ((tables_of text ≡ Err fault.Syntax) ↔ (document_of text ≡ None)) → tables_of text ≡ Err e →
+    key_report 0 why text ≡ flat_map (key_finding_line text) (key_findings text)
 unfolding key_report
-report_faulty text ms e is only refused = report_by text (tables_of text) e (no_syntax text ms e is only refused) refused
+report_faulty why text ms e is only refused = report_by why text (tables_of text) e (no_syntax text ms e is only refused) refused
 
--- the report of a file without a fault
-pub report_good : (text : List ℕ) (ts : List Table) → tables_of text ≡ Ok ts → key_report 0 text ≡ no_faults_line ts
+-- the report of a file that is read
+pub report_good : (why : TomlFault) (text : List ℕ) (ts : List Table) → tables_of text ≡ Ok ts → key_report 0 why text ≡ tables_line ts
 unfolding key_report
-report_good text ts is = rw is refl
+report_good why text ts is = rw is refl
 
 -- the report of a text that is no document
-pub report_syntax : (i : ℕ) (text : List ℕ) → document_of text ≡ None → key_report i text ≡ syntax_line i text
+pub report_syntax : (i : ℕ) (why : TomlFault) (text : List ℕ) → document_of text ≡ None → key_report i why text ≡ syntax_line i why text
 unfolding key_report tables_of tables_of_document
-report_syntax i text is = rw is refl
+report_syntax i why text is = rw is refl
 
-pub none_tables : (text : List ℕ) → document_of text ≡ None → is_ok (tables_of text) ≡ false
+pub none_tables : (text : List ℕ) → document_of text ≡ None → has_nodes (tables_of text) ≡ false
 unfolding tables_of tables_of_document
 none_tables text is = rw is refl
 
--- whether something is amiss, by whether the tables are read
-by_result : {A B : Type 0} (amiss : Bool) (r : Result A B) → amiss ≡ not (is_ok r) → (amiss ≡ false) ↔ IsOk r
-by_result amiss (Ok x) is = ((λ h. refl), (λ h. is))
-by_result amiss (Err e) is = ((λ h. absurd (cc)), (λ h. absurd (cc)))
+-- whether something is amiss, by whether a file is read and has a node
+by_nodes : (amiss : Bool) (r : Result (List Table) TableFault) → amiss ≡ not (has_nodes r) → (amiss ≡ false) ↔ (has_nodes r ≡ true)
+by_nodes amiss (Ok []) is = ((λ h. absurd (cc)), (λ h. absurd (cc)))
+by_nodes amiss (Ok (t ∷ ts)) is = ((λ h. refl), (λ h. is))
+by_nodes amiss (Err e) is = ((λ h. absurd (cc)), (λ h. absurd (cc)))
 
-pub is_accepted : (amiss : Bool) (text : List ℕ) → amiss ≡ not (is_ok (tables_of text)) → (amiss ≡ false) ↔ IsOk (tables_of text)
-is_accepted amiss text is = by_result amiss (tables_of text) is
+nodes_read : (r : Result (List Table) TableFault) → has_nodes r ≡ true → IsOk r
+nodes_read (Ok ts) h = refl
+nodes_read (Err e) h = absurd (cc)
 
-pub is_faultless : (amiss : Bool) (text : List ℕ) → amiss ≡ not (is_ok (tables_of text)) → (amiss ≡ false) ↔ (key_findings text ≡ [])
-is_faultless amiss text is =
-    let accepted = is_accepted amiss text is in
-    let exact = findings_exact text in
-    ((λ h. exact.1 (accepted.0 h)), (λ h. accepted.1 (exact.0 h)))
+pub amiss_by : (amiss : Bool) (text : List ℕ) → amiss ≡ not (has_nodes (tables_of text)) → (amiss ≡ false) ↔ (has_nodes (tables_of text) ≡ true)
+amiss_by amiss text is = by_nodes amiss (tables_of text) is
+
+pub is_accepted : (amiss : Bool) (text : List ℕ) → amiss ≡ not (has_nodes (tables_of text)) → amiss ≡ false → IsOk (tables_of text)
+is_accepted amiss text is h = nodes_read (tables_of text) ((by_nodes amiss (tables_of text) is).0 h)
+
+pub is_faultless : (amiss : Bool) (text : List ℕ) → amiss ≡ not (has_nodes (tables_of text)) → amiss ≡ false → key_findings text ≡ []
+is_faultless amiss text is h = (findings_exact text).1 (is_accepted amiss text is h)
+
+-- the line of a file that has a node, and of one that has none
+pub with_nodes : (ts : List Table) → has_nodes (Ok ts) ≡ true → tables_line ts ≡ no_faults_line ts
+with_nodes [] h = absurd (cc)
+with_nodes (t ∷ ts) h = refl
+
+pub without_nodes : (ts : List Table) → has_nodes (Ok ts) ≡ false → tables_line ts ≡ no_nodes_line
+without_nodes [] h = refl
+without_nodes (t ∷ ts) h = absurd (cc)
+
+pub nodes_there : (ts : List Table) → not (length ts == 0) ≡ has_nodes (Ok ts)
+nodes_there [] = refl
+nodes_there (t ∷ ts) = grind (arith, nat_tests)
+
+pub good_amiss : (ts : List Table) (r : Result (List Table) TableFault) (b : Bool) → r ≡ Ok ts → b ≡ has_nodes (Ok ts) → not b ≡ not (has_nodes r)
+good_amiss ts r b is same = rw (is, same) refl
 
 -- the rows of one table more
 pub total_more : (tables : List Table) (i : ℕ) (table : Table) (total counted : ℕ) → i < length tables → ((d : Table) → table ≡ get_or tables (i + 1 - 1) d) → counted ≡ length table.rows →

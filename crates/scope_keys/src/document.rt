@@ -4,14 +4,16 @@ ghost use Rattle.toml.specs.View.{table_view};
 ghost use Rattle.book_keys.specs.Nodes.{document_of};
 ghost use Rattle.scope_keys.specs.Reports.{Unreadable};
 
+use crate::toml_fault::fault_of;
+use book_scope_keys::TomlFault;
 use std::alloc::Global;
 use toml::Table;
 
 /// Why a text gave no document.
 #[derive(Clone, Copy)]
 pub(crate) enum Unread {
-    /// From the byte with this index on it is no TOML.
-    NotToml(usize),
+    /// From the byte with this index on it is no TOML, for this reason.
+    NotToml(usize, TomlFault),
     Memory,
 }
 
@@ -23,12 +25,12 @@ pub(crate) fn read_document(alloc: Global, text: &[u8]) -> Result<Table, Unread>
 {
     let text = match std::str::from_utf8(text) {
         Ok(text) => text,
-        Err(error) => return Err(Unread::NotToml(error.valid_up_to())),
+        Err(error) => return Err(Unread::NotToml(error.valid_up_to(), TomlFault::Utf8)),
     };
     match toml::table_from_str(alloc, text) {
         Ok(table) => Ok(table),
         Err(error) => match error.span() {
-            Some(span) => Err(Unread::NotToml(span.start)),
+            Some(span) => Err(Unread::NotToml(span.start, fault_of(error.message()))),
             None => Err(Unread::Memory),
         },
     }

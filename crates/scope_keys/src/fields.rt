@@ -3,16 +3,17 @@ ghost use Rattle.std.specs.Prelude.{◌≡◌, ◌≤◌, ◌++◌, ◌∷◌, [
 ghost use Rattle.toml.specs.Data.{array};
 ghost use Rattle.toml.specs.View.{items_view, table_view, view};
 ghost use Rattle.book_keys.specs.Rows.{row_limit};
-ghost use Rattle.book_scope_keys.specs.FieldTexts.{field_said, finding_at};
+ghost use Rattle.book_scope_keys.specs.FieldTexts.{finding_at, hidden_said};
 ghost use Rattle.book_scope_keys.specs.FileFindings.{key_place, node_address_findings, node_fields_findings, node_name_findings, rows_findings, rows_findings_from, rows_wanted, used_hint};
-ghost use Rattle.book_scope_keys.specs.RowFindings.{count_said, row_findings};
+ghost use Rattle.book_scope_keys.specs.RowFindings.{address_hint_of, count_said, row_findings};
 
 use crate::node::NodeName;
 use crate::seen::{Seen, address_at, name_at};
 use book_keys::ROW_LIMIT;
 use book_scope_keys::{KeyFinding, KeyPlace};
 use key_table::member_at;
-use scope_key_rows::{field_at, push_count, push_misfit, push_row, push_unknown, push_unless};
+use scope_key_rows::{field_at, push_count, push_hidden, push_row, push_unknown, push_unless};
+use scope_key_texts::push_address_hint;
 use std::alloc::AllocError;
 use toml::{Table, Value};
 
@@ -47,6 +48,17 @@ fn push_name(
     )
 }
 
+fn push_address_said(
+    out: &mut Vec<u8>,
+    is_used: bool,
+    value: Option<&Value>,
+) -> Result<(), AllocError>
+    ensures { OnOk result (out.new.items ≡ out.old.items ++ (used_hint is_used ++ address_hint_of (option_map (λ v. view v.now) value.entry))) }
+{
+    out.extend_from_slice(used_hint(is_used))?;
+    push_address_hint(out, value)
+}
+
 #[tactic(auto, unfolding(book_scope_keys::specs::FileFindings::node_address_findings))]
 fn push_address(
     findings: &mut Vec<KeyFinding>,
@@ -56,11 +68,17 @@ fn push_address(
 ) -> Result<(), AllocError>
     ensures { OnOk result (findings.new.items ≡ findings.old.items ++ node_address_findings place.now seen.now.addresses.items (table_view table.now)) }
 {
+    let mut hint = Vec::new(*findings.allocator());
+    push_address_said(
+        &mut hint,
+        address_at(&[], table).is_some(),
+        member_at(table, "address"),
+    )?;
     push_unless(
         findings,
         address_at(seen.addresses.as_slice(), table).is_some(),
         field_at(place, "address", table),
-        used_hint(address_at(&[], table).is_some()),
+        hint.as_slice(),
         b"a text, an address, 192.0.2.1 or 32 hexadecimal digits",
     )
 }
@@ -107,10 +125,10 @@ fn push_no_rows(
     node: &NodeName,
     value: &Value,
 ) -> Result<(), AllocError>
-    ensures { OnOk result (findings.new.items ≡ findings.old.items ++ finding_at (key_place node.now.number 0 node.now.called) (codes "key") (field_said (Some (view value.now)) [] rows_wanted) ∷ []) }
+    ensures { OnOk result (findings.new.items ≡ findings.old.items ++ finding_at (key_place node.now.number 0 node.now.called) (codes "key") (hidden_said (Some (view value.now)) rows_wanted) ∷ []) }
 {
     let place = node.place(*findings.allocator(), 0)?;
-    push_misfit(findings, &place, "key", Some(value), ROWS_WANTED)
+    push_hidden(findings, &place, "key", Some(value), ROWS_WANTED)
 }
 
 #[tactic(auto, unfolding(book_scope_keys::specs::FileFindings::rows_findings), using(key_table::proofs::ItemLaws::count_view))]

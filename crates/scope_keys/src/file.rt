@@ -1,16 +1,17 @@
 //! All that is found in a file, and its lines.
-ghost use Rattle.std.specs.Prelude.{◌≡◌, ◌≤◌, ◌++◌, Err, IfOk, OnOk, flat_map, length};
+ghost use Rattle.std.specs.Prelude.{◌≡◌, ◌≤◌, ◌++◌, Err, IfOk, Ok, OnOk, flat_map, length};
 ghost use Rattle.toml.specs.View.{table_view};
 ghost use Rattle.book_keys.specs.Rows.{row_limit};
-ghost use Rattle.book_scope_keys.specs.FileFindings.{field_findings, first_or_further, no_faults_line, refused_findings, row_total, syntax_line};
+ghost use Rattle.book_scope_keys.specs.FileFindings.{field_findings, first_or_further, has_nodes, no_faults_line, refused_findings, row_total, syntax_line, tables_line};
 ghost use Rattle.book_scope_keys.specs.Places.{key_finding_line};
 
 use crate::nodes::push_document;
 use crate::refused::push_refused;
+use crate::toml_fault::toml_fault_text;
 use ao_base::push_decimal;
-use book_scope_keys::KeyFinding;
+use book_scope_keys::{KeyFinding, TomlFault};
 use key_table::{Table, TableFault, Tables};
-use scope_key_texts::{push_finding_line, push_place, text_place};
+use scope_key_texts::{is_plain_text, push_finding_line, push_place, text_place};
 use std::alloc::{AllocError, Global};
 
 /// All that is found in a document with this fault. An error only for want of memory.
@@ -49,20 +50,28 @@ pub(crate) fn push_lines(
 ) -> Result<(), AllocError>
     ensures { OnOk result (out.new.items ≡ out.old.items ++ flat_map (key_finding_line text.now) findings.now) }
 {
+    let text_is_plain = is_plain_text(text);
     for finding in findings {
-        push_finding_line(out, text, finding)?;
+        push_finding_line(out, text, text_is_plain, finding)?;
     }
     Ok(())
 }
 
-/// The line of a text that is no TOML from the byte with this index on.
+/// The line of a text that is no TOML from the byte with this index on, for this reason.
 #[tactic(auto, unfolding(book_scope_keys::specs::FileFindings::syntax_line))]
-pub(crate) fn push_syntax(out: &mut Vec<u8>, at: usize, text: &[u8]) -> Result<(), AllocError>
+pub(crate) fn push_syntax(
+    out: &mut Vec<u8>,
+    at: usize,
+    why: TomlFault,
+    text: &[u8],
+) -> Result<(), AllocError>
     requires { at ≤ length text.now }
-    ensures { OnOk result (out.new.items ≡ out.old.items ++ syntax_line at text.now) }
+    ensures { OnOk result (out.new.items ≡ out.old.items ++ syntax_line at why text.now) }
 {
     push_place(out, text_place(at, text))?;
-    out.extend_from_slice(b"no TOML from here on\n")
+    out.extend_from_slice(b"no TOML from here on: ")?;
+    out.extend_from_slice(toml_fault_text(why))?;
+    out.extend_from_slice(b"\n")
 }
 
 fn row_count(table: &Table) -> u64
@@ -89,9 +98,9 @@ fn node_total(tables: &Tables) -> u64
     u64::from(tables.nodes())
 }
 
-/// The line of a file without a fault.
+/// The line of a file without a fault that has nodes.
 #[tactic(auto, unfolding(book_scope_keys::specs::FileFindings::no_faults_line))]
-pub(crate) fn push_no_faults(out: &mut Vec<u8>, tables: &Tables) -> Result<(), AllocError>
+fn push_no_faults(out: &mut Vec<u8>, tables: &Tables) -> Result<(), AllocError>
     ensures { OnOk result (out.new.items ≡ out.old.items ++ no_faults_line tables.now) }
 {
     out.extend_from_slice(b"no faults: ")?;
@@ -99,4 +108,21 @@ pub(crate) fn push_no_faults(out: &mut Vec<u8>, tables: &Tables) -> Result<(), A
     out.extend_from_slice(b" nodes, ")?;
     push_decimal(out, row_total(tables))?;
     out.extend_from_slice(b" rows\n")
+}
+
+/// Whether the file has a node.
+pub(crate) fn has_nodes(tables: &Tables) -> bool
+    ensures { result ≡ has_nodes (Ok tables.now) }
+{
+    tables.nodes() != 0
+}
+
+/// The line of a file that is read.
+pub(crate) fn push_tables(out: &mut Vec<u8>, tables: &Tables) -> Result<(), AllocError>
+    ensures { OnOk result (out.new.items ≡ out.old.items ++ tables_line tables.now) }
+{
+    if has_nodes(tables) {
+        return push_no_faults(out, tables);
+    }
+    out.extend_from_slice(b"no nodes: a key file has a table, [[node]], for each router\n")
 }

@@ -10,5 +10,6 @@ mod nodes;
 mod refused;
 mod report;
 mod seen;
+mod toml_fault;
 
 pub use report::answer_keys;

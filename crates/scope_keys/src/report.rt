@@ -1,34 +1,35 @@
 //! What is written of a key file.
-ghost use Rattle.std.specs.Prelude.{◌≡◌, ◌≤◌, ◌↔◌, [], Err, IfOk, IsOk, None, Ok, Some, false, flat_map, is_ok, length, not};
+ghost use Rattle.std.specs.Prelude.{◌≡◌, ◌≤◌, ◌↔◌, [], Err, IfOk, IsOk, None, Ok, Some, false, flat_map, length, not, true};
 ghost use Rattle.toml.specs.View.{table_view};
 ghost use Rattle.book_keys.specs.Nodes.{document_of, tables_of};
-ghost use Rattle.book_scope_keys.specs.FileFindings.{key_findings, no_faults_line, syntax_line};
+ghost use Rattle.book_scope_keys.specs.FileFindings.{has_nodes, key_findings, syntax_line, tables_line};
 ghost use Rattle.book_scope_keys.specs.Places.{key_finding_line};
 ghost use Rattle.book_keys.specs.Reading.{Fails};
 ghost use Rattle.scope_keys.specs.Reports.{IsKeyReport, is_memory};
 
 use crate::document::{Unread, read_document};
-use crate::file::{findings, push_lines, push_no_faults, push_syntax};
+use crate::file::{findings, has_nodes, push_lines, push_syntax, push_tables};
 use book_base::Bytes;
+use book_scope_keys::TomlFault;
 use command_report::Report;
 use key_table::{TableFault, Tables, read_tables};
 use std::alloc::{AllocError, Global};
 use toml::Table;
 
 fn good_text(alloc: Global, tables: &Tables) -> Result<Bytes, AllocError>
-    ensures { IfOk result (λ written. written ≡ no_faults_line tables.now) }
+    ensures { IfOk result (λ written. written ≡ tables_line tables.now) }
 {
     let mut out = Vec::new(alloc);
-    push_no_faults(&mut out, tables)?;
+    push_tables(&mut out, tables)?;
     Ok(Bytes::from_vec(out))
 }
 
-fn syntax_text(alloc: Global, at: usize, text: &[u8]) -> Result<Bytes, AllocError>
+fn syntax_text(alloc: Global, at: usize, why: TomlFault, text: &[u8]) -> Result<Bytes, AllocError>
     requires { at ≤ length text.now }
-    ensures { IfOk result (λ written. written ≡ syntax_line at text.now) }
+    ensures { IfOk result (λ written. written ≡ syntax_line at why text.now) }
 {
     let mut out = Vec::new(alloc);
-    push_syntax(&mut out, at, text)?;
+    push_syntax(&mut out, at, why, text)?;
     Ok(Bytes::from_vec(out))
 }
 
@@ -54,16 +55,16 @@ fn is_memory(fault: TableFault) -> bool
     matches!(fault, TableFault::Memory)
 }
 
-/// The report of a file without a fault.
+/// The report of a file that is read; without a node it is amiss.
 fn good_report(alloc: Global, text: &[u8], tables: &Tables) -> Result<Report, AllocError>
     requires { tables_of text.now ≡ Ok tables.now }
     ensures text { IfOk result (λ report. IsKeyReport text.now report.text) }
-    ensures amiss { IfOk result (λ report. report.is_amiss ≡ not (is_ok (tables_of text.now))) }
+    ensures amiss { IfOk result (λ report. report.is_amiss ≡ not (has_nodes (tables_of text.now))) }
 {
     let written = good_text(alloc, tables)?;
     Ok(Report {
         text: written,
-        is_amiss: false,
+        is_amiss: !has_nodes(tables),
     })
 }
 
@@ -78,7 +79,7 @@ fn faulty_report(
     requires refused { tables_of text.now ≡ Err fault }
     requires syntax { (tables_of text.now ≡ Err TableFault.Syntax) ↔ (document_of text.now ≡ None) }
     ensures text { IfOk result (λ report. IsKeyReport text.now report.text) }
-    ensures amiss { IfOk result (λ report. report.is_amiss ≡ not (is_ok (tables_of text.now))) }
+    ensures amiss { IfOk result (λ report. report.is_amiss ≡ not (has_nodes (tables_of text.now))) }
 {
     let written = faulty_text(alloc, text, document, fault)?;
     Ok(Report {
@@ -98,7 +99,7 @@ fn refused_report(
     requires refused { Fails fault (tables_of text.now) }
     requires syntax { (tables_of text.now ≡ Err TableFault.Syntax) ↔ (document_of text.now ≡ None) }
     ensures text { IfOk result (λ report. IsKeyReport text.now report.text) }
-    ensures amiss { IfOk result (λ report. report.is_amiss ≡ not (is_ok (tables_of text.now))) }
+    ensures amiss { IfOk result (λ report. report.is_amiss ≡ not (has_nodes (tables_of text.now))) }
 {
     if is_memory(fault) {
         return Err(AllocError);
@@ -110,7 +111,7 @@ fn refused_report(
 fn document_report(alloc: Global, text: &[u8], document: &Table) -> Result<Report, AllocError>
     requires { document_of text.now ≡ Some (table_view document.now) }
     ensures text { IfOk result (λ report. IsKeyReport text.now report.text) }
-    ensures amiss { IfOk result (λ report. report.is_amiss ≡ not (is_ok (tables_of text.now))) }
+    ensures amiss { IfOk result (λ report. report.is_amiss ≡ not (has_nodes (tables_of text.now))) }
 {
     match read_tables(alloc, text) {
         Ok(tables) => good_report(alloc, text, &tables),
@@ -118,14 +119,19 @@ fn document_report(alloc: Global, text: &[u8], document: &Table) -> Result<Repor
     }
 }
 
-/// The report of a text that is no TOML from the byte with this index on.
-fn syntax_report(alloc: Global, at: usize, text: &[u8]) -> Result<Report, AllocError>
+/// The report of a text that is no TOML from the byte with this index on, for this reason.
+fn syntax_report(
+    alloc: Global,
+    at: usize,
+    why: TomlFault,
+    text: &[u8],
+) -> Result<Report, AllocError>
     requires within { at ≤ length text.now }
     requires none { document_of text.now ≡ None }
     ensures text { IfOk result (λ report. IsKeyReport text.now report.text) }
-    ensures amiss { IfOk result (λ report. report.is_amiss ≡ not (is_ok (tables_of text.now))) }
+    ensures amiss { IfOk result (λ report. report.is_amiss ≡ not (has_nodes (tables_of text.now))) }
 {
-    let written = syntax_text(alloc, at, text)?;
+    let written = syntax_text(alloc, at, why, text)?;
     Ok(Report {
         text: written,
         is_amiss: true,
@@ -135,26 +141,27 @@ fn syntax_report(alloc: Global, at: usize, text: &[u8]) -> Result<Report, AllocE
 /// The report of a text, and whether it is refused.
 fn report(alloc: Global, text: &[u8]) -> Result<Report, AllocError>
     ensures text { IfOk result (λ report. IsKeyReport text.now report.text) }
-    ensures amiss { IfOk result (λ report. report.is_amiss ≡ not (is_ok (tables_of text.now))) }
+    ensures amiss { IfOk result (λ report. report.is_amiss ≡ not (has_nodes (tables_of text.now))) }
 {
     match read_document(alloc, text) {
         Ok(document) => document_report(alloc, text, &document),
-        Err(Unread::NotToml(at)) => syntax_report(alloc, at, text),
+        Err(Unread::NotToml(at, why)) => syntax_report(alloc, at, why, text),
         Err(Unread::Memory) => Err(AllocError),
     }
 }
 
 /// The answer of `keys` to the text of a key file: a line for each fault of it, of all nodes and rows, with
 /// the place in the text, the field, whose it is, its value, and what is wanted; for a file without faults
-/// the line `no faults: N nodes, N rows`, and for one that isn't TOML the line `no TOML from here on` with a
-/// place.
+/// the line `no faults: N nodes, N rows`, and for one that isn't TOML the line `no TOML from here on: ..` with
+/// a place and one of the texts of `toml_fault_text`.
 ///
-/// A fault is amiss; there is none exactly where `key_table::read_tables` takes the text. An error only for
+/// Nothing is amiss exactly where `key_table::read_tables` takes the text and it has a node. An error only for
 /// want of memory.
 pub fn answer_keys(alloc: Global, text: &[u8]) -> Result<Report, AllocError>
     ensures text { IfOk result (λ report. IsKeyReport text.now report.text) }
-    ensures amiss { IfOk result (λ report. (report.is_amiss ≡ false) ↔ (key_findings text.now ≡ [])) }
-    ensures accepted { IfOk result (λ report. (report.is_amiss ≡ false) ↔ IsOk (tables_of text.now)) }
+    ensures amiss { IfOk result (λ report. (report.is_amiss ≡ false) ↔ (has_nodes (tables_of text.now) ≡ true)) }
+    ensures faultless { IfOk result (λ report. report.is_amiss ≡ false → key_findings text.now ≡ []) }
+    ensures accepted { IfOk result (λ report. report.is_amiss ≡ false → IsOk (tables_of text.now)) }
 {
     report(alloc, text)
 }

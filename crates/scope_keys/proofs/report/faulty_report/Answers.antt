@@ -1,13 +1,15 @@
 use Rattle.std.proofs.Common.{◌∙◌, sym, refl, arith}
 use Rattle.toml.specs.View.{table_view}
+use Rattle.book_scope_keys.specs.declared.finding.TomlFault.TheVariants.{Value}
 use Rattle.scope_keys.proofs.FileLaws.{report_faulty}
 use Rattle.scope_keys.proofs.report.faulty_report.Goals as goal
 
 pub returns-clause-text : goal.returns-clause-text
 returns-clause-text c = record {
   index = 0;
+  why = Value;
   within = omega arith;
-  is = c.in_ok-written.ensures ∙ sym (report_faulty c.args.text.now (table_view c.args.document.now) c.args.fault c.requires.document c.requires.syntax c.requires.refused);
+  is = c.in_ok-written.ensures ∙ sym (report_faulty Value c.args.text.now (table_view c.args.document.now) c.args.fault c.requires.document c.requires.syntax c.requires.refused);
 }
 
 pub returns-clause-amiss : goal.returns-clause-amiss
