@@ -2,3 +2,4 @@ pub mod Calendar
 pub mod Differences
 pub mod Findings
 pub mod Margins
+pub mod Ways

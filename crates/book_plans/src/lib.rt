@@ -7,6 +7,7 @@ mod differences;
 mod finding;
 mod laws;
 mod margin;
+mod obstacle;
 mod turn;
 
 pub use differences::Differences;
@@ -16,4 +17,5 @@ pub use laws::{
     margins_are_greatest, rows_of_files_are_ordered, steady_rows_dont_turn, widened_rows_outlast,
 };
 pub use margin::Margin;
+pub use obstacle::Obstacle;
 pub use turn::{Role, Turn};

@@ -48,7 +48,7 @@ fn end_of_gap(lifetimes: &[Lifetime], time: u64, to: u64) -> u64
 }
 
 /// Adds each longest span from `from` to `to` that no lifetime covers, in order.
-fn add_uncovered(
+pub(crate) fn add_uncovered(
     findings: &mut Vec<Finding>,
     lifetimes: &[Lifetime],
     end: End,

@@ -9,9 +9,11 @@ mod margin;
 mod plan_findings;
 mod turns;
 mod way;
+mod ways;
 
 pub use alike::differences;
-pub use book_plans::{Differences, Finding, Margin, Role, Turn};
+pub use book_plans::{Differences, Finding, Margin, Obstacle, Role, Turn};
 pub use margin::{lag_margin, lead_margin};
 pub use plan_findings::{findings, wanted_accepting, widened};
 pub use turns::calendar;
+pub use ways::{Side, accepting_obstacle, fitting_accepting, fitting_sending};

@@ -1,5 +1,6 @@
 //! What one row, or each row of an end, leaves of lead or lag at the other end.
-ghost use Rattle.std.specs.Prelude.{◌≡◌, None, Some};
+ghost use Rattle.std.specs.Prelude.{◌≡◌, ◌&&◌, ◌+◌, ◌-◌, min, None, Some};
+ghost use Rattle.book_keys.specs.Lifetimes.{contains, greatest_time};
 ghost use Rattle.book_keys.specs.Plans.{outlasts, accepts_throughout};
 ghost use Rattle.book_plans.specs.declared.margin.Margin.TheVariants as margin;
 ghost use Rattle.book_plans.specs.Margins.{wider, narrower, widest, narrowest, time_before, time_after};
@@ -8,7 +9,7 @@ ghost use Rattle.key_plan.specs.Asked.{margin_by, margin_of_row};
 use crate::alike::is_accepting_from;
 use book_base::Pair;
 use book_plans::Margin;
-use key_table::{LATEST, Row};
+use key_table::{LATEST, Lifetime, Row};
 
 /// Which of the two is given, in seconds; the margin is of the other.
 #[derive(Clone, Copy)]
@@ -67,15 +68,20 @@ fn time_after(accepted: u64, sent: u64) -> Margin
     }
 }
 
+/// Whether accepting begins by `lead` before sending does, and goes on until `lag` after it.
+pub(crate) fn is_in_time(lead: u64, lag: u64, sending: Lifetime, accepting: Lifetime) -> bool
+    ensures { result ≡ (contains accepting (sending.first - lead) && contains accepting (min greatest_time (sending.last + lag))) }
+{
+    accepting.contains(sending.first.saturating_sub(lead))
+        && accepting.contains(LATEST.min(sending.last.saturating_add(lag)))
+}
+
 /// Whether the other end's row accepts from `lead` before the first second in which this row sends
 /// until `lag` after the last.
 fn is_outlasting(lead: u64, lag: u64, row: &Row, other: &Row) -> bool
     ensures { result ≡ outlasts lead lag row.now other.now }
 {
-    let sending = row.sending();
-    let accepting = other.accepting();
-    accepting.contains(sending.first.saturating_sub(lead))
-        && accepting.contains(LATEST.min(sending.last.saturating_add(lag)))
+    is_in_time(lead, lag, row.sending(), other.accepting())
 }
 
 /// Whether it accepts for so long, and what this row sends.

@@ -1,0 +1,7 @@
+//! What `plan` calls enough mends the plan: another lifetime of a row in whose way nothing stands gives tables that
+//! are valid, and of which the judgement is `Aligned`. Theorems alone, as the contracts of empty functions.
+#![tactic(auto)]
+
+mod laws;
+
+pub use laws::{accepting_ways_mend, sending_ways_mend};
