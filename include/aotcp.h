@@ -6,8 +6,10 @@
  * aotcp_output again at its deadline (aotcp_deadline). Bytes go in by aotcp_write and out by aotcp_read.
  *
  * Each call answers 0 (AOTCP_OK) for what was done, or says by its code why nothing was done; then the stack is as it
- * was, but for its clock after aotcp_input and aotcp_output. What a call tells through a pointer is written with AOTCP_OK
- * alone, unless it says more. AOTCP_NO_MEMORY of aotcp_open, aotcp_listen and aotcp_add may come in place of a code that
+ * was. AOTCP_NOTHING of aotcp_output says that nothing is due, after the clock went on and each connection that had a
+ * turn was asked: it may have left the line, its timer may have stopped or started, and a timer that found no row of
+ * keys to send with was doubled and runs anew. What a call tells through a pointer is written with AOTCP_OK alone,
+ * unless it says more. AOTCP_NO_MEMORY of aotcp_open, aotcp_listen and aotcp_add may come in place of a code that
  * they name behind AOTCP_BAD_FAMILY or AOTCP_BAD_ROW. The answers are proved; what follows is not, and a caller owes it:
  *
  *   - A handle (struct aotcp_stack) is all zero before its first call, and only these calls touch it then: it isn't
