@@ -16,8 +16,10 @@ use Rattle.book_keys.specs.Rows.{Row, Table, has_address, matches, names, sends_
 use Rattle.book_keys.specs.Plans.{first_failing, mirrored, same_key}
 use Rattle.book_sessions.specs.declared.outcome.SegmentOutcome.{SegmentOutcome}
 use Rattle.book_sessions.specs.declared.outcome.SegmentOutcome.TheVariants as outcome
+use Rattle.book_sessions.specs.declared.retiring.Ending.{Ending}
 use Rattle.book_sessions.specs.declared.retiring.MayGo.{MayGo}
 use Rattle.book_sessions.specs.declared.retiring.MayGo.TheVariants as go
+use Rattle.book_sessions.specs.declared.retiring.Wanting.{Wanting}
 use Rattle.book_sessions.specs.declared.uses.FlowIsns.{FlowIsns}
 use Rattle.book_sessions.specs.declared.uses.KeyUse.{KeyUse}
 use Rattle.book_sessions.specs.OutcomeTexts.{is_doubtful, is_verified}
@@ -121,14 +123,6 @@ abbrev pub is_return : (one other : KeyUse) → Bool
 is_return u v = (same_socket u.source v.destination && same_socket u.destination v.source)
     && if_both is_other_side u.isns v.isns
 
--- of a connection: whether a RST ended it; the numbers of the packets with a FIN of either side, 0
--- for none; and of the last packet that moved on (own)
-pub record Ending : Type 0 where
-  pub reset : Bool
-  pub onward : ℕ
-  pub back : ℕ
-  pub moved : ℕ
-
 -- a number, with another that counts in one case (own)
 abbrev pub with_mark : Bool → (mark before : ℕ) → ℕ
 with_mark counts mark before = if counts then max mark before else before
@@ -161,12 +155,6 @@ abbrev pub is_live : List KeyUse → KeyUse → Bool
 is_live uses u = is_counted u && not (is_ended (ending_by u uses))
 
 -- ---- who does without a row
-
--- of what goes one way: the number of the last packet that wants the row, and of the last one that
--- moved on and doesn't (own)
-pub record Wanting : Type 0 where
-  pub wanted : ℕ
-  pub moved : ℕ
 
 -- these go from one socket to the other (own)
 abbrev pub goes_from : (source destination : Socket) → KeyUse → Bool
