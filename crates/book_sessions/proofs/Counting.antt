@@ -10,11 +10,12 @@ use Rattle.book_captures.specs.Captures.{CapturePacket}
 use Rattle.book_sessions.specs.declared.outcome.SegmentOutcome.{SegmentOutcome}
 use Rattle.book_sessions.specs.declared.outcome.PassedOver.{PassedOver}
 use Rattle.book_sessions.specs.declared.uses.SeenSegment.{SeenSegment}
+use Rattle.book_sessions.specs.declared.uses.Signs.{Signs}
 use Rattle.book_sessions.specs.declared.uses.KeyUse.{KeyUse}
 use Rattle.book_sessions.specs.declared.uses.PassedCount.{PassedCount}
 use Rattle.book_sessions.specs.Laps.{Judging}
 use Rattle.book_sessions.specs.Listening.{Listened, Listening, heard_once, outcome_of, listen, listening_behind}
-use Rattle.book_sessions.specs.Sessions.{SessionTable, same_reason, seen_as, seen_by, same_outcome, is_use_of, session_of, used_again, with_use, Signs, signs_of, and_segment, with_passed, and_counted, stored_of_packet, all_stored, counted_by, sessions_from, no_sessions, sessions_of}
+use Rattle.book_sessions.specs.Sessions.{SessionTable, same_reason, seen_as, seen_by, same_outcome, is_use_of, session_of, used_again, with_use, signs_of, and_segment, with_passed, and_counted, stored_of_packet, all_stored, counted_by, sessions_from, no_sessions, sessions_of}
 use Rattle.book_sessions.specs.Counts.{if_outcome, counted, said_once, said_times, outcome_times, like_times, like_counted, is_like, use_as_checked, all_counted, all_passed, seen_before, segments_seen, segments_heard}
 use Rattle.book_sessions.proofs.Sums.{sum_of_uses, sum_of_segments, kinds_counted}
 use Rattle.book_sessions.proofs.Hearing.{without_laps, seen_as_checked, heard_as_checked}

@@ -6,10 +6,11 @@ use Rattle.book_cmd_check.specs.declared.given.GivenIsns.{GivenIsns}
 use Rattle.book_captures.specs.Captures.{CapturePacket}
 use Rattle.book_sessions.specs.declared.outcome.PassedOver.{PassedOver}
 use Rattle.book_sessions.specs.declared.uses.SeenSegment.{SeenSegment}
+use Rattle.book_sessions.specs.declared.uses.Signs.{Signs}
 use Rattle.book_sessions.specs.declared.uses.KeyUse.{KeyUse}
 use Rattle.book_sessions.specs.Laps.{Judging}
 use Rattle.book_sessions.specs.Listening.{Listening, listen, listening_behind}
-use Rattle.book_sessions.specs.Sessions.{SessionTable, seen_by, is_use_of, session_of, first_use, used_again, with_use, Signs, signs_of, and_segment, and_counted, stored_of_packet, stored_before, all_stored, counted_by, sessions_from, no_sessions, sessions_of}
+use Rattle.book_sessions.specs.Sessions.{SessionTable, seen_by, is_use_of, session_of, first_use, used_again, with_use, signs_of, and_segment, and_counted, stored_of_packet, stored_before, all_stored, counted_by, sessions_from, no_sessions, sessions_of}
 use Rattle.book_sessions.specs.Counts.{seen_before, segments_heard}
 
 -- how many segments are counted of this kind

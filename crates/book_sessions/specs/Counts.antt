@@ -11,9 +11,10 @@ use Rattle.book_sessions.specs.declared.outcome.SegmentOutcome.TheVariants as ou
 use Rattle.book_sessions.specs.declared.uses.KeyUse.{KeyUse}
 use Rattle.book_sessions.specs.declared.uses.PassedCount.{PassedCount}
 use Rattle.book_sessions.specs.declared.uses.SeenSegment.{SeenSegment}
+use Rattle.book_sessions.specs.declared.uses.Signs.{Signs}
 use Rattle.book_sessions.specs.Laps.{Judging}
 use Rattle.book_sessions.specs.Listening.{Listening, heard_once, listen, outcome_of}
-use Rattle.book_sessions.specs.Sessions.{Signs, same_outcome, seen_by, is_use_of, first_use}
+use Rattle.book_sessions.specs.Sessions.{same_outcome, seen_by, is_use_of, first_use}
 
 -- so many, if it is the outcome that is asked for (own)
 abbrev pub if_outcome : SegmentOutcome → SegmentOutcome → ℕ → ℕ

@@ -26,6 +26,7 @@ use Rattle.book_sessions.specs.declared.uses.KeyIds.{KeyIds}
 use Rattle.book_sessions.specs.declared.uses.SeenBits.{SeenBits}
 use Rattle.book_sessions.specs.declared.uses.SeenPass.{SeenPass}
 use Rattle.book_sessions.specs.declared.uses.SeenSegment.{SeenSegment}
+use Rattle.book_sessions.specs.declared.uses.Signs.{Signs}
 use Rattle.book_sessions.specs.declared.uses.KeyUse.{KeyUse}
 use Rattle.book_sessions.specs.declared.uses.PassedCount.{PassedCount}
 use Rattle.book_sessions.specs.contracts.outcome.PassedOverPartialEq.TheImpl as passed_eq
@@ -192,12 +193,6 @@ resets_at n bits p = bits.rst && (p.first == n)
 abbrev pub if_passed : (ℕ → SeenPass → Bool) → Option ℕ → Option SeenPass → Bool
 if_passed holds (Some n) (Some p) = holds n p
 if_passed holds reached pass = false
-
--- what a segment shows of its connection: it moves on, it is reset, its sender is finished (own)
-pub record Signs : Type 0 where
-  pub moves : Bool
-  pub resets : Bool
-  pub finishes : Bool
 
 -- what a segment shows, where those in front of it came so far (RFC 9293, section 3.5, and own)
 abbrev pub signs_at : Option ℕ → SeenSegment → Signs

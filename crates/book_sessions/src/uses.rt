@@ -51,6 +51,15 @@ pub struct SeenSegment {
     pub pass: Option<SeenPass>,
 }
 
+/// What a segment shows of its connection, behind those that were seen: whether it moves on what is expected
+/// of its sender, whether it resets the connection, and whether its sender is finished.
+#[derive(Clone, Copy, Debug, PartialEq, Eq)]
+pub struct Signs {
+    pub moves: bool,
+    pub resets: bool,
+    pub finishes: bool,
+}
+
 /// The segments from one socket to another with one KeyID and one RNextKeyID, or with no single ones, of
 /// which the check says the same, and, where they are verified, of one connection and under one row of
 /// the receiver's table: the number of their session, whether one is a SYN with ACK, how many there are, the

@@ -131,3 +131,23 @@ unknown_refused (line.Verdict MacLength checksum) e = absurd (cc)
 unknown_refused (line.Verdict NoContext checksum) e = refl
 unknown_refused (line.Verdict Range checksum) e = absurd (cc)
 unknown_refused (line.Verdict BadMac checksum) e = absurd (cc)
+
+-- ---- what was found of a segment that passes
+
+pass_judged : (v : Verdict) (j : Judgement) (checksum : Checksum) → IsJudged v j → TellsPass (pass_by_verdict v) (pass_of (Judged j checksum))
+pass_judged (verdicts.Pass p) j checksum J = (J.0, (rw J.1.0 refl, J.1.1))
+pass_judged verdicts.NoAo j checksum J = rw J refl
+pass_judged verdicts.TwoAo j checksum J = rw J refl
+pass_judged verdicts.WithMd5 j checksum J = rw J refl
+pass_judged verdicts.NoTuple j checksum J = rw J refl
+pass_judged verdicts.Expired j checksum J = rw J refl
+pass_judged verdicts.MacLength j checksum J = rw J refl
+pass_judged verdicts.NoContext j checksum J = rw J refl
+pass_judged verdicts.Range j checksum J = rw J refl
+pass_judged verdicts.BadMac j checksum J = rw J refl
+
+pub pass_told : (l : CheckLine) (s : Saying) → Says l s → TellsPass (pass_by_line l) (pass_of s)
+pass_told (line.Bad fault) s S = rw S refl
+pass_told line.UnknownNode s S = rw S refl
+pass_told (line.Verdict v checksum) s S = rw S.1.0 (pass_judged v S.0 checksum S.1.1)
+pass_told (line.Full checksum) s S = rw S refl

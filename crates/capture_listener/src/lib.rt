@@ -16,3 +16,4 @@ pub use book_cmd_check::GivenIsns;
 pub use book_sessions::SegmentOutcome;
 pub use ids::key_ids;
 pub use listener::Listener;
+pub use outcomes::HeardSegment;

@@ -19,7 +19,7 @@ invariant_of-self c =
     let s = c.args.segment.now in
     let x = c.self.inside in
     let e = sym (c.self.invariant.numbered s.source s.destination) ∙ (sym c.number_of.ensures ∙ c.in-Some.is) in
-    kept_known c.in-Some.number (length x.groups.items) s x.uses.items c.count_known.new.uses.items x.passed.items (lists_of c.count_known.new.groups.items) x.numbers.entries
+    kept_known c.in-Some.number (length x.groups.items) c.signs_among.result s x.uses.items c.count_known.new.uses.items x.passed.items (lists_of c.count_known.new.groups.items) x.numbers.entries
     c.count_known.result (lists_of x.groups.items) (c.count_known.ensures.counted x.numbers.entries c.self.invariant e) c.count_known.ensures.unchanged c.self.invariant
 
 pub returns-in-Some-clause-counted : goal.returns-in-Some-clause-counted
@@ -27,5 +27,6 @@ returns-in-Some-clause-counted c =
     let s = c.args.segment.now in
     let x = c.self.inside in
     let e = sym (c.self.invariant.numbered s.source s.destination) ∙ (sym c.number_of.ensures ∙ c.in-Some.is) in
-    rw (← c.self.view_is) (counted_known c.in-Some.number (length x.groups.items) s x.uses.items c.count_known.new.uses.items x.passed.items (lists_of c.count_known.new.groups.items) x.numbers.entries
-    c.count_known.result (length c.count_known.new.groups.items) (c.count_known.ensures.counted x.numbers.entries c.self.invariant e) c.count_known.ensures.size e)
+    let shown = rw (c.as_slice.ensures.value, c.as_slice-2.ensures.value) at (c.signs_among.ensures x.numbers.entries) in
+    rw (← c.self.view_is) (counted_known c.in-Some.number (length x.groups.items) c.signs_among.result s x.uses.items c.count_known.new.uses.items x.passed.items (lists_of c.count_known.new.groups.items) x.numbers.entries
+    c.count_known.result (length c.count_known.new.groups.items) (c.count_known.ensures.counted x.numbers.entries c.self.invariant e) c.count_known.ensures.size shown e)
