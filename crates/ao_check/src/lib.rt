@@ -13,8 +13,10 @@ mod key;
 mod laws;
 mod passing;
 mod screen;
+mod syn;
 
 pub use association::Association;
 pub use book_endpoint::Verdict;
 pub use laws::{fits_once_added, fits_once_withdrawn, signed_passes};
 pub use passing::Passing;
+pub use syn::check_syn;

@@ -9,11 +9,12 @@ use Rattle.book_endpoint.specs.declared.verdict.Verdict.{Verdict}
 use Rattle.book_endpoint.specs.declared.verdict.Verdict.TheVariants.{Pass, NoAo, TwoAo, WithMd5, NoTuple, Expired, MacLength, NoContext, Range, BadMac}
 use Rattle.book_sessions.specs.Glimpses.{is_judged, is_refused, is_unknown}
 use Rattle.book_sessions.specs.Laps.{is_searched}
-use Rattle.book_sessions.specs.Listening.{outcome_of, unconfirmed_of}
+use Rattle.book_sessions.specs.Listening.{outcome_of, pass_of, unconfirmed_of}
 use Rattle.capture_check.specs.declared.answer.CheckLine.{CheckLine}
 use Rattle.capture_check.specs.declared.answer.CheckLine.TheVariants as line
 use Rattle.capture_check.specs.Answers.{IsJudged, Says}
-use Rattle.capture_listener.specs.Lines.{is_readable, is_refusal, says_judged, says_refused, says_unknown, says_searched, by_verdict, by_unconfirmed, by_line, by_seen_line}
+use Rattle.capture_listener.specs.Lines.{is_readable, is_refusal, says_judged, says_refused, says_unknown, says_searched, by_verdict, by_unconfirmed, by_line, by_seen_line, pass_by_line, pass_by_verdict}
+use Rattle.capture_listener.specs.Listeners.{TellsPass}
 
 -- a verdict is a refusal where its judgement is
 verdict_refused : (v : Verdict) (checksum : Checksum) (j : Judgement) → IsJudged v j → is_refusal v ≡ is_refused (Judged j checksum)
@@ -135,19 +136,19 @@ unknown_refused (line.Verdict BadMac checksum) e = absurd (cc)
 -- ---- what was found of a segment that passes
 
 pass_judged : (v : Verdict) (j : Judgement) (checksum : Checksum) → IsJudged v j → TellsPass (pass_by_verdict v) (pass_of (Judged j checksum))
-pass_judged (verdicts.Pass p) j checksum J = (J.0, (rw J.1.0 refl, J.1.1))
-pass_judged verdicts.NoAo j checksum J = rw J refl
-pass_judged verdicts.TwoAo j checksum J = rw J refl
-pass_judged verdicts.WithMd5 j checksum J = rw J refl
-pass_judged verdicts.NoTuple j checksum J = rw J refl
-pass_judged verdicts.Expired j checksum J = rw J refl
-pass_judged verdicts.MacLength j checksum J = rw J refl
-pass_judged verdicts.NoContext j checksum J = rw J refl
-pass_judged verdicts.Range j checksum J = rw J refl
-pass_judged verdicts.BadMac j checksum J = rw J refl
+pass_judged (Pass p) j checksum (entry, is, F) = (entry, rw is refl, F)
+pass_judged NoAo j checksum e = rw e refl
+pass_judged TwoAo j checksum e = rw e refl
+pass_judged WithMd5 j checksum e = rw e refl
+pass_judged NoTuple j checksum e = rw e refl
+pass_judged Expired j checksum e = rw e refl
+pass_judged MacLength j checksum e = rw e refl
+pass_judged NoContext j checksum e = rw e refl
+pass_judged Range j checksum e = rw e refl
+pass_judged BadMac j checksum e = rw e refl
 
 pub pass_told : (l : CheckLine) (s : Saying) → Says l s → TellsPass (pass_by_line l) (pass_of s)
-pass_told (line.Bad fault) s S = rw S refl
-pass_told line.UnknownNode s S = rw S refl
-pass_told (line.Verdict v checksum) s S = rw S.1.0 (pass_judged v S.0 checksum S.1.1)
-pass_told (line.Full checksum) s S = rw S refl
+pass_told (line.Bad fault) s e = rw e refl
+pass_told line.UnknownNode s e = rw e refl
+pass_told (line.Verdict v checksum) s (j, e, t) = rw e (pass_judged v j checksum t)
+pass_told (line.Full checksum) s e = rw e refl
